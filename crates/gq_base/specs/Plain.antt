@@ -1,36 +1,55 @@
--- The plain graph: a catalogue and its rows. No columns, dictionaries or adjacency lists.
+-- The plain graph: a catalogue and its rows. It knows of no columns, dictionaries or adjacency lists.
 use Rattle.std.specs.Prelude.{ℕ, List, [], map, slice_get}
 use Rattle.std.specs.declared.option.Option.{Option}
 use Rattle.std.specs.declared.option.Option.TheVariants.{Some, None}
 use Rattle.gq_base.specs.Catalogs.{Tables, find_label, find_field}
+use Rattle.gq_base.specs.Values.{Val, null, flag, int, str}
 use Rattle.gq_base.specs.declared.catalog.Field.{Field}
 use Rattle.gq_base.specs.declared.catalog.NodeTable.{NodeTable}
 use Rattle.gq_base.specs.declared.cell.Cell.{Cell}
+use Rattle.gq_base.specs.declared.cell.Cell.TheVariants as cell
+use Rattle.gq_base.specs.declared.cell.PlainRel.{PlainRel}
 
--- a row has one optional cell for each field of its table; none is null
-abbrev pub Row : Type 0
-Row = List (Option Cell)
-
--- a relationship: the row of its source, the row of its target, and its cells
-pub record Relationship : Type 0 where
-  pub source : ℕ
-  pub target : ℕ
-  pub cells : Row
-
--- a graph: a catalogue, a list of rows for each node table, a list of relationships for each relationship table
+-- a graph: a catalogue, a list of rows for each node table, a list of relationships for each relationship table;
+-- a row has one optional cell for each field of its table
 pub record Graph : Type 0 where
   pub catalog : Tables
-  pub nodes : List (List Row)
-  pub rels : List (List Relationship)
+  pub nodes : List (List (List (Option Cell)))
+  pub rels : List (List PlainRel)
+
+-- the value of a cell; a cell that is not there is null
+abbrev pub cell_val : Option Cell → Val
+cell_val None = null
+cell_val (Some (cell.Int z)) = int z
+cell_val (Some (cell.Str s)) = str s
+cell_val (Some (cell.Flag b)) = flag b
 
 abbrev flat : Option (Option Cell) → Option Cell
 flat None = None
-flat (Some cell) = cell
+flat (Some found) = found
 
-abbrev cell_at : Row → Option ℕ → Option Cell
+-- the cell at a place that a row may lack
+abbrev pub cell_at : List (Option Cell) → Option ℕ → Option Cell
 cell_at row None = None
 cell_at row (Some place) = flat (slice_get row place)
 
--- a property of a row: the cell of the field of that name, or null (openCypher 9: a missing property is null)
-abbrev pub property_of : List Field → Row → List ℕ → Option Cell
-property_of fields row name = cell_at row (find_field fields name)
+-- a property of a row: the cell of the field of that name, and none where there is no such field
+-- (openCypher 9: a property that is missing is null)
+abbrev pub property_of : List Field → List ℕ → List (Option Cell) → Option Cell
+property_of fields name row = cell_at row (find_field fields name)
+
+abbrev fields_of : Option NodeTable → List Field
+fields_of None = []
+fields_of (Some table) = table.fields
+
+abbrev rows_of : Option (List (List (Option Cell))) → List (List (Option Cell))
+rows_of None = []
+rows_of (Some rows) = rows
+
+abbrev of_label : Graph → List ℕ → Option ℕ → List (Option Cell)
+of_label graph name None = []
+of_label graph name (Some table) = map (property_of (fields_of (slice_get graph.catalog.nodes table)) name) (rows_of (slice_get graph.nodes table))
+
+-- a property of each node that has a label, in row order; none where no table has the label
+abbrev pub properties : Graph → List ℕ → List ℕ → List (Option Cell)
+properties graph label name = of_label graph name (find_label graph.catalog.nodes label)

@@ -14,7 +14,7 @@ mod value;
 pub use boxed::Boxed;
 pub use bytes::Bytes;
 pub use catalog::{Catalog, Field, Kind, Mult, NodeTable, RelTable};
-pub use cell::Cell;
+pub use cell::{Cell, NodeRows, PlainRel, RelRows, Row};
 pub use list::List;
 pub use literal::Literal;
 pub use memory::Memory;
