@@ -20,3 +20,6 @@ pub use literal::Literal;
 pub use memory::Memory;
 pub use text::Text;
 pub use value::{NodeId, RelId, Value, equal3, less3, order_is_total, order_of, same};
+
+#[cfg(test)]
+mod tests;
