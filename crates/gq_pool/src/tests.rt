@@ -1,0 +1,28 @@
+//! Slots of a small pool that are taken, written, copied and given back.
+
+use crate::VectorPool;
+use std::test::Fail;
+
+#[test]
+fn slots_keep_what_was_written(rt: HostRuntime) -> Result<(), Fail> {
+    let mut pool = VectorPool::new(rt.alloc(), 2)?;
+    assert_eq!(rt; pool.spare(), 2);
+    let Some(from) = pool.take() else {
+        return Err(Fail::from("no slot"));
+    };
+    let Some(to) = pool.take() else {
+        pool.give(from);
+        return Err(Fail::from("one slot"));
+    };
+    assert_eq!(rt; pool.spare(), 0);
+    pool.cells_mut(&from)[3] = 7;
+    pool.copy_map(&from, &to, |cell| cell.wrapping_sub(1));
+    for (place, cell) in [(0, -1), (3, 6), (1023, -1)] {
+        assert_eq!(rt; pool.cells(&to)[place], cell, "at {place}");
+    }
+    assert_eq!(rt; pool.cells(&from)[3], 7);
+    pool.give(from);
+    pool.give(to);
+    assert_eq!(rt; pool.spare(), 2);
+    Ok(())
+}
