@@ -1,0 +1,8 @@
+use Rattle.std.specs.Prelude.{◌&&◌}
+use Rattle.gq_bits.specs.Places.{is_marked}
+use Rattle.gq_lanes.specs.Tests.{is_between, cell}
+use Rattle.gq_lanes.proofs.Kept.{Kept}
+use Rattle.gq_lanes.proofs.columns.keep_range.Given as goal
+
+abbrev pub invariant-loop-index : goal.invariant-loop-index
+invariant-loop-index l = Kept (λ k. is_marked l.known k && is_between l.low l.high (cell l.cells k)) l.index l.initial.marks l.marks

@@ -1,0 +1,36 @@
+use Rattle.std.proofs.Common.{◌≡◌, ℕ, not, eqb, ap, sym, ◌∙◌, refl, w64, ℤ, of_z, to_z, int_lt}
+use Rattle.std.specs.Prelude.{int_le}
+use Rattle.std.specs.Ordering.{int_eq}
+use Rattle.gq_lanes.specs.Tests.{cell, compares}
+use Rattle.gq_lanes.proofs.Masks.{columns_bit, same_equal, same_less, same_at_most}
+use Rattle.gq_lanes.proofs.lanes.columns_lanes.Goals as goal
+
+pub returns-in-Equal : goal.returns-in-Equal
+returns-in-Equal c = λ i h.
+    columns_bit eqb int_eq same_equal c.args.left.now c.args.right.now c.requires.left_whole c.requires.right_whole c.in_range.ensures c.in_range-2.ensures i h
+    ∙ ap (λ op. compares op (cell c.args.left.now i) (cell c.args.right.now i)) (sym c.in-Equal.is)
+
+pub returns-in-NotEqual : goal.returns-in-NotEqual
+returns-in-NotEqual c = λ i h.
+    columns_bit (λ a b. not (eqb a b)) (λ a b. not (int_eq a b)) (λ a b f g. ap not (same_equal a b f g)) c.args.left.now c.args.right.now c.requires.left_whole c.requires.right_whole c.in_range.ensures c.in_range-2.ensures i h
+    ∙ ap (λ op. compares op (cell c.args.left.now i) (cell c.args.right.now i)) (sym c.in-NotEqual.is)
+
+pub returns-in-Less : goal.returns-in-Less
+returns-in-Less c = λ i h.
+    columns_bit (λ a b. int_lt (to_z w64 a) (to_z w64 b)) int_lt same_less c.args.left.now c.args.right.now c.requires.left_whole c.requires.right_whole c.in_range.ensures c.in_range-2.ensures i h
+    ∙ ap (λ op. compares op (cell c.args.left.now i) (cell c.args.right.now i)) (sym c.in-Less.is)
+
+pub returns-in-LessEqual : goal.returns-in-LessEqual
+returns-in-LessEqual c = λ i h.
+    columns_bit (λ a b. int_le (to_z w64 a) (to_z w64 b)) int_le same_at_most c.args.left.now c.args.right.now c.requires.left_whole c.requires.right_whole c.in_range.ensures c.in_range-2.ensures i h
+    ∙ ap (λ op. compares op (cell c.args.left.now i) (cell c.args.right.now i)) (sym c.in-LessEqual.is)
+
+pub returns-in-Greater : goal.returns-in-Greater
+returns-in-Greater c = λ i h.
+    columns_bit (λ a b. int_lt (to_z w64 a) (to_z w64 b)) int_lt same_less c.args.right.now c.args.left.now c.requires.right_whole c.requires.left_whole c.in_range-2.ensures c.in_range.ensures i h
+    ∙ ap (λ op. compares op (cell c.args.left.now i) (cell c.args.right.now i)) (sym c.in-Greater.is)
+
+pub returns-in-GreaterEqual : goal.returns-in-GreaterEqual
+returns-in-GreaterEqual c = λ i h.
+    columns_bit (λ a b. int_le (to_z w64 a) (to_z w64 b)) int_le same_at_most c.args.right.now c.args.left.now c.requires.right_whole c.requires.left_whole c.in_range-2.ensures c.in_range.ensures i h
+    ∙ ap (λ op. compares op (cell c.args.left.now i) (cell c.args.right.now i)) (sym c.in-GreaterEqual.is)
