@@ -1,0 +1,25 @@
+//! Files, a source and a sink as traits whose clauses tell what moved, over memory and over the system.
+#![tactic(auto)]
+
+mod batch;
+mod copying;
+mod failing;
+mod memory_files;
+mod memory_sink;
+mod memory_source;
+mod outside;
+mod reading;
+mod real;
+mod writing;
+
+pub use batch::Batch;
+pub use memory_files::{MemoryFiles, SureFiles};
+pub use memory_sink::{MemorySink, SureSink};
+pub use memory_source::{MemorySource, SureSource};
+pub use outside::{Failed, Files, Sink, Source};
+pub use reading::{ReadFile, ReadStop, read_chosen, read_input};
+pub use real::{RealFiles, RealSink, RealSource};
+pub use writing::write_all;
+
+#[cfg(test)]
+mod tests;

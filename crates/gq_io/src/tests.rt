@@ -1,0 +1,170 @@
+//! Small pieces, failing calls, limits and room, and the adapters over readers, writers and devices.
+
+use crate::{
+    Batch, Failed, Files, MemoryFiles, MemorySink, MemorySource, ReadFile, ReadStop, RealFiles,
+    RealSink, RealSource, Sink, Source, SureFiles, SureSink, SureSource, read_chosen, read_input,
+    write_all,
+};
+use gq_base::{Bytes, List, Text};
+use std::test::Fail;
+
+// No call has this number.
+const NEVER: u64 = 1_000_000;
+
+fn only(rt: &HostRuntime, number: u64) -> Result<List<u64>, Fail> {
+    Ok(List::from_vec(vec![in rt.alloc(); number]?))
+}
+
+fn kind_of(answer: &Result<ReadFile, ReadStop>, text: &[u8]) -> &'static str {
+    match answer {
+        Ok(ReadFile::Whole(bytes)) if bytes.as_slice() == text => "whole",
+        Ok(ReadFile::Whole(_)) => "other",
+        Ok(ReadFile::TooLong) => "too long",
+        Err(ReadStop::Failed) => "failed",
+        Err(ReadStop::Memory) => "memory",
+    }
+}
+
+// Puts a line so often into a sink with room for 20,000 bytes that takes at most 1,500 of a write.
+fn put_lines(
+    rt: &HostRuntime,
+    len: usize,
+    count: u64,
+    failing: u64,
+) -> Result<(bool, usize), Fail> {
+    let alloc = rt.alloc();
+    let line = vec![in alloc; b'a'; len]?;
+    let mut out = MemorySink::new(alloc, 20_000, 1500, only(rt, failing)?)?;
+    let mut batch = Batch::new();
+    for _ in 0..count {
+        if batch.put(&mut out, &line).is_err() {
+            return Ok((false, out.taken().len()));
+        }
+    }
+    let flushed = batch.flush(&mut out).is_ok();
+    Ok((flushed, out.taken().len()))
+}
+
+#[test]
+fn batches(rt: HostRuntime) -> Result<(), Fail> {
+    for (len, count, failing, ok, taken) in [
+        (1000, 9, NEVER, true, 9000),
+        (4096, 3, NEVER, true, 12_288),
+        (5000, 2, NEVER, true, 10_000),
+        (0, 5, NEVER, true, 0),
+        (1000, 9, 0, false, 0),
+        (1000, 9, 2, false, 3000),
+        (1000, 30, NEVER, false, 20_000),
+    ] {
+        assert_eq!(rt;
+            put_lines(&rt, len, count, failing)?,
+            (ok, taken),
+            "{count} lines of {len}"
+        );
+    }
+    Ok(())
+}
+
+#[test]
+fn writes(rt: HostRuntime) -> Result<(), Fail> {
+    let mut out = MemorySink::new(rt.alloc(), 5, 1, only(&rt, 2)?)?;
+    assert_eq!(rt; write_all(&mut out, b"ab"), Ok(()));
+    assert_eq!(rt; out.write(b""), Ok(0));
+    assert_eq!(rt; out.write(b"c"), Err(Failed));
+    assert_eq!(rt; write_all(&mut out, b"cdef"), Err(Failed));
+    assert_eq!(rt; out.taken(), b"abcde".as_slice());
+    assert_eq!(rt; SureSink::new().write(b"abc"), Ok(3));
+    Ok(())
+}
+
+#[test]
+fn reads(rt: HostRuntime) -> Result<(), Fail> {
+    let alloc = rt.alloc();
+    for (text, most, piece, failing, wanted) in [
+        ("", 0, 1, NEVER, "whole"),
+        ("abc", 3, 1, NEVER, "whole"),
+        ("abc", 2, 1, NEVER, "too long"),
+        ("abc", 2, 9, NEVER, "too long"),
+        ("abc", 9, 2, 2, "failed"),
+        ("abc", 9, 2, 3, "whole"),
+    ] {
+        let text = text.as_bytes();
+        let bytes = Bytes::new(alloc, text)?;
+        let mut input = MemorySource::new(bytes, piece, only(&rt, failing)?);
+        assert_eq!(rt;
+            kind_of(&read_input(alloc, &mut input, most), text),
+            wanted,
+            "{text:?}"
+        );
+    }
+    let long = vec![in alloc; b'x'; 200_000]?;
+    let mut input = SureSource::new(Bytes::new(alloc, &long)?, 70_000);
+    assert_eq!(rt;
+        kind_of(&read_input(alloc, &mut input, 200_000), &long),
+        "whole"
+    );
+    Ok(())
+}
+
+#[test]
+fn chooses(rt: HostRuntime) -> Result<(), Fail> {
+    let alloc = rt.alloc();
+    let names = vec![in alloc; Text::new(alloc, "a")?, Text::new(alloc, "b")?]?;
+    let contents = vec![in alloc; Bytes::new(alloc, b"one")?, Bytes::new(alloc, b"")?]?;
+    let (names, contents) = (List::from_vec(names), List::from_vec(contents));
+    let mut files = MemoryFiles::new(names, contents, only(&rt, 4)?);
+    assert_eq!(rt; files.select("c"), Ok(false));
+    assert_eq!(rt; files.select("a"), Ok(true));
+    assert_eq!(rt;
+        kind_of(&read_chosen(alloc, &mut files, 3), b"one"),
+        "whole"
+    );
+    assert_eq!(rt; files.select("b"), Err(Failed));
+    assert_eq!(rt; files.select("b"), Ok(true));
+    assert_eq!(rt; kind_of(&read_chosen(alloc, &mut files, 0), b""), "whole");
+    Ok(())
+}
+
+#[test]
+fn chooses_surely(rt: HostRuntime) -> Result<(), Fail> {
+    let alloc = rt.alloc();
+    let names = List::from_vec(vec![in alloc; Text::new(alloc, "a")?]?);
+    let contents = List::from_vec(vec![in alloc; Bytes::new(alloc, b"one")?]?);
+    let mut files = SureFiles::new(names, contents);
+    let mut into = [0; 2];
+    assert_eq!(rt; files.read(&mut into), Ok(0));
+    assert_eq!(rt; files.select("a"), Ok(true));
+    assert_eq!(rt; files.read(&mut into), Ok(2));
+    assert_eq!(rt; into, *b"on");
+    Ok(())
+}
+
+#[test]
+fn reads_and_writes_through_std(rt: HostRuntime) -> Result<(), Fail> {
+    let alloc = rt.alloc();
+    let mut input = RealSource::new(b"abc".as_slice());
+    assert_eq!(rt; kind_of(&read_input(alloc, &mut input, 3), b"abc"), "whole");
+    let mut buffer = [0; 4];
+    let mut out = RealSink::new(buffer.as_mut_slice());
+    assert_eq!(rt; write_all(&mut out, b"abc"), Ok(()));
+    assert_eq!(rt; write_all(&mut out, b"de"), Err(Failed));
+    assert_eq!(rt; buffer, *b"abcd");
+    Ok(())
+}
+
+// A name that is not there, a directory, which opens and cannot be read, and two devices.
+#[test]
+fn opens_the_system_s_files(rt: HostRuntime) -> Result<(), Fail> {
+    let mut files = RealFiles::new(&rt);
+    let mut into = [7; 2];
+    assert_eq!(rt; files.read(&mut into), Ok(0));
+    assert_eq!(rt; files.select("/no such name"), Ok(false));
+    assert_eq!(rt; files.select("/"), Ok(true));
+    assert_eq!(rt; files.read(&mut into), Err(Failed));
+    assert_eq!(rt; files.select("/dev/null"), Ok(true));
+    assert_eq!(rt; files.read(&mut into), Ok(0));
+    assert_eq!(rt; files.select("/dev/zero"), Ok(true));
+    assert_eq!(rt; files.read(&mut into), Ok(2));
+    assert_eq!(rt; into, [0, 0]);
+    Ok(())
+}
