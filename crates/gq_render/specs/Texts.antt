@@ -1,0 +1,44 @@
+-- The texts of replies (this project's profile).
+use Rattle.std.specs.Prelude.{ℕ, true, false, List, [], ◌∷◌, ◌++◌, ◌==◌, if◌then◌else◌, length, codes, decimal, flat_map}
+use Rattle.std.specs.Fmt.{signed_decimal}
+use Rattle.std.specs.declared.option.Option.{Option}
+use Rattle.std.specs.declared.option.Option.TheVariants.{Some, None}
+use Rattle.gq_base.specs.declared.Cell.{Cell}
+use Rattle.gq_base.specs.declared.Cell.TheVariants as cell
+
+-- a byte of a name: backslash, LF, CR and tab are written with a backslash, all else is as it is
+abbrev pub name_byte : ℕ → List ℕ
+name_byte b =
+    if b == 92 then codes "\\\\"
+    else if b == 10 then codes "\\n"
+    else if b == 13 then codes "\\r"
+    else if b == 9 then codes "\\t"
+    else b ∷ []
+
+-- a byte of a string: the single quote is written with a backslash too
+abbrev pub quoted_byte : ℕ → List ℕ
+quoted_byte b = if b == 39 then codes "\\'" else name_byte b
+
+-- a name in a header, a plan or a refusal
+abbrev pub name_text : List ℕ → List ℕ
+name_text name = flat_map name_byte name
+
+-- a string: in single quotes
+abbrev pub quoted_text : List ℕ → List ℕ
+quoted_text text = codes "'" ++ flat_map quoted_byte text ++ codes "'"
+
+-- a property's value; a cell that is not there is null
+abbrev pub cell_text : Option Cell → List ℕ
+cell_text None = codes "null"
+cell_text (Some (cell.Flag true)) = codes "true"
+cell_text (Some (cell.Flag false)) = codes "false"
+cell_text (Some (cell.Int z)) = signed_decimal z
+cell_text (Some (cell.Str text)) = quoted_text text
+
+-- a line ends with LF
+abbrev pub line : List ℕ → List ℕ
+line text = text ++ codes "\n"
+
+-- a reply of one column: the header, a line for each row, and the number of rows
+abbrev pub column_text : List ℕ → List (Option Cell) → List ℕ
+column_text name cells = line (name_text name) ++ flat_map (λ c. line (cell_text c)) cells ++ line (codes "rows " ++ decimal (length cells))

@@ -1,0 +1,124 @@
+//! Replies of one column.
+
+ghost use Rattle.std.specs.Prelude.{◌≡◌, ◌++◌, map, flat_map, codes, decimal};
+ghost use Rattle.std.specs.Option.{option_copied};
+ghost use Rattle.gq_base.specs.Plain.{cell_at};
+ghost use Rattle.gq_io.specs.Causes.{HasCause};
+ghost use Rattle.gq_io.specs.Outside.{Writes};
+ghost use Rattle.gq_io.specs.Putting.{Puts};
+ghost use Rattle.gq_render.specs.Texts.{line, name_text, cell_text, column_text};
+
+use crate::name::put_name;
+use crate::value::{put_cell, put_count};
+use gq_base::{Cell, Row};
+use gq_io::{Batch, Failed, Sink};
+
+fn put_cell_line<O: Sink>(batch: &mut Batch, out: &mut O, cell: Option<&Cell>) -> Result<(), Failed>
+    ensures bytes { Puts (O.taken out.old) (O.taken out.new) batch.old batch.new
+        (line (cell_text (option_copied cell.entry))) result }
+    ensures cause { HasCause (O.faults out.old) (O.faults out.new) result }
+{
+    put_cell(batch, out, cell)?;
+    batch.put(out, b"\n")
+}
+
+// The cell at a place that the rows may lack.
+fn cell_of(row: &Row, place: Option<usize>) -> Option<&Cell>
+    ensures { option_copied result ≡ cell_at row.now place }
+{
+    row.get(place?)?.as_ref()
+}
+
+fn put_cells<O: Sink>(
+    batch: &mut Batch,
+    out: &mut O,
+    rows: &[Row],
+    place: Option<usize>,
+) -> Result<(), Failed>
+    ensures bytes { Puts (O.taken out.old) (O.taken out.new) batch.old batch.new
+        (flat_map (λ row. line (cell_text (cell_at row place))) rows.now) result }
+    ensures cause { HasCause (O.faults out.old) (O.faults out.new) result }
+{
+    for row in rows {
+        put_cell_line(batch, out, cell_of(row, place))?;
+    }
+    Ok(())
+}
+
+// Puts the name of the column `variable.property`.
+fn put_column_name<O: Sink>(
+    batch: &mut Batch,
+    out: &mut O,
+    variable: &str,
+    property: &str,
+) -> Result<(), Failed>
+    ensures bytes { Puts (O.taken out.old) (O.taken out.new) batch.old batch.new
+        (name_text (variable.now ++ codes "." ++ property.now)) result }
+    ensures cause { HasCause (O.faults out.old) (O.faults out.new) result }
+{
+    put_name(batch, out, variable)?;
+    batch.put(out, b".")?;
+    put_name(batch, out, property)
+}
+
+fn put_header<O: Sink>(
+    batch: &mut Batch,
+    out: &mut O,
+    variable: &str,
+    property: &str,
+) -> Result<(), Failed>
+    ensures bytes { Puts (O.taken out.old) (O.taken out.new) batch.old batch.new
+        (line (name_text (variable.now ++ codes "." ++ property.now))) result }
+    ensures cause { HasCause (O.faults out.old) (O.faults out.new) result }
+{
+    put_column_name(batch, out, variable, property)?;
+    batch.put(out, b"\n")
+}
+
+fn put_end<O: Sink>(batch: &mut Batch, out: &mut O, count: usize) -> Result<(), Failed>
+    ensures bytes { Puts (O.taken out.old) (O.taken out.new) batch.old batch.new
+        (line (codes "rows " ++ decimal count)) result }
+    ensures cause { HasCause (O.faults out.old) (O.faults out.new) result }
+{
+    batch.put(out, b"rows ")?;
+    put_count(batch, out, count)?;
+    batch.put(out, b"\n")
+}
+
+fn put_column<O: Sink>(
+    batch: &mut Batch,
+    out: &mut O,
+    variable: &str,
+    property: &str,
+    rows: &[Row],
+    place: Option<usize>,
+) -> Result<(), Failed>
+    ensures bytes { Puts (O.taken out.old) (O.taken out.new) batch.old batch.new
+        (column_text (variable.now ++ codes "." ++ property.now) (map (λ row. cell_at row place) rows.now))
+        result }
+    ensures cause { HasCause (O.faults out.old) (O.faults out.new) result }
+{
+    put_header(batch, out, variable, property)?;
+    put_cells(batch, out, rows, place)?;
+    put_end(batch, out, rows.len())
+}
+
+/// Writes the reply whose one column is `variable.property`: the header, a line for the cell at `place` of each row, in
+/// row order, and the number of rows. Where there is no place, or a row has no cell there, the value is null. After
+/// `Failed` the sink took some front of that text.
+pub fn write_column<O: Sink>(
+    out: &mut O,
+    variable: &str,
+    property: &str,
+    rows: &[Row],
+    place: Option<usize>,
+) -> Result<(), Failed>
+    ensures bytes { Writes (O.taken out.old) (O.taken out.new)
+        (column_text (variable.now ++ codes "." ++ property.now) (map (λ row. cell_at row place) rows.now))
+        result }
+    ensures cause { HasCause (O.faults out.old) (O.faults out.new) result }
+{
+    let mut batch = Batch::new();
+    put_column(&mut batch, out, variable, property, rows, place)?;
+    batch.flush(out)
+}

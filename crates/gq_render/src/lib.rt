@@ -1,0 +1,14 @@
+//! The texts of replies, written to a sink. Each writer gathers its text in a batch, so that a sink is called once for
+//! some thousand bytes, and takes no memory.
+#![tactic(auto)]
+
+mod column;
+mod escape;
+mod name;
+mod value;
+
+pub use column::write_column;
+pub use name::{write_line_with_name, write_name};
+
+#[cfg(test)]
+mod tests;
