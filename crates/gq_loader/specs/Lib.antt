@@ -1,0 +1,5 @@
+pub mod Answers
+pub mod Fields
+pub mod Lists
+pub mod Loads
+pub mod Records
