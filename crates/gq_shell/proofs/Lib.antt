@@ -1,0 +1,4 @@
+pub mod OneStatus
+pub mod Queries
+pub mod Replying
+pub mod Running

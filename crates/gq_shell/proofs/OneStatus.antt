@@ -1,0 +1,119 @@
+-- For given words, files and input one status alone may be answered.
+use Rattle.std.proofs.Common.{◌≡◌, ℕ, List, [], Some, None, refl, sym, ap, ◌∙◌, subst, inl, inr}
+use Rattle.std.specs.Prelude.{◌⊎◌, Option}
+use Rattle.gq_base.specs.Plain.{Graph}
+use Rattle.std.specs.Io.KnownBytes.{Appends}
+use Rattle.gq_io.specs.Causes.{Rose}
+use Rattle.gq_io.specs.Outside.{Names}
+use Rattle.gq_loader.specs.Loads.{load_of}
+use Rattle.gq_shell.specs.Claim.{IsAnswered, IsRefused, IsTooLong, Outside, Over, Permits, Refuses, Replies, Runs, Whole, path_of}
+use Rattle.gq_shell.specs.Statements.{statement_of}
+use Rattle.gq_shell.specs.declared.status.Status.{Status}
+use Rattle.gq_shell.specs.declared.status.Status.TheVariants as status
+
+abbrev path_or : List ℕ → Option (List ℕ) → List ℕ
+path_or other None = other
+path_or other (Some path) = path
+
+module _ (words : List (List ℕ)) (files : Names) (input : List ℕ) where
+  abbrev Takes : Type 0
+  Takes = (path : List ℕ) × (path_of words ≡ Some path)
+
+  -- the words were refused and were not
+  no_words : path_of words ≡ None → Takes → ⊥
+  no_words none (path, is) = let clash : None ≡ Some path = sym none ∙ is in cc
+
+  -- the load was refused and was not
+  no_load : (Says : Graph → List ℕ → Type 0) (text : List ℕ) → Permits words (Some files) (Some input) status.NotLoaded text → Over words (Some files) (Some input) Says → ⊥
+  no_load Says text (path, is, refuses) over =
+      let same : path ≡ over.path = ap (path_or []) (sym is ∙ over.given) in
+      subst (λ l. Refuses l text) over.told.1 (subst (λ p. Refuses (load_of p files) text) same refuses)
+
+  -- the input was too long and was not
+  no_length : (Says Other : Graph → List ℕ → Type 0) → Over words (Some files) (Some input) (λ graph input. IsTooLong input × Says graph input)
+      → Over words (Some files) (Some input) (λ graph input. (¬ (IsTooLong input)) × Other graph input) → ⊥
+  no_length Says Other long short = short.told.2.0 long.told.2.0
+
+  no_reply : (graph : Graph) (text text' : List ℕ) → Replies graph (statement_of input) text → IsRefused (statement_of input) text' → ⊥
+  no_reply graph text text' (inl blank) refused = refused.written blank.0
+  no_reply graph text text' (inr (v, l, p, query, lists)) refused = refused.other v l p query
+
+  -- the statement was answered and refused
+  no_answer : (text text' : List ℕ) → Permits words (Some files) (Some input) status.Ended text → Permits words (Some files) (Some input) status.Refused text' → ⊥
+  no_answer text text' ended refused = no_reply ended.told.0 text text' ended.told.2.1 refused.told.2.1
+
+  pub one_status : (s s' : Status) (t t' : List ℕ) → Permits words (Some files) (Some input) s t → Permits words (Some files) (Some input) s' t' → s ≡ s'
+  one_status status.Usage status.Usage t t' p q = refl
+  one_status status.Usage status.NotLoaded t t' p q = absurd (no_words p.0 (q.0, q.1))
+  one_status status.Usage status.TooLong t t' p q = absurd (no_words p.0 (q.path, q.given))
+  one_status status.Usage status.Refused t t' p q = absurd (no_words p.0 (q.path, q.given))
+  one_status status.Usage status.Ended t t' p q = absurd (no_words p.0 (q.path, q.given))
+  one_status status.Usage status.ReadFault t t' p q = absurd q
+  one_status status.Usage status.WriteFault t t' p q = absurd q
+  one_status status.Usage status.Memory t t' p q = absurd q
+  one_status status.NotLoaded status.Usage t t' p q = absurd (no_words q.0 (p.0, p.1))
+  one_status status.NotLoaded status.NotLoaded t t' p q = refl
+  one_status status.NotLoaded status.TooLong t t' p q = absurd (no_load _ t p q)
+  one_status status.NotLoaded status.Refused t t' p q = absurd (no_load _ t p q)
+  one_status status.NotLoaded status.Ended t t' p q = absurd (no_load _ t p q)
+  one_status status.NotLoaded status.ReadFault t t' p q = absurd q
+  one_status status.NotLoaded status.WriteFault t t' p q = absurd q
+  one_status status.NotLoaded status.Memory t t' p q = absurd q
+  one_status status.TooLong status.Usage t t' p q = absurd (no_words q.0 (p.path, p.given))
+  one_status status.TooLong status.NotLoaded t t' p q = absurd (no_load _ t' q p)
+  one_status status.TooLong status.TooLong t t' p q = refl
+  one_status status.TooLong status.Refused t t' p q = absurd (no_length _ _ p q)
+  one_status status.TooLong status.Ended t t' p q = absurd (no_length _ _ p q)
+  one_status status.TooLong status.ReadFault t t' p q = absurd q
+  one_status status.TooLong status.WriteFault t t' p q = absurd q
+  one_status status.TooLong status.Memory t t' p q = absurd q
+  one_status status.Refused status.Usage t t' p q = absurd (no_words q.0 (p.path, p.given))
+  one_status status.Refused status.NotLoaded t t' p q = absurd (no_load _ t' q p)
+  one_status status.Refused status.TooLong t t' p q = absurd (no_length _ _ q p)
+  one_status status.Refused status.Refused t t' p q = refl
+  one_status status.Refused status.Ended t t' p q = absurd (no_answer t' t q p)
+  one_status status.Refused status.ReadFault t t' p q = absurd q
+  one_status status.Refused status.WriteFault t t' p q = absurd q
+  one_status status.Refused status.Memory t t' p q = absurd q
+  one_status status.Ended status.Usage t t' p q = absurd (no_words q.0 (p.path, p.given))
+  one_status status.Ended status.NotLoaded t t' p q = absurd (no_load _ t' q p)
+  one_status status.Ended status.TooLong t t' p q = absurd (no_length _ _ q p)
+  one_status status.Ended status.Refused t t' p q = absurd (no_answer t t' p q)
+  one_status status.Ended status.Ended t t' p q = refl
+  one_status status.Ended status.ReadFault t t' p q = absurd q
+  one_status status.Ended status.WriteFault t t' p q = absurd q
+  one_status status.Ended status.Memory t t' p q = absurd q
+  one_status status.ReadFault s' t t' p q = absurd p
+  one_status status.WriteFault s' t t' p q = absurd p
+  one_status status.Memory s' t t' p q = absurd p
+
+module _ (words : List (List ℕ)) (outside : Outside) (files : Names) (input : List ℕ) (held : outside.held ≡ Some files) (left : outside.left ≡ Some input) where
+  told : (answer : Status) (text : List ℕ) → Permits words outside.held outside.left answer text → Permits words (Some files) (Some input) answer text
+  told answer text may = subst (λ l. Permits words (Some files) l answer text) left (subst (λ h. Permits words h outside.left answer text) held may)
+
+  answered : (answer : Status) (text : List ℕ) → Permits words outside.held outside.left answer text → Appends outside.taken outside.took text
+      → IsAnswered words files input answer outside.taken outside.took
+  answered answer text may moved = record {
+    text = text;
+    permitted = told answer text may;
+    written = moved;
+    only = λ other otherwise permits. one_status words files input other answer otherwise text permits (told answer text may);
+  }
+
+pub whole : (words : List (List ℕ)) (outside : Outside) (answer : Status) → Runs words outside answer → Whole words outside answer
+whole words outside status.Usage run files input held left no_files no_input no_out memory = answered words outside files input held left status.Usage run.ends.text run.ends.permitted run.ends.moved
+whole words outside status.NotLoaded run files input held left no_files no_input no_out memory = answered words outside files input held left status.NotLoaded run.ends.text run.ends.permitted run.ends.moved
+whole words outside status.TooLong run files input held left no_files no_input no_out memory = answered words outside files input held left status.TooLong run.ends.text run.ends.permitted run.ends.moved
+whole words outside status.Refused run files input held left no_files no_input no_out memory = answered words outside files input held left status.Refused run.ends.text run.ends.permitted run.ends.moved
+whole words outside status.Ended run files input held left no_files no_input no_out memory = answered words outside files input held left status.Ended run.ends.text run.ends.permitted run.ends.moved
+whole words outside status.ReadFault run files input held left no_files no_input no_out memory = absurd (elim run.ends.1 [ inl rose ↦ no_files rose | inr rose ↦ no_input rose ])
+whole words outside status.WriteFault run files input held left no_files no_input no_out memory = absurd (no_out run.ends.1)
+whole words outside status.Memory run files input held left no_files no_input no_out memory = absurd (memory refl)
+
+pub read_fault : (words : List (List ℕ)) (outside : Outside) (answer : Status) → Runs words outside answer → answer ≡ status.ReadFault
+    → Rose outside.files_faults.before outside.files_faults.now ⊎ Rose outside.input_faults.before outside.input_faults.now
+read_fault words outside answer run is = let ends = rw is at run.ends in ends.1
+
+pub write_fault : (words : List (List ℕ)) (outside : Outside) (answer : Status) → Runs words outside answer → answer ≡ status.WriteFault
+    → Rose outside.out_faults.before outside.out_faults.now
+write_fault words outside answer run is = let ends = rw is at run.ends in ends.1

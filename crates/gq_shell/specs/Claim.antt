@@ -1,0 +1,142 @@
+-- The claim of `run`: which status the program answers for its words, the files and its input, and what it writes.
+-- It rests on `load_of` (which graph the files give), `properties` (the plain graph's values of a property),
+-- `column_text` and `name_text` (how a reply is spelled), `statement_of` and `IsQuery` (the statement and its form).
+use Rattle.std.specs.Prelude.{◌≡◌, ◌≢◌, ◌⊎◌, ℕ, ◌<◌, ◌≤◌, List, [], ◌∷◌, ◌++◌, length, codes, Option, Some, None, IfSome, IsPermutation, if◌then◌else◌}
+use Rattle.std.specs.Str.{bytes_eq}
+use Rattle.std.specs.Io.KnownBytes.{Appends, Consumes, Keeps}
+use Rattle.gq_base.specs.Plain.{Graph, properties}
+use Rattle.gq_base.specs.declared.Cell.{Cell}
+use Rattle.gq_io.specs.Causes.{Rose}
+use Rattle.gq_io.specs.Outside.{AppendsFront, Names}
+use Rattle.gq_loader.specs.Loads.{Loading, load_of, loaded, no_file, not_built}
+use Rattle.gq_render.specs.Texts.{column_text, line, name_text}
+use Rattle.gq_shell.specs.Statements.{IsQuery, SpellsNoQuery, statement_of, trimmed}
+use Rattle.gq_shell.specs.declared.status.Status.{Status}
+use Rattle.gq_shell.specs.declared.status.Status.TheVariants as status
+
+-- ---- what each part of the run means
+
+-- the path of the manifest, where the words are the program's name, `--manifest` and a path
+abbrev pub path_of : List (List ℕ) → Option (List ℕ)
+path_of (program ∷ option ∷ path ∷ []) = if bytes_eq option (codes "--manifest") then Some path else None
+path_of words = None
+
+-- a load was refused, and this line says so
+abbrev pub Refuses : Loading → List ℕ → Type 0
+Refuses (loaded graph) text = ⊥
+Refuses (no_file name) text = text ≡ line (codes "load: NoFile " ++ name_text name)
+Refuses (not_built name) text = text ≡ line (codes "load: NotBuilt " ++ name_text name)
+
+-- the reply to `MATCH (variable:label) RETURN variable.property`: as a bag, its rows are the property's values over the
+-- nodes with the label, null where a node has none (openCypher 9); a header goes before them and their number after them
+pub record ListsRows (graph : Graph) (variable label property text : List ℕ) : Type 0 where
+  pub rows : List (Option Cell)
+  pub as_a_bag : IsPermutation (properties graph label property) rows
+  pub is : text ≡ column_text (variable ++ codes "." ++ property) rows
+
+-- a statement's reply: none to white space alone, the rows of a query that is built
+abbrev pub Replies : Graph → List ℕ → List ℕ → Type 0
+Replies graph statement text =
+    ((trimmed statement ≡ []) × (text ≡ []))
+    ⊎ ((variable label property : List ℕ) × IsQuery statement variable label property × ListsRows graph variable label property text)
+
+-- every other statement is refused by one line
+pub record IsRefused (statement text : List ℕ) : Type 0 where
+  pub written : ¬ (trimmed statement ≡ [])
+  pub other : SpellsNoQuery statement
+  pub is : text ≡ line (codes "error: NotBuilt")
+
+-- the input, which is one statement, is too long
+abbrev pub IsTooLong : List ℕ → Type 0
+IsTooLong input = (65537 < length input) ⊎ (65536 < length (statement_of input))
+
+-- ---- the whole answers
+
+-- the words give a path, the files give a graph, and the input is read over it; each where it is told
+pub record Over (words : List (List ℕ)) (held : Option Names) (left : Option (List ℕ)) (Says : Graph → List ℕ → Type 0) : Type 0 where
+  pub path : List ℕ
+  pub given : path_of words ≡ Some path
+  pub told : IfSome held (λ files. IfSome left (λ input. (graph : Graph) × (load_of path files ≡ loaded graph) × Says graph input))
+
+-- the status may be answered for these words, files and input, and the text is all that is written then
+abbrev pub Permits : List (List ℕ) → Option Names → Option (List ℕ) → Status → List ℕ → Type 0
+Permits words held left status.Usage text = (path_of words ≡ None) × (text ≡ line (codes "usage: graphq --manifest PATH"))
+Permits words held left status.NotLoaded text = (path : List ℕ) × (path_of words ≡ Some path) × IfSome held (λ files. Refuses (load_of path files) text)
+Permits words held left status.TooLong text = Over words held left (λ graph input. IsTooLong input × (text ≡ []))
+Permits words held left status.Refused text = Over words held left (λ graph input. (¬ (IsTooLong input)) × IsRefused (statement_of input) text)
+Permits words held left status.Ended text = Over words held left (λ graph input. (¬ (IsTooLong input)) × Replies graph (statement_of input) text)
+Permits words held left status text = ⊥
+
+-- a permitted text was written whole
+pub record Wrote (words : List (List ℕ)) (held : Option Names) (left : Option (List ℕ)) (answer : Status) (old new : Option (List ℕ)) : Type 0 where
+  pub text : List ℕ
+  pub permitted : Permits words held left answer text
+  pub moved : Appends old new text
+
+-- a front of a permitted text was written
+pub record WroteFront (words : List (List ℕ)) (held : Option Names) (left : Option (List ℕ)) (old new : Option (List ℕ)) : Type 0 where
+  pub answer : Status
+  pub text : List ℕ
+  pub permitted : Permits words held left answer text
+  pub moved : AppendsFront old new text
+
+-- ---- one run
+
+-- a count of faults before and after the run
+pub record Count : Type 0 where
+  pub before : ℕ
+  pub now : ℕ
+
+-- what is told when the run begins, and what it leaves
+pub record Outside : Type 0 where
+  pub held : Option Names
+  pub left : Option (List ℕ)
+  pub unread : Option (List ℕ)
+  pub taken : Option (List ℕ)
+  pub took : Option (List ℕ)
+  pub files_faults : Count
+  pub input_faults : Count
+  pub out_faults : Count
+
+abbrev pub outside_of : {F I O : Type 0} → (F → Option Names) → (F → ℕ) → F → F → (I → Option (List ℕ)) → (I → ℕ) → I → I → (O → Option (List ℕ)) → (O → ℕ) → O → O → Outside
+outside_of held files_faults files files' left input_faults input input' taken out_faults out out' = record {
+  held = held files;
+  left = left input;
+  unread = left input';
+  taken = taken out;
+  took = taken out';
+  files_faults = record { before = files_faults files; now = files_faults files' };
+  input_faults = record { before = input_faults input; now = input_faults input' };
+  out_faults = record { before = out_faults out; now = out_faults out' };
+}
+
+-- how a run ended: with a whole answer, with a fault by its cause, or for want of memory with nothing written
+abbrev pub Ends : List (List ℕ) → Outside → Status → Type 0
+Ends words outside status.ReadFault = Keeps outside.taken outside.took
+    × (Rose outside.files_faults.before outside.files_faults.now ⊎ Rose outside.input_faults.before outside.input_faults.now)
+Ends words outside status.WriteFault = WroteFront words outside.held outside.left outside.taken outside.took × Rose outside.out_faults.before outside.out_faults.now
+Ends words outside status.Memory = Keeps outside.taken outside.took
+Ends words outside answer = Wrote words outside.held outside.left answer outside.taken outside.took
+
+-- the run: how it ended, and how much of the input it ate
+pub record Runs (words : List (List ℕ)) (outside : Outside) (answer : Status) : Type 0 where
+  pub eaten : List ℕ
+  pub ate : Consumes outside.left outside.unread eaten
+  pub few : length eaten ≤ 65538
+  pub ends : Ends words outside answer
+
+-- ---- the same in short, where all is told and nothing fails
+
+-- a permitted answer, written whole, and the only status that may be answered
+pub record IsAnswered (words : List (List ℕ)) (files : Names) (input : List ℕ) (answer : Status) (old new : Option (List ℕ)) : Type 0 where
+  pub text : List ℕ
+  pub permitted : Permits words (Some files) (Some input) answer text
+  pub written : Appends old new text
+  pub only : (other : Status) (otherwise : List ℕ) → Permits words (Some files) (Some input) other otherwise → other ≡ answer
+
+-- where the files and the input are told and no count of faults rises, there is want of memory or the one answer
+abbrev pub Whole : List (List ℕ) → Outside → Status → Type 0
+Whole words outside answer = (files : Names) (input : List ℕ) → outside.held ≡ Some files → outside.left ≡ Some input
+    → ¬ (Rose outside.files_faults.before outside.files_faults.now) → ¬ (Rose outside.input_faults.before outside.input_faults.now)
+    → ¬ (Rose outside.out_faults.before outside.out_faults.now) → answer ≢ status.Memory
+    → IsAnswered words files input answer outside.taken outside.took
