@@ -1,0 +1,5 @@
+pub mod Digits
+pub mod Lexing
+pub mod Pieces
+pub mod Widths
+pub mod Words

@@ -1,0 +1,5 @@
+pub mod Characters
+pub mod Lexemes
+pub mod Numbers
+pub mod Runs
+pub mod Tokens

@@ -1,0 +1,16 @@
+//! The tokens of a query's text.
+#![tactic(auto)]
+
+mod character;
+mod lexeme;
+mod number;
+mod run;
+mod scan;
+mod sign;
+mod token;
+
+pub use scan::lex;
+pub use token::{LexRefusal, Sign, Span, Token, TokenKind};
+
+#[cfg(test)]
+mod tests;
