@@ -1,0 +1,21 @@
+use Rattle.std.proofs.Common.{◌≡◌, ap, length, map, sym, ◌∙◌, arith, count_by}
+use Rattle.std.specs.Prelude.{is_some}
+use Rattle.std.proofs.lemmas.List.{length-map}
+use Rattle.gq_column.specs.Cells.{cells_of}
+use Rattle.gq_column.proofs.Ranked.{length-kept_of, cells_of-kept_of}
+use Rattle.gq_column.proofs.Column.build.Goals as goal
+
+pub invariant_of-result : goal.invariant_of-result
+invariant_of-result c =
+    let cells = c.args.cells.now in
+    let flags : c.in_ok-present.present ≡ map (λ cell. is_some cell) cells = c.in_ok-present.ensures ∙ c.as_slice.ensures.value ∙ c.in_ok-flags.ensures in
+    record {
+      few = omega (arith, ap length flags, length-map cells (λ cell. is_some cell), c.requires);
+      count = ap length c.in_ok-kept.ensures ∙ length-kept_of cells ∙ ap (count_by (λ on. on)) (sym flags);
+    }
+
+pub returns : goal.returns
+returns c =
+    let cells = c.args.cells.now in
+    let flags : c.in_ok-present.present ≡ map (λ cell. is_some cell) cells = c.in_ok-present.ensures ∙ c.as_slice.ensures.value ∙ c.in_ok-flags.ensures in
+    ap (λ present. cells_of present c.in_ok-kept.kept.items) flags ∙ ap (cells_of (map (λ cell. is_some cell) cells)) c.in_ok-kept.ensures ∙ cells_of-kept_of cells

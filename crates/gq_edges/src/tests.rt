@@ -1,0 +1,58 @@
+//! Places of a small graph and of two pages, and single columns with and without a second pair.
+
+use crate::{Pages, Single, SingleRefusal};
+use std::test::Fail;
+
+#[test]
+fn places_are_in_order_of_source_and_number(rt: HostRuntime) -> Result<(), Fail> {
+    let pages = Pages::build(rt.alloc(), 3, &[0, 1, 0, 2, 0])?;
+    assert_eq!(rt; pages.len(), 5);
+    for (number, place) in [(0, 0), (1, 3), (2, 1), (3, 4), (4, 2)] {
+        assert!(rt; number < pages.len());
+        assert_eq!(rt; pages.place_of(number), place, "of {number}");
+        assert!(rt; place < pages.len());
+        assert_eq!(rt; pages.number_at(place), number, "at {place}");
+    }
+    let none = Pages::build(rt.alloc(), 0, &[])?;
+    assert_eq!(rt; none.len(), 0);
+    assert_eq!(rt; none.page_start(7), 0);
+    Ok(())
+}
+
+#[test]
+fn a_page_has_128_sources(rt: HostRuntime) -> Result<(), Fail> {
+    let mut from = [0; 129];
+    for source in 0..129u32 {
+        from[source as usize] = source;
+    }
+    let pages = Pages::build(rt.alloc(), 129, &from)?;
+    let start = pages.page_start(1);
+    assert_eq!(rt; start, 128);
+    assert!(rt; start < pages.len());
+    assert_eq!(rt; pages.place(128, 0), 128);
+    Ok(())
+}
+
+#[test]
+fn a_source_has_one_pair_at_most(rt: HostRuntime) -> Result<(), Fail> {
+    let second = Single::build(rt.alloc(), 2, &[0, 1, 0], &[1, 1, 1]);
+    let Err(refusal) = second else {
+        return Err(Fail::from("no refusal"));
+    };
+    assert_eq!(rt; refusal, SingleRefusal::Second { at: 2 });
+    let Ok(single) = Single::build(rt.alloc(), 4, &[2, 0], &[5, 6]) else {
+        return Err(Fail::from("a refusal"));
+    };
+    assert_eq!(rt; single.len(), 4);
+    for (vertex, target, number) in [
+        (0, Some(6), Some(1)),
+        (1, None, None),
+        (2, Some(5), Some(0)),
+        (3, None, None),
+    ] {
+        assert!(rt; vertex < single.len());
+        assert_eq!(rt; single.get(vertex), target, "of {vertex}");
+        assert_eq!(rt; single.number(vertex), number, "of {vertex}");
+    }
+    Ok(())
+}
