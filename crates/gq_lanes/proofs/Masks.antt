@@ -1,5 +1,5 @@
 -- The bits of masks that compare lanes, of unsigned numbers and of signed ones.
-use Rattle.std.proofs.Common.{◌≡◌, ℕ, zero, suc, ◌+◌, ◌-◌, ◌*◌, ◌/◌, ◌%◌, ◌^◌, ◌<◌, ◌≤◌, Bool, true, false, not, cond, eqb, List, length, get_or, take, map, replicate, refl, sym, ap, ◌∙◌, arith, w32, w64, ℤ, pos, SFits, of_z, to_z, int_lt}
+use Rattle.std.proofs.Common.{◌≡◌, ℕ, ◌-◌, ◌%◌, ◌^◌, ◌<◌, Bool, true, false, cond, eqb, List, length, get_or, take, map, replicate, refl, sym, ap, ◌∙◌, arith, w32, w64, ℤ, pos, SFits, of_z, to_z, int_lt}
 use Rattle.std.specs.Prelude.{◌==◌, int_le}
 use Rattle.std.specs.Int.{bit_at}
 use Rattle.std.specs.Ordering.{int_eq}

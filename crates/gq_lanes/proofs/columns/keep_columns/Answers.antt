@@ -1,11 +1,8 @@
-use Rattle.std.proofs.Common.{◌≡◌, ℕ, ◌+◌, ◌*◌, ◌<◌, ◌≤◌, List, take, drop, length, get_or, pos, not, ap, ◌∙◌, sym, refl, arith, w64}
-use Rattle.std.specs.Prelude.{◌==◌, ◌&&◌, bit_and}
-use Rattle.std.specs.Int.{bit_at, bit_not}
-use Rattle.std.proofs.Math.Facts.{to_z-of_z}
+use Rattle.std.proofs.Common.{ℕ, ◌+◌, ◌*◌, take, drop, length, pos, ap, ◌∙◌, arith}
+use Rattle.std.specs.Prelude.{◌&&◌, bit_and}
 use Rattle.gq_bits.specs.Places.{is_marked}
-use Rattle.gq_bits.proofs.Words.{test-bit_and, test-bit_not}
-use Rattle.gq_lanes.specs.Tests.{compares, is_between, cell}
-use Rattle.gq_lanes.proofs.Kept.{kept_more, kept_all, known_bits, length-part, get_or-part}
+use Rattle.gq_lanes.specs.Tests.{compares, cell}
+use Rattle.gq_lanes.proofs.Kept.{kept_more, known_bits, length-part, get_or-part}
 use Rattle.gq_lanes.proofs.columns.keep_columns.Goals as goal
 
 pub columns_mask-mask-requires-clause-one_length : goal.columns_mask-mask-requires-clause-one_length

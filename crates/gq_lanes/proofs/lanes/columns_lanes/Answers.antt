@@ -1,4 +1,4 @@
-use Rattle.std.proofs.Common.{◌≡◌, ℕ, not, eqb, ap, sym, ◌∙◌, refl, w64, ℤ, of_z, to_z, int_lt}
+use Rattle.std.proofs.Common.{not, eqb, ap, sym, ◌∙◌, w64, to_z, int_lt}
 use Rattle.std.specs.Prelude.{int_le}
 use Rattle.std.specs.Ordering.{int_eq}
 use Rattle.gq_lanes.specs.Tests.{cell, compares}
