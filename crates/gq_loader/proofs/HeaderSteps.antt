@@ -8,7 +8,7 @@ use Rattle.gq_base.specs.declared.catalog.Field.{Field}
 use Rattle.gq_loader.proofs.ListLaws.{distinct-more, prepend, prepend-first, repeated}
 use Rattle.gq_loader.specs.Fields.{field_of}
 use Rattle.gq_loader.specs.Lists.{all_distinct, each, is_empty, with_first}
-use Rattle.gq_loader.specs.Loads.{distinct_fields, header_of, same_name}
+use Rattle.gq_loader.specs.Loads.{distinct_fields, header_of, most_fields, same_name}
 
 -- the list from a place on, by what stands at that place
 pub from_place : (texts : List (List ℕ)) (at : ℕ) (text : List ℕ) → field_at texts at ≡ Some text → drop at texts ≡ text ∷ drop (at + 1) texts
@@ -26,7 +26,7 @@ past_end (t ∷ texts) (suc at) e = past_end texts at e
 
 -- the fields that were read are distinct, and those of the texts from this place on follow them
 pub record Reading (texts : List (List ℕ)) (at : ℕ) (fields : List Field) : Type 0 where
-  pub few : (not (is_empty texts) && nat_le (length texts) 64) ≡ true
+  pub few : (not (is_empty texts) && nat_le (length texts) most_fields) ≡ true
   pub given : each field_of texts ≡ prepend fields (each field_of (drop at texts))
   pub distinct : all_distinct same_name fields ≡ true
 

@@ -12,7 +12,7 @@ use Rattle.gq_loader.proofs.HeaderSteps.{from_place}
 use Rattle.gq_loader.proofs.ListLaws.{prepend, prepend-first, prepend-nil}
 use Rattle.gq_loader.specs.Fields.{cell_of}
 use Rattle.gq_loader.specs.Lists.{each, with_first}
-use Rattle.gq_loader.specs.Loads.{row_of, rows_of}
+use Rattle.gq_loader.specs.Loads.{most_rows, row_of, rows_of}
 
 no_rest : {A : Type 0} (first : Option A) → with_first first None ≡ None
 no_rest None = refl
@@ -59,20 +59,20 @@ module _ (fields : List Field) (texts : List (List ℕ)) (at : ℕ) (cells : Lis
 
 -- these rows were read, and those of the records that are left follow them
 pub record Gathering (fields : List Field) (all left : List (List (List ℕ))) (rows : List (List (Option Cell))) : Type 0 where
-  pub few : length rows ≤ 16777216
+  pub few : length rows ≤ most_rows
   pub size : length all ≡ length rows + length left
   pub given : each (row_of fields) all ≡ prepend rows (each (row_of fields) left)
 
 pub ungathered : (fields : List Field) (all : List (List (List ℕ))) → Gathering fields all all []
 ungathered fields all = record { few = omega arith; size = omega arith; given = prepend-nil (each (row_of fields) all) }
 
-test_true : (n : ℕ) → n ≤ 16777216 → nat_le n 16777216 ≡ true
+test_true : (n : ℕ) → n ≤ most_rows → nat_le n most_rows ≡ true
 test_true n h = grind (arith, nat_tests)
 
-test_false : (n : ℕ) → 16777216 < n → nat_le n 16777216 ≡ false
+test_false : (n : ℕ) → most_rows < n → nat_le n most_rows ≡ false
 test_false n h = grind (arith, nat_tests)
 
-at_test : (b : Bool) (fields : List Field) (all : List (List (List ℕ))) → nat_le (length all) 16777216 ≡ b → each (row_of fields) all ≡ None → rows_of fields all ≡ None
+at_test : (b : Bool) (fields : List Field) (all : List (List (List ℕ))) → nat_le (length all) most_rows ≡ b → each (row_of fields) all ≡ None → rows_of fields all ≡ None
 at_test true fields all t e = rw (t, e) refl
 at_test false fields all t e = rw t refl
 
@@ -80,20 +80,20 @@ module _ (fields : List Field) (all left : List (List (List ℕ))) (rows : List 
   pub gathered : left ≡ [] → rows_of fields all ≡ Some rows
   gathered e =
       let none : length left ≡ 0 = ap length e in
-      let t : nat_le (length all) 16777216 ≡ true = test_true (length all) (omega (arith, h.few, h.size)) in
+      let t : nat_le (length all) most_rows ≡ true = test_true (length all) (omega (arith, h.few, h.size)) in
       rw (t, h.given, e, append-nil rows) refl
 
   module _ (texts : List (List ℕ)) (rest : List (List (List ℕ))) (next : left ≡ texts ∷ rest) where
-    pub too_many : length rows ≡ 16777216 → rows_of fields all ≡ None
+    pub too_many : length rows ≡ most_rows → rows_of fields all ≡ None
     too_many e =
         let some : length left ≡ length (texts ∷ rest) = ap length next in
-        let t : nat_le (length all) 16777216 ≡ false = test_false (length all) (omega (arith, h.size)) in
+        let t : nat_le (length all) most_rows ≡ false = test_false (length all) (omega (arith, h.size)) in
         rw t refl
 
     pub no_row : row_of fields texts ≡ None → rows_of fields all ≡ None
-    no_row e = at_test (nat_le (length all) 16777216) fields all refl (rw (h.given, next, e) refl)
+    no_row e = at_test (nat_le (length all) most_rows) fields all refl (rw (h.given, next, e) refl)
 
-    pub one_row : (row : List (Option Cell)) → row_of fields texts ≡ Some row → (length rows ≡ 16777216 → ⊥) → Gathering fields all rest (rows ++ row ∷ [])
+    pub one_row : (row : List (Option Cell)) → row_of fields texts ≡ Some row → (length rows ≡ most_rows → ⊥) → Gathering fields all rest (rows ++ row ∷ [])
     one_row row e room =
         let some : length left ≡ length (texts ∷ rest) = ap length next in
         let longer : length (rows ++ row ∷ []) ≡ length rows + 1 = length-append rows (row ∷ []) in

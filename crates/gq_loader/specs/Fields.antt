@@ -17,9 +17,11 @@ use Rattle.gq_loader.specs.Lists.{is_empty}
 abbrev is_numeral : List ℕ → Bool
 is_numeral digits = not (is_empty digits) && all_ascii_digits digits
 
+-- the number that digits spell, within 64 signed bits
 abbrev positive : List ℕ → Option ℤ
 positive digits = if is_numeral digits && nat_lt (digits_value 10 digits) (2 ^ 63) then Some (pos (digits_value 10 digits)) else None
 
+-- the same behind a `-`
 abbrev negative : List ℕ → Option ℤ
 negative digits = if is_numeral digits && nat_le (digits_value 10 digits) (2 ^ 63) then Some (neg_ℤ (pos (digits_value 10 digits))) else None
 
@@ -38,10 +40,11 @@ cell_of kind.Int field = option_map (λ z. Some (cell.Int z)) (int_of field)
 cell_of kind.Str field = option_map (λ t. Some (cell.Str t)) (text_of field)
 cell_of kind.Flag field = None
 
+-- an ASCII letter, a digit or `_`
 abbrev pub is_name_byte : ℕ → Bool
 is_name_byte b = is_ascii_alphanumeric b || b == 95
 
--- a name: ASCII letters, digits and `_`, a letter first
+-- a name: such bytes, a letter first
 abbrev pub is_name : List ℕ → Bool
 is_name name = is_ascii_alphabetic (slice_index name 0) && list_all is_name_byte name
 
@@ -49,10 +52,15 @@ is_name name = is_ascii_alphabetic (slice_index name 0) && list_all is_name_byte
 abbrev pub kind_of : List ℕ → Option Kind
 kind_of word = if bytes_eq word (codes "int") then Some kind.Int else if bytes_eq word (codes "string") then Some kind.Str else None
 
+-- `:`
+abbrev pub is_colon : ℕ → Bool
+is_colon b = b == 58
+
+-- a name before a kind
 abbrev named : List ℕ → Option Kind → Option Field
 named name None = None
 named name (Some k) = if is_name name then Some (record { name = name; kind = k }) else None
 
 -- a header field `name:kind`
 abbrev pub field_of : List ℕ → Option Field
-field_of text = named (before_first (λ b. b == 58) text) (kind_of (after_first (λ b. b == 58) text))
+field_of text = named (before_first is_colon text) (kind_of (after_first is_colon text))

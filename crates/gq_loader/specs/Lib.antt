@@ -3,3 +3,4 @@ pub mod Fields
 pub mod Lists
 pub mod Loads
 pub mod Records
+pub mod Unread

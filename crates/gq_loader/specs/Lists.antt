@@ -4,6 +4,7 @@ use Rattle.std.specs.declared.option.Option.{Option}
 use Rattle.std.specs.declared.option.Option.TheVariants.{Some, None}
 use Rattle.std.specs.List.{list_any}
 
+-- there are no items
 abbrev pub is_empty : {A : Type 0} → List A → Bool
 is_empty xs = length xs == 0
 
@@ -17,7 +18,7 @@ abbrev pub each : {A B : Type 0} → (A → Option B) → List A → Option (Lis
 each f [] = Some []
 each f (x ∷ xs) = with_first (f x) (each f xs)
 
--- whether no item is the same as a later one
+-- no item is the same as a later one
 abbrev pub all_distinct : {A : Type 0} → (A → A → Bool) → List A → Bool
 all_distinct same [] = true
 all_distinct same (x ∷ xs) = not (list_any (same x) xs) && all_distinct same xs

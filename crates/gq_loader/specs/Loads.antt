@@ -1,5 +1,5 @@
 -- Which graph the files give, or which file is refused first (this project's profile: one table of nodes).
-use Rattle.std.specs.Prelude.{ℕ, Bool, false, not, ◌&&◌, ◌||◌, ◌==◌, nat_le, if◌then◌else◌, List, [], ◌∷◌, length, codes}
+use Rattle.std.specs.Prelude.{ℕ, ◌^◌, Bool, false, not, ◌&&◌, ◌||◌, ◌==◌, nat_le, if◌then◌else◌, List, [], ◌∷◌, length, codes}
 use Rattle.std.specs.declared.option.Option.{Option}
 use Rattle.std.specs.declared.option.Option.TheVariants.{Some, None}
 use Rattle.std.specs.Option.{option_and_then}
@@ -17,6 +17,22 @@ use Rattle.gq_loader.specs.Lists.{all_distinct, each, is_empty, with_first}
 use Rattle.gq_loader.specs.Records.{records_of}
 use Rattle.gq_loader.specs.declared.table.Table.{Table}
 
+-- ---- limits
+
+-- bytes of a manifest
+abbrev pub most_manifest : ℕ
+most_manifest = 2 ^ 20
+
+-- bytes of a table's file
+abbrev pub most_bytes : ℕ
+most_bytes = 2 ^ 28
+
+abbrev pub most_fields : ℕ
+most_fields = 64
+
+abbrev pub most_rows : ℕ
+most_rows = 2 ^ 24
+
 -- ---- the manifest
 
 -- the line of a node table
@@ -24,6 +40,7 @@ pub record Line : Type 0 where
   pub label : List ℕ
   pub file : List ℕ
 
+-- LF
 abbrev pub is_newline : ℕ → Bool
 is_newline b = b == 10
 
@@ -42,6 +59,7 @@ is_blank b = b == 32 || b == 9 || b == 13 || b == 10
 abbrev pub is_word : List ℕ → Bool
 is_word word = not (is_empty word) && not (list_any is_blank word)
 
+-- a line of these three words
 abbrev pub words_of : List ℕ → List ℕ → List ℕ → Option Line
 words_of keyword label file =
     if bytes_eq keyword (codes "node") && is_label label && is_word file && is_utf8 file then Some (record { label = label; file = file }) else None
@@ -55,16 +73,18 @@ line_of bytes =
 
 -- ---- the table
 
+-- two fields have one name, byte for byte
 abbrev pub same_name : Field → Field → Bool
 same_name f g = bytes_eq f.name g.name
 
+-- the fields, where no two have one name
 abbrev pub distinct_fields : Option (List Field) → Option (List Field)
 distinct_fields None = None
 distinct_fields (Some fields) = if all_distinct same_name fields then Some fields else None
 
--- the header: 1 to 64 fields `name:kind` with distinct names
+-- the header: at least one field `name:kind` and not too many, with distinct names
 abbrev pub header_of : List (List ℕ) → Option (List Field)
-header_of texts = if not (is_empty texts) && nat_le (length texts) 64 then distinct_fields (each field_of texts) else None
+header_of texts = if not (is_empty texts) && nat_le (length texts) most_fields then distinct_fields (each field_of texts) else None
 
 -- the row of a record: as many cells as the table has fields, each of its field's kind
 abbrev pub row_of : List Field → List (List ℕ) → Option (List (Option Cell))
@@ -73,9 +93,9 @@ row_of [] (text ∷ texts) = None
 row_of (field ∷ fields) [] = None
 row_of (field ∷ fields) (text ∷ texts) = with_first (cell_of field.kind text) (row_of fields texts)
 
--- a row for each record, at most 2^24 of them
+-- a row for each record, where there are not too many
 abbrev pub rows_of : List Field → List (List (List ℕ)) → Option (List (List (Option Cell)))
-rows_of fields records = if nat_le (length records) 16777216 then each (row_of fields) records else None
+rows_of fields records = if nat_le (length records) most_rows then each (row_of fields) records else None
 
 -- the key of a row: its first cell, which is not null
 abbrev pub key_of : List (Option Cell) → Option Val
@@ -83,14 +103,16 @@ key_of [] = None
 key_of (None ∷ cells) = None
 key_of (Some c ∷ cells) = Some (cell_val (Some c))
 
+-- two keys are one value, by the order of values
 abbrev pub same_key : Val → Val → Bool
 same_key a b = is_eq (order_vals a b)
 
+-- the keys are there, and no two are the same
 abbrev pub unique : Option (List Val) → Bool
 unique None = false
 unique (Some keys) = all_distinct same_key keys
 
--- whether each row has a key and no two rows have the same one
+-- each row has a key, and no two rows have the same one
 abbrev pub has_keys : List (List (Option Cell)) → Bool
 has_keys rows = unique (each key_of rows)
 
@@ -133,7 +155,7 @@ of_table line (Some table) = loaded (graph_of line table)
 
 abbrev of_file : Line → Option (List ℕ) → Loading
 of_file line None = no_file line.file
-of_file line (Some bytes) = of_table line (option_and_then (λ b. table_of (records_of b)) (within 268435456 bytes))
+of_file line (Some bytes) = of_table line (option_and_then (λ b. table_of (records_of b)) (within most_bytes bytes))
 
 abbrev of_line : List ℕ → Names → Option Line → Loading
 of_line name files None = not_built name
@@ -141,8 +163,8 @@ of_line name files (Some line) = of_file line (files line.file)
 
 abbrev of_manifest : List ℕ → Names → Option (List ℕ) → Loading
 of_manifest name files None = no_file name
-of_manifest name files (Some bytes) = of_line name files (option_and_then line_of (within 1048576 bytes))
+of_manifest name files (Some bytes) = of_line name files (option_and_then line_of (within most_manifest bytes))
 
--- the load of the manifest of this name: first the manifest, of at most 2^20 bytes, then the file that it names, of at most 2^28
+-- the load of the manifest of this name: first the manifest is read, then the file that it names
 abbrev pub load_of : List ℕ → Names → Loading
 load_of name files = of_manifest name files (files name)

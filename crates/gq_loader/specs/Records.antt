@@ -1,33 +1,7 @@
--- The records that `csv` defines for the bytes of a file, and those that a reader has yet to give.
-use Rattle.std.specs.Prelude.{◌≡◌, ℕ, ◌+◌, false, List, [], length, IsSome}
-use Rattle.std.specs.declared.option.Option.{Option}
-use Rattle.std.specs.declared.option.Option.TheVariants.{Some, None}
-use Rattle.std.specs.Borrow.{Bor}
-use Rattle.csv.specs.Machine.{ends_at_end}
-use Rattle.csv.specs.Reading.{Ready, default_config, reader_config, reader_state, reader_trim, records, records_from, source_of, strip_bom}
-use Rattle.csv.specs.declared.parser.State.{State}
-use Rattle.csv.specs.declared.reader.Reader.{Reader}
-use Rattle.csv.specs.declared.reader.Trim.TheVariants as trim
+-- The records that `csv` defines for the bytes of a file.
+use Rattle.std.specs.Prelude.{ℕ, List}
+use Rattle.csv.specs.Reading.{default_config, records, strip_bom}
 
--- the records of these bytes: byte records, no header row, no trimming, one leading byte order mark dropped
+-- byte records: fields apart by `,`, quoted by `"`, untrimmed, of any number; no header row; one leading byte order mark is dropped
 abbrev pub records_of : List ℕ → List (List (List ℕ))
 records_of bytes = records default_config (strip_bom bytes)
-
-abbrev pub bytes_left : Reader (Bor (List ℕ)) → Option (List ℕ)
-bytes_left reader = source_of (λ bytes. Some bytes.now) reader
-
-abbrev pub records_after : State → Option (List ℕ) → List (List (List ℕ))
-records_after state None = []
-records_after state (Some bytes) = records_from default_config (length bytes + 1) state bytes
-
--- the records that a reader over bytes in memory has yet to give
-abbrev pub records_left : Reader (Bor (List ℕ)) → List (List (List ℕ))
-records_left reader = records_after (reader_state reader) (bytes_left reader)
-
--- the reader has not failed, stands between two records, and reads as `records_of` says
-pub record IsOpen (reader : Reader (Bor (List ℕ))) : Type 0 where
-  pub trim : reader_trim reader ≡ trim.None
-  pub ready : Ready reader
-  pub config : reader_config reader ≡ default_config
-  pub known : IsSome (bytes_left reader)
-  pub between : ends_at_end (reader_state reader) ≡ false

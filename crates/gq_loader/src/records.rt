@@ -2,7 +2,8 @@
 ghost use Rattle.std.specs.Prelude.{◌≡◌, [], ◌∷◌, IfOk};
 ghost use Rattle.std.specs.Bool.{MatchBool, OnTrue};
 ghost use Rattle.csv.specs.Records.{fields_of};
-ghost use Rattle.gq_loader.specs.Records.{IsOpen, records_left, records_of};
+ghost use Rattle.gq_loader.specs.Records.{records_of};
+ghost use Rattle.gq_loader.specs.Unread.{IsOpen, records_left};
 
 use csv::{ByteRecord, Reader, ReaderBuilder};
 use gq_base::Memory;

