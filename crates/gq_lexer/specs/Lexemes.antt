@@ -4,9 +4,9 @@ use Rattle.std.specs.Char.{is_ascii_digit, is_whitespace}
 use Rattle.std.specs.Str.{encode_utf8_all}
 use Rattle.std.specs.declared.option.Option.{Option}
 use Rattle.std.specs.declared.option.Option.TheVariants.{Some, None}
-use Rattle.gq_lexer.specs.Characters.{is_word_part, is_word_start}
+use Rattle.gq_lexer.specs.Characters.{begins, begins_digit, code, is_word_part, is_word_start}
 use Rattle.gq_lexer.specs.Numbers.{digits_at, value_in}
-use Rattle.gq_lexer.specs.Runs.{begins, run}
+use Rattle.gq_lexer.specs.Runs.{run}
 use Rattle.gq_lexer.specs.declared.lexeme.Lexeme.{Lexeme}
 use Rattle.gq_lexer.specs.declared.run.Form.TheVariants as form
 use Rattle.gq_lexer.specs.declared.token.Sign.{Sign}
@@ -29,7 +29,7 @@ word_at cs = let r = run form.Word cs in token r.size (kind.Word (encode_utf8_al
 abbrev pub quoted_at : List ℕ → Option Lexeme
 quoted_at cs =
     let r = run form.Quoted cs in
-    if nat_lt 0 r.size && begins 96 (drop r.size cs) then token (r.size + 2) (kind.Quoted (encode_utf8_all r.values)) else None
+    if nat_lt 0 r.size && begins (code "`") (drop r.size cs) then token (r.size + 2) (kind.Quoted (encode_utf8_all r.values)) else None
 
 -- behind a quote: characters and escapes, and the quote that ends them
 abbrev pub string_at : ℕ → List ℕ → Option Lexeme
@@ -41,8 +41,8 @@ string_at quote cs =
 abbrev pub slash_at : List ℕ → Option Lexeme
 slash_at [] = token 1 (kind.Sign sign.Slash)
 slash_at (c ∷ cs) =
-    if c == 47 then blank ((run form.Line cs).size + 2)
-    else if c == 42 then (let size = (run form.Block cs).size in if begins 42 (drop size cs) && begins 47 (drop (size + 1) cs) then blank (size + 4) else None)
+    if c == code "/" then blank ((run form.Line cs).size + 2)
+    else if c == code "*" then (let size = (run form.Block cs).size in if begins (code "*") (drop size cs) && begins (code "/") (drop (size + 1) cs) then blank (size + 4) else None)
     else token 1 (kind.Sign sign.Slash)
 
 -- a number at most 9223372036854775808, which has a kind of its own
@@ -53,14 +53,10 @@ abbrev pub sized : ℕ → Option TokenKind → Option Lexeme
 sized size None = None
 sized size (Some k) = token size k
 
-abbrev pub begins_digit : List ℕ → Bool
-begins_digit [] = false
-begins_digit (c ∷ cs) = is_ascii_digit c
-
 -- what may not stand right behind a number: a word character, a digit, or a point and a digit
 abbrev pub runs_on : List ℕ → Bool
 runs_on [] = false
-runs_on (c ∷ cs) = is_word_part c || c == 46 && begins_digit cs
+runs_on (c ∷ cs) = is_word_part c || (c == code "." && begins_digit cs)
 
 -- the digits of a base, behind so many characters of the number
 abbrev pub numeral : ℕ → ℕ → List ℕ → Option Lexeme
@@ -72,39 +68,39 @@ numeral base front cs =
 abbrev pub number_at : List ℕ → Option Lexeme
 number_at [] = None
 number_at (c ∷ cs) =
-    if c == 48 && begins 120 cs then numeral 16 2 (drop 1 cs)
-    else if c == 48 && begins_digit cs then None
+    if c == code "0" && begins (code "x") cs then numeral 16 2 (drop 1 cs)
+    else if c == code "0" && begins_digit cs then None
     else numeral 10 0 (c ∷ cs)
 
 -- the signs of two characters: <> <= >= ..
 abbrev pub pair_sign : ℕ → ℕ → Option Sign
 pair_sign c d =
-    if c == 60 && d == 62 then Some sign.NotEqual
-    else if c == 60 && d == 61 then Some sign.LessEqual
-    else if c == 62 && d == 61 then Some sign.GreaterEqual
-    else if c == 46 && d == 46 then Some sign.DotDot
+    if c == code "<" && d == code ">" then Some sign.NotEqual
+    else if c == code "<" && d == code "=" then Some sign.LessEqual
+    else if c == code ">" && d == code "=" then Some sign.GreaterEqual
+    else if c == code "." && d == code "." then Some sign.DotDot
     else None
 
 -- the signs of one character: ( ) [ ] { } , : . | - + * % < > =
 abbrev pub lone_sign : ℕ → Option Sign
 lone_sign c =
-    if c == 40 then Some sign.LeftParen
-    else if c == 41 then Some sign.RightParen
-    else if c == 91 then Some sign.LeftBracket
-    else if c == 93 then Some sign.RightBracket
-    else if c == 123 then Some sign.LeftBrace
-    else if c == 125 then Some sign.RightBrace
-    else if c == 44 then Some sign.Comma
-    else if c == 58 then Some sign.Colon
-    else if c == 46 then Some sign.Dot
-    else if c == 124 then Some sign.Bar
-    else if c == 45 then Some sign.Minus
-    else if c == 43 then Some sign.Plus
-    else if c == 42 then Some sign.Star
-    else if c == 37 then Some sign.Percent
-    else if c == 60 then Some sign.Less
-    else if c == 62 then Some sign.Greater
-    else if c == 61 then Some sign.Equal
+    if c == code "(" then Some sign.LeftParen
+    else if c == code ")" then Some sign.RightParen
+    else if c == code "[" then Some sign.LeftBracket
+    else if c == code "]" then Some sign.RightBracket
+    else if c == code "{" then Some sign.LeftBrace
+    else if c == code "}" then Some sign.RightBrace
+    else if c == code "," then Some sign.Comma
+    else if c == code ":" then Some sign.Colon
+    else if c == code "." then Some sign.Dot
+    else if c == code "|" then Some sign.Bar
+    else if c == code "-" then Some sign.Minus
+    else if c == code "+" then Some sign.Plus
+    else if c == code "*" then Some sign.Star
+    else if c == code "%" then Some sign.Percent
+    else if c == code "<" then Some sign.Less
+    else if c == code ">" then Some sign.Greater
+    else if c == code "=" then Some sign.Equal
     else None
 
 abbrev pub signed : ℕ → Option Sign → Option Lexeme
@@ -127,7 +123,7 @@ lexeme (c ∷ cs) =
     if is_whitespace c then blank 1
     else if is_word_start c then word_at (c ∷ cs)
     else if is_ascii_digit c then number_at (c ∷ cs)
-    else if c == 96 then quoted_at cs
-    else if c == 39 || c == 34 then string_at c cs
-    else if c == 47 then slash_at cs
+    else if c == code "`" then quoted_at cs
+    else if c == code "'" || c == code "\"" then string_at c cs
+    else if c == code "/" then slash_at cs
     else sign_at c cs

@@ -1,18 +1,13 @@
 -- Runs of characters, piece by piece: words, and what stands in quotes and in comments (this project's profile).
-use Rattle.std.specs.Prelude.{ℕ, zero, suc, ◌+◌, ◌-◌, Bool, false, ◌==◌, ◌&&◌, ◌||◌, if◌then◌else◌, List, [], ◌∷◌, take}
+use Rattle.std.specs.Prelude.{ℕ, zero, suc, ◌+◌, ◌-◌, ◌==◌, ◌&&◌, ◌||◌, if◌then◌else◌, List, [], ◌∷◌, take}
 use Rattle.std.specs.Str.{all_scalars}
 use Rattle.std.specs.declared.option.Option.{Option}
 use Rattle.std.specs.declared.option.Option.TheVariants.{Some, None}
-use Rattle.gq_lexer.specs.Characters.{is_word_part}
+use Rattle.gq_lexer.specs.Characters.{begins, code, is_word_part}
 use Rattle.gq_lexer.specs.Numbers.{digits_at, value_in}
 use Rattle.gq_lexer.specs.declared.run.Form.{Form}
 use Rattle.gq_lexer.specs.declared.run.Form.TheVariants as form
 use Rattle.gq_lexer.specs.declared.run.Piece.{Piece}
-
--- a text begins with this character
-abbrev pub begins : ℕ → List ℕ → Bool
-begins c [] = false
-begins c (d ∷ cs) = d == c
 
 -- a piece of this many characters that stands for one
 abbrev pub of_size : ℕ → ℕ → Option Piece
@@ -21,12 +16,12 @@ of_size size value = Some (record { size = size; value = value })
 -- what the character behind a backslash stands for: itself if it is a backslash or a quote, or a control character
 abbrev pub escape_value : ℕ → Option ℕ
 escape_value c =
-    if c == 92 || c == 39 || c == 34 then Some c
-    else if c == 98 then Some 8
-    else if c == 102 then Some 12
-    else if c == 110 then Some 10
-    else if c == 114 then Some 13
-    else if c == 116 then Some 9
+    if c == code "\\" || c == code "'" || c == code "\"" then Some c
+    else if c == code "b" then Some 8
+    else if c == code "f" then Some 12
+    else if c == code "n" then Some (code "\n")
+    else if c == code "r" then Some (code "\r")
+    else if c == code "t" then Some (code "\t")
     else None
 
 abbrev pub escape_piece : Option ℕ → Option Piece
@@ -42,16 +37,17 @@ code_piece count cs =
 -- an escape, behind its backslash
 abbrev pub escape : List ℕ → Option Piece
 escape [] = None
-escape (c ∷ cs) = if c == 117 then code_piece 4 cs else if c == 85 then code_piece 8 cs else escape_piece (escape_value c)
+escape (c ∷ cs) = if c == code "u" then code_piece 4 cs else if c == code "U" then code_piece 8 cs else escape_piece (escape_value c)
 
--- the piece that a run of this form goes on with, where it goes on
+-- the piece that a run of this form goes on with, where it goes on: a character of a word; a character, or a backquote
+-- that is doubled; a character but the quote, or an escape; a character of the line; a character before the next `*/`
 abbrev pub piece : Form → List ℕ → Option Piece
 piece f [] = None
 piece form.Word (c ∷ cs) = if is_word_part c then of_size 1 c else None
-piece form.Quoted (c ∷ cs) = if c == 96 then (if begins 96 cs then of_size 2 96 else None) else of_size 1 c
-piece (form.Str quote) (c ∷ cs) = if c == quote then None else if c == 92 then escape cs else of_size 1 c
-piece form.Line (c ∷ cs) = if c == 10 || c == 13 then None else of_size 1 c
-piece form.Block (c ∷ cs) = if c == 42 && begins 47 cs then None else of_size 1 c
+piece form.Quoted (c ∷ cs) = if c == code "`" then (if begins (code "`") cs then of_size 2 c else None) else of_size 1 c
+piece (form.Str quote) (c ∷ cs) = if c == quote then None else if c == code "\\" then escape cs else of_size 1 c
+piece form.Line (c ∷ cs) = if c == code "\n" || c == code "\r" then None else of_size 1 c
+piece form.Block (c ∷ cs) = if c == code "*" && begins (code "/") cs then None else of_size 1 c
 
 -- a run: the characters that its pieces stand for, and how many characters they take
 pub record Run : Type 0 where

@@ -1,7 +1,8 @@
 //! Digits and the numbers that they spell.
 
 ghost use Rattle.std.specs.Prelude.{◌≡◌, ◌+◌, ◌-◌, ◌^◌, ◌<◌, ◌≤◌, length, min, take, IfSome};
-ghost use Rattle.gq_lexer.specs.Lexemes.{begins_digit, number_at, number_kind, numeral, runs_on};
+ghost use Rattle.gq_lexer.specs.Characters.{begins_digit};
+ghost use Rattle.gq_lexer.specs.Lexemes.{number_at, number_kind, numeral, runs_on};
 ghost use Rattle.gq_lexer.specs.Numbers.{digits_at, value_in};
 
 use crate::character::is_word_part;
