@@ -1,13 +1,12 @@
 -- The places of numbers in an order of all numbers.
-use Rattle.std.proofs.Common.{◌≡◌, ◌≢◌, ℕ, zero, suc, ◌+◌, ◌-◌, ◌*◌, ◌<◌, ◌≤◌, List, [], ◌∷◌, ◌++◌, length, get_or, set, take, refl, sym, ap, ◌∙◌, subst, arith, inl, inr}
+use Rattle.std.proofs.Common.{◌≡◌, ◌≢◌, ℕ, ◌+◌, ◌<◌, List, [], ◌∷◌, ◌++◌, length, get_or, set, sym, ap, ◌∙◌, subst, arith, inl, inr}
 use Rattle.std.specs.Prelude.{All}
 use Rattle.std.specs.List.{concat, range_with_len}
 use Rattle.std.proofs.lemmas.Bool.{cases_eq}
 use Rattle.std.proofs.lemmas.List.{length-set, get_or-set_same, get_or-set_other, get_or_default, map-id}
 use Rattle.std.proofs.lemmas.List.FromFn.{length-range_with_len, get_or-range_with_len, map-range_with_len_more}
-use Rattle.gq_adj.specs.Adjacent.{lists_of}
-use Rattle.gq_adj.proofs.Members.{Found, lists-reach, lists-hold}
-use Rattle.gq_edges.specs.Order.{numbers_of, IsPlaceOf, ArePlaced}
+use Rattle.gq_adj.proofs.Members.{lists-reach, lists-hold}
+use Rattle.gq_edges.specs.Order.{numbers_of, IsPlaceOf}
 
 -- the numbers at the first n places have their places
 pub record Placed (n : ℕ) (order places : List ℕ) : Type 0 where

@@ -1,5 +1,4 @@
-use Rattle.std.proofs.Common.{◌≡◌, ◌++◌, ◌∷◌, [], ap, ◌∙◌, sym, arith}
-use Rattle.std.specs.List.{range_with_len}
+use Rattle.std.proofs.Common.{◌++◌, ◌∷◌, [], ap, ◌∙◌, sym}
 use Rattle.gq_edges.proofs.Ordered.{range_more}
 use Rattle.gq_edges.proofs.paged.numbers_below.Goals as goal
 

@@ -1,4 +1,3 @@
-use Rattle.std.proofs.Common.{◌≡◌, ◌<◌, ℕ, length, get_or, vec_len}
 use Rattle.gq_edges.proofs.Ordered.{Placed}
 use Rattle.gq_edges.proofs.paged.places_of.Given as goal
 

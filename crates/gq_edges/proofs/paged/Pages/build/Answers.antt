@@ -1,6 +1,5 @@
-use Rattle.std.proofs.Common.{◌≡◌, ◌<◌, ap, ◌∙◌, sym, length, arith, List, ℕ}
-use Rattle.std.specs.Prelude.{All}
-use Rattle.std.specs.List.{concat, range_with_len}
+use Rattle.std.proofs.Common.{◌≡◌, ap, ◌∙◌, sym, length, arith, List, ℕ}
+use Rattle.std.specs.List.{concat}
 use Rattle.std.proofs.lemmas.List.FromFn.{length-range_with_len}
 use Rattle.gq_adj.specs.Adjacent.{lists_of}
 use Rattle.gq_edges.specs.Order.{numbers_of}

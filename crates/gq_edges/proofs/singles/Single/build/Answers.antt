@@ -1,4 +1,4 @@
-use Rattle.std.proofs.Common.{◌≡◌, ap, ◌∙◌, sym, length, arith}
+use Rattle.std.proofs.Common.{◌∙◌, sym, arith}
 use Rattle.gq_edges.proofs.Seen.{length-pairs_of, seen_pairs}
 use Rattle.gq_edges.proofs.singles.Single.build.Goals as goal
 

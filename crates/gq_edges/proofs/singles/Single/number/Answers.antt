@@ -1,8 +1,8 @@
-use Rattle.std.proofs.Common.{◌≡◌, ◌≢◌, ◌<◌, ◌-◌, ◌^◌, ℕ, ap, ◌∙◌, sym, length, get_or, cond, eqb, arith, Option, Some, None}
+use Rattle.std.proofs.Common.{◌≡◌, ◌≢◌, ◌<◌, ◌-◌, ◌^◌, ℕ, ap, ◌∙◌, sym, length, get_or, cond, arith, Option, Some, None}
 use Rattle.std.specs.Option.{option_map}
 use Rattle.std.proofs.lemmas.Bool.{eq-eqb, ne_eqb}
 use Rattle.std.proofs.lemmas.List.{get_or_read_under}
-use Rattle.gq_edges.specs.Once.{Pair, pair_at}
+use Rattle.gq_edges.specs.Once.{Pair}
 use Rattle.gq_edges.proofs.Seen.{length-pairs_of, pair-pairs_of}
 use Rattle.gq_edges.proofs.singles.Single.number.Goals as goal
 
