@@ -1,0 +1,167 @@
+//! A dictionary: distinct texts in order of their bytes, each with its place as its code.
+#![tactic(auto)]
+
+ghost use Rattle.std.specs.Prelude.{◌≡◌, ◌↔◌, ℕ, List, ◌^◌, ◌<◌, ◌≤◌, ◌-◌, [], true, false, length, ◌&&◌, nat_le, nat_lt, nat_eq, Contains, IfOk, IfSome, IfNone, count_by, map, ◌≢◌};
+ghost use Rattle.std.specs.List.{starts_with};
+ghost use Rattle.gq_dict.specs.Texts.{IsAscending, IsInOrder, comes_before, text_at};
+
+use gq_base::{List, Memory, Text};
+use std::alloc::Global;
+use std::marker::Model;
+
+/// At most 2^32 - 1 distinct texts, which ascend by their bytes. It is seen as the list of the texts' bytes.
+#[derive(Drop)]
+pub struct Dict {
+    texts: Vec<Text>,
+}
+
+impl Model for Dict {
+    ghost use Rattle.std.specs.Prelude.{List, ℕ};
+    ghost use Rattle.gq_dict.specs.Texts.{IsDict};
+
+    ghost Value = { List (List ℕ) };
+
+    ghost view = { λ d. d.texts.items };
+
+    ghost invariant = { λ d. IsDict d.texts.items };
+}
+
+/// The codes from `low` to below `high`.
+#[derive(Clone, Copy, Debug, PartialEq, Eq)]
+pub struct CodeRange {
+    pub low: u32,
+    pub high: u32,
+}
+
+impl Dict {
+    /// The dictionary of the texts, in which each stands once.
+    pub fn build(alloc: Global, texts: &List<Text>) -> Result<Dict, Memory>
+        requires { length texts.now < 2 ^ 32 }
+        ensures ascending { IfOk result IsAscending }
+        ensures same { IfOk result (λ dict. (text : List ℕ) → Contains dict text ↔ Contains texts.now text) }
+    {
+        let mut sorted = borrowed(alloc, texts.as_slice())?;
+        sorted.sort_unstable();
+        let distinct = distinct_of(alloc, sorted.as_slice())?;
+        Ok(Dict { texts: distinct })
+    }
+
+    /// How many texts there are.
+    pub fn len(&self) -> u32
+        ensures { result ≡ length self.now }
+    {
+        self.texts.len() as u32
+    }
+
+    /// The code of the text, where it is there.
+    pub fn code(&self, text: &str) -> Option<u32>
+        ensures some { IfSome result (λ code. (code < length self.now) × (text_at self.now code ≡ text.now)) }
+        ensures none { IfNone result ((code : ℕ) → code < length self.now → text_at self.now code ≢ text.now) }
+    {
+        let code = self.below(text);
+        if (code as usize) < self.texts.len() && self.texts[code as usize].is(text) {
+            Some(code)
+        } else {
+            None
+        }
+    }
+
+    /// The text of a code.
+    pub fn text(&self, code: u32) -> &str
+        requires { code < length self.now }
+        ensures { result.now ≡ text_at self.now code }
+    {
+        self.texts[code as usize].as_str()
+    }
+
+    /// How many texts come before the text.
+    pub fn below(&self, text: &str) -> u32
+        ensures count { result ≡ count_by (λ other. comes_before other text.now) self.now }
+        ensures within { result ≤ length self.now }
+        ensures before { (code : ℕ) → code < result → comes_before (text_at self.now code) text.now ≡ true }
+        ensures rest { (code : ℕ) → result ≤ code → code < length self.now → comes_before (text_at self.now code) text.now ≡ false }
+    {
+        let texts = self.texts.as_slice();
+        let mut low = 0;
+        let mut high = texts.len();
+        while low < high {
+            let middle = low + (high - low) / 2;
+            if texts[middle].as_str().cmp(text).is_lt() {
+                low = middle + 1;
+            } else {
+                high = middle;
+            }
+        }
+        low as u32
+    }
+
+    /// The codes of the texts that begin with the prefix.
+    pub fn prefix_range(&self, prefix: &str) -> CodeRange
+        ensures ordered { result.low ≤ result.high }
+        ensures within { result.high ≤ length self.now }
+        ensures exact { (code : ℕ) → code < length self.now →
+            (nat_le result.low code && nat_lt code result.high) ≡ starts_with nat_eq (text_at self.now code) prefix.now }
+    {
+        let first = self.below(prefix);
+        let texts = self.texts.as_slice();
+        let mut low = first as usize;
+        let mut high = texts.len();
+        while low < high {
+            let middle = low + (high - low) / 2;
+            if texts[middle]
+                .as_str()
+                .as_bytes()
+                .starts_with(prefix.as_bytes())
+            {
+                low = middle + 1;
+            } else {
+                high = middle;
+            }
+        }
+        CodeRange {
+            low: first,
+            high: low as u32,
+        }
+    }
+}
+
+// The texts, borrowed, so that they can be sorted without a copy.
+fn borrowed<'a>(alloc: Global, texts: &'a [Text]) -> Result<Vec<&'a str>, Memory>
+    ensures { IfOk result (λ all. map (λ text. text.now) all.items ≡ texts.now) }
+{
+    let mut all = Vec::with_capacity(alloc, texts.len())?;
+    for text in texts {
+        all.push(text.as_str())?;
+    }
+    Ok(all)
+}
+
+// A copy of each text that differs from the one before it.
+fn distinct_of(alloc: Global, sorted: &[&str]) -> Result<Vec<Text>, Memory>
+    requires few { length sorted.now < 2 ^ 32 }
+    requires sorted { IsInOrder (map (λ text. text.now) sorted.now) }
+    ensures ascending { IfOk result (λ texts. IsAscending texts.items) }
+    ensures few { IfOk result (λ texts. length texts.items ≤ length sorted.now) }
+    ensures same { IfOk result (λ texts. (text : List ℕ) → Contains texts.items text ↔ Contains (map (λ text. text.now) sorted.now) text) }
+{
+    let mut texts: Vec<Text> = Vec::new(alloc);
+    for (i, text) in sorted.iter().enumerate() {
+        if is_first(sorted, i) {
+            let copy = Text::new(alloc, text)?;
+            texts.push(copy)?;
+        }
+    }
+    Ok(texts)
+}
+
+// Whether no text before it is the same, where the texts are in order.
+fn is_first(sorted: &[&str], i: usize) -> bool
+    requires { i < length sorted.now }
+    ensures front { i ≡ 0 → result ≡ true }
+    ensures later { 0 < i → result ≡ comes_before (text_at (map (λ text. text.now) sorted.now) (i - 1)) (text_at (map (λ text. text.now) sorted.now) i) }
+{
+    i == 0 || sorted[i - 1].cmp(sorted[i]).is_lt()
+}
+
+#[cfg(test)]
+mod tests;
