@@ -1,10 +1,10 @@
 -- The items of pairs stand in the lists of their vertices, and no others do.
-use Rattle.std.proofs.Common.{◌≡◌, ℕ, zero, suc, ◌+◌, ◌-◌, ◌<◌, ◌≤◌, List, [], ◌∷◌, ◌++◌, length, get_or, cond, eqb, true, false, refl, sym, ap, ◌∙◌, subst, arith, inl, inr}
+use Rattle.std.proofs.Common.{◌≡◌, ℕ, zero, suc, ◌+◌, ◌-◌, ◌<◌, List, [], ◌∷◌, ◌++◌, length, get_or, cond, eqb, true, false, refl, sym, ap, ◌∙◌, subst, arith, inl, inr}
 use Rattle.std.specs.Prelude.{All}
 use Rattle.std.specs.List.{concat}
 use Rattle.std.proofs.lemmas.Bool.{cases_lt, eq-eqb}
 use Rattle.std.proofs.lemmas.List.{length-append, get_or_append_left, get_or-append-add, get_or-append_right}
-use Rattle.gq_adj.specs.Adjacent.{targets, lists_from, lists_of}
+use Rattle.gq_adj.specs.Adjacent.{targets, lists_of}
 use Rattle.gq_adj.proofs.Sorting.{length-lists_from, get_or-lists_from}
 
 -- x stands in a list
@@ -34,8 +34,8 @@ targets-from v (f ∷ fs) (t ∷ ts) k e h =
     let rest : List ℕ = targets v fs ts in
     let each : (m : ℕ) → m < length rest → Found ts (get_or rest m 0) = λ m w. targets-from v fs ts m (omega arith) w in
     (elim (eqb f v) as (λ b. k < length (cond b (t ∷ rest) rest) → Found (t ∷ ts) (get_or (cond b (t ∷ rest) rest) k 0)) [
-      true ↦ (λ w. from_cons t rest ts k each w)
-    | false ↦ (λ w. later t ts (get_or rest k 0) (each k w))
+      | true ↦ (λ w. from_cons t rest ts k each w)
+      | false ↦ (λ w. later t ts (get_or rest k 0) (each k w))
     ]) h
 
 -- an item stands in the list of its vertex
@@ -65,12 +65,12 @@ record Within (xss : List (List ℕ)) (x : ℕ) : Type 0 where
 concat-of : (xss : List (List ℕ)) (p : ℕ) → p < length (concat xss) → Within xss (get_or (concat xss) p 0)
 concat-of [] p h = absurd (omega arith)
 concat-of (xs ∷ xss) p h = elim (cases_lt p (length xs)) [
-    inl low ↦ record { list = 0; there = omega arith; found = record { at = p; within = low; is = sym (get_or_append_left xs (concat xss) 0 p low) } }
+  | inl low ↦ record { list = 0; there = omega arith; found = record { at = p; within = low; is = sym (get_or_append_left xs (concat xss) 0 p low) } }
   | inr high ↦
       let w = concat-of xss (p - length xs) (omega (arith, length-append xs (concat xss))) in
       let low : w.list < length xss = w.there in
       record { list = suc w.list; there = omega arith; found = subst (Found (get_or xss w.list [])) (sym (get_or-append_right xs (concat xss) (length xs) p 0 refl high)) w.found }
-  ]
+]
 
 -- each item stands in the lists, one after another
 pub lists-reach : (n : ℕ) (from items : List ℕ) (j : ℕ) → length from ≡ length items → All (λ v. v < n) from → j < length from → Found (concat (lists_of n from items)) (get_or items j 0)
@@ -79,7 +79,7 @@ lists-reach n from items j e below h =
     let inside : v < n = below j 0 h in
     let zero_plus : 0 + v ≡ v = omega arith in
     concat-at (lists_of n from items) v (get_or items j 0) (omega (arith, length-lists_from 0 n from items))
-      (subst (λ l. Found l (get_or items j 0)) (sym (get_or-lists_from 0 n v from items [] inside ∙ ap (λ u. targets u from items) zero_plus)) (targets-to from items j e h))
+    (subst (λ l. Found l (get_or items j 0)) (sym (get_or-lists_from 0 n v from items [] inside ∙ ap (λ u. targets u from items) zero_plus)) (targets-to from items j e h))
 
 -- and nothing else
 pub lists-hold : (n : ℕ) (from items : List ℕ) (p : ℕ) → length from ≡ length items → p < length (concat (lists_of n from items)) → Found items (get_or (concat (lists_of n from items)) p 0)

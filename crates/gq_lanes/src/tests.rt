@@ -26,7 +26,7 @@ fn places(len: u32, step: u32) -> Marks
 fn cells(factor: u32) -> [i64; VECTOR as usize] {
     let mut cells = [0; VECTOR as usize];
     for place in 0..VECTOR {
-        cells[place as usize] = i64::from(place % 1024 * (factor % 8) % 7) - 3;
+        cells[place as usize] = i64::from(place % VECTOR * (factor % 8) % 7) - 3;
     }
     cells
 }

@@ -1,8 +1,6 @@
-use Rattle.std.proofs.Common.{◌≡◌, ◌+◌, ◌<◌, ℕ, List, map, Bor, ap, ◌∙◌, sym, arith, length, [], get_or, subst}
-use Rattle.std.proofs.lemmas.List.{length-map, get_or-map}
+use Rattle.std.proofs.Common.{ℕ, List, map, Bor, ◌∙◌, sym, subst}
 use Rattle.std.specs.Prelude.{Contains}
 use Rattle.gq_dict.proofs.Distinct.{in_order, same_texts}
-use Rattle.gq_dict.specs.Texts.{text_at}
 use Rattle.gq_dict.proofs.Dict.build.Goals as goal
 
 pub distinct_of-requires-clause-sorted : goal.distinct_of-requires-clause-sorted

@@ -1,23 +1,28 @@
-use Rattle.std.proofs.Common.{◌≡◌, ◌*◌, ◌/◌, ◌%◌, ℕ, length, ap, ◌∙◌, arith}
+use Rattle.std.proofs.Common.{◌≡◌, ◌*◌, ◌/◌, ◌%◌, ◌-◌, ◌^◌, ℕ, length, ap, sym, ◌∙◌, refl, arith}
+use Rattle.std.proofs.lemmas.Bool.{le-ltb}
 use Rattle.std.specs.Prelude.{nat_lt}
 use Rattle.std.proofs.lemmas.List.{length-set}
+use Rattle.gq_bits.specs.declared.TheConstants.{VECTOR}
 use Rattle.gq_bits.specs.Bits.{bit_of}
-use Rattle.gq_bits.proofs.Words.{is_marked-bits_of, length-bits_of}
+use Rattle.gq_bits.proofs.Words.{is_marked-bits_of, length-bits_of, bit_of-zeros}
 use Rattle.gq_bits.proofs.Search.{first_more, low_bits, low_part}
 use Rattle.gq_bits.proofs.vector_marks.Marks.first.Goals as goal
 use Rattle.gq_bits.proofs.vector_marks.Marks.first.Goals.{then-count-ne0, else-count-ne0}
+
+pub loop-index-init : goal.loop-index-init
+loop-index-init c = record { size = refl; below = λ k. bit_of-zeros (VECTOR / 64) k ∙ sym (le-ltb k (64 * 0) (omega arith)) }
 
 pub loop-index-preserved : goal.loop-index-preserved
 loop-index-preserved c =
     let at : ℕ = c.loop-index.index in
     record {
-      size = length-set c.loop-index.words at 18446744073709551615 ∙ c.loop-index.invariant.size;
-      below = λ k. first_more c.loop-index.words at 64 18446744073709551615 (omega (arith, c.loop-index.invariant.size, c.requires, c.loop-index-test.true)) (omega arith) (λ i h. low_bits 64 i) c.loop-index.invariant.below k ∙ ap (nat_lt k) (omega arith);
+      size = length-set c.loop-index.words at (2 ^ 64 - 1) ∙ c.loop-index.invariant.size;
+      below = λ k. first_more c.loop-index.words at 64 (2 ^ 64 - 1) (omega (arith, c.loop-index.invariant.size, c.requires, c.loop-index-test.true)) (omega arith) (λ i h. low_bits 64 i) c.loop-index.invariant.below k ∙ ap (nat_lt k) (omega arith);
     }
 
 pub returns-clause-whole : goal.returns-clause-whole
 returns-clause-whole c =
-    let same : length c.if-count-ne0.words ≡ 16 = elim c.if-count-ne0.branch [
+    let same : length c.if-count-ne0.words ≡ VECTOR / 64 = elim c.if-count-ne0.branch [
       | then-count-ne0 w ↦ ap length w.words-is ∙ length-set c.loop-index.words (c.args.count / 64) _ ∙ c.loop-index.invariant.size
       | else-count-ne0 w ↦ ap length w.words-is ∙ c.loop-index.invariant.size
     ] in
