@@ -1,3 +1,4 @@
 pub mod Claim
 pub mod Statements
+pub mod Statuses
 pub mod Steps

@@ -1,5 +1,8 @@
 //! How a run of the program ended.
 
+ghost use Rattle.std.specs.Prelude.{◌≡◌};
+ghost use Rattle.gq_shell.specs.Statuses.{exit_status};
+
 /// The status of a run. Its number is the program's exit status, from 0 in this order.
 #[derive(Clone, Copy, Debug, PartialEq, Eq)]
 pub enum Status {
@@ -23,7 +26,9 @@ pub enum Status {
 
 impl Status {
     /// The exit status.
-    pub fn code(self) -> u8 {
+    pub fn code(self) -> u8
+        ensures { result ≡ exit_status self }
+    {
         match self {
             Status::Ended => 0,
             Status::Refused => 1,
