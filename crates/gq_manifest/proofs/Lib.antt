@@ -1,0 +1,5 @@
+pub mod Cuts
+pub mod LineTexts
+pub mod Texts
+pub mod Whole
+pub mod WordLists

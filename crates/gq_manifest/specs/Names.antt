@@ -1,0 +1,33 @@
+-- Plain names, by their characters (this project's profile).
+use Prim.Native.String.{String}
+use Rattle.std.specs.Prelude.{ℕ, Bool, false, nat_le, not, ◌==◌, ◌&&◌, ◌||◌, if◌then◌else◌, List, [], ◌∷◌, codes, get_or}
+use Rattle.std.specs.declared.option.Option.{Option}
+use Rattle.std.specs.declared.option.Option.TheVariants.{Some, None}
+use Rattle.std.specs.Char.{is_ascii_alphabetic, is_ascii_digit, is_whitespace}
+use Rattle.std.specs.List.{list_all}
+use Rattle.std.specs.Str.{chars, is_utf8}
+
+-- the code point of a text's one character
+abbrev pub code : String → ℕ
+code text = get_or (codes text) 0 0
+
+-- a name begins with an ASCII letter, `_`, or a character past ASCII that is no white space
+abbrev pub is_name_start : ℕ → Bool
+is_name_start c = is_ascii_alphabetic c || c == code "_" || (nat_le 128 c && not (is_whitespace c))
+
+-- and goes on with these and digits
+abbrev pub is_name_part : ℕ → Bool
+is_name_part c = is_name_start c || is_ascii_digit c
+
+-- the characters of a plain name
+abbrev pub is_plain : List ℕ → Bool
+is_plain [] = false
+is_plain (c ∷ cs) = is_name_start c && list_all is_name_part cs
+
+-- a word that is UTF-8
+abbrev pub text_of : List ℕ → Option (List ℕ)
+text_of word = if is_utf8 word then Some word else None
+
+-- a word that is a plain name
+abbrev pub name_of : List ℕ → Option (List ℕ)
+name_of word = if is_utf8 word && is_plain (chars word) then Some word else None

@@ -1,0 +1,13 @@
+//! The manifest of a graph: which tables it has, and the file of each.
+#![tactic(auto)]
+
+mod cut;
+mod line;
+mod manifest;
+mod name;
+mod tables;
+
+pub use manifest::{ManifestRefusal, read_manifest};
+
+#[cfg(test)]
+mod tests;

@@ -1,0 +1,77 @@
+//! The reading of a manifest: its lines in order, up to the first that is refused.
+ghost use Rattle.std.specs.Prelude.{◌≡◌, ◌^◌, ◌<◌, length, IfOk};
+ghost use Rattle.gq_manifest.specs.Answers.{Adds, Reads};
+ghost use Rattle.gq_manifest.specs.Manifests.{AreWhole, manifest_of, take_line};
+ghost use Rattle.gq_manifest.specs.declared.manifest.ManifestRefusal.TheVariants as refusal;
+
+use crate::cut::{cut_line, is_skipped};
+use crate::line::read_line;
+use crate::tables::add_table;
+use gq_base::{Catalog, Memory};
+use std::alloc::Global;
+
+/// Why a manifest gives no catalogue: the first line that is refused, counted from 1, and the first rule that
+/// refuses it, in the order below.
+#[derive(Clone, Copy, Debug, PartialEq, Eq)]
+pub enum ManifestRefusal {
+    /// The line is not UTF-8, or not of one of the two forms.
+    BadLine { line: u32 },
+    /// Its label is that of an earlier line.
+    LabelRepeated { line: u32 },
+    /// Its type is that of an earlier line.
+    TypeRepeated { line: u32 },
+    /// A label that it goes from or to is on no earlier line.
+    NoSuchLabel { line: u32 },
+    /// It is the 65th line of its form.
+    TooManyTables { line: u32 },
+    /// There was not enough memory.
+    Memory,
+}
+
+impl From<Memory> for ManifestRefusal {
+    ghost from_gives = { λ _ e. e ≡ refusal.Memory };
+
+    fn from(_memory: Memory) -> ManifestRefusal {
+        ManifestRefusal::Memory
+    }
+}
+
+/// The catalogue that a manifest names; its tables have no fields yet.
+///
+/// A manifest is lines ended by LF or CR LF, of words set apart by spaces and tabs: `node LABEL FILE`, or
+/// `rel TYPE FROM TO MULT FILE`, where MULT is `many_many`, `many_one`, `one_many` or `one_one`. Lines without words
+/// and lines that begin with `#` are skipped.
+pub fn read_manifest(alloc: Global, text: &[u8]) -> Result<Catalog, ManifestRefusal>
+    requires { length text.now < 2 ^ 32 }
+    ensures reads { Reads (manifest_of text.now) result }
+    ensures whole { IfOk result AreWhole }
+{
+    let mut catalog = Catalog::new(alloc);
+    let mut rest = text;
+    let mut number = 0;
+    'lines: while !rest.is_empty() {
+        let (line, after) = cut_line(rest);
+        number += 1;
+        take_line(alloc, &mut catalog, number, line)?;
+        rest = after;
+    }
+    Ok(catalog)
+}
+
+// Adds the table that a line names, if it is not skipped.
+fn take_line(
+    alloc: Global,
+    catalog: &mut Catalog,
+    number: u32,
+    line: &[u8],
+) -> Result<(), ManifestRefusal>
+    ensures { Adds (take_line number catalog.old line.now) catalog.new result }
+{
+    if is_skipped(line) {
+        return Ok(());
+    }
+    match read_line(alloc, line)? {
+        Some(table) => add_table(alloc, catalog, number, table),
+        None => Err(ManifestRefusal::BadLine { line: number }),
+    }
+}
