@@ -1,0 +1,4 @@
+pub mod Characters
+pub mod Fields
+pub mod Headers
+pub mod Lists

@@ -1,0 +1,12 @@
+//! What the fields of a graph's CSV files spell: the header of a table, and the values of its records.
+#![tactic(auto)]
+
+mod field;
+mod header;
+mod name;
+
+pub use field::{BadField, read_flag, read_int, read_text};
+pub use header::{FileKind, HeaderRefusal, read_header};
+
+#[cfg(test)]
+mod tests;
