@@ -1,0 +1,7 @@
+pub mod Equations
+pub mod KindEquations
+pub mod Occurs
+pub mod Promise
+pub mod Summaries
+pub mod Testers
+pub mod TruthLemmas

@@ -1,0 +1,240 @@
+//! The value of an expression in a row, or its first fault.
+ghost use Rattle.std.specs.Prelude.{◌≡◌, Some, true, map};
+ghost use Rattle.gq_base.specs.Plain.{Graph};
+ghost use Rattle.gq_base.specs.Values.{val, null};
+ghost use Rattle.gq_expr.specs.Operators.{outcome, type_val};
+ghost use Rattle.gq_expr.specs.Reading.{Assignment, node_val, rel_val, node_property, rel_property, type_name};
+ghost use Rattle.gq_expr.specs.Meaning.{meaning, logic_all, coalesce_all, compare_chain, arith_chain, test_chain};
+ghost use Rattle.gq_expr.specs.Parts.{bound_with, tester_with};
+
+use crate::expr::{BoundArith, BoundCompare, BoundTester, Expr, Fault, LogicOp, Tester};
+use crate::operators::{
+    arith, compare, contains, ends, is_member, is_null, known, literal_value, negate, plus, starts,
+};
+use crate::truth::{and3, logic, not_value, truth_value};
+use gq_base::{NodeId, RelId, Text, Value};
+
+/// The nodes and relationships that a row gives the variables.
+pub trait Assigned {
+    ghost assignment: { Self → Assignment };
+
+    /// The node of a variable, or `None` where the row has none.
+    fn node(&self, variable: u32) -> Option<NodeId>
+        ensures { result ≡ (assignment self.now).nodes variable };
+
+    /// The relationship of a variable, or `None` where the row has none.
+    fn rel(&self, variable: u32) -> Option<RelId>
+        ensures { result ≡ (assignment self.now).rels variable };
+}
+
+/// What a graph tells of its nodes and relationships. What it lends lives as long as the graph.
+pub trait Reads {
+    ghost graph: { Self → Graph };
+
+    /// A property of a node, null where it is missing.
+    fn node_property(&self, node: NodeId, name: &Text) -> Value<'_>
+        ensures { val result ≡ node_property (graph self.now) node name.now };
+
+    /// A property of a relationship, null where it is missing.
+    fn rel_property(&self, rel: RelId, name: &Text) -> Value<'_>
+        ensures { val result ≡ rel_property (graph self.now) rel name.now };
+
+    /// The name of a relationship's type, null where the graph has no such table.
+    fn type_name(&self, rel: RelId) -> Value<'_>
+        ensures { val result ≡ type_name (graph self.now) rel };
+}
+
+/// The value of an expression in a row, or the first fault met. Evaluation is strict, the left operand first. It
+/// takes no memory, and the value lives as long as the graph and the expression.
+#[cycle(eval)]
+#[tactic(auto, using(crate::proofs::Equations::meaning_Literal, crate::proofs::Equations::meaning_Node, crate::proofs::Equations::meaning_Rel, crate::proofs::Equations::meaning_NodeProperty, crate::proofs::Equations::meaning_RelProperty, crate::proofs::Equations::meaning_TypeName, crate::proofs::Equations::meaning_Coalesce, crate::proofs::Equations::meaning_Negate, crate::proofs::Equations::meaning_Plus, crate::proofs::Equations::meaning_Not, crate::proofs::Equations::meaning_Or, crate::proofs::Equations::meaning_Xor, crate::proofs::Equations::meaning_And, crate::proofs::Equations::meaning_Compare, crate::proofs::Equations::meaning_Test, crate::proofs::Equations::meaning_Arith))]
+pub fn eval<'v, G: Reads, R: Assigned>(
+    expr: &'v Expr,
+    graph: &'v G,
+    row: &R,
+) -> Result<Value<'v>, Fault>
+    ensures { outcome result ≡ meaning (G.graph graph.now) (R.assignment row.now) expr.now }
+{
+    match expr {
+        Expr::Literal(literal) => Ok(literal_value(literal)),
+        Expr::Node(variable) => Ok(node_value(row.node(*variable))),
+        Expr::Rel(variable) => Ok(rel_value(row.rel(*variable))),
+        Expr::NodeProperty(variable, name) => Ok(match row.node(*variable) {
+            None => Value::Null,
+            Some(node) => graph.node_property(node, name),
+        }),
+        Expr::RelProperty(variable, name) => Ok(match row.rel(*variable) {
+            None => Value::Null,
+            Some(rel) => graph.rel_property(rel, name),
+        }),
+        Expr::TypeName(inner) => {
+            let value = eval(inner.get(), graph, row)?;
+            type_value(&value, graph)
+        }
+        Expr::Coalesce(all) => eval_coalesce(all.as_slice(), graph, row),
+        Expr::Negate(inner) => {
+            let value = eval(inner.get(), graph, row)?;
+            negate(&value)
+        }
+        Expr::Plus(inner) => {
+            let value = eval(inner.get(), graph, row)?;
+            plus(&value)
+        }
+        Expr::Not(inner) => {
+            let value = eval(inner.get(), graph, row)?;
+            not_value(&value)
+        }
+        Expr::Or(all) => eval_logic(LogicOp::Or, all.as_slice(), graph, row),
+        Expr::Xor(all) => eval_logic(LogicOp::Xor, all.as_slice(), graph, row),
+        Expr::And(all) => eval_logic(LogicOp::And, all.as_slice(), graph, row),
+        Expr::Compare(first, terms) => {
+            let value = eval(first.get(), graph, row)?;
+            eval_compares(value, terms.as_slice(), graph, row)
+        }
+        Expr::Test(first, testers) => {
+            let value = eval(first.get(), graph, row)?;
+            eval_tests(value, testers.as_slice(), graph, row)
+        }
+        Expr::Arith(first, terms) => {
+            let value = eval(first.get(), graph, row)?;
+            eval_ariths(value, terms.as_slice(), graph, row)
+        }
+    }
+}
+
+#[cycle(eval)]
+fn eval_logic<'v, G: Reads, R: Assigned>(
+    op: LogicOp,
+    all: &'v [Expr],
+    graph: &'v G,
+    row: &R,
+) -> Result<Value<'v>, Fault>
+    ensures { outcome result ≡ logic_all op (map (meaning (G.graph graph.now) (R.assignment row.now)) all.now) }
+{
+    match all {
+        [] => Ok(Value::Null),
+        [first, rest @ ..] => {
+            let mut value = eval(first, graph, row)?;
+            for part in rest {
+                let next = eval(part, graph, row)?;
+                value = logic(op, &value, &next)?;
+            }
+            Ok(value)
+        }
+    }
+}
+
+#[cycle(eval)]
+fn eval_coalesce<'v, G: Reads, R: Assigned>(
+    all: &'v [Expr],
+    graph: &'v G,
+    row: &R,
+) -> Result<Value<'v>, Fault>
+    ensures { outcome result ≡ coalesce_all null (map (meaning (G.graph graph.now) (R.assignment row.now)) all.now) }
+{
+    let mut value = Value::Null;
+    for part in all {
+        let next = eval(part, graph, row)?;
+        value = known(value, next);
+    }
+    Ok(value)
+}
+
+#[cycle(eval)]
+fn eval_compares<'v, G: Reads, R: Assigned>(
+    first: Value<'v>,
+    terms: &'v [BoundCompare],
+    graph: &'v G,
+    row: &R,
+) -> Result<Value<'v>, Fault>
+    ensures { outcome result
+        ≡ compare_chain (Some true) (val first.entry) (map (bound_with (meaning (G.graph graph.now) (R.assignment row.now))) terms.now) }
+{
+    let mut before = first;
+    let mut truth = Some(true);
+    for term in terms {
+        let value = eval(&term.expr, graph, row)?;
+        truth = and3(truth, compare(term.op, &before, &value));
+        before = value;
+    }
+    Ok(truth_value(truth))
+}
+
+#[cycle(eval)]
+fn eval_tests<'v, G: Reads, R: Assigned>(
+    first: Value<'v>,
+    testers: &'v [BoundTester],
+    graph: &'v G,
+    row: &R,
+) -> Result<Value<'v>, Fault>
+    ensures { outcome result
+        ≡ test_chain (val first.entry) (map (tester_with (meaning (G.graph graph.now) (R.assignment row.now))) testers.now) }
+{
+    let mut value = first;
+    for tester in testers {
+        value = match tester {
+            Tester::IsNull => Value::Flag(is_null(&value)),
+            Tester::IsNotNull => Value::Flag(!is_null(&value)),
+            Tester::Member(literals) => truth_value(is_member(&value, literals.as_slice())),
+            Tester::Starts(prefix) => {
+                let prefix = eval(prefix, graph, row)?;
+                truth_value(starts(&value, &prefix))
+            }
+            Tester::Ends(suffix) => {
+                let suffix = eval(suffix, graph, row)?;
+                truth_value(ends(&value, &suffix))
+            }
+            Tester::Contains(part) => {
+                let part = eval(part, graph, row)?;
+                truth_value(contains(&value, &part))
+            }
+        };
+    }
+    Ok(value)
+}
+
+#[cycle(eval)]
+fn eval_ariths<'v, G: Reads, R: Assigned>(
+    first: Value<'v>,
+    terms: &'v [BoundArith],
+    graph: &'v G,
+    row: &R,
+) -> Result<Value<'v>, Fault>
+    ensures { outcome result
+        ≡ arith_chain (val first.entry) (map (bound_with (meaning (G.graph graph.now) (R.assignment row.now))) terms.now) }
+{
+    let mut value = first;
+    for term in terms {
+        let next = eval(&term.expr, graph, row)?;
+        value = arith(term.op, &value, &next)?;
+    }
+    Ok(value)
+}
+
+fn node_value<'v>(node: Option<NodeId>) -> Value<'v>
+    ensures { val result ≡ node_val node }
+{
+    match node {
+        None => Value::Null,
+        Some(node) => Value::Node(node),
+    }
+}
+
+fn rel_value<'v>(rel: Option<RelId>) -> Value<'v>
+    ensures { val result ≡ rel_val rel }
+{
+    match rel {
+        None => Value::Null,
+        Some(rel) => Value::Rel(rel),
+    }
+}
+
+fn type_value<'v, G: Reads>(value: &Value<'v>, graph: &'v G) -> Result<Value<'v>, Fault>
+    ensures { outcome result ≡ type_val (type_name (G.graph graph.now)) (val value.now) }
+{
+    match *value {
+        Value::Null => Ok(Value::Null),
+        Value::Rel(rel) => Ok(graph.type_name(rel)),
+        _ => Err(Fault::Kind),
+    }
+}

@@ -1,0 +1,105 @@
+//! Expressions whose names are resolved: variables are numbers, functions are variants.
+use gq_base::{Boxed, List, Literal, Text};
+
+/// A comparison.
+#[derive(Clone, Copy, Debug, PartialEq, Eq)]
+pub enum CompareOp {
+    Equal,
+    NotEqual,
+    Less,
+    LessEqual,
+    Greater,
+    GreaterEqual,
+}
+
+/// An operator on integers.
+#[derive(Clone, Copy, Debug, PartialEq, Eq)]
+pub enum ArithOp {
+    Add,
+    Subtract,
+    Multiply,
+    Divide,
+    Remainder,
+}
+
+/// A logical operator of two operands.
+#[derive(Clone, Copy, Debug, PartialEq, Eq)]
+pub enum LogicOp {
+    And,
+    Or,
+    Xor,
+}
+
+/// Why an expression has no value.
+#[derive(Clone, Copy, Debug, PartialEq, Eq)]
+pub enum Fault {
+    /// An integer that does not fit 64 signed bits.
+    Overflow,
+    /// `/` or `%` with divisor 0.
+    DivideByZero,
+    /// An operand of a kind that the operator does not take.
+    Kind,
+}
+
+/// An operator with its right operand.
+#[derive(Drop)]
+pub struct Bound<O, E> {
+    pub op: O,
+    pub expr: E,
+}
+
+/// A test that stands after its operand.
+#[derive(Drop)]
+pub enum Tester<E> {
+    /// `IS NULL`.
+    IsNull,
+    /// `IS NOT NULL`.
+    IsNotNull,
+    /// `IN [..]`.
+    Member(List<Literal>),
+    /// `STARTS WITH`.
+    Starts(E),
+    /// `ENDS WITH`.
+    Ends(E),
+    /// `CONTAINS`.
+    Contains(E),
+}
+
+/// An expression. Node variables and relationship variables are counted from 0, each kind for itself. A chain of
+/// operators is a first operand with the further ones, and is read as pairs nested to the left.
+#[derive(Drop)]
+pub enum Expr {
+    Literal(Literal),
+    /// A node variable.
+    Node(u32),
+    /// A relationship variable.
+    Rel(u32),
+    /// A property of a node variable.
+    NodeProperty(u32, Text),
+    /// A property of a relationship variable.
+    RelProperty(u32, Text),
+    /// `type(e)`.
+    TypeName(Boxed<Expr>),
+    /// `coalesce(e1, .., en)`.
+    Coalesce(List<Expr>),
+    /// The sign `-`.
+    Negate(Boxed<Expr>),
+    /// The sign `+`.
+    Plus(Boxed<Expr>),
+    Not(Boxed<Expr>),
+    Or(List<Expr>),
+    Xor(List<Expr>),
+    And(List<Expr>),
+    Compare(Boxed<Expr>, List<BoundCompare>),
+    Test(Boxed<Expr>, List<BoundTester>),
+    Arith(Boxed<Expr>, List<BoundArith>),
+}
+
+/// A comparison with its right operand.
+pub type BoundCompare = Bound<CompareOp, Expr>;
+
+/// An operator on integers with its right operand.
+pub type BoundArith = Bound<ArithOp, Expr>;
+
+/// A test with the operand that it may have.
+pub type BoundTester = Tester<Expr>;

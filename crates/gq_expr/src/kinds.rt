@@ -1,0 +1,251 @@
+//! Which expressions may fault, as far as the kinds of the properties tell.
+ghost use Rattle.std.specs.Prelude.{◌≡◌, ◌<◌, ◌||◌, not, length, map, slice_get, false, IfSome};
+ghost use Rattle.std.specs.List.{list_any};
+ghost use Rattle.gq_base.specs.Catalogs.{find_field};
+ghost use Rattle.gq_expr.specs.Kinds as rule;
+ghost use Rattle.gq_expr.specs.Kinds.{may, summary_of, both, field_kind, kinds_at, literal_kinds, safe, all_of, truth, misfits, test_may, term_faults, tester_faults};
+ghost use Rattle.gq_expr.specs.Parts.{bound_with, tester_with};
+ghost use Rattle.gq_expr.specs.Safety.{KindsPromise};
+
+use crate::expr::{BoundCompare, BoundTester, Expr, Tester};
+use gq_base::{Field, Kind, List, Literal, Text};
+
+/// The fields of a table.
+pub type FieldList = List<Field>;
+
+/// The fields that an alternative of a query gives each variable: those of the variable's table.
+#[derive(Debug, Drop)]
+pub struct Kinds {
+    pub nodes: List<FieldList>,
+    pub rels: List<FieldList>,
+}
+
+/// What the kinds tell of an expression.
+#[derive(Clone, Copy)]
+struct Summary {
+    /// It may fault.
+    faults: bool,
+    /// Its value is a boolean or null.
+    boolean: bool,
+    /// Its value is a relationship or null.
+    relationship: bool,
+}
+
+/// Whether a condition may fault, or have another value than true, false and null, as far as the kinds tell. It may
+/// where it has a sign or an operator on integers, where an operand of a logical operator may be no boolean, where
+/// an argument of `type` may be no relationship, and where it may itself be no boolean. Null fits everywhere.
+pub fn can_fault(expr: &Expr, kinds: &Kinds) -> bool
+    ensures { result ≡ rule.can_fault kinds.now expr.now }
+{
+    misfits(summarize(expr, kinds))
+}
+
+/// A law for the crates above: a condition that cannot fault is true, false or null in every graph, under each
+/// assignment that fits the kinds. It does nothing.
+#[tactic(auto, using(crate::proofs::Promise::kinds_promise))]
+pub fn kinds_keep_their_promise()
+    ensures { KindsPromise }
+{}
+
+#[cycle(summarize)]
+#[tactic(auto, using(crate::proofs::KindEquations::may_Literal, crate::proofs::KindEquations::may_Node, crate::proofs::KindEquations::may_Rel, crate::proofs::KindEquations::may_NodeProperty, crate::proofs::KindEquations::may_RelProperty, crate::proofs::KindEquations::may_TypeName, crate::proofs::KindEquations::may_Coalesce, crate::proofs::KindEquations::may_Negate, crate::proofs::KindEquations::may_Plus, crate::proofs::KindEquations::may_Not, crate::proofs::KindEquations::may_Or, crate::proofs::KindEquations::may_Xor, crate::proofs::KindEquations::may_And, crate::proofs::KindEquations::may_Compare, crate::proofs::KindEquations::may_Test, crate::proofs::KindEquations::may_Arith))]
+fn summarize(expr: &Expr, kinds: &Kinds) -> Summary
+    ensures { result ≡ summary_of (may kinds.now expr.now) }
+{
+    match expr {
+        Expr::Literal(literal) => literal_summary(literal),
+        Expr::Node(_) => harmless(false, false),
+        Expr::Rel(_) => harmless(false, true),
+        Expr::NodeProperty(variable, name) => {
+            kind_summary(field_kind(kinds.nodes.as_slice(), *variable, name))
+        }
+        Expr::RelProperty(variable, name) => {
+            kind_summary(field_kind(kinds.rels.as_slice(), *variable, name))
+        }
+        Expr::TypeName(inner) => {
+            let inner = summarize(inner.get(), kinds);
+            Summary {
+                faults: inner.faults || !inner.relationship,
+                boolean: false,
+                relationship: false,
+            }
+        }
+        Expr::Coalesce(all) => summary_of_all(all.as_slice(), kinds),
+        Expr::Negate(_) => arithmetic(),
+        Expr::Plus(_) => arithmetic(),
+        Expr::Not(inner) => condition(misfits(summarize(inner.get(), kinds))),
+        Expr::Or(all) => condition(some_misfits(all.as_slice(), kinds)),
+        Expr::Xor(all) => condition(some_misfits(all.as_slice(), kinds)),
+        Expr::And(all) => condition(some_misfits(all.as_slice(), kinds)),
+        Expr::Compare(first, terms) => {
+            let first = summarize(first.get(), kinds);
+            condition(first.faults || some_term_faults(terms.as_slice(), kinds))
+        }
+        Expr::Test(first, testers) => {
+            let first = summarize(first.get(), kinds);
+            summary_of_tests(first, testers.as_slice(), kinds)
+        }
+        Expr::Arith(_, _) => arithmetic(),
+    }
+}
+
+#[cycle(summarize)]
+#[tactic(auto, using(crate::proofs::Summaries::summary_first, crate::proofs::Summaries::both_assoc, crate::proofs::Summaries::both_left, crate::proofs::Summaries::both_right))]
+fn summary_of_all(all: &[Expr], kinds: &Kinds) -> Summary
+    ensures { result ≡ summary_of (all_of (map (may kinds.now) all.now)) }
+{
+    let mut whole = harmless(true, true);
+    for part in all {
+        let next = summarize(part, kinds);
+        whole = joined(whole, next);
+    }
+    whole
+}
+
+#[cycle(summarize)]
+fn some_misfits(all: &[Expr], kinds: &Kinds) -> bool
+    ensures { result ≡ list_any rule.misfits (map (may kinds.now) all.now) }
+{
+    for part in all {
+        if misfits(summarize(part, kinds)) {
+            return true;
+        }
+    }
+    false
+}
+
+#[cycle(summarize)]
+fn some_term_faults(terms: &[BoundCompare], kinds: &Kinds) -> bool
+    ensures { result ≡ list_any term_faults (map (bound_with (may kinds.now)) terms.now) }
+{
+    for term in terms {
+        if summarize(&term.expr, kinds).faults {
+            return true;
+        }
+    }
+    false
+}
+
+#[cycle(summarize)]
+fn summary_of_tests(first: Summary, testers: &[BoundTester], kinds: &Kinds) -> Summary
+    ensures { (m : _) → first ≡ summary_of m → result ≡ summary_of (test_may m (map (tester_with (may kinds.now)) testers.now)) }
+{
+    match testers {
+        [] => first,
+        [_, ..] => condition(first.faults || some_tester_faults(testers, kinds)),
+    }
+}
+
+#[cycle(summarize)]
+fn some_tester_faults(testers: &[BoundTester], kinds: &Kinds) -> bool
+    ensures { result ≡ list_any tester_faults (map (tester_with (may kinds.now)) testers.now) }
+{
+    for tester in testers {
+        let faults = match tester {
+            Tester::IsNull => false,
+            Tester::IsNotNull => false,
+            Tester::Member(_) => false,
+            Tester::Starts(prefix) => summarize(prefix, kinds).faults,
+            Tester::Ends(suffix) => summarize(suffix, kinds).faults,
+            Tester::Contains(part) => summarize(part, kinds).faults,
+        };
+        if faults {
+            return true;
+        }
+    }
+    false
+}
+
+fn misfits(part: Summary) -> bool
+    ensures { result ≡ (part.faults || not part.boolean) }
+{
+    part.faults || !part.boolean
+}
+
+fn harmless(boolean: bool, relationship: bool) -> Summary
+    ensures { result ≡ record { faults = false; boolean = boolean; relationship = relationship } }
+{
+    Summary {
+        faults: false,
+        boolean,
+        relationship,
+    }
+}
+
+fn condition(faults: bool) -> Summary
+    ensures { result ≡ summary_of (truth faults) }
+{
+    Summary {
+        faults,
+        boolean: true,
+        relationship: false,
+    }
+}
+
+fn arithmetic() -> Summary
+    ensures { result ≡ summary_of rule.arithmetic }
+{
+    Summary {
+        faults: true,
+        boolean: false,
+        relationship: false,
+    }
+}
+
+fn joined(a: Summary, b: Summary) -> Summary
+    ensures { result ≡ both a b }
+{
+    Summary {
+        faults: a.faults || b.faults,
+        boolean: a.boolean && b.boolean,
+        relationship: a.relationship && b.relationship,
+    }
+}
+
+fn literal_summary(literal: &Literal) -> Summary
+    ensures { result ≡ summary_of (safe (literal_kinds literal.now)) }
+{
+    match literal {
+        Literal::Null => harmless(true, true),
+        Literal::Flag(_) => harmless(true, false),
+        Literal::Int(_) => harmless(false, false),
+        Literal::Str(_) => harmless(false, false),
+    }
+}
+
+fn kind_summary(kind: Option<Kind>) -> Summary
+    ensures { result ≡ summary_of (safe (kinds_at kind)) }
+{
+    match kind {
+        None => harmless(true, true),
+        Some(Kind::Flag) => harmless(true, false),
+        Some(Kind::Int) => harmless(false, false),
+        Some(Kind::Str) => harmless(false, false),
+    }
+}
+
+// The kind of the field of that name, where the variable has such a field.
+fn field_kind(tables: &[FieldList], variable: u32, name: &Text) -> Option<Kind>
+    ensures { result ≡ rule.field_kind (slice_get tables.now variable) name.now }
+{
+    match tables.get(variable as usize) {
+        None => None,
+        Some(fields) => kind_in(fields.as_slice(), name),
+    }
+}
+
+fn kind_in(fields: &[Field], name: &Text) -> Option<Kind>
+    ensures { result ≡ rule.kind_in fields.now name.now }
+{
+    match place_of_field(fields, name) {
+        None => None,
+        Some(place) => Some(fields[place].kind),
+    }
+}
+
+fn place_of_field(fields: &[Field], name: &Text) -> Option<usize>
+    ensures value { result ≡ find_field fields.now name.now }
+    ensures within { IfSome result (λ at. at < length fields.now) }
+{
+    fields.iter().position(|field| field.name == *name)
+}

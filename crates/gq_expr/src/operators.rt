@@ -1,0 +1,158 @@
+//! The operators at values: comparisons, tests and integers.
+ghost use Rattle.std.specs.Prelude.{◌≡◌};
+ghost use Rattle.gq_base.specs.Values.{val, literal_val};
+ghost use Rattle.gq_expr.specs.Operators.{outcome, compare_vals, is_null_val, member_of, starts_vals, ends_vals, contains_vals, occurs, arith_vals, int_arith, fitting_or_overflow, negate_val, plus_val, first_known};
+
+use crate::expr::{ArithOp, CompareOp, Fault};
+use crate::truth::{not3, or3};
+use gq_base::{Literal, Value, equal3, less3};
+use memchr::memmem;
+
+pub(crate) fn literal_value(literal: &Literal) -> Value<'_>
+    ensures { val result ≡ literal_val literal.now }
+{
+    match literal {
+        Literal::Null => Value::Null,
+        Literal::Flag(b) => Value::Flag(*b),
+        Literal::Int(n) => Value::Int(*n),
+        Literal::Str(text) => Value::Str(text.as_str()),
+    }
+}
+
+/// The first that is not null.
+pub(crate) fn known<'v>(a: Value<'v>, b: Value<'v>) -> Value<'v>
+    ensures { val result ≡ first_known (val a.entry) (val b.entry) }
+{
+    match a {
+        Value::Null => b,
+        _ => a,
+    }
+}
+
+pub(crate) fn compare(op: CompareOp, a: &Value<'_>, b: &Value<'_>) -> Option<bool>
+    ensures { result ≡ compare_vals op (val a.now) (val b.now) }
+{
+    match op {
+        CompareOp::Equal => equal3(a, b),
+        CompareOp::NotEqual => not3(equal3(a, b)),
+        CompareOp::Less => less3(a, b),
+        CompareOp::LessEqual => not3(less3(b, a)),
+        CompareOp::Greater => less3(b, a),
+        CompareOp::GreaterEqual => not3(less3(a, b)),
+    }
+}
+
+pub(crate) fn is_null(value: &Value<'_>) -> bool
+    ensures { result ≡ is_null_val (val value.now) }
+{
+    matches!(value, Value::Null)
+}
+
+#[tactic(auto, using(crate::proofs::TruthLemmas::or3_assoc, crate::proofs::TruthLemmas::or3_false, crate::proofs::TruthLemmas::or3_false_right))]
+pub(crate) fn is_member(value: &Value<'_>, literals: &[Literal]) -> Option<bool>
+    ensures { result ≡ member_of (val value.now) literals.now }
+{
+    let mut answer = Some(false);
+    for literal in literals {
+        answer = or3(answer, equal3(value, &literal_value(literal)));
+    }
+    answer
+}
+
+pub(crate) fn starts(value: &Value<'_>, prefix: &Value<'_>) -> Option<bool>
+    ensures { result ≡ starts_vals (val value.now) (val prefix.now) }
+{
+    match (*value, *prefix) {
+        (Value::Str(text), Value::Str(part)) => Some(text.as_bytes().starts_with(part.as_bytes())),
+        _ => None,
+    }
+}
+
+pub(crate) fn ends(value: &Value<'_>, suffix: &Value<'_>) -> Option<bool>
+    ensures { result ≡ ends_vals (val value.now) (val suffix.now) }
+{
+    match (*value, *suffix) {
+        (Value::Str(text), Value::Str(part)) => Some(text.as_bytes().ends_with(part.as_bytes())),
+        _ => None,
+    }
+}
+
+pub(crate) fn contains(value: &Value<'_>, part: &Value<'_>) -> Option<bool>
+    ensures { result ≡ contains_vals (val value.now) (val part.now) }
+{
+    match (*value, *part) {
+        (Value::Str(text), Value::Str(part)) => Some(has_part(text.as_bytes(), part.as_bytes())),
+        _ => None,
+    }
+}
+
+fn has_part(text: &[u8], part: &[u8]) -> bool
+    ensures { result ≡ occurs text.now part.now }
+{
+    memmem::find(text, part).is_some()
+}
+
+pub(crate) fn negate<'v>(value: &Value<'_>) -> Result<Value<'v>, Fault>
+    ensures { outcome result ≡ negate_val (val value.now) }
+{
+    match *value {
+        Value::Null => Ok(Value::Null),
+        Value::Int(x) => fitting(x.checked_neg()),
+        _ => Err(Fault::Kind),
+    }
+}
+
+pub(crate) fn plus<'v>(value: &Value<'_>) -> Result<Value<'v>, Fault>
+    ensures { outcome result ≡ plus_val (val value.now) }
+{
+    match *value {
+        Value::Null => Ok(Value::Null),
+        Value::Int(x) => Ok(Value::Int(x)),
+        _ => Err(Fault::Kind),
+    }
+}
+
+pub(crate) fn arith<'v>(op: ArithOp, a: &Value<'_>, b: &Value<'_>) -> Result<Value<'v>, Fault>
+    ensures { outcome result ≡ arith_vals op (val a.now) (val b.now) }
+{
+    match (*a, *b) {
+        (Value::Null, _) | (_, Value::Null) => Ok(Value::Null),
+        (Value::Int(x), Value::Int(y)) => int_arith(op, x, y),
+        _ => Err(Fault::Kind),
+    }
+}
+
+fn int_arith<'v>(op: ArithOp, x: i64, y: i64) -> Result<Value<'v>, Fault>
+    ensures { outcome result ≡ int_arith op x y }
+{
+    match op {
+        ArithOp::Add => fitting(x.checked_add(y)),
+        ArithOp::Subtract => fitting(x.checked_sub(y)),
+        ArithOp::Multiply => fitting(x.checked_mul(y)),
+        ArithOp::Divide => {
+            if y == 0 {
+                return Err(Fault::DivideByZero);
+            }
+            fitting(x.checked_div(y))
+        }
+        ArithOp::Remainder => {
+            if y == 0 {
+                return Err(Fault::DivideByZero);
+            }
+            // The least integer has no remainder by -1 in 64 bits, since its quotient does not fit.
+            if y == -1 {
+                return Ok(Value::Int(0));
+            }
+            Ok(Value::Int(x % y))
+        }
+    }
+}
+
+fn fitting<'v>(answer: Option<i64>) -> Result<Value<'v>, Fault>
+    ensures { outcome result ≡ fitting_or_overflow answer }
+{
+    match answer {
+        Some(z) => Ok(Value::Int(z)),
+        None => Err(Fault::Overflow),
+    }
+}

@@ -1,0 +1,92 @@
+//! Kleene's three-valued logic; `None` stands for null.
+ghost use Rattle.std.specs.Prelude.{◌≡◌, Option, Bool};
+ghost use Rattle.gq_base.specs.Values.{val};
+ghost use Rattle.gq_expr.specs.Truth as tables;
+ghost use Rattle.gq_expr.specs.Operators.{Outcome, outcome, logic3, logic_vals, not_val, of_truth, with_truth, with_known};
+
+use crate::expr::{Fault, LogicOp};
+use gq_base::Value;
+
+/// `AND`: false where one side is false, else null where one side is null.
+pub fn and3(a: Option<bool>, b: Option<bool>) -> Option<bool>
+    ensures { result ≡ tables.and3 a b }
+{
+    match (a, b) {
+        (Some(false), _) | (_, Some(false)) => Some(false),
+        (Some(true), Some(true)) => Some(true),
+        _ => None,
+    }
+}
+
+/// `OR`: true where one side is true, else null where one side is null.
+pub fn or3(a: Option<bool>, b: Option<bool>) -> Option<bool>
+    ensures { result ≡ tables.or3 a b }
+{
+    match (a, b) {
+        (Some(true), _) | (_, Some(true)) => Some(true),
+        (Some(false), Some(false)) => Some(false),
+        _ => None,
+    }
+}
+
+/// `XOR`: null where one side is null, else whether the sides differ.
+pub fn xor3(a: Option<bool>, b: Option<bool>) -> Option<bool>
+    ensures { result ≡ tables.xor3 a b }
+{
+    match (a, b) {
+        (Some(x), Some(y)) => Some(x != y),
+        _ => None,
+    }
+}
+
+/// `NOT`: null of null.
+pub fn not3(a: Option<bool>) -> Option<bool>
+    ensures { result ≡ tables.not3 a }
+{
+    match a {
+        None => None,
+        Some(x) => Some(!x),
+    }
+}
+
+/// A logical operator at two values.
+pub(crate) fn logic<'v>(op: LogicOp, a: &Value<'_>, b: &Value<'_>) -> Result<Value<'v>, Fault>
+    ensures { outcome result ≡ logic_vals op (val a.now) (val b.now) }
+{
+    let a = truth(a)?;
+    let b = truth(b)?;
+    Ok(truth_value(match op {
+        LogicOp::And => and3(a, b),
+        LogicOp::Or => or3(a, b),
+        LogicOp::Xor => xor3(a, b),
+    }))
+}
+
+/// `NOT` at a value.
+pub(crate) fn not_value<'v>(a: &Value<'_>) -> Result<Value<'v>, Fault>
+    ensures { outcome result ≡ not_val (val a.now) }
+{
+    let a = truth(a)?;
+    Ok(truth_value(not3(a)))
+}
+
+/// The value of a truth.
+pub(crate) fn truth_value<'v>(truth: Option<bool>) -> Value<'v>
+    ensures { val result ≡ of_truth truth }
+{
+    match truth {
+        None => Value::Null,
+        Some(b) => Value::Flag(b),
+    }
+}
+
+// The truth of a boolean or null.
+fn truth(value: &Value<'_>) -> Result<Option<bool>, Fault>
+    ensures { (go : Option Bool → Outcome) → with_truth (val value.now) go ≡ with_known result go }
+{
+    match value {
+        Value::Null => Ok(None),
+        Value::Flag(b) => Ok(Some(*b)),
+        _ => Err(Fault::Kind),
+    }
+}
