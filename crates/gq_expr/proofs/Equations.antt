@@ -67,3 +67,6 @@ meaning_Test g row e ts = meaning_at g row (Test e ts) (Expr-F.Test e ts) (outs-
 
 pub meaning_Arith : (g : Graph) (row : Assignment) (e : Expr) (ts : List (Bound ArithOp Expr)) → meaning g row (Arith e ts) ≡ and_then (meaning g row e) (λ a. arith_chain a (map (bound_with (meaning g row)) ts))
 meaning_Arith g row e ts = meaning_at g row (Arith e ts) (Expr-F.Arith e ts) (outs-Arith e ts)
+
+-- all of them
+pub ruleset equations = (meaning_Literal, meaning_Node, meaning_Rel, meaning_NodeProperty, meaning_RelProperty, meaning_TypeName, meaning_Coalesce, meaning_Negate, meaning_Plus, meaning_Not, meaning_Or, meaning_Xor, meaning_And, meaning_Compare, meaning_Test, meaning_Arith)

@@ -64,3 +64,6 @@ may_Arith kinds e ts = may_at kinds (Arith e ts) (Expr-F.Arith e ts) (outs-Arith
 
 pub may_Test : (kinds : Kinds) (e : Expr) (ts : List (Tester Expr)) → may kinds (Test e ts) ≡ test_may (may kinds e) (map (tester_with (may kinds)) ts)
 may_Test kinds e ts = may_at kinds (Test e ts) (Expr-F.Test e ts) (outs-Test e ts) ∙ ap (test_may (may kinds e)) (sym (testers_map (may kinds) ts))
+
+-- all of them
+pub ruleset equations = (may_Literal, may_Node, may_Rel, may_NodeProperty, may_RelProperty, may_TypeName, may_Coalesce, may_Negate, may_Plus, may_Not, may_Or, may_Xor, may_And, may_Compare, may_Test, may_Arith)

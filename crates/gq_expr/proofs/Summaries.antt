@@ -31,3 +31,5 @@ both_left s = refl
 
 pub both_right : (s : Summary) → both s (summary_of (all_of [])) ≡ s
 both_right s = simp (and_true, or_false)
+
+pub ruleset joining = (summary_first, both_assoc, both_left, both_right)

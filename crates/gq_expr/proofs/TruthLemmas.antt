@@ -28,3 +28,5 @@ pub or3_false_right : (q : Option Bool) → or3 q (Some false) ≡ q
 or3_false_right None = refl
 or3_false_right (Some true) = refl
 or3_false_right (Some false) = refl
+
+pub ruleset or3_laws = (or3_assoc, or3_false, or3_false_right)

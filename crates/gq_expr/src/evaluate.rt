@@ -3,7 +3,8 @@ ghost use Rattle.std.specs.Prelude.{◌≡◌, Some, true, map};
 ghost use Rattle.gq_base.specs.Plain.{Graph};
 ghost use Rattle.gq_base.specs.Values.{val, null};
 ghost use Rattle.gq_expr.specs.Operators.{outcome, type_val};
-ghost use Rattle.gq_expr.specs.Reading.{Assignment, node_val, rel_val, node_property, rel_property, type_name};
+ghost use Rattle.gq_expr.specs.Reading as reading;
+ghost use Rattle.gq_expr.specs.Reading.{Assignment, node_val, rel_val, node_property, rel_property, property_at, type_name};
 ghost use Rattle.gq_expr.specs.Meaning.{meaning, logic_all, coalesce_all, compare_chain, arith_chain, test_chain};
 ghost use Rattle.gq_expr.specs.Parts.{bound_with, tester_with};
 
@@ -47,7 +48,7 @@ pub trait Reads {
 /// The value of an expression in a row, or the first fault met. Evaluation is strict, the left operand first. It
 /// takes no memory, and the value lives as long as the graph and the expression.
 #[cycle(eval)]
-#[tactic(auto, using(crate::proofs::Equations::meaning_Literal, crate::proofs::Equations::meaning_Node, crate::proofs::Equations::meaning_Rel, crate::proofs::Equations::meaning_NodeProperty, crate::proofs::Equations::meaning_RelProperty, crate::proofs::Equations::meaning_TypeName, crate::proofs::Equations::meaning_Coalesce, crate::proofs::Equations::meaning_Negate, crate::proofs::Equations::meaning_Plus, crate::proofs::Equations::meaning_Not, crate::proofs::Equations::meaning_Or, crate::proofs::Equations::meaning_Xor, crate::proofs::Equations::meaning_And, crate::proofs::Equations::meaning_Compare, crate::proofs::Equations::meaning_Test, crate::proofs::Equations::meaning_Arith))]
+#[tactic(auto, using(crate::proofs::Equations::equations))]
 pub fn eval<'v, G: Reads, R: Assigned>(
     expr: &'v Expr,
     graph: &'v G,
@@ -59,31 +60,13 @@ pub fn eval<'v, G: Reads, R: Assigned>(
         Expr::Literal(literal) => Ok(literal_value(literal)),
         Expr::Node(variable) => Ok(node_value(row.node(*variable))),
         Expr::Rel(variable) => Ok(rel_value(row.rel(*variable))),
-        Expr::NodeProperty(variable, name) => Ok(match row.node(*variable) {
-            None => Value::Null,
-            Some(node) => graph.node_property(node, name),
-        }),
-        Expr::RelProperty(variable, name) => Ok(match row.rel(*variable) {
-            None => Value::Null,
-            Some(rel) => graph.rel_property(rel, name),
-        }),
-        Expr::TypeName(inner) => {
-            let value = eval(inner.get(), graph, row)?;
-            type_value(&value, graph)
-        }
+        Expr::NodeProperty(variable, name) => Ok(node_property(graph, row.node(*variable), name)),
+        Expr::RelProperty(variable, name) => Ok(rel_property(graph, row.rel(*variable), name)),
+        Expr::TypeName(inner) => type_value(&eval(inner.get(), graph, row)?, graph),
         Expr::Coalesce(all) => eval_coalesce(all.as_slice(), graph, row),
-        Expr::Negate(inner) => {
-            let value = eval(inner.get(), graph, row)?;
-            negate(&value)
-        }
-        Expr::Plus(inner) => {
-            let value = eval(inner.get(), graph, row)?;
-            plus(&value)
-        }
-        Expr::Not(inner) => {
-            let value = eval(inner.get(), graph, row)?;
-            not_value(&value)
-        }
+        Expr::Negate(inner) => negate(&eval(inner.get(), graph, row)?),
+        Expr::Plus(inner) => plus(&eval(inner.get(), graph, row)?),
+        Expr::Not(inner) => not_value(&eval(inner.get(), graph, row)?),
         Expr::Or(all) => eval_logic(LogicOp::Or, all.as_slice(), graph, row),
         Expr::Xor(all) => eval_logic(LogicOp::Xor, all.as_slice(), graph, row),
         Expr::And(all) => eval_logic(LogicOp::And, all.as_slice(), graph, row),
@@ -109,7 +92,8 @@ fn eval_logic<'v, G: Reads, R: Assigned>(
     graph: &'v G,
     row: &R,
 ) -> Result<Value<'v>, Fault>
-    ensures { outcome result ≡ logic_all op (map (meaning (G.graph graph.now) (R.assignment row.now)) all.now) }
+    ensures { let go = meaning (G.graph graph.now) (R.assignment row.now) in
+        outcome result ≡ logic_all op (map go all.now) }
 {
     match all {
         [] => Ok(Value::Null),
@@ -130,7 +114,8 @@ fn eval_coalesce<'v, G: Reads, R: Assigned>(
     graph: &'v G,
     row: &R,
 ) -> Result<Value<'v>, Fault>
-    ensures { outcome result ≡ coalesce_all null (map (meaning (G.graph graph.now) (R.assignment row.now)) all.now) }
+    ensures { let go = meaning (G.graph graph.now) (R.assignment row.now) in
+        outcome result ≡ coalesce_all null (map go all.now) }
 {
     let mut value = Value::Null;
     for part in all {
@@ -147,8 +132,8 @@ fn eval_compares<'v, G: Reads, R: Assigned>(
     graph: &'v G,
     row: &R,
 ) -> Result<Value<'v>, Fault>
-    ensures { outcome result
-        ≡ compare_chain (Some true) (val first.entry) (map (bound_with (meaning (G.graph graph.now) (R.assignment row.now))) terms.now) }
+    ensures { let go = meaning (G.graph graph.now) (R.assignment row.now) in
+        outcome result ≡ compare_chain (Some true) (val first.entry) (map (bound_with go) terms.now) }
 {
     let mut before = first;
     let mut truth = Some(true);
@@ -167,8 +152,8 @@ fn eval_tests<'v, G: Reads, R: Assigned>(
     graph: &'v G,
     row: &R,
 ) -> Result<Value<'v>, Fault>
-    ensures { outcome result
-        ≡ test_chain (val first.entry) (map (tester_with (meaning (G.graph graph.now) (R.assignment row.now))) testers.now) }
+    ensures { let go = meaning (G.graph graph.now) (R.assignment row.now) in
+        outcome result ≡ test_chain (val first.entry) (map (tester_with go) testers.now) }
 {
     let mut value = first;
     for tester in testers {
@@ -200,8 +185,8 @@ fn eval_ariths<'v, G: Reads, R: Assigned>(
     graph: &'v G,
     row: &R,
 ) -> Result<Value<'v>, Fault>
-    ensures { outcome result
-        ≡ arith_chain (val first.entry) (map (bound_with (meaning (G.graph graph.now) (R.assignment row.now))) terms.now) }
+    ensures { let go = meaning (G.graph graph.now) (R.assignment row.now) in
+        outcome result ≡ arith_chain (val first.entry) (map (bound_with go) terms.now) }
 {
     let mut value = first;
     for term in terms {
@@ -226,6 +211,24 @@ fn rel_value<'v>(rel: Option<RelId>) -> Value<'v>
     match rel {
         None => Value::Null,
         Some(rel) => Value::Rel(rel),
+    }
+}
+
+fn node_property<'v, G: Reads>(graph: &'v G, node: Option<NodeId>, name: &Text) -> Value<'v>
+    ensures { val result ≡ property_at (reading.node_property (G.graph graph.now)) node name.now }
+{
+    match node {
+        None => Value::Null,
+        Some(node) => graph.node_property(node, name),
+    }
+}
+
+fn rel_property<'v, G: Reads>(graph: &'v G, rel: Option<RelId>, name: &Text) -> Value<'v>
+    ensures { val result ≡ property_at (reading.rel_property (G.graph graph.now)) rel name.now }
+{
+    match rel {
+        None => Value::Null,
+        Some(rel) => graph.rel_property(rel, name),
     }
 }
 

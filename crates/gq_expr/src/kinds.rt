@@ -48,7 +48,7 @@ pub fn kinds_keep_their_promise()
 {}
 
 #[cycle(summarize)]
-#[tactic(auto, using(crate::proofs::KindEquations::may_Literal, crate::proofs::KindEquations::may_Node, crate::proofs::KindEquations::may_Rel, crate::proofs::KindEquations::may_NodeProperty, crate::proofs::KindEquations::may_RelProperty, crate::proofs::KindEquations::may_TypeName, crate::proofs::KindEquations::may_Coalesce, crate::proofs::KindEquations::may_Negate, crate::proofs::KindEquations::may_Plus, crate::proofs::KindEquations::may_Not, crate::proofs::KindEquations::may_Or, crate::proofs::KindEquations::may_Xor, crate::proofs::KindEquations::may_And, crate::proofs::KindEquations::may_Compare, crate::proofs::KindEquations::may_Test, crate::proofs::KindEquations::may_Arith))]
+#[tactic(auto, using(crate::proofs::KindEquations::equations))]
 fn summarize(expr: &Expr, kinds: &Kinds) -> Summary
     ensures { result ≡ summary_of (may kinds.now expr.now) }
 {
@@ -90,7 +90,7 @@ fn summarize(expr: &Expr, kinds: &Kinds) -> Summary
 }
 
 #[cycle(summarize)]
-#[tactic(auto, using(crate::proofs::Summaries::summary_first, crate::proofs::Summaries::both_assoc, crate::proofs::Summaries::both_left, crate::proofs::Summaries::both_right))]
+#[tactic(auto, using(crate::proofs::Summaries::joining))]
 fn summary_of_all(all: &[Expr], kinds: &Kinds) -> Summary
     ensures { result ≡ summary_of (all_of (map (may kinds.now) all.now)) }
 {

@@ -48,7 +48,7 @@ pub(crate) fn is_null(value: &Value<'_>) -> bool
     matches!(value, Value::Null)
 }
 
-#[tactic(auto, using(crate::proofs::TruthLemmas::or3_assoc, crate::proofs::TruthLemmas::or3_false, crate::proofs::TruthLemmas::or3_false_right))]
+#[tactic(auto, using(crate::proofs::TruthLemmas::or3_laws))]
 pub(crate) fn is_member(value: &Value<'_>, literals: &[Literal]) -> Option<bool>
     ensures { result ≡ member_of (val value.now) literals.now }
 {

@@ -5,9 +5,9 @@ ghost use Rattle.gq_base.specs.Plain.{Graph};
 use crate::expr::{ArithOp, Bound, BoundTester, CompareOp, Expr, Fault, LogicOp, Tester};
 use crate::operators::{arith, compare, contains, ends, is_member, negate, starts};
 use crate::truth::logic;
-use crate::{Assigned, Reads, eval};
+use crate::{Assigned, Kinds, Reads, can_fault, eval};
 use gq_base::Value::{Flag, Int, Null, Str};
-use gq_base::{Boxed, List, Literal, Memory, NodeId, RelId, Text, Value};
+use gq_base::{Boxed, Field, Kind, List, Literal, Memory, NodeId, RelId, Text, Value};
 use std::alloc::Global;
 use std::test::Fail;
 
@@ -288,5 +288,48 @@ fn operators_apply_one_after_another(rt: HostRuntime) -> Result<(), Fail> {
     assert!(rt; gives(subtracted(alloc, 10, 4, 3)?, Ok(Int(3))));
     assert!(rt; gives(tested(alloc, int(1), Tester::Starts(flag(true)))?, Ok(Null)));
     assert!(rt; gives(tested(alloc, int(1), Tester::IsNotNull)?, Ok(Flag(true))));
+    Ok(())
+}
+
+/// Kinds of one node variable with the fields `age`, an integer, and `ok`, a boolean.
+fn kinds_of_one(alloc: Global) -> Result<Kinds, Memory> {
+    let mut fields = List::new(alloc);
+    for (name, kind) in [("age", Kind::Int), ("ok", Kind::Flag)] {
+        let name = Text::new(alloc, name)?;
+        fields.push(Field { name, kind })?;
+    }
+    let mut nodes = List::new(alloc);
+    nodes.push(fields)?;
+    Ok(Kinds {
+        nodes,
+        rels: List::new(alloc),
+    })
+}
+
+// A property of the node variable, and whether it may fault as a condition.
+const PROPERTIES: [(&str, bool); 3] = [("age", true), ("ok", false), ("nick", false)];
+
+#[test]
+fn a_condition_is_to_be_a_boolean(rt: HostRuntime) -> Result<(), Fail> {
+    let alloc = rt.alloc();
+    let kinds = kinds_of_one(alloc)?;
+    for (name, want) in PROPERTIES.iter() {
+        let property = Expr::NodeProperty(0, Text::new(alloc, name)?);
+        assert!(rt; can_fault(&property, &kinds) == *want);
+    }
+    assert!(rt; !can_fault(&compared(alloc, 1, 2, 3)?, &kinds));
+    assert!(rt; can_fault(&one_by_zero(alloc)?, &kinds));
+    Ok(())
+}
+
+#[test]
+fn an_argument_of_type_is_to_be_a_relationship(rt: HostRuntime) -> Result<(), Fail> {
+    let alloc = rt.alloc();
+    let kinds = kinds_of_one(alloc)?;
+    for (argument, want) in [(Expr::Rel(0), false), (Expr::Node(0), true)] {
+        let named = Expr::TypeName(Boxed::new(alloc, argument)?);
+        let condition = tested(alloc, named, Tester::IsNotNull)?;
+        assert!(rt; can_fault(&condition, &kinds) == want);
+    }
     Ok(())
 }
