@@ -1,0 +1,29 @@
+use Rattle.std.proofs.lemmas.Result.{err_from_is_err_and}
+use Rattle.gq_syntax.specs.Parsers as p
+use Rattle.gq_syntax.specs.Words.{addition}
+use Rattle.gq_syntax.proofs.Sound.{added-short}
+use Rattle.gq_syntax.proofs.Turns.{loop_starts, take_ends, take_fails, take_goes, take_smaller}
+use Rattle.gq_syntax.proofs.descent.Grammar.additions.Goals as goal
+
+pub more-init : goal.more-init
+unfolding p.additions
+more-init g c = loop_starts _ c.new-found.result c.new-found.ensures
+
+pub returns-in_err-next : goal.returns-in_err-next
+returns-in_err-next g c =
+    let e = err_from_is_err_and c.from_residual.result c.from_residual.ensures.1 in
+    rw (e.1, e.2) (take_fails addition (p.added c.args.self.now.room (p.inside c.args.self.now.room)) (added-short c.args.self.now.room) c.more.tokens c.more.found (p.additions c.args.self.now.room (p.inside c.args.self.now.room) c.args.tokens.now) c.more.invariant c.take_addition.new.self
+    c.in-Some.op c.in-Some.ensures.taken c.in-Some.ensures.left c.in_err-next.field-0.0 c.added.new.tokens c.in_err-next.ensures)
+
+pub more-smaller : goal.more-smaller
+more-smaller g c =
+    take_smaller addition (p.added c.args.self.now.room (p.inside c.args.self.now.room)) (added-short c.args.self.now.room) c.more.tokens c.more.found (p.additions c.args.self.now.room (p.inside c.args.self.now.room) c.args.tokens.now) c.more.invariant c.take_addition.new.self
+    c.in-Some.op c.in-Some.ensures.taken c.in-Some.ensures.left c.in_ok-next.next c.added.new.tokens c.in_ok-next.ensures
+
+pub more-preserved : goal.more-preserved
+more-preserved g c =
+    take_goes addition (p.added c.args.self.now.room (p.inside c.args.self.now.room)) (added-short c.args.self.now.room) c.more.tokens c.more.found (p.additions c.args.self.now.room (p.inside c.args.self.now.room) c.args.tokens.now) c.more.invariant c.take_addition.new.self
+    c.in-Some.op c.in-Some.ensures.taken c.in-Some.ensures.left c.in_ok-next.next c.added.new.tokens c.push.new.self c.in_ok-next.ensures c.in_ok-push.ensures.pushed
+
+pub returns : goal.returns
+returns g c = take_ends addition (p.added c.args.self.now.room (p.inside c.args.self.now.room)) (added-short c.args.self.now.room) c.more.tokens c.more.found (p.additions c.args.self.now.room (p.inside c.args.self.now.room) c.args.tokens.now) c.more.invariant c.take_addition.new.self c.in_default.ensures.taken c.in_default.ensures.left

@@ -1,0 +1,12 @@
+use Rattle.std.proofs.Common.{◌≡◌, length}
+use Rattle.gq_syntax.specs.Parsers as p
+use Rattle.gq_syntax.specs.Readers.{many}
+use Rattle.gq_syntax.specs.Words.{addition}
+use Rattle.gq_syntax.proofs.Loops.{fronted}
+use Rattle.gq_syntax.proofs.descent.Grammar.additions.Given as goal
+
+abbrev pub invariant-more : goal.invariant-more
+invariant-more g l = fronted l.found (many addition (p.added l.self.room (p.inside l.self.room)) l.tokens) ≡ p.additions l.self.room (p.inside l.self.room) l.fn.tokens
+
+abbrev pub decreases-more : goal.decreases-more
+decreases-more g l = length l.tokens

@@ -1,0 +1,13 @@
+use Rattle.std.proofs.Common.{◌≡◌, length}
+use Rattle.gq_lexer.specs.declared.token.Sign.TheVariants.{Comma}
+use Rattle.gq_syntax.specs.Parsers as p
+use Rattle.gq_syntax.specs.Readers.{many}
+use Rattle.gq_syntax.specs.Words.{sign_is}
+use Rattle.gq_syntax.proofs.Loops.{fronted}
+use Rattle.gq_syntax.proofs.queries.paths.Given as goal
+
+abbrev pub invariant-more : goal.invariant-more
+invariant-more l = fronted l.found (many (sign_is Comma) (λ _. p.path) l.tokens) ≡ p.paths l.fn.tokens
+
+abbrev pub decreases-more : goal.decreases-more
+decreases-more l = length l.tokens

@@ -1,0 +1,10 @@
+pub mod Grammar
+pub mod Nesting
+pub mod Outcomes
+pub mod Parsers
+pub mod Parsing
+pub mod Readers
+pub mod Refusals
+pub mod Relations
+pub mod Trees
+pub mod Words

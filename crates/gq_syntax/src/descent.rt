@@ -1,0 +1,499 @@
+//! Expressions, by descent: one function for each production. They recur only where a construct nests.
+
+ghost use Rattle.std.specs.Prelude.{◌≡◌, ◌∷◌, ◌<◌, IfOk};
+ghost use Rattle.gq_syntax.specs.Nesting.{Nests, Opens};
+ghost use Rattle.gq_syntax.specs.Parsers as p;
+ghost use Rattle.gq_syntax.specs.Parsing.{Reads};
+
+use crate::expression::{
+    ArithOp, ArithTerm, Ast, AstNode, AstTester, CompareOp, CompareTerm, Term, Tester,
+};
+use crate::literals::list;
+use crate::opening::{Level, TestWord};
+use crate::tokens::{Stop, Tokens};
+use gq_base::{Boxed, List, Literal, Memory, Text};
+use gq_lexer::Sign;
+use std::alloc::Global;
+
+/// How many constructs may nest in one another.
+const MAX_NESTING: usize = 64;
+
+// The first operand and those behind it.
+fn led(first: Ast, more: List<Ast>) -> Result<List<Ast>, Memory>
+    ensures { IfOk result (λ all. all ≡ first ∷ more) }
+{
+    let mut all = more.into_vec();
+    all.insert(0, first)?;
+    Ok(List::from_vec(all))
+}
+
+/// The productions of expressions.
+#[derive(Clone, Copy)]
+pub(crate) struct Grammar<F> {
+    pub(crate) alloc: Global,
+    /// How many constructs may still nest in one another.
+    pub(crate) room: usize,
+    /// Reads what stands inside a construct, given the room that is left there.
+    pub(crate) nested: F,
+}
+
+impl<F: Fn(Global, &mut Tokens<'_>, usize, Level) -> Result<Ast, Stop>> Grammar<F> {
+    // What stands inside a construct.
+    fn inside(&self, tokens: &mut Tokens<'_>, level: Level) -> Result<Ast, Stop>
+        requires room { 0 < self.now.room }
+        requires nests { Nests self.now.room (F.pre self.now.nested) (F.post self.now.nested) }
+        ensures { Reads (p.inside self.now.room level tokens.old) result tokens.new }
+    {
+        (self.nested)(self.alloc, tokens, self.room - 1, level)
+    }
+
+    // Goes past the token that opens a construct, for which there has to be room.
+    fn open(&self, tokens: &mut Tokens<'_>) -> Result<(), Stop>
+        ensures { Opens self.now.room tokens.old result tokens.new }
+    {
+        if self.room == 0 {
+            return Err(Stop::Depth);
+        }
+        tokens.skip();
+        Ok(())
+    }
+
+    // An expression and the parenthesis that closes it.
+    #[tactic(auto, unfolding(crate::specs::Parsers::grouped))]
+    fn grouped(&self, tokens: &mut Tokens<'_>) -> Result<AstNode<Ast>, Stop>
+        requires room { 0 < self.now.room }
+        requires nests { Nests self.now.room (F.pre self.now.nested) (F.post self.now.nested) }
+        ensures { Reads (p.grouped self.now.room (p.inside self.now.room) tokens.old) result tokens.new }
+    {
+        let tree = self.inside(tokens, Level::Expr)?;
+        tokens.expect_sign(Sign::RightParen)?;
+        Ok(AstNode::Paren(Boxed::new(self.alloc, tree)?))
+    }
+
+    // One or more arguments, with commas between them.
+    #[tactic(auto, unfolding(crate::specs::Parsers::arguments))]
+    fn arguments(&self, tokens: &mut Tokens<'_>) -> Result<List<Ast>, Stop>
+        requires room { 0 < self.now.room }
+        requires nests { Nests self.now.room (F.pre self.now.nested) (F.post self.now.nested) }
+        ensures { Reads (p.arguments self.now.room (p.inside self.now.room) tokens.old) result tokens.new }
+    {
+        let mut found = List::new(self.alloc);
+        let first = self.inside(tokens, Level::Expr)?;
+        found.push(first)?;
+        'more: while tokens.take_sign(Sign::Comma) {
+            let next = self.inside(tokens, Level::Expr)?;
+            found.push(next)?;
+        }
+        Ok(found)
+    }
+
+    // The arguments of a call and the parenthesis that closes it.
+    #[tactic(auto, unfolding(crate::specs::Parsers::passed))]
+    fn passed(&self, tokens: &mut Tokens<'_>) -> Result<List<Ast>, Stop>
+        requires room { 0 < self.now.room }
+        requires nests { Nests self.now.room (F.pre self.now.nested) (F.post self.now.nested) }
+        ensures { Reads (p.passed self.now.room (p.inside self.now.room) tokens.old) result tokens.new }
+    {
+        if tokens.take_sign(Sign::RightParen) {
+            return Ok(List::new(self.alloc));
+        }
+        let found = self.arguments(tokens)?;
+        tokens.expect_sign(Sign::RightParen)?;
+        Ok(found)
+    }
+
+    // What a name begins: a call, a property or a variable.
+    #[tactic(auto, using(crate::proofs::Loops::nest_opens, crate::proofs::Loops::nest_deep, crate::proofs::Loops::nest_other), unfolding(crate::specs::Parsers::named))]
+    fn named(&self, tokens: &mut Tokens<'_>, name: Text) -> Result<AstNode<Ast>, Stop>
+        requires nests { Nests self.now.room (F.pre self.now.nested) (F.post self.now.nested) }
+        ensures { Reads (p.named self.now.room (p.inside self.now.room) name tokens.old) result tokens.new }
+    {
+        if tokens.sees_sign(Sign::LeftParen) {
+            self.open(tokens)?;
+            let arguments = self.passed(tokens)?;
+            return Ok(AstNode::Call(name, arguments));
+        }
+        if tokens.take_sign(Sign::Dot) {
+            let key = tokens.expect_called()?;
+            return Ok(AstNode::Property(name, key));
+        }
+        Ok(AstNode::Variable(name))
+    }
+
+    // An atom.
+    #[tactic(auto, using(crate::proofs::Loops::nest_opens, crate::proofs::Loops::nest_deep, crate::proofs::Loops::nest_other), unfolding(crate::specs::Parsers::atom))]
+    fn atom(&self, tokens: &mut Tokens<'_>) -> Result<AstNode<Ast>, Stop>
+        requires nests { Nests self.now.room (F.pre self.now.nested) (F.post self.now.nested) }
+        ensures { Reads (p.atom self.now.room (p.inside self.now.room) tokens.old) result tokens.new }
+    {
+        if tokens.sees_sign(Sign::LeftParen) {
+            self.open(tokens)?;
+            return self.grouped(tokens);
+        }
+        if let Some(value) = tokens.take_plain()? {
+            return Ok(AstNode::Literal(value));
+        }
+        let name = tokens.expect_name()?;
+        self.named(tokens, name)
+    }
+
+    // What stands behind a minus sign, negated.
+    #[tactic(auto, unfolding(crate::specs::Parsers::negated))]
+    fn negated(&self, tokens: &mut Tokens<'_>) -> Result<AstNode<Ast>, Stop>
+        requires room { 0 < self.now.room }
+        requires nests { Nests self.now.room (F.pre self.now.nested) (F.post self.now.nested) }
+        ensures { Reads (p.negated self.now.room (p.inside self.now.room) tokens.old) result tokens.new }
+    {
+        if tokens.take_big() {
+            return Ok(AstNode::Literal(Literal::Int(i64::MIN)));
+        }
+        let operand = self.inside(tokens, Level::Sign)?;
+        Ok(AstNode::Negate(Boxed::new(self.alloc, operand)?))
+    }
+
+    // An operand with its signs, without its place.
+    #[tactic(auto, using(crate::proofs::Loops::nest_opens, crate::proofs::Loops::nest_deep, crate::proofs::Loops::nest_other), unfolding(crate::specs::Parsers::operand))]
+    fn operand(&self, tokens: &mut Tokens<'_>) -> Result<AstNode<Ast>, Stop>
+        requires nests { Nests self.now.room (F.pre self.now.nested) (F.post self.now.nested) }
+        ensures { Reads (p.operand self.now.room (p.inside self.now.room) tokens.old) result tokens.new }
+    {
+        if tokens.sees_sign(Sign::Plus) {
+            self.open(tokens)?;
+            let operand = self.inside(tokens, Level::Sign)?;
+            return Ok(AstNode::Plus(Boxed::new(self.alloc, operand)?));
+        }
+        if tokens.sees_sign(Sign::Minus) {
+            self.open(tokens)?;
+            return self.negated(tokens);
+        }
+        self.atom(tokens)
+    }
+
+    // An operand with its signs.
+    #[tactic(auto, unfolding(crate::specs::Parsers::signed))]
+    fn signed(&self, tokens: &mut Tokens<'_>) -> Result<Ast, Stop>
+        requires nests { Nests self.now.room (F.pre self.now.nested) (F.post self.now.nested) }
+        ensures { Reads (p.signed self.now.room (p.inside self.now.room) tokens.old) result tokens.new }
+    {
+        let start = tokens.left();
+        let node = self.operand(tokens)?;
+        let span = tokens.span_since(start);
+        Ok(Ast { node, span })
+    }
+
+    // What stands behind a sign of multiplication.
+    #[tactic(auto, unfolding(crate::specs::Parsers::multiplied))]
+    fn multiplied(&self, tokens: &mut Tokens<'_>, op: ArithOp) -> Result<ArithTerm, Stop>
+        requires nests { Nests self.now.room (F.pre self.now.nested) (F.post self.now.nested) }
+        ensures { Reads (p.multiplied self.now.room (p.inside self.now.room) op tokens.old) result tokens.new }
+    {
+        let tree = self.signed(tokens)?;
+        Ok(Term { op, tree })
+    }
+
+    // Any number of multiplications.
+    #[tactic(auto, unfolding(crate::specs::Parsers::multiplications))]
+    fn multiplications(&self, tokens: &mut Tokens<'_>) -> Result<List<ArithTerm>, Stop>
+        requires nests { Nests self.now.room (F.pre self.now.nested) (F.post self.now.nested) }
+        ensures { Reads (p.multiplications self.now.room (p.inside self.now.room) tokens.old) result tokens.new }
+    {
+        let mut found = List::new(self.alloc);
+        'more: while let Some(op) = tokens.take_multiplication() {
+            let next = self.multiplied(tokens, op)?;
+            found.push(next)?;
+        }
+        Ok(found)
+    }
+
+    // A product.
+    #[tactic(auto, unfolding(crate::specs::Parsers::product))]
+    fn product(&self, tokens: &mut Tokens<'_>) -> Result<Ast, Stop>
+        requires nests { Nests self.now.room (F.pre self.now.nested) (F.post self.now.nested) }
+        ensures { Reads (p.product self.now.room (p.inside self.now.room) tokens.old) result tokens.new }
+    {
+        let start = tokens.left();
+        let first = self.signed(tokens)?;
+        let more = self.multiplications(tokens)?;
+        if more.is_empty() {
+            return Ok(first);
+        }
+        let node = AstNode::Product(Boxed::new(self.alloc, first)?, more);
+        let span = tokens.span_since(start);
+        Ok(Ast { node, span })
+    }
+
+    // What stands behind a sign of addition.
+    #[tactic(auto, unfolding(crate::specs::Parsers::added))]
+    fn added(&self, tokens: &mut Tokens<'_>, op: ArithOp) -> Result<ArithTerm, Stop>
+        requires nests { Nests self.now.room (F.pre self.now.nested) (F.post self.now.nested) }
+        ensures { Reads (p.added self.now.room (p.inside self.now.room) op tokens.old) result tokens.new }
+    {
+        let tree = self.product(tokens)?;
+        Ok(Term { op, tree })
+    }
+
+    // Any number of additions.
+    #[tactic(auto, unfolding(crate::specs::Parsers::additions))]
+    fn additions(&self, tokens: &mut Tokens<'_>) -> Result<List<ArithTerm>, Stop>
+        requires nests { Nests self.now.room (F.pre self.now.nested) (F.post self.now.nested) }
+        ensures { Reads (p.additions self.now.room (p.inside self.now.room) tokens.old) result tokens.new }
+    {
+        let mut found = List::new(self.alloc);
+        'more: while let Some(op) = tokens.take_addition() {
+            let next = self.added(tokens, op)?;
+            found.push(next)?;
+        }
+        Ok(found)
+    }
+
+    // A sum.
+    #[tactic(auto, unfolding(crate::specs::Parsers::sum))]
+    fn sum(&self, tokens: &mut Tokens<'_>) -> Result<Ast, Stop>
+        requires nests { Nests self.now.room (F.pre self.now.nested) (F.post self.now.nested) }
+        ensures { Reads (p.sum self.now.room (p.inside self.now.room) tokens.old) result tokens.new }
+    {
+        let start = tokens.left();
+        let first = self.product(tokens)?;
+        let more = self.additions(tokens)?;
+        if more.is_empty() {
+            return Ok(first);
+        }
+        let node = AstNode::Sum(Boxed::new(self.alloc, first)?, more);
+        let span = tokens.span_since(start);
+        Ok(Ast { node, span })
+    }
+
+    // A test, behind its first word.
+    #[tactic(auto, unfolding(crate::specs::Parsers::tested))]
+    fn tested(&self, tokens: &mut Tokens<'_>, word: TestWord) -> Result<AstTester, Stop>
+        requires nests { Nests self.now.room (F.pre self.now.nested) (F.post self.now.nested) }
+        ensures { Reads (p.tested self.now.room (p.inside self.now.room) word tokens.old) result tokens.new }
+    {
+        match word {
+            TestWord::Is => {
+                let not = tokens.take_word("NOT");
+                tokens.expect_word("NULL")?;
+                Ok(if not {
+                    Tester::IsNotNull
+                } else {
+                    Tester::IsNull
+                })
+            }
+            TestWord::In => Ok(Tester::Member(list(self.alloc, tokens)?)),
+            TestWord::Starts => {
+                tokens.expect_word("WITH")?;
+                Ok(Tester::Starts(self.sum(tokens)?))
+            }
+            TestWord::Ends => {
+                tokens.expect_word("WITH")?;
+                Ok(Tester::Ends(self.sum(tokens)?))
+            }
+            TestWord::Contains => Ok(Tester::Contains(self.sum(tokens)?)),
+        }
+    }
+
+    // Any number of tests.
+    #[tactic(auto, unfolding(crate::specs::Parsers::testers))]
+    fn testers(&self, tokens: &mut Tokens<'_>) -> Result<List<AstTester>, Stop>
+        requires nests { Nests self.now.room (F.pre self.now.nested) (F.post self.now.nested) }
+        ensures { Reads (p.testers self.now.room (p.inside self.now.room) tokens.old) result tokens.new }
+    {
+        let mut found = List::new(self.alloc);
+        'more: while let Some(word) = tokens.take_test_word() {
+            let next = self.tested(tokens, word)?;
+            found.push(next)?;
+        }
+        Ok(found)
+    }
+
+    // A sum and its tests.
+    #[tactic(auto, unfolding(crate::specs::Parsers::tests))]
+    fn tests(&self, tokens: &mut Tokens<'_>) -> Result<Ast, Stop>
+        requires nests { Nests self.now.room (F.pre self.now.nested) (F.post self.now.nested) }
+        ensures { Reads (p.tests self.now.room (p.inside self.now.room) tokens.old) result tokens.new }
+    {
+        let start = tokens.left();
+        let first = self.sum(tokens)?;
+        let more = self.testers(tokens)?;
+        if more.is_empty() {
+            return Ok(first);
+        }
+        let node = AstNode::Test(Boxed::new(self.alloc, first)?, more);
+        let span = tokens.span_since(start);
+        Ok(Ast { node, span })
+    }
+
+    // What stands behind the sign of a comparison.
+    #[tactic(auto, unfolding(crate::specs::Parsers::compared))]
+    fn compared(&self, tokens: &mut Tokens<'_>, op: CompareOp) -> Result<CompareTerm, Stop>
+        requires nests { Nests self.now.room (F.pre self.now.nested) (F.post self.now.nested) }
+        ensures { Reads (p.compared self.now.room (p.inside self.now.room) op tokens.old) result tokens.new }
+    {
+        let tree = self.tests(tokens)?;
+        Ok(Term { op, tree })
+    }
+
+    // Any number of comparisons.
+    #[tactic(auto, unfolding(crate::specs::Parsers::comparisons))]
+    fn comparisons(&self, tokens: &mut Tokens<'_>) -> Result<List<CompareTerm>, Stop>
+        requires nests { Nests self.now.room (F.pre self.now.nested) (F.post self.now.nested) }
+        ensures { Reads (p.comparisons self.now.room (p.inside self.now.room) tokens.old) result tokens.new }
+    {
+        let mut found = List::new(self.alloc);
+        'more: while let Some(op) = tokens.take_comparison() {
+            let next = self.compared(tokens, op)?;
+            found.push(next)?;
+        }
+        Ok(found)
+    }
+
+    // A comparison.
+    #[tactic(auto, unfolding(crate::specs::Parsers::compare))]
+    fn compare(&self, tokens: &mut Tokens<'_>) -> Result<Ast, Stop>
+        requires nests { Nests self.now.room (F.pre self.now.nested) (F.post self.now.nested) }
+        ensures { Reads (p.compare self.now.room (p.inside self.now.room) tokens.old) result tokens.new }
+    {
+        let start = tokens.left();
+        let first = self.tests(tokens)?;
+        let more = self.comparisons(tokens)?;
+        if more.is_empty() {
+            return Ok(first);
+        }
+        let node = AstNode::Compare(Boxed::new(self.alloc, first)?, more);
+        let span = tokens.span_since(start);
+        Ok(Ast { node, span })
+    }
+
+    // A negation.
+    #[tactic(auto, using(crate::proofs::Loops::nest_opens, crate::proofs::Loops::nest_deep, crate::proofs::Loops::nest_other), unfolding(crate::specs::Parsers::negation))]
+    fn negation(&self, tokens: &mut Tokens<'_>) -> Result<Ast, Stop>
+        requires nests { Nests self.now.room (F.pre self.now.nested) (F.post self.now.nested) }
+        ensures { Reads (p.negation self.now.room (p.inside self.now.room) tokens.old) result tokens.new }
+    {
+        let start = tokens.left();
+        if tokens.sees_word("NOT") {
+            self.open(tokens)?;
+            let operand = self.inside(tokens, Level::Not)?;
+            let node = AstNode::Not(Boxed::new(self.alloc, operand)?);
+            let span = tokens.span_since(start);
+            return Ok(Ast { node, span });
+        }
+        self.compare(tokens)
+    }
+
+    // Any number of operands, each behind AND.
+    #[tactic(auto, unfolding(crate::specs::Parsers::ands))]
+    fn ands(&self, tokens: &mut Tokens<'_>) -> Result<List<Ast>, Stop>
+        requires nests { Nests self.now.room (F.pre self.now.nested) (F.post self.now.nested) }
+        ensures { Reads (p.ands self.now.room (p.inside self.now.room) tokens.old) result tokens.new }
+    {
+        let mut found = List::new(self.alloc);
+        'more: while tokens.take_word("AND") {
+            let next = self.negation(tokens)?;
+            found.push(next)?;
+        }
+        Ok(found)
+    }
+
+    // A conjunction.
+    #[tactic(auto, unfolding(crate::specs::Parsers::and))]
+    fn and(&self, tokens: &mut Tokens<'_>) -> Result<Ast, Stop>
+        requires nests { Nests self.now.room (F.pre self.now.nested) (F.post self.now.nested) }
+        ensures { Reads (p.and self.now.room (p.inside self.now.room) tokens.old) result tokens.new }
+    {
+        let start = tokens.left();
+        let first = self.negation(tokens)?;
+        let more = self.ands(tokens)?;
+        if more.is_empty() {
+            return Ok(first);
+        }
+        let node = AstNode::And(led(first, more)?);
+        let span = tokens.span_since(start);
+        Ok(Ast { node, span })
+    }
+
+    // Any number of operands, each behind XOR.
+    #[tactic(auto, unfolding(crate::specs::Parsers::xors))]
+    fn xors(&self, tokens: &mut Tokens<'_>) -> Result<List<Ast>, Stop>
+        requires nests { Nests self.now.room (F.pre self.now.nested) (F.post self.now.nested) }
+        ensures { Reads (p.xors self.now.room (p.inside self.now.room) tokens.old) result tokens.new }
+    {
+        let mut found = List::new(self.alloc);
+        'more: while tokens.take_word("XOR") {
+            let next = self.and(tokens)?;
+            found.push(next)?;
+        }
+        Ok(found)
+    }
+
+    // An exclusive disjunction.
+    #[tactic(auto, unfolding(crate::specs::Parsers::xor))]
+    fn xor(&self, tokens: &mut Tokens<'_>) -> Result<Ast, Stop>
+        requires nests { Nests self.now.room (F.pre self.now.nested) (F.post self.now.nested) }
+        ensures { Reads (p.xor self.now.room (p.inside self.now.room) tokens.old) result tokens.new }
+    {
+        let start = tokens.left();
+        let first = self.and(tokens)?;
+        let more = self.xors(tokens)?;
+        if more.is_empty() {
+            return Ok(first);
+        }
+        let node = AstNode::Xor(led(first, more)?);
+        let span = tokens.span_since(start);
+        Ok(Ast { node, span })
+    }
+
+    // Any number of operands, each behind OR.
+    #[tactic(auto, unfolding(crate::specs::Parsers::ors))]
+    fn ors(&self, tokens: &mut Tokens<'_>) -> Result<List<Ast>, Stop>
+        requires nests { Nests self.now.room (F.pre self.now.nested) (F.post self.now.nested) }
+        ensures { Reads (p.ors self.now.room (p.inside self.now.room) tokens.old) result tokens.new }
+    {
+        let mut found = List::new(self.alloc);
+        'more: while tokens.take_word("OR") {
+            let next = self.xor(tokens)?;
+            found.push(next)?;
+        }
+        Ok(found)
+    }
+
+    // An expression.
+    #[tactic(auto, unfolding(crate::specs::Parsers::or))]
+    fn or(&self, tokens: &mut Tokens<'_>) -> Result<Ast, Stop>
+        requires nests { Nests self.now.room (F.pre self.now.nested) (F.post self.now.nested) }
+        ensures { Reads (p.or self.now.room (p.inside self.now.room) tokens.old) result tokens.new }
+    {
+        let start = tokens.left();
+        let first = self.xor(tokens)?;
+        let more = self.ors(tokens)?;
+        if more.is_empty() {
+            return Ok(first);
+        }
+        let node = AstNode::Or(led(first, more)?);
+        let span = tokens.span_since(start);
+        Ok(Ast { node, span })
+    }
+}
+
+// What stands inside a construct, given the room that is left there.
+fn nested(alloc: Global, tokens: &mut Tokens<'_>, room: usize, level: Level) -> Result<Ast, Stop>
+    ensures { Reads (p.rule room (p.inside room) level tokens.old) result tokens.new }
+{
+    let grammar = Grammar {
+        alloc,
+        room,
+        nested,
+    };
+    match level {
+        Level::Expr => grammar.or(tokens),
+        Level::Not => grammar.negation(tokens),
+        Level::Sign => grammar.signed(tokens),
+    }
+}
+
+/// An expression, which has to come next.
+pub(crate) fn expr(alloc: Global, tokens: &mut Tokens<'_>) -> Result<Ast, Stop>
+    ensures { Reads (p.expr 64 tokens.old) result tokens.new }
+{
+    nested(alloc, tokens, MAX_NESTING, Level::Expr)
+}

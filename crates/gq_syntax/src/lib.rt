@@ -1,0 +1,26 @@
+//! The trees of statements, and the tokens that spell them.
+#![tactic(auto)]
+
+mod descent;
+mod expression;
+mod literals;
+mod opening;
+mod parsing;
+mod patterns;
+mod queries;
+mod refusal;
+mod statement;
+mod tokens;
+mod words;
+
+pub use expression::{
+    ArithOp, ArithTerm, Ast, AstNode, AstTester, CompareOp, CompareTerm, Term, Tester,
+};
+pub use parsing::parse;
+pub use refusal::SyntaxRefusal;
+pub use statement::{
+    Arrow, Clause, Entry, Hop, Item, NodePart, Path, Query, RelPart, Sort, Statement,
+};
+
+#[cfg(test)]
+mod tests;
