@@ -1,5 +1,9 @@
 pub mod Catalogs
+pub mod Lists
 pub mod Plain
+pub mod Truth
+pub mod Valid
 pub mod ValueLaws
 pub mod Values
+pub mod Words
 pub mod formers

@@ -42,7 +42,7 @@ abbrev fields_of : Option NodeTable → List Field
 fields_of None = []
 fields_of (Some table) = table.fields
 
-abbrev rows_of : Option (List (List (Option Cell))) → List (List (Option Cell))
+abbrev pub rows_of : Option (List (List (Option Cell))) → List (List (Option Cell))
 rows_of None = []
 rows_of (Some rows) = rows
 

@@ -1,4 +1,5 @@
-//! The base types of graphq: lists, boxes, texts, values, cells and the catalogue, which contracts see as plain data.
+//! The base types of graphq: lists, boxes, texts, values, cells, operators and the catalogue, which contracts see as
+//! plain data.
 #![tactic(auto)]
 
 mod boxed;
@@ -8,18 +9,24 @@ mod cell;
 mod list;
 mod literal;
 mod memory;
+mod operator;
 mod text;
+mod truth;
 mod value;
+mod word;
 
 pub use boxed::Boxed;
 pub use bytes::Bytes;
 pub use catalog::{Catalog, Field, Kind, Mult, NodeTable, RelTable};
-pub use cell::{Cell, NodeRows, PlainRel, RelRows, Row};
+pub use cell::{Cell, NodeRows, PlainRel, RelRows, Row, cell_value, key_of};
 pub use list::List;
 pub use literal::Literal;
 pub use memory::Memory;
+pub use operator::{ArithOp, CompareOp};
 pub use text::Text;
+pub use truth::{and3, not3, or3, xor3};
 pub use value::{NodeId, RelId, Value, equal3, less3, order_is_total, order_of, same};
+pub use word::{is_word_part, is_word_start, read_name, read_text};
 
 #[cfg(test)]
 mod tests;

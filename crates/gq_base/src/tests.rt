@@ -1,8 +1,8 @@
-//! Each allocating call on its happy path, and the order of values.
+//! Each allocating call on its happy path, the order of values, Kleene's tables, and plain names.
 
 use crate::{
-    Boxed, Bytes, Catalog, Field, Kind, List, Mult, NodeId, NodeTable, RelId, RelTable, Text,
-    Value, order_of,
+    Boxed, Bytes, Catalog, Cell, Field, Kind, List, Mult, NodeId, NodeTable, RelId, RelTable, Row,
+    Text, Value, and3, key_of, not3, or3, order_of, read_name, xor3,
 };
 use std::cmp::Ordering;
 use std::test::Fail;
@@ -98,4 +98,60 @@ fn values_ascend_by_kind_and_then_by_value(rt: HostRuntime) {
         }
     }
     assert!(rt; order_of(&Value::Null, &Value::Null) == Ordering::Equal);
+}
+
+fn letter(truth: Option<bool>) -> char {
+    match truth {
+        Some(true) => 't',
+        Some(false) => 'f',
+        None => 'n',
+    }
+}
+
+const TRUTHS: [Option<bool>; 3] = [Some(true), Some(false), None];
+
+#[test]
+fn truths_combine_by_the_tables_of_kleene(rt: HostRuntime) -> Result<(), Fail> {
+    let mut and = String::new(rt.alloc());
+    let mut or = String::new(rt.alloc());
+    let mut xor = String::new(rt.alloc());
+    let mut not = String::new(rt.alloc());
+    for a in TRUTHS {
+        for b in TRUTHS {
+            and.push(letter(and3(a, b)))?;
+            or.push(letter(or3(a, b)))?;
+            xor.push(letter(xor3(a, b)))?;
+        }
+        not.push(letter(not3(a)))?;
+    }
+    assert_eq!(rt; and.as_str(), "tfnfffnfn");
+    assert_eq!(rt; or.as_str(), "ttttfntnn");
+    assert_eq!(rt; xor.as_str(), "ftntfnnnn");
+    assert_eq!(rt; not.as_str(), "ftn");
+    Ok(())
+}
+
+const NAMES: [&str; 5] = ["a", "_1", "aB9_", "\u{e9}t\u{e9}", "\u{200b}"];
+
+const OTHERS: [&str; 6] = ["", "1a", "a b", "a-b", "a\u{a0}b", "a:"];
+
+#[test]
+fn plain_names_are_words(rt: HostRuntime) {
+    for name in NAMES {
+        assert_eq!(rt; read_name(name.as_bytes()), Some(name));
+    }
+    for other in OTHERS {
+        assert!(rt; read_name(other.as_bytes()).is_none());
+    }
+    assert!(rt; read_name(b"a\xff").is_none());
+}
+
+#[test]
+fn the_key_is_the_first_cell(rt: HostRuntime) -> Result<(), Fail> {
+    let mut row = Row::new(rt.alloc());
+    assert!(rt; key_of(&row).is_none());
+    assert!(rt; row.push(Some(Cell::Str(text(&rt, "k")?))).is_ok());
+    assert!(rt; row.push(None).is_ok());
+    assert!(rt; key_of(&row) == Some(Value::Str("k")));
+    Ok(())
 }

@@ -107,10 +107,3 @@ packed_more ws bits place h near packed k = elim (cases_eq k place) [
           ∙ ap (λ j. eqb (bit_at (get_or ws j 0) (k % 64)) 1) (sym same)
       | inr ne ↦ bit_of-set_other ws n v k ne
     ]
-
--- one more number pushed to a list that follows f
-pub follows_push : (f : ℕ → ℕ) (xs : List ℕ) (y i : ℕ) → length xs ≡ i → ((k : ℕ) → k < i → get_or xs k 0 ≡ f k) → y ≡ f i → (k : ℕ) → k < i + 1 → get_or (xs ++ y ∷ []) k 0 ≡ f k
-follows_push f xs y i len each here k h = elim (cases_lt k i) [
-  | inl less ↦ get_or_append_left xs (y ∷ []) 0 k (omega arith) ∙ each k less
-  | inr more ↦ let e : i ≡ k = omega arith in get_or_push xs y 0 k (len ∙ e) ∙ here ∙ ap f e
-]

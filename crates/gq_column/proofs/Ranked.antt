@@ -4,6 +4,7 @@ use Rattle.std.specs.Prelude.{is_some, unwrap_or, ◌⊎◌}
 use Rattle.std.proofs.lemmas.List.{length-take, length-drop, length-map, get_or-take, get_or-drop, get_or-map, take-append-drop, take-take, drop-take, ext_get_or}
 use Rattle.std.proofs.lemmas.List.Sums.{sum_by-cons, sum_by-append, sum_by-take-le, count_by_more_yes, count_by-le-length, sum_by_more}
 use Rattle.std.proofs.lemmas.List.FromFn.{length-map-range_with_len, get_or-map-range_with_len}
+use Rattle.gq_base.proofs.ListFacts.{take-add}
 use Rattle.gq_column.specs.Cells.{cell_at, kept_of, cells_of, AreKept}
 
 abbrev pub rank : List Bool → ℕ → ℕ
@@ -72,9 +73,6 @@ all_set (true ∷ bs) e (suc row) h =
 -- the rank of a row after another
 pub rank-add : (bs : List Bool) (low k : ℕ) → rank bs (low + k) ≡ rank bs low + count_by (λ on. on) (take k (drop low bs))
 rank-add bs low k = ap (count_by (λ on. on)) (take-add low k bs) ∙ sum_by-append one_if (take low bs) (take k (drop low bs))
-  where
-    take-add : (m n : ℕ) (xs : List Bool) → take (m + n) xs ≡ take m xs ++ take n (drop m xs)
-    take-add m n xs = sym (take-append-drop m (take (m + n) xs)) ∙ ap (λ l. l ++ drop m (take (m + n) xs)) (take-take m (m + n) xs (omega arith)) ∙ ap (λ l. take m xs ++ l) (drop-take m n xs)
 
 -- a column with no null
 pub full_cell : (present : List Bool) (kept : List ℤ) (row : ℕ) → AreKept present kept → length kept ≡ length present → row < length present →

@@ -7,9 +7,9 @@ use Rattle.gq_expr.specs.Operators.{Outcome, not_val, negate_val, plus_val, type
 use Rattle.gq_expr.specs.Meaning.{meaning, meaning_step, and_then, logic_all, coalesce_all, compare_chain, arith_chain, test_chain}
 use Rattle.gq_expr.specs.Parts.{bound_with, tester_with}
 use Rattle.gq_expr.specs.Reading.{Assignment, node_val, rel_val, property_at, node_property, rel_property, type_name}
-use Rattle.gq_expr.specs.declared.expr.ArithOp.{ArithOp}
+use Rattle.gq_base.specs.declared.operator.ArithOp.{ArithOp}
 use Rattle.gq_expr.specs.declared.expr.Bound.{Bound}
-use Rattle.gq_expr.specs.declared.expr.CompareOp.{CompareOp}
+use Rattle.gq_base.specs.declared.operator.CompareOp.{CompareOp}
 use Rattle.gq_expr.specs.declared.expr.Expr.{Expr, Expr-F, out-Expr, map-Expr, fold_out-Expr}
 use Rattle.gq_expr.specs.declared.expr.Expr.TheVariants.{Literal, Node, Rel, NodeProperty, RelProperty, TypeName, Coalesce, Negate, Plus, Not, Or, Xor, And, Compare, Test, Arith, outs-Literal, outs-Node, outs-Rel, outs-NodeProperty, outs-RelProperty, outs-TypeName, outs-Coalesce, outs-Negate, outs-Plus, outs-Not, outs-Or, outs-Xor, outs-And, outs-Compare, outs-Test, outs-Arith}
 use Rattle.gq_expr.specs.declared.expr.LogicOp.TheVariants as logic

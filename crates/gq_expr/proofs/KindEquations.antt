@@ -4,9 +4,9 @@ use Rattle.std.specs.List.{list_any}
 use Rattle.gq_base.specs.declared.Literal.{Literal as Spelled}
 use Rattle.gq_expr.specs.Kinds.{May, may, may_step, safe, node, relationship, literal_kinds, kinds_at, field_kind, type_may, all_of, arithmetic, truth, misfits, term_faults, test_may}
 use Rattle.gq_expr.specs.Parts.{bound_with, tester_with}
-use Rattle.gq_expr.specs.declared.expr.ArithOp.{ArithOp}
+use Rattle.gq_base.specs.declared.operator.ArithOp.{ArithOp}
 use Rattle.gq_expr.specs.declared.expr.Bound.{Bound}
-use Rattle.gq_expr.specs.declared.expr.CompareOp.{CompareOp}
+use Rattle.gq_base.specs.declared.operator.CompareOp.{CompareOp}
 use Rattle.gq_expr.specs.declared.expr.Expr.{Expr, Expr-F, out-Expr, map-Expr, fold_out-Expr}
 use Rattle.gq_expr.specs.declared.expr.Expr.TheVariants.{Literal, Node, Rel, NodeProperty, RelProperty, TypeName, Coalesce, Negate, Plus, Not, Or, Xor, And, Compare, Test, Arith, outs-Literal, outs-Node, outs-Rel, outs-NodeProperty, outs-RelProperty, outs-TypeName, outs-Coalesce, outs-Negate, outs-Plus, outs-Not, outs-Or, outs-Xor, outs-And, outs-Compare, outs-Test, outs-Arith}
 use Rattle.gq_expr.specs.declared.expr.Tester.{Tester}

@@ -4,4 +4,3 @@ pub mod Occurs
 pub mod Promise
 pub mod Summaries
 pub mod Testers
-pub mod TruthLemmas

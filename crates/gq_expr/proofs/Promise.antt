@@ -19,9 +19,9 @@ use Rattle.gq_expr.specs.Operators.{Outcome, of_truth, logic3, logic_vals, not_v
 use Rattle.gq_expr.specs.Parts.{bound_with}
 use Rattle.gq_expr.specs.Reading.{Assignment, node_val, rel_val, property_at, node_property, rel_property, name_of, type_name}
 use Rattle.gq_expr.specs.Safety.{IsOfKind, FitsKinds, IsTruth, KindsPromise}
-use Rattle.gq_expr.specs.Truth.{and3, not3}
+use Rattle.gq_base.specs.Truth.{and3, not3}
 use Rattle.gq_expr.specs.declared.expr.Bound.{Bound}
-use Rattle.gq_expr.specs.declared.expr.CompareOp.{CompareOp}
+use Rattle.gq_base.specs.declared.operator.CompareOp.{CompareOp}
 use Rattle.gq_expr.specs.declared.expr.Expr.{Expr, Expr-F, roll-Expr, map-Expr, fold-roll-Expr, ind-Expr}
 use Rattle.gq_expr.specs.declared.expr.Expr.TheShapes.{former-Expr-Test-1}
 use Rattle.gq_expr.specs.declared.expr.LogicOp.{LogicOp}

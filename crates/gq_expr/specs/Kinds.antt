@@ -10,7 +10,7 @@ use Rattle.gq_base.specs.declared.Kind.TheVariants as kind
 use Rattle.gq_base.specs.declared.Literal.{Literal}
 use Rattle.gq_base.specs.declared.Literal.TheVariants as literal
 use Rattle.gq_expr.specs.declared.expr.Bound.{Bound}
-use Rattle.gq_expr.specs.declared.expr.CompareOp.{CompareOp}
+use Rattle.gq_base.specs.declared.operator.CompareOp.{CompareOp}
 use Rattle.gq_expr.specs.declared.expr.Expr.{Expr, Expr-F, fold-Expr}
 use Rattle.gq_expr.specs.declared.expr.Tester.{Tester}
 use Rattle.gq_expr.specs.declared.expr.Tester.TheVariants as tester

@@ -4,4 +4,3 @@ pub mod Operators
 pub mod Parts
 pub mod Reading
 pub mod Safety
-pub mod Truth

@@ -6,10 +6,10 @@ use Rattle.gq_base.specs.Plain.{Graph}
 use Rattle.gq_base.specs.Values.{Val, null, flag, literal_val}
 use Rattle.gq_expr.specs.Operators.{Outcome, of_truth, logic_vals, not_val, first_known, compare_vals, is_null_val, member_of, starts_vals, ends_vals, contains_vals, arith_vals, negate_val, plus_val, type_val}
 use Rattle.gq_expr.specs.Reading.{Assignment, node_val, rel_val, property_at, node_property, rel_property, type_name}
-use Rattle.gq_expr.specs.Truth.{and3}
-use Rattle.gq_expr.specs.declared.expr.ArithOp.{ArithOp}
+use Rattle.gq_base.specs.Truth.{and3}
+use Rattle.gq_base.specs.declared.operator.ArithOp.{ArithOp}
 use Rattle.gq_expr.specs.declared.expr.Bound.{Bound}
-use Rattle.gq_expr.specs.declared.expr.CompareOp.{CompareOp}
+use Rattle.gq_base.specs.declared.operator.CompareOp.{CompareOp}
 use Rattle.gq_expr.specs.declared.expr.Expr.{Expr, Expr-F, fold-Expr}
 use Rattle.gq_expr.specs.declared.expr.LogicOp.{LogicOp}
 use Rattle.gq_expr.specs.declared.expr.LogicOp.TheVariants as logic

@@ -6,11 +6,11 @@ use Rattle.gq_base.specs.Values.{Val, null, flag, int, str, rel, val, literal_va
 use Rattle.gq_base.specs.declared.Literal.{Literal}
 use Rattle.gq_base.specs.declared.RelId.{RelId}
 use Rattle.gq_base.specs.declared.Value.{Value}
-use Rattle.gq_expr.specs.Truth.{and3, or3, xor3, not3}
-use Rattle.gq_expr.specs.declared.expr.ArithOp.{ArithOp}
-use Rattle.gq_expr.specs.declared.expr.ArithOp.TheVariants.{Add, Subtract, Multiply, Divide, Remainder}
-use Rattle.gq_expr.specs.declared.expr.CompareOp.{CompareOp}
-use Rattle.gq_expr.specs.declared.expr.CompareOp.TheVariants as compare
+use Rattle.gq_base.specs.Truth.{and3, or3, xor3, not3}
+use Rattle.gq_base.specs.declared.operator.ArithOp.{ArithOp}
+use Rattle.gq_base.specs.declared.operator.ArithOp.TheVariants.{Add, Subtract, Multiply, Divide, Remainder}
+use Rattle.gq_base.specs.declared.operator.CompareOp.{CompareOp}
+use Rattle.gq_base.specs.declared.operator.CompareOp.TheVariants as compare
 use Rattle.gq_expr.specs.declared.expr.Fault.{Fault}
 use Rattle.gq_expr.specs.declared.expr.Fault.TheVariants.{Overflow, DivideByZero, Kind}
 use Rattle.gq_expr.specs.declared.expr.LogicOp.{LogicOp}

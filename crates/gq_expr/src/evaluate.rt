@@ -12,8 +12,8 @@ use crate::expr::{BoundArith, BoundCompare, BoundTester, Expr, Fault, LogicOp, T
 use crate::operators::{
     arith, compare, contains, ends, is_member, is_null, known, literal_value, negate, plus, starts,
 };
-use crate::truth::{and3, logic, not_value, truth_value};
-use gq_base::{NodeId, RelId, Text, Value};
+use crate::truth::{logic, not_value, truth_value};
+use gq_base::{NodeId, RelId, Text, Value, and3};
 
 /// The nodes and relationships that a row gives the variables.
 pub trait Assigned {

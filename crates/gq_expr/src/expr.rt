@@ -1,26 +1,5 @@
 //! Expressions whose names are resolved: variables are numbers, functions are variants.
-use gq_base::{Boxed, List, Literal, Text};
-
-/// A comparison.
-#[derive(Clone, Copy, Debug, PartialEq, Eq)]
-pub enum CompareOp {
-    Equal,
-    NotEqual,
-    Less,
-    LessEqual,
-    Greater,
-    GreaterEqual,
-}
-
-/// An operator on integers.
-#[derive(Clone, Copy, Debug, PartialEq, Eq)]
-pub enum ArithOp {
-    Add,
-    Subtract,
-    Multiply,
-    Divide,
-    Remainder,
-}
+use gq_base::{ArithOp, Boxed, CompareOp, List, Literal, Text};
 
 /// A logical operator of two operands.
 #[derive(Clone, Copy, Debug, PartialEq, Eq)]

@@ -3,9 +3,8 @@ ghost use Rattle.std.specs.Prelude.{◌≡◌};
 ghost use Rattle.gq_base.specs.Values.{val, literal_val};
 ghost use Rattle.gq_expr.specs.Operators.{outcome, compare_vals, is_null_val, member_of, starts_vals, ends_vals, contains_vals, occurs, arith_vals, int_arith, fitting_or_overflow, negate_val, plus_val, first_known};
 
-use crate::expr::{ArithOp, CompareOp, Fault};
-use crate::truth::{not3, or3};
-use gq_base::{Literal, Value, equal3, less3};
+use crate::expr::Fault;
+use gq_base::{ArithOp, CompareOp, Literal, Value, equal3, less3, not3, or3};
 use memchr::memmem;
 
 pub(crate) fn literal_value(literal: &Literal) -> Value<'_>
@@ -48,7 +47,7 @@ pub(crate) fn is_null(value: &Value<'_>) -> bool
     matches!(value, Value::Null)
 }
 
-#[tactic(auto, using(crate::proofs::TruthLemmas::or3_laws))]
+#[tactic(auto, using(gq_base::proofs::TruthLaws::or3_laws))]
 pub(crate) fn is_member(value: &Value<'_>, literals: &[Literal]) -> Option<bool>
     ensures { result ≡ member_of (val value.now) literals.now }
 {

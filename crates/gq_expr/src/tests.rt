@@ -2,12 +2,14 @@
 ghost use Rattle.std.specs.Prelude.{[], Some, None};
 ghost use Rattle.gq_base.specs.Plain.{Graph};
 
-use crate::expr::{ArithOp, Bound, BoundTester, CompareOp, Expr, Fault, LogicOp, Tester};
+use crate::expr::{Bound, BoundTester, Expr, Fault, LogicOp, Tester};
 use crate::operators::{arith, compare, contains, ends, is_member, negate, starts};
 use crate::truth::logic;
 use crate::{Assigned, Kinds, Reads, can_fault, eval};
 use gq_base::Value::{Flag, Int, Null, Str};
-use gq_base::{Boxed, Field, Kind, List, Literal, Memory, NodeId, RelId, Text, Value};
+use gq_base::{
+    ArithOp, Boxed, CompareOp, Field, Kind, List, Literal, Memory, NodeId, RelId, Text, Value,
+};
 use std::alloc::Global;
 use std::test::Fail;
 

@@ -3,31 +3,14 @@ use Rattle.std.proofs.Common.{◌≡◌, ◌≢◌, ℕ, ◌<◌, ◌≤◌, ◌
 use Rattle.std.specs.Prelude.{if◌then◌else◌, ◌==◌, ◌&&◌, not, nat_eq, nat_lt, nat_le, ℤ, pos, neg_ℤ, Result, Ok, Err, slice_index}
 use Rattle.std.specs.List.{starts_with}
 use Rattle.std.specs.Result.{OkIff, result_ok}
-use Rattle.std.specs.Str.{IsAscii, IsUtf8, all_ascii_digits, is_utf8}
+use Rattle.std.specs.Str.{IsAscii, all_ascii_digits, is_utf8}
 use Rattle.std.specs.Str.Parse.{ParsesSigned, digits_value}
 use Rattle.std.proofs.lemmas.Bool.Decides.{nat_tests}
 use Rattle.std.proofs.lemmas.Str.Ascii.{IsAscii-cons, IsAscii-nil}
-use Rattle.std.proofs.lemmas.Str.{IsUtf8-from_ascii, IsUtf8-from_is_utf8, is_utf8-from_IsUtf8}
+use Rattle.std.proofs.lemmas.Str.{IsUtf8-from_ascii, is_utf8-from_IsUtf8}
 use Rattle.std.proofs.lemmas.Str.Parse.{IsNumeralModel, numerals_by_value, parse_signed_minus, parse_signed_plain, tells_all_ascii_digits}
-use Rattle.gq_fields.specs.Fields.{int_of, text_of}
-
-pub text_of-text : (bytes : List ℕ) → IsUtf8 bytes → text_of bytes ≡ Some bytes
-text_of-text bytes h = rw (is_utf8-from_IsUtf8 bytes h) refl
-
-not_text : (bytes : List ℕ) (b : Bool) → is_utf8 bytes ≡ b → (IsUtf8 bytes → ⊥) → is_utf8 bytes ≡ false
-not_text bytes true e none = absurd (none (IsUtf8-from_is_utf8 bytes e))
-not_text bytes false e none = e
-
-pub text_of-none : (bytes : List ℕ) → (IsUtf8 bytes → ⊥) → text_of bytes ≡ None
-text_of-none bytes none = rw (not_text bytes (is_utf8 bytes) refl none) refl
-
-some_test : (b : Bool) (bytes text : List ℕ) → Some text ≡ (if b then Some bytes else None) → (text ≡ bytes) × (b ≡ true)
-some_test true bytes text e = (cc e, refl)
-some_test false bytes text e = cc e
-
--- a text that was read is the field
-pub text_of-same : (bytes text : List ℕ) → Some text ≡ text_of bytes → text ≡ bytes
-text_of-same bytes text e = (some_test (is_utf8 bytes) bytes text e).0
+use Rattle.gq_base.specs.Words.{text_of}
+use Rattle.gq_fields.specs.Fields.{int_of}
 
 none_test : (b : Bool) (bytes : List ℕ) → None ≡ (if b then Some bytes else None) → b ≡ false
 none_test true bytes e = cc e

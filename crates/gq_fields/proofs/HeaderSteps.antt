@@ -5,10 +5,10 @@ use Rattle.std.specs.List.{list_any}
 use Rattle.std.specs.Str.{bytes_eq}
 use Rattle.std.proofs.lemmas.List.{drop_all, drop_more, take-append-drop, take_all, take_more}
 use Rattle.gq_base.specs.declared.catalog.Field.{Field}
-use Rattle.gq_fields.proofs.ListLaws.{any-snoc, distinct-more, prepend, prepend-first, prepend-nil, repeated}
+use Rattle.gq_base.proofs.ListLaws.{any-snoc, distinct-more, prepend, prepend-first, prepend-nil, repeated}
 use Rattle.gq_fields.specs.Fields.{field_of}
-use Rattle.gq_fields.specs.Headers.{same_name}
-use Rattle.gq_fields.specs.Lists.{all_distinct, each}
+use Rattle.gq_base.specs.Valid.{same_name}
+use Rattle.gq_base.specs.Lists.{all_distinct, each}
 
 -- the fields before this place were read, and those of the texts from there on follow them
 pub record Reading (texts : List (List ℕ)) (at : ℕ) (fields : List Field) : Type 0 where

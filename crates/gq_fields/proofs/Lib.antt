@@ -1,3 +1,2 @@
 pub mod FieldLaws
 pub mod HeaderSteps
-pub mod ListLaws

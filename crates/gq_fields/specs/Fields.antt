@@ -3,15 +3,15 @@ use Rattle.std.specs.Prelude.{ℕ, ◌^◌, Bool, true, false, not, ◌&&◌, �
 use Rattle.std.specs.declared.option.Option.{Option}
 use Rattle.std.specs.declared.option.Option.TheVariants.{Some, None}
 use Rattle.std.specs.List.{before_first, after_first}
-use Rattle.std.specs.Str.{all_ascii_digits, byte, bytes_eq, chars, is_utf8, str_eq_ignore_ascii_case}
+use Rattle.std.specs.Str.{all_ascii_digits, byte, bytes_eq, str_eq_ignore_ascii_case}
 use Rattle.std.specs.Str.Parse.{digits_value, starts_with_minus}
 use Rattle.gq_base.specs.declared.catalog.Field.{Field}
 use Rattle.gq_base.specs.declared.catalog.Kind.{Kind}
 use Rattle.gq_base.specs.declared.catalog.Kind.TheVariants as kind
 use Rattle.gq_base.specs.declared.cell.Cell.{Cell}
 use Rattle.gq_base.specs.declared.cell.Cell.TheVariants as cell
-use Rattle.gq_fields.specs.Characters.{is_word}
-use Rattle.gq_fields.specs.Lists.{is_empty}
+use Rattle.gq_base.specs.Lists.{is_empty}
+use Rattle.gq_base.specs.Words.{name_of, text_of}
 
 -- ---- values
 
@@ -35,10 +35,6 @@ int_of field = if starts_with_minus field then negative (drop 1 field) else posi
 abbrev pub flag_of : List ℕ → Option Bool
 flag_of field = if str_eq_ignore_ascii_case field (codes "true") then Some true else if str_eq_ignore_ascii_case field (codes "false") then Some false else None
 
--- a text: bytes that are UTF-8
-abbrev pub text_of : List ℕ → Option (List ℕ)
-text_of field = if is_utf8 field then Some field else None
-
 -- a cell of a kind: an empty field is null, another spells a value of the kind
 abbrev pub cell_of : Kind → List ℕ → Option (Option Cell)
 cell_of k [] = Some None
@@ -47,14 +43,6 @@ cell_of kind.Str field = option_map (λ t. Some (cell.Str t)) (text_of field)
 cell_of kind.Flag field = option_map (λ b. Some (cell.Flag b)) (flag_of field)
 
 -- ---- properties
-
--- a plain name: UTF-8 whose characters are a word
-abbrev pub is_plain_name : List ℕ → Bool
-is_plain_name bytes = is_utf8 bytes && is_word (chars bytes)
-
--- the plain name that bytes are
-abbrev pub name_of : List ℕ → Option (List ℕ)
-name_of bytes = if is_plain_name bytes then Some bytes else None
 
 -- the word of a kind
 abbrev pub kind_of : List ℕ → Option Kind

@@ -8,19 +8,12 @@ use Rattle.gq_base.specs.declared.catalog.Field.{Field}
 use Rattle.gq_base.specs.declared.catalog.Kind.{Kind}
 use Rattle.gq_base.specs.declared.catalog.Kind.TheVariants as kind
 use Rattle.gq_fields.specs.Fields.{field_of}
-use Rattle.gq_fields.specs.Lists.{all_distinct, each}
+use Rattle.gq_base.specs.Lists.{all_distinct, each}
+use Rattle.gq_base.specs.Valid.{most_properties, same_name}
 use Rattle.gq_fields.specs.declared.header.FileKind.{FileKind}
 use Rattle.gq_fields.specs.declared.header.FileKind.TheVariants.{Nodes, Rels}
 use Rattle.gq_fields.specs.declared.header.HeaderRefusal.{HeaderRefusal}
 use Rattle.gq_fields.specs.declared.header.HeaderRefusal.TheVariants as refusal
-
--- how many properties a table may have
-abbrev pub most_properties : ℕ
-most_properties = 64
-
--- two properties have one name, byte for byte
-abbrev pub same_name : Field → Field → Bool
-same_name f g = bytes_eq f.name g.name
 
 -- the properties, where no two of them have one name
 abbrev pub distinct_fields : Option (List Field) → Option (List Field)

@@ -1,4 +1,2 @@
-pub mod Characters
 pub mod Fields
 pub mod Headers
-pub mod Lists

@@ -2,7 +2,8 @@
 ghost use Rattle.std.specs.Prelude.{◌≡◌};
 ghost use Rattle.std.specs.Option.{option_copied};
 ghost use Rattle.std.specs.Result.{result_ok};
-ghost use Rattle.gq_fields.specs.Fields.{flag_of, int_of, text_of};
+ghost use Rattle.gq_base.specs.Words.{text_of};
+ghost use Rattle.gq_fields.specs.Fields.{flag_of, int_of};
 
 /// The field is not of its kind.
 #[derive(Clone, Copy, Debug, PartialEq, Eq)]
@@ -42,8 +43,8 @@ pub fn read_flag(field: &[u8]) -> Result<bool, BadField>
 pub fn read_text(field: &[u8]) -> Result<&str, BadField>
     ensures { option_copied (result_ok result) ≡ text_of field.now }
 {
-    match str::from_utf8(field) {
-        Ok(text) => Ok(text),
-        Err(_) => Err(BadField),
+    match gq_base::read_text(field) {
+        Some(text) => Ok(text),
+        None => Err(BadField),
     }
 }

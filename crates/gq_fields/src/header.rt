@@ -3,12 +3,12 @@ ghost use Rattle.std.specs.Prelude.{◌≡◌, ◌==◌, ◌<◌, length, positi
 ghost use Rattle.std.specs.List.{after_first, before_first};
 ghost use Rattle.std.specs.Option.{option_copied};
 ghost use Rattle.gq_fields.specs.Fields.{field_of, kind_of};
-ghost use Rattle.gq_fields.specs.Headers.{Answers, after_ends, are_ends, form_of, has_key, header_of, properties_of, same_name};
-ghost use Rattle.gq_fields.specs.Lists.{all_distinct, each};
+ghost use Rattle.gq_fields.specs.Headers.{Answers, after_ends, are_ends, form_of, has_key, header_of, properties_of};
+ghost use Rattle.gq_base.specs.Valid.{same_name};
+ghost use Rattle.gq_base.specs.Lists.{all_distinct, each};
 ghost use Rattle.gq_fields.specs.declared.header.HeaderRefusal.TheVariants as refusal;
 
-use crate::name::read_name;
-use gq_base::{Bytes, Field, Kind, List, Memory, Text};
+use gq_base::{Bytes, Field, Kind, List, Memory, Text, read_name};
 use std::alloc::Global;
 use std::collections::BTreeSet;
 

@@ -3,7 +3,6 @@
 
 mod field;
 mod header;
-mod name;
 
 pub use field::{BadField, read_flag, read_int, read_text};
 pub use header::{FileKind, HeaderRefusal, read_header};

@@ -2,7 +2,7 @@
 use Rattle.std.proofs.Common.{◌≡◌, ℕ, ◌<◌, ◌≤◌, true, cond, ◌||◌, List, [], ◌∷◌, length, Some, None, Ok, Err, Result, IfOk, IfSome, ap, ◌∙◌, arith}
 use Rattle.std.specs.List.{slice_get}
 use Rattle.std.specs.declared.option.Option.{Option}
-use Rattle.gq_lexer.specs.Characters.{is_word_start}
+use Rattle.gq_base.specs.Words.{is_word_start}
 use Rattle.gq_lexer.specs.Lexemes.{word_at}
 use Rattle.gq_lexer.specs.Runs.{of_size, piece, run}
 use Rattle.gq_lexer.specs.declared.lexeme.Lexeme.{Lexeme}

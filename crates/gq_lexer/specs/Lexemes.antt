@@ -4,7 +4,8 @@ use Rattle.std.specs.Char.{is_ascii_digit, is_whitespace}
 use Rattle.std.specs.Str.{encode_utf8_all}
 use Rattle.std.specs.declared.option.Option.{Option}
 use Rattle.std.specs.declared.option.Option.TheVariants.{Some, None}
-use Rattle.gq_lexer.specs.Characters.{begins, begins_digit, code, is_word_part, is_word_start}
+use Rattle.gq_base.specs.Words.{code, is_word_part, is_word_start}
+use Rattle.gq_lexer.specs.Characters.{begins, begins_digit}
 use Rattle.gq_lexer.specs.Numbers.{digits_at, value_in}
 use Rattle.gq_lexer.specs.Runs.{run}
 use Rattle.gq_lexer.specs.declared.lexeme.Lexeme.{Lexeme}

@@ -3,7 +3,8 @@ use Rattle.std.specs.Prelude.{ℕ, zero, suc, ◌+◌, ◌-◌, ◌==◌, ◌&&�
 use Rattle.std.specs.Str.{all_scalars}
 use Rattle.std.specs.declared.option.Option.{Option}
 use Rattle.std.specs.declared.option.Option.TheVariants.{Some, None}
-use Rattle.gq_lexer.specs.Characters.{begins, code, is_word_part}
+use Rattle.gq_base.specs.Words.{code, is_word_part}
+use Rattle.gq_lexer.specs.Characters.{begins}
 use Rattle.gq_lexer.specs.Numbers.{digits_at, value_in}
 use Rattle.gq_lexer.specs.declared.run.Form.{Form}
 use Rattle.gq_lexer.specs.declared.run.Form.TheVariants as form

@@ -3,12 +3,11 @@
 ghost use Rattle.std.specs.Prelude.{◌≡◌, ◌+◌, ◌<◌, ◌≤◌, [], length, IfOk, IfSome};
 ghost use Rattle.gq_lexer.specs.Lexemes.{quoted_at, string_at, slash_at, word_at, lexeme};
 
-use crate::character::is_word_start;
 use crate::number::read_number;
 use crate::run::{Form, extent, spell};
 use crate::sign::read_sign;
 use crate::token::{Sign, TokenKind};
-use gq_base::Memory;
+use gq_base::{Memory, is_word_start};
 use std::alloc::Global;
 
 /// A lexeme: how many characters it takes, and the token that it is; none for white space and comments.

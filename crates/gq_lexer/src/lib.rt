@@ -1,7 +1,6 @@
 //! The tokens of a query's text.
 #![tactic(auto)]
 
-mod character;
 mod lexeme;
 mod number;
 mod run;

@@ -5,9 +5,9 @@ ghost use Rattle.gq_lexer.specs.Characters.{begins_digit};
 ghost use Rattle.gq_lexer.specs.Lexemes.{number_at, number_kind, numeral, runs_on};
 ghost use Rattle.gq_lexer.specs.Numbers.{digits_at, value_in};
 
-use crate::character::is_word_part;
 use crate::lexeme::Lexeme;
 use crate::token::TokenKind;
+use gq_base::is_word_part;
 
 // One more than the greatest integer of 64 signed bits.
 const BIG: u64 = 1 << 63;

@@ -4,9 +4,8 @@ ghost use Rattle.std.specs.Prelude.{◌≡◌, ◌+◌, ◌<◌, ◌≤◌, leng
 ghost use Rattle.std.specs.Str.{encode_utf8_all};
 ghost use Rattle.gq_lexer.specs.Runs.{escape, escape_value, code_piece, piece, run};
 
-use crate::character::is_word_part;
 use crate::number::read_digits;
-use gq_base::{Memory, Text};
+use gq_base::{Memory, Text, is_word_part};
 use std::alloc::Global;
 
 /// What a run consists of.

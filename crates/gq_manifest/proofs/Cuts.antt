@@ -5,14 +5,11 @@ use Rattle.std.specs.List.{onto_first, position_or_len, slice_split}
 use Rattle.std.specs.Str.Lines.{lines, lines_of_parts, strip_carriage_return}
 use Rattle.std.proofs.lemmas.Bool.Decides.{nat_tests}
 use Rattle.std.proofs.lemmas.List.{take_all}
+use Rattle.gq_base.proofs.ListFacts.{some_place}
 use Rattle.std.proofs.lemmas.List.Splits.{length-slice_split, slice_split_first}
 
 abbrev is_lf : ℕ → Bool
 is_lf b = b == 10
-
-pub some_place : (b : Bool) (n place : ℕ) → Some place ≡ cond b (Some n) None → (b ≡ true) × (place ≡ n)
-some_place true n place e = (refl, cc e)
-some_place false n place e = cc e
 
 pub no_place : (b : Bool) (n : ℕ) → None ≡ cond b (Some n) None → b ≡ false
 no_place true n e = cc e

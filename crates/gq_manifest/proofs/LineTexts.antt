@@ -10,7 +10,7 @@ use Rattle.std.proofs.lemmas.Str.{IsUtf8-append, IsUtf8-from_ascii, IsUtf8-from_
 use Rattle.std.proofs.lemmas.Str.Ascii.{IsAscii-cons, IsAscii-nil}
 use Rattle.gq_base.specs.declared.catalog.Mult.{Mult}
 use Rattle.gq_manifest.specs.Lines.{TableLine, form_of, is_blank, is_some_word, mult_of, node_of, rel_of, table_of, words_of}
-use Rattle.gq_manifest.specs.Names.{name_of, text_of}
+use Rattle.gq_base.specs.Words.{name_of, text_of}
 
 -- ---- pieces that are UTF-8
 

@@ -1,21 +1,17 @@
 -- What holds of the tables of a manifest, whatever its lines.
-use Rattle.std.proofs.Common.{◌≡◌, ◌≢◌, ℕ, ◌+◌, ◌<◌, ◌≤◌, Bool, true, false, cond, List, [], ◌∷◌, ◌++◌, length, get_or, Some, None, Ok, Err, inl, inr, refl, sym, subst, arith, length-append}
-use Rattle.std.specs.Prelude.{if◌then◌else◌, nat_le, nat_lt, is_some, All, AllPairs, position}
+use Rattle.std.proofs.Common.{◌≡◌, ◌≢◌, ℕ, ◌+◌, ◌<◌, ◌≤◌, Bool, true, false, List, [], ◌∷◌, ◌++◌, length, Some, None, Ok, Err, refl, subst, arith, length-append}
+use Rattle.std.specs.Prelude.{if◌then◌else◌, nat_le, is_some}
 use Rattle.std.specs.declared.option.Option.{Option}
 use Rattle.std.specs.declared.result.Result.{Result}
-use Rattle.std.specs.List.{position_or_len}
 use Rattle.std.specs.Str.{bytes_eq}
 use Rattle.std.specs.Str.Lines.{lines}
-use Rattle.std.proofs.Math.Seq.{get_or-append_seam}
-use Rattle.std.proofs.lemmas.Bool.{cases_lt}
 use Rattle.std.proofs.lemmas.Bool.Decides.{nat_tests}
-use Rattle.std.proofs.lemmas.List.{get_or_append_left}
-use Rattle.std.proofs.lemmas.List.Elements.{All-cons, All-nil, All-push, All-weaker}
+use Rattle.std.proofs.lemmas.List.Elements.{All-nil, All-push, All-weaker}
 use Rattle.std.proofs.lemmas.Slice.Eq.{bytes_eq-Decides}
+use Rattle.gq_base.proofs.ListFacts.{found_within, none_passes, pairs_push}
 use Rattle.gq_base.specs.Catalogs.{Tables, find_label, find_type}
 use Rattle.gq_base.specs.declared.catalog.NodeTable.{NodeTable}
 use Rattle.gq_base.specs.declared.catalog.RelTable.{RelTable}
-use Rattle.gq_manifest.proofs.Cuts.{some_place}
 use Rattle.gq_manifest.specs.Lines.{NodeLine, RelLine, TableLine, node, rel, is_skipped, table_of}
 use Rattle.gq_manifest.specs.Manifests.{AreWhole, add_between, add_line, add_node, add_rel, and_then, manifest_of, take_line, take_lines}
 use Rattle.gq_manifest.specs.declared.manifest.ManifestRefusal.{ManifestRefusal}
@@ -23,41 +19,8 @@ use Rattle.gq_manifest.specs.declared.manifest.ManifestRefusal.TheVariants as re
 
 -- ---- lists
 
--- a last item that is as it must be towards each before it
-pairs_push : {X : Type 0} (R : X → X → Type 0) (xs : List X) (x : X) → AllPairs R xs → All (λ y. R y x) xs → AllPairs R (xs ++ x ∷ [])
-pairs_push R xs x pairs last i j d less within = elim (cases_lt j (length xs)) as (λ _. R (get_or (xs ++ x ∷ []) i d) (get_or (xs ++ x ∷ []) j d)) [
-  | inl h ↦ rw (get_or_append_left xs (x ∷ []) d i (omega arith), get_or_append_left xs (x ∷ []) d j h) (pairs i j d less h)
-  | inr h ↦
-      let longer : length (xs ++ x ∷ []) ≡ length xs + 1 = length-append xs (x ∷ []) in
-      let is : j ≡ length xs = omega arith in
-      rw (is, get_or_append_left xs (x ∷ []) d i (omega arith), get_or-append_seam xs x [] d) (last i d (omega arith))
-]
-
--- where no item passes, each fails
-next_none : {X : Type 0} (p : X → Bool) (x : X) (xs : List X) (b : Bool) → p x ≡ b → (length xs ≤ position_or_len p xs → All (λ y. p y ≡ false) xs)
-    → length (x ∷ xs) ≤ position_or_len p (x ∷ xs) → All (λ y. p y ≡ false) (x ∷ xs)
-next_none p x xs true e more h = absurd (let k = rw e at h in omega arith)
-next_none p x xs false e more h = let k = rw e at h in All-cons (λ y. p y ≡ false) x xs e (more (omega arith))
-
-none_far : {X : Type 0} (p : X → Bool) (xs : List X) → length xs ≤ position_or_len p xs → All (λ y. p y ≡ false) xs
-none_far p [] h = All-nil (λ y. p y ≡ false)
-none_far p (x ∷ xs) h = next_none p x xs (p x) refl (none_far p xs) h
-
-none_passes : {X : Type 0} (p : X → Bool) (xs : List X) → is_some (position p xs) ≡ false → All (λ y. p y ≡ false) xs
-none_passes p xs e = none_far p xs (no_some (nat_lt (position_or_len p xs) (length xs)) (position_or_len p xs) (length xs) refl e)
-  where
-    no_some : (b : Bool) (m n : ℕ) → nat_lt m n ≡ b → is_some (cond b (Some m) None) ≡ false → n ≤ m
-    no_some true m n e h = cc h
-    no_some false m n e h = grind (arith, nat_tests, e)
-
 other_text : (a b : List ℕ) → bytes_eq a b ≡ false → a ≢ b
 other_text a b e = λ h. let same = (bytes_eq-Decides a b).1 h in cc
-
--- a place that was found is within the list
-found_within : {X : Type 0} (p : X → Bool) (xs : List X) (i : ℕ) → position p xs ≡ Some i → i < length xs
-found_within p xs i e =
-    let (found, is) = some_place (nat_lt (position_or_len p xs) (length xs)) (position_or_len p xs) i (sym e) in
-    grind (arith, nat_tests, found)
 
 -- ---- steps
 

@@ -6,7 +6,7 @@ use Rattle.std.specs.List.{list_all, slice_split, starts_with}
 use Rattle.std.specs.Str.{bytes_eq, is_utf8}
 use Rattle.gq_base.specs.declared.catalog.Mult.{Mult}
 use Rattle.gq_base.specs.declared.catalog.Mult.TheVariants as mult
-use Rattle.gq_manifest.specs.Names.{code, name_of, text_of}
+use Rattle.gq_base.specs.Words.{code, name_of, text_of}
 
 -- space and tab
 abbrev pub is_blank : ℕ → Bool

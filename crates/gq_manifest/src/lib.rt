@@ -4,7 +4,6 @@
 mod cut;
 mod line;
 mod manifest;
-mod name;
 mod tables;
 
 pub use manifest::{ManifestRefusal, read_manifest};

@@ -2,11 +2,10 @@
 ghost use Rattle.std.specs.Prelude.{◌≡◌, map, option_map, IfOk};
 ghost use Rattle.gq_manifest.specs.Answers.{seen_table};
 ghost use Rattle.gq_manifest.specs.Lines.{form_of, mult_of, node_of, rel_of, table_of};
-ghost use Rattle.gq_manifest.specs.Names.{name_of, text_of};
+ghost use Rattle.gq_base.specs.Words.{name_of, text_of};
 
 use crate::cut::words_of;
-use crate::name::{read_name, read_text};
-use gq_base::{Memory, Mult};
+use gq_base::{Memory, Mult, read_name, read_text};
 use std::alloc::Global;
 
 /// A node table as a line names it.

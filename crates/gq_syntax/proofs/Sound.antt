@@ -16,10 +16,10 @@ use Rattle.gq_syntax.specs.Relations.{Enclosed, Fork, Pure, Then, Into, Listed, 
 use Rattle.gq_syntax.specs.Trees as tree
 use Rattle.gq_syntax.specs.Trees.{Node, chain_made, columns, detail_of, made, no_detail, node_part, rel_part, tail_made, term, tree_of}
 use Rattle.gq_syntax.specs.Words.{Name, addition, big, called, comparison, direction, multiplication, name, negative, number, plain, same_sign, sign_is, test_word, tip, when, word_is}
-use Rattle.gq_syntax.specs.declared.expression.ArithOp.{ArithOp}
+use Rattle.gq_base.specs.declared.operator.ArithOp.{ArithOp}
 use Rattle.gq_syntax.specs.declared.expression.Ast.{Ast}
 use Rattle.gq_syntax.specs.declared.expression.AstNode.TheVariants as e
-use Rattle.gq_syntax.specs.declared.expression.CompareOp.{CompareOp}
+use Rattle.gq_base.specs.declared.operator.CompareOp.{CompareOp}
 use Rattle.gq_syntax.specs.declared.expression.Tester.TheVariants as tester
 use Rattle.gq_syntax.specs.declared.opening.Level.{Level}
 use Rattle.gq_syntax.specs.declared.opening.Level.TheVariants as level

@@ -13,10 +13,10 @@ use Rattle.gq_lexer.specs.declared.token.Sign.TheVariants as sign
 use Rattle.gq_lexer.specs.declared.token.Token.{Token}
 use Rattle.gq_lexer.specs.declared.token.TokenKind.{TokenKind}
 use Rattle.gq_lexer.specs.declared.token.TokenKind.TheVariants as kind
-use Rattle.gq_syntax.specs.declared.expression.ArithOp.{ArithOp}
-use Rattle.gq_syntax.specs.declared.expression.ArithOp.TheVariants as arith
-use Rattle.gq_syntax.specs.declared.expression.CompareOp.{CompareOp}
-use Rattle.gq_syntax.specs.declared.expression.CompareOp.TheVariants as compare
+use Rattle.gq_base.specs.declared.operator.ArithOp.{ArithOp}
+use Rattle.gq_base.specs.declared.operator.ArithOp.TheVariants as arith
+use Rattle.gq_base.specs.declared.operator.CompareOp.{CompareOp}
+use Rattle.gq_base.specs.declared.operator.CompareOp.TheVariants as compare
 use Rattle.gq_syntax.specs.declared.opening.TestWord.{TestWord}
 use Rattle.gq_syntax.specs.declared.opening.TestWord.TheVariants as test
 use Rattle.gq_syntax.specs.declared.opening.Tip.{Tip}

@@ -5,13 +5,11 @@ ghost use Rattle.gq_syntax.specs.Nesting.{Nests, Opens};
 ghost use Rattle.gq_syntax.specs.Parsers as p;
 ghost use Rattle.gq_syntax.specs.Parsing.{Reads};
 
-use crate::expression::{
-    ArithOp, ArithTerm, Ast, AstNode, AstTester, CompareOp, CompareTerm, Term, Tester,
-};
+use crate::expression::{ArithTerm, Ast, AstNode, AstTester, CompareTerm, Term, Tester};
 use crate::literals::list;
 use crate::opening::{Level, TestWord};
 use crate::tokens::{Stop, Tokens};
-use gq_base::{Boxed, List, Literal, Memory, Text};
+use gq_base::{ArithOp, Boxed, CompareOp, List, Literal, Memory, Text};
 use gq_lexer::Sign;
 use std::alloc::Global;
 

@@ -1,28 +1,7 @@
 //! The trees of expressions.
 
-use gq_base::{Boxed, List, Literal, Text};
+use gq_base::{ArithOp, Boxed, CompareOp, List, Literal, Text};
 use gq_lexer::Span;
-
-/// A comparison.
-#[derive(Clone, Copy, Debug, PartialEq, Eq)]
-pub enum CompareOp {
-    Equal,
-    NotEqual,
-    Less,
-    LessEqual,
-    Greater,
-    GreaterEqual,
-}
-
-/// An operation on integers.
-#[derive(Clone, Copy, Debug, PartialEq, Eq)]
-pub enum ArithOp {
-    Add,
-    Subtract,
-    Multiply,
-    Divide,
-    Remainder,
-}
 
 /// An operator and what stands at its right.
 #[derive(Debug, Drop)]

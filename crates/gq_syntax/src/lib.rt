@@ -13,9 +13,8 @@ mod statement;
 mod tokens;
 mod words;
 
-pub use expression::{
-    ArithOp, ArithTerm, Ast, AstNode, AstTester, CompareOp, CompareTerm, Term, Tester,
-};
+pub use expression::{ArithTerm, Ast, AstNode, AstTester, CompareTerm, Term, Tester};
+pub use gq_base::{ArithOp, CompareOp};
 pub use parsing::parse;
 pub use refusal::SyntaxRefusal;
 pub use statement::{

@@ -7,10 +7,9 @@ ghost use Rattle.gq_syntax.specs.Readers as r;
 ghost use Rattle.gq_syntax.specs.Relations.{span_of};
 ghost use Rattle.gq_syntax.specs.Words as w;
 
-use crate::expression::{ArithOp, CompareOp};
 use crate::opening::{TestWord, Tip};
 use crate::words;
-use gq_base::{Literal, Memory, Text};
+use gq_base::{ArithOp, CompareOp, Literal, Memory, Text};
 use gq_lexer::{Sign, Span, Token};
 use std::alloc::AllocError;
 use std::marker::Model;

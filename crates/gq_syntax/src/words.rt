@@ -5,9 +5,8 @@ ghost use Rattle.std.specs.Option.{option_copied};
 ghost use Rattle.std.specs.Str.{str_eq_ignore_ascii_case};
 ghost use Rattle.gq_syntax.specs.Words as spec;
 
-use crate::expression::{ArithOp, CompareOp};
 use crate::opening::{TestWord, Tip};
-use gq_base::{Literal, Memory, Text};
+use gq_base::{ArithOp, CompareOp, Literal, Memory, Text};
 use gq_lexer::{Sign, Token, TokenKind};
 
 // The words that are no names unless they stand in backquotes.

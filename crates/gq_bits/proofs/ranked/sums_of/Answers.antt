@@ -1,7 +1,8 @@
 use Rattle.std.proofs.Common.{◌+◌, ◌*◌, ◌<◌, ◌^◌, get_or, ap, ◌∙◌, arith, count_by}
 use Rattle.gq_bits.specs.Bits.{bits_of}
 use Rattle.gq_bits.proofs.Counts.{ones_at_most}
-use Rattle.gq_bits.proofs.Ranks.{ones_more, ones_le, follows_push}
+use Rattle.gq_base.proofs.ListFacts.{follows_push}
+use Rattle.gq_bits.proofs.Ranks.{ones_more, ones_le}
 use Rattle.gq_bits.proofs.ranked.sums_of.Goals as goal
 
 pub overflow_cast-before : goal.overflow_cast-before

@@ -1,7 +1,7 @@
 use Rattle.std.proofs.Common.{◌≡◌, drop}
 use Rattle.gq_base.specs.Values.{val}
 use Rattle.gq_expr.specs.Operators.{member_of}
-use Rattle.gq_expr.specs.Truth.{or3}
+use Rattle.gq_base.specs.Truth.{or3}
 use Rattle.gq_expr.proofs.operators.is_member.Given as goal
 
 abbrev pub invariant-loop-literal : goal.invariant-loop-literal

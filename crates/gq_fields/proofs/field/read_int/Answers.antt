@@ -1,7 +1,8 @@
 use Rattle.std.proofs.Common.{ap, sym, subst, ◌∙◌, Some, Ok, Err, w64}
 use Rattle.std.specs.Prelude.{ℤ, FitsSigned}
 use Rattle.std.proofs.lemmas.Int.{to_z-of_z}
-use Rattle.gq_fields.proofs.FieldLaws.{int_of-none, int_of-parsed, text_of-same}
+use Rattle.gq_base.proofs.Texts.{text_of-same}
+use Rattle.gq_fields.proofs.FieldLaws.{int_of-none, int_of-parsed}
 use Rattle.gq_fields.proofs.field.read_int.Goals as goal
 
 pub returns-in_default : goal.returns-in_default

@@ -4,7 +4,7 @@ use Rattle.std.specs.Cmp.Lexicographic.{slice_cmp}
 use Rattle.std.specs.Ordering.{nat_cmp}
 use Rattle.std.proofs.lemmas.Map.Text.{is_eq-slice_cmp}
 use Rattle.gq_fields.proofs.HeaderSteps.{named_once, named_twice}
-use Rattle.gq_fields.proofs.ListLaws.{not_not, not_yet}
+use Rattle.gq_base.proofs.ListLaws.{not_not, not_yet}
 use Rattle.gq_fields.proofs.header.are_distinct.Goals as goal
 
 pub returns-then-not-is_new : goal.returns-then-not-is_new

@@ -3,7 +3,7 @@ use Rattle.std.specs.declared.option.Option.{Option}
 use Rattle.gq_base.specs.declared.Cell.{Cell}
 use Rattle.gq_base.specs.Plain.{cell_at}
 use Rattle.gq_render.specs.Texts.{line, cell_text}
-use Rattle.gq_render.proofs.Pieces.{flat_map_next, flat_map_split}
+use Rattle.gq_base.proofs.ListFacts.{flat_map_next, flat_map_split}
 use Rattle.gq_render.proofs.Sequence.{next_broke, put_then}
 use Rattle.gq_render.proofs.column.put_cells.Goals as goal
 

@@ -1,6 +1,6 @@
 -- OR is associative, with false for its unit.
 use Rattle.std.proofs.Common.{◌≡◌, refl, Option, Some, None, Bool, true, false, arith}
-use Rattle.gq_expr.specs.Truth.{or3}
+use Rattle.gq_base.specs.Truth.{or3}
 
 pub or3_assoc : (p q r : Option Bool) → or3 (or3 p q) r ≡ or3 p (or3 q r)
 or3_assoc None None None = refl

@@ -1,5 +1,5 @@
--- Words on lists that the definitions of fields and headers use.
-use Rattle.std.specs.Prelude.{Bool, true, not, ◌&&◌, ◌==◌, List, [], ◌∷◌, length}
+-- Words on lists that definitions share.
+use Rattle.std.specs.Prelude.{Bool, true, false, not, ◌&&◌, ◌==◌, List, [], ◌∷◌, length}
 use Rattle.std.specs.declared.option.Option.{Option}
 use Rattle.std.specs.declared.option.Option.TheVariants.{Some, None}
 use Rattle.std.specs.List.{list_any}
@@ -22,3 +22,9 @@ each f (x ∷ xs) = with_first (f x) (each f xs)
 abbrev pub all_distinct : {A : Type 0} → (A → A → Bool) → List A → Bool
 all_distinct same [] = true
 all_distinct same (x ∷ xs) = not (list_any (same x) xs) && all_distinct same xs
+
+-- there are as many of both, and each passes with the one at its place
+abbrev pub all_zip : {A B : Type 0} → (A → B → Bool) → List A → List B → Bool
+all_zip p [] [] = true
+all_zip p (x ∷ xs) (y ∷ ys) = p x y && all_zip p xs ys
+all_zip p xs ys = false

@@ -3,7 +3,7 @@ use Rattle.std.proofs.Common.{◌≡◌, Bool, true, false, List, [], ◌∷◌,
 use Rattle.std.specs.Prelude.{◌&&◌, ◌||◌, not, option_map}
 use Rattle.std.specs.declared.option.Option.{Option}
 use Rattle.std.specs.List.{list_any}
-use Rattle.gq_fields.specs.Lists.{all_distinct, with_first}
+use Rattle.gq_base.specs.Lists.{all_distinct, with_first}
 
 -- these items, and then those that follow, if there are any
 abbrev pub prepend : {A : Type 0} → List A → Option (List A) → Option (List A)

@@ -1,0 +1,4 @@
+pub mod ListFacts
+pub mod ListLaws
+pub mod Texts
+pub mod TruthLaws
