@@ -1,7 +1,7 @@
 -- Kept cells that are read by rank.
-use Rattle.std.proofs.Common.{◌≡◌, ℕ, ℤ, pos, zero, suc, ◌+◌, ◌-◌, ◌<◌, ◌≤◌, Bool, true, false, cond, List, [], ◌∷◌, ◌++◌, length, get_or, take, drop, map, Option, Some, None, refl, sym, ap, ◌∙◌, arith, zero-add, count_by, inl, inr}
-use Rattle.std.specs.Prelude.{is_some, unwrap_or, ◌⊎◌}
-use Rattle.std.proofs.lemmas.List.{length-take, length-drop, length-map, get_or-take, get_or-drop, get_or-map, take-append-drop, take-take, drop-take, ext_get_or}
+use Rattle.std.proofs.Common.{◌≡◌, ℕ, ℤ, pos, zero, suc, ◌+◌, ◌-◌, ◌<◌, ◌≤◌, Bool, true, false, cond, List, [], ◌∷◌, ◌++◌, length, get_or, take, drop, map, Option, Some, None, refl, sym, ap, ◌∙◌, arith, zero-add, count_by}
+use Rattle.std.specs.Prelude.{is_some, unwrap_or}
+use Rattle.std.proofs.lemmas.List.{length-take, length-drop, length-map, get_or-take, get_or-drop, get_or-map, take-take, ext_get_or}
 use Rattle.std.proofs.lemmas.List.Sums.{sum_by-cons, sum_by-append, sum_by-take-le, count_by_more_yes, count_by-le-length, sum_by_more}
 use Rattle.std.proofs.lemmas.List.FromFn.{length-map-range_with_len, get_or-map-range_with_len}
 use Rattle.gq_base.proofs.ListFacts.{take-add}
@@ -49,15 +49,24 @@ kept_at (Some c ∷ cells) (suc row) h =
     ap (λ n. cond (is_some (get_or cells row None)) (Some (get_or (c ∷ kept_of cells) n (pos 0))) None) (count-cons true (take row (map (λ c. is_some c) cells)) ∙ e)
     ∙ kept_at cells row (omega arith)
 
+-- a 0 behind the cells
+pub padded : (xs : List ℤ) (k : ℕ) → get_or (xs ++ (pos 0 ∷ [])) k (pos 0) ≡ get_or xs k (pos 0)
+padded [] zero = refl
+padded [] (suc k) = refl
+padded (x ∷ xs) zero = refl
+padded (x ∷ xs) (suc k) = padded xs k
+
 -- the cells that are kept, by the rows that are not null, are the cells
-pub cells_of-kept_of : (cells : List (Option ℤ)) → cells_of (map (λ c. is_some c) cells) (kept_of cells) ≡ cells
+pub cells_of-kept_of : (cells : List (Option ℤ)) → cells_of (map (λ c. is_some c) cells) (kept_of cells ++ (pos 0 ∷ [])) ≡ cells
 cells_of-kept_of cells =
     let present = map (λ c. is_some c) cells in
+    let kept : List ℤ = kept_of cells ++ (pos 0 ∷ []) in
     let size : length present ≡ length cells = length-map cells (λ c. is_some c) in
-    ext_get_or None (cells_of present (kept_of cells)) cells (length-cells_of present (kept_of cells) ∙ size)
+    ext_get_or None (cells_of present kept) cells (length-cells_of present kept ∙ size)
     (λ row h.
-    let inside : row < length present = omega (arith, h, length-cells_of present (kept_of cells)) in
-    cell-cells_of present (kept_of cells) row inside
+    let inside : row < length present = omega (arith, h, length-cells_of present kept) in
+    cell-cells_of present kept row inside
+    ∙ ap (λ z. cond (get_or present row false) (Some z) None) (padded (kept_of cells) (rank present row))
     ∙ ap (λ b. cond b (Some (get_or (kept_of cells) (rank present row) (pos 0))) None) (get_or-map (λ c. is_some c) cells row None false (omega (arith, size)))
     ∙ kept_at cells row (omega (arith, size)))
 
@@ -75,10 +84,10 @@ pub rank-add : (bs : List Bool) (low k : ℕ) → rank bs (low + k) ≡ rank bs 
 rank-add bs low k = ap (count_by (λ on. on)) (take-add low k bs) ∙ sum_by-append one_if (take low bs) (take k (drop low bs))
 
 -- a column with no null
-pub full_cell : (present : List Bool) (kept : List ℤ) (row : ℕ) → AreKept present kept → length kept ≡ length present → row < length present →
+pub full_cell : (present : List Bool) (kept : List ℤ) (row : ℕ) → AreKept present kept → length kept ≡ length present + 1 → row < length present →
     cell_at (cells_of present kept) row ≡ Some (get_or kept row (pos 0))
 full_cell present kept row k full h =
-    let set = all_set present (sym k.count ∙ full) row h in
+    let set = all_set present (omega (arith, k.count, full)) row h in
     cell-cells_of present kept row h ∙ ap (λ b. cond b (Some (get_or kept (rank present row) (pos 0))) None) set.0 ∙ ap (λ n. Some (get_or kept n (pos 0))) set.1
 
 -- a span with no null
@@ -105,17 +114,19 @@ rank_le present low high up = (let at : low + (high - low) ≡ high = omega arit
 pub rank_most : (present : List Bool) (row : ℕ) → rank present row ≤ count_by (λ on. on) present
 rank_most present row = sum_by-take-le one_if present row
 
--- one row of a walk that counts the kept cells as it goes
-pub walked : (present : List Bool) (kept : List ℤ) (row next after : ℕ) (cell : ℤ) (on : Bool) → row < length present → next ≡ rank present row → on ≡ get_or present row false →
-    ((on ≡ true) × (cell ≡ get_or kept next (pos 0)) × (after ≡ next + 1)) ⊎ ((on ≡ false) × (cell ≡ pos 0) × (after ≡ next)) →
-    (cell ≡ unwrap_or (cell_at (cells_of present kept) row) (pos 0)) × (on ≡ is_some (cell_at (cells_of present kept) row)) × (after ≡ rank present (row + 1))
-walked present kept row next after cell on h at bit (inl s) =
-    let set : get_or present row false ≡ true = sym bit ∙ s.0 in
-    let is : cell_at (cells_of present kept) row ≡ Some (get_or kept next (pos 0)) =
-    cell-cells_of present kept row h ∙ ap (λ b. cond b (Some (get_or kept (rank present row) (pos 0))) None) set ∙ ap (λ n. Some (get_or kept n (pos 0))) (sym at) in
-    (s.1 ∙ ap (λ (c : Option ℤ). unwrap_or c (pos 0)) (sym is), s.0 ∙ ap (λ (c : Option ℤ). is_some c) (sym is), omega (arith, s.2, at, rank_more present row h, ap one_if set))
-walked present kept row next after cell on h at bit (inr s) =
-    let unset : get_or present row false ≡ false = sym bit ∙ s.0 in
+-- the kept cell of a row, or the 0 behind all of them where the row is null
+pub chosen : (present : List Bool) (kept : List ℤ) (row at : ℕ) (on : Bool) → AreKept present kept → row < length present → on ≡ get_or present row false → at ≡ cond on (rank present row) (count_by (λ on. on) present) →
+    (get_or kept at (pos 0) ≡ unwrap_or (cell_at (cells_of present kept) row) (pos 0)) × (on ≡ is_some (cell_at (cells_of present kept) row))
+chosen present kept row at true k h bit place =
+    let is : cell_at (cells_of present kept) row ≡ Some (get_or kept (rank present row) (pos 0)) =
+    cell-cells_of present kept row h ∙ ap (λ b. cond b (Some (get_or kept (rank present row) (pos 0))) None) (sym bit) in
+    (ap (λ n. get_or kept n (pos 0)) place ∙ ap (λ (c : Option ℤ). unwrap_or c (pos 0)) (sym is), ap (λ (c : Option ℤ). is_some c) (sym is))
+chosen present kept row at false k h bit place =
     let is : cell_at (cells_of present kept) row ≡ None =
-    cell-cells_of present kept row h ∙ ap (λ b. cond b (Some (get_or kept (rank present row) (pos 0))) None) unset in
-    (s.1 ∙ ap (λ (c : Option ℤ). unwrap_or c (pos 0)) (sym is), s.0 ∙ ap (λ (c : Option ℤ). is_some c) (sym is), omega (arith, s.2, at, rank_more present row h, ap one_if unset))
+    cell-cells_of present kept row h ∙ ap (λ b. cond b (Some (get_or kept (rank present row) (pos 0))) None) (sym bit) in
+    (ap (λ n. get_or kept n (pos 0)) place ∙ k.zero ∙ ap (λ (c : Option ℤ). unwrap_or c (pos 0)) (sym is), ap (λ (c : Option ℤ). is_some c) (sym is))
+
+-- that place is one of the kept cells
+pub chosen_inside : (present : List Bool) (row at : ℕ) (on : Bool) → at ≡ cond on (rank present row) (count_by (λ on. on) present) → at ≤ count_by (λ on. on) present
+chosen_inside present row at true place = omega (arith, place, rank_most present row)
+chosen_inside present row at false place = omega (arith, place)

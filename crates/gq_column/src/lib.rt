@@ -1,12 +1,13 @@
 //! A column of optional integers that keeps only those that are not null.
 #![tactic(auto)]
 
-ghost use Rattle.std.specs.Prelude.{◌≡◌, ℕ, ◌-◌, ◌^◌, ◌<◌, ◌≤◌, length, map, All, IfOk, slice_index, slice_range, slice_index_or, pos, is_some};
-ghost use Rattle.gq_column.specs.Cells.{Gathered, cell_at, kept_of};
+ghost use Rattle.std.specs.Prelude.{◌≡◌, ℕ, ◌+◌, ◌-◌, ◌^◌, ◌++◌, [], ◌∷◌, ◌<◌, ◌≤◌, length, map, All, IfOk, slice_index, slice_range, slice_index_or, pos, is_some};
+ghost use Rattle.gq_column.specs.Cells.{Gathered, BlockGathered, cell_at, kept_of};
 
 use gq_base::Memory;
 use gq_bits::{BitList, Marks, VECTOR};
 use std::alloc::Global;
+use std::hint::select_unpredictable;
 use std::marker::Model;
 
 /// A column of fewer than 2^32 cells. It is seen as the list of its optional integers.
@@ -14,7 +15,7 @@ use std::marker::Model;
 pub struct Column {
     // Which rows are not null.
     present: BitList,
-    // Their cells: that of a row stands at the row's rank.
+    // Their cells, that of a row at the row's rank, and behind them a 0 for the rows that are null.
     kept: Vec<i64>,
 }
 
@@ -67,7 +68,7 @@ impl Column {
         requires room { length rows.now ≤ length out.old }
         ensures { Gathered (map (λ row. cell_at self.now row) rows.now) out.old out.new known.new }
     {
-        if self.kept.len() == self.present.len() as usize {
+        if self.kept.len() > self.present.len() as usize {
             // No row is null, so each cell stands at its row.
             copy_rows(self.kept.as_slice(), rows, out);
             *known = Marks::first(rows.len() as u32);
@@ -102,12 +103,37 @@ impl Column {
         requires room { length rows.now ≤ length out.old }
         ensures { Gathered (map (λ row. cell_at self.now row) rows.now) out.old out.new known.new }
     {
-        *known = Marks::none();
-        for (place, row) in rows.iter().enumerate() {
-            let cell = self.get(*row);
-            out[place] = cell.unwrap_or(0);
-            known.set(place as u32, cell.is_some());
+        let count = rows.len();
+        *known = Marks::first(count as u32);
+        for index in 0..count.div_ceil(64) {
+            let low = 64 * index;
+            let high = count.min(low + 64);
+            let word = self.gather_block(rows, low, high, out);
+            known.keep_word(index as u32, word);
         }
+    }
+
+    // Gathers the places from `low` to below `high`. No branch hangs on a cell, since nulls stand in no order. The last
+    // place comes first, so that the word grows by doubling.
+    fn gather_block(&self, rows: &[u32], low: usize, high: usize, out: &mut [i64]) -> u64
+        requires ordered { low ≤ high }
+        requires few { high - low ≤ 64 }
+        requires covered { high ≤ length rows.now }
+        requires inside { All (λ row. row < length self.now) rows.now }
+        requires room { length rows.now ≤ length out.old }
+        ensures { BlockGathered (λ k. cell_at self.now (slice_index rows.now k)) low high out.old out.new result }
+    {
+        let null = self.kept.len() - 1;
+        let mut word = 0;
+        for done in 0..high - low {
+            let place = high - 1 - done;
+            let row = rows[place];
+            let on = self.present.get(row);
+            let rank = self.present.rank(row) as usize;
+            out[place] = self.kept[select_unpredictable(on, rank, null)];
+            word = 2 * word + u64::from(on);
+        }
+        word
     }
 
     fn gather_span_with_nulls(&self, low: u32, high: u32, out: &mut [i64], known: &mut Marks)
@@ -117,18 +143,34 @@ impl Column {
         requires room { high - low ≤ length out.old }
         ensures { Gathered (slice_range self.now low high) out.old out.new known.new }
     {
-        *known = Marks::none();
-        let mut next = self.present.rank(low) as usize;
-        for place in 0..high - low {
-            let on = self.present.get(low + place);
-            let mut cell = 0;
-            if on {
-                cell = self.kept[next];
-                next += 1;
-            }
-            out[place as usize] = cell;
-            known.set(place, on);
+        let count = high - low;
+        *known = Marks::first(count);
+        for index in 0..count.div_ceil(64) {
+            let first = 64 * index;
+            let end = count.min(first + 64);
+            let word = self.gather_span_block(low, first, end, out);
+            known.keep_word(index, word);
         }
+    }
+
+    // Gathers the rows from `low + first` on into the places from `first` to below `end`, without a branch on a cell.
+    fn gather_span_block(&self, low: u32, first: u32, end: u32, out: &mut [i64]) -> u64
+        requires ordered { first ≤ end }
+        requires few { end - first ≤ 64 }
+        requires inside { low + end ≤ length self.now }
+        requires room { end ≤ length out.old }
+        ensures { BlockGathered (λ k. cell_at self.now (low + k)) first end out.old out.new result }
+    {
+        let null = self.kept.len() - 1;
+        let mut next = self.present.rank(low + first) as usize;
+        let mut word = 0;
+        for place in first..end {
+            let on = self.present.get(low + place);
+            out[place as usize] = self.kept[select_unpredictable(on, next, null)];
+            next += usize::from(on);
+            word |= u64::from(on) << (place - first);
+        }
+        word
     }
 }
 
@@ -139,9 +181,9 @@ fn flags_of(alloc: Global, cells: &[Option<i64>]) -> Result<Vec<bool>, Memory>
     Ok(cells.iter().map(|cell| cell.is_some()).collect(alloc)?)
 }
 
-// The cells that are not null.
+// The cells that are not null, and a 0.
 fn kept_cells(alloc: Global, cells: &[Option<i64>]) -> Result<Vec<i64>, Memory>
-    ensures { IfOk result (λ kept. kept.items ≡ kept_of cells.now) }
+    ensures { IfOk result (λ kept. kept.items ≡ (kept_of cells.now ++ (pos 0 ∷ []))) }
 {
     let mut kept = Vec::new(alloc);
     for cell in cells {
@@ -149,6 +191,7 @@ fn kept_cells(alloc: Global, cells: &[Option<i64>]) -> Result<Vec<i64>, Memory>
             kept.push(*value)?;
         }
     }
+    kept.push(0)?;
     Ok(kept)
 }
 

@@ -43,3 +43,17 @@ fn a_column_without_nulls_is_copied(rt: HostRuntime) -> Result<(), Fail> {
     assert_eq!(rt; empty.len(), 0);
     Ok(())
 }
+
+#[test]
+fn a_span_goes_past_one_word(rt: HostRuntime) -> Result<(), Fail> {
+    let mut cells = [Some(7); 70];
+    cells[65] = None;
+    let column = Column::build(rt.alloc(), &cells)?;
+    let mut out = [9; 70];
+    let mut known = Marks::none();
+    column.gather_span(0, 70, &mut out, &mut known);
+    assert_eq!(rt; (out[63], out[64], out[65], out[69]), (7, 7, 0, 7));
+    assert_eq!(rt; known.count(), 69);
+    assert_eq!(rt; known.get(65), false);
+    Ok(())
+}

@@ -1,5 +1,6 @@
-use Rattle.std.proofs.Common.{◌≡◌, ◌<◌, ap, length, map, get_or, sym, ◌∙◌, arith, pos, Some, None, refl, ℕ, ℤ, List}
+use Rattle.std.proofs.Common.{◌≡◌, ◌+◌, ◌<◌, ap, length, map, get_or, sym, ◌∙◌, arith, pos, Some, None, refl, ℕ, ℤ, List}
 use Rattle.std.proofs.lemmas.List.{length-map, get_or-map}
+use Rattle.std.proofs.lemmas.List.Sums.{count_by-le-length}
 use Rattle.gq_column.specs.Cells.{cell_at}
 use Rattle.gq_column.proofs.Ranked.{length-cells_of, full_cell}
 use Rattle.gq_column.proofs.Filled.{all_known}
@@ -15,7 +16,7 @@ returns-then-len c =
     let kept = c.self.inside.kept.items in
     let rows = c.args.rows.now in
     let cells = map (λ row. cell_at c.args.self.now row) rows in
-    let full : length kept ≡ length present = omega (arith, c.if-len.true, c.len.ensures, c.len-2.ensures, c.self.inside.kept.ok.0) in
+    let full : length kept ≡ length present + 1 = omega (arith, c.if-len.true, c.len.ensures, c.len-2.ensures, c.self.inside.kept.ok.0, c.self.invariant.count, count_by-le-length (λ on. on) present) in
     let new = c.copy_rows.new.out in
     let cell = λ (k : ℕ) (h : k < length rows).
     get_or-map (λ row. cell_at c.args.self.now row) rows k 0 None h
