@@ -1,6 +1,11 @@
 pub mod Answered
+pub mod Classes
+pub mod Complete
+pub mod Exact
 pub mod Laws
 pub mod Loops
 pub mod Runs
+pub mod Sets
 pub mod Sound
+pub mod Spelled
 pub mod Turns

@@ -21,11 +21,11 @@ SameHead (t ∷ r) (u ∷ s) = t ≡ u
 abbrev pub Opens : {A : Type 0} → (List Token → A → Type 0) → List Token → List Token → Type 0
 Opens R a rest = (t : Token) × (r : List Token) × (rest ≡ t ∷ r) × Viable R (a ++ (t ∷ []))
 
--- R is with the room that there is, and R2 with as much (same) or with more
-abbrev pub Means : {A : Type 0} → Bool → (R R2 : List Token → A → Type 0) → Verdict A → List Token → List Token → Type 0
-Means same R R2 (Done x) a rest = R a x
-Means same R R2 Syntax a rest = Viable R a
-Means same R R2 Deep a rest = Viable R a × (same ≡ false → Opens R2 a rest)
+-- R is with the room that there is, and RMore with as much (same) or with more
+abbrev pub Means : {A : Type 0} → Bool → (R RMore : List Token → A → Type 0) → Verdict A → List Token → List Token → Type 0
+Means same R RMore (Done x) a rest = R a x
+Means same R RMore Syntax a rest = Viable R a
+Means same R RMore Deep a rest = Viable R a × (same ≡ false → Opens RMore a rest)
 
 abbrev pub Kept : {A : Type 0} → Bool → Verdict A → Type 0
 Kept same (Done x) = Unit {0}
@@ -33,15 +33,15 @@ Kept same Syntax = Unit {0}
 Kept same Deep = same ≡ true
 
 -- what p did at ts, where it answered v and left rest
-pub record Run {A : Type 0} (same : Bool) (p p2 : Reader A) (R R2 : List Token → A → Type 0) (ts : List Token) (v : Verdict A) (rest : List Token) : Type 0 where
+pub record Run {A : Type 0} (same : Bool) (p p2 : Reader A) (R RMore : List Token → A → Type 0) (ts : List Token) (v : Verdict A) (rest : List Token) : Type 0 where
   pub a : List Token
   pub split : ts ≡ a ++ rest
-  pub means : Means same R R2 v a rest
+  pub means : Means same R RMore v a rest
   -- no token after the next had a part in it
   pub local : Kept same v → (r : List Token) → SameHead rest r → p2 (a ++ r) ≡ (v, r)
 
-abbrev pub Within : {A : Type 0} → (R R2 : List Token → A → Type 0) → Type 0
-Within {A} R R2 = (a : List Token) (x : A) → R a x → R2 a x
+abbrev pub Within : {A : Type 0} → (R RMore : List Token → A → Type 0) → Type 0
+Within {A} R RMore = (a : List Token) (x : A) → R a x → RMore a x
 
 abbrev pub Sample : {A : Type 0} → (List Token → A → Type 0) → Type 0
 Sample {A} R = (a : List Token) × (x : A) × R a x
@@ -72,15 +72,15 @@ module _ {A B : Type 0} (R : List Token → A → Type 0) (S : A → List Token 
   then-opens-right : (x : A) (a b rest : List Token) → R a x → Opens (S x) b rest → Opens (Then R S) (a ++ b) rest
   then-opens-right x a b rest h k = (k.0, k.1, k.2, rw (append_assoc a b (k.0 ∷ [])) (then-viable-right x a (b ++ (k.0 ∷ [])) h k.3))
 
-module _ {A B : Type 0} (same : Bool) (p p2 : Reader A) (q q2 : A → Reader B) (R R2 : List Token → A → Type 0) (S S2 : A → List Token → B → Type 0) (within : Within R R2) where
-  then-means : (x : A) (w : Verdict B) (a b rest : List Token) → R a x → Means same (S x) (S2 x) w b rest → Means same (Then R S) (Then R2 S2) w (a ++ b) rest
+module _ {A B : Type 0} (same : Bool) (p p2 : Reader A) (q q2 : A → Reader B) (R RMore : List Token → A → Type 0) (S SMore : A → List Token → B → Type 0) (within : Within R RMore) where
+  then-means : (x : A) (w : Verdict B) (a b rest : List Token) → R a x → Means same (S x) (SMore x) w b rest → Means same (Then R S) (Then RMore SMore) w (a ++ b) rest
   then-means x (Done y) a b rest h k = (a, b, x, refl, h, k)
   then-means x Syntax a b rest h k = then-viable-right R S x a b h k
-  then-means x Deep a b rest h k = (then-viable-right R S x a b h k.0, λ e. then-opens-right R2 S2 x a b rest (within a x h) (k.1 e))
+  then-means x Deep a b rest h k = (then-viable-right R S x a b h k.0, λ e. then-opens-right RMore SMore x a b rest (within a x h) (k.1 e))
 
-  pub then-run : (more : (x : A) → Sample (S x)) (more2 : (x : A) → Sample (S2 x)) (ts : List Token) (v : Verdict A) (rest : List Token) → Run same p p2 R R2 ts v rest
-      → ((x : A) → v ≡ Done x → Run same (q x) (q2 x) (S x) (S2 x) rest (q x rest).0 (q x rest).1)
-      → Run same (p >>= q) (p2 >>= q2) (Then R S) (Then R2 S2) ts (on_done v rest q).0 (on_done v rest q).1
+  pub then-run : (more : (x : A) → Sample (S x)) (more2 : (x : A) → Sample (SMore x)) (ts : List Token) (v : Verdict A) (rest : List Token) → Run same p p2 R RMore ts v rest
+      → ((x : A) → v ≡ Done x → Run same (q x) (q2 x) (S x) (SMore x) rest (q x rest).0 (q x rest).1)
+      → Run same (p >>= q) (p2 >>= q2) (Then R S) (Then RMore SMore) ts (on_done v rest q).0 (on_done v rest q).1
   then-run more more2 ts (Done x) rest h k = let m = k x refl in record {
     a = h.a ++ m.a;
     split = h.split ∙ ap (λ r. h.a ++ r) m.split ∙ sym (append_assoc h.a m.a (q x rest).1);
@@ -97,31 +97,31 @@ module _ {A B : Type 0} (same : Bool) (p p2 : Reader A) (q q2 : A → Reader B) 
   then-run more more2 ts Deep rest h k = record {
     a = h.a;
     split = h.split;
-    means = (then-viable R S h.a h.means.0 more, λ e. then-opens R2 S2 h.a rest more2 (h.means.1 e));
+    means = (then-viable R S h.a h.means.0 more, λ e. then-opens RMore SMore h.a rest more2 (h.means.1 e));
     local = λ kept r s. rw (h.local kept r s) refl;
   }
 
 pub pure-run : {A : Type 0} (same : Bool) (x : A) (ts : List Token) → Run same (pure x) (pure x) (Pure x) (Pure x) ts (Done x) ts
 pure-run same x ts = record { a = []; split = refl; means = (refl, refl); local = λ kept r s. refl }
 
-pub fail-run : {A : Type 0} (same : Bool) (R R2 : List Token → A → Type 0) → Sample R → (ts : List Token) → Run same fail fail R R2 ts Syntax ts
-fail-run same R R2 v ts = record { a = []; split = refl; means = v; local = λ kept r s. refl }
+pub fail-run : {A : Type 0} (same : Bool) (R RMore : List Token → A → Type 0) → Sample R → (ts : List Token) → Run same fail fail R RMore ts Syntax ts
+fail-run same R RMore v ts = record { a = []; split = refl; means = v; local = λ kept r s. refl }
 
-module _ {S B : Type 0} (same : Bool) (f : Token → Option S) (p p2 : S → Reader B) (q q2 : Reader B) (P P2 : S → List Token → B → Type 0) (Q Q2 : List Token → B → Type 0) where
-  fork-other : (v : Verdict B) (a rest : List Token) → Means same Q Q2 v a rest → Means same (Fork f P Q) (Fork f P2 Q2) v a rest
+module _ {S B : Type 0} (same : Bool) (f : Token → Option S) (p p2 : S → Reader B) (q q2 : Reader B) (P PMore : S → List Token → B → Type 0) (Q QMore : List Token → B → Type 0) where
+  fork-other : (v : Verdict B) (a rest : List Token) → Means same Q QMore v a rest → Means same (Fork f P Q) (Fork f PMore QMore) v a rest
   fork-other (Done x) a rest h = inr h
   fork-other Syntax a rest h = (h.0, h.1, inr h.2)
   fork-other Deep a rest h = ((h.0.0, h.0.1, inr h.0.2), λ e. let o = h.1 e in (o.0, o.1, o.2, (o.3.0, o.3.1, inr o.3.2)))
 
-  fork-taken : (t : Token) (s : S) → f t ≡ Some s → (v : Verdict B) (a rest : List Token) → Means same (P s) (P2 s) v a rest → Means same (Fork f P Q) (Fork f P2 Q2) v (t ∷ a) rest
+  fork-taken : (t : Token) (s : S) → f t ≡ Some s → (v : Verdict B) (a rest : List Token) → Means same (P s) (PMore s) v a rest → Means same (Fork f P Q) (Fork f PMore QMore) v (t ∷ a) rest
   fork-taken t s e (Done x) a rest h = inl (t, s, a, refl, e, h)
   fork-taken t s e Syntax a rest h = (h.0, h.1, inl (t, s, a ++ h.0, refl, e, h.2))
   fork-taken t s e Deep a rest h = ((h.0.0, h.0.1, inl (t, s, a ++ h.0.0, refl, e, h.0.2)), λ d. let o = h.1 d in (o.0, o.1, o.2, (o.3.0, o.3.1, inl (t, s, (a ++ (o.0 ∷ [])) ++ o.3.0, refl, e, o.3.2))))
 
   fork-at : (h : Option S) (ts : List Token) → head_by f ts ≡ h
-      → ((t : Token) (s : S) (r : List Token) → ts ≡ t ∷ r → Run same (p s) (p2 s) (P s) (P2 s) r (p s r).0 (p s r).1)
-      → Run same q q2 Q Q2 ts (q ts).0 (q ts).1
-      → Run same (fork f p q) (fork f p2 q2) (Fork f P Q) (Fork f P2 Q2) ts (on_head h (λ s. p s (tail ts)) (q ts)).0 (on_head h (λ s. p s (tail ts)) (q ts)).1
+      → ((t : Token) (s : S) (r : List Token) → ts ≡ t ∷ r → Run same (p s) (p2 s) (P s) (PMore s) r (p s r).0 (p s r).1)
+      → Run same q q2 Q QMore ts (q ts).0 (q ts).1
+      → Run same (fork f p q) (fork f p2 q2) (Fork f P Q) (Fork f PMore QMore) ts (on_head h (λ s. p s (tail ts)) (q ts)).0 (on_head h (λ s. p s (tail ts)) (q ts)).1
   fork-at None ts e ps other = record {
     a = other.a;
     split = other.split;
@@ -137,22 +137,22 @@ module _ {S B : Type 0} (same : Bool) (f : Token → Option S) (p p2 : S → Rea
   }
 
   pub fork-run : (ts : List Token)
-      → ((t : Token) (s : S) (r : List Token) → ts ≡ t ∷ r → Run same (p s) (p2 s) (P s) (P2 s) r (p s r).0 (p s r).1)
-      → Run same q q2 Q Q2 ts (q ts).0 (q ts).1
-      → Run same (fork f p q) (fork f p2 q2) (Fork f P Q) (Fork f P2 Q2) ts (fork f p q ts).0 (fork f p q ts).1
+      → ((t : Token) (s : S) (r : List Token) → ts ≡ t ∷ r → Run same (p s) (p2 s) (P s) (PMore s) r (p s r).0 (p s r).1)
+      → Run same q q2 Q QMore ts (q ts).0 (q ts).1
+      → Run same (fork f p q) (fork f p2 q2) (Fork f P Q) (Fork f PMore QMore) ts (fork f p q ts).0 (fork f p q ts).1
   fork-run ts ps other = fork-at (head_by f ts) ts refl ps other
 
 -- where nothing else can come
-module _ {S B : Type 0} (same : Bool) (f : Token → Option S) (p p2 : S → Reader B) (P P2 : S → List Token → B → Type 0) where
+module _ {S B : Type 0} (same : Bool) (f : Token → Option S) (p p2 : S → Reader B) (P PMore : S → List Token → B → Type 0) where
   abbrev Must : List Token → B → Type 0
   Must = Fork f P (λ ts x. ⊥)
 
-  abbrev Must2 : List Token → B → Type 0
-  Must2 = Fork f P2 (λ ts x. ⊥)
+  abbrev MustMore : List Token → B → Type 0
+  MustMore = Fork f PMore (λ ts x. ⊥)
 
   must-at : (h : Option S) (ts : List Token) → head_by f ts ≡ h → Sample Must
-      → ((t : Token) (s : S) (r : List Token) → ts ≡ t ∷ r → Run same (p s) (p2 s) (P s) (P2 s) r (p s r).0 (p s r).1)
-      → Run same (fork f p fail) (fork f p2 fail) Must Must2 ts (on_head h (λ s. p s (tail ts)) (Syntax, ts)).0 (on_head h (λ s. p s (tail ts)) (Syntax, ts)).1
+      → ((t : Token) (s : S) (r : List Token) → ts ≡ t ∷ r → Run same (p s) (p2 s) (P s) (PMore s) r (p s r).0 (p s r).1)
+      → Run same (fork f p fail) (fork f p2 fail) Must MustMore ts (on_head h (λ s. p s (tail ts)) (Syntax, ts)).0 (on_head h (λ s. p s (tail ts)) (Syntax, ts)).1
   must-at None ts e one ps = record {
     a = [];
     split = refl;
@@ -163,20 +163,20 @@ module _ {S B : Type 0} (same : Bool) (f : Token → Option S) (p p2 : S → Rea
   must-at (Some s) (t ∷ r) e one ps = let taken = ps t s r refl in record {
     a = t ∷ taken.a;
     split = ap (λ w. t ∷ w) taken.split;
-    means = fork-taken same f p p2 fail fail P P2 (λ ts x. ⊥) (λ ts x. ⊥) t s e (p s r).0 taken.a (p s r).1 taken.means;
+    means = fork-taken same f p p2 fail fail P PMore (λ ts x. ⊥) (λ ts x. ⊥) t s e (p s r).0 taken.a (p s r).1 taken.means;
     local = λ kept w h. rw e (taken.local kept w h);
   }
 
   pub must-run : (ts : List Token) → Sample Must
-      → ((t : Token) (s : S) (r : List Token) → ts ≡ t ∷ r → Run same (p s) (p2 s) (P s) (P2 s) r (p s r).0 (p s r).1)
-      → Run same (fork f p fail) (fork f p2 fail) Must Must2 ts (fork f p fail ts).0 (fork f p fail ts).1
+      → ((t : Token) (s : S) (r : List Token) → ts ≡ t ∷ r → Run same (p s) (p2 s) (P s) (PMore s) r (p s r).0 (p s r).1)
+      → Run same (fork f p fail) (fork f p2 fail) Must MustMore ts (fork f p fail ts).0 (fork f p fail ts).1
   must-run ts one ps = must-at (head_by f ts) ts refl one ps
 
 -- ---- no room for what f takes
 
-module _ {S B : Type 0} (f : Token → Option S) (q q2 : Reader B) (p2 : S → Reader B) (Q Q2 : List Token → B → Type 0) (P2 : S → List Token → B → Type 0) (some : Sample Q) where
-  same-at : (h : Option S) (ts : List Token) → head_by f ts ≡ h → Run true q q2 Q Q2 ts (q ts).0 (q ts).1
-      → Run true (too_deep f q) (too_deep f q2) Q Q2 ts (on_head h (λ s. (Deep, ts)) (q ts)).0 (on_head h (λ s. (Deep, ts)) (q ts)).1
+module _ {S B : Type 0} (f : Token → Option S) (q q2 : Reader B) (p2 : S → Reader B) (Q QMore : List Token → B → Type 0) (PMore : S → List Token → B → Type 0) (some : Sample Q) where
+  same-at : (h : Option S) (ts : List Token) → head_by f ts ≡ h → Run true q q2 Q QMore ts (q ts).0 (q ts).1
+      → Run true (too_deep f q) (too_deep f q2) Q QMore ts (on_head h (λ s. (Deep, ts)) (q ts)).0 (on_head h (λ s. (Deep, ts)) (q ts)).1
   same-at None ts e other = record {
     a = other.a;
     split = other.split;
@@ -190,16 +190,16 @@ module _ {S B : Type 0} (f : Token → Option S) (q q2 : Reader B) (p2 : S → R
     local = λ kept r h. let same_head = head-kept f (Some s) ts [] ts r refl h e in rw same_head refl;
   }
 
-  pub too_deep-run : (ts : List Token) → Run true q q2 Q Q2 ts (q ts).0 (q ts).1 → Run true (too_deep f q) (too_deep f q2) Q Q2 ts (too_deep f q ts).0 (too_deep f q ts).1
+  pub too_deep-run : (ts : List Token) → Run true q q2 Q QMore ts (q ts).0 (q ts).1 → Run true (too_deep f q) (too_deep f q2) Q QMore ts (too_deep f q ts).0 (too_deep f q ts).1
   too_deep-run ts other = same-at (head_by f ts) ts refl other
 
-  more-means : (v : Verdict B) (a rest : List Token) → Means false Q Q2 v a rest → Means false Q (Fork f P2 Q2) v a rest
+  more-means : (v : Verdict B) (a rest : List Token) → Means false Q QMore v a rest → Means false Q (Fork f PMore QMore) v a rest
   more-means (Done x) a rest h = h
   more-means Syntax a rest h = h
   more-means Deep a rest h = (h.0, λ e. let o = h.1 e in (o.0, o.1, o.2, (o.3.0, o.3.1, inr o.3.2)))
 
-  more-at : ((s : S) → Sample (P2 s)) → (h : Option S) (ts : List Token) → head_by f ts ≡ h → Run false q q2 Q Q2 ts (q ts).0 (q ts).1
-      → Run false (too_deep f q) (fork f p2 q2) Q (Fork f P2 Q2) ts (on_head h (λ s. (Deep, ts)) (q ts)).0 (on_head h (λ s. (Deep, ts)) (q ts)).1
+  more-at : ((s : S) → Sample (PMore s)) → (h : Option S) (ts : List Token) → head_by f ts ≡ h → Run false q q2 Q QMore ts (q ts).0 (q ts).1
+      → Run false (too_deep f q) (fork f p2 q2) Q (Fork f PMore QMore) ts (on_head h (λ s. (Deep, ts)) (q ts)).0 (on_head h (λ s. (Deep, ts)) (q ts)).1
   more-at more None ts e other = record {
     a = other.a;
     split = other.split;
@@ -214,7 +214,7 @@ module _ {S B : Type 0} (f : Token → Option S) (q q2 : Reader B) (p2 : S → R
     local = λ kept r h. cc;
   }
 
-  pub room-run : ((s : S) → Sample (P2 s)) → (ts : List Token) → Run false q q2 Q Q2 ts (q ts).0 (q ts).1 → Run false (too_deep f q) (fork f p2 q2) Q (Fork f P2 Q2) ts (too_deep f q ts).0 (too_deep f q ts).1
+  pub room-run : ((s : S) → Sample (PMore s)) → (ts : List Token) → Run false q q2 Q QMore ts (q ts).0 (q ts).1 → Run false (too_deep f q) (fork f p2 q2) Q (Fork f PMore QMore) ts (too_deep f q ts).0 (too_deep f q ts).1
   room-run more ts other = more-at more (head_by f ts) ts refl other
 
 -- ---- what is spelled is read
@@ -241,11 +241,11 @@ module _ {S B : Type 0} (f : Token → Option S) (p : S → Reader B) (q : Reade
 
 -- ---- repetition
 
-pub run-along : {A : Type 0} (same : Bool) (p p2 p3 : Reader A) (R R2 T T2 : List Token → A → Type 0) → ((ts : List Token) → p3 ts ≡ p2 ts) → Within R T → Within R2 T2
-    → (ts : List Token) (v : Verdict A) (rest : List Token) → Run same p p2 R R2 ts v rest → Run same p p3 T T2 ts v rest
-run-along same p p2 p3 R R2 T T2 e to to2 ts (Done x) rest h = record { a = h.a; split = h.split; means = to h.a x h.means; local = λ kept r s. e (h.a ++ r) ∙ h.local kept r s }
-run-along same p p2 p3 R R2 T T2 e to to2 ts Syntax rest h = record { a = h.a; split = h.split; means = (h.means.0, h.means.1, to (h.a ++ h.means.0) h.means.1 h.means.2); local = λ kept r s. e (h.a ++ r) ∙ h.local kept r s }
-run-along same p p2 p3 R R2 T T2 e to to2 ts Deep rest h = record {
+pub run-along : {A : Type 0} (same : Bool) (p p2 p3 : Reader A) (R RMore T TMore : List Token → A → Type 0) → ((ts : List Token) → p3 ts ≡ p2 ts) → Within R T → Within RMore TMore
+    → (ts : List Token) (v : Verdict A) (rest : List Token) → Run same p p2 R RMore ts v rest → Run same p p3 T TMore ts v rest
+run-along same p p2 p3 R RMore T TMore e to to2 ts (Done x) rest h = record { a = h.a; split = h.split; means = to h.a x h.means; local = λ kept r s. e (h.a ++ r) ∙ h.local kept r s }
+run-along same p p2 p3 R RMore T TMore e to to2 ts Syntax rest h = record { a = h.a; split = h.split; means = (h.means.0, h.means.1, to (h.a ++ h.means.0) h.means.1 h.means.2); local = λ kept r s. e (h.a ++ r) ∙ h.local kept r s }
+run-along same p p2 p3 R RMore T TMore e to to2 ts Deep rest h = record {
   a = h.a;
   split = h.split;
   means = ((h.means.0.0, h.means.0.1, to (h.a ++ h.means.0.0) h.means.0.1 h.means.0.2), λ d. let o = h.means.1 d in (o.0, o.1, o.2, (o.3.0, o.3.1, to2 ((h.a ++ (o.0 ∷ [])) ++ o.3.0) o.3.1 o.3.2)));
@@ -298,42 +298,42 @@ module _ {S B : Type 0} (f : Token → Option S) (P : S → List Token → B →
   rolled ts xs (inl h) = let u = h.5 in let v = u.5 in
       rw v.5.1 (h.0, h.1, u.0, v.0, (h.3 ∙ ap (λ w. h.0 ∷ w) (u.3 ∙ ap (λ w. u.0 ++ w) (v.3 ∙ rw (v.5.0, append-nil) refl))), h.4, u.4, v.4)
 
-pub many-within : {S B : Type 0} (f : Token → Option S) (P P2 : S → List Token → B → Type 0) → ((s : S) → Within (P s) (P2 s)) → Within (Many f P) (Many f P2)
-many-within f P P2 w a [] h = h
-many-within f P P2 w a (x ∷ xs) h = (h.0, h.1, h.2, h.3, h.4, h.5, w h.1 h.2 x h.6, many-within f P P2 w h.3 xs h.7)
+pub many-within : {S B : Type 0} (f : Token → Option S) (P PMore : S → List Token → B → Type 0) → ((s : S) → Within (P s) (PMore s)) → Within (Many f P) (Many f PMore)
+many-within f P PMore w a [] h = h
+many-within f P PMore w a (x ∷ xs) h = (h.0, h.1, h.2, h.3, h.4, h.5, w h.1 h.2 x h.6, many-within f P PMore w h.3 xs h.7)
 
 none_such : (ts : List Token) → length ts ≤ 0 → ts ≡ []
 none_such [] h = refl
 none_such (t ∷ r) h = absurd (omega arith)
 
 module _ {S B : Type 0} (same : Bool) (f : Token → Option S) (p p2 : S → Reader B) (shorter : (s : S) (ts : List Token) → length (p s ts).1 ≤ length ts) (shorter2 : (s : S) (ts : List Token) → length (p2 s ts).1 ≤ length ts)
-    (P P2 : S → List Token → B → Type 0) (within : (s : S) → Within (P s) (P2 s)) where
+    (P PMore : S → List Token → B → Type 0) (within : (s : S) → Within (P s) (PMore s)) where
   abbrev AtMany : List Token → Type 0
-  AtMany w = Run same (many f p) (many f p2) (Many f P) (Many f P2) w (many f p w).0 (many f p w).1
+  AtMany w = Run same (many f p) (many f p2) (Many f P) (Many f PMore) w (many f p w).0 (many f p w).1
 
   at_body : (ts : List Token)
       → ((t : Token) (s : S) (r : List Token) → ts ≡ t ∷ r → Run same (p s >>= λ x. many f p >>= λ xs. pure (x ∷ xs)) (p2 s >>= λ x. many f p2 >>= λ xs. pure (x ∷ xs))
-      (Then (P s) (λ x. Then (Many f P) (λ xs. Pure (x ∷ xs)))) (Then (P2 s) (λ x. Then (Many f P2) (λ xs. Pure (x ∷ xs)))) r (on_done (p s r).0 (p s r).1 (λ x. many f p >>= λ xs. pure (x ∷ xs))).0 (on_done (p s r).0 (p s r).1 (λ x. many f p >>= λ xs. pure (x ∷ xs))).1)
+      (Then (P s) (λ x. Then (Many f P) (λ xs. Pure (x ∷ xs)))) (Then (PMore s) (λ x. Then (Many f PMore) (λ xs. Pure (x ∷ xs)))) r (on_done (p s r).0 (p s r).1 (λ x. many f p >>= λ xs. pure (x ∷ xs))).0 (on_done (p s r).0 (p s r).1 (λ x. many f p >>= λ xs. pure (x ∷ xs))).1)
       → AtMany ts
   at_body ts inner =
-      let W : Out (List B) → Type 0 = λ o. Run same (many f p) (many f p2) (Many f P) (Many f P2) ts o.0 o.1 in
-      let step = run-along same (body f p shorter) (body f p2 shorter2) (many f p2) (Unrolled f P) (Unrolled f P2) (Many f P) (Many f P2) (unrolled f p2 shorter2) (rolled f P) (rolled f P2) ts (body f p shorter ts).0 (body f p shorter ts).1
+      let W : Out (List B) → Type 0 = λ o. Run same (many f p) (many f p2) (Many f P) (Many f PMore) ts o.0 o.1 in
+      let step = run-along same (body f p shorter) (body f p2 shorter2) (many f p2) (Unrolled f P) (Unrolled f PMore) (Many f P) (Many f PMore) (unrolled f p2 shorter2) (rolled f P) (rolled f PMore) ts (body f p shorter ts).0 (body f p shorter ts).1
       (fork-run same f (λ s. p s >>= λ x. many f p >>= λ xs. pure (x ∷ xs)) (λ s. p2 s >>= λ x. many f p2 >>= λ xs. pure (x ∷ xs)) (pure []) (pure [])
-      (λ s. Then (P s) (λ x. Then (Many f P) (λ xs. Pure (x ∷ xs)))) (λ s. Then (P2 s) (λ x. Then (Many f P2) (λ xs. Pure (x ∷ xs)))) (Pure []) (Pure []) ts inner (pure-run same [] ts)) in
+      (λ s. Then (P s) (λ x. Then (Many f P) (λ xs. Pure (x ∷ xs)))) (λ s. Then (PMore s) (λ x. Then (Many f PMore) (λ xs. Pure (x ∷ xs)))) (Pure []) (Pure []) ts inner (pure-run same [] ts)) in
       subst W (sym (unrolled f p shorter ts)) (record { a = step.a; split = step.split; means = step.means; local = step.local })
 
-  many-run-below : ((s : S) (ts : List Token) → Run same (p s) (p2 s) (P s) (P2 s) ts (p s ts).0 (p s ts).1) → (n : ℕ) (ts : List Token) → length ts ≤ n → AtMany ts
+  many-run-below : ((s : S) (ts : List Token) → Run same (p s) (p2 s) (P s) (PMore s) ts (p s ts).0 (p s ts).1) → (n : ℕ) (ts : List Token) → length ts ≤ n → AtMany ts
   many-run-below ps zero ts h = let W : List Token → Type 0 = λ w. AtMany w in subst W (sym (none_such ts h)) (at_body [] (λ t s r e. cc))
   many-run-below ps (suc n) ts h =
-      at_body ts (λ t s r e. then-run same (p s) (p2 s) (λ x. many f p >>= λ xs. pure (x ∷ xs)) (λ x. many f p2 >>= λ xs. pure (x ∷ xs)) (P s) (P2 s)
-      (λ x. Then (Many f P) (λ xs. Pure (x ∷ xs))) (λ x. Then (Many f P2) (λ xs. Pure (x ∷ xs))) (within s)
+      at_body ts (λ t s r e. then-run same (p s) (p2 s) (λ x. many f p >>= λ xs. pure (x ∷ xs)) (λ x. many f p2 >>= λ xs. pure (x ∷ xs)) (P s) (PMore s)
+      (λ x. Then (Many f P) (λ xs. Pure (x ∷ xs))) (λ x. Then (Many f PMore) (λ xs. Pure (x ∷ xs))) (within s)
       (λ x. ([], x ∷ [], ([], [], [], refl, refl, (refl, refl)))) (λ x. ([], x ∷ [], ([], [], [], refl, refl, (refl, refl)))) r (p s r).0 (p s r).1 (ps s r)
       (λ x done. let short = shorter s r in let len = ap length e in
-      then-run same (many f p) (many f p2) (λ xs. pure (x ∷ xs)) (λ xs. pure (x ∷ xs)) (Many f P) (Many f P2) (λ xs. Pure (x ∷ xs)) (λ xs. Pure (x ∷ xs)) (many-within f P P2 within)
+      then-run same (many f p) (many f p2) (λ xs. pure (x ∷ xs)) (λ xs. pure (x ∷ xs)) (Many f P) (Many f PMore) (λ xs. Pure (x ∷ xs)) (λ xs. Pure (x ∷ xs)) (many-within f P PMore within)
       (λ xs. ([], x ∷ xs, (refl, refl))) (λ xs. ([], x ∷ xs, (refl, refl))) (p s r).1 (many f p (p s r).1).0 (many f p (p s r).1).1
       (many-run-below ps n (p s r).1 (omega arith)) (λ xs d. pure-run same (x ∷ xs) (many f p (p s r).1).1)))
 
-  pub many-run : ((s : S) (ts : List Token) → Run same (p s) (p2 s) (P s) (P2 s) ts (p s ts).0 (p s ts).1) → (ts : List Token) → AtMany ts
+  pub many-run : ((s : S) (ts : List Token) → Run same (p s) (p2 s) (P s) (PMore s) ts (p s ts).0 (p s ts).1) → (ts : List Token) → AtMany ts
   many-run ps ts = many-run-below ps (length ts) ts (omega arith)
 
 module _ {S B : Type 0} (f : Token → Option S) (p : S → Reader B) (shorter : (s : S) (ts : List Token) → length (p s ts).1 ≤ length ts) (P : S → List Token → B → Type 0) where
@@ -348,8 +348,8 @@ module _ {S B : Type 0} (f : Token → Option S) (p : S → Reader B) (shorter :
       rw (h.4, unrolled f p shorter ((h.0 ∷ (h.2 ++ h.3)) ++ r), e, append_assoc, first, others) refl
 
 -- a reader with a run goes no further back
-pub run-shorter : {A : Type 0} (same : Bool) (p p2 : Reader A) (R R2 : List Token → A → Type 0) (ts : List Token) (v : Verdict A) (rest : List Token) → Run same p p2 R R2 ts v rest → length rest ≤ length ts
-run-shorter same p p2 R R2 ts v rest h = let e = ap length h.split in let l = length-append h.a rest in omega arith
+pub run-shorter : {A : Type 0} (same : Bool) (p p2 : Reader A) (R RMore : List Token → A → Type 0) (ts : List Token) (v : Verdict A) (rest : List Token) → Run same p p2 R RMore ts v rest → length rest ≤ length ts
+run-shorter same p p2 R RMore ts v rest h = let e = ap length h.split in let l = length-append h.a rest in omega arith
 
 -- ---- the end
 
@@ -368,12 +368,12 @@ taken ts a rest e =
     let k : length (a ++ rest) - length rest ≡ length a = let l = length-append a rest in omega arith in
     rw (e, k, take-append_seam) refl
 
-module _ {A B : Type 0} (same : Bool) (make : A → Span → B) (p p2 : Reader A) (R R2 : List Token → A → Type 0) where
+module _ {A B : Type 0} (same : Bool) (make : A → Span → B) (p p2 : Reader A) (R RMore : List Token → A → Type 0) where
   spanned-viable : (T : List Token → A → Type 0) (a : List Token) → Viable T a → Viable (Spanned make T) a
   spanned-viable T a v = (v.0, make v.1 (span_of (a ++ v.0)), (v.1, v.2, refl))
 
-  pub spanned-at : (ts : List Token) (v : Verdict A) (rest : List Token) → Run same p p2 R R2 ts v rest
-      → Run same (spanned make p) (spanned make p2) (Spanned make R) (Spanned make R2) ts
+  pub spanned-at : (ts : List Token) (v : Verdict A) (rest : List Token) → Run same p p2 R RMore ts v rest
+      → Run same (spanned make p) (spanned make p2) (Spanned make R) (Spanned make RMore) ts
       (on_done v rest (λ x r. (Done (make x (span_of (take (length ts - length r) ts))), r))).0 (on_done v rest (λ x r. (Done (make x (span_of (take (length ts - length r) ts))), r))).1
   spanned-at ts (Done x) rest h = record {
     a = h.a;
@@ -390,11 +390,11 @@ module _ {A B : Type 0} (same : Bool) (make : A → Span → B) (p p2 : Reader A
   spanned-at ts Deep rest h = record {
     a = h.a;
     split = h.split;
-    means = (spanned-viable R h.a h.means.0, λ e. let o = h.means.1 e in (o.0, o.1, o.2, spanned-viable R2 (h.a ++ (o.0 ∷ [])) o.3));
+    means = (spanned-viable R h.a h.means.0, λ e. let o = h.means.1 e in (o.0, o.1, o.2, spanned-viable RMore (h.a ++ (o.0 ∷ [])) o.3));
     local = λ kept r s. rw (h.local kept r s) refl;
   }
 
-  pub spanned-run : (ts : List Token) → Run same p p2 R R2 ts (p ts).0 (p ts).1 → Run same (spanned make p) (spanned make p2) (Spanned make R) (Spanned make R2) ts (spanned make p ts).0 (spanned make p ts).1
+  pub spanned-run : (ts : List Token) → Run same p p2 R RMore ts (p ts).0 (p ts).1 → Run same (spanned make p) (spanned make p2) (Spanned make R) (Spanned make RMore) ts (spanned make p ts).0 (spanned make p ts).1
   spanned-run ts h = spanned-at ts (p ts).0 (p ts).1 h
 
   pub spanned-only : (After : List Token → Type 0) → Only p R After → Only (spanned make p) (Spanned make R) After

@@ -41,26 +41,26 @@ same_self s = true_same the_type s s refl
 sign_taken : (s : Sign) → sign_is s (token (kind.Sign s)) ≡ Some tt
 sign_taken s = ap (λ b. when b tt) (same_self s)
 
-law-sign : {B : Type 0} {same : Bool} (s : Sign) {p p2 : Unit {0} → Reader B} {P P2 : Unit {0} → List Token → B → Type 0}
-    → ((u : Unit {0}) → Law same (p u) (p2 u) (P u) (P2 u)) → Law same (must (sign_is s) p) (must (sign_is s) p2) (Must (sign_is s) P) (Must (sign_is s) P2)
+law-sign : {B : Type 0} {same : Bool} (s : Sign) {p p2 : Unit {0} → Reader B} {P PMore : Unit {0} → List Token → B → Type 0}
+    → ((u : Unit {0}) → Law same (p u) (p2 u) (P u) (PMore u)) → Law same (must (sign_is s) p) (must (sign_is s) p2) (Must (sign_is s) P) (Must (sign_is s) PMore)
 law-sign s h = law-must (sign_is s) (token (kind.Sign s)) tt (sign_taken s) h
 
-law-word : {B : Type 0} {same : Bool} (w : Name) → word_is w (token (kind.Word w)) ≡ Some tt → {p p2 : Unit {0} → Reader B} {P P2 : Unit {0} → List Token → B → Type 0}
-    → ((u : Unit {0}) → Law same (p u) (p2 u) (P u) (P2 u)) → Law same (must (word_is w) p) (must (word_is w) p2) (Must (word_is w) P) (Must (word_is w) P2)
+law-word : {B : Type 0} {same : Bool} (w : Name) → word_is w (token (kind.Word w)) ≡ Some tt → {p p2 : Unit {0} → Reader B} {P PMore : Unit {0} → List Token → B → Type 0}
+    → ((u : Unit {0}) → Law same (p u) (p2 u) (P u) (PMore u)) → Law same (must (word_is w) p) (must (word_is w) p2) (Must (word_is w) P) (Must (word_is w) PMore)
 law-word w e h = law-must (word_is w) (token (kind.Word w)) tt e h
 
-law-into : {A B : Type 0} {same : Bool} (make : A → B) {p p2 : Reader A} {R R2 : List Token → A → Type 0} → Law same p p2 R R2 → Law same (into make p) (into make p2) (Into make R) (Into make R2)
+law-into : {A B : Type 0} {same : Bool} (make : A → B) {p p2 : Reader A} {R RMore : List Token → A → Type 0} → Law same p p2 R RMore → Law same (into make p) (into make p2) (Into make R) (Into make RMore)
 law-into {same = same} make h = law-then h (λ x. law-pure same (make x))
 
-law-maybe : {S B : Type 0} {same : Bool} (f : Token → Option S) {p p2 : S → Reader B} {P P2 : S → List Token → B → Type 0}
-    → ((s : S) → Law same (p s) (p2 s) (P s) (P2 s)) → Law same (maybe f p) (maybe f p2) (Maybe f P) (Maybe f P2)
+law-maybe : {S B : Type 0} {same : Bool} (f : Token → Option S) {p p2 : S → Reader B} {P PMore : S → List Token → B → Type 0}
+    → ((s : S) → Law same (p s) (p2 s) (P s) (PMore s)) → Law same (maybe f p) (maybe f p2) (Maybe f P) (Maybe f PMore)
 law-maybe {same = same} f h = law-fork f (λ s. law-into Some (h s)) (law-pure same None)
 
-law-listed : {B : Type 0} {same : Bool} {p p2 : Reader B} {R R2 : List Token → B → Type 0} → Law same p p2 R R2 → Law same (listed p) (listed p2) (Listed R) (Listed R2)
+law-listed : {B : Type 0} {same : Bool} {p p2 : Reader B} {R RMore : List Token → B → Type 0} → Law same p p2 R RMore → Law same (listed p) (listed p2) (Listed R) (Listed RMore)
 law-listed h = law-then h (λ x. law-into (λ xs. x ∷ xs) (law-many (sign_is sign.Comma) (λ _. h)))
 
-law-enclosed : {B : Type 0} {same : Bool} (close : Sign) {p p2 : Reader B} {R R2 : List Token → B → Type 0} → Law same p p2 R R2
-    → Law same (enclosed close (listed p)) (enclosed close (listed p2)) (Enclosed close R) (Enclosed close R2)
+law-enclosed : {B : Type 0} {same : Bool} (close : Sign) {p p2 : Reader B} {R RMore : List Token → B → Type 0} → Law same p p2 R RMore
+    → Law same (enclosed close (listed p)) (enclosed close (listed p2)) (Enclosed close R) (Enclosed close RMore)
 law-enclosed {same = same} close h = law-fork (sign_is close) (λ _. law-pure same []) (law-then (law-listed h) (λ xs. law-sign close (λ _. law-pure same xs)))
 
 -- ---- literals and lists
@@ -82,71 +82,71 @@ law-named same = law-must name (token (kind.Quoted [])) [] refl (law-pure same)
 -- ---- nested constructs
 
 -- what stands inside a construct, by two rooms: where there is some, the same law as outside
-abbrev pub Rooms : Bool → ℕ → ℕ → (i i2 : Level → Reader Ast) → (I I2 : Level → List Token → Ast → Type 0) → Type 0
-Rooms same zero zero i i2 I I2 = same ≡ true
-Rooms same zero (suc n) i i2 I I2 = (same ≡ false) × ((v : Level) → Law true (i2 v) (i2 v) (I2 v) (I2 v))
-Rooms same (suc d) zero i i2 I I2 = ⊥
-Rooms same (suc d) (suc n) i i2 I I2 = (v : Level) → Law same (i v) (i2 v) (I v) (I2 v)
+abbrev pub Rooms : Bool → ℕ → ℕ → (i i2 : Level → Reader Ast) → (I IMore : Level → List Token → Ast → Type 0) → Type 0
+Rooms same zero zero i i2 I IMore = same ≡ true
+Rooms same zero (suc n) i i2 I IMore = (same ≡ false) × ((v : Level) → Law true (i2 v) (i2 v) (IMore v) (IMore v))
+Rooms same (suc d) zero i i2 I IMore = ⊥
+Rooms same (suc d) (suc n) i i2 I IMore = (v : Level) → Law same (i v) (i2 v) (I v) (IMore v)
 
 -- a construct whose inside is read by what is given for it
-law-nest : {S B : Type 0} (same : Bool) (room room2 : ℕ) (i i2 : Level → Reader Ast) (I I2 : Level → List Token → Ast → Type 0) (f : Token → Option S)
+law-nest : {S B : Type 0} (same : Bool) (room room2 : ℕ) (i i2 : Level → Reader Ast) (I IMore : Level → List Token → Ast → Type 0) (f : Token → Option S)
     (r : (Level → Reader Ast) → S → Reader B) (R : (Level → List Token → Ast → Type 0) → S → List Token → B → Type 0)
-    → ((b : Bool) (j j2 : Level → Reader Ast) (J J2 : Level → List Token → Ast → Type 0) → ((v : Level) → Law b (j v) (j2 v) (J v) (J2 v)) → (s : S) → Law b (r j s) (r j2 s) (R J s) (R J2 s))
-    → Rooms same room room2 i i2 I I2 → {q q2 : Reader B} {Q Q2 : List Token → B → Type 0} → Law same q q2 Q Q2
-    → Law same (nest room f (r i) q) (nest room2 f (r i2) q2) (Nest room f (R I) Q) (Nest room2 f (R I2) Q2)
+    → ((b : Bool) (j j2 : Level → Reader Ast) (J JMore : Level → List Token → Ast → Type 0) → ((v : Level) → Law b (j v) (j2 v) (J v) (JMore v)) → (s : S) → Law b (r j s) (r j2 s) (R J s) (R JMore s))
+    → Rooms same room room2 i i2 I IMore → {q q2 : Reader B} {Q QMore : List Token → B → Type 0} → Law same q q2 Q QMore
+    → Law same (nest room f (r i) q) (nest room2 f (r i2) q2) (Nest room f (R I) Q) (Nest room2 f (R IMore) QMore)
 unfolding nest
-law-nest true zero zero i i2 I I2 f r R mk h k = law-too_deep f k
-law-nest false zero zero i i2 I I2 f r R mk h k = cc
-law-nest true zero (suc n) i i2 I I2 f r R mk h k = let e = h.0 in cc
-law-nest false zero (suc n) i i2 I I2 f r R mk h k =
-    let there = mk true i2 i2 I2 I2 h.1 in law-room f (r i2) (R I2) k (λ s. (there s).some2) (λ s. (there s).short2)
-law-nest same (suc d) zero i i2 I I2 f r R mk h k = absurd h
-law-nest same (suc d) (suc n) i i2 I I2 f r R mk h k = law-fork f (mk same i i2 I I2 h) k
+law-nest true zero zero i i2 I IMore f r R mk h k = law-too_deep f k
+law-nest false zero zero i i2 I IMore f r R mk h k = cc
+law-nest true zero (suc n) i i2 I IMore f r R mk h k = let e = h.0 in cc
+law-nest false zero (suc n) i i2 I IMore f r R mk h k =
+    let there = mk true i2 i2 IMore IMore h.1 in law-room f (r i2) (R IMore) k (λ s. (there s).some2) (λ s. (there s).short2)
+law-nest same (suc d) zero i i2 I IMore f r R mk h k = absurd h
+law-nest same (suc d) (suc n) i i2 I IMore f r R mk h k = law-fork f (mk same i i2 I IMore h) k
 
 -- ---- expressions
 
-module _ (same : Bool) (room room2 : ℕ) (i i2 : Level → Reader Ast) (I I2 : Level → List Token → Ast → Type 0) (h : Rooms same room room2 i i2 I I2) where
-  named-law : (n : Name) → Law same (p.named room i n) (p.named room2 i2 n) (g.Named room I n) (g.Named room2 I2 n)
+module _ (same : Bool) (room room2 : ℕ) (i i2 : Level → Reader Ast) (I IMore : Level → List Token → Ast → Type 0) (h : Rooms same room room2 i i2 I IMore) where
+  named-law : (n : Name) → Law same (p.named room i n) (p.named room2 i2 n) (g.Named room I n) (g.Named room2 IMore n)
   unfolding p.named p.passed p.arguments
-  named-law n = law-nest same room room2 i i2 I I2 (sign_is sign.LeftParen)
+  named-law n = law-nest same room room2 i i2 I IMore (sign_is sign.LeftParen)
       (λ j _. into (e.Call n) (enclosed sign.RightParen (listed (j level.Expr)))) (λ J _. Into (e.Call n) (Enclosed sign.RightParen (J level.Expr)))
-      (λ b j j2 J J2 k _. law-into (e.Call n) (law-enclosed sign.RightParen (k level.Expr))) h
+      (λ b j j2 J JMore k _. law-into (e.Call n) (law-enclosed sign.RightParen (k level.Expr))) h
       (law-fork (sign_is sign.Dot) (λ _. law-must called (token (kind.Quoted [])) [] refl (λ key. law-pure same (e.Property n key))) (law-pure same (e.Variable n)))
 
-  atom-law : Law same (p.atom room i) (p.atom room2 i2) (g.Atom room I) (g.Atom room2 I2)
+  atom-law : Law same (p.atom room i) (p.atom room2 i2) (g.Atom room I) (g.Atom room2 IMore)
   unfolding p.atom p.grouped
-  atom-law = law-nest same room room2 i i2 I I2 (sign_is sign.LeftParen)
+  atom-law = law-nest same room room2 i i2 I IMore (sign_is sign.LeftParen)
       (λ j _. j level.Expr >>= λ x. must (sign_is sign.RightParen) (λ _. pure (e.Paren x))) (λ J _. Then (J level.Expr) (λ x. Must (sign_is sign.RightParen) (λ _. Pure (e.Paren x))))
-      (λ b j j2 J J2 k _. law-then (k level.Expr) (λ x. law-sign sign.RightParen (λ _. law-pure b (e.Paren x)))) h
+      (λ b j j2 J JMore k _. law-then (k level.Expr) (λ x. law-sign sign.RightParen (λ _. law-pure b (e.Paren x)))) h
       (law-fork plain (λ value. law-pure same (e.Literal value)) (law-must name (token (kind.Quoted [])) [] refl named-law))
 
-  pub signed-law : Law same (p.signed room i) (p.signed room2 i2) (g.Signed room I) (g.Signed room2 I2)
+  pub signed-law : Law same (p.signed room i) (p.signed room2 i2) (g.Signed room I) (g.Signed room2 IMore)
   unfolding p.signed p.operand p.negated
-  signed-law = law-spanned tree_of (law-nest same room room2 i i2 I I2 (sign_is sign.Plus)
-      (λ j _. into e.Plus (j level.Sign)) (λ J _. Into e.Plus (J level.Sign)) (λ b j j2 J J2 k _. law-into e.Plus (k level.Sign)) h
-      (law-nest same room room2 i i2 I I2 (sign_is sign.Minus)
+  signed-law = law-spanned tree_of (law-nest same room room2 i i2 I IMore (sign_is sign.Plus)
+      (λ j _. into e.Plus (j level.Sign)) (λ J _. Into e.Plus (J level.Sign)) (λ b j j2 J JMore k _. law-into e.Plus (k level.Sign)) h
+      (law-nest same room room2 i i2 I IMore (sign_is sign.Minus)
       (λ j _. fork big (λ _. pure (e.Literal (l.Int (neg_ℤ (pos 9223372036854775808))))) (into e.Negate (j level.Sign)))
       (λ J _. Fork big (λ _. Pure (e.Literal (l.Int (neg_ℤ (pos 9223372036854775808))))) (Into e.Negate (J level.Sign)))
-      (λ b j j2 J J2 k _. law-fork big (λ _. law-pure b (e.Literal (l.Int (neg_ℤ (pos 9223372036854775808))))) (law-into e.Negate (k level.Sign))) h
+      (λ b j j2 J JMore k _. law-fork big (λ _. law-pure b (e.Literal (l.Int (neg_ℤ (pos 9223372036854775808))))) (law-into e.Negate (k level.Sign))) h
       atom-law))
 
-  pub multiplied-law : (op : ArithOp) → Law same (p.multiplied room i op) (p.multiplied room2 i2 op) (Into (term op) (g.Signed room I)) (Into (term op) (g.Signed room2 I2))
+  pub multiplied-law : (op : ArithOp) → Law same (p.multiplied room i op) (p.multiplied room2 i2 op) (Into (term op) (g.Signed room I)) (Into (term op) (g.Signed room2 IMore))
   unfolding p.multiplied
   multiplied-law op = law-into (term op) signed-law
 
-  product-law : Law same (p.product room i) (p.product room2 i2) (g.Product room I) (g.Product room2 I2)
+  product-law : Law same (p.product room i) (p.product room2 i2) (g.Product room I) (g.Product room2 IMore)
   unfolding p.product p.multiplications
   product-law = law-spanned made (law-then signed-law (λ x. law-into (tail_made e.Product x) (law-many multiplication multiplied-law)))
 
-  pub added-law : (op : ArithOp) → Law same (p.added room i op) (p.added room2 i2 op) (Into (term op) (g.Product room I)) (Into (term op) (g.Product room2 I2))
+  pub added-law : (op : ArithOp) → Law same (p.added room i op) (p.added room2 i2 op) (Into (term op) (g.Product room I)) (Into (term op) (g.Product room2 IMore))
   unfolding p.added
   added-law op = law-into (term op) product-law
 
-  sum-law : Law same (p.sum room i) (p.sum room2 i2) (g.Sum room I) (g.Sum room2 I2)
+  sum-law : Law same (p.sum room i) (p.sum room2 i2) (g.Sum room I) (g.Sum room2 IMore)
   unfolding p.sum p.additions
   sum-law = law-spanned made (law-then product-law (λ x. law-into (tail_made e.Sum x) (law-many addition added-law)))
 
-  pub tested-law : (w : TestWord) → Law same (p.tested room i w) (p.tested room2 i2 w) (g.Tested room I w) (g.Tested room2 I2 w)
+  pub tested-law : (w : TestWord) → Law same (p.tested room i w) (p.tested room2 i2 w) (g.Tested room I w) (g.Tested room2 IMore w)
   unfolding p.tested
   tested-law test.Is = law-fork (word_is (codes "NOT")) (λ _. law-word (codes "NULL") refl (λ _. law-pure same tester.IsNotNull)) (law-word (codes "NULL") refl (λ _. law-pure same tester.IsNull))
   tested-law test.In = law-into tester.Member (list-law same)
@@ -154,37 +154,37 @@ module _ (same : Bool) (room room2 : ℕ) (i i2 : Level → Reader Ast) (I I2 : 
   tested-law test.Ends = law-word (codes "WITH") refl (λ _. law-into tester.Ends sum-law)
   tested-law test.Contains = law-into tester.Contains sum-law
 
-  tests-law : Law same (p.tests room i) (p.tests room2 i2) (g.Test room I) (g.Test room2 I2)
+  tests-law : Law same (p.tests room i) (p.tests room2 i2) (g.Test room I) (g.Test room2 IMore)
   unfolding p.tests p.testers
   tests-law = law-spanned made (law-then sum-law (λ x. law-into (tail_made e.Test x) (law-many test_word tested-law)))
 
-  pub compared-law : (op : CompareOp) → Law same (p.compared room i op) (p.compared room2 i2 op) (Into (term op) (g.Test room I)) (Into (term op) (g.Test room2 I2))
+  pub compared-law : (op : CompareOp) → Law same (p.compared room i op) (p.compared room2 i2 op) (Into (term op) (g.Test room I)) (Into (term op) (g.Test room2 IMore))
   unfolding p.compared
   compared-law op = law-into (term op) tests-law
 
-  compare-law : Law same (p.compare room i) (p.compare room2 i2) (g.Compare room I) (g.Compare room2 I2)
+  compare-law : Law same (p.compare room i) (p.compare room2 i2) (g.Compare room I) (g.Compare room2 IMore)
   unfolding p.compare p.comparisons
   compare-law = law-spanned made (law-then tests-law (λ x. law-into (tail_made e.Compare x) (law-many comparison compared-law)))
 
-  pub negation-law : Law same (p.negation room i) (p.negation room2 i2) (g.Not room I) (g.Not room2 I2)
+  pub negation-law : Law same (p.negation room i) (p.negation room2 i2) (g.Not room I) (g.Not room2 IMore)
   unfolding p.negation
-  negation-law = law-spanned made (law-nest same room room2 i i2 I I2 (word_is (codes "NOT"))
-      (λ j _. into (λ x. inl (e.Not x)) (j level.Not)) (λ J _. Into (λ x. inl (e.Not x)) (J level.Not)) (λ b j j2 J J2 k _. law-into (λ x. inl (e.Not x)) (k level.Not)) h
+  negation-law = law-spanned made (law-nest same room room2 i i2 I IMore (word_is (codes "NOT"))
+      (λ j _. into (λ x. inl (e.Not x)) (j level.Not)) (λ J _. Into (λ x. inl (e.Not x)) (J level.Not)) (λ b j j2 J JMore k _. law-into (λ x. inl (e.Not x)) (k level.Not)) h
       (law-into inr compare-law))
 
-  pub and-law : Law same (p.and room i) (p.and room2 i2) (g.And room I) (g.And room2 I2)
+  pub and-law : Law same (p.and room i) (p.and room2 i2) (g.And room I) (g.And room2 IMore)
   unfolding p.and p.ands
   and-law = law-spanned made (law-then negation-law (λ x. law-into (chain_made e.And x) (law-many (word_is (codes "AND")) (λ _. negation-law))))
 
-  pub xor-law : Law same (p.xor room i) (p.xor room2 i2) (g.Xor room I) (g.Xor room2 I2)
+  pub xor-law : Law same (p.xor room i) (p.xor room2 i2) (g.Xor room I) (g.Xor room2 IMore)
   unfolding p.xor p.xors
   xor-law = law-spanned made (law-then and-law (λ x. law-into (chain_made e.Xor x) (law-many (word_is (codes "XOR")) (λ _. and-law))))
 
-  pub or-law : Law same (p.or room i) (p.or room2 i2) (g.Or room I) (g.Or room2 I2)
+  pub or-law : Law same (p.or room i) (p.or room2 i2) (g.Or room I) (g.Or room2 IMore)
   unfolding p.or p.ors
   or-law = law-spanned made (law-then xor-law (λ x. law-into (chain_made e.Or x) (law-many (word_is (codes "OR")) (λ _. xor-law))))
 
-  pub rule-law : (v : Level) → Law same (p.rule room i v) (p.rule room2 i2 v) (g.Rule room I v) (g.Rule room2 I2 v)
+  pub rule-law : (v : Level) → Law same (p.rule room i v) (p.rule room2 i2 v) (g.Rule room I v) (g.Rule room2 IMore v)
   rule-law level.Expr = or-law
   rule-law level.Not = negation-law
   rule-law level.Sign = signed-law

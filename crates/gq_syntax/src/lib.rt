@@ -22,4 +22,6 @@ pub use statement::{
 };
 
 #[cfg(test)]
+mod cases;
+#[cfg(test)]
 mod tests;

@@ -1,7 +1,11 @@
 //! Statements, from their text.
 
-ghost use Rattle.std.specs.Prelude.{◌≡◌, ◌^◌, ◌<◌, ◌≤◌, length};
-ghost use Rattle.gq_syntax.specs.Outcomes.{Answers, place_of};
+ghost use Rattle.std.specs.Prelude.{◌≡◌, ℕ, ◌^◌, ◌<◌, ◌≤◌, length, List, Ok, Err};
+ghost use Rattle.gq_lexer.specs.Tokens.{lexed};
+ghost use Rattle.gq_lexer.specs.declared.token.Token.{Token};
+ghost use Rattle.gq_syntax.specs.Outcomes.{Cause, ComesWhere, DepthAt, SpelledText, SpellsOne, SyntaxAt, place_of};
+ghost use Rattle.gq_syntax.specs.declared.refusal.SyntaxRefusal.TheVariants as refusal;
+ghost use Rattle.gq_syntax.specs.declared.statement.Statement.{Statement};
 
 use crate::queries::whole;
 use crate::refusal::SyntaxRefusal;
@@ -20,10 +24,10 @@ fn place_of(left: &[Token], end: u32) -> u32
     }
 }
 
-/// The statement that a text spells.
-pub fn parse(alloc: Global, text: &[u8]) -> Result<Statement, SyntaxRefusal>
+// The statement that a text spells, or what keeps it from spelling one.
+fn answered(alloc: Global, text: &[u8]) -> Result<Statement, SyntaxRefusal>
     requires { length text.now ≤ 65536 }
-    ensures outcome { Answers text.now result }
+    ensures outcome { Cause text.now result }
 {
     let tokens = lex(alloc, text)?;
     let mut cursor = Tokens::new(tokens.as_slice());
@@ -35,4 +39,16 @@ pub fn parse(alloc: Global, text: &[u8]) -> Result<Statement, SyntaxRefusal>
         Err(Stop::Depth) => Err(SyntaxRefusal::Depth { at }),
         Err(Stop::Memory) => Err(SyntaxRefusal::Memory),
     }
+}
+
+/// The statement that a text spells, or why and where it spells none. It takes time in proportion to the text.
+pub fn parse(alloc: Global, text: &[u8]) -> Result<Statement, SyntaxRefusal>
+    requires { length text.now ≤ 65536 }
+    ensures whole { (s : Statement) → ComesWhere (SpelledText text.now s) (Ok s) result }
+    ensures lexes { (at : ℕ) → ComesWhere (lexed text.now ≡ Err at) (Err (refusal.Lex at)) result }
+    ensures syntax { (at : ℕ) → ComesWhere (SyntaxAt text.now at) (Err (refusal.Syntax at)) result }
+    ensures depth { (at : ℕ) → ComesWhere (DepthAt text.now at) (Err (refusal.Depth at)) result }
+    ensures only { (tokens : List Token) → SpellsOne tokens }
+{
+    answered(alloc, text)
 }

@@ -1,40 +1,12 @@
-use Rattle.std.proofs.Common.{◌≡◌, Err, length, rules, ap, subst, sym, ◌∙◌}
-use Rattle.gq_syntax.specs.Outcomes.{place_of}
-use Rattle.gq_syntax.specs.Parsers.{whole}
-use Rattle.gq_syntax.specs.Parsing.{Reads}
-use Rattle.gq_syntax.specs.declared.tokens.Stop.TheVariants as stop
-use Rattle.gq_syntax.proofs.Answered.{deep_begins, read_spelled, stops_at, syntax_begins}
+use Rattle.gq_syntax.proofs.Answered.{spells_one}
+use Rattle.gq_syntax.proofs.Exact.{comes_depth, comes_lex, comes_statement, comes_syntax}
 use Rattle.gq_syntax.proofs.parsing.parse.Goals as goal
 
-pub returns-in-Ok : goal.returns-in-Ok
-returns-in-Ok c =
-    let all : c.new-cursor.result ≡ c.in_ok-tokens.tokens = search rules in
-    record {
-      outcome = (
-        c.in_ok-tokens.tokens,
-        c.in_ok-tokens.ensures.outcome,
-        read_spelled 64 c.in_ok-tokens.tokens c.whole-found.new.tokens c.in-Ok.statement (ap (whole 64) (sym all) ∙ c.in-Ok.ensures),
-      );
-    }
-
-pub returns-in-Err-Syntax : goal.returns-in-Err-Syntax
-returns-in-Err-Syntax c =
-    let all : c.new-cursor.result ≡ c.in_ok-tokens.tokens = search rules in
-    let place : c.place_of-at.result ≡ place_of c.whole-found.new.tokens (length c.args.text.now) = search rules in
-    let is : c.whole-found.result ≡ Err stop.Syntax = first_of (cc, search rules) in
-    let stopped = subst (λ r. Reads (whole 64 c.new-cursor.result) r c.whole-found.new.tokens) is c.whole-found.ensures in
-    record {
-      outcome = stops_at c.args.text.now c.in_ok-tokens.tokens c.whole-found.new.tokens c.place_of-at.result c.in_ok-tokens.ensures.outcome place
-          (syntax_begins 64 c.in_ok-tokens.tokens c.whole-found.new.tokens (ap (whole 64) (sym all) ∙ stopped));
-    }
-
-pub returns-in-Err-Depth : goal.returns-in-Err-Depth
-returns-in-Err-Depth c =
-    let all : c.new-cursor.result ≡ c.in_ok-tokens.tokens = search rules in
-    let place : c.place_of-at.result ≡ place_of c.whole-found.new.tokens (length c.args.text.now) = search rules in
-    let is : c.whole-found.result ≡ Err stop.Depth = first_of (cc, search rules) in
-    let stopped = subst (λ r. Reads (whole 64 c.new-cursor.result) r c.whole-found.new.tokens) is c.whole-found.ensures in
-    record {
-      outcome = stops_at c.args.text.now c.in_ok-tokens.tokens c.whole-found.new.tokens c.place_of-at.result c.in_ok-tokens.ensures.outcome place
-          (deep_begins 64 c.in_ok-tokens.tokens c.whole-found.new.tokens (ap (whole 64) (sym all) ∙ stopped));
-    }
+pub returns : goal.returns
+returns c = record {
+  whole = comes_statement c.args.text.now c.answered.result c.answered.ensures.outcome;
+  lexes = comes_lex c.args.text.now c.answered.result c.answered.ensures.outcome;
+  syntax = comes_syntax c.args.text.now c.answered.result c.answered.ensures.outcome;
+  depth = comes_depth c.args.text.now c.answered.result c.answered.ensures.outcome;
+  only = spells_one;
+}
