@@ -109,6 +109,96 @@ const COMPARISONS: [(CompareOp, Given, Given, Option<bool>); 18] = [
     (CompareOp::GreaterEqual, Int(2), Int(2), Some(true)),
 ];
 
+const NO_INTEGERS: [Given; 5] = [Flag(true), Flag(false), Str("é"), NODE, REL];
+
+const OPERATORS: [ArithOp; 5] = [
+    ArithOp::Add,
+    ArithOp::Subtract,
+    ArithOp::Multiply,
+    ArithOp::Divide,
+    ArithOp::Remainder,
+];
+
+#[test]
+fn operators_take_integers_and_null(rt: HostRuntime) {
+    for op in OPERATORS.iter() {
+        for value in NO_INTEGERS.iter() {
+            assert!(rt; arith(*op, value, &Int(1)) == Err(Fault::Kind));
+            assert!(rt; arith(*op, &Int(1), value) == Err(Fault::Kind));
+            assert!(rt; arith(*op, value, &Null) == Ok(Null));
+            assert!(rt; arith(*op, &Null, value) == Ok(Null));
+        }
+        assert!(rt; arith(*op, &Null, &Null) == Ok(Null));
+    }
+}
+
+const NO_TEXTS: [Given; 5] = [Null, Flag(true), Int(1), NODE, REL];
+
+#[test]
+fn parts_of_texts_are_texts(rt: HostRuntime) {
+    for value in NO_TEXTS.iter() {
+        assert!(rt; starts(value, &Str("é")).is_none());
+        assert!(rt; starts(&Str("é"), value).is_none());
+        assert!(rt; ends(value, &Str("é")).is_none());
+        assert!(rt; ends(&Str("é"), value).is_none());
+        assert!(rt; contains(value, &Str("é")).is_none());
+        assert!(rt; contains(&Str("é"), value).is_none());
+        assert!(rt; is_member(value, &[]) == Some(false));
+    }
+}
+
+// Two operands, and whether they are equal, whether the left one is less, and whether it is less or equal.
+const ORDERS: [(Given, Given, Option<bool>, Option<bool>, Option<bool>); 22] = [
+    (Null, Null, None, None, None),
+    (Null, Flag(true), None, None, None),
+    (Null, Int(1), None, None, None),
+    (Null, Str("日本"), None, None, None),
+    (Null, NODE, None, None, None),
+    (Null, REL, None, None, None),
+    (Flag(true), Flag(true), Some(true), Some(false), Some(true)),
+    (Flag(false), Flag(true), Some(false), Some(true), Some(true)),
+    (
+        Flag(true),
+        Flag(false),
+        Some(false),
+        Some(false),
+        Some(false),
+    ),
+    (Flag(true), Int(1), Some(false), None, None),
+    (Flag(true), Str("true"), Some(false), None, None),
+    (LEAST, GREATEST, Some(false), Some(true), Some(true)),
+    (Int(-1), Int(-2), Some(false), Some(false), Some(false)),
+    (Int(7), Int(7), Some(true), Some(false), Some(true)),
+    (Str("日本"), Str("日本"), Some(true), Some(false), Some(true)),
+    (Str("日"), Str("日本"), Some(false), Some(true), Some(true)),
+    (Str("é"), Str("z"), Some(false), Some(false), Some(false)),
+    (Str(""), Str("a"), Some(false), Some(true), Some(true)),
+    (NODE, NODE, Some(true), None, None),
+    (NODE, OTHER, Some(false), None, None),
+    (NODE, REL, Some(false), None, None),
+    (REL, REL, Some(true), None, None),
+];
+
+fn opposite(truth: Option<bool>) -> Option<bool> {
+    match truth {
+        Some(known) => Some(!known),
+        None => None,
+    }
+}
+
+#[test]
+fn each_comparison_is_known_within_its_kind(rt: HostRuntime) {
+    for (a, b, equal, less, less_or_equal) in ORDERS.iter() {
+        assert!(rt; compare(CompareOp::Equal, a, b) == *equal);
+        assert!(rt; compare(CompareOp::Equal, b, a) == *equal);
+        assert!(rt; compare(CompareOp::NotEqual, a, b) == opposite(*equal));
+        assert!(rt; compare(CompareOp::Less, a, b) == *less);
+        assert!(rt; compare(CompareOp::Greater, b, a) == *less);
+        assert!(rt; compare(CompareOp::LessEqual, a, b) == *less_or_equal);
+        assert!(rt; compare(CompareOp::GreaterEqual, b, a) == *less_or_equal);
+    }
+}
+
 #[test]
 fn comparisons_are_null_where_nothing_is_known(rt: HostRuntime) {
     for (op, a, b, want) in COMPARISONS.iter() {
