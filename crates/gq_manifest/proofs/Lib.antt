@@ -1,4 +1,5 @@
 pub mod Cuts
 pub mod LineTexts
+pub mod Numbers
 pub mod Whole
 pub mod WordLists

@@ -24,7 +24,7 @@ other_text a b e = λ h. let same = (bytes_eq-Decides a b).1 h in cc
 
 -- ---- steps
 
-if_ok : (b : Bool) (e : ManifestRefusal) (r : Result Tables ManifestRefusal) (t : Tables) → (if b then Err e else r) ≡ Ok t → (b ≡ false) × (r ≡ Ok t)
+pub if_ok : (b : Bool) (e : ManifestRefusal) (r : Result Tables ManifestRefusal) (t : Tables) → (if b then Err e else r) ≡ Ok t → (b ≡ false) × (r ≡ Ok t)
 if_ok true e r t h = cc h
 if_ok false e r t h = (refl, h)
 
@@ -53,7 +53,7 @@ node_whole number tables t line h e =
       rel_fields = h.rel_fields;
     }
 
-between_ok : (number : ℕ) (tables t : Tables) (line : RelLine) (from to : Option ℕ) → add_between number tables line from to ≡ Ok t
+pub between_ok : (number : ℕ) (tables t : Tables) (line : RelLine) (from to : Option ℕ) → add_between number tables line from to ≡ Ok t
     → (f : ℕ) × (g : ℕ) × (from ≡ Some f) × (to ≡ Some g) × (nat_le 64 (length tables.rels) ≡ false)
     × (record tables { rels = tables.rels ++ record { name = line.name; from = f; to = g; mult = line.mult; file = line.file; fields = [] } ∷ [] } ≡ t)
 between_ok number tables t line (Some f) (Some g) e =
@@ -92,7 +92,7 @@ line_whole : (number : ℕ) (tables t : Tables) (line : List ℕ) (b : Bool) →
 line_whole number tables t line true h e = let same : tables ≡ t = cc e in subst AreWhole same h
 line_whole number tables t line false h e = table_whole number tables t (table_of line) h e
 
-then_ok : (r : Result Tables ManifestRefusal) (f : Tables → Result Tables ManifestRefusal) (t : Tables) → and_then r f ≡ Ok t → (u : Tables) × (r ≡ Ok u) × (f u ≡ Ok t)
+pub then_ok : (r : Result Tables ManifestRefusal) (f : Tables → Result Tables ManifestRefusal) (t : Tables) → and_then r f ≡ Ok t → (u : Tables) × (r ≡ Ok u) × (f u ≡ Ok t)
 then_ok (Ok u) f t e = (u, refl, e)
 then_ok (Err x) f t e = cc
 

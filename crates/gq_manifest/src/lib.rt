@@ -4,9 +4,11 @@
 mod cut;
 mod line;
 mod manifest;
+mod order;
 mod tables;
 
 pub use manifest::{ManifestRefusal, read_manifest};
+pub use order::{TableNumber, read_order};
 
 #[cfg(test)]
 mod tests;

@@ -1,6 +1,6 @@
-//! Manifests that are read, and each refusal at its first place and just not there, worked out by hand.
+//! Manifests that are read, their order, and each refusal at its first place and just not there, worked out by hand.
 
-use crate::read_manifest;
+use crate::{TableNumber, read_manifest, read_order};
 use gq_base::Catalog;
 use std::fmt::Write;
 use std::test::Fail;
@@ -133,10 +133,10 @@ fn bytes_that_are_no_text(rt: HostRuntime) -> Result<(), Fail> {
 fn many(rt: &HostRuntime, nodes: u32, rels: u32, last: &str) -> Result<String, Fail> {
     let mut text = String::new(rt.alloc());
     for i in 0..nodes {
-        writeln!(text, "node N{i} n")?;
+        writeln!(text, "node Label{i} n")?;
     }
     for i in 0..rels {
-        writeln!(text, "rel R{i} N0 N0 one_one r")?;
+        writeln!(text, "rel Type{i} Label0 Label0 one_one r")?;
     }
     text.push_str(last)?;
     Ok(text)
@@ -147,15 +147,73 @@ fn at_most_64_tables_of_a_form(rt: HostRuntime) -> Result<(), Fail> {
     for (nodes, rels, last, refusal) in [
         (63, 0, "node A a\nx", "BadLine { line: 65 }"),
         (64, 0, "node A a", "TooManyTables { line: 65 }"),
-        (64, 0, "node N0 a", "LabelRepeated { line: 65 }"),
-        (64, 63, "rel R N63 N0 one_one r\nx", "BadLine { line: 129 }"),
-        (1, 64, "rel R N0 N0 one_one r", "TooManyTables { line: 66 }"),
-        (1, 64, "rel R0 N0 N0 one_one r", "TypeRepeated { line: 66 }"),
-        (1, 64, "rel R N0 N1 one_one r", "NoSuchLabel { line: 66 }"),
+        (64, 0, "node Label0 a", "LabelRepeated { line: 65 }"),
+        (
+            64,
+            63,
+            "rel Type Label63 Label0 one_one r\nx",
+            "BadLine { line: 129 }",
+        ),
+        (
+            1,
+            64,
+            "rel Type Label0 Label0 one_one r",
+            "TooManyTables { line: 66 }",
+        ),
+        (
+            1,
+            64,
+            "rel Type0 Label0 Label0 one_one r",
+            "TypeRepeated { line: 66 }",
+        ),
+        (
+            1,
+            64,
+            "rel Type Label0 Label1 one_one r",
+            "NoSuchLabel { line: 66 }",
+        ),
     ] {
         let text = many(&rt, nodes, rels, last)?;
         let got = read(&rt, text.as_bytes())?;
         assert_eq!(rt; got.as_str(), refusal);
+    }
+    Ok(())
+}
+
+// The tables of a manifest by their numbers, in the order of their lines.
+fn ordered(rt: &HostRuntime, text: &[u8]) -> Result<String, Fail> {
+    if text.len() > 65536 {
+        return Err(Fail::from("too long"));
+    }
+    let Ok(order) = read_order(rt.alloc(), text) else {
+        return Err(Fail::from("memory"));
+    };
+    let mut shown = String::new(rt.alloc());
+    for table in order.as_slice() {
+        match table {
+            TableNumber::Node(number) => write!(shown, "node {number}|")?,
+            TableNumber::Rel(number) => write!(shown, "rel {number}|")?,
+        }
+    }
+    Ok(shown)
+}
+
+const ORDERED: [(&str, &str); 5] = [
+    ("", ""),
+    ("# node A a\n\n", ""),
+    ("node A a\nnode B b", "node 0|node 1|"),
+    (
+        "node A a\nrel R A A one_one r\n#\nnode B a\nrel S A B many_many r\n",
+        "node 0|rel 0|node 1|rel 1|",
+    ),
+    ("node A a\nx\nnode A a\n", "node 0|node 1|"),
+];
+
+#[test]
+fn orders(rt: HostRuntime) -> Result<(), Fail> {
+    for (text, order) in ORDERED {
+        let got = ordered(&rt, text.as_bytes())?;
+        assert_eq!(rt; got.as_str(), order);
     }
     Ok(())
 }
