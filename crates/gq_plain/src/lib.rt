@@ -2,12 +2,18 @@
 #![tactic(auto)]
 
 ghost use Rattle.std.specs.Prelude.{◌≡◌, [], ◌<◌, length, replicate, IfOk, OnOk, OnErr, Some, slice_get, slice_set};
+ghost use Rattle.gq_base.specs.Catalogs.{with_node_fields, with_rel_fields};
+ghost use Rattle.gq_base.specs.Valid.{is_valid};
 ghost use Rattle.gq_plain.specs.Rows.{with_row};
 
-use gq_base::List;
+mod distinct;
+mod validity;
+
+use gq_base::{Field, List};
 pub use gq_base::{Catalog, Cell, Memory, NodeRows, PlainRel, RelRows, Row};
 use std::alloc::Global;
 use std::marker::Model;
+use validity::are_valid;
 
 /// A property graph as it was loaded: the catalogue, and a list of rows for each table in the catalogue's order.
 #[derive(Debug, Drop)]
@@ -61,6 +67,56 @@ impl PlainGraph {
         self.nodes[table as usize].as_slice()
     }
 
+    /// The relationships of a relationship table, in load order.
+    pub fn rel_rows(&self, table: u32) -> &[PlainRel]
+        requires { table < length self.now.rels }
+        ensures { slice_get self.now.rels table ≡ Some result.now }
+    {
+        self.rels[table as usize].as_slice()
+    }
+
+    /// Whether the graph is valid. It is where
+    ///
+    /// - there are at most 64 node tables and at most 64 relationship tables,
+    /// - a table has at most 64 fields, and no two of them have one name,
+    /// - a row has one cell for each field of its table, null or of the field's kind,
+    /// - a node table has at most 2^24 rows, each with a key (its first cell, which is not null) that no other row has,
+    /// - a relationship table has at most 2^25 relationships, their ends are rows of the node tables that it names, and no
+    ///   node has more of them than the table's multiplicity allows.
+    ///
+    /// It takes n log n steps for n rows, and memory for the keys of a table, which are borrowed, or for a mark for each of
+    /// its rows. `Memory` may come at any graph.
+    pub fn valid(&self, alloc: Global) -> Result<bool, Memory>
+        ensures value { IfOk result (λ answer. answer ≡ is_valid self.now) }
+    {
+        are_valid(
+            alloc,
+            &self.catalog,
+            self.nodes.as_slice(),
+            self.rels.as_slice(),
+        )
+    }
+
+    /// Gives a node table its fields, in place of those that it has.
+    pub fn set_node_fields(&mut self, table: u32, fields: List<Field>)
+        requires { table < length self.old.nodes }
+        ensures catalog { self.new.catalog ≡ record self.old.catalog { nodes = with_node_fields table fields self.old.catalog.nodes } }
+        ensures nodes { self.new.nodes ≡ self.old.nodes }
+        ensures rels { self.new.rels ≡ self.old.rels }
+    {
+        self.catalog.set_node_fields(table, fields);
+    }
+
+    /// Gives a relationship table its fields, in place of those that it has.
+    pub fn set_rel_fields(&mut self, table: u32, fields: List<Field>)
+        requires { table < length self.old.rels }
+        ensures catalog { self.new.catalog ≡ record self.old.catalog { rels = with_rel_fields table fields self.old.catalog.rels } }
+        ensures nodes { self.new.nodes ≡ self.old.nodes }
+        ensures rels { self.new.rels ≡ self.old.rels }
+    {
+        self.catalog.set_rel_fields(table, fields);
+    }
+
     /// Gives a node table its rows, in place of those that it has. They are moved and not copied.
     pub fn set_node_rows(&mut self, table: u32, rows: NodeRows)
         requires { table < length self.old.nodes }
@@ -69,6 +125,16 @@ impl PlainGraph {
         ensures rels { self.new.rels ≡ self.old.rels }
     {
         self.nodes[table as usize] = rows;
+    }
+
+    /// Gives a relationship table its relationships, in place of those that it has. They are moved and not copied.
+    pub fn set_rel_rows(&mut self, table: u32, rels: RelRows)
+        requires { table < length self.old.rels }
+        ensures rels { self.new.rels ≡ slice_set self.old.rels table rels }
+        ensures catalog { self.new.catalog ≡ self.old.catalog }
+        ensures nodes { self.new.nodes ≡ self.old.nodes }
+    {
+        self.rels[table as usize] = rels;
     }
 
     /// Appends a row to a node table. After `Memory` the graph is as before.
@@ -80,6 +146,17 @@ impl PlainGraph {
         ensures rels { self.new.rels ≡ self.old.rels }
     {
         self.nodes[table as usize].push(row)
+    }
+
+    /// Appends a relationship to a relationship table. After `Memory` the graph is as before.
+    pub fn push_rel(&mut self, table: u32, rel: PlainRel) -> Result<(), Memory>
+        requires { table < length self.old.rels }
+        ensures pushed { OnOk result (self.new.rels ≡ with_row table rel self.old.rels) }
+        ensures kept { OnErr result (self.new ≡ self.old) }
+        ensures catalog { self.new.catalog ≡ self.old.catalog }
+        ensures nodes { self.new.nodes ≡ self.old.nodes }
+    {
+        self.rels[table as usize].push(rel)
     }
 }
 

@@ -1,0 +1,2 @@
+pub mod DistinctSteps
+pub mod ZipSteps
