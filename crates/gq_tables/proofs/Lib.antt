@@ -1,0 +1,13 @@
+pub mod Answering
+pub mod CellSteps
+pub mod Counts
+pub mod HeaderSteps
+pub mod KeyMapSteps
+pub mod KeySteps
+pub mod NodeSteps
+pub mod RecordForms
+pub mod RecordSteps
+pub mod RelSteps
+pub mod TableSteps
+pub mod Texts
+pub mod Validity

@@ -1,0 +1,10 @@
+pub mod Answers
+pub mod Cells
+pub mod KeyMaps
+pub mod Keys
+pub mod Nodes
+pub mod Passes
+pub mod Records
+pub mod Rels
+pub mod Sides
+pub mod Unread

@@ -1,0 +1,80 @@
+//! The keys of the rows of a node table, and the rows by their keys.
+ghost use Rattle.std.specs.Prelude.{◌≡◌, ◌<◌, ◌^◌, length, option_map, IfOk, None, Some};
+ghost use Rattle.gq_base.specs.Plain.{cell_val};
+ghost use Rattle.gq_base.specs.Values.{Val, null, val};
+ghost use Rattle.gq_tables.specs.KeyMaps.{is_at_key, row_at, with_row};
+ghost use Rattle.gq_tables.specs.Keys.{find_key};
+ghost use Rattle.gq_base.specs.Valid.{key_of};
+
+use crate::key_map::KeyMap;
+use gq_base::{Cell, Kind, Memory, Row, Value};
+use std::alloc::Global;
+
+/// One end of a relationship table: the kind of the keys of a node table, and its rows.
+#[derive(Clone, Copy)]
+pub struct End<'g> {
+    pub kind: Kind,
+    pub rows: &'g [Row],
+}
+
+/// An end with its rows by their keys: the first row with each key.
+#[derive(Drop)]
+pub(crate) struct Keys<'g> {
+    pub(crate) end: End<'g>,
+    map: KeyMap<'g>,
+    ghost finds: { (v : Val) → row_at map v ≡ find_key end.rows.now v },
+}
+
+impl<'g> Keys<'g> {
+    /// The keys of these rows. It takes n log n steps for n rows.
+    pub(crate) fn new(alloc: Global, end: End<'g>) -> Result<Keys<'g>, Memory>
+        requires { length end.rows.now < 2 ^ 32 }
+        ensures { IfOk result (λ keys. keys.end ≡ end.entry) }
+    {
+        let map = map_keys(alloc, end.rows)?;
+        Ok(Keys { end, map })
+    }
+
+    /// The first row with this key. No row has null as its key.
+    pub(crate) fn find(&self, key: &Value<'_>) -> Option<u32>
+        ensures row { result ≡ find_key self.now.end.rows.now (val key.now) }
+        ensures null { find_key self.now.end.rows.now null ≡ None }
+    {
+        self.map.get(key)
+    }
+}
+
+// From the last row on, so that the first of the rows with one key is the one that stays.
+fn map_keys<'g>(alloc: Global, rows: &'g [Row]) -> Result<KeyMap<'g>, Memory>
+    requires { length rows.now < 2 ^ 32 }
+    ensures { IfOk result (λ map. (v : Val) → row_at map v ≡ find_key rows.now v) }
+{
+    let mut map = KeyMap::new(alloc);
+    let mut at = rows.len();
+    'rows: while at > 0 {
+        at -= 1;
+        put_row(&mut map, &rows[at], at as u32)?;
+    }
+    Ok(map)
+}
+
+/// Puts a row at its key, if it has one, and answers whether there was a row before.
+pub(crate) fn put_row<'k>(map: &mut KeyMap<'k>, row: &'k Row, number: u32) -> Result<bool, Memory>
+    ensures before { IfOk result (λ before. before ≡ is_at_key map.old (key_of row.now)) }
+    ensures put { IfOk result (λ before. (v : Val) →
+        row_at map.new v ≡ with_row (key_of row.now) number v (row_at map.old v)) }
+{
+    match key_of(row) {
+        Some(key) => Ok(map.insert(key, number)?.is_some()),
+        None => Ok(false),
+    }
+}
+
+fn key_of(row: &Row) -> Option<&Cell>
+    ensures { option_map (λ key. cell_val (Some key.now)) result ≡ key_of row.now }
+{
+    match row.as_slice() {
+        [Some(key), ..] => Some(key),
+        _ => None,
+    }
+}

@@ -1,0 +1,21 @@
+//! The rows that the CSV files of a graph give: one table of nodes or of relationships, or why there is none.
+#![tactic(auto)]
+
+mod cells;
+mod header;
+mod key_map;
+mod keys;
+mod nodes;
+mod records;
+mod refusal;
+mod rels;
+mod repeats;
+mod sides;
+
+pub use keys::End;
+pub use nodes::{NodeTableRows, read_nodes};
+pub use refusal::TableRefusal;
+pub use rels::{RelTableRows, read_rels};
+
+#[cfg(test)]
+mod tests;
