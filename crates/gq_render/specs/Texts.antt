@@ -42,3 +42,15 @@ line text = text ++ codes "\n"
 -- a reply of one column: the header, a line for each row, and the number of rows
 abbrev pub column_text : List ℕ → List (Option Cell) → List ℕ
 column_text name cells = line (name_text name) ++ flat_map (λ c. line (cell_text c)) cells ++ line (codes "rows " ++ decimal (length cells))
+
+-- a number in a refusal, and what goes before it
+pub record PlaceText : Type 0 where
+  pub before : List ℕ
+  pub number : ℕ
+
+abbrev pub place_text : PlaceText → List ℕ
+place_text place = place.before ++ decimal place.number
+
+-- the line of a refusal: its front, a name, which may be empty, and where it is
+abbrev pub refusal_line : List ℕ → List ℕ → List PlaceText → List ℕ
+refusal_line front name places = line (front ++ name_text name ++ flat_map place_text places)

@@ -8,7 +8,7 @@ ghost use Rattle.gq_io.specs.Outside.{Writes};
 ghost use Rattle.gq_io.specs.Putting.{Puts};
 ghost use Rattle.gq_render.specs.Texts.{line, name_text, cell_text, column_text};
 
-use crate::name::put_name;
+use crate::escape::{Form, put_escaped};
 use crate::value::{put_cell, put_count};
 use gq_base::{Cell, Row};
 use gq_io::{Batch, Failed, Sink};
@@ -45,33 +45,20 @@ fn put_cells<O: Sink>(
     Ok(())
 }
 
-// Puts the name of the column `variable.property`.
-fn put_column_name<O: Sink>(
-    batch: &mut Batch,
-    out: &mut O,
-    variable: &str,
-    property: &str,
-) -> Result<(), Failed>
+fn put_column_name<O: Sink>(batch: &mut Batch, out: &mut O, name: &[u8]) -> Result<(), Failed>
     ensures bytes { Puts (O.taken out.old) (O.taken out.new) batch.old batch.new
-        (name_text (variable.now ++ codes "." ++ property.now)) result }
+        (name_text name.now) result }
     ensures cause { HasCause (O.faults out.old) (O.faults out.new) result }
 {
-    put_name(batch, out, variable)?;
-    batch.put(out, b".")?;
-    put_name(batch, out, property)
+    put_escaped(batch, out, Form::Name, name)
 }
 
-fn put_header<O: Sink>(
-    batch: &mut Batch,
-    out: &mut O,
-    variable: &str,
-    property: &str,
-) -> Result<(), Failed>
+fn put_header<O: Sink>(batch: &mut Batch, out: &mut O, name: &[u8]) -> Result<(), Failed>
     ensures bytes { Puts (O.taken out.old) (O.taken out.new) batch.old batch.new
-        (line (name_text (variable.now ++ codes "." ++ property.now))) result }
+        (line (name_text name.now)) result }
     ensures cause { HasCause (O.faults out.old) (O.faults out.new) result }
 {
-    put_column_name(batch, out, variable, property)?;
+    put_column_name(batch, out, name)?;
     batch.put(out, b"\n")
 }
 
@@ -88,37 +75,35 @@ fn put_end<O: Sink>(batch: &mut Batch, out: &mut O, count: usize) -> Result<(), 
 fn put_column<O: Sink>(
     batch: &mut Batch,
     out: &mut O,
-    variable: &str,
-    property: &str,
+    name: &[u8],
     rows: &[Row],
     place: Option<usize>,
 ) -> Result<(), Failed>
     ensures bytes { Puts (O.taken out.old) (O.taken out.new) batch.old batch.new
-        (column_text (variable.now ++ codes "." ++ property.now) (map (λ row. cell_at row place) rows.now))
+        (column_text name.now (map (λ row. cell_at row place) rows.now))
         result }
     ensures cause { HasCause (O.faults out.old) (O.faults out.new) result }
 {
-    put_header(batch, out, variable, property)?;
+    put_header(batch, out, name)?;
     put_cells(batch, out, rows, place)?;
     put_end(batch, out, rows.len())
 }
 
-/// Writes the reply whose one column is `variable.property`: the header, a line for the cell at `place` of each row, in
-/// row order, and the number of rows. Where there is no place, or a row has no cell there, the value is null. After
-/// `Failed` the sink took some front of that text.
+/// Writes the reply of one column: its name, a line for the cell at `place` of each row, in row order, and the number of
+/// rows. Where there is no place, or a row has no cell there, the value is null. After `Failed` the sink took some front
+/// of that text.
 pub fn write_column<O: Sink>(
     out: &mut O,
-    variable: &str,
-    property: &str,
+    name: &[u8],
     rows: &[Row],
     place: Option<usize>,
 ) -> Result<(), Failed>
     ensures bytes { Writes (O.taken out.old) (O.taken out.new)
-        (column_text (variable.now ++ codes "." ++ property.now) (map (λ row. cell_at row place) rows.now))
+        (column_text name.now (map (λ row. cell_at row place) rows.now))
         result }
     ensures cause { HasCause (O.faults out.old) (O.faults out.new) result }
 {
     let mut batch = Batch::new();
-    put_column(&mut batch, out, variable, property, rows, place)?;
+    put_column(&mut batch, out, name, rows, place)?;
     batch.flush(out)
 }

@@ -5,10 +5,12 @@
 mod column;
 mod escape;
 mod name;
+mod refusal;
 mod value;
 
 pub use column::write_column;
-pub use name::{write_line_with_name, write_name};
+pub use name::write_name;
+pub use refusal::{Place, write_refusal};
 
 #[cfg(test)]
 mod tests;

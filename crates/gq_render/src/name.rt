@@ -1,10 +1,9 @@
 //! Names in headers, plans and refusals.
 
-ghost use Rattle.std.specs.Prelude.{◌++◌};
 ghost use Rattle.gq_io.specs.Causes.{HasCause};
 ghost use Rattle.gq_io.specs.Outside.{Writes};
 ghost use Rattle.gq_io.specs.Putting.{Puts};
-ghost use Rattle.gq_render.specs.Texts.{line, name_text};
+ghost use Rattle.gq_render.specs.Texts.{name_text};
 
 use crate::escape::{Form, put_escaped};
 use gq_base::Text;
@@ -19,21 +18,6 @@ pub(crate) fn put_name<O: Sink>(batch: &mut Batch, out: &mut O, name: &str) -> R
     put_escaped(batch, out, Form::Name, name.as_bytes())
 }
 
-fn put_line_with_name<O: Sink>(
-    batch: &mut Batch,
-    out: &mut O,
-    front: &str,
-    name: &str,
-) -> Result<(), Failed>
-    ensures bytes { Puts (O.taken out.old) (O.taken out.new) batch.old batch.new
-        (line (front.now ++ name_text name.now)) result }
-    ensures cause { HasCause (O.faults out.old) (O.faults out.new) result }
-{
-    batch.put(out, front.as_bytes())?;
-    put_name(batch, out, name)?;
-    batch.put(out, b"\n")
-}
-
 /// Writes a name as it is, but backslash, LF, CR and tab as `\\`, `\n`, `\r` and `\t`. After `Failed` the sink took some
 /// front of that text.
 pub fn write_name<O: Sink>(out: &mut O, name: &Text) -> Result<(), Failed>
@@ -42,16 +26,5 @@ pub fn write_name<O: Sink>(out: &mut O, name: &Text) -> Result<(), Failed>
 {
     let mut batch = Batch::new();
     put_name(&mut batch, out, name.as_str())?;
-    batch.flush(out)
-}
-
-/// Writes a line: this front, which goes out as it is, and then a name as `write_name` writes it. After `Failed` the sink
-/// took some front of that text.
-pub fn write_line_with_name<O: Sink>(out: &mut O, front: &str, name: &Text) -> Result<(), Failed>
-    ensures bytes { Writes (O.taken out.old) (O.taken out.new) (line (front.now ++ name_text name.now)) result }
-    ensures cause { HasCause (O.faults out.old) (O.faults out.new) result }
-{
-    let mut batch = Batch::new();
-    put_line_with_name(&mut batch, out, front, name.as_str())?;
     batch.flush(out)
 }

@@ -2,7 +2,7 @@
 
 ghost use Rattle.std.specs.Prelude.{◌<◌};
 
-use crate::{write_column, write_line_with_name, write_name};
+use crate::{Place, write_column, write_name, write_refusal};
 use gq_base::{Cell, List, Row, Text};
 use gq_io::MemorySink;
 use std::test::Fail;
@@ -53,10 +53,32 @@ fn names_are_written(rt: HostRuntime) -> Result<(), Fail> {
         assert!(rt; result.is_ok());
         assert_eq!(rt; out.taken(), want.as_bytes());
     }
+    Ok(())
+}
+
+#[test]
+fn refusals_are_written(rt: HostRuntime) -> Result<(), Fail> {
     let mut out = sink(&rt, 4096, 99_999)?;
-    let result = write_line_with_name(&mut out, "load: NoFile ", &text(&rt, "a\nb")?);
+    let result = write_refusal(&mut out, "load: NoFile ", "a\nb", &[]);
     assert!(rt; result.is_ok());
     assert_eq!(rt; out.taken(), b"load: NoFile a\\nb\n".as_slice());
+    let places = [
+        Place {
+            before: " record ",
+            number: 4_294_967_295,
+        },
+        Place {
+            before: " column ",
+            number: 0,
+        },
+    ];
+    let mut out = sink(&rt, 3, 99_999)?;
+    let result = write_refusal(&mut out, "error: X", "", &places);
+    assert!(rt; result.is_ok());
+    assert_eq!(rt;
+        out.taken(),
+        b"error: X record 4294967295 column 0\n".as_slice()
+    );
     Ok(())
 }
 
@@ -78,7 +100,7 @@ fn columns_are_written(rt: HostRuntime) -> Result<(), Fail> {
     ] {
         for piece in [1, 7, 4096] {
             let mut out = sink(&rt, piece, 99_999)?;
-            let result = write_column(&mut out, "p", "a\tb", &rows, place);
+            let result = write_column(&mut out, b"p.a\tb", &rows, place);
             assert!(rt; result.is_ok());
             assert_eq!(rt; out.taken(), want.as_bytes());
         }
@@ -92,7 +114,7 @@ fn a_failed_write_leaves_a_front(rt: HostRuntime) -> Result<(), Fail> {
     let want = b"p.a\nnull\ntrue\nfalse\nrows 3\n";
     for failing in 0..7 {
         let mut out = sink(&rt, 4, failing)?;
-        let result = write_column(&mut out, "p", "a", &rows, Some(2));
+        let result = write_column(&mut out, b"p.a", &rows, Some(2));
         assert!(rt; result.is_err());
         assert_eq!(rt; out.taken(), &want[..4 * failing as usize]);
     }

@@ -11,8 +11,8 @@ use Rattle.gq_render.proofs.column.put_column.Goals as goal
 abbrev Rows : Type 0
 Rows = List (List (Option Cell))
 
-abbrev header : List ℕ → List ℕ → List ℕ
-header variable property = line (name_text (variable ++ codes "." ++ property))
+abbrev header : List ℕ → List ℕ
+header name = line (name_text name)
 
 abbrev body : Option ℕ → Rows → List ℕ
 body place rows = flat_map (λ row. line (cell_text (cell_at row place))) rows
@@ -20,25 +20,25 @@ body place rows = flat_map (λ row. line (cell_text (cell_at row place))) rows
 abbrev end : Rows → List ℕ
 end rows = line (codes "rows " ++ decimal (length rows))
 
-whole : (variable property : List ℕ) (place : Option ℕ) (rows : Rows)
-    → (header variable property ++ body place rows) ++ end rows ≡ column_text (variable ++ codes "." ++ property) (map (λ row. cell_at row place) rows)
-whole variable property place rows =
+whole : (name : List ℕ) (place : Option ℕ) (rows : Rows)
+    → (header name ++ body place rows) ++ end rows ≡ column_text name (map (λ row. cell_at row place) rows)
+whole name place rows =
     let cells = map (λ (row : List (Option Cell)). cell_at row place) rows in
-    ap (λ b. (header variable property ++ b) ++ end rows) (sym (flat_map-map (λ c. line (cell_text c)) (λ row. cell_at row place) rows))
-    ∙ ap (λ n. (header variable property ++ flat_map (λ c. line (cell_text c)) cells) ++ line (codes "rows " ++ decimal n)) (sym (length-map rows (λ row. cell_at row place)))
+    ap (λ b. (header name ++ b) ++ end rows) (sym (flat_map-map (λ c. line (cell_text c)) (λ row. cell_at row place) rows))
+    ∙ ap (λ n. (header name ++ flat_map (λ c. line (cell_text c)) cells) ++ line (codes "rows " ++ decimal n)) (sym (length-map rows (λ row. cell_at row place)))
 
 pub returns-in_err-put_header-clause-bytes : goal.returns-in_err-put_header-clause-bytes
 returns-in_err-put_header-clause-bytes g c =
-    let name = c.args.variable.now in let property = c.args.property.now in let place = c.args.place in let rows = c.args.rows.now in
+    let name = c.args.name.now in let place = c.args.place in let rows = c.args.rows.now in
     first_broke _ _ _ _ _ _ _ (body place rows ++ end rows) _ _ _ _ c.put_header.ensures.bytes c.in_err-put_header.was c.from_residual.ensures.1
-    (sym (append_assoc (header name property) (body place rows) (end rows)) ∙ whole name property place rows)
+    (sym (append_assoc (header name) (body place rows) (end rows)) ∙ whole name place rows)
 
 pub returns-in_err-put_cells-clause-bytes : goal.returns-in_err-put_cells-clause-bytes
 returns-in_err-put_cells-clause-bytes g c =
     next_broke _ _ _ _ _ _ _ _ _ _ (end c.args.rows.now) _ _ _ _ c.in_ok-put_header.ensures.bytes c.put_cells.ensures.bytes c.in_err-put_cells.was c.from_residual-in_err-put_cells.ensures.1
-    (whole c.args.variable.now c.args.property.now c.args.place c.args.rows.now)
+    (whole c.args.name.now c.args.place c.args.rows.now)
 
 pub returns-clause-bytes : goal.returns-clause-bytes
 returns-clause-bytes g c =
     puts_then _ _ _ _ _ _ _ _ _ _ (put_then _ _ _ _ _ _ _ _ _ c.in_ok-put_header.ensures.bytes c.in_ok-put_cells.ensures.bytes refl) c.put_end.ensures.bytes
-    (whole c.args.variable.now c.args.property.now c.args.place c.args.rows.now)
+    (whole c.args.name.now c.args.place c.args.rows.now)

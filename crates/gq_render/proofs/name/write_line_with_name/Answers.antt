@@ -1,8 +1,0 @@
-use Rattle.std.proofs.Common.{ap, ◌++◌}
-use Rattle.gq_render.specs.Texts.{line, name_text}
-use Rattle.gq_render.proofs.Sequence.{written}
-use Rattle.gq_render.proofs.name.write_line_with_name.Goals as goal
-
-pub returns-clause-bytes : goal.returns-clause-bytes
-returns-clause-bytes g c =
-    written _ _ _ _ _ _ _ _ _ c.new-batch.ensures c.in_ok-put_line_with_name.ensures.bytes c.flush.ensures.bytes (ap (λ n. line (c.args.front.now ++ name_text n)) c.as_str.ensures.bytes)
