@@ -1,8 +1,2 @@
-pub mod Answering
-pub mod Cuts
-pub mod FieldLaws
-pub mod HeaderSteps
-pub mod KeySteps
-pub mod ListLaws
-pub mod RecordSteps
-pub mod RowSteps
+pub mod Effecting
+pub mod Rest

@@ -1,55 +1,35 @@
 -- How the answers of the loader's calls speak of the definition of a load.
-use Rattle.std.specs.Prelude.{◌≡◌, ◌≤◌, ◌<◌, ℕ, List, length, Option, Some, None, IfSome, Result, Ok, Err}
-use Rattle.gq_base.specs.Plain.{Graph}
-use Rattle.gq_io.specs.Causes.{Rose}
+use Rattle.std.specs.Prelude.{◌≡◌, ◌<◌, ◌≤◌, All, length, IfSome, Ok, Err}
+use Rattle.std.specs.declared.option.Option.{Option}
+use Rattle.std.specs.declared.result.Result.{Result}
+use Rattle.gq_base.specs.Catalogs.{Tables}
 use Rattle.gq_io.specs.Outside.{Names}
-use Rattle.gq_loader.specs.Loads.{Line, load_of, loaded, no_file, not_built}
-use Rattle.gq_loader.specs.declared.loading.LoadRefusal.{LoadRefusal}
-use Rattle.gq_loader.specs.declared.loading.LoadRefusal.TheVariants as refusal
-use Rattle.gq_loader.specs.declared.manifest.Line.{Line as ReadLine}
-use Rattle.gq_loader.specs.declared.table.TableStop.{TableStop}
-use Rattle.gq_loader.specs.declared.table.TableStop.TheVariants as stop
+use Rattle.gq_loader.specs.Refusals.{IsOfFiles}
+use Rattle.gq_loader.specs.declared.limits.Limits.{Limits}
+use Rattle.gq_loader.specs.declared.refusal.LoadRefusal.{LoadRefusal}
+use Rattle.gq_loader.specs.declared.tables.Loading.{Loading}
 
--- `Ok` with what is meant, `NotBuilt` where nothing is, and want of memory at any time
-abbrev pub Reads : {T : Type 0} → Option T → Result T TableStop → Type 0
-Reads meant (Ok value) = meant ≡ Some value
-Reads meant (Err stop.NotBuilt) = meant ≡ None
-Reads meant (Err stop.Memory) = Unit {0}
+-- where the files are told, the answer is the one that is meant; a failed call and want of memory may be answered at any time
+abbrev pub Answers : {T : Type 0} → Option Names → (Names → Result T LoadRefusal) → Result T LoadRefusal → Type 0
+Answers held meant (Ok value) = IfSome held (λ files. meant files ≡ Ok value)
+Answers held meant (Err e) = IsOfFiles e → IfSome held (λ files. meant files ≡ Err e)
 
--- the line of a manifest that was read
-abbrev pub seen_line : ReadLine → Line
-seen_line line = record { label = line.label.now; file = line.file.now }
+-- the same, where `Ok` leaves what is meant behind
+abbrev pub Leaves : {S T : Type 0} → Option Names → (Names → Result S LoadRefusal) → S → Result T LoadRefusal → Type 0
+Leaves held meant left (Ok done) = IfSome held (λ files. meant files ≡ Ok left)
+Leaves held meant left (Err e) = IsOfFiles e → IfSome held (λ files. meant files ≡ Err e)
 
--- the answer of a load is that of its definition, where the files are told; a fault and want of memory may come at any time
-abbrev pub Loads : List ℕ → Option Names → Result Graph LoadRefusal → Type 0
-Loads name held (Ok graph) = IfSome held (λ files. load_of name files ≡ loaded graph)
-Loads name held (Err (refusal.NoFile file)) = IfSome held (λ files. load_of name files ≡ no_file file)
-Loads name held (Err (refusal.NotBuilt file)) = IfSome held (λ files. load_of name files ≡ not_built file)
-Loads name held (Err (refusal.ReadFault file)) = Unit {0}
-Loads name held (Err refusal.Memory) = Unit {0}
+-- a graph some of whose tables were read: its relationship tables have their ends, and no more was read than may be
+pub record IsGoing (limits : Limits) (loading : Loading) : Type 0 where
+  pub ends : All (λ t. (t.from < length loading.graph.nodes) × (t.to < length loading.graph.nodes)) loading.graph.catalog.rels
+  pub few_rows : All (λ rows. length rows ≤ limits.nodes) loading.graph.nodes
+  pub few_bytes : loading.total ≤ limits.total_bytes
 
--- the bytes of a file, of which there are at most so many, or why there are none
-abbrev pub ReadsFile : List ℕ → ℕ → Option Names → Result (List ℕ) LoadRefusal → Type 0
-ReadsFile name most held (Ok bytes) = IfSome held (λ files. (files name ≡ Some bytes) × (length bytes ≤ most))
-ReadsFile name most held (Err (refusal.NoFile file)) = (file ≡ name) × IfSome held (λ files. files name ≡ None)
-ReadsFile name most held (Err (refusal.NotBuilt file)) = (file ≡ name) × IfSome held (λ files. (bytes : List ℕ) × (files name ≡ Some bytes) × (most < length bytes))
-ReadsFile name most held (Err (refusal.ReadFault file)) = Unit {0}
-ReadsFile name most held (Err refusal.Memory) = Unit {0}
+-- the same within any limits, since nothing was read
+abbrev pub IsFresh : Loading → Type 0
+IsFresh loading = (limits : Limits) → IsGoing limits loading
 
-abbrev RoseIfFault : {T : Type 0} → ℕ → ℕ → Result T LoadRefusal → Type 0
-RoseIfFault before now (Err (refusal.ReadFault file)) = Rose before now
-RoseIfFault before now result = Unit {0}
-
--- the count of faults did not fall, and `ReadFault` comes only where it rose
-pub record ByFault {T : Type 0} (before now : ℕ) (result : Result T LoadRefusal) : Type 0 where
-  pub later : before ≤ now
-  pub failed : RoseIfFault before now result
-
-abbrev RoseIfMiss : {T : Type 0} → ℕ → ℕ → Result T LoadRefusal → Type 0
-RoseIfMiss before now (Err (refusal.NoFile file)) = Rose before now
-RoseIfMiss before now result = Unit {0}
-
--- the count of misses did not fall, and `NoFile` comes only where it rose
-pub record ByMiss {T : Type 0} (before now : ℕ) (result : Result T LoadRefusal) : Type 0 where
-  pub later : before ≤ now
-  pub missed : RoseIfMiss before now result
+-- as many tables of each form
+pub record AsMany (old new : Tables) : Type 0 where
+  pub nodes : length new.nodes ≡ length old.nodes
+  pub rels : length new.rels ≡ length old.rels

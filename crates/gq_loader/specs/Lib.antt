@@ -1,6 +1,6 @@
 pub mod Answers
-pub mod Fields
-pub mod Lists
+pub mod Effects
+pub mod Files
+pub mod Limits
 pub mod Loads
-pub mod Records
-pub mod Unread
+pub mod Refusals

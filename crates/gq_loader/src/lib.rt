@@ -1,17 +1,15 @@
-//! The load of a graph from its manifest and its CSV files.
+//! The load of a graph from a manifest and the CSV files of its tables.
 #![tactic(auto)]
 
-mod fields;
-mod header;
-mod keys;
+mod file;
+mod limits;
 mod loading;
-mod manifest;
-mod records;
-mod rows;
-mod table;
+mod refusal;
+mod tables;
 
-pub use fields::{BadField, read_int, read_text};
-pub use loading::{LoadRefusal, load};
+pub use limits::Limits;
+pub use loading::load;
+pub use refusal::LoadRefusal;
 
 #[cfg(test)]
 mod tests;

@@ -1,4 +1,3 @@
 pub mod OneStatus
-pub mod Queries
 pub mod Replying
 pub mod Running

@@ -1,12 +1,16 @@
 -- For given words, files and input one status alone may be answered.
-use Rattle.std.proofs.Common.{◌≡◌, ℕ, List, [], Some, None, refl, sym, ap, ◌∙◌, subst, inl, inr}
+use Rattle.std.proofs.Common.{◌≡◌, ℕ, List, [], Some, None, Ok, Err, refl, sym, ap, ◌∙◌, subst, inl, inr}
 use Rattle.std.specs.Prelude.{◌⊎◌, Option}
 use Rattle.gq_base.specs.Plain.{Graph}
 use Rattle.std.specs.Io.KnownBytes.{Appends}
 use Rattle.gq_io.specs.Causes.{Rose}
 use Rattle.gq_io.specs.Outside.{Names}
+use Rattle.gq_loader.specs.Limits.{standard}
 use Rattle.gq_loader.specs.Loads.{load_of}
-use Rattle.gq_shell.specs.Claim.{IsAnswered, IsRefused, IsTooLong, Outside, Over, Permits, Refuses, Replies, Runs, Whole, path_of}
+use Rattle.gq_syntax.proofs.Exact.{comes_statement}
+use Rattle.gq_syntax.specs.declared.refusal.SyntaxRefusal.TheVariants as refusal
+use Rattle.gq_shell.specs.Claim.{IsAnswered, IsListing, IsNotBuilt, IsRefused, IsWrong, refusal_text, IsTooLong, Outside, Over, Permits, Refuses, Replies, Runs, Whole, path_of}
+use Rattle.gq_shell.specs.Listings.{Listing, listing_of}
 use Rattle.gq_shell.specs.Statements.{statement_of}
 use Rattle.gq_shell.specs.declared.status.Status.{Status}
 use Rattle.gq_shell.specs.declared.status.Status.TheVariants as status
@@ -27,16 +31,27 @@ module _ (words : List (List ℕ)) (files : Names) (input : List ℕ) where
   no_load : (Says : Graph → List ℕ → Type 0) (text : List ℕ) → Permits words (Some files) (Some input) status.NotLoaded text → Over words (Some files) (Some input) Says → ⊥
   no_load Says text (path, is, refuses) over =
       let same : path ≡ over.path = ap (path_or []) (sym is ∙ over.given) in
-      subst (λ l. Refuses l text) over.told.1 (subst (λ p. Refuses (load_of p files) text) same refuses)
+      subst (λ l. Refuses l text) over.told.1 (subst (λ p. Refuses (load_of p files standard) text) same refuses)
 
   -- the input was too long and was not
   no_length : (Says Other : Graph → List ℕ → Type 0) → Over words (Some files) (Some input) (λ graph input. IsTooLong input × Says graph input)
       → Over words (Some files) (Some input) (λ graph input. (¬ (IsTooLong input)) × Other graph input) → ⊥
   no_length Says Other long short = short.told.2.0 long.told.2.0
 
+  -- a query that is built is neither wrong nor unbuilt
+  no_listing : (listing : Listing) → IsListing (statement_of input) listing → (text : List ℕ) → IsWrong (statement_of input) text ⊎ IsNotBuilt (statement_of input) text → ⊥
+  no_listing listing query text (inl wrong) = elim ((comes_statement (statement_of input) (Err wrong.why) wrong.cause query.tree).1 query.spelled) [
+    | inl e ↦ cc e
+    | inr e ↦ (let memory : wrong.why ≡ refusal.Memory = cc e in let none : None ≡ Some text = ap refusal_text (sym memory) ∙ wrong.is in cc none)
+  ]
+  no_listing listing query text (inr other) = elim ((comes_statement (statement_of input) (Ok other.tree) other.spelled query.tree).1 query.spelled) [
+    | inl e ↦ (let same : other.tree ≡ query.tree = cc e in let clash : None ≡ Some listing = sym other.other ∙ ap listing_of same ∙ query.built in cc clash)
+    | inr e ↦ cc e
+  ]
+
   no_reply : (graph : Graph) (text text' : List ℕ) → Replies graph (statement_of input) text → IsRefused (statement_of input) text' → ⊥
   no_reply graph text text' (inl blank) refused = refused.written blank.0
-  no_reply graph text text' (inr (v, l, p, query, lists)) refused = refused.other v l p query
+  no_reply graph text text' (inr (listing, query, lists)) refused = no_listing listing query text' refused.why
 
   -- the statement was answered and refused
   no_answer : (text text' : List ℕ) → Permits words (Some files) (Some input) status.Ended text → Permits words (Some files) (Some input) status.Refused text' → ⊥

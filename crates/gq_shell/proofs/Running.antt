@@ -1,17 +1,20 @@
 -- From the parts of a run to the whole run.
-use Rattle.std.proofs.Common.{◌≡◌, ℕ, ◌<◌, ◌≤◌, List, [], ◌++◌, length, Some, None, refl, sym, subst, arith, inl}
-use Rattle.std.specs.Prelude.{Option, IfSome, Result, Err, codes}
+use Rattle.std.proofs.Common.{◌≡◌, ℕ, ◌<◌, ◌≤◌, List, [], length, Some, None, refl, sym, subst, arith, inl}
+use Rattle.std.specs.Prelude.{Option, IfSome, Result, Ok, Err}
 use Rattle.gq_base.specs.Plain.{Graph}
 use Rattle.gq_io.specs.Outside.{Names}
 use Rattle.gq_io.specs.Reading.{ReadsWithin}
 use Rattle.gq_io.specs.declared.ReadFile.{ReadFile}
 use Rattle.gq_io.specs.declared.ReadStop.{ReadStop}
 use Rattle.gq_io.proofs.Moved.{Appends-none, Consumes-none}
-use Rattle.gq_loader.specs.Answers.{ByFault, Loads}
-use Rattle.gq_loader.specs.declared.LoadRefusal.{LoadRefusal}
-use Rattle.gq_loader.specs.declared.LoadRefusal.TheVariants as refusal
-use Rattle.gq_loader.specs.Loads.{Loading, load_of, loaded, no_file, not_built}
-use Rattle.gq_render.specs.Texts.{line, name_text}
+use Rattle.gq_loader.specs.Answers.{Answers}
+use Rattle.gq_loader.specs.Effects.{ByFault}
+use Rattle.gq_loader.specs.Limits.{standard}
+use Rattle.gq_loader.specs.Loads.{load_of}
+use Rattle.gq_loader.specs.Refusals.{IsOfFiles}
+use Rattle.gq_loader.specs.declared.refusal.LoadRefusal.{LoadRefusal}
+use Rattle.gq_loader.specs.declared.refusal.LoadRefusal.TheVariants as refusal
+use Rattle.gq_shell.specs.LoadLines.{load_line}
 use Rattle.gq_shell.specs.Claim.{Ends, IsTooLong, Outside, Over, Permits, Refuses, Runs, path_of}
 use Rattle.gq_shell.specs.Steps.{EndsLoad, Finishes, MayAnswer, MayRefuseLoad, MayRefuseWords}
 use Rattle.gq_shell.specs.declared.status.Status.{Status}
@@ -30,7 +33,7 @@ ended words outside May permits status.Usage (text, may, moved) = record { text 
 ended words outside May permits status.NotLoaded (text, may, moved) = record { text = text; permitted = permits status.NotLoaded text may; moved = moved }
 ended words outside May permits status.TooLong (text, may, moved) = record { text = text; permitted = permits status.TooLong text may; moved = moved }
 ended words outside May permits status.ReadFault (text, may, moved) = absurd (permits status.ReadFault text may)
-ended words outside May permits status.Memory (text, may, moved) = absurd (permits status.Memory text may)
+ended words outside May permits status.Memory kept = kept
 
 -- a run that read no input
 pub unread : (words : List (List ℕ)) (outside : Outside) (answer : Status) → outside.unread ≡ outside.left → Ends words outside answer → Runs words outside answer
@@ -46,24 +49,23 @@ words_refused words outside none status.WriteFault text may = absurd may
 words_refused words outside none status.Memory text may = absurd may
 words_refused words outside none status.TooLong text may = absurd may
 
-refused : (held : Option Names) (path text : List ℕ) (loading : Loading) → IfSome held (λ files. load_of path files ≡ loading) → Refuses loading text
-    → IfSome held (λ files. Refuses (load_of path files) text)
-refused None path text loading is refuses = tt
-refused (Some files) path text loading is refuses = subst (λ l. Refuses l text) (sym is) refuses
+refused : (held : Option Names) (path text : List ℕ) (e : LoadRefusal) → IsOfFiles e → IfSome held (λ files. load_of path files standard ≡ Err e) → text ≡ load_line e
+    → IfSome held (λ files. Refuses (load_of path files standard) text)
+refused None path text e ours is says = tt
+refused (Some files) path text e ours is says = subst (λ r. Refuses r text) (sym is) (ours, says)
 
 module _ (words : List (List ℕ)) (outside : Outside) (path : List ℕ) (path_is : path_of words ≡ Some path) where
-  pub load_refused : (front name : List ℕ) (loading : Loading) → ((text : List ℕ) → text ≡ line (front ++ name_text name) → Refuses loading text)
-      → IfSome outside.held (λ files. load_of path files ≡ loading) → IsPermitted words outside (MayRefuseLoad front name)
-  load_refused front name loading says is status.NotLoaded text may = (path, path_is, refused outside.held path text loading is (says text may))
-  load_refused front name loading says is status.Ended text may = absurd may
-  load_refused front name loading says is status.Refused text may = absurd may
-  load_refused front name loading says is status.Usage text may = absurd may
-  load_refused front name loading says is status.ReadFault text may = absurd may
-  load_refused front name loading says is status.WriteFault text may = absurd may
-  load_refused front name loading says is status.Memory text may = absurd may
-  load_refused front name loading says is status.TooLong text may = absurd may
+  pub load_refused : (e : LoadRefusal) → IsOfFiles e → IfSome outside.held (λ files. load_of path files standard ≡ Err e) → IsPermitted words outside (MayRefuseLoad e)
+  load_refused e ours is status.NotLoaded text may = (path, path_is, refused outside.held path text e ours is may)
+  load_refused e ours is status.Ended text may = absurd may
+  load_refused e ours is status.Refused text may = absurd may
+  load_refused e ours is status.Usage text may = absurd may
+  load_refused e ours is status.ReadFault text may = absurd may
+  load_refused e ours is status.WriteFault text may = absurd may
+  load_refused e ours is status.Memory text may = absurd may
+  load_refused e ours is status.TooLong text may = absurd may
 
-  over : (held : Option Names) (left : Option (List ℕ)) (graph : Graph) (Says : Graph → List ℕ → Type 0) → IfSome held (λ files. load_of path files ≡ loaded graph)
+  over : (held : Option Names) (left : Option (List ℕ)) (graph : Graph) (Says : Graph → List ℕ → Type 0) → IfSome held (λ files. load_of path files standard ≡ Ok graph)
       → IfSome left (Says graph) → Over words held left Says
   over None left graph Says is says = record { path = path; given = path_is; told = tt }
   over (Some files) None graph Says is says = record { path = path; given = path_is; told = tt }
@@ -73,7 +75,7 @@ module _ (words : List (List ℕ)) (outside : Outside) (path : List ℕ) (path_i
   said None bytes P is p = tt
   said (Some all) bytes P is p = subst P is p
 
-  pub answered : (graph : Graph) (bytes : List ℕ) → IfSome outside.held (λ files. load_of path files ≡ loaded graph) → IfSome outside.left (λ all. bytes ≡ all)
+  pub answered : (graph : Graph) (bytes : List ℕ) → IfSome outside.held (λ files. load_of path files standard ≡ Ok graph) → IfSome outside.left (λ all. bytes ≡ all)
       → IsPermitted words outside (MayAnswer graph bytes)
   answered graph bytes is whole status.Ended text may = over outside.held outside.left graph _ is (said outside.left bytes _ whole may)
   answered graph bytes is whole status.Refused text may = over outside.held outside.left graph _ is (said outside.left bytes _ whole may)
@@ -91,7 +93,7 @@ module _ (words : List (List ℕ)) (outside : Outside) (path : List ℕ) (path_i
   longer None long = tt
   longer (Some all) long = (inl long, refl)
 
-  pub too_long : (graph : Graph) → IfSome outside.held (λ files. load_of path files ≡ loaded graph) → IfSome outside.left (λ all. 65537 < length all)
+  pub too_long : (graph : Graph) → IfSome outside.held (λ files. load_of path files standard ≡ Ok graph) → IfSome outside.left (λ all. 65537 < length all)
       → outside.took ≡ outside.taken → Ends words outside status.TooLong
   too_long graph is long same = record {
     text = no_bytes;
@@ -113,18 +115,22 @@ module _ (words : List (List ℕ)) (outside : Outside) (answer : Status) where
   exit_words none same finished = unread words outside answer same (ended words outside MayRefuseWords (words_refused words outside none) answer finished)
 
   module _ (path : List ℕ) (path_is : path_of words ≡ Some path) where
-    -- the load gave no graph
-    pub exit_refused : (graph : Result Graph LoadRefusal) (refusal : LoadRefusal) → graph ≡ Err refusal → Loads path outside.held graph
-        → ByFault outside.files_faults.before outside.files_faults.now graph → outside.unread ≡ outside.left
-        → EndsLoad refusal outside.taken outside.took outside.out_faults.before outside.out_faults.now answer → Runs words outside answer
-    exit_refused graph (refusal.NoFile name) is loads fault same finished = unread words outside answer same
-        (ended words outside _ (load_refused words outside path path_is (codes "load: NoFile ") name (no_file name) (λ text says. says) (rw is at loads)) answer finished)
-    exit_refused graph (refusal.NotBuilt name) is loads fault same finished = unread words outside answer same
-        (ended words outside _ (load_refused words outside path path_is (codes "load: NotBuilt ") name (not_built name) (λ text says. says) (rw is at loads)) answer finished)
-    exit_refused graph (refusal.ReadFault name) is loads fault same finished = unread words outside answer same (rw finished.1 (finished.0, inl (rw is at fault.failed)))
-    exit_refused graph refusal.Memory is loads fault same finished = unread words outside answer same (rw finished.1 finished.0)
+    abbrev Meant : Result Graph LoadRefusal → Type 0
+    Meant graph = Answers outside.held (λ files. load_of path files standard) graph
 
-    pub exit_answered : (graph : Graph) (bytes : List ℕ) (read : Result ReadFile ReadStop) → IfSome outside.held (λ files. load_of path files ≡ loaded graph)
+    -- the load was refused, and its line was written
+    exit_line : (e : LoadRefusal) → IsOfFiles e → Meant (Err e) → outside.unread ≡ outside.left → Finished (MayRefuseLoad e) → Runs words outside answer
+    exit_line e ours loads same finished = unread words outside answer same (ended words outside _ (load_refused words outside path path_is e ours (loads ours)) answer finished)
+
+    -- the load gave no graph
+    pub exit_refused : (graph : Result Graph LoadRefusal) (e : LoadRefusal) → graph ≡ Err e → Meant graph
+        → ByFault outside.files_faults.before outside.files_faults.now graph → outside.unread ≡ outside.left
+        → EndsLoad e outside.taken outside.took outside.out_faults.before outside.out_faults.now answer → Runs words outside answer
+    exit_refused graph (refusal.ReadFault name) is loads fault same finished = unread words outside answer same (rw finished.1 (finished.0, inl (fault.failed name is)))
+    exit_refused graph refusal.Memory is loads fault same finished = unread words outside answer same (rw finished.1 finished.0)
+    exit_refused graph e is loads fault same finished = exit_line e tt (rw is at loads) same finished
+
+    pub exit_answered : (graph : Graph) (bytes : List ℕ) (read : Result ReadFile ReadStop) → IfSome outside.held (λ files. load_of path files standard ≡ Ok graph)
         → ReadsWithin 65537 outside.left outside.unread read → IfSome outside.left (λ all. (length all ≤ 65537) × (bytes ≡ all))
         → Finished (MayAnswer graph bytes) → Runs words outside answer
     exit_answered graph bytes read is within whole finished = record {
@@ -134,7 +140,7 @@ module _ (words : List (List ℕ)) (outside : Outside) (answer : Status) where
       ends = ended words outside _ (answered words outside path path_is graph bytes is (second outside.left _ _ whole)) answer finished;
     }
 
-    pub exit_too_long : (graph : Graph) (read : Result ReadFile ReadStop) → IfSome outside.held (λ files. load_of path files ≡ loaded graph)
+    pub exit_too_long : (graph : Graph) (read : Result ReadFile ReadStop) → IfSome outside.held (λ files. load_of path files standard ≡ Ok graph)
         → ReadsWithin 65537 outside.left outside.unread read → IfSome outside.left (λ all. 65537 < length all)
         → outside.took ≡ outside.taken → answer ≡ status.TooLong → Runs words outside answer
     exit_too_long graph read is within long same answer_is = record {

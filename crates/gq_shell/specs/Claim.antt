@@ -1,16 +1,26 @@
 -- The claim of `run`: which status the program answers for its words, the files and its input, and what it writes.
 -- It rests on `load_of` (which graph the files give), `properties` (the plain graph's values of a property),
--- `column_text` and `name_text` (how a reply is spelled), `statement_of` and `IsQuery` (the statement and its form).
-use Rattle.std.specs.Prelude.{◌≡◌, ◌≢◌, ◌⊎◌, ℕ, ◌<◌, ◌≤◌, List, [], ◌∷◌, ◌++◌, length, codes, Option, Some, None, IfSome, IsPermutation, if◌then◌else◌}
+-- `column_text` and `load_line` (how a reply is spelled), `statement_of` (the statement), `SpelledText` and `Cause` (the tree
+-- that its tokens spell, or where they go wrong), and `listing_of` (which queries are built).
+use Rattle.std.specs.Prelude.{◌≡◌, ◌≢◌, ◌⊎◌, ℕ, ◌<◌, ◌≤◌, List, [], ◌∷◌, ◌++◌, length, codes, decimal, Option, Some, None, Result, Ok, Err, IfSome, IsPermutation, if◌then◌else◌}
 use Rattle.std.specs.Str.{bytes_eq}
 use Rattle.std.specs.Io.KnownBytes.{Appends, Consumes, Keeps}
 use Rattle.gq_base.specs.Plain.{Graph, properties}
 use Rattle.gq_base.specs.declared.Cell.{Cell}
 use Rattle.gq_io.specs.Causes.{Rose}
 use Rattle.gq_io.specs.Outside.{AppendsFront, Names}
-use Rattle.gq_loader.specs.Loads.{Loading, load_of, loaded, no_file, not_built}
-use Rattle.gq_render.specs.Texts.{column_text, line, name_text}
-use Rattle.gq_shell.specs.Statements.{IsQuery, SpellsNoQuery, statement_of, trimmed}
+use Rattle.gq_loader.specs.Limits.{standard}
+use Rattle.gq_loader.specs.Loads.{load_of}
+use Rattle.gq_loader.specs.Refusals.{IsOfFiles}
+use Rattle.gq_loader.specs.declared.refusal.LoadRefusal.{LoadRefusal}
+use Rattle.gq_render.specs.Texts.{column_text, line}
+use Rattle.gq_shell.specs.Listings.{Listing, listing_of, source_text}
+use Rattle.gq_shell.specs.LoadLines.{load_line}
+use Rattle.gq_shell.specs.Statements.{IsBlank, statement_of}
+use Rattle.gq_syntax.specs.Outcomes.{Cause, SpelledText}
+use Rattle.gq_syntax.specs.declared.refusal.SyntaxRefusal.{SyntaxRefusal}
+use Rattle.gq_syntax.specs.declared.refusal.SyntaxRefusal.TheVariants as refusal
+use Rattle.gq_syntax.specs.declared.statement.Statement.{Statement}
 use Rattle.gq_shell.specs.declared.status.Status.{Status}
 use Rattle.gq_shell.specs.declared.status.Status.TheVariants as status
 
@@ -21,30 +31,55 @@ abbrev pub path_of : List (List ℕ) → Option (List ℕ)
 path_of (program ∷ option ∷ path ∷ []) = if bytes_eq option (codes "--manifest") then Some path else None
 path_of words = None
 
--- a load was refused, and this line says so
-abbrev pub Refuses : Loading → List ℕ → Type 0
-Refuses (loaded graph) text = ⊥
-Refuses (no_file name) text = text ≡ line (codes "load: NoFile " ++ name_text name)
-Refuses (not_built name) text = text ≡ line (codes "load: NotBuilt " ++ name_text name)
+-- the files give no graph, and this line names their first refusal
+abbrev pub Refuses : Result Graph LoadRefusal → List ℕ → Type 0
+Refuses (Ok graph) text = ⊥
+Refuses (Err refusal) text = IsOfFiles refusal × (text ≡ load_line refusal)
 
--- the reply to `MATCH (variable:label) RETURN variable.property`: as a bag, its rows are the property's values over the
--- nodes with the label, null where a node has none (openCypher 9); a header goes before them and their number after them
-pub record ListsRows (graph : Graph) (variable label property text : List ℕ) : Type 0 where
+-- the reply to a query that is built: as a bag, its rows are the property's values over the nodes with the label, null
+-- where a node has none (openCypher 9); a header goes before them, the column's source text, and their number after them
+pub record ListsRows (graph : Graph) (statement : List ℕ) (listing : Listing) (text : List ℕ) : Type 0 where
   pub rows : List (Option Cell)
-  pub as_a_bag : IsPermutation (properties graph label property) rows
-  pub is : text ≡ column_text (variable ++ codes "." ++ property) rows
+  pub as_a_bag : IsPermutation (properties graph listing.label listing.property) rows
+  pub is : text ≡ column_text (source_text statement listing.column) rows
 
--- a statement's reply: none to white space alone, the rows of a query that is built
+-- the tokens of a statement spell a query that is built
+pub record IsListing (statement : List ℕ) (listing : Listing) : Type 0 where
+  pub tree : Statement
+  pub spelled : SpelledText statement tree
+  pub built : listing_of tree ≡ Some listing
+
+-- a statement's reply: none to white space and comments alone, the rows of a query that is built
 abbrev pub Replies : Graph → List ℕ → List ℕ → Type 0
 Replies graph statement text =
-    ((trimmed statement ≡ []) × (text ≡ []))
-    ⊎ ((variable label property : List ℕ) × IsQuery statement variable label property × ListsRows graph variable label property text)
+    (IsBlank statement × (text ≡ []))
+    ⊎ ((listing : Listing) × IsListing statement listing × ListsRows graph statement listing text)
+
+-- the line of a statement that is no text, has no tokens, or is spelled by no statement within the allowed nesting, with the
+-- place where it goes wrong
+abbrev pub refusal_text : SyntaxRefusal → Option (List ℕ)
+refusal_text (refusal.Lex at) = Some (line (codes "error: Lex at byte " ++ decimal at))
+refusal_text (refusal.Syntax at) = Some (line (codes "error: Syntax at byte " ++ decimal at))
+refusal_text (refusal.Depth at) = Some (line (codes "error: Depth at byte " ++ decimal at))
+refusal_text refusal.Memory = None
+
+-- the statement is wrong, by the grammar, and this line says where
+pub record IsWrong (statement text : List ℕ) : Type 0 where
+  pub why : SyntaxRefusal
+  pub cause : Cause statement (Err why)
+  pub is : refusal_text why ≡ Some text
+
+-- the statement is right, but not built
+pub record IsNotBuilt (statement text : List ℕ) : Type 0 where
+  pub tree : Statement
+  pub spelled : SpelledText statement tree
+  pub other : listing_of tree ≡ None
+  pub is : text ≡ line (codes "error: NotBuilt")
 
 -- every other statement is refused by one line
 pub record IsRefused (statement text : List ℕ) : Type 0 where
-  pub written : ¬ (trimmed statement ≡ [])
-  pub other : SpellsNoQuery statement
-  pub is : text ≡ line (codes "error: NotBuilt")
+  pub written : ¬ (IsBlank statement)
+  pub why : IsWrong statement text ⊎ IsNotBuilt statement text
 
 -- the input, which is one statement, is too long
 abbrev pub IsTooLong : List ℕ → Type 0
@@ -56,12 +91,12 @@ IsTooLong input = (65537 < length input) ⊎ (65536 < length (statement_of input
 pub record Over (words : List (List ℕ)) (held : Option Names) (left : Option (List ℕ)) (Says : Graph → List ℕ → Type 0) : Type 0 where
   pub path : List ℕ
   pub given : path_of words ≡ Some path
-  pub told : IfSome held (λ files. IfSome left (λ input. (graph : Graph) × (load_of path files ≡ loaded graph) × Says graph input))
+  pub told : IfSome held (λ files. IfSome left (λ input. (graph : Graph) × (load_of path files standard ≡ Ok graph) × Says graph input))
 
 -- the status may be answered for these words, files and input, and the text is all that is written then
 abbrev pub Permits : List (List ℕ) → Option Names → Option (List ℕ) → Status → List ℕ → Type 0
 Permits words held left status.Usage text = (path_of words ≡ None) × (text ≡ line (codes "usage: graphq --manifest PATH"))
-Permits words held left status.NotLoaded text = (path : List ℕ) × (path_of words ≡ Some path) × IfSome held (λ files. Refuses (load_of path files) text)
+Permits words held left status.NotLoaded text = (path : List ℕ) × (path_of words ≡ Some path) × IfSome held (λ files. Refuses (load_of path files standard) text)
 Permits words held left status.TooLong text = Over words held left (λ graph input. IsTooLong input × (text ≡ []))
 Permits words held left status.Refused text = Over words held left (λ graph input. (¬ (IsTooLong input)) × IsRefused (statement_of input) text)
 Permits words held left status.Ended text = Over words held left (λ graph input. (¬ (IsTooLong input)) × Replies graph (statement_of input) text)

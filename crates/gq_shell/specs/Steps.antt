@@ -6,15 +6,18 @@ use Rattle.gq_io.specs.Causes.{Rose}
 use Rattle.gq_io.specs.Outside.{AppendsFront}
 use Rattle.gq_loader.specs.declared.LoadRefusal.{LoadRefusal}
 use Rattle.gq_loader.specs.declared.LoadRefusal.TheVariants as refusal
-use Rattle.gq_render.specs.Texts.{column_text, line, name_text}
+use Rattle.gq_render.specs.Texts.{column_text, line}
 use Rattle.gq_shell.specs.Claim.{IsRefused, IsTooLong, ListsRows, Replies}
+use Rattle.gq_shell.specs.Listings.{Listing}
+use Rattle.gq_shell.specs.LoadLines.{load_line}
 use Rattle.gq_shell.specs.Statements.{statement_of}
 use Rattle.gq_shell.specs.declared.status.Status.{Status}
 use Rattle.gq_shell.specs.declared.status.Status.TheVariants as status
 
--- a permitted answer was written whole, or a front of one was and the sink failed
+-- a permitted answer was written whole, or a front of one was and the sink failed, or nothing was for want of memory
 abbrev pub Finishes : (Status → List ℕ → Type 0) → Option (List ℕ) → Option (List ℕ) → ℕ → ℕ → Status → Type 0
 Finishes May old new before now status.WriteFault = ((answer : Status) × (text : List ℕ) × May answer text × AppendsFront old new text) × Rose before now
+Finishes May old new before now status.Memory = Keeps old new
 Finishes May old new before now answer = (text : List ℕ) × May answer text × Appends old new text
 
 -- the refusal of the words
@@ -22,31 +25,30 @@ abbrev pub MayRefuseWords : Status → List ℕ → Type 0
 MayRefuseWords status.Usage text = text ≡ line (codes "usage: graphq --manifest PATH")
 MayRefuseWords answer text = ⊥
 
--- the line of a refused load, which ends with a name
-abbrev pub MayRefuseLoad : List ℕ → List ℕ → Status → List ℕ → Type 0
-MayRefuseLoad front name status.NotLoaded text = text ≡ line (front ++ name_text name)
-MayRefuseLoad front name answer text = ⊥
+-- the line of a refused load
+abbrev pub MayRefuseLoad : LoadRefusal → Status → List ℕ → Type 0
+MayRefuseLoad refusal status.NotLoaded text = text ≡ load_line refusal
+MayRefuseLoad refusal answer text = ⊥
 
 -- what becomes of a load that gave no graph: its line is written, or nothing after a fault and for want of memory
 abbrev pub EndsLoad : LoadRefusal → Option (List ℕ) → Option (List ℕ) → ℕ → ℕ → Status → Type 0
-EndsLoad (refusal.NoFile name) old new before now answer = Finishes (MayRefuseLoad (codes "load: NoFile ") name) old new before now answer
-EndsLoad (refusal.NotBuilt name) old new before now answer = Finishes (MayRefuseLoad (codes "load: NotBuilt ") name) old new before now answer
 EndsLoad (refusal.ReadFault name) old new before now answer = Keeps old new × (answer ≡ status.ReadFault)
 EndsLoad refusal.Memory old new before now answer = Keeps old new × (answer ≡ status.Memory)
+EndsLoad e old new before now answer = Finishes (MayRefuseLoad e) old new before now answer
 
--- the refusal of a statement
-abbrev pub MayRefuse : Status → List ℕ → Type 0
-MayRefuse status.Refused text = text ≡ line (codes "error: NotBuilt")
-MayRefuse answer text = ⊥
+-- the refusal of a statement, by this line
+abbrev pub MayRefuse : List ℕ → Status → List ℕ → Type 0
+MayRefuse refused status.Refused text = text ≡ refused
+MayRefuse refused answer text = ⊥
 
 -- the rows of a query, in load order
-abbrev pub rows_text : Graph → List ℕ → List ℕ → List ℕ → List ℕ
-rows_text graph variable label property = column_text (variable ++ codes "." ++ property) (properties graph label property)
+abbrev pub rows_text : Graph → List ℕ → Listing → List ℕ
+rows_text graph name listing = column_text name (properties graph listing.label listing.property)
 
 -- the rows of a query
-abbrev pub MayList : Graph → List ℕ → List ℕ → List ℕ → Status → List ℕ → Type 0
-MayList graph variable label property status.Ended text = ListsRows graph variable label property text
-MayList graph variable label property answer text = ⊥
+abbrev pub MayList : Graph → List ℕ → Listing → Status → List ℕ → Type 0
+MayList graph statement listing status.Ended text = ListsRows graph statement listing text
+MayList graph statement listing answer text = ⊥
 
 -- the answers to a statement over a graph
 abbrev pub MayReply : Graph → List ℕ → Status → List ℕ → Type 0

@@ -1,27 +1,45 @@
 //! The reply to the input over a loaded graph.
 
-ghost use Rattle.std.specs.Prelude.{◌≡◌, ℕ, ◌≤◌, length, [], ◌↔◌, IsTrue, IfSome, IfNone, Option};
+ghost use Rattle.std.specs.Prelude.{◌≡◌, ◌≤◌, ◌++◌, length, codes, decimal};
 ghost use Rattle.gq_base.specs.Catalogs.{find_field};
 ghost use Rattle.gq_io.specs.Causes.{HasCause};
 ghost use Rattle.gq_io.specs.Outside.{Writes};
-ghost use Rattle.gq_shell.specs.Claim.{ListsRows};
-ghost use Rattle.gq_shell.specs.Statements.{IsQuery, SpellsNoQuery, trimmed};
+ghost use Rattle.gq_render.specs.Texts.{line};
+ghost use Rattle.gq_shell.specs.Listings.{source_text};
+ghost use Rattle.gq_shell.specs.Seen.{seen_listing};
 ghost use Rattle.gq_shell.specs.Steps.{Finishes, MayAnswer, MayList, MayRefuse, MayReply, rows_text};
+ghost use Rattle.gq_syntax.specs.Outcomes.{SpelledText};
 
-use crate::statement::{Query, is_blank, query_of, statement_of};
+use crate::input::{is_blank, statement_of};
+use crate::listing::{Listing, listing_of, source_text};
 use crate::status::Status;
-use gq_base::{Field, List, Row};
+use gq_base::{Field, Memory};
 use gq_io::{Failed, Sink, write_all};
 use gq_plain::PlainGraph;
-use gq_render::write_column;
+use gq_render::{Place, write_column, write_refusal};
+use gq_syntax::{Statement, SyntaxRefusal, parse};
+use std::alloc::Global;
 
 /// The longest statement, in bytes.
 const MOST_STATEMENT: usize = 65_536;
 
-fn refuse<O: Sink>(out: &mut O) -> Status
-    ensures { Finishes MayRefuse (O.taken out.old) (O.taken out.new) (O.faults out.old) (O.faults out.new) result }
+fn refuse_unbuilt<O: Sink>(out: &mut O) -> Status
+    ensures { Finishes (MayRefuse (line (codes "error: NotBuilt"))) (O.taken out.old) (O.taken out.new) (O.faults out.old) (O.faults out.new) result }
 {
     match write_all(out, b"error: NotBuilt\n") {
+        Ok(()) => Status::Refused,
+        Err(Failed) => Status::WriteFault,
+    }
+}
+
+fn refuse_at<O: Sink>(out: &mut O, front: &str, at: u32) -> Status
+    ensures { Finishes (MayRefuse (line (front.now ++ decimal at))) (O.taken out.old) (O.taken out.new) (O.faults out.old) (O.faults out.new) result }
+{
+    let place = Place {
+        before: "",
+        number: at,
+    };
+    match write_refusal(out, front, "", &[place]) {
         Ok(()) => Status::Refused,
         Err(Failed) => Status::WriteFault,
     }
@@ -33,48 +51,74 @@ fn place_of(fields: &[Field], name: &str) -> Option<usize>
     fields.iter().position(|field| field.name.is(name))
 }
 
-fn write_rows<O: Sink>(out: &mut O, graph: &PlainGraph, query: Query<'_>) -> Result<(), Failed>
-    ensures bytes { Writes (O.taken out.old) (O.taken out.new) (rows_text graph.now query.entry.variable.now query.entry.label.now query.entry.property.now) result }
+fn write_rows<O: Sink>(
+    out: &mut O,
+    graph: &PlainGraph,
+    name: &[u8],
+    listing: Listing<'_>,
+) -> Result<(), Failed>
+    ensures bytes { Writes (O.taken out.old) (O.taken out.new) (rows_text graph.now name.now (seen_listing listing.entry)) result }
     ensures cause { HasCause (O.faults out.old) (O.faults out.new) result }
 {
-    let Some(table) = graph.catalog().find_label(query.label) else {
-        return write_column(out, query.variable, query.property, &[], None);
+    let Some(table) = graph.catalog().find_label(listing.label) else {
+        return write_column(out, name, &[], None);
     };
     let fields = graph.catalog().node_table(table).fields.as_slice();
-    let place = place_of(fields, query.property);
-    write_column(
-        out,
-        query.variable,
-        query.property,
-        graph.node_rows(table),
-        place,
-    )
+    let place = place_of(fields, listing.property);
+    write_column(out, name, graph.node_rows(table), place)
 }
 
-fn list_rows<O: Sink>(out: &mut O, graph: &PlainGraph, query: Query<'_>) -> Status
-    ensures { Finishes (MayList graph.now query.entry.variable.now query.entry.label.now query.entry.property.now) (O.taken out.old) (O.taken out.new) (O.faults out.old) (O.faults out.new) result }
+fn list_rows<O: Sink>(
+    out: &mut O,
+    graph: &PlainGraph,
+    statement: &[u8],
+    listing: Listing<'_>,
+) -> Status
+    ensures { Finishes (MayList graph.now statement.now (seen_listing listing.entry)) (O.taken out.old) (O.taken out.new) (O.faults out.old) (O.faults out.new) result }
 {
-    match write_rows(out, graph, query) {
+    let name = source_text(statement, listing.column);
+    match write_rows(out, graph, name, listing) {
         Ok(()) => Status::Ended,
         Err(Failed) => Status::WriteFault,
     }
 }
 
-// Replies to a statement that is not too long.
-fn reply<O: Sink>(out: &mut O, graph: &PlainGraph, statement: &[u8]) -> Status
+// Replies to a statement whose tokens spell this tree.
+fn reply_to_tree<O: Sink>(
+    out: &mut O,
+    graph: &PlainGraph,
+    statement: &[u8],
+    tree: &Statement,
+) -> Status
+    requires { SpelledText statement.now tree.now }
     ensures { Finishes (MayReply graph.now statement.now) (O.taken out.old) (O.taken out.new) (O.faults out.old) (O.faults out.new) result }
 {
-    if is_blank(statement) {
-        return Status::Ended;
+    match listing_of(tree) {
+        Some(listing) => list_rows(out, graph, statement, listing),
+        None => refuse_unbuilt(out),
     }
-    match query_of(statement) {
-        Some(query) => list_rows(out, graph, query),
-        None => refuse(out),
+}
+
+// Replies to a statement that is not too long.
+fn reply<O: Sink>(alloc: Global, out: &mut O, graph: &PlainGraph, statement: &[u8]) -> Status
+    requires { length statement.now ≤ 65536 }
+    ensures { Finishes (MayReply graph.now statement.now) (O.taken out.old) (O.taken out.new) (O.faults out.old) (O.faults out.new) result }
+{
+    match parse(alloc, statement) {
+        Ok(tree) => reply_to_tree(out, graph, statement, &tree),
+        Err(SyntaxRefusal::Lex { at }) => refuse_at(out, "error: Lex at byte ", at),
+        Err(SyntaxRefusal::Depth { at }) => refuse_at(out, "error: Depth at byte ", at),
+        Err(SyntaxRefusal::Syntax { at }) => match is_blank(alloc, statement) {
+            Ok(true) => Status::Ended,
+            Ok(false) => refuse_at(out, "error: Syntax at byte ", at),
+            Err(Memory) => Status::Memory,
+        },
+        Err(SyntaxRefusal::Memory) => Status::Memory,
     }
 }
 
 /// Replies to an input of at most 65,537 bytes.
-pub fn answer<O: Sink>(out: &mut O, graph: &PlainGraph, input: &[u8]) -> Status
+pub fn answer<O: Sink>(alloc: Global, out: &mut O, graph: &PlainGraph, input: &[u8]) -> Status
     requires { length input.now ≤ 65537 }
     ensures { Finishes (MayAnswer graph.now input.now) (O.taken out.old) (O.taken out.new) (O.faults out.old) (O.faults out.new) result }
 {
@@ -82,5 +126,5 @@ pub fn answer<O: Sink>(out: &mut O, graph: &PlainGraph, input: &[u8]) -> Status
     if statement.len() > MOST_STATEMENT {
         return Status::TooLong;
     }
-    reply(out, graph, statement)
+    reply(alloc, out, graph, statement)
 }

@@ -2,8 +2,10 @@
 #![tactic(auto)]
 
 mod answer;
+mod input;
+mod listing;
+mod load_line;
 mod program;
-mod statement;
 mod status;
 mod words;
 

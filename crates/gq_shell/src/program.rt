@@ -6,12 +6,11 @@ ghost use Rattle.gq_shell.specs.Claim.{Runs, Whole, outside_of};
 ghost use Rattle.gq_shell.specs.Steps.{EndsLoad, Finishes, MayRefuseLoad, MayRefuseWords};
 
 use crate::answer::answer;
+use crate::load_line::write_load_line;
 use crate::status::Status;
 use crate::words::manifest_path;
-use gq_base::Text;
 use gq_io::{Failed, Files, ReadFile, ReadStop, Sink, Source, read_input, write_all};
-use gq_loader::{LoadRefusal, load};
-use gq_render::write_line_with_name;
+use gq_loader::{Limits, LoadRefusal, load};
 use std::alloc::Global;
 
 /// The longest input, in bytes: a statement of 65,536 bytes and its `;`.
@@ -26,10 +25,10 @@ fn refuse_words<O: Sink>(out: &mut O) -> Status
     }
 }
 
-fn write_refusal<O: Sink>(out: &mut O, front: &str, name: &Text) -> Status
-    ensures { Finishes (MayRefuseLoad front.now name.now) (O.taken out.old) (O.taken out.new) (O.faults out.old) (O.faults out.new) result }
+fn refuse_load<O: Sink>(out: &mut O, refusal: &LoadRefusal) -> Status
+    ensures { Finishes (MayRefuseLoad refusal.now) (O.taken out.old) (O.taken out.new) (O.faults out.old) (O.faults out.new) result }
 {
-    match write_line_with_name(out, front, name) {
+    match write_load_line(out, refusal) {
         Ok(()) => Status::NotLoaded,
         Err(Failed) => Status::WriteFault,
     }
@@ -39,10 +38,9 @@ fn end_load<O: Sink>(out: &mut O, refusal: &LoadRefusal) -> Status
     ensures { EndsLoad refusal.now (O.taken out.old) (O.taken out.new) (O.faults out.old) (O.faults out.new) result }
 {
     match refusal {
-        LoadRefusal::NoFile { name } => write_refusal(out, "load: NoFile ", name),
-        LoadRefusal::NotBuilt { name } => write_refusal(out, "load: NotBuilt ", name),
         LoadRefusal::ReadFault { .. } => Status::ReadFault,
         LoadRefusal::Memory => Status::Memory,
+        _ => refuse_load(out, refusal),
     }
 }
 
@@ -60,12 +58,12 @@ fn execute<F: Files, I: Source, O: Sink>(
     let Some(path) = manifest_path(words) else {
         return refuse_words(out);
     };
-    let graph = match load(alloc, files, path) {
+    let graph = match load(alloc, files, path, &Limits::standard()) {
         Ok(graph) => graph,
         Err(refusal) => return end_load(out, &refusal),
     };
     match read_input(alloc, input, MOST_INPUT) {
-        Ok(ReadFile::Whole(bytes)) => answer(out, &graph, bytes.as_slice()),
+        Ok(ReadFile::Whole(bytes)) => answer(alloc, out, &graph, bytes.as_slice()),
         Ok(ReadFile::TooLong) => Status::TooLong,
         Err(ReadStop::Failed) => Status::ReadFault,
         Err(ReadStop::Memory) => Status::Memory,

@@ -14,12 +14,22 @@ const QUERY: &str = "MATCH (p:Person) RETURN p.name;";
 // A call that never comes.
 const NEVER: u64 = 1_000_000;
 
-// What a run is given: the manifest, the file that it names, the input, and which calls fail.
+const CITY: &str = "code:string,pop:int\nX,100\nY,\n";
+
+const LIVES: &str = "from,to\n1,X\n3,X\n";
+
+const MANIFEST: &str =
+    "node Person person.csv\nnode City city.csv\nrel LIVES_IN Person City many_one lives.csv\n";
+
+// What a run is given: the manifest, the files that it names, of which the last may have another name, the input, and
+// which calls fail.
 #[derive(Clone, Copy)]
 struct Outside<'t> {
     manifest: &'t str,
-    file: &'t str,
-    content: &'t str,
+    person: &'t str,
+    city: &'t str,
+    lives: &'t str,
+    last: &'t str,
     input: &'t str,
     failing_file: u64,
     failing_read: u64,
@@ -28,9 +38,11 @@ struct Outside<'t> {
 
 fn given<'t>(input: &'t str) -> Outside<'t> {
     Outside {
-        manifest: "node Person person.csv\n",
-        file: "person.csv",
-        content: PERSON,
+        manifest: MANIFEST,
+        person: PERSON,
+        city: CITY,
+        lives: LIVES,
+        last: "lives.csv",
         input,
         failing_file: NEVER,
         failing_read: NEVER,
@@ -48,8 +60,18 @@ fn bytes(rt: &HostRuntime, text: &str) -> Result<Bytes, Fail> {
 
 fn files(rt: &HostRuntime, outside: &Outside<'_>) -> Result<MemoryFiles, Fail> {
     let alloc = rt.alloc();
-    let names = vec![in alloc; text(rt, "one.manifest")?, text(rt, outside.file)?]?;
-    let contents = vec![in alloc; bytes(rt, outside.manifest)?, bytes(rt, outside.content)?]?;
+    let names = vec![in alloc;
+        text(rt, "g.manifest")?,
+        text(rt, "person.csv")?,
+        text(rt, "city.csv")?,
+        text(rt, outside.last)?,
+    ]?;
+    let contents = vec![in alloc;
+        bytes(rt, outside.manifest)?,
+        bytes(rt, outside.person)?,
+        bytes(rt, outside.city)?,
+        bytes(rt, outside.lives)?,
+    ]?;
     let failing = vec![in alloc; outside.failing_file]?;
     Ok(MemoryFiles::new(
         List::from_vec(names),
@@ -81,70 +103,216 @@ fn replied(
     Ok((status, String::from_str(alloc, text)?))
 }
 
-const WORDS: [&str; 2] = ["--manifest", "one.manifest"];
+const WORDS: [&str; 2] = ["--manifest", "g.manifest"];
+
+const ANSWERED: [(&str, &str); 13] = [
+    (QUERY, NAMES),
+    ("MATCH (p:Person) RETURN p.name \n", NAMES),
+    ("MATCH (p:Person) RETURN p.name ;", NAMES),
+    (
+        "// who\nMATCH (`p`:Person)\r\nRETURN p.name",
+        "p.name\n'Ann'\n'Bob'\n'Cy'\nrows 3\n",
+    ),
+    (
+        "match (p :Person) RETURN/**/p . name;",
+        "p . name\n'Ann'\n'Bob'\n'Cy'\nrows 3\n",
+    ),
+    (
+        "MATCH (p:Person) RETURN p.\n`name`;",
+        "p.\\n`name`\n'Ann'\n'Bob'\n'Cy'\nrows 3\n",
+    ),
+    (
+        "MATCH (p:Person) RETURN p.nick;",
+        "p.nick\nnull\nnull\nnull\nrows 3\n",
+    ),
+    ("MATCH (x_1:P1) RETURN x_1.x;\n", "x_1.x\nrows 0\n"),
+    ("MATCH (c:City) RETURN c.pop", "c.pop\n100\nnull\nrows 2\n"),
+    ("", ""),
+    (" ;\n", ""),
+    ("// nothing", ""),
+    ("/* nothing\n */ ;", ""),
+];
+
+const REFUSED: [(&str, &str); 20] = [
+    ("MATCH (q:Person) RETURN p.name;", "error: NotBuilt\n"),
+    ("MATCH (p:Person) RETURN p.name AS n;", "error: NotBuilt\n"),
+    ("MATCH (p:Person) RETURN (p.name);", "error: NotBuilt\n"),
+    ("MATCH (p:Person) RETURN p;", "error: NotBuilt\n"),
+    ("MATCH (p:Person) RETURN *;", "error: NotBuilt\n"),
+    (
+        "MATCH (p:Person) RETURN p.name, p.age;",
+        "error: NotBuilt\n",
+    ),
+    (
+        "MATCH (p:Person {id: 1}) RETURN p.name;",
+        "error: NotBuilt\n",
+    ),
+    ("MATCH (p:Person)-->() RETURN p.name;", "error: NotBuilt\n"),
+    ("MATCH (p:Person), (q) RETURN p.name;", "error: NotBuilt\n"),
+    (
+        "MATCH (p:Person) MATCH (q) RETURN p.name;",
+        "error: NotBuilt\n",
+    ),
+    ("MATCH (p) RETURN p.name;", "error: NotBuilt\n"),
+    (
+        "MATCH (p:Person) WHERE p.age > 26 RETURN p.name;",
+        "error: NotBuilt\n",
+    ),
+    (
+        "MATCH (p:Person) RETURN DISTINCT p.name;",
+        "error: NotBuilt\n",
+    ),
+    (
+        "MATCH (p:Person) RETURN p.name ORDER BY p.age;",
+        "error: NotBuilt\n",
+    ),
+    (
+        "MATCH (p:Person) RETURN p.name SKIP 0;",
+        "error: NotBuilt\n",
+    ),
+    (
+        "MATCH (p:Person) RETURN p.name LIMIT 9;",
+        "error: NotBuilt\n",
+    ),
+    (":schema", "error: NotBuilt\n"),
+    ("MATCH (a RETURN a;", "error: Syntax at byte 9\n"),
+    (
+        "MATCH (p:Person) WHERE p.name = 'x RETURN p",
+        "error: Lex at byte 32\n",
+    ),
+    (
+        "MATCH (p:Person) RETURN 9223372036854775808;",
+        "error: Syntax at byte 24\n",
+    ),
+];
 
 #[test]
 fn statements_are_answered(rt: HostRuntime) -> Result<(), Fail> {
-    for (input, status, text) in [
-        (QUERY, Status::Ended, NAMES),
-        ("MATCH (p:Person) RETURN p.name \n", Status::Ended, NAMES),
-        (
-            "MATCH (p:Person) RETURN p.nick;",
-            Status::Ended,
-            "p.nick\nnull\nnull\nnull\nrows 3\n",
-        ),
-        (
-            "MATCH (x_1:P1) RETURN x_1.x;\n",
-            Status::Ended,
-            "x_1.x\nrows 0\n",
-        ),
-        (
-            "MATCH (q:Person) RETURN p.name;",
-            Status::Refused,
-            "error: NotBuilt\n",
-        ),
-        (
-            "MATCH (p:Person) RETURN p.name ;",
-            Status::Refused,
-            "error: NotBuilt\n",
-        ),
-        (
-            "MATCH (p:Person)  RETURN p.name",
-            Status::Refused,
-            "error: NotBuilt\n",
-        ),
-        ("", Status::Ended, ""),
-        (" ;\n", Status::Ended, ""),
-    ] {
+    for (input, text) in ANSWERED {
         let got = replied(&rt, &WORDS, &given(input))?;
-        assert_eq!(rt; got.0, status, "{input}");
+        assert_eq!(rt; got.0, Status::Ended, "{input}");
         assert_eq!(rt; got.1.as_str(), text, "{input}");
     }
     Ok(())
 }
 
 #[test]
-fn loads_are_refused(rt: HostRuntime) -> Result<(), Fail> {
-    let bad = Outside {
-        content: "id:int,name:string,age:int\n1,Ann,3x\n",
+fn statements_are_refused(rt: HostRuntime) -> Result<(), Fail> {
+    for (input, text) in REFUSED {
+        let got = replied(&rt, &WORDS, &given(input))?;
+        assert_eq!(rt; got.0, Status::Refused, "{input}");
+        assert_eq!(rt; got.1.as_str(), text, "{input}");
+    }
+    Ok(())
+}
+
+// A condition inside so many parentheses.
+fn nested(rt: &HostRuntime, depth: usize) -> Result<String, Fail> {
+    let mut text = String::from_str(rt.alloc(), "MATCH (p) WHERE ")?;
+    for _ in 0..depth {
+        text.push('(')?;
+    }
+    text.push_str("p.id = 1")?;
+    for _ in 0..depth {
+        text.push(')')?;
+    }
+    text.push_str(" RETURN p;")?;
+    Ok(text)
+}
+
+#[test]
+fn deep_statements_are_refused(rt: HostRuntime) -> Result<(), Fail> {
+    let deep = nested(&rt, 65)?;
+    let got = replied(&rt, &WORDS, &given(deep.as_str()))?;
+    assert_eq!(rt; got.1.as_str(), "error: Depth at byte 80\n");
+    let allowed = nested(&rt, 64)?;
+    let got = replied(&rt, &WORDS, &given(allowed.as_str()))?;
+    assert_eq!(rt; got.1.as_str(), "error: NotBuilt\n");
+    Ok(())
+}
+
+// The reply of a run over these files, where the load is refused.
+fn refused(rt: &HostRuntime, outside: &Outside<'_>) -> Result<String, Fail> {
+    let got = replied(rt, &WORDS, outside)?;
+    if got.0 == Status::NotLoaded {
+        Ok(got.1)
+    } else {
+        Err(Fail::from("loaded"))
+    }
+}
+
+// Bytes of the file person.csv, and the line of their refusal.
+const PERSONS: [(&str, &str); 8] = [
+    (
+        "id:int,name:string,age:int\n1,Ann,30\n1,Bob,\n3,Cy,25\n",
+        "load: KeyRepeated person.csv record 3\n",
+    ),
+    (
+        "id:int,name:string,age:int\n1,Ann,3x\n",
+        "load: BadField person.csv record 2 column 3\n",
+    ),
+    ("", "load: BadHeader person.csv\n"),
+    ("id:int,n", "load: BadHeader person.csv\n"),
+    (
+        "id:int,name:string,age:int\n1",
+        "load: FieldCount person.csv record 2\n",
+    ),
+    (
+        "id:int,name:string,age:int\n1,Ann",
+        "load: FieldCount person.csv record 2\n",
+    ),
+    ("id:int\n1\n\"\"\n", "load: NullKey person.csv record 3\n"),
+    (
+        "id:int\n2\n4\n",
+        "load: NoSuchNode lives.csv record 2 column 1\n",
+    ),
+];
+
+#[test]
+fn damaged_files_are_refused(rt: HostRuntime) -> Result<(), Fail> {
+    for (person, line) in PERSONS {
+        let got = refused(
+            &rt,
+            &Outside {
+                person,
+                ..given(QUERY)
+            },
+        )?;
+        assert_eq!(rt; got.as_str(), line);
+    }
+    Ok(())
+}
+
+#[test]
+fn other_loads_are_refused(rt: HostRuntime) -> Result<(), Fail> {
+    let lives = Outside {
+        lives: "from,to\n1,X\n3,X\n1,Y\n",
         ..given(QUERY)
     };
+    let got = refused(&rt, &lives)?;
+    assert_eq!(rt; got.as_str(), "load: NotSingle lives.csv record 4\n");
     let missing = Outside {
-        file: "other.csv",
+        last: "other.csv",
         ..given(QUERY)
     };
-    let other = Outside {
-        manifest: "rel A B C many_many x",
-        ..given(QUERY)
-    };
-    for (outside, text) in [
-        (bad, "load: NotBuilt person.csv\n"),
-        (missing, "load: NoFile person.csv\n"),
-        (other, "load: NotBuilt one.manifest\n"),
+    let got = refused(&rt, &missing)?;
+    assert_eq!(rt; got.as_str(), "load: NoFile lives.csv\n");
+    for (manifest, line) in [
+        (
+            "node Person person.csv\nnode Person x.csv\n",
+            "load: LabelRepeated line 2\n",
+        ),
+        ("node Person\n", "load: BadLine line 1\n"),
+        ("node Person a\\b\n", "load: NoFile a\\\\b\n"),
     ] {
-        let got = replied(&rt, &WORDS, &outside)?;
-        assert_eq!(rt; got.0, Status::NotLoaded);
-        assert_eq!(rt; got.1.as_str(), text);
+        let got = refused(
+            &rt,
+            &Outside {
+                manifest,
+                ..given(QUERY)
+            },
+        )?;
+        assert_eq!(rt; got.as_str(), line);
     }
     Ok(())
 }
@@ -165,7 +333,7 @@ fn words_are_refused(rt: HostRuntime) -> Result<(), Fail> {
 
 #[test]
 fn each_failing_call_ends_the_run(rt: HostRuntime) -> Result<(), Fail> {
-    for call in 0..6 {
+    for call in 0..12 {
         let got = replied(
             &rt,
             &WORDS,
@@ -176,6 +344,8 @@ fn each_failing_call_ends_the_run(rt: HostRuntime) -> Result<(), Fail> {
         )?;
         assert_eq!(rt; got.0, Status::ReadFault, "file {call}");
         assert_eq!(rt; got.1.as_str(), "", "file {call}");
+    }
+    for call in 0..6 {
         let got = replied(
             &rt,
             &WORDS,

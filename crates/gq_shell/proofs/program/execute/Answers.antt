@@ -8,7 +8,8 @@ returns-in_default g c = exit_words _ _ _ (sym c.manifest_path.ensures ∙ ap op
 
 pub returns-in-Err : goal.returns-in-Err
 returns-in-Err g c =
-    exit_refused _ _ _ c.in-Some.path.now (sym c.manifest_path.ensures ∙ ap option_copied c.in-Some.is) _ c.in-Err.refusal refl c.in-Err.ensures.loads c.in-Err.ensures.faults refl
+    let loads = rw c.standard.ensures at c.in-Err.ensures.loads in
+    exit_refused _ _ _ c.in-Some.path.now (sym c.manifest_path.ensures ∙ ap option_copied c.in-Some.is) _ c.in-Err.refusal refl loads c.in-Err.ensures.faults refl
     c.end_load.ensures
 
 pub returns-in-Ok-Whole : goal.returns-in-Ok-Whole
@@ -16,10 +17,10 @@ returns-in-Ok-Whole g c =
     let answered = rw c.as_slice.ensures at c.answer.ensures in
     let told = rw c.in-Ok-Whole.field-0-is at c.in-Ok-Whole.ensures.told in
     exit_answered _ _ _ c.in-Some.path.now (sym c.manifest_path.ensures ∙ ap option_copied c.in-Some.is) c.in-Ok.graph c.in-Ok-Whole.bytes _
-    c.in-Ok.ensures.loads c.in-Ok-Whole.ensures.read told answered
+    (rw c.standard.ensures at c.in-Ok.ensures.loads) c.in-Ok-Whole.ensures.read told answered
 
 pub returns-in-Ok-TooLong : goal.returns-in-Ok-TooLong
 returns-in-Ok-TooLong g c =
     let told = rw c.in-Ok-TooLong.field-0-is at c.in-Ok-TooLong.ensures.told in
     exit_too_long _ _ _ c.in-Some.path.now (sym c.manifest_path.ensures ∙ ap option_copied c.in-Some.is) c.in-Ok.graph _
-    c.in-Ok.ensures.loads c.in-Ok-TooLong.ensures.read told refl refl
+    (rw c.standard.ensures at c.in-Ok.ensures.loads) c.in-Ok-TooLong.ensures.read told refl refl

@@ -1,7 +1,0 @@
-use Rattle.std.specs.BTreeSet.{contains}
-use Rattle.gq_base.specs.Values.{order_vals, val}
-use Rattle.gq_loader.proofs.KeySteps.{Keyed}
-use Rattle.gq_loader.proofs.keys.have_keys.Given as goal
-
-abbrev pub invariant-loop-row : goal.invariant-loop-row
-invariant-loop-row l = Keyed l.rows l.row-index (contains (λ x y. order_vals (val x) (val y)) l.keys)

@@ -1,0 +1,152 @@
+//! The tables of a graph, each read from its file.
+ghost use Rattle.std.specs.Prelude.{◌≡◌, ◌+◌, ◌<◌, ◌≤◌, length, IfOk, OnOk};
+ghost use Rattle.gq_manifest.specs.Orders.{IsNumberOf};
+ghost use Rattle.gq_loader.specs.Answers.{Answers, AsMany, IsGoing, Leaves};
+ghost use Rattle.gq_loader.specs.Effects.{Reads, told_of};
+ghost use Rattle.gq_loader.specs.Files.{file_of};
+ghost use Rattle.gq_loader.specs.Limits.{IsWithin, is_short};
+ghost use Rattle.gq_loader.specs.Loads.{end_of, key_kind, take_nodes, take_rels, take_table};
+ghost use Rattle.gq_manifest.specs.declared.order.TableNumber.TheVariants as table;
+ghost use Rattle.gq_tables.specs.Answers.{seen_end};
+
+use crate::file::read_file;
+use crate::limits::Limits;
+use crate::refusal::LoadRefusal;
+use gq_base::{Bytes, Field, Kind};
+use gq_io::Files;
+use gq_manifest::TableNumber;
+use gq_plain::PlainGraph;
+use gq_tables::{End, read_nodes, read_rels};
+use std::alloc::Global;
+
+/// A graph some of whose tables were read, and how many bytes their files have together.
+#[derive(Drop)]
+pub(crate) struct Loading {
+    pub(crate) graph: PlainGraph,
+    pub(crate) total: u32,
+}
+
+/// Reads the table of this number from its file.
+pub(crate) fn take_table<F: Files>(
+    alloc: Global,
+    files: &mut F,
+    limits: &Limits,
+    loading: &mut Loading,
+    table: TableNumber,
+) -> Result<(), LoadRefusal>
+    requires number { IsNumberOf loading.old.graph.catalog table }
+    requires going { IsGoing limits.now loading.old }
+    requires within { IsWithin limits.now }
+    ensures leaves { Leaves (F.held files.old) (λ names. take_table names limits.now loading.old table) loading.new result }
+    ensures going { OnOk result (IsGoing limits.now loading.new) }
+    ensures tables { OnOk result (AsMany loading.old.graph.catalog loading.new.graph.catalog) }
+    ensures reads { Reads limits.now.file_bytes (told_of F.held F.left F.faults F.misses files.old) (told_of F.held F.left F.faults F.misses files.new) result }
+{
+    match table {
+        TableNumber::Node(number) => take_nodes(alloc, files, limits, loading, number),
+        TableNumber::Rel(number) => take_rels(alloc, files, limits, loading, number),
+    }
+}
+
+fn take_nodes<F: Files>(
+    alloc: Global,
+    files: &mut F,
+    limits: &Limits,
+    loading: &mut Loading,
+    number: u32,
+) -> Result<(), LoadRefusal>
+    requires number { number < length loading.old.graph.catalog.nodes }
+    requires going { IsGoing limits.now loading.old }
+    requires within { IsWithin limits.now }
+    ensures leaves { Leaves (F.held files.old) (λ names. take_table names limits.now loading.old (table.Node number)) loading.new result }
+    ensures going { OnOk result (IsGoing limits.now loading.new) }
+    ensures tables { OnOk result (AsMany loading.old.graph.catalog loading.new.graph.catalog) }
+    ensures reads { Reads limits.now.file_bytes (told_of F.held F.left F.faults F.misses files.old) (told_of F.held F.left F.faults F.misses files.new) result }
+{
+    let file = loading.graph.catalog().node_table(number).file.as_str();
+    let bytes = read_table_file(alloc, files, limits, loading.total, file)?;
+    let read = match read_nodes(alloc, bytes.as_slice(), limits.nodes) {
+        Ok(read) => read,
+        Err(refusal) => return Err(LoadRefusal::in_file(alloc, file, refusal)?),
+    };
+    loading.total += bytes.len() as u32;
+    loading.graph.set_node_fields(number, read.fields);
+    loading.graph.set_node_rows(number, read.rows);
+    Ok(())
+}
+
+fn take_rels<F: Files>(
+    alloc: Global,
+    files: &mut F,
+    limits: &Limits,
+    loading: &mut Loading,
+    number: u32,
+) -> Result<(), LoadRefusal>
+    requires number { number < length loading.old.graph.catalog.rels }
+    requires going { IsGoing limits.now loading.old }
+    requires within { IsWithin limits.now }
+    ensures leaves { Leaves (F.held files.old) (λ names. take_table names limits.now loading.old (table.Rel number)) loading.new result }
+    ensures going { OnOk result (IsGoing limits.now loading.new) }
+    ensures tables { OnOk result (AsMany loading.old.graph.catalog loading.new.graph.catalog) }
+    ensures reads { Reads limits.now.file_bytes (told_of F.held F.left F.faults F.misses files.old) (told_of F.held F.left F.faults F.misses files.new) result }
+{
+    let table = loading.graph.catalog().rel_table(number);
+    let file = table.file.as_str();
+    let bytes = read_table_file(alloc, files, limits, loading.total, file)?;
+    let source = end_of(&loading.graph, table.from);
+    let target = end_of(&loading.graph, table.to);
+    let read = match read_rels(
+        alloc,
+        bytes.as_slice(),
+        source,
+        target,
+        table.mult,
+        limits.rels,
+    ) {
+        Ok(read) => read,
+        Err(refusal) => return Err(LoadRefusal::in_file(alloc, file, refusal)?),
+    };
+    loading.total += bytes.len() as u32;
+    loading.graph.set_rel_fields(number, read.fields);
+    loading.graph.set_rel_rows(number, read.rels);
+    Ok(())
+}
+
+// The bytes of the file of a table, after so many bytes of the files of tables before it.
+fn read_table_file<F: Files>(
+    alloc: Global,
+    files: &mut F,
+    limits: &Limits,
+    before: u32,
+    name: &str,
+) -> Result<Bytes, LoadRefusal>
+    requires { before ≤ limits.now.total_bytes }
+    ensures answers { Answers (F.held files.old) (λ names. file_of names (is_short limits.now before) name.now) result }
+    ensures one { IfOk result (λ bytes. length bytes ≤ limits.now.file_bytes) }
+    ensures all { IfOk result (λ bytes. before + length bytes ≤ limits.now.total_bytes) }
+    ensures reads { Reads limits.now.file_bytes (told_of F.held F.left F.faults F.misses files.old) (told_of F.held F.left F.faults F.misses files.new) result }
+{
+    let most = limits.file_bytes.min(limits.total_bytes - before);
+    read_file(alloc, files, name, most as usize)
+}
+
+// A node table as an end of a relationship table.
+fn end_of(graph: &PlainGraph, number: u32) -> End<'_>
+    requires { number < length graph.now.nodes }
+    ensures { seen_end result ≡ end_of graph.now number }
+{
+    let fields = &graph.catalog().node_table(number).fields;
+    End {
+        kind: key_kind(fields.as_slice()),
+        rows: graph.node_rows(number),
+    }
+}
+
+fn key_kind(fields: &[Field]) -> Kind
+    ensures { result ≡ key_kind fields.now }
+{
+    match fields {
+        [key, ..] => key.kind,
+        [] => Kind::Int,
+    }
+}
