@@ -1,0 +1,4 @@
+pub mod Bags
+pub mod Counts
+pub mod Each
+pub mod Products

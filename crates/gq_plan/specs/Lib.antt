@@ -1,0 +1,4 @@
+pub mod Allowed
+pub mod Assignments
+pub mod Reads
+pub mod Soundness
