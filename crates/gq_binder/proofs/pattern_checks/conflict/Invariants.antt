@@ -1,0 +1,6 @@
+use Rattle.std.proofs.Common.{◌≡◌, [], take, drop}
+use Rattle.gq_binder.specs.Refusals.{first_behind, conflicting}
+use Rattle.gq_binder.proofs.pattern_checks.conflict.Given as goal
+
+abbrev pub invariant-loop-at : goal.invariant-loop-at
+invariant-loop-at l = first_behind conflicting (take l.at l.named) (drop l.at l.named) ≡ first_behind conflicting [] l.named

@@ -1,0 +1,23 @@
+-- What binding a query answers: the first refusal that applies, or a bound query that resolves it and has its
+-- alternatives, each sound. Want of memory is free.
+use Rattle.std.specs.Prelude.{◌≡◌, ℕ, List, Some, None, Result, Ok, Err, All}
+use Rattle.gq_base.specs.Catalogs.{Tables}
+use Rattle.gq_binder.specs.Columns.{Resolves, HasAlternatives}
+use Rattle.gq_binder.specs.Refusals.{first_refusal}
+use Rattle.gq_binder.specs.declared.refusal.BindRefusal.{BindRefusal}
+use Rattle.gq_binder.specs.declared.refusal.BindRefusal.TheVariants as refusal
+use Rattle.gq_plan.specs.Soundness.{IsSound}
+use Rattle.gq_plan.specs.declared.Bound.{Bound}
+use Rattle.gq_syntax.specs.declared.Query.{Query}
+
+-- a bound query is one of a query that stands in a text, over a catalogue
+pub record IsBound (query : Query) (text : List ℕ) (catalog : Tables) (bound : Bound) : Type 0 where
+  pub accepted : first_refusal query text catalog ≡ None
+  pub resolves : Resolves query text bound
+  pub alternatives : HasAlternatives query text catalog bound
+  pub sound : All (IsSound catalog) bound.alternatives
+
+abbrev pub Answers : Query → List ℕ → Tables → Result Bound BindRefusal → Type 0
+Answers query text catalog (Ok bound) = IsBound query text catalog bound
+Answers query text catalog (Err refusal.Memory) = Unit {0}
+Answers query text catalog (Err refused) = first_refusal query text catalog ≡ Some refused

@@ -1,0 +1,132 @@
+-- What a query lists, tests and sorts by: its columns, conjuncts, keys and map entries, and when a bound query has them
+-- (openCypher 9; what a column without AS is called is this project's profile).
+use Rattle.std.specs.Prelude.{◌≡◌, ℕ, suc, Option, Some, None, List, [], ◌∷◌, ◌++◌, map, flat_map, codes, slice_range, unwrap_or, if◌then◌else◌}
+use Rattle.std.specs.List.{list_any}
+use Rattle.std.specs.Option.{option_map}
+use Rattle.gq_base.specs.Catalogs.{Tables}
+use Rattle.gq_base.specs.Words.{text_of}
+use Rattle.gq_base.specs.declared.CompareOp.TheVariants as compare
+use Rattle.gq_expr.specs.declared.Expr.{Expr}
+use Rattle.gq_expr.specs.declared.Expr.TheVariants as expr
+use Rattle.gq_lexer.specs.declared.Span.{Span}
+use Rattle.gq_plan.specs.Reads.{Variable, node, rel}
+use Rattle.gq_plan.specs.declared.Bound.{Bound}
+use Rattle.gq_plan.specs.declared.NamedExpr.{NamedExpr}
+use Rattle.gq_plan.specs.declared.SortExpr.{SortExpr}
+use Rattle.gq_syntax.specs.declared.Ast.{Ast, out-Ast}
+use Rattle.gq_syntax.specs.declared.Clause.{Clause}
+use Rattle.gq_syntax.specs.declared.Item.{Item}
+use Rattle.gq_syntax.specs.declared.Query.{Query}
+use Rattle.gq_syntax.specs.declared.Sort.{Sort}
+use Rattle.gq_binder.specs.Alternatives.{alternatives, typed_of}
+use Rattle.gq_binder.specs.Patterns.{Name, MapEntry, NamedVariable, Pattern, no_pattern, pattern_of, with_paths, is_same_name}
+use Rattle.gq_binder.specs.Resolving.{Calls, Conjunct, functions, resolved, split, all_some}
+use Rattle.gq_binder.specs.declared.scope.Column.{Column}
+use Rattle.gq_binder.specs.Scopes.{Scope}
+
+-- the text of a span; a span of a query's own text always has one, and any other bytes have the empty text
+abbrev pub source_text : List ℕ → Span → Name
+source_text text span = unwrap_or (text_of (slice_range text span.start span.end)) []
+
+-- the variables of patterns, without columns
+abbrev pub scope_of : Pattern → Scope
+scope_of p = record { columns = []; nodes = p.names; rels = map (λ r. r.part.name) p.rels }
+
+-- a tree and what it may name
+pub record Scoped : Type 0 where
+  pub scope : Scope
+  pub tree : Ast
+
+abbrev pub scoped_in : Scope → Option Ast → List Scoped
+scoped_in scope None = []
+scoped_in scope (Some tree) = record { scope = scope; tree = tree } ∷ []
+
+-- the conditions of clauses: each sees the variables of its clause and of earlier ones
+abbrev pub conditions_from : ℕ → Pattern → List Clause → List Scoped
+conditions_from number p [] = []
+conditions_from number p (c ∷ cs) =
+    scoped_in (scope_of (with_paths number c.paths p)) c.filter ++ conditions_from (suc number) (with_paths number c.paths p) cs
+
+abbrev pub conditions : Query → List Scoped
+conditions query = conditions_from 0 no_pattern query.clauses
+
+-- the conjuncts of all conditions, in text order
+unfoldable pub conjuncts : Query → List Conjunct
+conjuncts query = flat_map (λ c. (split functions c.scope c.tree).conjuncts) (conditions query)
+
+abbrev pub whole : Variable → Expr
+whole (node v) = expr.Node v
+whole (rel x) = expr.Rel x
+
+abbrev pub property_of : Variable → Name → Expr
+property_of (node v) name = expr.NodeProperty v name
+property_of (rel x) name = expr.RelProperty x name
+
+abbrev pub column_of : NamedVariable → Column
+column_of n = record { name = n.name; expr = Some (whole n.variable) }
+
+-- a variable whose name stands for the first time behind others
+abbrev pub if_first : List NamedVariable → NamedVariable → List NamedVariable
+if_first before n = if list_any (λ m. is_same_name m n) before then [] else n ∷ []
+
+abbrev pub firsts_behind : List NamedVariable → List NamedVariable → List NamedVariable
+firsts_behind before [] = []
+firsts_behind before (n ∷ ns) = if_first before n ++ firsts_behind (before ++ n ∷ []) ns
+
+-- `*` stands for all named variables, in the order of their first appearance
+abbrev pub star_columns : Pattern → List Column
+star_columns p = map column_of (firsts_behind [] p.named)
+
+abbrev pub item_name : List ℕ → Item → Name
+item_name text item = unwrap_or item.name (source_text text (out-Ast item.tree).span)
+
+-- a written column: its name is that of AS, else its source text
+abbrev pub item_column : Calls → List ℕ → Scope → Item → Column
+item_column calls text scope item = record { name = item_name text item; expr = resolved calls scope item.tree }
+
+-- the columns of a query with these patterns
+unfoldable pub columns_in : Calls → List ℕ → Pattern → Query → List Column
+columns_in calls text p query =
+    (if query.star then star_columns p else []) ++ map (item_column calls text (scope_of p)) query.items
+
+-- the columns of a query
+abbrev pub columns : Calls → List ℕ → Query → List Column
+columns calls text query = columns_in calls text (pattern_of query.clauses) query
+
+-- what ORDER BY may name: columns, then variables
+abbrev pub sort_scope : Calls → List ℕ → Query → Scope
+sort_scope calls text query = record (scope_of (pattern_of query.clauses)) { columns = columns calls text query }
+
+-- a property of a map entry's variable equals the entry's literal
+abbrev pub entry_expr : MapEntry → Expr
+entry_expr e = expr.Compare (property_of e.variable e.entry.key) (record { op = compare.Equal; expr = expr.Literal e.entry.value } ∷ [])
+
+-- it is called `v.k = c`, with c as it is written
+abbrev pub entry_test : List ℕ → MapEntry → NamedExpr
+entry_test text e = record { name = e.called ++ (codes "." ++ (e.entry.key ++ (codes " = " ++ source_text text e.entry.value_span))); expr = entry_expr e }
+
+abbrev pub column_expr : Column → Option NamedExpr
+column_expr c = option_map (λ e. record { name = c.name; expr = e }) c.expr
+
+abbrev pub conjunct_expr : List ℕ → Conjunct → Option NamedExpr
+conjunct_expr text c = option_map (λ e. record { name = source_text text c.span; expr = e }) c.expr
+
+abbrev pub sort_expr : Scope → Sort → Option SortExpr
+sort_expr scope s = option_map (λ e. record { expr = e; down = s.down }) (resolved functions scope s.tree)
+
+-- a bound query has the names, columns, conjuncts and keys of a query, which stands in a text
+pub record Resolves (query : Query) (text : List ℕ) (bound : Bound) : Type 0 where
+  pub node_names : bound.node_names ≡ (pattern_of query.clauses).node_names
+  pub rel_names : bound.rel_names ≡ (pattern_of query.clauses).rel_names
+  pub columns : all_some (map column_expr (columns functions text query)) ≡ Some bound.columns
+  pub conjuncts : all_some (map (conjunct_expr text) (conjuncts query)) ≡ Some bound.conjuncts
+  pub keys : all_some (map (sort_expr (sort_scope functions text query)) query.order) ≡ Some bound.keys
+  pub distinct : bound.distinct ≡ query.distinct
+  pub skip : bound.skip ≡ unwrap_or query.skip 0
+  pub limit : bound.limit ≡ query.limit
+
+-- a bound query has the alternatives of a query, with their tests, late conjuncts and pairs
+abbrev pub HasAlternatives : Query → List ℕ → Tables → Bound → Type 0
+HasAlternatives query text catalog bound =
+    let p : Pattern = pattern_of query.clauses in
+    bound.alternatives ≡ map (typed_of catalog p (map (entry_test text) p.entries) bound.conjuncts) (alternatives query catalog)

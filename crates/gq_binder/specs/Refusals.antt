@@ -1,0 +1,191 @@
+-- Why a query cannot be bound: the first of thirteen checks that applies, with its first place in the text (this
+-- project's profile).
+use Rattle.std.specs.Prelude.{ℕ, suc, nat_eq, nat_lt, Bool, true, false, not, ◌&&◌, Option, Some, None, List, [], ◌∷◌, ◌++◌, map, flat_map, length, if◌then◌else◌}
+use Rattle.std.specs.List.{list_any}
+use Rattle.std.specs.Option.{option_map}
+use Rattle.std.specs.Cmp.Lexicographic.{pointwise}
+use Rattle.gq_base.specs.Catalogs.{Tables}
+use Rattle.gq_expr.specs.declared.Expr.{Expr}
+use Rattle.gq_plan.specs.Reads.{Variable, node, rel, Read, property, reads, properties, distinct}
+use Rattle.gq_plan.specs.Soundness.{max_variables, max_reads}
+use Rattle.gq_syntax.specs.declared.Item.{Item}
+use Rattle.gq_syntax.specs.declared.Query.{Query}
+use Rattle.gq_syntax.specs.declared.Sort.{Sort}
+use Rattle.gq_binder.specs.Alternatives.{alternatives}
+use Rattle.gq_binder.specs.Columns.{Scoped, conditions, columns, scope_of, sort_scope}
+use Rattle.gq_binder.specs.MadeOf.{is_made_of, same_expr}
+use Rattle.gq_binder.specs.Patterns.{Name, NamedVariable, Pattern, pattern_of, is_called, is_same_name}
+use Rattle.gq_binder.specs.Uses.{Use, bare, owner, call, uses, or_else, first_name, is_variable, refused_unless, unknown_name, unknown_function, wrong_count}
+use Rattle.gq_binder.specs.Resolving.{as_lists, resolved, variable}
+use Rattle.gq_binder.specs.declared.refusal.BindRefusal.{BindRefusal}
+use Rattle.gq_binder.specs.declared.refusal.BindRefusal.TheVariants as refusal
+use Rattle.gq_binder.specs.declared.scope.Column.{Column}
+use Rattle.gq_binder.specs.Scopes.{Scope}
+
+-- the first that there is
+abbrev pub first_of_all : {A : Type 0} → List (Option A) → Option A
+first_of_all [] = None
+first_of_all (None ∷ xs) = first_of_all xs
+first_of_all (Some x ∷ xs) = Some x
+
+-- the expressions of a query in text order, each with what it may name
+abbrev pub items_in : Scope → List Item → List Scoped
+items_in scope items = map (λ i. record { scope = scope; tree = i.tree }) items
+
+abbrev pub sorts_in : Scope → List Sort → List Scoped
+sorts_in scope order = map (λ s. record { scope = scope; tree = s.tree }) order
+
+abbrev pub sort_trees : List ℕ → Query → List Scoped
+sort_trees text query = sorts_in (sort_scope as_lists text query) query.order
+
+unfoldable pub expressions : List ℕ → Query → List Scoped
+expressions text query = conditions query ++ (items_in (scope_of (pattern_of query.clauses)) query.items ++ sort_trees text query)
+
+-- ---- names
+
+-- the first name of the expressions that a check refuses
+abbrev pub first_in : (Scope → Use → Option Name) → List Scoped → Option Name
+first_in check [] = None
+first_in check (e ∷ es) = or_else (first_name (check e.scope) (uses e.tree)) (first_in check es)
+
+abbrev pub unknown_variable : List ℕ → Query → Option BindRefusal
+unknown_variable text query = option_map refusal.UnknownVariable (first_in unknown_name (expressions text query))
+
+abbrev pub same_form : Variable → Variable → Bool
+same_form (node v) (node w) = true
+same_form (rel x) (rel y) = true
+same_form v w = false
+
+-- the first item that a check refuses behind those before it
+abbrev pub first_behind : {A : Type 0} → (List A → A → Option Name) → List A → List A → Option Name
+first_behind check before [] = None
+first_behind check before (x ∷ xs) = or_else (check before x) (first_behind check (before ++ x ∷ []) xs)
+
+-- a name stands before as a variable of the other form
+abbrev pub conflicting : List NamedVariable → NamedVariable → Option Name
+conflicting before n = refused_unless (not (list_any (λ m. is_same_name m n && not (same_form m.variable n.variable)) before)) n.name
+
+abbrev pub is_rel : Variable → Bool
+is_rel (node v) = false
+is_rel (rel x) = true
+
+-- a name stands before as a relationship, and is one again
+abbrev pub repeating : List NamedVariable → NamedVariable → Option Name
+repeating before n = refused_unless (not (is_rel n.variable && list_any (λ m. is_same_name m n && is_rel m.variable) before)) n.name
+
+abbrev pub variable_conflict : Pattern → Option BindRefusal
+variable_conflict p = option_map refusal.VariableConflict (first_behind conflicting [] p.named)
+
+abbrev pub relationship_repeated : Pattern → Option BindRefusal
+relationship_repeated p = option_map refusal.RelationshipRepeated (first_behind repeating [] p.named)
+
+-- ---- columns
+
+-- a column before has its name
+abbrev pub repeating_column : List Column → Column → Option Name
+repeating_column before c = refused_unless (not (list_any (λ b. pointwise nat_eq b.name c.name) before)) c.name
+
+abbrev pub column_repeated : List Column → Option BindRefusal
+column_repeated cs = option_map refusal.ColumnRepeated (first_behind repeating_column [] cs)
+
+abbrev pub nothing : Bool → List NamedVariable → Option BindRefusal
+nothing true [] = Some refusal.NothingToReturn
+nothing star named = None
+
+abbrev pub nothing_to_return : Query → Pattern → Option BindRefusal
+nothing_to_return query p = nothing query.star p.named
+
+-- ---- ORDER BY
+
+abbrev where_known : Option Expr → List Expr
+where_known None = []
+where_known (Some e) = e ∷ []
+
+abbrev pub column_exprs : List Column → List Expr
+column_exprs cs = flat_map (λ c. where_known c.expr) cs
+
+abbrev pub is_made : List Expr → Option Expr → Bool
+is_made columns None = true
+is_made columns (Some e) = is_made_of columns e
+
+abbrev pub out_of_scope_from : ℕ → List Expr → Scope → List Sort → Option BindRefusal
+out_of_scope_from item columns scope [] = None
+out_of_scope_from item columns scope (s ∷ ss) =
+    if is_made columns (resolved as_lists scope s.tree) then out_of_scope_from (suc item) columns scope ss else Some (refusal.OrderOutOfScope item)
+
+-- with DISTINCT, an item is not made of columns
+abbrev pub order_out_of_scope : List ℕ → Query → Option BindRefusal
+order_out_of_scope text query =
+    if query.distinct then out_of_scope_from 1 (column_exprs (columns as_lists text query)) (sort_scope as_lists text query) query.order else None
+
+abbrev same_known : Option Expr → Option Expr → Bool
+same_known None e = false
+same_known (Some d) None = false
+same_known (Some d) (Some e) = same_expr d e
+
+-- AS gives a name to a column that is not the variable of that name
+abbrev pub renames : Scope → Name → Item → Bool
+renames s name item = is_called name item.name && not (same_known (resolved as_lists s item.tree) (variable s name))
+
+-- a name in ORDER BY, by itself or with a property, is a variable, and AS gives it to another column
+abbrev pub ambiguous_name : Scope → List Item → Use → Option Name
+ambiguous_name s items (bare name) = refused_unless (not (is_variable s name && list_any (renames s name) items)) name
+ambiguous_name s items (owner name) = refused_unless (not (is_variable s name && list_any (renames s name) items)) name
+ambiguous_name s items (call name arguments) = None
+
+abbrev pub ambiguous_order_name : List ℕ → Query → Option BindRefusal
+ambiguous_order_name text query =
+    option_map refusal.AmbiguousOrderName (first_in (λ _. ambiguous_name (scope_of (pattern_of query.clauses)) query.items) (sort_trees text query))
+
+-- ---- calls
+
+abbrev pub function_unknown : List ℕ → Query → Option BindRefusal
+function_unknown text query = option_map refusal.UnknownFunction (first_in (λ _. unknown_function) (expressions text query))
+
+abbrev pub argument_count : List ℕ → Query → Option BindRefusal
+argument_count text query = option_map refusal.ArgumentCount (first_in (λ _. wrong_count) (expressions text query))
+
+-- ---- numbers
+
+abbrev pub max_columns : ℕ
+max_columns = 64
+
+abbrev pub max_alternatives : ℕ
+max_alternatives = 512
+
+abbrev pub over_limit : ℕ → ℕ → BindRefusal → Option BindRefusal
+over_limit limit number refused = if nat_lt limit number then Some refused else None
+
+abbrev pub too_many_patterns : Pattern → Option BindRefusal
+too_many_patterns p =
+    first_of_all (over_limit max_variables (length p.nodes) refusal.TooManyPatterns ∷ over_limit max_variables (length p.rels) refusal.TooManyPatterns ∷ [])
+
+abbrev known_reads : Option Expr → List Read
+known_reads None = []
+known_reads (Some e) = reads e
+
+-- what the conditions and the pattern's maps read
+unfoldable pub all_reads : Query → List Read
+all_reads query =
+    map (λ e. property e.variable e.entry.key) (pattern_of query.clauses).entries
+    ++ properties (flat_map (λ c. known_reads (resolved as_lists c.scope c.tree)) (conditions query))
+
+-- the first check that applies
+unfoldable pub first_refusal : Query → List ℕ → Tables → Option BindRefusal
+first_refusal query text catalog =
+    let p : Pattern = pattern_of query.clauses in
+    let cs : List Column = columns as_lists text query in
+    first_of_all
+    (unknown_variable text query
+    ∷ variable_conflict p
+    ∷ relationship_repeated p
+    ∷ column_repeated cs
+    ∷ nothing_to_return query p
+    ∷ order_out_of_scope text query
+    ∷ ambiguous_order_name text query
+    ∷ function_unknown text query
+    ∷ argument_count text query
+    ∷ too_many_patterns p
+    ∷ over_limit max_reads (length (distinct (all_reads query))) refusal.TooManyReads
+    ∷ over_limit max_columns (length cs) refusal.TooManyColumns
+    ∷ over_limit max_alternatives (length (alternatives query catalog)) refusal.TooManyAlternatives ∷ [])

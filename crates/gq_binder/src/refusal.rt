@@ -1,0 +1,37 @@
+//! Why a query cannot be bound.
+
+use gq_base::Text;
+
+/// Why a query cannot be bound. Where several apply, the first of this list is answered, with its first place in the
+/// text.
+#[derive(Debug, Drop)]
+pub enum BindRefusal {
+    /// An expression names what its scope does not have.
+    UnknownVariable { name: Text },
+    /// One name is a node variable and a relationship variable.
+    VariableConflict { name: Text },
+    /// A relationship variable stands in two patterns.
+    RelationshipRepeated { name: Text },
+    /// Two columns have one name.
+    ColumnRepeated { name: Text },
+    /// `*` stands in RETURN and no variable has a name.
+    NothingToReturn,
+    /// With DISTINCT, an ORDER BY item is not made of columns; items are counted from 1.
+    OrderOutOfScope { item: u32 },
+    /// A name in ORDER BY is a variable, and AS gives it to a column that is not that variable.
+    AmbiguousOrderName { name: Text },
+    /// A call names neither `type` nor `coalesce`.
+    UnknownFunction { name: Text },
+    /// `type` has not exactly one argument, or `coalesce` has none.
+    ArgumentCount { name: Text },
+    /// More than 24 node patterns, or more than 24 relationship patterns.
+    TooManyPatterns,
+    /// More than 64 different pairs of variable and property in WHERE clauses and maps of patterns.
+    TooManyReads,
+    /// More than 64 columns.
+    TooManyColumns,
+    /// More than 512 alternatives.
+    TooManyAlternatives,
+    /// There was not enough memory.
+    Memory,
+}
