@@ -1,0 +1,39 @@
+#!/bin/sh
+# Loads a million nodes and five million relationships between them, or $1 and $2: graphq and sqlite3 side by side, with integer
+# keys and with keys that are strings. sqlite3 checks that both ends of each relationship are there, as graphq does.
+top=$(CDPATH='' cd -- "$(dirname -- "$0")/.." && pwd) || exit 1
+nodes=${1:-1000000}
+rels=${2:-5000000}
+work=$(mktemp -d) && cd "$work" || exit 1
+trap 'rm -rf "$work"' EXIT
+
+tables() {
+    awk -v nodes="$nodes" -v kind="$2" -v key="$3" 'BEGIN {
+        print "id:" kind ",name:string,age:int"
+        for (i = 1; i <= nodes; i++) printf key ",person %d,%s\n", i, i, i % 3 ? (i * 7) % 90 : ""
+    }' >"$1-person.csv"
+    awk -v nodes="$nodes" -v rels="$rels" -v key="$3" 'BEGIN {
+        srand(1)
+        print "from,to,since:int"
+        for (i = 1; i <= rels; i++) printf key "," key ",%d\n", 1 + int(rand() * nodes), 1 + int(rand() * nodes), 2000 + i % 25
+    }' >"$1-knows.csv"
+    printf 'node Person %s-person.csv\nrel KNOWS Person Person many_many %s-knows.csv\n' "$1" "$1" >"$1.manifest"
+}
+tables int int %d
+tables string string person-%08d
+
+seconds() {
+    /usr/bin/env bash -c "TIMEFORMAT='%3R s  $1'; time { $2; }"
+}
+"$top/graphq" --manifest int.manifest </dev/null || exit 1
+for keys in int string; do
+    type=integer
+    [ "$keys" = string ] && type=text
+    for _ in 1 2 3; do
+        seconds "graphq, $keys keys" "$top/graphq --manifest $keys.manifest </dev/null"
+        if command -v sqlite3 >/dev/null; then
+            rm -f graph.db
+            seconds "sqlite3, $keys keys" "sqlite3 graph.db 'pragma foreign_keys = on; create table person(id $type primary key, name text, age integer); create table knows(source $type references person(id), target $type references person(id), since integer)' '.mode csv' '.import --skip 1 $keys-person.csv person' '.import --skip 1 $keys-knows.csv knows'"
+        fi
+    done
+done
