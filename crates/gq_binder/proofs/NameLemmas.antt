@@ -1,10 +1,10 @@
 -- The first refused name of some expressions and then others.
 use Rattle.std.proofs.Common.{◌≡◌, ◌∙◌, ap, refl, List, [], ◌∷◌, ◌++◌, Option, None, Some}
 use Rattle.gq_binder.specs.Columns.{Scoped}
-use Rattle.gq_binder.specs.Patterns.{Name}
+use Rattle.gq_scopes.specs.Patterns.{Name}
 use Rattle.gq_binder.specs.Refusals.{first_in}
-use Rattle.gq_binder.specs.Scopes.{Scope}
-use Rattle.gq_binder.specs.Uses.{Use, uses, or_else, first_name}
+use Rattle.gq_scopes.specs.Scopes.{Scope}
+use Rattle.gq_scopes.specs.Uses.{Use, uses, or_else, first_name}
 
 regroup : (a b c : Option Name) → or_else a (or_else b c) ≡ or_else (or_else a b) c
 regroup None b c = refl

@@ -7,7 +7,7 @@ use Rattle.gq_syntax.specs.declared.Hop.{Hop}
 use Rattle.gq_syntax.specs.declared.NodePart.{NodePart}
 use Rattle.gq_syntax.specs.declared.Query.{Query}
 use Rattle.gq_syntax.specs.declared.RelPart.{RelPart}
-use Rattle.gq_binder.specs.Patterns.{pattern_of}
+use Rattle.gq_scopes.specs.Patterns.{pattern_of}
 use Rattle.gq_binder.specs.Refusals.{variable_conflict, relationship_repeated, column_repeated, nothing_to_return, too_many_patterns}
 use Rattle.gq_binder.specs.declared.refusal.BindRefusal.TheVariants as refusal
 

@@ -1,14 +1,12 @@
 -- What a query lists, tests and sorts by: its columns, conjuncts, keys and map entries, and when a bound query has them
 -- (openCypher 9; what a column without AS is called is this project's profile).
-use Rattle.std.specs.Prelude.{◌≡◌, ℕ, suc, Option, Some, None, List, [], ◌∷◌, ◌++◌, map, flat_map, codes, slice_range, unwrap_or, if◌then◌else◌}
+use Rattle.std.specs.Prelude.{◌≡◌, ℕ, suc, Option, Some, None, List, [], ◌∷◌, ◌++◌, map, flat_map, codes, unwrap_or, if◌then◌else◌}
 use Rattle.std.specs.List.{list_any}
 use Rattle.std.specs.Option.{option_map}
 use Rattle.gq_base.specs.Catalogs.{Tables}
-use Rattle.gq_base.specs.Words.{text_of}
 use Rattle.gq_base.specs.declared.CompareOp.TheVariants as compare
 use Rattle.gq_expr.specs.declared.Expr.{Expr}
 use Rattle.gq_expr.specs.declared.Expr.TheVariants as expr
-use Rattle.gq_lexer.specs.declared.Span.{Span}
 use Rattle.gq_plan.specs.Reads.{Variable, node, rel}
 use Rattle.gq_plan.specs.declared.Bound.{Bound}
 use Rattle.gq_plan.specs.declared.NamedExpr.{NamedExpr}
@@ -18,19 +16,12 @@ use Rattle.gq_syntax.specs.declared.Clause.{Clause}
 use Rattle.gq_syntax.specs.declared.Item.{Item}
 use Rattle.gq_syntax.specs.declared.Query.{Query}
 use Rattle.gq_syntax.specs.declared.Sort.{Sort}
-use Rattle.gq_binder.specs.Alternatives.{alternatives, typed_of}
-use Rattle.gq_binder.specs.Patterns.{Name, MapEntry, NamedVariable, Pattern, no_pattern, pattern_of, with_paths, is_same_name}
-use Rattle.gq_binder.specs.Resolving.{Calls, Conjunct, functions, resolved, split, all_some}
-use Rattle.gq_binder.specs.declared.scope.Column.{Column}
-use Rattle.gq_binder.specs.Scopes.{Scope}
-
--- the text of a span; a span of a query's own text always has one, and any other bytes have the empty text
-abbrev pub source_text : List ℕ → Span → Name
-source_text text span = unwrap_or (text_of (slice_range text span.start span.end)) []
-
--- the variables of patterns, without columns
-abbrev pub scope_of : Pattern → Scope
-scope_of p = record { columns = []; nodes = p.names; rels = map (λ r. r.part.name) p.rels }
+use Rattle.gq_alternatives.specs.Alternatives.{alternatives, typed_of}
+use Rattle.gq_scopes.specs.Patterns.{Name, MapEntry, NamedVariable, Pattern, no_pattern, pattern_of, with_paths, is_same_name}
+use Rattle.gq_scopes.specs.Resolving.{Calls, Conjunct, functions, resolved, split, all_some}
+use Rattle.gq_scopes.specs.Scopes.{Scope, scope_of}
+use Rattle.gq_scopes.specs.Sources.{source_text}
+use Rattle.gq_scopes.specs.declared.Column.{Column}
 
 -- a tree and what it may name
 pub record Scoped : Type 0 where

@@ -1,14 +1,3 @@
-pub mod Alternatives
 pub mod Binding
-pub mod Checks
 pub mod Columns
-pub mod MadeOf
-pub mod Matches
-pub mod Parted
-pub mod Patterns
 pub mod Refusals
-pub mod Resolving
-pub mod Scopes
-pub mod Trees
-pub mod Uses
-pub mod Variables

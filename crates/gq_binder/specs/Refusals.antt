@@ -11,16 +11,16 @@ use Rattle.gq_plan.specs.Soundness.{max_variables, max_reads}
 use Rattle.gq_syntax.specs.declared.Item.{Item}
 use Rattle.gq_syntax.specs.declared.Query.{Query}
 use Rattle.gq_syntax.specs.declared.Sort.{Sort}
-use Rattle.gq_binder.specs.Alternatives.{alternatives}
-use Rattle.gq_binder.specs.Columns.{Scoped, conditions, columns, scope_of, sort_scope}
-use Rattle.gq_binder.specs.MadeOf.{is_made_of, same_expr}
-use Rattle.gq_binder.specs.Patterns.{Name, NamedVariable, Pattern, pattern_of, is_called, is_same_name}
-use Rattle.gq_binder.specs.Uses.{Use, bare, owner, call, uses, or_else, first_name, is_variable, refused_unless, unknown_name, unknown_function, wrong_count}
-use Rattle.gq_binder.specs.Resolving.{as_lists, resolved, variable}
+use Rattle.gq_alternatives.specs.Alternatives.{alternatives}
+use Rattle.gq_binder.specs.Columns.{Scoped, conditions, columns, sort_scope}
+use Rattle.gq_scopes.specs.MadeOf.{is_made_of, same_expr}
+use Rattle.gq_scopes.specs.Patterns.{Name, NamedVariable, Pattern, pattern_of, is_called, is_same_name}
+use Rattle.gq_scopes.specs.Uses.{Use, bare, owner, call, uses, or_else, first_name, is_variable, refused_unless, unknown_name, unknown_function, wrong_count}
+use Rattle.gq_scopes.specs.Resolving.{as_lists, resolved, variable}
 use Rattle.gq_binder.specs.declared.refusal.BindRefusal.{BindRefusal}
 use Rattle.gq_binder.specs.declared.refusal.BindRefusal.TheVariants as refusal
-use Rattle.gq_binder.specs.declared.scope.Column.{Column}
-use Rattle.gq_binder.specs.Scopes.{Scope}
+use Rattle.gq_scopes.specs.declared.Column.{Column}
+use Rattle.gq_scopes.specs.Scopes.{Scope, scope_of}
 
 -- the first that there is
 abbrev pub first_of_all : {A : Type 0} → List (Option A) → Option A

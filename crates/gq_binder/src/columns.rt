@@ -4,21 +4,19 @@ ghost use Rattle.std.specs.Cmp.Lexicographic.{pointwise};
 ghost use Rattle.std.specs.List.{list_any};
 ghost use Rattle.std.specs.Option.{option_copied};
 ghost use Rattle.gq_binder.specs.Columns as columns;
-ghost use Rattle.gq_binder.specs.Columns.{columns_in, column_of, star_columns, item_column, item_name, scope_of};
-ghost use Rattle.gq_binder.specs.Patterns.{is_same_name};
+ghost use Rattle.gq_binder.specs.Columns.{columns_in, column_of, star_columns, item_column, item_name};
+ghost use Rattle.gq_scopes.specs.Scopes.{scope_of};
+ghost use Rattle.gq_scopes.specs.Patterns.{is_same_name};
 ghost use Rattle.gq_binder.specs.Refusals.{first_behind, repeating_column};
-ghost use Rattle.gq_binder.specs.Resolving.{calls_of};
-ghost use Rattle.gq_binder.specs.Variables.{seen};
+ghost use Rattle.gq_scopes.specs.Resolving.{calls_of};
+ghost use Rattle.gq_scopes.specs.Variables.{seen};
 
-use crate::calls::CallForm;
-use crate::copy::copy_text;
 use crate::pattern_checks::is_same;
-use crate::patterns::{NamedVariable, Pattern, Variable};
-use crate::resolve::resolve;
-use crate::scope::{Column, Scope};
-use crate::source::source_text;
 use gq_base::{List, Memory, Text};
 use gq_expr::Expr;
+use gq_scopes::{
+    CallForm, Column, NamedVariable, Pattern, Scope, Variable, copy_text, resolve, source_text,
+};
 use gq_syntax::{Item, Query};
 use std::alloc::Global;
 

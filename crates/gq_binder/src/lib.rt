@@ -1,23 +1,12 @@
-//! From the tree of a query to its bound form: names are resolved, what may not be asked is refused, and the typed
+//! From the tree of a query to its bound form: what may not be asked is refused, and columns, conditions, keys and typed
 //! alternatives are listed.
 #![tactic(auto)]
 
-mod calls;
 mod columns;
-mod copy;
-mod law;
 mod names;
-mod number;
-mod parts;
 mod pattern_checks;
-mod patterns;
 mod refusal;
-mod resolve;
-mod scope;
-mod source;
-mod uses;
 
-pub use law::alternatives_part_matches;
 pub use refusal::BindRefusal;
 
 #[cfg(test)]

@@ -1,16 +1,14 @@
 //! The first name of all expressions of a query that a check refuses.
 ghost use Rattle.std.specs.Prelude.{◌≡◌, IfOk};
 ghost use Rattle.std.specs.Option.{option_copied};
-ghost use Rattle.gq_binder.specs.Checks.{check_of};
-ghost use Rattle.gq_binder.specs.Columns.{conditions, conditions_from, scoped_in, scope_of};
-ghost use Rattle.gq_binder.specs.Patterns.{no_pattern};
+ghost use Rattle.gq_scopes.specs.Scopes.{scope_of};
+ghost use Rattle.gq_scopes.specs.Checks.{check_of};
+ghost use Rattle.gq_binder.specs.Columns.{conditions, conditions_from, scoped_in};
+ghost use Rattle.gq_scopes.specs.Patterns.{no_pattern};
 ghost use Rattle.gq_binder.specs.Refusals.{first_in, items_in, sorts_in};
 
-use crate::number::next;
-use crate::patterns::Pattern;
-use crate::scope::Scope;
-use crate::uses::{Check, first_refused};
 use gq_base::{Memory, Text};
+use gq_scopes::{Check, Pattern, Scope, first_refused, next};
 use gq_syntax::{Ast, Clause, Item, Sort};
 use std::alloc::Global;
 

@@ -2,14 +2,14 @@
 ghost use Rattle.std.specs.Prelude.{◌≡◌, ◌&&◌, not, length, []};
 ghost use Rattle.std.specs.List.{list_any};
 ghost use Rattle.std.specs.Option.{option_copied};
-ghost use Rattle.gq_binder.specs.Patterns.{is_same_name};
+ghost use Rattle.gq_scopes.specs.Patterns.{is_same_name};
 ghost use Rattle.gq_binder.specs.Refusals as refusals;
 ghost use Rattle.gq_binder.specs.Refusals.{same_form, first_behind, conflicting, repeating, nothing};
-ghost use Rattle.gq_binder.specs.Variables.{seen};
+ghost use Rattle.gq_scopes.specs.Variables.{seen};
 
-use crate::patterns::{NamedVariable, Pattern, Variable};
 use crate::refusal::BindRefusal;
 use gq_base::Text;
+use gq_scopes::{NamedVariable, Pattern, Variable};
 
 /// The first name, in text order, that stands before as a variable of the other form.
 pub fn conflict<'t>(named: &[NamedVariable<'t>]) -> Option<&'t Text>

@@ -1,10 +1,9 @@
-//! What the names and calls of small expressions are, worked out by hand.
+//! What the columns of small queries are, and what is refused of their patterns, worked out by hand.
 
-use crate::calls::CallForm;
-use crate::patterns::Pattern;
-use crate::resolve::resolve;
-use crate::uses::{Check, first_refused};
+use crate::columns::{columns_of, repeated_column};
+use crate::pattern_checks::{conflict, repeated};
 use gq_base::Text;
+use gq_scopes::{CallForm, Pattern};
 use gq_syntax::{Query, Statement, parse};
 use std::alloc::Global;
 use std::test::Fail;
@@ -27,53 +26,44 @@ fn shown<'t>(name: Option<&'t Text>) -> &'t str {
     }
 }
 
-// The unknown name, the unknown function and the function with a wrong number of arguments of the expression that a
-// query returns, and whether it stands for a bound expression.
-fn answers(rt: &HostRuntime, text: &str) -> Result<String, Fail> {
+// The names of a query's columns, the name of two forms, the relationship that stands twice and the column that stands
+// twice.
+fn columns_shown(rt: &HostRuntime, text: &str) -> Result<String, Fail> {
     let alloc = rt.alloc();
     let query = queried(rt, text)?;
-    let variables = queried(rt, "MATCH (a)-[r]->(b) RETURN a")?;
-    let pattern = Pattern::of(alloc, variables.clauses.as_slice())?;
-    let scope = pattern.scope(&[])?;
-    let Some(item) = query.items.get(0) else {
-        return Err(Fail::from("no item"));
-    };
-    let name = shown(first_refused(Check::UnknownName, &scope, &item.tree));
-    let function = shown(first_refused(Check::UnknownFunction, &scope, &item.tree));
-    let count = shown(first_refused(Check::WrongCount, &scope, &item.tree));
-    let bound = resolve(alloc, CallForm::Functions, &scope, &item.tree)?.is_some();
-    Ok(format!(in alloc; "{name} {function} {count} {bound}")?)
+    let pattern = Pattern::of(alloc, query.clauses.as_slice())?;
+    let columns = columns_of(alloc, CallForm::Lists, text.as_bytes(), &pattern, &query)?;
+    let mut names = String::new(alloc);
+    for column in columns.as_slice() {
+        names.push_str(column.name.as_str())?;
+        names.push_str(",")?;
+    }
+    let conflict = shown(conflict(pattern.named()));
+    let repeated = shown(repeated(pattern.named()));
+    let column = shown(repeated_column(columns.as_slice()));
+    Ok(format!(in alloc; "{names} {conflict} {repeated} {column}")?)
 }
 
-const EXPRESSIONS: [(&str, &str); 16] = [
-    ("MATCH (a) RETURN a", "- - - true"),
-    ("MATCH (a) RETURN c", "c - - false"),
-    ("MATCH (a) RETURN c.id + d.id", "c - - false"),
+const COLUMNS: [(&str, &str); 4] = [
     (
-        "MATCH (a) RETURN a.id = b.id AND r.since IS NULL",
-        "- - - true",
+        "MATCH (a)-[r:T]->()<--(b) RETURN *, a.x AS y, b",
+        "a,r,b,y,b, - - b",
     ),
-    ("MATCH (a) RETURN (a.id < 1) = (c IS NULL)", "c - - false"),
-    ("MATCH (a) RETURN a.name STARTS WITH c.name", "c - - false"),
+    ("MATCH (a)-[a]->(b) RETURN b . x", "b . x, a - -"),
     (
-        "MATCH (a) RETURN a.x IN [1, null] XOR NOT b.y",
-        "- - - true",
+        "MATCH (a)-[r]->(b)-[r]->(a) RETURN 1 + 2, 'x' ",
+        "1 + 2,'x', - r -",
     ),
-    ("MATCH (a) RETURN -a.x * +1", "- - - true"),
-    ("MATCH (a) RETURN type(r)", "- - - true"),
-    ("MATCH (a) RETURN TYPE(r, r)", "- - TYPE false"),
-    ("MATCH (a) RETURN Coalesce(a.x, 1, null)", "- - - true"),
-    ("MATCH (a) RETURN coalesce()", "- - coalesce false"),
-    ("MATCH (a) RETURN size(a)", "- size - false"),
-    ("MATCH (a) RETURN size()", "- size - false"),
-    ("MATCH (a) RETURN coalesce(f(g(1)), c)", "c f - false"),
-    ("MATCH (a) RETURN A.x", "A - - false"),
+    (
+        "MATCH ()-->() RETURN 1 AS `a b`, 2 AS `a b`",
+        "a b,a b, - - a b",
+    ),
 ];
 
 #[test]
-fn names_and_calls_are_known_or_refused(rt: HostRuntime) -> Result<(), Fail> {
-    for (text, want) in EXPRESSIONS.iter() {
-        let got = answers(&rt, text)?;
+fn columns_have_their_names(rt: HostRuntime) -> Result<(), Fail> {
+    for (text, want) in COLUMNS.iter() {
+        let got = columns_shown(&rt, text)?;
         assert_eq!(rt; got.as_str(), *want);
     }
     Ok(())

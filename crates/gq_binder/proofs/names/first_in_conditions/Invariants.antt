@@ -1,7 +1,7 @@
 use Rattle.std.proofs.Common.{◌≡◌, drop}
-use Rattle.gq_binder.specs.Checks.{check_of}
+use Rattle.gq_scopes.specs.Checks.{check_of}
 use Rattle.gq_binder.specs.Columns.{conditions_from}
-use Rattle.gq_binder.specs.Patterns.{no_pattern}
+use Rattle.gq_scopes.specs.Patterns.{no_pattern}
 use Rattle.gq_binder.specs.Refusals.{first_in}
 use Rattle.gq_binder.proofs.names.first_in_conditions.Given as goal
 

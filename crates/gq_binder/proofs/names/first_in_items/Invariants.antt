@@ -1,5 +1,5 @@
 use Rattle.std.proofs.Common.{◌≡◌, drop}
-use Rattle.gq_binder.specs.Checks.{check_of}
+use Rattle.gq_scopes.specs.Checks.{check_of}
 use Rattle.gq_binder.specs.Refusals.{first_in, items_in}
 use Rattle.gq_binder.proofs.names.first_in_items.Given as goal
 

@@ -1,0 +1,7 @@
+pub mod RangeLemmas
+pub mod Resolved
+pub mod SameEquations
+pub mod SameLemmas
+pub mod ScopeLemmas
+pub mod SliceLemmas
+pub mod UseLemmas

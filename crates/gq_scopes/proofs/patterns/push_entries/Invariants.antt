@@ -1,0 +1,7 @@
+use Rattle.std.proofs.Common.{◌≡◌, ◌++◌, take}
+use Rattle.gq_scopes.specs.Patterns.{entries_of}
+use Rattle.gq_scopes.specs.Variables.{seen}
+use Rattle.gq_scopes.proofs.patterns.push_entries.Given as goal
+
+abbrev pub invariant-loop-entry : goal.invariant-loop-entry
+invariant-loop-entry l = l.entries ≡ l.fn.entries ++ entries_of (seen l.variable) l.called (take l.entry-index l.map)

@@ -1,0 +1,9 @@
+pub mod Checks
+pub mod MadeOf
+pub mod Patterns
+pub mod Resolving
+pub mod Scopes
+pub mod Sources
+pub mod Trees
+pub mod Uses
+pub mod Variables

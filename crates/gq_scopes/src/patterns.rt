@@ -1,0 +1,421 @@
+//! The patterns of a query, read from left to right.
+ghost use Rattle.std.specs.Prelude.{◌≡◌, ◌+◌, ◌++◌, length, IfOk};
+ghost use Rattle.std.specs.List.{range_with_len};
+ghost use Rattle.gq_scopes.specs.Scopes.{scope_of};
+ghost use Rattle.gq_scopes.specs.Patterns as patterns;
+ghost use Rattle.gq_scopes.specs.Patterns.{pattern_of, with_clauses, with_paths, with_path, with_hops, with_rel, with_part, with_node, node_new, node_again, entries_of, naming, no_pattern};
+ghost use Rattle.gq_scopes.specs.Variables.{seen};
+
+use crate::copies::copy_text;
+use crate::counts::{next, number};
+use crate::scope::{Column, Scope, find_name};
+use gq_base::{List, Memory, Text};
+use gq_plan::PathPart;
+use gq_syntax::{Clause, Entry, Hop, NodePart, Path, RelPart};
+use std::alloc::Global;
+use std::marker::Model;
+
+/// A variable: those of nodes and those of relationships are counted from 0, each kind for itself.
+#[derive(Clone, Copy)]
+pub enum Variable {
+    Node(u32),
+    Rel(u32),
+}
+
+/// A name that stands in a pattern, and its variable there.
+#[derive(Drop)]
+pub struct NamedVariable<'t> {
+    pub name: &'t Text,
+    pub variable: Variable,
+}
+
+impl<'t> Model for NamedVariable<'t> {
+    ghost use Rattle.gq_scopes.specs.Patterns.{NamedVariable};
+
+    ghost Value = { NamedVariable };
+
+    ghost use Rattle.gq_scopes.specs.Variables.{seen};
+
+    ghost view = { λ n. record { name = n.name.now; variable = seen n.variable } };
+}
+
+/// A node pattern and its variable.
+#[derive(Drop)]
+pub struct NodePattern<'t> {
+    pub variable: u32,
+    pub part: &'t NodePart,
+}
+
+impl<'t> Model for NodePattern<'t> {
+    ghost use Rattle.gq_scopes.specs.Patterns.{NodePattern};
+
+    ghost Value = { NodePattern };
+
+    ghost view = { λ n. record { variable = n.variable; part = n.part.now } };
+}
+
+/// A relationship pattern, the number of its MATCH clause, and the node variables at its left and at its right.
+#[derive(Drop)]
+pub struct RelPattern<'t> {
+    pub clause: u32,
+    pub left: u32,
+    pub right: u32,
+    pub part: &'t RelPart,
+}
+
+impl<'t> Model for RelPattern<'t> {
+    ghost use Rattle.gq_scopes.specs.Patterns.{RelPattern};
+
+    ghost Value = { RelPattern };
+
+    ghost view = { λ r. record { clause = r.clause; left = r.left; right = r.right; part = r.part.now } };
+}
+
+/// An entry of a pattern's map, its variable, and what the variable is called.
+#[derive(Drop)]
+pub struct MapEntry<'t> {
+    pub variable: Variable,
+    pub called: Text,
+    pub entry: &'t Entry,
+}
+
+impl<'t> Model for MapEntry<'t> {
+    ghost use Rattle.gq_scopes.specs.Patterns.{MapEntry};
+
+    ghost Value = { MapEntry };
+
+    ghost use Rattle.gq_scopes.specs.Variables.{seen};
+
+    ghost view = { λ e. record { variable = seen e.variable; called = e.called; entry = e.entry.now } };
+}
+
+/// The patterns of a query with their variables, paths and map entries, in text order.
+#[derive(Drop)]
+pub struct Pattern<'t> {
+    names: List<Option<Text>>,
+    named: List<NamedVariable<'t>>,
+    node_names: List<Text>,
+    rel_names: List<Text>,
+    unnamed: u32,
+    nodes: List<NodePattern<'t>>,
+    rels: List<RelPattern<'t>>,
+    paths: List<PathPart>,
+    entries: List<MapEntry<'t>>,
+}
+
+impl<'t> Model for Pattern<'t> {
+    ghost use Rattle.gq_scopes.specs.Patterns.{Pattern};
+
+    ghost Value = { Pattern };
+
+    ghost view = { λ p. record { names = p.names; named = p.named; node_names = p.node_names; rel_names = p.rel_names; unnamed = p.unnamed; nodes = p.nodes; rels = p.rels; paths = p.paths; entries = p.entries } };
+}
+
+impl<'t> Pattern<'t> {
+    /// No patterns yet.
+    pub fn new(alloc: Global) -> Pattern<'t>
+        ensures { result ≡ no_pattern }
+    {
+        Pattern {
+            names: List::new(alloc),
+            named: List::new(alloc),
+            node_names: List::new(alloc),
+            rel_names: List::new(alloc),
+            unnamed: 0,
+            nodes: List::new(alloc),
+            rels: List::new(alloc),
+            paths: List::new(alloc),
+            entries: List::new(alloc),
+        }
+    }
+
+    // The variable of a node pattern that comes next.
+    fn variable_of(&self, part: &NodePart) -> Result<u32, Memory>
+        ensures { IfOk result (λ v. v ≡ patterns.variable_of self.now part.now) }
+    {
+        match known_as(self.names.as_slice(), &part.name) {
+            Some(at) => number(at),
+            None => number(self.names.len()),
+        }
+    }
+
+    fn push_node(&mut self, alloc: Global, part: &'t NodePart) -> Result<(), Memory>
+        ensures { IfOk result (λ _. self.new ≡ with_node part.now self.old) }
+    {
+        match known_as(self.names.as_slice(), &part.name) {
+            Some(at) => {
+                let variable = number(at)?;
+                self.push_node_again(alloc, variable, part)
+            }
+            None => self.push_new_node(alloc, part),
+        }
+    }
+
+    fn push_node_again(
+        &mut self,
+        alloc: Global,
+        variable: u32,
+        part: &'t NodePart,
+    ) -> Result<(), Memory>
+        ensures { IfOk result (λ _. self.new ≡ node_again variable part.now self.old) }
+    {
+        let called = called(alloc, self.unnamed, &part.name)?;
+        let whole = Variable::Node(variable);
+        push_naming(&mut self.named, &part.name, whole)?;
+        push_entries(
+            alloc,
+            &mut self.entries,
+            whole,
+            &called,
+            part.map.as_slice(),
+        )?;
+        self.nodes.push(NodePattern { variable, part })
+    }
+
+    fn push_new_node(&mut self, alloc: Global, part: &'t NodePart) -> Result<(), Memory>
+        ensures { IfOk result (λ _. self.new ≡ node_new part.now self.old) }
+    {
+        let variable = number(self.names.len())?;
+        let called = called(alloc, self.unnamed, &part.name)?;
+        let whole = Variable::Node(variable);
+        push_naming(&mut self.named, &part.name, whole)?;
+        push_entries(
+            alloc,
+            &mut self.entries,
+            whole,
+            &called,
+            part.map.as_slice(),
+        )?;
+        self.names.push(copy_name(alloc, &part.name)?)?;
+        self.node_names.push(called)?;
+        self.unnamed = unnamed_after(self.unnamed, &part.name)?;
+        self.nodes.push(NodePattern { variable, part })
+    }
+
+    fn push_rel(
+        &mut self,
+        alloc: Global,
+        clause: u32,
+        left: u32,
+        right: u32,
+        part: &'t RelPart,
+    ) -> Result<(), Memory>
+        ensures { IfOk result (λ _. self.new ≡ with_rel clause left right part.now self.old) }
+    {
+        let variable = Variable::Rel(number(self.rels.len())?);
+        let called = called(alloc, self.unnamed, &part.name)?;
+        push_naming(&mut self.named, &part.name, variable)?;
+        push_entries(
+            alloc,
+            &mut self.entries,
+            variable,
+            &called,
+            part.map.as_slice(),
+        )?;
+        self.rel_names.push(called)?;
+        self.unnamed = unnamed_after(self.unnamed, &part.name)?;
+        self.rels.push(RelPattern {
+            clause,
+            left,
+            right,
+            part,
+        })
+    }
+
+    // The relationships and nodes of a path that follow a node variable.
+    fn push_hops(
+        &mut self,
+        alloc: Global,
+        clause: u32,
+        first: u32,
+        hops: &'t [Hop],
+    ) -> Result<(), Memory>
+        ensures { IfOk result (λ _. self.new ≡ with_hops clause first hops.now self.old) }
+    {
+        let mut left = first;
+        for hop in hops {
+            let right = self.variable_of(&hop.node)?;
+            self.push_rel(alloc, clause, left, right, &hop.rel)?;
+            self.push_node(alloc, &hop.node)?;
+            left = right;
+        }
+        Ok(())
+    }
+
+    fn push_part(&mut self, part: PathPart) -> Result<(), Memory>
+        ensures { IfOk result (λ _. self.new ≡ with_part part self.old) }
+    {
+        self.paths.push(part)
+    }
+
+    fn rels_len(&self) -> usize
+        ensures { result ≡ length self.now.rels }
+    {
+        self.rels.len()
+    }
+
+    fn push_path(&mut self, alloc: Global, clause: u32, path: &'t Path) -> Result<(), Memory>
+        ensures { IfOk result (λ _. self.new ≡ with_path clause path.now self.old) }
+    {
+        let rels = numbers_from(alloc, self.rels_len(), path.hops.len())?;
+        let first = self.variable_of(&path.first)?;
+        self.push_node(alloc, &path.first)?;
+        self.push_hops(alloc, clause, first, path.hops.as_slice())?;
+        self.push_part(PathPart { first, rels })
+    }
+
+    /// Appends the paths of a MATCH clause.
+    pub fn push_paths(
+        &mut self,
+        alloc: Global,
+        clause: u32,
+        paths: &'t [Path],
+    ) -> Result<(), Memory>
+        ensures { IfOk result (λ _. self.new ≡ with_paths clause paths.now self.old) }
+    {
+        for path in paths {
+            self.push_path(alloc, clause, path)?;
+        }
+        Ok(())
+    }
+
+    fn push_clauses(&mut self, alloc: Global, clauses: &'t [Clause]) -> Result<(), Memory>
+        ensures { IfOk result (λ _. self.new ≡ with_clauses 0 clauses.now self.old) }
+    {
+        let mut number = 0;
+        for clause in clauses {
+            self.push_paths(alloc, number, clause.paths.as_slice())?;
+            number = next(number)?;
+        }
+        Ok(())
+    }
+
+    /// What an expression may name: these columns, and the variables of the patterns.
+    pub fn scope<'s>(&'s self, columns: &'s [Column]) -> Result<Scope<'s>, Memory>
+        ensures { IfOk result (λ s. s ≡ record (scope_of self.now) { columns = columns.now }) }
+    {
+        let _ = number(self.names.len())?;
+        let _ = number(self.rels.len())?;
+        Ok(Scope::new(columns, self.names.as_slice(), self.rels.as_slice()))
+    }
+
+    /// All names in text order, each with its variable.
+    pub fn named(&self) -> &[NamedVariable<'t>]
+        ensures { result.now ≡ self.now.named }
+    {
+        self.named.as_slice()
+    }
+
+    /// The node patterns in text order.
+    pub fn nodes(&self) -> &[NodePattern<'t>]
+        ensures { result.now ≡ self.now.nodes }
+    {
+        self.nodes.as_slice()
+    }
+
+    /// The relationship patterns in text order; the place of one is its variable.
+    pub fn rels(&self) -> &[RelPattern<'t>]
+        ensures { result.now ≡ self.now.rels }
+    {
+        self.rels.as_slice()
+    }
+
+    /// The patterns of MATCH clauses.
+    #[tactic(auto, unfolding(crate::specs::Patterns::pattern_of))]
+    pub fn of(alloc: Global, clauses: &'t [Clause]) -> Result<Pattern<'t>, Memory>
+        ensures { IfOk result (λ p. p ≡ pattern_of clauses.now) }
+    {
+        let mut pattern = Pattern::new(alloc);
+        pattern.push_clauses(alloc, clauses)?;
+        Ok(pattern)
+    }
+}
+
+#[tactic(auto, using(crate::proofs::RangeLemmas::range_more))]
+fn numbers_from(alloc: Global, start: usize, count: usize) -> Result<List<u32>, Memory>
+    ensures { IfOk result (λ ns. ns ≡ range_with_len start count) }
+{
+    let mut numbers = List::new(alloc);
+    let mut at = number(start)?;
+    for _ in 0..count {
+        numbers.push(at)?;
+        at = next(at)?;
+    }
+    Ok(numbers)
+}
+
+fn known_as(names: &[Option<Text>], name: &Option<Text>) -> Option<usize>
+    ensures { result ≡ patterns.known_as names.now name.now }
+{
+    match name {
+        None => None,
+        Some(name) => find_name(names, name),
+    }
+}
+
+// What a variable is called: its name, or `#1`, `#2` and so on.
+fn called(alloc: Global, unnamed: u32, name: &Option<Text>) -> Result<Text, Memory>
+    ensures { IfOk result (λ t. t ≡ patterns.called unnamed name.now) }
+{
+    match name {
+        Some(name) => copy_text(alloc, name),
+        None => {
+            let number = next(unnamed)?;
+            match format!(in alloc; "#{number}") {
+                Ok(text) => Ok(Text::from_string(text)),
+                Err(_) => Err(Memory),
+            }
+        }
+    }
+}
+
+fn unnamed_after(unnamed: u32, name: &Option<Text>) -> Result<u32, Memory>
+    ensures { IfOk result (λ n. n ≡ patterns.unnamed_after unnamed name.now) }
+{
+    match name {
+        None => next(unnamed),
+        Some(_) => Ok(unnamed),
+    }
+}
+
+fn copy_name(alloc: Global, name: &Option<Text>) -> Result<Option<Text>, Memory>
+    ensures { IfOk result (λ n. n ≡ name.now) }
+{
+    match name {
+        None => Ok(None),
+        Some(name) => Ok(Some(copy_text(alloc, name)?)),
+    }
+}
+
+fn push_naming<'t>(
+    named: &mut List<NamedVariable<'t>>,
+    name: &'t Option<Text>,
+    variable: Variable,
+) -> Result<(), Memory>
+    ensures { IfOk result (λ _. named.new ≡ named.old ++ naming name.now (seen variable)) }
+{
+    match name {
+        None => Ok(()),
+        Some(name) => named.push(NamedVariable { name, variable }),
+    }
+}
+
+fn push_entries<'t>(
+    alloc: Global,
+    entries: &mut List<MapEntry<'t>>,
+    variable: Variable,
+    called: &Text,
+    map: &'t [Entry],
+) -> Result<(), Memory>
+    ensures { IfOk result (λ _. entries.new ≡ entries.old ++ entries_of (seen variable) called.now map.now) }
+{
+    for entry in map {
+        let called = copy_text(alloc, called)?;
+        entries.push(MapEntry {
+            variable,
+            called,
+            entry,
+        })?;
+    }
+    Ok(())
+}
