@@ -13,9 +13,24 @@ fn places_are_in_order_of_source_and_number(rt: HostRuntime) -> Result<(), Fail>
         assert!(rt; place < pages.len());
         assert_eq!(rt; pages.number_at(place), number, "at {place}");
     }
+    Ok(())
+}
+
+#[test]
+fn pages_may_have_vertices_without_a_relationship(rt: HostRuntime) -> Result<(), Fail> {
     let none = Pages::build(rt.alloc(), 0, &[])?;
     assert_eq!(rt; none.len(), 0);
     assert_eq!(rt; none.page_start(7), 0);
+    let one = Pages::build(rt.alloc(), 1, &[0, 0])?;
+    assert_eq!(rt; one.len(), 2);
+    assert_eq!(rt; (one.place_of(1), one.number_at(0)), (1, 0));
+    let gaps = Pages::build(rt.alloc(), 300, &[200, 100, 200])?;
+    assert_eq!(rt; gaps.len(), 3);
+    assert_eq!(rt;
+        (gaps.place_of(0), gaps.place_of(1), gaps.place_of(2)),
+        (1, 0, 2)
+    );
+    assert_eq!(rt; (gaps.page_start(1), gaps.page_start(2)), (1, 3));
     Ok(())
 }
 
@@ -40,19 +55,34 @@ fn a_source_has_one_pair_at_most(rt: HostRuntime) -> Result<(), Fail> {
         return Err(Fail::from("no refusal"));
     };
     assert_eq!(rt; refusal, SingleRefusal::Second { at: 2 });
-    let Ok(single) = Single::build(rt.alloc(), 4, &[2, 0], &[5, 6]) else {
+    Ok(())
+}
+
+#[test]
+fn a_source_may_have_no_pair(rt: HostRuntime) -> Result<(), Fail> {
+    let Ok(single) = Single::build(rt.alloc(), 5, &[3, 1], &[5, 6]) else {
         return Err(Fail::from("a refusal"));
     };
-    assert_eq!(rt; single.len(), 4);
+    assert_eq!(rt; single.len(), 5);
     for (vertex, target, number) in [
-        (0, Some(6), Some(1)),
-        (1, None, None),
-        (2, Some(5), Some(0)),
-        (3, None, None),
+        (0, None, None),
+        (1, Some(6), Some(1)),
+        (2, None, None),
+        (3, Some(5), Some(0)),
+        (4, None, None),
     ] {
         assert!(rt; vertex < single.len());
         assert_eq!(rt; single.get(vertex), target, "of {vertex}");
         assert_eq!(rt; single.number(vertex), number, "of {vertex}");
     }
+    let Ok(none) = Single::build(rt.alloc(), 0, &[], &[]) else {
+        return Err(Fail::from("a refusal"));
+    };
+    assert_eq!(rt; none.len(), 0);
+    let Ok(one) = Single::build(rt.alloc(), 1, &[0], &[9]) else {
+        return Err(Fail::from("a refusal"));
+    };
+    assert_eq!(rt; one.len(), 1);
+    assert_eq!(rt; (one.get(0), one.number(0)), (Some(9), Some(0)));
     Ok(())
 }

@@ -8,14 +8,19 @@ use gq_bits::{Marks, VECTOR};
 
 const LENGTHS: [u32; 7] = [0, 1, 63, 64, 65, VECTOR - 1, VECTOR];
 
-// The places below `len` but for each one that `step` divides.
-fn places(len: u32, step: u32) -> Marks
+// Whether a place is marked: a coin thrown by its number and a seed.
+fn is_picked(place: u32, seed: u32) -> bool {
+    (place ^ seed).wrapping_mul(2_654_435_769) >> 31 == 1
+}
+
+// The places below `len` that are picked.
+fn places(len: u32, seed: u32) -> Marks
     requires short { len ≤ VECTOR }
     ensures { (k : ℕ) → len ≤ k → is_marked result k ≡ false }
 {
     let mut kept = Marks::none();
     for place in 0..VECTOR {
-        kept.set(place, place % step.max(1) != 0);
+        kept.set(place, is_picked(place, seed));
     }
     let mut marks = Marks::first(len);
     marks.and(&kept);
@@ -50,7 +55,7 @@ fn cells_are_compared_as_one_by_one(rt: HostRuntime) {
             &mut at_least,
         );
         for place in 0..VECTOR {
-            let was = place < len && place % 5 != 0 && place % 3 != 0;
+            let was = place < len && is_picked(place, 5) && is_picked(place, 3);
             let cell = left[place as usize];
             assert_eq!(rt;
                 less.get(place),
@@ -83,7 +88,7 @@ fn ids_are_compared_as_one_by_one(rt: HostRuntime) {
         let mut other = places(len, 5);
         keep_other_id(&ids[..len as usize], 4, &mut other);
         for place in 0..VECTOR {
-            let was = place < len && place % 5 != 0;
+            let was = place < len && is_picked(place, 5);
             assert_eq!(rt;
                 equal.get(place),
                 was && place % 7 == 4,
