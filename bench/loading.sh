@@ -1,9 +1,11 @@
 #!/bin/sh
-# Loads a million nodes and five million relationships between them, or $1 and $2: graphq and sqlite3 side by side, with integer
-# keys and with keys that are strings. sqlite3 checks that both ends of each relationship are there, as graphq does.
+# Loads a million nodes and five million relationships between them, or $1 and $2, and before that a sixteenth of both: graphq
+# and sqlite3 side by side, with integer keys and with keys that are strings. sqlite3 checks that both ends of each relationship
+# are there, as graphq does. The last argument says how often each load runs, three times without it.
 top=$(CDPATH='' cd -- "$(dirname -- "$0")/.." && pwd) || exit 1
-nodes=${1:-1000000}
-rels=${2:-5000000}
+all_nodes=${1:-1000000}
+all_rels=${2:-5000000}
+runs=$(seq "${3:-3}")
 work=$(mktemp -d) && cd "$work" || exit 1
 trap 'rm -rf "$work"' EXIT
 
@@ -19,21 +21,26 @@ tables() {
     }' >"$1-knows.csv"
     printf 'node Person %s-person.csv\nrel KNOWS Person Person many_many %s-knows.csv\n' "$1" "$1" >"$1.manifest"
 }
-tables int int %d
-tables string string person-%08d
-
 seconds() {
-    /usr/bin/env bash -c "TIMEFORMAT='%3R s  $1'; time { $2; }"
+    /usr/bin/env bash -c "TIMEFORMAT='%3U s of processor time, %3R s in all  $1'; time { $2; }"
 }
-"$top/graphq" --manifest int.manifest </dev/null || exit 1
-for keys in int string; do
+load() {
     type=integer
-    [ "$keys" = string ] && type=text
-    for _ in 1 2 3; do
-        seconds "graphq, $keys keys" "$top/graphq --manifest $keys.manifest </dev/null"
+    [ "$1" = string ] && type=text
+    for _ in $runs; do
+        seconds "graphq, $1 keys, $rels relationships" "$top/graphq --manifest $1.manifest </dev/null"
         if command -v sqlite3 >/dev/null; then
             rm -f graph.db
-            seconds "sqlite3, $keys keys" "sqlite3 graph.db 'pragma foreign_keys = on; create table person(id $type primary key, name text, age integer); create table knows(source $type references person(id), target $type references person(id), since integer)' '.mode csv' '.import --skip 1 $keys-person.csv person' '.import --skip 1 $keys-knows.csv knows'"
+            seconds "sqlite3, $1 keys, $rels relationships" "sqlite3 graph.db 'pragma foreign_keys = on; create table person(id $type primary key, name text, age integer); create table knows(source $type references person(id), target $type references person(id), since integer)' '.mode csv' '.import --skip 1 $1-person.csv person' '.import --skip 1 $1-knows.csv knows'"
         fi
     done
+}
+for part in 16 1; do
+    nodes=$((all_nodes / part))
+    rels=$((all_rels / part))
+    tables int int %d
+    tables string string person-%08d
+    "$top/graphq" --manifest int.manifest </dev/null || exit 1
+    load int
+    load string
 done
