@@ -1,10 +1,11 @@
 -- The places of numbers in an order of all numbers.
-use Rattle.std.proofs.Common.{◌≡◌, ◌≢◌, ℕ, ◌+◌, ◌<◌, List, [], ◌∷◌, ◌++◌, length, get_or, set, sym, ap, ◌∙◌, subst, arith, inl, inr}
-use Rattle.std.specs.Prelude.{All}
-use Rattle.std.specs.List.{concat, range_with_len}
+use Rattle.std.proofs.Common.{◌≡◌, ◌≢◌, ℕ, zero, suc, ◌+◌, ◌<◌, ◌≤◌, ◌⊎◌, Bool, true, false, List, [], ◌∷◌, ◌++◌, length, get_or, set, eqb, eq-eqb, refl, sym, ap, ◌∙◌, subst, arith, inl, inr}
+use Rattle.std.specs.Prelude.{◌||◌, All}
+use Rattle.std.specs.List.{concat, list_any, range_with_len}
 use Rattle.std.proofs.lemmas.Bool.{cases_eq}
 use Rattle.std.proofs.lemmas.List.{length-set, get_or-set_same, get_or-set_other, get_or_default, map-id}
 use Rattle.std.proofs.lemmas.List.FromFn.{length-range_with_len, get_or-range_with_len, map-range_with_len_more}
+use Rattle.std.proofs.lemmas.Map.Steps.{le-length_from_below}
 use Rattle.gq_adj.proofs.Members.{lists-reach, lists-hold}
 use Rattle.gq_edges.specs.Order.{numbers_of, IsPlaceOf}
 
@@ -71,3 +72,57 @@ pub range_more : (n : ℕ) → range_with_len 0 (n + 1) ≡ range_with_len 0 n +
 range_more n =
     let zero_plus : 0 + n ≡ n = omega arith in
     sym (map-id (range_with_len 0 (n + 1))) ∙ map-range_with_len_more (λ m. m) 0 n n zero_plus ∙ ap (λ l. l ++ n ∷ []) (map-id (range_with_len 0 n))
+
+-- ---- an order that has each number below its length has none twice
+
+without : List ℕ → ℕ → List ℕ
+without [] p = []
+without (x ∷ xs) zero = xs
+without (x ∷ xs) (suc p) = x ∷ without xs p
+
+length-without : (xs : List ℕ) (p : ℕ) → p < length xs → length (without xs p) + 1 ≡ length xs
+unfolding without
+length-without [] p h = absurd (omega arith)
+length-without (x ∷ xs) zero h = omega arith
+length-without (x ∷ xs) (suc p) h = let k = length-without xs p (omega arith) in omega arith
+
+here : (q x : ℕ) (xs : List ℕ) → x ≡ q → (eqb q x || list_any (eqb q) xs) ≡ true
+here q x xs e = rw (eq-eqb q x (sym e)) refl
+
+later : (q x : ℕ) (xs : List ℕ) → list_any (eqb q) xs ≡ true → (eqb q x || list_any (eqb q) xs) ≡ true
+later q x xs e = rw e (or_true (eqb q x))
+  where
+    or_true : (b : Bool) → (b || true) ≡ true
+    or_true true = refl
+    or_true false = refl
+
+stands : (xs : List ℕ) (at q : ℕ) → at < length xs → get_or xs at 0 ≡ q → list_any (eqb q) xs ≡ true
+stands [] at q h e = absurd (omega arith)
+stands (x ∷ xs) zero q h e = here q x xs e
+stands (x ∷ xs) (suc at) q h e = later q x xs (stands xs at q (omega arith) e)
+
+-- what stands elsewhere stays
+stands_without : (xs : List ℕ) (p at q : ℕ) → at < length xs → at ≢ p → get_or xs at 0 ≡ q → list_any (eqb q) (without xs p) ≡ true
+unfolding without
+stands_without [] p at q h other e = absurd (omega arith)
+stands_without (x ∷ xs) zero zero q h other e = absurd (other refl)
+stands_without (x ∷ xs) zero (suc at) q h other e = stands xs at q (omega arith) e
+stands_without (x ∷ xs) (suc p) zero q h other e = here q x (without xs p) e
+stands_without (x ∷ xs) (suc p) (suc at) q h other e = later q x (without xs p) (stands_without xs p at q (omega arith) (λ same. other (ap suc same)) e)
+
+-- where each number has its place, each place is that of its number
+pub one_place : (order places : List ℕ) → ((number : ℕ) → number < length order → IsPlaceOf order number (get_or places number 0)) → (place : ℕ) → place < length order
+    → get_or places (get_or order place 0) 0 ≡ place
+one_place order places placed place within = elim (cases_eq (get_or places (get_or order place 0) 0) place) [
+  | inl same ↦ same
+  | inr other ↦
+      let all : length order ≤ length (without order place) = le-length_from_below (without order place) (length order) (λ q low. left other q low (cases_eq (get_or places q 0) place)) in
+      absurd (omega (arith, all, length-without order place within))
+]
+  where
+    -- a number that the list without that place lacks would be the one there
+    left : get_or places (get_or order place 0) 0 ≢ place → (q : ℕ) → q < length order → (get_or places q 0 ≡ place) ⊎ (get_or places q 0 ≢ place) → list_any (eqb q) (without order place) ≡ true
+    left other q low (inl same) =
+        let is : get_or order place 0 ≡ q = ap (λ p. get_or order p 0) (sym same) ∙ (placed q low).there in
+        absurd (other (ap (λ number. get_or places number 0) is ∙ same))
+    left other q low (inr far) = stands_without order place (get_or places q 0) q (placed q low).within far (placed q low).there

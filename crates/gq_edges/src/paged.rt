@@ -54,11 +54,12 @@ impl Pages {
         self.places.len() as u32
     }
 
-    /// The place of the relationship with this number.
+    /// The place of the relationship with this number: the only one at which `number_at` answers it.
     pub fn place_of(&self, number: u32) -> u32
         requires { number < length (concat self.now) }
         ensures within { result < length (concat self.now) }
         ensures place { slice_index (concat self.now) result ≡ number }
+        ensures only { (place : ℕ) → place < length (concat self.now) → slice_index (concat self.now) place ≡ number → result ≡ place }
     {
         self.places[number as usize]
     }
