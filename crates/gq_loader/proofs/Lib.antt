@@ -1,2 +1,3 @@
 pub mod Effecting
+pub mod Keeping
 pub mod Rest

@@ -1,9 +1,13 @@
 -- How the answers of the loader's calls speak of the definition of a load.
-use Rattle.std.specs.Prelude.{◌≡◌, ◌<◌, ◌≤◌, All, length, IfSome, Ok, Err}
+use Rattle.std.specs.Prelude.{◌≡◌, ◌≢◌, ℕ, ◌<◌, ◌≤◌, All, length, slice_get, IfSome, Ok, Err}
 use Rattle.std.specs.declared.option.Option.{Option}
 use Rattle.std.specs.declared.result.Result.{Result}
 use Rattle.gq_base.specs.Catalogs.{Tables}
+use Rattle.gq_base.specs.Plain.{Graph}
+use Rattle.gq_base.specs.Valid.{row_count}
 use Rattle.gq_io.specs.Outside.{Names}
+use Rattle.gq_manifest.specs.declared.order.TableNumber.{TableNumber}
+use Rattle.gq_manifest.specs.declared.order.TableNumber.TheVariants as table
 use Rattle.gq_loader.specs.Refusals.{IsOfFiles}
 use Rattle.gq_loader.specs.declared.limits.Limits.{Limits}
 use Rattle.gq_loader.specs.declared.refusal.LoadRefusal.{LoadRefusal}
@@ -33,3 +37,12 @@ IsFresh loading = (limits : Limits) → IsGoing limits loading
 pub record AsMany (old new : Tables) : Type 0 where
   pub nodes : length new.nodes ≡ length old.nodes
   pub rels : length new.rels ≡ length old.rels
+
+-- the table of this number, if it is one of nodes, has no rows yet
+abbrev pub IsUnread : Graph → TableNumber → Type 0
+IsUnread graph (table.Node number) = row_count graph.nodes number ≡ 0
+IsUnread graph (table.Rel number) = Unit {0}
+
+-- each node table but the one of this number has the rows that it had
+abbrev pub KeepsOthers : TableNumber → Graph → Graph → Type 0
+KeepsOthers number old new = (other : ℕ) → table.Node other ≢ number → slice_get new.nodes other ≡ slice_get old.nodes other

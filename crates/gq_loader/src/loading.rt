@@ -1,8 +1,9 @@
 //! The load of a graph: its manifest, and then the file of each table that the manifest names.
-ghost use Rattle.std.specs.Prelude.{◌≡◌, All, IfOk};
+ghost use Rattle.std.specs.Prelude.{◌≡◌, ◌≢◌, true, All, AllPairs, IfOk};
+ghost use Rattle.gq_base.specs.Valid.{is_valid};
 ghost use Rattle.gq_io.specs.Causes.{Rose};
 ghost use Rattle.gq_manifest.specs.Orders.{IsNumberOf};
-ghost use Rattle.gq_loader.specs.Answers.{Answers, IsFresh};
+ghost use Rattle.gq_loader.specs.Answers.{Answers, IsFresh, IsUnread};
 ghost use Rattle.gq_loader.specs.Effects.{ByFault, ByMiss, Reads, ReadsFew, told_of};
 ghost use Rattle.gq_loader.specs.Limits.{IsWithin, most_bytes, most_manifest};
 ghost use Rattle.gq_loader.specs.Loads.{beginning_of, load_of};
@@ -28,7 +29,7 @@ struct Beginning {
 }
 
 /// Loads the graph of the manifest of this name: the manifest first, and then the file of each of its lines, in their
-/// order. The answer is the first refusal in that order, or the graph of all files.
+/// order. The answer is the first refusal in that order, or the graph of all files, which is valid.
 ///
 /// A file that two lines name is read twice. No file is kept longer than it takes to read its table.
 pub fn load<F: Files>(
@@ -39,6 +40,7 @@ pub fn load<F: Files>(
 ) -> Result<PlainGraph, LoadRefusal>
     requires { IsWithin limits.now }
     ensures loads { Answers (F.held files.old) (λ names. load_of manifest.now names limits.now) result }
+    ensures valid { IfOk result (λ graph. is_valid graph ≡ true) }
     ensures faults { ByFault (F.faults files.old) (F.faults files.new) result }
     ensures misses { ByMiss (F.misses files.old) (F.misses files.new) result }
     ensures held { F.held files.new ≡ F.held files.old }
@@ -56,6 +58,9 @@ fn begin<F: Files>(alloc: Global, files: &mut F, manifest: &str) -> Result<Begin
     ensures answers { Answers (F.held files.old) (λ names. beginning_of manifest.now names) result }
     ensures fresh { IfOk result (λ tables. IsFresh tables.loading) }
     ensures numbers { IfOk result (λ tables. All (IsNumberOf tables.loading.graph.catalog) tables.order) }
+    ensures once { IfOk result (λ tables. AllPairs (λ a b. a ≢ b) tables.order) }
+    ensures valid { IfOk result (λ tables. is_valid tables.loading.graph ≡ true) }
+    ensures unread { IfOk result (λ tables. All (IsUnread tables.loading.graph) tables.order) }
     ensures reads { Reads most_manifest (told_of F.held F.left F.faults F.misses files.old) (told_of F.held F.left F.faults F.misses files.new) result }
 {
     let text = read_file(alloc, files, manifest, MOST_MANIFEST)?;

@@ -1,7 +1,8 @@
 //! The tables of a graph, each read from its file.
-ghost use Rattle.std.specs.Prelude.{◌≡◌, ◌+◌, ◌<◌, ◌≤◌, length, IfOk, OnOk};
+ghost use Rattle.std.specs.Prelude.{◌≡◌, ◌+◌, ◌<◌, ◌≤◌, true, length, IfOk, OnOk};
+ghost use Rattle.gq_base.specs.Valid.{is_valid};
 ghost use Rattle.gq_manifest.specs.Orders.{IsNumberOf};
-ghost use Rattle.gq_loader.specs.Answers.{Answers, AsMany, IsGoing, Leaves};
+ghost use Rattle.gq_loader.specs.Answers.{Answers, AsMany, IsGoing, IsUnread, KeepsOthers, Leaves};
 ghost use Rattle.gq_loader.specs.Effects.{Reads, told_of};
 ghost use Rattle.gq_loader.specs.Files.{file_of};
 ghost use Rattle.gq_loader.specs.Limits.{IsWithin, is_short};
@@ -37,8 +38,12 @@ pub(crate) fn take_table<F: Files>(
     requires number { IsNumberOf loading.old.graph.catalog table }
     requires going { IsGoing limits.now loading.old }
     requires within { IsWithin limits.now }
+    requires valid { is_valid loading.old.graph ≡ true }
+    requires unread { IsUnread loading.old.graph table }
     ensures leaves { Leaves (F.held files.old) (λ names. take_table names limits.now loading.old table) loading.new result }
     ensures going { OnOk result (IsGoing limits.now loading.new) }
+    ensures valid { OnOk result (is_valid loading.new.graph ≡ true) }
+    ensures others { OnOk result (KeepsOthers table loading.old.graph loading.new.graph) }
     ensures tables { OnOk result (AsMany loading.old.graph.catalog loading.new.graph.catalog) }
     ensures reads { Reads limits.now.file_bytes (told_of F.held F.left F.faults F.misses files.old) (told_of F.held F.left F.faults F.misses files.new) result }
 {
@@ -58,8 +63,12 @@ fn take_nodes<F: Files>(
     requires number { number < length loading.old.graph.catalog.nodes }
     requires going { IsGoing limits.now loading.old }
     requires within { IsWithin limits.now }
+    requires valid { is_valid loading.old.graph ≡ true }
+    requires unread { IsUnread loading.old.graph (table.Node number) }
     ensures leaves { Leaves (F.held files.old) (λ names. take_table names limits.now loading.old (table.Node number)) loading.new result }
     ensures going { OnOk result (IsGoing limits.now loading.new) }
+    ensures valid { OnOk result (is_valid loading.new.graph ≡ true) }
+    ensures others { OnOk result (KeepsOthers (table.Node number) loading.old.graph loading.new.graph) }
     ensures tables { OnOk result (AsMany loading.old.graph.catalog loading.new.graph.catalog) }
     ensures reads { Reads limits.now.file_bytes (told_of F.held F.left F.faults F.misses files.old) (told_of F.held F.left F.faults F.misses files.new) result }
 {
@@ -85,8 +94,11 @@ fn take_rels<F: Files>(
     requires number { number < length loading.old.graph.catalog.rels }
     requires going { IsGoing limits.now loading.old }
     requires within { IsWithin limits.now }
+    requires valid { is_valid loading.old.graph ≡ true }
     ensures leaves { Leaves (F.held files.old) (λ names. take_table names limits.now loading.old (table.Rel number)) loading.new result }
     ensures going { OnOk result (IsGoing limits.now loading.new) }
+    ensures valid { OnOk result (is_valid loading.new.graph ≡ true) }
+    ensures others { OnOk result (KeepsOthers (table.Rel number) loading.old.graph loading.new.graph) }
     ensures tables { OnOk result (AsMany loading.old.graph.catalog loading.new.graph.catalog) }
     ensures reads { Reads limits.now.file_bytes (told_of F.held F.left F.faults F.misses files.old) (told_of F.held F.left F.faults F.misses files.new) result }
 {

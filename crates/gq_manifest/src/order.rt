@@ -1,5 +1,5 @@
 //! The order in which a manifest names its tables.
-ghost use Rattle.std.specs.Prelude.{◌≡◌, ◌^◌, ◌<◌, length, option_map, All, IfOk};
+ghost use Rattle.std.specs.Prelude.{◌≡◌, ◌≢◌, ◌^◌, ◌<◌, length, option_map, All, AllPairs, IfOk};
 ghost use Rattle.gq_manifest.specs.Answers.{seen_table};
 ghost use Rattle.gq_manifest.specs.Manifests.{manifest_of};
 ghost use Rattle.gq_manifest.specs.Orders.{IsNumberOf, named, order_of};
@@ -19,11 +19,12 @@ pub enum TableNumber {
 }
 
 /// The tables that a manifest names, in the order of its lines. Lines that name none are passed over, so that where
-/// `read_manifest` gives a catalogue each number is that of a table in it.
+/// `read_manifest` gives a catalogue each number is that of a table in it. No table stands twice.
 pub fn read_order(alloc: Global, text: &[u8]) -> Result<List<TableNumber>, Memory>
     requires { length text.now < 2 ^ 32 }
     ensures order { IfOk result (λ order. order ≡ order_of text.now) }
     ensures numbers { IfOk result (λ order. IfOk (manifest_of text.now) (λ tables. All (IsNumberOf tables) order)) }
+    ensures once { IfOk result (AllPairs (λ a b. a ≢ b)) }
 {
     let mut order = List::new(alloc);
     let mut nodes = 0;

@@ -2,6 +2,7 @@ use Rattle.std.proofs.Common.{arith}
 use Rattle.std.proofs.lemmas.Result.{err_from_is_err_and}
 use Rattle.gq_loader.specs.Limits.{most_bytes}
 use Rattle.gq_loader.proofs.Effecting.{reads_less, then_answers, then_reads}
+use Rattle.gq_loader.proofs.Keeping.{unread_next}
 use Rattle.gq_loader.proofs.Rest.{meant_first, meant_next, meant_stops, numbers_stay}
 use Rattle.gq_loader.proofs.loading.load.Goals as goal
 
@@ -12,6 +13,8 @@ loop-table-init g c =
     record {
       going = b.fresh c.args.limits.now;
       numbers = rw items b.numbers;
+      valid = b.valid;
+      unread = rw items (λ k d from within. b.unread k d within);
       meant = rw items (meant_first c.args.manifest.now c.args.limits.now (g.F.Files.held c.args.files.now) c.in_ok-loading.field-0 b.answers);
       reads = reads_less _ (most_bytes c.args.limits.now) _ _ _ (omega arith) (then_answers _ _ _ _ _ b.reads (λ n e. cc) (λ n e. cc));
     }
@@ -31,9 +34,13 @@ pub loop-table-preserved : goal.loop-table-preserved
 loop-table-preserved g c =
     let i = c.loop-table.invariant in
     let t = c.in_ok-take_table.ensures in
+    let b = c.in_ok-loading.ensures in
+    let items = c.as_slice-table-items.ensures in
     record {
       going = t.going;
       numbers = numbers_stay _ _ _ t.tables i.numbers;
+      valid = t.valid;
+      unread = unread_next c.loop-table.loading.graph c.take_table.new.loading.graph _ _ _ c.loop-table-test.true (rw items b.once) t.others i.unread;
       meant = meant_next c.args.manifest.now c.args.limits.now _ _ _ _ _ _ _ c.loop-table-test.true i.reads.held t.leaves i.meant;
       reads = then_answers _ _ _ _ _ (then_reads _ _ _ _ _ _ i.reads (reads_less _ (most_bytes c.args.limits.now) _ _ _ (omega arith) t.reads)) (λ n e. cc) (λ n e. cc);
     }

@@ -1,0 +1,21 @@
+use Rattle.std.proofs.Common.{◌≤◌, ◌^◌, ap, ◌∙◌, arith, length}
+use Rattle.std.specs.Prelude.{slice_set}
+use Rattle.gq_loader.proofs.Keeping.{nodes_valid, others_keep}
+use Rattle.gq_loader.proofs.tables.take_nodes.Goals as goal
+
+pub returns-clause-valid : goal.returns-clause-valid
+returns-clause-valid g c =
+    let old = c.args.loading.now.graph in
+    let new = c.set_node_rows.new.self in
+    let read = c.in-Ok.read in
+    let good = c.in-Ok.ensures in
+    let few : length read.rows ≤ 2 ^ 24 = omega (arith, good.few, c.requires.within.nodes) in
+    nodes_valid old new c.args.number read.fields read.rows
+    (c.set_node_rows.ensures.catalog ∙ c.set_node_fields.ensures.catalog) (c.set_node_rows.ensures.nodes ∙ ap (λ l. slice_set l c.args.number read.rows) c.set_node_fields.ensures.nodes)
+    (c.set_node_rows.ensures.rels ∙ c.set_node_fields.ensures.rels) c.requires.valid c.requires.number c.requires.unread few good.fields good.rows good.keys
+
+pub returns-clause-others : goal.returns-clause-others
+returns-clause-others g c =
+    let read = c.in-Ok.read in
+    others_keep c.args.loading.now.graph c.set_node_rows.new.self c.args.number read.rows
+    (c.set_node_rows.ensures.nodes ∙ ap (λ l. slice_set l c.args.number read.rows) c.set_node_fields.ensures.nodes)
