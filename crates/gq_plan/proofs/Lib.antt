@@ -2,3 +2,4 @@ pub mod Bags
 pub mod Counts
 pub mod Each
 pub mod Products
+pub mod ReadLemmas

@@ -1,5 +1,6 @@
 -- What an expression reads: variables, and properties of variables.
-use Rattle.std.specs.Prelude.{ℕ, nat_eq, Bool, true, false, not, ◌&&◌, Option, Some, None, List, [], ◌∷◌, ◌++◌, filter, flat_map}
+use Rattle.std.specs.Prelude.{ℕ, nat_eq, Bool, true, false, not, ◌&&◌, Option, Some, None, List, [], ◌∷◌, ◌++◌, filter, flat_map, if◌then◌else◌}
+use Rattle.std.specs.List.{list_any}
 use Rattle.std.specs.Cmp.Lexicographic.{pointwise}
 use Rattle.gq_expr.specs.declared.Expr.{Expr, Expr-F, fold-Expr}
 use Rattle.gq_expr.specs.declared.Tester.{Tester}
@@ -65,7 +66,7 @@ reads_step (Expr-F.Arith rs ts) = rs ++ flat_map (λ t. t.expr) ts
 unfoldable pub reads : Expr → List Read
 reads = fold-Expr (List Read) reads_step
 
-abbrev is_property : Option (List ℕ) → Bool
+abbrev pub is_property : Option (List ℕ) → Bool
 is_property None = false
 is_property (Some name) = true
 
@@ -77,3 +78,24 @@ properties rs = filter (λ r. is_property r.property) rs
 abbrev pub distinct : List Read → List Read
 distinct [] = []
 distinct (r ∷ rs) = r ∷ filter (λ q. not (same_read r q)) (distinct rs)
+
+-- a read behind others, unless it stands there
+abbrev pub with_read : List Read → Read → List Read
+with_read rs r = if list_any (λ q. same_read q r) rs then rs else rs ++ r ∷ []
+
+abbrev pub with_reads : List Read → List Read → List Read
+with_reads rs [] = rs
+with_reads rs (q ∷ qs) = with_reads (with_read rs q) qs
+
+-- the properties that an expression reads, from left to right
+abbrev pub properties_of : Expr → List Read
+properties_of e = properties (reads e)
+
+-- the same of a test's operand, if it has one
+abbrev pub tester_properties : Tester Expr → List Read
+tester_properties tester.IsNull = []
+tester_properties tester.IsNotNull = []
+tester_properties (tester.Member ls) = []
+tester_properties (tester.Starts e) = properties_of e
+tester_properties (tester.Ends e) = properties_of e
+tester_properties (tester.Contains e) = properties_of e

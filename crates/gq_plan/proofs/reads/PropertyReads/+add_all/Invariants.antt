@@ -1,0 +1,18 @@
+use Rattle.std.proofs.Common.{◌≡◌, drop, flat_map}
+use Rattle.gq_plan.specs.Reads.{properties_of, tester_properties, with_reads}
+use Rattle.gq_plan.proofs.reads.PropertyReads.+add_all.Given as goal
+
+abbrev pub invariant-add_each-loop-part : goal.invariant-add_each-loop-part
+invariant-add_each-loop-part l = with_reads l.self (flat_map properties_of (drop l.part-index l.all)) ≡ with_reads l.fn.self (flat_map properties_of l.all)
+
+abbrev pub invariant-add_compares-loop-term : goal.invariant-add_compares-loop-term
+invariant-add_compares-loop-term l =
+    with_reads l.self (flat_map (λ t. properties_of t.expr) (drop l.term-index l.terms)) ≡ with_reads l.fn.self (flat_map (λ t. properties_of t.expr) l.terms)
+
+abbrev pub invariant-add_ariths-loop-term : goal.invariant-add_ariths-loop-term
+invariant-add_ariths-loop-term l =
+    with_reads l.self (flat_map (λ t. properties_of t.expr) (drop l.term-index l.terms)) ≡ with_reads l.fn.self (flat_map (λ t. properties_of t.expr) l.terms)
+
+abbrev pub invariant-add_testers-loop-tester : goal.invariant-add_testers-loop-tester
+invariant-add_testers-loop-tester l =
+    with_reads l.self (flat_map tester_properties (drop l.tester-index l.testers)) ≡ with_reads l.fn.self (flat_map tester_properties l.testers)

@@ -1,0 +1,181 @@
+//! The properties of variables that expressions read.
+ghost use Rattle.std.specs.Prelude.{◌≡◌, ◌&&◌, [], nat_eq, length, flat_map, IfOk};
+ghost use Rattle.std.specs.List.{list_any};
+ghost use Rattle.gq_plan.specs.Reads as reads;
+ghost use Rattle.gq_plan.specs.Reads.{property, properties, properties_of, tester_properties, same_read, with_read, with_reads};
+ghost use Rattle.gq_plan.specs.Variables.{seen};
+
+use crate::variable::Variable;
+use gq_base::{List, Memory, Text};
+use gq_expr::{BoundArith, BoundCompare, BoundTester, Expr, Tester};
+use std::alloc::Global;
+use std::marker::Model;
+
+// A property of a variable.
+#[derive(Drop)]
+struct PropertyRead<'e> {
+    variable: Variable,
+    name: &'e Text,
+}
+
+impl<'e> Model for PropertyRead<'e> {
+    ghost use Rattle.gq_plan.specs.Reads.{Read, property};
+    ghost use Rattle.gq_plan.specs.Variables.{seen};
+
+    ghost Value = { Read };
+
+    ghost view = { λ r. property (seen r.variable) r.name.now };
+}
+
+/// The different properties of variables that expressions read, in the order of their first appearance.
+#[derive(Drop)]
+pub struct PropertyReads<'e> {
+    reads: List<PropertyRead<'e>>,
+}
+
+impl<'e> Model for PropertyReads<'e> {
+    ghost use Rattle.std.specs.Prelude.{List};
+    ghost use Rattle.gq_plan.specs.Reads.{Read};
+
+    ghost Value = { List Read };
+
+    ghost view = { λ r. r.reads };
+}
+
+impl<'e> PropertyReads<'e> {
+    /// No properties yet.
+    pub fn new(alloc: Global) -> PropertyReads<'e>
+        ensures { result ≡ [] }
+    {
+        PropertyReads {
+            reads: List::new(alloc),
+        }
+    }
+
+    /// How many different properties there are.
+    pub fn len(&self) -> usize
+        ensures { result ≡ length self.now }
+    {
+        self.reads.len()
+    }
+
+    fn contains(&self, variable: Variable, name: &Text) -> bool
+        ensures { result ≡ list_any (λ q. same_read q (property (seen variable) name.now)) self.now }
+    {
+        stands_in(self.reads.as_slice(), variable, name)
+    }
+
+    /// Takes a property of a variable, unless it stands already.
+    pub fn add(&mut self, variable: Variable, name: &'e Text) -> Result<(), Memory>
+        ensures { IfOk result (λ _. self.new ≡ with_read self.old (property (seen variable) name.now)) }
+    {
+        if self.contains(variable, name) {
+            return Ok(());
+        }
+        self.reads.push(PropertyRead { variable, name })
+    }
+
+    /// Takes all properties that an expression reads.
+    #[cycle(add_all)]
+    #[tactic(auto, using(crate::proofs::ReadLemmas::equations))]
+    pub fn add_all(&mut self, expr: &'e Expr) -> Result<(), Memory>
+        ensures { IfOk result (λ _. self.new ≡ with_reads self.old (properties (reads.reads expr.now))) }
+    {
+        match expr {
+            Expr::Literal(_) => Ok(()),
+            Expr::Node(_) => Ok(()),
+            Expr::Rel(_) => Ok(()),
+            Expr::NodeProperty(variable, name) => self.add(Variable::Node(*variable), name),
+            Expr::RelProperty(variable, name) => self.add(Variable::Rel(*variable), name),
+            Expr::TypeName(inner) => self.add_all(inner.get()),
+            Expr::Coalesce(all) => self.add_each(all.as_slice()),
+            Expr::Negate(inner) => self.add_all(inner.get()),
+            Expr::Plus(inner) => self.add_all(inner.get()),
+            Expr::Not(inner) => self.add_all(inner.get()),
+            Expr::Or(all) => self.add_each(all.as_slice()),
+            Expr::Xor(all) => self.add_each(all.as_slice()),
+            Expr::And(all) => self.add_each(all.as_slice()),
+            Expr::Compare(first, terms) => {
+                self.add_all(first.get())?;
+                self.add_compares(terms.as_slice())
+            }
+            Expr::Test(first, testers) => {
+                self.add_all(first.get())?;
+                self.add_testers(testers.as_slice())
+            }
+            Expr::Arith(first, terms) => {
+                self.add_all(first.get())?;
+                self.add_ariths(terms.as_slice())
+            }
+        }
+    }
+
+    #[cycle(add_all)]
+    fn add_each(&mut self, all: &'e [Expr]) -> Result<(), Memory>
+        ensures { IfOk result (λ _. self.new ≡ with_reads self.old (flat_map properties_of all.now)) }
+    {
+        for part in all {
+            self.add_all(part)?;
+        }
+        Ok(())
+    }
+
+    #[cycle(add_all)]
+    fn add_compares(&mut self, terms: &'e [BoundCompare]) -> Result<(), Memory>
+        ensures { IfOk result (λ _. self.new ≡ with_reads self.old (flat_map (λ t. properties_of t.expr) terms.now)) }
+    {
+        for term in terms {
+            self.add_all(&term.expr)?;
+        }
+        Ok(())
+    }
+
+    #[cycle(add_all)]
+    fn add_ariths(&mut self, terms: &'e [BoundArith]) -> Result<(), Memory>
+        ensures { IfOk result (λ _. self.new ≡ with_reads self.old (flat_map (λ t. properties_of t.expr) terms.now)) }
+    {
+        for term in terms {
+            self.add_all(&term.expr)?;
+        }
+        Ok(())
+    }
+
+    #[cycle(add_all)]
+    fn add_testers(&mut self, testers: &'e [BoundTester]) -> Result<(), Memory>
+        ensures { IfOk result (λ _. self.new ≡ with_reads self.old (flat_map tester_properties testers.now)) }
+    {
+        for tester in testers {
+            match tester {
+                Tester::IsNull => {}
+                Tester::IsNotNull => {}
+                Tester::Member(_) => {}
+                Tester::Starts(prefix) => self.add_all(prefix)?,
+                Tester::Ends(suffix) => self.add_all(suffix)?,
+                Tester::Contains(part) => self.add_all(part)?,
+            }
+        }
+        Ok(())
+    }
+}
+
+fn stands_in(reads: &[PropertyRead<'_>], variable: Variable, name: &Text) -> bool
+    ensures { result ≡ list_any (λ q. same_read q (property (seen variable) name.now)) reads.now }
+{
+    reads.iter().any(|read| is_read(read, variable, name))
+}
+
+fn is_read(read: &PropertyRead<'_>, variable: Variable, name: &Text) -> bool
+    ensures { result ≡ same_read read.now (property (seen variable) name.now) }
+{
+    is_variable(read.variable, variable) && read.name.is(name.as_str())
+}
+
+fn is_variable(own: Variable, variable: Variable) -> bool
+    ensures { result ≡ reads.same_variable (seen own) (seen variable) }
+{
+    match (own, variable) {
+        (Variable::Node(own), Variable::Node(node)) => own == node,
+        (Variable::Rel(own), Variable::Rel(rel)) => own == rel,
+        _ => false,
+    }
+}
