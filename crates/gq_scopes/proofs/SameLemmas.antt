@@ -1,8 +1,8 @@
 -- Where a comparison of two lists item by item has come to the end of the first.
-use Rattle.std.proofs.Common.{◌≡◌, ◌∙◌, ℕ, zero, suc, Bool, true, false, List, [], ◌∷◌, length, map, drop, refl, ap, sym}
+use Rattle.std.proofs.Common.{◌≡◌, ◌∙◌, ℕ, zero, suc, List, [], ◌∷◌, length, map, drop, sym}
 use Rattle.std.proofs.Math.Dec.{leb, leb-zero, leb-suc-zero, leb-suc-suc}
 use Rattle.std.proofs.Math.Seq.{drop-length}
-use Rattle.gq_scopes.specs.MadeOf.{each_passes, terms_pass, testers_pass, same_expr, Test}
+use Rattle.gq_scopes.specs.MadeOf.{each_passes, terms_pass, testers_pass, same_expr}
 use Rattle.gq_expr.specs.Parts.{bound_with, tester_with}
 use Rattle.gq_expr.specs.declared.Bound.{Bound}
 use Rattle.gq_expr.specs.declared.Expr.{Expr}

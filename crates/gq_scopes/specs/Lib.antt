@@ -1,6 +1,8 @@
 pub mod Checks
+pub mod Conjuncts
 pub mod MadeOf
 pub mod Patterns
+pub mod Renames
 pub mod Resolving
 pub mod Scopes
 pub mod Sources

@@ -1,5 +1,5 @@
 -- When two expressions are the same, and when an expression is made of columns (this project's profile).
-use Rattle.std.specs.Prelude.{ℕ, nat_eq, Bool, true, false, ◌&&◌, ◌||◌, List, [], ◌∷◌}
+use Rattle.std.specs.Prelude.{ℕ, nat_eq, Bool, true, false, ◌&&◌, ◌||◌, Option, Some, None, List, [], ◌∷◌, flat_map}
 use Rattle.std.specs.List.{list_any, list_all}
 use Rattle.std.specs.Ordering.{is_eq}
 use Rattle.std.specs.Cmp.Lexicographic.{pointwise}
@@ -14,6 +14,7 @@ use Rattle.gq_expr.specs.declared.Expr.{Expr, Expr-F, out-Expr, map-Expr, fold-E
 use Rattle.gq_expr.specs.declared.Expr.TheVariants as expr
 use Rattle.gq_expr.specs.declared.Tester.{Tester}
 use Rattle.gq_expr.specs.declared.Tester.TheVariants as tester
+use Rattle.gq_scopes.specs.declared.scope.Column.{Column}
 
 -- literals are the same where their values are, and null is the same as null
 abbrev pub same_literal : Literal → Literal → Bool
@@ -137,3 +138,20 @@ made_level columns level =
 -- an expression is made of columns: it is one, or by its parts
 unfoldable pub is_made_of : List Expr → Expr → Bool
 is_made_of columns e = (fold-Expr Made (made_level columns) e).made
+
+-- the same of a test's operand, if it has one
+abbrev pub tester_is_made_of : List Expr → Tester Expr → Bool
+tester_is_made_of columns tester.IsNull = true
+tester_is_made_of columns tester.IsNotNull = true
+tester_is_made_of columns (tester.Member ls) = true
+tester_is_made_of columns (tester.Starts e) = is_made_of columns e
+tester_is_made_of columns (tester.Ends e) = is_made_of columns e
+tester_is_made_of columns (tester.Contains e) = is_made_of columns e
+
+abbrev pub where_known : Option Expr → List Expr
+where_known None = []
+where_known (Some e) = e ∷ []
+
+-- the expressions of columns, of those that have one
+abbrev pub column_exprs : List Column → List Expr
+column_exprs cs = flat_map (λ c. where_known c.expr) cs

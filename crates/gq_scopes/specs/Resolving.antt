@@ -77,11 +77,11 @@ property s name key = either_property (find_name s.nodes name) (find_name s.rels
 abbrev pub find_column : List Column → Name → Option ℕ
 find_column columns name = position (λ c. pointwise nat_eq c.name name) columns
 
-abbrev expr_of : Option Column → Option Expr
+abbrev pub expr_of : Option Column → Option Expr
 expr_of None = None
 expr_of (Some column) = column.expr
 
-abbrev column_or : Scope → Name → Option ℕ → Option Expr
+abbrev pub column_or : Scope → Name → Option ℕ → Option Expr
 column_or s name None = variable s name
 column_or s name (Some at) = expr_of (slice_get s.columns at)
 

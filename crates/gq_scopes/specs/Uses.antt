@@ -66,7 +66,7 @@ abbrev pub first_of : (Use → Option Name) → List (List Use) → Option Name
 first_of check [] = None
 first_of check (us ∷ uss) = or_else (first_name check us) (first_of check uss)
 
-abbrev is_there : {A : Type 0} → Option A → Bool
+abbrev pub is_there : {A : Type 0} → Option A → Bool
 is_there None = false
 is_there (Some x) = true
 

@@ -3,10 +3,13 @@
 #![tactic(auto)]
 
 mod calls;
+mod conjuncts;
 mod copies;
 mod counts;
+mod made;
 mod parts;
 mod patterns;
+mod renames;
 mod resolution;
 mod sameness;
 mod scope;
@@ -14,9 +17,13 @@ mod source;
 mod uses;
 
 pub use calls::CallForm;
+pub use conjuncts::conjuncts_of;
 pub use copies::{copy, copy_literal, copy_text};
 pub use counts::{next, number};
-pub use patterns::{MapEntry, NamedVariable, NodePattern, Pattern, RelPattern, Variable};
+pub use gq_plan::Variable;
+pub use made::is_made_of;
+pub use patterns::{MapEntry, NamedVariable, NodePattern, Pattern, RelPattern};
+pub use renames::Renamed;
 pub use resolution::resolve;
 pub use sameness::same;
 pub use scope::{Column, Scope};

@@ -10,17 +10,10 @@ use crate::copies::copy_text;
 use crate::counts::{next, number};
 use crate::scope::{Column, Scope, find_name};
 use gq_base::{List, Memory, Text};
-use gq_plan::PathPart;
+use gq_plan::{PathPart, Variable};
 use gq_syntax::{Clause, Entry, Hop, NodePart, Path, RelPart};
 use std::alloc::Global;
 use std::marker::Model;
-
-/// A variable: those of nodes and those of relationships are counted from 0, each kind for itself.
-#[derive(Clone, Copy)]
-pub enum Variable {
-    Node(u32),
-    Rel(u32),
-}
 
 /// A name that stands in a pattern, and its variable there.
 #[derive(Drop)]
@@ -299,6 +292,13 @@ impl<'t> Pattern<'t> {
         Ok(Scope::new(columns, self.names.as_slice(), self.rels.as_slice()))
     }
 
+    /// The name of each node variable.
+    pub fn names(&self) -> &[Option<Text>]
+        ensures { result.now ≡ self.now.names }
+    {
+        self.names.as_slice()
+    }
+
     /// All names in text order, each with its variable.
     pub fn named(&self) -> &[NamedVariable<'t>]
         ensures { result.now ≡ self.now.named }
@@ -318,6 +318,34 @@ impl<'t> Pattern<'t> {
         ensures { result.now ≡ self.now.rels }
     {
         self.rels.as_slice()
+    }
+
+    /// What each node variable is called.
+    pub fn node_names(&self) -> &[Text]
+        ensures { result.now ≡ self.now.node_names }
+    {
+        self.node_names.as_slice()
+    }
+
+    /// What each relationship variable is called.
+    pub fn rel_names(&self) -> &[Text]
+        ensures { result.now ≡ self.now.rel_names }
+    {
+        self.rel_names.as_slice()
+    }
+
+    /// The entries of the patterns' maps in text order.
+    pub fn entries(&self) -> &[MapEntry<'t>]
+        ensures { result.now ≡ self.now.entries }
+    {
+        self.entries.as_slice()
+    }
+
+    /// The paths in text order.
+    pub fn paths(&self) -> &[PathPart]
+        ensures { result.now ≡ self.now.paths }
+    {
+        self.paths.as_slice()
     }
 
     /// The patterns of MATCH clauses.

@@ -60,7 +60,8 @@ fn is_literal(literal: &Literal, other: &Expr) -> bool
     }
 }
 
-fn is_node(variable: u32, other: &Expr) -> bool
+/// Whether an expression is a node variable.
+pub fn is_node(variable: u32, other: &Expr) -> bool
     ensures { result ≡ same_level (Expr-F.Node variable) (out-Expr other.now) }
 {
     match other {
@@ -69,7 +70,8 @@ fn is_node(variable: u32, other: &Expr) -> bool
     }
 }
 
-fn is_rel(variable: u32, other: &Expr) -> bool
+/// Whether an expression is a relationship variable.
+pub fn is_rel(variable: u32, other: &Expr) -> bool
     ensures { result ≡ same_level (Expr-F.Rel variable) (out-Expr other.now) }
 {
     match other {

@@ -6,26 +6,29 @@ ghost use Rattle.gq_scopes.specs.Trees.{term_with, tester_with};
 ghost use Rattle.gq_scopes.specs.Uses as uses;
 ghost use Rattle.gq_scopes.specs.Uses.{first_name, first_of, term_uses, tester_uses, bare, owner, refused_unless, takes, is_some_function};
 
+use crate::renames::Renamed;
 use crate::scope::Scope;
 use gq_base::Text;
 use gq_syntax::{ArithTerm, Ast, AstNode, AstTester, CompareTerm, Tester};
 
 /// What is looked for in an expression.
 #[derive(Clone, Copy)]
-pub enum Check {
+pub enum Check<'c> {
     /// A name that the scope does not have.
     UnknownName,
     /// A call that names no function.
     UnknownFunction,
     /// A call of a function that does not take so many arguments.
     WrongCount,
+    /// A name that AS gives to another column than the variable of this name.
+    AmbiguousName(&'c Renamed<'c>),
 }
 
 /// The first name of an expression, in text order, that a check refuses.
 #[cycle(first_refused)]
 #[tactic(auto, using(crate::proofs::UseLemmas::opening))]
-pub fn first_refused<'t>(check: Check, scope: &Scope<'_>, tree: &'t Ast) -> Option<&'t Text>
-    ensures { option_copied result ≡ first_name (check_of check scope.now) (uses.uses tree.now) }
+pub fn first_refused<'t>(check: Check<'_>, scope: &Scope<'_>, tree: &'t Ast) -> Option<&'t Text>
+    ensures { option_copied result ≡ first_name (check_of check.entry scope.now) (uses.uses tree.now) }
 {
     match &tree.node {
         AstNode::Literal(_) => None,
@@ -62,8 +65,8 @@ pub fn first_refused<'t>(check: Check, scope: &Scope<'_>, tree: &'t Ast) -> Opti
 }
 
 #[cycle(first_refused)]
-fn first_of_all<'t>(check: Check, scope: &Scope<'_>, trees: &'t [Ast]) -> Option<&'t Text>
-    ensures { option_copied result ≡ first_of (check_of check scope.now) (map uses.uses trees.now) }
+fn first_of_all<'t>(check: Check<'_>, scope: &Scope<'_>, trees: &'t [Ast]) -> Option<&'t Text>
+    ensures { option_copied result ≡ first_of (check_of check.entry scope.now) (map uses.uses trees.now) }
 {
     for tree in trees {
         if let Some(name) = first_refused(check, scope, tree) {
@@ -75,11 +78,11 @@ fn first_of_all<'t>(check: Check, scope: &Scope<'_>, trees: &'t [Ast]) -> Option
 
 #[cycle(first_refused)]
 fn first_of_compares<'t>(
-    check: Check,
+    check: Check<'_>,
     scope: &Scope<'_>,
     terms: &'t [CompareTerm],
 ) -> Option<&'t Text>
-    ensures { option_copied result ≡ first_of (check_of check scope.now) (map term_uses (map (term_with uses.uses) terms.now)) }
+    ensures { option_copied result ≡ first_of (check_of check.entry scope.now) (map term_uses (map (term_with uses.uses) terms.now)) }
 {
     for term in terms {
         if let Some(name) = first_refused(check, scope, &term.tree) {
@@ -90,8 +93,12 @@ fn first_of_compares<'t>(
 }
 
 #[cycle(first_refused)]
-fn first_of_ariths<'t>(check: Check, scope: &Scope<'_>, terms: &'t [ArithTerm]) -> Option<&'t Text>
-    ensures { option_copied result ≡ first_of (check_of check scope.now) (map term_uses (map (term_with uses.uses) terms.now)) }
+fn first_of_ariths<'t>(
+    check: Check<'_>,
+    scope: &Scope<'_>,
+    terms: &'t [ArithTerm],
+) -> Option<&'t Text>
+    ensures { option_copied result ≡ first_of (check_of check.entry scope.now) (map term_uses (map (term_with uses.uses) terms.now)) }
 {
     for term in terms {
         if let Some(name) = first_refused(check, scope, &term.tree) {
@@ -103,11 +110,11 @@ fn first_of_ariths<'t>(check: Check, scope: &Scope<'_>, terms: &'t [ArithTerm]) 
 
 #[cycle(first_refused)]
 fn first_of_testers<'t>(
-    check: Check,
+    check: Check<'_>,
     scope: &Scope<'_>,
     testers: &'t [AstTester],
 ) -> Option<&'t Text>
-    ensures { option_copied result ≡ first_of (check_of check scope.now) (map tester_uses (map (tester_with uses.uses) testers.now)) }
+    ensures { option_copied result ≡ first_of (check_of check.entry scope.now) (map tester_uses (map (tester_with uses.uses) testers.now)) }
 {
     for tester in testers {
         let found = match tester {
@@ -132,33 +139,35 @@ fn unless<'t>(allowed: bool, name: &'t Text) -> Option<&'t Text>
 }
 
 fn refused_name<'t>(
-    check: Check,
+    check: Check<'_>,
     scope: &Scope<'_>,
     name: &'t Text,
     alone: bool,
 ) -> Option<&'t Text>
-    ensures bare { alone ≡ true → option_copied result ≡ check_of check scope.now (bare name.now) }
-    ensures owner { alone ≡ false → option_copied result ≡ check_of check scope.now (owner name.now) }
+    ensures bare { alone ≡ true → option_copied result ≡ check_of check.entry scope.now (bare name.now) }
+    ensures owner { alone ≡ false → option_copied result ≡ check_of check.entry scope.now (owner name.now) }
 {
     match check {
         Check::UnknownName => unless(scope.knows(name, alone), name),
         Check::UnknownFunction => None,
         Check::WrongCount => None,
+        Check::AmbiguousName(renamed) => unless(!renamed.contains(name), name),
     }
 }
 
 fn refused_call<'t>(
-    check: Check,
+    check: Check<'_>,
     scope: &Scope<'_>,
     name: &'t Text,
     arguments: usize,
 ) -> Option<&'t Text>
-    ensures { option_copied result ≡ check_of check scope.now (uses.call name.now arguments) }
+    ensures { option_copied result ≡ check_of check.entry scope.now (uses.call name.now arguments) }
 {
     match check {
         Check::UnknownName => None,
         Check::UnknownFunction => unless(names_function(name), name),
         Check::WrongCount => unless(takes_arguments(name, arguments), name),
+        Check::AmbiguousName(_) => None,
     }
 }
 
