@@ -1,3 +1,4 @@
 pub mod Alternatives
 pub mod Matches
 pub mod Parted
+pub mod Searching

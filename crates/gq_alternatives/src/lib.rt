@@ -1,6 +1,19 @@
 //! The matches of a query in a plain graph, and its typed alternatives, which part them.
 #![tactic(auto)]
 
+mod alternatives;
+mod candidates;
+mod choice;
+mod kinds;
 mod law;
+mod narrowing;
+mod search;
+mod typing;
 
+pub use alternatives::choices_of;
+pub use choice::{Choice, Reading};
 pub use law::alternatives_part_matches;
+pub use typing::typed;
+
+#[cfg(test)]
+mod tests;

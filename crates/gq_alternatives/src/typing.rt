@@ -1,0 +1,235 @@
+//! Typed alternatives: a choice with its tests, its late conjuncts and its pairs.
+ghost use Rattle.std.specs.Prelude.{◌≡◌, ◌++◌, suc, filter, not, IfOk};
+ghost use Rattle.gq_expr.specs.Kinds.{can_fault};
+ghost use Rattle.gq_alternatives.specs.Alternatives as alternatives;
+ghost use Rattle.gq_alternatives.specs.Alternatives.{typed_of, late_from};
+ghost use Rattle.gq_alternatives.specs.Matches.{pairs_from, pairs_with};
+
+use crate::choice::{Choice, Reading};
+use crate::kinds::kinds_for;
+use gq_base::{Catalog, List, Memory};
+use gq_expr::{Kinds, can_fault};
+use gq_plan::{NamedExpr, PathPart, RelPair, Typed, TypedRel};
+use gq_scopes::{Pattern, RelPattern, copy, copy_text, next};
+use gq_syntax::Arrow;
+use std::alloc::Global;
+
+/// An alternative of patterns with its tests, late conjuncts and pairs: the entries of the patterns' maps and the
+/// conjuncts that cannot fault are its tests, the other conjuncts are late.
+#[tactic(auto, unfolding(crate::specs::Alternatives::typed_of))]
+pub fn typed(
+    alloc: Global,
+    catalog: &Catalog,
+    pattern: &Pattern<'_>,
+    entries: &[NamedExpr],
+    conjuncts: &[NamedExpr],
+    choice: &Choice,
+) -> Result<Typed, Memory>
+    ensures { IfOk result (λ y. y ≡ typed_of catalog.now pattern.now entries.now conjuncts.now choice.now) }
+{
+    let readings = choice.readings.as_slice();
+    let tables = choice.tables.as_slice();
+    let rels = typed_rels(alloc, pattern.rels(), readings)?;
+    let kinds = kinds_for(alloc, catalog, tables, rels.as_slice())?;
+    Ok(Typed {
+        nodes: copy_numbers(alloc, tables)?,
+        rels,
+        paths: copy_paths(alloc, pattern.paths())?,
+        tests: tests_of(alloc, &kinds, entries, conjuncts)?,
+        late: late_of(alloc, &kinds, conjuncts)?,
+        pairs: pairs_of(alloc, pattern.rels(), readings)?,
+    })
+}
+
+fn typed_rel(pattern: &RelPattern<'_>, reading: Reading) -> TypedRel
+    ensures { result ≡ alternatives.typed_rel pattern.now reading }
+{
+    TypedRel {
+        table: reading.table,
+        source: source_of(pattern, reading),
+        target: target_of(pattern, reading),
+        clause: pattern.clause,
+        reversed: reading.reversed,
+        no_loop: reading.reversed && is_either(pattern.part.arrow),
+    }
+}
+
+/// The node variable at the source of a pattern's relationship.
+pub fn source_of(pattern: &RelPattern<'_>, reading: Reading) -> u32
+    ensures { result ≡ alternatives.source_of pattern.now reading }
+{
+    if reading.reversed {
+        pattern.right
+    } else {
+        pattern.left
+    }
+}
+
+/// The node variable at the target of a pattern's relationship.
+pub fn target_of(pattern: &RelPattern<'_>, reading: Reading) -> u32
+    ensures { result ≡ alternatives.target_of pattern.now reading }
+{
+    if reading.reversed {
+        pattern.left
+    } else {
+        pattern.right
+    }
+}
+
+fn is_either(arrow: Arrow) -> bool
+    ensures { result ≡ alternatives.is_either arrow }
+{
+    match arrow {
+        Arrow::Right => false,
+        Arrow::Left => false,
+        Arrow::Either => true,
+    }
+}
+
+fn typed_rels(
+    alloc: Global,
+    patterns: &[RelPattern<'_>],
+    readings: &[Reading],
+) -> Result<List<TypedRel>, Memory>
+    ensures { IfOk result (λ rs. rs ≡ alternatives.typed_rels patterns.now readings.now) }
+{
+    let mut rels = List::new(alloc);
+    for (pattern, reading) in patterns.iter().zip(readings) {
+        rels.push(typed_rel(pattern, *reading))?;
+    }
+    Ok(rels)
+}
+
+/// A copy of numbers.
+pub fn copy_numbers(alloc: Global, numbers: &[u32]) -> Result<List<u32>, Memory>
+    ensures { IfOk result (λ ns. ns ≡ numbers.now) }
+{
+    match Vec::from_slice(alloc, numbers) {
+        Ok(copied) => Ok(List::from_vec(copied)),
+        Err(_) => Err(Memory),
+    }
+}
+
+fn copy_paths(alloc: Global, paths: &[PathPart]) -> Result<List<PathPart>, Memory>
+    ensures { IfOk result (λ ps. ps ≡ paths.now) }
+{
+    let mut copies = List::new(alloc);
+    for path in paths {
+        let rels = copy_numbers(alloc, path.rels.as_slice())?;
+        copies.push(PathPart {
+            first: path.first,
+            rels,
+        })?;
+    }
+    Ok(copies)
+}
+
+fn copy_named(alloc: Global, named: &NamedExpr) -> Result<NamedExpr, Memory>
+    ensures { IfOk result (λ n. n ≡ named.now) }
+{
+    Ok(NamedExpr {
+        name: copy_text(alloc, &named.name)?,
+        expr: copy(alloc, &named.expr)?,
+    })
+}
+
+fn copy_all_named(alloc: Global, all: &[NamedExpr]) -> Result<List<NamedExpr>, Memory>
+    ensures { IfOk result (λ ns. ns ≡ all.now) }
+{
+    let mut copies = List::new(alloc);
+    for named in all {
+        let copied = copy_named(alloc, named)?;
+        copies.push(copied)?;
+    }
+    Ok(copies)
+}
+
+// The map entries, and then the conjuncts that cannot fault.
+fn tests_of(
+    alloc: Global,
+    kinds: &Kinds,
+    entries: &[NamedExpr],
+    conjuncts: &[NamedExpr],
+) -> Result<List<NamedExpr>, Memory>
+    ensures { IfOk result (λ ts. ts ≡ entries.now ++ filter (λ e. not (can_fault kinds.now e.expr)) conjuncts.now) }
+{
+    let mut tests = copy_all_named(alloc, entries)?;
+    for conjunct in conjuncts {
+        if !can_fault(&conjunct.expr, kinds) {
+            let copied = copy_named(alloc, conjunct)?;
+            tests.push(copied)?;
+        }
+    }
+    Ok(tests)
+}
+
+// The numbers of the conjuncts that may fault.
+fn late_of(alloc: Global, kinds: &Kinds, conjuncts: &[NamedExpr]) -> Result<List<u32>, Memory>
+    ensures { IfOk result (λ ns. ns ≡ late_from kinds.now 0 conjuncts.now) }
+{
+    let mut late = List::new(alloc);
+    let mut number = 0;
+    for conjunct in conjuncts {
+        if can_fault(&conjunct.expr, kinds) {
+            late.push(number)?;
+        }
+        number = next(number)?;
+    }
+    Ok(late)
+}
+
+// The pairs of relationships of one clause and one table.
+fn pairs_of(
+    alloc: Global,
+    patterns: &[RelPattern<'_>],
+    readings: &[Reading],
+) -> Result<List<RelPair>, Memory>
+    ensures { IfOk result (λ ps. ps ≡ filter (alternatives.one_table readings.now) (pairs_from 0 patterns.now)) }
+{
+    let mut pairs = List::new(alloc);
+    let mut first = 0;
+    for (at, pattern) in patterns.iter().enumerate() {
+        push_pairs(
+            &mut pairs,
+            readings,
+            pattern.clause,
+            first,
+            &patterns[at + 1..],
+        )?;
+        first = next(first)?;
+    }
+    Ok(pairs)
+}
+
+// The pairs of a relationship with those that follow it.
+fn push_pairs(
+    pairs: &mut List<RelPair>,
+    readings: &[Reading],
+    clause: u32,
+    first: u32,
+    rest: &[RelPattern<'_>],
+) -> Result<(), Memory>
+    ensures { IfOk result (λ _. pairs.new ≡ pairs.old ++ filter (alternatives.one_table readings.now) (pairs_with clause first (suc first) rest.now)) }
+{
+    let mut second = next(first)?;
+    for pattern in rest {
+        let pair = RelPair { first, second };
+        if pattern.clause == clause && is_one_table(readings, pair) {
+            pairs.push(pair)?;
+        }
+        second = next(second)?;
+    }
+    Ok(())
+}
+
+fn is_one_table(readings: &[Reading], pair: RelPair) -> bool
+    ensures { result ≡ alternatives.one_table readings.now pair }
+{
+    match (
+        readings.get(pair.first as usize),
+        readings.get(pair.second as usize),
+    ) {
+        (Some(one), Some(other)) => one.table == other.table,
+        _ => false,
+    }
+}
