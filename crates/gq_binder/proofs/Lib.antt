@@ -1,2 +1,10 @@
+pub mod Accepted
+pub mod ConditionLemmas
+pub mod Known
 pub mod NameLemmas
+pub mod Named
+pub mod ReadingLemmas
+pub mod RefusalLemmas
 mod WorkedRefusals
+pub mod SoundAlternatives
+mod SoundWorked

@@ -17,6 +17,7 @@ use Rattle.gq_syntax.specs.declared.Item.{Item}
 use Rattle.gq_syntax.specs.declared.Query.{Query}
 use Rattle.gq_syntax.specs.declared.Sort.{Sort}
 use Rattle.gq_alternatives.specs.Alternatives.{alternatives, typed_of}
+use Rattle.gq_scopes.specs.Conjuncts.{conjunct_expr}
 use Rattle.gq_scopes.specs.Patterns.{Name, MapEntry, NamedVariable, Pattern, no_pattern, pattern_of, with_paths, is_same_name}
 use Rattle.gq_scopes.specs.Resolving.{Calls, Conjunct, functions, resolved, split, all_some}
 use Rattle.gq_scopes.specs.Scopes.{Scope, scope_of}
@@ -98,9 +99,6 @@ entry_test text e = record { name = e.called ++ (codes "." ++ (e.entry.key ++ (c
 
 abbrev pub column_expr : Column → Option NamedExpr
 column_expr c = option_map (λ e. record { name = c.name; expr = e }) c.expr
-
-abbrev pub conjunct_expr : List ℕ → Conjunct → Option NamedExpr
-conjunct_expr text c = option_map (λ e. record { name = source_text text c.span; expr = e }) c.expr
 
 abbrev pub sort_expr : Scope → Sort → Option SortExpr
 sort_expr scope s = option_map (λ e. record { expr = e; down = s.down }) (resolved functions scope s.tree)

@@ -1,3 +1,6 @@
+pub mod Asked
 pub mod Binding
 pub mod Columns
+pub mod Conditions
 pub mod Refusals
+pub mod Verdicts

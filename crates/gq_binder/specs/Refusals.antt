@@ -13,7 +13,8 @@ use Rattle.gq_syntax.specs.declared.Query.{Query}
 use Rattle.gq_syntax.specs.declared.Sort.{Sort}
 use Rattle.gq_alternatives.specs.Alternatives.{alternatives}
 use Rattle.gq_binder.specs.Columns.{Scoped, conditions, columns, sort_scope}
-use Rattle.gq_scopes.specs.MadeOf.{is_made_of, same_expr}
+use Rattle.gq_scopes.specs.MadeOf.{column_exprs, is_made_of}
+use Rattle.gq_scopes.specs.Renames.{ambiguous_name}
 use Rattle.gq_scopes.specs.Patterns.{Name, NamedVariable, Pattern, pattern_of, is_called, is_same_name}
 use Rattle.gq_scopes.specs.Uses.{Use, bare, owner, call, uses, or_else, first_name, is_variable, refused_unless, unknown_name, unknown_function, wrong_count}
 use Rattle.gq_scopes.specs.Resolving.{as_lists, resolved, variable}
@@ -97,13 +98,6 @@ nothing_to_return query p = nothing query.star p.named
 
 -- ---- ORDER BY
 
-abbrev where_known : Option Expr → List Expr
-where_known None = []
-where_known (Some e) = e ∷ []
-
-abbrev pub column_exprs : List Column → List Expr
-column_exprs cs = flat_map (λ c. where_known c.expr) cs
-
 abbrev pub is_made : List Expr → Option Expr → Bool
 is_made columns None = true
 is_made columns (Some e) = is_made_of columns e
@@ -117,21 +111,6 @@ out_of_scope_from item columns scope (s ∷ ss) =
 abbrev pub order_out_of_scope : List ℕ → Query → Option BindRefusal
 order_out_of_scope text query =
     if query.distinct then out_of_scope_from 1 (column_exprs (columns as_lists text query)) (sort_scope as_lists text query) query.order else None
-
-abbrev same_known : Option Expr → Option Expr → Bool
-same_known None e = false
-same_known (Some d) None = false
-same_known (Some d) (Some e) = same_expr d e
-
--- AS gives a name to a column that is not the variable of that name
-abbrev pub renames : Scope → Name → Item → Bool
-renames s name item = is_called name item.name && not (same_known (resolved as_lists s item.tree) (variable s name))
-
--- a name in ORDER BY, by itself or with a property, is a variable, and AS gives it to another column
-abbrev pub ambiguous_name : Scope → List Item → Use → Option Name
-ambiguous_name s items (bare name) = refused_unless (not (is_variable s name && list_any (renames s name) items)) name
-ambiguous_name s items (owner name) = refused_unless (not (is_variable s name && list_any (renames s name) items)) name
-ambiguous_name s items (call name arguments) = None
 
 abbrev pub ambiguous_order_name : List ℕ → Query → Option BindRefusal
 ambiguous_order_name text query =
@@ -160,7 +139,7 @@ abbrev pub too_many_patterns : Pattern → Option BindRefusal
 too_many_patterns p =
     first_of_all (over_limit max_variables (length p.nodes) refusal.TooManyPatterns ∷ over_limit max_variables (length p.rels) refusal.TooManyPatterns ∷ [])
 
-abbrev known_reads : Option Expr → List Read
+abbrev pub known_reads : Option Expr → List Read
 known_reads None = []
 known_reads (Some e) = reads e
 

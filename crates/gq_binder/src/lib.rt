@@ -2,12 +2,24 @@
 //! alternatives are listed.
 #![tactic(auto)]
 
+mod asked;
+mod bound;
+mod checks;
 mod columns;
+mod conditions;
+mod entries;
+mod groups;
+mod keys;
 mod names;
+mod order;
 mod pattern_checks;
+mod reading;
 mod refusal;
+mod verdict;
 
+pub use bound::bind;
 pub use refusal::BindRefusal;
+pub use verdict::refusal_of;
 
 #[cfg(test)]
 mod tests;

@@ -1,6 +1,8 @@
 //! Why a query cannot be bound.
+ghost use Rattle.std.specs.Prelude.{◌≡◌};
+ghost use Rattle.gq_binder.specs.declared.refusal.BindRefusal.TheVariants as refusal;
 
-use gq_base::Text;
+use gq_base::{Memory, Text};
 
 /// Why a query cannot be bound. Where several apply, the first of this list is answered, with its first place in the
 /// text.
@@ -34,4 +36,12 @@ pub enum BindRefusal {
     TooManyAlternatives,
     /// There was not enough memory.
     Memory,
+}
+
+impl From<Memory> for BindRefusal {
+    ghost from_gives = { λ _ e. e ≡ refusal.Memory };
+
+    fn from(_memory: Memory) -> BindRefusal {
+        BindRefusal::Memory
+    }
 }

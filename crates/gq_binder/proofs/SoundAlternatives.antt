@@ -1,0 +1,320 @@
+-- The alternatives that binding gives are sound for the catalogue.
+use Rattle.std.proofs.Common.{◌≡◌, ℕ, suc, ◌≤◌, Bool, true, false, not, ◌||◌, cond, nat_lt, Option, Some, None, List, [], ◌∷◌, ◌++◌, map, filter, flat_map, length, if◌then◌else◌, refl, sym, ap, ap₂, ◌∙◌, subst, arith}
+use Rattle.std.specs.Prelude.{All}
+use Rattle.std.specs.List.{AllByRecursion}
+use Rattle.std.specs.Option.{option_map}
+use Rattle.std.proofs.lemmas.Bool.{ltb-false, not-true}
+use Rattle.std.proofs.lemmas.Grind.{flat_map-append}
+use Rattle.std.proofs.lemmas.List.{length-map}
+use Rattle.std.proofs.lemmas.List.Elements.{All-from_recursion}
+use Rattle.std.proofs.lemmas.List.Folds.{flat_map-map}
+use Rattle.std.proofs.lemmas.Option.{same_Some}
+use Rattle.gq_base.specs.Catalogs.{Tables}
+use Rattle.gq_base.specs.Lists.{with_first}
+use Rattle.gq_base.specs.declared.CompareOp.{CompareOp}
+use Rattle.gq_base.specs.declared.CompareOp.TheVariants as compare
+use Rattle.gq_base.specs.declared.Literal.{Literal as Spelled}
+use Rattle.gq_expr.proofs.KindEquations.{may_Literal, may_NodeProperty, may_RelProperty, may_Compare}
+use Rattle.gq_expr.specs.Kinds.{May, may, misfits, truth, can_fault}
+use Rattle.gq_expr.specs.declared.Bound.{Bound as Operand}
+use Rattle.gq_expr.specs.declared.Expr.{Expr}
+use Rattle.gq_expr.specs.declared.Expr.TheVariants as expr
+use Rattle.gq_expr.specs.declared.Kinds.{Kinds}
+use Rattle.gq_plan.proofs.Each.{each_of, each_then, each_map, each_append, each_kept}
+use Rattle.gq_plan.specs.Reads.{Variable, node, rel, Read, reads, property, properties, distinct}
+use Rattle.gq_plan.specs.Soundness.{max_variables, max_reads, IsSound, HasVariable, kinds_for, kinds_of, test_reads}
+use Rattle.gq_plan.specs.declared.Bound.{Bound}
+use Rattle.gq_plan.specs.declared.NamedExpr.{NamedExpr}
+use Rattle.gq_plan.specs.declared.Typed.{Typed}
+use Rattle.gq_syntax.specs.declared.Ast.{Ast}
+use Rattle.gq_syntax.specs.declared.Clause.{Clause}
+use Rattle.gq_syntax.specs.declared.Query.{Query}
+use Rattle.gq_alternatives.proofs.Shapes.{IsThere, each_left, each_right}
+use Rattle.gq_alternatives.proofs.ShapesOfPatterns.{Grows, grows_same, grows_then, clauses_grow, IsShaped, ends_of, pattern_shaped}
+use Rattle.gq_alternatives.proofs.SoundConditions.{alike_more, conjuncts_read}
+use Rattle.gq_alternatives.proofs.SoundPatterns.{IsChoice, each_alternative, pattern_sound, typed_count}
+use Rattle.gq_alternatives.proofs.SoundReads.{reads_Literal, reads_NodeProperty, reads_RelProperty, reads_Compare, AllAmong, some_among, properties_among, distinct_fewer}
+use Rattle.gq_alternatives.proofs.SoundTests.{AllThere, Alike}
+use Rattle.gq_alternatives.specs.Alternatives.{Choice, typed_rels, agrees, alternatives, typed_of}
+use Rattle.gq_scopes.specs.Conjuncts.{conjunct_expr}
+use Rattle.gq_scopes.specs.Patterns.{Name, MapEntry, Pattern, no_pattern, pattern_of, with_paths, with_clauses}
+use Rattle.gq_scopes.specs.Resolving.{Conjunct, functions, as_lists, all_some, resolved, split}
+use Rattle.gq_scopes.specs.Scopes.{Scope, scope_of}
+use Rattle.gq_scopes.specs.Sources.{source_text}
+use Rattle.gq_scopes.specs.declared.Column.{Column}
+use Rattle.gq_binder.specs.Binding.{IsBound}
+use Rattle.gq_binder.specs.Columns.{Scoped, scoped_in, conditions_from, conditions, conjuncts, columns, property_of, entry_expr, entry_test, Resolves, HasAlternatives}
+use Rattle.gq_binder.specs.Refusals.{first_of_all, unknown_variable, variable_conflict, relationship_repeated, column_repeated, nothing_to_return, order_out_of_scope, ambiguous_order_name, function_unknown, argument_count, over_limit, max_columns, max_alternatives, too_many_patterns, all_reads, first_refusal}
+use Rattle.gq_binder.specs.declared.refusal.BindRefusal.{BindRefusal}
+use Rattle.gq_binder.specs.declared.refusal.BindRefusal.TheVariants as refusal
+
+-- ---- checks that pass
+
+pub each_none : (os : List (Option BindRefusal)) → first_of_all os ≡ None → AllByRecursion (λ o. o ≡ None) os
+each_none [] e = tt
+each_none (None ∷ os) e = (refl, each_none os e)
+each_none (Some x ∷ os) e = cc e
+
+within_limit : (limit number : ℕ) (refused : BindRefusal) → over_limit limit number refused ≡ None → number ≤ limit
+within_limit limit number refused e = go (nat_lt limit number) refl e
+  where
+    go : (b : Bool) → nat_lt limit number ≡ b → (if b then Some refused else None) ≡ None → number ≤ limit
+    go true is e = cc e
+    go false is e = ltb-false limit number is
+
+-- what the numbers of an accepted query are
+record IsSmall (query : Query) : Type 0 where
+  nodes : length (pattern_of query.clauses).nodes ≤ max_variables
+  rels : length (pattern_of query.clauses).rels ≤ max_variables
+  reads : length (distinct (all_reads query)) ≤ max_reads
+
+accepted_small : (query : Query) (text : List ℕ) (catalog : Tables) → first_refusal query text catalog ≡ None → IsSmall query
+unfolding first_refusal
+accepted_small query text catalog accepted =
+    let p : Pattern = pattern_of query.clauses in
+    let cs : List Column = columns as_lists text query in
+    let limits : List (Option BindRefusal) = over_limit max_columns (length cs) refusal.TooManyColumns ∷ over_limit max_alternatives (length (alternatives query catalog)) refusal.TooManyAlternatives ∷ [] in
+    let few_reads : Option BindRefusal = over_limit max_reads (length (distinct (all_reads query))) refusal.TooManyReads in
+    let checks =
+    each_none
+    (unknown_variable text query
+    ∷ variable_conflict p
+    ∷ relationship_repeated p
+    ∷ column_repeated cs
+    ∷ nothing_to_return query p
+    ∷ order_out_of_scope text query
+    ∷ ambiguous_order_name text query
+    ∷ function_unknown text query
+    ∷ argument_count text query
+    ∷ too_many_patterns p
+    ∷ few_reads ∷ limits) accepted in
+    let patterns =
+    each_none (over_limit max_variables (length p.nodes) refusal.TooManyPatterns ∷ over_limit max_variables (length p.rels) refusal.TooManyPatterns ∷ []) checks.1.1.1.1.1.1.1.1.1.0 in
+    record {
+      nodes = within_limit max_variables (length p.nodes) refusal.TooManyPatterns patterns.0;
+      rels = within_limit max_variables (length p.rels) refusal.TooManyPatterns patterns.1.0;
+      reads = within_limit max_reads (length (distinct (all_reads query))) refusal.TooManyReads checks.1.1.1.1.1.1.1.1.1.1.0;
+    }
+
+-- ---- conditions stand in scopes of patterns so far
+
+-- a scope without columns, of variables that patterns have
+record IsWithin (final : Pattern) (s : Scope) : Type 0 where
+  columns : s.columns ≡ []
+  nodes : length s.nodes ≤ length final.names
+  rels : length s.rels ≤ length final.rels
+
+scope_within : (p final : Pattern) → Grows p final → IsWithin final (scope_of p)
+scope_within p final g =
+    let counted : length (map (λ r. r.part.name) p.rels) ≡ length p.rels = length-map p.rels (λ r. r.part.name) in
+    let grown : length p.rels ≤ length final.rels = g.rels in
+    record { columns = refl; nodes = g.names; rels = omega arith }
+
+one_within : (s : Scope) (final : Pattern) (tree : Option Ast) → IsWithin final s → AllByRecursion (λ c. IsWithin final c.scope) (scoped_in s tree)
+one_within s final None h = tt
+one_within s final (Some tree) h = (h, tt)
+
+conditions_within : (number : ℕ) (p : Pattern) (cs : List Clause) (final : Pattern) → Grows (with_clauses number cs p) final → AllByRecursion (λ c. IsWithin final c.scope) (conditions_from number p cs)
+conditions_within number p [] final g = tt
+conditions_within number p (c ∷ cs) final g =
+    let q : Pattern = with_paths number c.paths p in
+    each_append (λ c. IsWithin final c.scope) (scoped_in (scope_of q) c.filter) (conditions_from (suc number) q cs)
+    (one_within (scope_of q) final c.filter (scope_within q final (grows_then q (with_clauses (suc number) cs q) final (clauses_grow (suc number) cs q) g)))
+    (conditions_within (suc number) q cs final g)
+
+query_within : (query : Query) → AllByRecursion (λ c. IsWithin (pattern_of query.clauses) c.scope) (conditions query)
+unfolding pattern_of
+query_within query = conditions_within 0 no_pattern query.clauses (with_clauses 0 query.clauses no_pattern) (grows_same (with_clauses 0 query.clauses no_pattern))
+
+-- ---- what conditions read
+
+abbrev listed : Scoped → Option Expr
+listed c = resolved as_lists c.scope c.tree
+
+conditions_read : (final : Pattern) (cs : List Scoped) → AllByRecursion (λ c. IsWithin final c.scope) cs
+    → Alike (length final.names) (length final.rels) (flat_map reads) (flat_map reads) (all_some (map (λ c. c.expr) (flat_map (λ c. (split functions c.scope c.tree).conjuncts) cs))) (all_some (map listed cs))
+conditions_read final [] h = (refl, tt)
+conditions_read final (c ∷ cs) h =
+    let n : ℕ = length final.names in
+    let m : ℕ = length final.rels in
+    alike_more n m (split functions c.scope c.tree).conjuncts (flat_map (λ c. (split functions c.scope c.tree).conjuncts) cs) (listed c) (map listed cs)
+    (conjuncts_read n m c.scope h.0.columns h.0.nodes h.0.rels c.tree) (conditions_read final cs h.1)
+
+abbrev known_reads : Option Expr → List Read
+known_reads None = []
+known_reads (Some e) = reads e
+
+known_together : (os : List (Option Expr)) (es : List Expr) → all_some os ≡ Some es → flat_map known_reads os ≡ flat_map reads es
+known_together [] es e = ap (flat_map reads) (same_Some [] es e)
+known_together (None ∷ os) es e = cc e
+known_together (Some d ∷ os) es e = go (all_some os) (λ fs is. known_together os fs is) e
+  where
+    go : (o : Option (List Expr)) → ((fs : List Expr) → o ≡ Some fs → flat_map known_reads os ≡ flat_map reads fs) → with_first (Some d) o ≡ Some es → reads d ++ flat_map known_reads os ≡ flat_map reads es
+    go None more e = cc e
+    go (Some fs) more e = ap (λ rs. reads d ++ rs) (more fs refl) ∙ ap (flat_map reads) (same_Some (d ∷ fs) es e)
+
+abbrev exprs : List NamedExpr → List Expr
+exprs es = map (λ e. e.expr) es
+
+named_reads : NamedExpr → List Read
+named_reads e = reads e.expr
+
+unnamed : (text : List ℕ) (cs : List Conjunct) → all_some (map (λ c. c.expr) cs) ≡ option_map exprs (all_some (map (conjunct_expr text) cs))
+unnamed text [] = refl
+unnamed text (c ∷ cs) = ap (with_first c.expr) (unnamed text cs) ∙ go c.expr (all_some (map (conjunct_expr text) cs))
+  where
+    go : (o : Option Expr) (p : Option (List NamedExpr)) → with_first o (option_map exprs p) ≡ option_map exprs (with_first (option_map (λ e. record { name = source_text text c.span; expr = e }) o) p)
+    go None p = refl
+    go (Some e) None = refl
+    go (Some e) (Some es) = refl
+
+-- the conjuncts of a bound query read what the conditions read with their calls as lists, all of variables that are there
+record ReadsConditions (query : Query) (es : List NamedExpr) : Type 0 where
+  same : flat_map named_reads es ≡ flat_map (λ c. known_reads (listed c)) (conditions query)
+  there : AllThere (length (pattern_of query.clauses).names) (length (pattern_of query.clauses).rels) (flat_map named_reads es)
+
+conjuncts_known : (query : Query) (text : List ℕ) (es : List NamedExpr) → all_some (map (conjunct_expr text) (conjuncts query)) ≡ Some es → ReadsConditions query es
+unfolding conjuncts named_reads
+conjuncts_known query text es e =
+    go (all_some (map listed cs)) (λ fs i. known_together (map listed cs) fs i)
+    (subst (λ o. Alike n m (flat_map reads) (flat_map reads) o (all_some (map listed cs))) (unnamed text (flat_map (λ c. (split functions c.scope c.tree).conjuncts) cs) ∙ ap (option_map exprs) e) (conditions_read (pattern_of query.clauses) cs (query_within query)))
+  where
+    n : ℕ
+    n = length (pattern_of query.clauses).names
+
+    m : ℕ
+    m = length (pattern_of query.clauses).rels
+
+    cs : List Scoped
+    cs = conditions query
+
+    go : (o : Option (List Expr)) → ((fs : List Expr) → o ≡ Some fs → flat_map known_reads (map listed cs) ≡ flat_map reads fs) → Alike n m (flat_map reads) (flat_map reads) (Some (exprs es)) o → ReadsConditions query es
+    go None known h = absurd h
+    go (Some fs) known h =
+        let same : flat_map named_reads es ≡ flat_map reads fs = sym (flat_map-map reads (λ (e : NamedExpr). e.expr) es) ∙ h.0 in
+        record {
+          same = same ∙ sym (known fs refl) ∙ flat_map-map known_reads listed cs;
+          there = subst (AllThere n m) (sym same) h.1;
+        }
+
+-- ---- map entries
+
+abbrev entry_read : MapEntry → Read
+entry_read e = property e.variable e.entry.key
+
+property_reads : (v : Variable) (name : Name) → reads (property_of v name) ≡ property v name ∷ []
+property_reads (node v) name = reads_NodeProperty v name
+property_reads (rel x) name = reads_RelProperty x name
+
+abbrev equals : Spelled → List (Operand CompareOp Expr)
+equals l = record { op = compare.Equal; expr = expr.Literal l } ∷ []
+
+entry_reads : (e : MapEntry) → reads (entry_expr e) ≡ entry_read e ∷ []
+entry_reads e =
+    reads_Compare (property_of e.variable e.entry.key) (equals e.entry.value)
+    ∙ ap₂ (λ rs ss. rs ++ (ss ++ [])) (property_reads e.variable e.entry.key) (reads_Literal e.entry.value)
+
+entries_read : (text : List ℕ) (es : List MapEntry) → flat_map named_reads (map (entry_test text) es) ≡ map entry_read es
+unfolding named_reads
+entries_read text [] = refl
+entries_read text (e ∷ es) = ap₂ ◌++◌ (entry_reads e) (entries_read text es)
+
+property_safe : (kinds : Kinds) (v : Variable) (name : Name) → (may kinds (property_of v name)).faults ≡ false
+property_safe kinds (node v) name = ap (λ m. m.faults) (may_NodeProperty kinds v name)
+property_safe kinds (rel x) name = ap (λ m. m.faults) (may_RelProperty kinds x name)
+
+-- a property equals a literal, or not, or is null: it cannot fault
+entry_safe : (kinds : Kinds) (e : MapEntry) → can_fault kinds (entry_expr e) ≡ false
+entry_safe kinds e =
+    ap misfits (may_Compare kinds (property_of e.variable e.entry.key) (equals e.entry.value))
+    ∙ ap₂ (λ a b. misfits (truth (a || (b || false)))) (property_safe kinds e.variable e.entry.key) (ap (λ (m : May). m.faults) (may_Literal kinds e.entry.value))
+
+-- ---- alternatives
+
+has_variable : (y : Typed) (n m : ℕ) (v : Variable) → n ≡ length y.nodes → m ≡ length y.rels → IsThere n m v → HasVariable y v
+has_variable y n m (node v) is_n is_m there = omega arith
+has_variable y n m (rel x) is_n is_m there = omega arith
+
+each_some : {X : Type 0} (P : Read → Type 0) (f : X → List Read) (test : X → Bool) (xs : List X) → AllByRecursion P (flat_map f xs) → AllByRecursion P (flat_map f (filter test xs))
+each_some P f test [] h = tt
+each_some {X} P f test (x ∷ xs) h = go (test x) (each_some P f test xs (each_right P (f x) (flat_map f xs) h))
+  where
+    go : (b : Bool) → AllByRecursion P (flat_map f (filter test xs)) → AllByRecursion P (flat_map f (cond b (x ∷ filter test xs) (filter test xs)))
+    go true more = each_append P (f x) (flat_map f (filter test xs)) (each_left P (f x) (flat_map f xs) h) more
+    go false more = more
+
+module _ (catalog : Tables) (query : Query) (text : List ℕ) (es : List NamedExpr) (known : ReadsConditions query es) (c : Choice) where
+  abbrev p : Pattern
+  p = pattern_of query.clauses
+
+  abbrev y : Typed
+  y = typed_of catalog (pattern_of query.clauses) (map (entry_test text) (pattern_of query.clauses).entries) es c
+
+  abbrev kinds : Kinds
+  kinds = kinds_for catalog c.tables (typed_rels (pattern_of query.clauses).rels c.readings)
+
+  abbrev stays_test : NamedExpr → Bool
+  stays_test e = not (can_fault (kinds_for catalog c.tables (typed_rels (pattern_of query.clauses).rels c.readings)) e.expr)
+
+  tests_read : test_reads y ≡ map entry_read p.entries ++ flat_map named_reads (filter stays_test es)
+  unfolding typed_of named_reads
+  tests_read = flat_map-append named_reads (map (entry_test text) p.entries) (filter stays_test es) ∙ ap (λ rs. rs ++ flat_map named_reads (filter stays_test es)) (entries_read text p.entries)
+
+  names_there : IsShaped p → AllThere (length p.names) (length p.rels) (test_reads y)
+  names_there shaped =
+      subst (AllThere (length p.names) (length p.rels)) (sym tests_read)
+      (each_append (λ r. IsThere (length p.names) (length p.rels) r.variable) (map entry_read p.entries) (flat_map named_reads (filter stays_test es))
+      (each_map (λ e. IsThere (length p.names) (length p.rels) e.variable) (λ r. IsThere (length p.names) (length p.rels) r.variable) entry_read (λ e h. h) p.entries
+      (subst (λ m. AllByRecursion (λ e. IsThere (length p.names) m e.variable) p.entries) (length-map p.rels ends_of) shaped.shape.there))
+      (each_some (λ r. IsThere (length p.names) (length p.rels) r.variable) named_reads stays_test es known.there))
+
+  reads_among : AllAmong (properties (test_reads y)) (all_reads query)
+  unfolding all_reads
+  reads_among =
+      subst (λ rs. AllAmong (properties rs) (all_reads query)) (sym tests_read)
+      (subst (λ rs. AllAmong (properties (map entry_read p.entries ++ flat_map named_reads (filter stays_test es))) (map entry_read p.entries ++ properties rs)) known.same
+      (properties_among (map entry_read p.entries) (flat_map named_reads (filter stays_test es)) (flat_map named_reads es) (some_among named_reads stays_test es)))
+
+  tests_safe : AllByRecursion (λ t. can_fault (kinds_of catalog y) t.expr ≡ false) y.tests
+  unfolding typed_of
+  tests_safe =
+      each_append (λ t. can_fault kinds t.expr ≡ false) (map (entry_test text) p.entries) (filter stays_test es)
+      (each_map (λ e. Unit {0}) (λ t. can_fault kinds t.expr ≡ false) (entry_test text) (λ e _. entry_safe kinds e) p.entries (each_of (λ e. Unit {0}) (λ e. tt) p.entries))
+      (each_then (λ t. Unit {0} × (stays_test t ≡ true)) (λ t. can_fault kinds t.expr ≡ false) (λ t h. not-true (can_fault kinds t.expr) h.1) (filter stays_test es)
+      (each_kept (λ t. Unit {0}) stays_test es (each_of (λ t. Unit {0}) (λ t. tt) es)))
+
+  choice_sound : IsSmall query → IsChoice catalog (length p.names) (length p.rels) c × (agrees catalog p c ≡ true) → IsSound catalog y
+  unfolding typed_of
+  choice_sound small h =
+      let shaped : IsShaped p = pattern_shaped query.clauses in
+      let nodes : length p.names ≡ length c.tables = sym h.0.table_count in
+      let rels : length p.rels ≡ length (typed_rels p.rels c.readings) = sym (typed_count p.rels c.readings h.0.reading_count) in
+      let fewer : length (distinct (properties (test_reads y))) ≤ length (distinct (all_reads query)) = distinct_fewer (properties (test_reads y)) (all_reads query) reads_among in
+      let few : length (distinct (all_reads query)) ≤ max_reads = small.reads in
+      pattern_sound catalog p (map (entry_test text) p.entries) es c shaped small.nodes small.rels h.0 h.1
+      (All-from_recursion (λ r. HasVariable y r.variable) (test_reads y)
+      (each_then (λ r. IsThere (length p.names) (length p.rels) r.variable) (λ r. HasVariable y r.variable) (λ r there. has_variable y (length p.names) (length p.rels) r.variable nodes rels there) (test_reads y) (names_there shaped)))
+      (omega arith)
+      (All-from_recursion (λ t. can_fault (kinds_of catalog y) t.expr ≡ false) y.tests tests_safe)
+
+-- the alternatives of a bound query are sound
+pub alternatives_sound : (query : Query) (text : List ℕ) (catalog : Tables) (bound : Bound) → first_refusal query text catalog ≡ None → Resolves query text bound → HasAlternatives query text catalog bound
+    → All (IsSound catalog) bound.alternatives
+alternatives_sound query text catalog bound accepted resolves has =
+    let p : Pattern = pattern_of query.clauses in
+    let make : Choice → Typed = typed_of catalog p (map (entry_test text) p.entries) bound.conjuncts in
+    subst (All (IsSound catalog)) (sym has)
+    (All-from_recursion (IsSound catalog) (map make (alternatives query catalog))
+    (each_map (λ c. IsChoice catalog (length p.names) (length p.rels) c × (agrees catalog p c ≡ true)) (IsSound catalog) make
+    (λ c h. choice_sound catalog query text bound.conjuncts (conjuncts_known query text bound.conjuncts resolves.conjuncts) c (accepted_small query text catalog accepted) h)
+    (alternatives query catalog) (each_alternative catalog p)))
+
+-- so a query that no check refuses, with its names resolved and its alternatives, is bound
+pub is_bound : (query : Query) (text : List ℕ) (catalog : Tables) (bound : Bound) → first_refusal query text catalog ≡ None → Resolves query text bound → HasAlternatives query text catalog bound
+    → IsBound query text catalog bound
+is_bound query text catalog bound accepted resolves has = record {
+  accepted = accepted;
+  resolves = resolves;
+  alternatives = has;
+  sound = alternatives_sound query text catalog bound accepted resolves has;
+}

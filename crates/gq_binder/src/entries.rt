@@ -1,0 +1,72 @@
+//! What the maps of patterns ask, as tests.
+ghost use Rattle.std.specs.Prelude.{◌≡◌, ◌++◌, codes, map, IfOk};
+ghost use Rattle.gq_binder.specs.Columns as columns;
+ghost use Rattle.gq_scopes.specs.Sources as sources;
+ghost use Rattle.gq_scopes.specs.Variables.{seen};
+
+use gq_base::{Boxed, CompareOp, List, Memory, Text};
+use gq_expr::{Bound, Expr};
+use gq_plan::NamedExpr;
+use gq_scopes::{MapEntry, Variable, copy_literal, copy_text, source_text};
+use std::alloc::Global;
+
+/// The tests of map entries: a property of an entry's variable equals the entry's literal.
+pub fn entry_tests(
+    alloc: Global,
+    text: &[u8],
+    entries: &[MapEntry<'_>],
+) -> Result<List<NamedExpr>, Memory>
+    ensures { IfOk result (λ es. es ≡ map (columns.entry_test text.now) entries.now) }
+{
+    let mut tests = List::new(alloc);
+    for entry in entries {
+        let test = entry_test(alloc, text, entry)?;
+        tests.push(test)?;
+    }
+    Ok(tests)
+}
+
+fn entry_test(alloc: Global, text: &[u8], entry: &MapEntry<'_>) -> Result<NamedExpr, Memory>
+    ensures { IfOk result (λ e. e ≡ columns.entry_test text.now entry.now) }
+{
+    Ok(NamedExpr {
+        name: entry_name(alloc, text, entry)?,
+        expr: entry_expr(alloc, entry)?,
+    })
+}
+
+// `v.k = c`, with c as it is written.
+fn entry_name(alloc: Global, text: &[u8], entry: &MapEntry<'_>) -> Result<Text, Memory>
+    ensures { IfOk result (λ t. t ≡ entry.now.called ++ (codes "." ++ (entry.now.entry.key ++ (codes " = " ++ sources.source_text text.now entry.now.entry.value_span)))) }
+{
+    let called = &entry.called;
+    let key = &entry.entry.key;
+    let literal = source_text(alloc, text, entry.entry.value_span)?;
+    match format!(in alloc; "{called}.{key} = {literal}") {
+        Ok(name) => Ok(Text::from_string(name)),
+        Err(_) => Err(Memory),
+    }
+}
+
+fn entry_expr(alloc: Global, entry: &MapEntry<'_>) -> Result<Expr, Memory>
+    ensures { IfOk result (λ e. e ≡ columns.entry_expr entry.now) }
+{
+    let property = property_of(alloc, entry.variable, &entry.entry.key)?;
+    let value = Expr::Literal(copy_literal(alloc, &entry.entry.value)?);
+    let mut terms = List::new(alloc);
+    terms.push(Bound {
+        op: CompareOp::Equal,
+        expr: value,
+    })?;
+    Ok(Expr::Compare(Boxed::new(alloc, property)?, terms))
+}
+
+fn property_of(alloc: Global, variable: Variable, key: &Text) -> Result<Expr, Memory>
+    ensures { IfOk result (λ e. e ≡ columns.property_of (seen variable) key.now) }
+{
+    let key = copy_text(alloc, key)?;
+    match variable {
+        Variable::Node(number) => Ok(Expr::NodeProperty(number, key)),
+        Variable::Rel(number) => Ok(Expr::RelProperty(number, key)),
+    }
+}
