@@ -1,0 +1,14 @@
+//! The matches of patterns by their definition: all assignments of a small graph, each of which is tested.
+#![tactic(auto)]
+
+mod assignments;
+mod chosen;
+mod conditions;
+mod listing;
+mod pairs;
+mod properties;
+
+pub use listing::{Match, matches};
+
+#[cfg(test)]
+mod tests;

@@ -1,0 +1,62 @@
+//! The properties of nodes and relationships of a plain graph.
+ghost use Rattle.std.specs.Prelude.{◌≡◌};
+ghost use Rattle.gq_base.specs.Catalogs.{find_field};
+ghost use Rattle.gq_base.specs.Plain.{cell_val, property_of};
+ghost use Rattle.gq_base.specs.Values.{val};
+ghost use Rattle.gq_expr.specs.Reading as reading;
+
+use gq_base::{Cell, Field, NodeId, RelId, Text, Value, cell_value};
+use gq_plain::PlainGraph;
+
+/// A property of a node, null where it is missing.
+pub(crate) fn node_property<'g>(graph: &'g PlainGraph, node: NodeId, name: &Text) -> Value<'g>
+    ensures { val result ≡ reading.node_property graph.now node name.now }
+{
+    let catalog = graph.catalog();
+    if node.table >= catalog.node_tables() {
+        return Value::Null;
+    }
+    match graph.node_rows(node.table).get(node.row as usize) {
+        None => Value::Null,
+        Some(row) => {
+            let fields = catalog.node_table(node.table).fields.as_slice();
+            property_of(fields, name, row.as_slice())
+        }
+    }
+}
+
+/// A property of a relationship, null where it is missing.
+pub(crate) fn rel_property<'g>(graph: &'g PlainGraph, rel: RelId, name: &Text) -> Value<'g>
+    ensures { val result ≡ reading.rel_property graph.now rel name.now }
+{
+    let catalog = graph.catalog();
+    if rel.table >= catalog.rel_tables() {
+        return Value::Null;
+    }
+    match graph.rel_rows(rel.table).get(rel.row as usize) {
+        None => Value::Null,
+        Some(found) => {
+            let fields = catalog.rel_table(rel.table).fields.as_slice();
+            property_of(fields, name, found.cells.as_slice())
+        }
+    }
+}
+
+// The property of a row whose cells are of these fields.
+fn property_of<'g>(fields: &[Field], name: &Text, row: &'g [Option<Cell>]) -> Value<'g>
+    ensures { val result ≡ cell_val (property_of fields.now name.now row.now) }
+{
+    let Some(place) = find_field(fields, name) else {
+        return Value::Null;
+    };
+    match row.get(place) {
+        None => Value::Null,
+        Some(cell) => cell_value(cell),
+    }
+}
+
+fn find_field(fields: &[Field], name: &Text) -> Option<usize>
+    ensures { result ≡ find_field fields.now name.now }
+{
+    fields.iter().position(|field| field.name == *name)
+}
