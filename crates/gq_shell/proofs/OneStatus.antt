@@ -1,15 +1,19 @@
 -- For given words, files and input one status alone may be answered.
 use Rattle.std.proofs.Common.{◌≡◌, ℕ, List, [], Some, None, Ok, Err, refl, sym, ap, ◌∙◌, subst, inl, inr}
-use Rattle.std.specs.Prelude.{◌⊎◌, Option}
+use Rattle.std.specs.Prelude.{◌⊎◌, Option, Result}
 use Rattle.gq_base.specs.Plain.{Graph}
 use Rattle.std.specs.Io.KnownBytes.{Appends}
 use Rattle.gq_io.specs.Causes.{Rose}
 use Rattle.gq_io.specs.Outside.{Names}
 use Rattle.gq_loader.specs.Limits.{standard}
 use Rattle.gq_loader.specs.Loads.{load_of}
+use Rattle.gq_loader.specs.declared.refusal.LoadRefusal.{LoadRefusal}
 use Rattle.gq_syntax.proofs.Exact.{comes_statement}
 use Rattle.gq_syntax.specs.declared.refusal.SyntaxRefusal.TheVariants as refusal
-use Rattle.gq_shell.specs.Claim.{IsAnswered, IsListing, IsNotBuilt, IsRefused, IsWrong, refusal_text, IsTooLong, Outside, Over, Permits, Refuses, Replies, Runs, Whole, path_of}
+use Rattle.gq_syntax.specs.Outcomes.{SpelledText}
+use Rattle.gq_syntax.specs.declared.statement.Statement.{Statement}
+use Rattle.gq_shell.specs.Bindings.{bind_refusal}
+use Rattle.gq_shell.specs.Claim.{IsAnswered, IsListing, IsNotBuilt, IsRefused, IsUnbound, IsWrong, refusal_text, IsTooLong, Outside, Over, Permits, Refuses, Replies, Runs, Whole, path_of}
 use Rattle.gq_shell.specs.Listings.{Listing, listing_of}
 use Rattle.gq_shell.specs.Statements.{statement_of}
 use Rattle.gq_shell.specs.declared.status.Status.{Status}
@@ -38,24 +42,39 @@ module _ (words : List (List ℕ)) (files : Names) (input : List ℕ) where
       → Over words (Some files) (Some input) (λ graph input. (¬ (IsTooLong input)) × Other graph input) → ⊥
   no_length Says Other long short = short.told.2.0 long.told.2.0
 
-  -- a query that is built is neither wrong nor unbuilt
-  no_listing : (listing : Listing) → IsListing (statement_of input) listing → (text : List ℕ) → IsWrong (statement_of input) text ⊎ IsNotBuilt (statement_of input) text → ⊥
-  no_listing listing query text (inl wrong) = elim ((comes_statement (statement_of input) (Err wrong.why) wrong.cause query.tree).1 query.spelled) [
+  -- two trees that one statement spells are one
+  same_tree : (tree tree' : Statement) → SpelledText (statement_of input) tree → SpelledText (statement_of input) tree' → tree ≡ tree'
+  same_tree tree tree' spelled spelled' = elim ((comes_statement (statement_of input) (Ok tree) spelled tree').1 spelled') [
     | inl e ↦ cc e
-    | inr e ↦ (let memory : wrong.why ≡ refusal.Memory = cc e in let none : None ≡ Some text = ap refusal_text (sym memory) ∙ wrong.is in cc none)
-  ]
-  no_listing listing query text (inr other) = elim ((comes_statement (statement_of input) (Ok other.tree) other.spelled query.tree).1 query.spelled) [
-    | inl e ↦ (let same : other.tree ≡ query.tree = cc e in let clash : None ≡ Some listing = sym other.other ∙ ap listing_of same ∙ query.built in cc clash)
     | inr e ↦ cc e
   ]
 
-  no_reply : (graph : Graph) (text text' : List ℕ) → Replies graph (statement_of input) text → IsRefused (statement_of input) text' → ⊥
+  -- a query that is built is neither wrong, nor unbound, nor unbuilt
+  no_listing : (graph : Graph) (listing : Listing) → IsListing graph (statement_of input) listing → (text : List ℕ)
+      → IsWrong (statement_of input) text ⊎ IsUnbound graph (statement_of input) text ⊎ IsNotBuilt graph (statement_of input) text → ⊥
+  no_listing graph listing query text (inl wrong) = elim ((comes_statement (statement_of input) (Err wrong.why) wrong.cause query.tree).1 query.spelled) [
+    | inl e ↦ cc e
+    | inr e ↦ (let memory : wrong.why ≡ refusal.Memory = cc e in let none : None ≡ Some text = ap refusal_text (sym memory) ∙ wrong.is in cc none)
+  ]
+  no_listing graph listing query text (inr (inl unbound)) =
+      let same : unbound.tree ≡ query.tree = same_tree unbound.tree query.tree unbound.spelled query.spelled in
+      let clash : None ≡ Some unbound.why = sym query.bound ∙ ap (λ tree. bind_refusal tree (statement_of input) graph.catalog) (sym same) ∙ unbound.refused in cc clash
+  no_listing graph listing query text (inr (inr other)) =
+      let same : other.tree ≡ query.tree = same_tree other.tree query.tree other.spelled query.spelled in
+      let clash : None ≡ Some listing = sym other.other ∙ ap listing_of same ∙ query.built in cc clash
+
+  no_reply : (graph : Graph) (text text' : List ℕ) → Replies graph (statement_of input) text → IsRefused graph (statement_of input) text' → ⊥
   no_reply graph text text' (inl blank) refused = refused.written blank.0
-  no_reply graph text text' (inr (listing, query, lists)) refused = no_listing listing query text' refused.why
+  no_reply graph text text' (inr (listing, query, lists)) refused = no_listing graph listing query text' refused.why
 
   -- the statement was answered and refused
   no_answer : (text text' : List ℕ) → Permits words (Some files) (Some input) status.Ended text → Permits words (Some files) (Some input) status.Refused text' → ⊥
-  no_answer text text' ended refused = no_reply ended.told.0 text text' ended.told.2.1 refused.told.2.1
+  no_answer text text' ended refused =
+      let path : ended.path ≡ refused.path = ap (path_or []) (sym ended.given ∙ refused.given) in
+      let loads : load_of refused.path files standard ≡ Ok ended.told.0 = subst (λ p. load_of p files standard ≡ Ok ended.told.0) path ended.told.1 in
+      let both : ◌≡◌ {A = Result Graph LoadRefusal} (Ok ended.told.0) (Ok refused.told.0) = sym loads ∙ refused.told.1 in
+      let same : ended.told.0 ≡ refused.told.0 = cc both in
+      no_reply refused.told.0 text text' (subst (λ graph. Replies graph (statement_of input) text) same ended.told.2.1) refused.told.2.1
 
   pub one_status : (s s' : Status) (t t' : List ℕ) → Permits words (Some files) (Some input) s t → Permits words (Some files) (Some input) s' t' → s ≡ s'
   one_status status.Usage status.Usage t t' p q = refl

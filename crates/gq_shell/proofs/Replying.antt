@@ -15,6 +15,9 @@ use Rattle.gq_syntax.specs.declared.refusal.SyntaxRefusal.{SyntaxRefusal}
 use Rattle.gq_syntax.specs.declared.refusal.SyntaxRefusal.TheVariants as refusal
 use Rattle.gq_syntax.specs.declared.statement.Clause.{Clause}
 use Rattle.gq_syntax.specs.declared.statement.Statement.{Statement}
+use Rattle.gq_binder.specs.declared.refusal.BindRefusal.{BindRefusal}
+use Rattle.gq_shell.specs.BindLines.{bind_line}
+use Rattle.gq_shell.specs.Bindings.{bind_refusal}
 use Rattle.gq_shell.specs.Claim.{IsListing, IsRefused, IsTooLong, ListsRows, refusal_text}
 use Rattle.gq_shell.specs.Listings.{Listing, listing_of, source_text}
 use Rattle.gq_shell.specs.Statements.{IsBlank, statement_of}
@@ -88,11 +91,11 @@ depth_not_blank statement at (before, rest, stops, deep) blank =
 pub at_byte : (front : List ℕ) (at : ℕ) → refusal_line front [] (record { before = []; number = at } ∷ []) ≡ line (front ++ decimal at)
 at_byte front at = ap line (ap (λ f. f ++ (decimal at ++ [])) (append-nil front) ∙ ap (λ n. front ++ n) (append-nil (decimal at)))
 
-wrong : (statement refused : List ℕ) (why : SyntaxRefusal) → ¬ (IsBlank statement) → Cause statement (Err why) → refusal_text why ≡ Some refused
-    → (text : List ℕ) → text ≡ refused → IsRefused statement text
-wrong statement refused why written cause is text same = record { written = written; why = inl (record { why = why; cause = cause; is = is ∙ ap Some (sym same) }) }
+wrong : (graph : Graph) (statement refused : List ℕ) (why : SyntaxRefusal) → ¬ (IsBlank statement) → Cause statement (Err why) → refusal_text why ≡ Some refused
+    → (text : List ℕ) → text ≡ refused → IsRefused graph statement text
+wrong graph statement refused why written cause is text same = record { written = written; why = inl (record { why = why; cause = cause; is = is ∙ ap Some (sym same) }) }
 
-module _ (graph : Graph) (statement refused : List ℕ) (is : (text : List ℕ) → text ≡ refused → IsRefused statement text) where
+module _ (graph : Graph) (statement refused : List ℕ) (is : (text : List ℕ) → text ≡ refused → IsRefused graph statement text) where
   may_refuse : (answer : Status) (text : List ℕ) → MayRefuse refused answer text → MayReply graph statement answer text
   may_refuse status.Refused text may = is text may
   may_refuse status.Ended text may = absurd may
@@ -123,17 +126,28 @@ module _ (graph : Graph) (statement : List ℕ) (old new : Option (List ℕ)) (b
   Replying = Finishes (MayReply graph statement) old new before now answer
 
   pub refused_lex : (at : ℕ) → lexed statement ≡ Err at → Refusing (line (codes "error: Lex at byte " ++ decimal at)) → Replying
-  refused_lex at cause = replied graph statement _ (wrong statement _ (refusal.Lex at) (lex_not_blank statement at cause) cause refl) old new before now answer
+  refused_lex at cause = replied graph statement _ (wrong graph statement _ (refusal.Lex at) (lex_not_blank statement at cause) cause refl) old new before now answer
 
   pub refused_syntax : (at : ℕ) → ¬ (IsBlank statement) → SyntaxAt statement at → Refusing (line (codes "error: Syntax at byte " ++ decimal at)) → Replying
-  refused_syntax at written cause = replied graph statement _ (wrong statement _ (refusal.Syntax at) written cause refl) old new before now answer
+  refused_syntax at written cause = replied graph statement _ (wrong graph statement _ (refusal.Syntax at) written cause refl) old new before now answer
 
   pub refused_depth : (at : ℕ) → DepthAt statement at → Refusing (line (codes "error: Depth at byte " ++ decimal at)) → Replying
-  refused_depth at cause = replied graph statement _ (wrong statement _ (refusal.Depth at) (depth_not_blank statement at cause) cause refl) old new before now answer
+  refused_depth at cause = replied graph statement _ (wrong graph statement _ (refusal.Depth at) (depth_not_blank statement at cause) cause refl) old new before now answer
 
-  pub refused_unbuilt : (tree : Statement) → SpelledText statement tree → listing_of tree ≡ None → Refusing (line (codes "error: NotBuilt")) → Replying
-  refused_unbuilt tree spelled other = replied graph statement _
-      (λ text same. record { written = not_blank statement tree spelled; why = inr (record { tree = tree; spelled = spelled; other = other; is = same }) }) old new before now answer
+  pub refused_unbound : (tree : Statement) (why : BindRefusal) → SpelledText statement tree → bind_refusal tree statement graph.catalog ≡ Some why → Refusing (bind_line why) → Replying
+  refused_unbound tree why spelled refused = replied graph statement _
+      (λ text same. record {
+        written = not_blank statement tree spelled;
+        why = inr (inl (record { tree = tree; spelled = spelled; why = why; refused = refused; is = same }));
+      }) old new before now answer
+
+  pub refused_unbuilt : (tree : Statement) → SpelledText statement tree → bind_refusal tree statement graph.catalog ≡ None → listing_of tree ≡ None
+      → Refusing (line (codes "error: NotBuilt")) → Replying
+  refused_unbuilt tree spelled bound other = replied graph statement _
+      (λ text same. record {
+        written = not_blank statement tree spelled;
+        why = inr (inr (record { tree = tree; spelled = spelled; bound = bound; other = other; is = same }));
+      }) old new before now answer
 
 -- ---- rows
 
@@ -141,7 +155,7 @@ module _ (graph : Graph) (statement : List ℕ) (old new : Option (List ℕ)) (b
 pub in_load_order : (graph : Graph) (statement : List ℕ) (listing : Listing) → ListsRows graph statement listing (rows_text graph (source_text statement listing.column) listing)
 in_load_order graph statement listing = record { rows = _; as_a_bag = IsPermutation-refl _; is = refl }
 
-module _ (graph : Graph) (statement : List ℕ) (listing : Listing) (query : IsListing statement listing) where
+module _ (graph : Graph) (statement : List ℕ) (listing : Listing) (query : IsListing graph statement listing) where
   may_reply : (answer : Status) (text : List ℕ) → MayList graph statement listing answer text → MayReply graph statement answer text
   may_reply status.Ended text may = inr (listing, query, may)
   may_reply status.Refused text may = absurd may

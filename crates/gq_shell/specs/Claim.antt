@@ -1,7 +1,8 @@
 -- The claim of `run`: which status the program answers for its words, the files and its input, and what it writes.
 -- It rests on `load_of` (which graph the files give), `properties` (the plain graph's values of a property),
 -- `column_text` and `load_line` (how a reply is spelled), `statement_of` (the statement), `SpelledText` and `Cause` (the tree
--- that its tokens spell, or where they go wrong), and `listing_of` (which queries are built).
+-- that its tokens spell, or where they go wrong), `bind_refusal` and `bind_line` (why a query cannot be bound), and
+-- `listing_of` (which queries are built).
 use Rattle.std.specs.Prelude.{◌≡◌, ◌≢◌, ◌⊎◌, ℕ, ◌<◌, ◌≤◌, List, [], ◌∷◌, ◌++◌, length, codes, decimal, Option, Some, None, Result, Ok, Err, IfSome, IsPermutation, if◌then◌else◌}
 use Rattle.std.specs.Str.{bytes_eq}
 use Rattle.std.specs.Io.KnownBytes.{Appends, Consumes, Keeps}
@@ -13,7 +14,10 @@ use Rattle.gq_loader.specs.Limits.{standard}
 use Rattle.gq_loader.specs.Loads.{load_of}
 use Rattle.gq_loader.specs.Refusals.{IsOfFiles}
 use Rattle.gq_loader.specs.declared.refusal.LoadRefusal.{LoadRefusal}
+use Rattle.gq_binder.specs.declared.refusal.BindRefusal.{BindRefusal}
 use Rattle.gq_render.specs.Texts.{column_text, line}
+use Rattle.gq_shell.specs.BindLines.{bind_line}
+use Rattle.gq_shell.specs.Bindings.{bind_refusal}
 use Rattle.gq_shell.specs.Listings.{Listing, listing_of, source_text}
 use Rattle.gq_shell.specs.LoadLines.{load_line}
 use Rattle.gq_shell.specs.Statements.{IsBlank, statement_of}
@@ -43,17 +47,18 @@ pub record ListsRows (graph : Graph) (statement : List ℕ) (listing : Listing) 
   pub as_a_bag : IsPermutation (properties graph listing.label listing.property) rows
   pub is : text ≡ column_text (source_text statement listing.column) rows
 
--- the tokens of a statement spell a query that is built
-pub record IsListing (statement : List ℕ) (listing : Listing) : Type 0 where
+-- the tokens of a statement spell a query that is bound over the graph and is built
+pub record IsListing (graph : Graph) (statement : List ℕ) (listing : Listing) : Type 0 where
   pub tree : Statement
   pub spelled : SpelledText statement tree
+  pub bound : bind_refusal tree statement graph.catalog ≡ None
   pub built : listing_of tree ≡ Some listing
 
 -- a statement's reply: none to white space and comments alone, the rows of a query that is built
 abbrev pub Replies : Graph → List ℕ → List ℕ → Type 0
 Replies graph statement text =
     (IsBlank statement × (text ≡ []))
-    ⊎ ((listing : Listing) × IsListing statement listing × ListsRows graph statement listing text)
+    ⊎ ((listing : Listing) × IsListing graph statement listing × ListsRows graph statement listing text)
 
 -- the line of a statement that is no text, has no tokens, or is spelled by no statement within the allowed nesting, with the
 -- place where it goes wrong
@@ -69,17 +74,26 @@ pub record IsWrong (statement text : List ℕ) : Type 0 where
   pub cause : Cause statement (Err why)
   pub is : refusal_text why ≡ Some text
 
--- the statement is right, but not built
-pub record IsNotBuilt (statement text : List ℕ) : Type 0 where
+-- the statement is right, but its query cannot be bound over the graph, and this line says why
+pub record IsUnbound (graph : Graph) (statement text : List ℕ) : Type 0 where
   pub tree : Statement
   pub spelled : SpelledText statement tree
+  pub why : BindRefusal
+  pub refused : bind_refusal tree statement graph.catalog ≡ Some why
+  pub is : text ≡ bind_line why
+
+-- the statement is right and its query, if it has one, is bound, but it is not built
+pub record IsNotBuilt (graph : Graph) (statement text : List ℕ) : Type 0 where
+  pub tree : Statement
+  pub spelled : SpelledText statement tree
+  pub bound : bind_refusal tree statement graph.catalog ≡ None
   pub other : listing_of tree ≡ None
   pub is : text ≡ line (codes "error: NotBuilt")
 
 -- every other statement is refused by one line
-pub record IsRefused (statement text : List ℕ) : Type 0 where
+pub record IsRefused (graph : Graph) (statement text : List ℕ) : Type 0 where
   pub written : ¬ (IsBlank statement)
-  pub why : IsWrong statement text ⊎ IsNotBuilt statement text
+  pub why : IsWrong statement text ⊎ IsUnbound graph statement text ⊎ IsNotBuilt graph statement text
 
 -- the input, which is one statement, is too long
 abbrev pub IsTooLong : List ℕ → Type 0
@@ -98,7 +112,7 @@ abbrev pub Permits : List (List ℕ) → Option Names → Option (List ℕ) → 
 Permits words held left status.Usage text = (path_of words ≡ None) × (text ≡ line (codes "usage: graphq --manifest PATH"))
 Permits words held left status.NotLoaded text = (path : List ℕ) × (path_of words ≡ Some path) × IfSome held (λ files. Refuses (load_of path files standard) text)
 Permits words held left status.TooLong text = Over words held left (λ graph input. IsTooLong input × (text ≡ []))
-Permits words held left status.Refused text = Over words held left (λ graph input. (¬ (IsTooLong input)) × IsRefused (statement_of input) text)
+Permits words held left status.Refused text = Over words held left (λ graph input. (¬ (IsTooLong input)) × IsRefused graph (statement_of input) text)
 Permits words held left status.Ended text = Over words held left (λ graph input. (¬ (IsTooLong input)) × Replies graph (statement_of input) text)
 Permits words held left status text = ⊥
 

@@ -1,3 +1,5 @@
+pub mod BindLines
+pub mod Bindings
 pub mod Claim
 pub mod Listings
 pub mod LoadLines

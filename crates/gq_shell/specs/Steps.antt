@@ -52,13 +52,13 @@ MayList graph statement listing answer text = ⊥
 
 -- the answers to a statement over a graph
 abbrev pub MayReply : Graph → List ℕ → Status → List ℕ → Type 0
-MayReply graph statement status.Refused text = IsRefused statement text
+MayReply graph statement status.Refused text = IsRefused graph statement text
 MayReply graph statement status.Ended text = Replies graph statement text
 MayReply graph statement answer text = ⊥
 
 -- the answers to an input over a graph
 abbrev pub MayAnswer : Graph → List ℕ → Status → List ℕ → Type 0
 MayAnswer graph input status.TooLong text = IsTooLong input × (text ≡ [])
-MayAnswer graph input status.Refused text = (¬ (IsTooLong input)) × IsRefused (statement_of input) text
+MayAnswer graph input status.Refused text = (¬ (IsTooLong input)) × IsRefused graph (statement_of input) text
 MayAnswer graph input status.Ended text = (¬ (IsTooLong input)) × Replies graph (statement_of input) text
 MayAnswer graph input answer text = ⊥

@@ -1,19 +1,24 @@
 //! The reply to the input over a loaded graph.
 
-ghost use Rattle.std.specs.Prelude.{◌≡◌, ◌≤◌, ◌++◌, length, codes, decimal};
+ghost use Rattle.std.specs.Prelude.{◌≡◌, ◌≤◌, ◌++◌, length, codes, decimal, None};
 ghost use Rattle.gq_base.specs.Catalogs.{find_field};
 ghost use Rattle.gq_io.specs.Causes.{HasCause};
 ghost use Rattle.gq_io.specs.Outside.{Writes};
 ghost use Rattle.gq_render.specs.Texts.{line};
+ghost use Rattle.gq_shell.specs.BindLines.{bind_line};
+ghost use Rattle.gq_shell.specs.Bindings as spec;
 ghost use Rattle.gq_shell.specs.Listings.{source_text};
 ghost use Rattle.gq_shell.specs.Seen.{seen_listing};
 ghost use Rattle.gq_shell.specs.Steps.{Finishes, MayAnswer, MayList, MayRefuse, MayReply, rows_text};
 ghost use Rattle.gq_syntax.specs.Outcomes.{SpelledText};
 
+use crate::bind_line::write_bind_refusal;
+use crate::binding::bind_refusal;
 use crate::input::{is_blank, statement_of};
 use crate::listing::{Listing, listing_of, source_text};
 use crate::status::Status;
 use gq_base::{Field, Memory};
+use gq_binder::BindRefusal;
 use gq_io::{Failed, Sink, write_all};
 use gq_plain::PlainGraph;
 use gq_render::{Place, write_column, write_refusal};
@@ -40,6 +45,15 @@ fn refuse_at<O: Sink>(out: &mut O, front: &str, at: u32) -> Status
         number: at,
     };
     match write_refusal(out, front, "", &[place]) {
+        Ok(()) => Status::Refused,
+        Err(Failed) => Status::WriteFault,
+    }
+}
+
+fn refuse_unbound<O: Sink>(out: &mut O, refusal: &BindRefusal) -> Status
+    ensures { Finishes (MayRefuse (bind_line refusal.now)) (O.taken out.old) (O.taken out.new) (O.faults out.old) (O.faults out.new) result }
+{
+    match write_bind_refusal(out, refusal) {
         Ok(()) => Status::Refused,
         Err(Failed) => Status::WriteFault,
     }
@@ -83,8 +97,26 @@ fn list_rows<O: Sink>(
     }
 }
 
+// Replies to a statement whose tokens spell this tree, whose query, if it has one, is bound.
+fn reply_to_bound<O: Sink>(
+    out: &mut O,
+    graph: &PlainGraph,
+    statement: &[u8],
+    tree: &Statement,
+) -> Status
+    requires spelled { SpelledText statement.now tree.now }
+    requires bound { spec.bind_refusal tree.now statement.now graph.now.catalog ≡ None }
+    ensures { Finishes (MayReply graph.now statement.now) (O.taken out.old) (O.taken out.new) (O.faults out.old) (O.faults out.new) result }
+{
+    match listing_of(tree) {
+        Some(listing) => list_rows(out, graph, statement, listing),
+        None => refuse_unbuilt(out),
+    }
+}
+
 // Replies to a statement whose tokens spell this tree.
 fn reply_to_tree<O: Sink>(
+    alloc: Global,
     out: &mut O,
     graph: &PlainGraph,
     statement: &[u8],
@@ -93,9 +125,10 @@ fn reply_to_tree<O: Sink>(
     requires { SpelledText statement.now tree.now }
     ensures { Finishes (MayReply graph.now statement.now) (O.taken out.old) (O.taken out.new) (O.faults out.old) (O.faults out.new) result }
 {
-    match listing_of(tree) {
-        Some(listing) => list_rows(out, graph, statement, listing),
-        None => refuse_unbuilt(out),
+    match bind_refusal(alloc, tree, statement, graph.catalog()) {
+        Ok(None) => reply_to_bound(out, graph, statement, tree),
+        Ok(Some(refusal)) => refuse_unbound(out, &refusal),
+        Err(Memory) => Status::Memory,
     }
 }
 
@@ -105,7 +138,7 @@ fn reply<O: Sink>(alloc: Global, out: &mut O, graph: &PlainGraph, statement: &[u
     ensures { Finishes (MayReply graph.now statement.now) (O.taken out.old) (O.taken out.new) (O.faults out.old) (O.faults out.new) result }
 {
     match parse(alloc, statement) {
-        Ok(tree) => reply_to_tree(out, graph, statement, &tree),
+        Ok(tree) => reply_to_tree(alloc, out, graph, statement, &tree),
         Err(SyntaxRefusal::Lex { at }) => refuse_at(out, "error: Lex at byte ", at),
         Err(SyntaxRefusal::Depth { at }) => refuse_at(out, "error: Depth at byte ", at),
         Err(SyntaxRefusal::Syntax { at }) => match is_blank(alloc, statement) {

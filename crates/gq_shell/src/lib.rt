@@ -2,6 +2,8 @@
 #![tactic(auto)]
 
 mod answer;
+mod bind_line;
+mod binding;
 mod input;
 mod listing;
 mod load_line;

@@ -3,6 +3,7 @@
 use crate::{Status, run};
 use gq_base::{Bytes, List, Text};
 use gq_io::{MemoryFiles, MemorySink, MemorySource};
+use std::fmt::Write;
 use std::test::Fail;
 
 const PERSON: &str = "id:int,name:string,age:int\n1,Ann,30\n2,Bob,\n3,Cy,25\n";
@@ -133,8 +134,7 @@ const ANSWERED: [(&str, &str); 13] = [
     ("/* nothing\n */ ;", ""),
 ];
 
-const REFUSED: [(&str, &str); 20] = [
-    ("MATCH (q:Person) RETURN p.name;", "error: NotBuilt\n"),
+const REFUSED: [(&str, &str); 19] = [
     ("MATCH (p:Person) RETURN p.name AS n;", "error: NotBuilt\n"),
     ("MATCH (p:Person) RETURN (p.name);", "error: NotBuilt\n"),
     ("MATCH (p:Person) RETURN p;", "error: NotBuilt\n"),
@@ -206,6 +206,131 @@ fn statements_are_refused(rt: HostRuntime) -> Result<(), Fail> {
     Ok(())
 }
 
+const UNBOUND: [(&str, &str); 15] = [
+    (
+        "MATCH (q:Person) RETURN p.name;",
+        "error: UnknownVariable p\n",
+    ),
+    (
+        "MATCH (a) RETURN `b\n'\\`;",
+        "error: UnknownVariable b\\n'\\\\\n",
+    ),
+    (
+        "MATCH (a)-[a]->(b) RETURN b;",
+        "error: VariableConflict a\n",
+    ),
+    (
+        "MATCH (a)-[r]->(b)-[r]->(c) RETURN a;",
+        "error: RelationshipRepeated r\n",
+    ),
+    ("MATCH (a) RETURN a.x, a.x;", "error: ColumnRepeated a.x\n"),
+    ("MATCH ()-->() RETURN *;", "error: NothingToReturn\n"),
+    (
+        "MATCH (p:Person) RETURN DISTINCT p.name ORDER BY p.age;",
+        "error: OrderOutOfScope 1\n",
+    ),
+    (
+        "MATCH (a)-->(b) RETURN b AS a ORDER BY a.id;",
+        "error: AmbiguousOrderName a\n",
+    ),
+    ("MATCH (a) RETURN size(a);", "error: UnknownFunction size\n"),
+    (
+        "MATCH (a) RETURN coalesce();",
+        "error: ArgumentCount coalesce\n",
+    ),
+    (":plan MATCH (a) RETURN b;", "error: UnknownVariable b\n"),
+    (":profile MATCH (a) RETURN b;", "error: UnknownVariable b\n"),
+    (":plan MATCH (a) RETURN a;", "error: NotBuilt\n"),
+    (":profile MATCH (a) RETURN a;", "error: NotBuilt\n"),
+    ("MATCH (a RETURN b;", "error: Syntax at byte 9\n"),
+];
+
+#[test]
+fn statements_are_not_bound(rt: HostRuntime) -> Result<(), Fail> {
+    for (input, text) in UNBOUND {
+        let got = replied(&rt, &WORDS, &given(input))?;
+        assert_eq!(rt; got.0, Status::Refused, "{input}");
+        assert_eq!(rt; got.1.as_str(), text, "{input}");
+    }
+    Ok(())
+}
+
+// A list in a statement: its front, what stands before and behind the number of each item, and the statement's end.
+#[derive(Clone, Copy)]
+struct Listed {
+    front: &'static str,
+    before: &'static str,
+    behind: &'static str,
+    end: &'static str,
+}
+
+fn spell_list(rt: &HostRuntime, form: Listed, count: u32) -> Result<String, Fail> {
+    let mut text = String::from_str(rt.alloc(), form.front)?;
+    for number in 0..count {
+        let comma = if number == 0 { "" } else { ", " };
+        write!(text, "{comma}{}{number}{}", form.before, form.behind)?;
+    }
+    text.push_str(form.end)?;
+    Ok(text)
+}
+
+// The greatest lists that are bound, and the line of a longer one.
+const LISTED: [(Listed, u8, &str); 4] = [
+    (
+        Listed {
+            front: "MATCH ",
+            before: "(x",
+            behind: ":Person)",
+            end: " RETURN 1",
+        },
+        24,
+        "error: TooManyPatterns\n",
+    ),
+    (
+        Listed {
+            front: "MATCH (p) WHERE coalesce(",
+            before: "p.x",
+            behind: "",
+            end: ") RETURN p",
+        },
+        64,
+        "error: TooManyReads\n",
+    ),
+    (
+        Listed {
+            front: "MATCH (p) RETURN ",
+            before: "p.x",
+            behind: "",
+            end: "",
+        },
+        64,
+        "error: TooManyColumns\n",
+    ),
+    (
+        Listed {
+            front: "MATCH ",
+            before: "(x",
+            behind: ")",
+            end: " RETURN 1",
+        },
+        9,
+        "error: TooManyAlternatives\n",
+    ),
+];
+
+#[test]
+fn long_lists_are_not_bound(rt: HostRuntime) -> Result<(), Fail> {
+    for (form, most, line) in LISTED {
+        let allowed = spell_list(&rt, form, u32::from(most))?;
+        let got = replied(&rt, &WORDS, &given(allowed.as_str()))?;
+        assert_eq!(rt; got.1.as_str(), "error: NotBuilt\n", "{most}");
+        let longer = spell_list(&rt, form, u32::from(most) + 1)?;
+        let got = replied(&rt, &WORDS, &given(longer.as_str()))?;
+        assert_eq!(rt; got.1.as_str(), line, "{most}");
+    }
+    Ok(())
+}
+
 // A condition inside so many parentheses.
 fn nested(rt: &HostRuntime, depth: usize) -> Result<String, Fail> {
     let mut text = String::from_str(rt.alloc(), "MATCH (p) WHERE ")?;
@@ -242,7 +367,7 @@ fn refused(rt: &HostRuntime, outside: &Outside<'_>) -> Result<String, Fail> {
 }
 
 // Bytes of the file person.csv, and the line of their refusal.
-const PERSONS: [(&str, &str); 8] = [
+const PERSONS: [(&str, &str); 9] = [
     (
         "id:int,name:string,age:int\n1,Ann,30\n1,Bob,\n3,Cy,25\n",
         "load: KeyRepeated person.csv record 3\n",
@@ -255,6 +380,10 @@ const PERSONS: [(&str, &str); 8] = [
     ("id:int,n", "load: BadHeader person.csv\n"),
     (
         "id:int,name:string,age:int\n1",
+        "load: FieldCount person.csv record 2\n",
+    ),
+    (
+        "id:int,name:string,age:int\n1,",
         "load: FieldCount person.csv record 2\n",
     ),
     (
@@ -283,8 +412,63 @@ fn damaged_files_are_refused(rt: HostRuntime) -> Result<(), Fail> {
     Ok(())
 }
 
+// Other bytes of the file person.csv, which is loaded alone, and the reply to the query.
+const CUT: [(&str, &str); 5] = [
+    ("id:int", "p.name\nrows 0\n"),
+    ("id:int,name:string,age:int\n", "p.name\nrows 0\n"),
+    (
+        "id:int,name:string,age:int\n1,Ann,",
+        "p.name\n'Ann'\nrows 1\n",
+    ),
+    (
+        "id:int,name:string,age:int\n1,Ann,3",
+        "p.name\n'Ann'\nrows 1\n",
+    ),
+    (
+        "\u{FEFF}id:int,name:string,age:int\r\n1,Ann,30\r\n2,Bob,\r\n3,Cy,25\r\n",
+        NAMES,
+    ),
+];
+
+#[test]
+fn cut_files_may_be_loaded(rt: HostRuntime) -> Result<(), Fail> {
+    for (person, text) in CUT {
+        let got = replied(
+            &rt,
+            &WORDS,
+            &Outside {
+                manifest: "node Person person.csv\n",
+                person,
+                ..given(QUERY)
+            },
+        )?;
+        assert_eq!(rt; got.0, Status::Ended);
+        assert_eq!(rt; got.1.as_str(), text);
+    }
+    Ok(())
+}
+
+const KNOWS: &str = "node Person person.csv\nrel KNOWS Person Person many_many knows.csv\n";
+
 #[test]
 fn other_loads_are_refused(rt: HostRuntime) -> Result<(), Fail> {
+    let knows = Outside {
+        manifest: KNOWS,
+        lives: "from,to,since:int\n1,9,\n",
+        last: "knows.csv",
+        ..given(QUERY)
+    };
+    let got = refused(&rt, &knows)?;
+    assert_eq!(rt;
+        got.as_str(),
+        "load: NoSuchNode knows.csv record 2 column 2\n"
+    );
+    let city = Outside {
+        city: "",
+        ..given(QUERY)
+    };
+    let got = refused(&rt, &city)?;
+    assert_eq!(rt; got.as_str(), "load: BadHeader city.csv\n");
     let lives = Outside {
         lives: "from,to\n1,X\n3,X\n1,Y\n",
         ..given(QUERY)

@@ -1,11 +1,8 @@
 use Rattle.std.proofs.Common.{sym}
-use Rattle.gq_shell.proofs.Replying.{listed, refused_unbuilt}
-use Rattle.gq_shell.specs.Seen.{seen_listing}
+use Rattle.gq_shell.proofs.Replying.{refused_unbound}
 use Rattle.gq_shell.proofs.answer.reply_to_tree.Goals as goal
 
-pub returns-in-Some : goal.returns-in-Some
-returns-in-Some g c =
-    listed _ _ (seen_listing c.in-Some.listing) (record { tree = c.args.tree.now; spelled = c.requires; built = sym c.in-Some.ensures }) _ _ _ _ _ c.list_rows.ensures
-
-pub returns-in-None : goal.returns-in-None
-returns-in-None g c = refused_unbuilt _ _ _ _ _ _ _ c.args.tree.now c.requires (sym c.in-None.ensures) c.refuse_unbuilt.ensures
+pub returns-in-Ok-Some : goal.returns-in-Ok-Some
+returns-in-Ok-Some g c =
+    let refused = rw (c.in-Ok-Some.field-0-is, c.catalog.ensures.value) at c.in-Ok-Some.ensures in
+    refused_unbound _ _ _ _ _ _ _ c.args.tree.now c.in-Ok-Some.refusal c.requires (sym refused) c.refuse_unbound.ensures
