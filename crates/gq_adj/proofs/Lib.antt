@@ -1,3 +1,4 @@
+pub mod Shifts
 pub mod Sorting
 pub mod Members
 pub mod Near
