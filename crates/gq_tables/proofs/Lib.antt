@@ -8,6 +8,7 @@ pub mod NodeSteps
 pub mod RecordForms
 pub mod RecordSteps
 pub mod RelSteps
+pub mod SlotSteps
 pub mod TableSteps
 pub mod Texts
 pub mod Validity

@@ -1,5 +1,5 @@
 -- Rows by their keys, in one ordered map for each kind of key.
-use Rattle.std.specs.Prelude.{ℕ, Bool, false, cond, is_some}
+use Rattle.std.specs.Prelude.{ℕ, cond}
 use Rattle.std.specs.BTreeMap.{get_by}
 use Rattle.std.specs.Cmp.Lexicographic.{slice_cmp}
 use Rattle.std.specs.Ordering.{bool_cmp, int_cmp, nat_cmp}
@@ -15,11 +15,6 @@ row_at map (int z) = get_by (int_cmp z) map.ints
 row_at map (str s) = get_by (λ t. slice_cmp nat_cmp s t.now) map.texts
 row_at map (flag b) = get_by (bool_cmp b) map.flags
 row_at map v = None
-
--- some row stands at a key, if there is a key
-abbrev pub is_at_key : KeyMap → Option Val → Bool
-is_at_key map None = false
-is_at_key map (Some key) = is_some (row_at map key)
 
 -- what stands at a key once a row was put at its own key, if it has one
 abbrev pub with_row : Option Val → ℕ → Val → Option ℕ → Option ℕ

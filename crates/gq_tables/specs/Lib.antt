@@ -1,5 +1,6 @@
 pub mod Answers
 pub mod Cells
+pub mod KeyIndexes
 pub mod KeyMaps
 pub mod Keys
 pub mod Nodes
@@ -7,4 +8,5 @@ pub mod Passes
 pub mod Records
 pub mod Rels
 pub mod Sides
+pub mod Slots
 pub mod Unread

@@ -1,6 +1,6 @@
 //! Rows by their keys. Each kind of key has a map of its own, so that a key is compared as what it is, and a text that
 //! is looked up need not live as long as those in the map.
-ghost use Rattle.std.specs.Prelude.{◌≡◌, cond, None, Some, IfOk};
+ghost use Rattle.std.specs.Prelude.{◌≡◌, cond, None, Some, IfOk, OnErr};
 ghost use Rattle.gq_base.specs.Plain.{cell_val};
 ghost use Rattle.gq_base.specs.Values.{Val, val};
 ghost use Rattle.gq_tables.specs.KeyMaps.{row_at};
@@ -35,6 +35,7 @@ impl<'k> KeyMap<'k> {
         ensures before { IfOk result (λ before. before ≡ row_at self.old (cell_val (Some key.now))) }
         ensures put { IfOk result (λ before. (v : Val) →
             row_at self.new v ≡ cond (same_key (cell_val (Some key.now)) v) (Some row) (row_at self.old v)) }
+        ensures err { OnErr result ((v : Val) → row_at self.new v ≡ row_at self.old v) }
     {
         match key {
             Cell::Int(value) => Ok(self.ints.insert(*value, row)?),

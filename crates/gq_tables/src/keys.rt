@@ -2,11 +2,12 @@
 ghost use Rattle.std.specs.Prelude.{◌≡◌, ◌<◌, ◌^◌, length, option_map, IfOk, None, Some};
 ghost use Rattle.gq_base.specs.Plain.{cell_val};
 ghost use Rattle.gq_base.specs.Values.{Val, null, val};
-ghost use Rattle.gq_tables.specs.KeyMaps.{is_at_key, row_at, with_row};
+ghost use Rattle.gq_tables.specs.KeyIndexes.{held, is_held};
+ghost use Rattle.gq_tables.specs.KeyMaps.{with_row};
 ghost use Rattle.gq_tables.specs.Keys.{find_key};
 ghost use Rattle.gq_base.specs.Valid.{key_of};
 
-use crate::key_map::KeyMap;
+use crate::key_index::KeyIndex;
 use gq_base::{Cell, Kind, Memory, Row, Value};
 use std::alloc::Global;
 
@@ -21,8 +22,8 @@ pub struct End<'g> {
 #[derive(Drop)]
 pub(crate) struct Keys<'g> {
     pub(crate) end: End<'g>,
-    map: KeyMap<'g>,
-    ghost finds: { (v : Val) → row_at map v ≡ find_key end.rows.now v },
+    index: KeyIndex<'g>,
+    ghost finds: { (v : Val) → held index v ≡ find_key end.rows.now v },
 }
 
 impl<'g> Keys<'g> {
@@ -31,8 +32,8 @@ impl<'g> Keys<'g> {
         requires { length end.rows.now < 2 ^ 32 }
         ensures { IfOk result (λ keys. keys.end ≡ end.entry) }
     {
-        let map = map_keys(alloc, end.rows)?;
-        Ok(Keys { end, map })
+        let index = index_rows(alloc, end.rows)?;
+        Ok(Keys { end, index })
     }
 
     /// The first row with this key. No row has null as its key.
@@ -40,32 +41,36 @@ impl<'g> Keys<'g> {
         ensures row { result ≡ find_key self.now.end.rows.now (val key.now) }
         ensures null { find_key self.now.end.rows.now null ≡ None }
     {
-        self.map.get(key)
+        self.index.get(key)
     }
 }
 
 // From the last row on, so that the first of the rows with one key is the one that stays.
-fn map_keys<'g>(alloc: Global, rows: &'g [Row]) -> Result<KeyMap<'g>, Memory>
+fn index_rows<'g>(alloc: Global, rows: &'g [Row]) -> Result<KeyIndex<'g>, Memory>
     requires { length rows.now < 2 ^ 32 }
-    ensures { IfOk result (λ map. (v : Val) → row_at map v ≡ find_key rows.now v) }
+    ensures { IfOk result (λ index. (v : Val) → held index v ≡ find_key rows.now v) }
 {
-    let mut map = KeyMap::new(alloc);
+    let mut index = KeyIndex::new(alloc, rows.len())?;
     let mut at = rows.len();
     'rows: while at > 0 {
         at -= 1;
-        put_row(&mut map, &rows[at], at as u32)?;
+        put_row(&mut index, &rows[at], at as u32)?;
     }
-    Ok(map)
+    Ok(index)
 }
 
 /// Puts a row at its key, if it has one, and answers whether there was a row before.
-pub(crate) fn put_row<'k>(map: &mut KeyMap<'k>, row: &'k Row, number: u32) -> Result<bool, Memory>
-    ensures before { IfOk result (λ before. before ≡ is_at_key map.old (key_of row.now)) }
+pub(crate) fn put_row<'k>(
+    index: &mut KeyIndex<'k>,
+    row: &'k Row,
+    number: u32,
+) -> Result<bool, Memory>
+    ensures before { IfOk result (λ before. before ≡ is_held index.old (key_of row.now)) }
     ensures put { IfOk result (λ before. (v : Val) →
-        row_at map.new v ≡ with_row (key_of row.now) number v (row_at map.old v)) }
+        held index.new v ≡ with_row (key_of row.now) number v (held index.old v)) }
 {
     match key_of(row) {
-        Some(key) => Ok(map.insert(key, number)?.is_some()),
+        Some(key) => Ok(index.insert(key, number)?.is_some()),
         None => Ok(false),
     }
 }

@@ -3,6 +3,7 @@
 
 mod cells;
 mod header;
+mod key_index;
 mod key_map;
 mod keys;
 mod nodes;
@@ -11,6 +12,7 @@ mod refusal;
 mod rels;
 mod repeats;
 mod sides;
+mod slots;
 
 pub use keys::End;
 pub use nodes::{NodeTableRows, read_nodes};

@@ -3,7 +3,7 @@ ghost use Rattle.std.specs.Prelude.{◌≡◌, ◌+◌, ◌<◌, ◌≤◌, ◌^
 ghost use Rattle.gq_tables.specs.Answers.{Answers};
 ghost use Rattle.gq_tables.specs.Passes.{add_nodes, up_to_repeat};
 
-use crate::key_map::KeyMap;
+use crate::key_index::KeyIndex;
 use crate::keys::put_row;
 use crate::refusal::TableRefusal;
 use gq_base::{Memory, NodeRows, Row};
@@ -29,9 +29,9 @@ fn first_repeat(alloc: Global, rows: &[Row]) -> Result<Option<usize>, Memory>
     ensures value { IfOk result (λ at. add_nodes 2 [] rows.now ≡ up_to_repeat at rows.now) }
     ensures within { IfOk result (λ at. IfSome at (λ place. place < length rows.now)) }
 {
-    let mut keys = KeyMap::new(alloc);
+    let mut index = KeyIndex::new(alloc, rows.len())?;
     for (at, row) in rows.iter().enumerate() {
-        if put_row(&mut keys, row, at as u32)? {
+        if put_row(&mut index, row, at as u32)? {
             return Ok(Some(at));
         }
     }

@@ -97,7 +97,7 @@ const NODES: [(&str, u32, &str); 14] = [
     ("id:int,n:int\n7,1\n1,7\n", 9, "id Int;n Int; 7 1| 1 7|"),
 ];
 
-const NO_NODES: [(&str, u32, &str); 28] = [
+const NO_NODES: [(&str, u32, &str); 29] = [
     ("", 9, "BadHeader"),
     ("\n\r\n", 9, "BadHeader"),
     ("id\n1\n", 9, "BadHeader"),
@@ -158,6 +158,7 @@ const NO_NODES: [(&str, u32, &str); 28] = [
     ),
     ("id:int\n1\n1\n2\n", 2, "KeyRepeated { number: 3 }"),
     ("id:int\n1\n2\n1\n", 2, "TooManyRows"),
+    ("id:int\n13\n-13\n13\n", 9, "KeyRepeated { number: 4 }"),
 ];
 
 #[test]
@@ -403,5 +404,76 @@ fn rel_tables(rt: HostRuntime) -> Result<(), Fail> {
     }
     let got = rels(&rt, Kind::Str, CITIES, Mult::ManyMany, b"from,to\n1,\xFF\n")?;
     assert_eq!(rt; got.as_str(), "BadField { number: 2, column: 2 }");
+    Ok(())
+}
+
+// Nodes whose keys share one of the 13 slots that three rows have.
+const NUMBERS: &str = "id:int\n13\n-13\n0\n";
+
+const LETTERS: &str = "code:string\nAA\nAL\nAV\n";
+
+const FRONTS: &str =
+    "code:string\na-front-that-keys-share-0\na-front-that-keys-share-1\na-front-that-keys-share-2\n";
+
+const FAR_NUMBERS: &str = "id:int\n-9223372036854775808\n9223372036854775807\n-1\n";
+
+// Relationships to nodes with these keys.
+const REACHES: [(Kind, &str, &str, &str); 8] = [
+    (
+        Kind::Int,
+        NUMBERS,
+        "from,to\n1,0\n2,13\n3,-13\n",
+        " 0>2| 1>0| 2>1|",
+    ),
+    (
+        Kind::Int,
+        NUMBERS,
+        "from,to\n1,26\n",
+        "NoSuchNode { number: 2, column: 2 }",
+    ),
+    (
+        Kind::Str,
+        LETTERS,
+        "from,to\n1,AV\n2,AA\n3,AL\n",
+        " 0>2| 1>0| 2>1|",
+    ),
+    (
+        Kind::Str,
+        LETTERS,
+        "from,to\n1,BO\n",
+        "NoSuchNode { number: 2, column: 2 }",
+    ),
+    (
+        Kind::Str,
+        FRONTS,
+        "from,to\n1,a-front-that-keys-share-2\n2,a-front-that-keys-share-0\n3,a-front-that-keys-share-1\n",
+        " 0>2| 1>0| 2>1|",
+    ),
+    (
+        Kind::Str,
+        FRONTS,
+        "from,to\n1,a-front-that-keys-share-\n",
+        "NoSuchNode { number: 2, column: 2 }",
+    ),
+    (
+        Kind::Int,
+        FAR_NUMBERS,
+        "from,to\n1,-1\n2,-9223372036854775808\n3,9223372036854775807\n",
+        " 0>2| 1>0| 2>1|",
+    ),
+    (
+        Kind::Int,
+        FAR_NUMBERS,
+        "from,to\n1,-9223372036854775807\n",
+        "NoSuchNode { number: 2, column: 2 }",
+    ),
+];
+
+#[test]
+fn keys_that_share_a_slot(rt: HostRuntime) -> Result<(), Fail> {
+    for (kind, targets, file, table) in REACHES {
+        let got = rels(&rt, kind, targets, Mult::ManyMany, file.as_bytes())?;
+        assert_eq!(rt; got.as_str(), table, "at {file}");
+    }
     Ok(())
 }

@@ -1,8 +1,8 @@
 use Rattle.gq_tables.proofs.KeySteps.{Mapped}
-use Rattle.gq_tables.proofs.keys.map_keys.Given as goal
+use Rattle.gq_tables.proofs.keys.index_rows.Given as goal
 
 abbrev pub invariant-rows : goal.invariant-rows
-invariant-rows l = Mapped l.rows l.at l.map
+invariant-rows l = Mapped l.rows l.at l.index
 
 abbrev pub decreases-rows : goal.decreases-rows
 decreases-rows l = l.at

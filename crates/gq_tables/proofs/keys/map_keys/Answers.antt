@@ -1,6 +1,0 @@
-use Rattle.std.proofs.Common.{◌≡◌, arith}
-use Rattle.gq_tables.proofs.KeySteps.{all_mapped}
-use Rattle.gq_tables.proofs.keys.map_keys.Goals as goal
-
-pub returns : goal.returns
-returns c = let none : c.rows.at ≡ 0 = omega arith in all_mapped c.args.rows.now c.rows.map (rw none at c.rows.invariant)

@@ -1,0 +1,7 @@
+use Rattle.std.proofs.Common.{rules}
+use Rattle.gq_tables.specs.Slots.{hash_text}
+use Rattle.gq_tables.proofs.slots.hash_text.Goals as goal
+
+pub returns : goal.returns
+unfolding hash_text
+returns c = search rules
