@@ -1,6 +1,7 @@
 //! The tables of a graph, each read from its file.
-ghost use Rattle.std.specs.Prelude.{◌≡◌, ◌+◌, ◌<◌, ◌≤◌, true, length, IfOk, OnOk};
-ghost use Rattle.gq_base.specs.Valid.{is_valid};
+ghost use Rattle.std.specs.Prelude.{◌≡◌, ◌+◌, ◌<◌, ◌≤◌, ◌^◌, true, length, IfOk, OnOk};
+ghost use Rattle.std.specs.List.{list_all};
+ghost use Rattle.gq_base.specs.Valid.{are_fields, is_rel, is_valid, keeps_mult};
 ghost use Rattle.gq_manifest.specs.Orders.{IsNumberOf};
 ghost use Rattle.gq_loader.specs.Answers.{Answers, AsMany, IsGoing, IsUnread, KeepsOthers, Leaves};
 ghost use Rattle.gq_loader.specs.Effects.{Reads, told_of};
@@ -8,16 +9,17 @@ ghost use Rattle.gq_loader.specs.Files.{file_of};
 ghost use Rattle.gq_loader.specs.Limits.{IsWithin, is_short};
 ghost use Rattle.gq_loader.specs.Loads.{end_of, key_kind, take_nodes, take_rels, take_table};
 ghost use Rattle.gq_manifest.specs.declared.order.TableNumber.TheVariants as table;
-ghost use Rattle.gq_tables.specs.Answers.{seen_end};
+ghost use Rattle.gq_tables.specs.Answers.{Answers as TableAnswers, seen_end};
+ghost use Rattle.gq_tables.specs.Rels.{rel_table_of};
 
 use crate::file::read_file;
 use crate::limits::Limits;
 use crate::refusal::LoadRefusal;
-use gq_base::{Bytes, Field, Kind};
+use gq_base::{Bytes, Field, Kind, RelTable};
 use gq_io::Files;
 use gq_manifest::TableNumber;
 use gq_plain::PlainGraph;
-use gq_tables::{End, read_nodes, read_rels};
+use gq_tables::{End, RelTableRows, TableRefusal, read_nodes, read_rels, read_rels_within};
 use std::alloc::Global;
 
 /// A graph some of whose tables were read, and how many bytes their files have together.
@@ -105,16 +107,7 @@ fn take_rels<F: Files>(
     let table = loading.graph.catalog().rel_table(number);
     let file = table.file.as_str();
     let bytes = read_table_file(alloc, files, limits, loading.total, file)?;
-    let source = end_of(&loading.graph, table.from);
-    let target = end_of(&loading.graph, table.to);
-    let read = match read_rels(
-        alloc,
-        bytes.as_slice(),
-        source,
-        target,
-        table.mult,
-        limits.rels,
-    ) {
+    let read = match read_between(alloc, bytes.as_slice(), limits, loading, table) {
         Ok(read) => read,
         Err(refusal) => return Err(LoadRefusal::in_file(alloc, file, refusal)?),
     };
@@ -122,6 +115,34 @@ fn take_rels<F: Files>(
     loading.graph.set_rel_fields(number, read.fields);
     loading.graph.set_rel_rows(number, read.rels);
     Ok(())
+}
+
+// The relationship table of a file with these bytes. One index of keys serves both of its ends where they are one node
+// table.
+fn read_between(
+    alloc: Global,
+    bytes: &[u8],
+    limits: &Limits,
+    loading: &Loading,
+    table: &RelTable,
+) -> Result<RelTableRows, TableRefusal>
+    requires few_bytes { length bytes.now < 2 ^ 32 }
+    requires going { IsGoing limits.now loading.now }
+    requires within { IsWithin limits.now }
+    requires from { table.now.from < length loading.now.graph.nodes }
+    requires to { table.now.to < length loading.now.graph.nodes }
+    ensures answers { TableAnswers (rel_table_of (end_of loading.now.graph table.now.from) (end_of loading.now.graph table.now.to) table.now.mult limits.now.rels bytes.now) result }
+    ensures few { IfOk result (λ read. length read.rels ≤ limits.now.rels) }
+    ensures fields { IfOk result (λ read. are_fields read.fields ≡ true) }
+    ensures rels { IfOk result (λ read. list_all (is_rel read.fields (length (end_of loading.now.graph table.now.from).rows) (length (end_of loading.now.graph table.now.to).rows)) read.rels ≡ true) }
+    ensures mult { IfOk result (λ read. keeps_mult table.now.mult read.rels ≡ true) }
+{
+    let source = end_of(&loading.graph, table.from);
+    if table.from == table.to {
+        return read_rels_within(alloc, bytes, source, table.mult, limits.rels);
+    }
+    let target = end_of(&loading.graph, table.to);
+    read_rels(alloc, bytes, source, target, table.mult, limits.rels)
 }
 
 // The bytes of the file of a table, after so many bytes of the files of tables before it.

@@ -36,6 +36,13 @@ impl<'g> Keys<'g> {
         Ok(Keys { end, index })
     }
 
+    /// How many rows there are.
+    pub(crate) fn count(&self) -> usize
+        ensures { result ≡ length self.now.end.rows.now }
+    {
+        self.end.rows.len()
+    }
+
     /// The first row with this key. No row has null as its key.
     pub(crate) fn find(&self, key: &Value<'_>) -> Option<u32>
         ensures row { result ≡ find_key self.now.end.rows.now (val key.now) }

@@ -17,7 +17,7 @@ mod slots;
 pub use keys::End;
 pub use nodes::{NodeTableRows, read_nodes};
 pub use refusal::TableRefusal;
-pub use rels::{RelTableRows, read_rels};
+pub use rels::{RelTableRows, read_rels, read_rels_within};
 
 #[cfg(test)]
 mod tests;

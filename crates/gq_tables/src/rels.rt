@@ -25,11 +25,11 @@ pub struct RelTableRows {
     pub rels: RelRows,
 }
 
-// The keys at both ends of a relationship table.
-#[derive(Drop)]
-struct Ends<'g> {
-    sources: Keys<'g>,
-    targets: Keys<'g>,
+// The keys at both ends of a relationship table. They are one index where both ends are one node table.
+#[derive(Clone, Copy)]
+struct Ends<'k, 'g> {
+    sources: &'k Keys<'g>,
+    targets: &'k Keys<'g>,
 }
 
 /// The relationship table of a file with these bytes, of at most `limit` relationships, or the first refusal.
@@ -54,12 +54,56 @@ pub fn read_rels(
     ensures rels { IfOk result (λ table. list_all (is_rel table.fields (length source.entry.rows.now) (length target.entry.rows.now)) table.rels ≡ true) }
     ensures mult { IfOk result (λ table. keeps_mult mult table.rels ≡ true) }
 {
+    let sources = Keys::new(alloc, source)?;
+    let targets = Keys::new(alloc, target)?;
+    let ends = Ends {
+        sources: &sources,
+        targets: &targets,
+    };
+    read_table(alloc, bytes, ends, mult, limit)
+}
+
+/// The relationship table of a file with these bytes, both of whose ends are one node table: what `read_rels` answers,
+/// with one index of the keys in place of two.
+pub fn read_rels_within(
+    alloc: Global,
+    bytes: &[u8],
+    end: End<'_>,
+    mult: Mult,
+    limit: u32,
+) -> Result<RelTableRows, TableRefusal>
+    requires few_bytes { length bytes.now < 2 ^ 32 }
+    requires few_rows { length end.rows.now < 2 ^ 32 }
+    ensures answers { Answers (rel_table_of (seen_end end.entry) (seen_end end.entry) mult limit bytes.now) result }
+    ensures few { IfOk result (λ table. length table.rels ≤ limit) }
+    ensures fields { IfOk result (λ table. are_fields table.fields ≡ true) }
+    ensures rels { IfOk result (λ table. list_all (is_rel table.fields (length end.entry.rows.now) (length end.entry.rows.now)) table.rels ≡ true) }
+    ensures mult { IfOk result (λ table. keeps_mult mult table.rels ≡ true) }
+{
+    let keys = Keys::new(alloc, end)?;
+    let ends = Ends {
+        sources: &keys,
+        targets: &keys,
+    };
+    read_table(alloc, bytes, ends, mult, limit)
+}
+
+fn read_table(
+    alloc: Global,
+    bytes: &[u8],
+    ends: Ends<'_, '_>,
+    mult: Mult,
+    limit: u32,
+) -> Result<RelTableRows, TableRefusal>
+    requires few_bytes { length bytes.now < 2 ^ 32 }
+    ensures answers { Answers (rel_table_of (seen_end ends.entry.sources.now.end) (seen_end ends.entry.targets.now.end) mult limit bytes.now) result }
+    ensures few { IfOk result (λ table. length table.rels ≤ limit) }
+    ensures fields { IfOk result (λ table. are_fields table.fields ≡ true) }
+    ensures rels { IfOk result (λ table. list_all (is_rel table.fields (length ends.entry.sources.now.end.rows.now) (length ends.entry.targets.now.end.rows.now)) table.rels ≡ true) }
+    ensures mult { IfOk result (λ table. keeps_mult mult table.rels ≡ true) }
+{
     let mut reader = open_records(alloc, bytes);
     let fields = read_head(alloc, &mut reader, FileKind::Rels)?;
-    let ends = Ends {
-        sources: Keys::new(alloc, source)?,
-        targets: Keys::new(alloc, target)?,
-    };
     let rels = read_records(alloc, &mut reader, &ends, mult, fields.as_slice(), limit)?;
     Ok(RelTableRows { fields, rels })
 }
@@ -68,7 +112,7 @@ pub fn read_rels(
 fn read_records(
     alloc: Global,
     reader: &mut Reader<&[u8]>,
-    ends: &Ends<'_>,
+    ends: &Ends<'_, '_>,
     mult: Mult,
     fields: &[Field],
     limit: u32,
@@ -76,16 +120,11 @@ fn read_records(
     requires is_open { IsOpen reader.old }
     requires few_records { length (records_left reader.old) + 1 < 2 ^ 32 }
     requires few_fields { length fields.now + 2 < 2 ^ 32 }
-    ensures answers { Answers (take_rels (seen_end ends.now.sources.end) (seen_end ends.now.targets.end)
+    ensures answers { Answers (take_rels (seen_end ends.now.sources.now.end) (seen_end ends.now.targets.now.end)
         limit (length fields.now + 2) fields.now mult 2 [] (records_left reader.old)) result }
     ensures few { IfOk result (λ rels. length rels ≤ limit) }
 {
-    let mut sides = Sides::new(
-        alloc,
-        mult,
-        ends.sources.end.rows.len(),
-        ends.targets.end.rows.len(),
-    )?;
+    let mut sides = Sides::new(alloc, mult, ends.sources.count(), ends.targets.count())?;
     let mut texts = ByteRecord::new(alloc);
     let mut rels = Vec::new(alloc);
     while read_next(reader, &mut texts)? {
@@ -103,7 +142,7 @@ fn read_records(
 // The relationship of the record after so many relationships.
 fn read_rel(
     alloc: Global,
-    ends: &Ends<'_>,
+    ends: &Ends<'_, '_>,
     fields: &[Field],
     limit: u32,
     count: usize,
@@ -111,7 +150,7 @@ fn read_rel(
 ) -> Result<PlainRel, TableRefusal>
     requires few_rels { count + 2 < 2 ^ 32 }
     requires few_fields { length fields.now + 2 < 2 ^ 32 }
-    ensures { Answers (read_rel (seen_end ends.now.sources.end) (seen_end ends.now.targets.end)
+    ensures { Answers (read_rel (seen_end ends.now.sources.now.end) (seen_end ends.now.targets.now.end)
         limit (length fields.now + 2) fields.now (count + 2) count (fields_of texts.now)) result }
 {
     if count >= limit as usize {
@@ -127,13 +166,13 @@ fn read_rel(
 fn rel_of(
     alloc: Global,
     number: u32,
-    ends: &Ends<'_>,
+    ends: &Ends<'_, '_>,
     fields: &[Field],
     texts: &ByteRecord,
 ) -> Result<PlainRel, TableRefusal>
     requires wide { length (fields_of texts.now) ≡ length fields.now + 2 }
     requires few { length fields.now + 2 < 2 ^ 32 }
-    ensures { Answers (rel_of number (seen_end ends.now.sources.end) (seen_end ends.now.targets.end) fields.now
+    ensures { Answers (rel_of number (seen_end ends.now.sources.now.end) (seen_end ends.now.targets.now.end) fields.now
         (fields_of texts.now)) result }
 {
     let Some(from) = texts.get(0) else {
@@ -142,8 +181,8 @@ fn rel_of(
     let Some(to) = texts.get(1) else {
         return Err(TableRefusal::FieldCount { number });
     };
-    let source = read_end(number, 1, &ends.sources, from)?;
-    let target = read_end(number, 2, &ends.targets, to)?;
+    let source = read_end(number, 1, ends.sources, from)?;
+    let target = read_end(number, 2, ends.targets, to)?;
     let cells = Vec::with_capacity(alloc, fields.len())?;
     let cells = read_cells(alloc, number, 2, fields, texts, cells)?;
     Ok(PlainRel {

@@ -1,7 +1,9 @@
 //! Tables that are read, and each refusal at its first place and just not there, worked out by hand from the format.
 ghost use Rattle.std.specs.Prelude.{◌<◌, ◌^◌, length};
 
-use crate::{End, NodeTableRows, RelTableRows, TableRefusal, read_nodes, read_rels};
+use crate::{
+    End, NodeTableRows, RelTableRows, TableRefusal, read_nodes, read_rels, read_rels_within,
+};
 use gq_base::{Cell, Field, Kind, Mult, Row};
 use std::fmt::Write;
 use std::test::Fail;
@@ -475,5 +477,34 @@ fn keys_that_share_a_slot(rt: HostRuntime) -> Result<(), Fail> {
         let got = rels(&rt, kind, targets, Mult::ManyMany, file.as_bytes())?;
         assert_eq!(rt; got.as_str(), table, "at {file}");
     }
+    Ok(())
+}
+
+// What a file of relationships between people is read as, where each has but one.
+fn rels_within(rt: &HostRuntime, bytes: &[u8]) -> Result<String, Fail> {
+    let mut text = String::new(rt.alloc());
+    if bytes.len() > 65536 {
+        return Err(Fail::from("too long"));
+    }
+    let Ok(people) = read_nodes(rt.alloc(), PEOPLE.as_bytes(), 9) else {
+        return Err(Fail::from("no nodes"));
+    };
+    let end = End {
+        kind: Kind::Int,
+        rows: people.rows.as_slice(),
+    };
+    match read_rels_within(rt.alloc(), bytes, end, Mult::OneOne, 5) {
+        Ok(table) => write_rels(&mut text, &table)?,
+        Err(refusal) => write!(text, "{refusal:?}")?,
+    }
+    Ok(text)
+}
+
+#[test]
+fn rel_tables_within_one_node_table(rt: HostRuntime) -> Result<(), Fail> {
+    let pairs = rels_within(&rt, b"from,to\n1,2\n2,007\n7,1\n")?;
+    assert_eq!(rt; pairs.as_str(), " 0>1| 1>3| 3>0|");
+    let twice = rels_within(&rt, b"from,to\n1,2\n3,2\n")?;
+    assert_eq!(rt; twice.as_str(), "NotSingle { number: 3 }");
     Ok(())
 }

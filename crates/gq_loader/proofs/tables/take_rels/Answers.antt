@@ -2,8 +2,8 @@ use Rattle.std.proofs.Common.{◌≡◌, ◌≤◌, ◌^◌, Some, sym, ap, ◌�
 use Rattle.std.specs.Prelude.{slice_get, slice_set}
 use Rattle.gq_base.specs.Catalogs.{Tables}
 use Rattle.gq_base.specs.Valid.{row_count}
-use Rattle.gq_tables.specs.Rels.{KeyTable}
 use Rattle.gq_loader.proofs.Keeping.{count_at, rels_valid}
+use Rattle.gq_loader.specs.Loads.{end_of}
 use Rattle.gq_loader.proofs.tables.take_rels.Goals as goal
 
 pub returns-clause-valid : goal.returns-clause-valid
@@ -15,8 +15,8 @@ returns-clause-valid g c =
     let t = c.rel_table-table.result.now in
     let few : length read.rels ≤ 2 ^ 25 = omega (arith, good.few, c.requires.within.rels) in
     let is : slice_get old.catalog.rels c.args.number ≡ Some t = sym (c.rel_table-table.ensures ∙ ap (λ (k : Tables). slice_get k.rels c.args.number) c.catalog.ensures.value) in
-    let sources : length c.end_of-source.result.rows.now ≡ row_count old.nodes t.from = ap (λ (e : KeyTable). length e.rows) c.end_of-source.ensures ∙ count_at (slice_get old.nodes t.from) in
-    let targets : length c.end_of-target.result.rows.now ≡ row_count old.nodes t.to = ap (λ (e : KeyTable). length e.rows) c.end_of-target.ensures ∙ count_at (slice_get old.nodes t.to) in
+    let sources : length (end_of old t.from).rows ≡ row_count old.nodes t.from = count_at (slice_get old.nodes t.from) in
+    let targets : length (end_of old t.to).rows ≡ row_count old.nodes t.to = count_at (slice_get old.nodes t.to) in
     rels_valid old new c.args.number t read.fields read.rels
     (c.set_rel_rows.ensures.catalog ∙ c.set_rel_fields.ensures.catalog) (c.set_rel_rows.ensures.nodes ∙ c.set_rel_fields.ensures.nodes)
     (c.set_rel_rows.ensures.rels ∙ ap (λ l. slice_set l c.args.number read.rels) c.set_rel_fields.ensures.rels)
