@@ -1,5 +1,11 @@
 pub mod Allowed
 pub mod Assignments
+pub mod Conditions
+pub mod Covers
+pub mod Known
+pub mod Law
+pub mod Meaning
 pub mod Reads
 pub mod Soundness
+pub mod Steps
 pub mod Variables
