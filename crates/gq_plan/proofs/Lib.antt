@@ -1,7 +1,9 @@
 pub mod Bags
 pub mod BoundReads
 pub mod Counts
+pub mod Demands
 pub mod Each
+pub mod FirstSteps
 pub mod Products
 pub mod ReadLemmas
 pub mod StepEquations

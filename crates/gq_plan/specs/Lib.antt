@@ -8,4 +8,5 @@ pub mod Meaning
 pub mod Reads
 pub mod Soundness
 pub mod Steps
+pub mod Times
 pub mod Variables

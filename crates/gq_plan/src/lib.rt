@@ -3,7 +3,9 @@
 #![tactic(auto)]
 
 mod bound;
+mod covering;
 mod demand;
+mod fitting;
 mod known;
 mod plan;
 mod reads;
@@ -11,7 +13,9 @@ mod typed;
 mod variable;
 
 pub use bound::{Bound, NamedExpr, SortExpr};
+pub use covering::covers;
 pub use demand::Demand;
+pub use fitting::{fits, is_single};
 pub use known::{Known, VariableSet};
 pub use plan::{Plan, Step, Way};
 pub use reads::PropertyReads;

@@ -1,0 +1,4 @@
+use Rattle.gq_plan.proofs.fitting.takes_extend.Goals as goal
+
+pub returns-clause-bound : goal.returns-clause-bound
+returns-clause-bound c = λ e i. record { nodes = c.insert-2.ensures i; rels = c.insert.ensures i }
