@@ -1,7 +1,7 @@
 //! Plans that take the paths of an alternative in text order.
 ghost use Rattle.std.specs.Prelude.{◌≡◌, ◌<◌, length, IfOk};
 ghost use Rattle.gq_order.specs.Drafts.{draft_of};
-ghost use Rattle.gq_order.specs.Given.{given_plan, with_path};
+ghost use Rattle.gq_order.specs.Given.{given_plan, with_path, with_paths, blank};
 ghost use Rattle.gq_plan.specs.Covers.{Covers};
 ghost use Rattle.gq_plan.specs.Soundness.{IsSound};
 ghost use Rattle.gq_plan.specs.Steps.{plan_of};
@@ -15,17 +15,25 @@ use std::alloc::Global;
 /// a scan of its first node. A path whose first node is bound goes on in the plan; any other becomes a side plan,
 /// which is joined on the nodes that both bind. Tests, pairs and loop exclusions come as soon as their variables are
 /// bound.
-#[tactic(auto, unfolding(crate::specs::Given::given_plan))]
 pub fn given(alloc: Global, typed: &Typed, catalog: &Catalog) -> Result<Plan, Memory>
     requires sound { IsSound catalog.now typed.now }
     requires begins { 0 < length typed.now.nodes }
-    ensures { IfOk result (λ p. plan_of p ≡ given_plan catalog.now typed.now) }
+    ensures covers { IfOk result (λ p. Covers catalog.now typed.now (plan_of p)) }
+    ensures plan { IfOk result (λ p. plan_of p ≡ given_plan catalog.now typed.now) }
+{
+    let draft = with_paths(alloc, typed, catalog)?;
+    Ok(draft.into_plan())
+}
+
+fn with_paths(alloc: Global, typed: &Typed, catalog: &Catalog) -> Result<Draft, Memory>
+    requires { IsSound catalog.now typed.now }
+    ensures { IfOk result (λ d. draft_of d ≡ with_paths catalog.now typed.now blank typed.now.paths) }
 {
     let mut draft = Draft::blank(alloc);
     for path in typed.paths.as_slice() {
         draft = with_path(alloc, draft, path, typed, catalog)?;
     }
-    Ok(draft.into_plan())
+    Ok(draft)
 }
 
 fn with_path(

@@ -37,11 +37,11 @@ same_refl (Passes v) = eq-eqb v v refl
 same_refl (Differs v) = eq-eqb v v refl
 same_refl (IsNoLoop v) = eq-eqb v v refl
 
-one_bit : (b : Bool) → one b ≡ bit b
+pub one_bit : (b : Bool) → one b ≡ bit b
 one_bit true = refl
 one_bit false = refl
 
-times_hits : (d : Demand) (es : List Demand) → times d es ≡ hits (same_demand d) es
+pub times_hits : (d : Demand) (es : List Demand) → times d es ≡ hits (same_demand d) es
 times_hits d [] = refl
 times_hits d (e ∷ es) = ap₂ ◌+◌ (one_bit (same_demand d e)) (times_hits d es)
 
@@ -73,7 +73,7 @@ module _ (q : Demand → Bool) (d : Demand) where
 -- ---- the demands of an alternative
 
 -- an alternative has what a demand names
-abbrev is_demand : Typed → Demand → Bool
+abbrev pub is_demand : Typed → Demand → Bool
 is_demand y (InTable v) = ltb v (length y.nodes)
 is_demand y (Joins x) = ltb x (length y.rels)
 is_demand y (Passes i) = ltb i (length y.tests)
@@ -96,18 +96,18 @@ demands_once p y = simp (list_all-append, list_all-map, and_assoc)
 
 -- ---- the demands of an alternative, each once
 
-times_map : (d : Demand) (f : ℕ → Demand) (ns : List ℕ) → times d (map f ns) ≡ hits (λ k. same_demand d (f k)) ns
+pub times_map : (d : Demand) (f : ℕ → Demand) (ns : List ℕ) → times d (map f ns) ≡ hits (λ k. same_demand d (f k)) ns
 times_map d f ns = times_hits d (map f ns) ∙ total_map (λ e. bit (same_demand d e)) f ns
 
 -- a demand of another kind is none of these
-others : (ns : List ℕ) → hits (λ k. false) ns ≡ 0
+pub others : (ns : List ℕ) → hits (λ k. false) ns ≡ 0
 others ns = total_none (λ k. bit false) (λ k. refl) ns
 
-below : (n m : ℕ) → hits (λ k. eqb n k) (range_with_len 0 m) ≡ one (ltb n m)
+pub below : (n m : ℕ) → hits (λ k. eqb n k) (range_with_len 0 m) ≡ one (ltb n m)
 below n m = hits_range n 0 m (omega arith) ∙ ap (λ k. bit (ltb n k)) (zero-add m) ∙ sym (one_bit (ltb n m))
 
 -- those of a kind that a test keeps
-kept_below : (q : ℕ → Bool) (n m : ℕ) → hits (λ k. eqb n k) (filter q (range_with_len 0 m)) ≡ one (ltb n m && q n)
+pub kept_below : (q : ℕ → Bool) (n m : ℕ) → hits (λ k. eqb n k) (filter q (range_with_len 0 m)) ≡ one (ltb n m && q n)
 kept_below q n m =
     total_filter (λ k. bit (eqb n k)) q (range_with_len 0 m)
     ∙ total_same _ _ (λ k. at (q k) (eqb n k) ∙ same k (eqb n k) refl) (range_with_len 0 m)
@@ -180,14 +180,14 @@ demand_times y (IsNoLoop v) =
 
 -- ---- what a plan that fits meets
 
-holds_within : {X : Type 0} (test : X → Bool) (xs : List X) (i : ℕ) → holds test (slice_get xs i) ≡ true → ltb i (length xs) ≡ true
+pub holds_within : {X : Type 0} (test : X → Bool) (xs : List X) (i : ℕ) → holds test (slice_get xs i) ≡ true → ltb i (length xs) ≡ true
 holds_within {X} test xs i h = go (slice_get xs i) refl h
   where
     go : (found : Option X) → slice_get xs i ≡ found → holds test found ≡ true → ltb i (length xs) ≡ true
     go None e k = absurd (true≢false (sym k))
     go (Some x) e k = lt-ltb i (length xs) (slice_get_within xs i x e)
 
-abbrev IsNamed : Typed → Demand → Type 0
+abbrev pub IsNamed : Typed → Demand → Type 0
 IsNamed y d = is_demand y d ≡ true
 
 loop_is : (k : Known) (found : Option TypedRel) → holds (loop_bound k) found ≡ true → holds leaves_loops_out found ≡ true
@@ -222,7 +222,7 @@ mutual
 
 -- ---- what is covered
 
-all_named : (y : Typed) → AllByRecursion (IsNamed y) (demands y)
+pub all_named : (y : Typed) → AllByRecursion (IsNamed y) (demands y)
 unfolding demands
 all_named y =
     each_append (IsNamed y) _ (map IsNoLoop (no_loops y))
@@ -251,19 +251,18 @@ picked test d (e ∷ es) h k =
 named_once : (y : Typed) (d : Demand) → IsNamed y d → times d (demands y) ≡ 1
 named_once y d h = demand_times y d ∙ ap one h
 
-pub covers_if : (catalog : Tables) (y : Typed) (p : Plan) → IsTrue (fits catalog y p none) → IsTrue (list_all (is_once p) (demands y)) → Covers catalog y p
-covers_if catalog y p h all = record {
+pub covers_each : (catalog : Tables) (y : Typed) (p : Plan) → fits catalog y p none ≡ true → ((d : Demand) → IsNamed y d → times d (placed p) ≡ 1) → Covers catalog y p
+covers_each catalog y p h each = record {
   fits = h;
   once =
-      permutation_from_hits same_demand same_refl same_is (IsNamed y) (placed p) (demands y) (placed_named catalog y p none h) (all_named y)
-      (λ d named.
-      sym (times_hits d (placed p))
-      ∙ eqb-true (times d (placed p)) 1 (picked (is_once p) d (demands y) (named_once y d named) all)
-      ∙ sym (named_once y d named)
-      ∙ times_hits d (demands y));
+    permutation_from_hits same_demand same_refl same_is (IsNamed y) (placed p) (demands y) (placed_named catalog y p none h) (all_named y)
+    (λ d named. sym (times_hits d (placed p)) ∙ each d named ∙ sym (named_once y d named) ∙ times_hits d (demands y));
 }
 
-total_sum : {X : Type 0} (f : X → ℕ) (xs : List X) → total f xs ≡ sum_by f xs
+pub covers_if : (catalog : Tables) (y : Typed) (p : Plan) → IsTrue (fits catalog y p none) → IsTrue (list_all (is_once p) (demands y)) → Covers catalog y p
+covers_if catalog y p h all = covers_each catalog y p h (λ d named. eqb-true (times d (placed p)) 1 (picked (is_once p) d (demands y) (named_once y d named) all))
+
+pub total_sum : {X : Type 0} (f : X → ℕ) (xs : List X) → total f xs ≡ sum_by f xs
 total_sum f [] = refl
 total_sum f (x ∷ xs) = ap (λ n. f x + n) (total_sum f xs) ∙ sym (sum_by-cons f x xs)
 
