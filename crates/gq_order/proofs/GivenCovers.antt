@@ -32,7 +32,7 @@ use Rattle.gq_plan.specs.declared.typed.TypedRel.{TypedRel}
 all_at : {X : Type 0} (P : X → Type 0) (xs : List X) (i : ℕ) (x : X) → All P xs → slice_get xs i ≡ Some x → P x
 all_at P xs i x h found = subst P (get_or_from_slice_get xs i x x found) (h i x (slice_get_within xs i x found))
 
-each_from_all : {X : Type 0} (P : X → Type 0) (xs : List X) → All P xs → AllByRecursion P xs
+pub each_from_all : {X : Type 0} (P : X → Type 0) (xs : List X) → All P xs → AllByRecursion P xs
 each_from_all P [] h = tt
 each_from_all P (x ∷ xs) h = (h 0 x (omega arith), each_from_all P xs (λ k d low. h (suc k) d (omega arith)))
 
@@ -64,19 +64,19 @@ module _ (catalog : Tables) (y : Typed) (ends : (x : ℕ) (r : TypedRel) → sli
   -- ---- one path
 
   -- what is needed of a path
-  record Fine (p : PathPart) : Type 0 where
-    starts : p.first < length y.nodes
-    joins : joined p.first (path_rels y p) ≡ true
+  pub record Fine (p : PathPart) : Type 0 where
+    pub starts : p.first < length y.nodes
+    pub joins : joined p.first (path_rels y p) ≡ true
 
   -- what a path makes of what is known
-  record Took (k : Known) (p : PathPart) (e : Draft) : Type 0 where
-    good : Good catalog y None e
-    grows : Grows k e.known
-    rels : (x : ℕ) → one (e.known.rels x) ≡ one (k.rels x) + count x p.rels
-    first : e.known.nodes p.first ≡ true
-    rights : (v : ℕ) → has_number (rights (path_rels y p)) v ≡ true → e.known.nodes v ≡ true
+  pub record Took (k : Known) (p : PathPart) (e : Draft) : Type 0 where
+    pub good : Good catalog y None e
+    pub grows : Grows k e.known
+    pub rels : (x : ℕ) → one (e.known.rels x) ≡ one (k.rels x) + count x p.rels
+    pub first : e.known.nodes p.first ≡ true
+    pub rights : (v : ℕ) → has_number (rights (path_rels y p)) v ≡ true → e.known.nodes v ≡ true
 
-  same_node : (v : ℕ) → (eqb v v || false) ≡ true
+  pub same_node : (v : ℕ) → (eqb v v || false) ≡ true
   same_node v = ap (λ b. b || false) (eq-eqb v v refl)
 
   took_on : (d : Draft) (p : PathPart) → Good catalog y None d → Fine p → d.known.nodes p.first ≡ true → ((x : ℕ) → one (d.known.rels x) + count x p.rels ≤ 1) → Took d.known p (with_rels catalog y None d p.rels)
@@ -84,7 +84,7 @@ module _ (catalog : Tables) (y : Typed) (ends : (x : ℕ) (r : TypedRel) → sli
       let e = rels_good catalog y ends None p.rels p.first d g bound fine.joins few in
       record { good = e.good; grows = e.grows; rels = e.rels; first = e.grows.nodes p.first bound; rights = e.rights }
 
-  took_first : (p : PathPart) → Fine p → ((x : ℕ) → count x p.rels ≤ 1) → Took none p (with_rels catalog y None (begun y None p.first) p.rels)
+  pub took_first : (p : PathPart) → Fine p → ((x : ℕ) → count x p.rels ≤ 1) → Took none p (with_rels catalog y None (begun y None p.first) p.rels)
   took_first p fine few =
       let e = took_on (begun y None p.first) p (begun_good catalog y None p.first fine.starts) fine (same_node p.first) (λ x. let h = few x in omega arith) in
       record {
@@ -123,7 +123,7 @@ module _ (catalog : Tables) (y : Typed) (ends : (x : ℕ) (r : TypedRel) → sli
       or_right true b m = refl
       or_right false b m = m
 
-  took : (d : Draft) (p : PathPart) → Good catalog y None d → Fine p → ((x : ℕ) → one (d.known.rels x) + count x p.rels ≤ 1) → Took d.known p (with_path catalog y d p)
+  pub took : (d : Draft) (p : PathPart) → Good catalog y None d → Fine p → ((x : ℕ) → one (d.known.rels x) + count x p.rels ≤ 1) → Took d.known p (with_path catalog y d p)
   took d p g fine few = subst (λ b. Took d.known p (cond b (cond (d.known.nodes p.first) on side) start)) (sym g.begun) (go (d.known.nodes p.first) refl)
     where
       on : Draft
@@ -142,18 +142,18 @@ module _ (catalog : Tables) (y : Typed) (ends : (x : ℕ) (r : TypedRel) → sli
   -- ---- all paths
 
   -- what is known and what the paths that are left name are all variables, each relationship once
-  record Splits (k : Known) (ps : List PathPart) : Type 0 where
-    rels : (x : ℕ) → one (k.rels x) + count x (flat_map (λ p. p.rels) ps) ≡ one (ltb x (length y.rels))
-    nodes : (v : ℕ) → v < length y.nodes → (k.nodes v || has_number (flat_map (path_nodes y) ps) v) ≡ true
+  pub record Splits (k : Known) (ps : List PathPart) : Type 0 where
+    pub rels : (x : ℕ) → one (k.rels x) + count x (flat_map (λ p. p.rels) ps) ≡ one (ltb x (length y.rels))
+    pub nodes : (v : ℕ) → v < length y.nodes → (k.nodes v || has_number (flat_map (path_nodes y) ps) v) ≡ true
 
-  few_of : (k : Known) (p : PathPart) (ps : List PathPart) → Splits k (p ∷ ps) → (x : ℕ) → one (k.rels x) + count x p.rels ≤ 1
+  pub few_of : (k : Known) (p : PathPart) (ps : List PathPart) → Splits k (p ∷ ps) → (x : ℕ) → one (k.rels x) + count x p.rels ≤ 1
   few_of k p ps h x =
       let a = h.rels x in
       let b = total_append (λ z. bit (eqb x z)) p.rels (flat_map (λ p. p.rels) ps) in
       let c = one_few (ltb x (length y.rels)) in
       omega arith
 
-  splits_on : (k : Known) (p : PathPart) (ps : List PathPart) (e : Draft) → Splits k (p ∷ ps) → Took k p e → Splits e.known ps
+  pub splits_on : (k : Known) (p : PathPart) (ps : List PathPart) (e : Draft) → Splits k (p ∷ ps) → Took k p e → Splits e.known ps
   splits_on k p ps e h t = record {
     rels = λ x.
         let a = h.rels x in
@@ -200,14 +200,14 @@ module _ (catalog : Tables) (y : Typed) (ends : (x : ℕ) (r : TypedRel) → sli
 -- ---- a sound alternative
 
 module _ (catalog : Tables) (y : Typed) (sound : IsSound catalog y) where
-  ends_of : (x : ℕ) (r : TypedRel) → slice_get y.rels x ≡ Some r → EndsFit catalog y r
+  pub ends_of : (x : ℕ) (r : TypedRel) → slice_get y.rels x ≡ Some r → EndsFit catalog y r
   ends_of x r found = all_at (EndsFit catalog y) y.rels x r sound.ends found
 
-  each_fine : (ps : List PathPart) → AllByRecursion (λ p. p.first < length y.nodes) ps → AllByRecursion (λ p. IsTrue (joined p.first (path_rels y p))) ps → AllByRecursion (Fine catalog y ends_of) ps
+  pub each_fine : (ps : List PathPart) → AllByRecursion (λ p. p.first < length y.nodes) ps → AllByRecursion (λ p. IsTrue (joined p.first (path_rels y p))) ps → AllByRecursion (Fine catalog y ends_of) ps
   each_fine [] f g = tt
   each_fine (p ∷ ps) f g = (record { starts = f.0; joins = g.0 }, each_fine ps f.1 g.1)
 
-  splits_first : Splits catalog y ends_of none y.paths
+  pub splits_first : Splits catalog y ends_of none y.paths
   splits_first = record {
     rels = λ x.
         zero-add (count x (flat_map (λ p. p.rels) y.paths))

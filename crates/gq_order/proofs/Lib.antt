@@ -1,8 +1,11 @@
 pub mod Drafts
 pub mod Due
 pub mod GivenCovers
+pub mod GivenParts
 pub mod Good
 pub mod Paths
 pub mod Runs
 pub mod Sides
+pub mod SidesOf
 pub mod Tables
+pub mod Worked
