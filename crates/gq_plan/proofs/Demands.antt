@@ -255,8 +255,8 @@ pub covers_each : (catalog : Tables) (y : Typed) (p : Plan) → fits catalog y p
 covers_each catalog y p h each = record {
   fits = h;
   once =
-    permutation_from_hits same_demand same_refl same_is (IsNamed y) (placed p) (demands y) (placed_named catalog y p none h) (all_named y)
-    (λ d named. sym (times_hits d (placed p)) ∙ each d named ∙ sym (named_once y d named) ∙ times_hits d (demands y));
+      permutation_from_hits same_demand same_refl same_is (IsNamed y) (placed p) (demands y) (placed_named catalog y p none h) (all_named y)
+      (λ d named. sym (times_hits d (placed p)) ∙ each d named ∙ sym (named_once y d named) ∙ times_hits d (demands y));
 }
 
 pub covers_if : (catalog : Tables) (y : Typed) (p : Plan) → IsTrue (fits catalog y p none) → IsTrue (list_all (is_once p) (demands y)) → Covers catalog y p

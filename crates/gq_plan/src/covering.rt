@@ -115,30 +115,10 @@ fn times_in_step(step: &Step, demand: Demand) -> u32
 {
     match step {
         Step::Scan { node } => once(demand, Demand::InTable(*node as usize)),
-        Step::Extend {
-            rel,
-            from: _,
-            to,
-            direction: _,
-        } => once_of_two(demand, *rel, *to),
-        Step::ColumnExtend {
-            rel,
-            from: _,
-            to,
-            direction: _,
-        } => once_of_two(demand, *rel, *to),
-        Step::Close {
-            rel,
-            from: _,
-            to: _,
-            direction: _,
-        } => once(demand, Demand::Joins(*rel as usize)),
-        Step::ColumnClose {
-            rel,
-            from: _,
-            to: _,
-            direction: _,
-        } => once(demand, Demand::Joins(*rel as usize)),
+        Step::Extend { rel, to, .. } => once_of_two(demand, *rel, *to),
+        Step::ColumnExtend { rel, to, .. } => once_of_two(demand, *rel, *to),
+        Step::Close { rel, .. } => once(demand, Demand::Joins(*rel as usize)),
+        Step::ColumnClose { rel, .. } => once(demand, Demand::Joins(*rel as usize)),
         Step::Join { side, keys } => {
             if is_key(demand, keys.as_slice()) {
                 0

@@ -67,45 +67,25 @@ fn takes_step(step: &Step, typed: &Typed, catalog: &Catalog, known: &mut Known) 
             from,
             to,
             direction,
-        } => takes_extend(
-            following(false, *rel, *from, *to, *direction),
-            typed,
-            catalog,
-            known,
-        ),
+        } => following(false, *rel, *from, *to, *direction).extends(typed, catalog, known),
         Step::ColumnExtend {
             rel,
             from,
             to,
             direction,
-        } => takes_extend(
-            following(true, *rel, *from, *to, *direction),
-            typed,
-            catalog,
-            known,
-        ),
+        } => following(true, *rel, *from, *to, *direction).extends(typed, catalog, known),
         Step::Close {
             rel,
             from,
             to,
             direction,
-        } => takes_close(
-            following(false, *rel, *from, *to, *direction),
-            typed,
-            catalog,
-            known,
-        ),
+        } => following(false, *rel, *from, *to, *direction).closes(typed, catalog, known),
         Step::ColumnClose {
             rel,
             from,
             to,
             direction,
-        } => takes_close(
-            following(true, *rel, *from, *to, *direction),
-            typed,
-            catalog,
-            known,
-        ),
+        } => following(true, *rel, *from, *to, *direction).closes(typed, catalog, known),
         Step::Join { side, keys } => {
             let mut own = Known::none();
             takes_plan(side.get(), typed, catalog, &mut own)
@@ -125,6 +105,41 @@ struct Follow {
     from: u32,
     to: u32,
     direction: Way,
+}
+
+impl Follow {
+    fn extends(self, typed: &Typed, catalog: &Catalog, known: &mut Known) -> bool
+        requires { IsSound catalog.now typed.now }
+        ensures value { result ≡ fits_extend catalog.now typed.now self.column self.rel self.from self.to self.direction (known_of known.old) }
+        ensures bound { result ≡ true → known_of known.new ≡ with_node self.to (with_rel self.rel (known_of known.old)) }
+    {
+        if !(follows(self, typed, catalog)
+            && !known.rels.has(self.rel)
+            && known.nodes.has(self.from)
+            && is_new(self.to, typed, *known))
+        {
+            return false;
+        }
+        known.rels.insert(self.rel);
+        known.nodes.insert(self.to);
+        true
+    }
+
+    fn closes(self, typed: &Typed, catalog: &Catalog, known: &mut Known) -> bool
+        requires { IsSound catalog.now typed.now }
+        ensures value { result ≡ fits_close catalog.now typed.now self.column self.rel self.from self.to self.direction (known_of known.old) }
+        ensures bound { result ≡ true → known_of known.new ≡ with_rel self.rel (known_of known.old) }
+    {
+        if !(follows(self, typed, catalog)
+            && !known.rels.has(self.rel)
+            && known.nodes.has(self.from)
+            && known.nodes.has(self.to))
+        {
+            return false;
+        }
+        known.rels.insert(self.rel);
+        true
+    }
 }
 
 fn following(column: bool, rel: u32, from: u32, to: u32, direction: Way) -> Follow
@@ -155,39 +170,6 @@ fn is_new(node: u32, typed: &Typed, known: Known) -> bool
     ensures { result ≡ fit.is_new typed.now (known_of known) node }
 {
     (node as usize) < typed.nodes.len() && !known.nodes.has(node)
-}
-
-fn takes_extend(follow: Follow, typed: &Typed, catalog: &Catalog, known: &mut Known) -> bool
-    requires { IsSound catalog.now typed.now }
-    ensures value { result ≡ fits_extend catalog.now typed.now follow.column follow.rel follow.from follow.to follow.direction (known_of known.old) }
-    ensures bound { result ≡ true → known_of known.new ≡ with_node follow.to (with_rel follow.rel (known_of known.old)) }
-{
-    if !(follows(follow, typed, catalog)
-        && !known.rels.has(follow.rel)
-        && known.nodes.has(follow.from)
-        && is_new(follow.to, typed, *known))
-    {
-        return false;
-    }
-    known.rels.insert(follow.rel);
-    known.nodes.insert(follow.to);
-    true
-}
-
-fn takes_close(follow: Follow, typed: &Typed, catalog: &Catalog, known: &mut Known) -> bool
-    requires { IsSound catalog.now typed.now }
-    ensures value { result ≡ fits_close catalog.now typed.now follow.column follow.rel follow.from follow.to follow.direction (known_of known.old) }
-    ensures bound { result ≡ true → known_of known.new ≡ with_rel follow.rel (known_of known.old) }
-{
-    if !(follows(follow, typed, catalog)
-        && !known.rels.has(follow.rel)
-        && known.nodes.has(follow.from)
-        && known.nodes.has(follow.to))
-    {
-        return false;
-    }
-    known.rels.insert(follow.rel);
-    true
 }
 
 // Whether the alternative has a relationship that goes so.

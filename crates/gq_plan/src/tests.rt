@@ -1,7 +1,7 @@
-//! What small expressions read, worked out by hand.
+//! What small expressions read, whether that is bound, and which types are single on a way, worked out by hand.
 
-use crate::{PropertyReads, Variable};
-use gq_base::{Boxed, List, Literal, Memory, Text};
+use crate::{Known, PropertyReads, Variable, Way, is_single};
+use gq_base::{Boxed, List, Literal, Memory, Mult, Text};
 use gq_expr::{Expr, Tester};
 use std::alloc::Global;
 use std::test::Fail;
@@ -63,5 +63,28 @@ fn operands_of_tests_are_read(rt: HostRuntime) -> Result<(), Fail> {
 #[test]
 fn nodes_and_relationships_are_told_apart(rt: HostRuntime) -> Result<(), Fail> {
     assert_eq!(rt; count_of_two(rt.alloc())?, 2);
+    Ok(())
+}
+
+#[test]
+fn types_are_single_on_a_way(rt: HostRuntime) -> Result<(), Fail> {
+    assert_eq!(rt; is_single(Mult::ManyOne, Way::Forward), true);
+    assert_eq!(rt; is_single(Mult::ManyOne, Way::Backward), false);
+    assert_eq!(rt; is_single(Mult::OneMany, Way::Forward), false);
+    assert_eq!(rt; is_single(Mult::OneMany, Way::Backward), true);
+    assert_eq!(rt; is_single(Mult::OneOne, Way::Backward), true);
+    assert_eq!(rt; is_single(Mult::ManyMany, Way::Forward), false);
+    Ok(())
+}
+
+// The expression reads two node variables, of which first one and then both are bound.
+#[test]
+fn an_expression_is_bound_with_all_its_variables(rt: HostRuntime) -> Result<(), Fail> {
+    let expr = coalesced(rt.alloc())?;
+    let mut known = Known::none();
+    known.nodes.insert(0);
+    assert_eq!(rt; known.binds_all(&expr), false);
+    known.nodes.insert(1);
+    assert_eq!(rt; known.binds_all(&expr), true);
     Ok(())
 }
