@@ -1,0 +1,3 @@
+//! The laws of plans: what a covering plan makes is what its alternative allows.
+#![tactic(auto)]
+
