@@ -1,5 +1,5 @@
 -- Nodes and relationships of tables, counted against an assignment; which demands it meets, and which partial assignments it extends.
-use Rattle.std.proofs.Common.{◌≡◌, ℕ, zero, suc, ◌+◌, ◌<◌, Bool, true, false, not, ◌&&◌, cond, nat_eq, nat_lt, Option, Some, None, List, [], ◌∷◌, ◌++◌, length, slice_get, refl, sym, ap, ap₂, ◌∙◌, subst, arith, zero-add, true≢false}
+use Rattle.std.proofs.Common.{◌≡◌, ℕ, Bool, true, false, ◌&&◌, cond, nat_eq, nat_lt, Option, Some, None, List, length, slice_get, refl, sym, ap, ap₂, ◌∙◌, arith, zero-add, true≢false}
 use Rattle.std.specs.List.{range_with_len, list_all}
 use Rattle.std.proofs.lemmas.Bool.{eqb-true, and_parts}
 use Rattle.std.proofs.lemmas.List.Folds.{list_all-append}
@@ -7,7 +7,7 @@ use Rattle.gq_base.specs.Plain.{Graph}
 use Rattle.gq_base.specs.declared.NodeId.{NodeId}
 use Rattle.gq_base.specs.declared.RelId.{RelId}
 use Rattle.gq_plan.specs.Allowed.{at_same, leads}
-use Rattle.gq_plan.specs.Assignments.{Assignment, row_of, rows_at, rels_at, nodes_of, rels_of, same_node, same_rel, is_node, is_rel}
+use Rattle.gq_plan.specs.Assignments.{Assignment, row_of, rows_at, rels_at, nodes_of, rels_of, same_rel, is_node, is_rel}
 use Rattle.gq_plan.specs.Conditions.{passes, differs, no_loop}
 use Rattle.gq_plan.specs.Known as known
 use Rattle.gq_plan.specs.Known.{Known}

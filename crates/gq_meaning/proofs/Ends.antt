@@ -1,5 +1,5 @@
 -- The ends of a valid graph's relationships are nodes of it.
-use Rattle.std.proofs.Common.{◌≡◌, ℕ, zero, suc, ◌<◌, Bool, true, false, ◌&&◌, nat_lt, Option, Some, None, List, [], ◌∷◌, length, slice_get, IsTrue, refl, sym, ap, ◌∙◌, subst, arith, true≢false}
+use Rattle.std.proofs.Common.{◌≡◌, ℕ, zero, suc, ◌<◌, Bool, true, nat_lt, Option, Some, None, List, [], ◌∷◌, length, slice_get, IsTrue, refl, sym, ap, ◌∙◌, arith, true≢false}
 use Rattle.std.specs.List.{list_all}
 use Rattle.std.proofs.lemmas.Bool.{ltb-true, and_parts}
 use Rattle.gq_base.specs.Lists.{all_zip}
@@ -22,7 +22,6 @@ pub all_get : {X : Type 0} (p : X → Bool) (xs : List X) → list_all p xs ≡ 
 all_get p [] h i x e = absurd (cc e)
 all_get p (z ∷ xs) h zero x e = let same : z ≡ x = cc in ap p (sym same) ∙ (and_parts (p z) (list_all p xs) h).0
 all_get p (z ∷ xs) h (suc i) x e = all_get p xs (and_parts (p z) (list_all p xs) h).1 i x e
-
 
 -- a relationship of a graph, with its table, and its ends in theirs
 pub record HasEnds (g : Graph) (r : RelId) : Type 0 where

@@ -1,8 +1,12 @@
 mod Counting
+mod Covering
+mod Demanded
 mod Ends
 mod Lookups
+mod Numbering
 mod Owning
 mod Permuted
 mod PlanCounts
 mod StepCounts
 mod Values
+pub mod Wholes

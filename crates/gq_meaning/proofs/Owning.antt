@@ -1,22 +1,20 @@
 -- What a plan binds it binds in one way: a look-up finds each binding, and what is bound is a variable of the alternative.
-use Rattle.std.proofs.Common.{◌≡◌, ℕ, zero, suc, ◌+◌, ◌<◌, Bool, true, false, not, ◌&&◌, ◌||◌, cond, nat_eq, nat_lt, Option, Some, None, List, [], ◌∷◌, ◌++◌, map, filter, flat_map, length, slice_get, ◌⊎◌, inl, inr, refl, sym, ap, ap₂, ◌∙◌, subst, arith, zero-add, true≢false}
-use Rattle.std.specs.List.{range_with_len, AllByRecursion, list_all, list_any}
-use Rattle.std.proofs.lemmas.Bool.{eqb-true, eq-eqb, ltb-true, and_parts, and_from, or_cases, or_parts}
+use Rattle.std.proofs.Common.{◌≡◌, ℕ, ◌<◌, Bool, true, false, not, ◌&&◌, ◌||◌, nat_eq, nat_lt, Option, Some, None, List, [], ◌∷◌, ◌++◌, length, slice_get, inl, inr, refl, sym, ap, ◌∙◌, subst, zero-add, true≢false}
+use Rattle.std.specs.List.{range_with_len, AllByRecursion, list_all}
+use Rattle.std.proofs.lemmas.Bool.{eqb-true, ltb-true, and_parts, or_cases}
 use Rattle.std.proofs.lemmas.Option.{slice_get_within}
 use Rattle.gq_base.specs.Plain.{Graph}
 use Rattle.gq_base.specs.declared.NodeId.{NodeId}
 use Rattle.gq_base.specs.declared.RelId.{RelId}
 use Rattle.gq_plan.specs.Allowed.{at_same}
-use Rattle.gq_plan.specs.Conditions.{passes, differs, no_loop}
 use Rattle.gq_plan.specs.Covers.{after, after_step, fits, fits_step, is_joined, is_new, goes}
 use Rattle.gq_plan.specs.Known as known
 use Rattle.gq_plan.specs.Known.{Known, none}
-use Rattle.gq_plan.specs.Meaning.{Partial, nothing, with_node, with_rel, with_all, look, row, near, far, nodes_for, rels_at, arrive, agree, holds, keep_if, mean, step}
+use Rattle.gq_plan.specs.Meaning.{Partial, nothing, with_node, with_rel, with_all, look, far, nodes_for, arrive, agree, holds, keep_if, mean, step}
 use Rattle.gq_plan.specs.Soundness.{has_number}
 use Rattle.gq_plan.specs.Steps.{Plan, Done, Then, Step, Scan, Extend, Close, Join, Keep, Differ, NoLoop}
 use Rattle.gq_plan.specs.declared.plan.Way.{Way}
 use Rattle.gq_plan.specs.declared.typed.Typed.{Typed}
-use Rattle.gq_plan.specs.declared.typed.TypedRel.{TypedRel}
 use Rattle.gq_plan.proofs.Each.{each_of, each_map, each_flat_map, each_kept}
 use Rattle.gq_meaning.proofs.Counting.{known_by, known_by_all, at_same_is}
 use Rattle.gq_meaning.proofs.Lookups.{bound, bound_append, holds_some, Found, found_bind, found_join}

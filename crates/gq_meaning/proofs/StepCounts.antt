@@ -1,5 +1,5 @@
 -- What one step makes of a partial assignment, counted against an assignment that extends it.
-use Rattle.std.proofs.Common.{◌≡◌, ℕ, zero, suc, ◌+◌, ◌<◌, Bool, true, false, not, ◌&&◌, ◌||◌, cond, nat_eq, nat_lt, Option, Some, None, List, [], ◌∷◌, ◌++◌, map, filter, flat_map, length, slice_get, option_map, IsTrue, refl, sym, ap, ap₂, ◌∙◌, subst, arith, true≢false}
+use Rattle.std.proofs.Common.{◌≡◌, ℕ, ◌+◌, Bool, true, false, not, ◌&&◌, cond, nat_eq, nat_lt, Option, Some, None, List, [], ◌∷◌, filter, length, slice_get, option_map, IsTrue, refl, sym, ap, ap₂, ◌∙◌, subst, true≢false}
 use Rattle.std.specs.List.{list_all}
 use Rattle.std.proofs.lemmas.Bool.{eqb-true, eq-eqb, ltb-true, and_parts, and_from}
 use Rattle.std.proofs.lemmas.Option.{slice_get_within, get_or_from_slice_get}
@@ -9,10 +9,9 @@ use Rattle.gq_base.specs.Valid.{is_valid}
 use Rattle.gq_base.specs.declared.NodeId.{NodeId}
 use Rattle.gq_base.specs.declared.RelId.{RelId}
 use Rattle.gq_plan.specs.Allowed.{at_same, leads}
-use Rattle.gq_plan.specs.Assignments.{Assignment, row_of, rows_at, nodes_of, rels_of, source, target, source_in, target_in, is_node, is_rel}
+use Rattle.gq_plan.specs.Assignments.{Assignment, row_of, nodes_of, rels_of, source, target, source_in, target_in, is_node, is_rel}
 use Rattle.gq_plan.specs.Conditions.{passes, differs, no_loop}
 use Rattle.gq_plan.specs.Covers.{start_of, end_of, goes, fits_step, test_bound, pair_bound, loop_bound}
-use Rattle.gq_plan.specs.Known.{Known}
 use Rattle.gq_plan.specs.Meaning.{Partial, with_node, with_rel, look, row, near, far, nodes_for, rels_at, arrive, holds, keep_if, step}
 use Rattle.gq_plan.specs.Soundness.{EndsFit, IsSound}
 use Rattle.gq_plan.specs.Steps.{Scan, Extend, Close, Keep, Differ, NoLoop}
