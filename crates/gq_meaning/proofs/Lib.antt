@@ -9,4 +9,5 @@ mod Permuted
 mod PlanCounts
 mod StepCounts
 mod Values
+mod Worked
 pub mod Wholes
