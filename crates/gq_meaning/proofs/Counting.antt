@@ -1,6 +1,7 @@
 -- Nodes and relationships of tables, counted against an assignment; which demands it meets, and which partial assignments it extends.
 use Rattle.std.proofs.Common.{◌≡◌, ℕ, Bool, true, false, ◌&&◌, cond, nat_eq, nat_lt, Option, Some, None, List, length, slice_get, refl, sym, ap, ap₂, ◌∙◌, arith, zero-add, true≢false}
 use Rattle.std.specs.List.{range_with_len, list_all}
+use Rattle.std.proofs.Math.Bool.{and_assoc}
 use Rattle.std.proofs.lemmas.Bool.{eqb-true, and_parts}
 use Rattle.std.proofs.lemmas.List.Folds.{list_all-append}
 use Rattle.gq_base.specs.Plain.{Graph}
@@ -20,21 +21,15 @@ use Rattle.gq_plan.proofs.Counts.{bit, hits, total_map, total_none, hits_at, hit
 use Rattle.gq_plan.proofs.Products.{same_node_is, same_rel_is}
 use Rattle.gq_meaning.proofs.Lookups.{bound, bound_append, look_is}
 
-pub and_assoc : (a b c : Bool) → ((a && b) && c) ≡ (a && (b && c))
-and_assoc true b c = refl
-and_assoc false b c = refl
-
 pub and_swap : (a b c : Bool) → (a && (b && c)) ≡ (b && (a && c))
 and_swap true true c = refl
 and_swap true false c = refl
 and_swap false true c = refl
 and_swap false false c = refl
 
-pub and_comm : (a b : Bool) → (a && b) ≡ (b && a)
-and_comm true true = refl
-and_comm true false = refl
-and_comm false true = refl
-and_comm false false = refl
+pub cond_both : (c h : Bool) → cond c (bit h) 0 ≡ bit (c && h)
+cond_both true h = refl
+cond_both false h = refl
 
 -- ---- tables counted
 

@@ -1,6 +1,7 @@
 -- A plan that covers an alternative meets its demands, and binds its variables.
 use Rattle.std.proofs.Common.{◌≡◌, ℕ, Bool, true, false, not, ◌&&◌, ◌||◌, nat_eq, ltb, List, ◌++◌, map, filter, length, slice_get, inl, inr, refl, sym, ap, ap₂, ◌∙◌, arith, zero-add, true≢false}
 use Rattle.std.specs.List.{range_with_len, list_all, list_any}
+use Rattle.std.proofs.Math.Bool.{or-false}
 use Rattle.std.proofs.lemmas.Bool.{eqb-true, ne_eqb, and_parts, or_cases, or_right}
 use Rattle.std.proofs.lemmas.List.Folds.{list_any-append, list_all-append}
 use Rattle.std.proofs.lemmas.List.Sorted.{list_any-IsPermutation}
@@ -14,7 +15,7 @@ use Rattle.gq_plan.specs.declared.demand.Demand.{Demand}
 use Rattle.gq_plan.specs.declared.demand.Demand.TheVariants.{InTable, Joins, Passes, Differs, IsNoLoop}
 use Rattle.gq_plan.specs.declared.typed.Typed.{Typed}
 use Rattle.gq_meaning.proofs.Owning.{all_numbers}
-use Rattle.gq_meaning.proofs.Permuted.{or_false, list_any_map, any_none, all_dropped, any_dropped, range_any}
+use Rattle.gq_meaning.proofs.Permuted.{list_any_map, any_none, all_dropped, any_dropped, range_any}
 use Rattle.gq_meaning.proofs.PlanCounts.{placed_all, placed_all_step}
 
 not_not : (b : Bool) → not b ≡ false → b ≡ true
@@ -36,7 +37,7 @@ is_joins v (Differs p) = false
 is_joins v (IsNoLoop x) = false
 
 or_last : (a c : Bool) → (a || c) ≡ ((a || false) || c)
-or_last a c = ap (λ b. b || c) (sym (or_false a))
+or_last a c = ap (λ b. b || c) (sym (or-false a))
 
 or_turn : (a b c : Bool) → (a || (b || c)) ≡ ((b || a) || c)
 or_turn true true c = refl
@@ -82,7 +83,7 @@ module _ (catalog : Tables) (y : Typed) (v : ℕ) where
     step_binds (Join side ks) k fit =
         let parts = and_parts (fits catalog y side none) (is_joined y ks (after side none) k) fit in
         let keys = and_parts (list_all (λ v. (after side none).nodes v && k.nodes v) ks) _ parts.1 in
-        go (has_number ks v) refl (plan_binds side none parts.0 ∙ or_false (list_any (is_table v) (placed side)))
+        go (has_number ks v) refl (plan_binds side none parts.0 ∙ or-false (list_any (is_table v) (placed side)))
         (λ e. (and_parts ((after side none).nodes v) (k.nodes v) (all_numbers (λ v. (after side none).nodes v && k.nodes v) ks keys.0 v e)).1)
       where
         go : (c : Bool) → has_number ks v ≡ c → (after side none).nodes v ≡ list_any (is_table v) (placed side) → (has_number ks v ≡ true → k.nodes v ≡ true)
@@ -110,7 +111,7 @@ module _ (catalog : Tables) (y : Typed) (v : ℕ) where
     step_joins (Close column x from to way) k = or_last (nat_eq v x) (k.rels v)
     step_joins (Join side ks) k =
         ap (λ b. b || k.rels v)
-        (plan_joins side none ∙ or_false (list_any (is_joins v) (placed side)) ∙ sym (any_dropped (λ d. not (is_key ks d)) (is_joins v) (joins_kept ks) (placed side)))
+        (plan_joins side none ∙ or-false (list_any (is_joins v) (placed side)) ∙ sym (any_dropped (λ d. not (is_key ks d)) (is_joins v) (joins_kept ks) (placed side)))
     step_joins (Keep i) k = refl
     step_joins (Differ p) k = refl
     step_joins (NoLoop x) k = refl
@@ -128,19 +129,19 @@ module _ (catalog : Tables) (y : Typed) (v : ℕ) where
   unfolding demands
   demands_table =
       any_demand (is_table v) (to (length y.nodes)) (to (length y.rels)) (to (length y.tests)) (to (length y.pairs)) (filter (λ x. holds leaves_loops_out (slice_get y.rels x)) (to (length y.rels)))
-      ∙ simp (any_none, or_false) (range_any v 0 (length y.nodes) (omega arith) ∙ ap (ltb v) (zero-add _))
+      ∙ simp (any_none, or-false) (range_any v 0 (length y.nodes) (omega arith) ∙ ap (ltb v) (zero-add _))
 
   demands_joins : list_any (is_joins v) (demands y) ≡ ltb v (length y.rels)
   unfolding demands
   demands_joins =
       any_demand (is_joins v) (to (length y.nodes)) (to (length y.rels)) (to (length y.tests)) (to (length y.pairs)) (filter (λ x. holds leaves_loops_out (slice_get y.rels x)) (to (length y.rels)))
-      ∙ simp (any_none, or_false) (range_any v 0 (length y.rels) (omega arith) ∙ ap (ltb v) (zero-add _))
+      ∙ simp (any_none, or-false) (range_any v 0 (length y.rels) (omega arith) ∙ ap (ltb v) (zero-add _))
 
   pub covers_nodes : (p : Plan) → Covers catalog y p → (after p none).nodes v ≡ ltb v (length y.nodes)
-  covers_nodes p covers = plan_binds p none covers.fits ∙ or_false (list_any (is_table v) (placed p)) ∙ list_any-IsPermutation (is_table v) (placed p) (demands y) covers.once ∙ demands_table
+  covers_nodes p covers = plan_binds p none covers.fits ∙ or-false (list_any (is_table v) (placed p)) ∙ list_any-IsPermutation (is_table v) (placed p) (demands y) covers.once ∙ demands_table
 
   pub covers_rels : (p : Plan) → Covers catalog y p → (after p none).rels v ≡ ltb v (length y.rels)
-  covers_rels p covers = plan_joins p none ∙ or_false (list_any (is_joins v) (placed p)) ∙ list_any-IsPermutation (is_joins v) (placed p) (demands y) covers.once ∙ demands_joins
+  covers_rels p covers = plan_joins p none ∙ or-false (list_any (is_joins v) (placed p)) ∙ list_any-IsPermutation (is_joins v) (placed p) (demands y) covers.once ∙ demands_joins
 
 -- the demands that joins leave out are met already
 module _ (catalog : Tables) (y : Typed) (met : Demand → Bool) where

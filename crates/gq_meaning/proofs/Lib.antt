@@ -1,13 +1,13 @@
-mod Counting
+pub mod Counting
 mod Covering
 mod Demanded
 mod Ends
-mod Lookups
+pub mod Lookups
 mod Numbering
 mod Owning
 mod Permuted
 mod PlanCounts
 mod StepCounts
 mod Values
-mod Worked
 pub mod Wholes
+pub mod Worked

@@ -9,11 +9,7 @@ use Rattle.gq_base.specs.declared.RelId.{RelId}
 use Rattle.gq_plan.specs.Assignments.{Assignment, tuples, assignments, nodes_of, all_nodes, rels_of, all_rels, rows_at, rels_at, same_node, same_rel, is_node, is_rel}
 use Rattle.gq_plan.proofs.Counts.{bit, hits, total_map, total_flat_map, total_same, hits_const_and, hits_and_const, hits_range, cond_and}
 use Rattle.gq_plan.proofs.Products.{same_list, same_assignment}
-use Rattle.gq_meaning.proofs.Counting.{hits_nodes_of, hits_rels_of}
-
-cond_both : (c h : Bool) → cond c (bit h) 0 ≡ bit (c && h)
-cond_both true h = refl
-cond_both false h = refl
+use Rattle.gq_meaning.proofs.Counting.{cond_both, hits_nodes_of, hits_rels_of}
 
 -- a list stands once among the lists of so many items where each of its items stands once, and else not at all
 list_hits : {X : Type 0} (same : X → X → Bool) (stands : X → Bool) (xs : List X) → ((x : X) → hits (same x) xs ≡ bit (stands x)) → (l : List X)

@@ -17,7 +17,7 @@ use Rattle.gq_plan.specs.declared.demand.Demand.{Demand}
 use Rattle.gq_plan.specs.declared.demand.Demand.TheVariants.{InTable, Joins, Passes, Differs, IsNoLoop}
 use Rattle.gq_plan.specs.declared.typed.Typed.{Typed}
 use Rattle.gq_plan.proofs.Counts.{bit, hits, total, total_map, total_flat_map, total_filter, hits_and_const}
-use Rattle.gq_meaning.proofs.Counting.{met, extends, known_by, extends_with_all, node_look}
+use Rattle.gq_meaning.proofs.Counting.{cond_both, met, extends, known_by, extends_with_all, node_look}
 use Rattle.gq_meaning.proofs.Lookups.{bound, look_some}
 use Rattle.gq_meaning.proofs.Owning.{Owns, owns_nothing, owns_mean, owns_step}
 use Rattle.gq_meaning.proofs.StepCounts.{scanned, extended, closed, tested, different, unlooped}
@@ -52,10 +52,6 @@ then_bit false false s = refl
 done_bit : (c : Bool) → bit c + 0 ≡ bit (c && true)
 done_bit true = refl
 done_bit false = refl
-
-cond_both : (c h : Bool) → cond c (bit h) 0 ≡ bit (c && h)
-cond_both true h = refl
-cond_both false h = refl
 
 join_bit : (p b c : Bool) → (b ≡ true → c ≡ true → p ≡ true) → cond p (bit (b && c)) 0 ≡ bit (b && c)
 join_bit true b c h = refl

@@ -1,6 +1,7 @@
 -- What one step makes of a partial assignment, counted against an assignment that extends it.
 use Rattle.std.proofs.Common.{◌≡◌, ℕ, ◌+◌, Bool, true, false, not, ◌&&◌, cond, nat_eq, nat_lt, Option, Some, None, List, [], ◌∷◌, filter, length, slice_get, option_map, IsTrue, refl, sym, ap, ap₂, ◌∙◌, subst, true≢false}
 use Rattle.std.specs.List.{list_all}
+use Rattle.std.proofs.Math.Bool.{and_assoc, and_comm}
 use Rattle.std.proofs.lemmas.Bool.{eqb-true, eq-eqb, ltb-true, and_parts, and_from}
 use Rattle.std.proofs.lemmas.Option.{slice_get_within, get_or_from_slice_get}
 use Rattle.std.specs.List.{All}
@@ -23,7 +24,7 @@ use Rattle.gq_plan.specs.declared.typed.RelPair.{RelPair}
 use Rattle.gq_plan.specs.declared.typed.Typed.{Typed}
 use Rattle.gq_plan.specs.declared.typed.TypedRel.{TypedRel}
 use Rattle.gq_plan.proofs.Counts.{bit, hits, total, total_map, total_flat_map, total_filter, total_same, hits_and_const}
-use Rattle.gq_meaning.proofs.Counting.{and_assoc, and_comm, is_in, is_rel_at, passes_in, joins, met, extends, known_by, hits_nodes_of, hits_rels_at, extends_with_node, extends_with_rel, at_same_is, node_look, rel_look}
+use Rattle.gq_meaning.proofs.Counting.{is_in, is_rel_at, passes_in, joins, met, extends, known_by, hits_nodes_of, hits_rels_at, extends_with_node, extends_with_rel, at_same_is, node_look, rel_look}
 use Rattle.gq_meaning.proofs.Ends.{HasEnds, ends_of}
 use Rattle.gq_meaning.proofs.Lookups.{bound, get_some, holds_some}
 use Rattle.gq_meaning.proofs.Values.{values_agree}

@@ -28,7 +28,7 @@ number n = Some (cell.Int (pos n))
 abbrev link : ℕ → ℕ → PlainRel
 link from to = record { source = from; target = to; cells = [] }
 
-abbrev g : Graph
+abbrev pub g : Graph
 g = record {
   catalog = record {
     nodes =
@@ -42,7 +42,7 @@ g = record {
   rels = (link 0 1 ∷ link 1 1 ∷ link 1 0 ∷ []) ∷ (link 0 0 ∷ link 1 0 ∷ []) ∷ [];
 }
 
-valid : IsTrue (is_valid g)
+pub valid : IsTrue (is_valid g)
 valid = refl
 
 -- (b)-[:KNOWS]-(a)-[:LIVES_IN]->(c), with KNOWS read from right to left: the node variables in the order a, b, c
@@ -84,7 +84,7 @@ unfolding assignments tuples nodes_of all_nodes rels_of all_rels source target
 allowed = refl
 
 -- all that is said of each variable below a number
-below : (n : ℕ) (P : ℕ → Type 0) → AllByRecursion P (range_with_len 0 n) → (v : ℕ) → v < n → P v
+pub below : (n : ℕ) (P : ℕ → Type 0) → AllByRecursion P (range_with_len 0 n) → (v : ℕ) → v < n → P v
 below n P h v low = subst P (zero-add v) (go 0 n h v low)
   where
     go : (a n : ℕ) → AllByRecursion P (range_with_len a n) → (v : ℕ) → v < n → P (a + v)
