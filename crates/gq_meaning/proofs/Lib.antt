@@ -1,4 +1,4 @@
-pub mod Counting
+mod Counting
 mod Covering
 mod Demanded
 mod Ends
