@@ -1,0 +1,5 @@
+pub mod Picking
+pub mod Paging
+pub mod Validity
+pub mod Linking
+pub mod Reading

@@ -1,0 +1,4 @@
+pub mod Cells
+pub mod Neighbours
+pub mod Places
+pub mod Stored

@@ -1,0 +1,309 @@
+//! A graph as queries read it.
+ghost use Rattle.std.specs.Prelude.{◌≡◌, ◌≢◌, ◌+◌, ◌<◌, ◌≤◌, ◌^◌, true, false, length, slice_get, All, IfOk, IfSome, Some, None};
+ghost use Rattle.gq_adj.specs.Adjacent.{targets};
+ghost use Rattle.gq_base.specs.Plain.{cell_val};
+ghost use Rattle.gq_base.specs.Valid.{is_valid, row_count};
+ghost use Rattle.gq_base.specs.Values.{val};
+ghost use Rattle.gq_base.specs.declared.Mult.TheVariants.{ManyMany};
+ghost use Rattle.gq_store.specs.Cells.{node_cell, node_fields, rel_cell, rel_fields};
+ghost use Rattle.gq_store.specs.Neighbours.{is_listed, mult_at, near_ends, near_rows, neighbours, numbers, opposite, rels_at};
+ghost use Rattle.gq_store.specs.Places.{by_source, first_number, number_at};
+ghost use Rattle.gq_store.specs.Stored.{AreLinked, IsLinked, IsSide};
+
+use crate::direction::Direction;
+use crate::links::{Links, Places, Side, links_of};
+use gq_base::{Catalog, Memory, Value, cell_value};
+use gq_plain::PlainGraph;
+use std::alloc::Global;
+use std::marker::Model;
+
+/// A valid plain graph and, for each relationship table, the neighbours of each row in both directions and the places of
+/// the relationships. It is seen as that plain graph.
+///
+/// Tables, rows and load numbers are counted from 0. A load number tells a relationship's place among those of its table
+/// as they stand in the file; a place tells where its properties are kept. The place is the row of the source where a
+/// source has one relationship at most, else the row of the target where a target has one at most, else the number in
+/// the order of sources and, for each source, of load numbers.
+#[derive(Drop)]
+pub struct Graph {
+    plain: PlainGraph,
+    links: Vec<Links>,
+}
+
+impl Model for Graph {
+    ghost use Rattle.std.specs.Prelude.{◌≡◌, true};
+    ghost use Rattle.gq_base.specs.Plain.{Graph as Plain};
+    ghost use Rattle.gq_base.specs.Valid.{is_valid};
+
+    ghost Value = { Plain };
+
+    ghost use Rattle.gq_store.specs.Stored.{AreLinked};
+
+    ghost view = { λ g. g.plain };
+
+    ghost invariant = { λ g. (is_valid g.plain ≡ true) × AreLinked g.plain g.links.items };
+}
+
+impl Graph {
+    /// Stores a plain graph. It takes some steps for each row and for each relationship. After `Memory` the plain graph
+    /// is dropped.
+    pub fn build(alloc: Global, plain: PlainGraph) -> Result<Graph, Memory>
+        requires { is_valid plain ≡ true }
+        ensures { IfOk result (λ graph. graph ≡ plain) }
+    {
+        let links = all_links(alloc, &plain)?;
+        Ok(Graph { plain, links })
+    }
+
+    /// The tables with their fields.
+    pub fn catalog(&self) -> &Catalog
+        ensures value { result.now ≡ self.now.catalog }
+        ensures valid { is_valid self.now ≡ true }
+    {
+        let _ = &self.links;
+        self.plain.catalog()
+    }
+
+    /// How many rows a node table has.
+    pub fn node_count(&self, table: u32) -> u32
+        requires { table < length self.now.catalog.nodes }
+        ensures { result ≡ row_count self.now.nodes table }
+    {
+        self.plain.node_rows(table).len() as u32
+    }
+
+    /// How many relationships a relationship table has.
+    pub fn rel_count(&self, rel: u32) -> u32
+        requires { rel < length self.now.catalog.rels }
+        ensures { result ≡ length (rels_at self.now rel) }
+    {
+        self.plain.rel_rows(rel).len() as u32
+    }
+
+    /// Whether a row may have many relationships of a table in a direction. It is false forward where a source has one at
+    /// most, and backward where a target has one at most.
+    pub fn listed(&self, rel: u32, direction: Direction) -> bool
+        requires { rel < length self.now.catalog.rels }
+        ensures { result ≡ is_listed self.now rel direction }
+    {
+        matches!(self.side(rel, direction), Side::Listed(_))
+    }
+
+    /// The rows that a row's relationships lead to, in load order, where a row may have many. Nothing is copied.
+    pub fn list(&self, rel: u32, direction: Direction, row: u32) -> &[u32]
+        requires within { rel < length self.now.catalog.rels }
+        requires listed { is_listed self.now rel direction ≡ true }
+        requires row { row < near_rows self.now rel direction }
+        ensures neighbours { result.now ≡ neighbours self.now rel direction row }
+        ensures ends { All (λ other. other < near_rows self.now rel (opposite direction)) result.now }
+        ensures few { length result.now < 2 ^ 32 }
+    {
+        match self.side(rel, direction) {
+            Side::Listed(lists) => lists.list(row),
+            Side::Single(_) => unreachable!(),
+        }
+    }
+
+    /// The row that a row's relationship leads to, where a row has one at most, or `None` where it has none.
+    pub fn single(&self, rel: u32, direction: Direction, row: u32) -> Option<u32>
+        requires within { rel < length self.now.catalog.rels }
+        requires single { is_listed self.now rel direction ≡ false }
+        requires row { row < near_rows self.now rel direction }
+        ensures neighbour { result ≡ slice_get (neighbours self.now rel direction row) 0 }
+        ensures one { length (neighbours self.now rel direction row) ≤ 1 }
+        ensures ends { IfSome result (λ other. other < near_rows self.now rel (opposite direction)) }
+    {
+        match self.side(rel, direction) {
+            Side::Listed(_) => unreachable!(),
+            Side::Single(column) => column.get(row),
+        }
+    }
+
+    /// The place of a row's relationship, by its position among the row's relationships in a direction.
+    pub fn edge_place(&self, rel: u32, direction: Direction, row: u32, position: u32) -> u32
+        requires within { rel < length self.now.catalog.rels }
+        requires row { row < near_rows self.now rel direction }
+        requires position { position < length (neighbours self.now rel direction row) }
+        ensures number { number_at self.now rel result ≡ slice_get (numbers self.now rel direction row) position }
+        ensures there { number_at self.now rel result ≢ None }
+    {
+        match &self.links(rel).places {
+            Places::Sources => self.end(rel, direction, row, position, Direction::Forward),
+            Places::Targets => self.end(rel, direction, row, position, Direction::Backward),
+            Places::Paged(_) => match direction {
+                Direction::Forward => self.forward_place(rel, row, position),
+                Direction::Backward => self.backward_place(rel, row, position),
+            },
+        }
+    }
+
+    /// The load number of the relationship at a place.
+    pub fn edge_number(&self, rel: u32, place: u32) -> u32
+        requires within { rel < length self.now.catalog.rels }
+        requires there { number_at self.now rel place ≢ None }
+        ensures number { number_at self.now rel place ≡ Some result }
+        ensures below { result < length (rels_at self.now rel) }
+    {
+        match &self.links(rel).places {
+            Places::Sources => self.first_number(rel, Direction::Forward, place),
+            Places::Targets => self.first_number(rel, Direction::Backward, place),
+            Places::Paged(pages) => pages.number_at(place),
+        }
+    }
+
+    /// The place of the relationship with a load number.
+    pub fn number_place(&self, rel: u32, number: u32) -> u32
+        requires within { rel < length self.now.catalog.rels }
+        requires number { number < length (rels_at self.now rel) }
+        ensures { number_at self.now rel result ≡ Some number }
+    {
+        let found = &self.plain.rel_rows(rel)[number as usize];
+        match &self.links(rel).places {
+            Places::Sources => found.source,
+            Places::Targets => found.target,
+            Places::Paged(pages) => pages.place_of(number),
+        }
+    }
+
+    /// The value of a property of a node, by the property's place in its table: null where the cell is.
+    pub fn node_value(&self, table: u32, property: u32, row: u32) -> Value<'_>
+        requires within { table < length self.now.catalog.nodes }
+        requires property { property < length (node_fields self.now table) }
+        requires row { row < row_count self.now.nodes table }
+        ensures { val result ≡ cell_val (node_cell self.now table property row) }
+    {
+        let cells = self.plain.node_rows(table)[row as usize].as_slice();
+        cell_value(&cells[property as usize])
+    }
+
+    /// The value of a property of the relationship with a load number, by the property's place in its table: null where
+    /// the cell is.
+    pub fn rel_value(&self, rel: u32, property: u32, number: u32) -> Value<'_>
+        requires within { rel < length self.now.catalog.rels }
+        requires property { property < length (rel_fields self.now rel) }
+        requires number { number < length (rels_at self.now rel) }
+        ensures { val result ≡ cell_val (rel_cell self.now rel property number) }
+    {
+        let found = &self.plain.rel_rows(rel)[number as usize];
+        let cells = found.cells.as_slice();
+        cell_value(&cells[property as usize])
+    }
+
+    // How the relationships of a table are kept.
+    fn links(&self, rel: u32) -> &Links
+        requires { rel < length self.now.catalog.rels }
+        ensures valid { is_valid self.now ≡ true }
+        ensures linked { IsLinked self.now rel result.now }
+    {
+        &self.links[rel as usize]
+    }
+
+    // The relationships of a table in a direction.
+    fn side(&self, rel: u32, direction: Direction) -> &Side
+        requires { rel < length self.now.catalog.rels }
+        ensures valid { is_valid self.now ≡ true }
+        ensures side { IsSide (is_listed self.now rel direction) (near_rows self.now rel direction)
+            (near_ends self.now rel direction) (near_ends self.now rel (opposite direction)) result.now }
+    {
+        let links = self.links(rel);
+        match direction {
+            Direction::Forward => &links.forward,
+            Direction::Backward => &links.backward,
+        }
+    }
+
+    // The row that one of a row's relationships leads to.
+    fn neighbour(&self, rel: u32, direction: Direction, row: u32, position: u32) -> u32
+        requires within { rel < length self.now.catalog.rels }
+        requires row { row < near_rows self.now rel direction }
+        requires position { position < length (neighbours self.now rel direction row) }
+        ensures { slice_get (neighbours self.now rel direction row) position ≡ Some result }
+    {
+        if self.listed(rel, direction) {
+            self.list(rel, direction, row)[position as usize]
+        } else {
+            match self.single(rel, direction, row) {
+                Some(other) => other,
+                None => unreachable!(),
+            }
+        }
+    }
+
+    // The row at an end of one of a row's relationships: the end from which relationships are followed in the direction `at`.
+    fn end(&self, rel: u32, direction: Direction, row: u32, position: u32, at: Direction) -> u32
+        requires within { rel < length self.now.catalog.rels }
+        requires row { row < near_rows self.now rel direction }
+        requires position { position < length (neighbours self.now rel direction row) }
+        ensures { slice_get (targets row (near_ends self.now rel direction) (near_ends self.now rel at)) position ≡ Some result }
+    {
+        match (direction, at) {
+            (Direction::Forward, Direction::Forward) | (Direction::Backward, Direction::Backward) =>
+                row,
+            (Direction::Forward, Direction::Backward) | (Direction::Backward, Direction::Forward) =>
+                { self.neighbour(rel, direction, row, position) }
+        }
+    }
+
+    // The place of a source's relationship in pages.
+    fn forward_place(&self, rel: u32, row: u32, position: u32) -> u32
+        requires within { rel < length self.now.catalog.rels }
+        requires many { mult_at self.now rel ≡ Some ManyMany }
+        requires row { row < near_rows self.now rel Direction.Forward }
+        requires position { position < length (neighbours self.now rel Direction.Forward row) }
+        ensures { slice_get (by_source self.now rel) result ≡ slice_get (numbers self.now rel Direction.Forward row) position }
+    {
+        match &self.links(rel).forward {
+            Side::Listed(lists) => lists.start(row) + position,
+            Side::Single(_) => unreachable!(),
+        }
+    }
+
+    // The place of a target's relationship in pages.
+    fn backward_place(&self, rel: u32, row: u32, position: u32) -> u32
+        requires within { rel < length self.now.catalog.rels }
+        requires many { mult_at self.now rel ≡ Some ManyMany }
+        requires row { row < near_rows self.now rel Direction.Backward }
+        requires position { position < length (neighbours self.now rel Direction.Backward row) }
+        ensures { slice_get (by_source self.now rel) result ≡ slice_get (numbers self.now rel Direction.Backward row) position }
+    {
+        let links = self.links(rel);
+        let Places::Paged(pages) = &links.places else {
+            unreachable!()
+        };
+        let Side::Listed(lists) = &links.backward else {
+            unreachable!()
+        };
+        let source = lists.list(row)[position as usize];
+        let offset = lists.notes(row)[position as usize];
+        pages.place(source, offset)
+    }
+
+    // The load number of the relationship of a row, which has one at most.
+    fn first_number(&self, rel: u32, direction: Direction, row: u32) -> u32
+        requires within { rel < length self.now.catalog.rels }
+        requires single { is_listed self.now rel direction ≡ false }
+        requires there { first_number self.now rel direction row ≢ None }
+        ensures { first_number self.now rel direction row ≡ Some result }
+    {
+        let Side::Single(column) = self.side(rel, direction) else {
+            unreachable!()
+        };
+        match column.number(row) {
+            Some(number) => number,
+            None => unreachable!(),
+        }
+    }
+}
+
+// The links of each relationship table.
+fn all_links(alloc: Global, plain: &PlainGraph) -> Result<Vec<Links>, Memory>
+    requires { is_valid plain.now ≡ true }
+    ensures { IfOk result (λ all. AreLinked plain.now all.items) }
+{
+    let tables = plain.catalog().rel_tables();
+    let mut all = Vec::with_capacity(alloc, tables as usize)?;
+    for rel in 0..tables {
+        all.push(links_of(alloc, plain, rel)?)?;
+    }
+    Ok(all)
+}
