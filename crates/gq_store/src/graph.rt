@@ -20,10 +20,10 @@ use std::marker::Model;
 /// A valid plain graph and, for each relationship table, the neighbours of each row in both directions and the places of
 /// the relationships. It is seen as that plain graph.
 ///
-/// Tables, rows and load numbers are counted from 0. A load number tells a relationship's place among those of its table
-/// as they stand in the file; a place tells where its properties are kept. The place is the row of the source where a
-/// source has one relationship at most, else the row of the target where a target has one at most, else the number in
-/// the order of sources and, for each source, of load numbers.
+/// Tables, rows and load numbers are counted from 0. The load number of a relationship is its number among those of its
+/// table as they stand in the file; its place goes by its ends. The place is the row of the source where a source has one
+/// relationship at most, else the row of the target where a target has one at most, else the number in the order of
+/// sources and, for each source, of load numbers.
 #[derive(Drop)]
 pub struct Graph {
     plain: PlainGraph,
