@@ -5,6 +5,7 @@ ghost use Rattle.gq_scopes.specs.Trees.{term_with, tester_with};
 
 use crate::calls::{CallForm, call};
 use crate::copies::{copy_literal, copy_literals};
+use crate::copying::Copying;
 use crate::parts::{
     all_of, any_of, compared, computed, contains, denied, ends, negated, one_of, starts, tested,
     with_plus,
@@ -16,8 +17,6 @@ use gq_syntax::{ArithTerm, Ast, AstNode, AstTester, CompareTerm, Tester as Teste
 use std::alloc::Global;
 
 /// The expression that a tree stands for, or `None` where it names what the scope does not have, or a call is none.
-#[cycle(resolve)]
-#[tactic(auto, using(crate::proofs::Resolved::resolved_out))]
 pub fn resolve(
     alloc: Global,
     calls: CallForm,
@@ -26,63 +25,104 @@ pub fn resolve(
 ) -> Result<Option<Expr>, Memory>
     ensures { IfOk result (λ e. e ≡ resolved (calls_of calls) scope.now tree.now) }
 {
+    resolve_part(alloc, &mut Copying::new(), calls, scope, tree)
+}
+
+/// The same, out of what may still be copied: each bare name that is a column copies the column's expression.
+#[cycle(resolve_part)]
+#[tactic(auto, using(crate::proofs::Resolved::resolved_out))]
+pub fn resolve_part(
+    alloc: Global,
+    copying: &mut Copying,
+    calls: CallForm,
+    scope: &Scope<'_>,
+    tree: &Ast,
+) -> Result<Option<Expr>, Memory>
+    ensures { IfOk result (λ e. e ≡ resolved (calls_of calls) scope.now tree.now) }
+{
     match &tree.node {
         AstNode::Literal(literal) => Ok(Some(Expr::Literal(copy_literal(alloc, literal)?))),
-        AstNode::Variable(name) => scope.bare(alloc, name),
+        AstNode::Variable(name) => scope.bare(alloc, copying, name),
         AstNode::Property(name, key) => scope.property(alloc, name, key),
-        AstNode::Call(name, all) => match resolve_all(alloc, calls, scope, all.as_slice())? {
+        AstNode::Call(name, all) => match resolve_all(
+            alloc,
+            copying,
+            calls,
+            scope,
+            all.as_slice(),
+        )? {
             Some(all) => call(alloc, calls, name, all),
             None => Ok(None),
         },
-        AstNode::Paren(inner) => resolve(alloc, calls, scope, inner.get()),
-        AstNode::Negate(inner) => Ok(negated(resolve_boxed(alloc, calls, scope, inner.get())?)),
-        AstNode::Plus(inner) => Ok(with_plus(resolve_boxed(alloc, calls, scope, inner.get())?)),
-        AstNode::Not(inner) => Ok(denied(resolve_boxed(alloc, calls, scope, inner.get())?)),
-        AstNode::Or(all) => Ok(any_of(resolve_all(alloc, calls, scope, all.as_slice())?)),
-        AstNode::Xor(all) => Ok(one_of(resolve_all(alloc, calls, scope, all.as_slice())?)),
-        AstNode::And(all) => Ok(all_of(resolve_all(alloc, calls, scope, all.as_slice())?)),
+        AstNode::Paren(inner) => resolve_part(alloc, copying, calls, scope, inner.get()),
+        AstNode::Negate(inner) => Ok(negated(resolve_boxed(
+            alloc,
+            copying,
+            calls,
+            scope,
+            inner.get(),
+        )?)),
+        AstNode::Plus(inner) => Ok(with_plus(resolve_boxed(
+            alloc,
+            copying,
+            calls,
+            scope,
+            inner.get(),
+        )?)),
+        AstNode::Not(inner) => Ok(denied(resolve_boxed(
+            alloc,
+            copying,
+            calls,
+            scope,
+            inner.get(),
+        )?)),
+        AstNode::Or(all) => Ok(any_of(resolve_all(alloc, copying, calls, scope, all.as_slice())?)),
+        AstNode::Xor(all) => Ok(one_of(resolve_all(alloc, copying, calls, scope, all.as_slice())?)),
+        AstNode::And(all) => Ok(all_of(resolve_all(alloc, copying, calls, scope, all.as_slice())?)),
         AstNode::Compare(first, terms) => {
-            let first = resolve_boxed(alloc, calls, scope, first.get())?;
-            let terms = resolve_compares(alloc, calls, scope, terms.as_slice())?;
+            let first = resolve_boxed(alloc, copying, calls, scope, first.get())?;
+            let terms = resolve_compares(alloc, copying, calls, scope, terms.as_slice())?;
             Ok(compared(first, terms))
         }
         AstNode::Test(first, testers) => {
-            let first = resolve_boxed(alloc, calls, scope, first.get())?;
-            let testers = resolve_testers(alloc, calls, scope, testers.as_slice())?;
+            let first = resolve_boxed(alloc, copying, calls, scope, first.get())?;
+            let testers = resolve_testers(alloc, copying, calls, scope, testers.as_slice())?;
             Ok(tested(first, testers))
         }
         AstNode::Sum(first, terms) => {
-            let first = resolve_boxed(alloc, calls, scope, first.get())?;
-            let terms = resolve_ariths(alloc, calls, scope, terms.as_slice())?;
+            let first = resolve_boxed(alloc, copying, calls, scope, first.get())?;
+            let terms = resolve_ariths(alloc, copying, calls, scope, terms.as_slice())?;
             Ok(computed(first, terms))
         }
         AstNode::Product(first, terms) => {
-            let first = resolve_boxed(alloc, calls, scope, first.get())?;
-            let terms = resolve_ariths(alloc, calls, scope, terms.as_slice())?;
+            let first = resolve_boxed(alloc, copying, calls, scope, first.get())?;
+            let terms = resolve_ariths(alloc, copying, calls, scope, terms.as_slice())?;
             Ok(computed(first, terms))
         }
     }
 }
 
-#[cycle(resolve)]
+#[cycle(resolve_part)]
 fn resolve_boxed(
     alloc: Global,
+    copying: &mut Copying,
     calls: CallForm,
     scope: &Scope<'_>,
     tree: &Ast,
 ) -> Result<Option<Boxed<Expr>>, Memory>
     ensures { IfOk result (λ e. e ≡ resolved (calls_of calls) scope.now tree.now) }
 {
-    match resolve(alloc, calls, scope, tree)? {
+    match resolve_part(alloc, copying, calls, scope, tree)? {
         Some(expr) => Ok(Some(Boxed::new(alloc, expr)?)),
         None => Ok(None),
     }
 }
 
-#[cycle(resolve)]
+#[cycle(resolve_part)]
 #[tactic(auto, using(crate::proofs::Resolved::gathering))]
 fn resolve_all(
     alloc: Global,
+    copying: &mut Copying,
     calls: CallForm,
     scope: &Scope<'_>,
     trees: &[Ast],
@@ -91,7 +131,7 @@ fn resolve_all(
 {
     let mut all = List::new(alloc);
     for tree in trees {
-        match resolve(alloc, calls, scope, tree)? {
+        match resolve_part(alloc, copying, calls, scope, tree)? {
             Some(expr) => all.push(expr)?,
             None => return Ok(None),
         }
@@ -99,10 +139,11 @@ fn resolve_all(
     Ok(Some(all))
 }
 
-#[cycle(resolve)]
+#[cycle(resolve_part)]
 #[tactic(auto, using(crate::proofs::Resolved::gathering))]
 fn resolve_compares(
     alloc: Global,
+    copying: &mut Copying,
     calls: CallForm,
     scope: &Scope<'_>,
     terms: &[CompareTerm],
@@ -112,7 +153,7 @@ fn resolve_compares(
 {
     let mut all = List::new(alloc);
     for term in terms {
-        match resolve(alloc, calls, scope, &term.tree)? {
+        match resolve_part(alloc, copying, calls, scope, &term.tree)? {
             Some(expr) => all.push(Bound { op: term.op, expr })?,
             None => return Ok(None),
         }
@@ -120,10 +161,11 @@ fn resolve_compares(
     Ok(Some(all))
 }
 
-#[cycle(resolve)]
+#[cycle(resolve_part)]
 #[tactic(auto, using(crate::proofs::Resolved::gathering))]
 fn resolve_ariths(
     alloc: Global,
+    copying: &mut Copying,
     calls: CallForm,
     scope: &Scope<'_>,
     terms: &[ArithTerm],
@@ -133,7 +175,7 @@ fn resolve_ariths(
 {
     let mut all = List::new(alloc);
     for term in terms {
-        match resolve(alloc, calls, scope, &term.tree)? {
+        match resolve_part(alloc, copying, calls, scope, &term.tree)? {
             Some(expr) => all.push(Bound { op: term.op, expr })?,
             None => return Ok(None),
         }
@@ -141,10 +183,11 @@ fn resolve_ariths(
     Ok(Some(all))
 }
 
-#[cycle(resolve)]
+#[cycle(resolve_part)]
 #[tactic(auto, using(crate::proofs::Resolved::gathering))]
 fn resolve_testers(
     alloc: Global,
+    copying: &mut Copying,
     calls: CallForm,
     scope: &Scope<'_>,
     testers: &[AstTester],
@@ -160,9 +203,9 @@ fn resolve_testers(
             Tested::Member(literals) => {
                 Some(Tester::Member(copy_literals(alloc, literals.as_slice())?))
             }
-            Tested::Starts(prefix) => starts(resolve(alloc, calls, scope, prefix)?),
-            Tested::Ends(suffix) => ends(resolve(alloc, calls, scope, suffix)?),
-            Tested::Contains(part) => contains(resolve(alloc, calls, scope, part)?),
+            Tested::Starts(prefix) => starts(resolve_part(alloc, copying, calls, scope, prefix)?),
+            Tested::Ends(suffix) => ends(resolve_part(alloc, copying, calls, scope, suffix)?),
+            Tested::Contains(part) => contains(resolve_part(alloc, copying, calls, scope, part)?),
         };
         match found {
             Some(tester) => all.push(tester)?,

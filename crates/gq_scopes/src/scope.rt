@@ -5,7 +5,8 @@ ghost use Rattle.gq_scopes.specs.Patterns as patterns;
 ghost use Rattle.gq_scopes.specs.Resolving as resolving;
 ghost use Rattle.gq_scopes.specs.Uses.{bare, owner, refused_unless, unknown_name};
 
-use crate::copies::{copy, copy_text};
+use crate::copies::{copy_part, copy_text};
+use crate::copying::Copying;
 use crate::patterns::RelPattern;
 use gq_base::{Memory, Text};
 use gq_expr::Expr;
@@ -98,11 +99,16 @@ impl<'s> Scope<'s> {
     }
 
     /// What a bare name stands for: the column of that name if there is one, else the variable.
-    pub fn bare(&self, alloc: Global, name: &Text) -> Result<Option<Expr>, Memory>
+    pub fn bare(
+        &self,
+        alloc: Global,
+        copying: &mut Copying,
+        name: &Text,
+    ) -> Result<Option<Expr>, Memory>
         ensures { IfOk result (λ e. e ≡ resolving.bare self.now name.now) }
     {
         match find_column(self.columns, name) {
-            Some(at) => copy_known(alloc, &self.columns[at].expr),
+            Some(at) => copy_known(alloc, copying, &self.columns[at].expr),
             None => Ok(self.variable(name)),
         }
     }
@@ -153,11 +159,15 @@ fn find_column(columns: &[Column], name: &Text) -> Option<usize>
 }
 
 /// A copy of an expression that may be missing.
-pub fn copy_known(alloc: Global, expr: &Option<Expr>) -> Result<Option<Expr>, Memory>
+pub fn copy_known(
+    alloc: Global,
+    copying: &mut Copying,
+    expr: &Option<Expr>,
+) -> Result<Option<Expr>, Memory>
     ensures { IfOk result (λ e. e ≡ expr.now) }
 {
     match expr {
         None => Ok(None),
-        Some(expr) => Ok(Some(copy(alloc, expr)?)),
+        Some(expr) => Ok(Some(copy_part(alloc, copying, expr)?)),
     }
 }

@@ -1,5 +1,5 @@
 use Rattle.std.proofs.Common.{◌≡◌, take}
-use Rattle.gq_scopes.proofs.copies.+copy.Given as goal
+use Rattle.gq_scopes.proofs.copies.+copy_part.Given as goal
 
 abbrev pub invariant-copy_all-loop-part : goal.invariant-copy_all-loop-part
 invariant-copy_all-loop-part l = l.copies ≡ take l.part-index l.all

@@ -4,7 +4,7 @@ use Rattle.gq_expr.specs.declared.Expr.{Expr}
 use Rattle.gq_syntax.specs.declared.Ast.{Ast}
 use Rattle.gq_scopes.specs.Resolving.{resolved, calls_of, all_some, bound_term, bound_tester}
 use Rattle.gq_scopes.specs.Trees.{term_with, tester_with}
-use Rattle.gq_scopes.proofs.resolution.+resolve.Given as goal
+use Rattle.gq_scopes.proofs.resolution.+resolve_part.Given as goal
 
 abbrev pub invariant-resolve_all-loop-tree : goal.invariant-resolve_all-loop-tree
 invariant-resolve_all-loop-tree l =
