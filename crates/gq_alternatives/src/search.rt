@@ -27,10 +27,15 @@ impl<'s> Model for Space<'s> {
     ghost view = { λ s. record { catalog = s.catalog.now; tables = s.tables.now; most = s.most } };
 }
 
+/// The steps that one search may take. A step gives a relationship pattern a reading or a node variable a table; many
+/// more than the choices that are wanted come only where cycles of patterns lead to dead ends again and again.
+const MOST_STEPS: u32 = 4_194_304;
+
 /// What a search has found: the node tables that are known, the readings and the tables that are chosen, and the whole
-/// choices.
+/// choices; and how many steps it may still take.
 #[derive(Drop)]
 pub struct Found {
+    left: u32,
     known: List<Option<u32>>,
     readings: Vec<Reading>,
     tables: Vec<u32>,
@@ -51,6 +56,7 @@ impl Found {
         ensures { IfOk result (λ f. f ≡ record { known = map (λ l. None) tables.now; readings = []; tables = []; choices = [] }) }
     {
         Ok(Found {
+            left: MOST_STEPS,
             known: nothing_known(alloc, tables)?,
             readings: Vec::new(alloc),
             tables: Vec::new(alloc),
@@ -90,6 +96,7 @@ impl Found {
     fn push_reading(&mut self, reading: Reading) -> Result<(), Memory>
         ensures { OnOk result (self.new ≡ record self.old { readings = self.old.readings ++ reading ∷ [] }) }
     {
+        self.left = step_from(self.left)?;
         match self.readings.push(reading) {
             Ok(()) => Ok(()),
             Err(_) => Err(Memory),
@@ -105,6 +112,7 @@ impl Found {
     fn push_table(&mut self, table: u32) -> Result<(), Memory>
         ensures { OnOk result (self.new ≡ record self.old { tables = self.old.tables ++ table ∷ [] }) }
     {
+        self.left = step_from(self.left)?;
         match self.tables.push(table) {
             Ok(()) => Ok(()),
             Err(_) => Err(Memory),
@@ -138,6 +146,16 @@ impl Found {
         };
         self.choices.push(choice)
     }
+}
+
+// How many steps are left behind one more; where none is, the search is given up for want of memory.
+fn step_from(left: u32) -> Result<u32, Memory>
+    ensures { IfOk result (λ after. suc after ≡ left) }
+{
+    if left == 0 {
+        return Err(Memory);
+    }
+    Ok(left - 1)
 }
 
 fn nothing_known(alloc: Global, tables: &[List<u32>]) -> Result<List<Option<u32>>, Memory>
