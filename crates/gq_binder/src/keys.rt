@@ -5,7 +5,7 @@ ghost use Rattle.gq_scopes.specs.Resolving.{all_some};
 
 use gq_base::{List, Memory};
 use gq_plan::{NamedExpr, SortExpr};
-use gq_scopes::{CallForm, Column, Scope, resolve};
+use gq_scopes::{CallForm, Column, Copying, Scope, resolve_part};
 use gq_syntax::Sort;
 use std::alloc::Global;
 
@@ -37,9 +37,10 @@ pub fn keys_of(
 ) -> Result<Option<List<SortExpr>>, Memory>
     ensures { IfOk result (λ ks. ks ≡ all_some (map (sort_expr scope.now) order.now)) }
 {
+    let mut copying = Copying::new();
     let mut keys = List::new(alloc);
     for sort in order {
-        match resolve(alloc, CallForm::Functions, scope, &sort.tree)? {
+        match resolve_part(alloc, &mut copying, CallForm::Functions, scope, &sort.tree)? {
             Some(expr) => keys.push(SortExpr {
                 expr,
                 down: sort.down,

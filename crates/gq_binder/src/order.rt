@@ -12,7 +12,7 @@ use crate::checks::copied;
 use crate::names::first_in_sorts;
 use crate::refusal::BindRefusal;
 use gq_base::{Memory, Text};
-use gq_scopes::{CallForm, Check, Column, Renamed, Scope, is_made_of, next, resolve};
+use gq_scopes::{CallForm, Check, Column, Copying, Renamed, Scope, is_made_of, next, resolve_part};
 use gq_syntax::{Ast, Sort};
 use std::alloc::Global;
 
@@ -36,9 +36,10 @@ fn first_out_of_scope(
 ) -> Result<Option<BindRefusal>, Memory>
     ensures { IfOk result (λ r. r ≡ out_of_scope_from 1 (column_exprs columns.now) scope.now order.now) }
 {
+    let mut copying = Copying::new();
     let mut item = 1;
     for sort in order {
-        if !is_made(alloc, columns, scope, &sort.tree)? {
+        if !is_made(alloc, &mut copying, columns, scope, &sort.tree)? {
             return Ok(Some(BindRefusal::OrderOutOfScope { item }));
         }
         item = next(item)?;
@@ -47,10 +48,16 @@ fn first_out_of_scope(
 }
 
 // Whether a tree is made of columns; one without an expression is refused elsewhere.
-fn is_made(alloc: Global, columns: &[Column], scope: &Scope<'_>, tree: &Ast) -> Result<bool, Memory>
+fn is_made(
+    alloc: Global,
+    copying: &mut Copying,
+    columns: &[Column],
+    scope: &Scope<'_>,
+    tree: &Ast,
+) -> Result<bool, Memory>
     ensures { IfOk result (λ b. b ≡ refusals.is_made (column_exprs columns.now) (resolved as_lists scope.now tree.now)) }
 {
-    match resolve(alloc, CallForm::Lists, scope, tree)? {
+    match resolve_part(alloc, copying, CallForm::Lists, scope, tree)? {
         Some(expr) => Ok(is_made_of(columns, &expr)),
         None => Ok(true),
     }
