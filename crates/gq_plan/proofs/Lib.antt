@@ -4,6 +4,7 @@ pub mod Counts
 pub mod Demands
 pub mod Each
 pub mod FirstSteps
+pub mod NameLemmas
 pub mod Products
 pub mod ReadLemmas
 pub mod StepEquations

@@ -79,6 +79,10 @@ abbrev pub distinct : List Read → List Read
 distinct [] = []
 distinct (r ∷ rs) = r ∷ filter (λ q. not (same_read r q)) (distinct rs)
 
+-- a read is one of a property of this name
+abbrev pub has_name : List ℕ → Read → Bool
+has_name name r = same_property r.property (Some name)
+
 -- a read behind others, unless it stands there
 abbrev pub with_read : List Read → Read → List Read
 with_read rs r = if list_any (λ q. same_read q r) rs then rs else rs ++ r ∷ []

@@ -9,6 +9,7 @@ use crate::variable::Variable;
 use gq_base::{List, Memory, Text};
 use gq_expr::{BoundArith, BoundCompare, BoundTester, Expr, Tester};
 use std::alloc::Global;
+use std::collections::BTreeSet;
 use std::marker::Model;
 
 // A property of a variable.
@@ -27,19 +28,28 @@ impl<'e> Model for PropertyRead<'e> {
     ghost view = { λ r. property (seen r.variable) r.name.now };
 }
 
-/// The different properties of variables that expressions read, in the order of their first appearance.
+/// The different properties of variables that expressions read, in the order of their first appearance. The names of
+/// properties stand in an ordered set too, so that a new name is told without going through the list.
 #[derive(Drop)]
 pub struct PropertyReads<'e> {
     reads: List<PropertyRead<'e>>,
+    names: BTreeSet<&'e str>,
 }
 
 impl<'e> Model for PropertyReads<'e> {
-    ghost use Rattle.std.specs.Prelude.{List};
-    ghost use Rattle.gq_plan.specs.Reads.{Read};
+    ghost use Rattle.std.specs.Prelude.{◌≡◌, ℕ, List, false};
+    ghost use Rattle.std.specs.Borrow.{Bor};
+    ghost use Rattle.std.specs.BTreeSet.{contains};
+    ghost use Rattle.std.specs.Cmp.Lexicographic.{slice_cmp};
+    ghost use Rattle.std.specs.List.{list_any};
+    ghost use Rattle.std.specs.Ordering.{nat_cmp};
+    ghost use Rattle.gq_plan.specs.Reads.{Read, has_name};
 
     ghost Value = { List Read };
 
     ghost view = { λ r. r.reads };
+
+    ghost invariant = { λ r. (name : Bor (List ℕ)) → contains (λ x y. slice_cmp nat_cmp x.now y.now) r.names name ≡ false → list_any (has_name name.now) r.reads ≡ false };
 }
 
 impl<'e> PropertyReads<'e> {
@@ -49,6 +59,7 @@ impl<'e> PropertyReads<'e> {
     {
         PropertyReads {
             reads: List::new(alloc),
+            names: BTreeSet::new(alloc),
         }
     }
 
@@ -69,6 +80,13 @@ impl<'e> PropertyReads<'e> {
     pub fn add(&mut self, variable: Variable, name: &'e Text) -> Result<(), Memory>
         ensures { IfOk result (λ _. self.new ≡ with_read self.old (property (seen variable) name.now)) }
     {
+        let is_new = match self.names.insert(name.as_str()) {
+            Ok(is_new) => is_new,
+            Err(_) => return Err(Memory),
+        };
+        if is_new {
+            return self.reads.push(PropertyRead { variable, name });
+        }
         if self.contains(variable, name) {
             return Ok(());
         }
