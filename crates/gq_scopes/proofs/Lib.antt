@@ -1,4 +1,5 @@
 pub mod MadeLemmas
+pub mod NamingLemmas
 pub mod RangeLemmas
 pub mod RenameLemmas
 pub mod Resolved

@@ -1,10 +1,12 @@
--- The first relationship pattern with a name.
+-- The first column with a name.
 use Rattle.std.proofs.Common.{◌≡◌, ◌∙◌, ℕ, ◌+◌, Bool, not, Option, Some, None, List, [], ◌∷◌, length, map, refl, ap}
 use Rattle.std.specs.Prelude.{nat_lt}
 use Rattle.std.specs.List.{position, prefix_len, position_or_len}
 use Rattle.std.proofs.lemmas.List.{length-map}
 use mathlib.Core.Bool.{cond}
-use Rattle.gq_scopes.specs.Patterns.{Name, RelPattern, find_name, is_called}
+use Rattle.gq_scopes.specs.Patterns.{Name, find_name, is_called}
+use Rattle.gq_scopes.specs.Resolving.{find_column}
+use Rattle.gq_scopes.specs.declared.scope.Column.{Column}
 
 front : {A B : Type 0} (f : A → B) (p : B → Bool) (xs : List A) → prefix_len p (map f xs) ≡ prefix_len (λ x. p (f x)) xs
 front f p [] = refl
@@ -17,6 +19,6 @@ position_map : {A B : Type 0} (f : A → B) (p : B → Bool) (xs : List A) → p
 position_map f p xs =
     ap (λ k. within k (length (map f xs))) (front f (λ b. not (p b)) xs) ∙ ap (within (position_or_len (λ x. p (f x)) xs)) (length-map xs f)
 
--- the first relationship with a name
-pub find_rel : (rels : List RelPattern) (name : Name) → find_name (map (λ r. r.part.name) rels) name ≡ position (λ r. is_called name r.part.name) rels
-find_rel rels name = position_map (λ r. r.part.name) (is_called name) rels
+-- the first column with a name
+pub found_column : (columns : List Column) (name : Name) → find_name (map (λ c. Some c.name) columns) name ≡ find_column columns name
+found_column columns name = position_map (λ c. Some c.name) (is_called name) columns

@@ -1,5 +1,5 @@
 //! The patterns of a query, read from left to right.
-ghost use Rattle.std.specs.Prelude.{◌≡◌, ◌+◌, ◌++◌, length, IfOk};
+ghost use Rattle.std.specs.Prelude.{◌≡◌, ◌+◌, ◌++◌, ◌∷◌, ◌<◌, [], length, map, IfOk, IfSome};
 ghost use Rattle.std.specs.List.{range_with_len};
 ghost use Rattle.gq_scopes.specs.Scopes.{scope_of};
 ghost use Rattle.gq_scopes.specs.Patterns as patterns;
@@ -8,7 +8,8 @@ ghost use Rattle.gq_scopes.specs.Variables.{seen};
 
 use crate::copies::copy_text;
 use crate::counts::{next, number};
-use crate::scope::{Column, Scope, find_name};
+use crate::naming::Names;
+use crate::scope::{Column, Scope};
 use gq_base::{List, Memory, Text};
 use gq_plan::{PathPart, Variable};
 use gq_syntax::{Clause, Entry, Hop, NodePart, Path, RelPart};
@@ -64,6 +65,75 @@ impl<'t> Model for RelPattern<'t> {
     ghost view = { λ r. record { clause = r.clause; left = r.left; right = r.right; part = r.part.now } };
 }
 
+/// The relationship patterns in text order, each found by its name.
+#[derive(Drop)]
+pub struct Rels<'t> {
+    list: Vec<RelPattern<'t>>,
+    names: Names,
+}
+
+impl<'t> Model for Rels<'t> {
+    ghost use Rattle.std.specs.Prelude.{◌≡◌, List, map};
+    ghost use Rattle.gq_scopes.specs.Patterns.{RelPattern};
+
+    ghost Value = { List RelPattern };
+
+    ghost view = { λ r. r.list.items };
+
+    ghost invariant = { λ r. r.names ≡ map (λ p. p.part.name) r.list.items };
+}
+
+impl<'t> Rels<'t> {
+    fn new(alloc: Global) -> Rels<'t>
+        ensures { result ≡ [] }
+    {
+        Rels {
+            list: Vec::new(alloc),
+            names: Names::new(alloc),
+        }
+    }
+
+    /// How many there are.
+    pub fn len(&self) -> usize
+        ensures { result ≡ length self.now }
+    {
+        self.list.len()
+    }
+
+    /// The patterns.
+    pub fn as_slice(&self) -> &[RelPattern<'t>]
+        ensures { result.now ≡ self.now }
+    {
+        self.list.as_slice()
+    }
+
+    /// The first with a name.
+    pub fn find(&self, name: &Text) -> Option<usize>
+        ensures value { result ≡ patterns.find_name (map (λ p. p.part.name) self.now) name.now }
+        ensures within { IfSome result (λ at. at < length self.now) }
+    {
+        self.names.find(name)
+    }
+
+    // Appends one. After `Memory` they are as before.
+    fn push(&mut self, rel: RelPattern<'t>) -> Result<(), Memory>
+        ensures { IfOk result (λ _. self.new ≡ self.old ++ rel.entry ∷ []) }
+    {
+        let part = rel.part;
+        match self.list.push(rel) {
+            Ok(()) => {}
+            Err(_) => return Err(Memory),
+        }
+        match self.names.push(&part.name) {
+            Ok(()) => Ok(()),
+            Err(Memory) => {
+                let _ = self.list.pop();
+                Err(Memory)
+            }
+        }
+    }
+}
+
 /// An entry of a pattern's map, its variable, and what the variable is called.
 #[derive(Drop)]
 pub struct MapEntry<'t> {
@@ -85,13 +155,14 @@ impl<'t> Model for MapEntry<'t> {
 /// The patterns of a query with their variables, paths and map entries, in text order.
 #[derive(Drop)]
 pub struct Pattern<'t> {
-    names: List<Option<Text>>,
+    alloc: Global,
+    names: Names,
     named: List<NamedVariable<'t>>,
     node_names: List<Text>,
     rel_names: List<Text>,
     unnamed: u32,
     nodes: List<NodePattern<'t>>,
-    rels: List<RelPattern<'t>>,
+    rels: Rels<'t>,
     paths: List<PathPart>,
     entries: List<MapEntry<'t>>,
 }
@@ -110,13 +181,14 @@ impl<'t> Pattern<'t> {
         ensures { result ≡ no_pattern }
     {
         Pattern {
-            names: List::new(alloc),
+            alloc,
+            names: Names::new(alloc),
             named: List::new(alloc),
             node_names: List::new(alloc),
             rel_names: List::new(alloc),
             unnamed: 0,
             nodes: List::new(alloc),
-            rels: List::new(alloc),
+            rels: Rels::new(alloc),
             paths: List::new(alloc),
             entries: List::new(alloc),
         }
@@ -126,7 +198,7 @@ impl<'t> Pattern<'t> {
     fn variable_of(&self, part: &NodePart) -> Result<u32, Memory>
         ensures { IfOk result (λ v. v ≡ patterns.variable_of self.now part.now) }
     {
-        match known_as(self.names.as_slice(), &part.name) {
+        match known_as(&self.names, &part.name) {
             Some(at) => number(at),
             None => number(self.names.len()),
         }
@@ -135,7 +207,7 @@ impl<'t> Pattern<'t> {
     fn push_node(&mut self, alloc: Global, part: &'t NodePart) -> Result<(), Memory>
         ensures { IfOk result (λ _. self.new ≡ with_node part.now self.old) }
     {
-        match known_as(self.names.as_slice(), &part.name) {
+        match known_as(&self.names, &part.name) {
             Some(at) => {
                 let variable = number(at)?;
                 self.push_node_again(alloc, variable, part)
@@ -179,7 +251,7 @@ impl<'t> Pattern<'t> {
             &called,
             part.map.as_slice(),
         )?;
-        self.names.push(copy_name(alloc, &part.name)?)?;
+        self.names.push(&part.name)?;
         self.node_names.push(called)?;
         self.unnamed = unnamed_after(self.unnamed, &part.name)?;
         self.nodes.push(NodePattern { variable, part })
@@ -289,7 +361,7 @@ impl<'t> Pattern<'t> {
     {
         let _ = number(self.names.len())?;
         let _ = number(self.rels.len())?;
-        Ok(Scope::new(columns, self.names.as_slice(), self.rels.as_slice()))
+        Scope::new(self.alloc, columns, &self.names, &self.rels)
     }
 
     /// The name of each node variable.
@@ -372,12 +444,12 @@ fn numbers_from(alloc: Global, start: usize, count: usize) -> Result<List<u32>, 
     Ok(numbers)
 }
 
-fn known_as(names: &[Option<Text>], name: &Option<Text>) -> Option<usize>
+fn known_as(names: &Names, name: &Option<Text>) -> Option<usize>
     ensures { result ≡ patterns.known_as names.now name.now }
 {
     match name {
         None => None,
-        Some(name) => find_name(names, name),
+        Some(name) => names.find(name),
     }
 }
 
@@ -406,15 +478,6 @@ fn unnamed_after(unnamed: u32, name: &Option<Text>) -> Result<u32, Memory>
     }
 }
 
-fn copy_name(alloc: Global, name: &Option<Text>) -> Result<Option<Text>, Memory>
-    ensures { IfOk result (λ n. n ≡ name.now) }
-{
-    match name {
-        None => Ok(None),
-        Some(name) => Ok(Some(copy_text(alloc, name)?)),
-    }
-}
-
 fn push_naming<'t>(
     named: &mut List<NamedVariable<'t>>,
     name: &'t Option<Text>,
@@ -428,6 +491,9 @@ fn push_naming<'t>(
     }
 }
 
+// Each entry is called by its own copy of the variable's name: so many bytes of them, for the entries of one pattern.
+const MOST_CALLED: usize = 16_777_216;
+
 fn push_entries<'t>(
     alloc: Global,
     entries: &mut List<MapEntry<'t>>,
@@ -437,6 +503,9 @@ fn push_entries<'t>(
 ) -> Result<(), Memory>
     ensures { IfOk result (λ _. entries.new ≡ entries.old ++ entries_of (seen variable) called.now map.now) }
 {
+    if map.len().saturating_mul(called.as_str().len()) > MOST_CALLED {
+        return Err(Memory);
+    }
     for entry in map {
         let called = copy_text(alloc, called)?;
         entries.push(MapEntry {
