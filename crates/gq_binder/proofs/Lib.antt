@@ -1,6 +1,7 @@
 pub mod Accepted
 pub mod ConditionLemmas
 pub mod Known
+pub mod MetLemmas
 pub mod NameLemmas
 pub mod Named
 pub mod ReadingLemmas

@@ -31,7 +31,7 @@ pub fn unknown_variable(alloc: Global, asked: &Asked<'_>) -> Result<Option<BindR
 pub fn variable_conflict(alloc: Global, asked: &Asked<'_>) -> Result<Option<BindRefusal>, Memory>
     ensures { IfOk result (λ r. r ≡ refusals.variable_conflict (pattern_of asked.now.query.clauses)) }
 {
-    match copied(alloc, conflict(asked.pattern().named()))? {
+    match copied(alloc, conflict(alloc, asked.pattern().named())?)? {
         Some(name) => Ok(Some(BindRefusal::VariableConflict { name })),
         None => Ok(None),
     }
@@ -44,7 +44,7 @@ pub fn relationship_repeated(
 ) -> Result<Option<BindRefusal>, Memory>
     ensures { IfOk result (λ r. r ≡ refusals.relationship_repeated (pattern_of asked.now.query.clauses)) }
 {
-    match copied(alloc, repeated(asked.pattern().named()))? {
+    match copied(alloc, repeated(alloc, asked.pattern().named())?)? {
         Some(name) => Ok(Some(BindRefusal::RelationshipRepeated { name })),
         None => Ok(None),
     }
@@ -54,7 +54,7 @@ pub fn relationship_repeated(
 pub fn column_repeated(alloc: Global, asked: &Asked<'_>) -> Result<Option<BindRefusal>, Memory>
     ensures { IfOk result (λ r. r ≡ refusals.column_repeated (columns.columns as_lists asked.now.text asked.now.query)) }
 {
-    match copied(alloc, repeated_column(asked.columns()))? {
+    match copied(alloc, repeated_column(alloc, asked.columns())?)? {
         Some(name) => Ok(Some(BindRefusal::ColumnRepeated { name })),
         None => Ok(None),
     }

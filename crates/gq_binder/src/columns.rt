@@ -1,21 +1,20 @@
 //! The columns of a query and their names.
-ghost use Rattle.std.specs.Prelude.{◌≡◌, ◌++◌, [], nat_eq, map, IfOk};
-ghost use Rattle.std.specs.Cmp.Lexicographic.{pointwise};
+ghost use Rattle.std.specs.Prelude.{◌≡◌, ◌++◌, ◌∷◌, [], map, IfOk, if◌then◌else◌};
 ghost use Rattle.std.specs.List.{list_any};
 ghost use Rattle.std.specs.Option.{option_copied};
 ghost use Rattle.gq_binder.specs.Columns as columns;
 ghost use Rattle.gq_binder.specs.Columns.{columns_in, column_of, star_columns, item_column, item_name};
+ghost use Rattle.gq_scopes.specs.Patterns.{is_called};
 ghost use Rattle.gq_scopes.specs.Scopes.{scope_of};
-ghost use Rattle.gq_scopes.specs.Patterns.{is_same_name};
 ghost use Rattle.gq_binder.specs.Refusals.{first_behind, repeating_column};
 ghost use Rattle.gq_scopes.specs.Resolving.{calls_of};
 ghost use Rattle.gq_scopes.specs.Variables.{seen};
 
-use crate::pattern_checks::is_same;
 use gq_base::{List, Memory, Text};
 use gq_expr::Expr;
 use gq_scopes::{
-    CallForm, Column, NamedVariable, Pattern, Scope, Variable, copy_text, resolve, source_text,
+    CallForm, Column, NamedVariable, Names, Pattern, Scope, Variable, copy_text, resolve,
+    source_text,
 };
 use gq_syntax::{Item, Query};
 use std::alloc::Global;
@@ -53,31 +52,27 @@ fn push_firsts(
 ) -> Result<(), Memory>
     ensures { IfOk result (λ _. all.new ≡ all.old ++ map column_of (columns.firsts_behind [] named.now)) }
 {
-    for (at, variable) in named.iter().enumerate() {
-        push_if_first(alloc, all, &named[..at], variable)?;
+    let mut met = Names::new(alloc);
+    for variable in named {
+        push_unless_met(alloc, all, &met, variable)?;
+        met.push_name(variable.name)?;
     }
     Ok(())
 }
 
-fn push_if_first(
+fn push_unless_met(
     alloc: Global,
     all: &mut List<Column>,
-    before: &[NamedVariable<'_>],
+    met: &Names,
     variable: &NamedVariable<'_>,
 ) -> Result<(), Memory>
-    ensures { IfOk result (λ _. all.new ≡ all.old ++ map column_of (columns.if_first before.now variable.now)) }
+    ensures { IfOk result (λ _. all.new ≡ all.old ++ map column_of (if list_any (is_called variable.now.name) met.now then [] else variable.now ∷ [])) }
 {
-    if stands_in(before, variable) {
+    if met.contains(variable.name) {
         return Ok(());
     }
     let column = column(alloc, variable)?;
     all.push(column)
-}
-
-fn stands_in(before: &[NamedVariable<'_>], variable: &NamedVariable<'_>) -> bool
-    ensures { result ≡ list_any (λ m. is_same_name m variable.now) before.now }
-{
-    before.iter().any(|m| is_same(m, variable))
 }
 
 fn column(alloc: Global, variable: &NamedVariable<'_>) -> Result<Column, Memory>
@@ -126,29 +121,15 @@ fn name_of(alloc: Global, text: &[u8], item: &Item) -> Result<Text, Memory>
 }
 
 /// The first name that a column before has.
-pub fn repeated_column(columns: &[Column]) -> Option<&Text>
-    ensures { option_copied result ≡ first_behind repeating_column [] columns.now }
+pub fn repeated_column(alloc: Global, columns: &[Column]) -> Result<Option<&Text>, Memory>
+    ensures { IfOk result (λ n. option_copied n ≡ first_behind repeating_column [] columns.now) }
 {
-    for (at, column) in columns.iter().enumerate() {
-        if let Some(name) = repeated_name(&columns[..at], column) {
-            return Some(name);
+    let mut met = Names::new(alloc);
+    for column in columns {
+        if met.contains(&column.name) {
+            return Ok(Some(&column.name));
         }
+        met.push_name(&column.name)?;
     }
-    None
-}
-
-fn repeated_name<'c>(before: &[Column], column: &'c Column) -> Option<&'c Text>
-    ensures { option_copied result ≡ repeating_column before.now column.now }
-{
-    if is_named_in(before, &column.name) {
-        Some(&column.name)
-    } else {
-        None
-    }
-}
-
-fn is_named_in(before: &[Column], name: &Text) -> bool
-    ensures { result ≡ list_any (λ b. pointwise nat_eq b.name name.now) before.now }
-{
-    before.iter().any(|b| b.name.is(name.as_str()))
+    Ok(None)
 }

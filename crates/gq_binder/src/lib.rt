@@ -10,6 +10,7 @@ mod conditions;
 mod entries;
 mod groups;
 mod keys;
+mod met;
 mod names;
 mod order;
 mod pattern_checks;
