@@ -1,12 +1,13 @@
 //! The alternatives of small patterns, worked out by hand over persons who know each other and live in cities, and those
 //! of patterns with very many choices.
 
-use crate::{Choice, choices_of, typed};
+use crate::{Choice, Reading, choices_of, typed};
 use gq_base::{Catalog, List, Mult, NodeTable, RelTable, Text};
-use gq_plan::{NamedExpr, Typed};
-use gq_scopes::{CallForm, Pattern, resolve};
-use gq_syntax::{Query, Statement, parse};
+use gq_plan::{NamedExpr, RelPair, Typed, TypedRel};
+use gq_scopes::{CallForm, Pattern, Scope, resolve};
+use gq_syntax::{Ast, Item, Query, Statement, parse};
 use std::alloc::Global;
+use std::fmt::Write;
 use std::test::Fail;
 
 fn queried(alloc: Global, text: &str) -> Result<Query, Fail> {
@@ -20,94 +21,122 @@ fn queried(alloc: Global, text: &str) -> Result<Query, Fail> {
     }
 }
 
-fn add_node(alloc: Global, catalog: &mut Catalog, label: &str) -> Result<(), Fail> {
-    if catalog.node_tables() > 100 || catalog.find_label(label).is_some() {
-        return Err(Fail::from("no new label"));
-    }
-    catalog.add_node(NodeTable {
-        label: Text::new(alloc, label)?,
-        file: Text::new(alloc, "")?,
-        fields: List::new(alloc),
-    })?;
-    Ok(())
+fn nameless(alloc: Global) -> Text {
+    Text::from_string(String::new(alloc))
 }
 
-fn add_rel(
-    alloc: Global,
-    catalog: &mut Catalog,
-    name: &str,
-    from: u32,
-    to: u32,
-) -> Result<(), Fail> {
-    if catalog.rel_tables() > 100 || catalog.find_type(name).is_some() {
-        return Err(Fail::from("no new type"));
+fn node_table(alloc: Global, label: &str) -> Result<NodeTable, Fail> {
+    Ok(NodeTable {
+        label: Text::new(alloc, label)?,
+        file: nameless(alloc),
+        fields: List::new(alloc),
+    })
+}
+
+fn add_node(catalog: &mut Catalog, table: NodeTable) -> Result<(), Fail> {
+    if catalog.node_tables() > 100 || catalog.find_label(table.label.as_str()).is_some() {
+        return Err(Fail::from("no new label"));
     }
-    if from >= catalog.node_tables() || to >= catalog.node_tables() {
-        return Err(Fail::from("no table"));
-    }
-    catalog.add_rel(RelTable {
+    Ok(catalog.add_node(table)?)
+}
+
+fn rel_table(alloc: Global, name: &str, from: u32, to: u32) -> Result<RelTable, Fail> {
+    Ok(RelTable {
         name: Text::new(alloc, name)?,
         from,
         to,
         mult: Mult::ManyMany,
-        file: Text::new(alloc, "")?,
+        file: nameless(alloc),
         fields: List::new(alloc),
-    })?;
-    Ok(())
+    })
+}
+
+fn add_rel(catalog: &mut Catalog, table: RelTable) -> Result<(), Fail> {
+    if catalog.rel_tables() > 100 || catalog.find_type(table.name.as_str()).is_some() {
+        return Err(Fail::from("no new type"));
+    }
+    if table.from >= catalog.node_tables() || table.to >= catalog.node_tables() {
+        return Err(Fail::from("no table"));
+    }
+    Ok(catalog.add_rel(table)?)
+}
+
+fn add_persons(alloc: Global, catalog: &mut Catalog) -> Result<(), Fail> {
+    add_node(catalog, node_table(alloc, "Person")?)?;
+    add_node(catalog, node_table(alloc, "City")?)?;
+    add_rel(catalog, rel_table(alloc, "KNOWS", 0, 0)?)?;
+    add_rel(catalog, rel_table(alloc, "LIVES_IN", 0, 1)?)
 }
 
 fn persons_and_cities(alloc: Global) -> Result<Catalog, Fail> {
     let mut catalog = Catalog::new(alloc);
-    add_node(alloc, &mut catalog, "Person")?;
-    add_node(alloc, &mut catalog, "City")?;
-    add_rel(alloc, &mut catalog, "KNOWS", 0, 0)?;
-    add_rel(alloc, &mut catalog, "LIVES_IN", 0, 1)?;
+    add_persons(alloc, &mut catalog)?;
     Ok(catalog)
+}
+
+fn numbered_table(alloc: Global, number: u32) -> Result<RelTable, Fail> {
+    let name = format!(in alloc; "T{number}")?;
+    rel_table(alloc, name.as_str(), 0, 0)
+}
+
+fn add_many(alloc: Global, catalog: &mut Catalog) -> Result<(), Fail> {
+    add_node(catalog, node_table(alloc, "One")?)?;
+    add_node(catalog, node_table(alloc, "Two")?)?;
+    for number in 0u32..63 {
+        add_rel(catalog, numbered_table(alloc, number)?)?;
+    }
+    add_rel(catalog, rel_table(alloc, "Last", 1, 1)?)
 }
 
 // Two node tables, and 64 relationship tables: those of the first 63 types lead from the first table to itself, that of
 // `Last` from the second to itself.
 fn many_types(alloc: Global) -> Result<Catalog, Fail> {
     let mut catalog = Catalog::new(alloc);
-    add_node(alloc, &mut catalog, "One")?;
-    add_node(alloc, &mut catalog, "Two")?;
-    for number in 0u32..63 {
-        let name = format!(in alloc; "T{number}")?;
-        add_rel(alloc, &mut catalog, name.as_str(), 0, 0)?;
-    }
-    add_rel(alloc, &mut catalog, "Last", 1, 1)?;
+    add_many(alloc, &mut catalog)?;
     Ok(catalog)
 }
 
-// A choice as its readings, `>` forward and `<` backward, and the tables of its node variables.
-fn shown(alloc: Global, choice: &Choice) -> Result<String, Fail> {
-    let mut text = String::new(alloc);
-    for reading in choice.readings.as_slice() {
+fn push_readings(text: &mut String, readings: &[Reading]) -> Result<(), Fail> {
+    for reading in readings {
         let way = if reading.reversed { "<" } else { ">" };
-        let table = reading.table;
-        let one = format!(in alloc; "{way}{table}")?;
-        text.push_str(one.as_str())?;
+        write!(text, "{way}{}", reading.table)?;
     }
+    Ok(())
+}
+
+// A choice as its readings, `>` forward and `<` backward, and the tables of its node variables.
+fn push_choice(text: &mut String, choice: &Choice) -> Result<(), Fail> {
+    push_readings(text, choice.readings.as_slice())?;
     for table in choice.tables.as_slice() {
-        let one = format!(in alloc; " {table}")?;
-        text.push_str(one.as_str())?;
+        write!(text, " {table}")?;
+    }
+    Ok(text.push_str(";")?)
+}
+
+fn choices_shown(alloc: Global, choices: &[Choice]) -> Result<String, Fail> {
+    let mut text = String::new(alloc);
+    for choice in choices {
+        push_choice(&mut text, choice)?;
     }
     Ok(text)
 }
 
+fn shown_of(alloc: Global, catalog: &Catalog, pattern: &Pattern<'_>) -> Result<String, Fail> {
+    match choices_of(alloc, catalog, pattern, 512)? {
+        Some(choices) => choices_shown(alloc, choices.as_slice()),
+        None => Err(Fail::from("too many")),
+    }
+}
+
+fn shown_of_query(alloc: Global, catalog: &Catalog, query: &Query) -> Result<String, Fail> {
+    let pattern = Pattern::of(alloc, query.clauses.as_slice())?;
+    shown_of(alloc, catalog, &pattern)
+}
+
+// The alternatives of a query's patterns, each before a `;`.
 fn all_shown(alloc: Global, catalog: &Catalog, text: &str) -> Result<String, Fail> {
     let query = queried(alloc, text)?;
-    let pattern = Pattern::of(alloc, query.clauses.as_slice())?;
-    let Some(choices) = choices_of(alloc, catalog, &pattern, 512)? else {
-        return Ok(String::from_str(alloc, "too many")?);
-    };
-    let mut text = String::new(alloc);
-    for choice in choices.as_slice() {
-        let one = shown(alloc, choice)?;
-        text.push_str(one.as_str())?;
-        text.push_str(";")?;
-    }
-    Ok(text)
+    shown_of_query(alloc, catalog, &query)
 }
 
 const PATTERNS: [(&str, &str); 12] = [
@@ -144,44 +173,72 @@ fn alternatives_stand_in_lexicographic_order(rt: HostRuntime) -> Result<(), Fail
     Ok(())
 }
 
-// How many alternatives there are, if no more than are wanted.
-fn counted(alloc: Global, catalog: &Catalog, text: &str, most: usize) -> Result<String, Fail> {
-    let query = queried(alloc, text)?;
-    let pattern = Pattern::of(alloc, query.clauses.as_slice())?;
-    match choices_of(alloc, catalog, &pattern, most)? {
-        None => Ok(String::from_str(alloc, "too many")?),
-        Some(choices) => {
-            let count = choices.len();
-            Ok(format!(in alloc; "{count}")?)
-        }
+fn count_of(
+    alloc: Global,
+    catalog: &Catalog,
+    pattern: &Pattern<'_>,
+    most: usize,
+) -> Result<Option<usize>, Fail> {
+    match choices_of(alloc, catalog, pattern, most)? {
+        Some(choices) => Ok(Some(choices.len())),
+        None => Ok(None),
     }
 }
 
-// So many node patterns, a limit, and how many alternatives there are.
-const LIMITS: [(usize, usize, &str); 4] = [
-    (9, 512, "512"),
-    (9, 511, "too many"),
-    (10, 512, "too many"),
-    (10, 1024, "1024"),
+fn count_of_query(
+    alloc: Global,
+    catalog: &Catalog,
+    query: &Query,
+    most: usize,
+) -> Result<Option<usize>, Fail> {
+    let pattern = Pattern::of(alloc, query.clauses.as_slice())?;
+    count_of(alloc, catalog, &pattern, most)
+}
+
+// How many alternatives there are, if no more than are wanted.
+fn counted(
+    alloc: Global,
+    catalog: &Catalog,
+    text: &str,
+    most: usize,
+) -> Result<Option<usize>, Fail> {
+    let query = queried(alloc, text)?;
+    count_of_query(alloc, catalog, &query, most)
+}
+
+// So many node patterns, a limit, and how many alternatives there are, if no more.
+const LIMITS: [(usize, usize, Option<usize>); 4] = [
+    (9, 512, Some(512)),
+    (9, 511, None),
+    (10, 512, None),
+    (10, 1024, Some(1024)),
 ];
 
 fn nodes_alone(alloc: Global, count: usize) -> Result<String, Fail> {
     let mut text = String::from_str(alloc, "MATCH (x0)")?;
     for number in 1..count {
-        let one = format!(in alloc; ", (x{number})")?;
-        text.push_str(one.as_str())?;
+        write!(text, ", (x{number})")?;
     }
     text.push_str(" RETURN 1")?;
     Ok(text)
+}
+
+fn nodes_counted(
+    alloc: Global,
+    catalog: &Catalog,
+    count: usize,
+    most: usize,
+) -> Result<Option<usize>, Fail> {
+    let text = nodes_alone(alloc, count)?;
+    counted(alloc, catalog, text.as_str(), most)
 }
 
 #[test]
 fn a_limit_is_kept(rt: HostRuntime) -> Result<(), Fail> {
     let catalog = persons_and_cities(rt.alloc())?;
     for (count, most, want) in LIMITS.iter() {
-        let text = nodes_alone(rt.alloc(), *count)?;
-        let got = counted(rt.alloc(), &catalog, text.as_str(), *most)?;
-        assert_eq!(rt; got.as_str(), *want);
+        let got = nodes_counted(rt.alloc(), &catalog, *count, *most)?;
+        assert_eq!(rt; got, *want);
     }
     Ok(())
 }
@@ -192,122 +249,161 @@ fn long_path(alloc: Global, first: &str, last: &str) -> Result<String, Fail> {
     for _ in 0u32..22 {
         text.push_str("-[]->()")?;
     }
-    let end = format!(in alloc; "-[{last}]->() RETURN 1")?;
-    text.push_str(end.as_str())?;
+    write!(text, "-[{last}]->() RETURN 1")?;
     Ok(text)
 }
 
+fn path_counted(
+    alloc: Global,
+    catalog: &Catalog,
+    first: &str,
+    last: &str,
+) -> Result<Option<usize>, Fail> {
+    let text = long_path(alloc, first, last)?;
+    counted(alloc, catalog, text.as_str(), 512)
+}
+
 // How a path begins and ends, and how many alternatives it has, if no more than 512.
-const LONG: [(&str, &str, &str); 4] = [
-    ("", "", "too many"),
-    ("", ":NOTHING", "0"),
-    ("", ":Last", "1"),
-    (":One", ":Last", "0"),
+const LONG: [(&str, &str, Option<usize>); 4] = [
+    ("", "", None),
+    ("", ":NOTHING", Some(0)),
+    ("", ":Last", Some(1)),
+    (":One", ":Last", Some(0)),
 ];
 
 #[test]
 fn a_long_path_is_searched_at_once(rt: HostRuntime) -> Result<(), Fail> {
-    let alloc = rt.alloc();
-    let catalog = many_types(alloc)?;
+    let catalog = many_types(rt.alloc())?;
     for (first, last, want) in LONG.iter() {
-        let text = long_path(alloc, first, last)?;
-        let got = counted(alloc, &catalog, text.as_str(), 512)?;
-        assert_eq!(rt; got.as_str(), *want);
+        let got = path_counted(rt.alloc(), &catalog, first, last)?;
+        assert_eq!(rt; got, *want);
     }
     Ok(())
 }
 
-fn named(alloc: Global, query: &Query, pattern: &Pattern<'_>) -> Result<List<NamedExpr>, Fail> {
-    let scope = pattern.scope(&[])?;
-    let mut all = List::new(alloc);
-    for item in query.items.as_slice() {
-        let Some(expr) = resolve(alloc, CallForm::Functions, &scope, &item.tree)? else {
-            return Err(Fail::from("an unknown name"));
-        };
-        all.push(NamedExpr {
-            name: Text::new(alloc, "")?,
+fn nameless_expr(alloc: Global, scope: &Scope<'_>, tree: &Ast) -> Result<NamedExpr, Fail> {
+    match resolve(alloc, CallForm::Functions, scope, tree)? {
+        Some(expr) => Ok(NamedExpr {
+            name: nameless(alloc),
             expr,
-        })?;
+        }),
+        None => Err(Fail::from("an unknown name")),
+    }
+}
+
+fn named(alloc: Global, scope: &Scope<'_>, items: &[Item]) -> Result<List<NamedExpr>, Fail> {
+    let mut all = List::new(alloc);
+    for item in items {
+        all.push(nameless_expr(alloc, scope, &item.tree)?)?;
     }
     Ok(all)
 }
 
-// The last alternative, with the columns of the query as its conjuncts.
-fn last_typed(alloc: Global, catalog: &Catalog, text: &str) -> Result<Typed, Fail> {
-    let query = queried(alloc, text)?;
-    let pattern = Pattern::of(alloc, query.clauses.as_slice())?;
-    let conjuncts = named(alloc, &query, &pattern)?;
-    let Some(choices) = choices_of(alloc, catalog, &pattern, 512)? else {
-        return Err(Fail::from("too many"));
-    };
-    let Some(choice) = choices.as_slice().last() else {
-        return Err(Fail::from("no alternative"));
-    };
-    Ok(typed(alloc, catalog, &pattern, &[], conjuncts.as_slice(), choice)?)
-}
-
-fn rels_shown(alloc: Global, alternative: &Typed) -> Result<String, Fail> {
-    let mut text = String::new(alloc);
-    for rel in alternative.rels.as_slice() {
-        let table = rel.table;
-        let source = rel.source;
-        let target = rel.target;
+// The relationships, the pairs and the conjuncts of an alternative.
+fn push_rels(text: &mut String, rels: &[TypedRel]) -> Result<(), Fail> {
+    for rel in rels {
         let loops = if rel.no_loop { " without loops" } else { "" };
-        let one = format!(in alloc; "{table} from {source} to {target}{loops}; ")?;
-        text.push_str(one.as_str())?;
+        write!(
+            text,
+            "{} from {} to {}{loops}; ",
+            rel.table, rel.source, rel.target
+        )?;
     }
-    Ok(text)
+    Ok(())
 }
 
-fn pairs_shown(alloc: Global, alternative: &Typed) -> Result<String, Fail> {
+fn push_pairs(text: &mut String, pairs: &[RelPair]) -> Result<(), Fail> {
+    for pair in pairs {
+        write!(text, "{} and {}; ", pair.first, pair.second)?;
+    }
+    Ok(())
+}
+
+fn push_late(text: &mut String, early: usize, late: &[u32]) -> Result<(), Fail> {
+    write!(text, "{early} early")?;
+    for number in late {
+        write!(text, ", {number} late")?;
+    }
+    Ok(())
+}
+
+fn push_typed(text: &mut String, alternative: &Typed) -> Result<(), Fail> {
+    push_rels(text, alternative.rels.as_slice())?;
+    push_pairs(text, alternative.pairs.as_slice())?;
+    push_late(text, alternative.tests.len(), alternative.late.as_slice())
+}
+
+fn typed_shown(alloc: Global, alternative: &Typed) -> Result<String, Fail> {
     let mut text = String::new(alloc);
-    for pair in alternative.pairs.as_slice() {
-        let first = pair.first;
-        let second = pair.second;
-        let one = format!(in alloc; "{first} and {second}; ")?;
-        text.push_str(one.as_str())?;
-    }
+    push_typed(&mut text, alternative)?;
     Ok(text)
 }
 
-fn late_shown(alloc: Global, alternative: &Typed) -> Result<String, Fail> {
-    let count = alternative.tests.len();
-    let mut text = format!(in alloc; "{count} early")?;
-    for number in alternative.late.as_slice() {
-        let one = format!(in alloc; ", {number} late")?;
-        text.push_str(one.as_str())?;
+fn choice_shown(
+    alloc: Global,
+    catalog: &Catalog,
+    pattern: &Pattern<'_>,
+    conjuncts: &[NamedExpr],
+    choice: &Choice,
+) -> Result<String, Fail> {
+    let alternative = typed(alloc, catalog, pattern, &[], conjuncts, choice)?;
+    typed_shown(alloc, &alternative)
+}
+
+fn last_of(
+    alloc: Global,
+    catalog: &Catalog,
+    pattern: &Pattern<'_>,
+    conjuncts: &[NamedExpr],
+) -> Result<String, Fail> {
+    match choices_of(alloc, catalog, pattern, 512)? {
+        Some(choices) => match choices.as_slice() {
+            [.., choice] => choice_shown(alloc, catalog, pattern, conjuncts, choice),
+            [] => Err(Fail::from("no alternative")),
+        },
+        None => Err(Fail::from("too many")),
     }
-    Ok(text)
 }
 
-const READINGS: &str =
-    "MATCH (a)-[:KNOWS]-(b)<-[:KNOWS]-(c)-[:LIVES_IN]->(d) MATCH (a)-[:KNOWS]->(c) RETURN 1";
-
-#[test]
-fn an_alternative_has_its_relationships(rt: HostRuntime) -> Result<(), Fail> {
-    let catalog = persons_and_cities(rt.alloc())?;
-    let alternative = last_typed(rt.alloc(), &catalog, READINGS)?;
-    let got = rels_shown(rt.alloc(), &alternative)?;
-    let want = "0 from 1 to 0 without loops; 0 from 2 to 1; 1 from 2 to 3; 0 from 0 to 2; ";
-    assert_eq!(rt; got.as_str(), want);
-    Ok(())
+fn last_of_pattern(
+    alloc: Global,
+    catalog: &Catalog,
+    pattern: &Pattern<'_>,
+    items: &[Item],
+) -> Result<String, Fail> {
+    let conjuncts = named(alloc, &pattern.scope(&[])?, items)?;
+    last_of(alloc, catalog, pattern, conjuncts.as_slice())
 }
 
-#[test]
-fn pairs_are_of_one_clause_and_one_table(rt: HostRuntime) -> Result<(), Fail> {
-    let catalog = persons_and_cities(rt.alloc())?;
-    let alternative = last_typed(rt.alloc(), &catalog, READINGS)?;
-    let got = pairs_shown(rt.alloc(), &alternative)?;
-    assert_eq!(rt; got.as_str(), "0 and 1; ");
-    Ok(())
+fn last_of_query(alloc: Global, catalog: &Catalog, query: &Query) -> Result<String, Fail> {
+    let pattern = Pattern::of(alloc, query.clauses.as_slice())?;
+    last_of_pattern(alloc, catalog, &pattern, query.items.as_slice())
 }
 
+// The last alternative, with the columns of the query as its conjuncts.
+fn last_shown(alloc: Global, catalog: &Catalog, text: &str) -> Result<String, Fail> {
+    let query = queried(alloc, text)?;
+    last_of_query(alloc, catalog, &query)
+}
+
+const TYPED: [(&str, &str); 2] = [
+    (
+        "MATCH (a)-[:KNOWS]-(b)<-[:KNOWS]-(c)-[:LIVES_IN]->(d) MATCH (a)-[:KNOWS]->(c) RETURN 1",
+        "0 from 1 to 0 without loops; 0 from 2 to 1; 1 from 2 to 3; 0 from 0 to 2; 0 and 1; 0 early, 0 late",
+    ),
+    (
+        "MATCH (a) RETURN a.x + 1 = 2, a.x = 2, -1 = 1",
+        "1 early, 0 late, 2 late",
+    ),
+];
+
+// Pairs are of one clause and one table, and conjuncts that may fault are late.
 #[test]
-fn conjuncts_that_may_fault_are_late(rt: HostRuntime) -> Result<(), Fail> {
+fn an_alternative_has_relationships_pairs_and_conjuncts(rt: HostRuntime) -> Result<(), Fail> {
     let catalog = persons_and_cities(rt.alloc())?;
-    let text = "MATCH (a) RETURN a.x + 1 = 2, a.x = 2, -1 = 1";
-    let alternative = last_typed(rt.alloc(), &catalog, text)?;
-    let got = late_shown(rt.alloc(), &alternative)?;
-    assert_eq!(rt; got.as_str(), "1 early, 0 late, 2 late");
+    for (text, want) in TYPED.iter() {
+        let got = last_shown(rt.alloc(), &catalog, text)?;
+        assert_eq!(rt; got.as_str(), *want);
+    }
     Ok(())
 }
