@@ -9,58 +9,68 @@ use std::alloc::Global;
 use std::str::SplitWhitespace;
 use std::test::Fail;
 
+fn field(alloc: Global, word: &str) -> Result<Field, Fail> {
+    let (name, kind) = match word.split_once(':') {
+        Some((name, "string")) => (name, Kind::Str),
+        Some((name, "int")) => (name, Kind::Int),
+        _ => return Err(Fail::from("no field")),
+    };
+    Ok(Field {
+        name: Text::new(alloc, name)?,
+        kind,
+    })
+}
+
 // Words are fields: a name and its kind.
 fn fields(alloc: Global, words: &str) -> Result<List<Field>, Fail> {
     let mut fields = List::new(alloc);
     for word in words.split_whitespace() {
-        let (name, kind) = match word.split_once(':') {
-            Some((name, "string")) => (name, Kind::Str),
-            Some((name, "int")) => (name, Kind::Int),
-            _ => return Err(Fail::from("no field")),
-        };
-        fields.push(Field {
-            name: Text::new(alloc, name)?,
-            kind,
-        })?;
+        fields.push(field(alloc, word)?)?;
     }
     Ok(fields)
 }
 
-fn add_label(alloc: Global, catalog: &mut Catalog, label: &str, words: &str) -> Result<(), Fail> {
-    if catalog.find_label(label).is_some() || catalog.node_tables() > 1 {
+fn nameless(alloc: Global) -> Text {
+    Text::from_string(String::new(alloc))
+}
+
+fn node_table(alloc: Global, label: &str, words: &str) -> Result<NodeTable, Fail> {
+    let label = Text::new(alloc, label)?;
+    Ok(NodeTable {
+        label,
+        file: nameless(alloc),
+        fields: fields(alloc, words)?,
+    })
+}
+
+fn add_label(catalog: &mut Catalog, table: NodeTable) -> Result<(), Fail> {
+    if catalog.find_label(table.label.as_str()).is_some() || catalog.node_tables() > 1 {
         return Err(Fail::from("a label too many"));
     }
-    catalog.add_node(NodeTable {
-        label: Text::new(alloc, label)?,
-        file: Text::new(alloc, "nodes.csv")?,
-        fields: fields(alloc, words)?,
-    })?;
-    Ok(())
+    Ok(catalog.add_node(table)?)
 }
 
 // Relationships from persons to nodes of a table.
-fn add_type(
-    alloc: Global,
-    catalog: &mut Catalog,
-    name: &str,
-    to: u32,
-    words: &str,
-) -> Result<(), Fail> {
-    if catalog.find_type(name).is_some() || catalog.rel_tables() > 1 {
-        return Err(Fail::from("a type too many"));
-    }
-    if to >= catalog.node_tables() {
-        return Err(Fail::from("no such label"));
-    }
-    catalog.add_rel(RelTable {
-        name: Text::new(alloc, name)?,
+fn rel_table(alloc: Global, name: &str, to: u32, words: &str) -> Result<RelTable, Fail> {
+    let name = Text::new(alloc, name)?;
+    Ok(RelTable {
+        name,
         from: 0,
         to,
         mult: Mult::ManyMany,
-        file: Text::new(alloc, "rels.csv")?,
+        file: nameless(alloc),
         fields: fields(alloc, words)?,
-    })?;
-    Ok(())
+    })
+}
+
+fn add_type(catalog: &mut Catalog, table: RelTable) -> Result<(), Fail> {
+    if catalog.find_type(table.name.as_str()).is_some() || catalog.rel_tables() > 1 {
+        return Err(Fail::from("a type too many"));
+    }
+    if table.from >= catalog.node_tables() || table.to >= catalog.node_tables() {
+        return Err(Fail::from("no such label"));
+    }
+    Ok(catalog.add_rel(table)?)
 }
 
 // The cells that words spell: `-` for null, a number, or else a text.
@@ -93,24 +103,25 @@ fn push_nodes(alloc: Global, graph: &mut PlainGraph, table: u32, text: &str) -> 
     Ok(())
 }
 
-// Each line is a relationship: the rows of both ends, and then the cells.
+// The rows of both ends, and then the cells.
+fn rel(alloc: Global, line: &str) -> Result<PlainRel, Fail> {
+    let mut words = line.split_whitespace();
+    let source = end(words.next())?;
+    let target = end(words.next())?;
+    Ok(PlainRel {
+        source,
+        target,
+        cells: cells(alloc, words)?,
+    })
+}
+
+// Each line is a relationship.
 fn push_rels(alloc: Global, graph: &mut PlainGraph, table: u32, text: &str) -> Result<(), Fail> {
     for line in text.lines() {
         if table >= graph.catalog().rel_tables() {
             return Err(Fail::from("no such type"));
         }
-        let mut words = line.split_whitespace();
-        let source = end(words.next())?;
-        let target = end(words.next())?;
-        let cells = cells(alloc, words)?;
-        graph.push_rel(
-            table,
-            PlainRel {
-                source,
-                target,
-                cells,
-            },
-        )?;
+        graph.push_rel(table, rel(alloc, line)?)?;
     }
     Ok(())
 }
@@ -122,24 +133,39 @@ fn end(word: Option<&str>) -> Result<u32, Fail> {
     }
 }
 
-// Persons 1, 2 and 3 and cities X and Y. Acquaintances lead from 1 to 2 twice, from 2 to 1, from 1 to 3, and from 3 to
-// itself; 1 and 3 live in X.
-fn sample(alloc: Global) -> Result<PlainGraph, Fail> {
+fn add_tables(alloc: Global, catalog: &mut Catalog) -> Result<(), Fail> {
+    add_label(
+        catalog,
+        node_table(alloc, "Person", "id:int name:string age:int")?,
+    )?;
+    add_label(catalog, node_table(alloc, "City", "code:string pop:int")?)?;
+    add_type(catalog, rel_table(alloc, "KNOWS", 0, "since:int")?)?;
+    add_type(catalog, rel_table(alloc, "LIVES_IN", 1, "")?)
+}
+
+fn empty_graph(alloc: Global) -> Result<PlainGraph, Fail> {
     let mut catalog = Catalog::new(alloc);
-    add_label(alloc, &mut catalog, "Person", "id:int name:string age:int")?;
-    add_label(alloc, &mut catalog, "City", "code:string pop:int")?;
-    add_type(alloc, &mut catalog, "KNOWS", 0, "since:int")?;
-    add_type(alloc, &mut catalog, "LIVES_IN", 1, "")?;
-    let mut graph = PlainGraph::new(alloc, catalog)?;
-    push_nodes(alloc, &mut graph, 0, "1 Ann 30\n2 Bob -\n3 Cy 25")?;
-    push_nodes(alloc, &mut graph, 1, "X 100\nY -")?;
+    add_tables(alloc, &mut catalog)?;
+    Ok(PlainGraph::new(alloc, catalog)?)
+}
+
+fn push_rows(alloc: Global, graph: &mut PlainGraph) -> Result<(), Fail> {
+    push_nodes(alloc, graph, 0, "1 Ann 30\n2 Bob -\n3 Cy 25")?;
+    push_nodes(alloc, graph, 1, "X 100\nY -")?;
     push_rels(
         alloc,
-        &mut graph,
+        graph,
         0,
         "0 1 2010\n1 0 2011\n0 2 -\n2 2 2015\n0 1 2012",
     )?;
-    push_rels(alloc, &mut graph, 1, "0 0\n2 0")?;
+    push_rels(alloc, graph, 1, "0 0\n2 0")
+}
+
+// Persons 1, 2 and 3 and cities X and Y. Acquaintances lead from 1 to 2 twice, from 2 to 1, from 1 to 3, and from 3 to
+// itself; 1 and 3 live in X.
+fn sample(alloc: Global) -> Result<PlainGraph, Fail> {
+    let mut graph = empty_graph(alloc)?;
+    push_rows(alloc, &mut graph)?;
     Ok(graph)
 }
 
@@ -193,16 +219,32 @@ fn queried(alloc: Global, text: &str) -> Result<Query, Fail> {
     }
 }
 
-// The matches of a query: the nodes and then the relationships of each one, behind a blank.
-fn matches_shown(alloc: Global, graph: &PlainGraph, text: &str) -> Result<String, Fail> {
-    let query = queried(alloc, text)?;
-    let pattern = Pattern::of(alloc, query.clauses.as_slice())?;
-    let found = matches(alloc, graph, &pattern)?;
+fn all_shown(alloc: Global, found: &[Match]) -> Result<String, Fail> {
     let mut text = String::new(alloc);
-    for found in found.as_slice() {
+    for found in found {
         push_match(&mut text, found)?;
     }
     Ok(text)
+}
+
+fn shown_of_pattern(
+    alloc: Global,
+    graph: &PlainGraph,
+    pattern: &Pattern<'_>,
+) -> Result<String, Fail> {
+    let found = matches(alloc, graph, pattern)?;
+    all_shown(alloc, found.as_slice())
+}
+
+fn shown_of_query(alloc: Global, graph: &PlainGraph, query: &Query) -> Result<String, Fail> {
+    let pattern = Pattern::of(alloc, query.clauses.as_slice())?;
+    shown_of_pattern(alloc, graph, &pattern)
+}
+
+// The matches of a query: the nodes and then the relationships of each one, behind a blank.
+fn matches_shown(alloc: Global, graph: &PlainGraph, text: &str) -> Result<String, Fail> {
+    let query = queried(alloc, text)?;
+    shown_of_query(alloc, graph, &query)
 }
 
 const QUERIES: [(&str, &str); 22] = [
@@ -259,11 +301,10 @@ const QUERIES: [(&str, &str); 22] = [
 
 #[test]
 fn matches_are_all_assignments_that_hold(rt: HostRuntime) -> Result<(), Fail> {
-    let alloc = rt.alloc();
-    let graph = sample(alloc)?;
+    let graph = sample(rt.alloc())?;
     for (text, want) in QUERIES.iter() {
-        let got = matches_shown(alloc, &graph, text)?;
-        assert_eq!(rt; got.as_str(), *want, "{text}");
+        let got = matches_shown(rt.alloc(), &graph, text)?;
+        assert_eq!(rt; got.as_str(), *want);
     }
     Ok(())
 }
