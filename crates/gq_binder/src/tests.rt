@@ -5,10 +5,11 @@ use crate::columns::{columns_of, repeated_column};
 use crate::pattern_checks::{conflict, repeated};
 use crate::{BindRefusal, bind, refusal_of};
 use gq_base::{Catalog, Field, Kind, List, Mult, NodeTable, RelTable, Text};
-use gq_plan::{NamedExpr, Typed};
-use gq_scopes::{CallForm, Pattern};
+use gq_plan::{Bound, NamedExpr, Typed};
+use gq_scopes::{CallForm, Column, NamedVariable, Pattern};
 use gq_syntax::{Query, Statement, parse};
 use std::alloc::Global;
+use std::fmt::Write;
 use std::test::Fail;
 
 fn queried(rt: &HostRuntime, text: &str) -> Result<Query, Fail> {
@@ -29,22 +30,61 @@ fn shown<'t>(name: Option<&'t Text>) -> &'t str {
     }
 }
 
+// Each name of a column, before a comma.
+fn push_columns(text: &mut String, columns: &[Column]) -> Result<(), Fail> {
+    for column in columns {
+        text.push_str(column.name.as_str())?;
+        text.push_str(",")?;
+    }
+    Ok(())
+}
+
+fn push_name(text: &mut String, name: Option<&Text>) -> Result<(), Fail> {
+    text.push_str(" ")?;
+    Ok(text.push_str(shown(name))?)
+}
+
+fn push_checks(
+    text: &mut String,
+    named: &[NamedVariable<'_>],
+    columns: &[Column],
+) -> Result<(), Fail> {
+    push_columns(text, columns)?;
+    push_name(text, conflict(named))?;
+    push_name(text, repeated(named))?;
+    push_name(text, repeated_column(columns))
+}
+
+fn checks_shown(
+    alloc: Global,
+    named: &[NamedVariable<'_>],
+    columns: &[Column],
+) -> Result<String, Fail> {
+    let mut text = String::new(alloc);
+    push_checks(&mut text, named, columns)?;
+    Ok(text)
+}
+
+fn columns_over(
+    alloc: Global,
+    text: &str,
+    pattern: &Pattern<'_>,
+    query: &Query,
+) -> Result<String, Fail> {
+    let columns = columns_of(alloc, CallForm::Lists, text.as_bytes(), pattern, query)?;
+    checks_shown(alloc, pattern.named(), columns.as_slice())
+}
+
+fn columns_of_query(alloc: Global, text: &str, query: &Query) -> Result<String, Fail> {
+    let pattern = Pattern::of(alloc, query.clauses.as_slice())?;
+    columns_over(alloc, text, &pattern, query)
+}
+
 // The names of a query's columns, the name of two forms, the relationship that stands twice and the column that stands
 // twice.
 fn columns_shown(rt: &HostRuntime, text: &str) -> Result<String, Fail> {
-    let alloc = rt.alloc();
     let query = queried(rt, text)?;
-    let pattern = Pattern::of(alloc, query.clauses.as_slice())?;
-    let columns = columns_of(alloc, CallForm::Lists, text.as_bytes(), &pattern, &query)?;
-    let mut names = String::new(alloc);
-    for column in columns.as_slice() {
-        names.push_str(column.name.as_str())?;
-        names.push_str(",")?;
-    }
-    let conflict = shown(conflict(pattern.named()));
-    let repeated = shown(repeated(pattern.named()));
-    let column = shown(repeated_column(columns.as_slice()));
-    Ok(format!(in alloc; "{names} {conflict} {repeated} {column}")?)
+    columns_of_query(rt.alloc(), text, &query)
 }
 
 const COLUMNS: [(&str, &str); 4] = [
@@ -72,81 +112,87 @@ fn columns_have_their_names(rt: HostRuntime) -> Result<(), Fail> {
     Ok(())
 }
 
-fn fields(alloc: Global, names: &[&str], kind: Kind) -> Result<List<Field>, Fail> {
+fn field(alloc: Global, name: &str, kind: Kind) -> Result<Field, Fail> {
+    Ok(Field {
+        name: Text::new(alloc, name)?,
+        kind,
+    })
+}
+
+fn fields(alloc: Global, all: &[(&str, Kind)]) -> Result<List<Field>, Fail> {
     let mut fields = List::new(alloc);
-    for name in names {
-        let name = Text::new(alloc, name)?;
-        fields.push(Field { name, kind })?;
+    for (name, kind) in all {
+        fields.push(field(alloc, name, *kind)?)?;
     }
     Ok(fields)
 }
 
-fn add_node(
-    alloc: Global,
-    catalog: &mut Catalog,
-    label: &str,
-    fields: List<Field>,
-) -> Result<(), Fail> {
-    if catalog.node_tables() > 100 || catalog.find_label(label).is_some() {
-        return Err(Fail::from("no new label"));
-    }
-    catalog.add_node(NodeTable {
-        label: Text::new(alloc, label)?,
-        file: Text::new(alloc, "")?,
-        fields,
-    })?;
-    Ok(())
+fn nameless(alloc: Global) -> Text {
+    Text::from_string(String::new(alloc))
 }
 
-fn add_rel(
-    alloc: Global,
-    catalog: &mut Catalog,
-    name: &str,
-    from: u32,
-    to: u32,
-) -> Result<(), Fail> {
-    if catalog.rel_tables() > 100 || catalog.find_type(name).is_some() {
-        return Err(Fail::from("no new type"));
+fn node_table(alloc: Global, label: &str, all: &[(&str, Kind)]) -> Result<NodeTable, Fail> {
+    let label = Text::new(alloc, label)?;
+    Ok(NodeTable {
+        label,
+        file: nameless(alloc),
+        fields: fields(alloc, all)?,
+    })
+}
+
+fn add_node(catalog: &mut Catalog, table: NodeTable) -> Result<(), Fail> {
+    if catalog.node_tables() > 100 || catalog.find_label(table.label.as_str()).is_some() {
+        return Err(Fail::from("no new label"));
     }
-    if from >= catalog.node_tables() || to >= catalog.node_tables() {
-        return Err(Fail::from("no table"));
-    }
-    catalog.add_rel(RelTable {
-        name: Text::new(alloc, name)?,
-        from,
+    Ok(catalog.add_node(table)?)
+}
+
+fn rel_table(alloc: Global, name: &str, to: u32) -> Result<RelTable, Fail> {
+    let name = Text::new(alloc, name)?;
+    Ok(RelTable {
+        name,
+        from: 0,
         to,
         mult: Mult::ManyMany,
-        file: Text::new(alloc, "")?,
-        fields: fields(alloc, &["since"], Kind::Int)?,
-    })?;
-    Ok(())
+        file: nameless(alloc),
+        fields: fields(alloc, &[("since", Kind::Int)])?,
+    })
+}
+
+fn add_rel(catalog: &mut Catalog, table: RelTable) -> Result<(), Fail> {
+    if catalog.rel_tables() > 100 || catalog.find_type(table.name.as_str()).is_some() {
+        return Err(Fail::from("no new type"));
+    }
+    if table.from >= catalog.node_tables() || table.to >= catalog.node_tables() {
+        return Err(Fail::from("no table"));
+    }
+    Ok(catalog.add_rel(table)?)
+}
+
+const PERSON: [(&str, Kind); 3] = [("id", Kind::Int), ("age", Kind::Int), ("name", Kind::Str)];
+
+fn add_tables(alloc: Global, catalog: &mut Catalog) -> Result<(), Fail> {
+    add_node(catalog, node_table(alloc, "Person", &PERSON)?)?;
+    add_node(catalog, node_table(alloc, "City", &[("pop", Kind::Int)])?)?;
+    add_rel(catalog, rel_table(alloc, "KNOWS", 0)?)?;
+    add_rel(catalog, rel_table(alloc, "LIVES_IN", 1)?)
 }
 
 fn persons_and_cities(alloc: Global) -> Result<Catalog, Fail> {
     let mut catalog = Catalog::new(alloc);
-    let mut person = fields(alloc, &["id", "age"], Kind::Int)?;
-    person.push(Field {
-        name: Text::new(alloc, "name")?,
-        kind: Kind::Str,
-    })?;
-    add_node(alloc, &mut catalog, "Person", person)?;
-    let city = fields(alloc, &["pop"], Kind::Int)?;
-    add_node(alloc, &mut catalog, "City", city)?;
-    add_rel(alloc, &mut catalog, "KNOWS", 0, 0)?;
-    add_rel(alloc, &mut catalog, "LIVES_IN", 0, 1)?;
+    add_tables(alloc, &mut catalog)?;
     Ok(catalog)
 }
 
-fn told(alloc: Global, refusal: &BindRefusal) -> Result<String, Fail> {
-    let (kind, name) = match refusal {
+// The name of a refusal, and the name that it tells.
+fn parts(refusal: &BindRefusal) -> (&str, &str) {
+    match refusal {
         BindRefusal::UnknownVariable { name } => ("UnknownVariable", name.as_str()),
         BindRefusal::VariableConflict { name } => ("VariableConflict", name.as_str()),
         BindRefusal::RelationshipRepeated { name } => ("RelationshipRepeated", name.as_str()),
         BindRefusal::ColumnRepeated { name } => ("ColumnRepeated", name.as_str()),
         BindRefusal::NothingToReturn => ("NothingToReturn", ""),
-        BindRefusal::OrderOutOfScope { item } => {
-            return Ok(format!(in alloc; "OrderOutOfScope {item}")?);
-        }
+        BindRefusal::OrderOutOfScope { .. } => ("OrderOutOfScope", ""),
         BindRefusal::AmbiguousOrderName { name } => ("AmbiguousOrderName", name.as_str()),
         BindRefusal::UnknownFunction { name } => ("UnknownFunction", name.as_str()),
         BindRefusal::ArgumentCount { name } => ("ArgumentCount", name.as_str()),
@@ -155,22 +201,32 @@ fn told(alloc: Global, refusal: &BindRefusal) -> Result<String, Fail> {
         BindRefusal::TooManyColumns => ("TooManyColumns", ""),
         BindRefusal::TooManyAlternatives => ("TooManyAlternatives", ""),
         BindRefusal::Memory => ("Memory", ""),
-    };
-    Ok(format!(in alloc; "{kind} {name}")?)
+    }
 }
 
-fn refused(rt: &HostRuntime, text: &str) -> Result<String, Fail> {
-    let alloc = rt.alloc();
-    let query = queried(rt, text)?;
-    let catalog = persons_and_cities(alloc)?;
-    match refusal_of(alloc, &query, text.as_bytes(), &catalog)? {
+fn told(alloc: Global, refusal: &BindRefusal) -> Result<String, Fail> {
+    let (kind, name) = parts(refusal);
+    match refusal {
+        BindRefusal::OrderOutOfScope { item } => Ok(format!(in alloc; "{kind} {item}")?),
+        _ => Ok(format!(in alloc; "{kind} {name}")?),
+    }
+}
+
+fn told_over(alloc: Global, catalog: &Catalog, text: &str, query: &Query) -> Result<String, Fail> {
+    match refusal_of(alloc, query, text.as_bytes(), catalog)? {
         Some(refusal) => told(alloc, &refusal),
         None => Ok(String::from_str(alloc, "-")?),
     }
 }
 
-// Each refusal of names, and where two checks apply the earlier one.
-const REFUSALS: [(&str, &str); 21] = [
+fn refused(rt: &HostRuntime, catalog: &Catalog, text: &str) -> Result<String, Fail> {
+    let query = queried(rt, text)?;
+    told_over(rt.alloc(), catalog, text, &query)
+}
+
+// Each refusal of names, and where two checks apply the earlier one. Nine node patterns over two tables have 512
+// alternatives, and ten have 1,024.
+const REFUSALS: [(&str, &str); 23] = [
     ("MATCH (a) RETURN b", "UnknownVariable b"),
     ("MATCH (a)-[a]->(b) RETURN b", "VariableConflict a"),
     (
@@ -225,139 +281,181 @@ const REFUSALS: [(&str, &str); 21] = [
         "UnknownFunction size",
     ),
     ("MATCH (x:Nobody) RETURN x", "-"),
+    ("MATCH (), (), (), (), (), (), (), (), () RETURN 1", "-"),
+    (
+        "MATCH (), (), (), (), (), (), (), (), (), () RETURN 1",
+        "TooManyAlternatives ",
+    ),
 ];
 
 #[test]
 fn the_first_check_that_applies_refuses(rt: HostRuntime) -> Result<(), Fail> {
+    let catalog = persons_and_cities(rt.alloc())?;
     for (text, want) in REFUSALS.iter() {
-        let got = refused(&rt, text)?;
+        let got = refused(&rt, &catalog, text)?;
         assert_eq!(rt; got.as_str(), *want);
     }
     Ok(())
 }
 
-// A text with so many numbers, counted from 0, and a text between them.
-fn repeated_text(
-    alloc: Global,
-    front: &str,
-    between: &str,
-    count: u32,
-    back: &str,
-) -> Result<String, Fail> {
-    let mut text = String::from_str(alloc, front)?;
+// A text with numbers, which are counted from 0, and a text between them.
+#[derive(Clone, Copy)]
+struct Numbered {
+    front: &'static str,
+    between: &'static str,
+    back: &'static str,
+}
+
+const READS: Numbered = Numbered {
+    front: "MATCH (p) WHERE p.x",
+    between: " = 1 OR p.x",
+    back: " = 2 RETURN 1",
+};
+
+const COLUMN_LIST: Numbered = Numbered {
+    front: "MATCH (p) RETURN p.x",
+    between: ", p.x",
+    back: "",
+};
+
+const NODES: Numbered = Numbered {
+    front: "MATCH (:Person {x",
+    between: ": 1}), (:Person {x",
+    back: ": 1}) RETURN 1",
+};
+
+// So many numbers, and what is refused.
+const LIMITS: [(Numbered, u32, &str); 6] = [
+    (READS, 64, "-"),
+    (READS, 65, "TooManyReads "),
+    (COLUMN_LIST, 64, "-"),
+    (COLUMN_LIST, 65, "TooManyColumns "),
+    (NODES, 24, "-"),
+    (NODES, 25, "TooManyPatterns "),
+];
+
+fn repeated_text(alloc: Global, form: &Numbered, count: u32) -> Result<String, Fail> {
+    let mut text = String::from_str(alloc, form.front)?;
     for number in 0..count {
-        if number > 0 {
-            text.push_str(between)?;
-        }
-        let one = format!(in alloc; "{number}")?;
-        text.push_str(one.as_str())?;
+        let between = if number == 0 { "" } else { form.between };
+        write!(text, "{between}{number}")?;
     }
-    text.push_str(back)?;
+    text.push_str(form.back)?;
     Ok(text)
 }
 
-const LIMITS: [(&str, &str, &str, &str); 3] = [
-    (
-        "MATCH (p) WHERE p.x",
-        " = 1 OR p.x",
-        " = 2 RETURN 1",
-        "TooManyReads ",
-    ),
-    ("MATCH (p) RETURN p.x", ", p.x", "", "TooManyColumns "),
-    (
-        "MATCH (:Person {x",
-        ": 1}), (:Person {x",
-        ": 1}) RETURN 1",
-        "TooManyPatterns ",
-    ),
-];
-
-const MOST: [u32; 3] = [64, 64, 24];
+fn refused_form(
+    rt: &HostRuntime,
+    catalog: &Catalog,
+    form: &Numbered,
+    count: u32,
+) -> Result<String, Fail> {
+    let text = repeated_text(rt.alloc(), form, count)?;
+    refused(rt, catalog, text.as_str())
+}
 
 #[test]
 fn a_limit_is_reached_and_not_passed(rt: HostRuntime) -> Result<(), Fail> {
-    for (limit, most) in LIMITS.iter().zip(MOST.iter()) {
-        let (front, between, back, want) = *limit;
-        let fits = repeated_text(rt.alloc(), front, between, *most, back)?;
-        let got = refused(&rt, fits.as_str())?;
-        assert_eq!(rt; got.as_str(), "-");
-        let over = repeated_text(rt.alloc(), front, between, most.saturating_add(1), back)?;
-        let got = refused(&rt, over.as_str())?;
-        assert_eq!(rt; got.as_str(), want);
+    let catalog = persons_and_cities(rt.alloc())?;
+    for (form, count, want) in LIMITS.iter() {
+        let got = refused_form(&rt, &catalog, form, *count)?;
+        assert_eq!(rt; got.as_str(), *want);
     }
     Ok(())
 }
 
-// Nine node patterns over two tables have 512 alternatives, and ten have 1,024.
-#[test]
-fn more_than_512_alternatives_are_refused(rt: HostRuntime) -> Result<(), Fail> {
-    let nine = "MATCH (), (), (), (), (), (), (), (), () RETURN 1";
-    let got = refused(&rt, nine)?;
-    assert_eq!(rt; got.as_str(), "-");
-    let ten = "MATCH (), (), (), (), (), (), (), (), (), () RETURN 1";
-    let got = refused(&rt, ten)?;
-    assert_eq!(rt; got.as_str(), "TooManyAlternatives ");
-    Ok(())
-}
-
-fn names(alloc: Global, texts: &[Text]) -> Result<String, Fail> {
-    let mut all = String::new(alloc);
-    for text in texts {
-        all.push_str(text.as_str())?;
-        all.push_str(",")?;
+fn push_names(text: &mut String, names: &[Text]) -> Result<(), Fail> {
+    for name in names {
+        text.push_str(name.as_str())?;
+        text.push_str(",")?;
     }
-    Ok(all)
+    Ok(text.push_str(" ")?)
 }
 
-fn named(alloc: Global, exprs: &[NamedExpr]) -> Result<String, Fail> {
-    let mut all = String::new(alloc);
+fn push_exprs(text: &mut String, exprs: &[NamedExpr]) -> Result<(), Fail> {
     for expr in exprs {
-        all.push_str(expr.name.as_str())?;
-        all.push_str(";")?;
+        text.push_str(expr.name.as_str())?;
+        text.push_str(";")?;
     }
-    Ok(all)
+    Ok(text.push_str(" ")?)
 }
 
-fn alternative(alloc: Global, typed: &Typed) -> Result<String, Fail> {
-    let mut all = named(alloc, typed.tests.as_slice())?;
-    for late in typed.late.as_slice() {
-        let one = format!(in alloc; " {late}")?;
-        all.push_str(one.as_str())?;
+fn push_late(text: &mut String, late: &[u32]) -> Result<(), Fail> {
+    for number in late {
+        write!(text, "{number} late ")?;
     }
+    Ok(())
+}
+
+fn push_alternative(text: &mut String, typed: &Typed) -> Result<(), Fail> {
+    push_exprs(text, typed.tests.as_slice())?;
+    push_late(text, typed.late.as_slice())?;
     for pair in typed.pairs.as_slice() {
-        let first = pair.first;
-        let second = pair.second;
-        let one = format!(in alloc; " {first}-{second}")?;
-        all.push_str(one.as_str())?;
+        write!(text, "{}-{} ", pair.first, pair.second)?;
     }
-    Ok(all)
+    Ok(())
+}
+
+// The names of what a query is bound to, and its one alternative.
+fn push_bound(text: &mut String, bound: &Bound) -> Result<(), Fail> {
+    push_names(text, bound.node_names.as_slice())?;
+    push_names(text, bound.rel_names.as_slice())?;
+    push_exprs(text, bound.columns.as_slice())?;
+    push_exprs(text, bound.conjuncts.as_slice())?;
+    match bound.alternatives.as_slice() {
+        [only] => push_alternative(text, only),
+        _ => Err(Fail::from("not one alternative")),
+    }
+}
+
+fn bound_shown(alloc: Global, bound: &Bound) -> Result<String, Fail> {
+    let mut text = String::new(alloc);
+    push_bound(&mut text, bound)?;
+    Ok(text)
+}
+
+// A query as it is bound: also how many rows are skipped, and at most how many are listed.
+#[derive(Drop)]
+struct Seen {
+    shown: String,
+    skip: u64,
+    limit: Option<u64>,
+}
+
+fn seen_of(alloc: Global, bound: &Bound) -> Result<Seen, Fail> {
+    Ok(Seen {
+        shown: bound_shown(alloc, bound)?,
+        skip: bound.skip,
+        limit: bound.limit,
+    })
+}
+
+fn bound_over(alloc: Global, catalog: &Catalog, text: &str, query: &Query) -> Result<Seen, Fail> {
+    match bind(alloc, query, text.as_bytes(), catalog) {
+        Ok(bound) => seen_of(alloc, &bound),
+        Err(_) => Err(Fail::from("refused")),
+    }
+}
+
+fn bound_of(rt: &HostRuntime, catalog: &Catalog, text: &str) -> Result<Seen, Fail> {
+    let query = queried(rt, text)?;
+    bound_over(rt.alloc(), catalog, text, &query)
 }
 
 const WHOLE: &str =
     "MATCH (p:Person {name: 'Ann'})-[k:KNOWS]->(q)-[:KNOWS]->() WHERE p.age > 30 AND 1 / q.age > 0 RETURN p.name AS who, q ORDER BY who DESC SKIP 1 LIMIT 2";
 
+// The node variables, the relationship variables, the columns, the conjuncts, and of the alternative the tests, the
+// late conjuncts and the pairs.
+const BOUND: &str =
+    "p,q,#2, k,#1, who;q; p.age > 30;1 / q.age > 0; p.name = 'Ann';p.age > 30; 1 late 0-1 ";
+
 #[test]
 fn a_query_is_bound(rt: HostRuntime) -> Result<(), Fail> {
-    let alloc = rt.alloc();
-    let query = queried(&rt, WHOLE)?;
-    let catalog = persons_and_cities(alloc)?;
-    let Ok(bound) = bind(alloc, &query, WHOLE.as_bytes(), &catalog) else {
-        return Err(Fail::from("refused"));
-    };
-    let nodes = names(alloc, bound.node_names.as_slice())?;
-    assert_eq!(rt; nodes.as_str(), "p,q,#2,");
-    let rels = names(alloc, bound.rel_names.as_slice())?;
-    assert_eq!(rt; rels.as_str(), "k,#1,");
-    let columns = named(alloc, bound.columns.as_slice())?;
-    assert_eq!(rt; columns.as_str(), "who;q;");
-    let conjuncts = named(alloc, bound.conjuncts.as_slice())?;
-    assert_eq!(rt; conjuncts.as_str(), "p.age > 30;1 / q.age > 0;");
-    assert_eq!(rt; bound.skip, 1);
-    assert_eq!(rt; bound.limit, Some(2));
-    let [only] = bound.alternatives.as_slice() else {
-        return Err(Fail::from("not one alternative"));
-    };
-    let shown = alternative(alloc, only)?;
-    assert_eq!(rt; shown.as_str(), "p.name = 'Ann';p.age > 30; 1 0-1");
+    let catalog = persons_and_cities(rt.alloc())?;
+    let got = bound_of(&rt, &catalog, WHOLE)?;
+    assert_eq!(rt; got.shown.as_str(), BOUND);
+    assert_eq!(rt; got.skip, 1);
+    assert_eq!(rt; got.limit, Some(2));
     Ok(())
 }
