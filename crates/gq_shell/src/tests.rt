@@ -3,6 +3,7 @@
 use crate::{Status, run};
 use gq_base::{Bytes, List, Text};
 use gq_io::{MemoryFiles, MemorySink, MemorySource};
+use std::alloc::Global;
 use std::fmt::Write;
 use std::test::Fail;
 
@@ -37,74 +38,126 @@ struct Outside<'t> {
     failing_write: u64,
 }
 
+const GIVEN: Outside<'static> = Outside {
+    manifest: MANIFEST,
+    person: PERSON,
+    city: CITY,
+    lives: LIVES,
+    last: "lives.csv",
+    input: QUERY,
+    failing_file: NEVER,
+    failing_read: NEVER,
+    failing_write: NEVER,
+};
+
 fn given<'t>(input: &'t str) -> Outside<'t> {
-    Outside {
-        manifest: MANIFEST,
-        person: PERSON,
-        city: CITY,
-        lives: LIVES,
-        last: "lives.csv",
-        input,
-        failing_file: NEVER,
-        failing_read: NEVER,
-        failing_write: NEVER,
+    Outside { input, ..GIVEN }
+}
+
+fn names(alloc: Global, last: &str) -> Result<List<Text>, Fail> {
+    let mut names = List::new(alloc);
+    for name in ["g.manifest", "person.csv", "city.csv", last] {
+        names.push(Text::new(alloc, name)?)?;
+    }
+    Ok(names)
+}
+
+fn contents(alloc: Global, outside: &Outside<'_>) -> Result<List<Bytes>, Fail> {
+    let mut contents = List::new(alloc);
+    for text in [
+        outside.manifest,
+        outside.person,
+        outside.city,
+        outside.lives,
+    ] {
+        contents.push(Bytes::new(alloc, text.as_bytes())?)?;
+    }
+    Ok(contents)
+}
+
+fn only(alloc: Global, call: u64) -> Result<List<u64>, Fail> {
+    Ok(List::from_vec(vec![in alloc; call]?))
+}
+
+fn files(alloc: Global, outside: &Outside<'_>) -> Result<MemoryFiles, Fail> {
+    let failing = only(alloc, outside.failing_file)?;
+    let names = names(alloc, outside.last)?;
+    let contents = contents(alloc, outside)?;
+    if names.len() != contents.len() {
+        return Err(Fail::from("names"));
+    }
+    Ok(MemoryFiles::new(names, contents, failing))
+}
+
+fn source(alloc: Global, outside: &Outside<'_>) -> Result<MemorySource, Fail> {
+    let failing = only(alloc, outside.failing_read)?;
+    Ok(MemorySource::new(Bytes::new(alloc, outside.input.as_bytes())?, 7, failing))
+}
+
+fn sink(alloc: Global, outside: &Outside<'_>) -> Result<MemorySink, Fail> {
+    let failing = only(alloc, outside.failing_write)?;
+    Ok(MemorySink::new(alloc, 4096, 5, failing)?)
+}
+
+// The status of a run, and the text that it wrote.
+#[derive(Drop)]
+struct Reply {
+    status: Status,
+    text: String,
+}
+
+fn reply_of(alloc: Global, status: Status, taken: &[u8]) -> Result<Reply, Fail> {
+    match str::from_utf8(taken) {
+        Ok(text) => Ok(Reply {
+            status,
+            text: String::from_str(alloc, text)?,
+        }),
+        Err(_) => Err(Fail::from("text")),
     }
 }
 
-fn text(rt: &HostRuntime, text: &str) -> Result<Text, Fail> {
-    Text::new(rt.alloc(), text).map_err(|_| Fail::from("memory"))
-}
-
-fn bytes(rt: &HostRuntime, text: &str) -> Result<Bytes, Fail> {
-    Bytes::new(rt.alloc(), text.as_bytes()).map_err(|_| Fail::from("memory"))
-}
-
-fn files(rt: &HostRuntime, outside: &Outside<'_>) -> Result<MemoryFiles, Fail> {
-    let alloc = rt.alloc();
-    let names = vec![in alloc;
-        text(rt, "g.manifest")?,
-        text(rt, "person.csv")?,
-        text(rt, "city.csv")?,
-        text(rt, outside.last)?,
-    ]?;
-    let contents = vec![in alloc;
-        bytes(rt, outside.manifest)?,
-        bytes(rt, outside.person)?,
-        bytes(rt, outside.city)?,
-        bytes(rt, outside.lives)?,
-    ]?;
-    let failing = vec![in alloc; outside.failing_file]?;
-    Ok(MemoryFiles::new(
-        List::from_vec(names),
-        List::from_vec(contents),
-        List::from_vec(failing),
-    ))
-}
-
-// The status of a run with these words after the program's name, and the text that it wrote.
-fn replied(
-    rt: &HostRuntime,
-    words: &[&str],
+fn run_over(
+    alloc: Global,
+    words: &[String],
     outside: &Outside<'_>,
-) -> Result<(Status, String), Fail> {
-    let alloc = rt.alloc();
-    let mut all = vec![in alloc; String::from_str(alloc, "graphq")?]?;
+    files: &mut MemoryFiles,
+    input: &mut MemorySource,
+) -> Result<Reply, Fail> {
+    let mut out = sink(alloc, outside)?;
+    let status = run(alloc, words, files, input, &mut out);
+    reply_of(alloc, status, out.taken())
+}
+
+fn run_over_files(
+    alloc: Global,
+    words: &[String],
+    outside: &Outside<'_>,
+    files: &mut MemoryFiles,
+) -> Result<Reply, Fail> {
+    let mut input = source(alloc, outside)?;
+    run_over(alloc, words, outside, files, &mut input)
+}
+
+fn run_with(alloc: Global, words: &[String], outside: &Outside<'_>) -> Result<Reply, Fail> {
+    let mut files = files(alloc, outside)?;
+    run_over_files(alloc, words, outside, &mut files)
+}
+
+fn all_words(alloc: Global, words: &[&str]) -> Result<Vec<String>, Fail> {
+    let mut all = Vec::new(alloc);
     for word in words {
         all.push(String::from_str(alloc, word)?)?;
     }
-    let mut files = files(rt, outside)?;
-    let failing = List::from_vec(vec![in alloc; outside.failing_read]?);
-    let mut input = MemorySource::new(bytes(rt, outside.input)?, 7, failing);
-    let failing = List::from_vec(vec![in alloc; outside.failing_write]?);
-    let Ok(mut out) = MemorySink::new(alloc, 4096, 5, failing) else {
-        return Err(Fail::from("memory"));
-    };
-    let status = run(alloc, all.as_slice(), &mut files, &mut input, &mut out);
-    let text = str::from_utf8(out.taken()).map_err(|_| Fail::from("text"))?;
-    Ok((status, String::from_str(alloc, text)?))
+    Ok(all)
 }
 
-const WORDS: [&str; 2] = ["--manifest", "g.manifest"];
+// The reply of a run with these words, of which the first is the program's name.
+fn replied(rt: &HostRuntime, words: &[&str], outside: &Outside<'_>) -> Result<Reply, Fail> {
+    let words = all_words(rt.alloc(), words)?;
+    run_with(rt.alloc(), words.as_slice(), outside)
+}
+
+const WORDS: [&str; 3] = ["graphq", "--manifest", "g.manifest"];
 
 const ANSWERED: [(&str, &str); 13] = [
     (QUERY, NAMES),
@@ -134,7 +187,7 @@ const ANSWERED: [(&str, &str); 13] = [
     ("/* nothing\n */ ;", ""),
 ];
 
-const REFUSED: [(&str, &str); 19] = [
+const REFUSED: [(&str, &str); 34] = [
     ("MATCH (p:Person) RETURN p.name AS n;", "error: NotBuilt\n"),
     ("MATCH (p:Person) RETURN (p.name);", "error: NotBuilt\n"),
     ("MATCH (p:Person) RETURN p;", "error: NotBuilt\n"),
@@ -184,29 +237,6 @@ const REFUSED: [(&str, &str); 19] = [
         "MATCH (p:Person) RETURN 9223372036854775808;",
         "error: Syntax at byte 24\n",
     ),
-];
-
-#[test]
-fn statements_are_answered(rt: HostRuntime) -> Result<(), Fail> {
-    for (input, text) in ANSWERED {
-        let got = replied(&rt, &WORDS, &given(input))?;
-        assert_eq!(rt; got.0, Status::Ended, "{input}");
-        assert_eq!(rt; got.1.as_str(), text, "{input}");
-    }
-    Ok(())
-}
-
-#[test]
-fn statements_are_refused(rt: HostRuntime) -> Result<(), Fail> {
-    for (input, text) in REFUSED {
-        let got = replied(&rt, &WORDS, &given(input))?;
-        assert_eq!(rt; got.0, Status::Refused, "{input}");
-        assert_eq!(rt; got.1.as_str(), text, "{input}");
-    }
-    Ok(())
-}
-
-const UNBOUND: [(&str, &str); 15] = [
     (
         "MATCH (q:Person) RETURN p.name;",
         "error: UnknownVariable p\n",
@@ -246,26 +276,65 @@ const UNBOUND: [(&str, &str); 15] = [
 ];
 
 #[test]
-fn statements_are_not_bound(rt: HostRuntime) -> Result<(), Fail> {
-    for (input, text) in UNBOUND {
+fn statements_are_answered(rt: HostRuntime) -> Result<(), Fail> {
+    for (input, text) in ANSWERED.iter() {
         let got = replied(&rt, &WORDS, &given(input))?;
-        assert_eq!(rt; got.0, Status::Refused, "{input}");
-        assert_eq!(rt; got.1.as_str(), text, "{input}");
+        assert_eq!(rt; got.status, Status::Ended);
+        assert_eq!(rt; got.text.as_str(), *text);
     }
     Ok(())
 }
 
-// A list in a statement: its front, what stands before and behind the number of each item, and the statement's end.
+#[test]
+fn statements_are_refused(rt: HostRuntime) -> Result<(), Fail> {
+    for (input, text) in REFUSED.iter() {
+        let got = replied(&rt, &WORDS, &given(input))?;
+        assert_eq!(rt; got.status, Status::Refused);
+        assert_eq!(rt; got.text.as_str(), *text);
+    }
+    Ok(())
+}
+
+// A statement with a list in it, or with what stands around its middle.
 #[derive(Clone, Copy)]
-struct Listed {
+struct Form {
     front: &'static str,
     before: &'static str,
     behind: &'static str,
     end: &'static str,
 }
 
-fn spell_list(rt: &HostRuntime, form: Listed, count: u32) -> Result<String, Fail> {
-    let mut text = String::from_str(rt.alloc(), form.front)?;
+const LABELLED: Form = Form {
+    front: "MATCH ",
+    before: "(x",
+    behind: ":Person)",
+    end: " RETURN 1",
+};
+
+const READS: Form = Form {
+    front: "MATCH (p) WHERE coalesce(",
+    before: "p.x",
+    behind: "",
+    end: ") RETURN p",
+};
+
+const COLUMNS: Form = Form {
+    front: "MATCH (p) RETURN ",
+    before: "p.x",
+    behind: "",
+    end: "",
+};
+
+const NODES: Form = Form {
+    front: "MATCH ",
+    before: "(x",
+    behind: ")",
+    end: " RETURN 1",
+};
+
+// The items of a list with their numbers.
+fn spell_list(alloc: Global, form: &Form, count: u32) -> Result<String, Fail> {
+    let mut text = String::from_str(alloc, form.front)?;
     for number in 0..count {
         let comma = if number == 0 { "" } else { ", " };
         write!(text, "{comma}{}{number}{}", form.before, form.behind)?;
@@ -274,96 +343,63 @@ fn spell_list(rt: &HostRuntime, form: Listed, count: u32) -> Result<String, Fail
     Ok(text)
 }
 
+fn replied_to_list(rt: &HostRuntime, form: &Form, count: u32) -> Result<Reply, Fail> {
+    let text = spell_list(rt.alloc(), form, count)?;
+    replied(rt, &WORDS, &given(text.as_str()))
+}
+
 // The greatest lists that are bound, and the line of a longer one.
-const LISTED: [(Listed, u8, &str); 4] = [
-    (
-        Listed {
-            front: "MATCH ",
-            before: "(x",
-            behind: ":Person)",
-            end: " RETURN 1",
-        },
-        24,
-        "error: TooManyPatterns\n",
-    ),
-    (
-        Listed {
-            front: "MATCH (p) WHERE coalesce(",
-            before: "p.x",
-            behind: "",
-            end: ") RETURN p",
-        },
-        64,
-        "error: TooManyReads\n",
-    ),
-    (
-        Listed {
-            front: "MATCH (p) RETURN ",
-            before: "p.x",
-            behind: "",
-            end: "",
-        },
-        64,
-        "error: TooManyColumns\n",
-    ),
-    (
-        Listed {
-            front: "MATCH ",
-            before: "(x",
-            behind: ")",
-            end: " RETURN 1",
-        },
-        9,
-        "error: TooManyAlternatives\n",
-    ),
+const LISTED: [(Form, u32, &str); 8] = [
+    (LABELLED, 24, "error: NotBuilt\n"),
+    (LABELLED, 25, "error: TooManyPatterns\n"),
+    (READS, 64, "error: NotBuilt\n"),
+    (READS, 65, "error: TooManyReads\n"),
+    (COLUMNS, 64, "error: NotBuilt\n"),
+    (COLUMNS, 65, "error: TooManyColumns\n"),
+    (NODES, 9, "error: NotBuilt\n"),
+    (NODES, 10, "error: TooManyAlternatives\n"),
 ];
 
 #[test]
 fn long_lists_are_not_bound(rt: HostRuntime) -> Result<(), Fail> {
-    for (form, most, line) in LISTED {
-        let allowed = spell_list(&rt, form, u32::from(most))?;
-        let got = replied(&rt, &WORDS, &given(allowed.as_str()))?;
-        assert_eq!(rt; got.1.as_str(), "error: NotBuilt\n", "{most}");
-        let longer = spell_list(&rt, form, u32::from(most) + 1)?;
-        let got = replied(&rt, &WORDS, &given(longer.as_str()))?;
-        assert_eq!(rt; got.1.as_str(), line, "{most}");
+    for (form, count, line) in LISTED.iter() {
+        let got = replied_to_list(&rt, form, *count)?;
+        assert_eq!(rt; got.text.as_str(), *line);
+    }
+    Ok(())
+}
+
+fn push_times(text: &mut String, byte: char, count: usize) -> Result<(), Fail> {
+    for _ in 0..count {
+        text.push(byte)?;
     }
     Ok(())
 }
 
 // A condition inside so many parentheses.
-fn nested(rt: &HostRuntime, depth: usize) -> Result<String, Fail> {
-    let mut text = String::from_str(rt.alloc(), "MATCH (p) WHERE ")?;
-    for _ in 0..depth {
-        text.push('(')?;
-    }
+fn nested(alloc: Global, depth: usize) -> Result<String, Fail> {
+    let mut text = String::from_str(alloc, "MATCH (p) WHERE ")?;
+    push_times(&mut text, '(', depth)?;
     text.push_str("p.id = 1")?;
-    for _ in 0..depth {
-        text.push(')')?;
-    }
+    push_times(&mut text, ')', depth)?;
     text.push_str(" RETURN p;")?;
     Ok(text)
 }
 
-#[test]
-fn deep_statements_are_refused(rt: HostRuntime) -> Result<(), Fail> {
-    let deep = nested(&rt, 65)?;
-    let got = replied(&rt, &WORDS, &given(deep.as_str()))?;
-    assert_eq!(rt; got.1.as_str(), "error: Depth at byte 80\n");
-    let allowed = nested(&rt, 64)?;
-    let got = replied(&rt, &WORDS, &given(allowed.as_str()))?;
-    assert_eq!(rt; got.1.as_str(), "error: NotBuilt\n");
-    Ok(())
+fn replied_to_nested(rt: &HostRuntime, depth: usize) -> Result<Reply, Fail> {
+    let text = nested(rt.alloc(), depth)?;
+    replied(rt, &WORDS, &given(text.as_str()))
 }
 
-// The reply of a run over these files, where the load is refused.
-fn refused(rt: &HostRuntime, outside: &Outside<'_>) -> Result<String, Fail> {
-    let got = replied(rt, &WORDS, outside)?;
-    if got.0 == Status::NotLoaded {
-        Ok(got.1)
-    } else {
-        Err(Fail::from("loaded"))
+const NESTED: [(usize, &str); 2] = [(65, "error: Depth at byte 80\n"), (64, "error: NotBuilt\n")];
+
+#[test]
+fn deep_statements_are_refused(rt: HostRuntime) -> Result<(), Fail> {
+    for (depth, line) in NESTED.iter() {
+        let got = replied_to_nested(&rt, *depth)?;
+        assert_eq!(rt; got.text.as_str(), *line);
     }
+    Ok(())
 }
 
 // Bytes of the file person.csv, and the line of their refusal.
@@ -399,15 +435,10 @@ const PERSONS: [(&str, &str); 9] = [
 
 #[test]
 fn damaged_files_are_refused(rt: HostRuntime) -> Result<(), Fail> {
-    for (person, line) in PERSONS {
-        let got = refused(
-            &rt,
-            &Outside {
-                person,
-                ..given(QUERY)
-            },
-        )?;
-        assert_eq!(rt; got.as_str(), line);
+    for (person, line) in PERSONS.iter() {
+        let got = replied(&rt, &WORDS, &Outside { person, ..GIVEN })?;
+        assert_eq!(rt; got.status, Status::NotLoaded);
+        assert_eq!(rt; got.text.as_str(), *line);
     }
     Ok(())
 }
@@ -430,156 +461,169 @@ const CUT: [(&str, &str); 5] = [
     ),
 ];
 
+const ALONE: Outside<'static> = Outside {
+    manifest: "node Person person.csv\n",
+    ..GIVEN
+};
+
 #[test]
 fn cut_files_may_be_loaded(rt: HostRuntime) -> Result<(), Fail> {
-    for (person, text) in CUT {
-        let got = replied(
-            &rt,
-            &WORDS,
-            &Outside {
-                manifest: "node Person person.csv\n",
-                person,
-                ..given(QUERY)
-            },
-        )?;
-        assert_eq!(rt; got.0, Status::Ended);
-        assert_eq!(rt; got.1.as_str(), text);
+    for (person, text) in CUT.iter() {
+        let got = replied(&rt, &WORDS, &Outside { person, ..ALONE })?;
+        assert_eq!(rt; got.status, Status::Ended);
+        assert_eq!(rt; got.text.as_str(), *text);
     }
     Ok(())
 }
 
 const KNOWS: &str = "node Person person.csv\nrel KNOWS Person Person many_many knows.csv\n";
 
+const LOADS: [(Outside<'static>, &str); 7] = [
+    (
+        Outside {
+            manifest: KNOWS,
+            lives: "from,to,since:int\n1,9,\n",
+            last: "knows.csv",
+            ..GIVEN
+        },
+        "load: NoSuchNode knows.csv record 2 column 2\n",
+    ),
+    (Outside { city: "", ..GIVEN }, "load: BadHeader city.csv\n"),
+    (
+        Outside {
+            lives: "from,to\n1,X\n3,X\n1,Y\n",
+            ..GIVEN
+        },
+        "load: NotSingle lives.csv record 4\n",
+    ),
+    (
+        Outside {
+            last: "other.csv",
+            ..GIVEN
+        },
+        "load: NoFile lives.csv\n",
+    ),
+    (
+        Outside {
+            manifest: "node Person person.csv\nnode Person x.csv\n",
+            ..GIVEN
+        },
+        "load: LabelRepeated line 2\n",
+    ),
+    (
+        Outside {
+            manifest: "node Person\n",
+            ..GIVEN
+        },
+        "load: BadLine line 1\n",
+    ),
+    (
+        Outside {
+            manifest: "node Person a\\b\n",
+            ..GIVEN
+        },
+        "load: NoFile a\\\\b\n",
+    ),
+];
+
 #[test]
 fn other_loads_are_refused(rt: HostRuntime) -> Result<(), Fail> {
-    let knows = Outside {
-        manifest: KNOWS,
-        lives: "from,to,since:int\n1,9,\n",
-        last: "knows.csv",
-        ..given(QUERY)
-    };
-    let got = refused(&rt, &knows)?;
-    assert_eq!(rt;
-        got.as_str(),
-        "load: NoSuchNode knows.csv record 2 column 2\n"
-    );
-    let city = Outside {
-        city: "",
-        ..given(QUERY)
-    };
-    let got = refused(&rt, &city)?;
-    assert_eq!(rt; got.as_str(), "load: BadHeader city.csv\n");
-    let lives = Outside {
-        lives: "from,to\n1,X\n3,X\n1,Y\n",
-        ..given(QUERY)
-    };
-    let got = refused(&rt, &lives)?;
-    assert_eq!(rt; got.as_str(), "load: NotSingle lives.csv record 4\n");
-    let missing = Outside {
-        last: "other.csv",
-        ..given(QUERY)
-    };
-    let got = refused(&rt, &missing)?;
-    assert_eq!(rt; got.as_str(), "load: NoFile lives.csv\n");
-    for (manifest, line) in [
-        (
-            "node Person person.csv\nnode Person x.csv\n",
-            "load: LabelRepeated line 2\n",
-        ),
-        ("node Person\n", "load: BadLine line 1\n"),
-        ("node Person a\\b\n", "load: NoFile a\\\\b\n"),
-    ] {
-        let got = refused(
-            &rt,
-            &Outside {
-                manifest,
-                ..given(QUERY)
-            },
-        )?;
-        assert_eq!(rt; got.as_str(), line);
+    for (outside, line) in LOADS.iter() {
+        let got = replied(&rt, &WORDS, outside)?;
+        assert_eq!(rt; got.status, Status::NotLoaded);
+        assert_eq!(rt; got.text.as_str(), *line);
     }
     Ok(())
 }
 
-fn refuses(rt: &HostRuntime, words: &[&str]) -> Result<bool, Fail> {
-    let got = replied(rt, words, &given(QUERY))?;
-    Ok(got.0 == Status::Usage && got.1.as_str() == "usage: graphq --manifest PATH\n")
-}
+const USAGE: [&[&str]; 4] = [
+    &["graphq"],
+    &["graphq", "--manifest"],
+    &["graphq", "--manifest", "a", "b"],
+    &["graphq", "a", "b"],
+];
 
 #[test]
 fn words_are_refused(rt: HostRuntime) -> Result<(), Fail> {
-    assert!(rt; refuses(&rt, &[])?);
-    assert!(rt; refuses(&rt, &["--manifest"])?);
-    assert!(rt; refuses(&rt, &["--manifest", "a", "b"])?);
-    assert!(rt; refuses(&rt, &["a", "b"])?);
+    for words in USAGE.iter() {
+        let got = replied(&rt, words, &GIVEN)?;
+        assert_eq!(rt; got.status, Status::Usage);
+        assert_eq!(rt; got.text.as_str(), "usage: graphq --manifest PATH\n");
+    }
     Ok(())
 }
 
+// Where a call fails.
+#[derive(Clone, Copy)]
+enum Place {
+    File,
+    Read,
+    Write,
+}
+
+fn failing(place: Place, call: u64) -> Outside<'static> {
+    match place {
+        Place::File => Outside {
+            failing_file: call,
+            ..GIVEN
+        },
+        Place::Read => Outside {
+            failing_read: call,
+            ..GIVEN
+        },
+        Place::Write => Outside {
+            failing_write: call,
+            ..GIVEN
+        },
+    }
+}
+
+// How many calls there are at a place, how the run ends where one of them fails, and how many bytes each call wrote
+// before.
+const FAILING: [(Place, u64, Status, u64); 3] = [
+    (Place::File, 12, Status::ReadFault, 0),
+    (Place::Read, 6, Status::ReadFault, 0),
+    (Place::Write, 6, Status::WriteFault, 5),
+];
+
 #[test]
 fn each_failing_call_ends_the_run(rt: HostRuntime) -> Result<(), Fail> {
-    for call in 0..12 {
-        let got = replied(
-            &rt,
-            &WORDS,
-            &Outside {
-                failing_file: call,
-                ..given(QUERY)
-            },
-        )?;
-        assert_eq!(rt; got.0, Status::ReadFault, "file {call}");
-        assert_eq!(rt; got.1.as_str(), "", "file {call}");
-    }
-    for call in 0..6 {
-        let got = replied(
-            &rt,
-            &WORDS,
-            &Outside {
-                failing_read: call,
-                ..given(QUERY)
-            },
-        )?;
-        assert_eq!(rt; got.0, Status::ReadFault, "read {call}");
-        assert_eq!(rt; got.1.as_str(), "", "read {call}");
-    }
-    for call in 0..6 {
-        let got = replied(
-            &rt,
-            &WORDS,
-            &Outside {
-                failing_write: call,
-                ..given(QUERY)
-            },
-        )?;
-        assert_eq!(rt; got.0, Status::WriteFault, "write {call}");
-        assert!(rt; NAMES.starts_with(got.1.as_str()), "write {call}");
-        assert_eq!(rt; got.1.len() as u64, 5 * call, "write {call}");
+    for (place, calls, status, bytes) in FAILING.iter() {
+        for call in 0..*calls {
+            let got = replied(&rt, &WORDS, &failing(*place, call))?;
+            assert_eq!(rt; got.status, *status);
+            assert!(rt; NAMES.starts_with(got.text.as_str()));
+            assert_eq!(rt; got.text.len() as u64, bytes.saturating_mul(call));
+        }
     }
     Ok(())
 }
 
 // So many bytes, then a `;` where one is wanted.
-fn long(rt: &HostRuntime, byte: char, count: usize, ends: bool) -> Result<String, Fail> {
-    let mut text = String::new(rt.alloc());
-    for _ in 0..count {
-        text.push(byte)?;
-    }
-    if ends {
-        text.push(';')?;
-    }
+fn long(alloc: Global, byte: char, count: usize, end: &str) -> Result<String, Fail> {
+    let mut text = String::new(alloc);
+    push_times(&mut text, byte, count)?;
+    text.push_str(end)?;
     Ok(text)
 }
 
+fn replied_to_long(rt: &HostRuntime, byte: char, count: usize, end: &str) -> Result<Reply, Fail> {
+    let text = long(rt.alloc(), byte, count, end)?;
+    replied(rt, &WORDS, &given(text.as_str()))
+}
+
+const LONG: [(char, usize, &str, Status); 4] = [
+    ('a', 65_536, ";", Status::Refused),
+    ('a', 65_537, "", Status::TooLong),
+    (' ', 65_537, "", Status::Ended),
+    (' ', 65_538, "", Status::TooLong),
+];
+
 #[test]
 fn long_input_is_refused(rt: HostRuntime) -> Result<(), Fail> {
-    for (byte, count, ends, status) in [
-        ('a', 65_536, true, Status::Refused),
-        ('a', 65_537, false, Status::TooLong),
-        (' ', 65_537, false, Status::Ended),
-        (' ', 65_538, false, Status::TooLong),
-    ] {
-        let input = long(&rt, byte, count, ends)?;
-        let got = replied(&rt, &WORDS, &given(input.as_str()))?;
-        assert_eq!(rt; got.0, status, "{count}");
+    for (byte, count, end, status) in LONG.iter() {
+        let got = replied_to_long(&rt, *byte, *count, end)?;
+        assert_eq!(rt; got.status, *status);
     }
     Ok(())
 }
