@@ -6,6 +6,7 @@ use crate::{Limits, LoadRefusal, load};
 use gq_base::{Bytes, Cell, Field, List, Row, Text};
 use gq_io::MemoryFiles;
 use gq_plain::PlainGraph;
+use std::alloc::Global;
 use std::fmt::Write;
 use std::test::Fail;
 
@@ -38,35 +39,42 @@ const GRAPH: &str = "node Person id:Int name:Str age:Int |1 Ann 30 |2 Bob - |3 C
     rel KNOWS 0 0 since:Int |0>1 2010 |1>0 2011 |0>2 - |2>2 2015 |0>1 2012 |\n\
     rel LIVES_IN 0 1 |0>0 |2>0 |\n";
 
-fn text(rt: &HostRuntime, text: &str) -> Result<Text, Fail> {
-    Text::new(rt.alloc(), text).map_err(|_| Fail::from("memory"))
+fn names(alloc: Global) -> Result<List<Text>, Fail> {
+    let mut names = List::new(alloc);
+    for name in [
+        "g.manifest",
+        "person.csv",
+        "city.csv",
+        "knows.csv",
+        "lives.csv",
+    ] {
+        names.push(Text::new(alloc, name)?)?;
+    }
+    Ok(names)
 }
 
-fn bytes(rt: &HostRuntime, text: &str) -> Result<Bytes, Fail> {
-    Bytes::new(rt.alloc(), text.as_bytes()).map_err(|_| Fail::from("memory"))
+fn contents(alloc: Global, shelf: &Shelf<'_>) -> Result<List<Bytes>, Fail> {
+    let mut contents = List::new(alloc);
+    for text in [
+        shelf.manifest,
+        shelf.person,
+        shelf.city,
+        shelf.knows,
+        shelf.lives,
+    ] {
+        contents.push(Bytes::new(alloc, text.as_bytes())?)?;
+    }
+    Ok(contents)
 }
 
-fn files(rt: &HostRuntime, shelf: &Shelf<'_>) -> Result<MemoryFiles, Fail> {
-    let names = vec![in rt.alloc();
-        text(rt, "g.manifest")?,
-        text(rt, "person.csv")?,
-        text(rt, "city.csv")?,
-        text(rt, "knows.csv")?,
-        text(rt, "lives.csv")?,
-    ]?;
-    let contents = vec![in rt.alloc();
-        bytes(rt, shelf.manifest)?,
-        bytes(rt, shelf.person)?,
-        bytes(rt, shelf.city)?,
-        bytes(rt, shelf.knows)?,
-        bytes(rt, shelf.lives)?,
-    ]?;
-    let failing = vec![in rt.alloc(); shelf.failing]?;
-    Ok(MemoryFiles::new(
-        List::from_vec(names),
-        List::from_vec(contents),
-        List::from_vec(failing),
-    ))
+fn files(alloc: Global, shelf: &Shelf<'_>) -> Result<MemoryFiles, Fail> {
+    let failing = List::from_vec(vec![in alloc; shelf.failing]?);
+    let names = names(alloc)?;
+    let contents = contents(alloc, shelf)?;
+    if names.len() != contents.len() {
+        return Err(Fail::from("names"));
+    }
+    Ok(MemoryFiles::new(names, contents, failing))
 }
 
 fn show_fields(shown: &mut String, fields: &List<Field>) -> Result<(), Fail> {
@@ -117,175 +125,160 @@ fn show_rels(shown: &mut String, graph: &PlainGraph) -> Result<(), Fail> {
     Ok(())
 }
 
-// The graph that the files give, or the refusal.
-fn loaded_within(rt: &HostRuntime, shelf: &Shelf<'_>, limits: &Limits) -> Result<String, Fail>
+fn shown(alloc: Global, graph: &PlainGraph) -> Result<String, Fail> {
+    let mut shown = String::new(alloc);
+    show_nodes(&mut shown, graph)?;
+    show_rels(&mut shown, graph)?;
+    Ok(shown)
+}
+
+fn told(alloc: Global, refusal: &LoadRefusal) -> Result<String, Fail> {
+    match refusal {
+        LoadRefusal::Memory => Err(Fail::from("memory")),
+        _ => Ok(format!(in alloc; "{refusal:?}")?),
+    }
+}
+
+// The graph that files give, or the refusal.
+fn loaded_from(
+    alloc: Global,
+    files: &mut MemoryFiles,
+    manifest: &str,
+    limits: &Limits,
+) -> Result<String, Fail>
     requires { IsWithin limits.now }
 {
-    let mut files = files(rt, shelf)?;
-    match load(rt.alloc(), &mut files, "g.manifest", limits) {
-        Ok(graph) => {
-            let mut shown = String::new(rt.alloc());
-            show_nodes(&mut shown, &graph)?;
-            show_rels(&mut shown, &graph)?;
-            Ok(shown)
-        }
-        Err(LoadRefusal::Memory) => Err(Fail::from("memory")),
-        Err(refusal) => Ok(format!(in rt.alloc(); "{refusal:?}")?),
+    match load(alloc, files, manifest, limits) {
+        Ok(graph) => shown(alloc, &graph),
+        Err(refusal) => told(alloc, &refusal),
     }
 }
 
-fn loaded(rt: &HostRuntime, shelf: &Shelf<'_>) -> Result<String, Fail> {
-    loaded_within(rt, shelf, &Limits::standard())
+fn loaded_within(alloc: Global, shelf: &Shelf<'_>, limits: &Limits) -> Result<String, Fail>
+    requires { IsWithin limits.now }
+{
+    let mut files = files(alloc, shelf)?;
+    loaded_from(alloc, &mut files, "g.manifest", limits)
 }
 
-#[test]
-fn the_whole_graph(rt: HostRuntime) -> Result<(), Fail> {
-    let got = loaded(&rt, &SHELF)?;
-    assert_eq!(rt; got.as_str(), GRAPH);
-    Ok(())
+fn loaded(alloc: Global, shelf: &Shelf<'_>) -> Result<String, Fail> {
+    loaded_within(alloc, shelf, &Limits::standard())
 }
 
-// The same files, but this one has other bytes.
-fn varied<'t>(file: &str, content: &'t str) -> Shelf<'t> {
-    match file {
-        "manifest" => Shelf {
-            manifest: content,
-            ..SHELF
-        },
-        "person" => Shelf {
-            person: content,
-            ..SHELF
-        },
-        "city" => Shelf {
-            city: content,
-            ..SHELF
-        },
-        "knows" => Shelf {
-            knows: content,
-            ..SHELF
-        },
-        _ => Shelf {
-            lives: content,
-            ..SHELF
-        },
-    }
-}
-
-// A file, other bytes of it, and what the load gives then.
-const VARIED: [(&str, &str, &str); 10] = [
+// Files, and the graph that they give, or the refusal. Lines stand in any order; a header alone is an empty table, and
+// a manifest without lines an empty graph.
+const LOADS: [(Shelf<'static>, &str); 15] = [
+    (SHELF, GRAPH),
     (
-        "person",
-        "id:int,name:string,age:int\n1,Ann,30\n1,Bob,\n3,Cy,25\n",
+        Shelf {
+            person: "id:int,name:string,age:int\n1,Ann,30\n1,Bob,\n3,Cy,25\n",
+            ..SHELF
+        },
         "KeyRepeated { file: Text { string: \"person.csv\" }, number: 3 }",
     ),
     (
-        "lives",
-        "from,to\n1,X\n3,X\n1,Y\n",
+        Shelf {
+            lives: "from,to\n1,X\n3,X\n1,Y\n",
+            ..SHELF
+        },
         "NotSingle { file: Text { string: \"lives.csv\" }, number: 4 }",
     ),
     (
-        "knows",
-        "from,to,since:int\n1,9,\n",
+        Shelf {
+            knows: "from,to,since:int\n1,9,\n",
+            ..SHELF
+        },
         "NoSuchNode { file: Text { string: \"knows.csv\" }, number: 2, column: 2 }",
     ),
     (
-        "person",
-        "id:int,name:string,age:int\n1,Ann,3x\n",
+        Shelf {
+            person: "id:int,name:string,age:int\n1,Ann,3x\n",
+            ..SHELF
+        },
         "BadField { file: Text { string: \"person.csv\" }, number: 2, column: 3 }",
     ),
     (
-        "city",
-        "",
+        Shelf { city: "", ..SHELF },
         "BadHeader { file: Text { string: \"city.csv\" } }",
     ),
     (
-        "person",
-        "id:int\n,\n",
+        Shelf {
+            person: "id:int\n,\n",
+            ..SHELF
+        },
         "FieldCount { file: Text { string: \"person.csv\" }, number: 2 }",
     ),
     (
-        "person",
-        "id:int\n\"\"\n",
+        Shelf {
+            person: "id:int\n\"\"\n",
+            ..SHELF
+        },
         "NullKey { file: Text { string: \"person.csv\" }, number: 2 }",
     ),
     (
-        "manifest",
-        "node Person person.csv\nnode Person x.csv\n",
+        Shelf {
+            manifest: "node Person person.csv\nnode Person x.csv\n",
+            ..SHELF
+        },
         "LabelRepeated { line: 2 }",
     ),
     (
-        "manifest",
-        "node City city.csv\nrel R City City one_one r.csv\nnode City city.csv\n",
+        Shelf {
+            manifest: "node City city.csv\nrel R City City one_one r.csv\nnode City city.csv\n",
+            ..SHELF
+        },
         "LabelRepeated { line: 3 }",
     ),
     (
-        "manifest",
-        "node City city.csv\nrel R City City one_one r.csv\nnode Town x.csv\n",
+        Shelf {
+            manifest: "node City city.csv\nrel R City City one_one r.csv\nnode Town x.csv\n",
+            ..SHELF
+        },
         "NoFile { name: Text { string: \"r.csv\" } }",
+    ),
+    (
+        Shelf {
+            manifest: "node Town city.csv\n#\n\nnode City city.csv\n\
+                rel IN City Town one_one lives.csv\nnode Person person.csv",
+            city: "n:int,k:bool\n007,TRUE\n-1,\n",
+            lives: "from,to\n7,-1\n-1,07\n",
+            ..SHELF
+        },
+        "node Town n:Int k:Flag |7 true |-1 - |\nnode City n:Int k:Flag |7 true |-1 - |\n\
+            node Person id:Int name:Str age:Int |1 Ann 30 |2 Bob - |3 Cy 25 |\n\
+            rel IN 1 0 |0>1 |1>0 |\n",
+    ),
+    (
+        Shelf {
+            manifest: "node Person person.csv",
+            person: "id:int,name:string",
+            ..SHELF
+        },
+        "node Person id:Int name:Str |\n",
+    ),
+    (
+        Shelf {
+            manifest: "",
+            ..SHELF
+        },
+        "",
+    ),
+    (
+        Shelf {
+            failing: 15,
+            ..SHELF
+        },
+        GRAPH,
     ),
 ];
 
 #[test]
-fn variations(rt: HostRuntime) -> Result<(), Fail> {
-    for (file, content, want) in VARIED {
-        let got = loaded(&rt, &varied(file, content))?;
-        assert_eq!(rt; got.as_str(), want);
+fn files_are_loaded_or_refused(rt: HostRuntime) -> Result<(), Fail> {
+    for (shelf, want) in LOADS.iter() {
+        let got = loaded(rt.alloc(), shelf)?;
+        assert_eq!(rt; got.as_str(), *want);
     }
     Ok(())
-}
-
-#[test]
-fn lines_may_stand_in_any_order(rt: HostRuntime) -> Result<(), Fail> {
-    let shelf = Shelf {
-        manifest: "node Town city.csv\n#\n\nnode City city.csv\n\
-            rel IN City Town one_one lives.csv\nnode Person person.csv",
-        city: "n:int,k:bool\n007,TRUE\n-1,\n",
-        lives: "from,to\n7,-1\n-1,07\n",
-        ..SHELF
-    };
-    let got = loaded(&rt, &shelf)?;
-    assert_eq!(rt;
-        got.as_str(),
-        "node Town n:Int k:Flag |7 true |-1 - |\nnode City n:Int k:Flag |7 true |-1 - |\n\
-            node Person id:Int name:Str age:Int |1 Ann 30 |2 Bob - |3 Cy 25 |\n\
-            rel IN 1 0 |0>1 |1>0 |\n"
-    );
-    Ok(())
-}
-
-// A header alone is an empty table, and a manifest without lines an empty graph.
-#[test]
-fn nothing_is_a_graph_too(rt: HostRuntime) -> Result<(), Fail> {
-    let shelf = Shelf {
-        manifest: "node Person person.csv",
-        person: "id:int,name:string",
-        ..SHELF
-    };
-    let got = loaded(&rt, &shelf)?;
-    assert_eq!(rt; got.as_str(), "node Person id:Int name:Str |\n");
-    let got = loaded(&rt, &varied("manifest", ""))?;
-    assert_eq!(rt; got.as_str(), "");
-    Ok(())
-}
-
-// What the graph's files give within these limits: they have 51, 29, 59 and 16 bytes, and 3, 2, 5 and 2 rows.
-fn limited(
-    rt: &HostRuntime,
-    file_bytes: u32,
-    total_bytes: u32,
-    nodes: u32,
-    rels: u32,
-) -> Result<String, Fail> {
-    let limits = Limits {
-        file_bytes,
-        total_bytes,
-        nodes,
-        rels,
-    };
-    if !is_standard(&limits) {
-        return Err(Fail::from("limits"));
-    }
-    loaded_within(rt, &SHELF, &limits)
 }
 
 // No limit is greater than the standard one.
@@ -299,148 +292,188 @@ fn is_standard(limits: &Limits) -> bool
         && limits.rels <= most.rels
 }
 
-#[test]
-fn limits(rt: HostRuntime) -> Result<(), Fail> {
-    let got = limited(&rt, 59, 155, 3, 5)?;
-    assert_eq!(rt; got.as_str(), GRAPH);
-    let got = limited(&rt, 1000, 1000, 2, 9)?;
-    assert_eq!(rt;
-        got.as_str(),
-        "TooManyRows { file: Text { string: \"person.csv\" } }"
-    );
-    let got = limited(&rt, 1000, 1000, 3, 4)?;
-    assert_eq!(rt;
-        got.as_str(),
-        "TooManyRows { file: Text { string: \"knows.csv\" } }"
-    );
-    for (file_bytes, total_bytes, want) in [
-        (
-            1000,
-            50,
-            "FileTooLong { name: Text { string: \"person.csv\" } }",
-        ),
-        (
-            50,
-            1000,
-            "FileTooLong { name: Text { string: \"person.csv\" } }",
-        ),
-        (
-            58,
-            1000,
-            "FileTooLong { name: Text { string: \"knows.csv\" } }",
-        ),
-        (
-            59,
-            154,
-            "FileTooLong { name: Text { string: \"lives.csv\" } }",
-        ),
-        (
-            0,
-            0,
-            "FileTooLong { name: Text { string: \"person.csv\" } }",
-        ),
-    ] {
-        let got = limited(&rt, file_bytes, total_bytes, 3, 5)?;
-        assert_eq!(rt; got.as_str(), want);
+fn limited(alloc: Global, shelf: &Shelf<'_>, limits: &Limits) -> Result<String, Fail> {
+    if is_standard(limits) {
+        loaded_within(alloc, shelf, limits)
+    } else {
+        Err(Fail::from("limits"))
     }
-    Ok(())
 }
 
-// A file that two lines name counts twice.
+// The files have 51, 29, 59 and 16 bytes, and 3, 2, 5 and 2 rows.
+const FITS: Limits = Limits {
+    file_bytes: 59,
+    total_bytes: 155,
+    nodes: 3,
+    rels: 5,
+};
+
+const LARGE: Limits = Limits {
+    file_bytes: 1000,
+    total_bytes: 1000,
+    nodes: 9,
+    rels: 9,
+};
+
+// Two lines name one file, which counts for each of them.
+const TWICE: Shelf<'static> = Shelf {
+    manifest: "node Person person.csv\nnode City person.csv\n",
+    ..SHELF
+};
+
+const LIMITED: [(Shelf<'static>, Limits, &str); 10] = [
+    (SHELF, FITS, GRAPH),
+    (
+        SHELF,
+        Limits { nodes: 2, ..LARGE },
+        "TooManyRows { file: Text { string: \"person.csv\" } }",
+    ),
+    (
+        SHELF,
+        Limits {
+            nodes: 3,
+            rels: 4,
+            ..LARGE
+        },
+        "TooManyRows { file: Text { string: \"knows.csv\" } }",
+    ),
+    (
+        SHELF,
+        Limits {
+            file_bytes: 1000,
+            total_bytes: 50,
+            ..FITS
+        },
+        "FileTooLong { name: Text { string: \"person.csv\" } }",
+    ),
+    (
+        SHELF,
+        Limits {
+            file_bytes: 50,
+            total_bytes: 1000,
+            ..FITS
+        },
+        "FileTooLong { name: Text { string: \"person.csv\" } }",
+    ),
+    (
+        SHELF,
+        Limits {
+            file_bytes: 58,
+            total_bytes: 1000,
+            ..FITS
+        },
+        "FileTooLong { name: Text { string: \"knows.csv\" } }",
+    ),
+    (
+        SHELF,
+        Limits {
+            total_bytes: 154,
+            ..FITS
+        },
+        "FileTooLong { name: Text { string: \"lives.csv\" } }",
+    ),
+    (
+        SHELF,
+        Limits {
+            file_bytes: 0,
+            total_bytes: 0,
+            ..FITS
+        },
+        "FileTooLong { name: Text { string: \"person.csv\" } }",
+    ),
+    (
+        TWICE,
+        Limits {
+            total_bytes: 101,
+            ..LARGE
+        },
+        "FileTooLong { name: Text { string: \"person.csv\" } }",
+    ),
+    (
+        TWICE,
+        Limits {
+            total_bytes: 102,
+            ..LARGE
+        },
+        "node Person id:Int name:Str age:Int |1 Ann 30 |2 Bob - |3 Cy 25 |\n\
+            node City id:Int name:Str age:Int |1 Ann 30 |2 Bob - |3 Cy 25 |\n",
+    ),
+];
+
 #[test]
-fn a_file_counts_for_each_line(rt: HostRuntime) -> Result<(), Fail> {
-    let shelf = Shelf {
-        manifest: "node Person person.csv\nnode City person.csv\n",
-        ..SHELF
-    };
-    for (total_bytes, want) in [
-        (101, "FileTooLong { name: Text { string: \"person.csv\" } }"),
-        (
-            102,
-            "node Person id:Int name:Str age:Int |1 Ann 30 |2 Bob - |3 Cy 25 |\n\
-                node City id:Int name:Str age:Int |1 Ann 30 |2 Bob - |3 Cy 25 |\n",
-        ),
-    ] {
-        let limits = Limits {
-            total_bytes,
-            ..Limits::standard()
-        };
-        if !is_standard(&limits) {
-            return Err(Fail::from("limits"));
-        }
-        let got = loaded_within(&rt, &shelf, &limits)?;
-        assert_eq!(rt; got.as_str(), want);
+fn limits_are_reached_and_not_passed(rt: HostRuntime) -> Result<(), Fail> {
+    for (shelf, limits, want) in LIMITED.iter() {
+        let got = limited(rt.alloc(), shelf, limits)?;
+        assert_eq!(rt; got.as_str(), *want);
     }
     Ok(())
 }
 
 // A comment of so many bytes.
-fn comment(rt: &HostRuntime, length: usize) -> Result<String, Fail> {
-    let mut text = String::new(rt.alloc());
+fn comment(alloc: Global, length: usize) -> Result<String, Fail> {
+    let mut text = String::new(alloc);
     for _ in 0..length {
         text.push('#')?;
     }
     Ok(text)
 }
 
+fn commented(alloc: Global, length: usize) -> Result<String, Fail> {
+    let manifest = comment(alloc, length)?;
+    let shelf = Shelf {
+        manifest: manifest.as_str(),
+        ..SHELF
+    };
+    loaded(alloc, &shelf)
+}
+
+const COMMENTS: [(usize, &str); 2] = [
+    (1_048_576, ""),
+    (
+        1_048_577,
+        "FileTooLong { name: Text { string: \"g.manifest\" } }",
+    ),
+];
+
 #[test]
 fn a_manifest_has_at_most_1_048_576_bytes(rt: HostRuntime) -> Result<(), Fail> {
-    for (length, want) in [
-        (1_048_576, ""),
-        (
-            1_048_577,
-            "FileTooLong { name: Text { string: \"g.manifest\" } }",
-        ),
-    ] {
-        let manifest = comment(&rt, length)?;
-        let shelf = Shelf {
-            manifest: manifest.as_str(),
-            ..SHELF
-        };
-        let got = loaded(&rt, &shelf)?;
-        assert_eq!(rt; got.as_str(), want);
+    for (length, want) in COMMENTS.iter() {
+        let got = commented(rt.alloc(), *length)?;
+        assert_eq!(rt; got.as_str(), *want);
     }
     Ok(())
 }
 
 // Each file is chosen and read in two calls: one gives its bytes, the other finds its end.
+const FAULTS: [&str; 5] = [
+    "ReadFault { name: Text { string: \"g.manifest\" } }",
+    "ReadFault { name: Text { string: \"person.csv\" } }",
+    "ReadFault { name: Text { string: \"city.csv\" } }",
+    "ReadFault { name: Text { string: \"knows.csv\" } }",
+    "ReadFault { name: Text { string: \"lives.csv\" } }",
+];
+
+fn failed(alloc: Global, failing: u64) -> Result<String, Fail> {
+    loaded(alloc, &Shelf { failing, ..SHELF })
+}
+
 #[test]
 fn each_failing_call_is_a_fault(rt: HostRuntime) -> Result<(), Fail> {
-    let names = [
-        "g.manifest",
-        "person.csv",
-        "city.csv",
-        "knows.csv",
-        "lives.csv",
-    ];
-    for failing in 0..15 {
-        let shelf = Shelf {
-            failing: failing as u64,
-            ..SHELF
-        };
-        let got = loaded(&rt, &shelf)?;
-        let name = names[failing / 3];
-        let want = format!(in rt.alloc(); "ReadFault {{ name: Text {{ string: \"{name}\" }} }}")?;
-        assert_eq!(rt; got.as_str(), want.as_str());
+    for failing in 0usize..15 {
+        let got = failed(rt.alloc(), failing as u64)?;
+        assert_eq!(rt; got.as_str(), FAULTS[failing / 3]);
     }
-    let got = loaded(
-        &rt,
-        &Shelf {
-            failing: 15,
-            ..SHELF
-        },
-    )?;
-    assert_eq!(rt; got.as_str(), GRAPH);
     Ok(())
+}
+
+fn loaded_by(alloc: Global, manifest: &str) -> Result<String, Fail> {
+    let mut files = files(alloc, &SHELF)?;
+    loaded_from(alloc, &mut files, manifest, &Limits::standard())
 }
 
 #[test]
 fn no_manifest(rt: HostRuntime) -> Result<(), Fail> {
-    let mut files = files(&rt, &SHELF)?;
-    let Err(refusal) = load(rt.alloc(), &mut files, "h.manifest", &Limits::standard()) else {
-        return Err(Fail::from("loaded"));
-    };
-    let got = format!(in rt.alloc(); "{refusal:?}")?;
+    let got = loaded_by(rt.alloc(), "h.manifest")?;
     assert_eq!(rt;
         got.as_str(),
         "NoFile { name: Text { string: \"h.manifest\" } }"
