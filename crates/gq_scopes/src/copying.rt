@@ -1,30 +1,41 @@
 //! How much one statement may copy.
-ghost use Rattle.std.specs.Prelude.{◌≡◌};
+ghost use Rattle.std.specs.Prelude.{◌≡◌, ◌+◌, ◌<◌, ◌≤◌, OnOk};
 
 use gq_base::{Literal, Memory, Text};
 use gq_expr::Expr;
+use std::marker::Model;
 
 /// The parts of expressions, and the bytes of texts in them, that one statement may copy. A statement has at most 65,536
 /// bytes, so it needs many more only where ORDER BY names a long column very often.
 const MOST_PARTS: usize = 1_048_576;
 
 /// How much may still be copied: parts of expressions and bytes of the texts in them. Where a copy needs more, it
-/// answers want of memory, so that no short statement can ask for a tree of gigabytes.
+/// answers want of memory, so that no short statement can ask for a tree of gigabytes. It is seen as what is left.
 #[derive(Drop)]
 pub struct Copying {
     left: usize,
 }
 
+impl Model for Copying {
+    ghost use Rattle.std.specs.Prelude.{ℕ};
+
+    ghost Value = { ℕ };
+
+    ghost view = { λ c. c.left };
+}
+
 impl Copying {
     /// All that one statement may copy.
     pub fn new() -> Copying
-        ensures { result.left ≡ 1048576 }
+        ensures { result ≡ 1048576 }
     {
         Copying { left: MOST_PARTS }
     }
 
-    /// Takes what an expression has besides its operands.
-    pub fn take_part(&mut self, expr: &Expr) -> Result<(), Memory> {
+    /// Takes what an expression has besides its operands: one part, and the bytes of its text.
+    pub fn take_part(&mut self, expr: &Expr) -> Result<(), Memory>
+        ensures { OnOk result (self.new < self.old) }
+    {
         match expr {
             Expr::Literal(literal) => self.take_literal(literal),
             Expr::NodeProperty(_, name) => self.take_text(name),
@@ -33,27 +44,35 @@ impl Copying {
         }
     }
 
-    /// Takes literals.
-    pub fn take_literals(&mut self, literals: &[Literal]) -> Result<(), Memory> {
+    /// Takes literals: one part for each, and the bytes of its text.
+    pub fn take_literals(&mut self, literals: &[Literal]) -> Result<(), Memory>
+        ensures { OnOk result (self.new ≤ self.old) }
+    {
         for literal in literals {
             self.take_literal(literal)?;
         }
         Ok(())
     }
 
-    fn take_literal(&mut self, literal: &Literal) -> Result<(), Memory> {
+    fn take_literal(&mut self, literal: &Literal) -> Result<(), Memory>
+        ensures { OnOk result (self.new < self.old) }
+    {
         match literal {
             Literal::Str(text) => self.take_text(text),
             _ => self.take(1),
         }
     }
 
-    fn take_text(&mut self, text: &Text) -> Result<(), Memory> {
+    fn take_text(&mut self, text: &Text) -> Result<(), Memory>
+        ensures { OnOk result (self.new < self.old) }
+    {
         self.take(1)?;
         self.take(text.as_str().len())
     }
 
-    fn take(&mut self, parts: usize) -> Result<(), Memory> {
+    fn take(&mut self, parts: usize) -> Result<(), Memory>
+        ensures { OnOk result (self.new + parts ≡ self.old) }
+    {
         if parts > self.left {
             return Err(Memory);
         }
