@@ -1,9 +1,11 @@
 //! What ORDER BY may not ask.
 ghost use Rattle.std.specs.Prelude.{◌≡◌, IfOk};
 ghost use Rattle.gq_binder.specs.Refusals as refusals;
-ghost use Rattle.gq_binder.specs.Refusals.{out_of_scope_from, first_in, sorts_in};
+ghost use Rattle.gq_binder.specs.Refusals.{out_of_scope_from, first_in, sort_trees, sorts_in};
 ghost use Rattle.std.specs.Option.{option_copied};
-ghost use Rattle.gq_scopes.specs.Renames.{renamed_name};
+ghost use Rattle.gq_scopes.specs.Patterns.{pattern_of};
+ghost use Rattle.gq_scopes.specs.Renames.{ambiguous_name, renamed_name};
+ghost use Rattle.gq_scopes.specs.Scopes.{scope_of};
 ghost use Rattle.gq_scopes.specs.MadeOf.{column_exprs};
 ghost use Rattle.gq_scopes.specs.Resolving.{as_lists, resolved};
 
@@ -64,17 +66,25 @@ fn is_made(
 }
 
 /// A name in ORDER BY is a variable, and AS gives it to another column.
-#[tactic(auto, using(crate::proofs::RefusalLemmas::ambiguous_is))]
 pub fn ambiguous_order_name(alloc: Global, asked: &Asked<'_>) -> Result<Option<BindRefusal>, Memory>
     ensures { IfOk result (λ r. r ≡ refusals.ambiguous_order_name asked.now.text asked.now.query) }
+{
+    match first_ambiguous(alloc, asked)? {
+        Some(name) => Ok(Some(BindRefusal::AmbiguousOrderName { name })),
+        None => Ok(None),
+    }
+}
+
+// The first such name.
+#[tactic(auto, using(crate::proofs::RefusalLemmas::ambiguous_is))]
+fn first_ambiguous(alloc: Global, asked: &Asked<'_>) -> Result<Option<Text>, Memory>
+    ensures { IfOk result (λ name. name ≡ first_in (λ _. ambiguous_name (scope_of (pattern_of asked.now.query.clauses)) asked.now.query.items)
+        (sort_trees asked.now.text asked.now.query)) }
 {
     let query = asked.query();
     let renamed = Renamed::of(alloc, &asked.scope()?, query.items.as_slice())?;
     let first = first_renamed(&renamed, &asked.sort_scope()?, query.order.as_slice());
-    match copied(alloc, first)? {
-        Some(name) => Ok(Some(BindRefusal::AmbiguousOrderName { name })),
-        None => Ok(None),
-    }
+    copied(alloc, first)
 }
 
 fn first_renamed<'q>(
