@@ -20,21 +20,21 @@ use Rattle.gq_tables.specs.declared.refusal.TableRefusal.TheVariants as refusal
 
 -- ---- the first row with each key
 
--- the index has the first of the rows from this place on with each key
-pub record Mapped (rows : List Cells) (at : ℕ) (index : KeyIndex) : Type 0 where
+-- an index has the first of the rows from this place on with each key
+pub record Mapped (rows : List Cells) (at : ℕ) (there : Val → Option ℕ) : Type 0 where
   pub within : at ≤ length rows
-  pub first : (v : Val) → held index v ≡ position_from (has_key v) at (drop at rows)
+  pub first : (v : Val) → there v ≡ position_from (has_key v) at (drop at rows)
 
-pub unmapped : (rows : List Cells) (index : KeyIndex) → ((v : Val) → held index v ≡ None) → Mapped rows (length rows) index
-unmapped rows index none = record { within = omega arith; first = λ v. none v ∙ (let end : drop (length rows) rows ≡ [] = drop_all (length rows) rows (omega arith) in rw end refl) }
+pub unmapped : (rows : List Cells) (there : Val → Option ℕ) → ((v : Val) → there v ≡ None) → Mapped rows (length rows) there
+unmapped rows there none = record { within = omega arith; first = λ v. none v ∙ (let end : drop (length rows) rows ≡ [] = drop_all (length rows) rows (omega arith) in rw end refl) }
 
 by_key : (key : Option Val) (at : ℕ) (v : Val) (o : Option ℕ) → with_row key at v o ≡ cond (is_key v key) (Some at) o
 by_key None at v o = refl
 by_key (Some key) at v o = refl
 
-pub one_mapped : (rows : List Cells) (at : ℕ) (index new : KeyIndex) (row : Cells) → Mapped rows (at + 1) index → row ≡ get_or rows at row
-    → ((v : Val) → held new v ≡ with_row (key_of row) at v (held index v)) → Mapped rows at new
-one_mapped rows at index new row h is put =
+pub one_mapped : (rows : List Cells) (at : ℕ) (before after : Val → Option ℕ) (row : Cells) → Mapped rows (at + 1) before → row ≡ get_or rows at row
+    → ((v : Val) → after v ≡ with_row (key_of row) at v (before v)) → Mapped rows at after
+one_mapped rows at before after row h is put =
     let less : at < length rows = omega (arith, h.within) in
     let rest : drop at rows ≡ row ∷ drop (at + 1) rows = drop_more rows at row less ∙ ap (λ r. r ∷ drop (at + 1) rows) (sym is) in
     record {
@@ -42,8 +42,8 @@ one_mapped rows at index new row h is put =
       first = λ v. put v ∙ ap (with_row (key_of row) at v) (h.first v) ∙ by_key (key_of row) at v (position_from (has_key v) (at + 1) (drop (at + 1) rows)) ∙ sym (ap (position_from (has_key v) at) rest);
     }
 
-pub all_mapped : (rows : List Cells) (index : KeyIndex) → Mapped rows 0 index → (v : Val) → held index v ≡ find_key rows v
-all_mapped rows index h v = h.first v ∙ sym (position_from-zero (has_key v) rows)
+pub all_mapped : (rows : List Cells) (there : Val → Option ℕ) → Mapped rows 0 there → (v : Val) → there v ≡ find_key rows v
+all_mapped rows there h v = h.first v ∙ sym (position_from-zero (has_key v) rows)
 
 -- ---- no row has null as its key
 

@@ -1,8 +1,10 @@
 pub mod Answers
 pub mod Cells
+pub mod Indexes
 pub mod KeyIndexes
 pub mod KeyMaps
 pub mod Keys
+pub mod NearKeys
 pub mod Nodes
 pub mod Passes
 pub mod Records

@@ -2,12 +2,14 @@
 ghost use Rattle.std.specs.Prelude.{◌≡◌, ◌<◌, ◌^◌, length, option_map, IfOk, None, Some};
 ghost use Rattle.gq_base.specs.Plain.{cell_val};
 ghost use Rattle.gq_base.specs.Values.{Val, null, val};
+ghost use Rattle.gq_tables.specs.Indexes.{found};
 ghost use Rattle.gq_tables.specs.KeyIndexes.{held, is_held};
 ghost use Rattle.gq_tables.specs.KeyMaps.{with_row};
 ghost use Rattle.gq_tables.specs.Keys.{find_key};
 ghost use Rattle.gq_base.specs.Valid.{key_of};
 
 use crate::key_index::KeyIndex;
+use crate::near_keys::NearKeys;
 use gq_base::{Cell, Kind, Memory, Row, Value};
 use std::alloc::Global;
 
@@ -22,8 +24,15 @@ pub struct End<'g> {
 #[derive(Drop)]
 pub(crate) struct Keys<'g> {
     pub(crate) end: End<'g>,
-    index: KeyIndex<'g>,
-    ghost finds: { (v : Val) → held index v ≡ find_key end.rows.now v },
+    index: Index<'g>,
+    ghost finds: { (v : Val) → found index v ≡ find_key end.rows.now v },
+}
+
+// Rows by their keys: each in the place of its number where the keys are integers near one another, and else in slots.
+#[derive(Drop)]
+enum Index<'g> {
+    Near(NearKeys),
+    Slots(KeyIndex<'g>),
 }
 
 impl<'g> Keys<'g> {
@@ -32,7 +41,7 @@ impl<'g> Keys<'g> {
         requires { length end.rows.now < 2 ^ 32 }
         ensures { IfOk result (λ keys. keys.end ≡ end.entry) }
     {
-        let index = index_rows(alloc, end.rows)?;
+        let index = Index::new(alloc, end.rows)?;
         Ok(Keys { end, index })
     }
 
@@ -49,6 +58,27 @@ impl<'g> Keys<'g> {
         ensures null { find_key self.now.end.rows.now null ≡ None }
     {
         self.index.get(key)
+    }
+}
+
+impl<'g> Index<'g> {
+    fn new(alloc: Global, rows: &'g [Row]) -> Result<Index<'g>, Memory>
+        requires { length rows.now < 2 ^ 32 }
+        ensures { IfOk result (λ index. (v : Val) → found index v ≡ find_key rows.now v) }
+    {
+        match NearKeys::new(alloc, rows)? {
+            Some(near) => Ok(Index::Near(near)),
+            None => Ok(Index::Slots(index_rows(alloc, rows)?)),
+        }
+    }
+
+    fn get(&self, key: &Value<'_>) -> Option<u32>
+        ensures { result ≡ found self.now (val key.now) }
+    {
+        match self {
+            Index::Near(near) => near.get(key),
+            Index::Slots(slots) => slots.get(key),
+        }
     }
 }
 

@@ -6,6 +6,7 @@ mod header;
 mod key_index;
 mod key_map;
 mod keys;
+mod near_keys;
 mod nodes;
 mod records;
 mod refusal;

@@ -4,7 +4,7 @@ ghost use Rattle.std.specs.Prelude.{◌<◌, ◌^◌, length};
 use crate::{
     End, NodeTableRows, RelTableRows, TableRefusal, read_nodes, read_rels, read_rels_within,
 };
-use gq_base::{Cell, Field, Kind, Mult, Row};
+use gq_base::{Cell, Field, Kind, List, Mult, Row};
 use std::fmt::Write;
 use std::test::Fail;
 
@@ -409,6 +409,8 @@ fn rel_tables(rt: HostRuntime) -> Result<(), Fail> {
     Ok(())
 }
 
+const NO_TARGET: &str = "NoSuchNode { number: 2, column: 2 }";
+
 // Nodes whose keys share one of the 13 slots that three rows have.
 const NUMBERS: &str = "id:int\n13\n-13\n0\n";
 
@@ -471,12 +473,93 @@ const REACHES: [(Kind, &str, &str, &str); 8] = [
     ),
 ];
 
+// Nodes whose keys lie near one another, in no order, with none at 0 and 2.
+const NEAR_NUMBERS: &str = "id:int\n4\n-2\n1\n3\n-1\n";
+
+// Nodes of the least integers, and of the greatest.
+const LEAST_NUMBERS: &str = "id:int\n-9223372036854775807\n-9223372036854775808\n";
+
+const GREATEST_NUMBERS: &str = "id:int\n9223372036854775807\n9223372036854775806\n";
+
+// Relationships to nodes with these keys.
+const NEARS: [(&str, &str, &str); 13] = [
+    (
+        NEAR_NUMBERS,
+        "from,to\n1,-2\n1,-1\n1,1\n1,3\n1,4\n",
+        " 0>1| 0>4| 0>2| 0>3| 0>0|",
+    ),
+    (NEAR_NUMBERS, "from,to\n1,-3\n", NO_TARGET),
+    (NEAR_NUMBERS, "from,to\n1,0\n", NO_TARGET),
+    (NEAR_NUMBERS, "from,to\n1,2\n", NO_TARGET),
+    (NEAR_NUMBERS, "from,to\n1,5\n", NO_TARGET),
+    (NEAR_NUMBERS, "from,to\n1,9223372036854775807\n", NO_TARGET),
+    (NEAR_NUMBERS, "from,to\n1,-9223372036854775808\n", NO_TARGET),
+    (NEAR_NUMBERS, "from,to\n1,\n", NO_TARGET),
+    (
+        LEAST_NUMBERS,
+        "from,to\n1,-9223372036854775808\n2,-9223372036854775807\n",
+        " 0>1| 1>0|",
+    ),
+    (LEAST_NUMBERS, "from,to\n1,9223372036854775807\n", NO_TARGET),
+    (
+        GREATEST_NUMBERS,
+        "from,to\n1,9223372036854775806\n2,9223372036854775807\n",
+        " 0>1| 1>0|",
+    ),
+    (
+        GREATEST_NUMBERS,
+        "from,to\n1,-9223372036854775808\n",
+        NO_TARGET,
+    ),
+    ("id:int\n", "from,to\n1,0\n", NO_TARGET),
+];
+
+#[test]
+fn keys_near_one_another(rt: HostRuntime) -> Result<(), Fail> {
+    for (targets, file, table) in NEARS {
+        let got = rels(&rt, Kind::Int, targets, Mult::ManyMany, file.as_bytes())?;
+        assert_eq!(rt; got.as_str(), table, "at {file}");
+    }
+    Ok(())
+}
+
 #[test]
 fn keys_that_share_a_slot(rt: HostRuntime) -> Result<(), Fail> {
     for (kind, targets, file, table) in REACHES {
         let got = rels(&rt, kind, targets, Mult::ManyMany, file.as_bytes())?;
         assert_eq!(rt; got.as_str(), table, "at {file}");
     }
+    Ok(())
+}
+
+// Puts the row of a node that has this key and no other property.
+fn push_node(rt: &HostRuntime, nodes: &mut Vec<Row>, key: i64) -> Result<(), Fail> {
+    let mut cells = Vec::new(rt.alloc());
+    cells.push(Some(Cell::Int(key)))?;
+    nodes.push(List::from_vec(cells))?;
+    Ok(())
+}
+
+// No file gives two nodes of one key.
+#[test]
+fn first_node_of_a_key(rt: HostRuntime) -> Result<(), Fail> {
+    let mut nodes = Vec::new(rt.alloc());
+    for key in [6, 5, 6, 5] {
+        push_node(&rt, &mut nodes, key)?;
+    }
+    let end = End {
+        kind: Kind::Int,
+        rows: nodes.as_slice(),
+    };
+    let mut text = String::new(rt.alloc());
+    if end.rows.len() > 65536 {
+        return Err(Fail::from("too long"));
+    }
+    match read_rels_within(rt.alloc(), b"from,to\n5,6\n", end, Mult::ManyMany, 5) {
+        Ok(table) => write_rels(&mut text, &table)?,
+        Err(refusal) => write!(text, "{refusal:?}")?,
+    }
+    assert_eq!(rt; text.as_str(), " 1>0|");
     Ok(())
 }
 
