@@ -27,8 +27,9 @@ impl<'s> Model for Space<'s> {
     ghost view = { λ s. record { catalog = s.catalog.now; tables = s.tables.now; most = s.most } };
 }
 
-/// The steps that one search may take. A step gives a relationship pattern a reading or a node variable a table; many
-/// more than the choices that are wanted come only where cycles of patterns lead to dead ends again and again.
+/// The steps that one search may take. A step gives a relationship pattern a reading or a node variable a table. Many more
+/// steps than there are choices come where patterns that are far apart in the text do not fit one another, as round a cycle
+/// that cannot close: then dead ends are met again and again.
 const MOST_STEPS: u32 = 4_194_304;
 
 /// What a search has found: the node tables that are known, the readings and the tables that are chosen, and the whole
