@@ -14,7 +14,7 @@ use Rattle.gq_plan.proofs.Each.{each_of, each_map, each_append}
 use Rattle.gq_scopes.proofs.Splits.{split_whole}
 use Rattle.gq_scopes.specs.Conjuncts.{conjunct_expr}
 use Rattle.gq_scopes.specs.Patterns.{Name, Pattern, no_pattern, pattern_of, with_paths}
-use Rattle.gq_scopes.specs.Resolving.{Calls, Conjunct, Split, functions, as_lists, resolved, resolve_step, split, split_node, split_step, all_some, find_column}
+use Rattle.gq_scopes.specs.Resolving.{Conjunct, Split, functions, as_lists, resolved, resolve_step, split, split_node, split_step, all_some, find_column}
 use Rattle.gq_scopes.specs.Scopes.{Scope, scope_of}
 use Rattle.gq_scopes.specs.Uses.{Use, bare, owner, call, uses, or_else, first_name, refused_unless, is_there, is_variable, unknown_name, unknown_function, wrong_count}
 use Rattle.gq_scopes.specs.declared.Column.{Column}
@@ -29,7 +29,7 @@ use Rattle.gq_syntax.specs.declared.Sort.{Sort}
 use Rattle.gq_binder.proofs.Known.{IsKnown, IsKnownColumn, mapped, both, refused_use, known_tree}
 use Rattle.gq_binder.specs.Columns.{Scoped, scoped_in, conditions_from, conditions, columns, columns_in, column_of, star_columns, firsts_behind, item_column, item_name, sort_scope, column_expr, sort_expr}
 use Rattle.gq_binder.specs.Conditions.{conjuncts_of}
-use Rattle.gq_binder.specs.Refusals.{first_in, expressions, items_in, sorts_in, sort_trees, unknown_variable, function_unknown, argument_count}
+use Rattle.gq_binder.specs.Refusals.{first_in, expressions, items_in, sorts_in, sort_trees}
 use Rattle.gq_binder.specs.Verdicts.{IsNamed}
 use Rattle.gq_binder.specs.declared.refusal.BindRefusal.{BindRefusal}
 use Rattle.gq_binder.specs.declared.refusal.BindRefusal.TheVariants as refusal

@@ -5,7 +5,7 @@ use Rattle.std.specs.List.{list_any}
 use Rattle.std.specs.Cmp.Lexicographic.{pointwise}
 use Rattle.std.proofs.lemmas.List.{drop_all, drop_more, take_more, map-append}
 use Rattle.std.proofs.lemmas.List.Elements.{filter-append}
-use Rattle.gq_scopes.specs.Patterns.{NamedVariable, is_same_name}
+use Rattle.gq_scopes.specs.Patterns.{NamedVariable}
 use Rattle.gq_plan.specs.Reads.{Variable, node, rel}
 use Rattle.gq_binder.specs.Met.{met_of, meeting, meeting_as, met_otherwise, met_again}
 use Rattle.gq_binder.specs.Refusals.{conflicting, repeating, first_behind, same_form, is_rel}

@@ -1,5 +1,5 @@
 -- The names and calls of an accepted query are known, and so its conjuncts stand for expressions.
-use Rattle.std.proofs.Common.{◌≡◌, ◌∙◌, sym, ap, refl, List, [], ◌∷◌, ℕ, map, length, Option, Some, None}
+use Rattle.std.proofs.Common.{◌≡◌, ◌∙◌, sym, List, [], ◌∷◌, ℕ, map, length, Option, Some, None}
 use Rattle.gq_base.specs.Catalogs.{Tables}
 use Rattle.gq_alternatives.specs.Alternatives.{alternatives}
 use Rattle.gq_plan.specs.Reads.{distinct}

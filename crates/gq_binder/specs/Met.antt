@@ -1,5 +1,5 @@
 -- The names of variables that were met, by their form.
-use Rattle.std.specs.Prelude.{Bool, false, not, ◌&&◌, Option, Some, List, [], ◌∷◌, ◌++◌, map, filter}
+use Rattle.std.specs.Prelude.{Bool, not, ◌&&◌, Some, List, [], ◌∷◌, ◌++◌, map, filter}
 use Rattle.std.specs.List.{list_any}
 use Rattle.gq_binder.specs.Refusals.{is_rel}
 use Rattle.gq_binder.specs.declared.met.Met.{Met}

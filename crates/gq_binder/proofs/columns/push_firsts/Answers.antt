@@ -1,4 +1,4 @@
-use Rattle.std.proofs.Common.{◌≡◌, ◌∙◌, ap, List, [], ◌∷◌, ◌++◌, Option, Some}
+use Rattle.std.proofs.Common.{◌∙◌, ap, List, [], ◌∷◌, ◌++◌, Option, Some}
 use Rattle.gq_scopes.specs.Patterns.{NamedVariable}
 use Rattle.gq_binder.specs.Columns.{column_of}
 use Rattle.gq_scopes.specs.Patterns.{Name}
