@@ -45,14 +45,15 @@ fn push_name(text: &mut String, name: Option<&Text>) -> Result<(), Fail> {
 }
 
 fn push_checks(
+    alloc: Global,
     text: &mut String,
     named: &[NamedVariable<'_>],
     columns: &[Column],
 ) -> Result<(), Fail> {
     push_columns(text, columns)?;
-    push_name(text, conflict(named))?;
-    push_name(text, repeated(named))?;
-    push_name(text, repeated_column(columns))
+    push_name(text, conflict(alloc, named)?)?;
+    push_name(text, repeated(alloc, named)?)?;
+    push_name(text, repeated_column(alloc, columns)?)
 }
 
 fn checks_shown(
@@ -61,7 +62,7 @@ fn checks_shown(
     columns: &[Column],
 ) -> Result<String, Fail> {
     let mut text = String::new(alloc);
-    push_checks(&mut text, named, columns)?;
+    push_checks(alloc, &mut text, named, columns)?;
     Ok(text)
 }
 
