@@ -30,7 +30,7 @@ impl<'s> Model for Space<'s> {
 /// The steps that one search may take. A step gives a relationship pattern a reading or a node variable a table. Many more
 /// steps than there are choices come where patterns that are far apart in the text do not fit one another, as round a cycle
 /// that cannot close: then dead ends are met again and again.
-const MOST_STEPS: u32 = 4_194_304;
+const MOST_STEPS: u32 = 33_554_432;
 
 /// What a search has found: the node tables that are known, the readings and the tables that are chosen, and the whole
 /// choices; and how many steps it may still take.
