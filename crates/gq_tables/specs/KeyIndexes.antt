@@ -1,15 +1,15 @@
--- Rows by their keys, each in the slot of its key or in an ordered map.
+-- Rows by their keys, each in a slot of its key's window or in an ordered map.
 use Rattle.std.specs.Prelude.{ℕ, Bool, false, is_some}
 use Rattle.std.specs.declared.option.Option.{Option}
 use Rattle.std.specs.declared.option.Option.TheVariants.{Some, None}
 use Rattle.gq_base.specs.Values.{Val}
 use Rattle.gq_tables.specs.KeyMaps.{row_at}
-use Rattle.gq_tables.specs.Slots.{in_slot, row_or}
+use Rattle.gq_tables.specs.Slots.{row_or}
 use Rattle.gq_tables.specs.declared.key_index.KeyIndex.{KeyIndex}
 
 -- the row that stands at a key
 abbrev pub held : KeyIndex → Val → Option ℕ
-held index v = row_or (in_slot index.slots.items v) v (row_at index.others v)
+held index v = row_or index.slots.items v (row_at index.others v)
 
 -- some row stands at a key, if there is a key
 abbrev pub is_held : KeyIndex → Option Val → Bool

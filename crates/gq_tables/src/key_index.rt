@@ -1,10 +1,11 @@
 //! Rows of a node table by their keys, so that a look-up seldom waits for memory more than once.
-ghost use Rattle.std.specs.Prelude.{◌≡◌, ◌<◌, ◌^◌, Some, length, cond, option_map, IfOk};
+ghost use Rattle.std.specs.Prelude.{◌≡◌, ◌<◌, ◌≤◌, ◌^◌, None, Some, length, cond, position, IfOk, IfSome};
 ghost use Rattle.gq_base.specs.Plain.{cell_val};
 ghost use Rattle.gq_base.specs.Valid.{same_key};
 ghost use Rattle.gq_base.specs.Values.{Val, val};
 ghost use Rattle.gq_tables.specs.KeyMaps.{row_at};
-ghost use Rattle.gq_tables.specs.Slots.{IsSpare, is_other};
+ghost use Rattle.gq_tables.specs.Slots.{IsSpare, is_open, place_of, row_in};
+ghost use Rattle.gq_tables.specs.declared.key_index.TheConstants.{WINDOW};
 
 use crate::key_map::KeyMap;
 use crate::slots::slot_of;
@@ -14,6 +15,10 @@ use std::alloc::Global;
 // So many slots for each row. With fewer more keys stand in the ordered map, and with more the slots fill more memory.
 const SLOTS_PER_ROW: usize = 4;
 
+// A key may stand in so many slots that follow one another. Of keys that nobody chose fewer than one in a thousand finds
+// other keys in all of them, and keys that somebody chose make no look-up go through more.
+const WINDOW: usize = 8;
+
 // A key, and the row that stands at it.
 #[derive(Clone, Copy)]
 struct Entry<'k> {
@@ -21,18 +26,18 @@ struct Entry<'k> {
     row: u32,
 }
 
-/// A row at each of some keys. A key stands in its slot, or, where another key had the slot before, in an ordered map.
-/// So whoever chose the keys, a look-up takes log n steps at most.
+/// A row at each of some keys. A key stands in its window, the few slots from its own on: in the first of them that had
+/// no other key when it came, or, where other keys had them all, in an ordered map. No key is ever removed, so a free slot
+/// ends a search, and whoever chose the keys, a look-up takes `WINDOW` + log n steps at most.
 #[derive(Drop)]
 pub(crate) struct KeyIndex<'k> {
     slots: Vec<Option<Entry<'k>>>,
     others: KeyMap<'k>,
-    ghost some: { 0 < length slots.items },
+    ghost room: { WINDOW ≤ length slots.items },
     ghost spare: { IsSpare slots.items (row_at others) },
 }
 
 impl<'k> KeyIndex<'k> {
-    ghost use Rattle.std.specs.Prelude.{None};
     ghost use Rattle.gq_tables.specs.KeyIndexes.{held};
 
     /// The index without keys, which has slots for so many rows.
@@ -40,7 +45,7 @@ impl<'k> KeyIndex<'k> {
         requires { rows < 2 ^ 32 }
         ensures { IfOk result (λ index. (v : Val) → held index v ≡ None) }
     {
-        let slots = vec![in alloc; None; rows * SLOTS_PER_ROW + 1]?;
+        let slots = vec![in alloc; None; rows * SLOTS_PER_ROW + WINDOW]?;
         let others = KeyMap::new(alloc);
         Ok(KeyIndex { slots, others })
     }
@@ -52,41 +57,59 @@ impl<'k> KeyIndex<'k> {
             held self.new v ≡ cond (same_key (cell_val (Some key.now)) v) (Some row) (held self.old v)) }
     {
         let value = key.value();
-        let slot = slot_of(&value, self.slots.len());
-        let before = self.slots[slot];
-        if is_other(&before, &value) {
+        let Some(place) = place_of(self.slots.as_slice(), &value) else {
             return self.others.insert(key, row);
-        }
-        self.slots[slot] = Some(Entry { key: value, row });
-        Ok(row_of(&before))
+        };
+        let before = row_in(&self.slots[place]);
+        self.slots[place] = Some(Entry { key: value, row });
+        Ok(before)
     }
 
     /// The row at a key. No row stands at null, at a node or at a relationship.
     pub(crate) fn get(&self, key: &Value<'_>) -> Option<u32>
         ensures { result ≡ held self.now (val key.now) }
     {
-        match self.slots[slot_of(key, self.slots.len())] {
-            Some(there) if there.key == *key => Some(there.row),
-            Some(_) => self.others.get(key),
-            None => None,
+        match place_of(self.slots.as_slice(), key) {
+            Some(place) => row_in(&self.slots[place]),
+            None => self.others.get(key),
         }
     }
 }
 
-// Whether a key other than this one stands in a slot.
-fn is_other(there: &Option<Entry<'_>>, key: &Value<'_>) -> bool
-    ensures { result ≡ is_other there.now (val key.now) }
+// The first slot of a key's window that is free or has the key.
+fn place_of(slots: &[Option<Entry<'_>>], key: &Value<'_>) -> Option<usize>
+    requires { WINDOW ≤ length slots.now }
+    ensures place { result ≡ place_of slots.now (val key.now) }
+    ensures within { IfSome result (λ place. place < length slots.now) }
 {
-    match there {
-        Some(there) => there.key != *key,
-        None => false,
+    // No key has one of the last slots as its own, so that each window ends within the slots.
+    let own = slot_of(key, slots.len() - WINDOW + 1);
+    let steps = first_open(&slots[own..own + WINDOW], key)?;
+    Some(own + steps)
+}
+
+// The first of some slots that is free or has this key.
+fn first_open(slots: &[Option<Entry<'_>>], key: &Value<'_>) -> Option<usize>
+    ensures place { result ≡ position (is_open (val key.now)) slots.now }
+    ensures within { IfSome result (λ place. place < length slots.now) }
+{
+    slots.iter().position(|slot| is_open(slot, key))
+}
+
+// Whether a slot is free or has this key.
+fn is_open(slot: &Option<Entry<'_>>, key: &Value<'_>) -> bool
+    ensures { result ≡ is_open (val key.now) slot.now }
+{
+    match slot {
+        Some(there) => there.key == *key,
+        None => true,
     }
 }
 
-fn row_of(there: &Option<Entry<'_>>) -> Option<u32>
-    ensures { result ≡ option_map (λ there. there.row) there.now }
+fn row_in(slot: &Option<Entry<'_>>) -> Option<u32>
+    ensures { result ≡ row_in slot.now }
 {
-    match there {
+    match slot {
         Some(there) => Some(there.row),
         None => None,
     }

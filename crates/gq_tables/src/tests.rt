@@ -414,6 +414,11 @@ const NO_TARGET: &str = "NoSuchNode { number: 2, column: 2 }";
 // Nodes whose keys share one of the 13 slots that three rows have.
 const NUMBERS: &str = "id:int\n13\n-13\n0\n";
 
+// Nodes whose keys share one of the 37 slots that nine rows have, and so a window of eight: from the last row on, each
+// takes the next slot of it, and none is left for the first row.
+const WINDOW_NUMBERS: &str =
+    "id:int\n37000000000\n-37000000000\n74000000000\n-74000000000\n111000000000\n-111000000000\n148000000000\n-148000000000\n0\n";
+
 const LETTERS: &str = "code:string\nAA\nAL\nAV\n";
 
 const FRONTS: &str =
@@ -422,7 +427,7 @@ const FRONTS: &str =
 const FAR_NUMBERS: &str = "id:int\n-9223372036854775808\n9223372036854775807\n-1\n";
 
 // Relationships to nodes with these keys.
-const REACHES: [(Kind, &str, &str, &str); 8] = [
+const REACHES: [(Kind, &str, &str, &str); 11] = [
     (
         Kind::Int,
         NUMBERS,
@@ -435,6 +440,19 @@ const REACHES: [(Kind, &str, &str, &str); 8] = [
         "from,to\n1,26\n",
         "NoSuchNode { number: 2, column: 2 }",
     ),
+    (
+        Kind::Int,
+        WINDOW_NUMBERS,
+        "from,to\n1,0\n2,-148000000000\n3,-37000000000\n7,37000000000\n",
+        " 0>8| 1>7| 2>1| 3>0|",
+    ),
+    (
+        Kind::Int,
+        WINDOW_NUMBERS,
+        "from,to\n1,185000000000\n",
+        NO_TARGET,
+    ),
+    (Kind::Int, WINDOW_NUMBERS, "from,to\n1,1\n", NO_TARGET),
     (
         Kind::Str,
         LETTERS,
