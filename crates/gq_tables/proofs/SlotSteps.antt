@@ -27,6 +27,7 @@ told v slots o = option_map_or row_in (find (has_key v) slots) o
 abbrev Spare : Val → List (Option Entry) → Option ℕ → Type 0
 Spare v slots o = find (is_open v) slots ≡ Some None → told v slots o ≡ None
 
+-- past a slot with a key, two searches that end alike behind it end alike
 same_past : (b : Bool) (there : Entry) (opened has x : Option (Option Entry)) → (opened ≡ x → has ≡ x) → cond b (Some (Some there)) opened ≡ x → cond b (Some (Some there)) has ≡ x
 same_past true there opened has x rest e = e
 same_past false there opened has x rest e = rest e
@@ -39,12 +40,12 @@ has_first v (Some there ∷ slots) x taken e =
     same_past (same_key (val there.key) v) there (find (is_open v) slots) (find (has_key v) slots) x (has_first v slots x taken) e
 
 -- the first open slot tells of a key
-pub first_tells : (v : Val) (slots : List (Option Entry)) (o : Option ℕ) (slot : Option Entry) → Spare v slots o → find (is_open v) slots ≡ Some slot → row_in slot ≡ told v slots o
+first_tells : (v : Val) (slots : List (Option Entry)) (o : Option ℕ) (slot : Option Entry) → Spare v slots o → find (is_open v) slots ≡ Some slot → row_in slot ≡ told v slots o
 first_tells v slots o None spare e = sym (spare e)
 first_tells v slots o (Some there) spare e = sym (ap (λ x. option_map_or row_in x o) (has_first v slots (Some (Some there)) (λ free. cc free) e))
 
 -- where no slot is open, what stands elsewhere stays
-pub none_tells : (v : Val) (slots : List (Option Entry)) (o : Option ℕ) → find (is_open v) slots ≡ None → told v slots o ≡ o
+none_tells : (v : Val) (slots : List (Option Entry)) (o : Option ℕ) → find (is_open v) slots ≡ None → told v slots o ≡ o
 none_tells v slots o e = ap (λ x. option_map_or row_in x o) (has_first v slots None (λ free. cc free) e)
 
 module _ (key v : Val) (apart : same_key key v ≡ false) where
@@ -75,6 +76,7 @@ module _ (key v : Val) (apart : same_key key v ≡ false) where
     spare_past true there opened after has o rest spare free = cc free
     spare_past false there opened after has o rest spare free = rest spare free
 
+    -- a write over a slot that was open to its key frees no slot before another key
     spare_step : (slots : List (Option Entry)) (n : ℕ) (o : Option ℕ) → is_open key (get_or slots n None) ≡ true → Spare v slots o
         → find (is_open v) (set slots n (Some entry)) ≡ Some None → told v slots o ≡ None
     spare_step [] n o opened spare free = spare free
@@ -90,6 +92,7 @@ module _ (key v : Val) (apart : same_key key v ≡ false) where
 
 -- ---- windows
 
+-- the front of a list after a write is the front of it before, with the write
 take_set : {X : Type 0} (n : ℕ) (xs : List X) (i : ℕ) (y : X) → take n (set xs i y) ≡ set (take n xs) i y
 take_set zero xs i y = refl
 take_set (suc n) [] i y = refl
@@ -269,7 +272,7 @@ none_among v (suc size) (suc first) zero = refl
 none_among v (suc size) (suc first) (suc count) = none_among v (suc size) first count
 
 -- free slots tell of no key
-pub free_tell : (slots : List (Option Entry)) (count : ℕ) (v : Val) (o : Option ℕ) → slots ≡ replicate count None → row_or slots v o ≡ o
+free_tell : (slots : List (Option Entry)) (count : ℕ) (v : Val) (o : Option ℕ) → slots ≡ replicate count None → row_or slots v o ≡ o
 free_tell slots count v o free =
     ap (λ xs. option_map_or row_in (find (has_key v) (slice_range xs (own_slot slots v) (own_slot slots v + WINDOW))) o) free
     ∙ ap (λ x. option_map_or row_in x o) (none_among v (own_slot slots v + WINDOW - own_slot slots v) (own_slot slots v) count)
