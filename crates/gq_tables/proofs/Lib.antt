@@ -1,4 +1,5 @@
 pub mod Answering
+pub mod BatchSteps
 pub mod CellSteps
 pub mod Counts
 pub mod HeaderSteps

@@ -1,5 +1,5 @@
 -- Records by their first fields.
-use Rattle.std.proofs.Common.{◌≡◌, ℕ, ◌<◌, List, [], ◌∷◌, ◌++◌, length, drop, get_or, Some, None, Ok, Err, refl, arith}
+use Rattle.std.proofs.Common.{◌≡◌, ℕ, ◌+◌, ◌<◌, List, [], ◌∷◌, ◌++◌, length, drop, get_or, Some, None, Ok, Err, refl, arith}
 use Rattle.std.specs.declared.result.Result.{Result}
 use Rattle.csv.specs.Records.{field_at}
 use Rattle.gq_base.specs.declared.catalog.Field.{Field}
@@ -38,18 +38,20 @@ module _ (number : ℕ) (fields : List Field) (texts : List (List ℕ)) (key : F
 
 -- ---- relationships
 
+-- a record has a first and a second text
+pub record HasTwo (texts : List (List ℕ)) : Type 0 where
+  pub from : List ℕ
+  pub to : List ℕ
+  pub first : field_at texts 0 ≡ Some from
+  pub second : field_at texts 1 ≡ Some to
+
+pub two_texts : (texts : List (List ℕ)) (more : ℕ) → length texts ≡ more + 2 → HasTwo texts
+unfolding field_at
+two_texts [] more e = absurd (omega arith)
+two_texts (from ∷ []) more e = absurd (omega arith)
+two_texts (from ∷ to ∷ texts) more e = record { from = from; to = to; first = refl; second = refl }
+
 module _ (number : ℕ) (sources targets : KeyTable) (fields : List Field) where
-  pub no_from : (texts : List (List ℕ)) → field_at texts 0 ≡ None → rel_of number sources targets fields texts ≡ Err (refusal.FieldCount number)
-  unfolding field_at
-  no_from [] e = refl
-  no_from (text ∷ texts) e = cc e
-
-  pub no_to : (texts : List (List ℕ)) → field_at texts 1 ≡ None → rel_of number sources targets fields texts ≡ Err (refusal.FieldCount number)
-  unfolding field_at
-  no_to [] e = refl
-  no_to (from ∷ []) e = refl
-  no_to (from ∷ to ∷ texts) e = cc e
-
   parts_of_rel : (texts : List (List ℕ)) (from to : List ℕ) → field_at texts 0 ≡ Some from → field_at texts 1 ≡ Some to
       → rel_of number sources targets fields texts ≡ and_then (read_end number 1 sources from) (λ source. and_then (read_end number 2 targets to) (λ target.
       and_then (read_cells number 3 fields (drop 2 texts)) (λ cells. Ok (record { source = source; target = target; cells = cells }))))

@@ -15,6 +15,7 @@ use Rattle.gq_base.specs.declared.cell.Cell.{Cell}
 use Rattle.gq_base.specs.declared.cell.PlainRel.{PlainRel}
 use Rattle.gq_base.proofs.ListLaws.{any-snoc}
 use Rattle.gq_tables.proofs.NodeSteps.{then_ok}
+use Rattle.gq_tables.specs.Batches.{Tells}
 use Rattle.gq_tables.specs.Cells.{Cells, and_then, read_cell, read_cells}
 use Rattle.gq_tables.specs.Keys.{has_key}
 use Rattle.gq_tables.specs.Rels.{KeyTable, find_end, has_source, has_target, is_forbidden, read_end, read_rel, rel_of, take_rels}
@@ -57,12 +58,6 @@ rel_within number sources targets fields [] rel e = cc
 rel_within number sources targets fields (from ∷ []) rel e = cc
 
 -- ---- marks
-
--- the marks of a side tell of each of its vertices whether it has a relationship
-pub record Tells (single : Bool) (count : ℕ) (used : ℕ → Bool) (side : Marks) : Type 0 where
-  pub kind : side.is_single ≡ single
-  pub size : single ≡ true → length side.marks ≡ count
-  pub told : single ≡ true → (row : ℕ) → row < count → get_or side.marks row false ≡ used row
 
 pub none_told : (single : Bool) (count : ℕ) (used : ℕ → Bool) → ((row : ℕ) → used row ≡ false) → Tells single count used (unmarked single count)
 none_told true count used none = record {
@@ -118,33 +113,22 @@ module _ (sources targets : KeyTable) (limit width : ℕ) (fields : List Field) 
   has_room number count texts rel e = within_read (nat_le limit count) count refusal.TooManyRows _ number rel refl e
 
   module _ (mult : Mult) where
-    -- these relationships were read, those of the records that are left follow them, and the marks tell of them
-    pub record Gathering (all left : List (List (List ℕ))) (rels : List PlainRel) (at_sources at_targets : Marks) : Type 0 where
+    -- the relationships of the records that are left follow these, which gives what is meant, and the marks tell of these
+    pub record Gathering (meant : Result (List PlainRel) TableRefusal) (left : List (List (List ℕ))) (rels : List PlainRel) (at_sources at_targets : Marks) : Type 0 where
       pub few : length rels ≤ limit
-      pub size : length all ≡ length rels + length left
-      pub given : take_rels sources targets limit width fields mult 2 [] all ≡ take_rels sources targets limit width fields mult (length rels + 2) rels left
+      pub given : meant ≡ take_rels sources targets limit width fields mult (length rels + 2) rels left
       pub sources_told : Tells (limits_sources mult) (length sources.rows) (has_source rels) at_sources
       pub targets_told : Tells (limits_targets mult) (length targets.rows) (has_target rels) at_targets
 
-    pub ungathered : (all : List (List (List ℕ))) (at_sources at_targets : Marks) → at_sources ≡ unmarked (limits_sources mult) (length sources.rows)
-        → at_targets ≡ unmarked (limits_targets mult) (length targets.rows) → Gathering all all [] at_sources at_targets
-    ungathered all at_sources at_targets s t = record {
-      few = omega arith;
-      size = omega arith;
-      given = refl;
-      sources_told = rw s (none_told (limits_sources mult) (length sources.rows) (has_source []) (λ row. refl));
-      targets_told = rw t (none_told (limits_targets mult) (length targets.rows) (has_target []) (λ row. refl));
-    }
+    pub sources_untold : (at_sources : Marks) → at_sources ≡ unmarked (limits_sources mult) (length sources.rows) → Tells (limits_sources mult) (length sources.rows) (has_source []) at_sources
+    sources_untold at_sources s = rw s (none_told (limits_sources mult) (length sources.rows) (has_source []) (λ row. refl))
 
-    module _ (all left : List (List (List ℕ))) (rels : List PlainRel) (at_sources at_targets : Marks) (h : Gathering all left rels at_sources at_targets) where
-      pub gathered : left ≡ [] → take_rels sources targets limit width fields mult 2 [] all ≡ Ok rels
-      gathered e = h.given ∙ rw e refl
+    pub targets_untold : (at_targets : Marks) → at_targets ≡ unmarked (limits_targets mult) (length targets.rows) → Tells (limits_targets mult) (length targets.rows) (has_target []) at_targets
+    targets_untold at_targets t = rw t (none_told (limits_targets mult) (length targets.rows) (has_target []) (λ row. refl))
 
+    module _ (meant : Result (List PlainRel) TableRefusal) (left : List (List (List ℕ))) (rels : List PlainRel) (at_sources at_targets : Marks) (h : Gathering meant left rels at_sources at_targets) where
       module _ (texts : List (List ℕ)) (rest : List (List (List ℕ))) (next : left ≡ texts ∷ rest) where
-        pub room : length rels + 1 ≤ length all
-        room = let some : length left ≡ length (texts ∷ rest) = ap length next in omega (arith, h.size)
-
-        pub stopped : (e : TableRefusal) → read_rel sources targets limit width fields (length rels + 2) (length rels) texts ≡ Err e → take_rels sources targets limit width fields mult 2 [] all ≡ Err e
+        pub stopped : (e : TableRefusal) → read_rel sources targets limit width fields (length rels + 2) (length rels) texts ≡ Err e → meant ≡ Err e
         stopped e r = h.given ∙ rw (next, r) refl
 
         module _ (rel : PlainRel) (r : read_rel sources targets limit width fields (length rels + 2) (length rels) texts ≡ Ok rel) where
@@ -163,19 +147,17 @@ module _ (sources targets : KeyTable) (limit width : ℕ) (fields : List Field) 
             barred_told (limits_targets mult) (length targets.rows) (has_target rels) at_targets rel.target h.targets_told within.target,
           ) refl
 
-          pub not_single : (is_barred at_sources rel.source || is_barred at_targets rel.target) ≡ true → take_rels sources targets limit width fields mult 2 [] all ≡ Err (refusal.NotSingle (length rels + 2))
+          pub not_single : (is_barred at_sources rel.source || is_barred at_targets rel.target) ≡ true → meant ≡ Err (refusal.NotSingle (length rels + 2))
           not_single e = let bad : is_forbidden mult rels rel ≡ true = sym forbidden ∙ e in h.given ∙ rw (next, r, bad) refl
 
-          pub one_rel : (is_barred at_sources rel.source || is_barred at_targets rel.target) ≡ false → Gathering all rest (rels ++ rel ∷ []) (with_mark at_sources rel.source) (with_mark at_targets rel.target)
+          pub one_rel : (is_barred at_sources rel.source || is_barred at_targets rel.target) ≡ false → Gathering meant rest (rels ++ rel ∷ []) (with_mark at_sources rel.source) (with_mark at_targets rel.target)
           one_rel e =
               let good : is_forbidden mult rels rel ≡ false = sym forbidden ∙ e in
-              let some : length left ≡ length (texts ∷ rest) = ap length next in
               let longer : length (rels ++ rel ∷ []) ≡ length rels + 1 = length-append rels (rel ∷ []) in
               let number : length (rels ++ rel ∷ []) + 2 ≡ length rels + 2 + 1 = omega (arith, longer) in
               let fits = (has_room (length rels + 2) (length rels) texts rel r).0 in
               record {
                 few = omega (arith, longer);
-                size = omega (arith, h.size, longer);
                 given = h.given ∙ rw (next, r, good, number) refl;
                 sources_told = one_told (limits_sources mult) (length sources.rows) (has_source rels) (has_source (rels ++ rel ∷ [])) at_sources rel.source h.sources_told within.source
                     (λ row. any-snoc (λ q. q.source == row) rels rel);

@@ -1,6 +1,7 @@
 //! The rows that the CSV files of a graph give: one table of nodes or of relationships, or why there is none.
 #![tactic(auto)]
 
+mod batch;
 mod cells;
 mod header;
 mod key_index;

@@ -1,19 +1,21 @@
 //! The relationships of a relationship table.
-ghost use Rattle.std.specs.Prelude.{◌≡◌, ◌+◌, ◌<◌, ◌≤◌, ◌^◌, [], true, length, IfOk};
+ghost use Rattle.std.specs.Prelude.{◌≡◌, ◌+◌, ◌<◌, ◌≤◌, ◌^◌, ◌++◌, [], List, ℕ, true, length, All, IfErr, IfOk, OnOk, vec_len};
 ghost use Rattle.std.specs.List.{list_all};
 ghost use Rattle.csv.specs.Records.{fields_of};
 ghost use Rattle.gq_base.specs.Valid.{are_fields, is_rel, keeps_mult};
-ghost use Rattle.gq_tables.specs.Answers.{Answers, seen_end};
-ghost use Rattle.gq_tables.specs.Rels.{read_end, read_rel, rel_of, rel_table_of, take_rels};
+ghost use Rattle.gq_tables.specs.Answers.{Answers, Refuses, seen_end};
+ghost use Rattle.gq_tables.specs.Batches.{AreMarked, HasEnds, rel_by, rels_by, texts_of};
+ghost use Rattle.gq_tables.specs.Rels.{rel_of, rel_table_of};
 ghost use Rattle.gq_tables.specs.Unread.{IsOpen, records_left};
 
-use crate::cells::{read_cells, value_of};
+use crate::batch::{Ends, PendingRel, fill, find_ends, new_batch};
+use crate::cells::read_cells;
 use crate::header::read_head;
 use crate::keys::{End, Keys};
-use crate::records::{open_records, read_next};
+use crate::records::open_records;
 use crate::refusal::TableRefusal;
 use crate::sides::Sides;
-use csv::{ByteRecord, Reader};
+use csv::Reader;
 use gq_base::{Field, List, Mult, PlainRel, RelRows};
 use gq_fields::FileKind;
 use std::alloc::Global;
@@ -25,11 +27,13 @@ pub struct RelTableRows {
     pub rels: RelRows,
 }
 
-// The keys at both ends of a relationship table. They are one index where both ends are one node table.
+// What the records of a relationship table are read by.
 #[derive(Clone, Copy)]
-struct Ends<'k, 'g> {
-    sources: &'k Keys<'g>,
-    targets: &'k Keys<'g>,
+struct RelForm<'k, 'g> {
+    ends: Ends<'k, 'g>,
+    mult: Mult,
+    fields: &'k [Field],
+    limit: u32,
 }
 
 /// The relationship table of a file with these bytes, of at most `limit` relationships, or the first refusal.
@@ -104,7 +108,13 @@ fn read_table(
 {
     let mut reader = open_records(alloc, bytes);
     let fields = read_head(alloc, &mut reader, FileKind::Rels)?;
-    let rels = read_records(alloc, &mut reader, &ends, mult, fields.as_slice(), limit)?;
+    let form = RelForm {
+        ends,
+        mult,
+        fields: fields.as_slice(),
+        limit,
+    };
+    let rels = read_records(alloc, &mut reader, &form)?;
     Ok(RelTableRows { fields, rels })
 }
 
@@ -112,23 +122,53 @@ fn read_table(
 fn read_records(
     alloc: Global,
     reader: &mut Reader<&[u8]>,
-    ends: &Ends<'_, '_>,
-    mult: Mult,
-    fields: &[Field],
-    limit: u32,
+    form: &RelForm<'_, '_>,
 ) -> Result<RelRows, TableRefusal>
     requires is_open { IsOpen reader.old }
     requires few_records { length (records_left reader.old) + 1 < 2 ^ 32 }
-    requires few_fields { length fields.now + 2 < 2 ^ 32 }
-    ensures answers { Answers (take_rels (seen_end ends.now.sources.now.end) (seen_end ends.now.targets.now.end)
-        limit (length fields.now + 2) fields.now mult 2 [] (records_left reader.old)) result }
-    ensures few { IfOk result (λ rels. length rels ≤ limit) }
+    requires few_fields { length form.now.fields.now + 2 < 2 ^ 32 }
+    ensures answers { Answers (rels_by form.now [] (records_left reader.old)) result }
+    ensures few { IfOk result (λ rels. length rels ≤ form.now.limit) }
 {
-    let mut sides = Sides::new(alloc, mult, ends.sources.count(), ends.targets.count())?;
-    let mut texts = ByteRecord::new(alloc);
+    let ends = form.ends;
+    let mut sides = Sides::new(alloc, form.mult, ends.sources.count(), ends.targets.count())?;
+    let mut records = new_batch(alloc)?;
+    let batch = records.as_mut_slice();
     let mut rels = Vec::new(alloc);
-    while read_next(reader, &mut texts)? {
-        let rel = read_rel(alloc, ends, fields, limit, rels.len(), &texts)?;
+    let mut more = true;
+    while more {
+        let count = fill(reader, batch)?;
+        more = count == batch.len();
+        let read = &mut batch[..count];
+        find_ends(read, &ends);
+        take_batch(alloc, form, read, &mut sides, &mut rels)?;
+    }
+    Ok(List::from_vec(rels))
+}
+
+// Takes the relationships of these records in their order, or answers the first refusal.
+fn take_batch(
+    alloc: Global,
+    form: &RelForm<'_, '_>,
+    batch: &[PendingRel],
+    sides: &mut Sides,
+    rels: &mut Vec<PlainRel>,
+) -> Result<(), TableRefusal>
+    requires found { All (HasEnds (seen_end form.now.ends.sources.now.end) (seen_end form.now.ends.targets.now.end)) batch.now }
+    requires marked { AreMarked form.now rels.old.items sides.old }
+    requires few_rels { length rels.old.items ≤ form.now.limit }
+    requires few_records { length rels.old.items + length batch.now + 1 < 2 ^ 32 }
+    requires few_fields { length form.now.fields.now + 2 < 2 ^ 32 }
+    ensures taken { OnOk result ((left : List (List (List ℕ))) →
+        rels_by form.now rels.old.items (texts_of batch.now ++ left) ≡ rels_by form.now rels.new.items left) }
+    ensures marked { OnOk result (AreMarked form.now rels.new.items sides.new) }
+    ensures few { OnOk result (length rels.new.items ≤ form.now.limit) }
+    ensures count { OnOk result (length rels.new.items ≡ length rels.old.items + length batch.now) }
+    ensures refused { IfErr result (λ refusal. (left : List (List (List ℕ))) →
+        Refuses (rels_by form.now rels.old.items (texts_of batch.now ++ left)) refusal) }
+{
+    for pending in batch {
+        let rel = read_rel(alloc, form, rels.len(), pending)?;
         if !sides.take(&rel) {
             return Err(TableRefusal::NotSingle {
                 number: (rels.len() + 2) as u32,
@@ -136,71 +176,50 @@ fn read_records(
         }
         rels.push(rel)?;
     }
-    Ok(List::from_vec(rels))
+    Ok(())
 }
 
 // The relationship of the record after so many relationships.
 fn read_rel(
     alloc: Global,
-    ends: &Ends<'_, '_>,
-    fields: &[Field],
-    limit: u32,
+    form: &RelForm<'_, '_>,
     count: usize,
-    texts: &ByteRecord,
+    pending: &PendingRel,
 ) -> Result<PlainRel, TableRefusal>
+    requires found { HasEnds (seen_end form.now.ends.sources.now.end) (seen_end form.now.ends.targets.now.end) pending.now }
     requires few_rels { count + 2 < 2 ^ 32 }
-    requires few_fields { length fields.now + 2 < 2 ^ 32 }
-    ensures { Answers (read_rel (seen_end ends.now.sources.now.end) (seen_end ends.now.targets.now.end)
-        limit (length fields.now + 2) fields.now (count + 2) count (fields_of texts.now)) result }
+    requires few_fields { length form.now.fields.now + 2 < 2 ^ 32 }
+    ensures { Answers (rel_by form.now count (fields_of pending.now.texts)) result }
 {
-    if count >= limit as usize {
+    if count >= form.limit as usize {
         return Err(TableRefusal::TooManyRows);
     }
     let number = (count + 2) as u32;
-    if texts.len() != fields.len() + 2 {
+    if pending.texts.len() != form.fields.len() + 2 {
         return Err(TableRefusal::FieldCount { number });
     }
-    rel_of(alloc, number, ends, fields, texts)
+    rel_of(alloc, number, form, pending)
 }
 
 fn rel_of(
     alloc: Global,
     number: u32,
-    ends: &Ends<'_, '_>,
-    fields: &[Field],
-    texts: &ByteRecord,
+    form: &RelForm<'_, '_>,
+    pending: &PendingRel,
 ) -> Result<PlainRel, TableRefusal>
-    requires wide { length (fields_of texts.now) ≡ length fields.now + 2 }
-    requires few { length fields.now + 2 < 2 ^ 32 }
-    ensures { Answers (rel_of number (seen_end ends.now.sources.now.end) (seen_end ends.now.targets.now.end) fields.now
-        (fields_of texts.now)) result }
+    requires found { HasEnds (seen_end form.now.ends.sources.now.end) (seen_end form.now.ends.targets.now.end) pending.now }
+    requires wide { length (fields_of pending.now.texts) ≡ length form.now.fields.now + 2 }
+    requires few { length form.now.fields.now + 2 < 2 ^ 32 }
+    ensures { Answers (rel_of number (seen_end form.now.ends.sources.now.end) (seen_end form.now.ends.targets.now.end)
+        form.now.fields.now (fields_of pending.now.texts)) result }
 {
-    let Some(from) = texts.get(0) else {
-        return Err(TableRefusal::FieldCount { number });
-    };
-    let Some(to) = texts.get(1) else {
-        return Err(TableRefusal::FieldCount { number });
-    };
-    let source = read_end(number, 1, ends.sources, from)?;
-    let target = read_end(number, 2, ends.targets, to)?;
-    let cells = Vec::with_capacity(alloc, fields.len())?;
-    let cells = read_cells(alloc, number, 2, fields, texts, cells)?;
+    let source = pending.source.row(number, 1)?;
+    let target = pending.target.row(number, 2)?;
+    let cells = Vec::with_capacity(alloc, form.fields.len())?;
+    let cells = read_cells(alloc, number, 2, form.fields, &pending.texts, cells)?;
     Ok(PlainRel {
         source,
         target,
         cells,
     })
-}
-
-// The end whose key this text spells. It takes no memory.
-fn read_end(number: u32, column: u32, keys: &Keys<'_>, text: &[u8]) -> Result<u32, TableRefusal>
-    ensures { result ≡ read_end number column (seen_end keys.now.end) text.now }
-{
-    let Some(key) = value_of(keys.end.kind, text) else {
-        return Err(TableRefusal::BadField { number, column });
-    };
-    match keys.find(&key) {
-        Some(row) => Ok(row),
-        None => Err(TableRefusal::NoSuchNode { number, column }),
-    }
 }

@@ -609,3 +609,61 @@ fn rel_tables_within_one_node_table(rt: HostRuntime) -> Result<(), Fail> {
     assert_eq!(rt; twice.as_str(), "NotSingle { number: 3 }");
     Ok(())
 }
+
+// How many relationships between people a file gives, and the last of them: so many from the first to the second, and
+// then these.
+fn many_rels(rt: &HostRuntime, count: u32, others: &str) -> Result<String, Fail> {
+    let mut file = String::from_str(rt.alloc(), "from,to\n")?;
+    for _place in 0..count {
+        file.push_str("1,2\n")?;
+    }
+    file.push_str(others)?;
+    if file.len() > 65536 {
+        return Err(Fail::from("too long"));
+    }
+    let Ok(people) = read_nodes(rt.alloc(), PEOPLE.as_bytes(), 9) else {
+        return Err(Fail::from("no nodes"));
+    };
+    let end = End {
+        kind: Kind::Int,
+        rows: people.rows.as_slice(),
+    };
+    let mut text = String::new(rt.alloc());
+    match read_rels_within(rt.alloc(), file.as_bytes(), end, Mult::ManyMany, 100) {
+        Ok(table) => {
+            write!(text, "{}", table.rels.as_slice().len())?;
+            if let Some(rel) = table.rels.as_slice().last() {
+                write!(text, " {}>{}", rel.source, rel.target)?;
+            }
+        }
+        Err(refusal) => write!(text, "{refusal:?}")?,
+    }
+    Ok(text)
+}
+
+// Files that are read in several batches of 32 records.
+const MANY: [(u32, &str, &str); 14] = [
+    (0, "", "0"),
+    (32, "", "32 0>1"),
+    (64, "3,7\n", "65 2>3"),
+    (63, "3,7\n", "64 2>3"),
+    (99, "7,3\n", "100 3>2"),
+    (31, "1\n", "FieldCount { number: 33 }"),
+    (32, "1\nx,1\n", "FieldCount { number: 34 }"),
+    (40, "x,1\n1\n", "BadField { number: 42, column: 1 }"),
+    (40, "1,x\nx,1\n", "BadField { number: 42, column: 2 }"),
+    (70, "1,9\n1\nx,1\n", "NoSuchNode { number: 72, column: 2 }"),
+    (70, "9,x\n1,2,3\n", "NoSuchNode { number: 72, column: 1 }"),
+    (70, "1,2\n,1\n1\n", "NoSuchNode { number: 73, column: 1 }"),
+    (99, "1,2\nx\n", "TooManyRows"),
+    (99, "x,9\n1\n", "BadField { number: 101, column: 1 }"),
+];
+
+#[test]
+fn rel_tables_in_batches(rt: HostRuntime) -> Result<(), Fail> {
+    for (count, others, table) in MANY {
+        let got = many_rels(&rt, count, others)?;
+        assert_eq!(rt; got.as_str(), table, "at {count} and {others}");
+    }
+    Ok(())
+}

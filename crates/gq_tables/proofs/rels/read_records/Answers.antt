@@ -1,34 +1,41 @@
-use Rattle.std.proofs.Common.{◌≡◌, ◌∙◌, length, sym, arith}
-use Rattle.gq_base.proofs.ListLaws.{not_not, not_yet}
-use Rattle.gq_tables.proofs.RelSteps.{not_single, one_rel, source_in, target_in}
+use Rattle.std.proofs.Common.{◌≡◌, ◌∙◌, ◌+◌, ◌++◌, [], length, ap, sym, arith}
+use Rattle.std.proofs.lemmas.Result.{err_from_is_err_and}
+use Rattle.std.specs.Prelude.{nat_eq}
+use Rattle.gq_tables.proofs.Answering.{passed_on}
+use Rattle.gq_tables.proofs.BatchSteps.{all_read, length-records, records-fill, room-behind, unread}
+use Rattle.gq_tables.specs.Batches.{rels_by, texts_of}
+use Rattle.gq_tables.specs.Unread.{records_left}
 use Rattle.gq_tables.proofs.rels.read_records.Goals as goal
+use Rattle.gq_tables.proofs.rels.read_records.Goals.{After-find_ends}
 
-pub take-requires-clause-source_in : goal.take-requires-clause-source_in
-take-requires-clause-source_in c =
-    let next = rw c.if-branch.true at c.in_ok-read_next.ensures.next in
-    let size : c.len.result ≡ length c.loop-rels.rels.items = (let ok = c.loop-rels.rels.ok.0 in omega arith) in
-    source_in _ _ _ _ _ _ _ _ _ _ _ c.loop-rels.invariant.1 _ _ next c.in_ok-rel.rel (rw size at c.in_ok-rel.ensures)
+-- the records that were left are those of the batch, and those behind it
+records : (c : After-find_ends) → records_left c.loop-more.reader
+    ≡ texts_of c.find_ends.new.batch ++ unread (nat_eq c.in_ok-count.count (length c.fill.new.batch)) (records_left c.fill.new.reader)
+records c =
+    let filled = c.in_ok-count.ensures in
+    records-fill c.fill.new.batch c.in_ok-count.count _ _ filled.full filled.last filled.within
+    ∙ ap (λ texts. texts ++ unread (nat_eq c.in_ok-count.count (length c.fill.new.batch)) (records_left c.fill.new.reader)) (sym c.find_ends.ensures.texts)
 
-pub take-requires-clause-target_in : goal.take-requires-clause-target_in
-take-requires-clause-target_in c =
-    let next = rw c.if-branch.true at c.in_ok-read_next.ensures.next in
-    let size : c.len.result ≡ length c.loop-rels.rels.items = (let ok = c.loop-rels.rels.ok.0 in omega arith) in
-    target_in _ _ _ _ _ _ _ _ _ _ _ c.loop-rels.invariant.1 _ _ next c.in_ok-rel.rel (rw size at c.in_ok-rel.ensures)
+given : (c : After-find_ends) → rels_by c.args.form.now [] (records_left c.args.reader.now) ≡ rels_by c.args.form.now c.loop-more.rels.items
+    (texts_of c.find_ends.new.batch ++ unread (nat_eq c.in_ok-count.count (length c.fill.new.batch)) (records_left c.fill.new.reader))
+given c = (rw c.loop-more-test.true at c.loop-more.invariant.taken.given) ∙ ap (rels_by c.args.form.now c.loop-more.rels.items) (records c)
 
-pub returns-then-not-take-clause-answers : goal.returns-then-not-take-clause-answers
-returns-then-not-take-clause-answers c =
-    let next = rw c.if-branch.true at c.in_ok-read_next.ensures.next in
-    let size : c.len.result ≡ length c.loop-rels.rels.items = (let ok = c.loop-rels.rels.ok.0 in omega arith) in
-    let number : c.len-then-not-take.result ≡ length c.loop-rels.rels.items = (let ok = c.loop-rels.rels.ok.0 in omega arith) in
-    let barred = not_not _ (sym c.if-not-take.true ∙ c.take.ensures.free) in
-    rw number (not_single _ _ _ _ _ _ _ _ _ _ _ c.loop-rels.invariant.1 _ _ next c.in_ok-rel.rel (rw size at c.in_ok-rel.ensures) barred)
+pub loop-more-preserved : goal.loop-more-preserved
+loop-more-preserved c =
+    let at = (goal.at.loop-more-preserved c).After-find_ends in
+    let taken = c.in_ok-take_batch.ensures in
+    let left : length (records_left c.loop-more.reader) ≡ length c.find_ends.new.batch + length (unread (nat_eq c.in_ok-count.count (length c.fill.new.batch)) (records_left c.fill.new.reader)) =
+    length-records _ _ _ (records at) in
+    let before = rw c.loop-more-test.true at c.loop-more.invariant.size in
+    record {
+      room = room-behind c.find_ends.new.batch c.fill.new.batch c.in_ok-count.count (omega arith) c.in_ok-count.ensures.within (omega arith);
+      is_open = λ e. c.in_ok-count.ensures.is_open (all_read _ _ e);
+      size = omega (arith, taken.count, left, before);
+      taken = record { few = taken.few; given = given at ∙ taken.taken _; sources_told = taken.marked.sources; targets_told = taken.marked.targets };
+    }
 
-pub loop-rels-preserved : goal.loop-rels-preserved
-loop-rels-preserved c =
-    let next = rw c.if-branch.true at c.in_ok-read_next.ensures.next in
-    let is_open = rw c.if-branch.true at c.in_ok-read_next.ensures.is_open in
-    let size : c.len.result ≡ length c.loop-rels.rels.items = (let ok = c.loop-rels.rels.ok.0 in omega arith) in
-    let free = not_yet _ (sym c.if-not-take.false ∙ c.take.ensures.free) in
-    let sources = rw c.if-not-take.false at c.take.ensures.sources in
-    let targets = rw c.if-not-take.false at c.take.ensures.targets in
-    (is_open, rw (c.in_ok-push.ensures.items, sources, targets) (one_rel _ _ _ _ _ _ _ _ _ _ _ c.loop-rels.invariant.1 _ _ next c.in_ok-rel.rel (rw size at c.in_ok-rel.ensures) free))
+pub returns-in_err-take_batch-clause-answers : goal.returns-in_err-take_batch-clause-answers
+returns-in_err-take_batch-clause-answers c =
+    let at = (goal.at.returns-in_err-take_batch-clause-answers c).After-find_ends in
+    let p = err_from_is_err_and c.from_residual-in_err-take_batch.result c.from_residual-in_err-take_batch.ensures.1 in
+    rw (p.1, p.2) (passed_on _ _ c.in_err-take_batch.field-0.0 (c.in_err-take_batch.ensures.refused _) (λ e. given at ∙ e))

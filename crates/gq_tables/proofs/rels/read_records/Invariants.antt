@@ -1,13 +1,20 @@
-use Rattle.std.proofs.Common.{◌+◌, length}
+use Rattle.std.proofs.Common.{◌≡◌, ◌<◌, ◌+◌, [], length, true}
+use Rattle.std.specs.Prelude.{if◌then◌else◌}
+use Rattle.gq_tables.proofs.BatchSteps.{unread}
 use Rattle.gq_tables.proofs.RelSteps.{Gathering}
 use Rattle.gq_tables.specs.Answers.{seen_end}
+use Rattle.gq_tables.specs.Batches.{rels_by}
 use Rattle.gq_tables.specs.Unread.{IsOpen, records_left}
 use Rattle.gq_tables.proofs.rels.read_records.Given as goal
 
-abbrev pub invariant-loop-rels : goal.invariant-loop-rels
-invariant-loop-rels l =
-    IsOpen l.reader
-    × Gathering (seen_end l.ends.sources.now.end) (seen_end l.ends.targets.now.end) l.limit (length l.fields + 2) l.fields l.fn.mult (records_left l.initial.reader) (records_left l.reader) l.rels.items l.sides.sources l.sides.targets
+abbrev pub invariant-loop-more : goal.invariant-loop-more
+invariant-loop-more l = record {
+  room : 0 < length l.batch;
+  is_open : l.more ≡ true → IsOpen l.reader;
+  size : length l.rels.items + length (unread l.more (records_left l.reader)) ≡ length (records_left l.initial.reader);
+  taken : Gathering (seen_end l.form.ends.sources.now.end) (seen_end l.form.ends.targets.now.end) l.form.limit (length l.form.fields.now + 2) l.form.fields.now l.form.mult
+      (rels_by l.form [] (records_left l.initial.reader)) (unread l.more (records_left l.reader)) l.rels.items l.sides.sources l.sides.targets;
+}
 
-abbrev pub decreases-loop-rels : goal.decreases-loop-rels
-decreases-loop-rels l = length (records_left l.reader)
+abbrev pub decreases-loop-more : goal.decreases-loop-more
+decreases-loop-more l = if l.more then length (records_left l.reader) + 1 else 0

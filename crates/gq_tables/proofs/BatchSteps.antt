@@ -1,0 +1,61 @@
+-- Records that are read together, on their way.
+use Rattle.std.proofs.Common.{◌≡◌, ◌∙◌, ℕ, ◌+◌, ◌<◌, Bool, List, [], ◌∷◌, ◌++◌, length, get_or, suc, zero, take, drop, true, false, refl, ap, ◌≤◌, add-one, append-nil, inl, inr, length-append, length-drop, arith}
+use Rattle.std.specs.Prelude.{All, if◌then◌else◌, nat_eq, slice_set}
+use Rattle.std.proofs.Math.Seq.{drop-cons}
+use Rattle.std.proofs.lemmas.List.{get_or-set_same, length-map, length-set, length-take, take-set, take_all}
+use Rattle.std.proofs.lemmas.Bool.{cases_eq}
+use Rattle.std.proofs.lemmas.Bool.Decides.{nat_tests}
+use Rattle.std.proofs.lemmas.List.Elements.{All-more}
+use Rattle.csv.specs.Records.{fields_of}
+use Rattle.gq_tables.specs.Batches.{HasEnds, texts_of}
+use Rattle.gq_tables.specs.Rels.{KeyTable}
+use Rattle.gq_tables.specs.declared.batch.PendingRel.{PendingRel}
+
+-- the record at a place, and those behind it
+pub records-drop : (batch : List PendingRel) (at : ℕ) (pending : PendingRel) (left : List (List (List ℕ))) → at < length batch → pending ≡ get_or batch at pending
+    → texts_of (drop at batch) ++ left ≡ fields_of pending.texts ∷ (texts_of (drop (at + 1) batch) ++ left)
+records-drop batch at pending left less is =
+    ap (λ l. texts_of l ++ left) (drop-cons batch at pending less) ∙ rw (add-one at, ← is) refl
+
+-- a record whose texts stay in its place
+pub texts-set : (batch : List PendingRel) (at : ℕ) (pending other : PendingRel) → at < length batch → fields_of pending.texts ≡ fields_of (get_or batch at other).texts
+    → texts_of (slice_set batch at pending) ≡ texts_of batch
+texts-set [] at pending other less same = absurd (omega arith)
+texts-set (p ∷ batch) zero pending other less same = ap (λ t. t ∷ texts_of batch) same
+texts-set (p ∷ batch) (suc at) pending other less same = ap (λ l. fields_of p.texts ∷ l) (texts-set batch at pending other (omega arith) same)
+
+-- the ends of one more record are found
+pub ends-take : (sources targets : KeyTable) (batch : List PendingRel) (at : ℕ) (pending : PendingRel) → at < length batch → HasEnds sources targets pending
+    → All (HasEnds sources targets) (take at batch) → All (HasEnds sources targets) (take (at + 1) (slice_set batch at pending))
+ends-take sources targets batch at pending less has before =
+    let within : at < length (slice_set batch at pending) = rw (length-set batch at pending) less in
+    All-more (HasEnds sources targets) (slice_set batch at pending) at pending within (rw (take-set batch at pending) before) (rw (get_or-set_same batch at pending pending less) has)
+
+-- the records that are left, where there may be more
+abbrev pub unread : Bool → List (List (List ℕ)) → List (List (List ℕ))
+unread more left = if more then left else []
+
+-- a test that answers true tells of as many records as there are places
+pub all_read : (count size : ℕ) → nat_eq count size ≡ true → count ≡ size
+all_read count size e = grind (arith, nat_tests, e)
+
+-- the records of a batch, and those behind it
+pub records-fill : (batch : List PendingRel) (count : ℕ) (all left : List (List (List ℕ))) → (count ≡ length batch → all ≡ texts_of batch ++ left)
+    → (count < length batch → all ≡ texts_of (take count batch)) → count ≤ length batch → all ≡ texts_of (take count batch) ++ unread (nat_eq count (length batch)) left
+records-fill batch count all left full last within = elim (cases_eq count (length batch)) as (λ _. all ≡ texts_of (take count batch) ++ unread (nat_eq count (length batch)) left) [
+  | inl same ↦
+      let test : nat_eq count (length batch) ≡ true = grind (arith, nat_tests, same) in
+      let whole : take count batch ≡ batch = take_all count batch (omega arith) in
+      full same ∙ rw (whole, test) refl
+  | inr apart ↦
+      let test : nat_eq count (length batch) ≡ false = grind (arith, nat_tests, apart) in
+      last (omega arith) ∙ rw (test, append-nil) refl
+]
+
+-- how many records there were
+pub length-records : (batch : List PendingRel) (all left : List (List (List ℕ))) → all ≡ texts_of batch ++ left → length all ≡ length batch + length left
+length-records batch all left e = ap length e ∙ length-append (texts_of batch) left ∙ ap (λ n. n + length left) (length-map batch (λ p. fields_of p.texts))
+
+-- a slice that has some places has some after its first were written
+pub room-behind : (written batch : List PendingRel) (count : ℕ) → length written ≡ length (take count batch) → count ≤ length batch → 0 < length batch → 0 < length (written ++ drop count batch)
+room-behind written batch count size within some = omega (arith, length-append written (drop count batch), length-drop count batch, length-take count batch)

@@ -1,0 +1,62 @@
+-- Records of relationships whose ends are found before it is their turn, and the relationships that they give in their turn.
+use Rattle.std.specs.Prelude.{◌≡◌, ℕ, ◌+◌, Bool, true, false, List, map, length, get_or, ◌<◌, Ok, Err, Some}
+use Rattle.std.specs.declared.result.Result.{Result}
+use Rattle.csv.specs.Records.{field_at, fields_of}
+use Rattle.gq_base.specs.Valid.{limits_sources, limits_targets}
+use Rattle.gq_base.specs.declared.cell.PlainRel.{PlainRel}
+use Rattle.gq_tables.specs.Answers.{seen_end}
+use Rattle.gq_tables.specs.Rels.{KeyTable, has_source, has_target, read_end, read_rel, take_rels}
+use Rattle.gq_tables.specs.Sides.{Marks}
+use Rattle.gq_tables.specs.declared.batch.FoundEnd.{FoundEnd}
+use Rattle.gq_tables.specs.declared.batch.FoundEnd.TheVariants.{Bad, Missing, Row}
+use Rattle.gq_tables.specs.declared.batch.PendingRel.{PendingRel}
+use Rattle.gq_tables.specs.declared.refusal.TableRefusal.{TableRefusal}
+use Rattle.gq_tables.specs.declared.refusal.TableRefusal.TheVariants as refusal
+use Rattle.gq_tables.specs.declared.rels.RelForm.{RelForm}
+use Rattle.gq_tables.specs.declared.sides.Sides.{Sides}
+
+-- ---- ends
+
+-- what a found end means in this column of the record of this number
+abbrev pub row_meant : ℕ → ℕ → FoundEnd → Result ℕ TableRefusal
+row_meant number column Bad = Err (refusal.BadField number column)
+row_meant number column Missing = Err (refusal.NoSuchNode number column)
+row_meant number column (Row row) = Ok row
+
+-- a found end is what this text gives, in whichever record and column it stands
+abbrev pub IsEnd : KeyTable → List ℕ → FoundEnd → Type 0
+IsEnd table text end = (number column : ℕ) → row_meant number column end ≡ read_end number column table text
+
+-- the ends of a record are those that its first two texts give
+pub record HasEnds (sources targets : KeyTable) (pending : PendingRel) : Type 0 where
+  pub source : (text : List ℕ) → field_at (fields_of pending.texts) 0 ≡ Some text → IsEnd sources text pending.source
+  pub target : (text : List ℕ) → field_at (fields_of pending.texts) 1 ≡ Some text → IsEnd targets text pending.target
+
+-- ---- records
+
+-- the texts of these records
+abbrev pub texts_of : List PendingRel → List (List (List ℕ))
+texts_of batch = map (λ pending. fields_of pending.texts) batch
+
+-- the relationship that a record gives after so many relationships
+abbrev pub rel_by : RelForm → ℕ → List (List ℕ) → Result PlainRel TableRefusal
+rel_by form count texts =
+    read_rel (seen_end form.ends.sources.now.end) (seen_end form.ends.targets.now.end) form.limit (length form.fields.now + 2) form.fields.now (count + 2) count texts
+
+-- these relationships and those that the records behind them give, up to the first record that is refused
+abbrev pub rels_by : RelForm → List PlainRel → List (List (List ℕ)) → Result (List PlainRel) TableRefusal
+rels_by form rels records =
+    take_rels (seen_end form.ends.sources.now.end) (seen_end form.ends.targets.now.end) form.limit (length form.fields.now + 2) form.fields.now form.mult (length rels + 2) rels records
+
+-- ---- marks
+
+-- the marks of a side tell of each of its vertices whether it has a relationship
+pub record Tells (single : Bool) (count : ℕ) (used : ℕ → Bool) (side : Marks) : Type 0 where
+  pub kind : side.is_single ≡ single
+  pub size : single ≡ true → length side.marks ≡ count
+  pub told : single ≡ true → (row : ℕ) → row < count → get_or side.marks row false ≡ used row
+
+-- the vertices that these relationships have as their ends are marked, on each side where a vertex may have but one
+pub record AreMarked (form : RelForm) (rels : List PlainRel) (sides : Sides) : Type 0 where
+  pub sources : Tells (limits_sources form.mult) (length form.ends.sources.now.end.rows.now) (has_source rels) sides.sources
+  pub targets : Tells (limits_targets form.mult) (length form.ends.targets.now.end.rows.now) (has_target rels) sides.targets
