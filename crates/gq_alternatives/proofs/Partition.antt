@@ -151,7 +151,7 @@ module _ (g : Graph) (t : Assignment) where
 
 -- ---- what a match lies in agrees with the catalogue
 
-table_at : (ks : List ℕ) (ns : List NodeId) (v : ℕ) → in_tables ks ns ≡ true → slice_get ks v ≡ option_map (λ n. n.table) (slice_get ns v)
+pub table_at : (ks : List ℕ) (ns : List NodeId) (v : ℕ) → in_tables ks ns ≡ true → slice_get ks v ≡ option_map (λ n. n.table) (slice_get ns v)
 table_at [] [] v h = refl
 table_at [] (n ∷ ns) v h = absurd (true≢false (sym h))
 table_at (k ∷ ks) [] v h = absurd (true≢false (sym h))
@@ -289,7 +289,7 @@ module _ (g : Graph) (p : Pattern) (entries conjuncts : List NamedExpr) (tables 
   abbrev lies : Assignment → Choice → Bool
   lies t c = lies_in g (typed_of g.catalog p entries conjuncts c) t
 
-  lies_once : (t : Assignment) → IsSized g (length p.names) (length p.rels) t × (is_match g p t ≡ true) → hits (lies t) (pattern_alternatives g.catalog p) ≡ 1
+  pub lies_once : (t : Assignment) → IsSized g (length p.names) (length p.rels) t × (is_match g p t ≡ true) → hits (lies t) (pattern_alternatives g.catalog p) ≡ 1
   unfolding pattern_alternatives typed_of
   lies_once t h =
       let parts = and_parts (list_all (label_holds g t) p.nodes && rels_hold g t p.rels t.rels) _ h.1 in

@@ -106,7 +106,7 @@ with_ascend m clause first second (q ∷ qs) low fits = go (nat_eq clause q.clau
     go true more = ((low, omega arith), more)
     go false more = more
 
-pairs_ascend : (m first : ℕ) (ps : List RelPattern) → first + length ps ≤ m → AllByRecursion (IsAscending m) (pairs_from first ps)
+pub pairs_ascend : (m first : ℕ) (ps : List RelPattern) → first + length ps ≤ m → AllByRecursion (IsAscending m) (pairs_from first ps)
 pairs_ascend m first [] fits = tt
 pairs_ascend m first (p ∷ ps) fits =
     each_append (IsAscending m) (pairs_with p.clause first (suc first) ps) (pairs_from (suc first) ps)
