@@ -1,9 +1,15 @@
 -- Records of relationships whose ends are found before it is their turn, and the relationships that they give in their turn.
-use Rattle.std.specs.Prelude.{◌≡◌, ℕ, ◌+◌, Bool, true, false, List, map, length, get_or, ◌<◌, Ok, Err, Some}
+use Rattle.std.specs.Prelude.{◌≡◌, ℕ, ℤ, ◌+◌, Bool, true, false, List, map, length, get_or, ◌<◌, Ok, Err, option_map}
+use Rattle.std.specs.declared.option.Option.{Option}
+use Rattle.std.specs.declared.option.Option.TheVariants.{Some, None}
 use Rattle.std.specs.declared.result.Result.{Result}
 use Rattle.csv.specs.Records.{field_at, fields_of}
+use Rattle.gq_base.specs.Plain.{cell_val}
 use Rattle.gq_base.specs.Valid.{limits_sources, limits_targets}
+use Rattle.gq_base.specs.Values.{Val, int}
+use Rattle.gq_base.specs.declared.catalog.Kind.{Kind}
 use Rattle.gq_base.specs.declared.cell.PlainRel.{PlainRel}
+use Rattle.gq_fields.specs.Fields.{cell_of}
 use Rattle.gq_tables.specs.Answers.{seen_end}
 use Rattle.gq_tables.specs.Rels.{KeyTable, has_source, has_target, read_end, read_rel, take_rels}
 use Rattle.gq_tables.specs.Sides.{Marks}
@@ -23,6 +29,15 @@ row_meant number column Bad = Err (refusal.BadField number column)
 row_meant number column Missing = Err (refusal.NoSuchNode number column)
 row_meant number column (Row row) = Ok row
 
+-- the key that a text spells, where it spells one of the kind: null where it is empty
+abbrev pub spelled : Kind → List ℕ → Option Val
+spelled kind text = option_map cell_val (cell_of kind text)
+
+-- a text spells this integer as its key; where none was read, nothing is said
+abbrev pub IsSpelled : Kind → List ℕ → Option ℤ → Type 0
+IsSpelled kind text None = Unit {0}
+IsSpelled kind text (Some key) = spelled kind text ≡ Some (int key)
+
 -- a found end is what this text gives, in whichever record and column it stands
 abbrev pub IsEnd : KeyTable → List ℕ → FoundEnd → Type 0
 IsEnd table text end = (number column : ℕ) → row_meant number column end ≡ read_end number column table text
@@ -31,6 +46,11 @@ IsEnd table text end = (number column : ℕ) → row_meant number column end ≡
 pub record HasEnds (sources targets : KeyTable) (pending : PendingRel) : Type 0 where
   pub source : (text : List ℕ) → field_at (fields_of pending.texts) 0 ≡ Some text → IsEnd sources text pending.source
   pub target : (text : List ℕ) → field_at (fields_of pending.texts) 1 ≡ Some text → IsEnd targets text pending.target
+
+-- the integers that were read of a record are the keys that its first two texts spell
+pub record HasKeys (sources targets : Kind) (pending : PendingRel) : Type 0 where
+  pub source : (text : List ℕ) → field_at (fields_of pending.texts) 0 ≡ Some text → IsSpelled sources text pending.source_key
+  pub target : (text : List ℕ) → field_at (fields_of pending.texts) 1 ≡ Some text → IsSpelled targets text pending.target_key
 
 -- ---- records
 

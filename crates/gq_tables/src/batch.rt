@@ -2,7 +2,8 @@
 ghost use Rattle.std.specs.Prelude.{◌≡◌, ℕ, ◌<◌, ◌≤◌, ◌++◌, All, IfOk, List, Some, length, take, vec_len};
 ghost use Rattle.csv.specs.Records.{field_at, fields_of};
 ghost use Rattle.gq_tables.specs.Answers.{seen_end};
-ghost use Rattle.gq_tables.specs.Batches.{HasEnds, IsEnd, row_meant, texts_of};
+ghost use Rattle.gq_base.specs.Values.{val};
+ghost use Rattle.gq_tables.specs.Batches.{HasEnds, HasKeys, IsEnd, IsSpelled, row_meant, spelled, texts_of};
 ghost use Rattle.gq_tables.specs.Unread.{IsOpen, records_left};
 
 use crate::cells::value_of;
@@ -10,7 +11,7 @@ use crate::keys::Keys;
 use crate::records::read_next;
 use crate::refusal::TableRefusal;
 use csv::{ByteRecord, Reader};
-use gq_base::Memory;
+use gq_base::{Kind, Memory, Value};
 use std::alloc::Global;
 
 /// So many records are read before their ends are looked up. A look-up in an index that fits no cache waits for memory,
@@ -40,6 +41,9 @@ pub(crate) enum FoundEnd {
 #[derive(Drop)]
 pub(crate) struct PendingRel {
     pub(crate) texts: ByteRecord,
+    // The keys that the texts of its ends spell, where they are integers.
+    source_key: Option<i64>,
+    target_key: Option<i64>,
     pub(crate) source: FoundEnd,
     pub(crate) target: FoundEnd,
 }
@@ -52,6 +56,8 @@ pub(crate) fn new_batch(alloc: Global) -> Result<Vec<PendingRel>, Memory>
     for _place in 0..BATCH {
         batch.push(PendingRel {
             texts: ByteRecord::new(alloc),
+            source_key: None,
+            target_key: None,
             source: FoundEnd::Missing,
             target: FoundEnd::Missing,
         })?;
@@ -77,14 +83,51 @@ pub(crate) fn fill(reader: &mut Reader<&[u8]>, batch: &mut [PendingRel]) -> Resu
     Ok(batch.len())
 }
 
-/// Looks up the ends of each of these records, and does nothing else between two look-ups. It takes no memory.
+/// Reads the keys of the ends of each of these records, where they are integers.
+pub(crate) fn read_keys(batch: &mut [PendingRel], ends: &Ends<'_, '_>)
+    ensures texts { texts_of batch.new ≡ texts_of batch.old }
+    ensures keys { All (HasKeys ends.now.sources.now.end.kind ends.now.targets.now.end.kind) batch.new }
+{
+    for pending in batch.iter_mut() {
+        pending.source_key = key_at(ends.sources.end.kind, &pending.texts, 0);
+        pending.target_key = key_at(ends.targets.end.kind, &pending.texts, 1);
+    }
+}
+
+// The key that the text at this place of a record spells, where it is an integer.
+fn key_at(kind: Kind, texts: &ByteRecord, place: usize) -> Option<i64>
+    ensures { (text : List ℕ) → field_at (fields_of texts.now) place ≡ Some text → IsSpelled kind text result }
+{
+    if kind != Kind::Int {
+        return None;
+    }
+    match value_of(kind, texts.get(place)?) {
+        Some(Value::Int(key)) => Some(key),
+        _ => None,
+    }
+}
+
+/// Looks up the ends of each of these records, whose integer keys were read, and does nothing else between two look-ups:
+/// the processor then sees several ahead. It takes no memory.
 pub(crate) fn find_ends(batch: &mut [PendingRel], ends: &Ends<'_, '_>)
+    requires keys { All (HasKeys ends.now.sources.now.end.kind ends.now.targets.now.end.kind) batch.old }
     ensures texts { texts_of batch.new ≡ texts_of batch.old }
     ensures found { All (HasEnds (seen_end ends.now.sources.now.end) (seen_end ends.now.targets.now.end)) batch.new }
 {
     for pending in batch.iter_mut() {
-        pending.source = end_at(ends.sources, &pending.texts, 0);
-        pending.target = end_at(ends.targets, &pending.texts, 1);
+        pending.source = end_by(ends.sources, pending.source_key, &pending.texts, 0);
+        pending.target = end_by(ends.targets, pending.target_key, &pending.texts, 1);
+    }
+}
+
+// The end at this place of a record, by its key where that was read.
+fn end_by(keys: &Keys<'_>, key: Option<i64>, texts: &ByteRecord, place: usize) -> FoundEnd
+    requires { (text : List ℕ) → field_at (fields_of texts.now) place ≡ Some text → IsSpelled keys.now.end.kind text key }
+    ensures { (text : List ℕ) → field_at (fields_of texts.now) place ≡ Some text → IsEnd (seen_end keys.now.end) text result }
+{
+    match key {
+        Some(key) => end_of(keys, &Value::Int(key)),
+        None => end_at(keys, texts, place),
     }
 }
 
@@ -105,7 +148,14 @@ fn find_end(keys: &Keys<'_>, text: &[u8]) -> FoundEnd
     let Some(key) = value_of(keys.end.kind, text) else {
         return FoundEnd::Bad;
     };
-    match keys.find(&key) {
+    end_of(keys, &key)
+}
+
+// The end that a text gives which spells this key.
+fn end_of(keys: &Keys<'_>, key: &Value<'_>) -> FoundEnd
+    ensures { (text : List ℕ) → spelled keys.now.end.kind text ≡ Some (val key.now) → IsEnd (seen_end keys.now.end) text result }
+{
+    match keys.find(key) {
         Some(row) => FoundEnd::Row(row),
         None => FoundEnd::Missing,
     }

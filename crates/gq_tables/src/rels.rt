@@ -8,7 +8,7 @@ ghost use Rattle.gq_tables.specs.Batches.{AreMarked, HasEnds, rel_by, rels_by, t
 ghost use Rattle.gq_tables.specs.Rels.{rel_of, rel_table_of};
 ghost use Rattle.gq_tables.specs.Unread.{IsOpen, records_left};
 
-use crate::batch::{Ends, PendingRel, fill, find_ends, new_batch};
+use crate::batch::{Ends, PendingRel, fill, find_ends, new_batch, read_keys};
 use crate::cells::read_cells;
 use crate::header::read_head;
 use crate::keys::{End, Keys};
@@ -140,6 +140,7 @@ fn read_records(
         let count = fill(reader, batch)?;
         more = count == batch.len();
         let read = &mut batch[..count];
+        read_keys(read, &ends);
         find_ends(read, &ends);
         take_batch(alloc, form, read, &mut sides, &mut rels)?;
     }

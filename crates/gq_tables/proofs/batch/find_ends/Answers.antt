@@ -1,15 +1,19 @@
 use Rattle.std.proofs.Common.{◌≡◌, ◌∙◌, ◌<◌, arith, length, refl, take}
 use Rattle.std.proofs.lemmas.List.{take_all}
-use Rattle.gq_tables.proofs.BatchSteps.{ends-take, texts-set}
+use Rattle.std.proofs.lemmas.List.Elements.{All-set}
+use Rattle.gq_tables.specs.Batches.{HasEnds, HasKeys}
+use Rattle.gq_tables.proofs.BatchSteps.{each-take, texts-set}
 use Rattle.gq_tables.proofs.batch.find_ends.Goals as goal
 
 pub loop-pending-preserved : goal.loop-pending-preserved
 loop-pending-preserved c =
     let less : c.loop-pending.pending-index < length c.loop-pending.batch = omega arith in
+    let read = c.loop-pending.invariant.keys c.loop-pending.pending-index _ less in
     record {
       texts = texts-set c.loop-pending.batch c.loop-pending.pending-index _ c.pending-item.result less refl ∙ c.loop-pending.invariant.texts;
-      found = ends-take _ _ c.loop-pending.batch c.loop-pending.pending-index _ less
-          (record { source = c.end_at-pending.ensures; target = c.end_at-pending-in-loop-pending.ensures }) c.loop-pending.invariant.found;
+      keys = All-set (HasKeys _ _) c.loop-pending.batch c.loop-pending.pending-index _ (record { source = read.source; target = read.target }) c.loop-pending.invariant.keys;
+      found = each-take (HasEnds _ _) c.loop-pending.batch c.loop-pending.pending-index _ less
+          (record { source = c.end_by-pending.ensures; target = c.end_by-pending-in-loop-pending.ensures }) c.loop-pending.invariant.found;
     }
 
 pub returns-clause-found : goal.returns-clause-found

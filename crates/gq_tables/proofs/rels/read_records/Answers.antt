@@ -14,7 +14,7 @@ records : (c : After-find_ends) → records_left c.loop-more.reader
 records c =
     let filled = c.in_ok-count.ensures in
     records-fill c.fill.new.batch c.in_ok-count.count _ _ filled.full filled.last filled.within
-    ∙ ap (λ texts. texts ++ unread (nat_eq c.in_ok-count.count (length c.fill.new.batch)) (records_left c.fill.new.reader)) (sym c.find_ends.ensures.texts)
+    ∙ ap (λ texts. texts ++ unread (nat_eq c.in_ok-count.count (length c.fill.new.batch)) (records_left c.fill.new.reader)) (sym (c.find_ends.ensures.texts ∙ c.read_keys.ensures.texts))
 
 given : (c : After-find_ends) → rels_by c.args.form.now [] (records_left c.args.reader.now) ≡ rels_by c.args.form.now c.loop-more.rels.items
     (texts_of c.find_ends.new.batch ++ unread (nat_eq c.in_ok-count.count (length c.fill.new.batch)) (records_left c.fill.new.reader))

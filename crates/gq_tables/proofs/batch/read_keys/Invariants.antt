@@ -1,0 +1,10 @@
+use Rattle.std.proofs.Common.{◌≡◌, take}
+use Rattle.std.specs.Prelude.{All}
+use Rattle.gq_tables.specs.Batches.{HasKeys, texts_of}
+use Rattle.gq_tables.proofs.batch.read_keys.Given as goal
+
+abbrev pub invariant-loop-pending : goal.invariant-loop-pending
+invariant-loop-pending l = record {
+  texts : texts_of l.batch ≡ texts_of l.initial.batch;
+  keys : All (HasKeys l.ends.sources.now.end.kind l.ends.targets.now.end.kind) (take l.pending-index l.batch);
+}
