@@ -1,0 +1,205 @@
+-- What is bound before a step: what steps bind, as rows and load numbers have it.
+use Rattle.std.proofs.Common.{◌≡◌, ℕ, zero, suc, ◌+◌, ◌<◌, ◌≤◌, Bool, true, false, ◌||◌, ◌&&◌, cond, nat_eq, Option, Some, None, List, [], ◌∷◌, ◌++◌, map, filter, flat_map, length, drop, refl, sym, ap, ap₂, ◌∙◌, inl, inr, ◌⊎◌, arith, true≢false}
+use Rattle.std.specs.Prelude.{slice_index, slice_index_or}
+use Rattle.std.specs.List.{range_with_len}
+use Rattle.std.proofs.lemmas.Bool.{eqb-true, eq-eqb, ne_eqb, cases_eq, and_parts, or_left, or_right}
+use Rattle.gq_base.specs.declared.NodeId.{NodeId}
+use Rattle.gq_base.specs.declared.RelId.{RelId}
+use Rattle.gq_plan.specs.Covers.{after, after_step, fits, fits_step}
+use Rattle.gq_plan.specs.Known.{Known, none}
+use Rattle.gq_plan.specs.Meaning.{Partial, with_node, with_rel, look, found, whole}
+use Rattle.gq_plan.specs.Steps.{Step, Scan, Extend, Close, Join, Keep, Differ, NoLoop, steps}
+use Rattle.gq_plan.specs.declared.typed.Typed.{Typed}
+use Rattle.gq_pipe.specs.Bound.{Variable, variable, variables_of, node_of, rel_of, read}
+use Rattle.gq_pipe.specs.Flat.{is_join, is_flat}
+use Rattle.gq_pipe.specs.Levels.{Run, step_at, taken, known, before, behind, level}
+use Rattle.gq_pipe.specs.Moves.{IsRun, IsAlike}
+use Rattle.gq_pipe.specs.Rows.{node_table, rel_table, node_at, rel_at}
+use Rattle.gq_pipe.specs.declared.assignment.Assignment.{Assignment}
+use Rattle.std.proofs.lemmas.List.{drop_all}
+use Rattle.gq_pipe.proofs.Levels.{steps_from}
+
+swap : (a b : ℕ) → nat_eq a b ≡ nat_eq b a
+swap a b = go (cases_eq a b)
+  where
+    go : (a ≡ b) ⊎ (a ≡ b → ⊥) → nat_eq a b ≡ nat_eq b a
+    go (inl e) = eq-eqb a b e ∙ sym (eq-eqb b a (sym e))
+    go (inr e) = ne_eqb a b e ∙ sym (ne_eqb b a (λ h. e (sym h)))
+
+-- ---- what a step binds stays bound
+
+pub step_keeps_node : (s : Step) (k : Known) (v : ℕ) → k.nodes v ≡ true → (after_step s k).nodes v ≡ true
+unfolding after_step
+step_keeps_node (Scan w) k v h = or_right (nat_eq v w) (k.nodes v) h
+step_keeps_node (Extend column x from to way) k v h = or_right (nat_eq v to) (k.nodes v) h
+step_keeps_node (Close column x from to way) k v h = h
+step_keeps_node (Join side keys) k v h = or_right ((after side none).nodes v) (k.nodes v) h
+step_keeps_node (Keep i) k v h = h
+step_keeps_node (Differ p) k v h = h
+step_keeps_node (NoLoop x) k v h = h
+
+pub step_keeps_rel : (s : Step) (k : Known) (v : ℕ) → k.rels v ≡ true → (after_step s k).rels v ≡ true
+unfolding after_step
+step_keeps_rel (Scan w) k v h = h
+step_keeps_rel (Extend column x from to way) k v h = or_right (nat_eq v x) (k.rels v) h
+step_keeps_rel (Close column x from to way) k v h = or_right (nat_eq v x) (k.rels v) h
+step_keeps_rel (Join side keys) k v h = or_right ((after side none).rels v) (k.rels v) h
+step_keeps_rel (Keep i) k v h = h
+step_keeps_rel (Differ p) k v h = h
+step_keeps_rel (NoLoop x) k v h = h
+
+pub alike_before : (s : Step) (k : Known) (old new : Assignment) → IsAlike (after_step s k) old new → IsAlike k old new
+alike_before s k old new h = record { nodes = λ v e. h.nodes v (step_keeps_node s k v e); rels = λ x e. h.rels x (step_keeps_rel s k x e) }
+
+-- ---- rows and load numbers that are alike
+
+module _ (y : Typed) (old new : Assignment) where
+  same_node : (v r q : ℕ) (a : Partial) → r ≡ q → with_node v (record { table = node_table y v; row = r }) a ≡ with_node v (record { table = node_table y v; row = q }) a
+  same_node v r q a e = ap (λ r. with_node v (record { table = node_table y v; row = r }) a) e
+
+  same_rel : (x r q : ℕ) (a : Partial) → r ≡ q → with_rel x (record { table = rel_table y x; row = r }) a ≡ with_rel x (record { table = rel_table y x; row = q }) a
+  same_rel x r q a e = ap (λ r. with_rel x (record { table = rel_table y x; row = r }) a) e
+
+  taken_alike : (s : Step) (k : Known) (a : Partial) → IsAlike (after_step s k) old new → taken y new s a ≡ taken y old s a
+  unfolding after_step
+  taken_alike (Scan v) k a h = same_node v _ _ a (h.nodes v (or_left (nat_eq v v) (k.nodes v) (eq-eqb v v refl)))
+  taken_alike (Extend column x from to way) k a h =
+      same_node to _ _ (with_rel x (rel_at y new x) a) (h.nodes to (or_left (nat_eq to to) (k.nodes to) (eq-eqb to to refl)))
+      ∙ ap (λ b. with_node to (node_at y old to) b) (same_rel x _ _ a (h.rels x (or_left (nat_eq x x) (k.rels x) (eq-eqb x x refl))))
+  taken_alike (Close column x from to way) k a h = same_rel x _ _ a (h.rels x (or_left (nat_eq x x) (k.rels x) (eq-eqb x x refl)))
+  taken_alike (Join side keys) k a h = refl
+  taken_alike (Keep i) k a h = refl
+  taken_alike (Differ p) k a h = refl
+  taken_alike (NoLoop x) k a h = refl
+
+module _ (c : Run) (old new : Assignment) where
+  pub before_alike : (d : ℕ) → IsAlike (known c d) old new → before c new d ≡ before c old d
+  unfolding known before
+  before_alike zero h = refl
+  before_alike (suc d) h =
+      taken_alike c.typed old new (step_at c d) (known c d) (before c new d) h
+      ∙ ap (taken c.typed old (step_at c d)) (before_alike d (alike_before (step_at c d) (known c d) old new h))
+
+  pub behind_alike : (d : ℕ) (p q : List ℕ) → IsAlike (known c d) old new → ((i : ℕ) → i < d → slice_index q i ≡ slice_index p i) → behind c new q d ≡ behind c old p d
+  unfolding known behind
+  behind_alike zero p q h same = refl
+  behind_alike (suc d) p q h same =
+      let less : IsAlike (known c d) old new = alike_before (step_at c d) (known c d) old new h in
+      ap₂ ◌++◌
+      (ap₂ (λ a place. level c.graph c.typed (drop d c.steps) place a) (before_alike d less) (same d (omega arith)))
+      (behind_alike d p q less (λ i low. same i (omega arith)))
+
+-- ---- what is looked up
+
+-- an assignment has what is known, as rows and load numbers have it
+pub record Looks (y : Typed) (row : Assignment) (k : Known) (a : Partial) : Type 0 where
+  pub nodes : (v : ℕ) → look a.nodes v ≡ cond (k.nodes v) (Some (node_at y row v)) None
+  pub rels : (x : ℕ) → look a.rels x ≡ cond (k.rels x) (Some (rel_at y row x)) None
+
+module _ (y : Typed) (row : Assignment) where
+  one_node : (w : ℕ) (n : NodeId) (known : ℕ → Bool) (bs : List (ℕ × NodeId)) → n ≡ node_at y row w → ((v : ℕ) → look bs v ≡ cond (known v) (Some (node_at y row v)) None)
+      → (v : ℕ) → look ((w, n) ∷ bs) v ≡ cond (nat_eq v w || known v) (Some (node_at y row v)) None
+  one_node w n known bs is h v = go (nat_eq w v) refl
+    where
+      go : (b : Bool) → nat_eq w v ≡ b → cond (nat_eq w v) (Some n) (look bs v) ≡ cond (nat_eq v w || known v) (Some (node_at y row v)) None
+      go true e = rw (e, swap v w ∙ e) (ap Some (is ∙ ap (node_at y row) (eqb-true w v e)))
+      go false e = rw (e, swap v w ∙ e) (h v)
+
+  one_rel : (w : ℕ) (n : RelId) (known : ℕ → Bool) (bs : List (ℕ × RelId)) → n ≡ rel_at y row w → ((v : ℕ) → look bs v ≡ cond (known v) (Some (rel_at y row v)) None)
+      → (v : ℕ) → look ((w, n) ∷ bs) v ≡ cond (nat_eq v w || known v) (Some (rel_at y row v)) None
+  one_rel w n known bs is h v = go (nat_eq w v) refl
+    where
+      go : (b : Bool) → nat_eq w v ≡ b → cond (nat_eq w v) (Some n) (look bs v) ≡ cond (nat_eq v w || known v) (Some (rel_at y row v)) None
+      go true e = rw (e, swap v w ∙ e) (ap Some (is ∙ ap (rel_at y row) (eqb-true w v e)))
+      go false e = rw (e, swap v w ∙ e) (h v)
+
+  looks_taken : (s : Step) (k : Known) (a : Partial) → is_join s ≡ false → Looks y row k a → Looks y row (after_step s k) (taken y row s a)
+  unfolding after_step
+  looks_taken (Scan v) k a flat h = record { nodes = one_node v (node_at y row v) k.nodes a.nodes refl h.nodes; rels = h.rels }
+  looks_taken (Extend column x from to way) k a flat h = record {
+    nodes = one_node to (node_at y row to) k.nodes a.nodes refl h.nodes;
+    rels = one_rel x (rel_at y row x) k.rels a.rels refl h.rels;
+  }
+  looks_taken (Close column x from to way) k a flat h = record { nodes = h.nodes; rels = one_rel x (rel_at y row x) k.rels a.rels refl h.rels }
+  looks_taken (Join side keys) k a flat h = absurd (true≢false flat)
+  looks_taken (Keep i) k a flat h = h
+  looks_taken (Differ p) k a flat h = h
+  looks_taken (NoLoop x) k a flat h = h
+
+-- no step of a plan without joins is one
+no_join : (ss : List Step) → is_flat (steps ss) ≡ true → (d : ℕ) → is_join (slice_index_or ss d (Keep 0)) ≡ false
+no_join [] h d = refl
+no_join (s ∷ ss) h d = go (is_join s) refl d h (λ more e. no_join ss more e)
+  where
+    go : (b : Bool) → is_join s ≡ b → (d : ℕ) → cond b false (is_flat (steps ss)) ≡ true
+        → (is_flat (steps ss) ≡ true → (e : ℕ) → is_join (slice_index_or ss e (Keep 0)) ≡ false) → is_join (slice_index_or (s ∷ ss) d (Keep 0)) ≡ false
+    go true e d h later = absurd (true≢false (sym h))
+    go false e zero h later = e
+    go false e (suc d) h later = later h d
+
+module _ (c : Run) (run : IsRun c) where
+  pub flat_at : (d : ℕ) → is_join (step_at c d) ≡ false
+  flat_at d = no_join c.steps run.flat d
+
+  pub looks : (row : Assignment) (d : ℕ) → Looks c.typed row (known c d) (before c row d)
+  unfolding known before
+  looks row zero = record { nodes = λ v. refl; rels = λ x. refl }
+  looks row (suc d) = looks_taken c.typed row (step_at c d) (known c d) (before c row d) (flat_at d) (looks row d)
+
+  -- the step at a depth fits what is bound there
+  fits_from : (d : ℕ) → d ≤ length c.steps → fits c.graph.catalog c.typed (steps (drop d c.steps)) (known c d) ≡ true
+  unfolding known fits
+  fits_from zero low = run.fits
+  fits_from (suc d) low =
+      let k = known c d in
+      let s = step_at c d in
+      let more : List Step = drop (d + 1) c.steps in
+      let split : (fits_step c.graph.catalog c.typed s k && fits c.graph.catalog c.typed (steps more) (after_step s k)) ≡ true =
+      ap (λ ss. fits c.graph.catalog c.typed (steps ss) k) (sym (steps_from c d (omega arith))) ∙ fits_from d (omega arith) in
+      let next : d + 1 ≡ suc d = omega arith in
+      ap (λ n. fits c.graph.catalog c.typed (steps (drop n c.steps)) (after_step s k)) (sym next) ∙ (and_parts _ _ split).1
+
+  pub fits_at : (d : ℕ) → d < length c.steps → fits_step c.graph.catalog c.typed (step_at c d) (known c d) ≡ true
+  unfolding fits
+  fits_at d low =
+      let k = known c d in
+      let s = step_at c d in
+      let more : List Step = drop (d + 1) c.steps in
+      let split : (fits_step c.graph.catalog c.typed s k && fits c.graph.catalog c.typed (steps more) (after_step s k)) ≡ true =
+      ap (λ ss. fits c.graph.catalog c.typed (steps ss) k) (sym (steps_from c d low)) ∙ fits_from d (omega arith) in
+      (and_parts _ _ split).0
+
+-- ---- all variables
+
+-- what a plan binds is what its steps bind one after another
+after_from : (c : Run) (n d : ℕ) → d + n ≡ length c.steps → after (steps (drop d c.steps)) (known c d) ≡ known c (length c.steps)
+unfolding after known
+after_from c zero d is =
+    let all : d ≡ length c.steps = omega arith in
+    ap (λ ss. after (steps ss) (known c d)) (drop_all d c.steps (omega arith)) ∙ ap (known c) all
+after_from c (suc n) d is =
+    let next : d + 1 ≡ suc d = omega arith in
+    ap (λ ss. after (steps ss) (known c d)) (steps_from c d (omega arith))
+    ∙ ap (λ m. after (steps (drop m c.steps)) (after_step (step_at c d) (known c d))) next
+    ∙ after_from c n (suc d) (omega arith)
+
+pub after_all : (c : Run) → after (steps c.steps) none ≡ known c (length c.steps)
+unfolding known
+after_all c = after_from c (length c.steps) 0 (omega arith)
+
+module _ {X : Type 0} (table : ℕ → ℕ) (known : ℕ → Bool) (made : ℕ → ℕ → X) (get : ℕ → Option X) (is : (v : ℕ) → get v ≡ cond (known v) (Some (made (table v) v)) None) where
+  found_all : (vs : List ℕ) → flat_map (λ v. found (get v)) vs ≡ map (λ (v : Variable). made v.table v.number) (map (variable table) (filter known vs))
+  found_all [] = refl
+  found_all (v ∷ vs) = ap₂ ◌++◌ (ap found (is v)) (found_all vs) ∙ go (known v)
+    where
+      go : (b : Bool) → found (cond b (Some (made (table v) v)) None) ++ map (λ (v : Variable). made v.table v.number) (map (variable table) (filter known vs))
+          ≡ map (λ (v : Variable). made v.table v.number) (map (variable table) (cond b (v ∷ filter known vs) (filter known vs)))
+      go true = refl
+      go false = refl
+
+-- an assignment read whole is what rows and load numbers give the variables that are bound
+pub whole_is : (y : Typed) (row : Assignment) (k : Known) (a : Partial) → Looks y row k a → whole y a ≡ read (variables_of y k) row
+whole_is y row k a h = λ i. record {
+  nodes = found_all (node_table y) k.nodes (node_of row) (look a.nodes) h.nodes (range_with_len 0 (length y.nodes)) i;
+  rels = found_all (rel_table y) k.rels (rel_of row) (look a.rels) h.rels (range_with_len 0 (length y.rels)) i;
+}

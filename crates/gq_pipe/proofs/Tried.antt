@@ -1,0 +1,145 @@
+-- What a try of a step of each kind makes is what is said of the step at its depth.
+use Rattle.std.proofs.Common.{◌≡◌, ◌≢◌, ℕ, zero, suc, ◌<◌, Bool, true, false, cond, Some, None, List, [], ◌∷◌, map, length, get_or, slice_get, refl, sym, ap, ◌∙◌, subst, arith}
+use Rattle.std.proofs.lemmas.Bool.{and_parts}
+use Rattle.std.proofs.lemmas.List.{length-map}
+use Rattle.std.proofs.lemmas.Option.{slice_get_within}
+use Rattle.gq_plan.specs.Covers.{fits_step, goes}
+use Rattle.gq_plan.specs.Known.{Known}
+use Rattle.gq_plan.specs.Meaning.{Partial, look, holds}
+use Rattle.gq_plan.specs.Steps.{Step, Scan, Extend, Close, Keep, step_of}
+use Rattle.gq_plan.specs.declared.plan.Step as code
+use Rattle.gq_plan.specs.declared.plan.Way.{Way}
+use Rattle.gq_pipe.specs.Levels.{Run, step_at, known, before}
+use Rattle.gq_pipe.specs.Moves.{run_of, IsRun, IsHeld, IsTried}
+use Rattle.gq_pipe.specs.Outcomes.{IsSized, IsScanned, CanFollow, IsExtended, IsClosed, tested}
+use Rattle.gq_pipe.specs.Rows.{node_at}
+use Rattle.gq_pipe.specs.declared.assignment.Assignment.{Assignment}
+use Rattle.gq_pipe.specs.declared.course.Course.{Course}
+use Rattle.gq_pipe.specs.declared.course.Follow.{Follow}
+use Rattle.gq_pipe.specs.declared.course.Tried.{Tried}
+use Rattle.gq_pipe.specs.declared.course.Tried.TheVariants.{Past, Missed, Made}
+use Rattle.gq_pipe.proofs.Binding.{looks, fits_at}
+use Rattle.gq_pipe.proofs.Stepping.{not_true, Makes, is_made, is_missed, is_past, scan_parts, scan_makes, scan_makes_none, Follows, follows, near_rows_are, extend_makes, extend_past, close_makes, close_misses, close_past}
+
+-- the step at a depth of a course, by its step of the program
+get_mapped : (ss : List code.Step) (d : ℕ) (x : code.Step) → d < length ss → get_or (map step_of ss) d (Keep 0) ≡ step_of (get_or ss d x)
+get_mapped [] d x low = absurd (omega arith)
+get_mapped (s ∷ ss) zero x low = refl
+get_mapped (s ∷ ss) (suc d) x low = get_mapped ss d x (omega arith)
+
+module _ (k : Course) (d : ℕ) (low : d < length k.steps.now) where
+  pub step_is : (x s : code.Step) (t : Step) → get_or k.steps.now d x ≡ s → step_of s ≡ t → step_at (run_of k) d ≡ t
+  step_is x s t is e = get_mapped k.steps.now d x low ∙ ap step_of is ∙ e
+
+  pub low_step : d < length (run_of k).steps
+  low_step = rw length-map low
+
+-- a test is looked at at its one place only
+pub tested_past : (place : ℕ) (b p : Bool) → place ≢ 0 → tested place b ≡ tested place p
+tested_past zero b p other = absurd (other refl)
+tested_past (suc place) b p other = refl
+
+module _ (c : Run) (run : IsRun c) (d : ℕ) (low : d < length c.steps) (old : Assignment) (held : IsHeld c old (known c d)) where
+  abbrev k : Known
+  k = known c d
+
+  abbrev a : Partial
+  a = before c old d
+
+  fit : (s : Step) → step_at c d ≡ s → fits_step c.graph.catalog c.typed s k ≡ true
+  fit s is = ap (λ t. fits_step c.graph.catalog c.typed t k) (sym is) ∙ fits_at c run d low
+
+  pub sized : IsSized c.typed old
+  sized = record { nodes = held.node_count; rels = held.rel_count }
+
+  -- ---- scans
+
+  pub scan_low : (v : ℕ) → step_at c d ≡ Scan v → v < length c.typed.nodes
+  scan_low v is = (scan_parts c run old k held a v 0 (fit (Scan v) is)).0
+
+  pub scan_tried : (v place : ℕ) (new : Assignment) (told : Tried) → step_at c d ≡ Scan v → IsScanned c.graph c.typed v place old new told → IsTried c d place old new told
+  scan_tried v place new Past is h = is_past c d (Scan v) is place old new h.0 (scan_makes_none c run old k held a v place (fit (Scan v) is) h.1)
+  scan_tried v place new Missed is h = absurd h
+  scan_tried v place new Made is h =
+      is_made c d (Scan v) is place old new
+      (subst (λ row. Makes c (Scan v) k a place old row) (sym h.0) (scan_makes c run old k held a v place (fit (Scan v) is) h.1)) h.2
+
+  -- ---- relationships
+
+  found : (v : ℕ) → k.nodes v ≡ true → look a.nodes v ≡ Some (node_at c.typed old v)
+  found v known = (looks c run old d).nodes v ∙ ap (λ b. cond b (Some (node_at c.typed old v)) None) known
+
+  abbrev at : ℕ → ℕ → ℕ → Way → Follow
+  at x from to way = record { rel = x; from = from; to = to; way = way }
+
+  can : (x from to : ℕ) (way : Way) → Follows c x from to way → k.nodes from ≡ true → CanFollow c.graph c.typed old (at x from to way)
+  can x from to way f known = record {
+    sized = sized;
+    rel = slice_get_within c.typed.rels x _ f.rel_is;
+    from = slice_get_within c.typed.nodes from _ f.near;
+    to = slice_get_within c.typed.nodes to _ f.far;
+    table = slice_get_within c.graph.catalog.rels _ _ f.table_is;
+    row = rw (near_rows_are c run x from to way f) (held.rows from known);
+  }
+
+  -- a step that binds a node variable
+
+  module _ (column : Bool) (x from to : ℕ) (way : Way) (is : step_at c d ≡ Extend column x from to way) where
+    extend_goes : holds (goes c.graph.catalog column from to way) (slice_get c.typed.rels x) ≡ true
+    unfolding fits_step
+    extend_goes = (and_parts _ _ (fit (Extend column x from to way) is)).0
+
+    extend_parts : (k.rels x ≡ false) × (k.nodes from ≡ true) × (k.nodes to ≡ false)
+    unfolding fits_step
+    extend_parts =
+        let more = and_parts _ _ (and_parts _ _ (fit (Extend column x from to way) is)).1 in
+        let ends = and_parts _ _ more.1 in
+        (not_true _ more.0, ends.0, not_true _ (and_parts _ _ ends.1).1)
+
+    abbrev extends : Follows c x from to way
+    extends = follows c run column x from to way extend_goes
+
+    pub extend_can : CanFollow c.graph c.typed old (at x from to way)
+    extend_can = can x from to way extends extend_parts.1
+
+    pub extend_tried : (place : ℕ) (new : Assignment) (told : Tried) → IsExtended c.graph c.typed (at x from to way) place old new told → IsTried c d place old new told
+    extend_tried place new Past h =
+        is_past c d (Extend column x from to way) is place old new h.0
+        (extend_past c run x from to way extends old a (found from extend_parts.1) column place h.1)
+    extend_tried place new Missed h = absurd h
+    extend_tried place new Made h =
+        is_made c d (Extend column x from to way) is place old new
+        (subst (λ row. Makes c (Extend column x from to way) k a place old row) (sym h.2)
+        (extend_makes c run x from to way extends old a (found from extend_parts.1) column k held extend_parts.0 extend_parts.2 place h.0 h.1)) h.1.few
+
+  -- a step between bound node variables
+
+  module _ (column : Bool) (x from to : ℕ) (way : Way) (is : step_at c d ≡ Close column x from to way) where
+    close_goes : holds (goes c.graph.catalog column from to way) (slice_get c.typed.rels x) ≡ true
+    unfolding fits_step
+    close_goes = (and_parts _ _ (fit (Close column x from to way) is)).0
+
+    close_parts : (k.rels x ≡ false) × (k.nodes from ≡ true) × (k.nodes to ≡ true)
+    unfolding fits_step
+    close_parts =
+        let more = and_parts _ _ (and_parts _ _ (fit (Close column x from to way) is)).1 in
+        let ends = and_parts _ _ more.1 in
+        (not_true _ more.0, ends.0, ends.1)
+
+    abbrev closes : Follows c x from to way
+    closes = follows c run column x from to way close_goes
+
+    pub close_can : CanFollow c.graph c.typed old (at x from to way)
+    close_can = can x from to way closes close_parts.1
+
+    pub close_tried : (place : ℕ) (new : Assignment) (told : Tried) → IsClosed c.graph c.typed (at x from to way) place old new told → IsTried c d place old new told
+    close_tried place new Past h =
+        is_past c d (Close column x from to way) is place old new h.0
+        (close_past c run x from to way closes old a (found from close_parts.1) column place h.1)
+    close_tried place new Missed h =
+        is_missed c d (Close column x from to way) is place old new h.3
+        (close_misses c run x from to way closes old a (found from close_parts.1) (found to close_parts.2) column place h.0 h.1 h.2) h.1.few
+    close_tried place new Made h =
+        is_made c d (Close column x from to way) is place old new
+        (subst (λ row. Makes c (Close column x from to way) k a place old row) (sym h.3)
+        (close_makes c run x from to way closes old a (found from close_parts.1) (found to close_parts.2) column k held close_parts.0 place h.0 h.1 h.2)) h.1.few

@@ -1,0 +1,42 @@
+-- What the fields of a pipeline stand for, and what is true of them.
+use Rattle.std.specs.Prelude.{ℕ, Bool, true, false, List, [], map, length}
+use Rattle.gq_plan.specs.Meaning.{Partial, nothing, mean, whole}
+use Rattle.gq_plan.specs.Steps.{steps}
+use Rattle.gq_pipe.specs.Bound.{bound, read}
+use Rattle.gq_pipe.specs.Levels.{Run, behind}
+use Rattle.gq_pipe.specs.Moves.{run_of, IsRun, IsOpen}
+use Rattle.gq_pipe.specs.Progress.{Progress}
+use Rattle.gq_pipe.specs.declared.cursor.Cursor.{Cursor}
+use Rattle.gq_pipe.specs.declared.flat.FlatPipeline.TheInside.{Inside}
+use Rattle.gq_pipe.specs.declared.flat.State.{State}
+use Rattle.gq_pipe.specs.declared.flat.State.TheVariants.{Fresh, Standing, Over}
+
+abbrev pub is_standing : State → Bool
+is_standing Fresh = false
+is_standing Standing = true
+is_standing Over = false
+
+-- how many steps have what they bind
+abbrev pub depth_of : State → ℕ → ℕ
+depth_of Fresh count = 0
+depth_of Standing count = count
+depth_of Over count = 0
+
+abbrev pub owed_in : State → Run → Cursor → List Partial
+owed_in Fresh c at = mean c.graph c.typed (steps c.steps) nothing
+owed_in Standing c at = behind c at.row at.places.items (length c.steps)
+owed_in Over c at = []
+
+abbrev pub progress_of : Inside → Progress
+progress_of p =
+    let c = run_of p.course in
+    record {
+      owed = map (whole c.typed) (owed_in p.state c p.cursor);
+      row = read (bound c.typed (steps c.steps)) p.cursor.row;
+      standing = is_standing p.state;
+      variables = bound c.typed (steps c.steps);
+    }
+
+pub record IsReady (p : Inside) : Type 0 where
+  pub run : IsRun (run_of p.course)
+  pub open_at : IsOpen (run_of p.course) p.cursor (depth_of p.state (length (run_of p.course).steps))

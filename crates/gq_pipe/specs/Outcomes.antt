@@ -1,0 +1,65 @@
+-- What a try of each kind of step does to rows and load numbers.
+use Rattle.std.specs.Prelude.{◌≡◌, ◌≢◌, ℕ, zero, suc, ◌+◌, ◌^◌, ◌<◌, ◌≤◌, Bool, true, false, length, slice_index, slice_set}
+use Rattle.gq_base.specs.Plain.{Graph}
+use Rattle.gq_base.specs.Valid.{row_count}
+use Rattle.gq_plan.specs.declared.typed.Typed.{Typed}
+use Rattle.gq_store.specs.Neighbours.{near_rows, neighbours}
+use Rattle.gq_pipe.specs.Hops.{direction_of, IsHop}
+use Rattle.gq_pipe.specs.Rows.{node_table, rel_table}
+use Rattle.gq_pipe.specs.declared.assignment.Assignment.{Assignment}
+use Rattle.gq_pipe.specs.declared.course.Follow.{Follow}
+use Rattle.gq_pipe.specs.declared.course.Tried.{Tried}
+use Rattle.gq_pipe.specs.declared.course.Tried.TheVariants.{Past, Missed, Made}
+use Rattle.gq_pipe.specs.declared.follow.Hop.{Hop}
+
+-- as many rows and load numbers as the alternative has variables
+pub record IsSized (y : Typed) (row : Assignment) : Type 0 where
+  pub nodes : length row.nodes ≡ length y.nodes
+  pub rels : length row.rels ≡ length y.rels
+
+abbrev pub with_row : ℕ → ℕ → Assignment → Assignment
+with_row v r row = record { nodes = slice_set row.nodes v r; rels = row.rels }
+
+abbrev pub with_number : ℕ → ℕ → Assignment → Assignment
+with_number x n row = record { nodes = row.nodes; rels = slice_set row.rels x n }
+
+-- the row at the place
+abbrev pub IsScanned : Graph → Typed → ℕ → ℕ → Assignment → Assignment → Tried → Type 0
+IsScanned g y v place old new Past = (new ≡ old) × (row_count g.nodes (node_table y v) ≤ place)
+IsScanned g y v place old new Missed = ⊥
+IsScanned g y v place old new Made = (new ≡ with_row v place old) × (place < row_count g.nodes (node_table y v)) × (place + 1 < 2 ^ 32)
+
+-- variables of the alternative, of which the first node variable has a row from which the relationship is followed
+pub record CanFollow (g : Graph) (y : Typed) (old : Assignment) (f : Follow) : Type 0 where
+  pub sized : IsSized y old
+  pub rel : f.rel < length y.rels
+  pub from : f.from < length y.nodes
+  pub to : f.to < length y.nodes
+  pub table : rel_table y f.rel < length g.catalog.rels
+  pub row : slice_index old.nodes f.from < near_rows g (rel_table y f.rel) (direction_of f.way)
+
+-- there is no relationship at the place
+abbrev pub IsNoHop : Graph → Typed → Follow → ℕ → Assignment → Type 0
+IsNoHop g y f place row = length (neighbours g (rel_table y f.rel) (direction_of f.way) (slice_index row.nodes f.from)) ≤ place
+
+-- the relationship at the place
+abbrev pub IsHopOf : Graph → Typed → Follow → ℕ → Assignment → Hop → Type 0
+IsHopOf g y f place row h = IsHop g (rel_table y f.rel) (direction_of f.way) (slice_index row.nodes f.from) place h
+
+-- the relationship at the place, and the row to which it leads
+abbrev pub IsExtended : Graph → Typed → Follow → ℕ → Assignment → Assignment → Tried → Type 0
+IsExtended g y f place old new Past = (new ≡ old) × IsNoHop g y f place old
+IsExtended g y f place old new Missed = ⊥
+IsExtended g y f place old new Made = (h : Hop) × IsHopOf g y f place old h × (new ≡ with_number f.rel h.number (with_row f.to h.row old))
+
+-- the relationship at the place, where it leads to the row that is there
+abbrev pub IsClosed : Graph → Typed → Follow → ℕ → Assignment → Assignment → Tried → Type 0
+IsClosed g y f place old new Past = (new ≡ old) × IsNoHop g y f place old
+IsClosed g y f place old new Missed = (h : Hop) × IsHopOf g y f place old h × (h.row ≢ slice_index old.nodes f.to) × (new ≡ old)
+IsClosed g y f place old new Made = (h : Hop) × IsHopOf g y f place old h × (h.row ≡ slice_index old.nodes f.to) × (new ≡ with_number f.rel h.number old)
+
+-- a test has one place
+abbrev pub tested : ℕ → Bool → Tried
+tested zero true = Made
+tested zero false = Missed
+tested (suc place) passes = Past

@@ -1,0 +1,65 @@
+//! An assignment as rows and load numbers.
+ghost use Rattle.std.specs.Prelude.{◌≡◌, length, IfOk};
+ghost use Rattle.gq_pipe.specs.Rows.{as_read};
+
+use gq_base::{List, Memory, NodeId, RelId};
+use gq_expr::Assigned;
+use gq_plan::Typed;
+use std::alloc::Global;
+
+/// A row for each node variable of a typed alternative and a load number for each relationship variable. Their tables are
+/// those of the alternative.
+#[derive(Drop)]
+pub struct Assignment {
+    pub nodes: List<u32>,
+    pub rels: List<u32>,
+}
+
+impl Assignment {
+    /// Row 0 and load number 0 for each variable.
+    pub(crate) fn zeros(alloc: Global, typed: &Typed) -> Result<Assignment, Memory>
+        ensures nodes { IfOk result (λ row. length row.nodes ≡ length typed.now.nodes) }
+        ensures rels { IfOk result (λ row. length row.rels ≡ length typed.now.rels) }
+    {
+        let nodes = List::from_vec(zeros(alloc, typed.nodes.len())?);
+        let rels = List::from_vec(zeros(alloc, typed.rels.len())?);
+        Ok(Assignment { nodes, rels })
+    }
+}
+
+/// So many zeros.
+pub(crate) fn zeros(alloc: Global, count: usize) -> Result<Vec<u32>, Memory>
+    ensures { IfOk result (λ all. length all.items ≡ count) }
+{
+    let mut all = Vec::with_capacity(alloc, count)?;
+    for _ in 0..count {
+        all.push(0)?;
+    }
+    Ok(all)
+}
+
+/// Rows and load numbers with the tables that an alternative gives them.
+#[derive(Clone, Copy)]
+pub(crate) struct Named<'r> {
+    pub(crate) typed: &'r Typed,
+    pub(crate) row: &'r Assignment,
+}
+
+impl Assigned for Named<'_> {
+    ghost assignment = { λ n. as_read n.typed.now n.row.now };
+
+    fn node(&self, variable: u32) -> Option<NodeId> {
+        let table = *self.typed.nodes.get(variable as usize)?;
+        let row = *self.row.nodes.get(variable as usize)?;
+        Some(NodeId { table, row })
+    }
+
+    fn rel(&self, variable: u32) -> Option<RelId> {
+        let rel = self.typed.rels.get(variable as usize)?;
+        let row = *self.row.rels.get(variable as usize)?;
+        Some(RelId {
+            table: rel.table,
+            row,
+        })
+    }
+}
