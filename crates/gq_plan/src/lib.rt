@@ -15,7 +15,7 @@ mod variable;
 pub use bound::{Bound, NamedExpr, SortExpr};
 pub use covering::covers;
 pub use demand::Demand;
-pub use fitting::{fits, is_single};
+pub use fitting::{bound_after, fits, is_single};
 pub use known::{Known, VariableSet};
 pub use plan::{Plan, Step, Way};
 pub use reads::PropertyReads;
