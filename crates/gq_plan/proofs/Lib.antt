@@ -7,4 +7,5 @@ pub mod FirstSteps
 pub mod NameLemmas
 pub mod Products
 pub mod ReadLemmas
+pub mod Rows
 pub mod StepEquations

@@ -6,6 +6,7 @@ pub mod Known
 pub mod Law
 pub mod Meaning
 pub mod Reads
+pub mod Rows
 pub mod Soundness
 pub mod Steps
 pub mod Times

@@ -2,6 +2,7 @@
 //! find the assignments of an alternative.
 #![tactic(auto)]
 
+mod assignment;
 mod bound;
 mod covering;
 mod demand;
@@ -12,6 +13,7 @@ mod reads;
 mod typed;
 mod variable;
 
+pub use assignment::{Assignment, TypedRow};
 pub use bound::{Bound, NamedExpr, SortExpr};
 pub use covering::covers;
 pub use demand::Demand;
