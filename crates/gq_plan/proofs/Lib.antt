@@ -9,3 +9,4 @@ pub mod Products
 pub mod ReadLemmas
 pub mod Rows
 pub mod StepEquations
+pub mod Values
