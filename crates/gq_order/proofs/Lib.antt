@@ -3,6 +3,7 @@ pub mod Due
 pub mod GivenCovers
 pub mod GivenParts
 pub mod Good
+pub mod PartSides
 pub mod Paths
 pub mod Runs
 pub mod Sides
