@@ -2,7 +2,9 @@ mod Counting
 mod Covering
 mod Demanded
 mod Ends
+pub mod Fields
 mod Lookups
+pub mod Made
 mod Numbering
 mod Owning
 mod PlanCounts
