@@ -1,5 +1,6 @@
-//! The laws of what plans mean and of the tests of alternatives.
+//! The laws of what plans mean, of the tests of alternatives, and of their parts.
 ghost use Rattle.gq_meaning.specs.Safe.{LyingFitsKinds, PlansMake, TestsNeverFault};
+ghost use Rattle.gq_meaning.specs.Sides.{SidesCountParts};
 ghost use Rattle.gq_plan.specs.Law.{PlansMeanAllowed};
 
 /// A law for the crates above: in a valid graph, a plan that covers a sound alternative makes the assignments that the
@@ -27,4 +28,11 @@ pub fn what_lies_in_fits_the_kinds()
 #[tactic(auto, using(crate::proofs::Fields::never_fault))]
 pub fn tests_never_fault()
     ensures { TestsNeverFault }
+{}
+
+/// A law for the crates above: in a valid graph, a plan that makes a part of a sound alternative has as many assignments
+/// as the part. It does nothing.
+#[tactic(auto, using(crate::proofs::Sides::side_count))]
+pub fn side_plans_count_parts()
+    ensures { SidesCountParts }
 {}
