@@ -1,6 +1,10 @@
+mod Alone
+mod Bagged
 mod Entries
-pub mod Laws
 mod Late
+mod LateOutcomes
+pub mod Laws
 mod Matched
 mod Narrowed
+mod Together
 mod Worked
