@@ -7,7 +7,7 @@ use Rattle.std.proofs.lemmas.List.Elements.{recursion_from_All}
 use Rattle.gq_join.specs.Inner.{IsBuild, growing_of, held_of}
 use Rattle.gq_join.specs.Kept.{Growing, columns, kept, node_in, place_of, rows_of}
 use Rattle.gq_join.specs.Order.{IsCells, IsIndex, IsOrder, IsSplit, cell, key_columns}
-use Rattle.gq_join.specs.declared.assignment.Assignment.{Assignment}
+use Rattle.gq_plan.specs.declared.assignment.Assignment.{Assignment}
 use Rattle.gq_join.specs.declared.build.Build.TheInside.{Inside}
 use Rattle.gq_join.specs.declared.sealed.Sealed.TheInside as sealed
 use Rattle.gq_join.proofs.Cells.{length-rows, node_read, rows_push}

@@ -1,7 +1,7 @@
 -- What a build keeps: for each row that was pushed the numbers of the variables that it keeps.
 use Rattle.std.specs.Prelude.{ℕ, zero, suc, nat_eq, ◌≡◌, ◌<◌, ◌≤◌, ◌++◌, Bool, true, false, ◌&&◌, List, [], ◌∷◌, map, take, drop, filter, length, slice_index, slice_index_or, if◌then◌else◌}
 use Rattle.std.specs.List.{range_with_len}
-use Rattle.gq_join.specs.declared.assignment.Assignment.{Assignment}
+use Rattle.gq_plan.specs.declared.assignment.Assignment.{Assignment}
 use Rattle.gq_join.specs.declared.build.JoinRefusal.{JoinRefusal}
 use Rattle.gq_join.specs.declared.build.JoinRefusal.TheVariants.{TooManyRows, Memory}
 

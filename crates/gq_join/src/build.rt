@@ -2,11 +2,11 @@
 ghost use Rattle.std.specs.Prelude.{◌≡◌, ◌∷◌, [], ◌++◌, ◌+◌, ◌*◌, ◌^◌, ◌<◌, ◌≤◌, true, map, length, slice_index, All, OnOk, IfOk, IfErr};
 ghost use Rattle.gq_join.specs.Kept.{place_of, values_of, empty_build, with_row, is_refusal, sealed_of};
 
-use crate::assignment::Assignment;
 use crate::index::index;
 use crate::order::Table;
 use crate::sealed::Sealed;
 use gq_base::{List, Memory};
+use gq_plan::Assignment;
 use std::alloc::Global;
 use std::marker::Model;
 

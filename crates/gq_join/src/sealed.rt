@@ -3,10 +3,10 @@ ghost use Rattle.std.specs.Prelude.{◌≡◌, ◌<◌, ◌^◌, map, length, sl
 ghost use Rattle.gq_join.specs.Kept.{place_of, values_of, matches, matches_of, node_in, rel_in, column_at};
 ghost use Rattle.gq_join.specs.Order.{Ascends, at};
 
-use crate::assignment::Assignment;
 use crate::order::{Table, place_of};
 use gq_adj::Lists;
 use gq_base::List;
+use gq_plan::Assignment;
 use std::marker::Model;
 
 /// The rows that were pushed to a build, by number in order of arrival, which are found by their keys.
