@@ -1,26 +1,30 @@
 //! What a pipeline runs over, and one try of one step.
-ghost use Rattle.std.specs.Prelude.{◌≡◌, ◌<◌, length, slice_get, MatchOption};
+ghost use Rattle.std.specs.Prelude.{◌≡◌, ◌<◌, length, slice_get, slice_index_or, None, All, MatchOption};
+ghost use Rattle.std.specs.Option.{option_copied};
 ghost use Rattle.gq_plan.specs.Conditions.{passes, differs, no_loop};
 ghost use Rattle.gq_plan.specs.Meaning.{holds};
 ghost use Rattle.gq_plan.specs.Soundness.{IsSound};
 ghost use Rattle.gq_pipe.specs.Levels.{known};
 ghost use Rattle.gq_pipe.specs.Moves.{run_of, IsRun, IsHeld, IsTried};
-ghost use Rattle.gq_pipe.specs.Outcomes.{IsSized, IsScanned, CanFollow, IsNoHop, IsHopOf, IsExtended, IsClosed, tested};
-ghost use Rattle.gq_pipe.specs.Rows.{as_read};
+ghost use Rattle.gq_pipe.specs.Outcomes.{IsSized, IsScanned, CanFollow, IsNoHop, IsHopOf, IsExtended, IsClosed, CanJoin, IsJoined, with_nodes, with_rels, tested};
+ghost use Rattle.gq_join.specs.Kept.{place_of};
+ghost use Rattle.gq_plan.specs.Rows.{as_read};
 
-use crate::assignment::{Assignment, Named};
 use crate::follow::{Hop, direction_of, hop_at};
-use gq_base::Value;
+use gq_base::{List, Value};
 use gq_expr::{Assigned, eval};
-use gq_plan::{Step, Typed, Way};
+use gq_join::Sealed;
+use gq_plan::{Assignment, Step, Typed, TypedRow, Way};
 use gq_store::Graph;
 
 /// A graph, a typed alternative, and the steps of a plan for it.
 #[derive(Clone, Copy)]
-pub(crate) struct Course<'g> {
+pub(crate) struct PlanRun<'g> {
     pub(crate) graph: &'g Graph,
     pub(crate) typed: &'g Typed,
     pub(crate) steps: &'g [Step],
+    // The build of each step that is a join.
+    pub(crate) builds: &'g [Option<Sealed>],
 }
 
 /// What a step makes at a place.
@@ -43,7 +47,7 @@ struct Follow {
     way: Way,
 }
 
-impl Course<'_> {
+impl PlanRun<'_> {
     /// Tries the step at a depth at a place. What it binds there is written into the rows and load numbers.
     pub(crate) fn try_step(&self, depth: usize, place: u32, row: &mut Assignment) -> Tried
         requires run { IsRun (run_of self.now) }
@@ -80,7 +84,10 @@ impl Course<'_> {
             Step::Keep { test } => tested(place, place == 0 && self.keep(*test, row)),
             Step::Differ { pair } => tested(place, place == 0 && self.differ(*pair, row)),
             Step::NoLoop { rel } => tested(place, place == 0 && self.no_loop(*rel, row)),
-            Step::Join { .. } => unreachable!(),
+            Step::Join { .. } => match build_at(self.builds, depth) {
+                Some(build) => join(build, place, row),
+                None => unreachable!(),
+            },
         }
     }
 
@@ -145,13 +152,13 @@ impl Course<'_> {
     fn keep(&self, test: u32, row: &Assignment) -> bool
         ensures { result ≡ holds (passes self.now.graph.now (as_read self.now.typed.now row.now)) (slice_get self.now.typed.now.tests test) }
     {
-        let named = Named {
+        let typed_row = TypedRow {
             typed: self.typed,
             row,
         };
         match self.typed.tests.get(test as usize) {
             None => false,
-            Some(test) => match eval(&test.expr, self.graph, &named) {
+            Some(test) => match eval(&test.expr, self.graph, &typed_row) {
                 Ok(Value::Flag(truth)) => truth,
                 _ => false,
             },
@@ -162,13 +169,13 @@ impl Course<'_> {
     fn differ(&self, pair: u32, row: &Assignment) -> bool
         ensures { result ≡ holds (differs (as_read self.now.typed.now row.now)) (slice_get self.now.typed.now.pairs pair) }
     {
-        let named = Named {
+        let typed_row = TypedRow {
             typed: self.typed,
             row,
         };
         match self.typed.pairs.get(pair as usize) {
             None => false,
-            Some(pair) => match (named.rel(pair.first), named.rel(pair.second)) {
+            Some(pair) => match (typed_row.rel(pair.first), typed_row.rel(pair.second)) {
                 (Some(first), Some(second)) => first != second,
                 _ => false,
             },
@@ -179,17 +186,64 @@ impl Course<'_> {
     fn no_loop(&self, rel: u32, row: &Assignment) -> bool
         ensures { result ≡ holds (no_loop (as_read self.now.typed.now row.now)) (slice_get self.now.typed.now.rels rel) }
     {
-        let named = Named {
+        let typed_row = TypedRow {
             typed: self.typed,
             row,
         };
         match self.typed.rels.get(rel as usize) {
             None => false,
-            Some(rel) => match (named.node(rel.source), named.node(rel.target)) {
+            Some(rel) => match (typed_row.node(rel.source), typed_row.node(rel.target)) {
                 (Some(source), Some(target)) => source != target,
                 _ => true,
             },
         }
+    }
+}
+
+// The build at a depth, if there is one.
+fn build_at(builds: &[Option<Sealed>], depth: usize) -> Option<&Sealed>
+    requires { depth < length builds.now }
+    ensures { option_copied result ≡ slice_index_or builds.now depth None }
+{
+    builds[depth].as_ref()
+}
+
+// The match at the place, for the variables that a build keeps.
+fn join(build: &Sealed, place: u32, row: &mut Assignment) -> Tried
+    requires { CanJoin build.now row.old }
+    ensures { IsJoined build.now place row.old row.new result }
+{
+    match build.matches_of(row).get(place as usize) {
+        None => Tried::Past,
+        Some(found) => {
+            take_nodes(build, *found, &mut row.nodes);
+            take_rels(build, *found, &mut row.rels);
+            Tried::Made
+        }
+    }
+}
+
+// What the kept node variables have in a row.
+fn take_nodes(build: &Sealed, found: u32, nodes: &mut List<u32>)
+    requires found { found < length build.now.rows }
+    requires there { All (λ v. v < length nodes.old) build.now.nodes }
+    requires places { All (λ v. place_of build.now.nodes v < length build.now.nodes) build.now.nodes }
+    ensures { nodes.new ≡ with_nodes build.now found build.now.nodes nodes.old }
+{
+    for variable in build.nodes() {
+        nodes.set(*variable as usize, build.node(found, *variable));
+    }
+}
+
+// What the kept relationship variables have in a row.
+fn take_rels(build: &Sealed, found: u32, rels: &mut List<u32>)
+    requires found { found < length build.now.rows }
+    requires there { All (λ v. v < length rels.old) build.now.rels }
+    requires places { All (λ v. place_of build.now.rels v < length build.now.rels) build.now.rels }
+    ensures { rels.new ≡ with_rels build.now found build.now.rels rels.old }
+{
+    for variable in build.rels() {
+        rels.set(*variable as usize, build.rel(found, *variable));
     }
 }
 

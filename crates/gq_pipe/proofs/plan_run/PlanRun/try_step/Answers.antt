@@ -1,21 +1,26 @@
-use Rattle.std.proofs.Common.{◌≡◌, Bool, false, true, slice_get, sym, ap, ◌∙◌, subst, true≢false}
+use Rattle.std.proofs.Common.{◌≡◌, ℕ, ◌<◌, List, length, Option, Some, None, refl, arith, Bool, false, true, slice_get, sym, ap, ◌∙◌, subst, true≢false}
+use Rattle.std.specs.Prelude.{slice_index_or}
+use Rattle.std.proofs.lemmas.List.{length-map}
 use Rattle.gq_plan.proofs.StepEquations.{scan_is, extend_is, column_extend_is, close_is, column_close_is, join_is, keep_is, differ_is, no_loop_is}
 use Rattle.gq_plan.specs.Conditions.{passes, differs, no_loop}
 use Rattle.gq_plan.specs.Meaning.{holds}
 use Rattle.gq_plan.specs.Steps.{Scan, Extend, Close, Join, Keep, Differ, NoLoop, plan_of}
 use Rattle.gq_plan.specs.declared.plan.Step as code
-use Rattle.gq_pipe.specs.Flat.{is_join}
 use Rattle.gq_pipe.specs.Levels.{step_at}
-use Rattle.gq_pipe.specs.Moves.{run_of, IsTried}
+use Rattle.gq_pipe.specs.Moves.{run_of, IsRun, IsTried}
 use Rattle.gq_pipe.specs.Outcomes.{CanFollow, IsExtended, IsClosed, tested}
-use Rattle.gq_pipe.specs.Rows.{as_read}
-use Rattle.gq_pipe.specs.declared.course.Follow.{Follow}
-use Rattle.gq_pipe.specs.declared.course.Tried.{Tried}
-use Rattle.gq_pipe.proofs.Binding.{flat_at}
+use Rattle.gq_plan.specs.Rows.{as_read}
+use Rattle.gq_pipe.specs.declared.plan_run.Follow.{Follow}
+use Rattle.gq_pipe.specs.declared.plan_run.Tried.{Tried}
+use Rattle.gq_join.specs.Kept.{Held}
+use Rattle.gq_pipe.specs.declared.plan_run.PlanRun.{PlanRun}
+use Rattle.gq_plan.specs.declared.plan.Plan as code_plan
+use Rattle.gq_pipe.specs.Outcomes.{CanJoin, IsJoined}
+use Rattle.gq_pipe.proofs.Joined.{builds_many, can_join, join_tried, not_none, there}
 use Rattle.gq_pipe.proofs.Testing.{keep_tried, differ_tried, no_loop_tried}
 use Rattle.gq_pipe.proofs.Tried.{step_is, low_step, tested_past, scan_low, scan_tried, extend_can, extend_tried, close_can, close_tried}
-use Rattle.gq_pipe.proofs.course.Course.try_step.Goals as goal
-use Rattle.gq_pipe.proofs.course.Course.try_step.Goals.{then-place-eq0, else-place-eq0, then-place-eq0-2, else-place-eq0-2, then-place-eq0-3, else-place-eq0-3}
+use Rattle.gq_pipe.proofs.plan_run.PlanRun.try_step.Goals as goal
+use Rattle.gq_pipe.proofs.plan_run.PlanRun.try_step.Goals.{then-place-eq0, else-place-eq0, then-place-eq0-2, else-place-eq0-2, then-place-eq0-3, else-place-eq0-3}
 
 pub scan-requires-clause-node : goal.scan-requires-clause-node
 scan-requires-clause-node c = scan_low (run_of c.args.self.now) c.requires.run c.args.depth (low_step c.args.self.now c.args.depth c.requires.depth) c.args.row.now c.requires.held c.in-Scan.node (step_is c.args.self.now c.args.depth c.requires.depth _ (code.Scan c.in-Scan.node) (Scan c.in-Scan.node) c.in-Scan.is (scan_is c.in-Scan.node))
@@ -71,11 +76,33 @@ returns-in-ColumnClose c =
     (step_is c.args.self.now c.args.depth c.requires.depth _ (code.ColumnClose c.in-ColumnClose.rel c.in-ColumnClose.from c.in-ColumnClose.to c.in-ColumnClose.direction) (Close true c.in-ColumnClose.rel c.in-ColumnClose.from c.in-ColumnClose.to c.in-ColumnClose.direction) c.in-ColumnClose.is (column_close_is c.in-ColumnClose.rel c.in-ColumnClose.from c.in-ColumnClose.to c.in-ColumnClose.direction)) c.args.place c.close-in-ColumnClose.new.row c.close-in-ColumnClose.result
     (subst (λ (f : Follow). IsClosed c.args.self.now.graph.now c.args.self.now.typed.now f c.args.place c.args.row.now c.close-in-ColumnClose.new.row c.close-in-ColumnClose.result) c.following-in-ColumnClose.ensures c.close-in-ColumnClose.ensures)
 
+join_step : (k : PlanRun) (d : ℕ) → d < length k.steps.now → (side : code_plan.Plan) (keys : List ℕ) (x : code.Step) → slice_index_or k.steps.now d x ≡ code.Join side keys → step_at (run_of k) d ≡ Join (plan_of side) keys
+join_step k d low side keys x is = step_is k d low x (code.Join side keys) (Join (plan_of side) keys) is (join_is side keys)
+
+build_low : (k : PlanRun) → IsRun (run_of k) → (d : ℕ) → d < length k.steps.now → d < length k.builds.now
+build_low k run d low = let many = builds_many k.graph.now k.typed.now (run_of k).steps k.builds.now run.builds in let same : length (run_of k).steps ≡ length k.steps.now = rw length-map refl in omega (arith, low, many, same)
+
+pub build_at-requires : goal.build_at-requires
+build_at-requires c = build_low c.args.self.now c.requires.run c.args.depth c.requires.depth
+
 pub unreachable-requires : goal.unreachable-requires
 unreachable-requires c =
-    let is : step_at (run_of c.args.self.now) c.args.depth ≡ Join (plan_of c.in-Join.side) c.in-Join.keys =
-    step_is c.args.self.now c.args.depth c.requires.depth _ (code.Join c.in-Join.side c.in-Join.keys) (Join (plan_of c.in-Join.side) c.in-Join.keys) c.in-Join.is (join_is c.in-Join.side c.in-Join.keys) in
-    true≢false (sym (ap is_join is) ∙ flat_at (run_of c.args.self.now) c.requires.run c.args.depth)
+    not_none (run_of c.args.self.now) c.requires.run c.args.depth (low_step c.args.self.now c.args.depth c.requires.depth) c.args.row.now c.requires.held (plan_of c.in-Join.side) c.in-Join.keys (join_step c.args.self.now c.args.depth c.requires.depth c.in-Join.side c.in-Join.keys _ c.in-Join.is) None
+    (build_low c.args.self.now c.requires.run c.args.depth c.requires.depth) (sym c.in-None.ensures)
+
+pub join-requires : goal.join-requires
+join-requires c =
+    subst (λ (b : Held). CanJoin b c.args.row.now)
+    (there (run_of c.args.self.now) c.requires.run c.args.depth (low_step c.args.self.now c.args.depth c.requires.depth) c.args.row.now c.requires.held (plan_of c.in-Join.side) c.in-Join.keys (join_step c.args.self.now c.args.depth c.requires.depth c.in-Join.side c.in-Join.keys _ c.in-Join.is) None c.in-Some.build.now
+    (build_low c.args.self.now c.requires.run c.args.depth c.requires.depth) (sym c.in-Some.ensures))
+    (can_join (run_of c.args.self.now) c.requires.run c.args.depth (low_step c.args.self.now c.args.depth c.requires.depth) c.args.row.now c.requires.held (plan_of c.in-Join.side) c.in-Join.keys (join_step c.args.self.now c.args.depth c.requires.depth c.in-Join.side c.in-Join.keys _ c.in-Join.is))
+
+pub returns-in-Some : goal.returns-in-Some
+returns-in-Some c =
+    join_tried (run_of c.args.self.now) c.requires.run c.args.depth (low_step c.args.self.now c.args.depth c.requires.depth) c.args.row.now c.requires.held (plan_of c.in-Join.side) c.in-Join.keys (join_step c.args.self.now c.args.depth c.requires.depth c.in-Join.side c.in-Join.keys _ c.in-Join.is) c.args.place c.join.new.row c.join.result
+    (subst (λ (b : Held). IsJoined b c.args.place c.args.row.now c.join.new.row c.join.result)
+    (sym (there (run_of c.args.self.now) c.requires.run c.args.depth (low_step c.args.self.now c.args.depth c.requires.depth) c.args.row.now c.requires.held (plan_of c.in-Join.side) c.in-Join.keys (join_step c.args.self.now c.args.depth c.requires.depth c.in-Join.side c.in-Join.keys _ c.in-Join.is) None c.in-Some.build.now
+    (build_low c.args.self.now c.requires.run c.args.depth c.requires.depth) (sym c.in-Some.ensures))) c.join.ensures)
 
 pub returns-after-place-eq0 : goal.returns-after-place-eq0
 returns-after-place-eq0 c =
