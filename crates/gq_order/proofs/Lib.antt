@@ -10,3 +10,4 @@ pub mod Sides
 pub mod SidesOf
 pub mod Tables
 pub mod Worked
+pub mod WorkedParts
