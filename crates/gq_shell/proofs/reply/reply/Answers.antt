@@ -1,6 +1,6 @@
 use Rattle.std.proofs.Common.{Err, ap, refl}
 use Rattle.gq_shell.proofs.Replying.{refused_depth, refused_lex, refused_syntax}
-use Rattle.gq_shell.proofs.answer.reply.Goals as goal
+use Rattle.gq_shell.proofs.reply.reply.Goals as goal
 
 pub reply_to_tree-requires : goal.reply_to_tree-requires
 reply_to_tree-requires g c = (c.in-Ok.ensures.whole _).0 refl

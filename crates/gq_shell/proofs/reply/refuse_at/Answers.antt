@@ -3,7 +3,7 @@ use Rattle.gq_io.specs.Outside.{AppendsFront}
 use Rattle.gq_render.specs.Texts.{line}
 use Rattle.gq_shell.proofs.Replying.{at_byte}
 use Rattle.gq_shell.specs.declared.status.Status.TheVariants as status
-use Rattle.gq_shell.proofs.answer.refuse_at.Goals as goal
+use Rattle.gq_shell.proofs.reply.refuse_at.Goals as goal
 
 pub returns-in-Err : goal.returns-in-Err
 returns-in-Err g c = (

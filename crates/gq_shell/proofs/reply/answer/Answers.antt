@@ -1,5 +1,5 @@
 use Rattle.gq_shell.proofs.Replying.{answered, is_short}
-use Rattle.gq_shell.proofs.answer.answer.Goals as goal
+use Rattle.gq_shell.proofs.reply.answer.Goals as goal
 
 pub returns : goal.returns
 returns g c =

@@ -1,0 +1,46 @@
+-- What a table of rows takes of the outcomes that are pushed to it one after another, and where it stops.
+use Rattle.std.specs.Prelude.{◌≡◌, ◌⊎◌, ◌<◌, true, Result, Ok, Err, List, [], ◌++◌}
+use Rattle.std.specs.List.{Contains}
+use Rattle.gq_expr.specs.declared.Fault.{Fault}
+use Rattle.gq_plan.specs.Outcomes.{Row}
+use Rattle.gq_rows.specs.Looked.{cut_of, first_of, kept, rows_in}
+use Rattle.gq_rows.specs.Standing.{StandsFor, Table, is_full}
+use Rattle.gq_execute.specs.declared.refusal.AnswerRefusal.{AnswerRefusal}
+use Rattle.gq_execute.specs.declared.refusal.AnswerRefusal.TheVariants as refusal
+
+-- a front of these outcomes, and what is behind it
+pub record Cut (os : List (Result Row Fault)) : Type 0 where
+  pub pushed : List (Result Row Fault)
+  pub left : List (Result Row Fault)
+  pub whole : os ≡ pushed ++ left
+
+-- the same query, and as many rows may be kept
+pub record IsAlike (old new : Table) : Type 0 where
+  pub bound : new.bound ≡ old.bound
+  pub most : new.most ≡ old.most
+
+-- a front of the outcomes was taken: all of them, or as many as the table holds
+pub record Takes (os : List (Result Row Fault)) (old new : Table) : Type 0 where
+  pub cut : Cut os
+  pub alike : IsAlike old new
+  pub stands : (before : List (Result Row Fault)) → StandsFor before old → StandsFor (before ++ cut.pushed) new
+  pub done : (is_full new ≡ true) ⊎ (cut.left ≡ [])
+
+-- a fault is looked at among them
+pub record MeetsFault (os : List (Result Row Fault)) (old : Table) (f : Fault) : Type 0 where
+  pub cut : Cut os
+  pub seen : (before : List (Result Row Fault)) → StandsFor before old
+      → Contains (first_of (cut_of old.bound) (before ++ cut.pushed)) (Err f)
+
+-- more rows are kept of them than may be
+pub record MeetsMany (os : List (Result Row Fault)) (old : Table) : Type 0 where
+  pub cut : Cut os
+  pub many : (before : List (Result Row Fault)) → StandsFor before old
+      → old.most < kept old.bound (rows_in (before ++ cut.pushed))
+
+-- how these outcomes end a table's turn; want of memory is free
+abbrev pub TakesAll : List (Result Row Fault) → Table → Table → Result (Unit {0}) AnswerRefusal → Type 0
+TakesAll os old new (Ok _) = Takes os old new
+TakesAll os old new (Err (refusal.Fault f)) = MeetsFault os old f
+TakesAll os old new (Err (refusal.TooManyRows most)) = (most ≡ old.most) × MeetsMany os old
+TakesAll os old new (Err refusal.Memory) = Unit {0}

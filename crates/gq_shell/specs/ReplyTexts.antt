@@ -1,0 +1,31 @@
+-- The text of a reply to a query (this project's profile).
+use Rattle.std.specs.Prelude.{ℕ, Bool, not, List, ◌++◌, map, codes, decimal}
+use Rattle.std.specs.List.{list_any}
+use Rattle.gq_base.specs.Lists.{is_empty}
+use Rattle.gq_base.specs.Plain.{Graph}
+use Rattle.gq_execute.specs.Replies.{Reply, Rows, Faulted, TooManyRows}
+use Rattle.gq_expr.specs.declared.Fault.{Fault}
+use Rattle.gq_expr.specs.declared.Fault.TheVariants as fault
+use Rattle.gq_plan.specs.Parts.{given_parts}
+use Rattle.gq_plan.specs.declared.Bound.{Bound}
+use Rattle.gq_render.specs.Listings.{listing_text}
+use Rattle.gq_render.specs.Texts.{line}
+
+-- the most rows that are kept for a reply
+abbrev pub most_rows : ℕ
+most_rows = 4194304
+
+-- some alternative has a part, which is joined: a path other than the first that begins at a node of no earlier path
+abbrev pub has_parts : Bound → Bool
+has_parts bound = list_any (λ y. not (is_empty (given_parts y))) bound.alternatives
+
+abbrev pub fault_name : Fault → List ℕ
+fault_name fault.Overflow = codes "Overflow"
+fault_name fault.DivideByZero = codes "DivideByZero"
+fault_name fault.Kind = codes "Kind"
+
+-- a header, a line for each row and their number; or one line that says why there are none
+abbrev pub reply_text : Graph → Bound → Reply → List ℕ
+reply_text graph bound (Rows lines) = listing_text graph (map (λ c. c.name) bound.columns) lines
+reply_text graph bound (Faulted f) = line (codes "error: Fault " ++ fault_name f)
+reply_text graph bound TooManyRows = line (codes "error: TooManyRows " ++ decimal most_rows)

@@ -1,0 +1,78 @@
+//! The reply to a query that is bound.
+
+ghost use Rattle.std.specs.Prelude.{◌≡◌, false};
+ghost use Rattle.gq_io.specs.Causes.{HasCause};
+ghost use Rattle.gq_io.specs.Outside.{Writes};
+ghost use Rattle.gq_execute.specs.Replies.{Faulted, TooManyRows};
+ghost use Rattle.gq_shell.specs.ReplyTexts as spec;
+ghost use Rattle.gq_shell.specs.ReplyTexts.{most_rows, reply_text};
+ghost use Rattle.gq_shell.specs.Steps.{Asks};
+
+use crate::status::Status;
+use gq_execute::{AnswerRefusal, Settings, answer};
+use gq_expr::Fault;
+use gq_io::{Failed, Sink};
+use gq_order::has_parts as typed_has_parts;
+use gq_plan::Bound;
+use gq_render::{Place, write_listing, write_refusal};
+use gq_store::Graph;
+use std::alloc::Global;
+
+/// The most rows that are kept for a reply.
+const MOST_ROWS: u32 = 4_194_304;
+
+/// Whether some alternative of a query has a part, which is joined.
+pub fn has_parts(bound: &Bound) -> bool
+    ensures { result ≡ spec.has_parts bound.now }
+{
+    bound.alternatives.iter().any(typed_has_parts)
+}
+
+// Writes the line of a fault.
+fn write_fault<O: Sink>(out: &mut O, graph: &Graph, bound: &Bound, fault: Fault) -> Result<(), Failed>
+    ensures bytes { Writes (O.taken out.old) (O.taken out.new)
+        (reply_text graph.now bound.now (Faulted fault)) result }
+    ensures cause { HasCause (O.faults out.old) (O.faults out.new) result }
+{
+    let _ = (graph, bound);
+    let front = match fault {
+        Fault::Overflow => "error: Fault Overflow",
+        Fault::DivideByZero => "error: Fault DivideByZero",
+        Fault::Kind => "error: Fault Kind",
+    };
+    write_refusal(out, front, "", &[])
+}
+
+// Writes the line of a query that would keep too many rows.
+fn write_many<O: Sink>(out: &mut O, graph: &Graph, bound: &Bound) -> Result<(), Failed>
+    ensures bytes { Writes (O.taken out.old) (O.taken out.new)
+        (reply_text graph.now bound.now TooManyRows) result }
+    ensures cause { HasCause (O.faults out.old) (O.faults out.new) result }
+{
+    let _ = (graph, bound);
+    let place = Place {
+        before: "",
+        number: MOST_ROWS,
+    };
+    write_refusal(out, "error: TooManyRows ", "", &[place])
+}
+
+/// Replies to a query that is bound, and none of whose alternatives has a part: with its rows, or with the line that says
+/// why there are none.
+pub fn reply_to_query<O: Sink>(alloc: Global, out: &mut O, graph: &Graph, bound: &Bound) -> Status
+    requires built { spec.has_parts bound.now ≡ false }
+    ensures { Asks graph.now bound.now (O.taken out.old) (O.taken out.new)
+        (O.faults out.old) (O.faults out.new) result }
+{
+    let settings = Settings { rows: MOST_ROWS };
+    let (written, status) = match answer(alloc, graph, bound, &settings) {
+        Ok(listing) => (write_listing(out, graph, bound, &listing), Status::Ended),
+        Err(AnswerRefusal::Fault(fault)) => (write_fault(out, graph, bound, fault), Status::Refused),
+        Err(AnswerRefusal::TooManyRows { .. }) => (write_many(out, graph, bound), Status::Refused),
+        Err(AnswerRefusal::Memory) => return Status::Memory,
+    };
+    match written {
+        Ok(()) => status,
+        Err(Failed) => Status::WriteFault,
+    }
+}
