@@ -12,8 +12,7 @@ use Rattle.gq_plan.specs.Outcomes.{Row, outcomes}
 use Rattle.gq_plan.specs.Parts.{given_parts, part_assignments}
 use Rattle.gq_plan.specs.declared.Bound.{Bound}
 use Rattle.gq_plan.specs.declared.Typed.{Typed}
-use Rattle.gq_rows.specs.Answers.{Answers}
-use Rattle.gq_rows.specs.Looked.{cut_of, first_of, kept, rows_in}
+use Rattle.gq_rows.specs.Answers.{Answers, cut_of, kept, looked_at, rows_in}
 use Rattle.gq_syntax.specs.declared.Query.{Query}
 
 -- what is asked: a query over a graph, what it is bound to, and the most rows that may be kept
@@ -35,15 +34,15 @@ abbrev pub has_turn : Option ℕ → ℕ → Bool
 has_turn None before = true
 has_turn (Some n) before = nat_lt before n
 
--- some part of an alternative has more assignments than rows may be kept
-unfoldable pub is_heavy : Question → Typed → Bool
-is_heavy a y = list_any (λ p. nat_lt a.most (length (part_assignments a.graph y p))) (given_parts y)
+-- some part of an alternative has more assignments than this
+unfoldable pub has_large_part : Graph → ℕ → Typed → Bool
+has_large_part g most y = list_any (λ p. nat_lt most (length (part_assignments g y p))) (given_parts y)
 
 -- this is so of an alternative whose turn comes, where so many rows stand before them
 abbrev pub some_heavy : Question → ℕ → List Typed → Bool
 some_heavy a before [] = false
 some_heavy a before (y ∷ ys) =
-    (has_turn (cut_of a.bound) before && is_heavy a y)
+    (has_turn (cut_of a.bound) before && has_large_part a.graph a.most y)
     || some_heavy a (before + length (rows_in (outcomes_in a y))) ys
 
 -- too many rows are kept of a listing, or a part has too many assignments
@@ -59,7 +58,7 @@ pub data Reply : Type 0 where
 -- a listing permits a reply: a fault that is looked at; too many rows where that has its cause; else rows, where no outcome
 -- that is looked at is a fault
 abbrev pub Permits : Question → List (Result Row Fault) → Reply → Type 0
-Permits a listing (Faulted f) = Contains (first_of (cut_of a.bound) listing) (Err f)
+Permits a listing (Faulted f) = Contains (looked_at a.bound listing) (Err f)
 Permits a listing TooManyRows = is_too_many a listing ≡ true
 Permits a listing (Rows lines) = (is_too_many a listing ≡ false) × Answers a.bound listing lines
 

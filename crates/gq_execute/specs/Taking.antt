@@ -3,10 +3,14 @@ use Rattle.std.specs.Prelude.{◌≡◌, ◌⊎◌, ◌<◌, true, Result, Ok, E
 use Rattle.std.specs.List.{Contains}
 use Rattle.gq_expr.specs.declared.Fault.{Fault}
 use Rattle.gq_plan.specs.Outcomes.{Row}
-use Rattle.gq_rows.specs.Looked.{cut_of, first_of, kept, rows_in}
-use Rattle.gq_rows.specs.Standing.{StandsFor, Table, is_full}
+use Rattle.gq_rows.specs.Answers.{kept, looked_at, rows_in}
+use Rattle.gq_rows.specs.Tables.{StandsFor, Table, is_full_table}
 use Rattle.gq_execute.specs.declared.refusal.AnswerRefusal.{AnswerRefusal}
 use Rattle.gq_execute.specs.declared.refusal.AnswerRefusal.TheVariants as refusal
+
+-- a table stands for a listing of outcomes
+abbrev pub Stands : List (Result Row Fault) → Table → Type 0
+Stands outcomes table = StandsFor table.bound table.most outcomes table.held
 
 -- a front of these outcomes, and what is behind it
 pub record Cut (os : List (Result Row Fault)) : Type 0 where
@@ -23,19 +27,19 @@ pub record IsAlike (old new : Table) : Type 0 where
 pub record Takes (os : List (Result Row Fault)) (old new : Table) : Type 0 where
   pub cut : Cut os
   pub alike : IsAlike old new
-  pub stands : (before : List (Result Row Fault)) → StandsFor before old → StandsFor (before ++ cut.pushed) new
-  pub done : (is_full new ≡ true) ⊎ (cut.left ≡ [])
+  pub stands : (before : List (Result Row Fault)) → Stands before old → Stands (before ++ cut.pushed) new
+  pub done : (is_full_table new ≡ true) ⊎ (cut.left ≡ [])
 
 -- a fault is looked at among them
 pub record MeetsFault (os : List (Result Row Fault)) (old : Table) (f : Fault) : Type 0 where
   pub cut : Cut os
-  pub seen : (before : List (Result Row Fault)) → StandsFor before old
-      → Contains (first_of (cut_of old.bound) (before ++ cut.pushed)) (Err f)
+  pub seen : (before : List (Result Row Fault)) → Stands before old
+      → Contains (looked_at old.bound (before ++ cut.pushed)) (Err f)
 
 -- more rows are kept of them than may be
 pub record MeetsMany (os : List (Result Row Fault)) (old : Table) : Type 0 where
   pub cut : Cut os
-  pub many : (before : List (Result Row Fault)) → StandsFor before old
+  pub many : (before : List (Result Row Fault)) → Stands before old
       → old.most < kept old.bound (rows_in (before ++ cut.pushed))
 
 -- how these outcomes end a table's turn; want of memory is free
