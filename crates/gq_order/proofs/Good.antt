@@ -205,16 +205,16 @@ module _ (catalog : Tables) (y : Typed) where
       go true = add-zero (one (same_demand q (IsNoLoop x)))
       go false = refl
 
-  loop_runs : (k : Known) (x : ℕ) (r : TypedRel) → slice_get y.rels x ≡ Some r → k.nodes (left_of r) ≡ true → k.nodes (right_of r) ≡ true → Runs catalog y (loop_steps x r) k k
+  loop_runs : (k : Known) (x : ℕ) (r : TypedRel) → slice_get y.rels x ≡ Some r → k.rels x ≡ true → k.nodes (left_of r) ≡ true → k.nodes (right_of r) ≡ true → Runs catalog y (loop_steps x r) k k
   unfolding fits after
-  loop_runs k x r found left right = go r.no_loop refl
+  loop_runs k x r found here left right = go r.no_loop refl
     where
       both : (b : Bool) → k.nodes (cond b r.target r.source) ≡ true → k.nodes (cond b r.source r.target) ≡ true → (k.nodes r.source && k.nodes r.target) ≡ true
       both true l m = and_from (k.nodes r.source) (k.nodes r.target) m l
       both false l m = and_from (k.nodes r.source) (k.nodes r.target) l m
 
       go : (b : Bool) → r.no_loop ≡ b → Runs catalog y (cond b (NoLoop x ∷ []) []) k k
-      go true e = runs_one catalog y (NoLoop x) k k (ap (holds (loop_bound k)) found ∙ and_from r.no_loop (k.nodes r.source && k.nodes r.target) e (both r.reversed left right)) refl
+      go true e = runs_one catalog y (NoLoop x) k k (ap (holds (loop_bound k x)) found ∙ and_from r.no_loop (k.rels x && (k.nodes r.source && k.nodes r.target)) e (and_from (k.rels x) (k.nodes r.source && k.nodes r.target) here (both r.reversed left right))) refl
       go false e = runs_none catalog y k
 
   -- ---- a draft with one more relationship
@@ -264,12 +264,13 @@ module _ (catalog : Tables) (y : Typed) where
       let l = known_with k x r in
       let s = step_by x r (k.nodes (right_of r)) in
       let D = due y (Some k) other l in
+      let here : l.rels x ≡ true = ap (λ b. b || k.rels x) (eq-eqb x x refl) in
       let right : l.nodes (right_of r) ≡ true = ap (λ b. b || k.nodes (right_of r)) (eq-eqb (right_of r) (right_of r) refl) in
       record {
         runs =
             runs_append catalog y d.steps (s ∷ (loop_steps x r ++ D)) none k l g.runs
             (runs_append catalog y (s ∷ []) (loop_steps x r ++ D) k l l (rel_runs k x r h (k.nodes (right_of r)) refl)
-            (runs_append catalog y (loop_steps x r) D l l l (loop_runs l x r h.found ((grows_with k x r).nodes (left_of r) h.left) right) (runs_due catalog y (Some k) other l)));
+            (runs_append catalog y (loop_steps x r) D l l l (loop_runs l x r h.found here ((grows_with k x r).nodes (left_of r) h.left) right) (runs_due catalog y (Some k) other l)));
         full = λ q.
             met_append q d.steps (s ∷ (loop_steps x r ++ D))
             ∙ ap₂ ◌+◌ (g.full q)

@@ -3,9 +3,11 @@ pub mod Due
 pub mod GivenCovers
 pub mod GivenParts
 pub mod Good
+pub mod PartSides
 pub mod Paths
 pub mod Runs
 pub mod Sides
 pub mod SidesOf
 pub mod Tables
 pub mod Worked
+pub mod WorkedParts
