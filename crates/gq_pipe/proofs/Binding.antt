@@ -1,5 +1,5 @@
 -- What is bound before a step: what steps bind, as rows and load numbers have it.
-use Rattle.std.proofs.Common.{◌≡◌, ℕ, zero, suc, ◌+◌, ◌<◌, ◌≤◌, Bool, true, false, ◌||◌, ◌&&◌, cond, nat_eq, Option, Some, None, List, [], ◌∷◌, ◌++◌, map, filter, flat_map, length, drop, refl, sym, ap, ap₂, ◌∙◌, inl, inr, ◌⊎◌, arith, true≢false}
+use Rattle.std.proofs.Common.{◌≡◌, ℕ, zero, suc, ◌+◌, ◌<◌, ◌≤◌, Bool, true, false, ◌||◌, ◌&&◌, cond, nat_eq, Option, Some, None, List, [], ◌∷◌, ◌++◌, map, filter, flat_map, length, drop, refl, sym, ap, ap₂, ◌∙◌, subst, inl, inr, ◌⊎◌, arith, true≢false}
 use Rattle.std.specs.Prelude.{slice_index, slice_index_or}
 use Rattle.std.specs.List.{range_with_len}
 use Rattle.std.proofs.lemmas.Bool.{eqb-true, eq-eqb, ne_eqb, cases_eq, and_parts, or_left, or_right}
@@ -7,15 +7,13 @@ use Rattle.gq_base.specs.declared.NodeId.{NodeId}
 use Rattle.gq_base.specs.declared.RelId.{RelId}
 use Rattle.gq_plan.specs.Covers.{after, after_step, fits, fits_step}
 use Rattle.gq_plan.specs.Known.{Known, none}
-use Rattle.gq_plan.specs.Meaning.{Partial, with_node, with_rel, look, found, whole}
-use Rattle.gq_plan.specs.Steps.{Step, Scan, Extend, Close, Join, Keep, Differ, NoLoop, steps}
+use Rattle.gq_plan.specs.Meaning.{Partial, nothing, with_node, with_rel, with_all, look, found, whole}
+use Rattle.gq_plan.specs.Steps.{Plan, Done, Then, Step, Scan, Extend, Close, Join, Keep, Differ, NoLoop, steps}
 use Rattle.gq_plan.specs.declared.typed.Typed.{Typed}
-use Rattle.gq_pipe.specs.Bound.{Variable, variable, variables_of, node_of, rel_of, read}
-use Rattle.gq_pipe.specs.Flat.{is_join, is_flat}
-use Rattle.gq_pipe.specs.Levels.{Run, step_at, taken, known, before, behind, level}
+use Rattle.gq_pipe.specs.Levels.{Run, step_at, given, given_step, taken, known, before, behind, level}
 use Rattle.gq_pipe.specs.Moves.{IsRun, IsAlike}
-use Rattle.gq_pipe.specs.Rows.{node_table, rel_table, node_at, rel_at}
-use Rattle.gq_pipe.specs.declared.assignment.Assignment.{Assignment}
+use Rattle.gq_plan.specs.Rows.{node_table, rel_table, node_at, rel_at}
+use Rattle.gq_plan.specs.declared.assignment.Assignment.{Assignment}
 use Rattle.std.proofs.lemmas.List.{drop_all}
 use Rattle.gq_pipe.proofs.Levels.{steps_from}
 
@@ -54,23 +52,59 @@ alike_before s k old new h = record { nodes = λ v e. h.nodes v (step_keeps_node
 -- ---- rows and load numbers that are alike
 
 module _ (y : Typed) (old new : Assignment) where
-  same_node : (v r q : ℕ) (a : Partial) → r ≡ q → with_node v (record { table = node_table y v; row = r }) a ≡ with_node v (record { table = node_table y v; row = q }) a
+  pub same_node : (v r q : ℕ) (a : Partial) → r ≡ q → with_node v (record { table = node_table y v; row = r }) a ≡ with_node v (record { table = node_table y v; row = q }) a
   same_node v r q a e = ap (λ r. with_node v (record { table = node_table y v; row = r }) a) e
 
-  same_rel : (x r q : ℕ) (a : Partial) → r ≡ q → with_rel x (record { table = rel_table y x; row = r }) a ≡ with_rel x (record { table = rel_table y x; row = q }) a
+  pub same_rel : (x r q : ℕ) (a : Partial) → r ≡ q → with_rel x (record { table = rel_table y x; row = r }) a ≡ with_rel x (record { table = rel_table y x; row = q }) a
   same_rel x r q a e = ap (λ r. with_rel x (record { table = rel_table y x; row = r }) a) e
 
-  taken_alike : (s : Step) (k : Known) (a : Partial) → IsAlike (after_step s k) old new → taken y new s a ≡ taken y old s a
-  unfolding after_step
-  taken_alike (Scan v) k a h = same_node v _ _ a (h.nodes v (or_left (nat_eq v v) (k.nodes v) (eq-eqb v v refl)))
-  taken_alike (Extend column x from to way) k a h =
-      same_node to _ _ (with_rel x (rel_at y new x) a) (h.nodes to (or_left (nat_eq to to) (k.nodes to) (eq-eqb to to refl)))
-      ∙ ap (λ b. with_node to (node_at y old to) b) (same_rel x _ _ a (h.rels x (or_left (nat_eq x x) (k.rels x) (eq-eqb x x refl))))
-  taken_alike (Close column x from to way) k a h = same_rel x _ _ a (h.rels x (or_left (nat_eq x x) (k.rels x) (eq-eqb x x refl)))
-  taken_alike (Join side keys) k a h = refl
-  taken_alike (Keep i) k a h = refl
-  taken_alike (Differ p) k a h = refl
-  taken_alike (NoLoop x) k a h = refl
+-- ---- what plans bind
+
+mutual
+  unfolding after
+
+  pub plan_keeps_node : (p : Plan) (k : Known) (v : ℕ) → k.nodes v ≡ true → (after p k).nodes v ≡ true
+  plan_keeps_node Done k v h = h
+  plan_keeps_node (Then s p) k v h = plan_keeps_node p (after_step s k) v (step_keeps_node s k v h)
+
+  pub plan_keeps_rel : (p : Plan) (k : Known) (x : ℕ) → k.rels x ≡ true → (after p k).rels x ≡ true
+  plan_keeps_rel Done k x h = h
+  plan_keeps_rel (Then s p) k x h = plan_keeps_rel p (after_step s k) x (step_keeps_rel s k x h)
+
+module _ (y : Typed) (old new : Assignment) where
+  mutual
+    unfolding given after
+
+    -- what a plan binds is the same in rows and load numbers that are alike there
+    pub given_alike : (p : Plan) (k : Known) (a : Partial) → IsAlike (after p k) old new → given y new p a ≡ given y old p a
+    given_alike Done k a h = refl
+    given_alike (Then s p) k a h =
+        given_alike p (after_step s k) (given_step y new s a) h
+        ∙ ap (given y old p) (given_step_alike s k a (record { nodes = λ v e. h.nodes v (plan_keeps_node p (after_step s k) v e); rels = λ x e. h.rels x (plan_keeps_rel p (after_step s k) x e) }))
+
+    given_step_alike : (s : Step) (k : Known) (a : Partial) → IsAlike (after_step s k) old new → given_step y new s a ≡ given_step y old s a
+    given_step_alike (Scan v) k a h = same_node y old new v _ _ a (h.nodes v (or_left (nat_eq v v) (k.nodes v) (eq-eqb v v refl)))
+    given_step_alike (Extend column x from to way) k a h =
+        same_node y old new to _ _ (with_rel x (rel_at y new x) a) (h.nodes to (or_left (nat_eq to to) (k.nodes to) (eq-eqb to to refl)))
+        ∙ ap (λ b. with_node to (node_at y old to) b) (same_rel y old new x _ _ a (h.rels x (or_left (nat_eq x x) (k.rels x) (eq-eqb x x refl))))
+    given_step_alike (Close column x from to way) k a h = same_rel y old new x _ _ a (h.rels x (or_left (nat_eq x x) (k.rels x) (eq-eqb x x refl)))
+    given_step_alike (Join side keys) k a h = ap (λ b. with_all b a) (given_alike side none nothing (record { nodes = λ v e. h.nodes v (or_left ((after side none).nodes v) (k.nodes v) e); rels = λ x e. h.rels x (or_left ((after side none).rels x) (k.rels x) e) }))
+    given_step_alike (Keep i) k a h = refl
+    given_step_alike (Differ p) k a h = refl
+    given_step_alike (NoLoop x) k a h = refl
+
+pub taken_given : (y : Typed) (row : Assignment) (s : Step) (a : Partial) → given_step y row s a ≡ taken y row s a
+unfolding given
+taken_given y row (Scan v) a = refl
+taken_given y row (Extend column x from to way) a = refl
+taken_given y row (Close column x from to way) a = refl
+taken_given y row (Join side keys) a = refl
+taken_given y row (Keep i) a = refl
+taken_given y row (Differ p) a = refl
+taken_given y row (NoLoop x) a = refl
+
+pub taken_alike : (y : Typed) (old new : Assignment) (s : Step) (k : Known) (a : Partial) → IsAlike (after_step s k) old new → taken y new s a ≡ taken y old s a
+taken_alike y old new s k a h = sym (taken_given y new s a) ∙ given_step_alike y old new s k a h ∙ taken_given y old s a
 
 module _ (c : Run) (old new : Assignment) where
   pub before_alike : (d : ℕ) → IsAlike (known c d) old new → before c new d ≡ before c old d
@@ -90,6 +124,26 @@ module _ (c : Run) (old new : Assignment) where
       (behind_alike d p q less (λ i low. same i (omega arith)))
 
 -- ---- what is looked up
+
+abbrev or_else : {X : Type 0} → Option X → Option X → Option X
+or_else later None = later
+or_else later (Some x) = Some x
+
+look_either : {X : Type 0} (bs cs : List (ℕ × X)) (v : ℕ) → look (bs ++ cs) v ≡ or_else (look cs v) (look bs v)
+look_either [] cs v = refl
+look_either (b ∷ bs) cs v = go (nat_eq b.0 v) (look_either bs cs v)
+  where
+    go : (t : Bool) → look (bs ++ cs) v ≡ or_else (look cs v) (look bs v) → cond t (Some b.1) (look (bs ++ cs) v) ≡ or_else (look cs v) (cond t (Some b.1) (look bs v))
+    go true e = refl
+    go false e = e
+
+look_append : {X : Type 0} (made : ℕ → X) (one two : ℕ → Bool) (bs cs : List (ℕ × X)) → ((v : ℕ) → look bs v ≡ cond (one v) (Some (made v)) None) → ((v : ℕ) → look cs v ≡ cond (two v) (Some (made v)) None)
+    → (v : ℕ) → look (bs ++ cs) v ≡ cond (one v || two v) (Some (made v)) None
+look_append made one two bs cs h k v = look_either bs cs v ∙ ap₂ or_else (k v) (h v) ∙ go (one v)
+  where
+    go : (b : Bool) → or_else (cond (two v) (Some (made v)) None) (cond b (Some (made v)) None) ≡ cond (b || two v) (Some (made v)) None
+    go true = refl
+    go false = refl
 
 -- an assignment has what is known, as rows and load numbers have it
 pub record Looks (y : Typed) (row : Assignment) (k : Known) (a : Partial) : Type 0 where
@@ -113,38 +167,39 @@ module _ (y : Typed) (row : Assignment) where
       go true e = rw (e, swap v w ∙ e) (ap Some (is ∙ ap (rel_at y row) (eqb-true w v e)))
       go false e = rw (e, swap v w ∙ e) (h v)
 
-  looks_taken : (s : Step) (k : Known) (a : Partial) → is_join s ≡ false → Looks y row k a → Looks y row (after_step s k) (taken y row s a)
-  unfolding after_step
-  looks_taken (Scan v) k a flat h = record { nodes = one_node v (node_at y row v) k.nodes a.nodes refl h.nodes; rels = h.rels }
-  looks_taken (Extend column x from to way) k a flat h = record {
-    nodes = one_node to (node_at y row to) k.nodes a.nodes refl h.nodes;
-    rels = one_rel x (rel_at y row x) k.rels a.rels refl h.rels;
-  }
-  looks_taken (Close column x from to way) k a flat h = record { nodes = h.nodes; rels = one_rel x (rel_at y row x) k.rels a.rels refl h.rels }
-  looks_taken (Join side keys) k a flat h = absurd (true≢false flat)
-  looks_taken (Keep i) k a flat h = h
-  looks_taken (Differ p) k a flat h = h
-  looks_taken (NoLoop x) k a flat h = h
+  mutual
+    unfolding given after
 
--- no step of a plan without joins is one
-no_join : (ss : List Step) → is_flat (steps ss) ≡ true → (d : ℕ) → is_join (slice_index_or ss d (Keep 0)) ≡ false
-no_join [] h d = refl
-no_join (s ∷ ss) h d = go (is_join s) refl d h (λ more e. no_join ss more e)
-  where
-    go : (b : Bool) → is_join s ≡ b → (d : ℕ) → cond b false (is_flat (steps ss)) ≡ true
-        → (is_flat (steps ss) ≡ true → (e : ℕ) → is_join (slice_index_or ss e (Keep 0)) ≡ false) → is_join (slice_index_or (s ∷ ss) d (Keep 0)) ≡ false
-    go true e d h later = absurd (true≢false (sym h))
-    go false e zero h later = e
-    go false e (suc d) h later = later h d
+    pub looks_given : (p : Plan) (k : Known) (a : Partial) → Looks y row k a → Looks y row (after p k) (given y row p a)
+    looks_given Done k a h = h
+    looks_given (Then s p) k a h = looks_given p (after_step s k) (given_step y row s a) (looks_step s k a h)
+
+    looks_step : (s : Step) (k : Known) (a : Partial) → Looks y row k a → Looks y row (after_step s k) (given_step y row s a)
+    looks_step (Scan v) k a h = record { nodes = one_node v (node_at y row v) k.nodes a.nodes refl h.nodes; rels = h.rels }
+    looks_step (Extend column x from to way) k a h = record {
+      nodes = one_node to (node_at y row to) k.nodes a.nodes refl h.nodes;
+      rels = one_rel x (rel_at y row x) k.rels a.rels refl h.rels;
+    }
+    looks_step (Close column x from to way) k a h = record { nodes = h.nodes; rels = one_rel x (rel_at y row x) k.rels a.rels refl h.rels }
+    looks_step (Join side keys) k a h =
+        let b : Partial = given y row side nothing in
+        let l : Looks y row (after side none) b = looks_given side none nothing (record { nodes = λ v. refl; rels = λ x. refl }) in
+        record {
+          nodes = look_append (node_at y row) (after side none).nodes k.nodes b.nodes a.nodes l.nodes h.nodes;
+          rels = look_append (rel_at y row) (after side none).rels k.rels b.rels a.rels l.rels h.rels;
+        }
+    looks_step (Keep i) k a h = h
+    looks_step (Differ p) k a h = h
+    looks_step (NoLoop x) k a h = h
+
+  looks_taken : (s : Step) (k : Known) (a : Partial) → Looks y row k a → Looks y row (after_step s k) (taken y row s a)
+  looks_taken s k a h = subst (λ b. Looks y row (after_step s k) b) (taken_given y row s a) (looks_step s k a h)
 
 module _ (c : Run) (run : IsRun c) where
-  pub flat_at : (d : ℕ) → is_join (step_at c d) ≡ false
-  flat_at d = no_join c.steps run.flat d
-
   pub looks : (row : Assignment) (d : ℕ) → Looks c.typed row (known c d) (before c row d)
   unfolding known before
   looks row zero = record { nodes = λ v. refl; rels = λ x. refl }
-  looks row (suc d) = looks_taken c.typed row (step_at c d) (known c d) (before c row d) (flat_at d) (looks row d)
+  looks row (suc d) = looks_taken c.typed row (step_at c d) (known c d) (before c row d) (looks row d)
 
   -- the step at a depth fits what is bound there
   fits_from : (d : ℕ) → d ≤ length c.steps → fits c.graph.catalog c.typed (steps (drop d c.steps)) (known c d) ≡ true
@@ -187,19 +242,19 @@ pub after_all : (c : Run) → after (steps c.steps) none ≡ known c (length c.s
 unfolding known
 after_all c = after_from c (length c.steps) 0 (omega arith)
 
-module _ {X : Type 0} (table : ℕ → ℕ) (known : ℕ → Bool) (made : ℕ → ℕ → X) (get : ℕ → Option X) (is : (v : ℕ) → get v ≡ cond (known v) (Some (made (table v) v)) None) where
-  found_all : (vs : List ℕ) → flat_map (λ v. found (get v)) vs ≡ map (λ (v : Variable). made v.table v.number) (map (variable table) (filter known vs))
-  found_all [] = refl
-  found_all (v ∷ vs) = ap₂ ◌++◌ (ap found (is v)) (found_all vs) ∙ go (known v)
-    where
-      go : (b : Bool) → found (cond b (Some (made (table v) v)) None) ++ map (λ (v : Variable). made v.table v.number) (map (variable table) (filter known vs))
-          ≡ map (λ (v : Variable). made v.table v.number) (map (variable table) (cond b (v ∷ filter known vs) (filter known vs)))
-      go true = refl
-      go false = refl
+given_from : (c : Run) (row : Assignment) (n d : ℕ) → d + n ≡ length c.steps → given c.typed row (steps (drop d c.steps)) (before c row d) ≡ before c row (length c.steps)
+unfolding given before
+given_from c row zero d is =
+    let all : d ≡ length c.steps = omega arith in
+    ap (λ ss. given c.typed row (steps ss) (before c row d)) (drop_all d c.steps (omega arith)) ∙ ap (before c row) all
+given_from c row (suc n) d is =
+    let next : d + 1 ≡ suc d = omega arith in
+    ap (λ ss. given c.typed row (steps ss) (before c row d)) (steps_from c d (omega arith))
+    ∙ ap (λ m. given c.typed row (steps (drop m c.steps)) (given_step c.typed row (step_at c d) (before c row d))) next
+    ∙ ap (given c.typed row (steps (drop (suc d) c.steps))) (taken_given c.typed row (step_at c d) (before c row d))
+    ∙ given_from c row n (suc d) (omega arith)
 
--- an assignment read whole is what rows and load numbers give the variables that are bound
-pub whole_is : (y : Typed) (row : Assignment) (k : Known) (a : Partial) → Looks y row k a → whole y a ≡ read (variables_of y k) row
-whole_is y row k a h = λ i. record {
-  nodes = found_all (node_table y) k.nodes (node_of row) (look a.nodes) h.nodes (range_with_len 0 (length y.nodes)) i;
-  rels = found_all (rel_table y) k.rels (rel_of row) (look a.rels) h.rels (range_with_len 0 (length y.rels)) i;
-}
+-- what a plan binds is what its steps bind one after another, as rows and load numbers have it
+pub given_all : (c : Run) (row : Assignment) → given c.typed row (steps c.steps) nothing ≡ before c row (length c.steps)
+unfolding before
+given_all c row = given_from c row (length c.steps) 0 (omega arith)

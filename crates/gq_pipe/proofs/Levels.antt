@@ -4,13 +4,13 @@ use Rattle.std.proofs.lemmas.Grind.{flat_map-append}
 use Rattle.std.proofs.lemmas.List.{append-nil, drop_more, drop_all}
 use Rattle.gq_base.specs.Plain.{Graph}
 use Rattle.gq_plan.specs.Allowed.{at_same}
-use Rattle.gq_plan.specs.Meaning.{Partial, with_node, with_rel, look, far, nodes_for, rels_at, arrive, keep_if, mean, step}
+use Rattle.gq_plan.specs.Meaning.{Partial, with_node, with_rel, look, far, nodes_for, rels_at, arrive, keep_if, mean, step, with_all, agree, nothing}
 use Rattle.gq_plan.specs.Steps.{Step, Scan, Extend, Close, Join, Keep, Differ, NoLoop, steps}
 use Rattle.gq_plan.specs.declared.typed.Typed.{Typed}
 use Rattle.gq_pipe.specs.Levels.{Run, step_at, before, level, ahead}
 use Rattle.gq_pipe.specs.Moves.{to_try}
 use Rattle.gq_pipe.specs.Tries.{tries}
-use Rattle.gq_pipe.specs.declared.assignment.Assignment.{Assignment}
+use Rattle.gq_plan.specs.declared.assignment.Assignment.{Assignment}
 
 -- ---- one step, place by place
 
@@ -38,7 +38,8 @@ module _ (g : Graph) (y : Typed) where
   all_tries f (Close column x from to way) a =
       through f (λ r. keep_if (at_same (look a.nodes to) (far g way r)) (with_rel x r a)) (rels_at g y x way (look a.nodes from))
       ∙ ap (flat_map f) (kept_each (λ r. at_same (look a.nodes to) (far g way r)) (λ r. with_rel x r a) (rels_at g y x way (look a.nodes from)))
-  all_tries f (Join side keys) a = append-nil (flat_map f (step g y (Join side keys) a))
+  all_tries f (Join side keys) a =
+      through f (λ b. with_all b a ∷ []) (filter (agree keys a) (mean g y side nothing)) ∙ ap (flat_map f) (one_each (λ b. with_all b a) (filter (agree keys a) (mean g y side nothing)))
   all_tries f (Keep i) a = append-nil (flat_map f (step g y (Keep i) a))
   all_tries f (Differ p) a = append-nil (flat_map f (step g y (Differ p) a))
   all_tries f (NoLoop x) a = append-nil (flat_map f (step g y (NoLoop x) a))

@@ -6,7 +6,7 @@ use Rattle.gq_plan.specs.Meaning.{Partial, mean}
 use Rattle.gq_plan.specs.Steps.{steps}
 use Rattle.gq_pipe.specs.Levels.{Run, step_at, taken, known, before, level, ahead, behind}
 use Rattle.gq_pipe.specs.Moves.{IsAlike, IsMade, IsMissed, IsPast}
-use Rattle.gq_pipe.specs.declared.assignment.Assignment.{Assignment}
+use Rattle.gq_plan.specs.declared.assignment.Assignment.{Assignment}
 use Rattle.gq_pipe.proofs.Binding.{before_alike, behind_alike}
 use Rattle.gq_pipe.proofs.Levels.{rest, ahead_made, ahead_missed, ahead_past, ahead_all, ahead_first}
 

@@ -4,12 +4,11 @@ use Rattle.std.specs.Prelude.{slice_index}
 use Rattle.std.proofs.lemmas.List.{length-set}
 use Rattle.gq_plan.specs.Meaning.{Partial, nothing, mean, whole}
 use Rattle.gq_plan.specs.Steps.{steps}
-use Rattle.gq_pipe.specs.Bound.{variables_of, bound, read}
 use Rattle.gq_pipe.specs.Levels.{Run, step_at, known, before, behind}
 use Rattle.gq_pipe.specs.Moves.{IsRun, IsHeld, IsMade, IsMissed, IsPast, IsOpen, owed_at, IsNext, IsEnd}
-use Rattle.gq_pipe.specs.declared.assignment.Assignment.{Assignment}
+use Rattle.gq_plan.specs.declared.assignment.Assignment.{Assignment}
 use Rattle.gq_pipe.specs.declared.cursor.Cursor.{Cursor}
-use Rattle.gq_pipe.proofs.Binding.{step_keeps_node, step_keeps_rel, looks, after_all, whole_is}
+use Rattle.gq_pipe.proofs.Binding.{step_keeps_node, step_keeps_rel}
 use Rattle.gq_pipe.proofs.Moving.{down, on, back, over, reached, fresh, standing}
 use Rattle.gq_pipe.proofs.Weights.{left, down_less, on_less, back_less}
 
@@ -124,20 +123,3 @@ module _ (c : Run) where
 
   pub open_none : (at : Cursor) (d : ℕ) → IsOpen c at d → IsOpen c at 0
   open_none at d h = record { depth = omega arith; places = h.places; held = held_none at.row d h.held }
-
--- ---- what callers see
-
-module _ (c : Run) (run : IsRun c) where
-  row_is : (row : Assignment) → whole c.typed (before c row (length c.steps)) ≡ read (bound c.typed (steps c.steps)) row
-  row_is row =
-      whole_is c.typed row (known c (length c.steps)) (before c row (length c.steps)) (looks c run row (length c.steps))
-      ∙ ap (λ k. read (variables_of c.typed k) row) (sym (after_all c))
-
-  pub next_seen : (owed : List Partial) (new : Cursor) → IsNext c owed new
-      → map (whole c.typed) owed ≡ read (bound c.typed (steps c.steps)) new.row ∷ map (whole c.typed) (behind c new.row new.places.items (length c.steps))
-  next_seen owed new h =
-      ap (map (whole c.typed)) h.next
-      ∙ ap (λ t. t ∷ map (whole c.typed) (behind c new.row new.places.items (length c.steps))) (row_is new.row)
-
-  pub none_seen : (owed : List Partial) (new : Cursor) → IsEnd c owed new → map (whole c.typed) owed ≡ []
-  none_seen owed new h = ap (map (whole c.typed)) h.none

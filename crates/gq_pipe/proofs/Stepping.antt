@@ -27,9 +27,9 @@ use Rattle.gq_pipe.specs.Hops.{direction_of, IsHop}
 use Rattle.gq_pipe.specs.Levels.{Run, step_at, taken, known, before}
 use Rattle.gq_pipe.specs.Moves.{IsRun, IsHeld, IsAlike, IsMade, IsMissed, IsPast}
 use Rattle.gq_pipe.specs.Outcomes.{with_row, with_number}
-use Rattle.gq_pipe.specs.Rows.{table_of, node_table, rel_table, node_at}
+use Rattle.gq_plan.specs.Rows.{table_of, node_table, rel_table, node_at}
 use Rattle.gq_pipe.specs.Tries.{tries}
-use Rattle.gq_pipe.specs.declared.assignment.Assignment.{Assignment}
+use Rattle.gq_plan.specs.declared.assignment.Assignment.{Assignment}
 use Rattle.gq_pipe.specs.declared.follow.Hop.{Hop}
 use Rattle.gq_pipe.proofs.Following.{near_table, far_table, rel, get_some, hop_leads, hop_next, hop_none, rels_met}
 

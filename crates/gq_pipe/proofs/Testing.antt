@@ -15,20 +15,22 @@ use Rattle.gq_plan.specs.declared.typed.TypedRel.{TypedRel}
 use Rattle.gq_pipe.specs.Levels.{Run, step_at, taken, known, before}
 use Rattle.gq_pipe.specs.Moves.{IsRun, IsHeld, IsTried}
 use Rattle.gq_pipe.specs.Outcomes.{tested}
-use Rattle.gq_pipe.specs.Rows.{node_in, rel_in, table_of, node_at, rel_at, as_read}
+use Rattle.gq_plan.specs.Rows.{node_in, rel_in, table_of, node_at, rel_at, as_read}
 use Rattle.gq_pipe.specs.Tries.{tries}
-use Rattle.gq_pipe.specs.declared.assignment.Assignment.{Assignment}
+use Rattle.gq_plan.specs.declared.assignment.Assignment.{Assignment}
 use Rattle.gq_pipe.proofs.Binding.{Looks, looks, fits_at}
 use Rattle.gq_pipe.proofs.Following.{get_some}
 use Rattle.gq_pipe.proofs.Stepping.{is_made, is_missed, is_past}
-use Rattle.gq_pipe.proofs.Values.{values_agree}
+use Rattle.gq_plan.proofs.Rows.{node_read, rel_read}
+use Rattle.gq_plan.proofs.Values.{values_agree}
 
 module _ (c : Run) (old : Assignment) (k : Known) (held : IsHeld c old k) (a : Partial) (h : Looks c.typed old k a) where
   pub read_node : (v : ℕ) → k.nodes v ≡ true → (as_read c.typed old).nodes v ≡ look a.nodes v
   read_node v known =
       let low : v < length c.typed.nodes = held.nodes v known in
       let many : length old.nodes ≡ length c.typed.nodes = held.node_count in
-      ap₂ node_in (slice_get-get_or c.typed.nodes v 0 low) (slice_get-get_or old.nodes v 0 (omega arith))
+      node_read c.typed old v
+      ∙ ap₂ node_in (slice_get-get_or c.typed.nodes v 0 low) (slice_get-get_or old.nodes v 0 (omega arith))
       ∙ sym (h.nodes v ∙ ap (λ b. cond b (Some (node_at c.typed old v)) None) known)
 
   pub read_rel : (x : ℕ) → k.rels x ≡ true → (as_read c.typed old).rels x ≡ look a.rels x
@@ -36,7 +38,8 @@ module _ (c : Run) (old : Assignment) (k : Known) (held : IsHeld c old k) (a : P
       let low : x < length c.typed.rels = held.rels x known in
       let many : length old.rels ≡ length c.typed.rels = held.rel_count in
       let r = get_some c.typed.rels x low in
-      ap₂ rel_in r.1 (slice_get-get_or old.rels x 0 (omega arith))
+      rel_read c.typed old x
+      ∙ ap₂ rel_in r.1 (slice_get-get_or old.rels x 0 (omega arith))
       ∙ ap (λ o. Some (record { table = table_of o; row = slice_index old.rels x })) (sym r.1)
       ∙ sym (h.rels x ∙ ap (λ b. cond b (Some (rel_at c.typed old x)) None) known)
 
@@ -50,10 +53,10 @@ module _ (c : Run) (old : Assignment) (k : Known) (held : IsHeld c old k) (a : P
       let parts = and_parts (k.rels p.first) (k.rels p.second) fit in
       rw (read_rel p.first parts.0, read_rel p.second parts.1) refl
 
-  pub no_loop_same : (o : Option TypedRel) → holds (loop_bound k) o ≡ true → holds (no_loop (as_read c.typed old)) o ≡ holds (no_loop (row a)) o
-  no_loop_same None fit = refl
-  no_loop_same (Some r) fit =
-      let parts = and_parts (k.nodes r.source) (k.nodes r.target) (and_parts r.no_loop _ fit).1 in
+  pub no_loop_same : (x : ℕ) (o : Option TypedRel) → holds (loop_bound k x) o ≡ true → holds (no_loop (as_read c.typed old)) o ≡ holds (no_loop (row a)) o
+  no_loop_same x None fit = refl
+  no_loop_same x (Some r) fit =
+      let parts = and_parts (k.nodes r.source) (k.nodes r.target) (and_parts (k.rels x) _ (and_parts r.no_loop _ fit).1).1 in
       ap₂ (λ m n. not (at_same m n)) (read_node r.source parts.0) (read_node r.target parts.1)
 
 -- a test has one place, at which it keeps the assignment or makes nothing
@@ -94,5 +97,5 @@ module _ (c : Run) (run : IsRun c) (d : ℕ) (low : d < length c.steps) (old : A
   unfolding tries step after_step fits_step
   no_loop_tried x is place =
       let fit : fits_step c.graph.catalog c.typed (NoLoop x) (known c d) ≡ true = ap (λ s. fits_step c.graph.catalog c.typed s (known c d)) (sym is) ∙ fits_at c run d low in
-      let same = no_loop_same c old (known c d) held (before c old d) (looks c run old d) (slice_get c.typed.rels x) fit in
+      let same = no_loop_same c old (known c d) held (before c old d) (looks c run old d) x (slice_get c.typed.rels x) fit in
       test_tried c d (NoLoop x) is old held _ refl refl (ap (λ b. keep_if b (before c old d) ∷ []) (sym same)) place

@@ -12,12 +12,12 @@ use Rattle.gq_plan.specs.declared.plan.Way.{Way}
 use Rattle.gq_pipe.specs.Levels.{Run, step_at, known, before}
 use Rattle.gq_pipe.specs.Moves.{run_of, IsRun, IsHeld, IsTried}
 use Rattle.gq_pipe.specs.Outcomes.{IsSized, IsScanned, CanFollow, IsExtended, IsClosed, tested}
-use Rattle.gq_pipe.specs.Rows.{node_at}
-use Rattle.gq_pipe.specs.declared.assignment.Assignment.{Assignment}
-use Rattle.gq_pipe.specs.declared.course.Course.{Course}
-use Rattle.gq_pipe.specs.declared.course.Follow.{Follow}
-use Rattle.gq_pipe.specs.declared.course.Tried.{Tried}
-use Rattle.gq_pipe.specs.declared.course.Tried.TheVariants.{Past, Missed, Made}
+use Rattle.gq_plan.specs.Rows.{node_at}
+use Rattle.gq_plan.specs.declared.assignment.Assignment.{Assignment}
+use Rattle.gq_pipe.specs.declared.plan_run.PlanRun.{PlanRun}
+use Rattle.gq_pipe.specs.declared.plan_run.Follow.{Follow}
+use Rattle.gq_pipe.specs.declared.plan_run.Tried.{Tried}
+use Rattle.gq_pipe.specs.declared.plan_run.Tried.TheVariants.{Past, Missed, Made}
 use Rattle.gq_pipe.proofs.Binding.{looks, fits_at}
 use Rattle.gq_pipe.proofs.Stepping.{not_true, Makes, is_made, is_missed, is_past, scan_parts, scan_makes, scan_makes_none, Follows, follows, near_rows_are, extend_makes, extend_past, close_makes, close_misses, close_past}
 
@@ -27,7 +27,7 @@ get_mapped [] d x low = absurd (omega arith)
 get_mapped (s ∷ ss) zero x low = refl
 get_mapped (s ∷ ss) (suc d) x low = get_mapped ss d x (omega arith)
 
-module _ (k : Course) (d : ℕ) (low : d < length k.steps.now) where
+module _ (k : PlanRun) (d : ℕ) (low : d < length k.steps.now) where
   pub step_is : (x s : code.Step) (t : Step) → get_or k.steps.now d x ≡ s → step_of s ≡ t → step_at (run_of k) d ≡ t
   step_is x s t is e = get_mapped k.steps.now d x low ∙ ap step_of is ∙ e
 

@@ -9,7 +9,7 @@ use Rattle.gq_plan.specs.declared.typed.Typed.{Typed}
 use Rattle.gq_pipe.specs.Levels.{Run, step_at, taken, known, before}
 use Rattle.gq_pipe.specs.Moves.{IsAlike, IsMade, IsMissed, IsPast, to_try}
 use Rattle.gq_pipe.specs.Tries.{tries}
-use Rattle.gq_pipe.specs.declared.assignment.Assignment.{Assignment}
+use Rattle.gq_plan.specs.declared.assignment.Assignment.{Assignment}
 use Rattle.gq_pipe.proofs.Binding.{alike_before, before_alike}
 use Rattle.gq_pipe.proofs.Levels.{steps_from}
 use Rattle.gq_pipe.proofs.Moving.{made_before}

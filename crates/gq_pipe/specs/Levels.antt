@@ -1,31 +1,48 @@
 -- What a pipeline owes: each step is a level, which has a place that is to be tried next.
-use Rattle.std.specs.Prelude.{ℕ, zero, suc, List, [], ◌∷◌, ◌++◌, drop, flat_map, slice_index, slice_index_or}
+use Rattle.std.specs.Prelude.{ℕ, zero, suc, Option, List, [], ◌∷◌, ◌++◌, drop, flat_map, slice_index, slice_index_or}
 use Rattle.gq_base.specs.Plain.{Graph}
 use Rattle.gq_plan.specs.Covers.{after_step}
 use Rattle.gq_plan.specs.Known.{Known, none}
-use Rattle.gq_plan.specs.Meaning.{Partial, nothing, with_node, with_rel, mean}
-use Rattle.gq_plan.specs.Steps.{Step, Scan, Extend, Close, Join, Keep, Differ, NoLoop, steps}
+use Rattle.gq_plan.specs.Meaning.{Partial, nothing, with_node, with_rel, with_all, mean}
+use Rattle.gq_plan.specs.Steps.{Plan, Done, Then, Step, Scan, Extend, Close, Join, Keep, Differ, NoLoop, steps}
 use Rattle.gq_plan.specs.declared.typed.Typed.{Typed}
-use Rattle.gq_pipe.specs.Rows.{node_at, rel_at}
+use Rattle.gq_join.specs.Kept.{Held}
+use Rattle.gq_plan.specs.Rows.{node_at, rel_at}
 use Rattle.gq_pipe.specs.Tries.{tries}
-use Rattle.gq_pipe.specs.declared.assignment.Assignment.{Assignment}
+use Rattle.gq_plan.specs.declared.assignment.Assignment.{Assignment}
 
--- a graph, an alternative, and the steps of a plan
+-- a graph, an alternative, the steps of a plan, and for each the build, if it is a join
 pub record Run : Type 0 where
   pub graph : Graph
   pub typed : Typed
   pub steps : List Step
+  pub builds : List (Option Held)
 
 -- the step at a depth
 abbrev pub step_at : Run → ℕ → Step
 step_at c d = slice_index_or c.steps d (Keep 0)
+
+unfoldable mutual
+  -- an assignment with what a plan, or a step, binds, as rows and load numbers have it
+  pub given : Typed → Assignment → Plan → Partial → Partial
+  given y row Done a = a
+  given y row (Then s p) a = given y row p (given_step y row s a)
+
+  pub given_step : Typed → Assignment → Step → Partial → Partial
+  given_step y row (Scan v) a = with_node v (node_at y row v) a
+  given_step y row (Extend column x from to way) a = with_node to (node_at y row to) (with_rel x (rel_at y row x) a)
+  given_step y row (Close column x from to way) a = with_rel x (rel_at y row x) a
+  given_step y row (Join side keys) a = with_all (given y row side nothing) a
+  given_step y row (Keep i) a = a
+  given_step y row (Differ p) a = a
+  given_step y row (NoLoop x) a = a
 
 -- the assignment with what a step binds, as rows and load numbers have it
 abbrev pub taken : Typed → Assignment → Step → Partial → Partial
 taken y row (Scan v) a = with_node v (node_at y row v) a
 taken y row (Extend column x from to way) a = with_node to (node_at y row to) (with_rel x (rel_at y row x) a)
 taken y row (Close column x from to way) a = with_rel x (rel_at y row x) a
-taken y row (Join side keys) a = a
+taken y row (Join side keys) a = with_all (given y row side nothing) a
 taken y row (Keep i) a = a
 taken y row (Differ p) a = a
 taken y row (NoLoop x) a = a

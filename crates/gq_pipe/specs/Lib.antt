@@ -1,11 +1,11 @@
 pub mod Bound
-pub mod Flat
+pub mod Built
 pub mod Hops
 pub mod Inner
 pub mod Levels
+pub mod Limits
 pub mod Moves
 pub mod Outcomes
 pub mod Progress
-pub mod Ring
-pub mod Rows
+pub mod Standing
 pub mod Tries

@@ -1,30 +1,30 @@
 -- When a step can be tried, and what a try and a search do.
-use Rattle.std.specs.Prelude.{◌≡◌, ℕ, suc, ◌+◌, ◌^◌, ◌<◌, ◌≤◌, true, List, [], ◌∷◌, ◌++◌, drop, length, map, slice_index}
+use Rattle.std.specs.Prelude.{◌≡◌, ℕ, suc, ◌+◌, ◌^◌, ◌<◌, ◌≤◌, Bool, true, MatchBool, List, [], ◌∷◌, ◌++◌, drop, length, map, slice_index}
 use Rattle.gq_base.specs.Valid.{is_valid, row_count}
 use Rattle.gq_plan.specs.Covers.{Fits}
 use Rattle.gq_plan.specs.Known.{Known}
-use Rattle.gq_plan.specs.Meaning.{Partial}
+use Rattle.gq_plan.specs.Meaning.{Partial, nothing, mean}
 use Rattle.gq_plan.specs.Soundness.{IsSound}
 use Rattle.gq_plan.specs.Steps.{steps, step_of}
-use Rattle.gq_pipe.specs.Flat.{is_flat}
+use Rattle.gq_pipe.specs.Built.{AreBuilds}
 use Rattle.gq_pipe.specs.Levels.{Run, step_at, taken, known, before, ahead, behind}
-use Rattle.gq_pipe.specs.Rows.{node_table}
+use Rattle.gq_plan.specs.Rows.{node_table}
 use Rattle.gq_pipe.specs.Tries.{tries}
-use Rattle.gq_pipe.specs.declared.assignment.Assignment.{Assignment}
-use Rattle.gq_pipe.specs.declared.course.Course.{Course}
-use Rattle.gq_pipe.specs.declared.course.Tried.{Tried}
-use Rattle.gq_pipe.specs.declared.course.Tried.TheVariants.{Past, Missed, Made}
+use Rattle.gq_plan.specs.declared.assignment.Assignment.{Assignment}
+use Rattle.gq_pipe.specs.declared.plan_run.PlanRun.{PlanRun}
+use Rattle.gq_pipe.specs.declared.plan_run.Tried.{Tried}
+use Rattle.gq_pipe.specs.declared.plan_run.Tried.TheVariants.{Past, Missed, Made}
 use Rattle.gq_pipe.specs.declared.cursor.Cursor.{Cursor}
 
-abbrev pub run_of : Course → Run
-run_of c = record { graph = c.graph.now; typed = c.typed.now; steps = map step_of c.steps.now }
+abbrev pub run_of : PlanRun → Run
+run_of c = record { graph = c.graph.now; typed = c.typed.now; steps = map step_of c.steps.now; builds = c.builds.now }
 
--- the graph is valid, the alternative is sound for it, and the steps fit the alternative and are no joins
+-- the graph is valid, the alternative is sound for it, and the steps fit the alternative and have their builds
 pub record IsRun (c : Run) : Type 0 where
   pub valid : is_valid c.graph ≡ true
   pub sound : IsSound c.graph.catalog c.typed
   pub fits : Fits c.graph.catalog c.typed (steps c.steps)
-  pub flat : is_flat (steps c.steps) ≡ true
+  pub builds : AreBuilds c.graph c.typed (steps c.steps) c.builds
 
 -- what is bound are variables of the alternative, and node variables have rows of their tables
 pub record IsHeld (c : Run) (row : Assignment) (k : Known) : Type 0 where
@@ -72,6 +72,13 @@ pub record IsOpen (c : Run) (at : Cursor) (d : ℕ) : Type 0 where
   pub places : length at.places.items ≡ length c.steps
   pub held : IsHeld c at.row (known c d)
 
+-- what a run owes before its first assignment, and after one
+abbrev pub owed_by : Run → List Partial
+owed_by c = mean c.graph c.typed (steps c.steps) nothing
+
+abbrev pub owed_after : Run → Cursor → List Partial
+owed_after c at = behind c at.row at.places.items (length c.steps)
+
 -- what is owed where the step at a depth is to be tried at a place
 abbrev pub owed_at : Run → Cursor → ℕ → ℕ → List Partial
 owed_at c at d place = ahead c at.row d place ++ behind c at.row at.places.items d
@@ -85,3 +92,7 @@ pub record IsNext (c : Run) (owed : List Partial) (new : Cursor) : Type 0 where
 pub record IsEnd (c : Run) (owed : List Partial) (new : Cursor) : Type 0 where
   pub open_at : IsOpen c new 0
   pub none : owed ≡ []
+
+-- a search has found the first of what was owed, or nothing was owed
+abbrev pub IsSearched : Run → List Partial → Bool → Cursor → Type 0
+IsSearched c owed found new = MatchBool found (IsNext c owed new) (IsEnd c owed new)

@@ -1,15 +1,16 @@
 -- What a try of each kind of step does to rows and load numbers.
-use Rattle.std.specs.Prelude.{◌≡◌, ◌≢◌, ℕ, zero, suc, ◌+◌, ◌^◌, ◌<◌, ◌≤◌, Bool, true, false, length, slice_index, slice_set}
+use Rattle.std.specs.Prelude.{◌≡◌, ◌≢◌, ℕ, zero, suc, ◌+◌, ◌^◌, ◌<◌, ◌≤◌, Bool, true, false, Some, List, [], ◌∷◌, All, length, map, slice_get, slice_index, slice_set}
 use Rattle.gq_base.specs.Plain.{Graph}
 use Rattle.gq_base.specs.Valid.{row_count}
+use Rattle.gq_join.specs.Kept.{Held, matches_of, node_in, rel_in, place_of}
 use Rattle.gq_plan.specs.declared.typed.Typed.{Typed}
 use Rattle.gq_store.specs.Neighbours.{near_rows, neighbours}
 use Rattle.gq_pipe.specs.Hops.{direction_of, IsHop}
-use Rattle.gq_pipe.specs.Rows.{node_table, rel_table}
-use Rattle.gq_pipe.specs.declared.assignment.Assignment.{Assignment}
-use Rattle.gq_pipe.specs.declared.course.Follow.{Follow}
-use Rattle.gq_pipe.specs.declared.course.Tried.{Tried}
-use Rattle.gq_pipe.specs.declared.course.Tried.TheVariants.{Past, Missed, Made}
+use Rattle.gq_plan.specs.Rows.{node_table, rel_table}
+use Rattle.gq_plan.specs.declared.assignment.Assignment.{Assignment}
+use Rattle.gq_pipe.specs.declared.plan_run.Follow.{Follow}
+use Rattle.gq_pipe.specs.declared.plan_run.Tried.{Tried}
+use Rattle.gq_pipe.specs.declared.plan_run.Tried.TheVariants.{Past, Missed, Made}
 use Rattle.gq_pipe.specs.declared.follow.Hop.{Hop}
 
 -- as many rows and load numbers as the alternative has variables
@@ -57,6 +58,39 @@ abbrev pub IsClosed : Graph → Typed → Follow → ℕ → Assignment → Assi
 IsClosed g y f place old new Past = (new ≡ old) × IsNoHop g y f place old
 IsClosed g y f place old new Missed = (h : Hop) × IsHopOf g y f place old h × (h.row ≢ slice_index old.nodes f.to) × (new ≡ old)
 IsClosed g y f place old new Made = (h : Hop) × IsHopOf g y f place old h × (h.row ≡ slice_index old.nodes f.to) × (new ≡ with_number f.rel h.number old)
+
+-- what the kept variables have in a row is written in the place of what they had
+abbrev pub set_all : List ℕ → (ℕ → ℕ) → List ℕ → List ℕ
+set_all [] f xs = xs
+set_all (v ∷ vs) f xs = set_all vs f (slice_set xs v (f v))
+
+abbrev pub with_nodes : Held → ℕ → List ℕ → List ℕ → List ℕ
+with_nodes h i vs xs = set_all vs (λ v. node_in h v i) xs
+
+abbrev pub with_rels : Held → ℕ → List ℕ → List ℕ → List ℕ
+with_rels h i vs xs = set_all vs (λ x. rel_in h x i) xs
+
+abbrev pub with_kept : Held → ℕ → Assignment → Assignment
+with_kept h i row = record { nodes = with_nodes h i h.nodes row.nodes; rels = with_rels h i h.rels row.rels }
+
+pub record CanJoin (h : Held) (row : Assignment) : Type 0 where
+  pub keys : All (λ v. v < length row.nodes) h.keys
+  pub nodes : All (λ v. v < length row.nodes) h.nodes
+  pub rels : All (λ x. x < length row.rels) h.rels
+  pub node_places : All (λ v. place_of h.nodes v < length h.nodes) h.nodes
+  pub rel_places : All (λ x. place_of h.rels x < length h.rels) h.rels
+
+pub record IsMatch (h : Held) (place : ℕ) (old new : Assignment) : Type 0 where
+  pub row : ℕ
+  pub is : slice_get (matches_of h old) place ≡ Some row
+  pub written : new ≡ with_kept h row old
+  pub few : place + 1 < 2 ^ 32
+
+-- the match at the place
+abbrev pub IsJoined : Held → ℕ → Assignment → Assignment → Tried → Type 0
+IsJoined h place old new Past = (new ≡ old) × (length (matches_of h old) ≤ place)
+IsJoined h place old new Missed = ⊥
+IsJoined h place old new Made = IsMatch h place old new
 
 -- a test has one place
 abbrev pub tested : ℕ → Bool → Tried

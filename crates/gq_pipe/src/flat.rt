@@ -1,17 +1,20 @@
-//! The assignments of a plan without joins, one after another.
-ghost use Rattle.std.specs.Prelude.{◌≡◌, ◌<◌, ◌∷◌, [], true, false, length, All, IfOk, if◌then◌else◌};
+//! The assignments of a plan, one after another.
+ghost use Rattle.std.specs.Prelude.{◌≡◌, ◌∷◌, [], true, false, IfOk, if◌then◌else◌};
 ghost use Rattle.gq_plan.specs.Covers.{Fits};
-ghost use Rattle.gq_plan.specs.Meaning.{meaning};
+ghost use Rattle.gq_plan.specs.Meaning.{meaning, mean, nothing};
+ghost use Rattle.gq_plan.specs.Rows.{assigned};
 ghost use Rattle.gq_plan.specs.Soundness.{IsSound};
 ghost use Rattle.gq_plan.specs.Steps.{plan_of};
-ghost use Rattle.gq_pipe.specs.Bound.{Variable, bound, read};
-ghost use Rattle.gq_pipe.specs.Flat.{is_flat};
+ghost use Rattle.gq_pipe.specs.Bound.{binds_all};
+ghost use Rattle.gq_pipe.specs.Built.{AreBuilds};
+ghost use Rattle.gq_pipe.specs.Progress.{source_of};
+ghost use Rattle.gq_pipe.specs.Standing.{IsRow};
 
-use crate::assignment::{Assignment, zeros};
-use crate::course::Course;
+use crate::builds::Builds;
+use crate::plan_run::PlanRun;
 use crate::cursor::Cursor;
 use gq_base::Memory;
-use gq_plan::{Plan, Typed};
+use gq_plan::{Assignment, Plan, Typed};
 use gq_store::Graph;
 use std::alloc::Global;
 use std::marker::Model;
@@ -23,10 +26,10 @@ enum State {
     Over,
 }
 
-/// The assignments of a plan without joins, in the order in which the plan means them. It holds one of them at a time.
+/// The assignments of a plan, in the order in which the plan means them. It holds one of them at a time.
 #[derive(Drop)]
 pub struct FlatPipeline<'g> {
-    course: Course<'g>,
+    plan_run: PlanRun<'g>,
     cursor: Cursor,
     state: State,
 }
@@ -35,6 +38,12 @@ impl<'g> Model for FlatPipeline<'g> {
     ghost use Rattle.gq_pipe.specs.Progress.{Progress};
 
     ghost Value = { Progress };
+
+    ghost use Rattle.gq_expr.specs.contracts.expr.Expr as expr;
+    ghost use Rattle.gq_plan.specs.contracts.plan.Step as step;
+    ghost use Rattle.std.specs.Coded.{codes};
+
+    ghost coded = { Prim.hlevel (codes, expr.the_row.coded, step.the_row.coded) };
 
     ghost use Rattle.gq_pipe.specs.Inner.{progress_of, IsReady};
 
@@ -48,24 +57,28 @@ impl<'g> FlatPipeline<'g> {
     pub fn start(
         alloc: Global,
         graph: &'g Graph,
+        builds: &'g Builds,
         plan: &'g Plan,
         typed: &'g Typed,
     ) -> Result<FlatPipeline<'g>, Memory>
         requires sound { IsSound graph.now.catalog typed.now }
         requires fits { Fits graph.now.catalog typed.now (plan_of plan.now) }
-        requires flat { is_flat (plan_of plan.now) ≡ true }
+        requires builds { AreBuilds graph.now typed.now (plan_of plan.now) builds.now }
         ensures owed { IfOk result (λ p. p.owed ≡ meaning graph.now typed.now (plan_of plan.now)) }
-        ensures variables { IfOk result (λ p. p.variables ≡ bound typed.now (plan_of plan.now)) }
+        ensures complete { IfOk result (λ p. p.complete ≡ binds_all typed.now (plan_of plan.now)) }
+        ensures partials { IfOk result (λ p. p.partials ≡ mean graph.now typed.now (plan_of plan.now) nothing) }
+        ensures source { IfOk result (λ p. p.source ≡ source_of graph.now typed.now plan.now) }
     {
         let _ = graph.catalog();
         let steps = plan.steps.as_slice();
         let row = Assignment::zeros(alloc, typed)?;
-        let places = zeros(alloc, steps.len())?;
+        let places = vec![in alloc; 0u32; steps.len()]?;
         Ok(FlatPipeline {
-            course: Course {
+            plan_run: PlanRun {
                 graph,
                 typed,
                 steps,
+                builds: builds.as_slice(),
             },
             cursor: Cursor { row, places },
             state: State::Fresh,
@@ -78,12 +91,15 @@ impl<'g> FlatPipeline<'g> {
         ensures stands { result ≡ true → self.new.standing ≡ true }
         ensures none { result ≡ false → self.old.owed ≡ [] }
         ensures over { result ≡ false → self.new.owed ≡ [] }
-        ensures variables { self.new.variables ≡ self.old.variables }
+        ensures complete { self.new.complete ≡ self.old.complete }
+        ensures partial { result ≡ true → self.old.partials ≡ self.new.partial ∷ self.new.partials }
+        ensures no_partial { result ≡ false → self.old.partials ≡ [] }
+        ensures source { self.new.source ≡ self.old.source }
     {
-        let course = self.course;
+        let plan_run = self.plan_run;
         let found = match self.state {
-            State::Fresh => self.cursor.first(&course),
-            State::Standing => self.cursor.next(&course),
+            State::Fresh => self.cursor.first(&plan_run),
+            State::Standing => self.cursor.next(&plan_run),
             State::Over => false,
         };
         self.state = state_after(found);
@@ -94,9 +110,8 @@ impl<'g> FlatPipeline<'g> {
     /// each relationship variable; those of other variables mean nothing.
     pub fn row(&self) -> &Assignment
         requires { self.now.standing ≡ true }
-        ensures value { read self.now.variables result.now ≡ self.now.row }
-        ensures nodes { All (λ (v : Variable). v.number < length result.now.nodes) self.now.variables.nodes }
-        ensures rels { All (λ (x : Variable). x.number < length result.now.rels) self.now.variables.rels }
+        ensures whole { self.now.complete ≡ true → assigned self.now.source.typed result.now ≡ self.now.row }
+        ensures held { IsRow self.now result.now }
     {
         &self.cursor.row
     }

@@ -1,16 +1,11 @@
-//! The flat pipeline: the assignments of a plan without joins, one after another, over the stored graph.
+//! The flat pipeline: the assignments of a plan, one after another, over the stored graph, and the builds of its joins.
 #![tactic(auto)]
 
-mod assignment;
-mod course;
+mod builds;
 mod cursor;
 mod flat;
 mod follow;
-mod joins;
+mod plan_run;
 
-pub use assignment::Assignment;
+pub use builds::Builds;
 pub use flat::FlatPipeline;
-pub use joins::is_flat;
-
-#[cfg(test)]
-mod tests;

@@ -2,10 +2,10 @@ use Rattle.std.proofs.Common.{◌≡◌, ◌∙◌, true, map, length, refl, sym
 use Rattle.std.proofs.lemmas.List.{length-map}
 use Rattle.gq_plan.proofs.StepEquations.{plan_is}
 use Rattle.gq_plan.specs.Covers.{Fits}
-use Rattle.gq_plan.specs.Meaning.{meaning}
+use Rattle.gq_plan.specs.Meaning.{meaning, mean, nothing}
 use Rattle.gq_plan.specs.Steps.{Plan, plan_of, steps, step_of}
-use Rattle.gq_pipe.specs.Bound.{bound}
-use Rattle.gq_pipe.specs.Flat.{is_flat}
+use Rattle.gq_pipe.specs.Bound.{binds_all}
+use Rattle.gq_pipe.specs.Built.{AreBuilds}
 use Rattle.gq_pipe.specs.Levels.{known}
 use Rattle.gq_pipe.proofs.flat.FlatPipeline.start.Goals as goal
 
@@ -20,7 +20,7 @@ invariant_of-result c =
         valid = c.catalog.ensures.valid;
         sound = c.requires.sound;
         fits = subst (λ (p : Plan). Fits c.args.graph.now.catalog c.args.typed.now p) is c.requires.fits;
-        flat = subst (λ (p : Plan). is_flat p ≡ true) is c.requires.flat;
+        builds = rw c.as_slice.ensures (subst (λ (p : Plan). AreBuilds c.args.graph.now c.args.typed.now p c.args.builds.now) is c.requires.builds);
       };
       open_at = record {
         depth = omega arith;
@@ -40,6 +40,10 @@ unfolding meaning
 returns-clause-owed c =
     ap (meaning c.args.graph.now c.args.typed.now) (ap (λ ts. steps (map step_of ts)) c.as_slice-steps.ensures ∙ sym (plan_is c.args.plan.now))
 
-pub returns-clause-variables : goal.returns-clause-variables
-returns-clause-variables c =
-    ap (bound c.args.typed.now) (ap (λ ts. steps (map step_of ts)) c.as_slice-steps.ensures ∙ sym (plan_is c.args.plan.now))
+pub returns-clause-complete : goal.returns-clause-complete
+returns-clause-complete c =
+    ap (binds_all c.args.typed.now) (ap (λ ts. steps (map step_of ts)) c.as_slice-steps.ensures ∙ sym (plan_is c.args.plan.now))
+
+pub returns-clause-partials : goal.returns-clause-partials
+returns-clause-partials c =
+    ap (λ p. mean c.args.graph.now c.args.typed.now p nothing) (ap (λ ts. steps (map step_of ts)) c.as_slice-steps.ensures ∙ sym (plan_is c.args.plan.now))

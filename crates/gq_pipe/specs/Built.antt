@@ -1,0 +1,62 @@
+-- What the builds of a plan hold.
+use Rattle.std.specs.Prelude.{◌≡◌, ℕ, ◌<◌, ◌^◌, true, Option, Some, None, List, [], ◌∷◌, map, filter, length, slice_index, slice_index_or}
+use Rattle.std.specs.List.{range_with_len}
+use Rattle.gq_base.specs.Plain.{Graph}
+use Rattle.gq_base.specs.Valid.{row_count}
+use Rattle.gq_join.specs.Kept.{Growing, Held, empty_build, node_in, rel_in}
+use Rattle.gq_plan.specs.declared.assignment.Assignment.{Assignment}
+use Rattle.gq_base.specs.Catalogs.{Tables}
+use Rattle.gq_plan.specs.Covers.{after, fits_step}
+use Rattle.gq_plan.specs.Known.{Known, none}
+use Rattle.gq_plan.specs.Meaning.{nothing, mean}
+use Rattle.gq_plan.specs.Steps.{Plan, Done, Then, Step, Join}
+use Rattle.gq_plan.specs.declared.typed.Typed.{Typed}
+use Rattle.gq_pipe.specs.Levels.{given}
+use Rattle.gq_plan.specs.Rows.{node_table}
+
+-- a row of a build as rows and load numbers of all variables
+abbrev pub whole_row : Typed → Held → ℕ → Assignment
+whole_row y h i = record {
+  nodes = map (λ v. node_in h v i) (range_with_len 0 (length y.nodes));
+  rels = map (λ x. rel_in h x i) (range_with_len 0 (length y.rels));
+}
+
+-- the variables that a build keeps, all that the side plan binds
+abbrev pub kept_nodes : Typed → Plan → List ℕ
+kept_nodes y side = filter (after side none).nodes (range_with_len 0 (length y.nodes))
+
+abbrev pub kept_rels : Typed → Plan → List ℕ
+kept_rels y side = filter (after side none).rels (range_with_len 0 (length y.rels))
+
+-- a build without rows that keeps what a side plan binds
+abbrev pub side_build : Typed → Plan → List ℕ → ℕ → Growing
+side_build y side keys limit = empty_build keys (kept_nodes y side) (kept_rels y side) limit
+
+-- a build holds, in order, what a side plan makes from nothing
+pub record IsBuildOf (g : Graph) (y : Typed) (side : Plan) (keys : List ℕ) (h : Held) : Type 0 where
+  pub key_list : h.keys ≡ keys
+  pub nodes : h.nodes ≡ kept_nodes y side
+  pub rels : h.rels ≡ kept_rels y side
+  pub made : map (λ i. given y (whole_row y h i) side nothing) (range_with_len 0 (length h.rows)) ≡ mean g y side nothing
+  pub inside : (i v : ℕ) → i < length h.rows → (after side none).nodes v ≡ true → node_in h v i < row_count g.nodes (node_table y v)
+
+pub record HasBuild (g : Graph) (y : Typed) (side : Plan) (keys : List ℕ) (o : Option Held) : Type 0 where
+  pub build : Held
+  pub there : o ≡ Some build
+  pub is : IsBuildOf g y side keys build
+
+abbrev pub FitsBuild : Graph → Typed → Step → Option Held → Type 0
+FitsBuild g y (Join side keys) o = HasBuild g y side keys o
+FitsBuild g y s o = Unit
+
+-- each join among the steps has its build
+abbrev pub AreBuilds : Graph → Typed → Plan → List (Option Held) → Type 0
+AreBuilds g y Done [] = Unit
+AreBuilds g y Done (o ∷ os) = ⊥
+AreBuilds g y (Then s p) [] = ⊥
+AreBuilds g y (Then s p) (o ∷ os) = FitsBuild g y s o × AreBuilds g y p os
+
+-- a step fits where some variables are bound
+pub record FitsSomewhere (catalog : Tables) (y : Typed) (s : Step) : Type 0 where
+  pub known : Known
+  pub fits : fits_step catalog y s known ≡ true

@@ -1,0 +1,267 @@
+//! What a pipeline runs over, and one try of one step.
+ghost use Rattle.std.specs.Prelude.{◌≡◌, ◌<◌, length, slice_get, slice_index_or, None, All, MatchOption};
+ghost use Rattle.std.specs.Option.{option_copied};
+ghost use Rattle.gq_plan.specs.Conditions.{passes, differs, no_loop};
+ghost use Rattle.gq_plan.specs.Meaning.{holds};
+ghost use Rattle.gq_plan.specs.Soundness.{IsSound};
+ghost use Rattle.gq_pipe.specs.Levels.{known};
+ghost use Rattle.gq_pipe.specs.Moves.{run_of, IsRun, IsHeld, IsTried};
+ghost use Rattle.gq_pipe.specs.Outcomes.{IsSized, IsScanned, CanFollow, IsNoHop, IsHopOf, IsExtended, IsClosed, CanJoin, IsJoined, with_nodes, with_rels, tested};
+ghost use Rattle.gq_join.specs.Kept.{place_of};
+ghost use Rattle.gq_plan.specs.Rows.{as_read};
+
+use crate::follow::{Hop, direction_of, hop_at};
+use gq_base::{List, Value};
+use gq_expr::{Assigned, eval};
+use gq_join::Sealed;
+use gq_plan::{Assignment, Step, Typed, TypedRow, Way};
+use gq_store::Graph;
+
+/// A graph, a typed alternative, and the steps of a plan for it.
+#[derive(Clone, Copy)]
+pub(crate) struct PlanRun<'g> {
+    pub(crate) graph: &'g Graph,
+    pub(crate) typed: &'g Typed,
+    pub(crate) steps: &'g [Step],
+    // The build of each step that is a join.
+    pub(crate) builds: &'g [Option<Sealed>],
+}
+
+/// What a step makes at a place.
+#[derive(Clone, Copy)]
+pub(crate) enum Tried {
+    /// There is no such place.
+    Past,
+    /// No assignment.
+    Missed,
+    /// An assignment.
+    Made,
+}
+
+// How a step follows a relationship.
+#[derive(Clone, Copy)]
+struct Follow {
+    rel: u32,
+    from: u32,
+    to: u32,
+    way: Way,
+}
+
+impl PlanRun<'_> {
+    /// Tries the step at a depth at a place. What it binds there is written into the rows and load numbers.
+    pub(crate) fn try_step(&self, depth: usize, place: u32, row: &mut Assignment) -> Tried
+        requires run { IsRun (run_of self.now) }
+        requires depth { depth < length self.now.steps.now }
+        requires held { IsHeld (run_of self.now) row.old (known (run_of self.now) depth) }
+        ensures { IsTried (run_of self.now) depth place row.old row.new result }
+    {
+        match &self.steps[depth] {
+            Step::Scan { node } => self.scan(*node, place, row),
+            Step::Extend {
+                rel,
+                from,
+                to,
+                direction,
+            } => self.extend(following(*rel, *from, *to, *direction), place, row),
+            Step::ColumnExtend {
+                rel,
+                from,
+                to,
+                direction,
+            } => self.extend(following(*rel, *from, *to, *direction), place, row),
+            Step::Close {
+                rel,
+                from,
+                to,
+                direction,
+            } => self.close(following(*rel, *from, *to, *direction), place, row),
+            Step::ColumnClose {
+                rel,
+                from,
+                to,
+                direction,
+            } => self.close(following(*rel, *from, *to, *direction), place, row),
+            Step::Keep { test } => tested(place, place == 0 && self.keep(*test, row)),
+            Step::Differ { pair } => tested(place, place == 0 && self.differ(*pair, row)),
+            Step::NoLoop { rel } => tested(place, place == 0 && self.no_loop(*rel, row)),
+            Step::Join { .. } => match build_at(self.builds, depth) {
+                Some(build) => join(build, place, row),
+                None => unreachable!(),
+            },
+        }
+    }
+
+    // The row at the place, for a node variable.
+    fn scan(&self, node: u32, place: u32, row: &mut Assignment) -> Tried
+        requires sound { IsSound self.now.graph.now.catalog self.now.typed.now }
+        requires sized { IsSized self.now.typed.now row.old }
+        requires node { node < length self.now.typed.now.nodes }
+        ensures { IsScanned self.now.graph.now self.now.typed.now node place row.old row.new result }
+    {
+        let table = self.typed.nodes.as_slice()[node as usize];
+        if place >= self.graph.node_count(table) {
+            return Tried::Past;
+        }
+        row.nodes.set(node as usize, place);
+        Tried::Made
+    }
+
+    // The relationship at the place, for a relationship variable, and the row to which it leads, for a node variable.
+    fn extend(&self, follow: Follow, place: u32, row: &mut Assignment) -> Tried
+        requires { CanFollow self.now.graph.now self.now.typed.now row.old follow }
+        ensures { IsExtended self.now.graph.now self.now.typed.now follow place row.old row.new result }
+    {
+        match self.hop(follow, place, row) {
+            None => Tried::Past,
+            Some(found) => {
+                row.nodes.set(follow.to as usize, found.row);
+                row.rels.set(follow.rel as usize, found.number);
+                Tried::Made
+            }
+        }
+    }
+
+    // The relationship at the place, for a relationship variable, where it leads to the row that a node variable has.
+    fn close(&self, follow: Follow, place: u32, row: &mut Assignment) -> Tried
+        requires { CanFollow self.now.graph.now self.now.typed.now row.old follow }
+        ensures { IsClosed self.now.graph.now self.now.typed.now follow place row.old row.new result }
+    {
+        match self.hop(follow, place, row) {
+            None => Tried::Past,
+            Some(found) => {
+                if found.row != row.nodes.as_slice()[follow.to as usize] {
+                    return Tried::Missed;
+                }
+                row.rels.set(follow.rel as usize, found.number);
+                Tried::Made
+            }
+        }
+    }
+
+    // The relationship at the place among those that are followed.
+    fn hop(&self, follow: Follow, place: u32, row: &Assignment) -> Option<Hop>
+        requires { CanFollow self.now.graph.now self.now.typed.now row.now follow }
+        ensures { MatchOption result (IsNoHop self.now.graph.now self.now.typed.now follow place row.now) (IsHopOf self.now.graph.now self.now.typed.now follow place row.now) }
+    {
+        let table = self.typed.rels.as_slice()[follow.rel as usize].table;
+        let from = row.nodes.as_slice()[follow.from as usize];
+        hop_at(self.graph, table, direction_of(follow.way), from, place)
+    }
+
+    // Whether a test is true.
+    fn keep(&self, test: u32, row: &Assignment) -> bool
+        ensures { result ≡ holds (passes self.now.graph.now (as_read self.now.typed.now row.now)) (slice_get self.now.typed.now.tests test) }
+    {
+        let typed_row = TypedRow {
+            typed: self.typed,
+            row,
+        };
+        match self.typed.tests.get(test as usize) {
+            None => false,
+            Some(test) => match eval(&test.expr, self.graph, &typed_row) {
+                Ok(Value::Flag(truth)) => truth,
+                _ => false,
+            },
+        }
+    }
+
+    // Whether the relationships of a pair are different.
+    fn differ(&self, pair: u32, row: &Assignment) -> bool
+        ensures { result ≡ holds (differs (as_read self.now.typed.now row.now)) (slice_get self.now.typed.now.pairs pair) }
+    {
+        let typed_row = TypedRow {
+            typed: self.typed,
+            row,
+        };
+        match self.typed.pairs.get(pair as usize) {
+            None => false,
+            Some(pair) => match (typed_row.rel(pair.first), typed_row.rel(pair.second)) {
+                (Some(first), Some(second)) => first != second,
+                _ => false,
+            },
+        }
+    }
+
+    // Whether the ends of a relationship are different.
+    fn no_loop(&self, rel: u32, row: &Assignment) -> bool
+        ensures { result ≡ holds (no_loop (as_read self.now.typed.now row.now)) (slice_get self.now.typed.now.rels rel) }
+    {
+        let typed_row = TypedRow {
+            typed: self.typed,
+            row,
+        };
+        match self.typed.rels.get(rel as usize) {
+            None => false,
+            Some(rel) => match (typed_row.node(rel.source), typed_row.node(rel.target)) {
+                (Some(source), Some(target)) => source != target,
+                _ => true,
+            },
+        }
+    }
+}
+
+// The build at a depth, if there is one.
+fn build_at(builds: &[Option<Sealed>], depth: usize) -> Option<&Sealed>
+    requires { depth < length builds.now }
+    ensures { option_copied result ≡ slice_index_or builds.now depth None }
+{
+    builds[depth].as_ref()
+}
+
+// The match at the place, for the variables that a build keeps.
+fn join(build: &Sealed, place: u32, row: &mut Assignment) -> Tried
+    requires { CanJoin build.now row.old }
+    ensures { IsJoined build.now place row.old row.new result }
+{
+    match build.matches_of(row).get(place as usize) {
+        None => Tried::Past,
+        Some(found) => {
+            take_nodes(build, *found, &mut row.nodes);
+            take_rels(build, *found, &mut row.rels);
+            Tried::Made
+        }
+    }
+}
+
+// What the kept node variables have in a row.
+fn take_nodes(build: &Sealed, found: u32, nodes: &mut List<u32>)
+    requires found { found < length build.now.rows }
+    requires there { All (λ v. v < length nodes.old) build.now.nodes }
+    requires places { All (λ v. place_of build.now.nodes v < length build.now.nodes) build.now.nodes }
+    ensures { nodes.new ≡ with_nodes build.now found build.now.nodes nodes.old }
+{
+    for variable in build.nodes() {
+        nodes.set(*variable as usize, build.node(found, *variable));
+    }
+}
+
+// What the kept relationship variables have in a row.
+fn take_rels(build: &Sealed, found: u32, rels: &mut List<u32>)
+    requires found { found < length build.now.rows }
+    requires there { All (λ v. v < length rels.old) build.now.rels }
+    requires places { All (λ v. place_of build.now.rels v < length build.now.rels) build.now.rels }
+    ensures { rels.new ≡ with_rels build.now found build.now.rels rels.old }
+{
+    for variable in build.rels() {
+        rels.set(*variable as usize, build.rel(found, *variable));
+    }
+}
+
+// A test has one place.
+fn tested(place: u32, passes: bool) -> Tried
+    ensures { result ≡ tested place passes }
+{
+    if place > 0 {
+        Tried::Past
+    } else if passes {
+        Tried::Made
+    } else {
+        Tried::Missed
+    }
+}
+
+fn following(rel: u32, from: u32, to: u32, way: Way) -> Follow
+    ensures { result ≡ record { rel = rel; from = from; to = to; way = way } }
+{
+    Follow { rel, from, to, way }
+}
