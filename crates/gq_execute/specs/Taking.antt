@@ -1,8 +1,11 @@
 -- What a table of rows takes of the outcomes that are pushed to it one after another, and where it stops.
-use Rattle.std.specs.Prelude.{◌≡◌, ◌⊎◌, ◌<◌, true, Result, Ok, Err, List, [], ◌++◌}
+use Rattle.std.specs.Prelude.{◌≡◌, ◌⊎◌, ◌<◌, true, Some, Result, Ok, Err, List, [], ◌++◌}
 use Rattle.std.specs.List.{Contains}
 use Rattle.gq_expr.specs.declared.Fault.{Fault}
-use Rattle.gq_plan.specs.Outcomes.{Row}
+use Rattle.gq_plan.specs.Outcomes.{Row, late_outcomes}
+use Rattle.gq_base.specs.Plain.{Graph}
+use Rattle.gq_pipe.specs.Progress.{Progress}
+use Rattle.gq_plan.specs.Assignments.{Assignment}
 use Rattle.gq_rows.specs.Answers.{kept, looked_at, rows_in}
 use Rattle.gq_rows.specs.Tables.{StandsFor, Table, is_full_table}
 use Rattle.gq_execute.specs.declared.refusal.AnswerRefusal.{AnswerRefusal}
@@ -17,6 +20,9 @@ pub record Cut (os : List (Result Row Fault)) : Type 0 where
   pub pushed : List (Result Row Fault)
   pub left : List (Result Row Fault)
   pub whole : os ≡ pushed ++ left
+
+abbrev pub StandsForSome : Table → Type 0
+StandsForSome table = (outcomes : List (Result Row Fault)) × Stands outcomes table
 
 -- the same query, and as many rows may be kept
 pub record IsAlike (old new : Table) : Type 0 where
@@ -48,3 +54,22 @@ TakesAll os old new (Ok _) = Takes os old new
 TakesAll os old new (Err (refusal.Fault f)) = MeetsFault os old f
 TakesAll os old new (Err (refusal.TooManyRows most)) = (most ≡ old.most) × MeetsMany os old
 TakesAll os old new (Err refusal.Memory) = Unit {0}
+
+-- ---- the pipeline of an alternative
+
+-- a pipeline of a plan that binds all variables, over this graph, of the alternative that was started
+pub record IsRunOf (g : Graph) (table : Table) (pipeline : Progress) : Type 0 where
+  pub graph : pipeline.source.graph ≡ g
+  pub alternative : table.alternative ≡ Some pipeline.source.typed
+  pub complete : pipeline.complete ≡ true
+
+-- the outcomes of what a pipeline owes
+abbrev pub owed_outcomes : Graph → Table → Progress → List (Result Row Fault)
+owed_outcomes g table pipeline = late_outcomes g table.bound pipeline.source.typed pipeline.owed
+
+-- how far a pipeline has come: the outcomes of these assignments went into the table
+pub record Pushed (g : Graph) (old new : Table) (begun now : Progress) : Type 0 where
+  pub taken : List Assignment
+  pub whole : begun.owed ≡ taken ++ now.owed
+  pub stands : (before : List (Result Row Fault)) → Stands before old
+      → Stands (before ++ late_outcomes g old.bound begun.source.typed taken) new

@@ -1,45 +1,85 @@
-//! Answers a query alternative by alternative: each one's plan runs, and what it makes goes into one table of rows.
-ghost use Rattle.std.specs.Prelude.{◌≡◌, ◌<◌, [], false, true, length, All, MatchBool};
-ghost use Rattle.gq_execute.specs.Answering.{Drains, Pushes, RepliesToEach};
-ghost use Rattle.gq_plan.specs.Covers.{Covers};
-ghost use Rattle.gq_plan.specs.Parts.{given_parts};
+//! Answers a query alternative by alternative: the plan of each one runs, and what it makes goes into one table of rows.
+ghost use Rattle.std.specs.Prelude.{◌≡◌, ◌<◌, Some, false, true, length, All};
+ghost use Rattle.gq_execute.specs.Answering.{Drains, RepliesToEach, seen_listing};
+ghost use Rattle.gq_execute.specs.Taking.{IsRunOf, StandsForSome, TakesAll, refused};
+ghost use Rattle.gq_plan.specs.Outcomes.{late_outcomes};
 ghost use Rattle.gq_plan.specs.Soundness.{IsSound};
-ghost use Rattle.gq_plan.specs.Steps.{plan_of};
+ghost use Rattle.gq_rows.specs.Tables.{is_full_table};
 
 use crate::refusal::AnswerRefusal;
 use crate::settings::Settings;
 use gq_order::given;
-use gq_pipe::FlatPipeline;
+use gq_pipe::{FlatPipeline, make_builds};
 use gq_plan::{Bound, Typed};
-use gq_rows::{Listing, RowRefusal, RowTable};
+use gq_rows::{Listing, RowTable};
 use gq_store::Graph;
 use std::alloc::Global;
 
-fn refusal_of(refusal: RowRefusal) -> AnswerRefusal
-    ensures { result ≡ as_answer refusal }
-{
-    match refusal {
-        RowRefusal::Fault(fault) => AnswerRefusal::Fault(fault),
-        RowRefusal::TooManyRows { limit } => AnswerRefusal::TooManyRows { limit },
-        RowRefusal::Memory => AnswerRefusal::Memory,
-    }
-}
-
-// Pushes what a pipeline still owes, one assignment after another, until the table has enough.
+// Pushes what a pipeline owes, one assignment after another, until nothing is owed or the table has enough.
 fn drain<'g>(
     graph: &'g Graph,
     pipeline: &mut FlatPipeline<'_>,
     table: &mut RowTable<'g>,
 ) -> Result<(), AnswerRefusal>
+    requires run { IsRunOf graph.now table.old pipeline.old }
+    requires stands { StandsForSome table.old }
+    requires room { is_full_table table.old ≡ false }
+    ensures takes { TakesAll (owed_outcomes graph.now table.old pipeline.old) table.old table.new result }
 {
     'rows: while pipeline.advance() {
         match table.push_row(pipeline.row(), graph) {
-            Ok(_) => {}
-            Err(refusal) => return Err(refusal_of(refusal)),
-        }
-        if table.enough() {
-            return Ok(());
+            Ok(More::Go) => {}
+            Ok(More::Enough) => return Ok(()),
+            Err(refusal) => return Err(AnswerRefusal::from(refusal)),
         }
     }
     Ok(())
+}
+
+// Takes the turn of an alternative: runs its plan, and pushes what the plan makes.
+fn take_turn<'g>(
+    alloc: Global,
+    graph: &'g Graph,
+    typed: &'g Typed,
+    table: &mut RowTable<'g>,
+    most: u32,
+) -> Result<(), AnswerRefusal>
+    requires sound { IsSound graph.now.catalog typed.now }
+    requires begins { 0 < length typed.now.nodes }
+    requires stands { StandsForSome table.old }
+    requires room { is_full_table table.old ≡ false }
+    requires most { most ≡ table.old.most }
+    ensures drains { Drains graph.now table.old.bound typed.now table.old table.new result }
+{
+    let plan = given(alloc, typed, graph.catalog())?;
+    let builds = make_builds(alloc, graph, &plan, typed, most)?;
+    let mut pipeline = FlatPipeline::start(alloc, graph, &builds, &plan, typed)?;
+    table.start_alternative(typed);
+    drain(graph, &mut pipeline, table)
+}
+
+/// Answers a bound query over a graph: the lines of its rows, or why there are none. The alternatives are taken in order;
+/// after enough rows none is begun.
+///
+/// The answer is permitted by openCypher's meaning of each query that is bound so: the lines are a window of an arrangement
+/// of its rows; a fault is one of an outcome that is looked at; `TooManyRows` comes where more rows than `settings.rows`
+/// would be kept, or where a part of an alternative whose turn comes has more assignments. `Memory` may come at any time.
+pub fn answer<'g>(
+    alloc: Global,
+    graph: &'g Graph,
+    bound: &'g Bound,
+    settings: &Settings,
+) -> Result<Listing<'g>, AnswerRefusal>
+    requires sound { All (IsSound graph.now.catalog) bound.now.alternatives }
+    requires begins { All (λ y. 0 < length y.nodes) bound.now.alternatives }
+    ensures permitted { RepliesToEach graph.now bound.now settings.now.rows (seen_listing result) }
+{
+    let mut table = RowTable::new(alloc, bound, settings.rows);
+    'alternatives: for typed in bound.alternatives.as_slice() {
+        if table.enough() {
+            break;
+        }
+        take_turn(alloc, graph, typed, &mut table, settings.rows)?;
+    }
+    Ok(table.finish()?)
 }

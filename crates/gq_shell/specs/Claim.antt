@@ -24,7 +24,7 @@ use Rattle.gq_render.specs.Texts.{line}
 use Rattle.gq_shell.specs.BindLines.{bind_line}
 use Rattle.gq_shell.specs.Bindings.{bind_refusal}
 use Rattle.gq_shell.specs.LoadLines.{load_line}
-use Rattle.gq_shell.specs.ReplyTexts.{has_parts, most_rows, reply_text}
+use Rattle.gq_shell.specs.ReplyTexts.{most_rows, reply_text}
 use Rattle.gq_shell.specs.Statements.{IsBlank, statement_of}
 use Rattle.gq_syntax.specs.Outcomes.{Cause, SpelledText}
 use Rattle.gq_syntax.specs.declared.refusal.SyntaxRefusal.{SyntaxRefusal}
@@ -47,12 +47,10 @@ abbrev pub Refuses : Result Graph LoadRefusal → List ℕ → Type 0
 Refuses (Ok graph) text = ⊥
 Refuses (Err refusal) text = IsOfFiles refusal × (text ≡ load_line refusal)
 
--- a query that is answered: a statement's tokens spell it, it is bound over the graph, and none of its alternatives has a
--- part, which is a path other than the first that begins at a node of no earlier path
+-- a query that is answered: a statement's tokens spell it, and it is bound over the graph
 pub record IsAsked (graph : Graph) (statement : List ℕ) (query : Query) (bound : Bound) : Type 0 where
   pub spelled : SpelledText statement (tree.Query query)
   pub binds : IsBound query statement graph.catalog bound
-  pub built : has_parts bound ≡ false
 
 -- what is asked then, and how many rows may be kept
 abbrev pub question : Graph → Query → Bound → Question
@@ -94,11 +92,9 @@ pub record IsUnbound (graph : Graph) (statement text : List ℕ) : Type 0 where
   pub refused : bind_refusal tree statement graph.catalog ≡ Some why
   pub is : text ≡ bind_line why
 
--- what is not built yet: a query one of whose alternatives has a part, and the catalogue, the plans and the profile, which
--- are asked for by `:schema`, `:plan` and `:profile`
+-- what is not built yet: the catalogue, the plans and the profile, which `:schema`, `:plan` and `:profile` ask for
 abbrev pub IsUnbuilt : Graph → List ℕ → Statement → Type 0
-IsUnbuilt graph text (tree.Query query) =
-    (bound : Bound) × IsBound query text graph.catalog bound × (has_parts bound ≡ true)
+IsUnbuilt graph text (tree.Query query) = ⊥
 IsUnbuilt graph text tree.Schema = Unit {0}
 IsUnbuilt graph text (tree.Plan query) = first_refusal query text graph.catalog ≡ None
 IsUnbuilt graph text (tree.Profile query) = first_refusal query text graph.catalog ≡ None

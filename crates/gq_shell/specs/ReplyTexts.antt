@@ -1,12 +1,9 @@
 -- The text of a reply to a query (this project's profile).
-use Rattle.std.specs.Prelude.{ℕ, Bool, not, List, ◌++◌, map, codes, decimal}
-use Rattle.std.specs.List.{list_any}
-use Rattle.gq_base.specs.Lists.{is_empty}
+use Rattle.std.specs.Prelude.{ℕ, List, ◌++◌, map, codes, decimal}
 use Rattle.gq_base.specs.Plain.{Graph}
 use Rattle.gq_execute.specs.Replies.{Reply, Rows, Faulted, TooManyRows}
 use Rattle.gq_expr.specs.declared.Fault.{Fault}
 use Rattle.gq_expr.specs.declared.Fault.TheVariants as fault
-use Rattle.gq_plan.specs.Parts.{given_parts}
 use Rattle.gq_plan.specs.declared.Bound.{Bound}
 use Rattle.gq_render.specs.Listings.{listing_text}
 use Rattle.gq_render.specs.Texts.{line}
@@ -14,10 +11,6 @@ use Rattle.gq_render.specs.Texts.{line}
 -- the most rows that are kept for a reply
 abbrev pub most_rows : ℕ
 most_rows = 4194304
-
--- some alternative has a part, which is joined: a path other than the first that begins at a node of no earlier path
-abbrev pub has_parts : Bound → Bool
-has_parts bound = list_any (λ y. not (is_empty (given_parts y))) bound.alternatives
 
 abbrev pub fault_name : Fault → List ℕ
 fault_name fault.Overflow = codes "Overflow"

@@ -1,18 +1,17 @@
 //! The reply to a query that is bound.
 
-ghost use Rattle.std.specs.Prelude.{◌≡◌, false};
+ghost use Rattle.std.specs.Prelude.{◌<◌, All, length};
 ghost use Rattle.gq_io.specs.Causes.{HasCause};
 ghost use Rattle.gq_io.specs.Outside.{Writes};
 ghost use Rattle.gq_execute.specs.Replies.{Faulted, TooManyRows};
-ghost use Rattle.gq_shell.specs.ReplyTexts as spec;
-ghost use Rattle.gq_shell.specs.ReplyTexts.{most_rows, reply_text};
+ghost use Rattle.gq_plan.specs.Soundness.{IsSound};
+ghost use Rattle.gq_shell.specs.ReplyTexts.{reply_text};
 ghost use Rattle.gq_shell.specs.Steps.{Asks};
 
 use crate::status::Status;
 use gq_execute::{AnswerRefusal, Settings, answer};
 use gq_expr::Fault;
 use gq_io::{Failed, Sink};
-use gq_order::has_parts as typed_has_parts;
 use gq_plan::Bound;
 use gq_render::{Place, write_listing, write_refusal};
 use gq_store::Graph;
@@ -20,13 +19,6 @@ use std::alloc::Global;
 
 /// The most rows that are kept for a reply.
 const MOST_ROWS: u32 = 4_194_304;
-
-/// Whether some alternative of a query has a part, which is joined.
-pub fn has_parts(bound: &Bound) -> bool
-    ensures { result ≡ spec.has_parts bound.now }
-{
-    bound.alternatives.iter().any(typed_has_parts)
-}
 
 // Writes the line of a fault.
 fn write_fault<O: Sink>(out: &mut O, graph: &Graph, bound: &Bound, fault: Fault) -> Result<(), Failed>
@@ -57,10 +49,10 @@ fn write_many<O: Sink>(out: &mut O, graph: &Graph, bound: &Bound) -> Result<(), 
     write_refusal(out, "error: TooManyRows ", "", &[place])
 }
 
-/// Replies to a query that is bound, and none of whose alternatives has a part: with its rows, or with the line that says
-/// why there are none.
+/// Replies to a query that is bound: with its rows, or with the line that says why there are none.
 pub fn reply_to_query<O: Sink>(alloc: Global, out: &mut O, graph: &Graph, bound: &Bound) -> Status
-    requires built { spec.has_parts bound.now ≡ false }
+    requires sound { All (IsSound graph.now.catalog) bound.now.alternatives }
+    requires begins { All (λ y. 0 < length y.nodes) bound.now.alternatives }
     ensures { Asks graph.now bound.now (O.taken out.old) (O.taken out.new)
         (O.faults out.old) (O.faults out.new) result }
 {

@@ -9,7 +9,7 @@ ghost use Rattle.gq_syntax.specs.declared.statement.Statement.TheVariants as tre
 
 use crate::bind_line::write_bind_refusal;
 use crate::input::{is_blank, statement_of};
-use crate::query::{has_parts, reply_to_query};
+use crate::query::reply_to_query;
 use crate::status::Status;
 use gq_base::Memory;
 use gq_binder::{BindRefusal, bind, refusal_of};
@@ -66,7 +66,6 @@ fn reply_to_asked<O: Sink>(
         (O.faults out.old) (O.faults out.new) result }
 {
     match bind(alloc, query, statement, graph.catalog()) {
-        Ok(bound) if has_parts(&bound) => refuse_unbuilt(out),
         Ok(bound) => reply_to_query(alloc, out, graph, &bound),
         Err(BindRefusal::Memory) => Status::Memory,
         Err(refusal) => refuse_unbound(out, &refusal),
