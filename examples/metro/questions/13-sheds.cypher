@@ -1,0 +1,6 @@
+// Beside which station do the trains of which line and company stand at night? Four answers behind
+// the first.
+MATCH (s:Station)<-[:BESIDE]-(d:Depot)-[:HOUSES]->(l)-[:RUN_BY]->(c)
+RETURN s.name AS station, d.name AS depot, l.name AS line, c.name AS company
+ORDER BY depot DESC, l.opened
+SKIP 1 LIMIT 4;
