@@ -1,0 +1,11 @@
+mod ByKeys
+mod ClassRows
+mod Classes
+mod Dropping
+mod Fronts
+mod Looking
+mod Pieces
+mod Ranked
+mod Rising
+mod TopRows
+mod Tops
