@@ -1,3 +1,3 @@
-pub mod Listings
-pub mod Replying
+pub mod Draining
 pub mod Going
+pub mod Replying

@@ -15,7 +15,13 @@ use Rattle.gq_rows.specs.Answers.{Answers, rows_in, cut_of, first_of, looked_at,
 use Rattle.gq_rows.specs.Tables.{Held, StandsFor, is_full}
 use Rattle.gq_execute.specs.Replies.{Question, all_outcomes, outcomes_in, has_turn, has_large_part, some_heavy, Rows, Faulted, TooManyRows, IsPermitted}
 use Rattle.gq_execute.specs.Answering.{AreParted, Reached}
-use Rattle.gq_execute.proofs.Listings.{looked_front, rows_append, rows_bag, kept_grows, kept_few, full_enough, full_looked, open_few, few_rows}
+use Rattle.gq_rows.proofs.Listings.{looked_front, rows_append, kept_grows, kept_few, full_enough, full_looked, open_few, few_rows}
+use Rattle.gq_rows.specs.Answers.{row_in}
+use Rattle.gq_answers.proofs.Bagged.{permuted_flat_map}
+use Rattle.std.proofs.lemmas.List.Sorted.{length_permutation}
+
+pub rows_bag : (xs ys : List (Result Row Fault)) → IsPermutation xs ys → length (rows_in xs) ≡ length (rows_in ys)
+rows_bag xs ys same = sym (length_permutation _ _ (permuted_flat_map row_in xs ys same))
 
 -- ---- heavy alternatives
 

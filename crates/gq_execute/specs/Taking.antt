@@ -21,9 +21,6 @@ pub record Cut (os : List (Result Row Fault)) : Type 0 where
   pub left : List (Result Row Fault)
   pub whole : os ≡ pushed ++ left
 
-abbrev pub StandsForSome : Table → Type 0
-StandsForSome table = (outcomes : List (Result Row Fault)) × Stands outcomes table
-
 -- the same query, and as many rows may be kept
 pub record IsAlike (old new : Table) : Type 0 where
   pub bound : new.bound ≡ old.bound

@@ -1,17 +1,16 @@
 //! Answers a query alternative by alternative: the plan of each one runs, and what it makes goes into one table of rows.
-ghost use Rattle.std.specs.Prelude.{◌≡◌, ◌<◌, Some, false, true, length, All};
-ghost use Rattle.gq_execute.specs.Answering.{Drains, RepliesToEach, seen_listing};
-ghost use Rattle.gq_execute.specs.Taking.{IsRunOf, StandsForSome, TakesAll, refused};
-ghost use Rattle.gq_plan.specs.Outcomes.{late_outcomes};
+ghost use Rattle.std.specs.Prelude.{◌≡◌, ◌<◌, false, length, All};
+ghost use Rattle.gq_execute.specs.Answering.{Drains, RepliesToEach};
+ghost use Rattle.gq_execute.specs.Taking.{IsRunOf, TakesAll, owed_outcomes};
 ghost use Rattle.gq_plan.specs.Soundness.{IsSound};
-ghost use Rattle.gq_rows.specs.Tables.{is_full_table};
+ghost use Rattle.gq_rows.specs.Tables.{StandsForSome, is_full_table};
 
 use crate::refusal::AnswerRefusal;
 use crate::settings::Settings;
 use gq_order::given;
 use gq_pipe::{FlatPipeline, make_builds};
 use gq_plan::{Bound, Typed};
-use gq_rows::{Listing, RowTable};
+use gq_rows::{Listing, More, RowTable};
 use gq_store::Graph;
 use std::alloc::Global;
 
@@ -72,7 +71,7 @@ pub fn answer<'g>(
 ) -> Result<Listing<'g>, AnswerRefusal>
     requires sound { All (IsSound graph.now.catalog) bound.now.alternatives }
     requires begins { All (λ y. 0 < length y.nodes) bound.now.alternatives }
-    ensures permitted { RepliesToEach graph.now bound.now settings.now.rows (seen_listing result) }
+    ensures permitted { RepliesToEach graph.now bound.now settings.now.rows result }
 {
     let mut table = RowTable::new(alloc, bound, settings.rows);
     'alternatives: for typed in bound.alternatives.as_slice() {
