@@ -14,6 +14,3 @@ pub use alternatives::choices_of;
 pub use choice::{Choice, Reading};
 pub use law::alternatives_part_matches;
 pub use typing::typed;
-
-#[cfg(test)]
-mod tests;

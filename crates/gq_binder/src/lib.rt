@@ -21,6 +21,3 @@ mod verdict;
 pub use bound::bind;
 pub use refusal::BindRefusal;
 pub use verdict::refusal_of;
-
-#[cfg(test)]
-mod tests;

@@ -6,6 +6,3 @@ mod header;
 
 pub use field::{BadField, read_flag, read_int, read_text};
 pub use header::{FileKind, HeaderRefusal, read_header};
-
-#[cfg(test)]
-mod tests;

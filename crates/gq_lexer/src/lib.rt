@@ -10,6 +10,3 @@ mod token;
 
 pub use scan::lex;
 pub use token::{LexRefusal, Sign, Span, Token, TokenKind};
-
-#[cfg(test)]
-mod tests;

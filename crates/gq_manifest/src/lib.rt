@@ -9,6 +9,3 @@ mod tables;
 
 pub use manifest::{ManifestRefusal, read_manifest};
 pub use order::{TableNumber, read_order};
-
-#[cfg(test)]
-mod tests;

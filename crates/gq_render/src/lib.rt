@@ -11,6 +11,3 @@ mod value;
 pub use column::write_column;
 pub use name::write_name;
 pub use refusal::{Place, write_refusal};
-
-#[cfg(test)]
-mod tests;

@@ -33,6 +33,3 @@ pub use sameness::same;
 pub use scope::{Column, Scope};
 pub use source::source_text;
 pub use uses::{Check, first_refused};
-
-#[cfg(test)]
-mod tests;

@@ -20,8 +20,3 @@ pub use refusal::SyntaxRefusal;
 pub use statement::{
     Arrow, Clause, Entry, Hop, Item, NodePart, Path, Query, RelPart, Sort, Statement,
 };
-
-#[cfg(test)]
-mod cases;
-#[cfg(test)]
-mod tests;

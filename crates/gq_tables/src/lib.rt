@@ -20,6 +20,3 @@ pub use keys::End;
 pub use nodes::{NodeTableRows, read_nodes};
 pub use refusal::TableRefusal;
 pub use rels::{RelTableRows, read_rels, read_rels_within};
-
-#[cfg(test)]
-mod tests;

@@ -1,0 +1,107 @@
+//! A case: what the program is given, and what it is to write.
+
+use std::alloc::{AllocError, AllocFailed, Global};
+
+/// Why a case is not tried.
+#[derive(Clone, Copy, Debug, PartialEq, Eq)]
+pub enum Stop {
+    /// A line of the case file is of no form.
+    Malformed,
+    /// A file that a case names cannot be read, or the output cannot be written.
+    Outside,
+    /// There was not enough memory.
+    Memory,
+}
+
+impl From<AllocError> for Stop {
+    fn from(_error: AllocError) -> Stop {
+        Stop::Memory
+    }
+}
+
+impl<T: Drop> From<AllocFailed<T>> for Stop {
+    fn from(_failed: AllocFailed<T>) -> Stop {
+        Stop::Memory
+    }
+}
+
+impl From<gq_base::Memory> for Stop {
+    fn from(_memory: gq_base::Memory) -> Stop {
+        Stop::Memory
+    }
+}
+
+/// A file that the program finds.
+#[derive(Clone, Drop)]
+pub struct CaseFile {
+    pub name: String,
+    pub bytes: Vec<u8>,
+}
+
+/// Where the lines behind `|` belong.
+#[derive(Clone, Copy, PartialEq, Eq)]
+pub enum Place {
+    Input,
+    File,
+}
+
+/// A title, and the line of its file where the case begins; what the program is given: its words, the files, of which the last of a name counts, the input, which calls fail, and
+/// how many bytes a read of the input gives and a write takes; and its output and status. A mixed output may have its
+/// lines between the first and the last in any order.
+#[derive(Clone, Drop)]
+pub struct Case {
+    pub title: String,
+    pub line: usize,
+    pub words: Vec<String>,
+    pub files: Vec<CaseFile>,
+    pub input: Vec<u8>,
+    pub place: Place,
+    pub failing_files: Vec<u64>,
+    pub failing_input: Vec<u64>,
+    pub failing_output: Vec<u64>,
+    pub piece: u32,
+    pub output: Vec<u8>,
+    pub mixed: bool,
+    pub status: Option<u8>,
+}
+
+fn standard_words(alloc: Global) -> Result<Vec<String>, Stop> {
+    let mut words = Vec::new(alloc);
+    for word in ["graphq", "--manifest", "g.manifest"] {
+        words.push(String::from_str(alloc, word)?)?;
+    }
+    Ok(words)
+}
+
+impl Case {
+    /// A case without files, input and output.
+    pub fn new(alloc: Global) -> Result<Case, Stop> {
+        Ok(Case {
+            title: String::new(alloc),
+            line: 0,
+            words: standard_words(alloc)?,
+            files: Vec::new(alloc),
+            input: Vec::new(alloc),
+            place: Place::Input,
+            failing_files: Vec::new(alloc),
+            failing_input: Vec::new(alloc),
+            failing_output: Vec::new(alloc),
+            piece: 4096,
+            output: Vec::new(alloc),
+            mixed: false,
+            status: None,
+        })
+    }
+
+    /// The status that is wanted: what the case says, or else that of the output's front.
+    pub fn wanted_status(&self) -> u8 {
+        let output = self.output.as_slice();
+        match self.status {
+            Some(status) => status,
+            None if output.starts_with(b"error: ") => 1,
+            None if output.starts_with(b"usage: ") => 2,
+            None if output.starts_with(b"load: ") => 3,
+            None => 0,
+        }
+    }
+}
