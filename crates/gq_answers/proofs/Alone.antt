@@ -1,16 +1,15 @@
 -- Each alternative of a bound query by itself: what it allows are the matches that lie in it and make its tests true, and
 -- their outcomes are those of all matches that lie in it.
-use Rattle.std.proofs.Common.{◌≡◌, Bool, true, false, not, ◌&&◌, ◌||◌, cond, Ok, Err, List, [], ◌∷◌, ◌++◌, map, filter, flat_map, length, IsTrue, refl, sym, ap, ◌∙◌, true≢false}
+use Rattle.std.proofs.Common.{◌≡◌, Bool, true, false, not, ◌&&◌, ◌||◌, cond, List, [], ◌∷◌, ◌++◌, map, filter, flat_map, length, IsTrue, refl, sym, ap, ◌∙◌, true≢false}
 use Rattle.std.specs.List.{list_all, list_any}
 use Rattle.std.proofs.lemmas.Bool.{and_parts, or_left, or_right}
 use Rattle.std.proofs.lemmas.List.Folds.{list_all-append}
 use Rattle.gq_base.specs.Plain.{Graph}
 use Rattle.gq_base.specs.Valid as valid
-use Rattle.gq_base.specs.Values.{null, flag, int, str, node, rel}
 use Rattle.gq_expr.specs.Kinds.{can_fault}
 use Rattle.gq_expr.specs.Meaning as expr
 use Rattle.gq_expr.specs.Operators.{Outcome}
-use Rattle.gq_expr.specs.Safety.{IsTruth, FitsKinds}
+use Rattle.gq_expr.specs.Safety.{FitsKinds}
 use Rattle.gq_expr.specs.declared.Kinds.{Kinds}
 use Rattle.gq_expr.proofs.Promise.{kinds_promise}
 use Rattle.gq_plan.specs.Allowed.{lies_in}
@@ -29,32 +28,16 @@ use Rattle.gq_alternatives.proofs.SoundPatterns.{IsChoice}
 use Rattle.gq_scopes.specs.Patterns.{Pattern}
 use Rattle.gq_answers.specs.Answered.{allowed}
 use Rattle.gq_plan.specs.Outcomes.{drops, outcome, outcome_by, outcomes}
+use Rattle.gq_answers.proofs.LateOutcomes.{early}
+use Rattle.gq_answers.proofs.Truths.{is_true, not_true_drops}
 use Rattle.gq_answers.proofs.Narrowed.{AreEntryTests, early_conjuncts, allowed_is}
 use Rattle.gq_meaning.proofs.Fields.{lying_fits}
 
 -- ---- what is dropped
 
-abbrev is_true : Outcome → Bool
-is_true (Ok (flag b)) = b
-is_true o = false
-
--- a truth that is not true drops
-not_true_drops : (o : Outcome) → IsTruth o → is_true o ≡ false → drops o ≡ true
-not_true_drops (Ok null) h e = refl
-not_true_drops (Ok (flag true)) h e = absurd (true≢false e)
-not_true_drops (Ok (flag false)) h e = refl
-not_true_drops (Ok (int z)) h e = absurd h
-not_true_drops (Ok (str s)) h e = absurd h
-not_true_drops (Ok (node n)) h e = absurd h
-not_true_drops (Ok (rel r)) h e = absurd h
-not_true_drops (Err f) h e = absurd h
-
 module _ (g : Graph) (t : Assignment) (kinds : Kinds) (fits : FitsKinds kinds g (row_of t)) where
-  abbrev early : List NamedExpr → List NamedExpr
-  early cs = filter (λ e. not (can_fault kinds e.expr)) cs
-
   -- where not all conjuncts that cannot fault are true, one of them drops
-  some_drops : (cs : List NamedExpr) → list_all (passes g (row_of t)) (early cs) ≡ false → list_any drops (map (λ e. expr.meaning g (row_of t) e.expr) cs) ≡ true
+  some_drops : (cs : List NamedExpr) → list_all (passes g (row_of t)) (early kinds cs) ≡ false → list_any drops (map (λ e. expr.meaning g (row_of t) e.expr) cs) ≡ true
   some_drops [] h = absurd (true≢false h)
   some_drops (c ∷ cs) h = go (can_fault kinds c.expr) refl (some_drops cs) h
     where
@@ -64,13 +47,13 @@ module _ (g : Graph) (t : Assignment) (kinds : Kinds) (fits : FitsKinds kinds g 
       more : List Outcome
       more = map (λ e. expr.meaning g (row_of t) e.expr) cs
 
-      pass : (b : Bool) → is_true m ≡ b → can_fault kinds c.expr ≡ false → (list_all (passes g (row_of t)) (early cs) ≡ false → list_any drops more ≡ true)
-          → (b && list_all (passes g (row_of t)) (early cs)) ≡ false → (drops m || list_any drops more) ≡ true
+      pass : (b : Bool) → is_true m ≡ b → can_fault kinds c.expr ≡ false → (list_all (passes g (row_of t)) (early kinds cs) ≡ false → list_any drops more ≡ true)
+          → (b && list_all (passes g (row_of t)) (early kinds cs)) ≡ false → (drops m || list_any drops more) ≡ true
       pass true e safe rest h = or_right (drops m) (list_any drops more) (rest h)
       pass false e safe rest h = or_left (drops m) (list_any drops more) (not_true_drops m (kinds_promise kinds g (row_of t) c.expr fits safe) e)
 
-      go : (b : Bool) → can_fault kinds c.expr ≡ b → (list_all (passes g (row_of t)) (early cs) ≡ false → list_any drops more ≡ true)
-          → list_all (passes g (row_of t)) (cond (not b) (c ∷ early cs) (early cs)) ≡ false → (drops m || list_any drops more) ≡ true
+      go : (b : Bool) → can_fault kinds c.expr ≡ b → (list_all (passes g (row_of t)) (early kinds cs) ≡ false → list_any drops more ≡ true)
+          → list_all (passes g (row_of t)) (cond (not b) (c ∷ early kinds cs) (early kinds cs)) ≡ false → (drops m || list_any drops more) ≡ true
       go true e rest h = or_right (drops m) (list_any drops more) (rest h)
       go false e rest h = pass (is_true m) refl e rest h
 

@@ -1,11 +1,10 @@
 -- Where an assignment makes an alternative's tests true, its outcome hangs on the late conjuncts alone.
-use Rattle.std.proofs.Common.{◌≡◌, ℕ, zero, suc, ◌+◌, Bool, true, false, not, ◌||◌, cond, Option, Some, None, Result, Ok, Err, List, [], ◌∷◌, ◌++◌, filter, flat_map, slice_get, refl, sym, ap, ap₂, ◌∙◌, arith, add-zero, true≢false}
+use Rattle.std.proofs.Common.{◌≡◌, ℕ, zero, suc, ◌+◌, Bool, true, false, not, ◌||◌, cond, Option, Some, None, Result, List, [], ◌∷◌, ◌++◌, filter, flat_map, slice_get, refl, sym, ap, ap₂, ◌∙◌, arith, add-zero}
 use Rattle.std.specs.List.{list_all, list_any}
 use Rattle.std.proofs.lemmas.Bool.{and_parts}
 use Rattle.std.proofs.lemmas.List.Folds.{list_all-append}
 use Rattle.gq_base.specs.Catalogs.{Tables}
 use Rattle.gq_base.specs.Plain.{Graph}
-use Rattle.gq_base.specs.Values.{null, flag, int, str, node, rel}
 use Rattle.gq_expr.specs.Kinds.{can_fault}
 use Rattle.gq_expr.specs.Meaning as expr
 use Rattle.gq_expr.specs.Operators.{Outcome}
@@ -20,30 +19,7 @@ use Rattle.gq_plan.specs.declared.NamedExpr.{NamedExpr}
 use Rattle.gq_alternatives.specs.Alternatives.{Choice, late_from, typed_rels, typed_of}
 use Rattle.gq_plan.specs.Outcomes.{Row, drops, row_with, key_meanings, behind_condition, behind_conditions, meanings_of, outcome, outcome_by, late_conjuncts}
 use Rattle.gq_scopes.specs.Patterns.{Pattern}
-
-abbrev is_true : Outcome → Bool
-is_true (Ok (flag b)) = b
-is_true o = false
-
--- a condition that is true drops nothing, and lets what comes later stand
-true_keeps : (o : Outcome) → is_true o ≡ true → drops o ≡ false
-true_keeps (Ok (flag true)) e = refl
-true_keeps (Ok (flag false)) e = absurd (true≢false (sym e))
-true_keeps (Ok null) e = absurd (true≢false (sym e))
-true_keeps (Ok (int z)) e = refl
-true_keeps (Ok (str s)) e = refl
-true_keeps (Ok (node n)) e = refl
-true_keeps (Ok (rel r)) e = refl
-true_keeps (Err f) e = refl
-
-true_before : {A : Type 0} (o : Outcome) (later : Result A Fault) → is_true o ≡ true → behind_condition o later ≡ later
-true_before (Ok (flag b)) later e = refl
-true_before (Ok null) later e = absurd (true≢false (sym e))
-true_before (Ok (int z)) later e = absurd (true≢false (sym e))
-true_before (Ok (str s)) later e = absurd (true≢false (sym e))
-true_before (Ok (node n)) later e = absurd (true≢false (sym e))
-true_before (Ok (rel r)) later e = absurd (true≢false (sym e))
-true_before (Err f) later e = absurd (true≢false (sym e))
+use Rattle.gq_answers.proofs.Truths.{is_true, true_keeps, true_before}
 
 module _ (kinds : Kinds) where
   abbrev pub early : List NamedExpr → List NamedExpr

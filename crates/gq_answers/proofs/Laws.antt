@@ -69,7 +69,11 @@ each_plan_late g query text bound real is =
     (both_then (LateDecide g bound) (MakesOutcomes g query bound) (λ y. LateDecide g bound y × MakesOutcomes g query bound y) (λ y a b. (a, b)) ys
     (each_late g query bound.conjuncts ys are bound refl) (recursion_from_All (MakesOutcomes g query bound) ys (each_plan_outcomes g query text bound real is))))
 
--- the same of the alternative at a place
+-- the alternative at a place is sound, and of what its plan makes only the late conjuncts are looked at
+pub sound_at : (g : Graph) (query : Query) (text : List ℕ) (bound : Bound) → IsBound query text g.catalog bound → (i : ℕ) (y : Typed) → slice_get bound.alternatives i ≡ Some y → IsSound g.catalog y
+sound_at g query text bound is i y e =
+    subst (IsSound g.catalog) (get_or_from_slice_get bound.alternatives i y y e) (is.sound i y (slice_get_within bound.alternatives i y e))
+
 pub late_plan_at : (g : Graph) (query : Query) (text : List ℕ) (bound : Bound) → IsTrue (is_valid g) → IsBound query text g.catalog bound
     → (i : ℕ) (y : Typed) → slice_get bound.alternatives i ≡ Some y → MakesLateOutcomes g query bound y
 late_plan_at g query text bound real is i y e =

@@ -14,3 +14,4 @@ pub mod Sides
 mod StepCounts
 pub mod Wholes
 pub mod Worked
+mod WorkedParts
