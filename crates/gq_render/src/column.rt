@@ -1,6 +1,6 @@
 //! Replies of one column.
 
-ghost use Rattle.std.specs.Prelude.{◌≡◌, ◌++◌, map, flat_map, codes, decimal};
+ghost use Rattle.std.specs.Prelude.{◌≡◌, map, flat_map};
 ghost use Rattle.std.specs.Option.{option_copied};
 ghost use Rattle.gq_base.specs.Plain.{cell_at};
 ghost use Rattle.gq_io.specs.Causes.{HasCause};
@@ -9,7 +9,8 @@ ghost use Rattle.gq_io.specs.Putting.{Puts};
 ghost use Rattle.gq_render.specs.Texts.{line, name_text, cell_text, column_text};
 
 use crate::escape::{Form, put_escaped};
-use crate::value::{put_cell, put_count};
+use crate::listing::put_row_count;
+use crate::value::put_cell;
 use gq_base::{Cell, Row};
 use gq_io::{Batch, Failed, Sink};
 
@@ -62,16 +63,6 @@ fn put_header<O: Sink>(batch: &mut Batch, out: &mut O, name: &[u8]) -> Result<()
     batch.put(out, b"\n")
 }
 
-fn put_end<O: Sink>(batch: &mut Batch, out: &mut O, count: usize) -> Result<(), Failed>
-    ensures bytes { Puts (O.taken out.old) (O.taken out.new) batch.old batch.new
-        (line (codes "rows " ++ decimal count)) result }
-    ensures cause { HasCause (O.faults out.old) (O.faults out.new) result }
-{
-    batch.put(out, b"rows ")?;
-    put_count(batch, out, count)?;
-    batch.put(out, b"\n")
-}
-
 fn put_column<O: Sink>(
     batch: &mut Batch,
     out: &mut O,
@@ -86,7 +77,7 @@ fn put_column<O: Sink>(
 {
     put_header(batch, out, name)?;
     put_cells(batch, out, rows, place)?;
-    put_end(batch, out, rows.len())
+    put_row_count(batch, out, rows.len())
 }
 
 /// Writes the reply of one column: its name, a line for the cell at `place` of each row, in row order, and the number of

@@ -4,6 +4,7 @@
 
 mod column;
 mod escape;
+mod listing;
 mod name;
 mod refusal;
 mod value;
@@ -11,3 +12,4 @@ mod value;
 pub use column::write_column;
 pub use name::write_name;
 pub use refusal::{Place, write_refusal};
+pub use value::write_value;

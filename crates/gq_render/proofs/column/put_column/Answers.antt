@@ -40,5 +40,5 @@ returns-in_err-put_cells-clause-bytes g c =
 
 pub returns-clause-bytes : goal.returns-clause-bytes
 returns-clause-bytes g c =
-    puts_then _ _ _ _ _ _ _ _ _ _ (put_then _ _ _ _ _ _ _ _ _ c.in_ok-put_header.ensures.bytes c.in_ok-put_cells.ensures.bytes refl) c.put_end.ensures.bytes
+    puts_then _ _ _ _ _ _ _ _ _ _ (put_then _ _ _ _ _ _ _ _ _ c.in_ok-put_header.ensures.bytes c.in_ok-put_cells.ensures.bytes refl) c.put_row_count.ensures.bytes
     (whole c.args.name.now c.args.place c.args.rows.now)

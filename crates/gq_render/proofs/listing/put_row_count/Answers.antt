@@ -1,6 +1,6 @@
 use Rattle.std.proofs.Common.{refl, codes}
 use Rattle.gq_render.proofs.Sequence.{first_broke, next_broke, put_then, puts_then}
-use Rattle.gq_render.proofs.column.put_end.Goals as goal
+use Rattle.gq_render.proofs.listing.put_row_count.Goals as goal
 
 pub returns-in_err-put-clause-bytes : goal.returns-in_err-put-clause-bytes
 returns-in_err-put-clause-bytes g c = first_broke _ _ _ _ _ _ _ _ _ _ _ _ c.put.ensures.bytes c.in_err-put.was c.from_residual.ensures.1 refl
