@@ -2,6 +2,7 @@
 use Rattle.std.specs.Prelude.{◌≡◌, ◌⊎◌, ℕ, true, false, Some, Result, Ok, Err, List, [], ◌++◌, flat_map, slice_get}
 use Rattle.std.specs.List.Sorted.{IsPermutation}
 use Rattle.gq_base.specs.Values.{Val}
+use Rattle.gq_answers.specs.Answered.{MakesLateOutcomes}
 use Rattle.gq_binder.specs.Binding.{IsBound}
 use Rattle.gq_expr.specs.declared.Fault.{Fault}
 use Rattle.gq_plan.specs.Covers.{Covers}
@@ -18,15 +19,11 @@ use Rattle.gq_execute.specs.Taking.{MeetsFault, MeetsMany, Takes}
 use Rattle.gq_execute.specs.declared.refusal.AnswerRefusal.{AnswerRefusal}
 use Rattle.gq_execute.specs.declared.refusal.AnswerRefusal.TheVariants as refusal
 
--- a plan that covers an alternative makes, over the late conjuncts alone, the outcomes of the matches that lie in it
-abbrev pub GivesOutcomes : Question → Typed → Type 0
-GivesOutcomes a y =
-    (p : Plan) → Covers a.graph.catalog y p
-    → IsPermutation (late_outcomes a.graph a.bound y (meaning a.graph y p)) (outcomes_in a y)
-
--- the matches that lie in the alternatives have together the outcomes of all matches
+-- each plan that covers an alternative makes the outcomes of the matches that lie in it, and these are together those of all
+-- matches
 pub record AreParted (a : Question) : Type 0 where
-  pub each : (k : ℕ) (y : Typed) → slice_get a.bound.alternatives k ≡ Some y → GivesOutcomes a y
+  pub each : (k : ℕ) (y : Typed) → slice_get a.bound.alternatives k ≡ Some y
+      → MakesLateOutcomes a.graph a.query a.bound y
   pub all : IsPermutation (flat_map (outcomes_in a) a.bound.alternatives) (all_outcomes a)
 
 -- these alternatives were begun: the outcomes in them are those that were pushed and those that are left, and none is heavy

@@ -6,9 +6,9 @@ use Rattle.std.specs.List.Sorted.{IsPermutation}
 use Rattle.gq_base.specs.Plain.{Graph}
 use Rattle.gq_base.specs.Values.{Val}
 use Rattle.gq_expr.specs.declared.Fault.{Fault}
-use Rattle.gq_alternatives.specs.Matches.{matches}
-use Rattle.gq_answers.specs.Answered.{lying}
-use Rattle.gq_plan.specs.Outcomes.{Row, outcomes}
+use Rattle.gq_answers.specs.Answered as answered
+use Rattle.gq_answers.specs.Answered.{outcomes_of}
+use Rattle.gq_plan.specs.Outcomes.{Row}
 use Rattle.gq_plan.specs.Parts.{given_parts, part_assignments}
 use Rattle.gq_plan.specs.declared.Bound.{Bound}
 use Rattle.gq_plan.specs.declared.Typed.{Typed}
@@ -23,11 +23,11 @@ pub record Question : Type 0 where
   pub most : ℕ
 
 -- the outcomes of all matches, and those of the matches that lie in an alternative
-unfoldable pub all_outcomes : Question → List (Result Row Fault)
-all_outcomes a = outcomes a.graph a.bound (matches a.query a.graph)
+abbrev pub all_outcomes : Question → List (Result Row Fault)
+all_outcomes a = outcomes_of a.graph a.bound a.query
 
-unfoldable pub outcomes_in : Question → Typed → List (Result Row Fault)
-outcomes_in a y = outcomes a.graph a.bound (lying a.query a.graph y)
+abbrev pub outcomes_in : Question → Typed → List (Result Row Fault)
+outcomes_in a y = answered.outcomes_in a.graph a.bound a.query y
 
 -- an alternative's turn comes while those before it have fewer rows than are looked at
 abbrev pub has_turn : Option ℕ → ℕ → Bool

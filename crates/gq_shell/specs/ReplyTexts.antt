@@ -19,6 +19,6 @@ fault_name fault.Kind = codes "Kind"
 
 -- a header, a line for each row and their number; or one line that says why there are none
 abbrev pub reply_text : Graph → Bound → Reply → List ℕ
-reply_text graph bound (Rows lines) = listing_text graph (map (λ c. c.name) bound.columns) lines
+reply_text graph bound (Rows lines) = listing_text (map (λ c. c.name) bound.columns) graph lines
 reply_text graph bound (Faulted f) = line (codes "error: Fault " ++ fault_name f)
 reply_text graph bound TooManyRows = line (codes "error: TooManyRows " ++ decimal most_rows)

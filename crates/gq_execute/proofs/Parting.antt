@@ -1,0 +1,110 @@
+-- The alternatives of a bound query part its outcomes, and the builds of a plan tell whether a part is too large.
+use Rattle.std.proofs.Common.{◌≡◌, ℕ, ◌<◌, ◌≤◌, Bool, true, false, not, ◌&&◌, ◌||◌, List, [], ◌∷◌, ◌++◌, length, map, IsTrue, refl, sym, ap, ap₂, ◌∙◌, arith, true≢false}
+use Rattle.std.specs.Prelude.{nat_lt, nat_le}
+use Rattle.std.specs.List.{AllZip, list_all, list_any}
+use Rattle.std.proofs.lemmas.Bool.{and_parts}
+use Rattle.std.proofs.lemmas.List.{length-map}
+use Rattle.std.proofs.lemmas.Bool.Decides.{nat_tests}
+use Rattle.gq_answers.proofs.Laws.{alternatives_part_outcomes, late_plan_at}
+use Rattle.gq_base.specs.Plain.{Graph}
+use Rattle.gq_base.specs.Valid.{is_valid}
+use Rattle.gq_binder.specs.Binding.{IsBound}
+use Rattle.gq_meaning.proofs.Sides.{given_counts}
+use Rattle.gq_pipe.specs.Limits.{sides_within, side_within}
+use Rattle.gq_plan.specs.Flat.{is_flat, is_join}
+use Rattle.gq_plan.specs.Meaning.{mean, meaning, nothing}
+use Rattle.gq_plan.specs.Parts.{IsSide, Part, given_parts, own_sides, part_assignments, sides}
+use Rattle.gq_plan.specs.Soundness.{IsSound}
+use Rattle.gq_plan.specs.Steps.{Plan, Done, Then, Step, Scan, Extend, Close, Join, Keep, Differ, NoLoop}
+use Rattle.gq_plan.specs.declared.Typed.{Typed}
+use Rattle.gq_execute.specs.Answering.{AreParted}
+use Rattle.gq_execute.specs.Replies.{Question, has_large_part}
+
+pub bound_parted : (a : Question) (text : List ℕ) → IsTrue (is_valid a.graph) → IsBound a.query text a.graph.catalog a.bound → AreParted a
+bound_parted a text real is = record {
+  each = λ k y e. late_plan_at a.graph a.query text a.bound real is k y e;
+  all = alternatives_part_outcomes a.graph a.query text a.bound real is;
+}
+
+-- ---- large parts
+
+length_meaning : (g : Graph) (y : Typed) (s : Plan) → length (meaning g y s) ≡ length (mean g y s nothing)
+unfolding meaning
+length_meaning g y s = length-map (mean g y s nothing) _
+
+not_large : (most n : ℕ) → nat_le n most ≡ not (nat_lt most n)
+not_large most n = go (nat_lt most n) refl
+  where
+    go : (b : Bool) → nat_lt most n ≡ b → nat_le n most ≡ not b
+    go true e = grind (arith, nat_tests, e)
+    go false e = grind (arith, nat_tests, e)
+
+none_large : (most : ℕ) (ns : List ℕ) → list_all (λ n. nat_le n most) ns ≡ not (list_any (nat_lt most) ns)
+none_large most [] = refl
+none_large most (n ∷ ns) = ap₂ ◌&&◌ (not_large most n) (none_large most ns) ∙ both (nat_lt most n) (list_any (nat_lt most) ns)
+  where
+    both : (b c : Bool) → (not b && not c) ≡ not (b || c)
+    both true c = refl
+    both false c = refl
+
+module _ (g : Graph) (y : Typed) (most : ℕ) where
+  flat_within : (p : Plan) → is_flat p ≡ true → sides_within g y most p ≡ true
+  unfolding sides_within
+  flat_within Done e = refl
+  flat_within (Then (Scan v) p) e = flat_within p e
+  flat_within (Then (Extend column x from to way) p) e = flat_within p e
+  flat_within (Then (Close column x from to way) p) e = flat_within p e
+  flat_within (Then (Join side keys) p) e = absurd (true≢false (sym e))
+  flat_within (Then (Keep i) p) e = flat_within p e
+  flat_within (Then (Differ q) p) e = flat_within p e
+  flat_within (Then (NoLoop x) p) e = flat_within p e
+
+  -- none of some plans makes too many assignments
+  abbrev few : List Plan → Bool
+  few ss = list_all (λ s. nat_le (length (meaning g y s)) most) ss
+
+  -- so it is for the side plans of a plan, where these have no joins
+  sides_few : (p : Plan) → list_all is_flat (sides p) ≡ true → sides_within g y most p ≡ few (sides p)
+  unfolding sides_within, sides
+  sides_few Done e = refl
+  sides_few (Then (Scan v) p) e = sides_few p e
+  sides_few (Then (Extend column x from to way) p) e = sides_few p e
+  sides_few (Then (Close column x from to way) p) e = sides_few p e
+  sides_few (Then (Join side keys) p) e =
+      let parts = and_parts (is_flat side) (list_all is_flat (sides p)) e in
+      ap₂ ◌&&◌ (ap (λ b. b && nat_le (length (meaning g y side)) most) (flat_within side parts.0)) (sides_few p parts.1)
+  sides_few (Then (Keep i) p) e = sides_few p e
+  sides_few (Then (Differ q) p) e = sides_few p e
+  sides_few (Then (NoLoop x) p) e = sides_few p e
+
+  counted : (ss : List Plan) → few ss ≡ list_all (λ n. nat_le n most) (map (λ s. length (mean g y s nothing)) ss)
+  counted [] = refl
+  counted (s ∷ ss) = ap₂ (λ n b. nat_le n most && b) (length_meaning g y s) (counted ss)
+
+  any_counted : (ps : List Part) → list_any (nat_lt most) (map (λ p. length (part_assignments g y p)) ps) ≡ list_any (λ p. nat_lt most (length (part_assignments g y p))) ps
+  any_counted [] = refl
+  any_counted (p ∷ ps) = ap (λ b. nat_lt most (length (part_assignments g y p)) || b) (any_counted ps)
+
+  -- the side plans of a plan tell whether a part is too large, where each makes one part
+  pub sides_tell : (p : Plan) → IsTrue (is_valid g) → IsSound g.catalog y → AllZip (IsSide g.catalog y) (given_parts y) (sides p) → list_all is_flat (sides p) ≡ true
+      → sides_within g y most p ≡ not (has_large_part g most y)
+  unfolding has_large_part
+  sides_tell p real sound are flat =
+      sides_few p flat ∙ counted (sides p) ∙ ap (list_all (λ n. nat_le n most)) (given_counts g y real sound (sides p) are)
+      ∙ none_large most (map (λ q. length (part_assignments g y q)) (given_parts y)) ∙ ap not (any_counted (given_parts y))
+
+  pub sides_light : (p : Plan) → IsTrue (is_valid g) → IsSound g.catalog y → AllZip (IsSide g.catalog y) (given_parts y) (sides p) → list_all is_flat (sides p) ≡ true
+      → sides_within g y most p ≡ true → has_large_part g most y ≡ false
+  sides_light p real sound are flat few = flipped (has_large_part g most y) (sym (sides_tell p real sound are flat) ∙ few)
+    where
+      flipped : (b : Bool) → not b ≡ true → b ≡ false
+      flipped true e = absurd (true≢false (sym e))
+      flipped false e = refl
+
+  pub sides_heavy : (p : Plan) → IsTrue (is_valid g) → IsSound g.catalog y → AllZip (IsSide g.catalog y) (given_parts y) (sides p) → list_all is_flat (sides p) ≡ true
+      → sides_within g y most p ≡ false → has_large_part g most y ≡ true
+  sides_heavy p real sound are flat many = flipped (has_large_part g most y) (sym (sides_tell p real sound are flat) ∙ many)
+    where
+      flipped : (b : Bool) → not b ≡ false → b ≡ true
+      flipped true e = refl
+      flipped false e = absurd (true≢false e)
