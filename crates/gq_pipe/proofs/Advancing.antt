@@ -1,5 +1,5 @@
 -- What callers see when a pipeline has gone on.
-use Rattle.std.proofs.Common.{◌≡◌, ℕ, Bool, true, false, List, [], ◌∷◌, map, length, refl, sym, ap, ◌∙◌, subst, true≢false}
+use Rattle.std.proofs.Common.{◌≡◌, ℕ, Bool, true, false, [], ◌∷◌, map, length, refl, sym, ap, ◌∙◌, subst, true≢false}
 use Rattle.std.specs.Prelude.{if◌then◌else◌}
 use Rattle.gq_plan.specs.Covers.{after}
 use Rattle.gq_plan.specs.Known.{none}
@@ -9,7 +9,7 @@ use Rattle.gq_plan.specs.Steps.{steps}
 use Rattle.gq_pipe.specs.Bound.{all_bound}
 use Rattle.gq_pipe.specs.Inner.{is_standing, depth_of, owed_in, progress_of, IsReady}
 use Rattle.gq_pipe.specs.Levels.{Run, known, before}
-use Rattle.gq_pipe.specs.Moves.{run_of, IsRun, IsHeld, IsOpen, IsSearched}
+use Rattle.gq_pipe.specs.Moves.{run_of, IsHeld, IsOpen, IsSearched}
 use Rattle.gq_pipe.specs.Progress.{Progress}
 use Rattle.gq_pipe.specs.Standing.{IsRow}
 use Rattle.gq_pipe.specs.declared.cursor.Cursor.{Cursor}
@@ -79,5 +79,5 @@ module _ (p : Inside) (seen : Progress) (is : progress_of p ≡ seen) (standing 
   pub row_whole : seen.complete ≡ true → assigned seen.source.typed p.cursor.row ≡ seen.row
   row_whole complete = subst (λ (s : Progress). s.complete ≡ true → assigned s.source.typed p.cursor.row ≡ s.row) is
       (λ all. whole_assigned c.typed p.cursor.row (known c (length c.steps)) (before c p.cursor.row (length c.steps)) (looks c ready.run p.cursor.row (length c.steps)) held.node_count held.rel_count
-          (ap (all_bound c.typed) (sym (after_all c)) ∙ all))
+      (ap (all_bound c.typed) (sym (after_all c)) ∙ all))
       complete

@@ -1,9 +1,9 @@
 -- A join at a depth: what a try of it makes is what is said of the step there.
-use Rattle.std.proofs.Common.{◌≡◌, ◌≢◌, ℕ, zero, suc, ◌+◌, ◌^◌, ◌<◌, ◌≤◌, Bool, true, false, not, ◌&&◌, ◌||◌, cond, nat_eq, Option, Some, None, List, [], ◌∷◌, map, filter, length, drop, get_or, slice_get, refl, sym, ap, ap₂, ◌∙◌, subst, arith, inl, inr, ◌⊎◌, true≢false}
-use Rattle.std.specs.Prelude.{All, nat_lt, slice_index, slice_index_or}
+use Rattle.std.proofs.Common.{◌≡◌, ℕ, zero, suc, ◌+◌, ◌<◌, ◌≤◌, Bool, true, false, not, ◌&&◌, ◌||◌, cond, nat_eq, Option, Some, None, List, [], ◌∷◌, map, filter, length, drop, get_or, slice_get, refl, sym, ap, ap₂, ◌∙◌, subst, arith, inl, inr, ◌⊎◌, true≢false}
+use Rattle.std.specs.Prelude.{All, slice_index, slice_index_or}
 use Rattle.std.specs.List.{list_all, range_with_len, AllByRecursion}
-use Rattle.std.proofs.lemmas.Bool.{and_parts, or_cases, or_left, eq-eqb, eqb-true, ne_eqb, cases_eq, ltb-true}
-use Rattle.std.proofs.lemmas.List.{get_or-map, get_or_default, length-map}
+use Rattle.std.proofs.lemmas.Bool.{and_parts, or_cases, eq-eqb, eqb-true, cases_eq, ltb-true}
+use Rattle.std.proofs.lemmas.List.{get_or_default}
 use Rattle.std.proofs.lemmas.List.Elements.{All-from_recursion}
 use Rattle.std.proofs.lemmas.List.FromFn.{get_or-map-range_with_len}
 use Rattle.std.proofs.lemmas.Option.{slice_get_within, get_or_from_slice_get}
@@ -14,21 +14,21 @@ use Rattle.gq_join.specs.Kept.{Held, columns, has_key, matches_of, node_in, rel_
 use Rattle.gq_plan.specs.declared.assignment.Assignment.{Assignment}
 use Rattle.gq_plan.specs.Covers.{after, after_step, fits, fits_step, goes, is_joined}
 use Rattle.gq_plan.specs.Known.{Known, none, with_both}
-use Rattle.gq_plan.specs.Meaning.{Partial, nothing, with_all, holds}
+use Rattle.gq_plan.specs.Meaning.{nothing, with_all, holds}
 use Rattle.gq_plan.specs.Soundness.{has_number}
 use Rattle.gq_plan.specs.Steps.{Plan, Done, Then, Step, Scan, Extend, Close, Join, Keep, Differ, NoLoop, steps}
 use Rattle.gq_plan.specs.declared.typed.Typed.{Typed}
-use Rattle.gq_pipe.specs.Built.{whole_row, kept_nodes, kept_rels, IsBuildOf, HasBuild, FitsBuild, AreBuilds}
-use Rattle.gq_pipe.specs.Levels.{Run, step_at, given, taken, known, before}
+use Rattle.gq_pipe.specs.Built.{whole_row, HasBuild, FitsBuild, AreBuilds}
+use Rattle.gq_pipe.specs.Levels.{Run, step_at, known, before}
 use Rattle.gq_pipe.specs.Moves.{IsRun, IsHeld, IsAlike, IsTried}
-use Rattle.gq_pipe.specs.Outcomes.{with_kept, CanJoin, IsMatch, IsJoined}
+use Rattle.gq_pipe.specs.Outcomes.{with_kept, CanJoin, IsJoined}
 use Rattle.gq_plan.specs.Rows.{node_table}
 use Rattle.gq_pipe.specs.Tries.{tries}
 use Rattle.gq_pipe.specs.declared.plan_run.Tried.{Tried}
 use Rattle.gq_pipe.specs.declared.plan_run.Tried.TheVariants.{Past, Missed, Made}
 use Rattle.gq_pipe.proofs.Binding.{looks, fits_at, given_alike}
 use Rattle.gq_pipe.proofs.Joining.{length-set_all, get_set_all, has, has_kept, join_here, join_past}
-use Rattle.gq_pipe.proofs.Stepping.{Makes, is_made, is_past, not_true}
+use Rattle.gq_pipe.proofs.Stepping.{Makes, is_made, is_past}
 
 -- ---- the build of a depth
 

@@ -1,23 +1,23 @@
 -- A match of a join: what is written for it is what the plan's step makes at the place.
-use Rattle.std.proofs.Common.{◌≡◌, ◌≢◌, ℕ, zero, suc, ◌+◌, ◌^◌, ◌<◌, ◌≤◌, Bool, true, false, not, ◌&&◌, ◌||◌, cond, nat_eq, Option, Some, None, List, [], ◌∷◌, ◌++◌, map, filter, length, drop, take, get_or, set, slice_get, refl, sym, ap, ap₂, ◌∙◌, subst, arith, inl, inr, ◌⊎◌, true≢false}
-use Rattle.std.specs.Prelude.{All, slice_index, slice_index_or}
+use Rattle.std.proofs.Common.{◌≡◌, ℕ, zero, suc, ◌+◌, ◌<◌, ◌≤◌, Bool, true, false, ◌&&◌, ◌||◌, cond, nat_eq, Some, None, List, [], ◌∷◌, ◌++◌, map, filter, length, drop, get_or, set, slice_get, refl, sym, ap, ap₂, ◌∙◌, arith, inl, inr, ◌⊎◌}
+use Rattle.std.specs.Prelude.{slice_index}
 use Rattle.std.specs.List.{list_all, range_with_len, AllByRecursion}
-use Rattle.std.proofs.lemmas.Bool.{and_parts, or_cases, or_left, or_right, eq-eqb, eqb-true, ne_eqb, cases_eq}
-use Rattle.std.proofs.lemmas.List.{drop_more, drop_all, get_or-set_same, get_or-set_other, length-set, length-map, get_or-map, take_more}
-use Rattle.std.proofs.lemmas.List.FromFn.{length-range_with_len, get_or-range_with_len, get_or-map-range_with_len}
+use Rattle.std.proofs.lemmas.Bool.{and_parts, eq-eqb, ne_eqb, cases_eq}
+use Rattle.std.proofs.lemmas.List.{drop_more, drop_all, get_or-set_same, get_or-set_other, length-set}
+use Rattle.std.proofs.lemmas.List.FromFn.{get_or-map-range_with_len}
 use Rattle.std.proofs.lemmas.Option.{slice_get_within, get_or_from_slice_get}
 use Rattle.gq_base.specs.Plain.{Graph}
-use Rattle.gq_join.specs.Kept.{Held, columns, has_key, matches_of, node_in, rel_in, place_of}
+use Rattle.gq_join.specs.Kept.{Held, has_key, matches_of, node_in}
 use Rattle.gq_plan.specs.declared.assignment.Assignment.{Assignment}
 use Rattle.gq_plan.specs.Allowed.{at_same}
 use Rattle.gq_plan.specs.Covers.{after}
 use Rattle.gq_plan.specs.Known.{Known, none}
-use Rattle.gq_plan.specs.Meaning.{Partial, nothing, with_all, look, agree, mean}
-use Rattle.gq_plan.specs.Steps.{Plan, Step, Join}
+use Rattle.gq_plan.specs.Meaning.{Partial, nothing, with_all, look, agree}
+use Rattle.gq_plan.specs.Steps.{Plan, Join}
 use Rattle.gq_plan.specs.declared.typed.Typed.{Typed}
-use Rattle.gq_pipe.specs.Built.{whole_row, kept_nodes, kept_rels, IsBuildOf}
+use Rattle.gq_pipe.specs.Built.{whole_row, IsBuildOf}
 use Rattle.gq_pipe.specs.Levels.{given}
-use Rattle.gq_pipe.specs.Outcomes.{set_all, with_kept}
+use Rattle.gq_pipe.specs.Outcomes.{set_all}
 use Rattle.gq_plan.specs.Rows.{node_table, node_at}
 use Rattle.gq_pipe.specs.Tries.{tries}
 use Rattle.gq_pipe.proofs.Binding.{Looks, looks_given}

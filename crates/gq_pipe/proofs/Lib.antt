@@ -4,8 +4,11 @@ pub mod Binding
 pub mod Following
 pub mod Joined
 pub mod Joining
+pub mod Keeping
 pub mod Levels
+pub mod Making
 pub mod Moving
+pub mod Pushing
 pub mod Searching
 pub mod Stepping
 pub mod Testing

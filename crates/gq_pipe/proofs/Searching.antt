@@ -1,11 +1,11 @@
 -- The moves of a search by the cursor: what stays true of it, what is owed, and what is before it.
-use Rattle.std.proofs.Common.{◌≡◌, ◌≢◌, ℕ, zero, suc, ◌+◌, ◌-◌, ◌<◌, ◌≤◌, List, [], ◌∷◌, map, length, set, refl, sym, ap, ap₂, ◌∙◌, subst, arith}
+use Rattle.std.proofs.Common.{◌≡◌, ◌≢◌, ℕ, zero, suc, ◌+◌, ◌-◌, ◌<◌, ◌≤◌, [], length, set, refl, sym, ap, ap₂, ◌∙◌, subst, arith}
 use Rattle.std.specs.Prelude.{slice_index}
 use Rattle.std.proofs.lemmas.List.{length-set}
-use Rattle.gq_plan.specs.Meaning.{Partial, nothing, mean, whole}
+use Rattle.gq_plan.specs.Meaning.{nothing, mean}
 use Rattle.gq_plan.specs.Steps.{steps}
 use Rattle.gq_pipe.specs.Levels.{Run, step_at, known, before, behind}
-use Rattle.gq_pipe.specs.Moves.{IsRun, IsHeld, IsMade, IsMissed, IsPast, IsOpen, owed_at, IsNext, IsEnd}
+use Rattle.gq_pipe.specs.Moves.{IsHeld, IsMade, IsMissed, IsPast, IsOpen, owed_at, IsNext, IsEnd}
 use Rattle.gq_plan.specs.declared.assignment.Assignment.{Assignment}
 use Rattle.gq_pipe.specs.declared.cursor.Cursor.{Cursor}
 use Rattle.gq_pipe.proofs.Binding.{step_keeps_node, step_keeps_rel}

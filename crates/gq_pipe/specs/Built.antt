@@ -1,15 +1,17 @@
 -- What the builds of a plan hold.
-use Rattle.std.specs.Prelude.{◌≡◌, ℕ, ◌<◌, ◌^◌, true, Option, Some, None, List, [], ◌∷◌, map, filter, length, slice_index, slice_index_or}
+use Rattle.std.specs.Prelude.{◌≡◌, ℕ, ◌<◌, true, Option, Some, List, [], ◌∷◌, All, map, filter, length}
 use Rattle.std.specs.List.{range_with_len}
 use Rattle.gq_base.specs.Plain.{Graph}
 use Rattle.gq_base.specs.Valid.{row_count}
 use Rattle.gq_join.specs.Kept.{Growing, Held, empty_build, node_in, rel_in}
 use Rattle.gq_plan.specs.declared.assignment.Assignment.{Assignment}
 use Rattle.gq_base.specs.Catalogs.{Tables}
-use Rattle.gq_plan.specs.Covers.{after, fits_step}
-use Rattle.gq_plan.specs.Known.{Known, none}
+use Rattle.gq_plan.specs.Covers.{after, Fits}
+use Rattle.gq_plan.specs.Known.{none}
 use Rattle.gq_plan.specs.Meaning.{nothing, mean}
-use Rattle.gq_plan.specs.Steps.{Plan, Done, Then, Step, Join}
+use Rattle.gq_plan.specs.Steps.{Plan, Done, Then, Step, Join, plan_of}
+use Rattle.gq_plan.specs.declared.plan.Plan as code_plan
+use Rattle.gq_plan.specs.declared.plan.Step as code
 use Rattle.gq_plan.specs.declared.typed.Typed.{Typed}
 use Rattle.gq_pipe.specs.Levels.{given}
 use Rattle.gq_plan.specs.Rows.{node_table}
@@ -56,7 +58,7 @@ AreBuilds g y Done (o ∷ os) = ⊥
 AreBuilds g y (Then s p) [] = ⊥
 AreBuilds g y (Then s p) (o ∷ os) = FitsBuild g y s o × AreBuilds g y p os
 
--- a step fits where some variables are bound
-pub record FitsSomewhere (catalog : Tables) (y : Typed) (s : Step) : Type 0 where
-  pub known : Known
-  pub fits : fits_step catalog y s known ≡ true
+-- where a step of the program is a join, its side plan, by whatever name, fits by itself and binds the keys
+pub record JoinFits (catalog : Tables) (y : Typed) (s : code.Step) : Type 0 where
+  pub side : (p q : code_plan.Plan) (keys : List ℕ) → s ≡ code.Join p keys → q ≡ p → Fits catalog y (plan_of q)
+  pub keys : (p q : code_plan.Plan) (keys : List ℕ) → s ≡ code.Join p keys → q ≡ p → All (λ v. (after (plan_of q) none).nodes v ≡ true) keys

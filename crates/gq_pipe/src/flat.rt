@@ -11,8 +11,8 @@ ghost use Rattle.gq_pipe.specs.Progress.{source_of};
 ghost use Rattle.gq_pipe.specs.Standing.{IsRow};
 
 use crate::builds::Builds;
-use crate::plan_run::PlanRun;
 use crate::cursor::Cursor;
+use crate::plan_run::PlanRun;
 use gq_base::Memory;
 use gq_plan::{Assignment, Plan, Typed};
 use gq_store::Graph;
