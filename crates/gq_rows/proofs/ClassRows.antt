@@ -1,5 +1,5 @@
 -- The first row of each class, held as a set of columns and keys one row after another.
-use Rattle.std.proofs.Common.{◌≡◌, ℕ, ◌+◌, ◌*◌, ◌<◌, ◌≤◌, Bool, true, false, List, [], ◌∷◌, ◌++◌, length, map, take, Ok, Err, Result, Some, refl, sym, ap, ◌∙◌, subst, arith, length-append, append-nil}
+use Rattle.std.proofs.Common.{◌≡◌, ℕ, ◌+◌, ◌<◌, ◌≤◌, Bool, true, false, List, [], ◌∷◌, ◌++◌, length, map, take, Ok, Result, Some, refl, sym, ap, ◌∙◌, subst, arith, length-append, append-nil}
 use Rattle.std.specs.Prelude.{Option, flat_map, ◌||◌, if◌then◌else◌}
 use Rattle.std.specs.List.{list_any, All, take-map}
 use Rattle.std.specs.Cmp.Lexicographic.{pointwise}

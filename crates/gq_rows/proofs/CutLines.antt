@@ -1,9 +1,9 @@
 -- Lines that are cut from a list of values, and those that a listing has.
-use Rattle.std.proofs.Common.{◌≡◌, ℕ, ◌+◌, ◌-◌, ◌*◌, ◌<◌, ◌≤◌, zero, suc, min, List, [], ◌∷◌, ◌++◌, length, map, take, drop, get_or, Option, Some, None, refl, sym, ap, ap₂, ◌∙◌, arith, length-append, length-take, zero-add, append-nil}
+use Rattle.std.proofs.Common.{◌≡◌, ℕ, ◌+◌, ◌-◌, ◌*◌, ◌<◌, ◌≤◌, zero, suc, min, List, [], ◌∷◌, length, map, take, drop, get_or, Option, Some, None, refl, sym, ap, ap₂, ◌∙◌, arith, length-append, length-take}
 use Rattle.std.specs.Prelude.{flat_map, slice_get, option_map}
 use Rattle.std.specs.List.{All, take-map}
 use Rattle.std.proofs.Math.Nat.{mul-le-mul_right}
-use Rattle.std.proofs.lemmas.List.{drop-drop, drop-map, drop_at, get_or-drop, get_or-map, length-drop, length-map, take_all, take_at, take_min}
+use Rattle.std.proofs.lemmas.List.{drop-drop, drop-map, drop_at, get_or-drop, length-drop, length-map, take_all, take_at, take_min}
 use Rattle.std.proofs.lemmas.List.Concat.{flat_map-cons}
 use Rattle.std.proofs.lemmas.List.Elements.{All-tail}
 use Rattle.std.proofs.lemmas.Option.{slice_get-get_or}
@@ -88,7 +88,7 @@ module _ (l : Inside) (has : HasLines l) where
   pub line_within : (i : ℕ) → i < l.end → i * l.width + l.width ≤ length l.values.items
   line_within i lt =
       let rows : (i + 1) * l.width ≤ l.end * l.width = mul-le-mul_right l.width (omega (arith, lt)) in
-      omega (arith, rows, has)
+      omega (arith, rows, has.values)
 
   line_get : (row : ℕ) (d : List Val) → row < length (lines_of l) → get_or (lines_of l) row d ≡ map val (take l.width (drop ((l.skip + row) * l.width) l.values.items))
   line_get row d lt =

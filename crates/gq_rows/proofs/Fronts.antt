@@ -1,5 +1,5 @@
 -- A part of the rows, after a push, a sort and a cut.
-use Rattle.std.proofs.Common.{◌≡◌, ℕ, ◌+◌, ◌-◌, ◌<◌, ◌≤◌, min, Bool, true, false, List, [], ◌∷◌, ◌++◌, length, take, drop, refl, sym, ap, ◌∙◌, subst, append_assoc, append-nil, arith, length-append}
+use Rattle.std.proofs.Common.{◌≡◌, ℕ, ◌+◌, ◌≤◌, min, List, [], ◌∷◌, ◌++◌, length, take, drop, sym, ap, ◌∙◌, subst, append_assoc, arith, length-append}
 use Rattle.std.proofs.lemmas.List.{take-append-drop}
 use Rattle.std.proofs.lemmas.List.Sums.{count_by-le-length, sum_by-append}
 use Rattle.std.proofs.lemmas.List.Sorted.{IsPermutation-refl, IsPermutation-trans, IsPermutation-append_left, IsPermutation-append_right, IsPermutation-to_front, length_permutation, sum_by-IsPermutation}
@@ -10,7 +10,7 @@ use Rattle.std.specs.List.{count_by}
 use Rattle.std.specs.List.Sorted.{IsPermutation}
 use Rattle.std.specs.List.{AllByRecursion}
 use Rattle.gq_rows.specs.Parts.{Part}
-use Rattle.gq_rows.proofs.Rising.{Rises, count-front, each-append, each-map, front-behind, upto_row}
+use Rattle.gq_rows.proofs.Rising.{Rises, count-front, each-append, each-map, front-behind}
 
 module _ {T : Type 0} (R : T → T → Ordering) where
   pub part-none : (n : ℕ) → Part R n [] []
@@ -20,8 +20,8 @@ module _ {T : Type 0} (R : T → T → Ordering) where
   part-push n rows held row p = record {
     rest = p.rest;
     whole = IsPermutation-trans _ _ _ (IsPermutation-append_left (row ∷ []) rows (held ++ p.rest) p.whole)
-      (subst (λ l. IsPermutation ((held ++ p.rest) ++ row ∷ []) l) (sym (append_assoc held (row ∷ []) p.rest))
-      (subst (λ l. IsPermutation l (held ++ (row ∷ p.rest))) (sym (append_assoc held p.rest (row ∷ []))) (IsPermutation-append_right held _ _ (IsPermutation-to_front p.rest row))));
+        (subst (λ l. IsPermutation ((held ++ p.rest) ++ row ∷ []) l) (sym (append_assoc held (row ∷ []) p.rest))
+        (subst (λ l. IsPermutation l (held ++ (row ∷ p.rest))) (sym (append_assoc held p.rest (row ∷ []))) (IsPermutation-append_right held _ _ (IsPermutation-to_front p.rest row))));
     behind = each-map _ _ (λ r le. rw (sum_by-append _ held (row ∷ [])) (omega (arith, le))) p.rest p.behind;
   }
 

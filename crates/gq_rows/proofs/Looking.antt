@@ -1,6 +1,6 @@
 -- What the steps of a look at an assignment tell together.
-use Rattle.std.proofs.Common.{◌≡◌, ℕ, ◌+◌, Bool, true, false, List, [], ◌∷◌, ◌++◌, length, map, Ok, Err, Result, Some, None, refl, sym, ap, ◌∙◌, subst, append_assoc, append-nil, arith, length-append, ◌<◌, suc, drop, get_or}
-use Rattle.std.specs.Prelude.{Option, if◌then◌else◌, slice_get, flat_map}
+use Rattle.std.proofs.Common.{◌≡◌, ℕ, true, false, List, [], ◌∷◌, ◌++◌, length, map, Ok, Err, Result, Some, None, refl, sym, ap, ◌∙◌, subst, append_assoc, append-nil, ◌<◌, suc, drop, get_or}
+use Rattle.std.specs.Prelude.{slice_get, flat_map}
 use Rattle.std.proofs.Math.Seq.{drop-cons}
 use Rattle.std.proofs.lemmas.List.{length-map}
 use Rattle.gq_expr.specs.Meaning.{meaning}
@@ -15,7 +15,7 @@ use Rattle.gq_base.specs.Plain.{Graph}
 use Rattle.gq_expr.specs.Reading as reading
 use Rattle.gq_plan.specs.declared.bound.Bound.{Bound}
 use Rattle.gq_plan.specs.declared.bound.NamedExpr.{NamedExpr}
-use Rattle.gq_plan.specs.Outcomes.{meanings_of, key_meanings, outcome_by, Row, drops, behind_condition, behind_conditions, values, then_with, row_with, judged}
+use Rattle.gq_plan.specs.Outcomes.{meanings_of, key_meanings, outcome_by, Row, drops, behind_condition, behind_conditions, values, then_with, row_with}
 use Rattle.gq_rows.specs.Judged.{behind, one_more, check_after, values_after, Kept, Judges, PushesValues}
 use Rattle.gq_rows.specs.declared.refusal.RowRefusal.{RowRefusal}
 use Rattle.gq_rows.specs.declared.refusal.RowRefusal.TheVariants as refusal
@@ -162,14 +162,14 @@ module _ (g : Graph) (bound : Bound) (late : List NamedExpr) (row : reading.Assi
       let a = appended (meanings_of g row bound.columns) (map val old) (map val new) h in
       let b = appended (key_meanings g row bound.keys) (map val old_keys) (map val new_keys) k in
       record {
-    row = record { columns = a.more; keys = b.more };
-    is = met e ∙ ap (λ v. Some (then_with v (λ vs. then_with (values (key_meanings g row bound.keys)) (λ ks. Ok (record { columns = vs; keys = ks }))))) a.is
-      ∙ ap (λ v. Some (then_with v (λ ks. Ok (record { columns = a.more; keys = ks })))) b.is;
-    columns = a.whole;
-    keys = b.whole;
-    column_count = a.size ∙ length-map bound.columns _;
-    key_count = b.size ∙ length-map bound.keys _;
-  }
+        row = record { columns = a.more; keys = b.more };
+        is = met e ∙ ap (λ v. Some (then_with v (λ vs. then_with (values (key_meanings g row bound.keys)) (λ ks. Ok (record { columns = vs; keys = ks }))))) a.is
+            ∙ ap (λ v. Some (then_with v (λ ks. Ok (record { columns = a.more; keys = ks })))) b.is;
+        columns = a.whole;
+        keys = b.whole;
+        column_count = a.size ∙ length-map bound.columns _;
+        key_count = b.size ∙ length-map bound.keys _;
+      }
 
   pub column_failed : (r : RowRefusal) (old new keys : List Value) → checked.Met ≡ check_after checked.Met conditions → PushesValues (meanings_of g row bound.columns) old new (Err r)
       → Judges (length bound.columns) (length bound.keys) (outcome_by g bound late row) old new keys keys (Err r)

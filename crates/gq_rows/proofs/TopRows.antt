@@ -1,13 +1,13 @@
 -- A part of the rows, held as values one row after another.
-use Rattle.std.proofs.Common.{◌≡◌, ℕ, ◌+◌, ◌*◌, ◌<◌, ◌≤◌, min, List, [], ◌∷◌, ◌++◌, length, take, Ok, Err, Result, Some, sym, ap, ◌∙◌, subst, arith, length-append, length-take, true, false, Bool}
+use Rattle.std.proofs.Common.{◌≡◌, ℕ, ◌+◌, ◌*◌, ◌<◌, ◌≤◌, min, List, [], ◌∷◌, ◌++◌, length, take, Ok, Err, Result, Some, sym, subst, arith, length-append, length-take, false, Bool}
 use Rattle.std.specs.Prelude.{Option}
 use Rattle.std.proofs.lemmas.List.Sorted.{length_permutation}
 use Rattle.gq_expr.specs.declared.Fault.{Fault}
 use Rattle.gq_plan.specs.Outcomes.{Row}
 use Rattle.gq_plan.specs.declared.bound.Bound.{Bound}
 use Rattle.gq_rows.specs.Answers.{by_keys}
-use Rattle.gq_rows.specs.Keeping.{Adds, HoldsOf, IsNoFault, Keeps, KeepsFirst, PushesBy, kept_by, more_rows}
-use Rattle.gq_rows.specs.Sorting.{Sorted, Sorts}
+use Rattle.gq_rows.specs.Keeping.{Adds, HoldsOf, IsNoFault, KeepsFirst, PushesBy, more_rows}
+use Rattle.gq_rows.specs.Sorting.{Sorts}
 use Rattle.gq_rows.specs.declared.held.Form.TheVariants.{Top}
 use Rattle.gq_rows.specs.declared.held.Rows.{Rows}
 use Rattle.gq_rows.specs.declared.refusal.RowRefusal.{RowRefusal}
@@ -55,8 +55,8 @@ module _ (b : Bound) (n most : ℕ) where
           list = take n s.arranged;
           holds = s.holds;
           part = part-cut order (by_keys_total b) n (rows ++ row ∷ []) s.arranged (rises_from_sorted order (by_keys_total b) s.arranged s.sorted)
-            (omega (arith, long, now.count, length_permutation (h.list ++ row ∷ []) s.arranged s.same))
-            (part-sort order n (rows ++ row ∷ []) (h.list ++ row ∷ []) s.arranged s.same (part-push order n rows h.list row h.part));
+              (omega (arith, long, now.count, length_permutation (h.list ++ row ∷ []) s.arranged s.same))
+              (part-sort order n (rows ++ row ∷ []) (h.list ++ row ∷ []) s.arranged s.same (part-push order n rows h.list row h.part));
           short = omega (arith, length-take n s.arranged);
         };
         few = few-more old row rows few k;

@@ -1,19 +1,19 @@
 -- An answer from a part of the rows.
-use Rattle.std.proofs.Common.{◌≡◌, ℕ, ◌+◌, ◌-◌, ◌<◌, ◌≤◌, zero, suc, Bool, true, false, cond, List, [], ◌∷◌, ◌++◌, length, take, drop, refl, sym, ap, ◌∙◌, subst, append_assoc, append-nil, arith, length-append, length-take, zero-add, inl, inr}
+use Rattle.std.proofs.Common.{◌≡◌, ℕ, ◌+◌, ◌<◌, ◌≤◌, zero, suc, Bool, true, false, List, [], ◌∷◌, ◌++◌, length, take, drop, refl, sym, ap, ◌∙◌, subst, append-nil, arith, length-take, zero-add, inl, inr}
 use Rattle.std.specs.Prelude.{if◌then◌else◌, ◌⊎◌, nat_le}
 use Rattle.std.proofs.Math.Seq.{take-nil}
-use Rattle.std.proofs.lemmas.List.{take-append-drop, take-append-le, take_at}
+use Rattle.std.proofs.lemmas.List.{take_at}
 use Rattle.std.proofs.lemmas.List.Sums.{count_by-le-length}
-use Rattle.std.proofs.lemmas.List.Sorted.{IsPermutation-refl, IsPermutation-trans, IsPermutation-sym, IsPermutation-cons, IsPermutation-append_left, IsPermutation-append_right, IsPermutation-append_comm, length_permutation, All-permutation}
+use Rattle.std.proofs.lemmas.List.Sorted.{IsPermutation-refl, IsPermutation-trans, IsPermutation-cons, IsPermutation-append_left, IsPermutation-append_right, IsPermutation-append_comm}
 use Rattle.std.specs.declared.cmp.Ordering.{Ordering}
-use Rattle.std.specs.Ordering.{is_le, is_lt, ordering_reverse}
+use Rattle.std.specs.Ordering.{is_le, ordering_reverse}
 use Rattle.std.specs.declared.cmp.Ordering.TheVariants.{Less, Equal, Greater}
 use Rattle.std.specs.Cmp.{IsTotalOrder}
 use Rattle.std.specs.List.{count_by}
 use Rattle.std.specs.List.Sorted.{IsPermutation}
 use Rattle.std.specs.List.{AllByRecursion}
 use Rattle.gq_rows.specs.Parts.{Part}
-use Rattle.gq_rows.proofs.Rising.{Rises, each-all, each-map, each-both, each-drop, each-take, each-append, le-chain, le-other, count-front, front-behind, upto_row, count-yes, count-no}
+use Rattle.gq_rows.proofs.Rising.{Rises, each-map, each-both, each-drop, each-take, each-append, le-chain, count-front, upto_row, count-yes, count-no}
 use Rattle.gq_rows.proofs.Fronts.{whole-cut}
 
 -- an arrangement of all rows that has the window of the rows that are held
@@ -145,10 +145,10 @@ module _ {T : Type 0} (R : T → T → Ordering) (o : IsTotalOrder R) where
         arranged = front ++ sorted R back;
         same = IsPermutation-trans _ _ _ (whole-cut R n all held p.rest p.whole) (IsPermutation-append_right front _ _ (sorted-same R back));
         rises = rises-append R front (sorted R back) (rises-take R n held up) (sorted-rises back)
-          (each-map _ _ (λ a h. each-sorted R _ back h) front
-          (each-both _ _ _ (λ a h k. each-append _ (drop n held) p.rest h k) front (rises-across R n held up)
-          (each-turn (λ a b. is_le (R a b) ≡ true) front p.rest (each-map _ _ (λ b h. full-count b front (omega (arith, h, size))) p.rest
-          (each-map _ _ (λ r h. count-front R o n held r up h) p.rest p.behind)))));
+            (each-map _ _ (λ a h. each-sorted R _ back h) front
+            (each-both _ _ _ (λ a h k. each-append _ (drop n held) p.rest h k) front (rises-across R n held up)
+            (each-turn (λ a b. is_le (R a b) ≡ true) front p.rest (each-map _ _ (λ b h. full-count b front (omega (arith, h, size))) p.rest
+            (each-map _ _ (λ r h. count-front R o n held r up h) p.rest p.behind)))));
         is = sym (front-window skip count held (sorted R back) long);
       }
 

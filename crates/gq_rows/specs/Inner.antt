@@ -1,4 +1,5 @@
 -- What the fields of a table of rows stand for.
+use Rattle.std.specs.Prelude.{◌<◌, ◌^◌}
 use Rattle.std.specs.Option.{option_copied}
 use Rattle.gq_rows.specs.Keeping.{HasForm, held_of}
 use Rattle.gq_rows.specs.Tables.{Table}
@@ -12,5 +13,7 @@ table_of t = record {
   held = held_of t.rows;
 }
 
-abbrev pub IsOfQuery : Inside → Type 0
-IsOfQuery t = HasForm t.bound.now t.form
+-- the form is that of the query, and the limit fits its type
+pub record IsOfQuery (t : Inside) : Type 0 where
+  pub form : HasForm t.bound.now t.form
+  pub small : t.limit < 2 ^ 32

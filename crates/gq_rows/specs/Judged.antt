@@ -7,7 +7,6 @@ use Rattle.gq_expr.specs.declared.Fault.{Fault}
 use Rattle.gq_expr.specs.declared.Fault.TheVariants.{Kind}
 use Rattle.gq_plan.specs.Outcomes.{Row, then_with}
 use Rattle.gq_plan.specs.declared.assignment.Assignment.{Assignment}
-use Rattle.gq_plan.specs.declared.bound.Bound.{Bound}
 use Rattle.gq_rows.specs.Tables.{late_outcome}
 use Rattle.gq_rows.specs.declared.judging.Checked.{Checked}
 use Rattle.gq_rows.specs.declared.judging.Checked.TheVariants as checked

@@ -1,11 +1,10 @@
 //! The lines that a table of rows answers.
 ghost use Rattle.std.specs.Prelude.{◌≡◌, List, IfOk};
 ghost use Rattle.gq_plan.specs.Outcomes.{Row};
-ghost use Rattle.gq_plan.specs.declared.bound.Bound.{Bound};
-ghost use Rattle.gq_rows.specs.Answers.{Lists, at_most, classes, columns_of, most_listed, window};
+ghost use Rattle.gq_rows.specs.Answers.{at_most, columns_of, most_listed, window};
 ghost use Rattle.gq_rows.specs.Keeping.{HoldsOf, held_of};
-ghost use Rattle.gq_rows.specs.Sorting.{IsArranged, IsChosen, IsWindow};
-ghost use Rattle.gq_rows.specs.Tables.{AnswersListings, Holds, HoldsClasses, StandsForSome};
+ghost use Rattle.gq_rows.specs.Sorting.{ArrangesRows, ChoosesRows, HasFirsts, IsWindowOf, ListsRows};
+ghost use Rattle.gq_rows.specs.Tables.{AnswersListings, Holds, StandsForSome};
 
 use crate::held::Rows;
 use crate::listing::Listing;
@@ -18,8 +17,7 @@ use std::alloc::Global;
 
 // The first rows of the classes, one row after another.
 fn first_rows<'g>(alloc: Global, rows: Rows<'g>) -> Result<Rows<'g>, Memory>
-    ensures { let firsts = λ new (b : Bound) list. HoldsClasses b list (held_of rows.entry) → HoldsOf b (classes list) new in
-        IfOk result (λ new. (b : Bound) (list : List Row) → firsts new b list) }
+    ensures { IfOk result (HasFirsts rows.entry) }
 {
     let Rows {
         columns: _,
@@ -41,7 +39,7 @@ fn first_rows<'g>(alloc: Global, rows: Rows<'g>) -> Result<Rows<'g>, Memory>
 
 // The rows of which any arrangement answers.
 fn chosen_rows<'g>(alloc: Global, bound: &Bound, rows: Rows<'g>) -> Result<Rows<'g>, Memory>
-    ensures { IfOk result (λ new. (list : List Row) → Holds bound.now list (held_of rows.entry) → IsChosen bound.now list new) }
+    ensures { IfOk result (ChoosesRows bound.now rows.entry) }
 {
     if bound.distinct {
         return first_rows(alloc, rows);
@@ -51,7 +49,7 @@ fn chosen_rows<'g>(alloc: Global, bound: &Bound, rows: Rows<'g>) -> Result<Rows<
 
 // The rows in the order of their keys.
 fn arranged<'g>(alloc: Global, bound: &Bound, rows: Rows<'g>) -> Result<Rows<'g>, Memory>
-    ensures { IfOk result (λ new. (list : List Row) → HoldsOf bound.now list rows.entry → IsArranged bound.now list new) }
+    ensures { IfOk result (ArrangesRows bound.now rows.entry) }
 {
     if bound.keys.is_empty() {
         return Ok(rows);
@@ -93,7 +91,7 @@ fn window_of<'g>(bound: &Bound, rows: Rows<'g>) -> Listing<'g>
 // The window of an arrangement of rows.
 fn arranged_window<'g>(alloc: Global, bound: &Bound, rows: Rows<'g>) -> Result<Listing<'g>, Memory>
     requires { (list : List Row) × HoldsOf bound.now list rows }
-    ensures { IfOk result (λ lines. (list : List Row) → HoldsOf bound.now list rows.entry → IsWindow bound.now list lines) }
+    ensures { IfOk result (IsWindowOf bound.now rows.entry) }
 {
     let all = arranged(alloc, bound, rows)?;
     Ok(window_of(bound, all))
@@ -102,7 +100,7 @@ fn arranged_window<'g>(alloc: Global, bound: &Bound, rows: Rows<'g>) -> Result<L
 // The lines of the rows that are held.
 fn listing_of<'g>(alloc: Global, bound: &Bound, rows: Rows<'g>) -> Result<Listing<'g>, Memory>
     requires { (list : List Row) × Holds bound.now list (held_of rows) }
-    ensures { IfOk result (λ lines. (list : List Row) → Holds bound.now list (held_of rows.entry) → Lists bound.now list lines) }
+    ensures { IfOk result (ListsRows bound.now rows.entry) }
 {
     let all = chosen_rows(alloc, bound, rows)?;
     arranged_window(alloc, bound, all)

@@ -125,8 +125,9 @@ impl<'g> RowTable<'g> {
     pub fn enough(&self) -> bool
         ensures { result ≡ is_full_table self.now }
     {
+        let count = self.rows.count;
         match self.form {
-            Form::First(n) => self.rows.count >= n,
+            Form::First(n) => count >= n,
             Form::All | Form::Top(_) | Form::Classes => false,
         }
     }

@@ -1,4 +1,4 @@
-use Rattle.std.proofs.Common.{◌≡◌, ◌∙◌, sym}
+use Rattle.std.proofs.Common.{◌∙◌, sym}
 use Rattle.gq_rows.proofs.Looking.{stops}
 use Rattle.gq_rows.proofs.judging.check_late.Goals as goal
 

@@ -1,4 +1,4 @@
-use Rattle.std.proofs.Common.{◌≡◌, rules, subst, Err}
+use Rattle.std.proofs.Common.{rules, subst, Err}
 use Rattle.gq_plan.specs.Outcomes.{meanings_of, key_meanings}
 use Rattle.gq_plan.specs.Rows.{as_read}
 use Rattle.gq_rows.specs.Judged.{PushesValues}
