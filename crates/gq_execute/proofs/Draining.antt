@@ -1,6 +1,6 @@
 -- What a table has taken when a pipeline is drained into it.
 use Rattle.std.proofs.Common.{◌≡◌, ◌∙◌, ap, refl, sym, subst, true, Some, List, [], ◌∷◌, ◌++◌, flat_map, append_assoc, append-nil, Result, Ok, Err, inl, inr}
-use Rattle.std.specs.Prelude.{Option, false}
+use Rattle.std.specs.Prelude.{Option, ◌<◌}
 use Rattle.std.proofs.lemmas.Grind.{flat_map-append}
 use Rattle.gq_base.specs.Plain.{Graph}
 use Rattle.gq_expr.specs.declared.Fault.{Fault}
@@ -14,9 +14,12 @@ use Rattle.gq_plan.specs.declared.Bound.{Bound}
 use Rattle.gq_plan.specs.declared.assignment.Assignment.{Assignment}
 use Rattle.gq_plan.specs.declared.typed.Typed.{Typed}
 use Rattle.std.specs.List.{Contains}
-use Rattle.gq_rows.specs.Answers.{looked_at}
+use Rattle.gq_rows.specs.Answers.{kept, looked_at, rows_in}
 use Rattle.gq_rows.specs.Tables.{Table, is_full_table, outcome_in}
 use Rattle.gq_rows.specs.Tables as rows
+use Rattle.gq_rows.specs.declared.refusal.RowRefusal.{RowRefusal}
+use Rattle.gq_rows.specs.declared.refusal.RowRefusal.TheVariants as row_refusal
+use Rattle.gq_execute.specs.Refusals.{of_rows}
 use Rattle.gq_execute.specs.Taking.{Cut, IsAlike, MeetsFault, MeetsMany, Pushed, Stands, Takes, TakesAll}
 
 module _ (g : Graph) (b : Bound) (y : Typed) where
@@ -28,9 +31,12 @@ module _ (g : Graph) (b : Bound) (y : Typed) where
   pub outcomes_more : (ts : List plain.Assignment) (t : plain.Assignment) → late_outcomes g b y (ts ++ t ∷ []) ≡ late_outcomes g b y ts ++ found (one t)
   outcomes_more ts t = flat_map-append (λ t. found (one t)) ts (t ∷ []) ∙ ap (λ l. late_outcomes g b y ts ++ l) (append-nil (found (one t)))
 
-  -- of the rows that a pipeline handed out
-  pub outcome_is : (o : Option Typed) (row : Assignment) (t : plain.Assignment) → o ≡ Some y → assigned y row ≡ t → outcome_in g b o row ≡ one t
-  outcome_is o row t started is = ap (λ p. outcome_in g b p row) started ∙ ap one is
+  -- of an assignment that is told by another bound query, table and pipeline of the same
+  pub outcome_here : (b' : Bound) (o : Option Typed) (y' y'' : Typed) (row : Assignment) (t : plain.Assignment) → b' ≡ b → o ≡ Some y' → y' ≡ y → y'' ≡ y' → assigned y'' row ≡ t
+      → outcome_in g b' o row ≡ one t
+  outcome_here b' o y' y'' row t same started is also whole =
+      ap (λ q. outcome_in g q o row) same ∙ ap (λ p. outcome_in g b p row) (started ∙ ap Some is)
+      ∙ ap one (ap (λ z. assigned z row) (sym (also ∙ is)) ∙ whole)
 
 module _ (g : Graph) (old : Table) (begun : Progress) where
   abbrev b : Bound
@@ -52,10 +58,10 @@ module _ (g : Graph) (old : Table) (begun : Progress) where
 
   module _ (mid : Table) (now after : Progress) (came : Pushed g old mid begun now) (bound : mid.bound ≡ old.bound) (most : mid.most ≡ old.most) (o : Option (Result Row Fault))
       (next : now.owed ≡ after.row ∷ after.owed) (is : o ≡ one g b y after.row) where
-    abbrev taken : List plain.Assignment
+    abbrev pub taken : List plain.Assignment
     taken = came.taken ++ after.row ∷ []
 
-    whole : begun.owed ≡ taken ++ after.owed
+    pub whole : begun.owed ≡ taken ++ after.owed
     whole = came.whole ∙ ap (λ l. came.taken ++ l) next ∙ sym (append_assoc came.taken (after.row ∷ []) after.owed)
 
     -- the outcomes that were taken, and those of the assignment
@@ -64,12 +70,16 @@ module _ (g : Graph) (old : Table) (begun : Progress) where
         append_assoc before (late_outcomes g b y came.taken) (found o)
         ∙ ap (λ l. before ++ l) (ap (λ p. late_outcomes g b y came.taken ++ found p) is ∙ sym (outcomes_more g b y came.taken after.row))
 
-    pub cut_here : Cut os
+    abbrev pub cut_here : Cut os
     cut_here = record {
       pushed = late_outcomes g b y taken;
       left = late_outcomes g b y after.owed;
       whole = ap (late_outcomes g b y) whole ∙ flat_map-append (λ t. found (one g b y t)) taken after.owed;
     }
+
+    -- what a table stands for, told of another table of the same query
+    pub moved : (new : Table) → new.bound ≡ mid.bound → new.most ≡ mid.most → (l : List (Result Row Fault)) → rows.StandsFor mid.bound mid.most l new.held → Stands l new
+    moved new same_bound same_most l h = subst (λ m. rows.StandsFor new.bound m l new.held) (sym same_most) (subst (λ q. rows.StandsFor q mid.most l new.held) (sym same_bound) h)
 
     -- the assignment's outcome went into the table
     pub pushed_more : (new : Table) → new.bound ≡ mid.bound → new.most ≡ mid.most → rows.Takes o mid new → Pushed g old new begun after
@@ -78,8 +88,7 @@ module _ (g : Graph) (old : Table) (begun : Progress) where
       whole = whole;
       stands = λ before h.
         let stood = takes (before ++ late_outcomes g b y came.taken) (came.stands before h) in
-        subst (λ l. Stands l new) (more_taken before)
-        (subst (λ m. rows.StandsFor new.bound m _ new.held) (sym same_most) (subst (λ q. rows.StandsFor q mid.most _ new.held) (sym same_bound) stood));
+        subst (λ l. Stands l new) (more_taken before) (moved new same_bound same_most ((before ++ late_outcomes g b y came.taken) ++ found o) stood);
     }
 
     -- it is a fault that is looked at
@@ -93,11 +102,21 @@ module _ (g : Graph) (old : Table) (begun : Progress) where
     pub met_many : rows.IsOver o mid → MeetsMany os old
     met_many over = record {
       cut = cut_here;
-      many = λ before h. rw (← bound, ← most, ← more_taken before) (over (before ++ late_outcomes g b y came.taken) (came.stands before h));
+      many = λ before h.
+        subst (λ l. old.most < kept old.bound (rows_in l)) (more_taken before)
+        (subst (λ q. old.most < kept q (rows_in ((before ++ late_outcomes g b y came.taken) ++ found o))) bound
+        (subst (λ m. m < kept mid.bound (rows_in ((before ++ late_outcomes g b y came.taken) ++ found o))) most (over (before ++ late_outcomes g b y came.taken) (came.stands before h))));
     }
+
+    -- so each refusal of the table is one of what was owed
+    pub met : (new : Table) (e : RowRefusal) → rows.Pushes o mid new (Err e) → TakesAll os old new (Err (of_rows e))
+    met new (row_refusal.Fault f) h = met_fault f h.1
+    met new (row_refusal.TooManyRows l) h = (h.0 ∙ most, met_many h.1)
+    met new row_refusal.Memory h = tt
 
     -- the table is full with it
     pub full_here : (new : Table) → new.bound ≡ mid.bound → new.most ≡ mid.most → rows.Takes o mid new → is_full_table new ≡ true → Takes os old new
+    unfolding pushed_more
     full_here new same_bound same_most takes full = record {
       cut = cut_here;
       alike = record { bound = same_bound ∙ bound; most = same_most ∙ most };

@@ -1,5 +1,5 @@
 -- Each step of answering a query leads on, or to a reply that is permitted.
-use Rattle.std.proofs.Common.{◌≡◌, ℕ, zero, suc, ◌+◌, ◌≤◌, Bool, true, false, Some, List, [], ◌∷◌, ◌++◌, flat_map, length, take, drop, slice_get, Result, Ok, Err, inl, inr, refl, sym, ap, ◌∙◌, subst, arith, true≢false}
+use Rattle.std.proofs.Common.{◌≡◌, ℕ, zero, suc, ◌+◌, ◌<◌, ◌≤◌, get_or, Bool, true, false, Some, List, [], ◌∷◌, ◌++◌, flat_map, length, take, drop, slice_get, Result, Ok, Err, inl, inr, refl, sym, ap, ◌∙◌, subst, arith, true≢false}
 use Rattle.std.specs.Prelude.{◌⊎◌}
 use Rattle.std.specs.List.Sorted.{IsPermutation}
 use Rattle.std.proofs.lemmas.List.{take-append-drop}
@@ -10,8 +10,12 @@ use Rattle.gq_plan.specs.Meaning.{meaning}
 use Rattle.gq_plan.specs.Outcomes.{Row, late_outcomes}
 use Rattle.gq_plan.specs.declared.Typed.{Typed}
 use Rattle.gq_rows.specs.Answers.{Answers, cut_of, kept, rows_in}
-use Rattle.gq_rows.specs.Tables.{Held, StandsFor, Table, is_full, is_full_table}
-use Rattle.gq_execute.specs.Answering.{AreParted, Came, Drains, Reached, Replies, Runs}
+use Rattle.gq_base.specs.Plain.{Graph}
+use Rattle.gq_plan.specs.declared.Bound.{Bound}
+use Rattle.gq_rows.specs.Tables.{Held, StandsFor, StandsForSome, Table, is_full, is_full_table}
+use Rattle.gq_execute.specs.declared.settings.Order.{Order}
+use Rattle.gq_execute.specs.declared.settings.Settings.{Settings}
+use Rattle.gq_execute.specs.Answering.{AreParted, Came, Drains, IsFresh, Reached, Replies, Runs}
 use Rattle.gq_execute.specs.Replies.{Question, IsPermitted, Rows, TooManyRows, has_large_part}
 use Rattle.gq_execute.specs.Taking.{MeetsFault, MeetsMany, Stands, Takes}
 use Rattle.gq_execute.specs.declared.refusal.AnswerRefusal.{AnswerRefusal}
@@ -62,9 +66,9 @@ module _ (a : Question) (parted : AreParted a) (k : ℕ) (y : Typed) (old : Tabl
   reached = subst (Reached a (take k a.bound.alternatives) came.pushed) (nothing_left a (take k a.bound.alternatives) old came room) came.at
 
   -- the alternative is begun: the outcomes of its plan are left
-  started : (Meets : List (Result Row Fault) → Type 0) (run : Runs a.graph a.bound old.most y Meets) → Reached a begun came.pushed (late_outcomes a.graph a.bound y (meaning a.graph y run.plan))
+  started : (Meets : List (Result Row Fault) → Type 0) (run : Runs a.graph a.bound a.order old.most y Meets) → Reached a begun came.pushed (late_outcomes a.graph a.bound y (meaning a.graph y run.plan))
   started Meets run =
-      let light : has_large_part a.graph a.most y ≡ false = ap (λ m. has_large_part a.graph m y) (sym came.most) ∙ run.light in
+      let light : has_large_part a.graph a.order a.most y ≡ false = ap (λ m. has_large_part a.graph a.order m y) (sym came.most) ∙ run.light in
       subst (λ ys. Reached a ys came.pushed (late_outcomes a.graph a.bound y (meaning a.graph y run.plan))) (sym (take_at a.bound.alternatives k y here))
       (reached_next a (take k a.bound.alternatives) came.pushed y _ (IsPermutation-sym _ _ (parted.each k y here run.plan run.covers)) light reached)
 
@@ -72,7 +76,7 @@ module _ (a : Question) (parted : AreParted a) (k : ℕ) (y : Typed) (old : Tabl
   stood = told a old came.pushed came.bound came.most came.stands
 
   -- its outcomes went into the table
-  pub turn_came : (new : Table) → Runs a.graph a.bound old.most y (λ os. Takes os old new) → Came a begun new
+  pub turn_came : (new : Table) → Runs a.graph a.bound a.order old.most y (λ os. Takes os old new) → Came a begun new
   turn_came new run =
       let t = run.meets in
       let bound : new.bound ≡ a.bound = t.alike.bound ∙ came.bound in
@@ -88,17 +92,17 @@ module _ (a : Question) (parted : AreParted a) (k : ℕ) (y : Typed) (old : Tabl
       }
 
   -- or stopped it
-  pub turn_stopped : (new : Table) (e : AnswerRefusal) → Drains a.graph a.bound y old new (Err e) → Replies a (Err e)
+  pub turn_stopped : (new : Table) (e : AnswerRefusal) → Drains a.graph a.bound a.order y old new (Err e) → Replies a (Err e)
   turn_stopped new (refusal.Fault f) run =
       let t = run.meets in
       fault_permitted a parted begun later (came.pushed ++ t.cut.pushed) t.cut.left (sym (take-append-drop (suc k) a.bound.alternatives))
       (reached_more a begun came.pushed _ t.cut.pushed t.cut.left t.cut.whole (started _ run)) f (rw (← came.bound) (t.seen came.pushed stood))
   turn_stopped new (refusal.TooManyRows most) (is, why) = (is ∙ came.most, many why)
     where
-      many : (has_large_part a.graph old.most y ≡ true) ⊎ Runs a.graph a.bound old.most y (λ os. MeetsMany os old) → IsPermitted a TooManyRows
+      many : (has_large_part a.graph a.order old.most y ≡ true) ⊎ Runs a.graph a.bound a.order old.most y (λ os. MeetsMany os old) → IsPermitted a TooManyRows
       many (inl heavy) =
           heavy_permitted a parted (take k a.bound.alternatives) later y came.pushed old.held (split_at a.bound.alternatives k y here) reached came.stands
-          (full_told a old false came.bound room) (ap (λ m. has_large_part a.graph m y) (sym came.most) ∙ heavy)
+          (full_told a old false came.bound room) (ap (λ m. has_large_part a.graph a.order m y) (sym came.most) ∙ heavy)
       many (inr run) =
           let t = run.meets in
           many_permitted a parted begun later (came.pushed ++ t.cut.pushed) t.cut.left (sym (take-append-drop (suc k) a.bound.alternatives))
@@ -125,3 +129,32 @@ finished a parted k t lines came end answers =
     done (inl full) left = inl (full_told a t true came.bound full)
     done (inr all) (inl full) = inl (full_told a t true came.bound full)
     done (inr all) (inr none) = inr (none, past a.bound.alternatives k all)
+
+-- an empty table stands for no outcomes
+pub fresh_stands : (b : Bound) (settings : Settings) (t : Table) → IsFresh b settings t → Stands [] t
+fresh_stands b settings t fresh =
+    subst (λ m. StandsFor t.bound m [] t.held) (sym fresh.most) (subst (λ q. StandsFor q settings.rows [] t.held) (sym fresh.bound) fresh.none)
+
+-- what a table stands for when an alternative went into it
+pub taken_more : (g : Graph) (b : Bound) (order : Order) (y : Typed) (old new : Table) → StandsForSome old → Runs g b order old.most y (λ os. Takes os old new) → StandsForSome new
+taken_more g b order y old new some run = (some.0 ++ run.meets.cut.pushed, run.meets.stands some.0 some.1)
+
+-- the alternative of a number
+pub item_at : (ys : List Typed) (k : ℕ) (y : Typed) → k < length ys → y ≡ get_or ys k y → slice_get ys k ≡ Some y
+item_at [] k y lt e = absurd (omega (arith, lt))
+item_at (z ∷ ys) zero y lt e = ap Some (sym e)
+item_at (z ∷ ys) (suc k) y lt e = item_at ys k y (omega (arith, lt)) e
+
+-- a turn was taken
+pub turn_taken : (a : Question) → AreParted a → (k : ℕ) (y : Typed) (old new : Table) → slice_get a.bound.alternatives k ≡ Some y → Came a (take k a.bound.alternatives) old → is_full_table old ≡ false
+    → Runs a.graph old.bound a.order old.most y (λ os. Takes os old new) → Came a (take (k + 1) a.bound.alternatives) new
+turn_taken a parted k y old new here came room run =
+    let same : suc k ≡ k + 1 = omega arith in
+    subst (λ n. Came a (take n a.bound.alternatives) new) same
+    (turn_came a parted k y old here came room new (subst (λ b. Runs a.graph b a.order old.most y (λ os. Takes os old new)) came.bound run))
+
+-- or it was stopped
+pub turn_ended : (a : Question) → AreParted a → (k : ℕ) (y : Typed) (old new : Table) → slice_get a.bound.alternatives k ≡ Some y → Came a (take k a.bound.alternatives) old → is_full_table old ≡ false
+    → (e : AnswerRefusal) → Drains a.graph old.bound a.order y old new (Err e) → Replies a (Err e)
+turn_ended a parted k y old new here came room e h =
+    turn_stopped a parted k y old here came room new e (subst (λ b. Drains a.graph b a.order y old new (Err e)) came.bound h)

@@ -2,3 +2,4 @@ pub mod Draining
 pub mod Going
 pub mod Parting
 pub mod Replying
+pub mod Turning

@@ -53,8 +53,8 @@ module _ (a : Question) where
   heavy_append before (x ∷ xs) ys =
       let r : ℕ = length (rows_in (outcomes_in a x)) in
       let same : before + r + rows_of xs ≡ before + rows_of (x ∷ xs) = omega (arith, rows_of_more x xs) in
-      ap (λ b. (has_turn (cut_of a.bound) before && has_large_part a.graph a.most x) || b) (heavy_append (before + r) xs ys ∙ ap (λ n. some_heavy a (before + r) xs || some_heavy a n ys) same)
-      ∙ sym (or_assoc (has_turn (cut_of a.bound) before && has_large_part a.graph a.most x) (some_heavy a (before + r) xs) (some_heavy a (before + rows_of (x ∷ xs)) ys))
+      ap (λ b. (has_turn (cut_of a.bound) before && has_large_part a.graph a.order a.most x) || b) (heavy_append (before + r) xs ys ∙ ap (λ n. some_heavy a (before + r) xs || some_heavy a n ys) same)
+      ∙ sym (or_assoc (has_turn (cut_of a.bound) before && has_large_part a.graph a.order a.most x) (some_heavy a (before + r) xs) (some_heavy a (before + rows_of (x ∷ xs)) ys))
 
   -- no alternative has a turn behind as many rows as are looked at
   no_turn : (n before : ℕ) → cut_of a.bound ≡ Some n → n ≤ before → has_turn (cut_of a.bound) before ≡ false
@@ -66,7 +66,7 @@ module _ (a : Question) where
   light_behind : (n before : ℕ) (ys : List Typed) → cut_of a.bound ≡ Some n → n ≤ before → some_heavy a before ys ≡ false
   light_behind n before [] e h = refl
   light_behind n before (y ∷ ys) e h =
-      or_none _ _ (ap (λ b. b && has_large_part a.graph a.most y) (no_turn n before e h)) (light_behind n (before + length (rows_in (outcomes_in a y))) ys e (omega arith))
+      or_none _ _ (ap (λ b. b && has_large_part a.graph a.order a.most y) (no_turn n before e h)) (light_behind n (before + length (rows_in (outcomes_in a y))) ys e (omega arith))
 
   has_turn_of : (cut : Option ℕ) (before : ℕ) → ((n : ℕ) → cut ≡ Some n → before < n) → has_turn cut before ≡ true
   has_turn_of None before h = refl
@@ -82,7 +82,7 @@ module _ (a : Question) where
 
   -- an alternative is begun: no part of it is too large, and these outcomes are left of it
   pub reached_next : (begun : List Typed) (pushed : List (Result Row Fault)) (y : Typed) (os : List (Result Row Fault)) → IsPermutation (outcomes_in a y) os
-      → has_large_part a.graph a.most y ≡ false → Reached a begun pushed [] → Reached a (begun ++ y ∷ []) pushed os
+      → has_large_part a.graph a.order a.most y ≡ false → Reached a begun pushed [] → Reached a (begun ++ y ∷ []) pushed os
   reached_next begun pushed y os gives light at = record {
     as_a_bag =
         subst (λ l. IsPermutation l (pushed ++ os)) (sym (flat_map-append (outcomes_in a) begun (y ∷ [])))
@@ -90,7 +90,7 @@ module _ (a : Question) where
         (subst (λ l. IsPermutation l os) (sym (append-nil (outcomes_in a y))) gives));
     light =
         heavy_append 0 begun (y ∷ [])
-        ∙ or_none _ _ at.light (or_none _ _ (and_none (has_turn (cut_of a.bound) (0 + rows_of begun)) (has_large_part a.graph a.most y) light) refl);
+        ∙ or_none _ _ at.light (or_none _ _ (and_none (has_turn (cut_of a.bound) (0 + rows_of begun)) (has_large_part a.graph a.order a.most y) light) refl);
   }
 
   -- a front of what is left is pushed
@@ -183,7 +183,7 @@ module _ (a : Question) (parted : AreParted a) (begun later : List Typed) (pushe
 
 -- the next alternative's turn comes, and some part of it is too large
 pub heavy_permitted : (a : Question) → AreParted a → (begun later : List Typed) (y : Typed) (pushed : List (Result Row Fault)) (held : Held) → a.bound.alternatives ≡ begun ++ y ∷ later
-    → Reached a begun pushed [] → StandsFor a.bound a.most pushed held → is_full (cut_of a.bound) held ≡ false → has_large_part a.graph a.most y ≡ true → IsPermitted a TooManyRows
+    → Reached a begun pushed [] → StandsFor a.bound a.most pushed held → is_full (cut_of a.bound) held ≡ false → has_large_part a.graph a.order a.most y ≡ true → IsPermitted a TooManyRows
 heavy_permitted a parted begun later y pushed held are at stands room heavy = record {
   listing = listing a parted begun (y ∷ later) pushed [] are at;
   as_a_bag = listing_bag a parted begun (y ∷ later) pushed [] are at;

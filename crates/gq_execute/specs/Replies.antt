@@ -9,18 +9,26 @@ use Rattle.gq_expr.specs.declared.Fault.{Fault}
 use Rattle.gq_answers.specs.Answered as answered
 use Rattle.gq_answers.specs.Answered.{outcomes_of}
 use Rattle.gq_plan.specs.Outcomes.{Row}
-use Rattle.gq_plan.specs.Parts.{given_parts, part_assignments}
+use Rattle.gq_plan.specs.Parts.{Part, given_parts, greedy_parts, part_assignments}
 use Rattle.gq_plan.specs.declared.Bound.{Bound}
 use Rattle.gq_plan.specs.declared.Typed.{Typed}
 use Rattle.gq_rows.specs.Answers.{Answers, cut_of, kept, looked_at, rows_in}
 use Rattle.gq_syntax.specs.declared.Query.{Query}
+use Rattle.gq_execute.specs.declared.settings.Order.{Order}
+use Rattle.gq_execute.specs.declared.settings.Order.TheVariants as order
 
--- what is asked: a query over a graph, what it is bound to, and the most rows that may be kept
+-- what is asked: a query over a graph, what it is bound to, the order of the plans, and the most rows that may be kept
 pub record Question : Type 0 where
   pub graph : Graph
   pub query : Query
   pub bound : Bound
+  pub order : Order
   pub most : ℕ
+
+-- the parts of an alternative, which are joined: paths that begin apart from those before, or connected components
+abbrev pub parts_by : Order → Typed → List Part
+parts_by order.Given y = given_parts y
+parts_by order.Greedy y = greedy_parts y
 
 -- the outcomes of all matches, and those of the matches that lie in an alternative
 abbrev pub all_outcomes : Question → List (Result Row Fault)
@@ -35,14 +43,15 @@ has_turn None before = true
 has_turn (Some n) before = nat_lt before n
 
 -- some part of an alternative has more assignments than this
-unfoldable pub has_large_part : Graph → ℕ → Typed → Bool
-has_large_part g most y = list_any (λ p. nat_lt most (length (part_assignments g y p))) (given_parts y)
+unfoldable pub has_large_part : Graph → Order → ℕ → Typed → Bool
+has_large_part g order most y =
+    list_any (λ p. nat_lt most (length (part_assignments g y p))) (parts_by order y)
 
 -- this is so of an alternative whose turn comes, where so many rows stand before them
 abbrev pub some_heavy : Question → ℕ → List Typed → Bool
 some_heavy a before [] = false
 some_heavy a before (y ∷ ys) =
-    (has_turn (cut_of a.bound) before && has_large_part a.graph a.most y)
+    (has_turn (cut_of a.bound) before && has_large_part a.graph a.order a.most y)
     || some_heavy a (before + length (rows_in (outcomes_in a y))) ys
 
 -- too many rows are kept of a listing, or a part has too many assignments

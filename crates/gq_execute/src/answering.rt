@@ -1,13 +1,15 @@
 //! Answers a query alternative by alternative: the plan of each one runs, and what it makes goes into one table of rows.
-ghost use Rattle.std.specs.Prelude.{◌≡◌, ◌<◌, false, length, All};
-ghost use Rattle.gq_execute.specs.Answering.{Drains, RepliesToEach};
+ghost use Rattle.std.specs.Prelude.{◌≡◌, ◌<◌, false, length, All, OnOk};
+ghost use Rattle.gq_execute.specs.Answering.{Drains, Fills, IsFresh, RepliesToEach};
 ghost use Rattle.gq_execute.specs.Taking.{IsRunOf, TakesAll, owed_outcomes};
 ghost use Rattle.gq_plan.specs.Soundness.{IsSound};
 ghost use Rattle.gq_rows.specs.Tables.{StandsForSome, is_full_table};
 
+use crate::planning::{plan_for, stats_of};
 use crate::refusal::AnswerRefusal;
 use crate::settings::Settings;
-use gq_order::given;
+use gq_base::Memory;
+use gq_order::Stats;
 use gq_pipe::{FlatPipeline, make_builds};
 use gq_plan::{Bound, Typed};
 use gq_rows::{Listing, More, RowTable};
@@ -39,22 +41,57 @@ fn drain<'g>(
 fn take_turn<'g>(
     alloc: Global,
     graph: &'g Graph,
+    stats: &Stats,
     typed: &'g Typed,
     table: &mut RowTable<'g>,
-    most: u32,
+    settings: &Settings,
 ) -> Result<(), AnswerRefusal>
     requires sound { IsSound graph.now.catalog typed.now }
     requires begins { 0 < length typed.now.nodes }
+    requires nodes { length stats.now.nodes ≡ length graph.now.catalog.nodes }
+    requires rels { length stats.now.rels ≡ length graph.now.catalog.rels }
     requires stands { StandsForSome table.old }
     requires room { is_full_table table.old ≡ false }
-    requires most { most ≡ table.old.most }
-    ensures drains { Drains graph.now table.old.bound typed.now table.old table.new result }
+    requires most { settings.now.rows ≡ table.old.most }
+    ensures drains { Drains graph.now table.old.bound settings.now.order typed.now table.old table.new result }
 {
-    let plan = given(alloc, typed, graph.catalog())?;
-    let builds = make_builds(alloc, graph, &plan, typed, most)?;
+    let _ = graph.catalog();
+    let plan = plan_for(alloc, settings.order, graph, stats, typed)?;
+    let builds = match make_builds(alloc, graph, &plan, typed, settings.rows) {
+        Ok(builds) => builds,
+        Err(refusal) => return Err(AnswerRefusal::from(refusal)),
+    };
     let mut pipeline = FlatPipeline::start(alloc, graph, &builds, &plan, typed)?;
     table.start_alternative(typed);
     drain(graph, &mut pipeline, table)
+}
+
+// Takes the turns of the alternatives, until all were taken or the table has enough.
+fn fill<'g>(
+    alloc: Global,
+    graph: &'g Graph,
+    bound: &'g Bound,
+    table: &mut RowTable<'g>,
+    settings: &Settings,
+) -> Result<(), AnswerRefusal>
+    requires sound { All (IsSound graph.now.catalog) bound.now.alternatives }
+    requires begins { All (λ y. 0 < length y.nodes) bound.now.alternatives }
+    requires fresh { IsFresh bound.now settings.now table.old }
+    ensures fills { Fills graph.now bound.now settings.now table.new result }
+    ensures stands { OnOk result (StandsForSome table.new) }
+{
+    let _ = graph.catalog();
+    let stats = stats_of(alloc, graph)?;
+    'alternatives: for typed in bound.alternatives.as_slice() {
+        if table.enough() {
+            return Ok(());
+        }
+        match take_turn(alloc, graph, &stats, typed, table, settings) {
+            Ok(()) => {}
+            Err(refusal) => return Err(refusal),
+        }
+    }
+    Ok(())
 }
 
 /// Answers a bound query over a graph: the lines of its rows, or why there are none. The alternatives are taken in order;
@@ -71,14 +108,16 @@ pub fn answer<'g>(
 ) -> Result<Listing<'g>, AnswerRefusal>
     requires sound { All (IsSound graph.now.catalog) bound.now.alternatives }
     requires begins { All (λ y. 0 < length y.nodes) bound.now.alternatives }
-    ensures permitted { RepliesToEach graph.now bound.now settings.now.rows result }
+    ensures permitted { RepliesToEach graph.now bound.now settings.now result }
 {
+    let _ = graph.catalog();
     let mut table = RowTable::new(alloc, bound, settings.rows);
-    'alternatives: for typed in bound.alternatives.as_slice() {
-        if table.enough() {
-            break;
-        }
-        take_turn(alloc, graph, typed, &mut table, settings.rows)?;
+    match fill(alloc, graph, bound, &mut table, settings) {
+        Ok(()) => {}
+        Err(refusal) => return Err(refusal),
     }
-    Ok(table.finish()?)
+    match table.finish() {
+        Ok(listing) => Ok(listing),
+        Err(Memory) => Err(AnswerRefusal::Memory),
+    }
 }
