@@ -9,3 +9,4 @@ pub mod Sets
 pub mod Sound
 pub mod Spelled
 pub mod Turns
+pub mod Whole

@@ -1,0 +1,97 @@
+-- The tokens of a text begin and end between its characters.
+use Rattle.std.proofs.Common.{◌≡◌, ℕ, zero, suc, ◌+◌, ◌-◌, ◌<◌, ◌≤◌, ◌⊎◌, inl, inr, Bool, true, false, cond, ◌&&◌, List, [], ◌∷◌, ◌++◌, take, drop, Some, None, Ok, Err, All, refl, sym, ap, subst, ◌∙◌, add-zero, add_assoc, arith}
+use Rattle.std.specs.Str.{IsCharBoundary, IsUtf8, chars, encode_utf8_all, is_utf8, all_scalars}
+use Rattle.std.specs.Str.Lossy.{utf8_valid_len}
+use Rattle.std.specs.declared.option.Option.{Option}
+use Rattle.std.proofs.Math.Seq.{take-add}
+use Rattle.std.proofs.lemmas.Bool.{cases_lt}
+use Rattle.std.proofs.lemmas.List.{take-append-drop}
+use Rattle.std.proofs.lemmas.List.Elements.{All-append, All-cons, All-nil, All-same}
+use Rattle.std.proofs.lemmas.Str.{IsCharBoundary-at_seam, IsUtf8-between, IsUtf8-from_is_utf8, encodes-append, encodes-chars, scalars-chars}
+use Rattle.gq_lexer.specs.Lexemes.{lexeme}
+use Rattle.gq_lexer.specs.Sources.{IsWhole, source_text}
+use Rattle.gq_lexer.specs.Tokens.{Lexed, lexed, lexed_behind, lexed_from, prefixed, then_from, tokens_of, width}
+use Rattle.gq_lexer.specs.declared.lexeme.Lexeme.{Lexeme}
+use Rattle.gq_lexer.specs.declared.token.Span.{Span}
+use Rattle.gq_lexer.specs.declared.token.Token.{Token}
+use Rattle.gq_lexer.specs.declared.token.TokenKind.{TokenKind}
+use Rattle.gq_lexer.proofs.Pieces.{drop_one}
+use Rattle.gq_lexer.proofs.Sizes.{lexeme_some}
+use Rattle.gq_lexer.proofs.Widths.{width_append}
+
+module _ (text : List ℕ) where
+  -- the ends of characters behind a place are boundaries
+  abbrev Reaches : ℕ → List ℕ → Type 0
+  Reaches at cs = (k : ℕ) → IsCharBoundary text (at + width (take k cs))
+
+  abbrev IsWholeToken : Token → Type 0
+  IsWholeToken t = IsWhole text t.span
+
+  here : (at : ℕ) (cs : List ℕ) → Reaches at cs → IsCharBoundary text at
+  here at cs r = subst (IsCharBoundary text) (add-zero at) (r 0)
+
+  further : (at size : ℕ) (cs : List ℕ) → Reaches at cs → Reaches (at + width (take size cs)) (drop size cs)
+  further at size cs r k =
+      let both : at + width (take (size + k) cs) ≡ (at + width (take size cs)) + width (take k (drop size cs))
+      = ap (λ w. at + w) (ap width (take-add size k cs) ∙ width_append (take size cs) (take k (drop size cs))) ∙ sym (add_assoc at (width (take size cs)) (width (take k (drop size cs)))) in
+      subst (IsCharBoundary text) both (r (size + k))
+
+  one : (k : Option TokenKind) (span : Span) → IsWhole text span → All IsWholeToken (tokens_of k span)
+  one None span h = All-nil IsWholeToken
+  one (Some k) span h = All-cons IsWholeToken (record { kind = k; span = span }) [] h (All-nil IsWholeToken)
+
+  put : (ts us : List Token) (r : Lexed) → All IsWholeToken ts → ((more : List Token) → r ≡ Ok more → All IsWholeToken more) → prefixed ts r ≡ Ok us → All IsWholeToken us
+  put ts us (Ok more) h k e = let same : us ≡ ts ++ more = cc in All-same IsWholeToken us (ts ++ more) same (All-append IsWholeToken ts more h (k more refl))
+  put ts us (Err at) h k e = cc
+
+  -- the tokens of a lexeme and of the rest
+  first : (at c : ℕ) (cs : List ℕ) (ts : List Token) → Reaches at (c ∷ cs)
+      → ((left end : ℕ) (more : List Token) → Reaches end (drop left cs) → lexed_behind left end cs ≡ Ok more → All IsWholeToken more)
+      → (o : Option Lexeme) → lexeme (c ∷ cs) ≡ o → then_from o at (c ∷ cs) (λ left end. lexed_behind left end cs) ≡ Ok ts → All IsWholeToken ts
+  first at c cs ts r rest None is e = cc
+  first at c cs ts r rest (Some l) is e =
+      let end = at + width (take l.size (c ∷ cs)) in
+      let behind : Reaches end (drop (l.size - 1) cs) = subst (Reaches end) (sym (drop_one l.size c cs (lexeme_some (c ∷ cs) l is))) (further at l.size (c ∷ cs) r) in
+      put (tokens_of l.kind (record { start = at; end = end })) ts (lexed_behind (l.size - 1) end cs)
+      (one l.kind (record { start = at; end = end }) (record { start = here at (c ∷ cs) r; end = r l.size })) (λ more. rest (l.size - 1) end more behind) e
+
+  tokens_whole : (left at : ℕ) (cs : List ℕ) (ts : List Token) → Reaches at (drop left cs) → lexed_behind left at cs ≡ Ok ts → All IsWholeToken ts
+  tokens_whole left at [] ts r e = let same : ts ≡ [] = cc in All-same IsWholeToken ts [] same (All-nil IsWholeToken)
+  tokens_whole (suc left) at (c ∷ cs) ts r e = tokens_whole left at cs ts r e
+  tokens_whole zero at (c ∷ cs) ts r e = first at c cs ts r (λ left end more. tokens_whole left end cs more) (lexeme (c ∷ cs)) refl e
+
+  scalars_behind : (k : ℕ) (cs : List ℕ) → all_scalars cs ≡ true → all_scalars (drop k cs) ≡ true
+  scalars_behind zero cs e = e
+  scalars_behind (suc k) [] e = e
+  scalars_behind (suc k) (c ∷ cs) e = scalars_behind k cs (second _ (all_scalars cs) e) where
+    second : (a b : Bool) → (a && b) ≡ true → b ≡ true
+    second true b e = e
+    second false b e = cc
+
+  reached : IsUtf8 text → Reaches 0 (chars text)
+  reached u k =
+      let cs = chars text in
+      let whole : text ≡ encode_utf8_all (take k cs) ++ encode_utf8_all (drop k cs) = sym (encodes-chars text u) ∙ ap encode_utf8_all (sym (take-append-drop k cs)) ∙ encodes-append (take k cs) (drop k cs) in
+      let seam = IsCharBoundary-at_seam text (encode_utf8_all (take k cs)) (encode_utf8_all (drop k cs)) whole (drop k cs, (scalars_behind k cs (scalars-chars text u), refl)) in
+      subst (IsCharBoundary text) (omega arith) seam
+
+  -- a text that has tokens is UTF-8
+  tested : (ts : List Token) (b : Bool) → is_utf8 text ≡ b → cond b (lexed_from 0 (chars text)) (Err (utf8_valid_len text)) ≡ Ok ts → IsUtf8 text × (lexed_from 0 (chars text) ≡ Ok ts)
+  tested ts true u e = (IsUtf8-from_is_utf8 text u, e)
+  tested ts false u e = cc
+
+  pub lexed_utf8 : (ts : List Token) → lexed text ≡ Ok ts → IsUtf8 text
+  unfolding lexed
+  lexed_utf8 ts e = (tested ts (is_utf8 text) refl e).0
+
+  -- the tokens of a text begin and end between its characters
+  pub lexed_whole : (ts : List Token) → lexed text ≡ Ok ts → All (λ t. IsWhole text t.span) ts
+  unfolding lexed lexed_from
+  lexed_whole ts e = let h = tested ts (is_utf8 text) refl e in tokens_whole 0 0 (chars text) ts (reached h.0) h.1
+
+-- the source text of a span that begins and ends between characters is UTF-8
+pub source_utf8 : (text : List ℕ) (span : Span) → IsUtf8 text → IsWhole text span → IsUtf8 (source_text text span)
+source_utf8 text span u h = go (cases_lt span.end span.start) where
+  go : (span.end < span.start) ⊎ (span.start ≤ span.end) → IsUtf8 (source_text text span)
+  go (inr le) = IsUtf8-between text span.start span.end u le h.start h.end
+  go (inl lt) = let none : span.end - span.start ≡ 0 = omega arith in rw none ([], (refl, refl))
