@@ -1,5 +1,5 @@
--- The tokens of a text begin and end between its characters.
-use Rattle.std.proofs.Common.{◌≡◌, ℕ, zero, suc, ◌+◌, ◌-◌, ◌<◌, ◌≤◌, ◌⊎◌, inl, inr, Bool, true, false, cond, ◌&&◌, List, [], ◌∷◌, ◌++◌, take, drop, Some, None, Ok, Err, All, refl, sym, ap, subst, ◌∙◌, add-zero, add_assoc, arith}
+-- The tokens of a text begin and end between its characters, and their integers are less than 2^63.
+use Rattle.std.proofs.Common.{◌≡◌, ℕ, zero, suc, ◌+◌, ◌-◌, ◌<◌, ◌≤◌, ◌⊎◌, inl, inr, Bool, true, false, cond, ◌&&◌, List, [], ◌∷◌, ◌++◌, take, drop, Some, None, Ok, Err, All, IfSome, refl, sym, ap, subst, ◌∙◌, add-zero, add_assoc, arith}
 use Rattle.std.specs.Str.{IsCharBoundary, IsUtf8, chars, encode_utf8_all, is_utf8, all_scalars}
 use Rattle.std.specs.Str.Lossy.{utf8_valid_len}
 use Rattle.std.specs.declared.option.Option.{Option}
@@ -10,13 +10,13 @@ use Rattle.std.proofs.lemmas.List.Elements.{All-append, All-cons, All-nil, All-s
 use Rattle.std.proofs.lemmas.Str.{IsCharBoundary-at_seam, IsUtf8-between, IsUtf8-from_is_utf8, encodes-append, encodes-chars, scalars-chars}
 use Rattle.gq_lexer.specs.Lexemes.{lexeme}
 use Rattle.gq_lexer.specs.Sources.{IsWhole, source_text}
-use Rattle.gq_lexer.specs.Tokens.{Lexed, lexed, lexed_behind, lexed_from, prefixed, then_from, tokens_of, width}
+use Rattle.gq_lexer.specs.Tokens.{IntFits, Lexed, lexed, lexed_behind, lexed_from, prefixed, then_from, tokens_of, width}
 use Rattle.gq_lexer.specs.declared.lexeme.Lexeme.{Lexeme}
 use Rattle.gq_lexer.specs.declared.token.Span.{Span}
 use Rattle.gq_lexer.specs.declared.token.Token.{Token}
 use Rattle.gq_lexer.specs.declared.token.TokenKind.{TokenKind}
 use Rattle.gq_lexer.proofs.Pieces.{drop_one}
-use Rattle.gq_lexer.proofs.Sizes.{lexeme_some}
+use Rattle.gq_lexer.proofs.Sizes.{lexeme_fits, lexeme_some}
 use Rattle.gq_lexer.proofs.Widths.{width_append}
 
 module _ (text : List ℕ) where
@@ -24,8 +24,8 @@ module _ (text : List ℕ) where
   abbrev Reaches : ℕ → List ℕ → Type 0
   Reaches at cs = (k : ℕ) → IsCharBoundary text (at + width (take k cs))
 
-  abbrev IsWholeToken : Token → Type 0
-  IsWholeToken t = IsWhole text t.span
+  abbrev pub IsWholeToken : Token → Type 0
+  IsWholeToken t = IsWhole text t.span × IntFits t.kind
 
   here : (at : ℕ) (cs : List ℕ) → Reaches at cs → IsCharBoundary text at
   here at cs r = subst (IsCharBoundary text) (add-zero at) (r 0)
@@ -36,9 +36,9 @@ module _ (text : List ℕ) where
       = ap (λ w. at + w) (ap width (take-add size k cs) ∙ width_append (take size cs) (take k (drop size cs))) ∙ sym (add_assoc at (width (take size cs)) (width (take k (drop size cs)))) in
       subst (IsCharBoundary text) both (r (size + k))
 
-  one : (k : Option TokenKind) (span : Span) → IsWhole text span → All IsWholeToken (tokens_of k span)
-  one None span h = All-nil IsWholeToken
-  one (Some k) span h = All-cons IsWholeToken (record { kind = k; span = span }) [] h (All-nil IsWholeToken)
+  one : (k : Option TokenKind) (span : Span) → IsWhole text span → IfSome k IntFits → All IsWholeToken (tokens_of k span)
+  one None span h w = All-nil IsWholeToken
+  one (Some k) span h w = All-cons IsWholeToken (record { kind = k; span = span }) [] (h, w) (All-nil IsWholeToken)
 
   put : (ts us : List Token) (r : Lexed) → All IsWholeToken ts → ((more : List Token) → r ≡ Ok more → All IsWholeToken more) → prefixed ts r ≡ Ok us → All IsWholeToken us
   put ts us (Ok more) h k e = let same : us ≡ ts ++ more = cc in All-same IsWholeToken us (ts ++ more) same (All-append IsWholeToken ts more h (k more refl))
@@ -53,7 +53,7 @@ module _ (text : List ℕ) where
       let end = at + width (take l.size (c ∷ cs)) in
       let behind : Reaches end (drop (l.size - 1) cs) = subst (Reaches end) (sym (drop_one l.size c cs (lexeme_some (c ∷ cs) l is))) (further at l.size (c ∷ cs) r) in
       put (tokens_of l.kind (record { start = at; end = end })) ts (lexed_behind (l.size - 1) end cs)
-      (one l.kind (record { start = at; end = end }) (record { start = here at (c ∷ cs) r; end = r l.size })) (λ more. rest (l.size - 1) end more behind) e
+      (one l.kind (record { start = at; end = end }) (record { start = here at (c ∷ cs) r; end = r l.size }) (lexeme_fits (c ∷ cs) l is)) (λ more. rest (l.size - 1) end more behind) e
 
   tokens_whole : (left at : ℕ) (cs : List ℕ) (ts : List Token) → Reaches at (drop left cs) → lexed_behind left at cs ≡ Ok ts → All IsWholeToken ts
   tokens_whole left at [] ts r e = let same : ts ≡ [] = cc in All-same IsWholeToken ts [] same (All-nil IsWholeToken)
@@ -84,8 +84,8 @@ module _ (text : List ℕ) where
   unfolding lexed
   lexed_utf8 ts e = (tested ts (is_utf8 text) refl e).0
 
-  -- the tokens of a text begin and end between its characters
-  pub lexed_whole : (ts : List Token) → lexed text ≡ Ok ts → All (λ t. IsWhole text t.span) ts
+  -- the tokens of a text begin and end between its characters, and their integers are less than 2^63
+  pub lexed_whole : (ts : List Token) → lexed text ≡ Ok ts → All IsWholeToken ts
   unfolding lexed lexed_from
   lexed_whole ts e = let h = tested ts (is_utf8 text) refl e in tokens_whole 0 0 (chars text) ts (reached h.0) h.1
 

@@ -1,5 +1,6 @@
--- The parts of a statement that a text spells begin and end between characters of the text.
-use Rattle.std.proofs.Common.{◌≡◌, ℕ, zero, suc, ◌<◌, Bool, true, false, List, [], ◌∷◌, ◌++◌, ◌⊎◌, inl, inr, length, map, flat_map, Option, Some, None, All, IfSome, sym, subst, arith, codes}
+-- The parts of a statement that a text spells begin and end between characters of the text, and its numbers are less
+-- than 2^63.
+use Rattle.std.proofs.Common.{◌≡◌, ℕ, zero, suc, ◌^◌, ◌<◌, Bool, true, false, List, [], ◌∷◌, ◌++◌, ◌⊎◌, inl, inr, length, map, flat_map, Option, Some, None, All, IfSome, sym, subst, arith, codes}
 use Rattle.std.proofs.Math.IntN.{neg_ℤ, pos}
 use Rattle.std.specs.Str.{IsCharBoundary, IsUtf8}
 use Rattle.std.proofs.lemmas.List.Elements.{All-append, All-cons, All-head, All-nil, All-same, All-tail}
@@ -10,13 +11,17 @@ use Rattle.gq_lexer.specs.declared.token.Sign.{Sign}
 use Rattle.gq_lexer.specs.declared.token.Sign.TheVariants as sign
 use Rattle.gq_lexer.specs.declared.token.Span.{Span}
 use Rattle.gq_lexer.specs.declared.token.Token.{Token}
+use Rattle.gq_lexer.specs.Tokens.{IntFits}
+use Rattle.gq_lexer.specs.declared.token.TokenKind.{TokenKind}
+use Rattle.gq_lexer.specs.declared.token.TokenKind.TheVariants as kind
+use Rattle.gq_lexer.proofs.Boundaries as lexed
 use Rattle.gq_lexer.proofs.Boundaries.{lexed_utf8, lexed_whole}
 use Rattle.gq_syntax.specs.Grammar as g
 use Rattle.gq_syntax.specs.Outcomes.{SpelledText}
 use Rattle.gq_syntax.specs.Relations.{Enclosed, Fork, Into, Listed, Many, Maybe, Must, Nest, Nothing, Pure, Spanned, Then, last_end, span_of}
 use Rattle.gq_syntax.specs.Spans.{IsWholeClause, IsWholeEntry, IsWholeHop, IsWholePath, IsWholeTree, SpelledQuery, StandsIn, operand_spans, spans_of, tester_spans}
 use Rattle.gq_syntax.specs.Trees.{Node, chain_made, clause, columns, detail_of, entry, hop, item, made, no_detail, node_part, path, query, rel_part, sort, tail_made, term, tree_of}
-use Rattle.gq_syntax.specs.Words.{Name, addition, big, called, comparison, direction, multiplication, name, number, plain, sign_is, test_word, tip, word_is}
+use Rattle.gq_syntax.specs.Words.{Name, addition, big, called, comparison, direction, multiplication, name, number, number_of, plain, sign_is, test_word, tip, word_is}
 use Rattle.gq_syntax.specs.declared.expression.Ast.{Ast, fold-roll-Ast}
 use Rattle.gq_syntax.specs.declared.expression.Ast.TheShapes.{former-Ast-node as parts}
 use Rattle.gq_syntax.specs.declared.expression.AstNode.{AstNode}
@@ -42,15 +47,15 @@ use Rattle.gq_syntax.specs.declared.statement.Statement.TheVariants as statement
 
 module _ (text : List ℕ) (utf8 : IsUtf8 text) where
   abbrev IsWholeToken : Token → Type 0
-  IsWholeToken t = IsWhole text t.span
+  IsWholeToken = lexed.IsWholeToken text
 
   last : (t : Token) (ts : List Token) → All IsWholeToken (t ∷ ts) → IsCharBoundary text (last_end t ts)
-  last t [] h = (All-head IsWholeToken t [] h).end
+  last t [] h = (All-head IsWholeToken t [] h).0.end
   last t (u ∷ ts) h = last u ts (All-tail IsWholeToken t (u ∷ ts) h)
 
   span_whole : (ts : List Token) → All IsWholeToken ts → IsWhole text (span_of ts)
   span_whole [] h = record { start = IsCharBoundary-start text utf8; end = IsCharBoundary-start text utf8 }
-  span_whole (t ∷ ts) h = record { start = (All-head IsWholeToken t ts h).start; end = last t ts h }
+  span_whole (t ∷ ts) h = record { start = (All-head IsWholeToken t ts h).0.start; end = last t ts h }
 
   -- ---- the laws of combinators, so that the law of a production is a term that mirrors it
 
@@ -130,6 +135,16 @@ module _ (text : List ℕ) (utf8 : IsUtf8 text) where
   -- nothing is said
   keep-any : {A : Type 0} {R : List Token → A → Type 0} → Keeps R (λ x. Unit {0})
   keep-any = record { keeps = λ ts x r w. tt }
+
+  number_fits : (k : TokenKind) (n : ℕ) → number_of k ≡ Some n → IntFits k → n < 2 ^ 63
+  number_fits (kind.Int m) n e h = let same : m ≡ n = cc in subst (λ n. n < 2 ^ 63) same h
+  number_fits _ n e h = cc
+
+  keep-number : Keeps (Must number Pure) (λ n. n < 2 ^ 63)
+  keep-number = record { keeps = go } where
+    go : (ts : List Token) (n : ℕ) → Must number Pure ts n → All IsWholeToken ts → n < 2 ^ 63
+    go ts n (inl r) w = subst (λ n. n < 2 ^ 63) (sym r.5.1) (number_fits r.0.kind r.1 r.4 (All-head IsWholeToken r.0 r.2 (same ts (r.0 ∷ r.2) r.3 w)).1)
+    go ts n (inr r) w = absurd r
 
   -- ---- expressions
 
@@ -376,9 +391,9 @@ module _ (text : List ℕ) (utf8 : IsUtf8 text) where
     keep-query : Keeps (g.SpelledQuery depth) (StandsIn text)
     keep-query =
         keep-then keep-clauses (λ clauses w. keep-then keep-returns (λ c v. keep-then keep-order (λ order u.
-        keep-then (keep-any {R = Maybe (word_is (codes "SKIP")) (λ _. Must number Pure)}) (λ skip x.
-        keep-into (StandsIn text) (query clauses c order skip) (keep-any {R = Maybe (word_is (codes "LIMIT")) (λ _. Must number Pure)})
-        (λ limit y. record { begins = w.0; clauses = w.1; items = v; order = u })))))
+        keep-then (keep-maybe (word_is (codes "SKIP")) (λ _. keep-number)) (λ skip x.
+        keep-into (StandsIn text) (query clauses c order skip) (keep-maybe (word_is (codes "LIMIT")) (λ _. keep-number))
+        (λ limit y. record { begins = w.0; clauses = w.1; items = v; order = u; skip = x; limit = y })))))
 
     -- the query of a statement stands in the text
     abbrev Holds : Statement → Type 0

@@ -1,5 +1,5 @@
 -- Where the parts of a query stand in its text.
-use Rattle.std.specs.Prelude.{ℕ, ◌<◌, List, [], ◌∷◌, ◌++◌, ◌⊎◌, length, flat_map, All, IfSome}
+use Rattle.std.specs.Prelude.{ℕ, ◌^◌, ◌<◌, List, [], ◌∷◌, ◌++◌, ◌⊎◌, length, flat_map, All, IfSome}
 use Rattle.gq_lexer.specs.Sources.{IsWhole}
 use Rattle.gq_lexer.specs.declared.token.Span.{Span}
 use Rattle.gq_syntax.specs.Outcomes.{SpelledText}
@@ -65,12 +65,15 @@ module _ (text : List ℕ) where
     pub paths : All IsWholePath clause.paths
     pub filter : IfSome clause.filter IsWholeTree
 
-  -- a query has a clause, and each clause a path; its spans begin and end between characters of the text
+  -- a query has a clause, and each clause a path; its spans begin and end between characters of the text, and its
+  -- numbers are less than 2^63
   pub record StandsIn (query : Query) : Type 0 where
     pub begins : 0 < length query.clauses
     pub clauses : All IsWholeClause query.clauses
     pub items : All (λ item. IsWholeTree item.tree) query.items
     pub order : All (λ sort. IsWholeTree sort.tree) query.order
+    pub skip : IfSome query.skip (λ n. n < 2 ^ 63)
+    pub limit : IfSome query.limit (λ n. n < 2 ^ 63)
 
   -- a statement that the text spells has this query: by itself, or behind `:plan` or `:profile`
   abbrev pub SpelledQuery : Query → Type 0
