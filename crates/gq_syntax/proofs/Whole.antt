@@ -15,7 +15,7 @@ use Rattle.gq_lexer.specs.Tokens.{IntFits}
 use Rattle.gq_lexer.specs.declared.token.TokenKind.{TokenKind}
 use Rattle.gq_lexer.specs.declared.token.TokenKind.TheVariants as kind
 use Rattle.gq_lexer.proofs.Boundaries as lexed
-use Rattle.gq_lexer.proofs.Boundaries.{lexed_utf8, lexed_whole}
+use Rattle.gq_lexer.proofs.Boundaries.{lexed_utf8, lexed_whole, whole_of}
 use Rattle.gq_syntax.specs.Grammar as g
 use Rattle.gq_syntax.specs.Outcomes.{SpelledText}
 use Rattle.gq_syntax.specs.Relations.{Enclosed, Fork, Into, Listed, Many, Maybe, Must, Nest, Nothing, Pure, Spanned, Then, last_end, span_of}
@@ -54,8 +54,8 @@ module _ (text : List ℕ) (utf8 : IsUtf8 text) where
   last t (u ∷ ts) h = last u ts (All-tail IsWholeToken t (u ∷ ts) h)
 
   span_whole : (ts : List Token) → All IsWholeToken ts → IsWhole text (span_of ts)
-  span_whole [] h = record { start = IsCharBoundary-start text utf8; end = IsCharBoundary-start text utf8 }
-  span_whole (t ∷ ts) h = record { start = (All-head IsWholeToken t ts h).0.start; end = last t ts h }
+  span_whole [] h = let start = IsCharBoundary-start text utf8 in whole_of text (span_of []) utf8 start start
+  span_whole (t ∷ ts) h = whole_of text (span_of (t ∷ ts)) utf8 (All-head IsWholeToken t ts h).0.start (last t ts h)
 
   -- ---- the laws of combinators, so that the law of a production is a term that mirrors it
 
@@ -149,7 +149,7 @@ module _ (text : List ℕ) (utf8 : IsUtf8 text) where
   -- ---- expressions
 
   abbrev Tree : Ast → Type 0
-  Tree = IsWholeTree text
+  Tree t = All (IsWhole text) (spans_of t)
 
   abbrev Operands : Node → Type 0
   Operands n = All (IsWhole text) (operand_spans (parts.map Ast (List Span) spans_of n))
@@ -296,8 +296,8 @@ module _ (text : List ℕ) (utf8 : IsUtf8 text) where
   keep-inside zero v = keep-nothing Tree
   keep-inside (suc room) v = keep-rule room (g.Inside room) (keep-inside room) v
 
-  keep-expr : (depth : ℕ) → Keeps (g.Expr depth) Tree
-  keep-expr depth = keep-or depth (g.Inside depth) (keep-inside depth)
+  keep-expr : (depth : ℕ) → Keeps (g.Expr depth) (IsWholeTree text)
+  keep-expr depth = keep-weaker (IsWholeTree text) (keep-or depth (g.Inside depth) (keep-inside depth)) (λ t h. record { spans = h })
 
   -- ---- patterns
 
@@ -352,14 +352,14 @@ module _ (text : List ℕ) (utf8 : IsUtf8 text) where
   module _ (depth : ℕ) where
     keep-clause : Keeps (g.SpelledClause depth) (IsWholeClause text)
     keep-clause =
-        keep-then (keep-listed keep-path) (λ paths w. keep-into (IsWholeClause text) (clause paths) (keep-maybe {G = Tree} (word_is (codes "WHERE")) (λ _. keep-expr depth))
+        keep-then (keep-listed keep-path) (λ paths w. keep-into (IsWholeClause text) (clause paths) (keep-maybe {G = IsWholeTree text} (word_is (codes "WHERE")) (λ _. keep-expr depth))
         (λ filter v. record { begins = w.0; paths = w.1; filter = v }))
 
     abbrev ItemTree : Item → Type 0
-    ItemTree i = Tree i.tree
+    ItemTree i = IsWholeTree text i.tree
 
     abbrev SortTree : Sort → Type 0
-    SortTree s = Tree s.tree
+    SortTree s = IsWholeTree text s.tree
 
     keep-item : Keeps (g.SpelledItem depth) ItemTree
     keep-item = keep-then (keep-expr depth) (λ tree w. keep-into ItemTree (item tree) (keep-any {R = Maybe (word_is (codes "AS")) (λ _. Must name Pure)}) (λ n u. w))

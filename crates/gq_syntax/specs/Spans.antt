@@ -46,8 +46,9 @@ unfoldable pub spans_of : Ast → List Span
 spans_of = fold-Ast (List Span) (λ a. a.span ∷ operand_spans a.node)
 
 module _ (text : List ℕ) where
-  abbrev pub IsWholeTree : Ast → Type 0
-  IsWholeTree tree = All (IsWhole text) (spans_of tree)
+  -- each span of an expression begins and ends between characters
+  pub record IsWholeTree (tree : Ast) : Type 0 where
+    pub spans : All (IsWhole text) (spans_of tree)
 
   abbrev pub IsWholeEntry : Entry → Type 0
   IsWholeEntry entry = IsWhole text entry.value_span
