@@ -190,9 +190,9 @@ holds_within {X} test xs i h = go (slice_get xs i) refl h
 abbrev pub IsNamed : Typed → Demand → Type 0
 IsNamed y d = is_demand y d ≡ true
 
-loop_is : (k : Known) (found : Option TypedRel) → holds (loop_bound k) found ≡ true → holds leaves_loops_out found ≡ true
-loop_is k None h = h
-loop_is k (Some r) h = (and_parts r.no_loop (k.nodes r.source && k.nodes r.target) h).0
+loop_is : (k : Known) (x : ℕ) (found : Option TypedRel) → holds (loop_bound k x) found ≡ true → holds leaves_loops_out found ≡ true
+loop_is k x None h = h
+loop_is k x (Some r) h = (and_parts r.no_loop (k.rels x && (k.nodes r.source && k.nodes r.target)) h).0
 
 mutual
   unfolding fits placed
@@ -218,7 +218,7 @@ mutual
       each_then (λ d. IsNamed y d × (not (is_key keys d) ≡ true)) (IsNamed y) (λ d e. e.0) _ (each_kept (IsNamed y) (λ d. not (is_key keys d)) (placed side) (placed_named catalog y side none own.0))
   step_named catalog y (Keep i) k h = (holds_within (test_bound k) y.tests i h, tt)
   step_named catalog y (Differ p) k h = (holds_within (pair_bound k) y.pairs p h, tt)
-  step_named catalog y (NoLoop x) k h = (and_from _ _ (holds_within (loop_bound k) y.rels x h) (loop_is k (slice_get y.rels x) h), tt)
+  step_named catalog y (NoLoop x) k h = (and_from _ _ (holds_within (loop_bound k x) y.rels x h) (loop_is k x (slice_get y.rels x) h), tt)
 
 -- ---- what is covered
 

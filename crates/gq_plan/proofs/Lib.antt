@@ -7,4 +7,6 @@ pub mod FirstSteps
 pub mod NameLemmas
 pub mod Products
 pub mod ReadLemmas
+pub mod Rows
 pub mod StepEquations
+pub mod Values

@@ -71,9 +71,9 @@ test_bound k test = reads_bound k test.expr
 abbrev pub pair_bound : Known → RelPair → Bool
 pair_bound k p = k.rels p.first && k.rels p.second
 
--- the loops of a relationship are left out, and both its ends are bound
-abbrev pub loop_bound : Known → TypedRel → Bool
-loop_bound k r = r.no_loop && (k.nodes r.source && k.nodes r.target)
+-- the loops of a relationship are left out, and it and both its ends are bound
+abbrev pub loop_bound : Known → ℕ → TypedRel → Bool
+loop_bound k x r = r.no_loop && (k.rels x && (k.nodes r.source && k.nodes r.target))
 
 -- a side plan is joined on keys that both plans bind, and binds nothing else that is bound
 abbrev pub is_joined : Typed → List ℕ → Known → Known → Bool
@@ -103,7 +103,7 @@ module _ (catalog : Tables) (y : Typed) where
     fits_step (Join side keys) k = fits side none && is_joined y keys (after side none) k
     fits_step (Keep i) k = holds (test_bound k) (slice_get y.tests i)
     fits_step (Differ p) k = holds (pair_bound k) (slice_get y.pairs p)
-    fits_step (NoLoop x) k = holds (loop_bound k) (slice_get y.rels x)
+    fits_step (NoLoop x) k = holds (loop_bound k x) (slice_get y.rels x)
 
 -- ---- what is covered
 

@@ -2,10 +2,14 @@ pub mod Allowed
 pub mod Assignments
 pub mod Conditions
 pub mod Covers
+pub mod Flat
 pub mod Known
 pub mod Law
 pub mod Meaning
+pub mod Outcomes
+pub mod Parts
 pub mod Reads
+pub mod Rows
 pub mod Soundness
 pub mod Steps
 pub mod Times

@@ -61,9 +61,12 @@ rels_in g (Some k) = rels_of g k.table
 abbrev pub nodes_for : Graph → Typed → ℕ → List NodeId
 nodes_for g y v = nodes_in g (slice_get y.nodes v)
 
--- the relationships of a relationship variable's table that are met at a node, in load order
+-- the relationships of a relationship variable's table, in load order, and those that are met at a node
+abbrev pub rels_for : Graph → Typed → ℕ → List RelId
+rels_for g y x = rels_in g (slice_get y.rels x)
+
 abbrev pub rels_at : Graph → Typed → ℕ → Way → Option NodeId → List RelId
-rels_at g y x way n = filter (λ r. at_same n (near g way r)) (rels_in g (slice_get y.rels x))
+rels_at g y x way n = filter (λ r. at_same n (near g way r)) (rels_for g y x)
 
 -- a node variable is bound to a node, where there is one
 abbrev pub arrive : ℕ → Option NodeId → Partial → List Partial

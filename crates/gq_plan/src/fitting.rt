@@ -3,7 +3,7 @@ ghost use Rattle.std.specs.Prelude.{◌≡◌, ◌↔◌, ◌&&◌, ◌||◌, �
 ghost use Rattle.std.specs.List.{list_all, range_with_len};
 ghost use Rattle.gq_plan.specs.Covers as fit;
 ghost use Rattle.gq_plan.specs.Covers.{after, after_step, fits_step, fits_extend, fits_close, is_new, is_joined, goes, start_of, end_of, test_bound, pair_bound, loop_bound, Fits};
-ghost use Rattle.gq_plan.specs.Known.{known_of, with_node, with_rel, with_both};
+ghost use Rattle.gq_plan.specs.Known.{known_of, none, with_node, with_rel, with_both};
 ghost use Rattle.gq_plan.specs.Meaning.{holds};
 ghost use Rattle.gq_plan.specs.Soundness as soundness;
 ghost use Rattle.gq_plan.specs.Soundness.{IsSound, has_number, max_variables};
@@ -36,6 +36,17 @@ pub fn fits(plan: &Plan, typed: &Typed, catalog: &Catalog) -> bool
 {
     let mut known = Known::none();
     takes_plan(plan, typed, catalog, &mut known)
+}
+
+/// What a plan binds that fits a typed alternative by itself. It takes no memory, and goes through the plan once.
+pub fn bound_after(plan: &Plan, typed: &Typed, catalog: &Catalog) -> Known
+    requires sound { IsSound catalog.now typed.now }
+    requires fits { Fits catalog.now typed.now (plan_of plan.now) }
+    ensures { known_of result ≡ after (plan_of plan.now) none }
+{
+    let mut known = Known::none();
+    takes_plan(plan, typed, catalog, &mut known);
+    known
 }
 
 // Whether a plan fits where so much is bound; what it binds is known afterwards, if it does.
@@ -269,12 +280,15 @@ fn has_pair(pair: u32, typed: &Typed, known: Known) -> bool
 }
 
 fn has_loop(rel: u32, typed: &Typed, known: Known) -> bool
-    ensures { result ≡ holds (loop_bound (known_of known)) (slice_get typed.now.rels rel) }
+    ensures { result ≡ holds (loop_bound (known_of known) rel) (slice_get typed.now.rels rel) }
 {
     match typed.rels.get(rel as usize) {
         None => false,
         Some(found) => {
-            found.no_loop && known.nodes.has(found.source) && known.nodes.has(found.target)
+            found.no_loop
+                && known.rels.has(rel)
+                && known.nodes.has(found.source)
+                && known.nodes.has(found.target)
         }
     }
 }

@@ -2,6 +2,7 @@
 //! find the assignments of an alternative.
 #![tactic(auto)]
 
+mod assignment;
 mod bound;
 mod covering;
 mod demand;
@@ -12,10 +13,11 @@ mod reads;
 mod typed;
 mod variable;
 
+pub use assignment::{Assignment, TypedRow};
 pub use bound::{Bound, NamedExpr, SortExpr};
 pub use covering::covers;
 pub use demand::Demand;
-pub use fitting::{fits, is_single};
+pub use fitting::{bound_after, fits, is_single};
 pub use known::{Known, VariableSet};
 pub use plan::{Plan, Step, Way};
 pub use reads::PropertyReads;
