@@ -1,6 +1,6 @@
 //! Listings: the names of their columns, a line for each row, and how many rows there are.
 
-ghost use Rattle.std.specs.Prelude.{[], ◌<◌, flat_map, length, map, slice_index_or};
+ghost use Rattle.std.specs.Prelude.{[], ◌<◌, codes, flat_map, length, map, slice_index_or};
 ghost use Rattle.gq_base.specs.Values.{val};
 ghost use Rattle.gq_io.specs.Causes.{HasCause};
 ghost use Rattle.gq_io.specs.Outside.{Writes};
@@ -16,12 +16,21 @@ use gq_plan::{Bound, NamedExpr};
 use gq_rows::Listing;
 use gq_store::Graph;
 
+// Puts what stands between two names and between two values.
+fn put_tab<O: Sink>(batch: &mut Batch, out: &mut O) -> Result<(), Failed>
+    ensures bytes { Puts (O.taken out.old) (O.taken out.new) batch.old batch.new
+        (codes "\t") result }
+    ensures cause { HasCause (O.faults out.old) (O.faults out.new) result }
+{
+    batch.put(out, b"\t")
+}
+
 fn put_next_name<O: Sink>(batch: &mut Batch, out: &mut O, name: &str) -> Result<(), Failed>
     ensures bytes { Puts (O.taken out.old) (O.taken out.new) batch.old batch.new
         (after_tab (name_text name.now)) result }
     ensures cause { HasCause (O.faults out.old) (O.faults out.new) result }
 {
-    batch.put(out, b"\t")?;
+    put_tab(batch, out)?;
     put_name(batch, out, name)
 }
 
@@ -73,7 +82,7 @@ fn put_next_value<O: Sink>(
         (after_tab (value_text graph.now (val value.now))) result }
     ensures cause { HasCause (O.faults out.old) (O.faults out.new) result }
 {
-    batch.put(out, b"\t")?;
+    put_tab(batch, out)?;
     put_value(batch, out, graph, value)
 }
 

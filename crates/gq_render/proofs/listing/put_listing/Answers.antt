@@ -1,5 +1,4 @@
-use Rattle.std.proofs.Common.{◌++◌, flat_map, length, refl, sym, ap, ◌∙◌, append_assoc}
-use Rattle.gq_plan.specs.declared.NamedExpr.{NamedExpr}
+use Rattle.std.proofs.Common.{◌++◌, flat_map, length, refl, sym, append_assoc}
 use Rattle.gq_render.specs.Listings.{column_names, count_text, header_text, row_text}
 use Rattle.gq_render.proofs.Sequence.{first_broke, next_broke, put_then, puts_then}
 use Rattle.gq_render.proofs.listing.put_listing.Goals as goal
