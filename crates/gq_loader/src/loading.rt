@@ -42,12 +42,14 @@ pub fn load<F: Files>(
     limits: &Limits,
 ) -> Result<Graph, LoadRefusal>
     requires { IsWithin limits.now }
-    ensures loads { Answers (F.held files.old) (λ names. load_of manifest.now names limits.now) result }
+    ensures loads { Answers (F.held files.old)
+        (λ names. load_of manifest.now names limits.now) result }
     ensures valid { IfOk result (λ graph. is_valid graph ≡ true) }
     ensures faults { ByFault (F.faults files.old) (F.faults files.new) result }
     ensures misses { ByMiss (F.misses files.old) (F.misses files.new) result }
     ensures held { F.held files.new ≡ F.held files.old }
-    ensures few { ¬ (Rose (F.faults files.old) (F.faults files.new)) → ReadsFew (F.held files.old) (F.left files.new) (most_bytes limits.now) }
+    ensures few { ¬ (Rose (F.faults files.old) (F.faults files.new))
+        → ReadsFew (F.held files.old) (F.left files.new) (most_bytes limits.now) }
 {
     let Beginning { mut loading, order } = begin(alloc, files, manifest)?;
     for table in order.as_slice() {
