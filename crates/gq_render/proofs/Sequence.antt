@@ -1,16 +1,11 @@
 -- One text put after another, which together are a text.
-use Rattle.std.proofs.Common.{◌≡◌, ℕ, List, [], ◌++◌, append-nil, subst, Result, Err}
+use Rattle.std.proofs.Common.{◌≡◌, ℕ, List, [], ◌++◌, subst, Result, Err}
 use Rattle.std.specs.Result.{IsErrAnd}
 use Rattle.std.specs.declared.option.Option.{Option}
 use Rattle.std.proofs.lemmas.Result.{err_from_is_err_and}
 use Rattle.gq_io.specs.Outside.{AppendsFront, Writes}
 use Rattle.gq_io.specs.Putting.{Put, Puts, Flushes}
-use Rattle.gq_io.proofs.Moved.{Appends-none}
 use Rattle.gq_io.proofs.Waiting.{broke-first, put-both, put-flushes, put-puts}
-
--- nothing was put
-pub put_none : (a : Option (List ℕ)) (waited : List ℕ) → Put a a waited waited []
-put_none a waited = record { moved = []; took = Appends-none a; whole = append-nil waited }
 
 -- two texts were put
 pub put_then : (a b c : Option (List ℕ)) (u v w x y text : List ℕ) → Put a b u v x → Put b c v w y → x ++ y ≡ text → Put a c u w text

@@ -6,6 +6,7 @@ use Rattle.gq_base.specs.Plain.{Graph, cell_val}
 use Rattle.gq_base.specs.Values.{Val, node, rel}
 use Rattle.gq_base.specs.declared.NodeTable.{NodeTable}
 use Rattle.gq_base.specs.declared.RelTable.{RelTable}
+use Rattle.gq_plan.specs.declared.Bound.{Bound}
 use Rattle.gq_store.specs.Cells.{node_cell}
 use Rattle.gq_render.specs.Texts.{line, name_text, property_text, tabbed}
 
@@ -38,6 +39,10 @@ value_text g value = property_text value
 -- the line of a row's values
 abbrev pub row_text : Graph → List Val → List ℕ
 row_text g values = line (tabbed (map (value_text g) values))
+
+-- the names of a query's columns
+abbrev pub column_names : Bound → List (List ℕ)
+column_names b = map (λ column. column.name) b.columns
 
 -- the line of the columns' names
 abbrev pub header_text : List (List ℕ) → List ℕ

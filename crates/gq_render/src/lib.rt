@@ -10,6 +10,7 @@ mod refusal;
 mod value;
 
 pub use column::write_column;
+pub use listing::{write_listing, write_row};
 pub use name::write_name;
 pub use refusal::{Place, write_refusal};
 pub use value::write_value;
