@@ -28,7 +28,7 @@ use Rattle.gq_alternatives.proofs.Searches.{filter_same, filter_both}
 use Rattle.gq_alternatives.proofs.SoundPatterns.{IsChoice, typed_count, pairs_ascend}
 use Rattle.gq_scopes.specs.Patterns.{NodePattern, RelPattern, Pattern}
 use Rattle.gq_answers.specs.Answered.{all_pass, allowed}
-use Rattle.gq_meaning.proofs.Lookups.{get_some}
+use Rattle.gq_plan.proofs.Pieces.{some_at}
 
 -- ---- what lies in a choice that agrees with the catalogue fits the patterns
 
@@ -114,8 +114,8 @@ module _ (g : Graph) (t : Assignment) where
         → list_all (differs (row_of t)) (filter (one_table cs) pairs) ≡ list_all (pair_holds t) pairs
     pairs_are [] h = refl
     pairs_are (p ∷ pairs) h =
-        let q = get_some t.rels p.first (let a = h.0.0 in let b = h.0.1 in omega arith) in
-        let r = get_some t.rels p.second h.0.1 in
+        let q = some_at t.rels p.first (let a = h.0.0 in let b = h.0.1 in omega arith) in
+        let r = some_at t.rels p.second h.0.1 in
         go (one_table cs p) refl (pair_same p q.0 r.0 q.1 r.1) (pair_apart p q.0 r.0 q.1 r.1) (pairs_are pairs h.1)
       where
         go : (b : Bool) → one_table cs p ≡ b → differs (row_of t) p ≡ pair_holds t p → (one_table cs p ≡ false → pair_holds t p ≡ true) → list_all (differs (row_of t)) (filter (one_table cs) pairs) ≡ list_all (pair_holds t) pairs

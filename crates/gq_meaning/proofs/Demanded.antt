@@ -16,7 +16,7 @@ use Rattle.gq_plan.specs.declared.typed.Typed.{Typed}
 use Rattle.gq_plan.specs.declared.typed.TypedRel.{TypedRel}
 use Rattle.gq_meaning.proofs.Counting.{is_in, joins, met}
 use Rattle.gq_meaning.proofs.Numbering.{is_real}
-use Rattle.gq_meaning.proofs.Permuted.{all_kept, all_and}
+use Rattle.gq_plan.proofs.Permuted.{all_kept, all_and}
 
 -- ---- tests by number
 
@@ -24,7 +24,7 @@ range_shift : (p : ℕ → Bool) (a n : ℕ) → list_all p (range_with_len (a +
 range_shift p a zero = refl
 range_shift p a (suc n) = ap₂ ◌&&◌ (ap p (add-one a)) (range_shift p (a + 1) n)
 
-range_get : {X : Type 0} (p : X → Bool) (xs : List X) → list_all (λ k. holds p (slice_get xs k)) (range_with_len 0 (length xs)) ≡ list_all p xs
+pub range_get : {X : Type 0} (p : X → Bool) (xs : List X) → list_all (λ k. holds p (slice_get xs k)) (range_with_len 0 (length xs)) ≡ list_all p xs
 range_get p [] = refl
 range_get p (x ∷ xs) = ap (λ b. p x && b) (range_shift (λ k. holds p (slice_get (x ∷ xs) k)) 0 (length xs) ∙ range_get p xs)
 
@@ -83,7 +83,7 @@ real_bits false false b r s = refl
 
 -- ---- what is demanded
 
-all_demand : (p : Demand → Bool) (a b c d e : List ℕ) → list_all p (map InTable a ++ map Joins b ++ map Passes c ++ map Differs d ++ map IsNoLoop e)
+pub all_demand : (p : Demand → Bool) (a b c d e : List ℕ) → list_all p (map InTable a ++ map Joins b ++ map Passes c ++ map Differs d ++ map IsNoLoop e)
     ≡ ((((list_all (λ x. p (InTable x)) a && list_all (λ x. p (Joins x)) b) && list_all (λ x. p (Passes x)) c) && list_all (λ x. p (Differs x)) d) && list_all (λ x. p (IsNoLoop x)) e)
 all_demand p a b c d e = simp (list_all-append, list_all-map)
 

@@ -9,9 +9,9 @@ use Rattle.gq_base.specs.declared.PlainRel.{PlainRel}
 use Rattle.gq_base.specs.declared.RelId.{RelId}
 use Rattle.gq_base.specs.declared.RelTable.{RelTable}
 use Rattle.gq_plan.specs.Assignments.{rows_at, rels_at, is_rel}
-use Rattle.gq_meaning.proofs.Lookups.{get_some}
+use Rattle.gq_plan.proofs.Pieces.{some_at}
 
-zip_at : {A B : Type 0} (p : A → B → Bool) (xs : List A) (ys : List B) → all_zip p xs ys ≡ true → (i : ℕ) (y : B) → slice_get ys i ≡ Some y → (x : A) × (slice_get xs i ≡ Some x) × (p x y ≡ true)
+pub zip_at : {A B : Type 0} (p : A → B → Bool) (xs : List A) (ys : List B) → all_zip p xs ys ≡ true → (i : ℕ) (y : B) → slice_get ys i ≡ Some y → (x : A) × (slice_get xs i ≡ Some x) × (p x y ≡ true)
 zip_at p [] [] h i y e = absurd (cc e)
 zip_at p [] (z ∷ ys) h i y e = absurd (true≢false (sym h))
 zip_at p (x ∷ xs) [] h i y e = absurd (cc e)
@@ -51,7 +51,7 @@ ends_of g h r real =
     let low : r.row < length (rels_at g r.table) = ltb-true _ _ real in
     let rels = rels_listed g r.table (slice_get g.rels r.table) refl r.row low in
     let table = zip_at (valid.are_rels g.nodes) g.catalog.rels g.rels all r.table rels.0 rels.1 in
-    let rel = get_some (rels_at g r.table) r.row low in
+    let rel = some_at (rels_at g r.table) r.row low in
     let within = all_get (valid.is_rel table.0.fields (valid.row_count g.nodes table.0.from) (valid.row_count g.nodes table.0.to)) rels.0 (and_parts _ _ (and_parts _ _ table.2).0).1 r.row rel.0
     (ap (λ l. slice_get l r.row) (sym rels.2) ∙ rel.1) in
     let ends = and_parts _ _ (and_parts _ _ within).0 in

@@ -1,13 +1,17 @@
+mod Choices
 mod Counting
 mod Covering
 mod Demanded
 mod Ends
-pub mod Lookups
+pub mod Fields
+mod Filled
+mod Lookups
+pub mod Made
 mod Numbering
 mod Owning
-mod Permuted
 mod PlanCounts
+pub mod Sides
 mod StepCounts
-mod Values
 pub mod Wholes
 pub mod Worked
+mod WorkedParts

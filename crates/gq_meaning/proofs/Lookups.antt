@@ -1,8 +1,8 @@
 -- Bindings, the latest first: which keys are bound, which bindings a look-up finds, and all of them read in a row.
-use Rattle.std.proofs.Common.{◌≡◌, ℕ, zero, suc, ◌+◌, ◌<◌, ◌≤◌, Bool, true, false, ◌||◌, cond, nat_eq, Option, Some, None, List, [], ◌∷◌, ◌++◌, flat_map, length, slice_get, ◌⊎◌, inl, inr, refl, sym, ap, ap₂, ◌∙◌, arith, true≢false}
+use Rattle.std.proofs.Common.{◌≡◌, ℕ, zero, suc, ◌+◌, ◌<◌, ◌≤◌, Bool, true, false, ◌||◌, cond, nat_eq, Option, Some, List, [], ◌∷◌, ◌++◌, flat_map, length, slice_get, ◌⊎◌, inl, inr, refl, sym, ap, ap₂, ◌∙◌, arith, true≢false}
 use Rattle.std.specs.List.{range_with_len, AllByRecursion, list_all}
 use Rattle.std.proofs.lemmas.Bool.{eqb-true, eq-eqb, ne_eqb, cases_eq, and_parts, or_parts}
-use Rattle.gq_plan.specs.Meaning.{look, found, holds}
+use Rattle.gq_plan.specs.Meaning.{look, found}
 
 pub eqb_swap : (a b : ℕ) → nat_eq a b ≡ nat_eq b a
 eqb_swap a b = go (cases_eq a b)
@@ -12,15 +12,6 @@ eqb_swap a b = go (cases_eq a b)
     go (inr e) = ne_eqb a b e ∙ sym (ne_eqb b a (λ h. e (sym h)))
 
 -- ---- lists read by number
-
-pub get_some : {X : Type 0} (xs : List X) (i : ℕ) → i < length xs → (x : X) × (slice_get xs i ≡ Some x)
-get_some [] i low = absurd (omega arith)
-get_some (x ∷ xs) zero low = (x, refl)
-get_some (x ∷ xs) (suc i) low = get_some xs i (omega arith)
-
-pub holds_some : {X : Type 0} (p : X → Bool) (o : Option X) → holds p o ≡ true → (x : X) × (o ≡ Some x) × (p x ≡ true)
-holds_some p None h = absurd (true≢false (sym h))
-holds_some p (Some x) h = (x, refl, h)
 
 pub lists_same : {X : Type 0} (xs ys : List X) → length xs ≡ length ys → ((i : ℕ) → i < length xs → slice_get xs i ≡ slice_get ys i) → xs ≡ ys
 lists_same [] [] e h = refl

@@ -1,5 +1,5 @@
 -- What a plan binds it binds in one way: a look-up finds each binding, and what is bound is a variable of the alternative.
-use Rattle.std.proofs.Common.{◌≡◌, ℕ, ◌<◌, Bool, true, false, not, ◌&&◌, ◌||◌, nat_eq, nat_lt, Option, Some, None, List, [], ◌∷◌, ◌++◌, length, slice_get, inl, inr, refl, sym, ap, ◌∙◌, subst, zero-add, true≢false}
+use Rattle.std.proofs.Common.{◌≡◌, ℕ, ◌<◌, Bool, true, false, not, ◌&&◌, ◌||◌, nat_eq, nat_lt, Option, Some, None, List, ◌∷◌, ◌++◌, length, slice_get, inl, inr, refl, sym, ap, ◌∙◌, subst, zero-add, true≢false}
 use Rattle.std.specs.List.{range_with_len, AllByRecursion, list_all}
 use Rattle.std.proofs.lemmas.Bool.{eqb-true, ltb-true, and_parts, or_cases}
 use Rattle.std.proofs.lemmas.Option.{slice_get_within}
@@ -17,16 +17,9 @@ use Rattle.gq_plan.specs.declared.plan.Way.{Way}
 use Rattle.gq_plan.specs.declared.typed.Typed.{Typed}
 use Rattle.gq_plan.proofs.Each.{each_of, each_map, each_flat_map, each_kept}
 use Rattle.gq_meaning.proofs.Counting.{known_by, known_by_all, at_same_is}
-use Rattle.gq_meaning.proofs.Lookups.{bound, bound_append, holds_some, Found, found_bind, found_join}
-use Rattle.gq_meaning.proofs.Permuted.{range_all}
-
--- what passes for all of some numbers passes for each of them
-pub all_numbers : (p : ℕ → Bool) (ks : List ℕ) → list_all p ks ≡ true → (v : ℕ) → has_number ks v ≡ true → p v ≡ true
-all_numbers p [] h v k = absurd (true≢false (sym k))
-all_numbers p (w ∷ ks) h v k =
-    let parts = and_parts (p w) (list_all p ks) h in
-    let more = all_numbers p ks parts.1 v in
-    elim (or_cases (nat_eq v w) (has_number ks v) k) [ inl e ↦ ap p (eqb-true v w e) ∙ parts.0 | inr e ↦ more e ]
+use Rattle.gq_plan.proofs.Pieces.{holds_some}
+use Rattle.gq_meaning.proofs.Lookups.{bound, bound_append, Found, found_bind, found_join}
+use Rattle.gq_plan.proofs.Permuted.{range_all, all_numbers}
 
 pub agree_look : (ks : List ℕ) (a b : Partial) → agree ks a b ≡ true → (v : ℕ) → has_number ks v ≡ true → look a.nodes v ≡ look b.nodes v
 agree_look ks a b h v k = at_same_is (look a.nodes v) (look b.nodes v) (all_numbers (λ w. at_same (look a.nodes w) (look b.nodes w)) ks h v k)

@@ -26,8 +26,9 @@ use Rattle.gq_plan.specs.declared.typed.TypedRel.{TypedRel}
 use Rattle.gq_plan.proofs.Counts.{bit, hits, total, total_map, total_flat_map, total_filter, total_same, hits_and_const}
 use Rattle.gq_meaning.proofs.Counting.{is_in, is_rel_at, passes_in, joins, met, extends, known_by, hits_nodes_of, hits_rels_at, extends_with_node, extends_with_rel, at_same_is, node_look, rel_look}
 use Rattle.gq_meaning.proofs.Ends.{HasEnds, ends_of}
-use Rattle.gq_meaning.proofs.Lookups.{bound, get_some, holds_some}
-use Rattle.gq_meaning.proofs.Values.{values_agree}
+use Rattle.gq_plan.proofs.Pieces.{some_at, holds_some}
+use Rattle.gq_meaning.proofs.Lookups.{bound}
+use Rattle.gq_plan.proofs.Values.{values_agree}
 
 -- ---- truth tables
 
@@ -153,10 +154,10 @@ module _ (g : Graph) (y : Typed) (real : IsTrue (is_valid g)) (sound : IsSound g
   unfolding step fits_step
   unlooped a x fits = kept a (holds (no_loop (row a)) (slice_get y.rels x)) (met g y t (IsNoLoop x)) (λ e. go (slice_get y.rels x) fits e)
     where
-      go : (o : Option TypedRel) → holds (loop_bound (known_by a)) o ≡ true → extends a t ≡ true → holds (no_loop (row a)) o ≡ holds (no_loop (row_of t)) o
+      go : (o : Option TypedRel) → holds (loop_bound (known_by a) x) o ≡ true → extends a t ≡ true → holds (no_loop (row a)) o ≡ holds (no_loop (row_of t)) o
       go None h e = refl
       go (Some k) h e =
-          let parts = and_parts (bound a.nodes k.source) (bound a.nodes k.target) (and_parts k.no_loop _ h).1 in
+          let parts = and_parts (bound a.nodes k.source) (bound a.nodes k.target) (and_parts (bound a.rels x) _ (and_parts k.no_loop _ h).1).1 in
           ap₂ (λ m n. not (at_same m n)) (node_look a t e k.source parts.0) (node_look a t e k.target parts.1)
 
   -- ---- a scan
@@ -164,7 +165,7 @@ module _ (g : Graph) (y : Typed) (real : IsTrue (is_valid g)) (sound : IsSound g
   pub scanned : (a : Partial) (v : ℕ) → fits_step g.catalog y (Scan v) (known_by a) ≡ true → hits (λ e. extends e t) (step g y (Scan v) a) ≡ bit (extends a t && list_all (met g y t) (InTable v ∷ []))
   unfolding step fits_step
   scanned a v fits =
-      let k = get_some y.nodes v (ltb-true v _ (and_parts (nat_lt v (length y.nodes)) (not (bound a.nodes v)) fits).0) in
+      let k = some_at y.nodes v (ltb-true v _ (and_parts (nat_lt v (length y.nodes)) (not (bound a.nodes v)) fits).0) in
       total_map (λ e. bit (extends e t)) (λ n. with_node v n a) (nodes_for g y v)
       ∙ total_same _ _ (λ n. ap bit (extends_with_node v n a t)) (nodes_for g y v)
       ∙ hits_and_const (λ n. at_same (slice_get t.nodes v) (Some n)) (extends a t) (nodes_for g y v)

@@ -18,15 +18,16 @@ use Rattle.gq_plan.proofs.Counts.{bit, hits, total_map, total_filter, total_same
 use Rattle.gq_plan.proofs.Each.{each_then, each_map, each_kept}
 use Rattle.gq_plan.proofs.Products.{IsSized, each_sized, same_assignment, same_assignment_refl, same_assignment_is}
 use Rattle.gq_meaning.proofs.Counting.{met, extends, nodes_in, rels_in, is_rel_at, known_by, node_look, rel_look}
-use Rattle.gq_meaning.proofs.Covering.{covers_nodes, covers_rels, placed_same}
+use Rattle.gq_plan.proofs.Binding.{covers_nodes, covers_rels}
+use Rattle.gq_meaning.proofs.Covering.{placed_same}
 use Rattle.gq_meaning.proofs.Demanded.{demanded}
 use Rattle.gq_meaning.proofs.Lookups.{bound, Found, lists_same, read, read_length, read_at}
 use Rattle.gq_meaning.proofs.Numbering.{is_real, assignment_hits}
 use Rattle.gq_meaning.proofs.Owning.{Owns, owns_nothing, owns_mean}
-use Rattle.gq_meaning.proofs.Permuted.{all_permuted}
+use Rattle.gq_plan.proofs.Permuted.{all_permuted}
 use Rattle.gq_meaning.proofs.PlanCounts.{count_mean, total_same_on}
 
-bool_iff : (b c : Bool) → (b ≡ true → c ≡ true) → (c ≡ true → b ≡ true) → b ≡ c
+pub bool_iff : (b c : Bool) → (b ≡ true → c ≡ true) → (c ≡ true → b ≡ true) → b ≡ c
 bool_iff true c f h = sym (f refl)
 bool_iff false true f h = h refl
 bool_iff false false f h = refl
@@ -50,14 +51,14 @@ module _ {X : Type 0} (test : Option X → X → Bool) (test_self : (x : X) → 
       (whole_has ds h.1 (λ v k. low v (or_right (nat_eq v d.0) (bound ds v) k)))
 
 -- an assignment with as many nodes and relationships as an alternative
-record Sized (y : Typed) (t : Assignment) : Type 0 where
-  nodes : length t.nodes ≡ length y.nodes
-  rels : length t.rels ≡ length y.rels
+pub record Sized (y : Typed) (t : Assignment) : Type 0 where
+  pub nodes : length t.nodes ≡ length y.nodes
+  pub rels : length t.rels ≡ length y.rels
 
-node_self : (n : NodeId) → at_same (Some n) (Some n) ≡ true
+pub node_self : (n : NodeId) → at_same (Some n) (Some n) ≡ true
 node_self n = and_from (nat_eq n.table n.table) (nat_eq n.row n.row) (eq-eqb _ _ refl) (eq-eqb _ _ refl)
 
-rel_self : (r : RelId) → is_rel_at (Some r) r ≡ true
+pub rel_self : (r : RelId) → is_rel_at (Some r) r ≡ true
 rel_self r = and_from (nat_eq r.table r.table) (nat_eq r.row r.row) (eq-eqb _ _ refl) (eq-eqb _ _ refl)
 
 module _ (y : Typed) (e : Partial) (owns : Owns y e) (nodes : (v : ℕ) → bound e.nodes v ≡ ltb v (length y.nodes)) (rels : (x : ℕ) → bound e.rels x ≡ ltb x (length y.rels)) where

@@ -3,4 +3,7 @@
 
 mod law;
 
-pub use law::plans_mean_what_is_allowed;
+pub use law::{
+    plans_make_what_lies_in, plans_mean_what_is_allowed, side_plans_count_parts, tests_never_fault,
+    what_lies_in_fits_the_kinds,
+};

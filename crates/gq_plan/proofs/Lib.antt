@@ -1,4 +1,5 @@
 pub mod Bags
+pub mod Binding
 pub mod BoundReads
 pub mod Counts
 pub mod Demands
@@ -6,6 +7,7 @@ pub mod Each
 pub mod FirstSteps
 pub mod Flats
 pub mod NameLemmas
+pub mod Permuted
 pub mod Pieces
 pub mod Products
 pub mod ReadLemmas

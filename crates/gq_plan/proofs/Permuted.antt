@@ -1,8 +1,9 @@
--- Tests of all and of some items of lists: over joined lists, filters, ranges and permutations.
-use Rattle.std.proofs.Common.{◌≡◌, ℕ, zero, suc, ◌+◌, ◌<◌, ◌≤◌, Bool, true, false, not, ◌&&◌, ◌||◌, cond, ltb, nat_eq, List, [], ◌∷◌, map, filter, IsPermutation, ◌⊎◌, inl, inr, refl, sym, ap, ◌∙◌, arith}
+-- Tests of all and of some items of lists: over joined lists, filters, ranges, permutations and lists of numbers.
+use Rattle.std.proofs.Common.{◌≡◌, ℕ, zero, suc, ◌+◌, ◌<◌, ◌≤◌, Bool, true, false, not, ◌&&◌, ◌||◌, cond, ltb, nat_eq, List, [], ◌∷◌, map, filter, IsPermutation, ◌⊎◌, inl, inr, refl, sym, ap, ◌∙◌, arith, true≢false}
 use Rattle.std.specs.List.{range_with_len, list_all, list_any}
-use Rattle.std.proofs.lemmas.Bool.{eq-eqb, ne_eqb, lt-ltb, le-ltb, cases_eq, and_parts}
+use Rattle.std.proofs.lemmas.Bool.{eqb-true, eq-eqb, ne_eqb, lt-ltb, le-ltb, cases_eq, and_parts, or_cases}
 use Rattle.std.proofs.lemmas.List.Sorted.{list_any-IsPermutation}
+use Rattle.gq_plan.specs.Soundness.{has_number}
 
 pub list_any_map : {X Y : Type 0} (p : Y → Bool) (f : X → Y) (xs : List X) → list_any p (map f xs) ≡ list_any (λ x. p (f x)) xs
 list_any_map p f [] = refl
@@ -74,3 +75,11 @@ pub range_all : (p : ℕ → Bool) (a n : ℕ) → list_all p (range_with_len a 
 range_all p a zero h k low = absurd (omega arith)
 range_all p a (suc n) h zero low = ap p (omega arith) ∙ (and_parts (p a) (list_all p (range_with_len (a + 1) n)) h).0
 range_all p a (suc n) h (suc k) low = ap p (omega arith) ∙ range_all p (a + 1) n (and_parts (p a) (list_all p (range_with_len (a + 1) n)) h).1 k (omega arith)
+
+-- what passes for all of some numbers passes for each of them
+pub all_numbers : (p : ℕ → Bool) (ks : List ℕ) → list_all p ks ≡ true → (v : ℕ) → has_number ks v ≡ true → p v ≡ true
+all_numbers p [] h v k = absurd (true≢false (sym k))
+all_numbers p (w ∷ ks) h v k =
+    let parts = and_parts (p w) (list_all p ks) h in
+    let more = all_numbers p ks parts.1 v in
+    elim (or_cases (nat_eq v w) (has_number ks v) k) [ inl e ↦ ap p (eqb-true v w e) ∙ parts.0 | inr e ↦ more e ]
