@@ -9,8 +9,8 @@ ghost use Rattle.gq_pipe.specs.Ring as sample;
 use crate::{Builds, FlatPipeline, make_builds};
 use gq_base::{Boxed, CompareOp, Field, Kind, List, Memory, Mult, NodeTable, RelTable, Text};
 use gq_expr::{Bound, Expr};
-use gq_plain::{Catalog, Cell, PlainGraph, PlainRel, Row};
 use gq_join::JoinRefusal;
+use gq_plain::{Catalog, Cell, PlainGraph, PlainRel, Row};
 use gq_plan::{Assignment, NamedExpr, PathPart, Plan, RelPair, Step, Typed, TypedRel, Way, fits};
 use gq_store::Graph;
 use std::alloc::Global;
@@ -275,12 +275,7 @@ struct Shown<'s> {
 }
 
 // The rows and load numbers of some variables, and a bar.
-fn push_row(
-    alloc: Global,
-    text: &mut String,
-    row: &Assignment,
-    shown: Shown,
-) -> Result<(), Fail> {
+fn push_row(alloc: Global, text: &mut String, row: &Assignment, shown: Shown) -> Result<(), Fail> {
     for node in shown.nodes {
         if let Some(found) = row.nodes.get(*node as usize) {
             text.push_str(format!(in alloc; " {found}")?.as_str())?;
@@ -485,7 +480,10 @@ fn too_many(alloc: Global) -> Result<Plan, Memory> {
 fn relationships_are_followed_backward_and_tested(rt: HostRuntime) -> Result<(), Fail> {
     let alloc = rt.alloc();
     let plan = kept_backward(alloc)?;
-    let shown = Shown { nodes: &[0, 1], rels: &[0] };
+    let shown = Shown {
+        nodes: &[0, 1],
+        rels: &[0],
+    };
     let text = over_example(alloc, &plan, shown)?;
     assert_eq!(rt; text.as_str(), " 2 2 #4 |");
     Ok(())
@@ -495,7 +493,10 @@ fn relationships_are_followed_backward_and_tested(rt: HostRuntime) -> Result<(),
 fn a_triangle_closes_over_different_relationships(rt: HostRuntime) -> Result<(), Fail> {
     let alloc = rt.alloc();
     let plan = triangle(alloc)?;
-    let shown = Shown { nodes: &[0, 1, 2], rels: &[0, 1, 2] };
+    let shown = Shown {
+        nodes: &[0, 1, 2],
+        rels: &[0, 1, 2],
+    };
     let text = over_example(alloc, &plan, shown)?;
     assert_eq!(rt; text.as_str(), TRIANGLES);
     Ok(())
@@ -505,7 +506,10 @@ fn a_triangle_closes_over_different_relationships(rt: HostRuntime) -> Result<(),
 fn a_join_without_keys_makes_every_pair(rt: HostRuntime) -> Result<(), Fail> {
     let alloc = rt.alloc();
     let plan = pairs(alloc)?;
-    let shown = Shown { nodes: &[0, 3], rels: &[] };
+    let shown = Shown {
+        nodes: &[0, 3],
+        rels: &[],
+    };
     let text = over_example(alloc, &plan, shown)?;
     assert_eq!(rt; text.as_str(), " 0 0 | 0 1 | 1 0 | 1 1 | 2 0 | 2 1 |");
     Ok(())
@@ -515,7 +519,10 @@ fn a_join_without_keys_makes_every_pair(rt: HostRuntime) -> Result<(), Fail> {
 fn a_join_finds_the_rows_with_a_key(rt: HostRuntime) -> Result<(), Fail> {
     let alloc = rt.alloc();
     let plan = by_one_key(alloc)?;
-    let shown = Shown { nodes: &[0, 1, 2], rels: &[0, 1] };
+    let shown = Shown {
+        nodes: &[0, 1, 2],
+        rels: &[0, 1],
+    };
     let text = over_example(alloc, &plan, shown)?;
     assert_eq!(rt; text.as_str(), WALKS);
     Ok(())
@@ -525,7 +532,10 @@ fn a_join_finds_the_rows_with_a_key(rt: HostRuntime) -> Result<(), Fail> {
 fn a_join_finds_the_rows_with_two_keys(rt: HostRuntime) -> Result<(), Fail> {
     let alloc = rt.alloc();
     let plan = by_two_keys(alloc)?;
-    let shown = Shown { nodes: &[0, 1], rels: &[0, 4] };
+    let shown = Shown {
+        nodes: &[0, 1],
+        rels: &[0, 4],
+    };
     let text = over_example(alloc, &plan, shown)?;
     assert_eq!(rt; text.as_str(), " 0 1 #0 #3 | 0 1 #3 #0 |");
     Ok(())
@@ -535,7 +545,10 @@ fn a_join_finds_the_rows_with_two_keys(rt: HostRuntime) -> Result<(), Fail> {
 fn a_side_plan_joins_and_one_person_has_no_match(rt: HostRuntime) -> Result<(), Fail> {
     let alloc = rt.alloc();
     let plan = nested(alloc)?;
-    let shown = Shown { nodes: &[3, 0], rels: &[3] };
+    let shown = Shown {
+        nodes: &[3, 0],
+        rels: &[3],
+    };
     let text = over_example(alloc, &plan, shown)?;
     assert_eq!(rt; text.as_str(), " 0 0 #1 | 1 2 #0 |");
     Ok(())
@@ -545,7 +558,10 @@ fn a_side_plan_joins_and_one_person_has_no_match(rt: HostRuntime) -> Result<(), 
 fn a_side_plan_with_too_many_rows_is_refused(rt: HostRuntime) -> Result<(), Fail> {
     let alloc = rt.alloc();
     let plan = too_many(alloc)?;
-    let shown = Shown { nodes: &[3], rels: &[] };
+    let shown = Shown {
+        nodes: &[3],
+        rels: &[],
+    };
     let text = over_example(alloc, &plan, shown)?;
     assert_eq!(rt; text.as_str(), " more than 5");
     Ok(())
