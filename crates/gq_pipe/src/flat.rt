@@ -1,6 +1,6 @@
 //! The assignments of a plan, one after another.
 ghost use Rattle.std.specs.Prelude.{◌≡◌, ◌∷◌, [], true, false, IfOk, if◌then◌else◌};
-ghost use Rattle.gq_plan.specs.Covers.{Fits};
+ghost use Rattle.gq_plan.specs.Covers.{Fits, Covers};
 ghost use Rattle.gq_plan.specs.Meaning.{meaning, mean, nothing};
 ghost use Rattle.gq_plan.specs.Rows.{assigned};
 ghost use Rattle.gq_plan.specs.Soundness.{IsSound};
@@ -66,6 +66,7 @@ impl<'g> FlatPipeline<'g> {
         requires builds { AreBuilds graph.now typed.now (plan_of plan.now) builds.now }
         ensures owed { IfOk result (λ p. p.owed ≡ meaning graph.now typed.now (plan_of plan.now)) }
         ensures complete { IfOk result (λ p. p.complete ≡ binds_all typed.now (plan_of plan.now)) }
+        ensures covering { Covers graph.now.catalog typed.now (plan_of plan.now) → IfOk result (λ p. p.complete ≡ true) }
         ensures partials { IfOk result (λ p. p.partials ≡ mean graph.now typed.now (plan_of plan.now) nothing) }
         ensures source { IfOk result (λ p. p.source ≡ source_of graph.now typed.now plan.now) }
     {
