@@ -1,4 +1,5 @@
 mod Answering
+mod Bars
 mod ByKeys
 mod ClassRows
 mod Classes
