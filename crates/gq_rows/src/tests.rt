@@ -10,6 +10,7 @@ use std::alloc::Global;
 use std::test::Fail;
 
 // A query that lists one node variable.
+#[derive(Clone, Copy)]
 struct Asked {
     distinct: bool,
     down: Option<bool>,
@@ -104,8 +105,9 @@ fn listed(
             break;
         }
         let assignment = assignment(alloc, *row)?;
-        if let Err(refusal) = table.push_row(&assignment, graph) {
-            return Ok(Err(refusal));
+        match table.push_row(&assignment, graph) {
+            Ok(_) => {}
+            Err(refusal) => return Ok(Err(refusal)),
         }
     }
     let listing = table.finish()?;
@@ -138,12 +140,13 @@ fn answer(alloc: Global, asked: &Asked, limit: u32) -> Result<Result<Vec<u32>, R
 
 const ROWS: [u32; 6] = [4, 2, 5, 2, 4, 1];
 
-fn check(rt: HostRuntime, asked: &Asked, limit: u32, want: &[u32]) -> Result<(), Fail> {
-    match answer(rt.alloc(), asked, limit)? {
-        Ok(found) => assert_eq!(rt; found.as_slice(), want),
-        Err(_) => return Err(Fail::from("refused")),
+// Fails unless these rows are answered.
+fn check(alloc: Global, asked: &Asked, limit: u32, want: &[u32]) -> Result<(), Fail> {
+    match answer(alloc, asked, limit)? {
+        Ok(found) if found.as_slice() == want => Ok(()),
+        Ok(_) => Err(Fail::from("other rows")),
+        Err(_) => Err(Fail::from("refused")),
     }
-    Ok(())
 }
 
 #[test]
@@ -154,7 +157,7 @@ fn all_rows_stand_as_they_were_pushed(rt: HostRuntime) -> Result<(), Fail> {
         skip: 0,
         limit: None,
     };
-    check(rt, &asked, 6, &[4, 2, 5, 2, 4, 1])
+    check(rt.alloc(), &asked, 6, &[4, 2, 5, 2, 4, 1])
 }
 
 #[test]
@@ -165,7 +168,7 @@ fn the_first_rows_stand_in_a_window(rt: HostRuntime) -> Result<(), Fail> {
         skip: 1,
         limit: Some(2),
     };
-    check(rt, &asked, 3, &[2, 5])
+    check(rt.alloc(), &asked, 3, &[2, 5])
 }
 
 #[test]
@@ -176,7 +179,7 @@ fn the_least_rows_stand_in_a_window(rt: HostRuntime) -> Result<(), Fail> {
         skip: 1,
         limit: Some(2),
     };
-    check(rt, &asked, 3, &[2, 2])
+    check(rt.alloc(), &asked, 3, &[2, 2])
 }
 
 #[test]
@@ -187,7 +190,7 @@ fn the_greatest_row_is_found(rt: HostRuntime) -> Result<(), Fail> {
         skip: 0,
         limit: Some(1),
     };
-    check(rt, &asked, 1, &[5])
+    check(rt.alloc(), &asked, 1, &[5])
 }
 
 #[test]
@@ -198,7 +201,7 @@ fn all_rows_stand_from_the_greatest_to_the_least(rt: HostRuntime) -> Result<(), 
         skip: 0,
         limit: None,
     };
-    check(rt, &asked, 6, &[5, 4, 4, 2, 2, 1])
+    check(rt.alloc(), &asked, 6, &[5, 4, 4, 2, 2, 1])
 }
 
 #[test]
@@ -209,7 +212,7 @@ fn one_row_of_each_class_stands(rt: HostRuntime) -> Result<(), Fail> {
         skip: 0,
         limit: None,
     };
-    check(rt, &asked, 4, &[4, 2, 5, 1])
+    check(rt.alloc(), &asked, 4, &[4, 2, 5, 1])
 }
 
 #[test]
@@ -220,7 +223,7 @@ fn a_window_is_taken_of_classes(rt: HostRuntime) -> Result<(), Fail> {
         skip: 1,
         limit: Some(2),
     };
-    check(rt, &asked, 4, &[2, 4])
+    check(rt.alloc(), &asked, 4, &[2, 4])
 }
 
 #[test]
@@ -231,7 +234,7 @@ fn no_row_is_listed_under_limit_0(rt: HostRuntime) -> Result<(), Fail> {
         skip: 0,
         limit: Some(0),
     };
-    check(rt, &asked, 0, &[])
+    check(rt.alloc(), &asked, 0, &[])
 }
 
 #[test]
