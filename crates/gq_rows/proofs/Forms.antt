@@ -6,12 +6,13 @@ use Rattle.std.proofs.lemmas.List.{length-map, take_all}
 use Rattle.std.proofs.lemmas.List.Sorted.{length_permutation}
 use Rattle.std.proofs.lemmas.List.Sums.{count_by-le-length}
 use Rattle.gq_base.specs.Lists.{is_empty}
+use Rattle.gq_base.specs.Values.{Val}
 use Rattle.gq_expr.specs.declared.Fault.{Fault}
 use Rattle.gq_plan.specs.Outcomes.{Row}
 use Rattle.gq_plan.specs.declared.bound.Bound.{Bound}
-use Rattle.gq_rows.specs.Answers.{at_most, by_keys, classes, cut_of, first_of, kept, most_listed}
-use Rattle.gq_rows.specs.Keeping.{HasForm, HoldsOf, IsMost, IsNeverReached, Keeps, KeepsFirst, held_of, kept_by}
-use Rattle.gq_rows.specs.Tables.{Held, Holds, HoldsAs, StandsFor}
+use Rattle.gq_rows.specs.Answers.{at_most, by_keys, keys_order, classes, cut_of, first_of, kept, most_listed}
+use Rattle.gq_rows.specs.Keeping.{bar_of, HasForm, HoldsOf, IsMost, IsNeverReached, Keeps, KeepsFirst, held_of, kept_by}
+use Rattle.gq_rows.specs.Tables.{HasBar, Held, Holds, HoldsAs, StandsFor}
 use Rattle.gq_rows.specs.declared.held.Form.{Form}
 use Rattle.gq_rows.specs.declared.held.Form.TheVariants as form
 use Rattle.gq_rows.specs.declared.held.Rows.{Rows}
@@ -112,6 +113,16 @@ module _ (b : Bound) (most : ℕ) (small : most < 2 ^ 32) (rows : List Row) (v :
   from_all true (Some m) n h = h
   from_all false (Some m) n h = cc
 
+  bar-within : (m n : ℕ) (list : List Row) (bar : Option (List Val)) → m ≤ n → HasBar b n list bar → HasBar b m list bar
+  bar-within m n list None le h = tt
+  bar-within m n list (Some bar) le h = omega (arith, h, le)
+
+  bar-beyond : (m n : ℕ) (list : List Row) (bar : Option (List Val)) → (m ≤ length list → n ≤ m) → HasBar b m list bar → HasBar b n list bar
+  bar-beyond m n list None le h = tt
+  bar-beyond m n list (Some bar) le h =
+      let long : m ≤ length list = omega (arith, h, count_by-le-length (λ (r : Row). is_le (keys_order b.keys r.keys bar)) list) in
+      omega (arith, h, le long)
+
   -- so many rows first, or as many as fit 64 bits
   fewer : (limit : Option ℕ) (m : ℕ) → IsMost limit m → at_most limit (length rows) ≤ most → HoldsAs false false limit b rows held → KeepsFirst b m most rows v
   fewer None m is few h = absurd is
@@ -123,6 +134,7 @@ module _ (b : Bound) (most : ℕ) (small : most < 2 ^ 32) (rows : List Row) (v :
           holds = h.holds;
           part = record { rest = h.part.rest; whole = h.part.whole; behind = each-map _ _ (λ r le. omega (arith, le, is)) h.part.rest h.part.behind };
           short = omega (arith, h.short, is, few, small, whole, length-append h.list h.part.rest);
+          bar = bar-within m n h.list (bar_of v) (omega (arith, is)) h.bar;
         };
         few = omega (arith, few, is);
       }
@@ -131,6 +143,7 @@ module _ (b : Bound) (most : ℕ) (small : most < 2 ^ 32) (rows : List Row) (v :
   all_first None m is k = absurd is
   all_first (Some n) m is k =
       let h = k.holds in
+      let few = k.few in
       let whole = length_permutation rows (h.list ++ h.part.rest) h.part.whole in
       record {
         list = h.list;
@@ -141,6 +154,7 @@ module _ (b : Bound) (most : ℕ) (small : most < 2 ^ 32) (rows : List Row) (v :
           behind = each-map _ _ (λ r le. omega (arith, le, is, k.few, small, whole, length-append h.list h.part.rest, count_by-le-length (λ x. is_le (by_keys b x r)) h.list)) h.part.rest h.part.behind;
         };
         short = omega (arith, h.short, is);
+        bar = bar-beyond m n h.list (bar_of v) (λ k. omega (arith, k, is, few, small, whole, length-append h.list h.part.rest)) h.bar;
       }
 
   pub keeps_of : (f : Form) → HasForm b f → IsFirst f rows → kept b rows ≤ most → Holds b rows held → Keeps f b most rows v

@@ -1,4 +1,5 @@
 mod Answering
+mod Bars
 mod ByKeys
 mod ClassRows
 mod Classes
@@ -9,6 +10,7 @@ mod Fronts
 pub mod Listings
 mod Looking
 mod Pieces
+pub mod Pushing
 mod Ranked
 mod Rising
 mod Standings

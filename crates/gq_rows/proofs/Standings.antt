@@ -1,6 +1,6 @@
 -- A table stands for the listing that was pushed to it, one outcome after another.
-use Rattle.std.proofs.Common.{◌≡◌, ℕ, ◌*◌, ◌^◌, ◌<◌, ◌≤◌, Bool, true, false, not, cond, List, [], ◌∷◌, ◌++◌, length, map, take, Ok, Err, Result, Some, None, Option, refl, sym, ap, ◌∙◌, subst, arith, length-append, length-take, append-nil, true≢false}
-use Rattle.std.specs.Prelude.{nat_le, ◌||◌}
+use Rattle.std.proofs.Common.{◌≡◌, ℕ, ◌*◌, ◌^◌, ◌<◌, ◌≤◌, Bool, true, false, not, cond, List, [], ◌∷◌, ◌++◌, length, map, take, Ok, Err, Result, Some, None, Option, refl, sym, ap, ◌∙◌, subst, arith, length-append, length-take, append-nil, true≢false, Vec, Global}
+use Rattle.std.specs.Prelude.{nat_le, ◌||◌, option_map}
 use Rattle.std.specs.List.{Contains}
 use Rattle.std.specs.Option.{option_copied}
 use Rattle.std.specs.Borrow.{Bor}
@@ -12,6 +12,7 @@ use Rattle.std.proofs.lemmas.List.Sorted.{length_permutation}
 use Rattle.gq_base.specs.Lists.{is_empty}
 use Rattle.gq_base.specs.Plain.{Graph}
 use Rattle.gq_base.specs.Values.{val}
+use Rattle.gq_base.specs.declared.Value.{Value}
 use Rattle.gq_expr.specs.declared.Fault.{Fault}
 use Rattle.gq_plan.specs.Meaning.{found}
 use Rattle.gq_plan.specs.Outcomes.{Row}
@@ -21,7 +22,7 @@ use Rattle.gq_plan.specs.declared.typed.Typed.{Typed}
 use Rattle.gq_rows.specs.Answers.{by_keys, cut_of, kept, looked_at, most_listed, rows_in}
 use Rattle.gq_rows.specs.Inner.{table_of}
 use Rattle.gq_rows.specs.Keeping.{HasForm, HoldsList, IsFull, IsNeverReached, IsNoFault, IsPast, Keeps, KeepsFirst, KeepsMore, PushesBy, held_of}
-use Rattle.gq_rows.specs.Tables.{PushesRow, Pushes, StandsFor, StandsForSome, Table, Takes, is_full, is_full_table, late_outcome, outcome_in}
+use Rattle.gq_rows.specs.Tables.{HasBar, PushesRow, Pushes, StandsFor, StandsForSome, Table, Takes, is_full, is_full_table, late_outcome, outcome_in}
 use Rattle.gq_rows.specs.declared.held.Form.{Form}
 use Rattle.gq_rows.specs.declared.held.Form.TheVariants as form
 use Rattle.gq_rows.specs.declared.held.Rows.{Rows}
@@ -204,11 +205,11 @@ top-ready t old n view small h some is = let k = kept_in t old (form.Top n) view
 holds-none : (c k : ℕ) (v : Rows) → v.columns.items ≡ [] → v.keys.items ≡ [] → v.count ≡ 0 → HoldsList c k [] v
 holds-none c k v cs ks n = record { columns = ap (map val) cs; keys = ap (map val) ks; count = n; sized = λ i d lt. absurd (omega (arith, lt)) }
 
-no-keeps : (b : Bound) (f : Form) (most : ℕ) (v : Rows) → v.columns.items ≡ [] → v.keys.items ≡ [] → v.count ≡ 0 → v.seen.keys ≡ [] → Keeps f b most [] v
-no-keeps b form.All most v cs ks n seen = (holds-none _ _ v cs ks n, omega arith)
-no-keeps b (form.First m) most v cs ks n seen = (holds-none _ _ v cs ks n, omega arith, omega arith)
-no-keeps b (form.Top m) most v cs ks n seen = record { holds = record { list = []; holds = holds-none _ _ v cs ks n; part = part-none (by_keys b) m; short = omega arith }; few = omega arith }
-no-keeps b form.Classes most v cs ks n seen = record { holds = record { columns = ap (map (λ k. map val k.items)) seen; keys = ap (map val) ks; count = n; sized = λ i d lt. absurd (omega (arith, lt)) }; few = omega arith }
+no-keeps : (b : Bound) (f : Form) (most : ℕ) (v : Rows) → v.columns.items ≡ [] → v.keys.items ≡ [] → v.count ≡ 0 → v.seen.keys ≡ [] → v.bar ≡ None → Keeps f b most [] v
+no-keeps b form.All most v cs ks n seen bar = (holds-none _ _ v cs ks n, omega arith)
+no-keeps b (form.First m) most v cs ks n seen bar = (holds-none _ _ v cs ks n, omega arith, omega arith)
+no-keeps b (form.Top m) most v cs ks n seen bar = record { holds = record { list = []; holds = holds-none _ _ v cs ks n; part = part-none (by_keys b) m; short = omega arith; bar = subst (λ r. HasBar b m [] (option_map (λ (x : Vec Value Global). map val x.items) r)) (sym bar) tt }; few = omega arith }
+no-keeps b form.Classes most v cs ks n seen bar = record { holds = record { columns = ap (map (λ k. map val k.items)) seen; keys = ap (map val) ks; count = n; sized = λ i d lt. absurd (omega (arith, lt)) }; few = omega arith }
 
 none-looked : (f : Form) → form_cut {X = Result Row Fault} f [] ≡ []
 none-looked form.All = refl
@@ -216,5 +217,5 @@ none-looked (form.First n) = take-nil n
 none-looked (form.Top n) = refl
 none-looked form.Classes = refl
 
-pub stands-none : (b : Bound) (f : Form) (most : ℕ) (v : Rows) → HasForm b f → most < 2 ^ 32 → v.columns.items ≡ [] → v.keys.items ≡ [] → v.count ≡ 0 → v.seen.keys ≡ [] → StandsFor b most [] (held_of v)
-stands-none b f most v h small cs ks n seen = stands_for b f most h small [] v (record { rows = []; looked = none-looked f; keeps = no-keeps b f most v cs ks n seen })
+pub stands-none : (b : Bound) (f : Form) (most : ℕ) (v : Rows) → HasForm b f → most < 2 ^ 32 → v.columns.items ≡ [] → v.keys.items ≡ [] → v.count ≡ 0 → v.seen.keys ≡ [] → v.bar ≡ None → StandsFor b most [] (held_of v)
+stands-none b f most v h small cs ks n seen bar = stands_for b f most h small [] v (record { rows = []; looked = none-looked f; keeps = no-keeps b f most v cs ks n seen bar })

@@ -1,5 +1,6 @@
 -- What a table of rows holds, and the listings of outcomes that it stands for.
-use Rattle.std.specs.Prelude.{◌≡◌, ℕ, ◌*◌, ◌<◌, ◌≤◌, nat_le, Bool, true, false, Option, Some, None, List, ◌++◌, length, map, flat_map, Result, Ok, Err}
+use Rattle.std.specs.Prelude.{◌≡◌, ℕ, ◌*◌, ◌<◌, ◌≤◌, nat_le, Bool, true, false, Option, Some, None, List, ◌++◌, length, map, flat_map, count_by, Result, Ok, Err}
+use Rattle.std.specs.Ordering.{is_le}
 use Rattle.std.specs.List.{All, Contains}
 use Rattle.gq_base.specs.Lists.{is_empty}
 use Rattle.gq_base.specs.Plain.{Graph}
@@ -11,7 +12,7 @@ use Rattle.gq_plan.specs.Rows.{as_read}
 use Rattle.gq_plan.specs.declared.assignment.Assignment.{Assignment}
 use Rattle.gq_plan.specs.declared.bound.Bound.{Bound}
 use Rattle.gq_plan.specs.declared.typed.Typed.{Typed}
-use Rattle.gq_rows.specs.Answers.{Answers, by_keys, classes, cut_of, kept, looked_at, most_listed, rows_in}
+use Rattle.gq_rows.specs.Answers.{Answers, by_keys, classes, cut_of, kept, keys_order, looked_at, most_listed, rows_in}
 use Rattle.gq_rows.specs.Parts.{Part}
 use Rattle.gq_rows.specs.declared.refusal.More.{More}
 use Rattle.gq_rows.specs.declared.refusal.More.TheVariants as more
@@ -19,12 +20,13 @@ use Rattle.gq_rows.specs.declared.refusal.RowRefusal.{RowRefusal}
 use Rattle.gq_rows.specs.declared.refusal.RowRefusal.TheVariants as refusal
 
 -- the values that a table holds: those of columns and those of keys, one row after another, and how many rows they are; with
--- DISTINCT the columns stand among the classes, those of one row each
+-- DISTINCT the columns stand among the classes, those of one row each; with ORDER BY and LIMIT, keys that are a bar
 pub record Held : Type 0 where
   pub columns : List Val
   pub keys : List Val
   pub count : ℕ
   pub classes : List (List Val)
+  pub bar : Option (List Val)
 
 -- a table of rows: the query, the most rows that are kept, the alternative that was started, and what is held
 pub record Table : Type 0 where
@@ -46,12 +48,18 @@ pub record HoldsRows (c k : ℕ) (rows : List Row) (h : Held) : Type 0 where
   pub count : h.count ≡ length rows
   pub sized : All (IsSized c k) rows
 
+-- at least n rows do not come after the bar, where there is one
+abbrev pub HasBar : Bound → ℕ → List Row → Option (List Val) → Type 0
+HasBar b n rows None = Unit {0}
+HasBar b n rows (Some bar) = n ≤ count_by (λ (r : Row). is_le (keys_order b.keys r.keys bar)) rows
+
 -- with ORDER BY and LIMIT, at most twice SKIP plus LIMIT of the rows, among them all that come first
 pub record HoldsFirst (b : Bound) (n : ℕ) (rows : List Row) (h : Held) : Type 0 where
   pub list : List Row
   pub holds : HoldsRows (length b.columns) (length b.keys) list h
   pub part : Part (by_keys b) n rows list
   pub short : length list ≤ 2 * n
+  pub bar : HasBar b n list h.bar
 
 -- with DISTINCT, the first row of each class
 pub record HoldsClasses (b : Bound) (rows : List Row) (h : Held) : Type 0 where

@@ -24,6 +24,7 @@ fn first_rows<'g>(alloc: Global, rows: Rows<'g>) -> Result<Rows<'g>, Memory>
         keys,
         count,
         seen,
+        bar: _,
     } = rows;
     let mut columns = Vec::new(alloc);
     'classes: for class in seen.as_slice() {
@@ -34,6 +35,7 @@ fn first_rows<'g>(alloc: Global, rows: Rows<'g>) -> Result<Rows<'g>, Memory>
         keys,
         count,
         seen: IndexSet::new(alloc),
+        bar: None,
     })
 }
 
@@ -79,6 +81,7 @@ fn window_of<'g>(bound: &Bound, rows: Rows<'g>) -> Listing<'g>
         keys: _,
         count,
         seen: _,
+        bar: _,
     } = rows;
     Listing {
         values: columns,

@@ -1,14 +1,15 @@
 //! The rows that a table holds, as values.
-ghost use Rattle.std.specs.Prelude.{◌≡◌, ◌+◌, ◌<◌, ◌≤◌, ◌^◌, min, true, false};
+ghost use Rattle.std.specs.Prelude.{◌≡◌, ◌+◌, ◌<◌, ◌≤◌, ◌^◌, false, length, map, min, true};
 ghost use Rattle.gq_rows.specs.Judged.{asked_outcome, column_count, key_count};
-ghost use Rattle.gq_rows.specs.Keeping.{Adds, IsOpen, PushesBy};
+ghost use Rattle.gq_base.specs.Values.{val};
+ghost use Rattle.gq_rows.specs.Keeping.{Adds, AddsFirst, IsBehind, IsOpen, PushesBy, bar_of, last_of};
 ghost use Rattle.gq_rows.specs.declared.held.Form.TheVariants.{All, Classes, First, Top};
 
 use crate::judging::{Question, judge};
 use crate::refusal::{More, RowRefusal};
-use crate::sorting::sorted;
+use crate::sorting::{cut, is_level_or_behind, last_keys};
 use gq_base::Value;
-use gq_plan::Assignment;
+use gq_plan::{Assignment, Bound};
 use indexmap::IndexSet;
 use std::alloc::Global;
 
@@ -26,13 +27,15 @@ pub enum Form {
 }
 
 /// The values of rows, one row after another: those of the columns, and those of the keys. With DISTINCT the columns of
-/// the first row of each class are in the set, and the list of columns is work space.
+/// the first row of each class are in the set, and the list of columns is work space. Where only the rows that come first
+/// count, the bar has the keys of the last of them since the rows were cut last.
 #[derive(Drop)]
 pub struct Rows<'g> {
     pub(crate) columns: Vec<Value<'g>>,
     pub(crate) keys: Vec<Value<'g>>,
     pub(crate) count: usize,
     pub(crate) seen: IndexSet<Vec<Value<'g>>>,
+    pub(crate) bar: Option<Vec<Value<'g>>>,
 }
 
 impl<'g> Rows<'g> {
@@ -101,6 +104,51 @@ impl<'g> Rows<'g> {
         Ok(More::Go)
     }
 
+    // Whether no row is answered, or the last row comes behind the bar or level with it.
+    fn is_last_behind(&self, n: usize, bound: &Bound) -> bool
+        ensures { let keys = last_of (length bound.now.keys) (map val self.now.keys.items) in
+            result ≡ true → 0 < n → IsBehind bound.now (bar_of self.now) keys }
+    {
+        if n == 0 {
+            return true;
+        }
+        match &self.bar {
+            None => false,
+            Some(bar) => {
+                let keys = last_keys(self.keys.as_slice(), bound);
+                is_level_or_behind(bound, bar.as_slice(), keys)
+            }
+        }
+    }
+
+    // Takes a row for those that come first, and drops it where it comes behind the bar.
+    fn add_first(
+        &mut self,
+        n: usize,
+        question: &Question<'g>,
+        row: &Assignment,
+    ) -> Result<bool, RowRefusal>
+        requires { IsOpen (Top n) question.now.limit self.old }
+        ensures { let adds = AddsFirst question.now.bound.now n question.now.limit in
+            adds (asked_outcome question.now row.now) self.old self.new result }
+    {
+        let columns = self.columns.len();
+        let keys = self.keys.len();
+        let may = has_room(self.count, n, question.limit as usize);
+        match self.add(question, row, may) {
+            Ok(true) => {}
+            Ok(false) => return Ok(false),
+            Err(refusal) => return Err(refusal),
+        }
+        if self.is_last_behind(n, question.bound) {
+            self.columns.truncate(columns);
+            self.keys.truncate(keys);
+            self.count -= 1;
+            return Ok(false);
+        }
+        Ok(true)
+    }
+
     /// Keeps rows behind which, or level with which, so many rows may still come first.
     pub(crate) fn push_top(
         &mut self,
@@ -113,14 +161,13 @@ impl<'g> Rows<'g> {
         ensures { let pushes = PushesBy (Top n) question.now.bound.now question.now.limit in
             pushes (asked_outcome question.now row.now) self.old self.new result }
     {
-        let may = has_room(self.count, n, question.limit as usize);
-        match self.add(question, row, may) {
+        match self.add_first(n, question, row) {
             Ok(true) => {}
             Ok(false) => return Ok(More::Go),
             Err(refusal) => return Err(refusal),
         }
         if self.count / 2 >= n {
-            let Ok(first) = sorted(alloc, self, question.bound, n) else {
+            let Ok(first) = cut(alloc, self, question.bound, n) else {
                 return Err(RowRefusal::Memory);
             };
             *self = first;

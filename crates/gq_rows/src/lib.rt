@@ -12,3 +12,6 @@ mod table;
 pub use listing::Listing;
 pub use refusal::{More, RowRefusal};
 pub use table::RowTable;
+
+#[cfg(test)]
+mod tests;

@@ -82,6 +82,7 @@ impl<'g> RowTable<'g> {
                 keys: Vec::new(alloc),
                 count: 0,
                 seen: IndexSet::new(alloc),
+                bar: None,
             },
         }
     }
