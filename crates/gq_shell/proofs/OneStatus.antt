@@ -41,7 +41,7 @@ module _ (words : List (List ℕ)) (files : Names) (input : List ℕ) where
   -- the statement of the input asks a query that is answered
   asks : (path : List ℕ) (given : path_of words ≡ Some path) (graph : Graph) (loads : load_of path files standard ≡ Ok graph) (lines : List (List Val)) (text : List ℕ)
       → RepliesWith graph (statement_of input) (Rows lines) text → IsQuery words files input
-  asks path given graph loads lines text replies = record { path = path; given = given; told = (graph, loads, replies.query, replies.bound, replies.asked) }
+  asks path given graph loads lines text replies = record { path = path; given = given; told = (graph, loads, (replies.query, replies.bound, replies.asked)) }
 
   -- a statement that was replied to and is refused asks such a query
   both_replies : (path : List ℕ) (given : path_of words ≡ Some path) (graph : Graph) (loads : load_of path files standard ≡ Ok graph) (text text' : List ℕ)

@@ -12,6 +12,7 @@ use Rattle.gq_binder.specs.Binding.{IsBound}
 use Rattle.gq_binder.specs.Refusals.{first_refusal}
 use Rattle.gq_binder.specs.declared.refusal.BindRefusal.{BindRefusal}
 use Rattle.gq_execute.specs.Replies.{Question, Reply, Rows, Faulted, TooManyRows, IsPermitted}
+use Rattle.gq_execute.specs.declared.settings.Order.TheVariants as order
 use Rattle.gq_expr.specs.declared.Fault.{Fault}
 use Rattle.gq_io.specs.Causes.{Rose}
 use Rattle.gq_io.specs.Outside.{AppendsFront, Names}
@@ -52,9 +53,10 @@ pub record IsAsked (graph : Graph) (statement : List ℕ) (query : Query) (bound
   pub spelled : SpelledText statement (tree.Query query)
   pub binds : IsBound query statement graph.catalog bound
 
--- what is asked then, and how many rows may be kept
+-- what is asked then: plans take connected components, and so many rows may be kept
 abbrev pub question : Graph → Query → Bound → Question
-question graph query bound = record { graph = graph; query = query; bound = bound; most = most_rows }
+question graph query bound =
+    record { graph = graph; query = query; bound = bound; order = order.Greedy; most = most_rows }
 
 -- a reply to such a query: one that openCypher permits over the graph, and its text
 pub record RepliesWith (graph : Graph) (statement : List ℕ) (reply : Reply) (text : List ℕ) : Type 0 where

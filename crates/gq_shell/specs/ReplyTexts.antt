@@ -17,8 +17,15 @@ fault_name fault.Overflow = codes "Overflow"
 fault_name fault.DivideByZero = codes "DivideByZero"
 fault_name fault.Kind = codes "Kind"
 
+-- the lines that say why there are no rows
+abbrev pub fault_text : Fault → List ℕ
+fault_text f = line (codes "error: Fault " ++ fault_name f)
+
+abbrev pub many_text : List ℕ
+many_text = line (codes "error: TooManyRows " ++ decimal most_rows)
+
 -- a header, a line for each row and their number; or one line that says why there are none
 abbrev pub reply_text : Graph → Bound → Reply → List ℕ
 reply_text graph bound (Rows lines) = listing_text (map (λ c. c.name) bound.columns) graph lines
-reply_text graph bound (Faulted f) = line (codes "error: Fault " ++ fault_name f)
-reply_text graph bound TooManyRows = line (codes "error: TooManyRows " ++ decimal most_rows)
+reply_text graph bound (Faulted f) = fault_text f
+reply_text graph bound TooManyRows = many_text

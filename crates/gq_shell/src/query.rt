@@ -3,13 +3,12 @@
 ghost use Rattle.std.specs.Prelude.{◌<◌, All, length};
 ghost use Rattle.gq_io.specs.Causes.{HasCause};
 ghost use Rattle.gq_io.specs.Outside.{Writes};
-ghost use Rattle.gq_execute.specs.Replies.{Faulted, TooManyRows};
 ghost use Rattle.gq_plan.specs.Soundness.{IsSound};
-ghost use Rattle.gq_shell.specs.ReplyTexts.{reply_text};
+ghost use Rattle.gq_shell.specs.ReplyTexts.{fault_text, many_text};
 ghost use Rattle.gq_shell.specs.Steps.{Asks};
 
 use crate::status::Status;
-use gq_execute::{AnswerRefusal, Settings, answer};
+use gq_execute::{AnswerRefusal, Order, Settings, answer};
 use gq_expr::Fault;
 use gq_io::{Failed, Sink};
 use gq_plan::Bound;
@@ -21,12 +20,10 @@ use std::alloc::Global;
 const MOST_ROWS: u32 = 4_194_304;
 
 // Writes the line of a fault.
-fn write_fault<O: Sink>(out: &mut O, graph: &Graph, bound: &Bound, fault: Fault) -> Result<(), Failed>
-    ensures bytes { Writes (O.taken out.old) (O.taken out.new)
-        (reply_text graph.now bound.now (Faulted fault)) result }
+fn write_fault<O: Sink>(out: &mut O, fault: Fault) -> Result<(), Failed>
+    ensures bytes { Writes (O.taken out.old) (O.taken out.new) (fault_text fault) result }
     ensures cause { HasCause (O.faults out.old) (O.faults out.new) result }
 {
-    let _ = (graph, bound);
     let front = match fault {
         Fault::Overflow => "error: Fault Overflow",
         Fault::DivideByZero => "error: Fault DivideByZero",
@@ -36,12 +33,10 @@ fn write_fault<O: Sink>(out: &mut O, graph: &Graph, bound: &Bound, fault: Fault)
 }
 
 // Writes the line of a query that would keep too many rows.
-fn write_many<O: Sink>(out: &mut O, graph: &Graph, bound: &Bound) -> Result<(), Failed>
-    ensures bytes { Writes (O.taken out.old) (O.taken out.new)
-        (reply_text graph.now bound.now TooManyRows) result }
+fn write_many<O: Sink>(out: &mut O) -> Result<(), Failed>
+    ensures bytes { Writes (O.taken out.old) (O.taken out.new) many_text result }
     ensures cause { HasCause (O.faults out.old) (O.faults out.new) result }
 {
-    let _ = (graph, bound);
     let place = Place {
         before: "",
         number: MOST_ROWS,
@@ -56,11 +51,14 @@ pub fn reply_to_query<O: Sink>(alloc: Global, out: &mut O, graph: &Graph, bound:
     ensures { Asks graph.now bound.now (O.taken out.old) (O.taken out.new)
         (O.faults out.old) (O.faults out.new) result }
 {
-    let settings = Settings { rows: MOST_ROWS };
+    let settings = Settings {
+        order: Order::Greedy,
+        rows: MOST_ROWS,
+    };
     let (written, status) = match answer(alloc, graph, bound, &settings) {
         Ok(listing) => (write_listing(out, graph, bound, &listing), Status::Ended),
-        Err(AnswerRefusal::Fault(fault)) => (write_fault(out, graph, bound, fault), Status::Refused),
-        Err(AnswerRefusal::TooManyRows { .. }) => (write_many(out, graph, bound), Status::Refused),
+        Err(AnswerRefusal::Fault(fault)) => (write_fault(out, fault), Status::Refused),
+        Err(AnswerRefusal::TooManyRows { .. }) => (write_many(out), Status::Refused),
         Err(AnswerRefusal::Memory) => return Status::Memory,
     };
     match written {
