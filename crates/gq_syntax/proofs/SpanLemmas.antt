@@ -1,5 +1,5 @@
 -- The spans of an expression, with its tree opened by one level.
-use Rattle.std.proofs.Common.{◌≡◌, List, [], ◌∷◌, ◌++◌, map, flat_map, All, ap, sym, ◌∙◌, subst, ℕ}
+use Rattle.std.proofs.Common.{◌≡◌, List, [], ◌∷◌, ◌++◌, map, flat_map, All, sym, subst, ℕ}
 use Rattle.std.proofs.lemmas.List.Elements.{All-cons, All-head, All-nil, All-same, All-tail}
 use Rattle.gq_lexer.specs.Sources.{IsWhole}
 use Rattle.gq_lexer.specs.declared.token.Span.{Span}
