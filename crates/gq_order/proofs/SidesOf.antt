@@ -3,9 +3,9 @@ use Rattle.std.proofs.Common.{◌≡◌, ◌∙◌, ap, ap₂, sym, refl, ℕ, B
 use Rattle.std.specs.List.{range_with_len}
 use Rattle.gq_base.specs.Catalogs.{Tables}
 use Rattle.gq_order.specs.Given.{Draft, begun, with_step, with_rels, with_side, rel_step, loop_steps, due, due_pairs, due_tests, pair_due, test_due, shared, known_with, way_of, single_in}
-use Rattle.gq_order.specs.Parts.{sides, own_sides}
 use Rattle.gq_plan.specs.Known.{Known, none, with_node, with_both}
 use Rattle.gq_plan.specs.Meaning.{holds}
+use Rattle.gq_plan.specs.Parts.{sides, own_sides}
 use Rattle.gq_plan.specs.Soundness.{left_of, right_of, rights, has_number}
 use Rattle.gq_plan.specs.Steps.{Plan, Step, Extend, Close, Join, Keep, Differ, NoLoop, steps}
 use Rattle.gq_plan.specs.declared.typed.Typed.{Typed}
@@ -56,7 +56,7 @@ module _ (catalog : Tables) (y : Typed) where
       go true = refl
       go false = refl
 
-  found_sides : (other : Option Known) (d : Draft) (x : ℕ) (found : Option TypedRel) → sides_in (with_step catalog y other d x found).steps ≡ sides_in d.steps
+  pub found_sides : (other : Option Known) (d : Draft) (x : ℕ) (found : Option TypedRel) → sides_in (with_step catalog y other d x found).steps ≡ sides_in d.steps
   unfolding sides
   found_sides other d x None = refl
   found_sides other d x (Some r) =

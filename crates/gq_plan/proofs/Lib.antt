@@ -4,7 +4,9 @@ pub mod Counts
 pub mod Demands
 pub mod Each
 pub mod FirstSteps
+pub mod Flats
 pub mod NameLemmas
+pub mod Pieces
 pub mod Products
 pub mod ReadLemmas
 pub mod Rows
