@@ -1,8 +1,8 @@
 -- Rows that do not come before the last of those that come first.
-use Rattle.std.proofs.Common.{◌≡◌, ℕ, ◌+◌, ◌-◌, ◌<◌, ◌≤◌, zero, suc, Bool, true, false, cond, List, [], ◌∷◌, ◌++◌, length, map, take, drop, get_or, refl, sym, ap, ◌∙◌, subst, Option, Some, None, zero-add, append-nil, arith, length-append, length-take, true≢false}
+use Rattle.std.proofs.Common.{◌≡◌, ℕ, ◌+◌, ◌-◌, ◌<◌, ◌≤◌, zero, suc, Bool, true, false, cond, List, [], ◌∷◌, ◌++◌, length, map, take, drop, refl, sym, ap, ◌∙◌, subst, Option, Some, None, zero-add, append-nil, arith, length-append, length-take, true≢false}
 use Rattle.std.specs.Prelude.{count_by, flat_map}
 use Rattle.std.specs.Cmp.{IsTotalOrder, tied_itself}
-use Rattle.std.specs.List.{All, AllByRecursion}
+use Rattle.std.specs.List.{AllByRecursion}
 use Rattle.std.specs.Ordering.{is_le}
 use Rattle.std.specs.declared.cmp.Ordering.{Ordering}
 use Rattle.std.proofs.Math.Seq.{get_or-append_seam}
@@ -15,7 +15,7 @@ use Rattle.gq_plan.specs.Outcomes.{Row}
 use Rattle.gq_plan.specs.declared.bound.Bound.{Bound}
 use Rattle.gq_rows.specs.Answers.{by_keys, keys_order}
 use Rattle.gq_rows.specs.Keeping.{HoldsOf, IsBehind, last_of}
-use Rattle.gq_rows.specs.Tables.{HasBar, IsSized}
+use Rattle.gq_rows.specs.Tables.{HasBar}
 use Rattle.gq_rows.specs.declared.held.Rows.{Rows}
 use Rattle.gq_rows.proofs.Ranked.{by_keys_total, keys_order_total}
 use Rattle.gq_rows.proofs.Rising.{Rises, le-chain}

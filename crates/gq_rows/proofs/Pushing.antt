@@ -14,7 +14,8 @@ took o old new more.Enough p = p.0
 
 -- a table that stands for some listing stands for some listing
 pub still_stands : (o : Option (Result Row Fault)) (old new : Table) (m : More) → Pushes o old new (Ok m) → IsSameQuery old new → StandsForSome old → StandsForSome new
-still_stands o old new m p same some =
-    (some.0 ++ found o,
-    subst (λ b. StandsFor b new.most (some.0 ++ found o) new.held) (sym same.bound)
-    (subst (λ k. StandsFor old.bound k (some.0 ++ found o) new.held) (sym same.most) (took o old new m p some.0 some.1)))
+still_stands o old new m p same some = (
+  some.0 ++ found o,
+  subst (λ b. StandsFor b new.most (some.0 ++ found o) new.held) (sym same.bound)
+      (subst (λ k. StandsFor old.bound k (some.0 ++ found o) new.held) (sym same.most) (took o old new m p some.0 some.1)),
+)

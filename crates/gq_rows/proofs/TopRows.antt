@@ -1,5 +1,5 @@
 -- A part of the rows, held as values one row after another.
-use Rattle.std.proofs.Common.{◌≡◌, ℕ, ◌+◌, ◌-◌, ◌*◌, ◌<◌, ◌≤◌, zero, suc, min, List, [], ◌∷◌, ◌++◌, length, map, take, drop, Ok, Err, Result, Some, None, Option, refl, sym, ap, ◌∙◌, subst, arith, append-nil, length-append, length-take, true, false, Bool}
+use Rattle.std.proofs.Common.{◌≡◌, ℕ, ◌+◌, ◌*◌, ◌<◌, ◌≤◌, zero, suc, min, List, [], ◌∷◌, ◌++◌, length, map, take, Ok, Err, Result, Some, None, Option, refl, sym, ap, ◌∙◌, subst, arith, append-nil, length-append, length-take, false, Bool}
 use Rattle.std.specs.Prelude.{IfSome, count_by, flat_map, option_map}
 use Rattle.std.specs.List.{take-map}
 use Rattle.std.specs.Ordering.{is_le}
@@ -12,8 +12,8 @@ use Rattle.gq_expr.specs.declared.Fault.{Fault}
 use Rattle.gq_plan.specs.Outcomes.{Row}
 use Rattle.gq_plan.specs.declared.bound.Bound.{Bound}
 use Rattle.gq_rows.specs.Answers.{by_keys}
-use Rattle.gq_rows.specs.Keeping.{Added, AddedFirst, Adds, HoldsOf, IsBehind, IsNoFault, Keeps, KeepsFirst, KeepsMore, Left, PushesBy, bar_of, kept_by, last_of, more_rows}
-use Rattle.gq_rows.specs.Sorting.{HasLastKeys, Sorted, Sorts}
+use Rattle.gq_rows.specs.Keeping.{Added, AddedFirst, Adds, HoldsOf, IsBehind, IsNoFault, KeepsFirst, KeepsMore, Left, PushesBy, bar_of, last_of, more_rows}
+use Rattle.gq_rows.specs.Sorting.{HasLastKeys, Sorts}
 use Rattle.gq_rows.specs.Tables.{HasBar}
 use Rattle.gq_rows.specs.declared.held.Form.TheVariants.{Top}
 use Rattle.gq_rows.specs.declared.held.Rows.{Rows}

@@ -74,7 +74,8 @@ fn end_of(bound: &Bound, count: usize) -> usize
 // The first rows dropped, and at most so many kept.
 fn window_of<'g>(bound: &Bound, rows: Rows<'g>) -> Listing<'g>
     requires { (list : List Row) × HoldsOf bound.now list rows }
-    ensures { (list : List Row) → HoldsOf bound.now list rows.entry → result ≡ columns_of (window bound.now list) }
+    ensures { (list : List Row) → HoldsOf bound.now list rows.entry
+        → result ≡ columns_of (window bound.now list) }
 {
     let Rows {
         columns,
