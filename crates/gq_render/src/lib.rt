@@ -9,7 +9,7 @@ mod refusal;
 mod value;
 
 pub use column::write_column;
-pub use name::write_name;
+pub use name::{put_name, write_name};
 pub use refusal::{Place, write_refusal};
 
 #[cfg(test)]
