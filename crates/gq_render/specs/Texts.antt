@@ -1,10 +1,7 @@
 -- The texts of replies (this project's profile).
-use Rattle.std.specs.Prelude.{ℕ, true, false, List, [], ◌∷◌, ◌++◌, ◌==◌, if◌then◌else◌, length, codes, decimal, flat_map}
+use Rattle.std.specs.Prelude.{ℕ, true, false, List, [], ◌∷◌, ◌++◌, ◌==◌, if◌then◌else◌, codes, decimal, flat_map}
 use Rattle.std.specs.Fmt.{signed_decimal}
-use Rattle.std.specs.declared.option.Option.{Option}
-use Rattle.gq_base.specs.Plain.{cell_val}
 use Rattle.gq_base.specs.Values.{Val, null, flag, int, str}
-use Rattle.gq_base.specs.declared.Cell.{Cell}
 
 -- a byte of a name: backslash, LF, CR and tab are written with a backslash, all else is as it is
 abbrev pub name_byte : ℕ → List ℕ
@@ -36,10 +33,6 @@ property_text (int z) = signed_decimal z
 property_text (str text) = quoted_text text
 property_text value = []
 
--- a property's cell; one that is not there is null
-abbrev pub cell_text : Option Cell → List ℕ
-cell_text cell = property_text (cell_val cell)
-
 -- a line ends with LF
 abbrev pub line : List ℕ → List ℕ
 line text = text ++ codes "\n"
@@ -52,10 +45,6 @@ after_tab text = codes "\t" ++ text
 abbrev pub tabbed : List (List ℕ) → List ℕ
 tabbed [] = []
 tabbed (text ∷ texts) = text ++ flat_map after_tab texts
-
--- a reply of one column: the header, a line for each row, and the number of rows
-abbrev pub column_text : List ℕ → List (Option Cell) → List ℕ
-column_text name cells = line (name_text name) ++ flat_map (λ c. line (cell_text c)) cells ++ line (codes "rows " ++ decimal (length cells))
 
 -- a number in a refusal, and what goes before it
 pub record PlaceText : Type 0 where

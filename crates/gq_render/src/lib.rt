@@ -2,14 +2,12 @@
 //! batch, so that a sink is called once for some thousand bytes, and takes no memory.
 #![tactic(auto)]
 
-mod column;
 mod escape;
 mod listing;
 mod name;
 mod refusal;
 mod value;
 
-pub use column::write_column;
 pub use listing::{write_listing, write_row};
 pub use name::{put_name, write_name};
 pub use refusal::{Place, write_refusal};

@@ -2,17 +2,16 @@
 
 ghost use Rattle.std.specs.Prelude.{◌≡◌, ◌++◌, codes, decimal};
 ghost use Rattle.std.specs.Fmt.{signed_decimal};
-ghost use Rattle.std.specs.Option.{option_copied};
 ghost use Rattle.gq_base.specs.Values.{val};
 ghost use Rattle.gq_base.specs.Values as vals;
 ghost use Rattle.gq_io.specs.Causes.{HasCause};
 ghost use Rattle.gq_io.specs.Outside.{Writes};
 ghost use Rattle.gq_io.specs.Putting.{Puts};
 ghost use Rattle.gq_render.specs.Listings.{key_of, label_of, type_of, value_text};
-ghost use Rattle.gq_render.specs.Texts.{cell_text, property_text, quoted_text};
+ghost use Rattle.gq_render.specs.Texts.{property_text, quoted_text};
 
 use crate::escape::{Form, put_escaped};
-use gq_base::{Cell, NodeId, RelId, Value};
+use gq_base::{NodeId, RelId, Value};
 use gq_io::{Batch, Failed, Sink};
 use gq_store::Graph;
 use itoa::Buffer;
@@ -44,22 +43,6 @@ pub(crate) fn put_count<O: Sink>(batch: &mut Batch, out: &mut O, count: usize) -
     ensures cause { HasCause (O.faults out.old) (O.faults out.new) result }
 {
     batch.put(out, Buffer::new().format(count).as_bytes())
-}
-
-// Puts the value of a cell; none is null.
-pub(crate) fn put_cell<O: Sink>(
-    batch: &mut Batch,
-    out: &mut O,
-    cell: Option<&Cell>,
-) -> Result<(), Failed>
-    ensures bytes { Puts (O.taken out.old) (O.taken out.new) batch.old batch.new
-        (cell_text (option_copied cell.entry)) result }
-    ensures cause { HasCause (O.faults out.old) (O.faults out.new) result }
-{
-    match cell {
-        None => put_property(batch, out, Value::Null),
-        Some(cell) => put_property(batch, out, cell.value()),
-    }
 }
 
 // Puts the value of a property, which is no node and no relationship.
