@@ -87,8 +87,8 @@ module _ (g : Graph) (old : Table) (begun : Progress) where
       taken = taken;
       whole = whole;
       stands = λ before h.
-        let stood = takes (before ++ late_outcomes g b y came.taken) (came.stands before h) in
-        subst (λ l. Stands l new) (more_taken before) (moved new same_bound same_most ((before ++ late_outcomes g b y came.taken) ++ found o) stood);
+          let stood = takes (before ++ late_outcomes g b y came.taken) (came.stands before h) in
+          subst (λ l. Stands l new) (more_taken before) (moved new same_bound same_most ((before ++ late_outcomes g b y came.taken) ++ found o) stood);
     }
 
     -- it is a fault that is looked at
@@ -103,9 +103,9 @@ module _ (g : Graph) (old : Table) (begun : Progress) where
     met_many over = record {
       cut = cut_here;
       many = λ before h.
-        subst (λ l. old.most < kept old.bound (rows_in l)) (more_taken before)
-        (subst (λ q. old.most < kept q (rows_in ((before ++ late_outcomes g b y came.taken) ++ found o))) bound
-        (subst (λ m. m < kept mid.bound (rows_in ((before ++ late_outcomes g b y came.taken) ++ found o))) most (over (before ++ late_outcomes g b y came.taken) (came.stands before h))));
+          subst (λ l. old.most < kept old.bound (rows_in l)) (more_taken before)
+          (subst (λ q. old.most < kept q (rows_in ((before ++ late_outcomes g b y came.taken) ++ found o))) bound
+          (subst (λ m. m < kept mid.bound (rows_in ((before ++ late_outcomes g b y came.taken) ++ found o))) most (over (before ++ late_outcomes g b y came.taken) (came.stands before h))));
     }
 
     -- so each refusal of the table is one of what was owed

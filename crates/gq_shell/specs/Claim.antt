@@ -206,7 +206,7 @@ pub record Runs (words : List (List ℕ)) (outside : Outside) (answer : Status) 
 abbrev pub IsQuery : List (List ℕ) → Names → List ℕ → Type 0
 IsQuery words files input =
     Over words (Some files) (Some input) (λ graph told.
-      (query : Query) × (bound : Bound) × IsAsked graph (statement_of told) query bound)
+    (query : Query) × (bound : Bound) × IsAsked graph (statement_of told) query bound)
 
 -- a permitted answer, written whole, and the only status that may be answered, unless a query may be answered by rows or by
 -- a fault

@@ -26,7 +26,7 @@ rows-preserved c =
     let source = c.advance.ensures.source in
     let complete = c.advance.ensures.complete ∙ i.run.complete in
     let is = outcome_here c.args.graph.now c.args.table.now.bound c.args.pipeline.now.source.typed c.rows.table.bound c.rows.table.alternative c.rows.pipeline.source.typed c.advance.new.self.source.typed c.row.result.now c.advance.new.self.row
-        i.same.bound i.run.alternative (ap (λ (s : Source). s.typed) i.source) (ap (λ (s : Source). s.typed) source) (c.row.ensures.whole complete) in
+    i.same.bound i.run.alternative (ap (λ (s : Source). s.typed) i.source) (ap (λ (s : Source). s.typed) source) (c.row.ensures.whole complete) in
     let pushes = rw c.in-Ok-Go.field-0-is at c.in-Ok-Go.ensures.pushes in
     let query = c.in-Ok-Go.ensures.query in
     let more = pushed_more c.args.graph.now c.args.table.now c.args.pipeline.now c.rows.table c.rows.pipeline c.advance.new.self i.came i.same.bound i.same.most _ next is c.push_row.new.self query.bound query.most pushes.0 in
@@ -50,7 +50,7 @@ returns-in-Ok-Enough c =
     let source = c.advance.ensures.source in
     let complete = c.advance.ensures.complete ∙ i.run.complete in
     let is = outcome_here c.args.graph.now c.args.table.now.bound c.args.pipeline.now.source.typed c.rows.table.bound c.rows.table.alternative c.rows.pipeline.source.typed c.advance.new.self.source.typed c.row.result.now c.advance.new.self.row
-        i.same.bound i.run.alternative (ap (λ (s : Source). s.typed) i.source) (ap (λ (s : Source). s.typed) source) (c.row.ensures.whole complete) in
+    i.same.bound i.run.alternative (ap (λ (s : Source). s.typed) i.source) (ap (λ (s : Source). s.typed) source) (c.row.ensures.whole complete) in
     let pushes = rw c.in-Ok-Enough.field-0-is at c.in-Ok-Enough.ensures.pushes in
     let query = c.in-Ok-Enough.ensures.query in
     record {
@@ -64,7 +64,7 @@ returns-in-Err c =
     let source = c.advance.ensures.source in
     let complete = c.advance.ensures.complete ∙ i.run.complete in
     let is = outcome_here c.args.graph.now c.args.table.now.bound c.args.pipeline.now.source.typed c.rows.table.bound c.rows.table.alternative c.rows.pipeline.source.typed c.advance.new.self.source.typed c.row.result.now c.advance.new.self.row
-        i.same.bound i.run.alternative (ap (λ (s : Source). s.typed) i.source) (ap (λ (s : Source). s.typed) source) (c.row.ensures.whole complete) in
+    i.same.bound i.run.alternative (ap (λ (s : Source). s.typed) i.source) (ap (λ (s : Source). s.typed) source) (c.row.ensures.whole complete) in
     record {
       takes = rw c.from.ensures (met c.args.graph.now c.args.table.now c.args.pipeline.now c.rows.table c.rows.pipeline c.advance.new.self i.came i.same.bound i.same.most _ next is c.push_row.new.self c.in-Err.refusal c.in-Err.ensures.pushes);
     }

@@ -21,14 +21,14 @@ alternatives-preserved c =
     let new = c.take_turn.new.table in
     let run = c.in-Ok.ensures.drains in
     let here = item_at c.args.bound.now.alternatives c.alternatives.typed-index y (subst (λ ys. c.alternatives.typed-index < length ys) c.as_slice-typed-items.ensures c.alternatives-test.true)
-        (c.typed-item.is ∙ ap (λ ys. get_or ys c.alternatives.typed-index y) c.as_slice-typed-items.ensures) in
+    (c.typed-item.is ∙ ap (λ ys. get_or ys c.alternatives.typed-index y) c.as_slice-typed-items.ensures) in
     record {
       bound = run.meets.alike.bound ∙ i.bound;
       most = run.meets.alike.most ∙ i.most;
       some = taken_more _ _ _ y old new i.some run;
       came = λ query text is.
-        turn_taken (question c.args.graph.now query c.args.bound.now c.args.settings.now) (bound_parted (question c.args.graph.now query c.args.bound.now c.args.settings.now) text c.catalog.ensures.valid is)
-        c.alternatives.typed-index y old new here (i.came query text is) (sym c.enough.ensures ∙ c.if-enough.false) run;
+          turn_taken (question c.args.graph.now query c.args.bound.now c.args.settings.now) (bound_parted (question c.args.graph.now query c.args.bound.now c.args.settings.now) text c.catalog.ensures.valid is)
+          c.alternatives.typed-index y old new here (i.came query text is) (sym c.enough.ensures ∙ c.if-enough.false) run;
     }
 
 pub returns-then-enough : goal.returns-then-enough
@@ -42,11 +42,11 @@ returns-in-Err c =
     let i = c.alternatives.invariant in
     let y = c.typed-item.result in
     let here = item_at c.args.bound.now.alternatives c.alternatives.typed-index y (subst (λ ys. c.alternatives.typed-index < length ys) c.as_slice-typed-items.ensures c.alternatives-test.true)
-        (c.typed-item.is ∙ ap (λ ys. get_or ys c.alternatives.typed-index y) c.as_slice-typed-items.ensures) in
+    (c.typed-item.is ∙ ap (λ ys. get_or ys c.alternatives.typed-index y) c.as_slice-typed-items.ensures) in
     record {
       fills = λ query text is.
-        turn_ended (question c.args.graph.now query c.args.bound.now c.args.settings.now) (bound_parted (question c.args.graph.now query c.args.bound.now c.args.settings.now) text c.catalog.ensures.valid is)
-        c.alternatives.typed-index y c.alternatives.table c.take_turn.new.table here (i.came query text is) (sym c.enough.ensures ∙ c.if-enough.false) c.in-Err.refusal c.in-Err.ensures.drains;
+          turn_ended (question c.args.graph.now query c.args.bound.now c.args.settings.now) (bound_parted (question c.args.graph.now query c.args.bound.now c.args.settings.now) text c.catalog.ensures.valid is)
+          c.alternatives.typed-index y c.alternatives.table c.take_turn.new.table here (i.came query text is) (sym c.enough.ensures ∙ c.if-enough.false) c.in-Err.refusal c.in-Err.ensures.drains;
       stands = tt;
     }
 

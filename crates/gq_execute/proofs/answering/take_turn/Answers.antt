@@ -13,7 +13,7 @@ use Rattle.gq_execute.proofs.answering.take_turn.Goals as goal
 pub returns-in-Err : goal.returns-in-Err
 returns-in-Err c = record {
   drains = rw c.from.ensures (sides_refused c.args.graph.now c.args.settings.now.order c.args.typed.now c.args.table.now.bound c.args.table.now c.args.table.now (plan_of c.in_ok-plan.plan)
-    c.catalog.ensures.valid c.requires.sound c.in_ok-plan.ensures.parts c.in_ok-plan.ensures.alone c.requires.most c.in-Err.refusal c.in-Err.ensures.refused);
+      c.catalog.ensures.valid c.requires.sound c.in_ok-plan.ensures.parts c.in_ok-plan.ensures.alone c.requires.most c.in-Err.refusal c.in-Err.ensures.refused);
 }
 
 pub drain-requires-clause-run : goal.drain-requires-clause-run
@@ -35,5 +35,5 @@ returns c =
     let light = sides_light g c.args.settings.now.order y c.args.table.now.most plan c.catalog.ensures.valid c.requires.sound c.in_ok-plan.ensures.parts c.in_ok-plan.ensures.alone few in
     record {
       drains = turned g c.args.settings.now.order y c.args.table.now c.drain.new.table plan c.in_ok-plan.ensures.covers light c.start_alternative.new.self c.in_ok-pipeline.pipeline c.drain.result
-        c.start_alternative.ensures (ap (λ (s : Source). s.typed) p.source) p.owed c.drain.ensures.takes;
+          c.start_alternative.ensures (ap (λ (s : Source). s.typed) p.source) p.owed c.drain.ensures.takes;
     }
