@@ -95,7 +95,8 @@ impl PlanRun<'_> {
         requires sound { IsSound self.now.graph.now.catalog self.now.typed.now }
         requires sized { IsSized self.now.typed.now row.old }
         requires node { node < length self.now.typed.now.nodes }
-        ensures { IsScanned self.now.graph.now self.now.typed.now node place row.old row.new result }
+        ensures { IsScanned self.now.graph.now self.now.typed.now node place
+            row.old row.new result }
     {
         let table = self.typed.nodes.as_slice()[node as usize];
         if place >= self.graph.node_count(table) {
@@ -108,7 +109,8 @@ impl PlanRun<'_> {
     // The relationship at the place, for a relationship variable, and the row to which it leads, for a node variable.
     fn extend(&self, follow: Follow, place: u32, row: &mut Assignment) -> Tried
         requires { CanFollow self.now.graph.now self.now.typed.now row.old follow }
-        ensures { IsExtended self.now.graph.now self.now.typed.now follow place row.old row.new result }
+        ensures { IsExtended self.now.graph.now self.now.typed.now follow place
+            row.old row.new result }
     {
         match self.hop(follow, place, row) {
             None => Tried::Past,
@@ -123,7 +125,8 @@ impl PlanRun<'_> {
     // The relationship at the place, for a relationship variable, where it leads to the row that a node variable has.
     fn close(&self, follow: Follow, place: u32, row: &mut Assignment) -> Tried
         requires { CanFollow self.now.graph.now self.now.typed.now row.old follow }
-        ensures { IsClosed self.now.graph.now self.now.typed.now follow place row.old row.new result }
+        ensures { IsClosed self.now.graph.now self.now.typed.now follow place
+            row.old row.new result }
     {
         match self.hop(follow, place, row) {
             None => Tried::Past,
@@ -226,7 +229,8 @@ fn join(build: &Sealed, place: u32, row: &mut Assignment) -> Tried
 fn take_nodes(build: &Sealed, found: u32, nodes: &mut List<u32>)
     requires found { found < length build.now.rows }
     requires there { All (λ v. v < length nodes.old) build.now.nodes }
-    requires places { All (λ v. place_of build.now.nodes v < length build.now.nodes) build.now.nodes }
+    requires places { All (λ v. place_of build.now.nodes v < length build.now.nodes)
+        build.now.nodes }
     ensures { nodes.new ≡ with_nodes build.now found build.now.nodes nodes.old }
 {
     for variable in build.nodes() {
