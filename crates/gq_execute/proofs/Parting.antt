@@ -12,7 +12,8 @@ use Rattle.gq_binder.specs.Binding.{IsBound}
 use Rattle.gq_meaning.proofs.Sides.{given_counts, greedy_counts}
 use Rattle.gq_join.specs.declared.build.JoinRefusal.{JoinRefusal}
 use Rattle.gq_join.specs.declared.build.JoinRefusal.TheVariants as join
-use Rattle.gq_pipe.specs.Limits.{IsSidesRefusal, sides_within, side_within}
+use Rattle.gq_pipe.proofs.Making.{within_sides}
+use Rattle.gq_pipe.specs.Limits.{IsSidesRefusal, sides_within}
 use Rattle.gq_plan.specs.declared.Bound.{Bound}
 use Rattle.gq_rows.specs.Tables.{Table}
 use Rattle.gq_execute.specs.Refusals.{of_join}
@@ -55,34 +56,9 @@ none_large most (n ∷ ns) = ap₂ ◌&&◌ (not_large most n) (none_large most 
     both false c = refl
 
 module _ (g : Graph) (by : Order) (y : Typed) (most : ℕ) where
-  flat_within : (p : Plan) → is_flat p ≡ true → sides_within g y most p ≡ true
-  unfolding sides_within
-  flat_within Done e = refl
-  flat_within (Then (Scan v) p) e = flat_within p e
-  flat_within (Then (Extend column x from to way) p) e = flat_within p e
-  flat_within (Then (Close column x from to way) p) e = flat_within p e
-  flat_within (Then (Join side keys) p) e = absurd (true≢false (sym e))
-  flat_within (Then (Keep i) p) e = flat_within p e
-  flat_within (Then (Differ q) p) e = flat_within p e
-  flat_within (Then (NoLoop x) p) e = flat_within p e
-
   -- none of some plans makes too many assignments
   abbrev few : List Plan → Bool
   few ss = list_all (λ s. nat_le (length (meaning g y s)) most) ss
-
-  -- so it is for the side plans of a plan, where these have no joins
-  sides_few : (p : Plan) → list_all is_flat (sides p) ≡ true → sides_within g y most p ≡ few (sides p)
-  unfolding sides_within sides
-  sides_few Done e = refl
-  sides_few (Then (Scan v) p) e = sides_few p e
-  sides_few (Then (Extend column x from to way) p) e = sides_few p e
-  sides_few (Then (Close column x from to way) p) e = sides_few p e
-  sides_few (Then (Join side keys) p) e =
-      let parts = and_parts (is_flat side) (list_all is_flat (sides p)) e in
-      ap₂ ◌&&◌ (ap (λ b. b && nat_le (length (meaning g y side)) most) (flat_within side parts.0)) (sides_few p parts.1)
-  sides_few (Then (Keep i) p) e = sides_few p e
-  sides_few (Then (Differ q) p) e = sides_few p e
-  sides_few (Then (NoLoop x) p) e = sides_few p e
 
   counted : (ss : List Plan) → few ss ≡ list_all (λ n. nat_le n most) (map (λ s. length (mean g y s nothing)) ss)
   counted [] = refl
@@ -102,7 +78,7 @@ module _ (g : Graph) (by : Order) (y : Typed) (most : ℕ) where
       → sides_within g y most p ≡ not (has_large_part g by most y)
   unfolding has_large_part
   sides_tell p real sound are flat =
-      sides_few p flat ∙ counted (sides p) ∙ ap (list_all (λ n. nat_le n most)) (counts by (sides p) real sound are)
+      within_sides g y most p flat ∙ counted (sides p) ∙ ap (list_all (λ n. nat_le n most)) (counts by (sides p) real sound are)
       ∙ none_large most (map (λ q. length (part_assignments g y q)) (parts_by by y)) ∙ ap not (any_counted (parts_by by y))
 
   pub sides_light : (p : Plan) → IsTrue (is_valid g) → IsSound g.catalog y → AllZip (IsSide g.catalog y) (parts_by by y) (sides p) → list_all is_flat (sides p) ≡ true

@@ -22,16 +22,6 @@ use Rattle.gq_execute.specs.declared.refusal.AnswerRefusal.{AnswerRefusal}
 use Rattle.gq_execute.specs.declared.refusal.AnswerRefusal.TheVariants as refusal
 use Rattle.gq_execute.specs.declared.settings.Order.{Order}
 
-all_range : (f : ℕ → Bool) (a n : ℕ) → ((v : ℕ) → v < a + n → f v ≡ true) → list_all f (range_with_len a n) ≡ true
-all_range f a zero h = refl
-all_range f a (suc n) h = and_from (f a) (list_all f (range_with_len (a + 1) n)) (h a (omega arith)) (all_range f (a + 1) n (λ v lt. h v (omega (arith, lt))))
-
--- a plan that covers an alternative binds all of its variables
-pub covers_all : (catalog : Tables) (y : Typed) (p : Plan) → Covers catalog y p → binds_all y p ≡ true
-covers_all catalog y p covers =
-    and_from _ _ (all_range _ 0 (length y.nodes) (λ v lt. covers_nodes catalog y v p covers ∙ lt-ltb v (length y.nodes) (omega (arith, lt))))
-    (all_range _ 0 (length y.rels) (λ x lt. covers_rels catalog y x p covers ∙ lt-ltb x (length y.rels) (omega (arith, lt))))
-
 module _ (g : Graph) (order : Order) (y : Typed) (old new : Table) (p : Plan) (covers : Covers g.catalog y p) (light : has_large_part g order old.most y ≡ false) where
   abbrev started : Table
   started = record { bound = old.bound; most = old.most; alternative = Some y; held = old.held }

@@ -7,7 +7,8 @@ use Rattle.gq_plan.specs.Steps.{plan_of}
 use Rattle.gq_rows.specs.Tables.{Table}
 use Rattle.gq_execute.specs.Answering.{Drains}
 use Rattle.gq_execute.proofs.Parting.{sides_light, sides_refused}
-use Rattle.gq_execute.proofs.Turning.{covers_all, turned}
+use Rattle.gq_pipe.proofs.Assigned.{covers_bind_all}
+use Rattle.gq_execute.proofs.Turning.{turned}
 use Rattle.gq_execute.proofs.answering.take_turn.Goals as goal
 
 pub returns-in-Err : goal.returns-in-Err
@@ -22,7 +23,7 @@ drain-requires-clause-run c =
     record {
       graph = ap (λ (s : Source). s.graph) p.source;
       alternative = ap (λ (t : Table). t.alternative) c.start_alternative.ensures ∙ ap (λ (s : Source). Some s.typed) (sym p.source);
-      complete = p.complete ∙ covers_all _ _ _ c.in_ok-plan.ensures.covers;
+      complete = p.complete ∙ covers_bind_all _ _ _ c.in_ok-plan.ensures.covers;
     }
 
 pub returns : goal.returns
