@@ -1,9 +1,14 @@
 -- From the answers to a statement to the answers to its input.
 use Rattle.std.proofs.Common.{◌≡◌, ℕ, ◌≤◌, List, [], ◌∷◌, length, Some, None, Ok, Err, refl, sym, ap, ◌∙◌, subst, append-nil, arith, inl, inr}
-use Rattle.std.specs.Prelude.{Option, ◌++◌, codes, decimal}
+use Rattle.std.specs.Prelude.{◌<◌, All, Option, ◌++◌, codes, decimal}
+use Rattle.gq_base.specs.Catalogs.{Tables}
 use Rattle.gq_base.specs.Plain.{Graph}
+use Rattle.gq_base.specs.Values.{Val}
+use Rattle.gq_binder.specs.Binding.{Answers, IsBound}
+use Rattle.gq_expr.specs.declared.Fault.{Fault}
 use Rattle.gq_binder.specs.Refusals.{first_refusal}
 use Rattle.gq_binder.specs.declared.refusal.BindRefusal.{BindRefusal}
+use Rattle.gq_binder.specs.declared.refusal.BindRefusal.TheVariants as bind
 use Rattle.gq_execute.specs.Replies.{Reply, Rows, Faulted, TooManyRows, IsPermitted}
 use Rattle.gq_lexer.specs.Tokens.{Lexed, lexed}
 use Rattle.gq_lexer.specs.declared.token.Token.{Token}
@@ -20,9 +25,9 @@ use Rattle.gq_syntax.specs.declared.statement.Statement.TheVariants as tree
 use Rattle.gq_shell.specs.BindLines.{bind_line}
 use Rattle.gq_shell.specs.Bindings.{bind_refusal}
 use Rattle.gq_shell.specs.Claim.{IsAsked, IsRefused, IsStopped, IsTooLong, IsUnbuilt, RepliesWith, question, refusal_text}
-use Rattle.gq_shell.specs.ReplyTexts.{reply_text}
+use Rattle.gq_shell.specs.ReplyTexts.{fault_text, many_text, reply_text}
 use Rattle.gq_shell.specs.Statements.{IsBlank, statement_of}
-use Rattle.gq_shell.specs.Steps.{Finishes, IsUnbuiltForm, MayAnswer, MayAsk, MayRefuse, MayReply}
+use Rattle.gq_shell.specs.Steps.{EndsBind, Finishes, IsUnbuiltForm, MayAnswer, MayAsk, MayList, MayRefuse, MayReply}
 use Rattle.gq_shell.specs.declared.status.Status.{Status}
 use Rattle.gq_shell.specs.declared.status.Status.TheVariants as status
 
@@ -189,3 +194,72 @@ module _ (graph : Graph) (statement : List ℕ) (query : Query) (bound : Bound) 
   asked_reply old new before now status.NotLoaded (text, may, moved) = absurd may
   asked_reply old new before now status.ReadFault (text, may, moved) = absurd may
   asked_reply old new before now status.TooLong (text, may, moved) = absurd may
+
+-- ---- what a query answers
+
+-- a part of the run that answers less
+finishes_as : (May Might : Status → List ℕ → Type 0) → ((answer : Status) (text : List ℕ) → May answer text → Might answer text) → (old new : Option (List ℕ)) (before now : ℕ) (answer : Status)
+    → Finishes May old new before now answer → Finishes Might old new before now answer
+finishes_as May Might go old new before now status.WriteFault ((answer, text, may, front), rose) = ((answer, text, go answer text may, front), rose)
+finishes_as May Might go old new before now status.Memory kept = kept
+finishes_as May Might go old new before now status.Ended (text, may, moved) = (text, go status.Ended text may, moved)
+finishes_as May Might go old new before now status.Refused (text, may, moved) = (text, go status.Refused text may, moved)
+finishes_as May Might go old new before now status.Usage (text, may, moved) = (text, go status.Usage text may, moved)
+finishes_as May Might go old new before now status.NotLoaded (text, may, moved) = (text, go status.NotLoaded text may, moved)
+finishes_as May Might go old new before now status.ReadFault (text, may, moved) = (text, go status.ReadFault text may, moved)
+finishes_as May Might go old new before now status.TooLong (text, may, moved) = (text, go status.TooLong text may, moved)
+
+module _ (graph : Graph) (query : Query) (bound : Bound) (old new : Option (List ℕ)) (before now : ℕ) (answer : Status) where
+  abbrev Asking : Type 0
+  Asking = Finishes (MayAsk graph query bound) old new before now answer
+
+  may_list : (lines : List (List Val)) → IsPermitted (question graph query bound) (Rows lines) → (s : Status) (text : List ℕ) → MayList (reply_text graph bound (Rows lines)) s text → MayAsk graph query bound s text
+  may_list lines permitted status.Ended text is = (lines, permitted, is)
+  may_list lines permitted status.Refused text is = absurd is
+  may_list lines permitted status.Usage text is = absurd is
+  may_list lines permitted status.NotLoaded text is = absurd is
+  may_list lines permitted status.ReadFault text is = absurd is
+  may_list lines permitted status.WriteFault text is = absurd is
+  may_list lines permitted status.Memory text is = absurd is
+  may_list lines permitted status.TooLong text is = absurd is
+
+  may_stop : (refused : List ℕ) → ((text : List ℕ) → text ≡ refused → MayAsk graph query bound status.Refused text) → (s : Status) (text : List ℕ) → MayRefuse refused s text → MayAsk graph query bound s text
+  may_stop refused go status.Refused text is = go text is
+  may_stop refused go status.Ended text is = absurd is
+  may_stop refused go status.Usage text is = absurd is
+  may_stop refused go status.NotLoaded text is = absurd is
+  may_stop refused go status.ReadFault text is = absurd is
+  may_stop refused go status.WriteFault text is = absurd is
+  may_stop refused go status.Memory text is = absurd is
+  may_stop refused go status.TooLong text is = absurd is
+
+  pub asked_rows : (lines : List (List Val)) → IsPermitted (question graph query bound) (Rows lines) → Finishes (MayList (reply_text graph bound (Rows lines))) old new before now answer → Asking
+  asked_rows lines permitted = finishes_as _ _ (may_list lines permitted) old new before now answer
+
+  pub asked_fault : (f : Fault) → IsPermitted (question graph query bound) (Faulted f) → Finishes (MayRefuse (fault_text f)) old new before now answer → Asking
+  asked_fault f permitted = finishes_as _ _ (may_stop (fault_text f) (λ text is. inl (f, permitted, is))) old new before now answer
+
+  pub asked_many : IsPermitted (question graph query bound) TooManyRows → Finishes (MayRefuse many_text) old new before now answer → Asking
+  asked_many permitted = finishes_as _ _ (may_stop many_text (λ text is. inr (permitted, is))) old new before now answer
+
+-- the alternatives of a bound query have node variables
+pub begun : (query : Query) (text : List ℕ) (catalog : Tables) (bound : Bound) → IsBound query text catalog bound → All (λ y. 0 < length y.nodes) bound.alternatives
+begun query text catalog bound is = λ k d lt. omega (arith, is.has_node, is.node_counts k d lt)
+
+-- a query that is not bound
+module _ (graph : Graph) (statement : List ℕ) (query : Query) (spelled : SpelledText statement (tree.Query query)) (old new : Option (List ℕ)) (before now : ℕ) (answer : Status) where
+  pub ended_bind : (e : BindRefusal) → Answers query statement graph.catalog (Err e) → EndsBind e old new before now answer → Finishes (MayReply graph statement) old new before now answer
+  ended_bind bind.Memory refused (kept, is) = rw is kept
+  ended_bind (bind.UnknownVariable name) refused h = refused_unbound graph statement old new before now answer (tree.Query query) (bind.UnknownVariable name) spelled refused h
+  ended_bind (bind.VariableConflict name) refused h = refused_unbound graph statement old new before now answer (tree.Query query) (bind.VariableConflict name) spelled refused h
+  ended_bind (bind.RelationshipRepeated name) refused h = refused_unbound graph statement old new before now answer (tree.Query query) (bind.RelationshipRepeated name) spelled refused h
+  ended_bind (bind.ColumnRepeated name) refused h = refused_unbound graph statement old new before now answer (tree.Query query) (bind.ColumnRepeated name) spelled refused h
+  ended_bind (bind.AmbiguousOrderName name) refused h = refused_unbound graph statement old new before now answer (tree.Query query) (bind.AmbiguousOrderName name) spelled refused h
+  ended_bind (bind.UnknownFunction name) refused h = refused_unbound graph statement old new before now answer (tree.Query query) (bind.UnknownFunction name) spelled refused h
+  ended_bind (bind.ArgumentCount name) refused h = refused_unbound graph statement old new before now answer (tree.Query query) (bind.ArgumentCount name) spelled refused h
+  ended_bind (bind.OrderOutOfScope item) refused h = refused_unbound graph statement old new before now answer (tree.Query query) (bind.OrderOutOfScope item) spelled refused h
+  ended_bind bind.NothingToReturn refused h = refused_unbound graph statement old new before now answer (tree.Query query) bind.NothingToReturn spelled refused h
+  ended_bind bind.TooManyPatterns refused h = refused_unbound graph statement old new before now answer (tree.Query query) bind.TooManyPatterns spelled refused h
+  ended_bind bind.TooManyReads refused h = refused_unbound graph statement old new before now answer (tree.Query query) bind.TooManyReads spelled refused h
+  ended_bind bind.TooManyColumns refused h = refused_unbound graph statement old new before now answer (tree.Query query) bind.TooManyColumns spelled refused h
+  ended_bind bind.TooManyAlternatives refused h = refused_unbound graph statement old new before now answer (tree.Query query) bind.TooManyAlternatives spelled refused h

@@ -1,28 +1,25 @@
 -- The text of a reply to a query (this project's profile).
-use Rattle.std.specs.Prelude.{ℕ, List, ◌++◌, map, codes, decimal}
+use Rattle.std.specs.Prelude.{ℕ, List, [], ◌∷◌, map, codes}
 use Rattle.gq_base.specs.Plain.{Graph}
 use Rattle.gq_execute.specs.Replies.{Reply, Rows, Faulted, TooManyRows}
 use Rattle.gq_expr.specs.declared.Fault.{Fault}
 use Rattle.gq_expr.specs.declared.Fault.TheVariants as fault
 use Rattle.gq_plan.specs.declared.Bound.{Bound}
 use Rattle.gq_render.specs.Listings.{listing_text}
-use Rattle.gq_render.specs.Texts.{line}
+use Rattle.gq_render.specs.Texts.{refusal_line}
 
 -- the most rows that are kept for a reply
 abbrev pub most_rows : ℕ
 most_rows = 4194304
 
-abbrev pub fault_name : Fault → List ℕ
-fault_name fault.Overflow = codes "Overflow"
-fault_name fault.DivideByZero = codes "DivideByZero"
-fault_name fault.Kind = codes "Kind"
-
 -- the lines that say why there are no rows
 abbrev pub fault_text : Fault → List ℕ
-fault_text f = line (codes "error: Fault " ++ fault_name f)
+fault_text fault.Overflow = refusal_line (codes "error: Fault Overflow") [] []
+fault_text fault.DivideByZero = refusal_line (codes "error: Fault DivideByZero") [] []
+fault_text fault.Kind = refusal_line (codes "error: Fault Kind") [] []
 
 abbrev pub many_text : List ℕ
-many_text = line (codes "error: TooManyRows " ++ decimal most_rows)
+many_text = refusal_line (codes "error: TooManyRows ") [] (record { before = []; number = most_rows } ∷ [])
 
 -- a header, a line for each row and their number; or one line that says why there are none
 abbrev pub reply_text : Graph → Bound → Reply → List ℕ

@@ -4,6 +4,8 @@ use Rattle.std.specs.Io.KnownBytes.{Appends, Keeps}
 use Rattle.gq_base.specs.Plain.{Graph}
 use Rattle.gq_base.specs.Values.{Val}
 use Rattle.gq_binder.specs.Binding.{IsBound}
+use Rattle.gq_binder.specs.declared.refusal.BindRefusal.{BindRefusal}
+use Rattle.gq_binder.specs.declared.refusal.BindRefusal.TheVariants as bind
 use Rattle.gq_execute.specs.Replies.{Rows, Faulted, TooManyRows, IsPermitted}
 use Rattle.gq_expr.specs.declared.Fault.{Fault}
 use Rattle.gq_io.specs.Causes.{Rose}
@@ -12,6 +14,7 @@ use Rattle.gq_loader.specs.declared.LoadRefusal.{LoadRefusal}
 use Rattle.gq_loader.specs.declared.LoadRefusal.TheVariants as refusal
 use Rattle.gq_plan.specs.declared.Bound.{Bound}
 use Rattle.gq_render.specs.Texts.{line}
+use Rattle.gq_shell.specs.BindLines.{bind_line}
 use Rattle.gq_shell.specs.Claim.{IsRefused, IsTooLong, Replies, question}
 use Rattle.gq_shell.specs.LoadLines.{load_line}
 use Rattle.gq_shell.specs.ReplyTexts.{reply_text}
@@ -48,6 +51,16 @@ EndsLoad e old new before now answer = Finishes (MayRefuseLoad e) old new before
 abbrev pub MayRefuse : List ℕ → Status → List ℕ → Type 0
 MayRefuse refused status.Refused text = text ≡ refused
 MayRefuse refused answer text = ⊥
+
+-- what becomes of a query that is not bound: its line is written, or nothing for want of memory
+abbrev pub EndsBind : BindRefusal → Option (List ℕ) → Option (List ℕ) → ℕ → ℕ → Status → Type 0
+EndsBind bind.Memory old new before now answer = Keeps old new × (answer ≡ status.Memory)
+EndsBind e old new before now answer = Finishes (MayRefuse (bind_line e)) old new before now answer
+
+-- the rows of a query, by this text
+abbrev pub MayList : List ℕ → Status → List ℕ → Type 0
+MayList listed status.Ended text = text ≡ listed
+MayList listed answer text = ⊥
 
 -- the replies to a query that is bound: rows with their text, or a line in their place
 abbrev pub MayAsk : Graph → Query → Bound → Status → List ℕ → Type 0

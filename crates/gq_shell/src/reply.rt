@@ -3,7 +3,7 @@
 ghost use Rattle.std.specs.Prelude.{◌≤◌, ◌++◌, length, codes, decimal};
 ghost use Rattle.gq_render.specs.Texts.{line};
 ghost use Rattle.gq_shell.specs.BindLines.{bind_line};
-ghost use Rattle.gq_shell.specs.Steps.{Finishes, IsUnbuiltForm, MayAnswer, MayRefuse, MayReply};
+ghost use Rattle.gq_shell.specs.Steps.{EndsBind, Finishes, IsUnbuiltForm, MayAnswer, MayRefuse, MayReply};
 ghost use Rattle.gq_syntax.specs.Outcomes.{SpelledText};
 ghost use Rattle.gq_syntax.specs.declared.statement.Statement.TheVariants as tree;
 
@@ -53,6 +53,17 @@ fn refuse_unbound<O: Sink>(out: &mut O, refusal: &BindRefusal) -> Status
     }
 }
 
+// Ends a statement whose query is not bound.
+fn end_bind<O: Sink>(out: &mut O, refusal: &BindRefusal) -> Status
+    ensures { EndsBind refusal.now (O.taken out.old) (O.taken out.new)
+        (O.faults out.old) (O.faults out.new) result }
+{
+    match refusal {
+        BindRefusal::Memory => Status::Memory,
+        _ => refuse_unbound(out, refusal),
+    }
+}
+
 // Replies to the query that a statement's tokens spell.
 fn reply_to_asked<O: Sink>(
     alloc: Global,
@@ -67,8 +78,7 @@ fn reply_to_asked<O: Sink>(
 {
     match bind(alloc, query, statement, graph.catalog()) {
         Ok(bound) => reply_to_query(alloc, out, graph, &bound),
-        Err(BindRefusal::Memory) => Status::Memory,
-        Err(refusal) => refuse_unbound(out, &refusal),
+        Err(refusal) => end_bind(out, &refusal),
     }
 }
 

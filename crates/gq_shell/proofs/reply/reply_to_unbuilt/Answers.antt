@@ -1,3 +1,4 @@
+use Rattle.gq_io.proofs.Moved.{Keeps-same}
 use Rattle.std.proofs.Common.{sym}
 use Rattle.gq_shell.proofs.Replying.{form_unbound, form_unbuilt}
 use Rattle.gq_shell.proofs.reply.reply_to_unbuilt.Goals as goal
@@ -11,3 +12,6 @@ pub returns-in-Ok-Some : goal.returns-in-Ok-Some
 returns-in-Ok-Some g c =
     let refused = rw (c.in-Ok-Some.field-0-is, c.catalog.ensures.value) at c.in-Ok-Some.ensures in
     form_unbound _ _ _ _ _ _ _ c.args.query.now c.in-Ok-Some.refusal c.requires (sym refused) c.refuse_unbound.ensures
+
+pub returns-in-Err : goal.returns-in-Err
+returns-in-Err g c = Keeps-same _

@@ -1,8 +1,0 @@
-use Rattle.std.proofs.Common.{subst}
-use Rattle.std.specs.Prelude.{codes}
-use Rattle.gq_io.specs.Outside.{Writes}
-use Rattle.gq_shell.proofs.Replying.{at_byte}
-use Rattle.gq_shell.proofs.query.write_many.Goals as goal
-
-pub returns-clause-bytes : goal.returns-clause-bytes
-returns-clause-bytes g c = subst (λ text. Writes (g.O.Sink.taken c.args.out.now) (g.O.Sink.taken c.write_refusal.new.out) text c.write_refusal.result) (at_byte (codes "error: TooManyRows ") 4194304) c.write_refusal.ensures.bytes
