@@ -1,5 +1,5 @@
 -- What a table has taken when a pipeline is drained into it.
-use Rattle.std.proofs.Common.{◌≡◌, ◌∙◌, ap, refl, sym, subst, true, Some, List, [], ◌∷◌, ◌++◌, flat_map, append_assoc, append-nil, Result, Ok, Err, inl, inr}
+use Rattle.std.proofs.Common.{◌≡◌, ◌∙◌, ap, refl, sym, subst, true, Some, List, [], ◌∷◌, ◌++◌, append_assoc, append-nil, Result, Err, inl, inr}
 use Rattle.std.specs.Prelude.{Option, ◌<◌}
 use Rattle.std.proofs.lemmas.Grind.{flat_map-append}
 use Rattle.gq_base.specs.Plain.{Graph}
@@ -20,7 +20,7 @@ use Rattle.gq_rows.specs.Tables as rows
 use Rattle.gq_rows.specs.declared.refusal.RowRefusal.{RowRefusal}
 use Rattle.gq_rows.specs.declared.refusal.RowRefusal.TheVariants as row_refusal
 use Rattle.gq_execute.specs.Refusals.{of_rows}
-use Rattle.gq_execute.specs.Taking.{Cut, IsAlike, MeetsFault, MeetsMany, Pushed, Stands, Takes, TakesAll}
+use Rattle.gq_execute.specs.Taking.{Cut, MeetsFault, MeetsMany, Pushed, Stands, Takes, TakesAll}
 
 module _ (g : Graph) (b : Bound) (y : Typed) where
   -- the outcome of one assignment

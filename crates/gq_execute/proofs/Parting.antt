@@ -1,8 +1,7 @@
 -- The alternatives of a bound query part its outcomes, and the builds of a plan tell whether a part is too large.
-use Rattle.std.proofs.Common.{◌≡◌, ℕ, ◌<◌, ◌≤◌, Bool, true, false, not, ◌&&◌, ◌||◌, List, [], ◌∷◌, ◌++◌, length, map, IsTrue, refl, sym, ap, ap₂, ◌∙◌, arith, true≢false, Err, inl}
+use Rattle.std.proofs.Common.{◌≡◌, ℕ, Bool, true, false, not, ◌&&◌, ◌||◌, List, [], ◌∷◌, length, map, IsTrue, refl, sym, ap, ap₂, ◌∙◌, arith, true≢false, Err, inl}
 use Rattle.std.specs.Prelude.{nat_lt, nat_le}
 use Rattle.std.specs.List.{AllZip, list_all, list_any}
-use Rattle.std.proofs.lemmas.Bool.{and_parts}
 use Rattle.std.proofs.lemmas.List.{length-map}
 use Rattle.std.proofs.lemmas.Bool.Decides.{nat_tests}
 use Rattle.gq_answers.proofs.Laws.{alternatives_part_outcomes, late_plan_at}
@@ -17,11 +16,11 @@ use Rattle.gq_pipe.specs.Limits.{IsSidesRefusal, sides_within}
 use Rattle.gq_plan.specs.declared.Bound.{Bound}
 use Rattle.gq_rows.specs.Tables.{Table}
 use Rattle.gq_execute.specs.Refusals.{of_join}
-use Rattle.gq_plan.specs.Flat.{is_flat, is_join}
+use Rattle.gq_plan.specs.Flat.{is_flat}
 use Rattle.gq_plan.specs.Meaning.{mean, meaning, nothing}
-use Rattle.gq_plan.specs.Parts.{IsSide, Part, own_sides, part_assignments, sides}
+use Rattle.gq_plan.specs.Parts.{IsSide, Part, part_assignments, sides}
 use Rattle.gq_plan.specs.Soundness.{IsSound}
-use Rattle.gq_plan.specs.Steps.{Plan, Done, Then, Step, Scan, Extend, Close, Join, Keep, Differ, NoLoop}
+use Rattle.gq_plan.specs.Steps.{Plan}
 use Rattle.gq_plan.specs.declared.Typed.{Typed}
 use Rattle.gq_execute.specs.Answering.{AreParted, Drains}
 use Rattle.gq_execute.specs.Replies.{Question, has_large_part, parts_by}

@@ -1,14 +1,8 @@
 -- The turn of an alternative: what its pipeline hands out is what its plan means, and so it goes into the table.
-use Rattle.std.proofs.Common.{◌≡◌, ◌∙◌, ℕ, zero, suc, ◌+◌, ◌<◌, Bool, true, false, ◌&&◌, Some, List, length, Result, Ok, Err, refl, sym, ap, subst, arith, inr}
-use Rattle.std.specs.Prelude.{nat_lt}
-use Rattle.std.specs.List.{list_all, range_with_len}
-use Rattle.std.proofs.lemmas.Bool.{and_from, lt-ltb}
-use Rattle.gq_base.specs.Catalogs.{Tables}
+use Rattle.std.proofs.Common.{◌≡◌, ◌∙◌, false, Some, List, Result, Ok, Err, ap, subst, inr}
 use Rattle.gq_base.specs.Plain.{Graph}
 use Rattle.gq_expr.specs.declared.Fault.{Fault}
-use Rattle.gq_pipe.specs.Bound.{binds_all}
 use Rattle.gq_pipe.specs.Progress.{Progress}
-use Rattle.gq_plan.proofs.Binding.{covers_nodes, covers_rels}
 use Rattle.gq_plan.specs.Covers.{Covers}
 use Rattle.gq_plan.specs.Meaning.{meaning}
 use Rattle.gq_plan.specs.Outcomes.{Row, late_outcomes}

@@ -3,7 +3,7 @@
 -- or which refusal, openCypher permits), `reply_text` and `load_line` (how a reply is spelled), `statement_of` (the statement),
 -- `SpelledText` and `Cause` (the tree that its tokens spell, or where they go wrong), and `bind_refusal` and `bind_line` (why a
 -- query cannot be bound).
-use Rattle.std.specs.Prelude.{◌≡◌, ◌≢◌, ◌⊎◌, ℕ, ◌<◌, ◌≤◌, List, [], ◌∷◌, ◌++◌, length, codes, decimal, Bool, true, false, Option, Some, None, Result, Ok, Err, IfSome, if◌then◌else◌}
+use Rattle.std.specs.Prelude.{◌≡◌, ◌≢◌, ◌⊎◌, ℕ, ◌<◌, ◌≤◌, List, [], ◌∷◌, ◌++◌, length, codes, decimal, Option, Some, None, Result, Ok, Err, IfSome, if◌then◌else◌}
 use Rattle.std.specs.Str.{bytes_eq}
 use Rattle.std.specs.Io.KnownBytes.{Appends, Consumes, Keeps}
 use Rattle.gq_base.specs.Plain.{Graph}

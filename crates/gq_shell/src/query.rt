@@ -22,12 +22,7 @@ use std::alloc::Global;
 const MOST_ROWS: u32 = 4_194_304;
 
 // Writes the rows of a query.
-fn list_rows<O: Sink>(
-    out: &mut O,
-    graph: &Graph,
-    bound: &Bound,
-    listing: &Listing<'_>,
-) -> Status
+fn list_rows<O: Sink>(out: &mut O, graph: &Graph, bound: &Bound, listing: &Listing<'_>) -> Status
     ensures { Finishes (MayList (reply_text graph.now bound.now (Rows listing.now)))
         (O.taken out.old) (O.taken out.new) (O.faults out.old) (O.faults out.new) result }
 {

@@ -1,11 +1,5 @@
-use Rattle.std.proofs.Common.{◌≡◌, ◌∙◌, ap, refl, sym, subst, Some}
+use Rattle.std.proofs.Common.{◌∙◌, ap, refl, sym, Some}
 use Rattle.gq_pipe.specs.Progress.{Source}
-use Rattle.gq_plan.specs.declared.typed.Typed.{Typed}
-use Rattle.gq_rows.specs.Tables.{outcome_in}
-use Rattle.gq_rows.specs.declared.refusal.RowRefusal.{RowRefusal}
-use Rattle.gq_rows.specs.declared.refusal.RowRefusal.TheVariants as row_refusal
-use Rattle.gq_execute.specs.Refusals.{of_rows}
-use Rattle.gq_execute.specs.Taking.{TakesAll, owed_outcomes}
 use Rattle.gq_execute.proofs.Draining.{pushed_none, pushed_more, moved, outcome_here, met, full_here, all_taken}
 use Rattle.gq_execute.proofs.answering.drain.Goals as goal
 

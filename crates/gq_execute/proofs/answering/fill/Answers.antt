@@ -1,5 +1,4 @@
-use Rattle.std.proofs.Common.{◌≡◌, ◌∙◌, ◌<◌, ap, sym, subst, length, get_or, arith, inl, inr}
-use Rattle.gq_plan.specs.declared.typed.Typed.{Typed}
+use Rattle.std.proofs.Common.{◌∙◌, ◌<◌, ap, sym, subst, length, get_or, arith, inl, inr}
 use Rattle.gq_execute.specs.Answering.{question}
 use Rattle.gq_execute.proofs.Going.{came_start, fresh_stands, item_at, taken_more, turn_ended, turn_taken}
 use Rattle.gq_execute.proofs.Parting.{bound_parted}

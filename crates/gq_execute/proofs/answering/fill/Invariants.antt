@@ -1,4 +1,4 @@
-use Rattle.std.proofs.Common.{◌≡◌, List, ℕ, length, take}
+use Rattle.std.proofs.Common.{◌≡◌, List, ℕ, take}
 use Rattle.gq_binder.specs.Binding.{IsBound}
 use Rattle.gq_execute.specs.Answering.{Came, question}
 use Rattle.gq_rows.specs.Tables.{StandsForSome}
