@@ -1,6 +1,6 @@
 //! The texts of a small graph's tables, and of plans that are worked out by hand.
 
-use crate::{write_plan, write_schema};
+use crate::{columns, write_plan, write_schema};
 use gq_base::{Boxed, Field, Kind, List, Mult, NodeTable, RelTable, Text};
 use gq_expr::Expr;
 use gq_io::MemorySink;
@@ -222,7 +222,6 @@ fn tells_a_join(rt: HostRuntime) -> Result<(), Fail> {
         vec![in alloc; pair]?,
         "",
     )?;
-    let bound = bound(alloc, "a b c", "#1 #2", vec![in alloc; typed]?)?;
     let side = vec![in alloc;
         Step::Scan { node: 2 },
         Step::Extend {
@@ -252,6 +251,8 @@ fn tells_a_join(rt: HostRuntime) -> Result<(), Fail> {
     let plan = Plan {
         steps: List::from_vec(steps),
     };
+    assert_eq!(rt; columns(alloc, &plan, &typed)?, 1);
+    let bound = bound(alloc, "a b c", "#1 #2", vec![in alloc; typed]?)?;
     let text = explained(alloc, &bound, vec![in alloc; plan]?, vec![in alloc; 1]?)?;
     let wanted =
         "alternative 1\nscan a:Person\nextend a -[#1:KNOWS]-> b:Person\njoin on b\n  scan c:Person\n  \
