@@ -29,7 +29,7 @@ use Rattle.gq_alternatives.specs.Alternatives.{choices, pattern_alternatives, ty
 use Rattle.gq_alternatives.specs.Matches.{pattern_matches, matches}
 use Rattle.gq_binder.specs.Columns.{entry_test}
 use Rattle.gq_scopes.specs.Patterns.{pattern_of}
-use Rattle.gq_scopes.specs.Sources.{source_text}
+use Rattle.gq_lexer.specs.Sources.{source_text}
 use Rattle.gq_answers.specs.Answered.{allowed}
 use Rattle.gq_answers.proofs.Entries.{tests_entries}
 use Rattle.gq_answers.proofs.Matched.{AreAlternatives}

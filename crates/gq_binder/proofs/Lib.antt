@@ -3,6 +3,7 @@ pub mod ConditionLemmas
 pub mod Known
 pub mod MetLemmas
 pub mod NameLemmas
+pub mod Patterns
 pub mod Named
 pub mod ReadingLemmas
 pub mod RefusalLemmas

@@ -1,5 +1,5 @@
 -- The alternatives that binding gives are sound for the catalogue.
-use Rattle.std.proofs.Common.{◌≡◌, ℕ, suc, ◌≤◌, Bool, true, false, not, ◌||◌, cond, nat_lt, Option, Some, None, List, [], ◌∷◌, ◌++◌, map, filter, flat_map, length, if◌then◌else◌, refl, sym, ap, ap₂, ◌∙◌, subst, arith}
+use Rattle.std.proofs.Common.{◌≡◌, ℕ, suc, ◌<◌, ◌≤◌, Bool, true, false, not, ◌||◌, cond, nat_lt, Option, Some, None, List, [], ◌∷◌, ◌++◌, map, filter, flat_map, length, if◌then◌else◌, refl, sym, ap, ap₂, ◌∙◌, subst, arith}
 use Rattle.std.specs.Prelude.{All}
 use Rattle.std.specs.List.{AllByRecursion}
 use Rattle.std.specs.Option.{option_map}
@@ -40,8 +40,9 @@ use Rattle.gq_scopes.specs.Conjuncts.{conjunct_expr}
 use Rattle.gq_scopes.specs.Patterns.{Name, MapEntry, Pattern, no_pattern, pattern_of, with_paths, with_clauses}
 use Rattle.gq_scopes.specs.Resolving.{Conjunct, functions, as_lists, all_some, resolved, split}
 use Rattle.gq_scopes.specs.Scopes.{Scope, scope_of}
-use Rattle.gq_scopes.specs.Sources.{source_text}
+use Rattle.gq_lexer.specs.Sources.{source_text}
 use Rattle.gq_scopes.specs.declared.Column.{Column}
+use Rattle.gq_binder.proofs.Patterns.{names_counted}
 use Rattle.gq_binder.specs.Binding.{IsBound}
 use Rattle.gq_binder.specs.Columns.{Scoped, scoped_in, conditions_from, conditions, conjuncts, columns, property_of, entry_expr, entry_test, Resolves, HasAlternatives}
 use Rattle.gq_binder.specs.Refusals.{first_of_all, unknown_variable, variable_conflict, relationship_repeated, column_repeated, nothing_to_return, order_out_of_scope, ambiguous_order_name, function_unknown, argument_count, over_limit, max_columns, max_alternatives, too_many_patterns, all_reads, first_refusal}
@@ -309,12 +310,27 @@ alternatives_sound query text catalog bound accepted resolves has =
     (λ c h. choice_sound catalog query text bound.conjuncts (conjuncts_known query text bound.conjuncts resolves.conjuncts) c (accepted_small query text catalog accepted) h)
     (alternatives query catalog) (each_alternative catalog p)))
 
+-- and have as many nodes as the query has node variables
+nodes_counted : (query : Query) (text : List ℕ) (catalog : Tables) (bound : Bound) → Resolves query text bound → HasAlternatives query text catalog bound
+    → All (λ y. length y.nodes ≡ length bound.node_names) bound.alternatives
+unfolding typed_of
+nodes_counted query text catalog bound resolves has =
+    let p : Pattern = pattern_of query.clauses in
+    let make : Choice → Typed = typed_of catalog p (map (entry_test text) p.entries) bound.conjuncts in
+    let Counted : Typed → Type 0 = λ y. length y.nodes ≡ length bound.node_names in
+    let names : length p.names ≡ length bound.node_names = sym (names_counted query.clauses) ∙ ap length (sym resolves.node_names) in
+    subst (All Counted) (sym has)
+    (All-from_recursion Counted (map make (alternatives query catalog))
+    (each_map (λ c. IsChoice catalog (length p.names) (length p.rels) c × (agrees catalog p c ≡ true)) Counted make (λ c h. h.0.table_count ∙ names) (alternatives query catalog) (each_alternative catalog p)))
+
 -- so a query that no check refuses, with its names resolved and its alternatives, is bound
 pub is_bound : (query : Query) (text : List ℕ) (catalog : Tables) (bound : Bound) → first_refusal query text catalog ≡ None → Resolves query text bound → HasAlternatives query text catalog bound
-    → IsBound query text catalog bound
-is_bound query text catalog bound accepted resolves has = record {
+    → 0 < length (pattern_of query.clauses).node_names → IsBound query text catalog bound
+is_bound query text catalog bound accepted resolves has begins = record {
   accepted = accepted;
   resolves = resolves;
   alternatives = has;
   sound = alternatives_sound query text catalog bound accepted resolves has;
+  has_node = subst (λ names. 0 < length names) (sym resolves.node_names) begins;
+  node_counts = nodes_counted query text catalog bound resolves has;
 }

@@ -1,5 +1,5 @@
 -- A small query that is bound, by computation and the law that its alternatives are sound.
-use Rattle.std.proofs.Common.{◌≡◌, refl, ℕ, true, false, Some, None, List, [], ◌∷◌, ◌++◌, codes, pos}
+use Rattle.std.proofs.Common.{◌≡◌, refl, ℕ, true, false, Some, None, List, [], ◌∷◌, ◌++◌, codes, pos, arith}
 use Rattle.gq_base.specs.Catalogs.{Tables}
 use Rattle.gq_base.specs.declared.CompareOp.TheVariants as compare
 use Rattle.gq_base.specs.declared.Kind.TheVariants as kind
@@ -16,7 +16,7 @@ use Rattle.gq_binder.specs.Binding.{IsBound}
 use Rattle.gq_binder.specs.Columns.{conjuncts, columns_in}
 use Rattle.gq_binder.specs.Refusals.{expressions, all_reads, first_refusal}
 use Rattle.gq_scopes.specs.Patterns.{pattern_of}
-use Rattle.gq_scopes.specs.Sources.{source_text}
+use Rattle.gq_lexer.specs.Sources.{source_text}
 
 -- persons who know persons
 abbrev catalog : Tables
@@ -84,4 +84,4 @@ unfolding conjuncts columns_in pattern_of pattern_alternatives choices tuples ty
 is_bound_so =
     is_bound query text catalog bound accepted
     (record { node_names = refl; rel_names = refl; columns = refl; conjuncts = refl; keys = refl; distinct = refl; skip = refl; limit = refl })
-    refl
+    refl (omega arith)

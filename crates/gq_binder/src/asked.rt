@@ -5,6 +5,7 @@ ghost use Rattle.gq_binder.specs.Columns.{sort_scope};
 ghost use Rattle.gq_scopes.specs.Patterns.{pattern_of};
 ghost use Rattle.gq_scopes.specs.Resolving.{as_lists};
 ghost use Rattle.gq_scopes.specs.Scopes.{scope_of};
+ghost use Rattle.gq_syntax.specs.Spans.{StandsIn};
 
 use gq_base::Memory;
 use gq_scopes::{Column, Pattern, Scope};
@@ -33,10 +34,11 @@ impl<'q> Model for Asked<'q> {
     ghost use Rattle.gq_binder.specs.Columns as listed;
     ghost use Rattle.gq_scopes.specs.Patterns.{pattern_of};
     ghost use Rattle.gq_scopes.specs.Resolving.{as_lists};
+    ghost use Rattle.gq_syntax.specs.Spans.{StandsIn};
 
     ghost view = { λ a. record { text = a.text.now; query = a.query.now } };
 
-    ghost invariant = { λ a. (a.pattern.now ≡ pattern_of a.query.now.clauses) × (a.columns.now ≡ listed.columns as_lists a.text.now a.query.now) };
+    ghost invariant = { λ a. (a.pattern.now ≡ pattern_of a.query.now.clauses) × (a.columns.now ≡ listed.columns as_lists a.text.now a.query.now) × StandsIn a.text.now a.query.now };
 }
 
 impl<'q> Asked<'q> {
@@ -49,6 +51,7 @@ impl<'q> Asked<'q> {
     ) -> Asked<'q>
         requires pattern { pattern.now ≡ pattern_of query.now.clauses }
         requires columns { columns.now ≡ listed.columns as_lists text.now query.now }
+        requires stands { StandsIn text.now query.now }
         ensures text { result.text ≡ text.now }
         ensures query { result.query ≡ query.now }
     {
@@ -60,9 +63,10 @@ impl<'q> Asked<'q> {
         }
     }
 
-    /// The text that the query stands in.
+    /// The text, in which the query stands.
     pub fn text(&self) -> &'q [u8]
-        ensures { result.now ≡ self.now.text }
+        ensures text { result.now ≡ self.now.text }
+        ensures stands { StandsIn self.now.text self.now.query }
     {
         self.text
     }

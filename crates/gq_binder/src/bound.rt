@@ -9,6 +9,7 @@ ghost use Rattle.gq_binder.specs.Verdicts.{IsNamed, IsListed};
 ghost use Rattle.gq_scopes.specs.Conjuncts.{conjunct_expr};
 ghost use Rattle.gq_scopes.specs.Patterns.{pattern_of};
 ghost use Rattle.gq_scopes.specs.Resolving.{all_some, as_lists, functions};
+ghost use Rattle.gq_syntax.specs.Spans.{SpelledQuery, StandsIn};
 
 use crate::asked::Asked;
 use crate::columns::columns_of;
@@ -24,7 +25,7 @@ use gq_scopes::{CallForm, Column, Pattern, copy_text};
 use gq_syntax::Query;
 use std::alloc::Global;
 
-/// Binds a query, which stands in a text, over a catalogue. The answer is the bound query, whose alternatives are sound
+/// Binds a query, which a text spells, over a catalogue. The answer is the bound query, whose alternatives are sound
 /// for the catalogue, or the first refusal that applies, or want of memory.
 pub fn bind(
     alloc: Global,
@@ -32,6 +33,7 @@ pub fn bind(
     text: &[u8],
     catalog: &Catalog,
 ) -> Result<Bound, BindRefusal>
+    requires { SpelledQuery text.now query.now }
     ensures { Answers query.now text.now catalog.now result }
 {
     let pattern = Pattern::of(alloc, query.clauses.as_slice())?;
@@ -49,6 +51,7 @@ fn bound_over(
 ) -> Result<Bound, BindRefusal>
     requires pattern { pattern.now ≡ pattern_of query.now.clauses }
     requires columns { columns.now ≡ written.columns as_lists text.now query.now }
+    requires stands { StandsIn text.now query.now }
     ensures { Answers query.now text.now catalog.now result }
 {
     let asked = Asked::new(text, query, pattern, columns);

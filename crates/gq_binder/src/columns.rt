@@ -1,5 +1,5 @@
 //! The columns of a query and their names.
-ghost use Rattle.std.specs.Prelude.{◌≡◌, ◌++◌, ◌∷◌, [], map, IfOk, if◌then◌else◌};
+ghost use Rattle.std.specs.Prelude.{◌≡◌, ◌++◌, ◌∷◌, [], map, All, IfOk, if◌then◌else◌};
 ghost use Rattle.std.specs.List.{list_any};
 ghost use Rattle.std.specs.Option.{option_copied};
 ghost use Rattle.gq_binder.specs.Columns as columns;
@@ -9,6 +9,7 @@ ghost use Rattle.gq_scopes.specs.Scopes.{scope_of};
 ghost use Rattle.gq_binder.specs.Refusals.{first_behind, repeating_column};
 ghost use Rattle.gq_scopes.specs.Resolving.{calls_of};
 ghost use Rattle.gq_scopes.specs.Variables.{seen};
+ghost use Rattle.gq_syntax.specs.Spans.{IsWholeTree};
 
 use gq_base::{List, Memory, Text};
 use gq_expr::Expr;
@@ -19,7 +20,7 @@ use gq_scopes::{
 use gq_syntax::{Item, Query};
 use std::alloc::Global;
 
-/// The columns of a query with these patterns, whose text is this.
+/// The columns of a query with these patterns, whose items stand in this text.
 #[tactic(auto, unfolding(crate::specs::Columns::columns_in))]
 pub fn columns_of(
     alloc: Global,
@@ -28,6 +29,7 @@ pub fn columns_of(
     pattern: &Pattern<'_>,
     query: &Query,
 ) -> Result<List<Column>, Memory>
+    requires { All (λ item. IsWholeTree text.now item.tree) query.now.items }
     ensures { IfOk result (λ cs. cs ≡ columns_in (calls_of form) text.now pattern.now query.now) }
 {
     let mut all = List::new(alloc);
@@ -101,6 +103,7 @@ fn push_items(
     scope: &Scope<'_>,
     items: &[Item],
 ) -> Result<(), Memory>
+    requires { All (λ item. IsWholeTree text.now item.tree) items.now }
     ensures { IfOk result (λ _. all.new ≡ all.old ++ map (item_column (calls_of form) text.now scope.now) items.now) }
 {
     for item in items {
@@ -111,7 +114,9 @@ fn push_items(
     Ok(())
 }
 
+#[tactic(auto, using(gq_syntax::proofs::SpanLemmas::tree_span))]
 fn name_of(alloc: Global, text: &[u8], item: &Item) -> Result<Text, Memory>
+    requires { IsWholeTree text.now item.now.tree }
     ensures { IfOk result (λ t. t ≡ item_name text.now item.now) }
 {
     match &item.name {

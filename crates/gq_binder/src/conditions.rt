@@ -1,10 +1,11 @@
 //! What the conditions of MATCH clauses stand for.
-ghost use Rattle.std.specs.Prelude.{◌≡◌, ◌++◌, [], IfOk};
+ghost use Rattle.std.specs.Prelude.{◌≡◌, ◌++◌, [], All, IfOk, IfSome};
 ghost use Rattle.gq_binder.specs.Columns.{conditions_from, scoped_in};
 ghost use Rattle.gq_binder.specs.Conditions.{known_exprs, conjuncts_of};
 ghost use Rattle.gq_scopes.specs.Conjuncts.{listed_behind};
 ghost use Rattle.gq_scopes.specs.Patterns.{no_pattern};
 ghost use Rattle.gq_scopes.specs.Scopes.{scope_of};
+ghost use Rattle.gq_syntax.specs.Spans.{IsWholeClause, IsWholeTree};
 
 use gq_base::{List, Memory};
 use gq_expr::Expr;
@@ -55,6 +56,7 @@ pub fn all_conjuncts(
     text: &[u8],
     clauses: &[Clause],
 ) -> Result<Option<List<NamedExpr>>, Memory>
+    requires { All (IsWholeClause text.now) clauses.now }
     ensures { IfOk result (λ cs. cs ≡ listed_behind [] text.now (conjuncts_of (conditions_from 0 no_pattern clauses.now))) }
 {
     let mut pattern = Pattern::new(alloc);
@@ -79,6 +81,7 @@ fn with_condition(
     filter: &Option<Ast>,
     before: List<NamedExpr>,
 ) -> Result<Option<List<NamedExpr>>, Memory>
+    requires { IfSome filter.now (IsWholeTree text.now) }
     ensures { IfOk result (λ cs. cs ≡ listed_behind before text.now (conjuncts_of (scoped_in (scope_of pattern.now) filter.now))) }
 {
     let Some(tree) = filter else {

@@ -1,8 +1,9 @@
 //! What the maps of patterns ask, as tests.
-ghost use Rattle.std.specs.Prelude.{◌≡◌, ◌++◌, codes, map, IfOk};
+ghost use Rattle.std.specs.Prelude.{◌≡◌, ◌++◌, codes, map, All, IfOk};
 ghost use Rattle.gq_binder.specs.Columns as columns;
-ghost use Rattle.gq_scopes.specs.Sources as sources;
+ghost use Rattle.gq_lexer.specs.Sources as sources;
 ghost use Rattle.gq_scopes.specs.Variables.{seen};
+ghost use Rattle.gq_syntax.specs.Spans.{IsWholeEntry};
 
 use gq_base::{Boxed, CompareOp, List, Memory, Text};
 use gq_expr::{Bound, Expr};
@@ -16,6 +17,7 @@ pub fn entry_tests(
     text: &[u8],
     entries: &[MapEntry<'_>],
 ) -> Result<List<NamedExpr>, Memory>
+    requires { All (λ e. IsWholeEntry text.now e.entry) entries.now }
     ensures { IfOk result (λ es. es ≡ map (columns.entry_test text.now) entries.now) }
 {
     let mut tests = List::new(alloc);
@@ -27,6 +29,7 @@ pub fn entry_tests(
 }
 
 fn entry_test(alloc: Global, text: &[u8], entry: &MapEntry<'_>) -> Result<NamedExpr, Memory>
+    requires { IsWholeEntry text.now entry.now.entry }
     ensures { IfOk result (λ e. e ≡ columns.entry_test text.now entry.now) }
 {
     Ok(NamedExpr {
@@ -37,7 +40,9 @@ fn entry_test(alloc: Global, text: &[u8], entry: &MapEntry<'_>) -> Result<NamedE
 
 // `v.k = c`, with c as it is written.
 fn entry_name(alloc: Global, text: &[u8], entry: &MapEntry<'_>) -> Result<Text, Memory>
-    ensures { IfOk result (λ t. t ≡ entry.now.called ++ (codes "." ++ (entry.now.entry.key ++ (codes " = " ++ sources.source_text text.now entry.now.entry.value_span)))) }
+    requires { IsWholeEntry text.now entry.now.entry }
+    ensures { let literal = sources.source_text text.now entry.now.entry.value_span in
+        IfOk result (λ t. t ≡ entry.now.called ++ (codes "." ++ (entry.now.entry.key ++ (codes " = " ++ literal)))) }
 {
     let called = &entry.called;
     let key = &entry.entry.key;

@@ -5,6 +5,7 @@ ghost use Rattle.gq_binder.specs.Verdicts.{IsVerdict};
 ghost use Rattle.gq_binder.specs.Columns as written;
 ghost use Rattle.gq_scopes.specs.Patterns.{pattern_of};
 ghost use Rattle.gq_scopes.specs.Resolving.{as_lists};
+ghost use Rattle.gq_syntax.specs.Spans.{SpelledQuery, StandsIn};
 
 use crate::asked::Asked;
 use crate::columns::columns_of;
@@ -54,13 +55,14 @@ pub fn verdict_of(alloc: Global, asked: &Asked<'_>, catalog: &Catalog) -> Result
 
 const MAX_ALTERNATIVES: usize = 512;
 
-/// Why a query, which stands in a text, cannot be bound over a catalogue: the first check that applies, or none.
+/// Why a query, which a text spells, cannot be bound over a catalogue: the first check that applies, or none.
 pub fn refusal_of(
     alloc: Global,
     query: &Query,
     text: &[u8],
     catalog: &Catalog,
 ) -> Result<Option<BindRefusal>, Memory>
+    requires { SpelledQuery text.now query.now }
     ensures { IfOk result (λ r. r ≡ first_refusal query.now text.now catalog.now) }
 {
     let pattern = Pattern::of(alloc, query.clauses.as_slice())?;
@@ -78,6 +80,7 @@ fn refusal_over(
 ) -> Result<Option<BindRefusal>, Memory>
     requires pattern { pattern.now ≡ pattern_of query.now.clauses }
     requires columns { columns.now ≡ written.columns as_lists text.now query.now }
+    requires stands { StandsIn text.now query.now }
     ensures { IfOk result (λ r. r ≡ first_refusal query.now text.now catalog.now) }
 {
     let asked = Asked::new(text, query, pattern, columns);

@@ -4,6 +4,7 @@
 mod case;
 mod reading;
 mod spelled;
+mod taking;
 mod trial;
 
 use crate::reading::{Tally, try_file};

@@ -1,7 +1,7 @@
 //! Reads a case file line by line, and tries each case where it ends.
 
-use crate::case::{Case, CaseFile, Place, Stop};
-use crate::spelled::push_line;
+use crate::case::{Case, Place, Stop};
+use crate::taking::take_line;
 use crate::trial::{Got, agrees, run_case};
 use std::fs;
 
@@ -28,101 +28,6 @@ impl Tally {
             self.differ = self.differ.saturating_add(1);
         }
     }
-}
-
-fn add_file(rt: &HostRuntime, case: &mut Case, name: &str, bytes: Vec<u8>) -> Result<(), Stop> {
-    let name = String::from_str(rt.alloc(), name)?;
-    case.files.push(CaseFile { name, bytes })?;
-    Ok(())
-}
-
-// Adds files that lie beside the case files.
-fn add_files(rt: &HostRuntime, case: &mut Case, names: &str) -> Result<(), Stop> {
-    for name in names.split_whitespace() {
-        let Ok(text) = fs::read_to_string(rt, name) else {
-            return Err(Stop::Outside);
-        };
-        add_file(rt, case, name, text.into_bytes())?;
-    }
-    Ok(())
-}
-
-// The program's words, with its name.
-fn set_words(rt: &HostRuntime, case: &mut Case, text: &str) -> Result<(), Stop> {
-    case.words.truncate(1);
-    for word in text.split_whitespace() {
-        case.words.push(String::from_str(rt.alloc(), word)?)?;
-    }
-    Ok(())
-}
-
-fn set_failing(case: &mut Case, text: &str) -> Result<(), Stop> {
-    let Some((place, call)) = text.split_once(' ') else {
-        return Err(Stop::Malformed);
-    };
-    let Ok(call) = call.parse::<u64>() else {
-        return Err(Stop::Malformed);
-    };
-    match place {
-        "files" => case.failing_files.push(call)?,
-        "input" => case.failing_input.push(call)?,
-        "output" => case.failing_output.push(call)?,
-        _ => return Err(Stop::Malformed),
-    }
-    Ok(())
-}
-
-fn piece_of(text: &str) -> Result<u32, Stop> {
-    text.parse::<u32>().map_err(|_| Stop::Malformed)
-}
-
-fn status_of(text: &str) -> Result<u8, Stop> {
-    text.parse::<u8>().map_err(|_| Stop::Malformed)
-}
-
-// Takes a line that begins with a word.
-fn take_word(rt: &HostRuntime, case: &mut Case, word: &str, rest: &str) -> Result<(), Stop> {
-    match word {
-        "words" => set_words(rt, case, rest)?,
-        "files" => add_files(rt, case, rest)?,
-        "file" => {
-            add_file(rt, case, rest, Vec::new(rt.alloc()))?;
-            case.place = Place::File;
-        }
-        "input" if rest.is_empty() => case.place = Place::Input,
-        "fails" => set_failing(case, rest)?,
-        "pieces" => case.piece = piece_of(rest)?,
-        "status" => case.status = Some(status_of(rest)?),
-        _ => return Err(Stop::Malformed),
-    }
-    Ok(())
-}
-
-// Takes a line of the input, or of the last file.
-fn take_given(rt: &HostRuntime, case: &mut Case, count: &str, text: &str) -> Result<(), Stop> {
-    if case.place == Place::Input {
-        return push_line(rt, &mut case.input, count, text);
-    }
-    match case.files.last_mut() {
-        Some(file) => push_line(rt, &mut file.bytes, count, text),
-        None => Err(Stop::Malformed),
-    }
-}
-
-// Takes a line of a case. A line's first word says what it is.
-fn take_line(rt: &HostRuntime, case: &mut Case, line: &str) -> Result<(), Stop> {
-    let (word, rest) = line.split_once(' ').unwrap_or((line, ""));
-    if let Some(count) = word.strip_prefix('|') {
-        return take_given(rt, case, count, rest);
-    }
-    if let Some(count) = word.strip_prefix('=') {
-        return push_line(rt, &mut case.output, count, rest);
-    }
-    if let Some(count) = word.strip_prefix('*') {
-        case.mixed = true;
-        return push_line(rt, &mut case.output, count, rest);
-    }
-    take_word(rt, case, word, rest)
 }
 
 fn shown(bytes: &[u8]) -> &str {
@@ -195,6 +100,7 @@ impl Reader {
         let mut case = self.head.clone()?;
         case.title = self.title(rt, title)?;
         case.line = line;
+        case.place = Place::Input;
         self.case = Some(case);
         Ok(())
     }
@@ -210,11 +116,12 @@ fn take_any(
     if at.text.is_empty() || at.text.starts_with('#') {
         return Ok(());
     }
-    let Some(title) = at.text.strip_prefix("case") else {
+    let (word, title) = at.text.split_once(' ').unwrap_or((at.text, ""));
+    if word != "case" {
         return reader.take(rt, at.text);
-    };
+    }
     reader.finish(rt, at.file, tally)?;
-    reader.begin(rt, at.number, title.trim_start())
+    reader.begin(rt, at.number, title)
 }
 
 fn try_lines(rt: &HostRuntime, file: &str, text: &str, tally: &mut Tally) -> Result<(), Stop> {

@@ -9,7 +9,7 @@ use gq_shell::run;
 use std::alloc::Global;
 
 /// The room for an output, in bytes.
-const ROOM: u32 = 262_144;
+const ROOM: u32 = 65_536;
 
 /// What a run wrote, and its exit status.
 #[derive(Drop)]

@@ -156,7 +156,8 @@ impl From<Memory> for JoinRefusal {
 // Appends the values of variables, one after another, or answers that there is no room.
 fn push_all(cells: &mut Vec<u32>, variables: &[u32], values: &[u32]) -> bool
     requires { All (λ v. v < length values.now) variables.now }
-    ensures { result ≡ true → cells.new.items ≡ cells.old.items ++ values_of variables.now values.now }
+    ensures { result ≡ true →
+        cells.new.items ≡ cells.old.items ++ values_of variables.now values.now }
 {
     for variable in variables {
         if cells.push(values[*variable as usize]).is_err() {

@@ -7,7 +7,8 @@ use Rattle.std.proofs.lemmas.List.{take_more, take-append-drop}
 use Rattle.std.proofs.lemmas.Str.{encodes-append, encodes-chars, length-le-encodes}
 use Rattle.gq_lexer.specs.Tokens.{width}
 
-width_append : (xs ys : List ℕ) → width (xs ++ ys) ≡ width xs + width ys
+-- the bytes of two pieces
+pub width_append : (xs ys : List ℕ) → width (xs ++ ys) ≡ width xs + width ys
 width_append xs ys = ap length (encodes-append xs ys) ∙ length-append (encode_utf8_all xs) (encode_utf8_all ys)
 
 width_one : (c : ℕ) → width (c ∷ []) ≡ length (encode_utf8 c)

@@ -108,14 +108,15 @@ abbrev pub signed : ℕ → Option Sign → Option Lexeme
 signed size None = None
 signed size (Some s) = token size (kind.Sign s)
 
+-- the longer of two lexemes, where it is there
+abbrev pub longest : Option Lexeme → Option Lexeme → Option Lexeme
+longest (Some l) s = Some l
+longest None s = s
+
 -- the longest sign that begins with this character
 abbrev pub sign_at : ℕ → List ℕ → Option Lexeme
 sign_at c [] = signed 1 (lone_sign c)
 sign_at c (d ∷ cs) = longest (signed 2 (pair_sign c d)) (signed 1 (lone_sign c))
-  where
-    longest : Option Lexeme → Option Lexeme → Option Lexeme
-    longest (Some l) s = Some l
-    longest None s = s
 
 -- the lexeme that a text begins with; none where it fails, and none where there is no text
 abbrev pub lexeme : List ℕ → Option Lexeme

@@ -16,6 +16,7 @@ use gq_base::List;
 use gq_io::Files;
 use gq_manifest::{TableNumber, read_manifest, read_order};
 use gq_plain::PlainGraph;
+use gq_store::Graph;
 use std::alloc::Global;
 
 /// The most bytes of a manifest.
@@ -29,28 +30,32 @@ struct Beginning {
 }
 
 /// Loads the graph of the manifest of this name: the manifest first, and then the file of each of its lines, in their
-/// order. The answer is the first refusal in that order, or the graph of all files, which is valid.
+/// order. The answer is the first refusal in that order, or the stored graph of all files, which is valid. Want of memory
+/// may end a load at any time, also while the graph is stored.
 ///
-/// A file that two lines name is read twice. No file is kept longer than it takes to read its table.
+/// A file that two lines name is read twice. No file is kept longer than it takes to read its table, and the rows that were
+/// read are moved into the stored graph, not copied.
 pub fn load<F: Files>(
     alloc: Global,
     files: &mut F,
     manifest: &str,
     limits: &Limits,
-) -> Result<PlainGraph, LoadRefusal>
+) -> Result<Graph, LoadRefusal>
     requires { IsWithin limits.now }
-    ensures loads { Answers (F.held files.old) (λ names. load_of manifest.now names limits.now) result }
+    ensures loads { Answers (F.held files.old)
+        (λ names. load_of manifest.now names limits.now) result }
     ensures valid { IfOk result (λ graph. is_valid graph ≡ true) }
     ensures faults { ByFault (F.faults files.old) (F.faults files.new) result }
     ensures misses { ByMiss (F.misses files.old) (F.misses files.new) result }
     ensures held { F.held files.new ≡ F.held files.old }
-    ensures few { ¬ (Rose (F.faults files.old) (F.faults files.new)) → ReadsFew (F.held files.old) (F.left files.new) (most_bytes limits.now) }
+    ensures few { ¬ (Rose (F.faults files.old) (F.faults files.new))
+        → ReadsFew (F.held files.old) (F.left files.new) (most_bytes limits.now) }
 {
     let Beginning { mut loading, order } = begin(alloc, files, manifest)?;
     for table in order.as_slice() {
         take_table(alloc, files, limits, &mut loading, *table)?;
     }
-    Ok(loading.graph)
+    Ok(Graph::build(alloc, loading.graph)?)
 }
 
 // Reads the manifest of this name.

@@ -5,9 +5,10 @@ use Rattle.std.specs.List.{AllByRecursion, AllZip, list_all}
 use Rattle.std.proofs.lemmas.Bool.{eqb-true}
 use Rattle.std.proofs.lemmas.Option.{slice_get_within}
 use Rattle.gq_base.specs.Catalogs.{Tables}
-use Rattle.gq_order.proofs.GivenCovers.{Fine, Splits, took, took_first, few_of, splits_on, ends_of, each_fine, each_from_all, splits_first, same_node}
+use Rattle.gq_order.proofs.Complete.{each_from_all, ends_of}
+use Rattle.gq_order.proofs.GivenCovers.{Fine, Splits, took, took_first, few_of, splits_on, each_fine, splits_first, same_node}
 use Rattle.gq_order.proofs.Good.{Good, begun_good}
-use Rattle.gq_order.proofs.PartSides.{good_side}
+use Rattle.gq_order.proofs.PartSides.{AreJoined, good_side}
 use Rattle.gq_order.proofs.Paths.{count, rels_good}
 use Rattle.gq_order.proofs.Sides.{any_is}
 use Rattle.gq_order.proofs.SidesOf.{sides_in, begun_sides, rels_sides, side_sides, rels_nodes}
@@ -17,7 +18,7 @@ use Rattle.gq_plan.proofs.Pieces.{holds_some, path_piece}
 use Rattle.gq_plan.specs.Flat.{is_flat}
 use Rattle.gq_base.specs.Lists.{is_empty}
 use Rattle.gq_plan.specs.Known.{Known, none, with_both}
-use Rattle.gq_plan.specs.Parts.{Part, IsSide, pieces, path_known, given_parts, sides}
+use Rattle.gq_plan.specs.Parts.{IsSide, pieces, path_known, given_parts, sides}
 use Rattle.gq_plan.specs.Soundness.{IsSound, EndsFit, rights, path_rels, path_nodes, has_number}
 use Rattle.gq_plan.specs.Steps.{Plan, steps}
 use Rattle.gq_plan.specs.Times.{one}
@@ -30,11 +31,6 @@ or_comm true true = refl
 or_comm true false = refl
 or_comm false true = refl
 or_comm false false = refl
-
--- side plans make these parts one by one, and have no joins
-record AreJoined (catalog : Tables) (y : Typed) (ps : List Part) (ss : List Plan) : Type 0 where
-  make : AllZip (IsSide catalog y) ps ss
-  alone : list_all is_flat ss ≡ true
 
 module _ (catalog : Tables) (y : Typed) (ends : (x : ℕ) (r : TypedRel) → slice_get y.rels x ≡ Some r → EndsFit catalog y r) where
   abbrev side_of : Draft → PathPart → Draft

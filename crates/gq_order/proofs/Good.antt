@@ -8,6 +8,7 @@ use Rattle.gq_base.specs.declared.RelTable.{RelTable}
 use Rattle.gq_order.proofs.Runs.{met_by, met_append, Runs, runs_none, runs_one, runs_append, runs_due, is_due, due_meets}
 use Rattle.gq_order.proofs.Tables.{later, first, one_more, one_new, one_marked}
 use Rattle.gq_order.specs.Given.{Draft, begun, with_step, loop_steps, known_with, way_of, single_in, due, test_taken, pair_taken, test_due, pair_due, has_some}
+use Rattle.gq_order.specs.Orders.{flipped, facing}
 use Rattle.gq_plan.specs.Covers.{fits, after, placed, goes, is_single, agrees, start_of, end_of, test_bound, pair_bound, loop_bound, leaves_loops_out}
 use Rattle.gq_plan.specs.Known.{Known, none, with_node, with_rel, is_bound}
 use Rattle.gq_plan.specs.Meaning.{holds}
@@ -144,13 +145,28 @@ module _ (catalog : Tables) (y : Typed) where
       go true = refl
       go false = refl
 
-  -- what is needed of a relationship that is added
+  -- what is needed of a relationship that is added, as it is read from the node variable from which it is taken
   pub record Adds (k : Known) (x : ℕ) (r : TypedRel) : Type 0 where
-    pub found : slice_get y.rels x ≡ Some r
+    pub from_right : Bool
+    pub rel : TypedRel
+    pub found : slice_get y.rels x ≡ Some rel
+    pub faces : facing from_right rel ≡ r
     pub table : r.table < length catalog.rels
     pub fresh : k.rels x ≡ false
     pub left : k.nodes (left_of r) ≡ true
     pub right : right_of r < length y.nodes
+
+  -- what does not depend on the node variable from which a relationship is read
+  seen : (f : TypedRel → Bool) → ((q : TypedRel) → f q ≡ f (flipped q)) → (k : Known) (x : ℕ) (r : TypedRel) → Adds k x r → holds f (slice_get y.rels x) ≡ f r
+  seen f same k x r h = ap (holds f) h.found ∙ go h.from_right ∙ ap f h.faces
+    where
+      go : (b : Bool) → f h.rel ≡ f (facing b h.rel)
+      go true = same h.rel
+      go false = refl
+
+  goes_seen : (column : Bool) (from to : ℕ) (way : Way) (q : TypedRel) → goes catalog column from to way q ≡ goes catalog column from to way (flipped q)
+  goes_seen column from to Forward q = refl
+  goes_seen column from to Backward q = refl
 
   single_agrees : (found : Option RelTable) (way : Way) → is_some found ≡ true → holds (λ table. agrees (single_in found way) (is_single table.mult way)) found ≡ true
   single_agrees None way h = h
@@ -182,7 +198,7 @@ module _ (catalog : Tables) (y : Typed) where
   unfolding fits after
   rel_runs k x r h true e =
       runs_one catalog y (step_by x r true) k (known_with k x r)
-      (and_from _ _ (ap (holds (goes catalog (single_in (slice_get catalog.rels r.table) (way_of r)) (left_of r) (right_of r) (way_of r))) h.found ∙ goes_by r h.table)
+      (and_from _ _ (seen (goes catalog (single_in (slice_get catalog.rels r.table) (way_of r)) (left_of r) (right_of r) (way_of r)) (goes_seen (single_in (slice_get catalog.rels r.table) (way_of r)) (left_of r) (right_of r) (way_of r)) k x r h ∙ goes_by r h.table)
       (and_from (not (k.rels x)) _ (ap not h.fresh) (and_from (k.nodes (left_of r)) _ h.left e)))
       (λ i. record { nodes = λ v. old v (eqb v (right_of r)) refl i; rels = (with_rel x k).rels })
     where
@@ -191,7 +207,7 @@ module _ (catalog : Tables) (y : Typed) where
       old v false m = refl
   rel_runs k x r h false e =
       runs_one catalog y (step_by x r false) k (known_with k x r)
-      (and_from _ _ (ap (holds (goes catalog (single_in (slice_get catalog.rels r.table) (way_of r)) (left_of r) (right_of r) (way_of r))) h.found ∙ goes_by r h.table)
+      (and_from _ _ (seen (goes catalog (single_in (slice_get catalog.rels r.table) (way_of r)) (left_of r) (right_of r) (way_of r)) (goes_seen (single_in (slice_get catalog.rels r.table) (way_of r)) (left_of r) (right_of r) (way_of r)) k x r h ∙ goes_by r h.table)
       (and_from (not (k.rels x)) _ (ap not h.fresh) (and_from (k.nodes (left_of r)) _ h.left (and_from (ltb (right_of r) (length y.nodes)) _ (lt-ltb (right_of r) (length y.nodes) h.right) (ap not e)))))
       refl
 
@@ -205,7 +221,7 @@ module _ (catalog : Tables) (y : Typed) where
       go true = add-zero (one (same_demand q (IsNoLoop x)))
       go false = refl
 
-  loop_runs : (k : Known) (x : ℕ) (r : TypedRel) → slice_get y.rels x ≡ Some r → k.rels x ≡ true → k.nodes (left_of r) ≡ true → k.nodes (right_of r) ≡ true → Runs catalog y (loop_steps x r) k k
+  loop_runs : (k : Known) (x : ℕ) (r : TypedRel) → holds (loop_bound k x) (slice_get y.rels x) ≡ loop_bound k x r → k.rels x ≡ true → k.nodes (left_of r) ≡ true → k.nodes (right_of r) ≡ true → Runs catalog y (loop_steps x r) k k
   unfolding fits after
   loop_runs k x r found here left right = go r.no_loop refl
     where
@@ -214,7 +230,7 @@ module _ (catalog : Tables) (y : Typed) where
       both false l m = and_from (k.nodes r.source) (k.nodes r.target) l m
 
       go : (b : Bool) → r.no_loop ≡ b → Runs catalog y (cond b (NoLoop x ∷ []) []) k k
-      go true e = runs_one catalog y (NoLoop x) k k (ap (holds (loop_bound k x)) found ∙ and_from r.no_loop (k.rels x && (k.nodes r.source && k.nodes r.target)) e (and_from (k.rels x) (k.nodes r.source && k.nodes r.target) here (both r.reversed left right))) refl
+      go true e = runs_one catalog y (NoLoop x) k k (found ∙ and_from r.no_loop (k.rels x && (k.nodes r.source && k.nodes r.target)) e (and_from (k.rels x) (k.nodes r.source && k.nodes r.target) here (both r.reversed left right))) refl
       go false e = runs_none catalog y k
 
   -- ---- a draft with one more relationship
@@ -234,7 +250,7 @@ module _ (catalog : Tables) (y : Typed) where
       omega arith
   found_full other k x r h (IsNoLoop v) =
       let t = one_marked k.rels (λ w. holds leaves_loops_out (slice_get y.rels w)) v x h.fresh in
-      let n : holds leaves_loops_out (slice_get y.rels x) ≡ r.no_loop = ap (holds leaves_loops_out) h.found in
+      let n : holds leaves_loops_out (slice_get y.rels x) ≡ r.no_loop = seen leaves_loops_out (λ q. refl) k x r h in
       let m : one (holds leaves_loops_out (slice_get y.rels x) && eqb v x) ≡ one (r.no_loop && eqb v x) = ap (λ b. one (b && eqb v x)) n in
       omega arith
   found_full other k x r h (Passes i) =
@@ -270,7 +286,7 @@ module _ (catalog : Tables) (y : Typed) where
         runs =
             runs_append catalog y d.steps (s ∷ (loop_steps x r ++ D)) none k l g.runs
             (runs_append catalog y (s ∷ []) (loop_steps x r ++ D) k l l (rel_runs k x r h (k.nodes (right_of r)) refl)
-            (runs_append catalog y (loop_steps x r) D l l l (loop_runs l x r h.found here ((grows_with k x r).nodes (left_of r) h.left) right) (runs_due catalog y (Some k) other l)));
+            (runs_append catalog y (loop_steps x r) D l l l (loop_runs l x r (seen (loop_bound l x) (λ q. refl) k x r h) here ((grows_with k x r).nodes (left_of r) h.left) right) (runs_due catalog y (Some k) other l)));
         full = λ q.
             met_append q d.steps (s ∷ (loop_steps x r ++ D))
             ∙ ap₂ ◌+◌ (g.full q)

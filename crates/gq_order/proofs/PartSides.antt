@@ -1,6 +1,6 @@
 -- A draft of a side plan makes a part, if it meets what is bound in the part and was not bound before.
 use Rattle.std.proofs.Common.{◌≡◌, ℕ, ◌+◌, ◌<◌, Bool, true, false, not, ◌&&◌, nat_eq, ltb, Option, Some, None, List, ◌++◌, map, filter, length, slice_get, refl, sym, ap, ◌∙◌, arith}
-use Rattle.std.specs.List.{range_with_len}
+use Rattle.std.specs.List.{AllZip, list_all, range_with_len}
 use Rattle.std.proofs.lemmas.Bool.{and_parts, lt-ltb}
 use Rattle.std.proofs.lemmas.Option.{slice_get_within}
 use Rattle.gq_base.specs.Catalogs.{Tables}
@@ -12,15 +12,21 @@ use Rattle.gq_plan.proofs.Demands.{kept_below, one_bit, others, same_is, same_re
 use Rattle.gq_plan.proofs.Each.{each_of}
 use Rattle.gq_plan.proofs.Pieces.{holds_some}
 use Rattle.gq_plan.specs.Covers.{placed, pair_bound, leaves_loops_out}
+use Rattle.gq_plan.specs.Flat.{is_flat}
 use Rattle.gq_plan.specs.Known.{Known}
 use Rattle.gq_plan.specs.Meaning.{holds}
 use Rattle.gq_plan.specs.Parts.{Part, counts, nodes_inside, rels_inside, part_demands, IsSide}
-use Rattle.gq_plan.specs.Steps.{steps}
+use Rattle.gq_plan.specs.Steps.{Plan, steps}
 use Rattle.gq_plan.specs.Times.{same_demand}
 use Rattle.gq_plan.specs.declared.demand.Demand.{Demand}
 use Rattle.gq_plan.specs.declared.demand.Demand.TheVariants.{InTable, Joins, Passes, Differs, IsNoLoop}
 use Rattle.gq_plan.specs.declared.typed.RelPair.{RelPair}
 use Rattle.gq_plan.specs.declared.typed.Typed.{Typed}
+
+-- side plans make these parts one by one, and have no joins
+pub record AreJoined (catalog : Tables) (y : Typed) (ps : List Part) (ss : List Plan) : Type 0 where
+  pub make : AllZip (IsSide catalog y) ps ss
+  pub alone : list_all is_flat ss ≡ true
 
 -- a number stands once among those below n that pass
 passes_once : (p : ℕ → Bool) (n v : ℕ) → (p v ≡ true → v < n) → hits (nat_eq v) (filter p (range_with_len 0 n)) ≡ bit (p v)

@@ -1,5 +1,5 @@
 -- A draft with the relationships of a path is good, and binds all that the path names.
-use Rattle.std.proofs.Common.{◌≡◌, ◌∙◌, ap, sym, refl, ℕ, zero, suc, ◌+◌, ◌<◌, ◌≤◌, Bool, true, false, ◌||◌, cond, Option, Some, None, List, [], ◌∷◌, map, length, slice_get, eqb, option_map, true≢false, arith, add-zero}
+use Rattle.std.proofs.Common.{◌≡◌, ◌∙◌, ap, sym, refl, ℕ, ◌+◌, ◌<◌, ◌≤◌, Bool, true, false, ◌||◌, cond, Option, Some, None, List, [], ◌∷◌, map, length, slice_get, eqb, option_map, true≢false, arith, add-zero}
 use Rattle.std.specs.List.{list_any}
 use Rattle.std.proofs.lemmas.Bool.{and_parts, eq-eqb, eqb-true}
 use Rattle.std.proofs.lemmas.Option.{slice_get_within}
@@ -9,6 +9,7 @@ use Rattle.gq_order.proofs.Tables.{one_new}
 use Rattle.gq_order.specs.Given.{Draft, with_step, with_rels, known_with}
 use Rattle.gq_plan.proofs.Counts.{bit, hits}
 use Rattle.gq_plan.proofs.Demands.{one_bit}
+use Rattle.gq_plan.proofs.Pieces.{some_at}
 use Rattle.gq_plan.specs.Known.{Known}
 use Rattle.gq_plan.specs.Soundness.{EndsFit, left_of, right_of, joined, rights, has_number}
 use Rattle.gq_plan.specs.Times.{one}
@@ -24,11 +25,6 @@ grows_on k l m g h = record { nodes = λ v e. h.nodes v (g.nodes v e); rels = λ
 
 pub grows_same : (k : Known) → Grows k k
 grows_same k = record { nodes = λ v e. e; rels = λ x e. e }
-
-pub some_at : {X : Type 0} (xs : List X) (i : ℕ) → i < length xs → (x : X) × (slice_get xs i ≡ Some x)
-some_at [] i h = absurd (omega arith)
-some_at (x ∷ xs) zero h = (x, refl)
-some_at (x ∷ xs) (suc i) h = some_at xs i (omega arith)
 
 none_first : (b : Bool) (n : ℕ) → one b + (1 + n) ≤ 1 → b ≡ false
 none_first true n h = absurd (omega arith)
@@ -64,7 +60,10 @@ module _ (catalog : Tables) (y : Typed) (ends : (x : ℕ) (r : TypedRel) → sli
       let here : one (d.known.rels x) + (1 + count x xs) ≤ 1 = rw (ap bit (eq-eqb x x refl)) at (few x) in
       let fresh : d.known.rels x ≡ false = none_first (d.known.rels x) (count x xs) here in
       let adds : Adds catalog y d.known x r = record {
+        from_right = false;
+        rel = r;
         found = found;
+        faces = refl;
         table = (ends x r found).table;
         fresh = fresh;
         left = ap d.known.nodes (eqb-true (left_of r) at parts.0) ∙ left;

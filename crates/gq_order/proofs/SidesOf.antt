@@ -56,7 +56,7 @@ module _ (catalog : Tables) (y : Typed) where
       go true = refl
       go false = refl
 
-  found_sides : (other : Option Known) (d : Draft) (x : ℕ) (found : Option TypedRel) → sides_in (with_step catalog y other d x found).steps ≡ sides_in d.steps
+  pub found_sides : (other : Option Known) (d : Draft) (x : ℕ) (found : Option TypedRel) → sides_in (with_step catalog y other d x found).steps ≡ sides_in d.steps
   unfolding sides
   found_sides other d x None = refl
   found_sides other d x (Some r) =

@@ -4,12 +4,15 @@ ghost use Rattle.std.specs.List.{range_with_len};
 ghost use Rattle.gq_order.specs.Drafts.{draft_of, other_of};
 ghost use Rattle.gq_order.specs.Given as plans;
 ghost use Rattle.gq_order.specs.Given.{with_rels, with_step, with_side, rel_step, shared};
+ghost use Rattle.gq_order.specs.Orders as orders;
+ghost use Rattle.gq_order.specs.Orders.{with_turns};
 ghost use Rattle.gq_plan.specs.Known.{known_of};
 ghost use Rattle.gq_plan.specs.Soundness as soundness;
 ghost use Rattle.gq_plan.specs.Soundness.{IsSound, max_variables};
 ghost use Rattle.gq_plan.specs.Steps.{plan_of, step_of, steps};
 
 use crate::conditions::push_due;
+use crate::order::{Turn, read_by};
 use gq_base::{Boxed, Catalog, List, Memory};
 use gq_plan::{Known, Plan, Step, Typed, TypedRel, Way, is_single};
 use std::alloc::Global;
@@ -99,6 +102,43 @@ impl Draft {
         match typed.rels.get(rel as usize) {
             None => Ok(self),
             Some(found) => self.with_found(rel, found, typed, catalog, other),
+        }
+    }
+
+    /// The draft with the relationships of turns, one after another.
+    pub fn with_turns(
+        self,
+        turns: &[Turn],
+        typed: &Typed,
+        catalog: &Catalog,
+        other: Option<Known>,
+    ) -> Result<Draft, Memory>
+        requires { IsSound catalog.now typed.now }
+        ensures { IfOk result (λ d. draft_of d
+            ≡ with_turns catalog.now typed.now (other_of other) (draft_of self) turns.now) }
+    {
+        let mut draft = self;
+        for turn in turns {
+            draft = draft.with_turn(*turn, typed, catalog, other)?;
+        }
+        Ok(draft)
+    }
+
+    #[tactic(auto, using(crate::proofs::TurnReads::read_fits))]
+    fn with_turn(
+        self,
+        turn: Turn,
+        typed: &Typed,
+        catalog: &Catalog,
+        other: Option<Known>,
+    ) -> Result<Draft, Memory>
+        requires { IsSound catalog.now typed.now }
+        ensures { IfOk result (λ d. draft_of d ≡ with_step catalog.now typed.now
+            (other_of other) (draft_of self) turn.rel (orders.read_by typed.now turn)) }
+    {
+        match read_by(typed, turn) {
+            None => Ok(self),
+            Some(read) => self.with_found(turn.rel, &read, typed, catalog, other),
         }
     }
 
@@ -195,7 +235,8 @@ fn rel_step(known: Known, rel: u32, found: &TypedRel, catalog: &Catalog) -> Step
     }
 }
 
-fn way_of(rel: &TypedRel) -> Way
+/// The way from the left to the right of a relationship's pattern.
+pub fn way_of(rel: &TypedRel) -> Way
     ensures { result ≡ plans.way_of rel.now }
 {
     if rel.reversed {
@@ -205,13 +246,15 @@ fn way_of(rel: &TypedRel) -> Way
     }
 }
 
-fn left_of(rel: &TypedRel) -> u32
+/// The node variable at the left.
+pub fn left_of(rel: &TypedRel) -> u32
     ensures { result ≡ soundness.left_of rel.now }
 {
     if rel.reversed { rel.target } else { rel.source }
 }
 
-fn right_of(rel: &TypedRel) -> u32
+/// The node variable at the right.
+pub fn right_of(rel: &TypedRel) -> u32
     ensures { result ≡ soundness.right_of rel.now }
 {
     if rel.reversed { rel.source } else { rel.target }

@@ -1,17 +1,21 @@
 -- Rows and load numbers of which all are bound are the whole assignment.
-use Rattle.std.proofs.Common.{◌≡◌, ℕ, suc, ◌+◌, ◌<◌, true, cond, Option, Some, None, List, [], ◌∷◌, ◌++◌, flat_map, length, slice_get, refl, sym, ap, ◌∙◌, arith}
+use Rattle.std.proofs.Common.{◌≡◌, ℕ, suc, ◌+◌, ◌<◌, true, cond, Option, Some, None, List, [], ◌∷◌, ◌++◌, flat_map, length, slice_get, refl, sym, ap, ◌∙◌, arith, Bool, ap₂, ◌&&◌, zero}
 use Rattle.std.specs.Prelude.{slice_index}
 use Rattle.std.specs.List.{list_all, range_with_len}
-use Rattle.std.proofs.lemmas.Bool.{and_parts}
+use Rattle.std.proofs.lemmas.Bool.{and_parts, lt-ltb}
 use Rattle.gq_base.specs.declared.NodeId.{NodeId}
 use Rattle.gq_base.specs.declared.RelId.{RelId}
-use Rattle.gq_plan.specs.Known.{Known}
+use Rattle.gq_base.specs.Catalogs.{Tables}
+use Rattle.gq_plan.proofs.Binding.{covers_nodes, covers_rels}
+use Rattle.gq_plan.specs.Covers.{after, Covers}
+use Rattle.gq_plan.specs.Known.{Known, none}
 use Rattle.gq_plan.specs.Meaning.{Partial, look, found, whole}
 use Rattle.gq_plan.specs.Rows.{assigned, nodes_of_tables, rels_of_tables, table_of, node_at, rel_at}
 use Rattle.gq_plan.specs.declared.assignment.Assignment.{Assignment}
 use Rattle.gq_plan.specs.declared.typed.Typed.{Typed}
 use Rattle.gq_plan.specs.declared.typed.TypedRel.{TypedRel}
-use Rattle.gq_pipe.specs.Bound.{all_bound}
+use Rattle.gq_plan.specs.Steps.{Plan}
+use Rattle.gq_pipe.specs.Bound.{all_bound, binds_all}
 use Rattle.gq_pipe.proofs.Binding.{Looks}
 use Rattle.gq_pipe.proofs.Joined.{in_range}
 
@@ -50,3 +54,15 @@ whole_assigned y row k a h node_count rel_count all =
       rels = rels_found y.rels row.rels 0 (look a.rels) rel_count
           (λ i low. ap (look a.rels) (zero_node i) ∙ h.rels i ∙ ap (λ b. cond b (Some (rel_at y row i)) None) (in_range k.rels 0 (length y.rels) i parts.1 (omega arith) (omega (arith, low)))) j;
     }
+
+-- ---- plans that cover
+
+all_below : (p : ℕ → Bool) (a n : ℕ) → ((v : ℕ) → v < a + n → p v ≡ true) → list_all p (range_with_len a n) ≡ true
+all_below p a zero h = refl
+all_below p a (suc n) h = ap₂ ◌&&◌ (h a (omega arith)) (all_below p (a + 1) n (λ v low. h v (omega (arith, low))))
+
+-- a plan that covers an alternative binds all its variables
+pub covers_bind_all : (catalog : Tables) (y : Typed) (p : Plan) → Covers catalog y p → binds_all y p ≡ true
+covers_bind_all catalog y p covers = ap₂ ◌&&◌
+    (all_below (after p none).nodes 0 (length y.nodes) (λ v low. covers_nodes catalog y v p covers ∙ lt-ltb v (length y.nodes) (omega (arith, low))))
+    (all_below (after p none).rels 0 (length y.rels) (λ x low. covers_rels catalog y x p covers ∙ lt-ltb x (length y.rels) (omega (arith, low))))

@@ -1,5 +1,5 @@
 -- The builds of a plan, step by step, and whether its side plans are within a limit.
-use Rattle.std.proofs.Common.{◌≡◌, ℕ, zero, suc, ◌+◌, ◌<◌, ◌≤◌, Bool, true, false, ◌&&◌, Option, List, [], ◌∷◌, ◌++◌, map, length, take, get_or, refl, sym, ap, ap₂, ◌∙◌, subst, arith}
+use Rattle.std.proofs.Common.{◌≡◌, ℕ, zero, suc, ◌+◌, ◌<◌, ◌≤◌, Bool, true, false, ◌&&◌, Option, List, [], ◌∷◌, ◌++◌, map, length, take, get_or, refl, sym, ap, ap₂, ◌∙◌, subst, arith, true≢false}
 use Rattle.std.specs.Prelude.{All, nat_le}
 use Rattle.std.specs.List.{list_all, AllByRecursion}
 use Rattle.std.proofs.lemmas.Bool.{and_parts, le-leb, lt-leb}
@@ -13,7 +13,9 @@ use Rattle.gq_join.specs.declared.build.JoinRefusal.TheVariants.{TooManyRows, Me
 use Rattle.gq_plan.specs.Covers.{after, after_step, fits, fits_step, Fits, is_joined}
 use Rattle.gq_plan.specs.Known.{Known, none}
 use Rattle.gq_plan.specs.Meaning.{meaning}
-use Rattle.gq_plan.specs.Steps.{Plan, Step, Join, steps, step_of, plan_of}
+use Rattle.gq_plan.specs.Flat.{is_flat}
+use Rattle.gq_plan.specs.Parts.{sides}
+use Rattle.gq_plan.specs.Steps.{Plan, Step, Join, steps, step_of, plan_of, Done, Then, Scan, Extend, Close, Keep, Differ, NoLoop}
 use Rattle.gq_plan.proofs.StepEquations.{plan_is, join_is}
 use Rattle.gq_plan.specs.declared.plan.Plan as code_plan
 use Rattle.gq_plan.specs.declared.plan.Step as code
@@ -76,6 +78,35 @@ module _ (g : Graph) (y : Typed) where
     unfolding sides_within
     side_refused side keys (TooManyRows l) r = (r.0, ap (λ b. sides_within g y limit side && b) (lt-leb (length (meaning g y side)) limit r.1) ∙ never (sides_within g y limit side))
     side_refused side keys Memory r = tt
+
+-- ---- side plans without joins
+
+module _ (g : Graph) (y : Typed) (limit : ℕ) where
+  -- a plan without joins has no side plan that is beyond a limit
+  pub flat_within : (p : Plan) → is_flat p ≡ true → sides_within g y limit p ≡ true
+  unfolding sides_within
+  flat_within Done h = refl
+  flat_within (Then (Scan v) p) h = flat_within p h
+  flat_within (Then (Extend column x from to way) p) h = flat_within p h
+  flat_within (Then (Close column x from to way) p) h = flat_within p h
+  flat_within (Then (Join side keys) p) h = absurd (true≢false (sym h))
+  flat_within (Then (Keep i) p) h = flat_within p h
+  flat_within (Then (Differ i) p) h = flat_within p h
+  flat_within (Then (NoLoop x) p) h = flat_within p h
+
+  -- where side plans have no joins, they are within a limit where each makes at most so many assignments
+  pub within_sides : (p : Plan) → list_all is_flat (sides p) ≡ true → sides_within g y limit p ≡ list_all (λ s. nat_le (length (meaning g y s)) limit) (sides p)
+  unfolding sides_within sides
+  within_sides Done h = refl
+  within_sides (Then (Scan v) p) h = within_sides p h
+  within_sides (Then (Extend column x from to way) p) h = within_sides p h
+  within_sides (Then (Close column x from to way) p) h = within_sides p h
+  within_sides (Then (Join side keys) p) h =
+      let parts = and_parts (is_flat side) (list_all is_flat (sides p)) h in
+      ap₂ ◌&&◌ (ap (λ b. b && nat_le (length (meaning g y side)) limit) (flat_within side parts.0)) (within_sides p parts.1)
+  within_sides (Then (Keep i) p) h = within_sides p h
+  within_sides (Then (Differ i) p) h = within_sides p h
+  within_sides (Then (NoLoop x) p) h = within_sides p h
 
 -- ---- what fits
 

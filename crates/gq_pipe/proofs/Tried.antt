@@ -21,7 +21,7 @@ use Rattle.gq_pipe.specs.declared.plan_run.Tried.TheVariants.{Past, Missed, Made
 use Rattle.gq_pipe.proofs.Binding.{looks, fits_at}
 use Rattle.gq_pipe.proofs.Stepping.{not_true, Makes, is_made, is_missed, is_past, scan_parts, scan_makes, scan_makes_none, Follows, follows, near_rows_are, extend_makes, extend_past, close_makes, close_misses, close_past}
 
--- the step at a depth of a course, by its step of the program
+-- the step at a depth of a run, by its step of the program
 get_mapped : (ss : List code.Step) (d : ℕ) (x : code.Step) → d < length ss → get_or (map step_of ss) d (Keep 0) ≡ step_of (get_or ss d x)
 get_mapped [] d x low = absurd (omega arith)
 get_mapped (s ∷ ss) zero x low = refl

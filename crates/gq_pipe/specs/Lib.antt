@@ -7,5 +7,6 @@ pub mod Limits
 pub mod Moves
 pub mod Outcomes
 pub mod Progress
+pub mod Ring
 pub mod Standing
 pub mod Tries

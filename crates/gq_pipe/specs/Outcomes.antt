@@ -1,12 +1,14 @@
 -- What a try of each kind of step does to rows and load numbers.
-use Rattle.std.specs.Prelude.{◌≡◌, ◌≢◌, ℕ, zero, suc, ◌+◌, ◌^◌, ◌<◌, ◌≤◌, Bool, true, false, Some, List, [], ◌∷◌, All, length, slice_get, slice_index, slice_set}
+use Rattle.std.specs.Prelude.{◌≡◌, ◌≢◌, ℕ, zero, suc, ◌+◌, ◌^◌, ◌<◌, ◌≤◌, Bool, true, false, Option, Some, List, [], ◌∷◌, All, length, slice_get, slice_index, slice_set}
 use Rattle.gq_base.specs.Plain.{Graph}
 use Rattle.gq_base.specs.Valid.{row_count}
 use Rattle.gq_join.specs.Kept.{Held, matches_of, node_in, rel_in, place_of}
+use Rattle.gq_plan.specs.Conditions.{passes, differs, no_loop}
+use Rattle.gq_plan.specs.Meaning.{holds}
 use Rattle.gq_plan.specs.declared.typed.Typed.{Typed}
 use Rattle.gq_store.specs.Neighbours.{near_rows, neighbours}
-use Rattle.gq_pipe.specs.Hops.{direction_of, IsHop}
-use Rattle.gq_plan.specs.Rows.{node_table, rel_table}
+use Rattle.gq_pipe.specs.Hops.{direction_of, IsHop, IsHopAt}
+use Rattle.gq_plan.specs.Rows.{as_read, node_table, rel_table}
 use Rattle.gq_plan.specs.declared.assignment.Assignment.{Assignment}
 use Rattle.gq_pipe.specs.declared.plan_run.Follow.{Follow}
 use Rattle.gq_pipe.specs.declared.plan_run.Tried.{Tried}
@@ -46,6 +48,11 @@ IsNoHop g y f place row = length (neighbours g (rel_table y f.rel) (direction_of
 -- the relationship at the place
 abbrev pub IsHopOf : Graph → Typed → Follow → ℕ → Assignment → Hop → Type 0
 IsHopOf g y f place row h = IsHop g (rel_table y f.rel) (direction_of f.way) (slice_index row.nodes f.from) place h
+
+-- the relationship at the place among those that are followed, or none where there is no such place
+abbrev pub IsHopFound : Graph → Typed → Follow → ℕ → Assignment → Option Hop → Type 0
+IsHopFound g y f place row found =
+    IsHopAt g (rel_table y f.rel) (direction_of f.way) (slice_index row.nodes f.from) place found
 
 -- the relationship at the place, and the row to which it leads
 abbrev pub IsExtended : Graph → Typed → Follow → ℕ → Assignment → Assignment → Tried → Type 0
@@ -91,6 +98,16 @@ abbrev pub IsJoined : Held → ℕ → Assignment → Assignment → Tried → T
 IsJoined h place old new Past = (new ≡ old) × (length (matches_of h old) ≤ place)
 IsJoined h place old new Missed = ⊥
 IsJoined h place old new Made = IsMatch h place old new
+
+-- whether a test is true, the relationships of a pair are different, and a relationship is no loop
+abbrev pub passes_at : Graph → Typed → Assignment → ℕ → Bool
+passes_at g y row i = holds (passes g (as_read y row)) (slice_get y.tests i)
+
+abbrev pub differs_at : Typed → Assignment → ℕ → Bool
+differs_at y row p = holds (differs (as_read y row)) (slice_get y.pairs p)
+
+abbrev pub no_loop_at : Typed → Assignment → ℕ → Bool
+no_loop_at y row x = holds (no_loop (as_read y row)) (slice_get y.rels x)
 
 -- a test has one place
 abbrev pub tested : ℕ → Bool → Tried

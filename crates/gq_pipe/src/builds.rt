@@ -102,10 +102,8 @@ fn build_of(
             let build = make_build(alloc, graph, &builds, side, typed, keys.as_slice(), limit)?;
             Ok(Some(build))
         }
-        Step::Scan { .. } | Step::Keep { .. } | Step::Differ { .. } | Step::NoLoop { .. } => Ok(
-            None,
-        ),
-        Step::Extend { .. } | Step::ColumnExtend { .. } => Ok(None),
+        Step::Scan { .. } | Step::Extend { .. } | Step::ColumnExtend { .. } => Ok(None),
         Step::Close { .. } | Step::ColumnClose { .. } => Ok(None),
+        Step::Keep { .. } | Step::Differ { .. } | Step::NoLoop { .. } => Ok(None),
     }
 }

@@ -25,7 +25,8 @@ impl Cursor {
     pub(crate) fn next(&mut self, plan_run: &PlanRun<'_>) -> bool
         requires run { IsRun (run_of plan_run.now) }
         requires open { IsOpen (run_of plan_run.now) self.old (length (run_of plan_run.now).steps) }
-        ensures { let c = run_of plan_run.now in IsSearched c (owed_after c self.old) result self.new }
+        ensures { let c = run_of plan_run.now in
+            IsSearched c (owed_after c self.old) result self.new }
     {
         match plan_run.steps.len().checked_sub(1) {
             None => false,
@@ -40,7 +41,8 @@ impl Cursor {
     fn search(&mut self, plan_run: &PlanRun<'_>, mut depth: usize, mut place: u32) -> bool
         requires run { IsRun (run_of plan_run.now) }
         requires open { IsOpen (run_of plan_run.now) self.old depth }
-        ensures { let c = run_of plan_run.now in IsSearched c (owed_at c self.old depth place) result self.new }
+        ensures { let c = run_of plan_run.now in
+            IsSearched c (owed_at c self.old depth place) result self.new }
     {
         while depth < plan_run.steps.len() {
             match plan_run.try_step(depth, place, &mut self.row) {

@@ -1,6 +1,6 @@
 //! The assignments of a plan, one after another.
 ghost use Rattle.std.specs.Prelude.{◌≡◌, ◌∷◌, [], true, false, IfOk, if◌then◌else◌};
-ghost use Rattle.gq_plan.specs.Covers.{Fits};
+ghost use Rattle.gq_plan.specs.Covers.{Fits, Covers};
 ghost use Rattle.gq_plan.specs.Meaning.{meaning, mean, nothing};
 ghost use Rattle.gq_plan.specs.Rows.{assigned};
 ghost use Rattle.gq_plan.specs.Soundness.{IsSound};
@@ -53,7 +53,7 @@ impl<'g> Model for FlatPipeline<'g> {
 }
 
 impl<'g> FlatPipeline<'g> {
-    /// A pipeline that owes all assignments of a plan. After `Memory` there is no pipeline.
+    /// A pipeline that owes all assignments of a plan, with the builds of its joins. After `Memory` there is no pipeline.
     pub fn start(
         alloc: Global,
         graph: &'g Graph,
@@ -66,7 +66,10 @@ impl<'g> FlatPipeline<'g> {
         requires builds { AreBuilds graph.now typed.now (plan_of plan.now) builds.now }
         ensures owed { IfOk result (λ p. p.owed ≡ meaning graph.now typed.now (plan_of plan.now)) }
         ensures complete { IfOk result (λ p. p.complete ≡ binds_all typed.now (plan_of plan.now)) }
-        ensures partials { IfOk result (λ p. p.partials ≡ mean graph.now typed.now (plan_of plan.now) nothing) }
+        ensures covering { Covers graph.now.catalog typed.now (plan_of plan.now) →
+            IfOk result (λ p. p.complete ≡ true) }
+        ensures partials { IfOk result (λ p.
+            p.partials ≡ mean graph.now typed.now (plan_of plan.now) nothing) }
         ensures source { IfOk result (λ p. p.source ≡ source_of graph.now typed.now plan.now) }
     {
         let _ = graph.catalog();
@@ -107,10 +110,11 @@ impl<'g> FlatPipeline<'g> {
     }
 
     /// The assignment that was reached last. It has a row for each node variable that the plan binds and a load number for
-    /// each relationship variable; those of other variables mean nothing.
+    /// each relationship variable; those of other variables mean nothing. A plan that covers its alternative binds all.
     pub fn row(&self) -> &Assignment
         requires { self.now.standing ≡ true }
-        ensures whole { self.now.complete ≡ true → assigned self.now.source.typed result.now ≡ self.now.row }
+        ensures whole { self.now.complete ≡ true →
+            assigned self.now.source.typed result.now ≡ self.now.row }
         ensures held { IsRow self.now result.now }
     {
         &self.cursor.row

@@ -10,3 +10,6 @@ mod plan_run;
 
 pub use builds::{Builds, make_builds};
 pub use flat::FlatPipeline;
+
+#[cfg(test)]
+mod tests;

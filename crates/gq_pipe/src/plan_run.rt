@@ -1,14 +1,13 @@
 //! What a pipeline runs over, and one try of one step.
-ghost use Rattle.std.specs.Prelude.{◌≡◌, ◌<◌, length, slice_get, slice_index_or, None, All, MatchOption};
+ghost use Rattle.std.specs.Prelude.{◌≡◌, ◌<◌, length, slice_index_or, None, All};
 ghost use Rattle.std.specs.Option.{option_copied};
-ghost use Rattle.gq_plan.specs.Conditions.{passes, differs, no_loop};
-ghost use Rattle.gq_plan.specs.Meaning.{holds};
+ghost use Rattle.gq_join.specs.Kept.{place_of};
 ghost use Rattle.gq_plan.specs.Soundness.{IsSound};
 ghost use Rattle.gq_pipe.specs.Levels.{known};
 ghost use Rattle.gq_pipe.specs.Moves.{run_of, IsRun, IsHeld, IsTried};
-ghost use Rattle.gq_pipe.specs.Outcomes.{IsSized, IsScanned, CanFollow, IsNoHop, IsHopOf, IsExtended, IsClosed, CanJoin, IsJoined, with_nodes, with_rels, tested};
-ghost use Rattle.gq_join.specs.Kept.{place_of};
-ghost use Rattle.gq_plan.specs.Rows.{as_read};
+ghost use Rattle.gq_pipe.specs.Outcomes.{IsSized, IsScanned, CanFollow, IsHopFound, IsExtended, IsClosed};
+ghost use Rattle.gq_pipe.specs.Outcomes.{CanJoin, IsJoined, with_nodes, with_rels};
+ghost use Rattle.gq_pipe.specs.Outcomes.{passes_at, differs_at, no_loop_at, tested};
 
 use crate::follow::{Hop, direction_of, hop_at};
 use gq_base::{List, Value};
@@ -96,7 +95,8 @@ impl PlanRun<'_> {
         requires sound { IsSound self.now.graph.now.catalog self.now.typed.now }
         requires sized { IsSized self.now.typed.now row.old }
         requires node { node < length self.now.typed.now.nodes }
-        ensures { IsScanned self.now.graph.now self.now.typed.now node place row.old row.new result }
+        ensures { IsScanned self.now.graph.now self.now.typed.now node place
+            row.old row.new result }
     {
         let table = self.typed.nodes.as_slice()[node as usize];
         if place >= self.graph.node_count(table) {
@@ -109,7 +109,8 @@ impl PlanRun<'_> {
     // The relationship at the place, for a relationship variable, and the row to which it leads, for a node variable.
     fn extend(&self, follow: Follow, place: u32, row: &mut Assignment) -> Tried
         requires { CanFollow self.now.graph.now self.now.typed.now row.old follow }
-        ensures { IsExtended self.now.graph.now self.now.typed.now follow place row.old row.new result }
+        ensures { IsExtended self.now.graph.now self.now.typed.now follow place
+            row.old row.new result }
     {
         match self.hop(follow, place, row) {
             None => Tried::Past,
@@ -124,7 +125,8 @@ impl PlanRun<'_> {
     // The relationship at the place, for a relationship variable, where it leads to the row that a node variable has.
     fn close(&self, follow: Follow, place: u32, row: &mut Assignment) -> Tried
         requires { CanFollow self.now.graph.now self.now.typed.now row.old follow }
-        ensures { IsClosed self.now.graph.now self.now.typed.now follow place row.old row.new result }
+        ensures { IsClosed self.now.graph.now self.now.typed.now follow place
+            row.old row.new result }
     {
         match self.hop(follow, place, row) {
             None => Tried::Past,
@@ -141,7 +143,7 @@ impl PlanRun<'_> {
     // The relationship at the place among those that are followed.
     fn hop(&self, follow: Follow, place: u32, row: &Assignment) -> Option<Hop>
         requires { CanFollow self.now.graph.now self.now.typed.now row.now follow }
-        ensures { MatchOption result (IsNoHop self.now.graph.now self.now.typed.now follow place row.now) (IsHopOf self.now.graph.now self.now.typed.now follow place row.now) }
+        ensures { IsHopFound self.now.graph.now self.now.typed.now follow place row.now result }
     {
         let table = self.typed.rels.as_slice()[follow.rel as usize].table;
         let from = row.nodes.as_slice()[follow.from as usize];
@@ -150,7 +152,7 @@ impl PlanRun<'_> {
 
     // Whether a test is true.
     fn keep(&self, test: u32, row: &Assignment) -> bool
-        ensures { result ≡ holds (passes self.now.graph.now (as_read self.now.typed.now row.now)) (slice_get self.now.typed.now.tests test) }
+        ensures { result ≡ passes_at self.now.graph.now self.now.typed.now row.now test }
     {
         let typed_row = TypedRow {
             typed: self.typed,
@@ -167,7 +169,7 @@ impl PlanRun<'_> {
 
     // Whether the relationships of a pair are different.
     fn differ(&self, pair: u32, row: &Assignment) -> bool
-        ensures { result ≡ holds (differs (as_read self.now.typed.now row.now)) (slice_get self.now.typed.now.pairs pair) }
+        ensures { result ≡ differs_at self.now.typed.now row.now pair }
     {
         let typed_row = TypedRow {
             typed: self.typed,
@@ -184,7 +186,7 @@ impl PlanRun<'_> {
 
     // Whether the ends of a relationship are different.
     fn no_loop(&self, rel: u32, row: &Assignment) -> bool
-        ensures { result ≡ holds (no_loop (as_read self.now.typed.now row.now)) (slice_get self.now.typed.now.rels rel) }
+        ensures { result ≡ no_loop_at self.now.typed.now row.now rel }
     {
         let typed_row = TypedRow {
             typed: self.typed,
@@ -227,7 +229,8 @@ fn join(build: &Sealed, place: u32, row: &mut Assignment) -> Tried
 fn take_nodes(build: &Sealed, found: u32, nodes: &mut List<u32>)
     requires found { found < length build.now.rows }
     requires there { All (λ v. v < length nodes.old) build.now.nodes }
-    requires places { All (λ v. place_of build.now.nodes v < length build.now.nodes) build.now.nodes }
+    requires places { All (λ v. place_of build.now.nodes v < length build.now.nodes)
+        build.now.nodes }
     ensures { nodes.new ≡ with_nodes build.now found build.now.nodes nodes.old }
 {
     for variable in build.nodes() {

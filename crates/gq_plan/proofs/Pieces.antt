@@ -26,6 +26,27 @@ some_at [] i h = absurd (omega arith)
 some_at (x ∷ xs) zero h = (x, refl)
 some_at (x ∷ xs) (suc i) h = some_at xs i (omega arith)
 
+-- ---- marks
+
+-- equal marks stay equal
+pub marks_same : (rs : List TypedRel) (mark : ℕ → ℕ) (a b : ℕ) → mark a ≡ mark b → marks rs mark a ≡ marks rs mark b
+marks_same [] mark a b e = e
+marks_same (r ∷ rs) mark a b e = marks_same rs _ a b (ap (λ m. if nat_eq m (mark r.target) then mark r.source else m) e)
+
+one_mark : (m n : ℕ) (b : Bool) → nat_eq m n ≡ b → (if nat_eq m n then m else m) ≡ (if nat_eq n n then m else n)
+one_mark m n true e = ap (λ c. if c then m else m) e ∙ sym (ap (λ c. if c then m else n) (eq-eqb n n refl))
+one_mark m n false e = ap (λ c. if c then m else m) e ∙ sym (ap (λ c. if c then m else n) (eq-eqb n n refl))
+
+-- the ends of a relationship have one mark
+pub ends_marked : (rs : List TypedRel) (mark : ℕ → ℕ) (x : ℕ) (r : TypedRel) → slice_get rs x ≡ Some r → marks rs mark r.source ≡ marks rs mark r.target
+ends_marked [] mark x r e = absurd (cc e)
+ends_marked (q ∷ rs) mark zero r e =
+    let same : q ≡ r = cc in
+    subst (λ z. marks (q ∷ rs) mark z.source ≡ marks (q ∷ rs) mark z.target) same (marks_same rs _ q.source q.target (one_mark (mark q.source) (mark q.target) (nat_eq (mark q.source) (mark q.target)) refl))
+ends_marked (q ∷ rs) mark (suc x) r e = ends_marked rs _ x r e
+
+-- ---- paths
+
 module _ (catalog : Tables) (y : Typed) (sound : IsSound catalog y) where
   ends : AllByRecursion (EndsFit catalog y) y.rels
   ends = recursion_from_All (EndsFit catalog y) y.rels sound.ends
@@ -125,23 +146,6 @@ module _ (catalog : Tables) (y : Typed) (sound : IsSound catalog y) where
   given_pieces = each_but_first _ (pieces_are y.paths none (recursion_from_All _ y.paths sound.starts) (recursion_from_All _ y.paths sound.joins))
 
   -- ---- components
-
-  -- equal marks stay equal
-  marks_same : (rs : List TypedRel) (mark : ℕ → ℕ) (a b : ℕ) → mark a ≡ mark b → marks rs mark a ≡ marks rs mark b
-  marks_same [] mark a b e = e
-  marks_same (r ∷ rs) mark a b e = marks_same rs _ a b (ap (λ m. if nat_eq m (mark r.target) then mark r.source else m) e)
-
-  one_mark : (m n : ℕ) (b : Bool) → nat_eq m n ≡ b → (if nat_eq m n then m else m) ≡ (if nat_eq n n then m else n)
-  one_mark m n true e = ap (λ c. if c then m else m) e ∙ sym (ap (λ c. if c then m else n) (eq-eqb n n refl))
-  one_mark m n false e = ap (λ c. if c then m else m) e ∙ sym (ap (λ c. if c then m else n) (eq-eqb n n refl))
-
-  -- the ends of a relationship have one mark
-  ends_marked : (rs : List TypedRel) (mark : ℕ → ℕ) (x : ℕ) (r : TypedRel) → slice_get rs x ≡ Some r → marks rs mark r.source ≡ marks rs mark r.target
-  ends_marked [] mark x r e = absurd (cc e)
-  ends_marked (q ∷ rs) mark zero r e =
-      let same : q ≡ r = cc in
-      subst (λ z. marks (q ∷ rs) mark z.source ≡ marks (q ∷ rs) mark z.target) same (marks_same rs _ q.source q.target (one_mark (mark q.source) (mark q.target) (nat_eq (mark q.source) (mark q.target)) refl))
-  ends_marked (q ∷ rs) mark (suc x) r e = ends_marked rs _ x r e
 
   -- a component is a piece
   pub component_piece : (v : ℕ) (seen : Known) → IsPiece y (record { inside = component y v; earlier = seen })

@@ -1,6 +1,6 @@
 -- What rows and load numbers stand for: a row is one of its variable's node table, a load number one of its variable's
 -- relationship table.
-use Rattle.std.specs.Prelude.{ℕ, Option, Some, None, List, [], ◌∷◌, slice_get, slice_index}
+use Rattle.std.specs.Prelude.{ℕ, Option, Some, None, List, [], ◌∷◌, length, replicate, slice_get, slice_index}
 use Rattle.gq_base.specs.declared.NodeId.{NodeId}
 use Rattle.gq_base.specs.declared.RelId.{RelId}
 use Rattle.gq_expr.specs.Reading as reading
@@ -30,6 +30,10 @@ assigned y row = record { nodes = nodes_of_tables y.nodes row.nodes; rels = rels
 -- the same, as expressions read it
 abbrev pub as_read : Typed → Assignment → reading.Assignment
 as_read y row = plain.row_of (assigned y row)
+
+-- row 0 and load number 0 for each variable of an alternative
+abbrev pub zero_row : Typed → Assignment
+zero_row y = record { nodes = replicate (length y.nodes) 0; rels = replicate (length y.rels) 0 }
 
 -- ---- one variable
 

@@ -1,6 +1,6 @@
 //! An assignment as rows and load numbers, read by the tables of a typed alternative.
 ghost use Rattle.std.specs.Prelude.{◌≡◌, length, IfOk};
-ghost use Rattle.gq_plan.specs.Rows.{as_read};
+ghost use Rattle.gq_plan.specs.Rows.{as_read, zero_row};
 
 use crate::typed::Typed;
 use gq_base::{List, Memory, NodeId, RelId};
@@ -20,24 +20,14 @@ pub struct Assignment {
 impl Assignment {
     /// Row 0 and load number 0 for each variable of an alternative; `Memory` where there is no memory for them.
     pub fn zeros(alloc: Global, typed: &Typed) -> Result<Assignment, Memory>
+        ensures row { IfOk result (λ row. row ≡ zero_row typed.now) }
         ensures nodes { IfOk result (λ row. length row.nodes ≡ length typed.now.nodes) }
         ensures rels { IfOk result (λ row. length row.rels ≡ length typed.now.rels) }
     {
-        let nodes = List::from_vec(zeros(alloc, typed.nodes.len())?);
-        let rels = List::from_vec(zeros(alloc, typed.rels.len())?);
+        let nodes = List::from_vec(vec![in alloc; 0; typed.nodes.len()]?);
+        let rels = List::from_vec(vec![in alloc; 0; typed.rels.len()]?);
         Ok(Assignment { nodes, rels })
     }
-}
-
-// So many zeros.
-fn zeros(alloc: Global, count: usize) -> Result<Vec<u32>, Memory>
-    ensures { IfOk result (λ all. length all.items ≡ count) }
-{
-    let mut all = Vec::with_capacity(alloc, count)?;
-    for _ in 0..count {
-        all.push(0)?;
-    }
-    Ok(all)
 }
 
 /// Rows and load numbers with the tables that an alternative gives them: what expressions read.

@@ -1,2 +1,5 @@
+pub mod Elements
+pub mod Keys
 pub mod Runs
 pub mod Sequence
+pub mod Tabs

@@ -1,10 +1,7 @@
 -- The texts of replies (this project's profile).
-use Rattle.std.specs.Prelude.{ℕ, true, false, List, [], ◌∷◌, ◌++◌, ◌==◌, if◌then◌else◌, length, codes, decimal, flat_map}
+use Rattle.std.specs.Prelude.{ℕ, true, false, List, [], ◌∷◌, ◌++◌, ◌==◌, if◌then◌else◌, codes, decimal, flat_map}
 use Rattle.std.specs.Fmt.{signed_decimal}
-use Rattle.std.specs.declared.option.Option.{Option}
-use Rattle.std.specs.declared.option.Option.TheVariants.{Some, None}
-use Rattle.gq_base.specs.declared.Cell.{Cell}
-use Rattle.gq_base.specs.declared.Cell.TheVariants as cell
+use Rattle.gq_base.specs.Values.{Val, null, flag, int, str}
 
 -- a byte of a name: backslash, LF, CR and tab are written with a backslash, all else is as it is
 abbrev pub name_byte : ℕ → List ℕ
@@ -27,21 +24,27 @@ name_text name = flat_map name_byte name
 abbrev pub quoted_text : List ℕ → List ℕ
 quoted_text text = codes "'" ++ flat_map quoted_byte text ++ codes "'"
 
--- a property's value; a cell that is not there is null
-abbrev pub cell_text : Option Cell → List ℕ
-cell_text None = codes "null"
-cell_text (Some (cell.Flag true)) = codes "true"
-cell_text (Some (cell.Flag false)) = codes "false"
-cell_text (Some (cell.Int z)) = signed_decimal z
-cell_text (Some (cell.Str text)) = quoted_text text
+-- the value of a property, which is no node and no relationship
+abbrev pub property_text : Val → List ℕ
+property_text null = codes "null"
+property_text (flag true) = codes "true"
+property_text (flag false) = codes "false"
+property_text (int z) = signed_decimal z
+property_text (str text) = quoted_text text
+property_text value = []
 
 -- a line ends with LF
 abbrev pub line : List ℕ → List ℕ
 line text = text ++ codes "\n"
 
--- a reply of one column: the header, a line for each row, and the number of rows
-abbrev pub column_text : List ℕ → List (Option Cell) → List ℕ
-column_text name cells = line (name_text name) ++ flat_map (λ c. line (cell_text c)) cells ++ line (codes "rows " ++ decimal (length cells))
+-- a text behind a tab
+abbrev pub after_tab : List ℕ → List ℕ
+after_tab text = codes "\t" ++ text
+
+-- texts with one tab between each two
+abbrev pub tabbed : List (List ℕ) → List ℕ
+tabbed [] = []
+tabbed (text ∷ texts) = text ++ flat_map after_tab texts
 
 -- a number in a refusal, and what goes before it
 pub record PlaceText : Type 0 where

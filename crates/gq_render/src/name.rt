@@ -9,8 +9,9 @@ use crate::escape::{Form, put_escaped};
 use gq_base::Text;
 use gq_io::{Batch, Failed, Sink};
 
-// Puts a name, or a part of one.
-pub(crate) fn put_name<O: Sink>(batch: &mut Batch, out: &mut O, name: &str) -> Result<(), Failed>
+/// Puts a name, or a part of one, into a batch, as `write_name` writes it. It takes no memory. After `Failed` the sink took
+/// some front of what had waited and of that text.
+pub fn put_name<O: Sink>(batch: &mut Batch, out: &mut O, name: &str) -> Result<(), Failed>
     ensures bytes { Puts (O.taken out.old) (O.taken out.new) batch.old batch.new
         (name_text name.now) result }
     ensures cause { HasCause (O.faults out.old) (O.faults out.new) result }

@@ -7,5 +7,6 @@ pub mod SameEquations
 pub mod SameLemmas
 pub mod ScopeLemmas
 pub mod SliceLemmas
+pub mod SourceLemmas
 pub mod Splits
 pub mod UseLemmas

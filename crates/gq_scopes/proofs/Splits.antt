@@ -13,7 +13,7 @@ use Rattle.gq_syntax.specs.declared.Term.{Term}
 use Rattle.gq_syntax.specs.declared.Tester.{Tester as Tested}
 use Rattle.gq_syntax.specs.declared.Tester.TheVariants as tested
 use Rattle.gq_scopes.proofs.Resolved.{tests_of}
-use Rattle.gq_scopes.specs.Conjuncts.{conjunct_expr, conjuncts_in, listed_behind}
+use Rattle.gq_scopes.specs.Conjuncts.{conjunct_expr, conjuncts_in, listed_behind, whole_conjunct}
 use Rattle.gq_scopes.specs.Resolving.{Calls, Conjunct, Split, functions, resolved, resolve_step, split, split_node, split_step, all_some}
 use Rattle.gq_scopes.specs.Scopes.{Scope}
 
@@ -128,6 +128,23 @@ module _ (calls : Calls) (s : Scope) where
       ap (λ part. part.conjuncts) (split_at t)
       ∙ ap (λ e. split_node (parts.map Ast Split (split calls s) (out-Ast t).node) (record { span = (out-Ast t).span; expr = e })) whole
       ∙ opens (out-Ast t).node (record { span = (out-Ast t).span; expr = resolved calls s t })
+
+-- the conjuncts of AND, and of parentheses
+pub and_conjuncts : (s : Scope) (t : Ast) (ts : List Ast) → (out-Ast t).node ≡ ast.And ts → (split functions s t).conjuncts ≡ conjuncts_in s ts
+and_conjuncts s t ts is = split_out functions s t ∙ ap (λ n. opened functions s n (whole_conjunct s t)) is
+
+pub paren_conjuncts : (s : Scope) (t x : Ast) → (out-Ast t).node ≡ ast.Paren x → (split functions s t).conjuncts ≡ (split functions s x).conjuncts
+paren_conjuncts s t x is = split_out functions s t ∙ ap (λ n. opened functions s n (whole_conjunct s t)) is
+
+alone : (s : Scope) (n : AstNode Ast) (w : Conjunct) → ((ts : List Ast) → n ≡ ast.And ts → ⊥) → ((x : Ast) → n ≡ ast.Paren x → ⊥) → opened functions s n w ≡ w ∷ []
+alone s (ast.And ts) w h k = absurd (h ts refl)
+alone s (ast.Paren x) w h k = absurd (k x refl)
+alone s _ w h k = refl
+
+-- any other condition is one conjunct
+pub other_conjuncts : (s : Scope) (t : Ast) → ((ts : List Ast) → (out-Ast t).node ≡ ast.And ts → ⊥) → ((x : Ast) → (out-Ast t).node ≡ ast.Paren x → ⊥)
+    → (split functions s t).conjuncts ≡ whole_conjunct s t ∷ []
+other_conjuncts s t h k = split_out functions s t ∙ alone s (out-Ast t).node (whole_conjunct s t) h k
 
 -- items, if they are there, and then those that follow
 abbrev pub after : {A : Type 0} → Option (List A) → List (Option A) → Option (List A)

@@ -2,13 +2,17 @@
 use Rattle.std.specs.Prelude.{ℕ, List, ◌++◌, Option, map, flat_map}
 use Rattle.std.specs.Option.{option_map}
 use Rattle.gq_plan.specs.declared.NamedExpr.{NamedExpr}
-use Rattle.gq_syntax.specs.declared.Ast.{Ast}
-use Rattle.gq_scopes.specs.Resolving.{Conjunct, functions, split, all_some}
+use Rattle.gq_syntax.specs.declared.Ast.{Ast, out-Ast}
+use Rattle.gq_scopes.specs.Resolving.{Conjunct, functions, resolved, split, all_some}
 use Rattle.gq_scopes.specs.Scopes.{Scope}
-use Rattle.gq_scopes.specs.Sources.{source_text}
+use Rattle.gq_lexer.specs.Sources.{source_text}
 
 abbrev pub conjunct_expr : List ℕ → Conjunct → Option NamedExpr
 conjunct_expr text c = option_map (λ e. record { name = source_text text c.span; expr = e }) c.expr
+
+-- a condition that is one conjunct
+abbrev pub whole_conjunct : Scope → Ast → Conjunct
+whole_conjunct s t = record { span = (out-Ast t).span; expr = resolved functions s t }
 
 -- the conjuncts of several conditions together
 abbrev pub conjuncts_in : Scope → List Ast → List Conjunct

@@ -5,7 +5,6 @@ pub mod Patterns
 pub mod Renames
 pub mod Resolving
 pub mod Scopes
-pub mod Sources
 pub mod Trees
 pub mod Uses
 pub mod Variables

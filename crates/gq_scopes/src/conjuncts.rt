@@ -1,8 +1,10 @@
 //! The conjuncts of a condition.
-ghost use Rattle.std.specs.Prelude.{◌≡◌, ◌∷◌, [], map, IfOk};
-ghost use Rattle.gq_scopes.specs.Conjuncts.{conjunct_expr, conjuncts_in, listed_behind};
+ghost use Rattle.std.specs.Prelude.{◌≡◌, ◌∷◌, [], map, All, IfOk};
+ghost use Rattle.gq_scopes.specs.Conjuncts.{conjunct_expr, conjuncts_in, listed_behind, whole_conjunct};
 ghost use Rattle.gq_scopes.specs.Resolving as resolving;
 ghost use Rattle.gq_scopes.specs.Resolving.{resolved, split, all_some};
+ghost use Rattle.gq_lexer.specs.Sources.{IsWhole};
+ghost use Rattle.gq_syntax.specs.Spans.{IsWholeTree};
 ghost use Rattle.gq_syntax.specs.declared.Ast.{out-Ast};
 
 use crate::calls::CallForm;
@@ -16,13 +18,14 @@ use std::alloc::Global;
 
 /// The conjuncts of a condition in text order, each called by its source text: those of the members of an AND, those
 /// within parentheses, else the condition itself. `None` where the condition names what the scope does not have, or a
-/// call of it is none.
+/// call of it is none. The parts of the condition begin and end between characters of the text.
 pub fn conjuncts_of(
     alloc: Global,
     text: &[u8],
     scope: &Scope<'_>,
     tree: &Ast,
 ) -> Result<Option<List<NamedExpr>>, Memory>
+    requires { IsWholeTree text.now tree.now }
     ensures { IfOk result (λ cs. cs ≡ all_some (map (conjunct_expr text.now) (split resolving.functions scope.now tree.now).conjuncts)) }
 {
     with_conjuncts(alloc, text, scope, tree, List::new(alloc))
@@ -38,7 +41,8 @@ fn with_conjuncts(
     tree: &Ast,
     before: List<NamedExpr>,
 ) -> Result<Option<List<NamedExpr>>, Memory>
-    ensures { IfOk result (λ cs. cs ≡ listed_behind before text.now (split resolving.functions scope.now tree.now).conjuncts) }
+    ensures { IfOk result (λ cs. IsWholeTree text.now tree.now
+        → cs ≡ listed_behind before text.now (split resolving.functions scope.now tree.now).conjuncts) }
 {
     match &tree.node {
         AstNode::And(all) => with_all_conjuncts(alloc, text, scope, all.as_slice(), before),
@@ -55,7 +59,8 @@ fn with_all_conjuncts(
     trees: &[Ast],
     before: List<NamedExpr>,
 ) -> Result<Option<List<NamedExpr>>, Memory>
-    ensures { IfOk result (λ cs. cs ≡ listed_behind before text.now (conjuncts_in scope.now trees.now)) }
+    ensures { IfOk result (λ cs. All (IsWholeTree text.now) trees.now
+        → cs ≡ listed_behind before text.now (conjuncts_in scope.now trees.now)) }
 {
     let mut all = before;
     for tree in trees {
@@ -75,7 +80,8 @@ fn with_whole(
     tree: &Ast,
     before: List<NamedExpr>,
 ) -> Result<Option<List<NamedExpr>>, Memory>
-    ensures { IfOk result (λ cs. cs ≡ listed_behind before text.now (record { span = (out-Ast tree.now).span; expr = resolved resolving.functions scope.now tree.now } ∷ [])) }
+    ensures { IfOk result (λ cs. IsWhole text.now (out-Ast tree.now).span
+        → cs ≡ listed_behind before text.now (whole_conjunct scope.now tree.now ∷ [])) }
 {
     let Some(expr) = resolve(alloc, CallForm::Functions, scope, tree)? else {
         return Ok(None);

@@ -1,14 +1,16 @@
 //! The source texts of parts of a query.
-ghost use Rattle.std.specs.Prelude.{◌≡◌, IfOk, slice_range};
-ghost use Rattle.gq_scopes.specs.Sources as sources;
+ghost use Rattle.std.specs.Prelude.{◌≡◌, IfOk};
+ghost use Rattle.gq_lexer.specs.Sources as sources;
+ghost use Rattle.gq_lexer.specs.Sources.{IsWhole};
 
 use gq_base::{Memory, Text, read_text};
 use gq_lexer::Span;
 use std::alloc::Global;
 
-/// The text of a span; of bytes that are no text, the empty one.
+/// The text of a span that begins and ends between characters.
+#[tactic(auto, using(crate::proofs::SourceLemmas::read_there))]
 pub fn source_text(alloc: Global, text: &[u8], span: Span) -> Result<Text, Memory>
-    ensures { IfOk result (λ t. t ≡ sources.source_text text.now span) }
+    ensures { IfOk result (λ t. IsWhole text.now span → t ≡ sources.source_text text.now span) }
 {
     match read_text(part(text, span)) {
         Some(text) => Text::new(alloc, text),
@@ -18,7 +20,7 @@ pub fn source_text(alloc: Global, text: &[u8], span: Span) -> Result<Text, Memor
 
 #[tactic(auto, using(crate::proofs::SliceLemmas::slicing))]
 fn part(text: &[u8], span: Span) -> &[u8]
-    ensures { result.now ≡ slice_range text.now span.start span.end }
+    ensures { result.now ≡ sources.source_text text.now span }
 {
     let end = (span.end as usize).min(text.len());
     let start = (span.start as usize).min(end);

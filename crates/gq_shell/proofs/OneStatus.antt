@@ -1,20 +1,16 @@
--- For given words, files and input one status alone may be answered.
-use Rattle.std.proofs.Common.{◌≡◌, ℕ, List, [], Some, None, Ok, Err, refl, sym, ap, ◌∙◌, subst, inl, inr}
+-- For given words, files and input one status alone may be answered, but for a query that may have rows or a fault.
+use Rattle.std.proofs.Common.{◌≡◌, ℕ, List, [], Some, None, Ok, refl, sym, ap, ◌∙◌, subst, inl, inr}
 use Rattle.std.specs.Prelude.{◌⊎◌, Option, Result}
-use Rattle.gq_base.specs.Plain.{Graph}
 use Rattle.std.specs.Io.KnownBytes.{Appends}
+use Rattle.gq_base.specs.Plain.{Graph}
+use Rattle.gq_base.specs.Values.{Val}
+use Rattle.gq_execute.specs.Replies.{Rows}
 use Rattle.gq_io.specs.Causes.{Rose}
 use Rattle.gq_io.specs.Outside.{Names}
 use Rattle.gq_loader.specs.Limits.{standard}
 use Rattle.gq_loader.specs.Loads.{load_of}
 use Rattle.gq_loader.specs.declared.refusal.LoadRefusal.{LoadRefusal}
-use Rattle.gq_syntax.proofs.Exact.{comes_statement}
-use Rattle.gq_syntax.specs.declared.refusal.SyntaxRefusal.TheVariants as refusal
-use Rattle.gq_syntax.specs.Outcomes.{SpelledText}
-use Rattle.gq_syntax.specs.declared.statement.Statement.{Statement}
-use Rattle.gq_shell.specs.Bindings.{bind_refusal}
-use Rattle.gq_shell.specs.Claim.{IsAnswered, IsListing, IsNotBuilt, IsRefused, IsUnbound, IsWrong, refusal_text, IsTooLong, Outside, Over, Permits, Refuses, Replies, Runs, Whole, path_of}
-use Rattle.gq_shell.specs.Listings.{Listing, listing_of}
+use Rattle.gq_shell.specs.Claim.{IsAnswered, IsQuery, IsRefused, IsTooLong, Outside, Over, Permits, Refuses, Replies, RepliesWith, Runs, Whole, path_of}
 use Rattle.gq_shell.specs.Statements.{statement_of}
 use Rattle.gq_shell.specs.declared.status.Status.{Status}
 use Rattle.gq_shell.specs.declared.status.Status.TheVariants as status
@@ -42,42 +38,28 @@ module _ (words : List (List ℕ)) (files : Names) (input : List ℕ) where
       → Over words (Some files) (Some input) (λ graph input. (¬ (IsTooLong input)) × Other graph input) → ⊥
   no_length Says Other long short = short.told.2.0 long.told.2.0
 
-  -- two trees that one statement spells are one
-  same_tree : (tree tree' : Statement) → SpelledText (statement_of input) tree → SpelledText (statement_of input) tree' → tree ≡ tree'
-  same_tree tree tree' spelled spelled' = elim ((comes_statement (statement_of input) (Ok tree) spelled tree').1 spelled') [
-    | inl e ↦ cc e
-    | inr e ↦ cc e
-  ]
+  -- the statement of the input asks a query that is answered
+  asks : (path : List ℕ) (given : path_of words ≡ Some path) (graph : Graph) (loads : load_of path files standard ≡ Ok graph) (lines : List (List Val)) (text : List ℕ)
+      → RepliesWith graph (statement_of input) (Rows lines) text → IsQuery words files input
+  asks path given graph loads lines text replies = record { path = path; given = given; told = (graph, loads, (replies.query, replies.bound, replies.asked)) }
 
-  -- a query that is built is neither wrong, nor unbound, nor unbuilt
-  no_listing : (graph : Graph) (listing : Listing) → IsListing graph (statement_of input) listing → (text : List ℕ)
-      → IsWrong (statement_of input) text ⊎ IsUnbound graph (statement_of input) text ⊎ IsNotBuilt graph (statement_of input) text → ⊥
-  no_listing graph listing query text (inl wrong) = elim ((comes_statement (statement_of input) (Err wrong.why) wrong.cause query.tree).1 query.spelled) [
-    | inl e ↦ cc e
-    | inr e ↦ (let memory : wrong.why ≡ refusal.Memory = cc e in let none : None ≡ Some text = ap refusal_text (sym memory) ∙ wrong.is in cc none)
-  ]
-  no_listing graph listing query text (inr (inl unbound)) =
-      let same : unbound.tree ≡ query.tree = same_tree unbound.tree query.tree unbound.spelled query.spelled in
-      let clash : None ≡ Some unbound.why = sym query.bound ∙ ap (λ tree. bind_refusal tree (statement_of input) graph.catalog) (sym same) ∙ unbound.refused in cc clash
-  no_listing graph listing query text (inr (inr other)) =
-      let same : other.tree ≡ query.tree = same_tree other.tree query.tree other.spelled query.spelled in
-      let clash : None ≡ Some listing = sym other.other ∙ ap listing_of same ∙ query.built in cc clash
-
-  no_reply : (graph : Graph) (text text' : List ℕ) → Replies graph (statement_of input) text → IsRefused graph (statement_of input) text' → ⊥
-  no_reply graph text text' (inl blank) refused = refused.written blank.0
-  no_reply graph text text' (inr (listing, query, lists)) refused = no_listing graph listing query text' refused.why
+  -- a statement that was replied to and is refused asks such a query
+  both_replies : (path : List ℕ) (given : path_of words ≡ Some path) (graph : Graph) (loads : load_of path files standard ≡ Ok graph) (text text' : List ℕ)
+      → Replies graph (statement_of input) text → IsRefused graph (statement_of input) text' → IsQuery words files input
+  both_replies path given graph loads text text' (inl blank) refused = absurd (refused.written blank.0)
+  both_replies path given graph loads text text' (inr (lines, replies)) refused = asks path given graph loads lines text replies
 
   -- the statement was answered and refused
-  no_answer : (text text' : List ℕ) → Permits words (Some files) (Some input) status.Ended text → Permits words (Some files) (Some input) status.Refused text' → ⊥
-  no_answer text text' ended refused =
+  both_answers : (text text' : List ℕ) → Permits words (Some files) (Some input) status.Ended text → Permits words (Some files) (Some input) status.Refused text' → IsQuery words files input
+  both_answers text text' ended refused =
       let path : ended.path ≡ refused.path = ap (path_or []) (sym ended.given ∙ refused.given) in
       let loads : load_of refused.path files standard ≡ Ok ended.told.0 = subst (λ p. load_of p files standard ≡ Ok ended.told.0) path ended.told.1 in
       let both : ◌≡◌ {A = Result Graph LoadRefusal} (Ok ended.told.0) (Ok refused.told.0) = sym loads ∙ refused.told.1 in
       let same : ended.told.0 ≡ refused.told.0 = cc both in
-      no_reply refused.told.0 text text' (subst (λ graph. Replies graph (statement_of input) text) same ended.told.2.1) refused.told.2.1
+      both_replies refused.path refused.given refused.told.0 refused.told.1 text text' (subst (λ graph. Replies graph (statement_of input) text) same ended.told.2.1) refused.told.2.1
 
-  pub one_status : (s s' : Status) (t t' : List ℕ) → Permits words (Some files) (Some input) s t → Permits words (Some files) (Some input) s' t' → s ≡ s'
-  one_status status.Usage status.Usage t t' p q = refl
+  pub one_status : (s s' : Status) (t t' : List ℕ) → Permits words (Some files) (Some input) s t → Permits words (Some files) (Some input) s' t' → (s ≡ s') ⊎ IsQuery words files input
+  one_status status.Usage status.Usage t t' p q = inl refl
   one_status status.Usage status.NotLoaded t t' p q = absurd (no_words p.0 (q.0, q.1))
   one_status status.Usage status.TooLong t t' p q = absurd (no_words p.0 (q.path, q.given))
   one_status status.Usage status.Refused t t' p q = absurd (no_words p.0 (q.path, q.given))
@@ -86,7 +68,7 @@ module _ (words : List (List ℕ)) (files : Names) (input : List ℕ) where
   one_status status.Usage status.WriteFault t t' p q = absurd q
   one_status status.Usage status.Memory t t' p q = absurd q
   one_status status.NotLoaded status.Usage t t' p q = absurd (no_words q.0 (p.0, p.1))
-  one_status status.NotLoaded status.NotLoaded t t' p q = refl
+  one_status status.NotLoaded status.NotLoaded t t' p q = inl refl
   one_status status.NotLoaded status.TooLong t t' p q = absurd (no_load _ t p q)
   one_status status.NotLoaded status.Refused t t' p q = absurd (no_load _ t p q)
   one_status status.NotLoaded status.Ended t t' p q = absurd (no_load _ t p q)
@@ -95,7 +77,7 @@ module _ (words : List (List ℕ)) (files : Names) (input : List ℕ) where
   one_status status.NotLoaded status.Memory t t' p q = absurd q
   one_status status.TooLong status.Usage t t' p q = absurd (no_words q.0 (p.path, p.given))
   one_status status.TooLong status.NotLoaded t t' p q = absurd (no_load _ t' q p)
-  one_status status.TooLong status.TooLong t t' p q = refl
+  one_status status.TooLong status.TooLong t t' p q = inl refl
   one_status status.TooLong status.Refused t t' p q = absurd (no_length _ _ p q)
   one_status status.TooLong status.Ended t t' p q = absurd (no_length _ _ p q)
   one_status status.TooLong status.ReadFault t t' p q = absurd q
@@ -104,16 +86,16 @@ module _ (words : List (List ℕ)) (files : Names) (input : List ℕ) where
   one_status status.Refused status.Usage t t' p q = absurd (no_words q.0 (p.path, p.given))
   one_status status.Refused status.NotLoaded t t' p q = absurd (no_load _ t' q p)
   one_status status.Refused status.TooLong t t' p q = absurd (no_length _ _ q p)
-  one_status status.Refused status.Refused t t' p q = refl
-  one_status status.Refused status.Ended t t' p q = absurd (no_answer t' t q p)
+  one_status status.Refused status.Refused t t' p q = inl refl
+  one_status status.Refused status.Ended t t' p q = inr (both_answers t' t q p)
   one_status status.Refused status.ReadFault t t' p q = absurd q
   one_status status.Refused status.WriteFault t t' p q = absurd q
   one_status status.Refused status.Memory t t' p q = absurd q
   one_status status.Ended status.Usage t t' p q = absurd (no_words q.0 (p.path, p.given))
   one_status status.Ended status.NotLoaded t t' p q = absurd (no_load _ t' q p)
   one_status status.Ended status.TooLong t t' p q = absurd (no_length _ _ q p)
-  one_status status.Ended status.Refused t t' p q = absurd (no_answer t t' p q)
-  one_status status.Ended status.Ended t t' p q = refl
+  one_status status.Ended status.Refused t t' p q = inr (both_answers t t' p q)
+  one_status status.Ended status.Ended t t' p q = inl refl
   one_status status.Ended status.ReadFault t t' p q = absurd q
   one_status status.Ended status.WriteFault t t' p q = absurd q
   one_status status.Ended status.Memory t t' p q = absurd q

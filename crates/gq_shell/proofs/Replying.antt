@@ -1,27 +1,33 @@
 -- From the answers to a statement to the answers to its input.
 use Rattle.std.proofs.Common.{◌≡◌, ℕ, ◌≤◌, List, [], ◌∷◌, length, Some, None, Ok, Err, refl, sym, ap, ◌∙◌, subst, append-nil, arith, inl, inr}
-use Rattle.std.specs.Prelude.{Option, ◌++◌, codes, decimal, map, slice_get}
-use Rattle.std.proofs.lemmas.List.Sorted.{IsPermutation-refl}
-use Rattle.gq_base.specs.Catalogs.{find_field, find_label}
-use Rattle.gq_base.specs.Plain.{Graph, cell_at}
-use Rattle.gq_base.specs.declared.Cell.{Cell}
-use Rattle.gq_base.specs.declared.NodeTable.{NodeTable}
+use Rattle.std.specs.Prelude.{◌<◌, All, Option, ◌++◌, codes, decimal}
+use Rattle.gq_base.specs.Catalogs.{Tables}
+use Rattle.gq_base.specs.Plain.{Graph}
+use Rattle.gq_base.specs.Values.{Val}
+use Rattle.gq_binder.specs.Binding.{Answers, IsBound}
+use Rattle.gq_expr.specs.declared.Fault.{Fault}
+use Rattle.gq_binder.specs.Refusals.{first_refusal}
+use Rattle.gq_binder.specs.declared.refusal.BindRefusal.{BindRefusal}
+use Rattle.gq_binder.specs.declared.refusal.BindRefusal.TheVariants as bind
+use Rattle.gq_execute.specs.Replies.{Reply, Rows, Faulted, TooManyRows, IsPermitted}
 use Rattle.gq_lexer.specs.Tokens.{Lexed, lexed}
 use Rattle.gq_lexer.specs.declared.token.Token.{Token}
-use Rattle.gq_render.specs.Texts.{column_text, line, refusal_line}
+use Rattle.gq_plan.specs.declared.Bound.{Bound}
+use Rattle.gq_render.specs.Texts.{line, refusal_line}
 use Rattle.gq_syntax.specs.Grammar.{Clauses, SpelledStatement}
 use Rattle.gq_syntax.specs.Outcomes.{Cause, DepthAt, SpelledText, SyntaxAt, TooDeep}
 use Rattle.gq_syntax.specs.declared.refusal.SyntaxRefusal.{SyntaxRefusal}
 use Rattle.gq_syntax.specs.declared.refusal.SyntaxRefusal.TheVariants as refusal
 use Rattle.gq_syntax.specs.declared.statement.Clause.{Clause}
+use Rattle.gq_syntax.specs.declared.statement.Query.{Query}
 use Rattle.gq_syntax.specs.declared.statement.Statement.{Statement}
-use Rattle.gq_binder.specs.declared.refusal.BindRefusal.{BindRefusal}
+use Rattle.gq_syntax.specs.declared.statement.Statement.TheVariants as tree
 use Rattle.gq_shell.specs.BindLines.{bind_line}
 use Rattle.gq_shell.specs.Bindings.{bind_refusal}
-use Rattle.gq_shell.specs.Claim.{IsListing, IsRefused, IsTooLong, ListsRows, refusal_text}
-use Rattle.gq_shell.specs.Listings.{Listing, listing_of, source_text}
+use Rattle.gq_shell.specs.Claim.{IsAsked, IsRefused, IsStopped, IsTooLong, IsUnbuilt, RepliesWith, question, refusal_text}
+use Rattle.gq_shell.specs.ReplyTexts.{fault_text, many_text, reply_text}
 use Rattle.gq_shell.specs.Statements.{IsBlank, statement_of}
-use Rattle.gq_shell.specs.Steps.{Finishes, MayAnswer, MayList, MayRefuse, MayReply, rows_text}
+use Rattle.gq_shell.specs.Steps.{EndsBind, Finishes, IsUnbuiltForm, MayAnswer, MayAsk, MayList, MayRefuse, MayReply}
 use Rattle.gq_shell.specs.declared.status.Status.{Status}
 use Rattle.gq_shell.specs.declared.status.Status.TheVariants as status
 
@@ -134,31 +140,42 @@ module _ (graph : Graph) (statement : List ℕ) (old new : Option (List ℕ)) (b
   pub refused_depth : (at : ℕ) → DepthAt statement at → Refusing (line (codes "error: Depth at byte " ++ decimal at)) → Replying
   refused_depth at cause = replied graph statement _ (wrong graph statement _ (refusal.Depth at) (depth_not_blank statement at cause) cause refl) old new before now answer
 
-  pub refused_unbound : (tree : Statement) (why : BindRefusal) → SpelledText statement tree → bind_refusal tree statement graph.catalog ≡ Some why → Refusing (bind_line why) → Replying
-  refused_unbound tree why spelled refused = replied graph statement _
+  pub refused_unbound : (spelled : Statement) (why : BindRefusal) → SpelledText statement spelled → bind_refusal spelled statement graph.catalog ≡ Some why → Refusing (bind_line why) → Replying
+  refused_unbound spelled why is refused = replied graph statement _
       (λ text same. record {
-        written = not_blank statement tree spelled;
-        why = inr (inl (record { tree = tree; spelled = spelled; why = why; refused = refused; is = same }));
+        written = not_blank statement spelled is;
+        why = inr (inl (record { tree = spelled; spelled = is; why = why; refused = refused; is = same }));
       }) old new before now answer
 
-  pub refused_unbuilt : (tree : Statement) → SpelledText statement tree → bind_refusal tree statement graph.catalog ≡ None → listing_of tree ≡ None
-      → Refusing (line (codes "error: NotBuilt")) → Replying
-  refused_unbuilt tree spelled bound other = replied graph statement _
+  pub refused_unbuilt : (spelled : Statement) → SpelledText statement spelled → IsUnbuilt graph statement spelled → Refusing (line (codes "error: NotBuilt")) → Replying
+  refused_unbuilt spelled is other = replied graph statement _
       (λ text same. record {
-        written = not_blank statement tree spelled;
-        why = inr (inr (record { tree = tree; spelled = spelled; bound = bound; other = other; is = same }));
+        written = not_blank statement spelled is;
+        why = inr (inr (inl (record { tree = spelled; spelled = is; other = other; is = same })));
       }) old new before now answer
 
--- ---- rows
+  -- a statement that asks for plans or for a profile
+  pub form_unbound : (query : Query) (why : BindRefusal) → IsUnbuiltForm statement query → first_refusal query statement graph.catalog ≡ Some why → Refusing (bind_line why) → Replying
+  form_unbound query why (inl is) refused h = refused_unbound (tree.Plan query) why is refused h
+  form_unbound query why (inr is) refused h = refused_unbound (tree.Profile query) why is refused h
 
--- load order is one order of the bag
-pub in_load_order : (graph : Graph) (statement : List ℕ) (listing : Listing) → ListsRows graph statement listing (rows_text graph (source_text statement listing.column) listing)
-in_load_order graph statement listing = record { rows = _; as_a_bag = IsPermutation-refl _; is = refl }
+  pub form_unbuilt : (query : Query) → IsUnbuiltForm statement query → first_refusal query statement graph.catalog ≡ None → Refusing (line (codes "error: NotBuilt")) → Replying
+  form_unbuilt query (inl is) none h = refused_unbuilt (tree.Plan query) is none h
+  form_unbuilt query (inr is) none h = refused_unbuilt (tree.Profile query) is none h
 
-module _ (graph : Graph) (statement : List ℕ) (listing : Listing) (query : IsListing graph statement listing) where
-  may_reply : (answer : Status) (text : List ℕ) → MayList graph statement listing answer text → MayReply graph statement answer text
-  may_reply status.Ended text may = inr (listing, query, may)
-  may_reply status.Refused text may = absurd may
+-- ---- queries
+
+module _ (graph : Graph) (statement : List ℕ) (query : Query) (bound : Bound) (asked : IsAsked graph statement query bound) where
+  replies_with : (reply : Reply) (text : List ℕ) → IsPermitted (question graph query bound) reply → text ≡ reply_text graph bound reply → RepliesWith graph statement reply text
+  replies_with reply text permitted is = record { query = query; bound = bound; asked = asked; permitted = permitted; is = is }
+
+  stopped : (text : List ℕ) → IsStopped graph statement text → IsRefused graph statement text
+  stopped text h = record { written = not_blank statement (tree.Query query) asked.spelled; why = inr (inr (inr h)) }
+
+  may_reply : (answer : Status) (text : List ℕ) → MayAsk graph query bound answer text → MayReply graph statement answer text
+  may_reply status.Ended text (lines, permitted, is) = inr (lines, replies_with (Rows lines) text permitted is)
+  may_reply status.Refused text (inl (f, permitted, is)) = stopped text (inl (f, replies_with (Faulted f) text permitted is))
+  may_reply status.Refused text (inr (permitted, is)) = stopped text (inr (replies_with TooManyRows text permitted is))
   may_reply status.Usage text may = absurd may
   may_reply status.NotLoaded text may = absurd may
   may_reply status.ReadFault text may = absurd may
@@ -166,21 +183,83 @@ module _ (graph : Graph) (statement : List ℕ) (listing : Listing) (query : IsL
   may_reply status.Memory text may = absurd may
   may_reply status.TooLong text may = absurd may
 
-  -- the rows of the query that a statement spells reply to it
-  pub listed : (old new : Option (List ℕ)) (before now : ℕ) (answer : Status)
-      → Finishes (MayList graph statement listing) old new before now answer → Finishes (MayReply graph statement) old new before now answer
-  listed old new before now status.WriteFault ((answer, text, may, front), rose) = ((answer, text, may_reply answer text may, front), rose)
-  listed old new before now status.Ended (text, may, moved) = (text, may_reply status.Ended text may, moved)
-  listed old new before now status.Memory kept = kept
-  listed old new before now status.Refused (text, may, moved) = absurd may
-  listed old new before now status.Usage (text, may, moved) = absurd may
-  listed old new before now status.NotLoaded (text, may, moved) = absurd may
-  listed old new before now status.ReadFault (text, may, moved) = absurd may
-  listed old new before now status.TooLong (text, may, moved) = absurd may
+  -- the reply to the query that a statement spells replies to it
+  pub asked_reply : (old new : Option (List ℕ)) (before now : ℕ) (answer : Status)
+      → Finishes (MayAsk graph query bound) old new before now answer → Finishes (MayReply graph statement) old new before now answer
+  asked_reply old new before now status.WriteFault ((answer, text, may, front), rose) = ((answer, text, may_reply answer text may, front), rose)
+  asked_reply old new before now status.Ended (text, may, moved) = (text, may_reply status.Ended text may, moved)
+  asked_reply old new before now status.Refused (text, may, moved) = (text, may_reply status.Refused text may, moved)
+  asked_reply old new before now status.Memory kept = kept
+  asked_reply old new before now status.Usage (text, may, moved) = absurd may
+  asked_reply old new before now status.NotLoaded (text, may, moved) = absurd may
+  asked_reply old new before now status.ReadFault (text, may, moved) = absurd may
+  asked_reply old new before now status.TooLong (text, may, moved) = absurd may
 
--- the cells at the place of a property are its values over the table of the label
-pub rows_are : (graph : Graph) (name : List ℕ) (listing : Listing) (table : ℕ) (shown : NodeTable) (rows : List (List (Option Cell))) (place : Option ℕ)
-    → find_label graph.catalog.nodes listing.label ≡ Some table → Some shown ≡ slice_get graph.catalog.nodes table → slice_get graph.nodes table ≡ Some rows
-    → place ≡ find_field shown.fields listing.property
-    → column_text name (map (λ row. cell_at row place) rows) ≡ rows_text graph name listing
-rows_are graph name listing table shown rows place found table_is rows_is place_is = rw (found, ← table_is, rows_is, place_is) refl
+-- ---- what a query answers
+
+-- a part of the run that answers less
+finishes_as : (May Might : Status → List ℕ → Type 0) → ((answer : Status) (text : List ℕ) → May answer text → Might answer text) → (old new : Option (List ℕ)) (before now : ℕ) (answer : Status)
+    → Finishes May old new before now answer → Finishes Might old new before now answer
+finishes_as May Might go old new before now status.WriteFault ((answer, text, may, front), rose) = ((answer, text, go answer text may, front), rose)
+finishes_as May Might go old new before now status.Memory kept = kept
+finishes_as May Might go old new before now status.Ended (text, may, moved) = (text, go status.Ended text may, moved)
+finishes_as May Might go old new before now status.Refused (text, may, moved) = (text, go status.Refused text may, moved)
+finishes_as May Might go old new before now status.Usage (text, may, moved) = (text, go status.Usage text may, moved)
+finishes_as May Might go old new before now status.NotLoaded (text, may, moved) = (text, go status.NotLoaded text may, moved)
+finishes_as May Might go old new before now status.ReadFault (text, may, moved) = (text, go status.ReadFault text may, moved)
+finishes_as May Might go old new before now status.TooLong (text, may, moved) = (text, go status.TooLong text may, moved)
+
+module _ (graph : Graph) (query : Query) (bound : Bound) (old new : Option (List ℕ)) (before now : ℕ) (answer : Status) where
+  abbrev Asking : Type 0
+  Asking = Finishes (MayAsk graph query bound) old new before now answer
+
+  may_list : (lines : List (List Val)) → IsPermitted (question graph query bound) (Rows lines) → (s : Status) (text : List ℕ) → MayList (reply_text graph bound (Rows lines)) s text → MayAsk graph query bound s text
+  may_list lines permitted status.Ended text is = (lines, permitted, is)
+  may_list lines permitted status.Refused text is = absurd is
+  may_list lines permitted status.Usage text is = absurd is
+  may_list lines permitted status.NotLoaded text is = absurd is
+  may_list lines permitted status.ReadFault text is = absurd is
+  may_list lines permitted status.WriteFault text is = absurd is
+  may_list lines permitted status.Memory text is = absurd is
+  may_list lines permitted status.TooLong text is = absurd is
+
+  may_stop : (refused : List ℕ) → ((text : List ℕ) → text ≡ refused → MayAsk graph query bound status.Refused text) → (s : Status) (text : List ℕ) → MayRefuse refused s text → MayAsk graph query bound s text
+  may_stop refused go status.Refused text is = go text is
+  may_stop refused go status.Ended text is = absurd is
+  may_stop refused go status.Usage text is = absurd is
+  may_stop refused go status.NotLoaded text is = absurd is
+  may_stop refused go status.ReadFault text is = absurd is
+  may_stop refused go status.WriteFault text is = absurd is
+  may_stop refused go status.Memory text is = absurd is
+  may_stop refused go status.TooLong text is = absurd is
+
+  pub asked_rows : (lines : List (List Val)) → IsPermitted (question graph query bound) (Rows lines) → Finishes (MayList (reply_text graph bound (Rows lines))) old new before now answer → Asking
+  asked_rows lines permitted = finishes_as _ _ (may_list lines permitted) old new before now answer
+
+  pub asked_fault : (f : Fault) → IsPermitted (question graph query bound) (Faulted f) → Finishes (MayRefuse (fault_text f)) old new before now answer → Asking
+  asked_fault f permitted = finishes_as _ _ (may_stop (fault_text f) (λ text is. inl (f, permitted, is))) old new before now answer
+
+  pub asked_many : IsPermitted (question graph query bound) TooManyRows → Finishes (MayRefuse many_text) old new before now answer → Asking
+  asked_many permitted = finishes_as _ _ (may_stop many_text (λ text is. inr (permitted, is))) old new before now answer
+
+-- the alternatives of a bound query have node variables
+pub begun : (query : Query) (text : List ℕ) (catalog : Tables) (bound : Bound) → IsBound query text catalog bound → All (λ y. 0 < length y.nodes) bound.alternatives
+begun query text catalog bound is = λ k d lt. omega (arith, is.has_node, is.node_counts k d lt)
+
+-- a query that is not bound
+module _ (graph : Graph) (statement : List ℕ) (query : Query) (spelled : SpelledText statement (tree.Query query)) (old new : Option (List ℕ)) (before now : ℕ) (answer : Status) where
+  pub ended_bind : (e : BindRefusal) → Answers query statement graph.catalog (Err e) → EndsBind e old new before now answer → Finishes (MayReply graph statement) old new before now answer
+  ended_bind bind.Memory refused (kept, is) = rw is kept
+  ended_bind (bind.UnknownVariable name) refused h = refused_unbound graph statement old new before now answer (tree.Query query) (bind.UnknownVariable name) spelled refused h
+  ended_bind (bind.VariableConflict name) refused h = refused_unbound graph statement old new before now answer (tree.Query query) (bind.VariableConflict name) spelled refused h
+  ended_bind (bind.RelationshipRepeated name) refused h = refused_unbound graph statement old new before now answer (tree.Query query) (bind.RelationshipRepeated name) spelled refused h
+  ended_bind (bind.ColumnRepeated name) refused h = refused_unbound graph statement old new before now answer (tree.Query query) (bind.ColumnRepeated name) spelled refused h
+  ended_bind (bind.AmbiguousOrderName name) refused h = refused_unbound graph statement old new before now answer (tree.Query query) (bind.AmbiguousOrderName name) spelled refused h
+  ended_bind (bind.UnknownFunction name) refused h = refused_unbound graph statement old new before now answer (tree.Query query) (bind.UnknownFunction name) spelled refused h
+  ended_bind (bind.ArgumentCount name) refused h = refused_unbound graph statement old new before now answer (tree.Query query) (bind.ArgumentCount name) spelled refused h
+  ended_bind (bind.OrderOutOfScope item) refused h = refused_unbound graph statement old new before now answer (tree.Query query) (bind.OrderOutOfScope item) spelled refused h
+  ended_bind bind.NothingToReturn refused h = refused_unbound graph statement old new before now answer (tree.Query query) bind.NothingToReturn spelled refused h
+  ended_bind bind.TooManyPatterns refused h = refused_unbound graph statement old new before now answer (tree.Query query) bind.TooManyPatterns spelled refused h
+  ended_bind bind.TooManyReads refused h = refused_unbound graph statement old new before now answer (tree.Query query) bind.TooManyReads spelled refused h
+  ended_bind bind.TooManyColumns refused h = refused_unbound graph statement old new before now answer (tree.Query query) bind.TooManyColumns spelled refused h
+  ended_bind bind.TooManyAlternatives refused h = refused_unbound graph statement old new before now answer (tree.Query query) bind.TooManyAlternatives spelled refused h

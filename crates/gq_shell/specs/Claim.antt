@@ -1,30 +1,38 @@
 -- The claim of `run`: which status the program answers for its words, the files and its input, and what it writes.
--- It rests on `load_of` (which graph the files give), `properties` (the plain graph's values of a property),
--- `column_text` and `load_line` (how a reply is spelled), `statement_of` (the statement), `SpelledText` and `Cause` (the tree
--- that its tokens spell, or where they go wrong), `bind_refusal` and `bind_line` (why a query cannot be bound), and
--- `listing_of` (which queries are built).
-use Rattle.std.specs.Prelude.{◌≡◌, ◌≢◌, ◌⊎◌, ℕ, ◌<◌, ◌≤◌, List, [], ◌∷◌, ◌++◌, length, codes, decimal, Option, Some, None, Result, Ok, Err, IfSome, IsPermutation, if◌then◌else◌}
+-- It rests on `load_of` (which graph the files give), `IsBound` (what a query stands for over it), `IsPermitted` (which rows,
+-- or which refusal, openCypher permits), `reply_text` and `load_line` (how a reply is spelled), `statement_of` (the statement),
+-- `SpelledText` and `Cause` (the tree that its tokens spell, or where they go wrong), and `bind_refusal` and `bind_line` (why a
+-- query cannot be bound).
+use Rattle.std.specs.Prelude.{◌≡◌, ◌≢◌, ◌⊎◌, ℕ, ◌<◌, ◌≤◌, List, [], ◌∷◌, ◌++◌, length, codes, decimal, Option, Some, None, Result, Ok, Err, IfSome, if◌then◌else◌}
 use Rattle.std.specs.Str.{bytes_eq}
 use Rattle.std.specs.Io.KnownBytes.{Appends, Consumes, Keeps}
-use Rattle.gq_base.specs.Plain.{Graph, properties}
-use Rattle.gq_base.specs.declared.Cell.{Cell}
+use Rattle.gq_base.specs.Plain.{Graph}
+use Rattle.gq_base.specs.Values.{Val}
+use Rattle.gq_binder.specs.Binding.{IsBound}
+use Rattle.gq_binder.specs.Refusals.{first_refusal}
+use Rattle.gq_binder.specs.declared.refusal.BindRefusal.{BindRefusal}
+use Rattle.gq_execute.specs.Replies.{Question, Reply, Rows, Faulted, TooManyRows, IsPermitted}
+use Rattle.gq_execute.specs.declared.settings.Order.TheVariants as order
+use Rattle.gq_expr.specs.declared.Fault.{Fault}
 use Rattle.gq_io.specs.Causes.{Rose}
 use Rattle.gq_io.specs.Outside.{AppendsFront, Names}
 use Rattle.gq_loader.specs.Limits.{standard}
 use Rattle.gq_loader.specs.Loads.{load_of}
 use Rattle.gq_loader.specs.Refusals.{IsOfFiles}
 use Rattle.gq_loader.specs.declared.refusal.LoadRefusal.{LoadRefusal}
-use Rattle.gq_binder.specs.declared.refusal.BindRefusal.{BindRefusal}
-use Rattle.gq_render.specs.Texts.{column_text, line}
+use Rattle.gq_plan.specs.declared.Bound.{Bound}
+use Rattle.gq_render.specs.Texts.{line}
 use Rattle.gq_shell.specs.BindLines.{bind_line}
 use Rattle.gq_shell.specs.Bindings.{bind_refusal}
-use Rattle.gq_shell.specs.Listings.{Listing, listing_of, source_text}
 use Rattle.gq_shell.specs.LoadLines.{load_line}
+use Rattle.gq_shell.specs.ReplyTexts.{most_rows, reply_text}
 use Rattle.gq_shell.specs.Statements.{IsBlank, statement_of}
 use Rattle.gq_syntax.specs.Outcomes.{Cause, SpelledText}
 use Rattle.gq_syntax.specs.declared.refusal.SyntaxRefusal.{SyntaxRefusal}
 use Rattle.gq_syntax.specs.declared.refusal.SyntaxRefusal.TheVariants as refusal
+use Rattle.gq_syntax.specs.declared.statement.Query.{Query}
 use Rattle.gq_syntax.specs.declared.statement.Statement.{Statement}
+use Rattle.gq_syntax.specs.declared.statement.Statement.TheVariants as tree
 use Rattle.gq_shell.specs.declared.status.Status.{Status}
 use Rattle.gq_shell.specs.declared.status.Status.TheVariants as status
 
@@ -40,25 +48,29 @@ abbrev pub Refuses : Result Graph LoadRefusal → List ℕ → Type 0
 Refuses (Ok graph) text = ⊥
 Refuses (Err refusal) text = IsOfFiles refusal × (text ≡ load_line refusal)
 
--- the reply to a query that is built: as a bag, its rows are the property's values over the nodes with the label, null
--- where a node has none (openCypher 9); a header goes before them, the column's source text, and their number after them
-pub record ListsRows (graph : Graph) (statement : List ℕ) (listing : Listing) (text : List ℕ) : Type 0 where
-  pub rows : List (Option Cell)
-  pub as_a_bag : IsPermutation (properties graph listing.label listing.property) rows
-  pub is : text ≡ column_text (source_text statement listing.column) rows
+-- a query that is answered: a statement's tokens spell it, and it is bound over the graph
+pub record IsAsked (graph : Graph) (statement : List ℕ) (query : Query) (bound : Bound) : Type 0 where
+  pub spelled : SpelledText statement (tree.Query query)
+  pub binds : IsBound query statement graph.catalog bound
 
--- the tokens of a statement spell a query that is bound over the graph and is built
-pub record IsListing (graph : Graph) (statement : List ℕ) (listing : Listing) : Type 0 where
-  pub tree : Statement
-  pub spelled : SpelledText statement tree
-  pub bound : bind_refusal tree statement graph.catalog ≡ None
-  pub built : listing_of tree ≡ Some listing
+-- what is asked then: plans take connected components, and so many rows may be kept
+abbrev pub question : Graph → Query → Bound → Question
+question graph query bound =
+    record { graph = graph; query = query; bound = bound; order = order.Greedy; most = most_rows }
 
--- a statement's reply: none to white space and comments alone, the rows of a query that is built
+-- a reply to such a query: one that openCypher permits over the graph, and its text
+pub record RepliesWith (graph : Graph) (statement : List ℕ) (reply : Reply) (text : List ℕ) : Type 0 where
+  pub query : Query
+  pub bound : Bound
+  pub asked : IsAsked graph statement query bound
+  pub permitted : IsPermitted (question graph query bound) reply
+  pub is : text ≡ reply_text graph bound reply
+
+-- a statement's reply: none to white space and comments alone, rows to a query
 abbrev pub Replies : Graph → List ℕ → List ℕ → Type 0
 Replies graph statement text =
     (IsBlank statement × (text ≡ []))
-    ⊎ ((listing : Listing) × IsListing graph statement listing × ListsRows graph statement listing text)
+    ⊎ ((lines : List (List Val)) × RepliesWith graph statement (Rows lines) text)
 
 -- the line of a statement that is no text, has no tokens, or is spelled by no statement within the allowed nesting, with the
 -- place where it goes wrong
@@ -82,18 +94,31 @@ pub record IsUnbound (graph : Graph) (statement text : List ℕ) : Type 0 where
   pub refused : bind_refusal tree statement graph.catalog ≡ Some why
   pub is : text ≡ bind_line why
 
+-- what is not built yet: the catalogue, the plans and the profile, which `:schema`, `:plan` and `:profile` ask for
+abbrev pub IsUnbuilt : Graph → List ℕ → Statement → Type 0
+IsUnbuilt graph text (tree.Query query) = ⊥
+IsUnbuilt graph text tree.Schema = Unit {0}
+IsUnbuilt graph text (tree.Plan query) = first_refusal query text graph.catalog ≡ None
+IsUnbuilt graph text (tree.Profile query) = first_refusal query text graph.catalog ≡ None
+
 -- the statement is right and its query, if it has one, is bound, but it is not built
 pub record IsNotBuilt (graph : Graph) (statement text : List ℕ) : Type 0 where
   pub tree : Statement
   pub spelled : SpelledText statement tree
-  pub bound : bind_refusal tree statement graph.catalog ≡ None
-  pub other : listing_of tree ≡ None
+  pub other : IsUnbuilt graph statement tree
   pub is : text ≡ line (codes "error: NotBuilt")
+
+-- a query has no rows: an outcome that is looked at is this fault, or too many rows are kept
+abbrev pub IsStopped : Graph → List ℕ → List ℕ → Type 0
+IsStopped graph statement text =
+    ((fault : Fault) × RepliesWith graph statement (Faulted fault) text)
+    ⊎ RepliesWith graph statement TooManyRows text
 
 -- every other statement is refused by one line
 pub record IsRefused (graph : Graph) (statement text : List ℕ) : Type 0 where
   pub written : ¬ (IsBlank statement)
-  pub why : IsWrong statement text ⊎ IsUnbound graph statement text ⊎ IsNotBuilt graph statement text
+  pub why : IsWrong statement text ⊎ IsUnbound graph statement text
+      ⊎ IsNotBuilt graph statement text ⊎ IsStopped graph statement text
 
 -- the input, which is one statement, is too long
 abbrev pub IsTooLong : List ℕ → Type 0
@@ -176,12 +201,21 @@ pub record Runs (words : List (List ℕ)) (outside : Outside) (answer : Status) 
 
 -- ---- the same in short, where all is told and nothing fails
 
--- a permitted answer, written whole, and the only status that may be answered
+-- the statement of an input asks a query that is answered. Which of its outcomes are looked at is open where it has LIMIT
+-- and neither DISTINCT nor ORDER BY, so both its rows and a fault may be permitted then
+abbrev pub IsQuery : List (List ℕ) → Names → List ℕ → Type 0
+IsQuery words files input =
+    Over words (Some files) (Some input) (λ graph told.
+    (query : Query) × (bound : Bound) × IsAsked graph (statement_of told) query bound)
+
+-- a permitted answer, written whole, and the only status that may be answered, unless a query may be answered by rows or by
+-- a fault
 pub record IsAnswered (words : List (List ℕ)) (files : Names) (input : List ℕ) (answer : Status) (old new : Option (List ℕ)) : Type 0 where
   pub text : List ℕ
   pub permitted : Permits words (Some files) (Some input) answer text
   pub written : Appends old new text
-  pub only : (other : Status) (otherwise : List ℕ) → Permits words (Some files) (Some input) other otherwise → other ≡ answer
+  pub only : (other : Status) (otherwise : List ℕ) → Permits words (Some files) (Some input) other otherwise
+      → (other ≡ answer) ⊎ IsQuery words files input
 
 -- where the files and the input are told and no count of faults rises, there is want of memory or the one answer
 abbrev pub Whole : List (List ℕ) → Outside → Status → Type 0

@@ -1,9 +1,8 @@
 pub mod BindLines
 pub mod Bindings
 pub mod Claim
-pub mod Listings
 pub mod LoadLines
-pub mod Seen
+pub mod ReplyTexts
 pub mod Statements
 pub mod Statuses
 pub mod Steps

@@ -1,18 +1,29 @@
 -- How a part of a run ends, for the contracts of its helpers.
-use Rattle.std.specs.Prelude.{◌≡◌, ℕ, List, [], ◌++◌, Option, codes}
+use Rattle.std.specs.Prelude.{◌≡◌, ◌⊎◌, ℕ, List, [], Option, codes}
 use Rattle.std.specs.Io.KnownBytes.{Appends, Keeps}
-use Rattle.gq_base.specs.Plain.{Graph, properties}
+use Rattle.gq_base.specs.Plain.{Graph}
+use Rattle.gq_base.specs.Values.{Val}
+use Rattle.gq_binder.specs.Binding.{IsBound}
+use Rattle.gq_binder.specs.declared.refusal.BindRefusal.{BindRefusal}
+use Rattle.gq_binder.specs.declared.refusal.BindRefusal.TheVariants as bind
+use Rattle.gq_execute.specs.Replies.{Rows, Faulted, TooManyRows, IsPermitted}
+use Rattle.gq_expr.specs.declared.Fault.{Fault}
 use Rattle.gq_io.specs.Causes.{Rose}
 use Rattle.gq_io.specs.Outside.{AppendsFront}
 use Rattle.gq_loader.specs.declared.LoadRefusal.{LoadRefusal}
 use Rattle.gq_loader.specs.declared.LoadRefusal.TheVariants as refusal
-use Rattle.gq_render.specs.Texts.{column_text, line}
-use Rattle.gq_shell.specs.Claim.{IsRefused, IsTooLong, ListsRows, Replies}
-use Rattle.gq_shell.specs.Listings.{Listing}
+use Rattle.gq_plan.specs.declared.Bound.{Bound}
+use Rattle.gq_render.specs.Texts.{line}
+use Rattle.gq_shell.specs.BindLines.{bind_line}
+use Rattle.gq_shell.specs.Claim.{IsRefused, IsTooLong, Replies, question}
 use Rattle.gq_shell.specs.LoadLines.{load_line}
+use Rattle.gq_shell.specs.ReplyTexts.{reply_text}
 use Rattle.gq_shell.specs.Statements.{statement_of}
 use Rattle.gq_shell.specs.declared.status.Status.{Status}
 use Rattle.gq_shell.specs.declared.status.Status.TheVariants as status
+use Rattle.gq_syntax.specs.Outcomes.{SpelledText}
+use Rattle.gq_syntax.specs.declared.statement.Query.{Query}
+use Rattle.gq_syntax.specs.declared.statement.Statement.TheVariants as tree
 
 -- a permitted answer was written whole, or a front of one was and the sink failed, or nothing was for want of memory
 abbrev pub Finishes : (Status → List ℕ → Type 0) → Option (List ℕ) → Option (List ℕ) → ℕ → ℕ → Status → Type 0
@@ -41,14 +52,34 @@ abbrev pub MayRefuse : List ℕ → Status → List ℕ → Type 0
 MayRefuse refused status.Refused text = text ≡ refused
 MayRefuse refused answer text = ⊥
 
--- the rows of a query, in load order
-abbrev pub rows_text : Graph → List ℕ → Listing → List ℕ
-rows_text graph name listing = column_text name (properties graph listing.label listing.property)
+-- what becomes of a query that is not bound: its line is written, or nothing for want of memory
+abbrev pub EndsBind : BindRefusal → Option (List ℕ) → Option (List ℕ) → ℕ → ℕ → Status → Type 0
+EndsBind bind.Memory old new before now answer = Keeps old new × (answer ≡ status.Memory)
+EndsBind e old new before now answer = Finishes (MayRefuse (bind_line e)) old new before now answer
 
--- the rows of a query
-abbrev pub MayList : Graph → List ℕ → Listing → Status → List ℕ → Type 0
-MayList graph statement listing status.Ended text = ListsRows graph statement listing text
-MayList graph statement listing answer text = ⊥
+-- the rows of a query, by this text
+abbrev pub MayList : List ℕ → Status → List ℕ → Type 0
+MayList listed status.Ended text = text ≡ listed
+MayList listed answer text = ⊥
+
+-- the replies to a query that is bound: rows with their text, or a line in their place
+abbrev pub MayAsk : Graph → Query → Bound → Status → List ℕ → Type 0
+MayAsk graph query bound status.Ended text =
+    (lines : List (List Val)) × IsPermitted (question graph query bound) (Rows lines) × (text ≡ reply_text graph bound (Rows lines))
+MayAsk graph query bound status.Refused text =
+    ((f : Fault) × IsPermitted (question graph query bound) (Faulted f) × (text ≡ reply_text graph bound (Faulted f)))
+    ⊎ (IsPermitted (question graph query bound) TooManyRows × (text ≡ reply_text graph bound TooManyRows))
+MayAsk graph query bound answer text = ⊥
+
+-- the same for each query that is bound so
+abbrev pub Asks : Graph → Bound → Option (List ℕ) → Option (List ℕ) → ℕ → ℕ → Status → Type 0
+Asks graph bound old new before now answer =
+    (query : Query) (statement : List ℕ) → IsBound query statement graph.catalog bound
+    → Finishes (MayAsk graph query bound) old new before now answer
+
+-- a statement asks for the plans or for the profile of a query
+abbrev pub IsUnbuiltForm : List ℕ → Query → Type 0
+IsUnbuiltForm statement query = SpelledText statement (tree.Plan query) ⊎ SpelledText statement (tree.Profile query)
 
 -- the answers to a statement over a graph
 abbrev pub MayReply : Graph → List ℕ → Status → List ℕ → Type 0

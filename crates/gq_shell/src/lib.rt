@@ -1,13 +1,12 @@
 //! What the program does: the words, the load, the statement and its reply.
 #![tactic(auto)]
 
-mod answer;
 mod bind_line;
-mod binding;
 mod input;
-mod listing;
 mod load_line;
 mod program;
+mod query;
+mod reply;
 mod status;
 mod words;
 

@@ -5,8 +5,8 @@ ghost use Rattle.gq_io.specs.Causes.{Rose};
 ghost use Rattle.gq_shell.specs.Claim.{Runs, Whole, outside_of};
 ghost use Rattle.gq_shell.specs.Steps.{EndsLoad, Finishes, MayRefuseLoad, MayRefuseWords};
 
-use crate::answer::answer;
 use crate::load_line::write_load_line;
+use crate::reply::answer;
 use crate::status::Status;
 use crate::words::manifest_path;
 use gq_io::{Failed, Files, ReadFile, ReadStop, Sink, Source, read_input, write_all};

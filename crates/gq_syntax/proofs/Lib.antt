@@ -7,5 +7,7 @@ pub mod Loops
 pub mod Runs
 pub mod Sets
 pub mod Sound
+pub mod SpanLemmas
 pub mod Spelled
 pub mod Turns
+pub mod Whole

@@ -6,5 +6,6 @@ pub mod Parsing
 pub mod Readers
 pub mod Refusals
 pub mod Relations
+pub mod Spans
 pub mod Trees
 pub mod Words

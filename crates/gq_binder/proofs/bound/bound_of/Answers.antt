@@ -1,6 +1,8 @@
-use Rattle.std.proofs.Common.{arith}
+use Rattle.std.proofs.Common.{All, List, ℕ, arith, ap, sym, subst, ◌∙◌}
 use Rattle.std.proofs.lemmas.Grind.{common_steps}
+use Rattle.gq_binder.proofs.Patterns.{IsWholeMap, entries_whole, node_names_there}
 use Rattle.gq_binder.proofs.SoundAlternatives.{is_bound}
+use Rattle.gq_scopes.specs.Patterns.{MapEntry, Pattern}
 use Rattle.gq_binder.proofs.bound.bound_of.Goals as goal
 
 pub returns : goal.returns
@@ -16,4 +18,10 @@ returns c =
       skip = grind (arith, common_steps);
       limit = grind (arith, common_steps);
     })
-    (grind (arith, common_steps))
+    (grind (arith, common_steps)) (node_names_there c.args.asked.now.text c.args.asked.now.query c.text.ensures.stands)
+
+pub entry_tests-requires : goal.entry_tests-requires
+entry_tests-requires c =
+    subst (λ (t : List ℕ). All (IsWholeMap t) c.entries.result.now) (sym c.text.ensures.text)
+    (subst (λ (es : List MapEntry). All (IsWholeMap c.args.asked.now.text) es) (sym (c.entries.ensures ∙ ap (λ (p : Pattern). p.entries) c.pattern.ensures))
+    (entries_whole c.args.asked.now.text c.args.asked.now.query c.text.ensures.stands))

@@ -1,6 +1,6 @@
 use Rattle.std.proofs.Common.{◌≡◌, ◌∙◌, ap, sym, subst, IsTrue}
 use Rattle.std.specs.List.{AllZip, list_all}
-use Rattle.gq_order.proofs.GivenCovers.{given_covers}
+use Rattle.gq_order.proofs.GivenOrder.{given_covers}
 use Rattle.gq_order.proofs.GivenParts.{given_sides, given_alone}
 use Rattle.gq_order.proofs.text_order.given.Goals as goal
 use Rattle.gq_order.specs.Given.{given_plan}

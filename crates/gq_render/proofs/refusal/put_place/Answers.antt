@@ -1,4 +1,4 @@
-use Rattle.std.proofs.Common.{refl, decimal, ap, ◌++◌}
+use Rattle.std.proofs.Common.{decimal, ap, ◌++◌}
 use Rattle.gq_render.proofs.Sequence.{first_broke, puts_then}
 use Rattle.gq_render.proofs.refusal.put_place.Goals as goal
 

@@ -7,6 +7,7 @@ use Rattle.gq_plan.specs.Steps.{Plan, plan_of, steps, step_of}
 use Rattle.gq_pipe.specs.Bound.{binds_all}
 use Rattle.gq_pipe.specs.Built.{AreBuilds}
 use Rattle.gq_pipe.specs.Levels.{known}
+use Rattle.gq_pipe.proofs.Assigned.{covers_bind_all}
 use Rattle.gq_pipe.proofs.flat.FlatPipeline.start.Goals as goal
 
 pub invariant_of-result : goal.invariant_of-result
@@ -47,3 +48,8 @@ returns-clause-complete c =
 pub returns-clause-partials : goal.returns-clause-partials
 returns-clause-partials c =
     ap (λ p. mean c.args.graph.now c.args.typed.now p nothing) (ap (λ ts. steps (map step_of ts)) c.as_slice-steps.ensures ∙ sym (plan_is c.args.plan.now))
+
+pub returns-clause-covering : goal.returns-clause-covering
+returns-clause-covering c = λ covers.
+    ap (binds_all c.args.typed.now) (ap (λ ts. steps (map step_of ts)) c.as_slice-steps.ensures ∙ sym (plan_is c.args.plan.now))
+    ∙ covers_bind_all c.args.graph.now.catalog c.args.typed.now (plan_of c.args.plan.now) covers

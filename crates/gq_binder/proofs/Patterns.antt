@@ -1,0 +1,156 @@
+-- What the patterns of a query that stands in a text have: a node, a name for each node variable, and entries whose
+-- values begin and end between characters.
+use Rattle.std.proofs.Common.{◌≡◌, ℕ, suc, ◌+◌, ◌<◌, ◌≤◌, List, [], ◌∷◌, ◌++◌, map, length, All, refl, arith, sym, ap, ◌∙◌}
+use Rattle.std.specs.List.{AllByRecursion}
+use Rattle.std.proofs.lemmas.List.{length_push}
+use Rattle.std.proofs.lemmas.List.Elements.{All-append, All-head, All-map, All-nil, All-weaker, recursion_from_All}
+use Rattle.gq_plan.specs.declared.PathPart.{PathPart}
+use Rattle.gq_plan.proofs.Each.{each_of}
+use Rattle.gq_syntax.specs.Spans.{IsWholeClause, IsWholeEntry, IsWholeHop, IsWholePath, StandsIn}
+use Rattle.gq_syntax.specs.declared.Clause.{Clause}
+use Rattle.gq_syntax.specs.declared.Entry.{Entry}
+use Rattle.gq_syntax.specs.declared.Hop.{Hop}
+use Rattle.gq_syntax.specs.declared.NodePart.{NodePart}
+use Rattle.gq_syntax.specs.declared.Path.{Path}
+use Rattle.gq_syntax.specs.declared.Query.{Query}
+use Rattle.gq_syntax.specs.declared.RelPart.{RelPart}
+use Rattle.gq_plan.specs.Reads.{Variable, node, rel}
+use Rattle.gq_alternatives.proofs.ShapesOfPatterns.{clauses_grow, hops_grow, node_cases, paths_grow}
+use Rattle.gq_scopes.specs.Patterns.{MapEntry, Name, Pattern, called, entries_of, no_pattern, node_again, node_new, pattern_of, variable_of, with_clauses, with_hops, with_node, with_part, with_path, with_paths, with_rel}
+
+-- ---- what each step of a pattern keeps, all steps keep
+
+module _ (P : Pattern → Type 0) (N : NodePart → Type 0) (R : RelPart → Type 0) (again : (v : ℕ) (part : NodePart) (p : Pattern) → N part → P p → P (node_again v part p))
+    (new : (part : NodePart) (p : Pattern) → N part → P p → P (node_new part p)) (joins : (clause left right : ℕ) (part : RelPart) (p : Pattern) → R part → P p → P (with_rel clause left right part p))
+    (closes : (part : PathPart) (p : Pattern) → P p → P (with_part part p)) where
+  node_kept : (part : NodePart) (p : Pattern) → N part → P p → P (with_node part p)
+  node_kept part p n h = node_cases P part p (λ v low is. again v part p n h) (λ is. new part p n h)
+
+  abbrev HopHas : Hop → Type 0
+  HopHas hop = R hop.rel × N hop.node
+
+  abbrev PathHas : Path → Type 0
+  PathHas path = N path.first × AllByRecursion HopHas path.hops
+
+  abbrev ClauseHas : Clause → Type 0
+  ClauseHas clause = AllByRecursion PathHas clause.paths
+
+  hops_kept : (clause left : ℕ) (hs : List Hop) (p : Pattern) → AllByRecursion HopHas hs → P p → P (with_hops clause left hs p)
+  hops_kept clause left [] p all h = h
+  hops_kept clause left (hop ∷ hs) p all h =
+      let at = variable_of p hop.node in
+      let q : Pattern = with_rel clause left at hop.rel p in
+      hops_kept clause at hs (with_node hop.node q) all.1 (node_kept hop.node q all.0.1 (joins clause left at hop.rel p all.0.0 h))
+
+  path_kept : (clause : ℕ) (path : Path) (p : Pattern) → PathHas path → P p → P (with_path clause path p)
+  path_kept clause path p has h =
+      let at = variable_of p path.first in
+      let q : Pattern = with_node path.first p in
+      closes _ (with_hops clause at path.hops q) (hops_kept clause at path.hops q has.1 (node_kept path.first p has.0 h))
+
+  paths_kept : (clause : ℕ) (paths : List Path) (p : Pattern) → AllByRecursion PathHas paths → P p → P (with_paths clause paths p)
+  paths_kept clause [] p all h = h
+  paths_kept clause (path ∷ paths) p all h = paths_kept clause paths (with_path clause path p) all.1 (path_kept clause path p all.0 h)
+
+  clauses_kept : (number : ℕ) (cs : List Clause) (p : Pattern) → AllByRecursion ClauseHas cs → P p → P (with_clauses number cs p)
+  clauses_kept number [] p all h = h
+  clauses_kept number (c ∷ cs) p all h = clauses_kept (suc number) cs (with_paths number c.paths p) all.1 (paths_kept number c.paths p all.0 h)
+
+-- ---- each node variable has a name
+
+pushed : {X Y : Type 0} (xs : List X) (ys : List Y) (x : X) (y : Y) → length xs ≡ length ys → length (xs ++ x ∷ []) ≡ length (ys ++ y ∷ [])
+pushed xs ys x y e = omega (arith, length_push xs x, length_push ys y)
+
+abbrev Counted : Pattern → Type 0
+Counted p = length p.node_names ≡ length p.names
+
+abbrev Any : {X : Type 0} → X → Type 0
+Any x = Unit {0}
+
+any_hops : (hs : List Hop) → AllByRecursion (λ hop. Unit {0} × Unit {0}) hs
+any_hops hs = each_of (λ hop. Unit {0} × Unit {0}) (λ hop. (tt, tt)) hs
+
+any_paths : (ps : List Path) → AllByRecursion (λ path. Unit {0} × AllByRecursion (λ hop. Unit {0} × Unit {0}) path.hops) ps
+any_paths ps = each_of (λ path. Unit {0} × AllByRecursion (λ hop. Unit {0} × Unit {0}) path.hops) (λ path. (tt, any_hops path.hops)) ps
+
+any_clauses : (cs : List Clause) → AllByRecursion (λ c. AllByRecursion (λ path. Unit {0} × AllByRecursion (λ hop. Unit {0} × Unit {0}) path.hops) c.paths) cs
+any_clauses cs = each_of (λ c. AllByRecursion (λ path. Unit {0} × AllByRecursion (λ hop. Unit {0} × Unit {0}) path.hops) c.paths) (λ c. any_paths c.paths) cs
+
+pub names_counted : (cs : List Clause) → length (pattern_of cs).node_names ≡ length (pattern_of cs).names
+unfolding pattern_of
+names_counted cs =
+    clauses_kept Counted Any Any (λ v part p n h. h) (λ part p n h. pushed p.node_names p.names (called p.unnamed part.name) part.name h) (λ clause left right part p n h. h) (λ part p h. h)
+    0 cs no_pattern (any_clauses cs) refl
+
+-- ---- there is a node
+
+node_there : (part : NodePart) (p : Pattern) → 0 < length (with_node part p).names
+node_there part p = node_cases (λ q. 0 < length q.names) part p (λ v low is. omega arith) (λ is. omega (arith, length_push p.names part.name))
+
+path_there : (clause : ℕ) (path : Path) (p : Pattern) → 0 < length (with_path clause path p).names
+path_there clause path p =
+    let grown = (hops_grow clause (variable_of p path.first) path.hops (with_node path.first p)).names in
+    omega (arith, grown, node_there path.first p)
+
+clause_there : (number : ℕ) (paths : List Path) (p : Pattern) → 0 < length paths → 0 < length (with_paths number paths p).names
+clause_there number [] p h = absurd (omega arith)
+clause_there number (path ∷ paths) p h =
+    let grown = (paths_grow number paths (with_path number path p)).names in
+    omega (arith, grown, path_there number path p)
+
+clauses_there : (text : List ℕ) (cs : List Clause) → 0 < length cs → All (IsWholeClause text) cs → 0 < length (with_clauses 0 cs no_pattern).names
+clauses_there text [] h all = absurd (omega arith)
+clauses_there text (c ∷ cs) h all =
+    let grown = (clauses_grow 1 cs (with_paths 0 c.paths no_pattern)).names in
+    omega (arith, grown, clause_there 0 c.paths no_pattern (All-head (IsWholeClause text) c cs all).begins)
+
+names_there : (text : List ℕ) (q : Query) → StandsIn text q → 0 < length (pattern_of q.clauses).names
+unfolding pattern_of
+names_there text q stands = clauses_there text q.clauses stands.begins stands.clauses
+
+-- a query that stands in a text has a node variable
+pub node_names_there : (text : List ℕ) (q : Query) → StandsIn text q → 0 < length (pattern_of q.clauses).node_names
+node_names_there text q stands = let counted = names_counted q.clauses in omega (arith, names_there text q stands)
+
+-- ---- the values of entries
+
+module _ (text : List ℕ) where
+  abbrev pub IsWholeMap : MapEntry → Type 0
+  IsWholeMap e = IsWholeEntry text e.entry
+
+  abbrev Entries : Pattern → Type 0
+  Entries p = All IsWholeMap p.entries
+
+  abbrev NodeMap : NodePart → Type 0
+  NodeMap part = All (IsWholeEntry text) part.map
+
+  abbrev RelMap : RelPart → Type 0
+  RelMap part = All (IsWholeEntry text) part.map
+
+  more : (v : Variable) (name : Name) (before : List MapEntry) (es : List Entry) → All (IsWholeEntry text) es → All IsWholeMap before → All IsWholeMap (before ++ entries_of v name es)
+  more v name before es h all = All-append IsWholeMap before (entries_of v name es) all (All-map IsWholeMap (λ e. record { variable = v; called = name; entry = e }) es h)
+
+  abbrev Hops : List Hop → Type 0
+  Hops = AllByRecursion (λ hop. RelMap hop.rel × NodeMap hop.node)
+
+  abbrev Paths : List Path → Type 0
+  Paths = AllByRecursion (λ path. NodeMap path.first × Hops path.hops)
+
+  hops_whole : (hs : List Hop) → All (IsWholeHop text) hs → Hops hs
+  hops_whole hs h = recursion_from_All (λ hop. RelMap hop.rel × NodeMap hop.node) hs (All-weaker (IsWholeHop text) (λ hop. RelMap hop.rel × NodeMap hop.node) (λ hop w. (w.rel, w.node)) hs h)
+
+  paths_whole : (ps : List Path) → All (IsWholePath text) ps → Paths ps
+  paths_whole ps h =
+      recursion_from_All (λ path. NodeMap path.first × Hops path.hops) ps
+      (All-weaker (IsWholePath text) (λ path. NodeMap path.first × Hops path.hops) (λ path w. (w.first, hops_whole path.hops w.hops)) ps h)
+
+  clauses_whole : (cs : List Clause) → All (IsWholeClause text) cs → AllByRecursion (λ c. Paths c.paths) cs
+  clauses_whole cs h = recursion_from_All (λ c. Paths c.paths) cs (All-weaker (IsWholeClause text) (λ c. Paths c.paths) (λ c w. paths_whole c.paths w.paths) cs h)
+
+  pub entries_whole : (q : Query) → StandsIn text q → All IsWholeMap (pattern_of q.clauses).entries
+  unfolding pattern_of
+  entries_whole q stands =
+      clauses_kept Entries NodeMap RelMap (λ v part p n h. more (node v) (called p.unnamed part.name) p.entries part.map n h)
+      (λ part p n h. more (node (length p.names)) (called p.unnamed part.name) p.entries part.map n h)
+      (λ clause left right part p n h. more (rel (length p.rels)) (called p.unnamed part.name) p.entries part.map n h) (λ part p h. h)
+      0 q.clauses no_pattern (clauses_whole q.clauses stands.clauses) (All-nil IsWholeMap)

@@ -1,0 +1,159 @@
+-- Each step of answering a query leads on, or to a reply that is permitted.
+use Rattle.std.proofs.Common.{◌≡◌, ℕ, zero, suc, ◌+◌, ◌<◌, ◌≤◌, get_or, Bool, true, false, Some, List, [], ◌∷◌, ◌++◌, length, take, drop, slice_get, Result, Err, inl, inr, refl, sym, ap, ◌∙◌, subst, arith, true≢false}
+use Rattle.std.specs.Prelude.{◌⊎◌}
+use Rattle.std.proofs.lemmas.List.{take-append-drop}
+use Rattle.std.proofs.lemmas.List.Sorted.{IsPermutation-sym}
+use Rattle.gq_base.specs.Values.{Val}
+use Rattle.gq_expr.specs.declared.Fault.{Fault}
+use Rattle.gq_plan.specs.Meaning.{meaning}
+use Rattle.gq_plan.specs.Outcomes.{Row, late_outcomes}
+use Rattle.gq_plan.specs.declared.Typed.{Typed}
+use Rattle.gq_rows.specs.Answers.{Answers, cut_of}
+use Rattle.gq_base.specs.Plain.{Graph}
+use Rattle.gq_plan.specs.declared.Bound.{Bound}
+use Rattle.gq_rows.specs.Tables.{StandsFor, StandsForSome, Table, is_full, is_full_table}
+use Rattle.gq_execute.specs.declared.settings.Order.{Order}
+use Rattle.gq_execute.specs.declared.settings.Settings.{Settings}
+use Rattle.gq_execute.specs.Answering.{AreParted, Came, Drains, IsFresh, Reached, Replies, Runs}
+use Rattle.gq_execute.specs.Replies.{Question, IsPermitted, Rows, TooManyRows, has_large_part}
+use Rattle.gq_execute.specs.Taking.{MeetsMany, Stands, Takes}
+use Rattle.gq_execute.specs.declared.refusal.AnswerRefusal.{AnswerRefusal}
+use Rattle.gq_execute.specs.declared.refusal.AnswerRefusal.TheVariants as refusal
+use Rattle.gq_execute.proofs.Replying.{reached_start, reached_next, reached_more, fault_permitted, many_permitted, rows_permitted, heavy_permitted}
+
+-- what a table stands for, told of the question
+told : (a : Question) (t : Table) (os : List (Result Row Fault)) → t.bound ≡ a.bound → t.most ≡ a.most → StandsFor a.bound a.most os t.held → Stands os t
+told a t os bound most h = subst (λ m. StandsFor t.bound m os t.held) (sym most) (subst (λ b. StandsFor b a.most os t.held) (sym bound) h)
+
+asked : (a : Question) (t : Table) (os : List (Result Row Fault)) → t.bound ≡ a.bound → t.most ≡ a.most → Stands os t → StandsFor a.bound a.most os t.held
+asked a t os bound most h = subst (λ m. StandsFor a.bound m os t.held) most (subst (λ b. StandsFor b t.most os t.held) bound h)
+
+full_told : (a : Question) (t : Table) (v : Bool) → t.bound ≡ a.bound → is_full_table t ≡ v → is_full (cut_of a.bound) t.held ≡ v
+full_told a t v bound h = ap (λ b. is_full (cut_of b) t.held) (sym bound) ∙ h
+
+pub came_start : (a : Question) (t : Table) → t.bound ≡ a.bound → t.most ≡ a.most → StandsFor a.bound a.most [] t.held → Came a [] t
+came_start a t bound most stands = record { pushed = []; left = []; at = reached_start a; bound = bound; most = most; stands = stands; done = inr refl }
+
+nothing_left : (a : Question) (begun : List Typed) (t : Table) (came : Came a begun t) → is_full_table t ≡ false → came.left ≡ []
+nothing_left a begun t came room = go came.done
+  where
+    go : (is_full_table t ≡ true) ⊎ (came.left ≡ []) → came.left ≡ []
+    go (inl full) = absurd (true≢false (sym full ∙ room))
+    go (inr none) = none
+
+split_at : (ys : List Typed) (k : ℕ) (y : Typed) → slice_get ys k ≡ Some y → ys ≡ take k ys ++ (y ∷ drop (suc k) ys)
+split_at [] k y e = absurd (cc e)
+split_at (z ∷ ys) zero y e = let same : z ≡ y = cc in ap (λ x. x ∷ ys) same
+split_at (z ∷ ys) (suc k) y e = ap (λ l. z ∷ l) (split_at ys k y e)
+
+take_at : (ys : List Typed) (k : ℕ) (y : Typed) → slice_get ys k ≡ Some y → take (suc k) ys ≡ take k ys ++ y ∷ []
+take_at [] k y e = absurd (cc e)
+take_at (z ∷ ys) zero y e = let same : z ≡ y = cc in ap (λ x. x ∷ []) same
+take_at (z ∷ ys) (suc k) y e = ap (λ l. z ∷ l) (take_at ys k y e)
+
+-- ---- the turn of an alternative
+
+module _ (a : Question) (parted : AreParted a) (k : ℕ) (y : Typed) (old : Table) (here : slice_get a.bound.alternatives k ≡ Some y)
+    (came : Came a (take k a.bound.alternatives) old) (room : is_full_table old ≡ false) where
+  abbrev begun : List Typed
+  begun = take (suc k) a.bound.alternatives
+
+  abbrev later : List Typed
+  later = drop (suc k) a.bound.alternatives
+
+  reached : Reached a (take k a.bound.alternatives) came.pushed []
+  reached = subst (Reached a (take k a.bound.alternatives) came.pushed) (nothing_left a (take k a.bound.alternatives) old came room) came.at
+
+  -- the alternative is begun: the outcomes of its plan are left
+  started : (Meets : List (Result Row Fault) → Type 0) (run : Runs a.graph a.bound a.order old.most y Meets) → Reached a begun came.pushed (late_outcomes a.graph a.bound y (meaning a.graph y run.plan))
+  started Meets run =
+      let light : has_large_part a.graph a.order a.most y ≡ false = ap (λ m. has_large_part a.graph a.order m y) (sym came.most) ∙ run.light in
+      subst (λ ys. Reached a ys came.pushed (late_outcomes a.graph a.bound y (meaning a.graph y run.plan))) (sym (take_at a.bound.alternatives k y here))
+      (reached_next a (take k a.bound.alternatives) came.pushed y _ (IsPermutation-sym _ _ (parted.each k y here run.plan run.covers)) light reached)
+
+  stood : Stands came.pushed old
+  stood = told a old came.pushed came.bound came.most came.stands
+
+  -- its outcomes went into the table
+  pub turn_came : (new : Table) → Runs a.graph a.bound a.order old.most y (λ os. Takes os old new) → Came a begun new
+  turn_came new run =
+      let t = run.meets in
+      let bound : new.bound ≡ a.bound = t.alike.bound ∙ came.bound in
+      let most : new.most ≡ a.most = t.alike.most ∙ came.most in
+      record {
+        pushed = came.pushed ++ t.cut.pushed;
+        left = t.cut.left;
+        at = reached_more a begun came.pushed _ t.cut.pushed t.cut.left t.cut.whole (started _ run);
+        bound = bound;
+        most = most;
+        stands = asked a new _ bound most (t.stands came.pushed stood);
+        done = t.done;
+      }
+
+  -- or stopped it
+  pub turn_stopped : (new : Table) (e : AnswerRefusal) → Drains a.graph a.bound a.order y old new (Err e) → Replies a (Err e)
+  turn_stopped new (refusal.Fault f) run =
+      let t = run.meets in
+      fault_permitted a parted begun later (came.pushed ++ t.cut.pushed) t.cut.left (sym (take-append-drop (suc k) a.bound.alternatives))
+      (reached_more a begun came.pushed _ t.cut.pushed t.cut.left t.cut.whole (started _ run)) f (rw (← came.bound) (t.seen came.pushed stood))
+  turn_stopped new (refusal.TooManyRows most) (is, why) = (is ∙ came.most, many why)
+    where
+      many : (has_large_part a.graph a.order old.most y ≡ true) ⊎ Runs a.graph a.bound a.order old.most y (λ os. MeetsMany os old) → IsPermitted a TooManyRows
+      many (inl heavy) =
+          heavy_permitted a parted (take k a.bound.alternatives) later y came.pushed old.held (split_at a.bound.alternatives k y here) reached came.stands
+          (full_told a old false came.bound room) (ap (λ m. has_large_part a.graph a.order m y) (sym came.most) ∙ heavy)
+      many (inr run) =
+          let t = run.meets in
+          many_permitted a parted begun later (came.pushed ++ t.cut.pushed) t.cut.left (sym (take-append-drop (suc k) a.bound.alternatives))
+          (reached_more a begun came.pushed _ t.cut.pushed t.cut.left t.cut.whole (started _ run)) (rw (← came.bound, ← came.most) (t.many came.pushed stood))
+  turn_stopped new refusal.Memory h = tt
+
+-- ---- the end
+
+-- the table is finished, once it is full or all alternatives were begun
+pub finished : (a : Question) → AreParted a → (k : ℕ) (t : Table) (lines : List (List Val)) → Came a (take k a.bound.alternatives) t
+    → (is_full_table t ≡ true) ⊎ (length a.bound.alternatives ≤ k) → ((os : List (Result Row Fault)) → Stands os t → Answers t.bound os lines) → IsPermitted a (Rows lines)
+finished a parted k t lines came end answers =
+    rows_permitted a parted (take k a.bound.alternatives) (drop k a.bound.alternatives) came.pushed came.left (sym (take-append-drop k a.bound.alternatives)) came.at t.held lines came.stands (done end came.done)
+    (rw (← came.bound) (answers came.pushed (told a t came.pushed came.bound came.most came.stands)))
+  where
+    past : (ys : List Typed) (k : ℕ) → length ys ≤ k → drop k ys ≡ []
+    past [] zero h = refl
+    past [] (suc k) h = refl
+    past (z ∷ ys) zero h = absurd (omega arith)
+    past (z ∷ ys) (suc k) h = past ys k (omega arith)
+
+    done : (is_full_table t ≡ true) ⊎ (length a.bound.alternatives ≤ k) → (is_full_table t ≡ true) ⊎ (came.left ≡ [])
+        → (is_full (cut_of a.bound) t.held ≡ true) ⊎ ((came.left ≡ []) × (drop k a.bound.alternatives ≡ []))
+    done (inl full) left = inl (full_told a t true came.bound full)
+    done (inr all) (inl full) = inl (full_told a t true came.bound full)
+    done (inr all) (inr none) = inr (none, past a.bound.alternatives k all)
+
+-- an empty table stands for no outcomes
+pub fresh_stands : (b : Bound) (settings : Settings) (t : Table) → IsFresh b settings t → Stands [] t
+fresh_stands b settings t fresh =
+    subst (λ m. StandsFor t.bound m [] t.held) (sym fresh.most) (subst (λ q. StandsFor q settings.rows [] t.held) (sym fresh.bound) fresh.none)
+
+-- what a table stands for when an alternative went into it
+pub taken_more : (g : Graph) (b : Bound) (order : Order) (y : Typed) (old new : Table) → StandsForSome old → Runs g b order old.most y (λ os. Takes os old new) → StandsForSome new
+taken_more g b order y old new some run = (some.0 ++ run.meets.cut.pushed, run.meets.stands some.0 some.1)
+
+-- the alternative of a number
+pub item_at : (ys : List Typed) (k : ℕ) (y : Typed) → k < length ys → y ≡ get_or ys k y → slice_get ys k ≡ Some y
+item_at [] k y lt e = absurd (omega (arith, lt))
+item_at (z ∷ ys) zero y lt e = ap Some (sym e)
+item_at (z ∷ ys) (suc k) y lt e = item_at ys k y (omega (arith, lt)) e
+
+-- a turn was taken
+pub turn_taken : (a : Question) → AreParted a → (k : ℕ) (y : Typed) (old new : Table) → slice_get a.bound.alternatives k ≡ Some y → Came a (take k a.bound.alternatives) old → is_full_table old ≡ false
+    → Runs a.graph old.bound a.order old.most y (λ os. Takes os old new) → Came a (take (k + 1) a.bound.alternatives) new
+turn_taken a parted k y old new here came room run =
+    let same : suc k ≡ k + 1 = omega arith in
+    subst (λ n. Came a (take n a.bound.alternatives) new) same
+    (turn_came a parted k y old here came room new (subst (λ b. Runs a.graph b a.order old.most y (λ os. Takes os old new)) came.bound run))
+
+-- or it was stopped
+pub turn_ended : (a : Question) → AreParted a → (k : ℕ) (y : Typed) (old new : Table) → slice_get a.bound.alternatives k ≡ Some y → Came a (take k a.bound.alternatives) old → is_full_table old ≡ false
+    → (e : AnswerRefusal) → Drains a.graph old.bound a.order y old new (Err e) → Replies a (Err e)
+turn_ended a parted k y old new here came room e h =
+    turn_stopped a parted k y old here came room new e (subst (λ b. Drains a.graph b a.order y old new (Err e)) came.bound h)

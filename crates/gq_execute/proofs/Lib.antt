@@ -1,0 +1,5 @@
+pub mod Draining
+pub mod Going
+pub mod Parting
+pub mod Replying
+pub mod Turning

@@ -1,0 +1,4 @@
+pub mod Answering
+pub mod Refusals
+pub mod Replies
+pub mod Taking

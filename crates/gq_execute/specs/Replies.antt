@@ -1,0 +1,78 @@
+-- Which replies to a query are permitted (openCypher 9 for the rows, whose order it leaves open without ORDER BY; faults,
+-- too many rows and the parts of a pattern are this project's profile).
+use Rattle.std.specs.Prelude.{◌≡◌, ℕ, ◌+◌, nat_lt, Bool, true, false, ◌&&◌, ◌||◌, Option, Some, None, List, [], ◌∷◌, length, Result, Err}
+use Rattle.std.specs.List.{Contains, list_any}
+use Rattle.std.specs.List.Sorted.{IsPermutation}
+use Rattle.gq_base.specs.Plain.{Graph}
+use Rattle.gq_base.specs.Values.{Val}
+use Rattle.gq_expr.specs.declared.Fault.{Fault}
+use Rattle.gq_answers.specs.Answered as answered
+use Rattle.gq_answers.specs.Answered.{outcomes_of}
+use Rattle.gq_plan.specs.Outcomes.{Row}
+use Rattle.gq_plan.specs.Parts.{Part, given_parts, greedy_parts, part_assignments}
+use Rattle.gq_plan.specs.declared.Bound.{Bound}
+use Rattle.gq_plan.specs.declared.Typed.{Typed}
+use Rattle.gq_rows.specs.Answers.{Answers, cut_of, kept, looked_at, rows_in}
+use Rattle.gq_syntax.specs.declared.Query.{Query}
+use Rattle.gq_execute.specs.declared.settings.Order.{Order}
+use Rattle.gq_execute.specs.declared.settings.Order.TheVariants as order
+
+-- what is asked: a query over a graph, what it is bound to, the order of the plans, and the most rows that may be kept
+pub record Question : Type 0 where
+  pub graph : Graph
+  pub query : Query
+  pub bound : Bound
+  pub order : Order
+  pub most : ℕ
+
+-- the parts of an alternative, which are joined: paths that begin apart from those before, or connected components
+abbrev pub parts_by : Order → Typed → List Part
+parts_by order.Given y = given_parts y
+parts_by order.Greedy y = greedy_parts y
+
+-- the outcomes of all matches, and those of the matches that lie in an alternative
+abbrev pub all_outcomes : Question → List (Result Row Fault)
+all_outcomes a = outcomes_of a.graph a.bound a.query
+
+abbrev pub outcomes_in : Question → Typed → List (Result Row Fault)
+outcomes_in a y = answered.outcomes_in a.graph a.bound a.query y
+
+-- an alternative's turn comes while those before it have fewer rows than are looked at
+abbrev pub has_turn : Option ℕ → ℕ → Bool
+has_turn None before = true
+has_turn (Some n) before = nat_lt before n
+
+-- some part of an alternative has more assignments than this
+unfoldable pub has_large_part : Graph → Order → ℕ → Typed → Bool
+has_large_part g order most y =
+    list_any (λ p. nat_lt most (length (part_assignments g y p))) (parts_by order y)
+
+-- this is so of an alternative whose turn comes, where so many rows stand before them
+abbrev pub some_heavy : Question → ℕ → List Typed → Bool
+some_heavy a before [] = false
+some_heavy a before (y ∷ ys) =
+    (has_turn (cut_of a.bound) before && has_large_part a.graph a.order a.most y)
+    || some_heavy a (before + length (rows_in (outcomes_in a y))) ys
+
+-- too many rows are kept of a listing, or a part has too many assignments
+abbrev pub is_too_many : Question → List (Result Row Fault) → Bool
+is_too_many a listing = nat_lt a.most (kept a.bound (rows_in listing)) || some_heavy a 0 a.bound.alternatives
+
+-- the lines of an answer, each with the values of its columns; or why there are none
+pub data Reply : Type 0 where
+  Rows : List (List Val) → Reply
+  Faulted : Fault → Reply
+  TooManyRows : Reply
+
+-- a listing permits a reply: a fault that is looked at; too many rows where that has its cause; else rows, where no outcome
+-- that is looked at is a fault
+abbrev pub Permits : Question → List (Result Row Fault) → Reply → Type 0
+Permits a listing (Faulted f) = Contains (looked_at a.bound listing) (Err f)
+Permits a listing TooManyRows = is_too_many a listing ≡ true
+Permits a listing (Rows lines) = (is_too_many a listing ≡ false) × Answers a.bound listing lines
+
+-- a reply is permitted where some listing of the outcomes permits it
+pub record IsPermitted (a : Question) (reply : Reply) : Type 0 where
+  pub listing : List (Result Row Fault)
+  pub as_a_bag : IsPermutation (all_outcomes a) listing
+  pub permits : Permits a listing reply

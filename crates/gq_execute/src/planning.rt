@@ -1,0 +1,69 @@
+//! The plan of an alternative, in the order that the settings name.
+ghost use Rattle.std.specs.Prelude.{◌≡◌, ◌<◌, length, IfOk, IsTrue};
+ghost use Rattle.std.specs.List.{AllZip, list_all};
+ghost use Rattle.gq_execute.specs.Replies.{parts_by};
+ghost use Rattle.gq_plan.specs.Covers.{Covers};
+ghost use Rattle.gq_plan.specs.Flat.{is_flat};
+ghost use Rattle.gq_plan.specs.Parts.{IsSide, sides};
+ghost use Rattle.gq_plan.specs.Soundness.{IsSound};
+ghost use Rattle.gq_plan.specs.Steps.{plan_of};
+
+use crate::settings::Order;
+use gq_base::{List, Memory};
+use gq_order::{Stats, given, greedy};
+use gq_plan::{Plan, Typed};
+use gq_store::Graph;
+use std::alloc::Global;
+
+/// How many rows the tables of a graph have.
+pub(crate) fn stats_of(alloc: Global, graph: &Graph) -> Result<Stats, Memory>
+    ensures nodes { IfOk result (λ s. length s.nodes ≡ length graph.now.catalog.nodes) }
+    ensures rels { IfOk result (λ s. length s.rels ≡ length graph.now.catalog.rels) }
+{
+    let nodes = node_counts(alloc, graph)?;
+    let rels = rel_counts(alloc, graph)?;
+    Ok(Stats { nodes, rels })
+}
+
+fn node_counts(alloc: Global, graph: &Graph) -> Result<List<u64>, Memory>
+    ensures { IfOk result (λ counts. length counts ≡ length graph.now.catalog.nodes) }
+{
+    let mut counts = List::new(alloc);
+    'tables: for table in 0..graph.catalog().node_tables() {
+        counts.push(u64::from(graph.node_count(table)))?;
+    }
+    Ok(counts)
+}
+
+fn rel_counts(alloc: Global, graph: &Graph) -> Result<List<u64>, Memory>
+    ensures { IfOk result (λ counts. length counts ≡ length graph.now.catalog.rels) }
+{
+    let mut counts = List::new(alloc);
+    'tables: for table in 0..graph.catalog().rel_tables() {
+        counts.push(u64::from(graph.rel_count(table)))?;
+    }
+    Ok(counts)
+}
+
+/// The plan of an alternative in this order. It covers the alternative, and joins one side plan without joins for each part.
+pub(crate) fn plan_for(
+    alloc: Global,
+    order: Order,
+    graph: &Graph,
+    stats: &Stats,
+    typed: &Typed,
+) -> Result<Plan, Memory>
+    requires sound { IsSound graph.now.catalog typed.now }
+    requires begins { 0 < length typed.now.nodes }
+    requires nodes { length stats.now.nodes ≡ length graph.now.catalog.nodes }
+    requires rels { length stats.now.rels ≡ length graph.now.catalog.rels }
+    ensures covers { IfOk result (λ p. Covers graph.now.catalog typed.now (plan_of p)) }
+    ensures parts { IfOk result (λ p.
+        AllZip (IsSide graph.now.catalog typed.now) (parts_by order typed.now) (sides (plan_of p))) }
+    ensures alone { IfOk result (λ p. IsTrue (list_all is_flat (sides (plan_of p)))) }
+{
+    match order {
+        Order::Given => given(alloc, typed, graph.catalog()),
+        Order::Greedy => greedy(alloc, typed, graph.catalog(), stats),
+    }
+}

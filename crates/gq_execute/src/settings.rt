@@ -1,0 +1,20 @@
+//! What an answer depends on beside the graph and the query.
+
+/// The order in which a plan takes the parts of a pattern. It changes no answer but where too many rows are kept of a
+/// part.
+#[derive(Clone, Copy, Debug, PartialEq, Eq)]
+pub enum Order {
+    /// Path by path, in text order.
+    Given,
+    /// One connected component after another, each by the sizes of the tables.
+    Greedy,
+}
+
+/// What an answer depends on beside the graph and the query.
+#[derive(Clone, Copy, Debug, PartialEq, Eq)]
+pub struct Settings {
+    /// The order of the plans.
+    pub order: Order,
+    /// The most rows that are kept, and the most assignments that a part may have.
+    pub rows: u32,
+}

@@ -1,0 +1,4 @@
+pub mod Columns
+pub mod Pieces
+pub mod Plans
+pub mod Schema

@@ -1,0 +1,9 @@
+use Rattle.std.proofs.Common.{◌≤◌, take, flat_map}
+use Rattle.gq_io.specs.Putting.{Put}
+use Rattle.gq_render.specs.Listings.{row_text}
+use Rattle.gq_render.proofs.listing.put_rows.Given as goal
+
+abbrev pub invariant-loop-row : goal.invariant-loop-row
+invariant-loop-row g l =
+    Put (g.O.Sink.taken l.initial.out) (g.O.Sink.taken l.out) l.initial.batch l.batch (flat_map (row_text l.graph) (take l.row l.listing))
+    × (g.O.Sink.faults l.initial.out ≤ g.O.Sink.faults l.out)

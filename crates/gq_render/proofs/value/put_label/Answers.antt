@@ -1,0 +1,16 @@
+use Rattle.std.proofs.Common.{refl, codes}
+use Rattle.gq_render.proofs.Sequence.{first_broke, next_broke, put_then, puts_then}
+use Rattle.gq_render.proofs.value.put_label.Goals as goal
+
+pub returns-in_err-put-clause-bytes : goal.returns-in_err-put-clause-bytes
+returns-in_err-put-clause-bytes g c = first_broke _ _ _ _ _ _ _ _ _ _ _ _ c.put.ensures.bytes c.in_err-put.was c.from_residual.ensures.1 refl
+
+pub returns-in_err-put-2-clause-bytes : goal.returns-in_err-put-2-clause-bytes
+returns-in_err-put-2-clause-bytes g c =
+    next_broke _ _ _ _ _ _ _ _ _ _ (codes " ") _ _ _ _ c.in_ok-put.ensures.bytes c.put-2.ensures.bytes c.in_err-put-2.was c.from_residual-in_err-put-2.ensures.1
+    (rw c.as_bytes.ensures.value refl)
+
+pub returns-clause-bytes : goal.returns-clause-bytes
+returns-clause-bytes g c =
+    puts_then _ _ _ _ _ _ _ _ _ _ (put_then _ _ _ _ _ _ _ _ _ c.in_ok-put.ensures.bytes c.in_ok-put-2.ensures.bytes refl) c.put-3.ensures.bytes
+    (rw c.as_bytes.ensures.value refl)

@@ -1,0 +1,18 @@
+use Rattle.std.proofs.Common.{◌-◌, ◌∙◌, ap, arith, refl, take}
+use Rattle.gq_rows.proofs.TopRows.{top-dropped, top-refused, with-row}
+use Rattle.gq_rows.proofs.held.Rows.add_first.Goals as goal
+
+pub returns-in-Err : goal.returns-in-Err
+returns-in-Err c = top-refused _ _ _ c.has_room-may.result _ _ c.add.new.self c.in-Err.refusal c.has_room-may.ensures.no c.in-Err.ensures
+
+pub returns-then-is_last_behind : goal.returns-then-is_last_behind
+returns-then-is_last_behind c =
+    let e = rw c.in-Ok-true.field-0-test at c.in-Ok-true.ensures in
+    let old = c.args.self.now in
+    let mid = c.add.new.self in
+    let new = record mid { columns = c.truncate.new.self; keys = c.truncate-then-is_last_behind.new.self; count = mid.count - 1 } in
+    with-row _ _ _ _ old new e.0.row e.0.is
+    (top-dropped _ _ _ _ old mid new e.0 (c.has_room-may.ensures.yes e.1)
+    (c.truncate.ensures.items ∙ ap (λ n. take n mid.columns.items) (c.len-columns.ensures ∙ old.columns.ok.0))
+    (c.truncate-then-is_last_behind.ensures.items ∙ ap (λ n. take n mid.keys.items) (c.len-keys.ensures ∙ old.keys.ok.0))
+    (omega (arith, e.0.count)) refl (λ lt. c.if-is_last_behind.ensures refl lt))

@@ -1,0 +1,130 @@
+//! The lines that a table of rows answers.
+ghost use Rattle.std.specs.Prelude.{◌≡◌, List, IfOk};
+ghost use Rattle.gq_plan.specs.Outcomes.{Row};
+ghost use Rattle.gq_rows.specs.Answers.{at_most, columns_of, most_listed, window};
+ghost use Rattle.gq_rows.specs.Keeping.{HoldsOf, held_of};
+ghost use Rattle.gq_rows.specs.Sorting.{ArrangesRows, ChoosesRows, HasFirsts, IsWindowOf, ListsRows};
+ghost use Rattle.gq_rows.specs.Tables.{AnswersListings, Holds, StandsForSome};
+
+use crate::held::Rows;
+use crate::listing::Listing;
+use crate::sorting::sorted;
+use crate::table::RowTable;
+use gq_base::Memory;
+use gq_plan::Bound;
+use indexmap::IndexSet;
+use std::alloc::Global;
+
+// The first rows of the classes, one row after another.
+fn first_rows<'g>(alloc: Global, rows: Rows<'g>) -> Result<Rows<'g>, Memory>
+    ensures { IfOk result (HasFirsts rows.entry) }
+{
+    let Rows {
+        columns: _,
+        keys,
+        count,
+        seen,
+        bar: _,
+    } = rows;
+    let mut columns = Vec::new(alloc);
+    'classes: for class in seen.as_slice() {
+        columns.extend_from_slice(class.as_slice())?;
+    }
+    Ok(Rows {
+        columns,
+        keys,
+        count,
+        seen: IndexSet::new(alloc),
+        bar: None,
+    })
+}
+
+// The rows of which any arrangement answers.
+fn chosen_rows<'g>(alloc: Global, bound: &Bound, rows: Rows<'g>) -> Result<Rows<'g>, Memory>
+    ensures { IfOk result (ChoosesRows bound.now rows.entry) }
+{
+    if bound.distinct {
+        return first_rows(alloc, rows);
+    }
+    Ok(rows)
+}
+
+// The rows in the order of their keys.
+fn arranged<'g>(alloc: Global, bound: &Bound, rows: Rows<'g>) -> Result<Rows<'g>, Memory>
+    ensures { IfOk result (ArrangesRows bound.now rows.entry) }
+{
+    if bound.keys.is_empty() {
+        return Ok(rows);
+    }
+    let most = rows.count;
+    let all = sorted(alloc, &rows, bound, most)?;
+    Ok(all)
+}
+
+// Where the rows end that may be listed.
+fn end_of(bound: &Bound, count: usize) -> usize
+    ensures { result ≡ at_most (most_listed bound.now) count }
+{
+    match bound.limit {
+        None => count,
+        Some(limit) => count.min(bound.skip.saturating_add(limit) as usize),
+    }
+}
+
+// The first rows dropped, and at most so many kept.
+fn window_of<'g>(bound: &Bound, rows: Rows<'g>) -> Listing<'g>
+    requires { (list : List Row) × HoldsOf bound.now list rows }
+    ensures { (list : List Row) → HoldsOf bound.now list rows.entry
+        → result ≡ columns_of (window bound.now list) }
+{
+    let Rows {
+        columns,
+        keys: _,
+        count,
+        seen: _,
+        bar: _,
+    } = rows;
+    Listing {
+        values: columns,
+        width: bound.columns.len(),
+        skip: bound.skip as usize,
+        end: end_of(bound, count),
+    }
+}
+
+// The window of an arrangement of rows.
+fn arranged_window<'g>(alloc: Global, bound: &Bound, rows: Rows<'g>) -> Result<Listing<'g>, Memory>
+    requires { (list : List Row) × HoldsOf bound.now list rows }
+    ensures { IfOk result (IsWindowOf bound.now rows.entry) }
+{
+    let all = arranged(alloc, bound, rows)?;
+    Ok(window_of(bound, all))
+}
+
+// The lines of the rows that are held.
+fn listing_of<'g>(alloc: Global, bound: &Bound, rows: Rows<'g>) -> Result<Listing<'g>, Memory>
+    requires { (list : List Row) × Holds bound.now list (held_of rows) }
+    ensures { IfOk result (ListsRows bound.now rows.entry) }
+{
+    let all = chosen_rows(alloc, bound, rows)?;
+    arranged_window(alloc, bound, all)
+}
+
+impl<'g> RowTable<'g> {
+    /// The lines that answer the listings of outcomes that the table stands for. A table that refused an assignment
+    /// stands for none.
+    pub fn finish(self) -> Result<Listing<'g>, Memory>
+        requires { StandsForSome self }
+        ensures { IfOk result (AnswersListings self.entry) }
+    {
+        let RowTable {
+            alloc,
+            bound,
+            typed: _,
+            limit: _,
+            form: _,
+            rows,
+        } = self;
+        listing_of(alloc, bound, rows)
+    }
+}

@@ -1,0 +1,135 @@
+//! The table that takes the rows of a query.
+ghost use Rattle.std.specs.Prelude.{◌≡◌, [], None, Some, IsSome, false, true};
+ghost use Rattle.gq_rows.specs.Keeping.{HasForm};
+ghost use Rattle.gq_rows.specs.Tables.{IsSameQuery, PushesRow, StandsFor, StandsForSome, is_full_table};
+
+use crate::held::{Form, Rows};
+use crate::judging::Question;
+use crate::refusal::{More, RowRefusal};
+use gq_plan::{Assignment, Bound, Typed};
+use gq_store::Graph;
+use indexmap::IndexSet;
+use std::alloc::Global;
+use std::marker::Model;
+
+/// The rows of a query as far as they may be answered. It takes the assignments of one alternative after another, and
+/// stands for the listing of their outcomes.
+///
+/// It holds all rows that are looked at; but with DISTINCT only the first row of each class, and without DISTINCT, with
+/// ORDER BY and LIMIT at most twice SKIP plus LIMIT of them.
+#[derive(Drop)]
+pub struct RowTable<'g> {
+    pub(crate) alloc: Global,
+    pub(crate) bound: &'g Bound,
+    pub(crate) typed: Option<&'g Typed>,
+    pub(crate) limit: u32,
+    pub(crate) form: Form,
+    pub(crate) rows: Rows<'g>,
+}
+
+impl<'g> Model for RowTable<'g> {
+    ghost use Rattle.std.specs.Coded.{codes};
+    ghost use Rattle.gq_expr.specs.contracts.expr.Expr as expr;
+    ghost use Rattle.gq_rows.specs.Tables.{Table};
+
+    ghost Value = { Table };
+
+    ghost coded = { Prim.hlevel (codes, expr.the_row.coded) };
+
+    ghost use Rattle.gq_rows.specs.Inner.{IsOfQuery, table_of};
+
+    ghost view = { table_of };
+
+    ghost invariant = { IsOfQuery };
+}
+
+// The form of a query.
+fn form_of(bound: &Bound) -> Form
+    ensures { HasForm bound.now result }
+{
+    if bound.distinct {
+        return Form::Classes;
+    }
+    let Some(limit) = bound.limit else {
+        return Form::All;
+    };
+    if !bound.keys.is_empty() {
+        return Form::Top(bound.skip.saturating_add(limit) as usize);
+    }
+    match bound.skip.checked_add(limit) {
+        Some(n) => Form::First(n as usize),
+        // No table holds so many rows.
+        None => Form::All,
+    }
+}
+
+impl<'g> RowTable<'g> {
+    /// A table without rows, for the rows of a query, of which at most `limit` are kept. It takes no memory.
+    pub fn new(alloc: Global, bound: &'g Bound, limit: u32) -> RowTable<'g>
+        ensures none { StandsFor bound.now limit [] result.held }
+        ensures bound { result.bound ≡ bound.now }
+        ensures most { result.most ≡ limit }
+        ensures alternative { result.alternative ≡ None }
+    {
+        RowTable {
+            alloc,
+            bound,
+            typed: None,
+            limit,
+            form: form_of(bound),
+            rows: Rows {
+                columns: Vec::new(alloc),
+                keys: Vec::new(alloc),
+                count: 0,
+                seen: IndexSet::new(alloc),
+                bar: None,
+            },
+        }
+    }
+
+    /// The assignments that follow are of this alternative. What is held stays.
+    pub fn start_alternative(&mut self, typed: &'g Typed)
+        ensures { self.new ≡ record self.old { alternative = Some typed.now } }
+    {
+        self.typed = Some(typed);
+    }
+
+    /// Takes an assignment of the alternative that was started. After a refusal the table may only be dropped.
+    ///
+    /// It refuses with the fault of the outcome, or where the kept rows would be more than the limit.
+    pub fn push_row(&mut self, row: &Assignment, graph: &'g Graph) -> Result<More, RowRefusal>
+        requires started { IsSome self.old.alternative }
+        requires stands { StandsForSome self.old }
+        requires room { is_full_table self.old ≡ false }
+        ensures pushes { PushesRow graph.now row.now self.old self.new result }
+        ensures query { IsSameQuery self.old self.new }
+    {
+        let Some(typed) = self.typed else {
+            unreachable!()
+        };
+        let question = Question {
+            graph,
+            bound: self.bound,
+            typed,
+            limit: self.limit,
+        };
+        match self.form {
+            Form::All => self.rows.push_all(&question, row),
+            Form::First(n) => self.rows.push_first(n, &question, row),
+            Form::Top(n) => self.rows.push_top(self.alloc, n, &question, row),
+            Form::Classes => self.rows.push_class(self.alloc, &question, row),
+        }
+    }
+
+    /// Whether further assignments cannot change what the table answers: with LIMIT, but neither DISTINCT nor ORDER BY,
+    /// SKIP plus LIMIT rows are held.
+    pub fn enough(&self) -> bool
+        ensures { result ≡ is_full_table self.now }
+    {
+        let count = self.rows.count;
+        match self.form {
+            Form::First(n) => count >= n,
+            Form::All | Form::Top(_) | Form::Classes => false,
+        }
+    }
+}

@@ -1,0 +1,61 @@
+//! What answers a statement, and what a reply is like.
+
+ghost use Rattle.std.specs.Prelude.{◌≡◌, List, ℕ};
+ghost use Rattle.gq_io.specs.Causes.{HasCause};
+ghost use Rattle.gq_session.specs.Replies.{Answered};
+ghost use Rattle.gq_session.specs.Tones.{worse};
+ghost use Rattle.gq_session.specs.declared.answering.Tone.{Tone};
+
+use gq_io::{Failed, Sink};
+
+/// What a reply is like, the worst last.
+#[derive(Clone, Copy, Debug, PartialEq, Eq)]
+pub enum Tone {
+    /// No refusal.
+    Good,
+    /// A refusal line.
+    Refused,
+    /// The line that says that memory ran out.
+    Memory,
+}
+
+impl Tone {
+    /// The worse of two.
+    pub fn worse(self, other: Tone) -> Tone
+        ensures { result ≡ worse self other }
+    {
+        match (self, other) {
+            (Tone::Memory, _) => Tone::Memory,
+            (_, Tone::Memory) => Tone::Memory,
+            (Tone::Refused, _) => Tone::Refused,
+            (_, second) => second,
+        }
+    }
+}
+
+/// Something that answers a statement.
+pub trait Answerer {
+    /// What each answer is lent to work in, as a pool of buffers.
+    type Workspace;
+
+    /// The replies that a statement may have, and what each is like.
+    ghost answers: { Self → List ℕ → Tone → List ℕ → Type 0 };
+
+    /// An answer can work in it.
+    ghost ready: { Self.Workspace → Type 0 };
+
+    /// Writes a reply to the statement, and says what it is like. After `Failed` some front of a reply was written.
+    fn answer<O: Sink>(
+        &self,
+        workspace: &mut Self::Workspace,
+        statement: &[u8],
+        out: &mut O,
+    ) -> Result<Tone, Failed>
+        requires { ready workspace.old }
+        ensures ready { ready workspace.new }
+        ensures bytes { Answered (answers self.now statement.now) (O.taken out.old) (O.taken out.new) result }
+        ensures cause { HasCause (O.faults out.old) (O.faults out.new) result };
+
+    /// Each statement has a reply.
+    ghost has_reply: { (a : Self) (statement : List ℕ) → (t : Tone) × (reply : List ℕ) × answers a statement t reply };
+}

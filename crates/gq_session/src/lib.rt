@@ -1,0 +1,14 @@
+//! A session: the input is cut into statements at each `;` that stands in no string, quoted name or comment, and each
+//! statement is answered. What is written does not depend on the pieces in which the input comes.
+#![tactic(auto)]
+
+mod answering;
+mod run;
+mod scan;
+
+pub use answering::{Answerer, Tone};
+pub use run::{PieceStop, Stop, session, take_piece};
+pub use scan::{Fed, Scan, State};
+
+#[cfg(test)]
+mod tests;

@@ -1,0 +1,17 @@
+use Rattle.std.proofs.Common.{inl, inr, subst}
+use Rattle.gq_shell.proofs.Replying.{refused_unbuilt}
+use Rattle.gq_syntax.specs.Outcomes.{SpelledText}
+use Rattle.gq_syntax.specs.declared.statement.Statement.TheVariants as tree
+use Rattle.gq_shell.proofs.reply.reply_to_tree.Goals as goal
+
+pub reply_to_asked-requires : goal.reply_to_asked-requires
+reply_to_asked-requires g c = subst (λ t. SpelledText c.args.statement.now t) c.in-Query.is c.requires
+
+pub reply_to_unbuilt-requires : goal.reply_to_unbuilt-requires
+reply_to_unbuilt-requires g c = inl (subst (λ t. SpelledText c.args.statement.now t) c.in-Plan.is c.requires)
+
+pub reply_to_unbuilt-requires-in-Profile : goal.reply_to_unbuilt-requires-in-Profile
+reply_to_unbuilt-requires-in-Profile g c = inr (subst (λ t. SpelledText c.args.statement.now t) c.in-Profile.is c.requires)
+
+pub returns-in-Schema : goal.returns-in-Schema
+returns-in-Schema g c = refused_unbuilt _ _ _ _ _ _ _ tree.Schema (subst (λ t. SpelledText c.args.statement.now t) c.in-Schema.is c.requires) tt c.refuse_unbuilt.ensures

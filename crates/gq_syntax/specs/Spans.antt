@@ -1,0 +1,82 @@
+-- Where the parts of a query stand in its text.
+use Rattle.std.specs.Prelude.{ℕ, ◌^◌, ◌<◌, List, [], ◌∷◌, ◌++◌, ◌⊎◌, length, flat_map, All, IfSome}
+use Rattle.gq_lexer.specs.Sources.{IsWhole}
+use Rattle.gq_lexer.specs.declared.token.Span.{Span}
+use Rattle.gq_syntax.specs.Outcomes.{SpelledText}
+use Rattle.gq_syntax.specs.declared.expression.Ast.{Ast, fold-Ast}
+use Rattle.gq_syntax.specs.declared.expression.AstNode.{AstNode}
+use Rattle.gq_syntax.specs.declared.expression.AstNode.TheVariants as e
+use Rattle.gq_syntax.specs.declared.expression.Tester.{Tester}
+use Rattle.gq_syntax.specs.declared.expression.Tester.TheVariants as tester
+use Rattle.gq_syntax.specs.declared.statement.Clause.{Clause}
+use Rattle.gq_syntax.specs.declared.statement.Entry.{Entry}
+use Rattle.gq_syntax.specs.declared.statement.Hop.{Hop}
+use Rattle.gq_syntax.specs.declared.statement.Path.{Path}
+use Rattle.gq_syntax.specs.declared.statement.Query.{Query}
+use Rattle.gq_syntax.specs.declared.statement.Statement.TheVariants as statement
+
+abbrev pub tester_spans : Tester (List Span) → List Span
+tester_spans tester.IsNull = []
+tester_spans tester.IsNotNull = []
+tester_spans (tester.Member ls) = []
+tester_spans (tester.Starts spans) = spans
+tester_spans (tester.Ends spans) = spans
+tester_spans (tester.Contains spans) = spans
+
+-- the spans of the operands of one level of an expression
+abbrev pub operand_spans : AstNode (List Span) → List Span
+operand_spans (e.Literal l) = []
+operand_spans (e.Variable name) = []
+operand_spans (e.Property name key) = []
+operand_spans (e.Call name all) = flat_map (λ spans. spans) all
+operand_spans (e.Paren spans) = spans
+operand_spans (e.Negate spans) = spans
+operand_spans (e.Plus spans) = spans
+operand_spans (e.Not spans) = spans
+operand_spans (e.Or all) = flat_map (λ spans. spans) all
+operand_spans (e.Xor all) = flat_map (λ spans. spans) all
+operand_spans (e.And all) = flat_map (λ spans. spans) all
+operand_spans (e.Compare spans terms) = spans ++ flat_map (λ t. t.tree) terms
+operand_spans (e.Test spans tests) = spans ++ flat_map tester_spans tests
+operand_spans (e.Sum spans terms) = spans ++ flat_map (λ t. t.tree) terms
+operand_spans (e.Product spans terms) = spans ++ flat_map (λ t. t.tree) terms
+
+-- the span of an expression, and those of its operands at every level
+unfoldable pub spans_of : Ast → List Span
+spans_of = fold-Ast (List Span) (λ a. a.span ∷ operand_spans a.node)
+
+module _ (text : List ℕ) where
+  -- each span of an expression begins and ends between characters
+  pub record IsWholeTree (tree : Ast) : Type 0 where
+    pub spans : All (IsWhole text) (spans_of tree)
+
+  abbrev pub IsWholeEntry : Entry → Type 0
+  IsWholeEntry entry = IsWhole text entry.value_span
+
+  pub record IsWholeHop (hop : Hop) : Type 0 where
+    pub rel : All IsWholeEntry hop.rel.map
+    pub node : All IsWholeEntry hop.node.map
+
+  pub record IsWholePath (path : Path) : Type 0 where
+    pub first : All IsWholeEntry path.first.map
+    pub hops : All IsWholeHop path.hops
+
+  pub record IsWholeClause (clause : Clause) : Type 0 where
+    pub begins : 0 < length clause.paths
+    pub paths : All IsWholePath clause.paths
+    pub filter : IfSome clause.filter IsWholeTree
+
+  -- a query has a clause, and each clause a path; its spans begin and end between characters of the text, and its
+  -- numbers are less than 2^63
+  pub record StandsIn (query : Query) : Type 0 where
+    pub begins : 0 < length query.clauses
+    pub clauses : All IsWholeClause query.clauses
+    pub items : All (λ item. IsWholeTree item.tree) query.items
+    pub order : All (λ sort. IsWholeTree sort.tree) query.order
+    pub skip : IfSome query.skip (λ n. n < 2 ^ 63)
+    pub limit : IfSome query.limit (λ n. n < 2 ^ 63)
+
+  -- a statement that the text spells has this query: by itself, or behind `:plan` or `:profile`
+  abbrev pub SpelledQuery : Query → Type 0
+  SpelledQuery query =
+      SpelledText text (statement.Query query) ⊎ (SpelledText text (statement.Plan query) ⊎ SpelledText text (statement.Profile query))
