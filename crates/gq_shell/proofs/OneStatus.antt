@@ -1,5 +1,5 @@
 -- For given words, files and input one status alone may be answered, but for a query that may have rows or a fault.
-use Rattle.std.proofs.Common.{◌≡◌, ℕ, List, [], Some, None, Ok, refl, sym, ap, ◌∙◌, subst, inl, inr}
+use Rattle.std.proofs.Common.{◌≡◌, ℕ, List, [], Some, None, Ok, Err, refl, sym, ap, ◌∙◌, subst, inl, inr}
 use Rattle.std.specs.Prelude.{◌⊎◌, Option, Result}
 use Rattle.std.specs.Io.KnownBytes.{Appends}
 use Rattle.gq_base.specs.Plain.{Graph}
@@ -10,7 +10,13 @@ use Rattle.gq_io.specs.Outside.{Names}
 use Rattle.gq_loader.specs.Limits.{standard}
 use Rattle.gq_loader.specs.Loads.{load_of}
 use Rattle.gq_loader.specs.declared.refusal.LoadRefusal.{LoadRefusal}
-use Rattle.gq_shell.specs.Claim.{IsAnswered, IsQuery, IsRefused, IsTooLong, Outside, Over, Permits, Refuses, Replies, RepliesWith, Runs, Whole, path_of}
+use Rattle.gq_syntax.proofs.Exact.{comes_statement}
+use Rattle.gq_syntax.specs.Outcomes.{SpelledText}
+use Rattle.gq_syntax.specs.declared.refusal.SyntaxRefusal.TheVariants as refusal
+use Rattle.gq_syntax.specs.declared.statement.Statement.{Statement}
+use Rattle.gq_syntax.specs.declared.statement.Statement.TheVariants as tree
+use Rattle.gq_shell.specs.Bindings.{bind_refusal}
+use Rattle.gq_shell.specs.Claim.{IsAnswered, IsNotBuilt, IsQuery, IsRefused, IsStopped, IsTooLong, IsUnbound, IsUnbuilt, IsWrong, Outside, Over, Permits, Refuses, Replies, RepliesWith, Runs, Whole, path_of, refusal_text}
 use Rattle.gq_shell.specs.Statements.{statement_of}
 use Rattle.gq_shell.specs.declared.status.Status.{Status}
 use Rattle.gq_shell.specs.declared.status.Status.TheVariants as status
@@ -38,6 +44,30 @@ module _ (words : List (List ℕ)) (files : Names) (input : List ℕ) where
       → Over words (Some files) (Some input) (λ graph input. (¬ (IsTooLong input)) × Other graph input) → ⊥
   no_length Says Other long short = short.told.2.0 long.told.2.0
 
+  -- two trees that one statement spells are one
+  same_tree : (one other : Statement) → SpelledText (statement_of input) one → SpelledText (statement_of input) other → one ≡ other
+  same_tree one other spelled spelled' = elim ((comes_statement (statement_of input) (Ok one) spelled other).1 spelled') [
+    | inl e ↦ cc e
+    | inr e ↦ cc e
+  ]
+
+  -- what asks for the tables is neither wrong, nor unbound, nor unbuilt, and no query
+  no_schema : (graph : Graph) → SpelledText (statement_of input) tree.Schema → (text : List ℕ)
+      → IsWrong (statement_of input) text ⊎ IsUnbound graph (statement_of input) text ⊎ IsNotBuilt graph (statement_of input) text ⊎ IsStopped graph (statement_of input) text → ⊥
+  no_schema graph spelled text (inl wrong) = elim ((comes_statement (statement_of input) (Err wrong.why) wrong.cause tree.Schema).1 spelled) [
+    | inl e ↦ cc e
+    | inr e ↦ (let memory : wrong.why ≡ refusal.Memory = cc e in let none : None ≡ Some text = ap refusal_text (sym memory) ∙ wrong.is in cc none)
+  ]
+  no_schema graph spelled text (inr (inl unbound)) =
+      let same : unbound.tree ≡ tree.Schema = same_tree unbound.tree tree.Schema unbound.spelled spelled in
+      let clash : None ≡ Some unbound.why = ap (λ t. bind_refusal t (statement_of input) graph.catalog) (sym same) ∙ unbound.refused in cc clash
+  no_schema graph spelled text (inr (inr (inl other))) =
+      subst (λ t. IsUnbuilt graph (statement_of input) t) (same_tree other.tree tree.Schema other.spelled spelled) other.other
+  no_schema graph spelled text (inr (inr (inr (inl (fault, replies))))) =
+      let same : tree.Query replies.query ≡ tree.Schema = same_tree (tree.Query replies.query) tree.Schema replies.asked.spelled spelled in cc same
+  no_schema graph spelled text (inr (inr (inr (inr replies)))) =
+      let same : tree.Query replies.query ≡ tree.Schema = same_tree (tree.Query replies.query) tree.Schema replies.asked.spelled spelled in cc same
+
   -- the statement of the input asks a query that is answered
   asks : (path : List ℕ) (given : path_of words ≡ Some path) (graph : Graph) (loads : load_of path files standard ≡ Ok graph) (lines : List (List Val)) (text : List ℕ)
       → RepliesWith graph (statement_of input) (Rows lines) text → IsQuery words files input
@@ -47,7 +77,8 @@ module _ (words : List (List ℕ)) (files : Names) (input : List ℕ) where
   both_replies : (path : List ℕ) (given : path_of words ≡ Some path) (graph : Graph) (loads : load_of path files standard ≡ Ok graph) (text text' : List ℕ)
       → Replies graph (statement_of input) text → IsRefused graph (statement_of input) text' → IsQuery words files input
   both_replies path given graph loads text text' (inl blank) refused = absurd (refused.written blank.0)
-  both_replies path given graph loads text text' (inr (lines, replies)) refused = asks path given graph loads lines text replies
+  both_replies path given graph loads text text' (inr (inl (spelled, is))) refused = absurd (no_schema graph spelled text' refused.why)
+  both_replies path given graph loads text text' (inr (inr (lines, replies))) refused = asks path given graph loads lines text replies
 
   -- the statement was answered and refused
   both_answers : (text text' : List ℕ) → Permits words (Some files) (Some input) status.Ended text → Permits words (Some files) (Some input) status.Refused text' → IsQuery words files input

@@ -5,6 +5,7 @@ use Rattle.gq_base.specs.Catalogs.{Tables}
 use Rattle.gq_base.specs.Plain.{Graph}
 use Rattle.gq_base.specs.Values.{Val}
 use Rattle.gq_binder.specs.Binding.{Answers, IsBound}
+use Rattle.gq_explain.specs.Schema.{schema_text}
 use Rattle.gq_expr.specs.declared.Fault.{Fault}
 use Rattle.gq_binder.specs.Refusals.{first_refusal}
 use Rattle.gq_binder.specs.declared.refusal.BindRefusal.{BindRefusal}
@@ -173,7 +174,7 @@ module _ (graph : Graph) (statement : List ℕ) (query : Query) (bound : Bound) 
   stopped text h = record { written = not_blank statement (tree.Query query) asked.spelled; why = inr (inr (inr h)) }
 
   may_reply : (answer : Status) (text : List ℕ) → MayAsk graph query bound answer text → MayReply graph statement answer text
-  may_reply status.Ended text (lines, permitted, is) = inr (lines, replies_with (Rows lines) text permitted is)
+  may_reply status.Ended text (lines, permitted, is) = inr (inr (lines, replies_with (Rows lines) text permitted is))
   may_reply status.Refused text (inl (f, permitted, is)) = stopped text (inl (f, replies_with (Faulted f) text permitted is))
   may_reply status.Refused text (inr (permitted, is)) = stopped text (inr (replies_with TooManyRows text permitted is))
   may_reply status.Usage text may = absurd may
@@ -208,6 +209,23 @@ finishes_as May Might go old new before now status.Usage (text, may, moved) = (t
 finishes_as May Might go old new before now status.NotLoaded (text, may, moved) = (text, go status.NotLoaded text may, moved)
 finishes_as May Might go old new before now status.ReadFault (text, may, moved) = (text, go status.ReadFault text may, moved)
 finishes_as May Might go old new before now status.TooLong (text, may, moved) = (text, go status.TooLong text may, moved)
+
+-- ---- the tables of the graph
+
+module _ (graph : Graph) (statement : List ℕ) (spelled : SpelledText statement tree.Schema) where
+  may_show : (s : Status) (text : List ℕ) → MayList (schema_text graph) s text → MayReply graph statement s text
+  may_show status.Ended text is = inr (inl (spelled, is))
+  may_show status.Refused text is = absurd is
+  may_show status.Usage text is = absurd is
+  may_show status.NotLoaded text is = absurd is
+  may_show status.ReadFault text is = absurd is
+  may_show status.WriteFault text is = absurd is
+  may_show status.Memory text is = absurd is
+  may_show status.TooLong text is = absurd is
+
+  pub shown : (old new : Option (List ℕ)) (before now : ℕ) (answer : Status)
+      → Finishes (MayList (schema_text graph)) old new before now answer → Finishes (MayReply graph statement) old new before now answer
+  shown old new before now answer = finishes_as _ _ may_show old new before now answer
 
 module _ (graph : Graph) (query : Query) (bound : Bound) (old new : Option (List ℕ)) (before now : ℕ) (answer : Status) where
   abbrev Asking : Type 0

@@ -57,7 +57,7 @@ abbrev pub EndsBind : BindRefusal → Option (List ℕ) → Option (List ℕ) �
 EndsBind bind.Memory old new before now answer = Keeps old new × (answer ≡ status.Memory)
 EndsBind e old new before now answer = Finishes (MayRefuse (bind_line e)) old new before now answer
 
--- the rows of a query, by this text
+-- what is listed, by this text: the rows of a query, or the tables of the graph
 abbrev pub MayList : List ℕ → Status → List ℕ → Type 0
 MayList listed status.Ended text = text ≡ listed
 MayList listed answer text = ⊥

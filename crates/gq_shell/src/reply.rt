@@ -1,9 +1,10 @@
 //! The reply to the statement of an input over a loaded graph.
 
 ghost use Rattle.std.specs.Prelude.{◌≤◌, ◌++◌, length, codes, decimal};
+ghost use Rattle.gq_explain.specs.Schema.{schema_text};
 ghost use Rattle.gq_render.specs.Texts.{line};
 ghost use Rattle.gq_shell.specs.BindLines.{bind_line};
-ghost use Rattle.gq_shell.specs.Steps.{EndsBind, Finishes, IsUnbuiltForm, MayAnswer, MayRefuse, MayReply};
+ghost use Rattle.gq_shell.specs.Steps.{EndsBind, Finishes, IsUnbuiltForm, MayAnswer, MayList, MayRefuse, MayReply};
 ghost use Rattle.gq_syntax.specs.Outcomes.{SpelledText};
 ghost use Rattle.gq_syntax.specs.declared.statement.Statement.TheVariants as tree;
 
@@ -13,6 +14,7 @@ use crate::query::reply_to_query;
 use crate::status::Status;
 use gq_base::Memory;
 use gq_binder::{BindRefusal, bind, refusal_of};
+use gq_explain::write_schema;
 use gq_io::{Failed, Sink, write_all};
 use gq_render::{Place, write_refusal};
 use gq_store::Graph;
@@ -27,6 +29,16 @@ fn refuse_unbuilt<O: Sink>(out: &mut O) -> Status
 {
     match write_all(out, b"error: NotBuilt\n") {
         Ok(()) => Status::Refused,
+        Err(Failed) => Status::WriteFault,
+    }
+}
+
+// Writes the tables of the graph.
+fn list_tables<O: Sink>(out: &mut O, graph: &Graph) -> Status
+    ensures { Finishes (MayList (schema_text graph.now)) (O.taken out.old) (O.taken out.new) (O.faults out.old) (O.faults out.new) result }
+{
+    match write_schema(out, graph) {
+        Ok(()) => Status::Ended,
         Err(Failed) => Status::WriteFault,
     }
 }
@@ -117,7 +129,7 @@ fn reply_to_tree<O: Sink>(
         Statement::Query(query) => reply_to_asked(alloc, out, graph, statement, query),
         Statement::Plan(query) => reply_to_unbuilt(alloc, out, graph, statement, query),
         Statement::Profile(query) => reply_to_unbuilt(alloc, out, graph, statement, query),
-        Statement::Schema => refuse_unbuilt(out),
+        Statement::Schema => list_tables(out, graph),
     }
 }
 
