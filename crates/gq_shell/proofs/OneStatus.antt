@@ -13,6 +13,7 @@ use Rattle.gq_loader.specs.declared.refusal.LoadRefusal.{LoadRefusal}
 use Rattle.gq_syntax.proofs.Exact.{comes_statement}
 use Rattle.gq_syntax.specs.Outcomes.{SpelledText}
 use Rattle.gq_syntax.specs.declared.refusal.SyntaxRefusal.TheVariants as refusal
+use Rattle.gq_syntax.specs.declared.statement.Query.{Query}
 use Rattle.gq_syntax.specs.declared.statement.Statement.{Statement}
 use Rattle.gq_syntax.specs.declared.statement.Statement.TheVariants as tree
 use Rattle.gq_shell.specs.Bindings.{bind_refusal}
@@ -51,22 +52,29 @@ module _ (words : List (List ℕ)) (files : Names) (input : List ℕ) where
     | inr e ↦ cc e
   ]
 
-  -- what asks for the tables is neither wrong, nor unbound, nor unbuilt, and no query
-  no_schema : (graph : Graph) → SpelledText (statement_of input) tree.Schema → (text : List ℕ)
-      → IsWrong (statement_of input) text ⊎ IsUnbound graph (statement_of input) text ⊎ IsNotBuilt graph (statement_of input) text ⊎ IsStopped graph (statement_of input) text → ⊥
-  no_schema graph spelled text (inl wrong) = elim ((comes_statement (statement_of input) (Err wrong.why) wrong.cause tree.Schema).1 spelled) [
-    | inl e ↦ cc e
-    | inr e ↦ (let memory : wrong.why ≡ refusal.Memory = cc e in let none : None ≡ Some text = ap refusal_text (sym memory) ∙ wrong.is in cc none)
-  ]
-  no_schema graph spelled text (inr (inl unbound)) =
-      let same : unbound.tree ≡ tree.Schema = same_tree unbound.tree tree.Schema unbound.spelled spelled in
-      let clash : None ≡ Some unbound.why = ap (λ t. bind_refusal t (statement_of input) graph.catalog) (sym same) ∙ unbound.refused in cc clash
-  no_schema graph spelled text (inr (inr (inl other))) =
-      subst (λ t. IsUnbuilt graph (statement_of input) t) (same_tree other.tree tree.Schema other.spelled spelled) other.other
-  no_schema graph spelled text (inr (inr (inr (inl (fault, replies))))) =
-      let same : tree.Query replies.query ≡ tree.Schema = same_tree (tree.Query replies.query) tree.Schema replies.asked.spelled spelled in cc same
-  no_schema graph spelled text (inr (inr (inr (inr replies)))) =
-      let same : tree.Query replies.query ≡ tree.Schema = same_tree (tree.Query replies.query) tree.Schema replies.asked.spelled spelled in cc same
+  abbrev Refused : Graph → List ℕ → Type 0
+  Refused graph text = IsWrong (statement_of input) text ⊎ IsUnbound graph (statement_of input) text
+      ⊎ IsNotBuilt graph (statement_of input) text ⊎ IsStopped graph (statement_of input) text
+
+  -- a statement that is bound, is built and asks no query is not refused
+  module _ (graph : Graph) (form : Statement) (spelled : SpelledText (statement_of input) form)
+      (bound : bind_refusal form (statement_of input) graph.catalog ≡ None)
+      (built : ¬ (IsUnbuilt graph (statement_of input) form)) (other : (query : Query) → ¬ (tree.Query query ≡ form)) where
+    no_query : (query : Query) → SpelledText (statement_of input) (tree.Query query) → ⊥
+    no_query query asked = other query (same_tree (tree.Query query) form asked spelled)
+
+    no_refusal : (text : List ℕ) → Refused graph text → ⊥
+    no_refusal text (inl wrong) = elim ((comes_statement (statement_of input) (Err wrong.why) wrong.cause form).1 spelled) [
+      | inl e ↦ cc e
+      | inr e ↦ (let memory : wrong.why ≡ refusal.Memory = cc e in let none : None ≡ Some text = ap refusal_text (sym memory) ∙ wrong.is in cc none)
+    ]
+    no_refusal text (inr (inl unbound)) =
+        let same : unbound.tree ≡ form = same_tree unbound.tree form unbound.spelled spelled in
+        let clash : None ≡ Some unbound.why = sym bound ∙ ap (λ t. bind_refusal t (statement_of input) graph.catalog) (sym same) ∙ unbound.refused in cc clash
+    no_refusal text (inr (inr (inl unbuilt))) =
+        built (subst (λ t. IsUnbuilt graph (statement_of input) t) (same_tree unbuilt.tree form unbuilt.spelled spelled) unbuilt.other)
+    no_refusal text (inr (inr (inr (inl (fault, replies))))) = no_query replies.query replies.asked.spelled
+    no_refusal text (inr (inr (inr (inr replies)))) = no_query replies.query replies.asked.spelled
 
   -- the statement of the input asks a query that is answered
   asks : (path : List ℕ) (given : path_of words ≡ Some path) (graph : Graph) (loads : load_of path files standard ≡ Ok graph) (lines : List (List Val)) (text : List ℕ)
@@ -77,8 +85,11 @@ module _ (words : List (List ℕ)) (files : Names) (input : List ℕ) where
   both_replies : (path : List ℕ) (given : path_of words ≡ Some path) (graph : Graph) (loads : load_of path files standard ≡ Ok graph) (text text' : List ℕ)
       → Replies graph (statement_of input) text → IsRefused graph (statement_of input) text' → IsQuery words files input
   both_replies path given graph loads text text' (inl blank) refused = absurd (refused.written blank.0)
-  both_replies path given graph loads text text' (inr (inl (spelled, is))) refused = absurd (no_schema graph spelled text' refused.why)
-  both_replies path given graph loads text text' (inr (inr (lines, replies))) refused = asks path given graph loads lines text replies
+  both_replies path given graph loads text text' (inr (inl (spelled, is))) refused =
+      absurd (no_refusal graph tree.Schema spelled refl (λ unbuilt. unbuilt) (λ query same. cc same) text' refused.why)
+  both_replies path given graph loads text text' (inr (inr (inl shows))) refused =
+      absurd (no_refusal graph (tree.Plan shows.query) shows.spelled shows.binds.accepted (λ unbuilt. unbuilt) (λ query same. cc same) text' refused.why)
+  both_replies path given graph loads text text' (inr (inr (inr (lines, replies)))) refused = asks path given graph loads lines text replies
 
   -- the statement was answered and refused
   both_answers : (text text' : List ℕ) → Permits words (Some files) (Some input) status.Ended text → Permits words (Some files) (Some input) status.Refused text' → IsQuery words files input
