@@ -1,4 +1,5 @@
 pub mod Answering
+pub mod Planned
 pub mod Refusals
 pub mod Replies
 pub mod Taking

@@ -7,5 +7,6 @@ mod refusal;
 mod settings;
 
 pub use answering::answer;
+pub use planning::plans;
 pub use refusal::AnswerRefusal;
 pub use settings::{Order, Settings};

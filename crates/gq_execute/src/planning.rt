@@ -1,6 +1,7 @@
-//! The plan of an alternative, in the order that the settings name.
-ghost use Rattle.std.specs.Prelude.{◌≡◌, ◌<◌, length, IfOk, IsTrue};
+//! The plans of alternatives, in the order that the settings name.
+ghost use Rattle.std.specs.Prelude.{◌≡◌, ◌<◌, length, map, All, IfOk, IsTrue};
 ghost use Rattle.std.specs.List.{AllZip, list_all};
+ghost use Rattle.gq_execute.specs.Planned.{plan_in, plans_in, sizes};
 ghost use Rattle.gq_execute.specs.Replies.{parts_by};
 ghost use Rattle.gq_plan.specs.Covers.{Covers};
 ghost use Rattle.gq_plan.specs.Flat.{is_flat};
@@ -11,7 +12,7 @@ ghost use Rattle.gq_plan.specs.Steps.{plan_of};
 use crate::settings::Order;
 use gq_base::{List, Memory};
 use gq_order::{Stats, given, greedy};
-use gq_plan::{Plan, Typed};
+use gq_plan::{Bound, Plan, Typed};
 use gq_store::Graph;
 use std::alloc::Global;
 
@@ -19,6 +20,7 @@ use std::alloc::Global;
 pub(crate) fn stats_of(alloc: Global, graph: &Graph) -> Result<Stats, Memory>
     ensures nodes { IfOk result (λ s. length s.nodes ≡ length graph.now.catalog.nodes) }
     ensures rels { IfOk result (λ s. length s.rels ≡ length graph.now.catalog.rels) }
+    ensures sizes { IfOk result (λ s. s ≡ sizes graph.now) }
 {
     let nodes = node_counts(alloc, graph)?;
     let rels = rel_counts(alloc, graph)?;
@@ -26,7 +28,7 @@ pub(crate) fn stats_of(alloc: Global, graph: &Graph) -> Result<Stats, Memory>
 }
 
 fn node_counts(alloc: Global, graph: &Graph) -> Result<List<u64>, Memory>
-    ensures { IfOk result (λ counts. length counts ≡ length graph.now.catalog.nodes) }
+    ensures { IfOk result (λ counts. counts ≡ (sizes graph.now).nodes) }
 {
     let mut counts = List::new(alloc);
     'tables: for table in 0..graph.catalog().node_tables() {
@@ -36,7 +38,7 @@ fn node_counts(alloc: Global, graph: &Graph) -> Result<List<u64>, Memory>
 }
 
 fn rel_counts(alloc: Global, graph: &Graph) -> Result<List<u64>, Memory>
-    ensures { IfOk result (λ counts. length counts ≡ length graph.now.catalog.rels) }
+    ensures { IfOk result (λ counts. counts ≡ (sizes graph.now).rels) }
 {
     let mut counts = List::new(alloc);
     'tables: for table in 0..graph.catalog().rel_tables() {
@@ -61,9 +63,32 @@ pub(crate) fn plan_for(
     ensures parts { IfOk result (λ p.
         AllZip (IsSide graph.now.catalog typed.now) (parts_by order typed.now) (sides (plan_of p))) }
     ensures alone { IfOk result (λ p. IsTrue (list_all is_flat (sides (plan_of p)))) }
+    ensures plan { IfOk result (λ p.
+        plan_of p ≡ plan_in order graph.now.catalog stats.now typed.now) }
 {
     match order {
         Order::Given => given(alloc, typed, graph.catalog()),
         Order::Greedy => greedy(alloc, typed, graph.catalog(), stats),
     }
+}
+
+/// The plan of each alternative of a bound query, in this order and by the sizes of the graph's tables: the plans by which
+/// `answer` takes the alternatives. After `Memory` there is none.
+pub fn plans(
+    alloc: Global,
+    graph: &Graph,
+    bound: &Bound,
+    order: Order,
+) -> Result<List<Plan>, Memory>
+    requires sound { All (IsSound graph.now.catalog) bound.now.alternatives }
+    requires begins { All (λ y. 0 < length y.nodes) bound.now.alternatives }
+    ensures { IfOk result (λ plans.
+        map plan_of plans ≡ plans_in order graph.now bound.now.alternatives) }
+{
+    let stats = stats_of(alloc, graph)?;
+    let mut plans = List::new(alloc);
+    'alternatives: for typed in bound.alternatives.as_slice() {
+        plans.push(plan_for(alloc, order, graph, &stats, typed)?)?;
+    }
+    Ok(plans)
 }

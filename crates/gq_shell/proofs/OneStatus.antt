@@ -1,5 +1,5 @@
 -- For given words, files and input one status alone may be answered, but for a query that may have rows or a fault.
-use Rattle.std.proofs.Common.{◌≡◌, ℕ, List, [], Some, None, Ok, refl, sym, ap, ◌∙◌, subst, inl, inr}
+use Rattle.std.proofs.Common.{◌≡◌, ℕ, List, [], Some, None, Ok, Err, refl, sym, ap, ◌∙◌, subst, inl, inr}
 use Rattle.std.specs.Prelude.{◌⊎◌, Option, Result}
 use Rattle.std.specs.Io.KnownBytes.{Appends}
 use Rattle.gq_base.specs.Plain.{Graph}
@@ -10,7 +10,14 @@ use Rattle.gq_io.specs.Outside.{Names}
 use Rattle.gq_loader.specs.Limits.{standard}
 use Rattle.gq_loader.specs.Loads.{load_of}
 use Rattle.gq_loader.specs.declared.refusal.LoadRefusal.{LoadRefusal}
-use Rattle.gq_shell.specs.Claim.{IsAnswered, IsQuery, IsRefused, IsTooLong, Outside, Over, Permits, Refuses, Replies, RepliesWith, Runs, Whole, path_of}
+use Rattle.gq_syntax.proofs.Exact.{comes_statement}
+use Rattle.gq_syntax.specs.Outcomes.{SpelledText}
+use Rattle.gq_syntax.specs.declared.refusal.SyntaxRefusal.TheVariants as refusal
+use Rattle.gq_syntax.specs.declared.statement.Query.{Query}
+use Rattle.gq_syntax.specs.declared.statement.Statement.{Statement}
+use Rattle.gq_syntax.specs.declared.statement.Statement.TheVariants as tree
+use Rattle.gq_shell.specs.Bindings.{bind_refusal}
+use Rattle.gq_shell.specs.Claim.{IsAnswered, IsNotBuilt, IsQuery, IsRefused, IsStopped, IsTooLong, IsUnbound, IsUnbuilt, IsWrong, Outside, Over, Permits, Refuses, Replies, RepliesWith, Runs, Whole, path_of, refusal_text}
 use Rattle.gq_shell.specs.Statements.{statement_of}
 use Rattle.gq_shell.specs.declared.status.Status.{Status}
 use Rattle.gq_shell.specs.declared.status.Status.TheVariants as status
@@ -38,6 +45,37 @@ module _ (words : List (List ℕ)) (files : Names) (input : List ℕ) where
       → Over words (Some files) (Some input) (λ graph input. (¬ (IsTooLong input)) × Other graph input) → ⊥
   no_length Says Other long short = short.told.2.0 long.told.2.0
 
+  -- two trees that one statement spells are one
+  same_tree : (one other : Statement) → SpelledText (statement_of input) one → SpelledText (statement_of input) other → one ≡ other
+  same_tree one other spelled spelled' = elim ((comes_statement (statement_of input) (Ok one) spelled other).1 spelled') [
+    | inl e ↦ cc e
+    | inr e ↦ cc e
+  ]
+
+  abbrev Refused : Graph → List ℕ → Type 0
+  Refused graph text = IsWrong (statement_of input) text ⊎ IsUnbound graph (statement_of input) text
+      ⊎ IsNotBuilt graph (statement_of input) text ⊎ IsStopped graph (statement_of input) text
+
+  -- a statement that is bound, is built and asks no query is not refused
+  module _ (graph : Graph) (form : Statement) (spelled : SpelledText (statement_of input) form)
+      (bound : bind_refusal form (statement_of input) graph.catalog ≡ None)
+      (built : ¬ (IsUnbuilt graph (statement_of input) form)) (other : (query : Query) → ¬ (tree.Query query ≡ form)) where
+    no_query : (query : Query) → SpelledText (statement_of input) (tree.Query query) → ⊥
+    no_query query asked = other query (same_tree (tree.Query query) form asked spelled)
+
+    no_refusal : (text : List ℕ) → Refused graph text → ⊥
+    no_refusal text (inl wrong) = elim ((comes_statement (statement_of input) (Err wrong.why) wrong.cause form).1 spelled) [
+      | inl e ↦ cc e
+      | inr e ↦ (let memory : wrong.why ≡ refusal.Memory = cc e in let none : None ≡ Some text = ap refusal_text (sym memory) ∙ wrong.is in cc none)
+    ]
+    no_refusal text (inr (inl unbound)) =
+        let same : unbound.tree ≡ form = same_tree unbound.tree form unbound.spelled spelled in
+        let clash : None ≡ Some unbound.why = sym bound ∙ ap (λ t. bind_refusal t (statement_of input) graph.catalog) (sym same) ∙ unbound.refused in cc clash
+    no_refusal text (inr (inr (inl unbuilt))) =
+        built (subst (λ t. IsUnbuilt graph (statement_of input) t) (same_tree unbuilt.tree form unbuilt.spelled spelled) unbuilt.other)
+    no_refusal text (inr (inr (inr (inl (fault, replies))))) = no_query replies.query replies.asked.spelled
+    no_refusal text (inr (inr (inr (inr replies)))) = no_query replies.query replies.asked.spelled
+
   -- the statement of the input asks a query that is answered
   asks : (path : List ℕ) (given : path_of words ≡ Some path) (graph : Graph) (loads : load_of path files standard ≡ Ok graph) (lines : List (List Val)) (text : List ℕ)
       → RepliesWith graph (statement_of input) (Rows lines) text → IsQuery words files input
@@ -47,7 +85,11 @@ module _ (words : List (List ℕ)) (files : Names) (input : List ℕ) where
   both_replies : (path : List ℕ) (given : path_of words ≡ Some path) (graph : Graph) (loads : load_of path files standard ≡ Ok graph) (text text' : List ℕ)
       → Replies graph (statement_of input) text → IsRefused graph (statement_of input) text' → IsQuery words files input
   both_replies path given graph loads text text' (inl blank) refused = absurd (refused.written blank.0)
-  both_replies path given graph loads text text' (inr (lines, replies)) refused = asks path given graph loads lines text replies
+  both_replies path given graph loads text text' (inr (inl (spelled, is))) refused =
+      absurd (no_refusal graph tree.Schema spelled refl (λ unbuilt. unbuilt) (λ query same. cc same) text' refused.why)
+  both_replies path given graph loads text text' (inr (inr (inl shows))) refused =
+      absurd (no_refusal graph (tree.Plan shows.query) shows.spelled shows.binds.accepted (λ unbuilt. unbuilt) (λ query same. cc same) text' refused.why)
+  both_replies path given graph loads text text' (inr (inr (inr (lines, replies)))) refused = asks path given graph loads lines text replies
 
   -- the statement was answered and refused
   both_answers : (text text' : List ℕ) → Permits words (Some files) (Some input) status.Ended text → Permits words (Some files) (Some input) status.Refused text' → IsQuery words files input

@@ -1,18 +1,26 @@
 -- From the answers to a statement to the answers to its input.
-use Rattle.std.proofs.Common.{◌≡◌, ℕ, ◌≤◌, List, [], ◌∷◌, length, Some, None, Ok, Err, refl, sym, ap, ◌∙◌, subst, append-nil, arith, inl, inr}
+use Rattle.std.proofs.Common.{◌≡◌, ℕ, ◌≤◌, List, [], ◌∷◌, length, map, suc, Some, Ok, Err, refl, sym, ap, ◌∙◌, subst, append-nil, arith, inl, inr}
+use Rattle.std.proofs.lemmas.List.{length-map}
 use Rattle.std.specs.Prelude.{◌<◌, All, Option, ◌++◌, codes, decimal}
 use Rattle.gq_base.specs.Catalogs.{Tables}
 use Rattle.gq_base.specs.Plain.{Graph}
 use Rattle.gq_base.specs.Values.{Val}
 use Rattle.gq_binder.specs.Binding.{Answers, IsBound}
+use Rattle.gq_explain.specs.Plans.{plan_text}
+use Rattle.gq_explain.specs.Schema.{schema_text}
 use Rattle.gq_expr.specs.declared.Fault.{Fault}
 use Rattle.gq_binder.specs.Refusals.{first_refusal}
 use Rattle.gq_binder.specs.declared.refusal.BindRefusal.{BindRefusal}
 use Rattle.gq_binder.specs.declared.refusal.BindRefusal.TheVariants as bind
+use Rattle.gq_execute.specs.Planned.{plans_in}
+use Rattle.gq_execute.specs.declared.settings.Order.TheVariants as order
 use Rattle.gq_execute.specs.Replies.{Reply, Rows, Faulted, TooManyRows, IsPermitted}
 use Rattle.gq_lexer.specs.Tokens.{Lexed, lexed}
 use Rattle.gq_lexer.specs.declared.token.Token.{Token}
+use Rattle.gq_plan.specs.Steps.{plan_of}
 use Rattle.gq_plan.specs.declared.Bound.{Bound}
+use Rattle.gq_plan.specs.declared.Plan as code_plan
+use Rattle.gq_plan.specs.declared.typed.Typed.{Typed}
 use Rattle.gq_render.specs.Texts.{line, refusal_line}
 use Rattle.gq_syntax.specs.Grammar.{Clauses, SpelledStatement}
 use Rattle.gq_syntax.specs.Outcomes.{Cause, DepthAt, SpelledText, SyntaxAt, TooDeep}
@@ -25,9 +33,9 @@ use Rattle.gq_syntax.specs.declared.statement.Statement.TheVariants as tree
 use Rattle.gq_shell.specs.BindLines.{bind_line}
 use Rattle.gq_shell.specs.Bindings.{bind_refusal}
 use Rattle.gq_shell.specs.Claim.{IsAsked, IsRefused, IsStopped, IsTooLong, IsUnbuilt, RepliesWith, question, refusal_text}
-use Rattle.gq_shell.specs.ReplyTexts.{fault_text, many_text, reply_text}
+use Rattle.gq_shell.specs.ReplyTexts.{columns_each, fault_text, many_text, reply_text}
 use Rattle.gq_shell.specs.Statements.{IsBlank, statement_of}
-use Rattle.gq_shell.specs.Steps.{EndsBind, Finishes, IsUnbuiltForm, MayAnswer, MayAsk, MayList, MayRefuse, MayReply}
+use Rattle.gq_shell.specs.Steps.{EndsBind, Finishes, MayAnswer, MayAsk, MayList, MayRefuse, MayReply, MayShow}
 use Rattle.gq_shell.specs.declared.status.Status.{Status}
 use Rattle.gq_shell.specs.declared.status.Status.TheVariants as status
 
@@ -154,15 +162,6 @@ module _ (graph : Graph) (statement : List ℕ) (old new : Option (List ℕ)) (b
         why = inr (inr (inl (record { tree = spelled; spelled = is; other = other; is = same })));
       }) old new before now answer
 
-  -- a statement that asks for plans or for a profile
-  pub form_unbound : (query : Query) (why : BindRefusal) → IsUnbuiltForm statement query → first_refusal query statement graph.catalog ≡ Some why → Refusing (bind_line why) → Replying
-  form_unbound query why (inl is) refused h = refused_unbound (tree.Plan query) why is refused h
-  form_unbound query why (inr is) refused h = refused_unbound (tree.Profile query) why is refused h
-
-  pub form_unbuilt : (query : Query) → IsUnbuiltForm statement query → first_refusal query statement graph.catalog ≡ None → Refusing (line (codes "error: NotBuilt")) → Replying
-  form_unbuilt query (inl is) none h = refused_unbuilt (tree.Plan query) is none h
-  form_unbuilt query (inr is) none h = refused_unbuilt (tree.Profile query) is none h
-
 -- ---- queries
 
 module _ (graph : Graph) (statement : List ℕ) (query : Query) (bound : Bound) (asked : IsAsked graph statement query bound) where
@@ -173,7 +172,7 @@ module _ (graph : Graph) (statement : List ℕ) (query : Query) (bound : Bound) 
   stopped text h = record { written = not_blank statement (tree.Query query) asked.spelled; why = inr (inr (inr h)) }
 
   may_reply : (answer : Status) (text : List ℕ) → MayAsk graph query bound answer text → MayReply graph statement answer text
-  may_reply status.Ended text (lines, permitted, is) = inr (lines, replies_with (Rows lines) text permitted is)
+  may_reply status.Ended text (lines, permitted, is) = inr (inr (inr (lines, replies_with (Rows lines) text permitted is)))
   may_reply status.Refused text (inl (f, permitted, is)) = stopped text (inl (f, replies_with (Faulted f) text permitted is))
   may_reply status.Refused text (inr (permitted, is)) = stopped text (inr (replies_with TooManyRows text permitted is))
   may_reply status.Usage text may = absurd may
@@ -208,6 +207,66 @@ finishes_as May Might go old new before now status.Usage (text, may, moved) = (t
 finishes_as May Might go old new before now status.NotLoaded (text, may, moved) = (text, go status.NotLoaded text may, moved)
 finishes_as May Might go old new before now status.ReadFault (text, may, moved) = (text, go status.ReadFault text may, moved)
 finishes_as May Might go old new before now status.TooLong (text, may, moved) = (text, go status.TooLong text may, moved)
+
+-- ---- the tables of the graph
+
+module _ (graph : Graph) (statement : List ℕ) (spelled : SpelledText statement tree.Schema) where
+  may_show : (s : Status) (text : List ℕ) → MayList (schema_text graph) s text → MayReply graph statement s text
+  may_show status.Ended text is = inr (inl (spelled, is))
+  may_show status.Refused text is = absurd is
+  may_show status.Usage text is = absurd is
+  may_show status.NotLoaded text is = absurd is
+  may_show status.ReadFault text is = absurd is
+  may_show status.WriteFault text is = absurd is
+  may_show status.Memory text is = absurd is
+  may_show status.TooLong text is = absurd is
+
+  pub shown : (old new : Option (List ℕ)) (before now : ℕ) (answer : Status)
+      → Finishes (MayList (schema_text graph)) old new before now answer → Finishes (MayReply graph statement) old new before now answer
+  shown old new before now answer = finishes_as _ _ may_show old new before now answer
+
+-- ---- the plans of a query
+
+module _ (graph : Graph) (statement : List ℕ) (query : Query) (bound : Bound) (spelled : SpelledText statement (tree.Plan query)) (binds : IsBound query statement graph.catalog bound) where
+  may_plan : (s : Status) (text : List ℕ) → MayShow graph bound s text → MayReply graph statement s text
+  may_plan status.Ended text is = inr (inr (inl (record { query = query; bound = bound; spelled = spelled; binds = binds; is = is })))
+  may_plan status.Refused text is = absurd is
+  may_plan status.Usage text is = absurd is
+  may_plan status.NotLoaded text is = absurd is
+  may_plan status.ReadFault text is = absurd is
+  may_plan status.WriteFault text is = absurd is
+  may_plan status.Memory text is = absurd is
+  may_plan status.TooLong text is = absurd is
+
+  pub planned : (old new : Option (List ℕ)) (before now : ℕ) (answer : Status)
+      → Finishes (MayShow graph bound) old new before now answer → Finishes (MayReply graph statement) old new before now answer
+  planned old new before now answer = finishes_as _ _ may_plan old new before now answer
+
+-- plans that were listed are those of the greedy order
+module _ (graph : Graph) (bound : Bound) (plans : List code_plan.Plan) (are : map plan_of plans ≡ plans_in order.Greedy graph bound.alternatives) where
+  may_list_plans : (s : Status) (text : List ℕ) → MayList (plan_text bound graph.catalog plans (columns_each bound.alternatives plans)) s text → MayShow graph bound s text
+  may_list_plans status.Ended text is = record { plans = plans; are = are; is = is }
+  may_list_plans status.Refused text is = absurd is
+  may_list_plans status.Usage text is = absurd is
+  may_list_plans status.NotLoaded text is = absurd is
+  may_list_plans status.ReadFault text is = absurd is
+  may_list_plans status.WriteFault text is = absurd is
+  may_list_plans status.Memory text is = absurd is
+  may_list_plans status.TooLong text is = absurd is
+
+  pub listed_plans : (old new : Option (List ℕ)) (before now : ℕ) (answer : Status)
+      → Finishes (MayList (plan_text bound graph.catalog plans (columns_each bound.alternatives plans))) old new before now answer → Finishes (MayShow graph bound) old new before now answer
+  listed_plans old new before now answer = finishes_as _ _ may_list_plans old new before now answer
+
+  -- there is one for each alternative
+  pub as_many : length plans ≡ length bound.alternatives
+  as_many = sym (length-map plans plan_of) ∙ ap length are ∙ length-map bound.alternatives _
+
+-- as many numbers of columns as alternatives
+pub columns_long : (ys : List Typed) (ps : List code_plan.Plan) → length ps ≡ length ys → length (columns_each ys ps) ≡ length ys
+columns_long [] ps same = refl
+columns_long (y ∷ ys) [] same = cc
+columns_long (y ∷ ys) (p ∷ ps) same = let less : length ps ≡ length ys = omega (arith, same) in ap suc (columns_long ys ps less)
 
 module _ (graph : Graph) (query : Query) (bound : Bound) (old new : Option (List ℕ)) (before now : ℕ) (answer : Status) where
   abbrev Asking : Type 0
@@ -246,20 +305,20 @@ module _ (graph : Graph) (query : Query) (bound : Bound) (old new : Option (List
 pub begun : (query : Query) (text : List ℕ) (catalog : Tables) (bound : Bound) → IsBound query text catalog bound → All (λ y. 0 < length y.nodes) bound.alternatives
 begun query text catalog bound is = λ k d lt. omega (arith, is.has_node, is.node_counts k d lt)
 
--- a query that is not bound
-module _ (graph : Graph) (statement : List ℕ) (query : Query) (spelled : SpelledText statement (tree.Query query)) (old new : Option (List ℕ)) (before now : ℕ) (answer : Status) where
+-- a query that is not bound, in a statement of this form
+module _ (graph : Graph) (statement : List ℕ) (query : Query) (form : Statement) (spelled : SpelledText statement form) (of : bind_refusal form statement graph.catalog ≡ first_refusal query statement graph.catalog) (old new : Option (List ℕ)) (before now : ℕ) (answer : Status) where
   pub ended_bind : (e : BindRefusal) → Answers query statement graph.catalog (Err e) → EndsBind e old new before now answer → Finishes (MayReply graph statement) old new before now answer
   ended_bind bind.Memory refused (kept, is) = rw is kept
-  ended_bind (bind.UnknownVariable name) refused h = refused_unbound graph statement old new before now answer (tree.Query query) (bind.UnknownVariable name) spelled refused h
-  ended_bind (bind.VariableConflict name) refused h = refused_unbound graph statement old new before now answer (tree.Query query) (bind.VariableConflict name) spelled refused h
-  ended_bind (bind.RelationshipRepeated name) refused h = refused_unbound graph statement old new before now answer (tree.Query query) (bind.RelationshipRepeated name) spelled refused h
-  ended_bind (bind.ColumnRepeated name) refused h = refused_unbound graph statement old new before now answer (tree.Query query) (bind.ColumnRepeated name) spelled refused h
-  ended_bind (bind.AmbiguousOrderName name) refused h = refused_unbound graph statement old new before now answer (tree.Query query) (bind.AmbiguousOrderName name) spelled refused h
-  ended_bind (bind.UnknownFunction name) refused h = refused_unbound graph statement old new before now answer (tree.Query query) (bind.UnknownFunction name) spelled refused h
-  ended_bind (bind.ArgumentCount name) refused h = refused_unbound graph statement old new before now answer (tree.Query query) (bind.ArgumentCount name) spelled refused h
-  ended_bind (bind.OrderOutOfScope item) refused h = refused_unbound graph statement old new before now answer (tree.Query query) (bind.OrderOutOfScope item) spelled refused h
-  ended_bind bind.NothingToReturn refused h = refused_unbound graph statement old new before now answer (tree.Query query) bind.NothingToReturn spelled refused h
-  ended_bind bind.TooManyPatterns refused h = refused_unbound graph statement old new before now answer (tree.Query query) bind.TooManyPatterns spelled refused h
-  ended_bind bind.TooManyReads refused h = refused_unbound graph statement old new before now answer (tree.Query query) bind.TooManyReads spelled refused h
-  ended_bind bind.TooManyColumns refused h = refused_unbound graph statement old new before now answer (tree.Query query) bind.TooManyColumns spelled refused h
-  ended_bind bind.TooManyAlternatives refused h = refused_unbound graph statement old new before now answer (tree.Query query) bind.TooManyAlternatives spelled refused h
+  ended_bind (bind.UnknownVariable name) refused h = refused_unbound graph statement old new before now answer form (bind.UnknownVariable name) spelled (of ∙ refused) h
+  ended_bind (bind.VariableConflict name) refused h = refused_unbound graph statement old new before now answer form (bind.VariableConflict name) spelled (of ∙ refused) h
+  ended_bind (bind.RelationshipRepeated name) refused h = refused_unbound graph statement old new before now answer form (bind.RelationshipRepeated name) spelled (of ∙ refused) h
+  ended_bind (bind.ColumnRepeated name) refused h = refused_unbound graph statement old new before now answer form (bind.ColumnRepeated name) spelled (of ∙ refused) h
+  ended_bind (bind.AmbiguousOrderName name) refused h = refused_unbound graph statement old new before now answer form (bind.AmbiguousOrderName name) spelled (of ∙ refused) h
+  ended_bind (bind.UnknownFunction name) refused h = refused_unbound graph statement old new before now answer form (bind.UnknownFunction name) spelled (of ∙ refused) h
+  ended_bind (bind.ArgumentCount name) refused h = refused_unbound graph statement old new before now answer form (bind.ArgumentCount name) spelled (of ∙ refused) h
+  ended_bind (bind.OrderOutOfScope item) refused h = refused_unbound graph statement old new before now answer form (bind.OrderOutOfScope item) spelled (of ∙ refused) h
+  ended_bind bind.NothingToReturn refused h = refused_unbound graph statement old new before now answer form bind.NothingToReturn spelled (of ∙ refused) h
+  ended_bind bind.TooManyPatterns refused h = refused_unbound graph statement old new before now answer form bind.TooManyPatterns spelled (of ∙ refused) h
+  ended_bind bind.TooManyReads refused h = refused_unbound graph statement old new before now answer form bind.TooManyReads spelled (of ∙ refused) h
+  ended_bind bind.TooManyColumns refused h = refused_unbound graph statement old new before now answer form bind.TooManyColumns spelled (of ∙ refused) h
+  ended_bind bind.TooManyAlternatives refused h = refused_unbound graph statement old new before now answer form bind.TooManyAlternatives spelled (of ∙ refused) h

@@ -1,6 +1,7 @@
 -- The claim of `run`: which status the program answers for its words, the files and its input, and what it writes.
 -- It rests on `load_of` (which graph the files give), `IsBound` (what a query stands for over it), `IsPermitted` (which rows,
--- or which refusal, openCypher permits), `reply_text` and `load_line` (how a reply is spelled), `statement_of` (the statement),
+-- or which refusal, openCypher permits), `reply_text`, `schema_text`, `IsPlanText` and `load_line` (how a reply is spelled), `statement_of`
+-- (the statement),
 -- `SpelledText` and `Cause` (the tree that its tokens spell, or where they go wrong), and `bind_refusal` and `bind_line` (why a
 -- query cannot be bound).
 use Rattle.std.specs.Prelude.{◌≡◌, ◌≢◌, ◌⊎◌, ℕ, ◌<◌, ◌≤◌, List, [], ◌∷◌, ◌++◌, length, codes, decimal, Option, Some, None, Result, Ok, Err, IfSome, if◌then◌else◌}
@@ -13,6 +14,7 @@ use Rattle.gq_binder.specs.Refusals.{first_refusal}
 use Rattle.gq_binder.specs.declared.refusal.BindRefusal.{BindRefusal}
 use Rattle.gq_execute.specs.Replies.{Question, Reply, Rows, Faulted, TooManyRows, IsPermitted}
 use Rattle.gq_execute.specs.declared.settings.Order.TheVariants as order
+use Rattle.gq_explain.specs.Schema.{schema_text}
 use Rattle.gq_expr.specs.declared.Fault.{Fault}
 use Rattle.gq_io.specs.Causes.{Rose}
 use Rattle.gq_io.specs.Outside.{AppendsFront, Names}
@@ -25,7 +27,7 @@ use Rattle.gq_render.specs.Texts.{line}
 use Rattle.gq_shell.specs.BindLines.{bind_line}
 use Rattle.gq_shell.specs.Bindings.{bind_refusal}
 use Rattle.gq_shell.specs.LoadLines.{load_line}
-use Rattle.gq_shell.specs.ReplyTexts.{most_rows, reply_text}
+use Rattle.gq_shell.specs.ReplyTexts.{IsPlanText, most_rows, reply_text}
 use Rattle.gq_shell.specs.Statements.{IsBlank, statement_of}
 use Rattle.gq_syntax.specs.Outcomes.{Cause, SpelledText}
 use Rattle.gq_syntax.specs.declared.refusal.SyntaxRefusal.{SyntaxRefusal}
@@ -66,10 +68,21 @@ pub record RepliesWith (graph : Graph) (statement : List ℕ) (reply : Reply) (t
   pub permitted : IsPermitted (question graph query bound) reply
   pub is : text ≡ reply_text graph bound reply
 
--- a statement's reply: none to white space and comments alone, rows to a query
+-- the plans of a query: a statement asks for them, it is bound over the graph, and this is their text
+pub record ShowsPlans (graph : Graph) (statement text : List ℕ) : Type 0 where
+  pub query : Query
+  pub bound : Bound
+  pub spelled : SpelledText statement (tree.Plan query)
+  pub binds : IsBound query statement graph.catalog bound
+  pub is : IsPlanText graph bound text
+
+-- a statement's reply: none to white space and comments alone, the graph's tables to `:schema`, plans to `:plan`, rows to
+-- a query
 abbrev pub Replies : Graph → List ℕ → List ℕ → Type 0
 Replies graph statement text =
     (IsBlank statement × (text ≡ []))
+    ⊎ (SpelledText statement tree.Schema × (text ≡ schema_text graph))
+    ⊎ ShowsPlans graph statement text
     ⊎ ((lines : List (List Val)) × RepliesWith graph statement (Rows lines) text)
 
 -- the line of a statement that is no text, has no tokens, or is spelled by no statement within the allowed nesting, with the
@@ -94,11 +107,11 @@ pub record IsUnbound (graph : Graph) (statement text : List ℕ) : Type 0 where
   pub refused : bind_refusal tree statement graph.catalog ≡ Some why
   pub is : text ≡ bind_line why
 
--- what is not built yet: the catalogue, the plans and the profile, which `:schema`, `:plan` and `:profile` ask for
+-- what is not built yet: the profile of a query, which `:profile` asks for
 abbrev pub IsUnbuilt : Graph → List ℕ → Statement → Type 0
 IsUnbuilt graph text (tree.Query query) = ⊥
-IsUnbuilt graph text tree.Schema = Unit {0}
-IsUnbuilt graph text (tree.Plan query) = first_refusal query text graph.catalog ≡ None
+IsUnbuilt graph text tree.Schema = ⊥
+IsUnbuilt graph text (tree.Plan query) = ⊥
 IsUnbuilt graph text (tree.Profile query) = first_refusal query text graph.catalog ≡ None
 
 -- the statement is right and its query, if it has one, is bound, but it is not built

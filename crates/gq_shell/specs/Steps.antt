@@ -17,13 +17,11 @@ use Rattle.gq_render.specs.Texts.{line}
 use Rattle.gq_shell.specs.BindLines.{bind_line}
 use Rattle.gq_shell.specs.Claim.{IsRefused, IsTooLong, Replies, question}
 use Rattle.gq_shell.specs.LoadLines.{load_line}
-use Rattle.gq_shell.specs.ReplyTexts.{reply_text}
+use Rattle.gq_shell.specs.ReplyTexts.{IsPlanText, reply_text}
 use Rattle.gq_shell.specs.Statements.{statement_of}
 use Rattle.gq_shell.specs.declared.status.Status.{Status}
 use Rattle.gq_shell.specs.declared.status.Status.TheVariants as status
-use Rattle.gq_syntax.specs.Outcomes.{SpelledText}
 use Rattle.gq_syntax.specs.declared.statement.Query.{Query}
-use Rattle.gq_syntax.specs.declared.statement.Statement.TheVariants as tree
 
 -- a permitted answer was written whole, or a front of one was and the sink failed, or nothing was for want of memory
 abbrev pub Finishes : (Status → List ℕ → Type 0) → Option (List ℕ) → Option (List ℕ) → ℕ → ℕ → Status → Type 0
@@ -57,7 +55,7 @@ abbrev pub EndsBind : BindRefusal → Option (List ℕ) → Option (List ℕ) �
 EndsBind bind.Memory old new before now answer = Keeps old new × (answer ≡ status.Memory)
 EndsBind e old new before now answer = Finishes (MayRefuse (bind_line e)) old new before now answer
 
--- the rows of a query, by this text
+-- what is listed, by this text: rows, tables or plans
 abbrev pub MayList : List ℕ → Status → List ℕ → Type 0
 MayList listed status.Ended text = text ≡ listed
 MayList listed answer text = ⊥
@@ -77,9 +75,10 @@ Asks graph bound old new before now answer =
     (query : Query) (statement : List ℕ) → IsBound query statement graph.catalog bound
     → Finishes (MayAsk graph query bound) old new before now answer
 
--- a statement asks for the plans or for the profile of a query
-abbrev pub IsUnbuiltForm : List ℕ → Query → Type 0
-IsUnbuiltForm statement query = SpelledText statement (tree.Plan query) ⊎ SpelledText statement (tree.Profile query)
+-- the plans of a query that is bound, by their text
+abbrev pub MayShow : Graph → Bound → Status → List ℕ → Type 0
+MayShow graph bound status.Ended text = IsPlanText graph bound text
+MayShow graph bound answer text = ⊥
 
 -- the answers to a statement over a graph
 abbrev pub MayReply : Graph → List ℕ → Status → List ℕ → Type 0

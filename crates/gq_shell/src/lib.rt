@@ -4,6 +4,7 @@
 mod bind_line;
 mod input;
 mod load_line;
+mod plans;
 mod program;
 mod query;
 mod reply;

@@ -1,18 +1,21 @@
 //! The reply to the statement of an input over a loaded graph.
 
 ghost use Rattle.std.specs.Prelude.{◌≤◌, ◌++◌, length, codes, decimal};
+ghost use Rattle.gq_explain.specs.Schema.{schema_text};
 ghost use Rattle.gq_render.specs.Texts.{line};
 ghost use Rattle.gq_shell.specs.BindLines.{bind_line};
-ghost use Rattle.gq_shell.specs.Steps.{EndsBind, Finishes, IsUnbuiltForm, MayAnswer, MayRefuse, MayReply};
+ghost use Rattle.gq_shell.specs.Steps.{EndsBind, Finishes, MayAnswer, MayList, MayRefuse, MayReply};
 ghost use Rattle.gq_syntax.specs.Outcomes.{SpelledText};
 ghost use Rattle.gq_syntax.specs.declared.statement.Statement.TheVariants as tree;
 
 use crate::bind_line::write_bind_refusal;
 use crate::input::{is_blank, statement_of};
+use crate::plans::reply_to_plan;
 use crate::query::reply_to_query;
 use crate::status::Status;
 use gq_base::Memory;
 use gq_binder::{BindRefusal, bind, refusal_of};
+use gq_explain::write_schema;
 use gq_io::{Failed, Sink, write_all};
 use gq_render::{Place, write_refusal};
 use gq_store::Graph;
@@ -27,6 +30,16 @@ fn refuse_unbuilt<O: Sink>(out: &mut O) -> Status
 {
     match write_all(out, b"error: NotBuilt\n") {
         Ok(()) => Status::Refused,
+        Err(Failed) => Status::WriteFault,
+    }
+}
+
+// Writes the tables of the graph.
+fn list_tables<O: Sink>(out: &mut O, graph: &Graph) -> Status
+    ensures { Finishes (MayList (schema_text graph.now)) (O.taken out.old) (O.taken out.new) (O.faults out.old) (O.faults out.new) result }
+{
+    match write_schema(out, graph) {
+        Ok(()) => Status::Ended,
         Err(Failed) => Status::WriteFault,
     }
 }
@@ -82,7 +95,25 @@ fn reply_to_asked<O: Sink>(
     }
 }
 
-// Replies to a statement that is not built, unless its query cannot be bound.
+// Replies to a statement that asks for the plans of a query.
+fn reply_to_planned<O: Sink>(
+    alloc: Global,
+    out: &mut O,
+    graph: &Graph,
+    statement: &[u8],
+    query: &Query,
+) -> Status
+    requires { SpelledText statement.now (tree.Plan query.now) }
+    ensures { Finishes (MayReply graph.now statement.now) (O.taken out.old) (O.taken out.new)
+        (O.faults out.old) (O.faults out.new) result }
+{
+    match bind(alloc, query, statement, graph.catalog()) {
+        Ok(bound) => reply_to_plan(alloc, out, graph, &bound),
+        Err(refusal) => end_bind(out, &refusal),
+    }
+}
+
+// Replies to a statement that asks for the profile of a query, which is not built, unless the query cannot be bound.
 fn reply_to_unbuilt<O: Sink>(
     alloc: Global,
     out: &mut O,
@@ -90,7 +121,7 @@ fn reply_to_unbuilt<O: Sink>(
     statement: &[u8],
     query: &Query,
 ) -> Status
-    requires { IsUnbuiltForm statement.now query.now }
+    requires { SpelledText statement.now (tree.Profile query.now) }
     ensures { Finishes (MayReply graph.now statement.now) (O.taken out.old) (O.taken out.new)
         (O.faults out.old) (O.faults out.new) result }
 {
@@ -115,9 +146,9 @@ fn reply_to_tree<O: Sink>(
 {
     match tree {
         Statement::Query(query) => reply_to_asked(alloc, out, graph, statement, query),
-        Statement::Plan(query) => reply_to_unbuilt(alloc, out, graph, statement, query),
+        Statement::Plan(query) => reply_to_planned(alloc, out, graph, statement, query),
         Statement::Profile(query) => reply_to_unbuilt(alloc, out, graph, statement, query),
-        Statement::Schema => refuse_unbuilt(out),
+        Statement::Schema => list_tables(out, graph),
     }
 }
 

@@ -1,5 +1,7 @@
-use Rattle.std.proofs.Common.{◌≡◌, length}
+use Rattle.std.proofs.Common.{◌≡◌, length, map}
+use Rattle.std.specs.List.{range_with_len}
+use Rattle.gq_store.specs.Neighbours.{rels_at}
 use Rattle.gq_execute.proofs.planning.rel_counts.Given as goal
 
 abbrev pub invariant-tables : goal.invariant-tables
-invariant-tables l = length l.counts ≡ l.table
+invariant-tables l = l.counts ≡ map (λ table. length (rels_at l.graph table)) (range_with_len 0 l.table)

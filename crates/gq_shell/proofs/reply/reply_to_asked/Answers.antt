@@ -1,6 +1,7 @@
-use Rattle.std.proofs.Common.{Err, inl, subst}
+use Rattle.std.proofs.Common.{Err, inl, refl, subst}
 use Rattle.gq_binder.specs.Binding.{Answers}
 use Rattle.gq_shell.proofs.Replying.{asked_reply, begun, ended_bind}
+use Rattle.gq_syntax.specs.declared.statement.Statement.TheVariants as tree
 use Rattle.gq_shell.proofs.reply.reply_to_asked.Goals as goal
 
 pub bind-requires : goal.bind-requires
@@ -17,4 +18,4 @@ returns-in-Ok g c =
 pub returns-in-Err : goal.returns-in-Err
 returns-in-Err g c =
     let refused = subst (λ catalog. Answers c.args.query.now c.args.statement.now catalog (Err c.in-Err.refusal)) c.catalog.ensures.value c.in-Err.ensures in
-    ended_bind _ _ c.args.query.now c.requires _ _ _ _ _ c.in-Err.refusal refused c.end_bind.ensures
+    ended_bind _ _ c.args.query.now (tree.Query c.args.query.now) c.requires refl _ _ _ _ _ c.in-Err.refusal refused c.end_bind.ensures

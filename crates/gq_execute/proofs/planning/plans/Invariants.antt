@@ -1,0 +1,10 @@
+use Rattle.std.proofs.Common.{◌≡◌, map, take}
+use Rattle.gq_plan.specs.Steps.{plan_of}
+use Rattle.gq_execute.specs.Planned.{plan_in, sizes}
+use Rattle.gq_execute.proofs.planning.plans.Given as goal
+
+abbrev pub invariant-alternatives : goal.invariant-alternatives
+invariant-alternatives l = record {
+  stats : l.stats ≡ sizes l.graph;
+  plans : map plan_of l.plans ≡ map (plan_in l.order l.graph.catalog l.stats) (take l.typed-index l.bound.alternatives);
+}
