@@ -1,0 +1,61 @@
+#!/usr/bin/env python3
+"""Tells what a run of `rt ci` takes, crate by crate, in processor seconds: proof, tests and edits.
+
+    rt ci --anew & bench/gate.py $!
+
+looks once a second at the processes that the run starts, until it ends, and prints the table of docs/gate.md."""
+import collections
+import os
+import re
+import sys
+import time
+
+
+def running(parent):
+    """The run's children: each with its number, start, processor seconds, folder and words."""
+    tick = os.sysconf("SC_CLK_TCK")
+    for number in filter(str.isdigit, os.listdir("/proc")):
+        try:
+            with open(f"/proc/{number}/stat", encoding="utf8") as file:
+                fields = file.read().rsplit(")", 1)[1].split()
+            if int(fields[1]) != parent:
+                continue
+            with open(f"/proc/{number}/cmdline", encoding="utf8") as file:
+                words = file.read().split("\0")
+            folder = os.readlink(f"/proc/{number}/cwd")
+        except (OSError, ValueError):
+            continue
+        if any(words):
+            yield (number, fields[19]), (int(fields[11]) + int(fields[12])) / tick, folder, words
+
+
+def kind(folder, words):
+    """The crate that a process works on and the column that it counts for, or nothing."""
+    name = re.search(r"--crate-name (\S+)", " ".join(words))
+    if not name:
+        return None
+    if "/rt-edit-" in folder:
+        return name[1], "edits"
+    return name[1], "tests" if "--test" in words else "proof"
+
+
+def main():
+    run = int(sys.argv[1])
+    seen = {}
+    while os.path.exists(f"/proc/{run}"):
+        for process, seconds, folder, words in running(run):
+            place = kind(folder, words)
+            if place:
+                seen[process] = (place, seconds)
+        time.sleep(1)
+    table = collections.Counter()
+    for place, seconds in seen.values():
+        table[place] += seconds
+    columns = ("proof", "tests", "edits")
+    print("| crate | proof | tests | edits |\n|---|---|---|---|")
+    for crate in sorted({crate for crate, _ in table}):
+        print(f"| `{crate}` | " + " | ".join(f"{table[crate, c]:,.0f}" if table[crate, c] else "" for c in columns) + " |")
+    print("| all | " + " | ".join(f"{sum(table[p] for p in table if p[1] == c):,.0f}" for c in columns) + " |")
+
+
+main()
