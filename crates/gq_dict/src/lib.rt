@@ -40,7 +40,18 @@ impl Dict {
         ensures ascending { IfOk result IsAscending }
         ensures same { IfOk result (λ dict. (text : List ℕ) → Contains dict text ↔ Contains texts.now text) }
     {
-        let mut sorted = borrowed(alloc, texts.as_slice())?;
+        Dict::of_borrowed(alloc, borrowed(alloc, texts.as_slice())?)
+    }
+
+    /// The dictionary of borrowed texts, in which each stands once. Each distinct text is copied once.
+    pub fn of_borrowed(alloc: Global, texts: Vec<&str>) -> Result<Dict, Memory>
+        requires { length texts.items < 2 ^ 32 }
+        ensures few { IfOk result (λ dict. length dict < 2 ^ 32) }
+        ensures ascending { IfOk result IsAscending }
+        ensures same { IfOk result (λ dict. (text : List ℕ) →
+            Contains dict text ↔ Contains (map (λ text. text.now) texts.entry.items) text) }
+    {
+        let mut sorted = texts;
         sorted.sort_unstable();
         let distinct = distinct_of(alloc, sorted.as_slice())?;
         Ok(Dict { texts: distinct })
