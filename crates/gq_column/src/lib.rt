@@ -38,7 +38,7 @@ impl Column {
     {
         let flags = flags_of(alloc, cells)?;
         let present = BitList::from_bools(alloc, flags.as_slice())?;
-        let kept = kept_cells(alloc, cells)?;
+        let kept = kept_cells(alloc, cells, present.ones() as usize + 1)?;
         Ok(Column { present, kept })
     }
 
@@ -181,11 +181,11 @@ fn flags_of(alloc: Global, cells: &[Option<i64>]) -> Result<Vec<bool>, Memory>
     Ok(cells.iter().map(|cell| cell.is_some()).collect(alloc)?)
 }
 
-// The cells that are not null, and a 0.
-fn kept_cells(alloc: Global, cells: &[Option<i64>]) -> Result<Vec<i64>, Memory>
+// The cells that are not null, and a 0. Room for so many is made at once, so that none is left over.
+fn kept_cells(alloc: Global, cells: &[Option<i64>], room: usize) -> Result<Vec<i64>, Memory>
     ensures { IfOk result (λ kept. kept.items ≡ (kept_of cells.now ++ (pos 0 ∷ []))) }
 {
-    let mut kept = Vec::new(alloc);
+    let mut kept = Vec::with_capacity(alloc, room)?;
     for cell in cells {
         if let Some(value) = cell {
             kept.push(*value)?;
