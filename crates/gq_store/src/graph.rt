@@ -1,21 +1,27 @@
 //! A graph as queries read it.
-ghost use Rattle.std.specs.Prelude.{◌≡◌, ◌≢◌, ◌+◌, ◌<◌, ◌≤◌, ◌^◌, true, false, length, slice_get, All, IfOk, IfSome, Some, None};
+ghost use Rattle.std.specs.Prelude.{◌≡◌, ◌≢◌, ℕ, ◌+◌, ◌<◌, ◌≤◌, ◌^◌, true, false, List, length, slice_get, All, IfOk, IfSome, Some, None};
 ghost use Rattle.gq_adj.specs.Adjacent.{targets};
 ghost use Rattle.gq_base.specs.Plain.{cell_val};
 ghost use Rattle.gq_base.specs.Valid.{is_valid, row_count};
 ghost use Rattle.gq_base.specs.Values.{val};
 ghost use Rattle.gq_base.specs.declared.Mult.TheVariants.{ManyMany};
 ghost use Rattle.gq_store.specs.Cells.{node_cell, node_fields, rel_cell, rel_fields};
+ghost use Rattle.gq_store.specs.Columns.{AreCells, IsDictOf, node_cells};
+ghost use Rattle.gq_store.specs.Kept.{AreNodesKept};
 ghost use Rattle.gq_store.specs.Neighbours.{is_listed, mult_at, near_ends, near_rows, neighbours, numbers, opposite, rels_at};
 ghost use Rattle.gq_store.specs.Places.{by_source, first_number, number_at};
 ghost use Rattle.gq_store.specs.Stored.{AreLinked, IsLinked, IsSide};
 
 use crate::direction::Direction;
 use crate::links::{Links, Places, Side, links_of};
-use gq_base::{Catalog, Memory, Value, cell_value};
+use crate::property::NodeCells;
+use gq_base::{Catalog, List, Memory, PlainRel, Value, cell_value};
+use gq_column::Column;
+use gq_dict::Dict;
 use gq_plain::PlainGraph;
 use std::alloc::Global;
 use std::marker::Model;
+use std::snapshot::Snapshot;
 
 /// A valid plain graph and, for each relationship table, the neighbours of each row in both directions and the places of
 /// the relationships. It is seen as that plain graph.
@@ -26,7 +32,11 @@ use std::marker::Model;
 /// sources and, for each source, of load numbers.
 #[derive(Drop)]
 pub struct Graph {
+    // The plain graph that this one stands for, for contracts alone: it has no bytes.
+    of: Snapshot<PlainGraph>,
+    // What is left of it: the catalogue and the relationships.
     plain: PlainGraph,
+    nodes: Vec<NodeCells>,
     links: Vec<Links>,
 }
 
@@ -37,11 +47,11 @@ impl Model for Graph {
 
     ghost Value = { Plain };
 
-    ghost use Rattle.gq_store.specs.Stored.{AreLinked};
+    ghost use Rattle.gq_store.specs.Kept.{IsStored};
 
-    ghost view = { λ g. g.plain };
+    ghost view = { λ g. g.of.value };
 
-    ghost invariant = { λ g. (is_valid g.plain ≡ true) × AreLinked g.plain g.links.items };
+    ghost invariant = { λ g. IsStored g.of.value g.plain g.nodes.items g.links.items };
 }
 
 impl Graph {
@@ -51,8 +61,16 @@ impl Graph {
         requires { is_valid plain ≡ true }
         ensures { IfOk result (λ graph. graph ≡ plain) }
     {
+        let of = Snapshot::of(&plain);
         let links = all_links(alloc, &plain)?;
-        Ok(Graph { plain, links })
+        let mut plain = plain;
+        let nodes = all_nodes(alloc, &mut plain)?;
+        Ok(Graph {
+            of,
+            plain,
+            nodes,
+            links,
+        })
     }
 
     /// The tables with their fields.
@@ -69,7 +87,7 @@ impl Graph {
         requires { table < length self.now.catalog.nodes }
         ensures { result ≡ row_count self.now.nodes table }
     {
-        self.plain.node_rows(table).len() as u32
+        self.nodes[table as usize].rows
     }
 
     /// How many relationships a relationship table has.
@@ -77,7 +95,7 @@ impl Graph {
         requires { rel < length self.now.catalog.rels }
         ensures { result ≡ length (rels_at self.now rel) }
     {
-        self.plain.rel_rows(rel).len() as u32
+        self.rels(rel).len() as u32
     }
 
     /// Whether a row may have many relationships of a table in a direction. It is false forward where a source has one at
@@ -157,7 +175,7 @@ impl Graph {
         requires number { number < length (rels_at self.now rel) }
         ensures { number_at self.now rel result ≡ Some number }
     {
-        let found = &self.plain.rel_rows(rel)[number as usize];
+        let found = &self.rels(rel)[number as usize];
         match &self.links(rel).places {
             Places::Sources => found.source,
             Places::Targets => found.target,
@@ -172,8 +190,27 @@ impl Graph {
         requires row { row < row_count self.now.nodes table }
         ensures { val result ≡ cell_val (node_cell self.now table property row) }
     {
-        let cells = self.plain.node_rows(table)[row as usize].as_slice();
-        cell_value(&cells[property as usize])
+        self.nodes[table as usize].properties[property as usize].value(row)
+    }
+
+    /// The cells of a property of a node table, row by row: an integer is itself, a boolean 0 or 1, a text its code in
+    /// `node_dict`.
+    pub fn node_column(&self, table: u32, property: u32) -> &Column
+        requires within { table < length self.now.catalog.nodes }
+        requires property { property < length (node_fields self.now table) }
+        ensures { (dict : List (List ℕ)) → IsDictOf (node_cells self.now table property) dict →
+            AreCells dict (node_cells self.now table property) result.now }
+    {
+        self.nodes[table as usize].properties[property as usize].column()
+    }
+
+    /// The texts of a property of a node table, each once, ascending by bytes.
+    pub fn node_dict(&self, table: u32, property: u32) -> &Dict
+        requires within { table < length self.now.catalog.nodes }
+        requires property { property < length (node_fields self.now table) }
+        ensures { IsDictOf (node_cells self.now table property) result.now }
+    {
+        self.nodes[table as usize].properties[property as usize].dict()
     }
 
     /// The value of a property of the relationship with a load number, by the property's place in its table: null where
@@ -184,9 +221,18 @@ impl Graph {
         requires number { number < length (rels_at self.now rel) }
         ensures { val result ≡ cell_val (rel_cell self.now rel property number) }
     {
-        let found = &self.plain.rel_rows(rel)[number as usize];
+        let found = &self.rels(rel)[number as usize];
         let cells = found.cells.as_slice();
         cell_value(&cells[property as usize])
+    }
+
+    // The relationships of a table.
+    fn rels(&self, rel: u32) -> &[PlainRel]
+        requires { rel < length self.now.catalog.rels }
+        ensures valid { is_valid self.now ≡ true }
+        ensures rels { slice_get self.now.rels rel ≡ Some result.now }
+    {
+        self.plain.rel_rows(rel)
     }
 
     // How the relationships of a table are kept.
@@ -304,6 +350,23 @@ fn all_links(alloc: Global, plain: &PlainGraph) -> Result<Vec<Links>, Memory>
     let mut all = Vec::with_capacity(alloc, tables as usize)?;
     for rel in 0..tables {
         all.push(links_of(alloc, plain, rel)?)?;
+    }
+    Ok(all)
+}
+
+// The cells of each node table. The rows of a table are dropped as soon as its cells are kept.
+fn all_nodes(alloc: Global, plain: &mut PlainGraph) -> Result<Vec<NodeCells>, Memory>
+    requires { is_valid plain.old ≡ true }
+    ensures cells { IfOk result (λ all. AreNodesKept plain.old all.items) }
+    ensures catalog { plain.new.catalog ≡ plain.old.catalog }
+    ensures rels { plain.new.rels ≡ plain.old.rels }
+{
+    let tables = plain.catalog().node_tables();
+    let mut all = Vec::with_capacity(alloc, tables as usize)?;
+    for table in 0..tables {
+        let fields = plain.catalog().node_table(table).fields.as_slice();
+        all.push(NodeCells::build(alloc, fields, plain.node_rows(table))?)?;
+        plain.set_node_rows(table, List::new(alloc));
     }
     Ok(all)
 }
