@@ -59,6 +59,13 @@ impl PlainGraph {
         &self.catalog
     }
 
+    /// The catalogue alone. The rows are dropped.
+    pub fn into_catalog(self) -> Catalog
+        ensures { result ≡ self.catalog }
+    {
+        self.catalog
+    }
+
     /// The rows of a node table, in load order.
     pub fn node_rows(&self, table: u32) -> &[Row]
         requires { table < length self.now.nodes }
