@@ -1,20 +1,24 @@
 -- How the cells of tables are kept, property by property.
 use Rattle.std.proofs.Common.{◌≡◌, ◌≢◌, ℕ, zero, suc, ◌+◌, ◌<◌, ◌≤◌, List, [], ◌∷◌, ◌++◌, Some, None, Option, true, length, get_or, map, take, refl, sym, ap, ◌∙◌, subst, arith, inl, inr, Bor}
-use Rattle.std.specs.Prelude.{All, slice_get}
+use Rattle.std.specs.Prelude.{◌&&◌, All, IfSome, nat_lt, slice_get}
 use Rattle.std.specs.List.{list_all}
 use Rattle.std.proofs.lemmas.Bool.{cases_lt}
 use Rattle.std.proofs.lemmas.List.{map-append, take_more, get_or_append_left, get_or-append-add, length_push, get_or-map, length-map, length-set}
 use Rattle.std.proofs.Math.ListN.{set}
 use Rattle.std.proofs.lemmas.Option.{slice_get-get_or}
 use Rattle.gq_base.specs.Plain.{Graph, cell_at, rows_of}
-use Rattle.gq_base.specs.Valid.{fits_fields, is_cell_of, is_of_kind, is_valid}
+use Rattle.gq_base.proofs.ListLaws.{two}
+use Rattle.gq_base.specs.Valid.{fits_fields, is_cell_of, is_of_kind, is_rel, is_valid, row_count}
+use Rattle.gq_base.specs.declared.cell.PlainRel.{PlainRel}
 use Rattle.gq_base.specs.declared.catalog.Field.{Field}
 use Rattle.gq_base.specs.declared.cell.Cell.{Cell}
-use Rattle.gq_store.specs.Cells.{node_cell, node_fields, node_fields_of}
+use Rattle.gq_store.specs.Cells.{node_cell, node_fields, node_fields_of, rel_cell_in, rel_fields, rel_fields_of}
 use Rattle.gq_store.specs.Columns.{column_of, node_cells}
-use Rattle.gq_store.specs.Kept.{AreNodeCells, AreNodesKept}
-use Rattle.gq_store.specs.declared.property.NodeCells.{NodeCells}
-use Rattle.gq_store.proofs.Validity.{all-at, node_table, zip-at, row_length}
+use Rattle.gq_store.specs.Neighbours.{all_of, rels_at}
+use Rattle.gq_store.specs.Kept.{AreNodesKept, AreRelsKept, AreTableCells}
+use Rattle.gq_store.specs.RelColumns.{cell_numbered, numbers_by_place, rel_cells}
+use Rattle.gq_store.specs.declared.property.TableCells.{TableCells}
+use Rattle.gq_store.proofs.Validity.{all-at, node_table, rel_table, zip-at, zip-length, row_length}
 
 cell_at_is : (row : List (Option Cell)) (property : ℕ) (cell : Option Cell) → slice_get row property ≡ Some cell → cell_at row (Some property) ≡ cell
 cell_at_is row property cell is = rw is refl
@@ -33,16 +37,16 @@ column_more property k rows cells row cell item so h is read same =
 -- ---- the properties of a table
 
 -- the first n properties are kept
-pub record AreColumnsBelow (n : ℕ) (rows : List (List (Option Cell))) (properties : List (List (Option Cell))) : Type 0 where
+pub record AreColumnsBelow (n : ℕ) (cells : ℕ → List (Option Cell)) (properties : List (List (Option Cell))) : Type 0 where
   pub len : length properties ≡ n
-  pub each : (property : ℕ) (d : List (Option Cell)) → property < n → get_or properties property d ≡ column_of property rows
+  pub each : (property : ℕ) (d : List (Option Cell)) → property < n → get_or properties property d ≡ cells property
 
-pub no_columns : (rows : List (List (Option Cell))) → AreColumnsBelow 0 rows []
-no_columns rows = record { len = refl; each = λ property d h. absurd (omega arith) }
+pub no_columns : (cells : ℕ → List (Option Cell)) → AreColumnsBelow 0 cells []
+no_columns cells = record { len = refl; each = λ property d h. absurd (omega arith) }
 
-pub columns_more : (n : ℕ) (rows : List (List (Option Cell))) (properties : List (List (Option Cell))) (next : List (Option Cell)) → AreColumnsBelow n rows properties → next ≡ column_of n rows
-    → AreColumnsBelow (n + 1) rows (properties ++ next ∷ [])
-columns_more n rows properties next s here = record {
+pub columns_more : (n : ℕ) (cells : ℕ → List (Option Cell)) (properties : List (List (Option Cell))) (next : List (Option Cell)) → AreColumnsBelow n cells properties → next ≡ cells n
+    → AreColumnsBelow (n + 1) cells (properties ++ next ∷ [])
+columns_more n cells properties next s here = record {
   len = (let had : length properties ≡ n = s.len in omega (arith, length_push properties next));
   each = λ property d h. elim (cases_lt property n) [
     | inl before ↦
@@ -70,39 +74,120 @@ kinds fields rows property field cells fit within is told = λ row d h.
     some_same : {a b : Field} → Some a ≡ Some b → a ≡ b
     some_same e = cc e
 
+-- those of relationships, place by place
+module _ (fields : List Field) (rels : List PlainRel) (property : ℕ) (fit : list_all (λ (r : PlainRel). fits_fields fields r.cells) rels ≡ true) (within : property < length fields) where
+  pub rels_reach : All (λ (r : PlainRel). property < length r.cells) rels
+  rels_reach = λ k d h. (let size : length fields ≡ length (get_or rels k d).cells = zip-length is_cell_of fields (get_or rels k d).cells (all-at (λ (r : PlainRel). fits_fields fields r.cells) rels k d fit h) in omega (arith, size, within))
+
+  numbered_kind : (field : Field) → field ≡ get_or fields property field → (number : Option ℕ) → IfSome number (λ n. n < length rels) → is_of_kind field.kind (cell_numbered property rels number) ≡ true
+  numbered_kind field is None h = refl
+  numbered_kind field is (Some n) h =
+      let none : PlainRel = record { source = 0; target = 0; cells = [] } in
+      let found : PlainRel = get_or rels n none in
+      let z = zip-at is_cell_of fields found.cells property (all-at (λ (r : PlainRel). fits_fields fields r.cells) rels n none fit h) within in
+      let left : z.left ≡ field = some_same (sym z.left_is ∙ slice_get-get_or fields property field within) ∙ sym is in
+      let cell : cell_numbered property rels (Some n) ≡ z.right = ap (rel_cell_in property) (slice_get-get_or rels n none h) ∙ cell_at_is found.cells property z.right z.right_is in
+      ap (λ c. is_of_kind field.kind c) cell ∙ ap (λ (t : Field). is_of_kind t.kind z.right) (sym left) ∙ z.passes
+    where
+      some_same : {a b : Field} → Some a ≡ Some b → a ≡ b
+      some_same e = cc e
+
+  pub numbered_kinds : (field : Field) (numbers : List (Option ℕ)) (cells : List (Option Cell)) → field ≡ get_or fields property field → All (λ number. IfSome number (λ n. n < length rels)) numbers
+      → cells ≡ map (λ number. cell_numbered property rels number) numbers → All (λ c. is_of_kind field.kind c ≡ true) cells
+  numbered_kinds field numbers cells is there told = λ row d h.
+      let f : Option ℕ → Option Cell = λ number. cell_numbered property rels number in
+      let low : row < length numbers = omega (arith, h, ap length told, length-map numbers f) in
+      let cell : get_or cells row d ≡ f (get_or numbers row None) = ap (λ l. get_or l row d) told ∙ get_or-map f numbers row None d low in
+      ap (λ c. is_of_kind field.kind c) cell ∙ numbered_kind field is (get_or numbers row None) (there row None low)
+
 pub rows_reach : (fields : List Field) (rows : List (List (Option Cell))) (property : ℕ) → list_all (fits_fields fields) rows ≡ true → property < length fields → All (λ (row : List (Option Cell)). property < length row) rows
 rows_reach fields rows property fit within = λ row d h. (let size : length (get_or rows row d) ≡ length fields = row_length fields rows row d fit h in omega (arith, size, within))
 
--- ---- the node tables
+-- ---- tables
 
 -- the cells of the first n tables are kept
-pub record AreNodesBelow (n : ℕ) (g : Graph) (all : List NodeCells) : Type 0 where
+pub record AreTablesBelow (n : ℕ) (count : ℕ → ℕ) (fields : ℕ → List Field) (cells : ℕ → ℕ → List (Option Cell)) (all : List TableCells) : Type 0 where
   pub len : length all ≡ n
-  pub each : (table : ℕ) (d : NodeCells) → table < n → AreNodeCells (node_fields g table) (rows_of (slice_get g.nodes table)) (get_or all table d)
+  pub each : (table : ℕ) (d : TableCells) → table < n → AreTableCells (count table) (fields table) (cells table) (get_or all table d)
 
-pub no_nodes_kept : (g : Graph) → AreNodesBelow 0 g []
-no_nodes_kept g = record { len = refl; each = λ table d h. absurd (omega arith) }
+module _ (count : ℕ → ℕ) (fields : ℕ → List Field) (cells : ℕ → ℕ → List (Option Cell)) where
+  pub no_tables : AreTablesBelow 0 count fields cells []
+  no_tables = record { len = refl; each = λ table d h. absurd (omega arith) }
 
-pub nodes_kept_more : (n : ℕ) (g : Graph) (all : List NodeCells) (next : NodeCells) (rows : List (List (Option Cell))) (fields : List Field) → AreNodesBelow n g all → slice_get g.nodes n ≡ Some rows
-    → fields ≡ node_fields g n → AreNodeCells fields rows next → AreNodesBelow (n + 1) g (all ++ next ∷ [])
-nodes_kept_more n g all next rows fields s is are here = record {
-  len = (let had : length all ≡ n = s.len in omega (arith, length_push all next));
-  each = λ table d h. elim (cases_lt table n) [
-    | inl before ↦
-        (let had : length all ≡ n = s.len in
-        let same : get_or (all ++ next ∷ []) table d ≡ get_or all table d = get_or_append_left all (next ∷ []) d table (omega arith) in
-        rw same (s.each table d before))
-    | inr last ↦
-        (let had : length all ≡ n = s.len in
-        let same : table ≡ n = omega arith in
-        let plus : n ≡ length all + 0 = omega arith in
-        let at : get_or (all ++ next ∷ []) n d ≡ next = ap (λ j. get_or (all ++ next ∷ []) j d) plus ∙ get_or-append-add all (next ∷ []) 0 d in
-        rw (same, at) (subst (λ (fs : List Field). AreNodeCells fs (rows_of (slice_get g.nodes n)) next) are (subst (λ (rs : List (List (Option Cell))). AreNodeCells fields rs next) (sym (ap rows_of is)) here)))
-  ];
-}
+  pub tables_more : (n : ℕ) (all : List TableCells) (next : TableCells) → AreTablesBelow n count fields cells all → AreTableCells (count n) (fields n) (cells n) next
+      → AreTablesBelow (n + 1) count fields cells (all ++ next ∷ [])
+  tables_more n all next s here = record {
+    len = (let had : length all ≡ n = s.len in omega (arith, length_push all next));
+    each = λ table d h. elim (cases_lt table n) [
+      | inl before ↦
+          (let had : length all ≡ n = s.len in
+          let same : get_or (all ++ next ∷ []) table d ≡ get_or all table d = get_or_append_left all (next ∷ []) d table (omega arith) in
+          rw same (s.each table d before))
+      | inr last ↦
+          (let had : length all ≡ n = s.len in
+          let same : table ≡ n = omega arith in
+          let plus : n ≡ length all + 0 = omega arith in
+          let at : get_or (all ++ next ∷ []) n d ≡ next = ap (λ j. get_or (all ++ next ∷ []) j d) plus ∙ get_or-append-add all (next ∷ []) 0 d in
+          rw (same, at) here)
+    ];
+  }
 
-pub all_nodes_kept : (n : ℕ) (g : Graph) (all : List NodeCells) → n ≡ length g.catalog.nodes → AreNodesBelow n g all → AreNodesKept g all
+-- the first n node tables
+abbrev pub AreNodesBelow : ℕ → Graph → List TableCells → Type 0
+AreNodesBelow n g all = AreTablesBelow n (λ table. row_count g.nodes table) (λ table. node_fields g table) (λ table property. node_cells g table property) all
+
+pub all_nodes_kept : (n : ℕ) (g : Graph) (all : List TableCells) → n ≡ length g.catalog.nodes → AreNodesBelow n g all → AreNodesKept g all
 all_nodes_kept n g all whole s = record { len = s.len ∙ whole; each = λ table d h. s.each table d (let had : length all ≡ n = s.len in omega arith) }
+
+-- the first n relationship tables
+abbrev pub AreRelsBelow : ℕ → Graph → List TableCells → Type 0
+AreRelsBelow n g all = AreTablesBelow n (λ rel. length (rels_at g rel)) (λ rel. rel_fields g rel) (λ rel property. rel_cells g rel property) all
+
+pub all_rels_kept : (n : ℕ) (g : Graph) (all : List TableCells) → n ≡ length g.catalog.rels → AreRelsBelow n g all → AreRelsKept g all
+all_rels_kept n g all whole s = record { len = s.len ∙ whole; each = λ rel d h. s.each rel d (let had : length all ≡ n = s.len in omega arith) }
+
+-- what is kept of rows and relationships is kept of the graph that has them
+pub node_cells_are : (g : Graph) (table : ℕ) (rows : List (List (Option Cell))) (fields : List Field) (next : TableCells) → slice_get g.nodes table ≡ Some rows → fields ≡ node_fields g table
+    → AreTableCells (length rows) fields (λ property. column_of property rows) next → AreTableCells (row_count g.nodes table) (node_fields g table) (λ property. node_cells g table property) next
+node_cells_are g table rows fields next is are s =
+    let same : rows ≡ rows_of (slice_get g.nodes table) = sym (ap rows_of is) in
+    record {
+      rows_are = s.rows_are ∙ ap length same;
+      len = s.len ∙ ap length are;
+      each = λ property d h. s.each property d (omega (arith, h, ap length are)) ∙ ap (λ r. column_of property r) same;
+    }
+
+pub rel_cells_are : (g : Graph) (rel : ℕ) (rels : List PlainRel) (fields : List Field) (numbers : List (Option ℕ)) (next : TableCells) → slice_get g.rels rel ≡ Some rels → fields ≡ rel_fields g rel → numbers ≡ numbers_by_place g rel
+    → AreTableCells (length rels) fields (λ property. map (λ number. cell_numbered property rels number) numbers) next → AreTableCells (length (rels_at g rel)) (rel_fields g rel) (λ property. rel_cells g rel property) next
+rel_cells_are g rel rels fields numbers next is are told s =
+    let same : rels ≡ rels_at g rel = sym (ap all_of is) in
+    record {
+      rows_are = s.rows_are ∙ ap length same;
+      len = s.len ∙ ap length are;
+      each = λ property d h. s.each property d (omega (arith, h, ap length are)) ∙ ap (λ (r : List PlainRel). map (λ number. cell_numbered property r number) numbers) same
+          ∙ ap (λ l. map (λ number. cell_numbered property (rels_at g rel) number) l) told;
+    }
+
+all_fit : (fields : List Field) (n m : ℕ) (rels : List PlainRel) → list_all (is_rel fields n m) rels ≡ true → list_all (λ (r : PlainRel). fits_fields fields r.cells) rels ≡ true
+all_fit fields n m [] h = refl
+all_fit fields n m (r ∷ rels) h =
+    let a = two (is_rel fields n m r) (list_all (is_rel fields n m) rels) h in
+    let b = two (nat_lt r.source n && nat_lt r.target m) (fits_fields fields r.cells) a.0 in
+    rw (b.1, all_fit fields n m rels a.1) refl
+
+-- the relationships of a table fit its fields
+pub rels_fit : (g : Graph) (rel : ℕ) (rels : List PlainRel) (fields : List Field) → is_valid g ≡ true → rel < length g.catalog.rels → slice_get g.rels rel ≡ Some rels → fields ≡ rel_fields g rel
+    → list_all (λ (r : PlainRel). fits_fields fields r.cells) rels ≡ true
+rels_fit g rel rels fields valid within is are =
+    let (t, found) = rel_table g rel valid within in
+    let (others, k) = found in
+    let same : others ≡ rels = rels_same (sym k.rels_is ∙ is) in
+    let of : t.fields ≡ fields = sym (ap rel_fields_of k.table_is) ∙ sym are in
+    subst (λ (fs : List Field). list_all (λ (r : PlainRel). fits_fields fs r.cells) rels ≡ true) of
+    (subst (λ (rs : List PlainRel). list_all (λ (r : PlainRel). fits_fields t.fields r.cells) rs ≡ true) same (all_fit t.fields (row_count g.nodes t.from) (row_count g.nodes t.to) others k.fit))
+  where
+    rels_same : {x y : List PlainRel} → Some x ≡ Some y → x ≡ y
+    rels_same e = cc e
 
 -- the rows of a table fit its fields
 pub nodes_fit : (g : Graph) (table : ℕ) (rows : List (List (Option Cell))) (fields : List Field) → is_valid g ≡ true → table < length g.catalog.nodes → slice_get g.nodes table ≡ Some rows → fields ≡ node_fields g table
@@ -150,12 +235,18 @@ column_at g table property row h =
     get_or-map (λ r. cell_at r (Some property)) rows row [] None h ∙ rw at refl
 
 -- the properties of a table that is kept
-module _ (g : Graph) (all : List NodeCells) (table property : ℕ) (kept : NodeCells) (s : AreNodesKept g all) (low : table < length all) (at : get_or all table kept ≡ kept) (within : property < length (node_fields g table)) where
-  kept_at : AreNodeCells (node_fields g table) (rows_of (slice_get g.nodes table)) kept
-  kept_at = subst (AreNodeCells (node_fields g table) (rows_of (slice_get g.nodes table))) at (s.each table kept low)
-
+module _ (count : ℕ) (fields : List Field) (cells : ℕ → List (Option Cell)) (kept : TableCells) (property : ℕ) (s : AreTableCells count fields cells kept) (within : property < length fields) where
   pub property_reach : property < length kept.properties.items
-  property_reach = omega (arith, kept_at.len, within)
+  property_reach = omega (arith, s.len, within)
 
-  pub property_at : (cells : List (Option Cell)) → get_or kept.properties.items property cells ≡ cells → cells ≡ node_cells g table property
-  property_at cells is = sym is ∙ kept_at.each property cells within
+  pub property_at : (is : List (Option Cell)) → is ≡ get_or kept.properties.items property is → is ≡ cells property
+  property_at is read = read ∙ s.each property is within
+
+-- a table that is kept
+pub node_table_at : (g : Graph) (all : List TableCells) (table : ℕ) (kept : TableCells) → AreNodesKept g all → table < length all → kept ≡ get_or all table kept
+    → AreTableCells (row_count g.nodes table) (node_fields g table) (λ property. node_cells g table property) kept
+node_table_at g all table kept s low read = subst (AreTableCells (row_count g.nodes table) (node_fields g table) (λ property. node_cells g table property)) (sym read) (s.each table kept low)
+
+pub rel_table_at : (g : Graph) (all : List TableCells) (rel : ℕ) (kept : TableCells) → AreRelsKept g all → rel < length all → kept ≡ get_or all rel kept
+    → AreTableCells (length (rels_at g rel)) (rel_fields g rel) (λ property. rel_cells g rel property) kept
+rel_table_at g all rel kept s low read = subst (AreTableCells (length (rels_at g rel)) (rel_fields g rel) (λ property. rel_cells g rel property)) (sym read) (s.each rel kept low)

@@ -7,15 +7,16 @@ ghost use Rattle.gq_base.specs.Values.{val};
 ghost use Rattle.gq_base.specs.declared.Mult.TheVariants.{ManyMany};
 ghost use Rattle.gq_store.specs.Cells.{node_cell, node_fields, rel_cell, rel_fields};
 ghost use Rattle.gq_store.specs.Columns.{AreCells, IsDictOf, node_cells};
-ghost use Rattle.gq_store.specs.Kept.{AreNodesKept};
+ghost use Rattle.gq_store.specs.Kept.{AreNodesKept, AreRelsKept};
 ghost use Rattle.gq_store.specs.Neighbours.{is_listed, mult_at, near_ends, near_rows, neighbours, numbers, opposite, rels_at};
 ghost use Rattle.gq_store.specs.Places.{by_source, first_number, number_at};
+ghost use Rattle.gq_store.specs.RelColumns.{rel_cells};
 ghost use Rattle.gq_store.specs.Stored.{AreLinked, IsLinked, IsSide};
 
 use crate::direction::Direction;
-use crate::links::{Links, Places, Side, links_of};
-use crate::property::NodeCells;
-use gq_base::{Catalog, List, Memory, PlainRel, Value, cell_value};
+use crate::links::{Links, Places, Side, links_of, numbers_by_place};
+use crate::property::TableCells;
+use gq_base::{Catalog, List, Memory, Value};
 use gq_column::Column;
 use gq_dict::Dict;
 use gq_plain::PlainGraph;
@@ -23,8 +24,10 @@ use std::alloc::Global;
 use std::marker::Model;
 use std::snapshot::Snapshot;
 
-/// A valid plain graph and, for each relationship table, the neighbours of each row in both directions and the places of
-/// the relationships. It is seen as that plain graph.
+/// A valid graph: for each relationship table the neighbours of each row in both directions and the
+/// places of the relationships, and for each property a column of its cells, those of nodes by row
+/// and those of relationships by place. It is seen as the plain graph of which it was made, which
+/// stands for contracts alone.
 ///
 /// Tables, rows and load numbers are counted from 0. The load number of a relationship is its number among those of its
 /// table as they stand in the file; its place goes by its ends. The place is the row of the source where a source has one
@@ -34,10 +37,11 @@ use std::snapshot::Snapshot;
 pub struct Graph {
     // The plain graph that this one stands for, for contracts alone: it has no bytes.
     of: Snapshot<PlainGraph>,
-    // What is left of it: the catalogue and the relationships.
-    plain: PlainGraph,
-    nodes: Vec<NodeCells>,
+    catalog: Catalog,
     links: Vec<Links>,
+    // The cells of nodes by row, and those of relationships by place.
+    nodes: Vec<TableCells>,
+    rels: Vec<TableCells>,
 }
 
 impl Model for Graph {
@@ -51,12 +55,14 @@ impl Model for Graph {
 
     ghost view = { λ g. g.of.value };
 
-    ghost invariant = { λ g. IsStored g.of.value g.plain g.nodes.items g.links.items };
+    ghost invariant = { λ g.
+        IsStored g.of.value g.catalog g.nodes.items g.rels.items g.links.items };
 }
 
 impl Graph {
-    /// Stores a plain graph. It takes some steps for each row and for each relationship. After `Memory` the plain graph
-    /// is dropped.
+    /// Stores a plain graph, which is used up: the rows of a table are dropped once their cells are
+    /// kept. It takes some steps for each row and for each relationship, and n log n for n texts of
+    /// a property. After `Memory` the plain graph is dropped.
     pub fn build(alloc: Global, plain: PlainGraph) -> Result<Graph, Memory>
         requires { is_valid plain ≡ true }
         ensures { IfOk result (λ graph. graph ≡ plain) }
@@ -65,11 +71,13 @@ impl Graph {
         let links = all_links(alloc, &plain)?;
         let mut plain = plain;
         let nodes = all_nodes(alloc, &mut plain)?;
+        let rels = all_rels(alloc, &of, links.as_slice(), &mut plain)?;
         Ok(Graph {
             of,
-            plain,
-            nodes,
+            catalog: plain.into_catalog(),
             links,
+            nodes,
+            rels,
         })
     }
 
@@ -79,7 +87,7 @@ impl Graph {
         ensures valid { is_valid self.now ≡ true }
     {
         let _ = &self.links;
-        self.plain.catalog()
+        &self.catalog
     }
 
     /// How many rows a node table has.
@@ -95,7 +103,7 @@ impl Graph {
         requires { rel < length self.now.catalog.rels }
         ensures { result ≡ length (rels_at self.now rel) }
     {
-        self.rels(rel).len() as u32
+        self.rels[rel as usize].rows
     }
 
     /// Whether a row may have many relationships of a table in a direction. It is false forward where a source has one at
@@ -146,8 +154,8 @@ impl Graph {
         ensures there { number_at self.now rel result ≢ None }
     {
         match &self.links(rel).places {
-            Places::Sources => self.end(rel, direction, row, position, Direction::Forward),
-            Places::Targets => self.end(rel, direction, row, position, Direction::Backward),
+            Places::Sources(_) => self.end(rel, direction, row, position, Direction::Forward),
+            Places::Targets(_) => self.end(rel, direction, row, position, Direction::Backward),
             Places::Paged(_) => match direction {
                 Direction::Forward => self.forward_place(rel, row, position),
                 Direction::Backward => self.backward_place(rel, row, position),
@@ -163,8 +171,8 @@ impl Graph {
         ensures below { result < length (rels_at self.now rel) }
     {
         match &self.links(rel).places {
-            Places::Sources => self.first_number(rel, Direction::Forward, place),
-            Places::Targets => self.first_number(rel, Direction::Backward, place),
+            Places::Sources(_) => self.first_number(rel, Direction::Forward, place),
+            Places::Targets(_) => self.first_number(rel, Direction::Backward, place),
             Places::Paged(pages) => pages.number_at(place),
         }
     }
@@ -175,10 +183,9 @@ impl Graph {
         requires number { number < length (rels_at self.now rel) }
         ensures { number_at self.now rel result ≡ Some number }
     {
-        let found = &self.rels(rel)[number as usize];
         match &self.links(rel).places {
-            Places::Sources => found.source,
-            Places::Targets => found.target,
+            Places::Sources(sources) => sources[number as usize],
+            Places::Targets(targets) => targets[number as usize],
             Places::Paged(pages) => pages.place_of(number),
         }
     }
@@ -193,8 +200,8 @@ impl Graph {
         self.nodes[table as usize].properties[property as usize].value(row)
     }
 
-    /// The cells of a property of a node table, row by row: an integer is itself, a boolean 0 or 1, a text its code in
-    /// `node_dict`.
+    /// The cells of a property of a node table, row by row: an integer is itself, a boolean 0 or 1,
+    /// a text its code in `node_dict`.
     pub fn node_column(&self, table: u32, property: u32) -> &Column
         requires within { table < length self.now.catalog.nodes }
         requires property { property < length (node_fields self.now table) }
@@ -221,18 +228,28 @@ impl Graph {
         requires number { number < length (rels_at self.now rel) }
         ensures { val result ≡ cell_val (rel_cell self.now rel property number) }
     {
-        let found = &self.rels(rel)[number as usize];
-        let cells = found.cells.as_slice();
-        cell_value(&cells[property as usize])
+        let place = self.number_place(rel, number);
+        self.rels[rel as usize].properties[property as usize].value(place)
     }
 
-    // The relationships of a table.
-    fn rels(&self, rel: u32) -> &[PlainRel]
-        requires { rel < length self.now.catalog.rels }
-        ensures valid { is_valid self.now ≡ true }
-        ensures rels { slice_get self.now.rels rel ≡ Some result.now }
+    /// The cells of a property of a relationship table, place by place, null at a place that has no
+    /// relationship: an integer is itself, a boolean 0 or 1, a text its code in `rel_dict`.
+    pub fn rel_column(&self, rel: u32, property: u32) -> &Column
+        requires within { rel < length self.now.catalog.rels }
+        requires property { property < length (rel_fields self.now rel) }
+        ensures { (dict : List (List ℕ)) → IsDictOf (rel_cells self.now rel property) dict →
+            AreCells dict (rel_cells self.now rel property) result.now }
     {
-        self.plain.rel_rows(rel)
+        self.rels[rel as usize].properties[property as usize].column()
+    }
+
+    /// The texts of a property of a relationship table, each once, ascending by bytes.
+    pub fn rel_dict(&self, rel: u32, property: u32) -> &Dict
+        requires within { rel < length self.now.catalog.rels }
+        requires property { property < length (rel_fields self.now rel) }
+        ensures { IsDictOf (rel_cells self.now rel property) result.now }
+    {
+        self.rels[rel as usize].properties[property as usize].dict()
     }
 
     // How the relationships of a table are kept.
@@ -355,7 +372,7 @@ fn all_links(alloc: Global, plain: &PlainGraph) -> Result<Vec<Links>, Memory>
 }
 
 // The cells of each node table. The rows of a table are dropped as soon as its cells are kept.
-fn all_nodes(alloc: Global, plain: &mut PlainGraph) -> Result<Vec<NodeCells>, Memory>
+fn all_nodes(alloc: Global, plain: &mut PlainGraph) -> Result<Vec<TableCells>, Memory>
     requires { is_valid plain.old ≡ true }
     ensures cells { IfOk result (λ all. AreNodesKept plain.old all.items) }
     ensures catalog { plain.new.catalog ≡ plain.old.catalog }
@@ -365,8 +382,35 @@ fn all_nodes(alloc: Global, plain: &mut PlainGraph) -> Result<Vec<NodeCells>, Me
     let mut all = Vec::with_capacity(alloc, tables as usize)?;
     for table in 0..tables {
         let fields = plain.catalog().node_table(table).fields.as_slice();
-        all.push(NodeCells::build(alloc, fields, plain.node_rows(table))?)?;
+        all.push(TableCells::of_rows(alloc, fields, plain.node_rows(table))?)?;
         plain.set_node_rows(table, List::new(alloc));
+    }
+    Ok(all)
+}
+
+// The cells of each relationship table. The relationships of a table are dropped as soon as its
+// cells are kept. `of` is the graph, for contracts alone; `plain` has its relationships.
+fn all_rels(
+    alloc: Global,
+    of: &Snapshot<PlainGraph>,
+    links: &[Links],
+    plain: &mut PlainGraph,
+) -> Result<Vec<TableCells>, Memory>
+    requires valid { is_valid of.now.value ≡ true }
+    requires linked { AreLinked of.now.value links.now }
+    requires catalog { plain.old.catalog ≡ of.now.value.catalog }
+    requires rels { plain.old.rels ≡ of.now.value.rels }
+    ensures cells { IfOk result (λ all. AreRelsKept of.now.value all.items) }
+    ensures catalog { plain.new.catalog ≡ plain.old.catalog }
+{
+    let tables = plain.catalog().rel_tables();
+    let mut all = Vec::with_capacity(alloc, tables as usize)?;
+    for rel in 0..tables {
+        let numbers = numbers_by_place(alloc, of, rel, &links[rel as usize])?;
+        let fields = plain.catalog().rel_table(rel).fields.as_slice();
+        let rels = plain.rel_rows(rel);
+        all.push(TableCells::of_rels(alloc, fields, rels, numbers.as_slice())?)?;
+        plain.set_rel_rows(rel, List::new(alloc));
     }
     Ok(all)
 }

@@ -1,12 +1,13 @@
-//! The cells of tables by property: columns of integers, in which a text has its code in a dictionary.
-ghost use Rattle.std.specs.Prelude.{◌≡◌, ℕ, List, [], ◌∷◌, ◌^◌, ◌<◌, ◌≤◌, true, length, map, All, Contains, IfOk, None, slice_index_or};
+//! The cells of tables: a column of integers for each property, in which a text has its code.
+ghost use Rattle.std.specs.Prelude.{◌≡◌, ℕ, List, [], ◌∷◌, ◌^◌, ◌<◌, ◌≤◌, true, length, map, All, Contains, IfOk, IfSome, None, slice_index_or};
 ghost use Rattle.std.specs.List.{list_all};
 ghost use Rattle.gq_base.specs.Plain.{cell_val};
 ghost use Rattle.gq_base.specs.Valid.{fits_fields, is_of_kind};
 ghost use Rattle.gq_base.specs.Values.{val};
 ghost use Rattle.gq_store.specs.Columns.{AreCells, HasText, IsCellOf, IsDictOf, column_of, texts_in};
+ghost use Rattle.gq_store.specs.RelColumns.{cell_numbered};
 
-use gq_base::{Cell, Field, Kind, Memory, Row, Value};
+use gq_base::{Cell, Field, Kind, Memory, PlainRel, Row, Value};
 use gq_column::Column;
 use gq_dict::Dict;
 use std::alloc::Global;
@@ -37,14 +38,15 @@ impl Model for Property {
 }
 
 impl Property {
-    /// Keeps cells, which are of the kind. Each text is copied once, and no other memory of them is kept.
+    /// Keeps cells, which are of the kind. Each distinct text is copied once; nothing stays borrowed.
     pub(crate) fn build(
         alloc: Global,
         kind: Kind,
         cells: &[&Option<Cell>],
     ) -> Result<Property, Memory>
         requires few { length cells.now < 2 ^ 32 }
-        requires kinds { All (λ cell. is_of_kind kind cell ≡ true) (map (λ cell. cell.now) cells.now) }
+        requires kinds { All (λ cell. is_of_kind kind cell ≡ true)
+            (map (λ cell. cell.now) cells.now) }
         ensures { IfOk result (λ property. property ≡ map (λ cell. cell.now) cells.now) }
     {
         let dict = Dict::of_borrowed(alloc, texts_of(alloc, cells)?)?;
@@ -82,29 +84,61 @@ impl Property {
     }
 }
 
-/// The cells of a node table, a property after the other, and how many rows it has.
+/// The cells of a table, a property after the other, and how many rows or relationships it has.
 #[derive(Drop)]
-pub(crate) struct NodeCells {
+pub(crate) struct TableCells {
     pub(crate) rows: u32,
     pub(crate) properties: Vec<Property>,
 }
 
-impl NodeCells {
-    ghost use Rattle.gq_store.specs.Kept.{AreNodeCells};
+impl TableCells {
+    ghost use Rattle.gq_store.specs.Kept.{AreTableCells};
 
-    /// Keeps the cells of a node table.
-    pub(crate) fn build(alloc: Global, fields: &[Field], rows: &[Row]) -> Result<NodeCells, Memory>
+    /// Keeps the cells of a node table, row by row.
+    pub(crate) fn of_rows(
+        alloc: Global,
+        fields: &[Field],
+        rows: &[Row],
+    ) -> Result<TableCells, Memory>
         requires few { length rows.now < 2 ^ 32 }
         requires fit { list_all (fits_fields fields.now) rows.now ≡ true }
-        ensures { IfOk result (AreNodeCells fields.now rows.now) }
+        ensures { IfOk result (AreTableCells (length rows.now) fields.now (λ property.
+            column_of property rows.now)) }
     {
         let mut properties = Vec::with_capacity(alloc, fields.len())?;
         for (property, field) in fields.iter().enumerate() {
             let cells = cells_of(alloc, rows, property)?;
             properties.push(Property::build(alloc, field.kind, cells.as_slice())?)?;
         }
-        Ok(NodeCells {
+        Ok(TableCells {
             rows: rows.len() as u32,
+            properties,
+        })
+    }
+
+    /// Keeps the cells of a relationship table, place by place. `numbers` are the load numbers of
+    /// the relationships at the places; at a place that has none the cells are null.
+    pub(crate) fn of_rels(
+        alloc: Global,
+        fields: &[Field],
+        rels: &[PlainRel],
+        numbers: &[Option<u32>],
+    ) -> Result<TableCells, Memory>
+        requires few { length rels.now < 2 ^ 32 }
+        requires few_places { length numbers.now < 2 ^ 32 }
+        requires fit { list_all (λ rel. fits_fields fields.now rel.cells) rels.now ≡ true }
+        requires within { All (λ number. IfSome number (λ n. n < length rels.now)) numbers.now }
+        ensures { IfOk result (AreTableCells (length rels.now) fields.now (λ property.
+            map (λ number. cell_numbered property rels.now number) numbers.now)) }
+    {
+        let mut properties = Vec::with_capacity(alloc, fields.len())?;
+        for (property, field) in fields.iter().enumerate() {
+            let absent = None;
+            let cells = placed_cells(alloc, rels, numbers, property, &absent)?;
+            properties.push(Property::build(alloc, field.kind, cells.as_slice())?)?;
+        }
+        Ok(TableCells {
+            rows: rels.len() as u32,
             properties,
         })
     }
@@ -125,6 +159,45 @@ fn cells_of<'a>(
         cells.push(&row.as_slice()[property])?;
     }
     Ok(cells)
+}
+
+// The cells of a property of relationships, place by place, which are borrowed.
+fn placed_cells<'a>(
+    alloc: Global,
+    rels: &'a [PlainRel],
+    numbers: &[Option<u32>],
+    property: usize,
+    absent: &'a Option<Cell>,
+) -> Result<Vec<&'a Option<Cell>>, Memory>
+    requires reach { All (λ rel. property < length rel.cells) rels.now }
+    requires within { All (λ number. IfSome number (λ n. n < length rels.now)) numbers.now }
+    requires absent { absent.now ≡ None }
+    ensures { IfOk result (λ cells. map (λ cell. cell.now) cells.items ≡
+        map (λ number. cell_numbered property rels.now number) numbers.now) }
+{
+    let mut cells = Vec::with_capacity(alloc, numbers.len())?;
+    for number in numbers {
+        cells.push(placed_cell(rels, *number, property, absent))?;
+    }
+    Ok(cells)
+}
+
+// The cell of a property of the relationship with a load number, or `absent` where there is none.
+fn placed_cell<'a>(
+    rels: &'a [PlainRel],
+    number: Option<u32>,
+    property: usize,
+    absent: &'a Option<Cell>,
+) -> &'a Option<Cell>
+    requires reach { All (λ rel. property < length rel.cells) rels.now }
+    requires within { IfSome number (λ n. n < length rels.now) }
+    requires absent { absent.now ≡ None }
+    ensures { result.now ≡ cell_numbered property rels.now number }
+{
+    match number {
+        Some(number) => &rels[number as usize].cells.as_slice()[property],
+        None => absent,
+    }
 }
 
 // The texts among cells.

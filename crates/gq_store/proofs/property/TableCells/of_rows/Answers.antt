@@ -1,6 +1,6 @@
 use Rattle.std.proofs.Common.{arith}
 use Rattle.gq_store.proofs.Keeping.{kinds, rows_reach}
-use Rattle.gq_store.proofs.property.NodeCells.build.Goals as goal
+use Rattle.gq_store.proofs.property.TableCells.of_rows.Goals as goal
 
 pub cells_of-requires : goal.cells_of-requires
 cells_of-requires c = rows_reach c.args.fields.now c.args.rows.now c.loop-property.property c.requires.fit (omega arith)

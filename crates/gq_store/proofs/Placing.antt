@@ -1,0 +1,122 @@
+-- The places of relationships, and the cells at them.
+use Rattle.std.proofs.Common.{◌≡◌, ℕ, ◌+◌, ◌<◌, List, [], length, get_or, ◌∷◌, Option, Some, None, true, false, refl, sym, ap, ◌∙◌, subst, arith}
+use Rattle.std.specs.Prelude.{All, IfSome, not}
+use Rattle.std.specs.List.{concat, range_with_len}
+use Rattle.std.proofs.lemmas.List.{get_or-map, get_or_default, length-map}
+use Rattle.std.proofs.lemmas.Option.{slice_get_within}
+use Rattle.std.proofs.lemmas.List.FromFn.{get_or-range_with_len, length-range_with_len}
+use Rattle.gq_base.specs.Plain.{Graph}
+use Rattle.gq_base.specs.declared.Cell.{Cell}
+use Rattle.gq_base.specs.declared.Mult.{Mult}
+use Rattle.gq_base.specs.declared.Mult.TheVariants.{ManyMany, ManyOne, OneMany, OneOne}
+use Rattle.gq_base.specs.Valid.{is_valid}
+use Rattle.gq_store.specs.Cells.{rel_cell}
+use Rattle.gq_store.specs.Neighbours.{is_listed, is_single, mult_at, near_ends, near_rows, rels_at}
+use Rattle.gq_store.specs.Places.{by_source, first_number, number_at, number_in}
+use Rattle.gq_store.specs.RelColumns.{cell_numbered, numbers_by_place, place_count, place_count_in, rel_cells}
+use Rattle.gq_store.specs.Stored.{AreLinked, ArePlaces, IsLinked}
+use Rattle.gq_store.specs.declared.direction.Direction.{Direction}
+use Rattle.gq_store.specs.declared.direction.Direction.TheVariants.{Forward, Backward}
+use Rattle.gq_store.specs.declared.links.Links.{Links}
+use Rattle.gq_store.specs.declared.links.Places.{Places}
+use Rattle.gq_store.specs.declared.links.Side.{Side}
+use Rattle.gq_store.proofs.Picking.{length-range}
+use Rattle.gq_store.proofs.Reading.{in_pages, number_below, paged_below, row_within}
+use Rattle.gq_store.proofs.Validity.{ends_below, length-ends}
+
+module _ (g : Graph) (rel : ℕ) where
+  by_forward : (mult : Option Mult) → not (is_single mult Forward) ≡ false → place_count_in g rel mult ≡ near_rows g rel Forward
+  by_forward None h = cc h
+  by_forward (Some ManyMany) h = cc h
+  by_forward (Some ManyOne) h = refl
+  by_forward (Some OneMany) h = cc h
+  by_forward (Some OneOne) h = refl
+
+  by_backward : (mult : Option Mult) → not (is_single mult Forward) ≡ true → not (is_single mult Backward) ≡ false → place_count_in g rel mult ≡ near_rows g rel Backward
+  by_backward None h k = cc k
+  by_backward (Some ManyMany) h k = cc k
+  by_backward (Some ManyOne) h k = cc h
+  by_backward (Some OneMany) h k = refl
+  by_backward (Some OneOne) h k = cc h
+
+  pub count_at_source : is_listed g rel Forward ≡ false → place_count g rel ≡ near_rows g rel Forward
+  count_at_source h = by_forward (mult_at g rel) h
+
+  pub count_at_target : is_listed g rel Forward ≡ true → is_listed g rel Backward ≡ false → place_count g rel ≡ near_rows g rel Backward
+  count_at_target h k = by_backward (mult_at g rel) h k
+
+  pub count_in_pages : mult_at g rel ≡ Some ManyMany → place_count g rel ≡ length (rels_at g rel)
+  count_in_pages many = ap (place_count_in g rel) many
+
+  pub length-numbers : length (numbers_by_place g rel) ≡ place_count g rel
+  length-numbers = length-map (range_with_len 0 (place_count g rel)) (λ place. number_at g rel place) ∙ length-range_with_len 0 (place_count g rel)
+
+  pub number_by_place : (place : ℕ) → place < place_count g rel → get_or (numbers_by_place g rel) place None ≡ number_at g rel place
+  number_by_place place h =
+      let range = range_with_len 0 (place_count g rel) in
+      let size : length range ≡ place_count g rel = length-range_with_len 0 (place_count g rel) in
+      let plus : 0 + place ≡ place = omega arith in
+      get_or-map (λ p. number_at g rel p) range place 0 None (omega (arith, size, h)) ∙ ap (λ p. number_at g rel p) (get_or-range_with_len 0 (place_count g rel) place 0 h ∙ plus)
+
+  -- a number at a place is that of a relationship
+  number_in_within : is_valid g ≡ true → rel < length g.catalog.rels → (mult : Option Mult) (place number : ℕ) → number_in g rel mult place ≡ Some number → number < length (rels_at g rel)
+  number_in_within valid within None place number is = cc is
+  number_in_within valid within (Some ManyMany) place number is = omega (arith, paged_below (near_rows g rel Forward) place number (near_ends g rel Forward) is, length-ends g rel valid within Forward)
+  number_in_within valid within (Some ManyOne) place number is = omega (arith, number_below place 0 number (near_ends g rel Forward) is, length-ends g rel valid within Forward)
+  number_in_within valid within (Some OneOne) place number is = omega (arith, number_below place 0 number (near_ends g rel Forward) is, length-ends g rel valid within Forward)
+  number_in_within valid within (Some OneMany) place number is = omega (arith, number_below place 0 number (near_ends g rel Backward) is, length-ends g rel valid within Backward)
+
+  pub number_within : is_valid g ≡ true → rel < length g.catalog.rels → (place number : ℕ) → number_at g rel place ≡ Some number → number < length (rels_at g rel)
+  number_within valid within place number is = number_in_within valid within (mult_at g rel) place number is
+
+  -- the numbers at all places are those of relationships
+  pub numbers_within : is_valid g ≡ true → rel < length g.catalog.rels → All (λ number. IfSome number (λ n. n < length (rels_at g rel))) (numbers_by_place g rel)
+  numbers_within valid within = λ k d h.
+      let low : k < place_count g rel = omega (arith, h, length-numbers) in
+      let is : get_or (numbers_by_place g rel) k d ≡ number_at g rel k = get_or_default (numbers_by_place g rel) k d None h ∙ number_by_place k low in
+      subst (λ (o : Option ℕ). IfSome o (λ n. n < length (rels_at g rel))) (sym is) (if_some (number_at g rel k) (λ number e. number_within valid within k number e))
+    where
+      if_some : (o : Option ℕ) → ((n : ℕ) → o ≡ Some n → n < length (rels_at g rel)) → IfSome o (λ n. n < length (rels_at g rel))
+      if_some None f = tt
+      if_some (Some n) f = f n refl
+
+  -- a row from which a relationship is followed
+  from_row : is_valid g ≡ true → rel < length g.catalog.rels → (way : Direction) (place number : ℕ) → first_number g rel way place ≡ Some number → place < near_rows g rel way
+  from_row valid within way place number is =
+      row_within (near_rows g rel way) place (near_ends g rel way) (range_with_len 0 (length (near_ends g rel way))) (length-range (near_ends g rel way)) (ends_below g rel valid within way) (λ none. not_none (sym is ∙ none))
+    where
+      not_none : {x : ℕ} → Some x ≡ None → ⊥
+      not_none k = cc k
+
+  -- where a relationship is, there is a place
+  place_in_within : is_valid g ≡ true → rel < length g.catalog.rels → (backward : Side) (places : Places) → ArePlaces g rel backward places → (mult : Option Mult) → mult_at g rel ≡ mult → (place number : ℕ)
+      → number_in g rel mult place ≡ Some number → place < place_count_in g rel mult
+  place_in_within valid within backward places at None of place number is = cc is
+  place_in_within valid within backward places at (Some ManyMany) of place number is =
+      let p = in_pages g rel backward places of at in
+      let low : place < length (by_source g rel) = slice_get_within (by_source g rel) place number is in
+      omega (arith, low, ap (λ (l : List (List ℕ)). length (concat l)) p.paged.pages_of, p.paged.size, length-ends g rel valid within Forward)
+  place_in_within valid within backward places at (Some ManyOne) of place number is = from_row valid within Forward place number is
+  place_in_within valid within backward places at (Some OneOne) of place number is = from_row valid within Forward place number is
+  place_in_within valid within backward places at (Some OneMany) of place number is = from_row valid within Backward place number is
+
+  pub place_within : is_valid g ≡ true → rel < length g.catalog.rels → (links : Links) → IsLinked g rel links → (place number : ℕ) → number_at g rel place ≡ Some number → place < place_count g rel
+  place_within valid within links linked place number is = place_in_within valid within links.backward links.places linked.places (mult_at g rel) refl place number is
+
+  linked_at : (links : List Links) → AreLinked g links → rel < length links → (one : Links) × IsLinked g rel one
+  linked_at [] s low = absurd (omega (arith, low))
+  linked_at (one ∷ links) s low = (get_or (one ∷ links) rel one, s.each rel one low)
+
+  pub place_reach : is_valid g ≡ true → rel < length g.catalog.rels → (links : List Links) → AreLinked g links → (place number : ℕ) → number_at g rel place ≡ Some number → place < place_count g rel
+  place_reach valid within links s place number is =
+      let (one, linked) = linked_at links s (omega (arith, s.len, within)) in
+      place_within valid within one linked place number is
+
+  pub length-rel_cells : (property : ℕ) → length (rel_cells g rel property) ≡ place_count g rel
+  length-rel_cells property = length-map (numbers_by_place g rel) (λ number. cell_numbered property (rels_at g rel) number) ∙ length-numbers
+
+  -- the cell at the place of a number is the cell of its relationship
+  pub rel_column_at : (property place number : ℕ) → place < place_count g rel → number_at g rel place ≡ Some number → get_or (rel_cells g rel property) place None ≡ rel_cell g rel property number
+  rel_column_at property place number h is =
+      let f : Option ℕ → Option Cell = λ n. cell_numbered property (rels_at g rel) n in
+      get_or-map f (numbers_by_place g rel) place None None (omega (arith, length-numbers, h)) ∙ ap f (number_by_place place h ∙ is)
