@@ -72,8 +72,8 @@ pub(crate) fn plan_for(
     }
 }
 
-/// The plan of each alternative of a bound query, in this order and by the sizes of the graph's tables: the plans by which
-/// `answer` takes the alternatives. After `Memory` there is none.
+/// The plan of each alternative of a bound query, in this order and by the sizes of the graph's tables. After `Memory`
+/// there is none.
 pub fn plans(
     alloc: Global,
     graph: &Graph,

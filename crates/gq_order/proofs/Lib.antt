@@ -13,7 +13,6 @@ pub mod Leasts
 pub mod Marks
 pub mod Numbered
 pub mod PartSides
-pub mod PathNodes
 pub mod Paths
 pub mod Ranges
 pub mod Runs
