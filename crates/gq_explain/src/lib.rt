@@ -11,6 +11,3 @@ mod steps;
 pub use filling::columns;
 pub use plans::write_plan;
 pub use schema::write_schema;
-
-#[cfg(test)]
-mod tests;
