@@ -1,5 +1,5 @@
 -- The texts of values, rows and listings (this project's profile).
-use Rattle.std.specs.Prelude.{ℕ, List, [], ◌++◌, length, map, flat_map, slice_get, codes, decimal}
+use Rattle.std.specs.Prelude.{ℕ, List, [], ◌∷◌, ◌++◌, length, map, flat_map, slice_get, slice_index_or, codes, decimal}
 use Rattle.std.specs.declared.option.Option.{Option}
 use Rattle.std.specs.declared.option.Option.TheVariants.{Some, None}
 use Rattle.gq_base.specs.Plain.{Graph, cell_val}
@@ -55,3 +55,12 @@ count_text rows = line (codes "rows " ++ decimal rows)
 -- a listing: the columns' names, a line for each row, and how many rows there are
 abbrev pub listing_text : List (List ℕ) → Graph → List (List Val) → List ℕ
 listing_text names g rows = header_text names ++ flat_map (row_text g) rows ++ count_text (length rows)
+
+-- the lines of the first and of the last row, also where they are one row
+abbrev pub end_rows_text : Graph → List (List Val) → List ℕ
+end_rows_text g [] = []
+end_rows_text g (row ∷ rows) = row_text g row ++ row_text g (slice_index_or (row ∷ rows) (length rows) [])
+
+-- the ends of a listing: these lines, and how many rows there are
+abbrev pub ends_text : Graph → List (List Val) → List ℕ
+ends_text g rows = end_rows_text g rows ++ count_text (length rows)

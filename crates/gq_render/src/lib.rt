@@ -8,7 +8,7 @@ mod name;
 mod refusal;
 mod value;
 
-pub use listing::{write_listing, write_row};
+pub use listing::{write_ends, write_listing, write_row};
 pub use name::{put_name, write_name};
 pub use refusal::{Place, write_refusal};
 pub use value::write_value;

@@ -5,7 +5,7 @@ ghost use Rattle.gq_base.specs.Values.{val};
 ghost use Rattle.gq_io.specs.Causes.{HasCause};
 ghost use Rattle.gq_io.specs.Outside.{Writes};
 ghost use Rattle.gq_io.specs.Putting.{Puts};
-ghost use Rattle.gq_render.specs.Listings.{column_names, count_text, header_text, listing_text, row_text, value_text};
+ghost use Rattle.gq_render.specs.Listings.{column_names, count_text, end_rows_text, ends_text, header_text, listing_text, row_text, value_text};
 ghost use Rattle.gq_render.specs.Texts.{after_tab, name_text, tabbed};
 
 use crate::name::put_name;
@@ -216,5 +216,51 @@ pub fn write_row<O: Sink>(
 {
     let mut batch = Batch::new();
     put_row(&mut batch, out, graph, listing.line(row))?;
+    batch.flush(out)
+}
+
+// Puts the line of the first row and that of the last one, if there are rows.
+fn put_end_rows<O: Sink>(
+    batch: &mut Batch,
+    out: &mut O,
+    graph: &Graph,
+    listing: &Listing<'_>,
+) -> Result<(), Failed>
+    ensures bytes { Puts (O.taken out.old) (O.taken out.new) batch.old batch.new
+        (end_rows_text graph.now listing.now) result }
+    ensures cause { HasCause (O.faults out.old) (O.faults out.new) result }
+{
+    let count = listing.len();
+    if count == 0 {
+        return Ok(());
+    }
+    put_row(batch, out, graph, listing.line(0))?;
+    put_row(batch, out, graph, listing.line(count - 1))
+}
+
+fn put_ends<O: Sink>(
+    batch: &mut Batch,
+    out: &mut O,
+    graph: &Graph,
+    listing: &Listing<'_>,
+) -> Result<(), Failed>
+    ensures bytes { Puts (O.taken out.old) (O.taken out.new) batch.old batch.new
+        (ends_text graph.now listing.now) result }
+    ensures cause { HasCause (O.faults out.old) (O.faults out.new) result }
+{
+    put_end_rows(batch, out, graph, listing)?;
+    put_row_count(batch, out, listing.len())
+}
+
+/// Writes the lines of the first and of the last row of a listing, also where they are one row, and `rows N` with the number
+/// of rows, as `write_listing` writes them. Where there are no rows it writes `rows 0` alone. It takes no memory. After
+/// `Failed` the sink took some front of that text.
+pub fn write_ends<O: Sink>(out: &mut O, graph: &Graph, listing: &Listing<'_>) -> Result<(), Failed>
+    ensures bytes { Writes (O.taken out.old) (O.taken out.new)
+        (ends_text graph.now listing.now) result }
+    ensures cause { HasCause (O.faults out.old) (O.faults out.new) result }
+{
+    let mut batch = Batch::new();
+    put_ends(&mut batch, out, graph, listing)?;
     batch.flush(out)
 }
