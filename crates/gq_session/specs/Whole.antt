@@ -2,10 +2,12 @@
 use Rattle.std.specs.Prelude.{◌≡◌, ◌⊎◌, ℕ, ◌<◌, List, [], ◌∷◌, ◌++◌, length, if◌then◌else◌, Result, Ok, Err}
 use Rattle.std.specs.declared.option.Option.{Option}
 use Rattle.std.specs.declared.option.Option.TheVariants.{Some}
+use Rattle.std.specs.Io.KnownBytes.{Appends}
 use Rattle.gq_io.specs.Causes.{Rose}
+use Rattle.gq_io.specs.Outside.{AppendsFront}
 use Rattle.gq_session.specs.Scanning.{ended_in, ends, start, next_state}
-use Rattle.gq_session.specs.Replies.{Wrote, WroteFront}
-use Rattle.gq_session.specs.Sessions.{Span, statements_of}
+use Rattle.gq_session.specs.Replies.{Replies, Wrote}
+use Rattle.gq_session.specs.Sessions.{Span}
 use Rattle.gq_session.specs.declared.scan.State.{State}
 use Rattle.gq_session.specs.declared.scan.State.TheVariants as at
 use Rattle.gq_session.specs.declared.answering.Tone.{Tone}
@@ -36,17 +38,41 @@ pub record HasLongTail (long : ℕ) (s : State) (rest text : List ℕ) : Type 0 
 abbrev pub IsTooLong : ℕ → ℕ → List ℕ → Type 0
 IsTooLong long most text = (most < length text) ⊎ HasLongTail long at.Plain [] text
 
--- where the input is told and nothing fails
-abbrev pub Answers : (List ℕ → Tone → List ℕ → Type 0) → ℕ → ℕ → List ℕ → Span → Result Tone Stop → Type 0
-Answers answers long most text out (Ok t) = (¬ IsTooLong long most text) × Wrote answers (statements text) t out.old out.new
-Answers answers long most text out (Err stop.TooLong) = IsTooLong long most text × ((t : Tone) × Wrote answers (ended_in long most start text) t out.old out.new)
-Answers answers long most text out (Err stop.Read) = ⊥
-Answers answers long most text out (Err stop.Write) = ⊥
+-- how a session over a whole text may end, and the replies that are written then: to all its statements, or, where a limit
+-- is passed, to those that ended before
+abbrev pub Permits : (List ℕ → Tone → List ℕ → Type 0) → ℕ → ℕ → List ℕ → Result Tone Stop → List ℕ → Type 0
+Permits answers long most text (Ok t) replies = (¬ IsTooLong long most text) × Replies answers (statements text) t replies
+Permits answers long most text (Err stop.TooLong) replies = IsTooLong long most text × ((t : Tone) × Replies answers (ended_in long most start text) t replies)
+Permits answers long most text (Err stop.Read) replies = ⊥
+Permits answers long most text (Err stop.Write) replies = ⊥
 
+-- the replies of a permitted end were written
+pub record Wholly (answers : List ℕ → Tone → List ℕ → Type 0) (long most : ℕ) (text : List ℕ) (result : Result Tone Stop) (old new : Option (List ℕ)) : Type 0 where
+  pub replies : List ℕ
+  pub permitted : Permits answers long most text result replies
+  pub moved : Appends old new replies
+
+-- a front of the replies of a permitted end was written
+pub record Partly (answers : List ℕ → Tone → List ℕ → Type 0) (long most : ℕ) (text : List ℕ) (old new : Option (List ℕ)) : Type 0 where
+  pub result : Result Tone Stop
+  pub replies : List ℕ
+  pub permitted : Permits answers long most text result replies
+  pub moved : AppendsFront old new replies
+
+-- the replies to the statements that ended in some front of the text were written
+pub record SoFar (answers : List ℕ → Tone → List ℕ → Type 0) (long most : ℕ) (text : List ℕ) (old new : Option (List ℕ)) : Type 0 where
+  pub front : List ℕ
+  pub back : List ℕ
+  pub whole : text ≡ front ++ back
+  pub tone : Tone
+  pub wrote : Wrote answers (ended_in long most start front) tone old new
+
+-- how a session over a whole text ended; a failed read or write has its cause
+abbrev pub Answers : (List ℕ → Tone → List ℕ → Type 0) → ℕ → ℕ → List ℕ → Span → Span → Result Tone Stop → Type 0
+Answers answers long most text input out (Err stop.Read) = SoFar answers long most text out.old out.new × Rose input.before input.now
+Answers answers long most text input out (Err stop.Write) = Partly answers long most text out.old out.new × Rose out.before out.now
+Answers answers long most text input out result = Wholly answers long most text result out.old out.new
+
+-- the same for each text that the input is told to have
 abbrev pub Whole : (List ℕ → Tone → List ℕ → Type 0) → ℕ → ℕ → Span → Span → Result Tone Stop → Type 0
-Whole answers long most input out result = (text : List ℕ) → input.old ≡ Some text → ¬ (Rose input.before input.now) → ¬ (Rose out.before out.now)
-    → Answers answers long most text out result
-
--- what was written is a front of one whole text for the input, where the input is told
-abbrev pub IsFrontOfWhole : (List ℕ → Tone → List ℕ → Type 0) → ℕ → ℕ → Option (List ℕ) → Option (List ℕ) → Option (List ℕ) → Type 0
-IsFrontOfWhole answers long most input old new = (text : List ℕ) → input ≡ Some text → WroteFront answers (statements_of long most text) old new
+Whole answers long most input out result = (text : List ℕ) → input.old ≡ Some text → Answers answers long most text input out result

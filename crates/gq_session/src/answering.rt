@@ -1,6 +1,6 @@
 //! What answers a statement, and what a reply is like.
 
-ghost use Rattle.std.specs.Prelude.{◌≡◌, List, ℕ};
+ghost use Rattle.std.specs.Prelude.{◌≡◌, ◌≤◌, List, ℕ, length};
 ghost use Rattle.gq_io.specs.Causes.{HasCause};
 ghost use Rattle.gq_session.specs.Replies.{Answered};
 ghost use Rattle.gq_session.specs.Tones.{worse};
@@ -43,6 +43,8 @@ pub trait Answerer {
 
     /// An answer can work in it.
     ghost ready: { Self.Workspace → Type 0 };
+    /// The longest statement that it answers, in bytes.
+    ghost longest: { ℕ };
 
     /// Writes a reply to the statement, and says what it is like. After `Failed` some front of a reply was written.
     fn answer<O: Sink>(
@@ -51,7 +53,8 @@ pub trait Answerer {
         statement: &[u8],
         out: &mut O,
     ) -> Result<Tone, Failed>
-        requires { ready workspace.old }
+        requires ready { ready workspace.old }
+        requires fits { length statement.now ≤ longest }
         ensures ready { ready workspace.new }
         ensures bytes { Answered (answers self.now statement.now) (O.taken out.old) (O.taken out.new) result }
         ensures cause { HasCause (O.faults out.old) (O.faults out.new) result };

@@ -1,9 +1,9 @@
 //! The session over an input that comes in pieces.
 
-ghost use Rattle.std.specs.Prelude.{◌≡◌, ℕ, ◌≤◌, ◌<◌, ◌^◌, length, Err};
+ghost use Rattle.std.specs.Prelude.{◌≤◌, ◌<◌, ◌^◌, length};
 ghost use Rattle.gq_session.specs.Feeding.{scan_of};
 ghost use Rattle.gq_session.specs.Sessions.{Session, Taken, span_of};
-ghost use Rattle.gq_session.specs.Whole.{IsFrontOfWhole, Whole};
+ghost use Rattle.gq_session.specs.Whole.{Whole};
 
 use crate::{Answerer, Fed, Scan, Tone};
 use gq_io::{Sink, Source};
@@ -39,6 +39,7 @@ pub fn take_piece<A: Answerer, O: Sink>(
     out: &mut O,
 ) -> Result<Tone, PieceStop>
     requires fits { scan.old.filled ≤ length statement.old }
+    requires longest { length statement.old ≤ A.longest }
     requires ready { A.ready workspace.old }
     ensures fits { scan.new.filled ≤ length statement.new }
     ensures ready { A.ready workspace.new }
@@ -72,6 +73,7 @@ fn take_input<A: Answerer, I: Source, O: Sink>(
     out: &mut O,
 ) -> Result<Tone, Stop>
     requires most { most < 2 ^ 63 }
+    requires longest { length statement.old ≤ A.longest }
     requires ready { A.ready workspace.old }
     ensures ready { A.ready workspace.new }
     ensures read { Session (A.answers answerer.now) (length statement.old) most
@@ -112,7 +114,7 @@ fn take_input<A: Answerer, I: Source, O: Sink>(
 /// Answers each statement of the input, and says what the worst reply was like. Statement after statement is answered as
 /// the input is read; the bytes behind the last `;` are a statement too.
 ///
-/// The buffer's length is the longest that a statement may be, and `most` the longest that the input may be, in bytes. Of an
+/// The buffer's length is the longest that a statement may be, and no more than the answerer takes; `most` the longest that the input may be, in bytes. Of an
 /// input that is too long the statements that ended before are answered, and at most one byte more than `most` is read.
 /// After `Stop::Read` the statements that ended in what was read are answered.
 pub fn session<A: Answerer, I: Source, O: Sink>(
@@ -124,6 +126,7 @@ pub fn session<A: Answerer, I: Source, O: Sink>(
     out: &mut O,
 ) -> Result<Tone, Stop>
     requires most { most < 2 ^ 63 }
+    requires longest { length statement.old ≤ A.longest }
     requires ready { A.ready workspace.old }
     ensures ready { A.ready workspace.new }
     ensures read { Session (A.answers answerer.now) (length statement.old) most
@@ -132,8 +135,6 @@ pub fn session<A: Answerer, I: Source, O: Sink>(
     ensures whole { Whole (A.answers answerer.now) (length statement.old) most
         (span_of I.left I.faults input.old input.new)
         (span_of O.taken O.faults out.old out.new) result }
-    ensures broken { result ≡ Err Stop.Write → IsFrontOfWhole (A.answers answerer.now)
-        (length statement.old) most (I.left input.old) (O.taken out.old) (O.taken out.new) }
 {
     take_input(answerer, workspace, statement, most, input, out)
 }

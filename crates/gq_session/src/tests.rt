@@ -24,6 +24,8 @@ impl Answerer for Echo {
 
     ghost ready = { λ _. Unit {0} };
 
+    ghost longest = { 65536 };
+
     fn answer<O: Sink>(
         &self,
         _workspace: &mut (),
