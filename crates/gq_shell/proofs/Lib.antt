@@ -1,3 +1,3 @@
 pub mod OneStatus
-pub mod Replying
+pub mod Quizzing
 pub mod Running

@@ -1,157 +1,188 @@
--- For given words, files and input one status alone may be answered, but for a query that may have rows or a fault.
-use Rattle.std.proofs.Common.{◌≡◌, ℕ, List, [], Some, None, Ok, Err, refl, sym, ap, ◌∙◌, subst, inl, inr}
+-- For given words, files and input one status alone may be answered, but where memory may end and for queries that may have
+-- rows or a fault.
+use Rattle.std.proofs.Common.{◌≡◌, ℕ, List, [], Some, None, Ok, Err, codes, refl, sym, ap, ◌∙◌, subst, inl, inr}
 use Rattle.std.specs.Prelude.{◌⊎◌, Option, Result}
 use Rattle.std.specs.Io.KnownBytes.{Appends}
+use Rattle.clap.specs.Words.{Row, Text, first_of}
 use Rattle.gq_base.specs.Plain.{Graph}
-use Rattle.gq_base.specs.Values.{Val}
-use Rattle.gq_execute.specs.Replies.{Rows}
 use Rattle.gq_io.specs.Causes.{Rose}
 use Rattle.gq_io.specs.Outside.{Names}
 use Rattle.gq_loader.specs.Limits.{standard}
 use Rattle.gq_loader.specs.Loads.{load_of}
 use Rattle.gq_loader.specs.declared.refusal.LoadRefusal.{LoadRefusal}
-use Rattle.gq_syntax.proofs.Exact.{comes_statement}
-use Rattle.gq_syntax.specs.Outcomes.{SpelledText}
-use Rattle.gq_syntax.specs.declared.refusal.SyntaxRefusal.TheVariants as refusal
-use Rattle.gq_syntax.specs.declared.statement.Query.{Query}
-use Rattle.gq_syntax.specs.declared.statement.Statement.{Statement}
-use Rattle.gq_syntax.specs.declared.statement.Statement.TheVariants as tree
-use Rattle.gq_shell.specs.Bindings.{bind_refusal}
-use Rattle.gq_shell.specs.Claim.{IsAnswered, IsNotBuilt, IsQuery, IsRefused, IsStopped, IsTooLong, IsUnbound, IsUnbuilt, IsWrong, Outside, Over, Permits, Refuses, Replies, RepliesWith, Runs, Whole, path_of, refusal_text}
-use Rattle.gq_shell.specs.Statements.{statement_of}
+use Rattle.gq_reply.proofs.OneTone.{tones_agree}
+use Rattle.gq_reply.specs.Replies.{Context, IsReply}
+use Rattle.gq_reply.specs.declared.replier.Form.TheVariants.{Full}
+use Rattle.gq_session.specs.Replies.{Replies}
+use Rattle.gq_session.specs.Whole as session
+use Rattle.gq_session.specs.declared.answering.Tone.{Tone}
+use Rattle.gq_session.specs.declared.answering.Tone.TheVariants as tone
+use Rattle.gq_shell.specs.Claim.{AreOpen, AsksQuery, IsNotLoaded, IsPath, IsToTheEnd, IsWhole, OnSample, Outside, Over, Permits, Refuses, Runs, Whole, full, long, most, settings_of}
+use Rattle.gq_shell.specs.Statuses.{status_of}
 use Rattle.gq_shell.specs.declared.status.Status.{Status}
 use Rattle.gq_shell.specs.declared.status.Status.TheVariants as status
+use Rattle.gq_words.specs.Meaning.{IsSource, Means}
+use Rattle.gq_words.specs.Reading.{IsMisused, IsRead}
+use Rattle.gq_words.specs.declared.meaning.Source.{Source}
+use Rattle.gq_words.specs.declared.meaning.Source.TheVariants as source
+use Rattle.gq_words.specs.declared.meaning.Words.{Words}
 
-abbrev path_or : List ℕ → Option (List ℕ) → List ℕ
-path_or other None = other
-path_or other (Some path) = path
+-- ---- the words are read in one way
+
+same_path : (m s : Option Text) (x y : Source) (p q : List ℕ) → IsSource m s x → IsSource m s y → IsPath p x → IsPath q y → p ≡ q
+same_path (Some path) None (source.Manifest a) (source.Manifest b) p q x y here there = sym here ∙ x ∙ sym y ∙ there
+same_path (Some path) None (source.Manifest a) (source.Sample n) p q x y here there = absurd there
+same_path (Some path) None (source.Sample n) z p q x y here there = absurd here
+same_path (Some path) (Some text) w z p q x y here there = absurd x
+same_path None None w z p q x y here there = absurd x
+same_path None (Some text) (source.Manifest a) z p q x y here there = absurd x
+same_path None (Some text) (source.Sample n) z p q x y here there = absurd here
+
+no_sample : (m s : Option Text) (x : Source) (size : ℕ) (p : List ℕ) → IsSource m s x → IsSource m s (source.Sample size) → IsPath p x → ⊥
+no_sample (Some path) None x size p here there is = there
+no_sample (Some path) (Some text) x size p here there is = there
+no_sample None None x size p here there is = there
+no_sample None (Some text) (source.Manifest a) size p here there is = here
+no_sample None (Some text) (source.Sample n) size p here there is = is
+
+-- the same of what was found for the options
+same_paths : (found : List Row) (r r' : Words) (p q : List ℕ) → Means found r → Means found r' → IsPath p r.source → IsPath q r'.source → p ≡ q
+same_paths found r r' p q m m' here there = same_path (first_of (codes "manifest") found) (first_of (codes "sample") found) r.source r'.source p q m.source m'.source here there
+
+no_samples : (found : List Row) (r r' : Words) (size : ℕ) (p : List ℕ) → Means found r → Means found r' → r'.source ≡ source.Sample size → IsPath p r.source → ⊥
+no_samples found r r' size p m m' from here =
+    no_sample (first_of (codes "manifest") found) (first_of (codes "sample") found) r.source size p m.source
+    (subst (λ s. IsSource (first_of (codes "manifest") found) (first_of (codes "sample") found) s) from m'.source) here
+
+not_misused : (words : List (List ℕ)) (read : Words) → IsMisused words → IsRead words read → ⊥
+not_misused words read (inl some) is = some is.taken
+not_misused words read (inr none) is = none read is.means
+
+-- ---- what each status says
 
 module _ (words : List (List ℕ)) (files : Names) (input : List ℕ) where
-  abbrev Takes : Type 0
-  Takes = (path : List ℕ) × (path_of words ≡ Some path)
+  abbrev OnInput : (Context → List ℕ → Type 0) → Type 0
+  OnInput Says = Over words (Some files) (Some input) Says
 
-  -- the words were refused and were not
-  no_words : path_of words ≡ None → Takes → ⊥
-  no_words none (path, is) = let clash : None ≡ Some path = sym none ∙ is in cc
+  paths : (Says : Context → List ℕ → Type 0) (over : OnInput Says) (read : Words) (given : IsRead words read) (path : List ℕ) (from : IsPath path read.source) → over.path ≡ path
+  paths Says over read given path from = same_paths _ over.read read over.path path over.given.means given.means over.from from
 
-  -- the load was refused and was not
-  no_load : (Says : Graph → List ℕ → Type 0) (text : List ℕ) → Permits words (Some files) (Some input) status.NotLoaded text → Over words (Some files) (Some input) Says → ⊥
-  no_load Says text (path, is, refuses) over =
-      let same : path ≡ over.path = ap (path_or []) (sym is ∙ over.given) in
-      subst (λ l. Refuses l text) over.told.1 (subst (λ p. Refuses (load_of p files standard) text) same refuses)
+  no_load : (Says : Context → List ℕ → Type 0) (text : List ℕ) → IsNotLoaded words (Some files) text → OnInput Says → ⊥
+  no_load Says text not over =
+      let same : over.path ≡ not.path = paths Says over not.read not.given not.path not.from in
+      subst (λ l. Refuses l text) (subst (λ p. load_of p files standard ≡ Ok over.told.0) same over.told.1) not.told
 
-  -- the input was too long and was not
-  no_length : (Says Other : Graph → List ℕ → Type 0) → Over words (Some files) (Some input) (λ graph input. IsTooLong input × Says graph input)
-      → Over words (Some files) (Some input) (λ graph input. (¬ (IsTooLong input)) × Other graph input) → ⊥
-  no_length Says Other long short = short.told.2.0 long.told.2.0
+  no_input : (Says : Context → List ℕ → Type 0) (read : Words) (given : IsRead words read) (size : ℕ) → read.source ≡ source.Sample size → OnInput Says → ⊥
+  no_input Says read given size from over = no_samples _ over.read read size over.path over.given.means given.means from over.from
 
-  -- two trees that one statement spells are one
-  same_tree : (one other : Statement) → SpelledText (statement_of input) one → SpelledText (statement_of input) other → one ≡ other
-  same_tree one other spelled spelled' = elim ((comes_statement (statement_of input) (Ok one) spelled other).1 spelled') [
-    | inl e ↦ cc e
-    | inr e ↦ cc e
-  ]
+  not_unloaded : (text : List ℕ) → IsNotLoaded words (Some files) text → (Says : Context → Type 0) → OnSample words Says → ⊥
+  not_unloaded text not Says sample = no_samples _ not.read sample.read sample.size not.path not.given.means sample.given.means sample.from not.from
 
-  abbrev Refused : Graph → List ℕ → Type 0
-  Refused graph text = IsWrong (statement_of input) text ⊎ IsUnbound graph (statement_of input) text
-      ⊎ IsNotBuilt graph (statement_of input) text ⊎ IsStopped graph (statement_of input) text
+  -- which of five things a status says
+  data Sort (s : Status) : Type 0 where
+    misused : s ≡ status.Usage → IsMisused words → Sort s
+    unloaded : (text : List ℕ) → s ≡ status.NotLoaded → IsNotLoaded words (Some files) text → Sort s
+    too_long : s ≡ status.TooLong → OnInput (λ c text. session.IsTooLong long most text) → Sort s
+    answered : (t : Tone) (text : List ℕ) → s ≡ status_of (Ok t) → OnInput (λ c text'. (¬ session.IsTooLong long most text') × Replies (IsReply c) (session.statements text') t text) → Sort s
+    sampled : (t : Tone) → s ≡ status_of (Ok t) → OnSample words (λ c. Unit {0}) → Sort s
 
-  -- a statement that is bound, is built and asks no query is not refused
-  module _ (graph : Graph) (form : Statement) (spelled : SpelledText (statement_of input) form)
-      (bound : bind_refusal form (statement_of input) graph.catalog ≡ None)
-      (built : ¬ (IsUnbuilt graph (statement_of input) form)) (other : (query : Query) → ¬ (tree.Query query ≡ form)) where
-    no_query : (query : Query) → SpelledText (statement_of input) (tree.Query query) → ⊥
-    no_query query asked = other query (same_tree (tree.Query query) form asked spelled)
+  narrow : (Says Less : Context → List ℕ → Type 0) → ((c : Context) (text : List ℕ) → Says c text → Less c text) → OnInput Says → OnInput Less
+  narrow Says Less go over = record { read = over.read; given = over.given; path = over.path; from = over.from; told = (over.told.0, over.told.1, go _ _ over.told.2) }
 
-    no_refusal : (text : List ℕ) → Refused graph text → ⊥
-    no_refusal text (inl wrong) = elim ((comes_statement (statement_of input) (Err wrong.why) wrong.cause form).1 spelled) [
-      | inl e ↦ cc e
-      | inr e ↦ (let memory : wrong.why ≡ refusal.Memory = cc e in let none : None ≡ Some text = ap refusal_text (sym memory) ∙ wrong.is in cc none)
-    ]
-    no_refusal text (inr (inl unbound)) =
-        let same : unbound.tree ≡ form = same_tree unbound.tree form unbound.spelled spelled in
-        let clash : None ≡ Some unbound.why = sym bound ∙ ap (λ t. bind_refusal t (statement_of input) graph.catalog) (sym same) ∙ unbound.refused in cc clash
-    no_refusal text (inr (inr (inl unbuilt))) =
-        built (subst (λ t. IsUnbuilt graph (statement_of input) t) (same_tree unbuilt.tree form unbuilt.spelled spelled) unbuilt.other)
-    no_refusal text (inr (inr (inr (inl (fault, replies))))) = no_query replies.query replies.asked.spelled
-    no_refusal text (inr (inr (inr (inr replies)))) = no_query replies.query replies.asked.spelled
+  on_sample : (Says : Context → Type 0) → OnSample words Says → OnSample words (λ c. Unit {0})
+  on_sample Says sample = record { read = sample.read; given = sample.given; size = sample.size; from = sample.from; says = tt }
 
-  -- the statement of the input asks a query that is answered
-  asks : (path : List ℕ) (given : path_of words ≡ Some path) (graph : Graph) (loads : load_of path files standard ≡ Ok graph) (lines : List (List Val)) (text : List ℕ)
-      → RepliesWith graph (statement_of input) (Rows lines) text → IsQuery words files input
-  asks path given graph loads lines text replies = record { path = path; given = given; told = (graph, loads, (replies.query, replies.bound, replies.asked)) }
+  sort : (s : Status) (text : List ℕ) → Permits words (Some files) (Some input) s text → Sort s
+  sort status.Usage text p = misused refl p.0
+  sort status.NotLoaded text p = unloaded text refl p
+  sort status.TooLong text p = too_long refl (narrow _ _ (λ c text' says. says.0) p)
+  sort status.Ended text (inl over) = answered tone.Good text refl over
+  sort status.Ended text (inr sample) = sampled tone.Good refl (on_sample _ sample)
+  sort status.Refused text (inl over) = answered tone.Refused text refl over
+  sort status.Refused text (inr sample) = sampled tone.Refused refl (on_sample _ sample)
+  sort status.Memory text (inl over) = answered tone.Memory text refl over
+  sort status.Memory text (inr sample) = sampled tone.Memory refl (on_sample _ sample)
+  sort status.ReadFault text p = absurd p
+  sort status.WriteFault text p = absurd p
 
-  -- a statement that was replied to and is refused asks such a query
-  both_replies : (path : List ℕ) (given : path_of words ≡ Some path) (graph : Graph) (loads : load_of path files standard ≡ Ok graph) (text text' : List ℕ)
-      → Replies graph (statement_of input) text → IsRefused graph (statement_of input) text' → IsQuery words files input
-  both_replies path given graph loads text text' (inl blank) refused = absurd (refused.written blank.0)
-  both_replies path given graph loads text text' (inr (inl (spelled, is))) refused =
-      absurd (no_refusal graph tree.Schema spelled refl (λ unbuilt. unbuilt) (λ query same. cc same) text' refused.why)
-  both_replies path given graph loads text text' (inr (inr (inl shows))) refused =
-      absurd (no_refusal graph (tree.Plan shows.query) shows.spelled shows.binds.accepted (λ unbuilt. unbuilt) (λ query same. cc same) text' refused.why)
-  both_replies path given graph loads text text' (inr (inr (inr (lines, replies)))) refused = asks path given graph loads lines text replies
+  to_the_end : (s : Status) (t : Tone) → s ≡ status_of (Ok t) → IsToTheEnd s
+  to_the_end s tone.Good is = subst IsToTheEnd (sym is) tt
+  to_the_end s tone.Refused is = subst IsToTheEnd (sym is) tt
+  to_the_end s tone.Memory is = subst IsToTheEnd (sym is) tt
 
-  -- the statement was answered and refused
-  both_answers : (text text' : List ℕ) → Permits words (Some files) (Some input) status.Ended text → Permits words (Some files) (Some input) status.Refused text' → IsQuery words files input
-  both_answers text text' ended refused =
-      let path : ended.path ≡ refused.path = ap (path_or []) (sym ended.given ∙ refused.given) in
-      let loads : load_of refused.path files standard ≡ Ok ended.told.0 = subst (λ p. load_of p files standard ≡ Ok ended.told.0) path ended.told.1 in
-      let both : ◌≡◌ {A = Result Graph LoadRefusal} (Ok ended.told.0) (Ok refused.told.0) = sym loads ∙ refused.told.1 in
-      let same : ended.told.0 ≡ refused.told.0 = cc both in
-      both_replies refused.path refused.given refused.told.0 refused.told.1 text text' (subst (λ graph. Replies graph (statement_of input) text) same ended.told.2.1) refused.told.2.1
+  abbrev Only : Status → Status → Type 0
+  Only s s' = (s ≡ s') ⊎ AreOpen words files input s s'
 
-  pub one_status : (s s' : Status) (t t' : List ℕ) → Permits words (Some files) (Some input) s t → Permits words (Some files) (Some input) s' t' → (s ≡ s') ⊎ IsQuery words files input
-  one_status status.Usage status.Usage t t' p q = inl refl
-  one_status status.Usage status.NotLoaded t t' p q = absurd (no_words p.0 (q.0, q.1))
-  one_status status.Usage status.TooLong t t' p q = absurd (no_words p.0 (q.path, q.given))
-  one_status status.Usage status.Refused t t' p q = absurd (no_words p.0 (q.path, q.given))
-  one_status status.Usage status.Ended t t' p q = absurd (no_words p.0 (q.path, q.given))
-  one_status status.Usage status.ReadFault t t' p q = absurd q
-  one_status status.Usage status.WriteFault t t' p q = absurd q
-  one_status status.Usage status.Memory t t' p q = absurd q
-  one_status status.NotLoaded status.Usage t t' p q = absurd (no_words q.0 (p.0, p.1))
-  one_status status.NotLoaded status.NotLoaded t t' p q = inl refl
-  one_status status.NotLoaded status.TooLong t t' p q = absurd (no_load _ t p q)
-  one_status status.NotLoaded status.Refused t t' p q = absurd (no_load _ t p q)
-  one_status status.NotLoaded status.Ended t t' p q = absurd (no_load _ t p q)
-  one_status status.NotLoaded status.ReadFault t t' p q = absurd q
-  one_status status.NotLoaded status.WriteFault t t' p q = absurd q
-  one_status status.NotLoaded status.Memory t t' p q = absurd q
-  one_status status.TooLong status.Usage t t' p q = absurd (no_words q.0 (p.path, p.given))
-  one_status status.TooLong status.NotLoaded t t' p q = absurd (no_load _ t' q p)
-  one_status status.TooLong status.TooLong t t' p q = inl refl
-  one_status status.TooLong status.Refused t t' p q = absurd (no_length _ _ p q)
-  one_status status.TooLong status.Ended t t' p q = absurd (no_length _ _ p q)
-  one_status status.TooLong status.ReadFault t t' p q = absurd q
-  one_status status.TooLong status.WriteFault t t' p q = absurd q
-  one_status status.TooLong status.Memory t t' p q = absurd q
-  one_status status.Refused status.Usage t t' p q = absurd (no_words q.0 (p.path, p.given))
-  one_status status.Refused status.NotLoaded t t' p q = absurd (no_load _ t' q p)
-  one_status status.Refused status.TooLong t t' p q = absurd (no_length _ _ q p)
-  one_status status.Refused status.Refused t t' p q = inl refl
-  one_status status.Refused status.Ended t t' p q = inr (both_answers t' t q p)
-  one_status status.Refused status.ReadFault t t' p q = absurd q
-  one_status status.Refused status.WriteFault t t' p q = absurd q
-  one_status status.Refused status.Memory t t' p q = absurd q
-  one_status status.Ended status.Usage t t' p q = absurd (no_words q.0 (p.path, p.given))
-  one_status status.Ended status.NotLoaded t t' p q = absurd (no_load _ t' q p)
-  one_status status.Ended status.TooLong t t' p q = absurd (no_length _ _ q p)
-  one_status status.Ended status.Refused t t' p q = inr (both_answers t t' p q)
-  one_status status.Ended status.Ended t t' p q = inl refl
-  one_status status.Ended status.ReadFault t t' p q = absurd q
-  one_status status.Ended status.WriteFault t t' p q = absurd q
-  one_status status.Ended status.Memory t t' p q = absurd q
-  one_status status.ReadFault s' t t' p q = absurd p
-  one_status status.WriteFault s' t t' p q = absurd p
-  one_status status.Memory s' t t' p q = absurd p
+  -- two ends of one session
+  module _ (s s' : Status) (t t' : Tone) (text text' : List ℕ) (is : s ≡ status_of (Ok t)) (is' : s' ≡ status_of (Ok t'))
+      (one : OnInput (λ c i. (¬ session.IsTooLong long most i) × Replies (IsReply c) (session.statements i) t text))
+      (other : OnInput (λ c i. (¬ session.IsTooLong long most i) × Replies (IsReply c) (session.statements i) t' text')) where
+    abbrev graph : Graph
+    graph = one.told.0
+
+    loads : load_of other.path files standard ≡ Ok graph
+    loads = subst (λ p. load_of p files standard ≡ Ok graph) (paths _ one other.read other.given other.path other.from) one.told.1
+
+    same : other.told.0 ≡ graph
+    same = let both : ◌≡◌ {A = Result Graph LoadRefusal} (Ok other.told.0) (Ok graph) = sym other.told.1 ∙ loads in cc both
+
+    two_ends : Only s s'
+    two_ends =
+        let there = subst (λ g. Replies (IsReply (full g (settings_of other.read))) (session.statements input) t' text') same other.told.2.1 in
+        elim (tones_agree graph (settings_of one.read) (settings_of other.read) Full Full (session.statements input) t t' text text' one.told.2.1 there) [
+          | inl agree ↦ inl (is ∙ ap (λ u. status_of (Ok u)) agree ∙ sym is')
+          | inr (inl memory) ↦ inr (record { first = to_the_end s t is; second = to_the_end s' t' is'; why = inl (is ∙ ap (λ u. status_of (Ok u)) memory) })
+          | inr (inr (inl memory)) ↦ inr (record { first = to_the_end s t is; second = to_the_end s' t' is'; why = inr (inl (is' ∙ ap (λ u. status_of (Ok u)) memory)) })
+          | inr (inr (inr asks)) ↦ inr (record {
+            first = to_the_end s t is;
+            second = to_the_end s' t' is';
+            why = inr (inr (inr (narrow _ AsksQuery (λ c i says. says) (record {
+              read = one.read;
+              given = one.given;
+              path = one.path;
+              from = one.from;
+              told = (graph, one.told.1, record { place = asks.place; statement = asks.statement; at = asks.at; query = asks.asks.query; bound = asks.asks.bound; asked = asks.asks.asked });
+            }))));
+          })
+        ]
+
+  one_by : (s s' : Status) → Sort s → Sort s' → Only s s'
+  one_by s s' (misused is m) (misused is' m') = inl (is ∙ sym is')
+  one_by s s' (misused is m) (unloaded text is' n) = absurd (not_misused words n.read m n.given)
+  one_by s s' (misused is m) (too_long is' o) = absurd (not_misused words o.read m o.given)
+  one_by s s' (misused is m) (answered t text is' o) = absurd (not_misused words o.read m o.given)
+  one_by s s' (misused is m) (sampled t is' o) = absurd (not_misused words o.read m o.given)
+  one_by s s' (unloaded text is n) (misused is' m) = absurd (not_misused words n.read m n.given)
+  one_by s s' (unloaded text is n) (unloaded text' is' n') = inl (is ∙ sym is')
+  one_by s s' (unloaded text is n) (too_long is' o) = absurd (no_load _ text n o)
+  one_by s s' (unloaded text is n) (answered t text' is' o) = absurd (no_load _ text n o)
+  one_by s s' (unloaded text is n) (sampled t is' o) = absurd (not_unloaded text n _ o)
+  one_by s s' (too_long is o) (misused is' m) = absurd (not_misused words o.read m o.given)
+  one_by s s' (too_long is o) (unloaded text is' n) = absurd (no_load _ text n o)
+  one_by s s' (too_long is o) (too_long is' o') = inl (is ∙ sym is')
+  one_by s s' (too_long is o) (answered t text is' o') = absurd (o'.told.2.0 o.told.2)
+  one_by s s' (too_long is o) (sampled t is' o') = absurd (no_input _ o'.read o'.given o'.size o'.from o)
+  one_by s s' (answered t text is o) (misused is' m) = absurd (not_misused words o.read m o.given)
+  one_by s s' (answered t text is o) (unloaded text' is' n) = absurd (no_load _ text' n o)
+  one_by s s' (answered t text is o) (too_long is' o') = absurd (o.told.2.0 o'.told.2)
+  one_by s s' (answered t text is o) (answered t' text' is' o') = two_ends s s' t t' text text' is is' o o'
+  one_by s s' (answered t text is o) (sampled t' is' o') = absurd (no_input _ o'.read o'.given o'.size o'.from o)
+  one_by s s' (sampled t is o) (misused is' m) = absurd (not_misused words o.read m o.given)
+  one_by s s' (sampled t is o) (unloaded text is' n) = absurd (not_unloaded text n _ o)
+  one_by s s' (sampled t is o) (too_long is' o') = absurd (no_input _ o.read o.given o.size o.from o')
+  one_by s s' (sampled t is o) (answered t' text is' o') = absurd (no_input _ o.read o.given o.size o.from o')
+  one_by s s' (sampled t is o) (sampled t' is' o') = inr (record { first = to_the_end s t is; second = to_the_end s' t' is'; why = inr (inr (inl o)) })
+
+  pub one_status : (s s' : Status) (t t' : List ℕ) → Permits words (Some files) (Some input) s t → Permits words (Some files) (Some input) s' t' → Only s s'
+  one_status s s' t t' p q = one_by s s' (sort s t p) (sort s' t' q)
 
 module _ (words : List (List ℕ)) (outside : Outside) (files : Names) (input : List ℕ) (held : outside.held ≡ Some files) (left : outside.left ≡ Some input) where
   told : (answer : Status) (text : List ℕ) → Permits words outside.held outside.left answer text → Permits words (Some files) (Some input) answer text
   told answer text may = subst (λ l. Permits words (Some files) l answer text) left (subst (λ h. Permits words h outside.left answer text) held may)
 
-  answered : (answer : Status) (text : List ℕ) → Permits words outside.held outside.left answer text → Appends outside.taken outside.took text
-      → IsAnswered words files input answer outside.taken outside.took
-  answered answer text may moved = record {
+  is_whole : (answer : Status) (text : List ℕ) → Permits words outside.held outside.left answer text → Appends outside.taken outside.took text
+      → IsWhole words files input answer outside.taken outside.took
+  is_whole answer text may moved = record {
     text = text;
     permitted = told answer text may;
     written = moved;
@@ -159,18 +190,24 @@ module _ (words : List (List ℕ)) (outside : Outside) (files : Names) (input : 
   }
 
 pub whole : (words : List (List ℕ)) (outside : Outside) (answer : Status) → Runs words outside answer → Whole words outside answer
-whole words outside status.Usage run files input held left no_files no_input no_out memory = answered words outside files input held left status.Usage run.ends.text run.ends.permitted run.ends.moved
-whole words outside status.NotLoaded run files input held left no_files no_input no_out memory = answered words outside files input held left status.NotLoaded run.ends.text run.ends.permitted run.ends.moved
-whole words outside status.TooLong run files input held left no_files no_input no_out memory = answered words outside files input held left status.TooLong run.ends.text run.ends.permitted run.ends.moved
-whole words outside status.Refused run files input held left no_files no_input no_out memory = answered words outside files input held left status.Refused run.ends.text run.ends.permitted run.ends.moved
-whole words outside status.Ended run files input held left no_files no_input no_out memory = answered words outside files input held left status.Ended run.ends.text run.ends.permitted run.ends.moved
-whole words outside status.ReadFault run files input held left no_files no_input no_out memory = absurd (elim run.ends.1 [ inl rose ↦ no_files rose | inr rose ↦ no_input rose ])
-whole words outside status.WriteFault run files input held left no_files no_input no_out memory = absurd (no_out run.ends.1)
-whole words outside status.Memory run files input held left no_files no_input no_out memory = absurd (memory refl)
+whole words outside status.Usage run files input held left no_files no_input no_out = inr (is_whole words outside files input held left status.Usage run.ends.text run.ends.permitted run.ends.moved)
+whole words outside status.NotLoaded run files input held left no_files no_input no_out = inr (is_whole words outside files input held left status.NotLoaded run.ends.text run.ends.permitted run.ends.moved)
+whole words outside status.TooLong run files input held left no_files no_input no_out = inr (is_whole words outside files input held left status.TooLong run.ends.text run.ends.permitted run.ends.moved)
+whole words outside status.Refused run files input held left no_files no_input no_out = inr (is_whole words outside files input held left status.Refused run.ends.text run.ends.permitted run.ends.moved)
+whole words outside status.Ended run files input held left no_files no_input no_out = inr (is_whole words outside files input held left status.Ended run.ends.text run.ends.permitted run.ends.moved)
+whole words outside status.Memory run files input held left no_files no_input no_out = elim run.ends [
+  | inl kept ↦ inl (refl, kept)
+  | inr wrote ↦ inr (is_whole words outside files input held left status.Memory wrote.text wrote.permitted wrote.moved)
+]
+whole words outside status.ReadFault run files input held left no_files no_input no_out = elim run.ends [
+  | inl load ↦ absurd (no_files load.1)
+  | inr session ↦ absurd (no_input session.1)
+]
+whole words outside status.WriteFault run files input held left no_files no_input no_out = absurd (no_out run.ends.1)
 
 pub read_fault : (words : List (List ℕ)) (outside : Outside) (answer : Status) → Runs words outside answer → answer ≡ status.ReadFault
     → Rose outside.files_faults.before outside.files_faults.now ⊎ Rose outside.input_faults.before outside.input_faults.now
-read_fault words outside answer run is = let ends = rw is at run.ends in ends.1
+read_fault words outside answer run is = let ends = rw is at run.ends in elim ends [ inl load ↦ inl load.1 | inr session ↦ inr session.1 ]
 
 pub write_fault : (words : List (List ℕ)) (outside : Outside) (answer : Status) → Runs words outside answer → answer ≡ status.WriteFault
     → Rose outside.out_faults.before outside.out_faults.now

@@ -1,12 +1,15 @@
 -- From the parts of a run to the whole run.
-use Rattle.std.proofs.Common.{◌≡◌, ℕ, ◌<◌, ◌≤◌, List, [], length, Some, None, refl, sym, subst, arith, inl}
-use Rattle.std.specs.Prelude.{Option, IfSome, Result, Ok, Err}
+use Rattle.std.proofs.Common.{◌≡◌, ℕ, ◌+◌, ◌≤◌, List, [], codes, length, Some, None, refl, sym, ap, ◌∙◌, subst, arith, inl, inr}
+use Rattle.std.specs.Prelude.{◌⊎◌, Option, IfSome, Result, Ok, Err}
+use Rattle.std.specs.Io.KnownBytes.{Appends, Keeps}
+use Rattle.std.specs.Borrow.{Bor}
+use Rattle.clap.specs.Words.{Row, Text, first_of}
 use Rattle.gq_base.specs.Plain.{Graph}
-use Rattle.gq_io.specs.Outside.{Names}
-use Rattle.gq_io.specs.Reading.{ReadsWithin}
-use Rattle.gq_io.specs.declared.ReadFile.{ReadFile}
-use Rattle.gq_io.specs.declared.ReadStop.{ReadStop}
-use Rattle.gq_io.proofs.Moved.{Appends-none, Consumes-none}
+use Rattle.gq_execute.specs.declared.settings.Settings.{Settings}
+use Rattle.gq_io.specs.Causes.{HasCause, Rose}
+use Rattle.gq_io.specs.Outside.{AppendsFront, Names, Writes}
+use Rattle.gq_io.specs.declared.Failed.{Failed}
+use Rattle.gq_io.proofs.Moved.{Consumes-none}
 use Rattle.gq_loader.specs.Answers.{Answers}
 use Rattle.gq_loader.specs.Effects.{ByFault}
 use Rattle.gq_loader.specs.Limits.{standard}
@@ -14,138 +17,214 @@ use Rattle.gq_loader.specs.Loads.{load_of}
 use Rattle.gq_loader.specs.Refusals.{IsOfFiles}
 use Rattle.gq_loader.specs.declared.refusal.LoadRefusal.{LoadRefusal}
 use Rattle.gq_loader.specs.declared.refusal.LoadRefusal.TheVariants as refusal
+use Rattle.gq_reply.specs.Replies.{Context, IsReply}
+use Rattle.gq_session.specs.Replies as replies
+use Rattle.gq_session.specs.Sessions.{Session, Span}
+use Rattle.gq_session.specs.Whole as session
+use Rattle.gq_session.specs.declared.answering.Tone.{Tone}
+use Rattle.gq_session.specs.declared.answering.Tone.TheVariants as tone
+use Rattle.gq_session.specs.declared.run.Stop.{Stop}
+use Rattle.gq_session.specs.declared.run.Stop.TheVariants as stop
+use Rattle.gq_shell.specs.Claim.{Ends, IsPath, Outside, Over, Permits, Refuses, Runs, WroteFront, full, long, most, settings_of, short, usage_text}
 use Rattle.gq_shell.specs.LoadLines.{load_line}
-use Rattle.gq_shell.specs.Claim.{Ends, IsTooLong, Outside, Over, Permits, Refuses, Runs, path_of}
-use Rattle.gq_shell.specs.Steps.{EndsLoad, Finishes, MayAnswer, MayRefuseLoad, MayRefuseWords}
+use Rattle.gq_shell.specs.Questions.{IsNumbered, questions}
+use Rattle.gq_shell.specs.Statuses.{status_of}
+use Rattle.gq_shell.specs.Steps.{EndsLoad, Quizzed, Served, Told, told}
 use Rattle.gq_shell.specs.declared.status.Status.{Status}
 use Rattle.gq_shell.specs.declared.status.Status.TheVariants as status
+use Rattle.gq_words.specs.Meaning.{IsSource, Means}
+use Rattle.gq_words.specs.Reading.{IsMisused, IsRead}
+use Rattle.gq_words.specs.declared.meaning.Source.TheVariants as source
+use Rattle.gq_words.specs.declared.meaning.Words.{Words}
 
--- a part of the run may answer only what the run may
-abbrev pub IsPermitted : List (List ℕ) → Outside → (Status → List ℕ → Type 0) → Type 0
-IsPermitted words outside May = (answer : Status) (text : List ℕ) → May answer text → Permits words outside.held outside.left answer text
+-- a line ended the run, or the sink failed in it
+pub told_by : (text : List ℕ) (s : Status) (out : Span) (written : Result (Unit {0}) Failed) → Writes out.old out.new text written → HasCause out.before out.now written
+    → (answer : Status) → answer ≡ told written s → Told text s out answer
+told_by text s out (Ok done) bytes cause answer is = inl (is, bytes)
+told_by text s out (Err failed) bytes cause answer is = inr (is, bytes, cause.failed)
 
-pub ended : (words : List (List ℕ)) (outside : Outside) (May : Status → List ℕ → Type 0) → IsPermitted words outside May → (answer : Status)
-    → Finishes May outside.taken outside.took outside.out_faults.before outside.out_faults.now answer → Ends words outside answer
-ended words outside May permits status.WriteFault ((answer, text, may, front), rose) = (record { answer = answer; text = text; permitted = permits answer text may; moved = front }, rose)
-ended words outside May permits status.Ended (text, may, moved) = record { text = text; permitted = permits status.Ended text may; moved = moved }
-ended words outside May permits status.Refused (text, may, moved) = record { text = text; permitted = permits status.Refused text may; moved = moved }
-ended words outside May permits status.Usage (text, may, moved) = record { text = text; permitted = permits status.Usage text may; moved = moved }
-ended words outside May permits status.NotLoaded (text, may, moved) = record { text = text; permitted = permits status.NotLoaded text may; moved = moved }
-ended words outside May permits status.TooLong (text, may, moved) = record { text = text; permitted = permits status.TooLong text may; moved = moved }
-ended words outside May permits status.ReadFault (text, may, moved) = absurd (permits status.ReadFault text may)
-ended words outside May permits status.Memory kept = kept
+abbrev pub input_of : Outside → Span
+input_of o = record { old = o.left; new = o.unread; before = o.input_faults.before; now = o.input_faults.now }
 
--- a run that read no input
-pub unread : (words : List (List ℕ)) (outside : Outside) (answer : Status) → outside.unread ≡ outside.left → Ends words outside answer → Runs words outside answer
-unread words outside answer same ends = record { eaten = []; ate = rw same (Consumes-none outside.left); few = grind arith; ends = ends }
+abbrev pub out_of : Outside → Span
+out_of o = record { old = o.taken; new = o.took; before = o.out_faults.before; now = o.out_faults.now }
 
-pub words_refused : (words : List (List ℕ)) (outside : Outside) → path_of words ≡ None → IsPermitted words outside MayRefuseWords
-words_refused words outside none status.Usage text may = (none, may)
-words_refused words outside none status.Ended text may = absurd may
-words_refused words outside none status.Refused text may = absurd may
-words_refused words outside none status.NotLoaded text may = absurd may
-words_refused words outside none status.ReadFault text may = absurd may
-words_refused words outside none status.WriteFault text may = absurd may
-words_refused words outside none status.Memory text may = absurd may
-words_refused words outside none status.TooLong text may = absurd may
+-- an option that is told one thing is not told another
+same_told : (left : Option (List ℕ)) (a b : List ℕ) → left ≡ Some a → left ≡ Some b → a ≡ b
+same_told left a b p q = let e : ◌≡◌ {A = Option (List ℕ)} (Some a) (Some b) = sym p ∙ q in cc e
 
-refused : (held : Option Names) (path text : List ℕ) (e : LoadRefusal) → IsOfFiles e → IfSome held (λ files. load_of path files standard ≡ Err e) → text ≡ load_line e
-    → IfSome held (λ files. Refuses (load_of path files standard) text)
-refused None path text e ours is says = tt
-refused (Some files) path text e ours is says = subst (λ r. Refuses r text) (sym is) (ours, says)
+not_told : {R : Type 0} (a : List ℕ) → ◌≡◌ {A = Option (List ℕ)} None (Some a) → R
+not_told a e = cc e
 
-module _ (words : List (List ℕ)) (outside : Outside) (path : List ℕ) (path_is : path_of words ≡ Some path) where
-  pub load_refused : (e : LoadRefusal) → IsOfFiles e → IfSome outside.held (λ files. load_of path files standard ≡ Err e) → IsPermitted words outside (MayRefuseLoad e)
-  load_refused e ours is status.NotLoaded text may = (path, path_is, refused outside.held path text e ours is may)
-  load_refused e ours is status.Ended text may = absurd may
-  load_refused e ours is status.Refused text may = absurd may
-  load_refused e ours is status.Usage text may = absurd may
-  load_refused e ours is status.ReadFault text may = absurd may
-  load_refused e ours is status.WriteFault text may = absurd may
-  load_refused e ours is status.Memory text may = absurd may
-  load_refused e ours is status.TooLong text may = absurd may
+refuses : (held : Option Names) (path : List ℕ) (e : LoadRefusal) → IsOfFiles e → IfSome held (λ files. load_of path files standard ≡ Err e)
+    → IfSome held (λ files. Refuses (load_of path files standard) (load_line e))
+refuses None path e ours is = tt
+refuses (Some files) path e ours is = subst (λ r. Refuses r (load_line e)) (sym is) (ours, refl)
 
-  over : (held : Option Names) (left : Option (List ℕ)) (graph : Graph) (Says : Graph → List ℕ → Type 0) → IfSome held (λ files. load_of path files standard ≡ Ok graph)
-      → IfSome left (Says graph) → Over words held left Says
-  over None left graph Says is says = record { path = path; given = path_is; told = tt }
-  over (Some files) None graph Says is says = record { path = path; given = path_is; told = tt }
-  over (Some files) (Some input) graph Says is says = record { path = path; given = path_is; told = (graph, is, says) }
+-- the sizes of samples that words may say
+sample_size : (m s : Option Text) (size : ℕ) → IsSource m s (source.Sample size) → (1 ≤ size) × (size ≤ 1000000)
+sample_size (Some path) None size is = absurd is
+sample_size (Some path) (Some text) size is = absurd is
+sample_size None None size is = absurd is
+sample_size None (Some text) size is = (is.least, is.most)
 
-  said : (left : Option (List ℕ)) (bytes : List ℕ) (P : List ℕ → Type 0) → IfSome left (λ all. bytes ≡ all) → P bytes → IfSome left P
-  said None bytes P is p = tt
-  said (Some all) bytes P is p = subst P is p
+pub sample_sizes : (found : List Row) (read : Words) (size : ℕ) → Means found read → read.source ≡ source.Sample size → (1 ≤ size) × (size ≤ 1000000)
+sample_sizes found read size means from = sample_size (first_of (codes "manifest") found) (first_of (codes "sample") found) size
+    (subst (λ s. IsSource (first_of (codes "manifest") found) (first_of (codes "sample") found) s) from means.source)
 
-  pub answered : (graph : Graph) (bytes : List ℕ) → IfSome outside.held (λ files. load_of path files standard ≡ Ok graph) → IfSome outside.left (λ all. bytes ≡ all)
-      → IsPermitted words outside (MayAnswer graph bytes)
-  answered graph bytes is whole status.Ended text may = over outside.held outside.left graph _ is (said outside.left bytes _ whole may)
-  answered graph bytes is whole status.Refused text may = over outside.held outside.left graph _ is (said outside.left bytes _ whole may)
-  answered graph bytes is whole status.TooLong text may = over outside.held outside.left graph _ is (said outside.left bytes _ whole may)
-  answered graph bytes is whole status.Usage text may = absurd may
-  answered graph bytes is whole status.NotLoaded text may = absurd may
-  answered graph bytes is whole status.ReadFault text may = absurd may
-  answered graph bytes is whole status.WriteFault text may = absurd may
-  answered graph bytes is whole status.Memory text may = absurd may
+-- the path that the words name
+pub path_said : (read : Words) (manifest : Bor Text) → read.source ≡ source.Manifest manifest → IsPath manifest.now read.source
+path_said read manifest is = subst (IsPath manifest.now) (sym is) refl
 
-  abbrev no_bytes : List ℕ
-  no_bytes = []
+-- a session that was had over a buffer of the longest statement
+pub served : (graph : Graph) (settings : Settings) (n : ℕ) (input out : Span) (result : Result Tone Stop) (answer : Status) → n ≡ long → answer ≡ status_of result
+    → Session (IsReply (full graph settings)) n most input out result → session.Whole (IsReply (full graph settings)) n most input out result → Served graph settings input out answer
+served graph settings n input out result answer size is read whole = inr (record {
+  result = result;
+  is = is;
+  read = subst (λ m. Session (IsReply (full graph settings)) m most input out result) size read;
+  whole = subst (λ m. session.Whole (IsReply (full graph settings)) m most input out result) size whole;
+})
 
-  longer : (left : Option (List ℕ)) → IfSome left (λ all. 65537 < length all) → IfSome left (λ input. IsTooLong input × (no_bytes ≡ []))
-  longer None long = tt
-  longer (Some all) long = (inl long, refl)
+module _ (words : List (List ℕ)) (o : Outside) where
+  -- a run that read no input
+  unread : (answer : Status) → o.unread ≡ o.left → Ends words o answer → Runs words o answer
+  unread answer same ends = record { eaten = []; ate = rw same (Consumes-none o.left); few = grind arith; ends = ends }
 
-  pub too_long : (graph : Graph) → IfSome outside.held (λ files. load_of path files standard ≡ Ok graph) → IfSome outside.left (λ all. 65537 < length all)
-      → outside.took ≡ outside.taken → Ends words outside status.TooLong
-  too_long graph is long same = record {
-    text = no_bytes;
-    permitted = over outside.held outside.left graph _ is (longer outside.left long);
-    moved = rw same (Appends-none outside.taken);
-  }
+  -- there was not enough memory, and nothing was written
+  pub exit_memory : (answer : Status) → answer ≡ status.Memory → o.unread ≡ o.left → Keeps o.taken o.took → Runs words o answer
+  exit_memory answer is same kept = rw is (unread status.Memory same (inl kept))
 
-second : {A : Type 0} (o : Option A) (P Q : A → Type 0) → IfSome o (λ a. P a × Q a) → IfSome o Q
-second None P Q h = tt
-second (Some a) P Q h = h.1
+  broken_line : (answer s : Status) (text : List ℕ) → Permits words o.held o.left s text → answer ≡ status.WriteFault → AppendsFront o.taken o.took text → Rose o.out_faults.before o.out_faults.now
+      → o.unread ≡ o.left → Runs words o answer
+  broken_line answer s text permitted is front rose same =
+      rw is (unread status.WriteFault same (record { answer = s; text = text; permitted = permitted; moved = front }, rose))
 
--- ---- the exits of a run
+  pub exit_misused : (answer : Status) → IsMisused words → o.unread ≡ o.left → Told usage_text status.Usage (out_of o) answer → Runs words o answer
+  exit_misused answer misused same (inl (is, moved)) = rw is (unread status.Usage same (record { text = usage_text; permitted = (misused, refl); moved = moved }))
+  exit_misused answer misused same (inr (is, front, rose)) = broken_line answer status.Usage usage_text (misused, refl) is front rose same
 
-module _ (words : List (List ℕ)) (outside : Outside) (answer : Status) where
-  abbrev Finished : (Status → List ℕ → Type 0) → Type 0
-  Finished May = Finishes May outside.taken outside.took outside.out_faults.before outside.out_faults.now answer
+  module _ (read : Words) (given : IsRead words read) where
+    module _ (path : List ℕ) (from : IsPath path read.source) where
+      exit_line : (answer : Status) (e : LoadRefusal) → IfSome o.held (λ files. Refuses (load_of path files standard) (load_line e)) → o.unread ≡ o.left
+          → Told (load_line e) status.NotLoaded (out_of o) answer → Runs words o answer
+      exit_line answer e refused same (inl (is, moved)) = rw is (unread status.NotLoaded same (record {
+        text = load_line e;
+        permitted = record { read = read; given = given; path = path; from = from; told = refused };
+        moved = moved;
+      }))
+      exit_line answer e refused same (inr (is, front, rose)) =
+          broken_line answer status.NotLoaded (load_line e) (record { read = read; given = given; path = path; from = from; told = refused }) is front rose same
 
-  pub exit_words : path_of words ≡ None → outside.unread ≡ outside.left → Finished MayRefuseWords → Runs words outside answer
-  exit_words none same finished = unread words outside answer same (ended words outside MayRefuseWords (words_refused words outside none) answer finished)
+      -- the load gave no graph
+      pub exit_refused : (answer : Status) (graph : Result Graph LoadRefusal) (e : LoadRefusal) → graph ≡ Err e → Answers o.held (λ files. load_of path files standard) graph
+          → ByFault o.files_faults.before o.files_faults.now graph → o.unread ≡ o.left → EndsLoad e (out_of o) answer → Runs words o answer
+      exit_refused answer graph (refusal.ReadFault name) is loads fault same (kept, ends) =
+          rw ends (unread status.ReadFault same (inl (kept, fault.failed name is)))
+      exit_refused answer graph refusal.Memory is loads fault same (kept, ends) = exit_memory answer ends same kept
+      exit_refused answer graph e is loads fault same ends =
+          let meant : Answers o.held (λ files. load_of path files standard) (Err e) = rw is at loads in
+          exit_line answer e (refuses o.held path e tt (meant tt)) same ends
 
-  module _ (path : List ℕ) (path_is : path_of words ≡ Some path) where
-    abbrev Meant : Result Graph LoadRefusal → Type 0
-    Meant graph = Answers outside.held (λ files. load_of path files standard) graph
+      module _ (graph : Graph) (loads : IfSome o.held (λ files. load_of path files standard ≡ Ok graph)) where
+        abbrev here : Context
+        here = full graph (settings_of read)
 
-    -- the load was refused, and its line was written
-    exit_line : (e : LoadRefusal) → IsOfFiles e → Meant (Err e) → outside.unread ≡ outside.left → Finished (MayRefuseLoad e) → Runs words outside answer
-    exit_line e ours loads same finished = unread words outside answer same (ended words outside _ (load_refused words outside path path_is e ours (loads ours)) answer finished)
+        -- what holds of the input where it is told holds of the run
+        over : (held : Option Names) (left : Option (List ℕ)) (Says : Context → List ℕ → Type 0) → IfSome held (λ files. load_of path files standard ≡ Ok graph)
+            → ((text : List ℕ) → left ≡ Some text → Says here text) → Over words held left Says
+        over None left Says is says = record { read = read; given = given; path = path; from = from; told = tt }
+        over (Some files) None Says is says = record { read = read; given = given; path = path; from = from; told = tt }
+        over (Some files) (Some input) Says is says = record { read = read; given = given; path = path; from = from; told = (graph, is, says input refl) }
 
-    -- the load gave no graph
-    pub exit_refused : (graph : Result Graph LoadRefusal) (e : LoadRefusal) → graph ≡ Err e → Meant graph
-        → ByFault outside.files_faults.before outside.files_faults.now graph → outside.unread ≡ outside.left
-        → EndsLoad e outside.taken outside.took outside.out_faults.before outside.out_faults.now answer → Runs words outside answer
-    exit_refused graph (refusal.ReadFault name) is loads fault same finished = unread words outside answer same (rw finished.1 (finished.0, inl (fault.failed name is)))
-    exit_refused graph refusal.Memory is loads fault same finished = unread words outside answer same (rw finished.1 finished.0)
-    exit_refused graph e is loads fault same finished = exit_line e tt (rw is at loads) same finished
+        abbrev May : Result Tone Stop → List ℕ → List ℕ → Type 0
+        May result text input = session.Permits (IsReply here) long most input result text
 
-    pub exit_answered : (graph : Graph) (bytes : List ℕ) (read : Result ReadFile ReadStop) → IfSome outside.held (λ files. load_of path files standard ≡ Ok graph)
-        → ReadsWithin 65537 outside.left outside.unread read → IfSome outside.left (λ all. (length all ≤ 65537) × (bytes ≡ all))
-        → Finished (MayAnswer graph bytes) → Runs words outside answer
-    exit_answered graph bytes read is within whole finished = record {
-      eaten = within.eaten;
-      ate = within.took;
-      few = within.few;
-      ends = ended words outside _ (answered words outside path path_is graph bytes is (second outside.left _ _ whole)) answer finished;
-    }
+        -- what holds of the input that is told holds of each that is
+        of_told : (input : List ℕ) → o.left ≡ Some input → (P : List ℕ → Type 0) → P input → (other : List ℕ) → o.left ≡ Some other → P other
+        of_told input is P p other told = subst P (same_told o.left input other is told) p
 
-    pub exit_too_long : (graph : Graph) (read : Result ReadFile ReadStop) → IfSome outside.held (λ files. load_of path files standard ≡ Ok graph)
-        → ReadsWithin 65537 outside.left outside.unread read → IfSome outside.left (λ all. 65537 < length all)
-        → outside.took ≡ outside.taken → answer ≡ status.TooLong → Runs words outside answer
-    exit_too_long graph read is within long same answer_is = record {
-      eaten = within.eaten;
-      ate = within.took;
-      few = within.few;
-      ends = rw answer_is (too_long words outside path path_is graph is long same);
-    }
+        -- the text that was written, which is permitted where the input is told
+        abbrev Written : Result Tone Stop → Type 0
+        Written result = (text : List ℕ) × ((input : List ℕ) → o.left ≡ Some input → May result text input) × Appends o.taken o.took text
+
+        written : (result : Result Tone Stop) (left : Option (List ℕ)) → o.left ≡ left → (text : List ℕ) → Appends o.taken o.took text
+            → ((input : List ℕ) → o.left ≡ Some input → session.Wholly (IsReply here) long most input result o.taken o.took) → Written result
+        written result None is text moved whole = (text, (λ input told. not_told input (sym is ∙ told)), moved)
+        written result (Some input) is text moved whole =
+            let w = whole input is in
+            (w.replies, of_told input is (May result w.replies) w.permitted, w.moved)
+
+        finished : (t : Tone) → Written (Ok t) → Ends words o (status_of (Ok t))
+        finished tone.Good (text, may, moved) = record { text = text; permitted = inl (over o.held o.left _ loads may); moved = moved }
+        finished tone.Refused (text, may, moved) = record { text = text; permitted = inl (over o.held o.left _ loads may); moved = moved }
+        finished tone.Memory (text, may, moved) = inr (record { text = text; permitted = inl (over o.held o.left _ loads may); moved = moved })
+
+        -- a front of what a session over the input permits
+        front_of : (input : List ℕ) → o.left ≡ Some input → (result : Result Tone Stop) (text : List ℕ) → May result text input → AppendsFront o.taken o.took text
+            → WroteFront words o.held o.left o.taken o.took
+        front_of input is (Ok tone.Good) text may moved = record { answer = status.Ended; text = text; permitted = inl (over o.held o.left _ loads (of_told input is (May (Ok tone.Good) text) may)); moved = moved }
+        front_of input is (Ok tone.Refused) text may moved = record { answer = status.Refused; text = text; permitted = inl (over o.held o.left _ loads (of_told input is (May (Ok tone.Refused) text) may)); moved = moved }
+        front_of input is (Ok tone.Memory) text may moved = record { answer = status.Memory; text = text; permitted = inl (over o.held o.left _ loads (of_told input is (May (Ok tone.Memory) text) may)); moved = moved }
+        front_of input is (Err stop.TooLong) text may moved = record { answer = status.TooLong; text = text; permitted = over o.held o.left _ loads (of_told input is (May (Err stop.TooLong) text) may); moved = moved }
+        front_of input is (Err stop.Read) text may moved = absurd may
+        front_of input is (Err stop.Write) text may moved = absurd may
+
+        -- any front, where the input is not told
+        front_untold : o.left ≡ None → (text : List ℕ) → AppendsFront o.taken o.took text → WroteFront words o.held o.left o.taken o.took
+        front_untold none text moved = record {
+          answer = status.Ended;
+          text = text;
+          permitted = inl (over o.held o.left _ loads (λ input told. not_told input (sym none ∙ told)));
+          moved = moved;
+        }
+
+        abbrev Had : Result Tone Stop → Type 0
+        Had result = Session (IsReply here) long most (input_of o) (out_of o) result
+
+        abbrev HadWhole : Result Tone Stop → Type 0
+        HadWhole result = session.Whole (IsReply here) long most (input_of o) (out_of o) result
+
+        broke : (left : Option (List ℕ)) → o.left ≡ left → Had (Err stop.Write) → HadWhole (Err stop.Write) → WroteFront words o.held o.left o.taken o.took
+        broke (Some input) is read whole = let p = (whole input is).0 in front_of input is p.result p.replies p.permitted p.moved
+        broke None is read whole = elim read.ends.0 [
+          | inl part ↦ front_untold is part.wrote.text part.wrote.moved
+          | inr end ↦ front_untold is end.1.text end.1.moved
+        ]
+
+        not_read : Had (Err stop.Read) → HadWhole (Err stop.Read) → Ends words o status.ReadFault
+        not_read read whole = inr (over o.held o.left _ loads (λ input told. (whole input told).0), read.ends.2)
+
+        ended : (result : Result Tone Stop) → Had result → HadWhole result → Ends words o (status_of result)
+        ended (Ok t) read whole = finished t (written (Ok t) o.left refl read.ends.2.text read.ends.2.moved whole)
+        ended (Err stop.TooLong) read whole =
+            let (text, may, moved) = written (Err stop.TooLong) o.left refl read.ends.2.text read.ends.2.moved whole in
+            record { text = text; permitted = over o.held o.left _ loads may; moved = moved }
+        ended (Err stop.Read) read whole = not_read read whole
+        ended (Err stop.Write) read whole = (broke o.left refl read whole, read.ends.1)
+
+        pub exit_served : (answer : Status) → Served graph (settings_of read) (input_of o) (out_of o) answer → Runs words o answer
+        exit_served answer (inl (is, same, kept)) = exit_memory answer is same kept
+        exit_served answer (inr served) = rw served.is (record {
+          eaten = served.read.eaten;
+          ate = served.read.took;
+          few = served.read.few;
+          ends = ended served.result served.read served.whole;
+        })
+
+    module _ (size : ℕ) (from : read.source ≡ source.Sample size) where
+      shown : (t : Tone) → replies.Wrote (IsNumbered (short size (settings_of read))) questions t o.taken o.took → Ends words o (status_of (Ok t))
+      shown tone.Good w = record { text = w.text; permitted = inr (record { read = read; given = given; size = size; from = from; says = w.replies }); moved = w.moved }
+      shown tone.Refused w = record { text = w.text; permitted = inr (record { read = read; given = given; size = size; from = from; says = w.replies }); moved = w.moved }
+      shown tone.Memory w = inr (record { text = w.text; permitted = inr (record { read = read; given = given; size = size; from = from; says = w.replies }); moved = w.moved })
+
+      part_shown : (t : Tone) (text : List ℕ) → replies.Replies (IsNumbered (short size (settings_of read))) questions t text → AppendsFront o.taken o.took text
+          → WroteFront words o.held o.left o.taken o.took
+      part_shown tone.Good text says moved = record { answer = status.Ended; text = text; permitted = inr (record { read = read; given = given; size = size; from = from; says = says }); moved = moved }
+      part_shown tone.Refused text says moved = record { answer = status.Refused; text = text; permitted = inr (record { read = read; given = given; size = size; from = from; says = says }); moved = moved }
+      part_shown tone.Memory text says moved = record { answer = status.Memory; text = text; permitted = inr (record { read = read; given = given; size = size; from = from; says = says }); moved = moved }
+
+      pub exit_quizzed : (answer : Status) → o.unread ≡ o.left → Quizzed size (settings_of read) (out_of o) answer → Runs words o answer
+      exit_quizzed answer same (inl (is, kept)) = exit_memory answer is same kept
+      exit_quizzed answer same (inr (inl (t, is, wrote))) = rw is (unread (status_of (Ok t)) same (shown t wrote))
+      exit_quizzed answer same (inr (inr (is, front, rose))) = rw is (unread status.WriteFault same (part_shown front.tone front.text front.replies front.moved, rose))

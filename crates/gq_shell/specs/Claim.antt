@@ -1,21 +1,13 @@
 -- The claim of `run`: which status the program answers for its words, the files and its input, and what it writes.
--- It rests on `load_of` (which graph the files give), `IsBound` (what a query stands for over it), `IsPermitted` (which rows,
--- or which refusal, openCypher permits), `reply_text`, `schema_text`, `IsPlanText` and `load_line` (how a reply is spelled), `statement_of`
--- (the statement),
--- `SpelledText` and `Cause` (the tree that its tokens spell, or where they go wrong), and `bind_refusal` and `bind_line` (why a
--- query cannot be bound).
-use Rattle.std.specs.Prelude.{◌≡◌, ◌≢◌, ◌⊎◌, ℕ, ◌<◌, ◌≤◌, List, [], ◌∷◌, ◌++◌, length, codes, decimal, Option, Some, None, Result, Ok, Err, IfSome, if◌then◌else◌}
-use Rattle.std.specs.Str.{bytes_eq}
+-- It rests on `IsRead` and `IsMisused` (what the words say), `load_of` (which graph the files give) and `load_line` (how a
+-- refused load is spelled), `sample_graph` and `questions` (the sample), `statements` (how an input is cut), `IsTooLong`
+-- (which inputs are refused), and `IsReply` (which replies a statement may have, and what each is like).
+use Rattle.std.specs.Prelude.{◌≡◌, ◌⊎◌, ℕ, ◌+◌, ◌≤◌, List, length, codes, Option, Some, Result, Ok, Err, IfSome, slice_get}
 use Rattle.std.specs.Io.KnownBytes.{Appends, Consumes, Keeps}
 use Rattle.gq_base.specs.Plain.{Graph}
-use Rattle.gq_base.specs.Values.{Val}
-use Rattle.gq_binder.specs.Binding.{IsBound}
-use Rattle.gq_binder.specs.Refusals.{first_refusal}
-use Rattle.gq_binder.specs.declared.refusal.BindRefusal.{BindRefusal}
-use Rattle.gq_execute.specs.Replies.{Question, Reply, Rows, Faulted, TooManyRows, IsPermitted}
+use Rattle.gq_execute.specs.declared.settings.Order.{Order}
 use Rattle.gq_execute.specs.declared.settings.Order.TheVariants as order
-use Rattle.gq_explain.specs.Schema.{schema_text}
-use Rattle.gq_expr.specs.declared.Fault.{Fault}
+use Rattle.gq_execute.specs.declared.settings.Settings.{Settings}
 use Rattle.gq_io.specs.Causes.{Rose}
 use Rattle.gq_io.specs.Outside.{AppendsFront, Names}
 use Rattle.gq_loader.specs.Limits.{standard}
@@ -24,135 +16,108 @@ use Rattle.gq_loader.specs.Refusals.{IsOfFiles}
 use Rattle.gq_loader.specs.declared.refusal.LoadRefusal.{LoadRefusal}
 use Rattle.gq_plan.specs.declared.Bound.{Bound}
 use Rattle.gq_render.specs.Texts.{line}
-use Rattle.gq_shell.specs.BindLines.{bind_line}
-use Rattle.gq_shell.specs.Bindings.{bind_refusal}
+use Rattle.gq_reply.specs.Replies.{Context, IsAsked, IsReply}
+use Rattle.gq_reply.specs.declared.replier.Form.TheVariants.{Full, Short}
+use Rattle.gq_sample.specs.Sample.{sample_graph}
+use Rattle.gq_session.specs.Replies.{Replies}
+use Rattle.gq_session.specs.Whole as session
+use Rattle.gq_session.specs.declared.answering.Tone.{Tone}
+use Rattle.gq_session.specs.declared.answering.Tone.TheVariants as tone
+use Rattle.gq_session.specs.declared.run.Stop.{Stop}
+use Rattle.gq_session.specs.declared.run.Stop.TheVariants as stop
 use Rattle.gq_shell.specs.LoadLines.{load_line}
-use Rattle.gq_shell.specs.ReplyTexts.{IsPlanText, most_rows, reply_text}
-use Rattle.gq_shell.specs.Statements.{IsBlank, statement_of}
-use Rattle.gq_syntax.specs.Outcomes.{Cause, SpelledText}
-use Rattle.gq_syntax.specs.declared.refusal.SyntaxRefusal.{SyntaxRefusal}
-use Rattle.gq_syntax.specs.declared.refusal.SyntaxRefusal.TheVariants as refusal
-use Rattle.gq_syntax.specs.declared.statement.Query.{Query}
-use Rattle.gq_syntax.specs.declared.statement.Statement.{Statement}
-use Rattle.gq_syntax.specs.declared.statement.Statement.TheVariants as tree
+use Rattle.gq_shell.specs.Questions.{IsNumbered, questions}
 use Rattle.gq_shell.specs.declared.status.Status.{Status}
 use Rattle.gq_shell.specs.declared.status.Status.TheVariants as status
+use Rattle.gq_syntax.specs.declared.statement.Query.{Query}
+use Rattle.gq_words.specs.Reading.{IsMisused, IsRead}
+use Rattle.gq_words.specs.declared.meaning.Order.TheVariants as order_word
+use Rattle.gq_words.specs.declared.meaning.Order as word
+use Rattle.gq_words.specs.declared.meaning.Source.{Source}
+use Rattle.gq_words.specs.declared.meaning.Source.TheVariants as source
+use Rattle.gq_words.specs.declared.meaning.Words.{Words}
 
 -- ---- what each part of the run means
 
--- the path of the manifest, where the words are the program's name, `--manifest` and a path
-abbrev pub path_of : List (List ℕ) → Option (List ℕ)
-path_of (program ∷ option ∷ path ∷ []) = if bytes_eq option (codes "--manifest") then Some path else None
-path_of words = None
+-- the longest statement and the longest input, in bytes
+abbrev pub long : ℕ
+long = 65536
+
+abbrev pub most : ℕ
+most = 1073741824
+
+-- the line of words that are no use of the program
+abbrev pub usage_text : List ℕ
+usage_text = line (codes "usage: graphq (--manifest PATH | --sample N) [--order given|greedy] [--rows N]")
+
+abbrev order_of : word.Order → Order
+order_of order_word.Given = order.Given
+order_of order_word.Greedy = order.Greedy
+
+-- the order of plans and the most rows that the words say
+abbrev pub settings_of : Words → Settings
+settings_of read = record { order = order_of read.order; rows = read.rows }
+
+-- the words name this path of a manifest
+abbrev pub IsPath : List ℕ → Source → Type 0
+IsPath path (source.Manifest manifest) = manifest.now ≡ path
+IsPath path (source.Sample size) = ⊥
+
+-- statements over a loaded graph, and questions over the sample graph
+abbrev pub full : Graph → Settings → Context
+full graph settings = record { graph = graph; settings = settings; form = Full }
+
+abbrev pub short : ℕ → Settings → Context
+short size settings = record { graph = sample_graph size; settings = settings; form = Short }
 
 -- the files give no graph, and this line names their first refusal
 abbrev pub Refuses : Result Graph LoadRefusal → List ℕ → Type 0
 Refuses (Ok graph) text = ⊥
 Refuses (Err refusal) text = IsOfFiles refusal × (text ≡ load_line refusal)
 
--- a query that is answered: a statement's tokens spell it, and it is bound over the graph
-pub record IsAsked (graph : Graph) (statement : List ℕ) (query : Query) (bound : Bound) : Type 0 where
-  pub spelled : SpelledText statement (tree.Query query)
-  pub binds : IsBound query statement graph.catalog bound
+-- the words name a manifest, and the files give no graph
+pub record IsNotLoaded (words : List (List ℕ)) (held : Option Names) (text : List ℕ) : Type 0 where
+  pub read : Words
+  pub given : IsRead words read
+  pub path : List ℕ
+  pub from : IsPath path read.source
+  pub told : IfSome held (λ files. Refuses (load_of path files standard) text)
 
--- what is asked then: plans take connected components, and so many rows may be kept
-abbrev pub question : Graph → Query → Bound → Question
-question graph query bound =
-    record { graph = graph; query = query; bound = bound; order = order.Greedy; most = most_rows }
+-- the words name a manifest, the files give a graph, and the input is read over it; each where it is told
+pub record Over (words : List (List ℕ)) (held : Option Names) (left : Option (List ℕ)) (Says : Context → List ℕ → Type 0) : Type 0 where
+  pub read : Words
+  pub given : IsRead words read
+  pub path : List ℕ
+  pub from : IsPath path read.source
+  pub told : IfSome held (λ files. IfSome left (λ input.
+      (graph : Graph) × (load_of path files standard ≡ Ok graph) × Says (full graph (settings_of read)) input))
 
--- a reply to such a query: one that openCypher permits over the graph, and its text
-pub record RepliesWith (graph : Graph) (statement : List ℕ) (reply : Reply) (text : List ℕ) : Type 0 where
-  pub query : Query
-  pub bound : Bound
-  pub asked : IsAsked graph statement query bound
-  pub permitted : IsPermitted (question graph query bound) reply
-  pub is : text ≡ reply_text graph bound reply
-
--- the plans of a query: a statement asks for them, it is bound over the graph, and this is their text
-pub record ShowsPlans (graph : Graph) (statement text : List ℕ) : Type 0 where
-  pub query : Query
-  pub bound : Bound
-  pub spelled : SpelledText statement (tree.Plan query)
-  pub binds : IsBound query statement graph.catalog bound
-  pub is : IsPlanText graph bound text
-
--- a statement's reply: none to white space and comments alone, the graph's tables to `:schema`, plans to `:plan`, rows to
--- a query
-abbrev pub Replies : Graph → List ℕ → List ℕ → Type 0
-Replies graph statement text =
-    (IsBlank statement × (text ≡ []))
-    ⊎ (SpelledText statement tree.Schema × (text ≡ schema_text graph))
-    ⊎ ShowsPlans graph statement text
-    ⊎ ((lines : List (List Val)) × RepliesWith graph statement (Rows lines) text)
-
--- the line of a statement that is no text, has no tokens, or is spelled by no statement within the allowed nesting, with the
--- place where it goes wrong
-abbrev pub refusal_text : SyntaxRefusal → Option (List ℕ)
-refusal_text (refusal.Lex at) = Some (line (codes "error: Lex at byte " ++ decimal at))
-refusal_text (refusal.Syntax at) = Some (line (codes "error: Syntax at byte " ++ decimal at))
-refusal_text (refusal.Depth at) = Some (line (codes "error: Depth at byte " ++ decimal at))
-refusal_text refusal.Memory = None
-
--- the statement is wrong, by the grammar, and this line says where
-pub record IsWrong (statement text : List ℕ) : Type 0 where
-  pub why : SyntaxRefusal
-  pub cause : Cause statement (Err why)
-  pub is : refusal_text why ≡ Some text
-
--- the statement is right, but its query cannot be bound over the graph, and this line says why
-pub record IsUnbound (graph : Graph) (statement text : List ℕ) : Type 0 where
-  pub tree : Statement
-  pub spelled : SpelledText statement tree
-  pub why : BindRefusal
-  pub refused : bind_refusal tree statement graph.catalog ≡ Some why
-  pub is : text ≡ bind_line why
-
--- what is not built yet: the profile of a query, which `:profile` asks for
-abbrev pub IsUnbuilt : Graph → List ℕ → Statement → Type 0
-IsUnbuilt graph text (tree.Query query) = ⊥
-IsUnbuilt graph text tree.Schema = ⊥
-IsUnbuilt graph text (tree.Plan query) = ⊥
-IsUnbuilt graph text (tree.Profile query) = first_refusal query text graph.catalog ≡ None
-
--- the statement is right and its query, if it has one, is bound, but it is not built
-pub record IsNotBuilt (graph : Graph) (statement text : List ℕ) : Type 0 where
-  pub tree : Statement
-  pub spelled : SpelledText statement tree
-  pub other : IsUnbuilt graph statement tree
-  pub is : text ≡ line (codes "error: NotBuilt")
-
--- a query has no rows: an outcome that is looked at is this fault, or too many rows are kept
-abbrev pub IsStopped : Graph → List ℕ → List ℕ → Type 0
-IsStopped graph statement text =
-    ((fault : Fault) × RepliesWith graph statement (Faulted fault) text)
-    ⊎ RepliesWith graph statement TooManyRows text
-
--- every other statement is refused by one line
-pub record IsRefused (graph : Graph) (statement text : List ℕ) : Type 0 where
-  pub written : ¬ (IsBlank statement)
-  pub why : IsWrong statement text ⊎ IsUnbound graph statement text
-      ⊎ IsNotBuilt graph statement text ⊎ IsStopped graph statement text
-
--- the input, which is one statement, is too long
-abbrev pub IsTooLong : List ℕ → Type 0
-IsTooLong input = (65537 < length input) ⊎ (65536 < length (statement_of input))
+-- the words ask for the sample graph
+pub record OnSample (words : List (List ℕ)) (Says : Context → Type 0) : Type 0 where
+  pub read : Words
+  pub given : IsRead words read
+  pub size : ℕ
+  pub from : read.source ≡ source.Sample size
+  pub says : Says (short size (settings_of read))
 
 -- ---- the whole answers
 
--- the words give a path, the files give a graph, and the input is read over it; each where it is told
-pub record Over (words : List (List ℕ)) (held : Option Names) (left : Option (List ℕ)) (Says : Graph → List ℕ → Type 0) : Type 0 where
-  pub path : List ℕ
-  pub given : path_of words ≡ Some path
-  pub told : IfSome held (λ files. IfSome left (λ input. (graph : Graph) × (load_of path files standard ≡ Ok graph) × Says graph input))
+-- all statements, or all questions, were answered: the text is their replies, the worst of which has this tone
+abbrev pub Finished : List (List ℕ) → Option Names → Option (List ℕ) → Tone → List ℕ → Type 0
+Finished words held left t text =
+    Over words held left (λ c input. session.Permits (IsReply c) long most input (Ok t) text)
+    ⊎ OnSample words (λ c. Replies (IsNumbered c) questions t text)
 
 -- the status may be answered for these words, files and input, and the text is all that is written then
 abbrev pub Permits : List (List ℕ) → Option Names → Option (List ℕ) → Status → List ℕ → Type 0
-Permits words held left status.Usage text = (path_of words ≡ None) × (text ≡ line (codes "usage: graphq --manifest PATH"))
-Permits words held left status.NotLoaded text = (path : List ℕ) × (path_of words ≡ Some path) × IfSome held (λ files. Refuses (load_of path files standard) text)
-Permits words held left status.TooLong text = Over words held left (λ graph input. IsTooLong input × (text ≡ []))
-Permits words held left status.Refused text = Over words held left (λ graph input. (¬ (IsTooLong input)) × IsRefused graph (statement_of input) text)
-Permits words held left status.Ended text = Over words held left (λ graph input. (¬ (IsTooLong input)) × Replies graph (statement_of input) text)
-Permits words held left status text = ⊥
+Permits words held left status.Usage text = IsMisused words × (text ≡ usage_text)
+Permits words held left status.NotLoaded text = IsNotLoaded words held text
+Permits words held left status.TooLong text = Over words held left (λ c input. session.Permits (IsReply c) long most input (Err stop.TooLong) text)
+Permits words held left status.Ended text = Finished words held left tone.Good text
+Permits words held left status.Refused text = Finished words held left tone.Refused text
+Permits words held left status.Memory text = Finished words held left tone.Memory text
+Permits words held left status.ReadFault text = ⊥
+Permits words held left status.WriteFault text = ⊥
 
 -- a permitted text was written whole
 pub record Wrote (words : List (List ℕ)) (held : Option Names) (left : Option (List ℕ)) (answer : Status) (old new : Option (List ℕ)) : Type 0 where
@@ -197,42 +162,63 @@ outside_of held files_faults files files' left input_faults input input' taken o
   out_faults = record { before = out_faults out; now = out_faults out' };
 }
 
--- how a run ended: with a whole answer, with a fault by its cause, or for want of memory with nothing written
+-- a read failed: in loading, and nothing was written; or in the session, and the statements that had ended were answered
+abbrev pub FailedToRead : List (List ℕ) → Outside → Type 0
+FailedToRead words o =
+    (Keeps o.taken o.took × Rose o.files_faults.before o.files_faults.now)
+    ⊎ (Over words o.held o.left (λ c input. session.SoFar (IsReply c) long most input o.taken o.took)
+    × Rose o.input_faults.before o.input_faults.now)
+
+-- how a run ended: with a whole answer, with a fault by its cause, or for want of memory before the first statement
 abbrev pub Ends : List (List ℕ) → Outside → Status → Type 0
-Ends words outside status.ReadFault = Keeps outside.taken outside.took
-    × (Rose outside.files_faults.before outside.files_faults.now ⊎ Rose outside.input_faults.before outside.input_faults.now)
-Ends words outside status.WriteFault = WroteFront words outside.held outside.left outside.taken outside.took × Rose outside.out_faults.before outside.out_faults.now
-Ends words outside status.Memory = Keeps outside.taken outside.took
-Ends words outside answer = Wrote words outside.held outside.left answer outside.taken outside.took
+Ends words o status.ReadFault = FailedToRead words o
+Ends words o status.WriteFault = WroteFront words o.held o.left o.taken o.took × Rose o.out_faults.before o.out_faults.now
+Ends words o status.Memory = Keeps o.taken o.took ⊎ Wrote words o.held o.left status.Memory o.taken o.took
+Ends words o answer = Wrote words o.held o.left answer o.taken o.took
 
 -- the run: how it ended, and how much of the input it ate
 pub record Runs (words : List (List ℕ)) (outside : Outside) (answer : Status) : Type 0 where
   pub eaten : List ℕ
   pub ate : Consumes outside.left outside.unread eaten
-  pub few : length eaten ≤ 65538
+  pub few : length eaten ≤ most + 1
   pub ends : Ends words outside answer
 
 -- ---- the same in short, where all is told and nothing fails
 
--- the statement of an input asks a query that is answered. Which of its outcomes are looked at is open where it has LIMIT
--- and neither DISTINCT nor ORDER BY, so both its rows and a fault may be permitted then
-abbrev pub IsQuery : List (List ℕ) → Names → List ℕ → Type 0
-IsQuery words files input =
-    Over words (Some files) (Some input) (λ graph told.
-    (query : Query) × (bound : Bound) × IsAsked graph (statement_of told) query bound)
+-- the status of a run that answered all statements or questions
+abbrev pub IsToTheEnd : Status → Type 0
+IsToTheEnd status.Ended = Unit {0}
+IsToTheEnd status.Refused = Unit {0}
+IsToTheEnd status.Memory = Unit {0}
+IsToTheEnd s = ⊥
 
--- a permitted answer, written whole, and the only status that may be answered, unless a query may be answered by rows or by
--- a fault
-pub record IsAnswered (words : List (List ℕ)) (files : Names) (input : List ℕ) (answer : Status) (old new : Option (List ℕ)) : Type 0 where
+-- a statement of the input asks a query that is answered. Which of its outcomes are looked at is open where it has LIMIT
+-- and neither DISTINCT nor ORDER BY, so both its rows and a fault may be permitted then
+pub record AsksQuery (c : Context) (input : List ℕ) : Type 0 where
+  pub place : ℕ
+  pub statement : List ℕ
+  pub at : slice_get (session.statements input) place ≡ Some statement
+  pub query : Query
+  pub bound : Bound
+  pub asked : IsAsked c.graph statement query bound
+
+-- two statuses may be permitted at once: all statements are answered, and memory may end at one of them, or one asks a query
+pub record AreOpen (words : List (List ℕ)) (files : Names) (input : List ℕ) (one other : Status) : Type 0 where
+  pub first : IsToTheEnd one
+  pub second : IsToTheEnd other
+  pub why : (one ≡ status.Memory) ⊎ (other ≡ status.Memory) ⊎ OnSample words (λ c. Unit {0})
+      ⊎ Over words (Some files) (Some input) AsksQuery
+
+-- a permitted text was written whole, and no other status is permitted
+pub record IsWhole (words : List (List ℕ)) (files : Names) (input : List ℕ) (answer : Status) (old new : Option (List ℕ)) : Type 0 where
   pub text : List ℕ
   pub permitted : Permits words (Some files) (Some input) answer text
   pub written : Appends old new text
   pub only : (other : Status) (otherwise : List ℕ) → Permits words (Some files) (Some input) other otherwise
-      → (other ≡ answer) ⊎ IsQuery words files input
+      → (other ≡ answer) ⊎ AreOpen words files input other answer
 
--- where the files and the input are told and no count of faults rises, there is want of memory or the one answer
 abbrev pub Whole : List (List ℕ) → Outside → Status → Type 0
 Whole words outside answer = (files : Names) (input : List ℕ) → outside.held ≡ Some files → outside.left ≡ Some input
     → ¬ (Rose outside.files_faults.before outside.files_faults.now) → ¬ (Rose outside.input_faults.before outside.input_faults.now)
-    → ¬ (Rose outside.out_faults.before outside.out_faults.now) → answer ≢ status.Memory
-    → IsAnswered words files input answer outside.taken outside.took
+    → ¬ (Rose outside.out_faults.before outside.out_faults.now)
+    → ((answer ≡ status.Memory) × Keeps outside.taken outside.took) ⊎ IsWhole words files input answer outside.taken outside.took

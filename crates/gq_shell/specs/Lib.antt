@@ -1,8 +1,5 @@
-pub mod BindLines
-pub mod Bindings
-pub mod Claim
 pub mod LoadLines
-pub mod ReplyTexts
-pub mod Statements
+pub mod Questions
 pub mod Statuses
+pub mod Claim
 pub mod Steps

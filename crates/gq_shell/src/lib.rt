@@ -1,15 +1,11 @@
-//! What the program does: the words, the load, the statement and its reply.
+//! What the program does: the words, the graph that they name, and the session over it.
 #![tactic(auto)]
 
-mod bind_line;
-mod input;
 mod load_line;
-mod plans;
 mod program;
-mod query;
-mod reply;
+mod sample;
+mod session;
 mod status;
-mod words;
 
 pub use program::run;
 pub use status::Status;

@@ -1,46 +1,64 @@
 //! The top call: all that the program does.
 
 ghost use Rattle.std.specs.Prelude.{◌≡◌, ◌⊎◌, map, string_bytes};
-ghost use Rattle.gq_io.specs.Causes.{Rose};
-ghost use Rattle.gq_shell.specs.Claim.{Runs, Whole, outside_of};
-ghost use Rattle.gq_shell.specs.Steps.{EndsLoad, Finishes, MayRefuseLoad, MayRefuseWords};
+ghost use Rattle.gq_io.specs.Causes.{HasCause, Rose};
+ghost use Rattle.gq_io.specs.Outside.{Writes};
+ghost use Rattle.gq_session.specs.Sessions.{span_of};
+ghost use Rattle.gq_shell.specs.Claim.{Runs, Whole, outside_of, settings_of, usage_text};
+ghost use Rattle.gq_shell.specs.Steps.{EndsLoad, told};
 
 use crate::load_line::write_load_line;
-use crate::reply::answer;
+use crate::sample::show_sample;
+use crate::session::serve;
 use crate::status::Status;
-use crate::words::manifest_path;
-use gq_io::{Failed, Files, ReadFile, ReadStop, Sink, Source, read_input, write_all};
+use gq_execute::{Order, Settings};
+use gq_io::{Failed, Files, Sink, Source, write_all};
 use gq_loader::{Limits, LoadRefusal, load};
+use gq_words::{Order as OrderWord, Source as SourceWord, Words, WordsRefusal, read_words};
 use std::alloc::Global;
 
-/// The longest input, in bytes: a statement of 65,536 bytes and its `;`.
-const MOST_INPUT: usize = 65_537;
-
-fn refuse_words<O: Sink>(out: &mut O) -> Status
-    ensures { Finishes MayRefuseWords (O.taken out.old) (O.taken out.new) (O.faults out.old) (O.faults out.new) result }
+// The settings that the words say.
+fn settings_of(words: &Words<'_>) -> Settings
+    ensures { result ≡ settings_of words.now }
 {
-    match write_all(out, b"usage: graphq --manifest PATH\n") {
-        Ok(()) => Status::Usage,
+    let order = match words.order {
+        OrderWord::Given => Order::Given,
+        OrderWord::Greedy => Order::Greedy,
+    };
+    Settings {
+        order,
+        rows: words.rows,
+    }
+}
+
+// The status of a run that ended with a line.
+fn told(written: Result<(), Failed>, status: Status) -> Status
+    ensures { result ≡ told written status }
+{
+    match written {
+        Ok(()) => status,
         Err(Failed) => Status::WriteFault,
     }
 }
 
-fn refuse_load<O: Sink>(out: &mut O, refusal: &LoadRefusal) -> Status
-    ensures { Finishes (MayRefuseLoad refusal.now) (O.taken out.old) (O.taken out.new) (O.faults out.old) (O.faults out.new) result }
+fn write_usage<O: Sink>(out: &mut O) -> Result<(), Failed>
+    ensures bytes { Writes (O.taken out.old) (O.taken out.new) usage_text result }
+    ensures cause { HasCause (O.faults out.old) (O.faults out.new) result }
 {
-    match write_load_line(out, refusal) {
-        Ok(()) => Status::NotLoaded,
-        Err(Failed) => Status::WriteFault,
-    }
+    write_all(
+        out,
+        b"usage: graphq (--manifest PATH | --sample N) [--order given|greedy] [--rows N]\n",
+    )
 }
 
+// Ends a run whose files gave no graph: with the line of the refusal, or with nothing after a fault and for want of memory.
 fn end_load<O: Sink>(out: &mut O, refusal: &LoadRefusal) -> Status
-    ensures { EndsLoad refusal.now (O.taken out.old) (O.taken out.new) (O.faults out.old) (O.faults out.new) result }
+    ensures { EndsLoad refusal.now (span_of O.taken O.faults out.old out.new) result }
 {
     match refusal {
         LoadRefusal::ReadFault { .. } => Status::ReadFault,
         LoadRefusal::Memory => Status::Memory,
-        _ => refuse_load(out, refusal),
+        _ => told(write_load_line(out, refusal), Status::NotLoaded),
     }
 }
 
@@ -52,25 +70,32 @@ fn execute<F: Files, I: Source, O: Sink>(
     out: &mut O,
 ) -> Status
     ensures { Runs (map string_bytes words.entry.now)
-        (outside_of F.held F.faults files.old files.new I.left I.faults input.old input.new O.taken O.faults out.old out.new)
-        result }
+        (outside_of F.held F.faults files.old files.new I.left I.faults input.old input.new
+        O.taken O.faults out.old out.new) result }
 {
-    let Some(path) = manifest_path(words) else {
-        return refuse_words(out);
+    let words = match read_words(alloc, words) {
+        Ok(words) => words,
+        Err(WordsRefusal::Usage) => return told(write_usage(out), Status::Usage),
+        Err(WordsRefusal::Memory) => return Status::Memory,
     };
-    let graph = match load(alloc, files, path, &Limits::standard()) {
-        Ok(graph) => graph,
-        Err(refusal) => return end_load(out, &refusal),
+    let settings = settings_of(&words);
+    let path = match words.source {
+        SourceWord::Manifest(path) => path,
+        SourceWord::Sample(size) => return show_sample(alloc, size, settings, out),
     };
-    match read_input(alloc, input, MOST_INPUT) {
-        Ok(ReadFile::Whole(bytes)) => answer(alloc, out, &graph, bytes.as_slice()),
-        Ok(ReadFile::TooLong) => Status::TooLong,
-        Err(ReadStop::Failed) => Status::ReadFault,
-        Err(ReadStop::Memory) => Status::Memory,
+    match load(alloc, files, path, &Limits::standard()) {
+        Ok(graph) => serve(alloc, &graph, settings, input, out),
+        Err(refusal) => end_load(out, &refusal),
     }
 }
 
 /// Does all that the program does, and answers how it ended. `words` begins with the program's name.
+///
+/// They name a manifest, whose files are loaded and whose graph answers the statements of the input, each as it ends; or
+/// they ask for a sample graph, which answers six questions, and the input is not read. What is written does not depend on
+/// the pieces in which the input comes and the output goes. The first call of `files`, `input` or `out` that fails ends the
+/// work. `Memory` comes before the first statement is answered, and then nothing is written, or where some statement met
+/// want of memory and was answered by that line.
 pub fn run<F: Files, I: Source, O: Sink>(
     alloc: Global,
     words: &[String],
@@ -79,12 +104,13 @@ pub fn run<F: Files, I: Source, O: Sink>(
     out: &mut O,
 ) -> Status
     ensures runs { Runs (map string_bytes words.entry.now)
-        (outside_of F.held F.faults files.old files.new I.left I.faults input.old input.new O.taken O.faults out.old out.new)
-        result }
+        (outside_of F.held F.faults files.old files.new I.left I.faults input.old input.new
+        O.taken O.faults out.old out.new) result }
     ensures whole { Whole (map string_bytes words.entry.now)
-        (outside_of F.held F.faults files.old files.new I.left I.faults input.old input.new O.taken O.faults out.old out.new)
-        result }
-    ensures read_fault { result ≡ Status.ReadFault → Rose (F.faults files.old) (F.faults files.new) ⊎ Rose (I.faults input.old) (I.faults input.new) }
+        (outside_of F.held F.faults files.old files.new I.left I.faults input.old input.new
+        O.taken O.faults out.old out.new) result }
+    ensures read_fault { result ≡ Status.ReadFault → Rose (F.faults files.old) (F.faults files.new)
+        ⊎ Rose (I.faults input.old) (I.faults input.new) }
     ensures write_fault { result ≡ Status.WriteFault → Rose (O.faults out.old) (O.faults out.new) }
 {
     execute(alloc, words, files, input, out)

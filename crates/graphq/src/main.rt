@@ -6,17 +6,33 @@ use gq_shell::{Status, run};
 use std::process::ExitCode;
 use std::{env, io};
 
+// What failed, where a status says that something did which no line of the output tells.
+fn failure(status: Status) -> Option<&'static str> {
+    match status {
+        Status::ReadFault => Some("a file or the input could not be read"),
+        Status::WriteFault => Some("the output could not be written"),
+        Status::Memory => Some("there was not enough memory"),
+        Status::TooLong => Some("a statement or the input is too long"),
+        Status::Ended | Status::Refused | Status::Usage | Status::NotLoaded => None,
+    }
+}
+
 fn main(rt: HostRuntime) -> ExitCode {
     let alloc = rt.alloc();
     let Ok(args) = env::args(&rt) else {
+        let _ = eprintln!(rt; "graphq: the words are no text");
         return ExitCode::from(Status::Usage.code());
     };
     let Ok(words) = args.collect::<Vec<String>>(alloc) else {
+        let _ = eprintln!(rt; "graphq: there was not enough memory");
         return ExitCode::from(Status::Memory.code());
     };
     let mut files = RealFiles::new(&rt);
     let mut input = RealSource::new(rt.reader());
     let mut out = RealSink::new(io::writer(&rt));
     let status = run(alloc, words.as_slice(), &mut files, &mut input, &mut out);
+    if let Some(failure) = failure(status) {
+        let _ = eprintln!(rt; "graphq: {failure}");
+    }
     ExitCode::from(status.code())
 }

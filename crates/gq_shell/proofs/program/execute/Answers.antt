@@ -1,26 +1,33 @@
-use Rattle.std.proofs.Common.{refl, sym, ap, ◌∙◌}
-use Rattle.std.specs.Option.{option_copied}
-use Rattle.gq_shell.proofs.Running.{exit_answered, exit_refused, exit_too_long, exit_words}
+use Rattle.std.proofs.Common.{refl}
+use Rattle.gq_io.proofs.Moved.{Keeps-same}
+use Rattle.gq_shell.proofs.Running.{exit_memory, exit_misused, exit_quizzed, exit_refused, exit_served, path_said, sample_sizes, told_by}
+use Rattle.gq_shell.specs.Claim.{usage_text}
+use Rattle.gq_shell.specs.declared.status.Status.TheVariants as status
 use Rattle.gq_shell.proofs.program.execute.Goals as goal
 
-pub returns-in_default : goal.returns-in_default
-returns-in_default g c = exit_words _ _ _ (sym c.manifest_path.ensures ∙ ap option_copied c.in_default.is) refl c.refuse_words.ensures
+pub returns-in-Err-Usage : goal.returns-in-Err-Usage
+returns-in-Err-Usage g c =
+    let misused = rw c.in-Err-Usage.field-0-is at c.in-Err-Usage.ensures in
+    exit_misused _ _ _ misused refl (told_by usage_text status.Usage _ _ c.write_usage.ensures.bytes c.write_usage.ensures.cause _ c.told.ensures)
+
+pub returns-in-Err-Memory : goal.returns-in-Err-Memory
+returns-in-Err-Memory g c = exit_memory _ _ _ refl refl (Keeps-same _)
+
+pub show_sample-requires-clause-least : goal.show_sample-requires-clause-least
+show_sample-requires-clause-least g c = (sample_sizes _ c.in-Ok.words c.in-Sample.size c.in-Ok.ensures.means c.in-Sample.is).0
+
+pub show_sample-requires-clause-most : goal.show_sample-requires-clause-most
+show_sample-requires-clause-most g c = (sample_sizes _ c.in-Ok.words c.in-Sample.size c.in-Ok.ensures.means c.in-Sample.is).1
+
+pub returns-in-Sample : goal.returns-in-Sample
+returns-in-Sample g c =
+    exit_quizzed _ _ c.in-Ok.words c.in-Ok.ensures c.in-Sample.size c.in-Sample.is _ refl (rw c.settings_of-settings.ensures at c.show_sample.ensures)
+
+pub returns-in-Ok-load : goal.returns-in-Ok-load
+returns-in-Ok-load g c =
+    exit_served _ _ c.in-Ok.words c.in-Ok.ensures c.in-Manifest.path.now (path_said c.in-Ok.words c.in-Manifest.path c.in-Manifest.is) c.in-Ok-load.graph (rw c.standard.ensures at c.in-Ok-load.ensures.loads) _ (rw c.settings_of-settings.ensures at c.serve.ensures)
 
 pub returns-in-Err : goal.returns-in-Err
 returns-in-Err g c =
     let loads = rw c.standard.ensures at c.in-Err.ensures.loads in
-    exit_refused _ _ _ c.in-Some.path.now (sym c.manifest_path.ensures ∙ ap option_copied c.in-Some.is) _ c.in-Err.refusal refl loads c.in-Err.ensures.faults refl
-    c.end_load.ensures
-
-pub returns-in-Ok-Whole : goal.returns-in-Ok-Whole
-returns-in-Ok-Whole g c =
-    let answered = rw c.as_slice.ensures at c.answer.ensures in
-    let told = rw c.in-Ok-Whole.field-0-is at c.in-Ok-Whole.ensures.told in
-    exit_answered _ _ _ c.in-Some.path.now (sym c.manifest_path.ensures ∙ ap option_copied c.in-Some.is) c.in-Ok.graph c.in-Ok-Whole.bytes _
-    (rw c.standard.ensures at c.in-Ok.ensures.loads) c.in-Ok-Whole.ensures.read told answered
-
-pub returns-in-Ok-TooLong : goal.returns-in-Ok-TooLong
-returns-in-Ok-TooLong g c =
-    let told = rw c.in-Ok-TooLong.field-0-is at c.in-Ok-TooLong.ensures.told in
-    exit_too_long _ _ _ c.in-Some.path.now (sym c.manifest_path.ensures ∙ ap option_copied c.in-Some.is) c.in-Ok.graph _
-    (rw c.standard.ensures at c.in-Ok.ensures.loads) c.in-Ok-TooLong.ensures.read told refl refl
+    exit_refused _ _ c.in-Ok.words c.in-Ok.ensures c.in-Manifest.path.now (path_said c.in-Ok.words c.in-Manifest.path c.in-Manifest.is) _ _ c.in-Err.refusal refl loads c.in-Err.ensures.faults refl c.end_load.ensures

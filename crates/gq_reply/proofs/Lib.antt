@@ -1,0 +1,2 @@
+pub mod OneTone
+pub mod Replying

@@ -1,0 +1,181 @@
+-- How a reply that was written is one that its statement may have.
+use Rattle.std.proofs.Common.{◌≡◌, ℕ, List, [], ◌∷◌, length, map, suc, Some, None, Ok, Err, refl, sym, ap, ◌∙◌, subst, append-nil, arith, inl, inr}
+use Rattle.std.proofs.lemmas.List.{length-map}
+use Rattle.std.specs.Prelude.{◌<◌, All, ◌++◌, codes, decimal, Result}
+use Rattle.gq_base.specs.Catalogs.{Tables}
+use Rattle.gq_base.specs.Values.{Val}
+use Rattle.gq_binder.specs.Binding.{Answers, IsBound}
+use Rattle.gq_binder.specs.Refusals.{first_refusal}
+use Rattle.gq_binder.specs.declared.refusal.BindRefusal.{BindRefusal}
+use Rattle.gq_binder.specs.declared.refusal.BindRefusal.TheVariants as bind
+use Rattle.gq_execute.specs.Planned.{plans_in}
+use Rattle.gq_execute.specs.Replies.{Reply, Rows, Faulted, TooManyRows, IsPermitted}
+use Rattle.gq_explain.specs.Plans.{plan_text}
+use Rattle.gq_explain.specs.Schema.{schema_text}
+use Rattle.gq_expr.specs.declared.Fault.{Fault}
+use Rattle.gq_io.specs.Causes.{HasCause}
+use Rattle.gq_io.specs.Outside.{Writes}
+use Rattle.gq_io.specs.declared.Failed.{Failed}
+use Rattle.gq_lexer.specs.Tokens.{Lexed, lexed}
+use Rattle.gq_lexer.specs.declared.token.Token.{Token}
+use Rattle.gq_plan.specs.Steps.{plan_of}
+use Rattle.gq_plan.specs.declared.Bound.{Bound}
+use Rattle.gq_plan.specs.declared.Plan as code_plan
+use Rattle.gq_plan.specs.declared.typed.Typed.{Typed}
+use Rattle.gq_render.specs.Texts.{line, refusal_line}
+use Rattle.gq_reply.specs.BindLines.{bind_line, bind_tone}
+use Rattle.gq_reply.specs.Bindings.{bind_refusal}
+use Rattle.gq_reply.specs.Replies.{Context, IsAsked, IsBlank, IsRefused, IsReply, IsStopped, IsUnbuilt, RepliesWith, question, refusal_text}
+use Rattle.gq_reply.specs.ReplyTexts.{columns_each, reply_text}
+use Rattle.gq_reply.specs.Steps.{MayAsk, MayShow, Replied, toned}
+use Rattle.gq_session.specs.Sessions.{Span}
+use Rattle.gq_session.specs.declared.answering.Tone.{Tone}
+use Rattle.gq_session.specs.declared.answering.Tone.TheVariants as tone
+use Rattle.gq_syntax.specs.Grammar.{Clauses, SpelledStatement}
+use Rattle.gq_syntax.specs.Outcomes.{Cause, DepthAt, SpelledText, SyntaxAt, TooDeep}
+use Rattle.gq_syntax.specs.declared.refusal.SyntaxRefusal.{SyntaxRefusal}
+use Rattle.gq_syntax.specs.declared.refusal.SyntaxRefusal.TheVariants as refusal
+use Rattle.gq_syntax.specs.declared.statement.Clause.{Clause}
+use Rattle.gq_syntax.specs.declared.statement.Query.{Query}
+use Rattle.gq_syntax.specs.declared.statement.Statement.{Statement}
+use Rattle.gq_syntax.specs.declared.statement.Statement.TheVariants as tree
+
+-- ---- replies that were written
+
+-- a text that a statement may have by this tone was written, or a front of it
+pub replied : (May : Tone → List ℕ → Type 0) (t : Tone) (text : List ℕ) → May t text → (out : Span) (written : Result (Unit {0}) Failed)
+    → Writes out.old out.new text written → HasCause out.before out.now written → (result : Result Tone Failed) → result ≡ toned written t → Replied May out result
+replied May t text may out (Ok done) bytes cause result is = rw is (record { bytes = (text, may, bytes); cause = record { later = cause.later; failed = tt } })
+replied May t text may out (Err failed) bytes cause result is = rw is (record { bytes = (t, text, may, bytes); cause = record { later = cause.later; failed = cause.failed } })
+
+-- a reply of fewer forms is one of more
+pub replied_as : (May Might : Tone → List ℕ → Type 0) → ((t : Tone) (text : List ℕ) → May t text → Might t text) → (out : Span) (result : Result Tone Failed)
+    → Replied May out result → Replied Might out result
+replied_as May Might go out (Ok t) r = let (text, may, moved) = r.bytes in record { bytes = (text, go t text may, moved); cause = r.cause }
+replied_as May Might go out (Err failed) r = let (t, text, may, moved) = r.bytes in record { bytes = (t, text, go t text may, moved); cause = r.cause }
+
+-- ---- statements of no tokens
+
+front_empty : (xs ys : List Token) → xs ++ ys ≡ [] → xs ≡ []
+front_empty [] ys e = refl
+front_empty (x ∷ xs) ys e = cc
+
+rest_empty : (xs ys : List Token) → xs ++ ys ≡ [] → ys ≡ []
+rest_empty [] ys e = e
+rest_empty (x ∷ xs) ys e = cc
+
+no_clauses : (depth : ℕ) (ts : List Token) (cs : List Clause) → ts ≡ [] → Clauses depth ts cs → ⊥
+no_clauses depth ts cs none (inl (t, s, r, e, takes, h)) = let clash : ◌≡◌ {A = List Token} [] (t ∷ r) = sym none ∙ e in cc
+no_clauses depth ts cs none (inr h) = absurd h
+
+-- no statement is spelled by no tokens
+nothing_spells : (depth : ℕ) (s : Statement) → SpelledStatement depth [] s → ⊥
+nothing_spells depth s (inl (t, colon, r, e, takes, h)) = let clash : ◌≡◌ {A = List Token} [] (t ∷ r) = e in cc
+nothing_spells depth s (inr (a, b, query, e, (c, d, clauses, split, spelled, more), made)) =
+    no_clauses depth c clauses (front_empty c d (sym split ∙ front_empty a b (sym e))) spelled
+
+not_blank : (statement : List ℕ) (s : Statement) → SpelledText statement s → ¬ (IsBlank statement)
+not_blank statement s (tokens, lexes, spelled) blank =
+    let e : ◌≡◌ {A = Lexed} (Ok tokens) (Ok []) = sym lexes ∙ blank in
+    let none : tokens ≡ [] = cc in
+    nothing_spells 64 s (subst (λ ts. SpelledStatement 64 ts s) none spelled)
+
+lex_not_blank : (statement : List ℕ) (at : ℕ) → lexed statement ≡ Err at → ¬ (IsBlank statement)
+lex_not_blank statement at fails blank = let e : ◌≡◌ {A = Lexed} (Err at) (Ok []) = sym fails ∙ blank in cc
+
+depth_not_blank : (statement : List ℕ) (at : ℕ) → DepthAt statement at → ¬ (IsBlank statement)
+depth_not_blank statement at (before, rest, stops, deep) blank =
+    let e : ◌≡◌ {A = Lexed} (Ok (before ++ rest)) (Ok []) = sym stops.tokens ∙ blank in
+    let none : before ++ rest ≡ [] = cc in
+    subst (TooDeep 64 before) (rest_empty before rest none) deep
+
+-- ---- refusals
+
+-- a front and the number of a byte
+pub at_byte : (front : List ℕ) (at : ℕ) → refusal_line front [] (record { before = []; number = at } ∷ []) ≡ line (front ++ decimal at)
+at_byte front at = ap line (ap (λ f. f ++ (decimal at ++ [])) (append-nil front) ∙ ap (λ n. front ++ n) (append-nil (decimal at)))
+
+-- the line of a statement that the grammar refuses
+wrong : (c : Context) (statement text : List ℕ) (why : SyntaxRefusal) → ¬ (IsBlank statement) → Cause statement (Err why) → refusal_text why ≡ Some text → IsRefused c statement text
+wrong c statement text why written cause is = record { written = written; why = inl (record { why = why; cause = cause; is = is }) }
+
+module _ (c : Context) (statement : List ℕ) where
+  pub wrong_lex : (at : ℕ) → lexed statement ≡ Err at → IsReply c statement tone.Refused (line (codes "error: Lex at byte " ++ decimal at))
+  wrong_lex at cause = wrong c statement _ (refusal.Lex at) (lex_not_blank statement at cause) cause refl
+
+  pub wrong_syntax : (at : ℕ) → ¬ (IsBlank statement) → SyntaxAt statement at → IsReply c statement tone.Refused (line (codes "error: Syntax at byte " ++ decimal at))
+  wrong_syntax at written cause = wrong c statement _ (refusal.Syntax at) written cause refl
+
+  pub wrong_depth : (at : ℕ) → DepthAt statement at → IsReply c statement tone.Refused (line (codes "error: Depth at byte " ++ decimal at))
+  wrong_depth at cause = wrong c statement _ (refusal.Depth at) (depth_not_blank statement at cause) cause refl
+
+  -- what becomes of a statement that its tokens spell
+  module _ (form : Statement) (spelled : SpelledText statement form) where
+    pub unbound_line : (why : BindRefusal) → bind_refusal form statement c.graph.catalog ≡ Some why → IsReply c statement tone.Refused (bind_line why)
+    unbound_line why refused = record {
+      written = not_blank statement form spelled;
+      why = inr (inl (record { tree = form; spelled = spelled; why = why; refused = refused; is = refl }));
+    }
+
+    pub unbuilt_line : IsUnbuilt c.graph statement form → IsReply c statement tone.Refused (line (codes "error: NotBuilt"))
+    unbuilt_line other = record {
+      written = not_blank statement form spelled;
+      why = inr (inr (inl (record { tree = form; spelled = spelled; other = other; is = refl })));
+    }
+
+    -- a query that the binder does not accept
+    pub unbound : (query : Query) → bind_refusal form statement c.graph.catalog ≡ first_refusal query statement c.graph.catalog → (e : BindRefusal) → Answers query statement c.graph.catalog (Err e)
+        → IsReply c statement (bind_tone e) (bind_line e)
+    unbound query of bind.Memory refused = refl
+    unbound query of (bind.UnknownVariable name) refused = unbound_line (bind.UnknownVariable name) (of ∙ refused)
+    unbound query of (bind.VariableConflict name) refused = unbound_line (bind.VariableConflict name) (of ∙ refused)
+    unbound query of (bind.RelationshipRepeated name) refused = unbound_line (bind.RelationshipRepeated name) (of ∙ refused)
+    unbound query of (bind.ColumnRepeated name) refused = unbound_line (bind.ColumnRepeated name) (of ∙ refused)
+    unbound query of (bind.AmbiguousOrderName name) refused = unbound_line (bind.AmbiguousOrderName name) (of ∙ refused)
+    unbound query of (bind.UnknownFunction name) refused = unbound_line (bind.UnknownFunction name) (of ∙ refused)
+    unbound query of (bind.ArgumentCount name) refused = unbound_line (bind.ArgumentCount name) (of ∙ refused)
+    unbound query of (bind.OrderOutOfScope item) refused = unbound_line (bind.OrderOutOfScope item) (of ∙ refused)
+    unbound query of bind.NothingToReturn refused = unbound_line bind.NothingToReturn (of ∙ refused)
+    unbound query of bind.TooManyPatterns refused = unbound_line bind.TooManyPatterns (of ∙ refused)
+    unbound query of bind.TooManyReads refused = unbound_line bind.TooManyReads (of ∙ refused)
+    unbound query of bind.TooManyColumns refused = unbound_line bind.TooManyColumns (of ∙ refused)
+    unbound query of bind.TooManyAlternatives refused = unbound_line bind.TooManyAlternatives (of ∙ refused)
+
+-- ---- queries
+
+module _ (c : Context) (statement : List ℕ) (query : Query) (bound : Bound) where
+  stopped : SpelledText statement (tree.Query query) → (text : List ℕ) → IsStopped c statement text → IsRefused c statement text
+  stopped spelled text h = record { written = not_blank statement (tree.Query query) spelled; why = inr (inr (inr h)) }
+
+  module _ (asked : IsAsked c.graph statement query bound) where
+    replies_with : (reply : Reply) (text : List ℕ) → IsPermitted (question c query bound) reply → text ≡ reply_text c.form c.settings.rows c.graph bound reply → RepliesWith c statement reply text
+    replies_with reply text permitted is = record { query = query; bound = bound; asked = asked; permitted = permitted; is = is }
+
+    -- the reply to the query that a statement spells replies to it
+    pub may_reply : (t : Tone) (text : List ℕ) → MayAsk c query bound t text → IsReply c statement t text
+    may_reply tone.Good text (lines, permitted, is) = inr (inr (inr (lines, replies_with (Rows lines) text permitted is)))
+    may_reply tone.Refused text (inl (f, permitted, is)) = stopped asked.spelled text (inl (f, replies_with (Faulted f) text permitted is))
+    may_reply tone.Refused text (inr (permitted, is)) = stopped asked.spelled text (inr (replies_with TooManyRows text permitted is))
+    may_reply tone.Memory text is = is
+
+  -- the plans of the query that a statement spells reply to it
+  pub may_show : SpelledText statement (tree.Plan query) → IsBound query statement c.graph.catalog bound → (t : Tone) (text : List ℕ) → MayShow c bound t text → IsReply c statement t text
+  may_show spelled binds tone.Good text is = inr (inr (inl (record { query = query; bound = bound; spelled = spelled; binds = binds; is = is })))
+  may_show spelled binds tone.Refused text is = absurd is
+  may_show spelled binds tone.Memory text is = is
+
+-- ---- plans
+
+-- there is a plan for each alternative
+pub as_many : (c : Context) (bound : Bound) (plans : List code_plan.Plan) → map plan_of plans ≡ plans_in c.settings.order c.graph bound.alternatives → length plans ≡ length bound.alternatives
+as_many c bound plans are = sym (length-map plans plan_of) ∙ ap length are ∙ length-map bound.alternatives _
+
+-- as many numbers of columns as alternatives
+pub columns_long : (ys : List Typed) (ps : List code_plan.Plan) → length ps ≡ length ys → length (columns_each ys ps) ≡ length ys
+columns_long [] ps same = refl
+columns_long (y ∷ ys) [] same = cc
+columns_long (y ∷ ys) (p ∷ ps) same = let less : length ps ≡ length ys = omega (arith, same) in ap suc (columns_long ys ps less)
+
+-- the alternatives of a bound query have node variables
+pub begun : (query : Query) (text : List ℕ) (catalog : Tables) (bound : Bound) → IsBound query text catalog bound → All (λ y. 0 < length y.nodes) bound.alternatives
+begun query text catalog bound is = λ k d lt. omega (arith, is.has_node, is.node_counts k d lt)

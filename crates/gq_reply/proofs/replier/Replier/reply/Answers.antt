@@ -1,0 +1,21 @@
+use Rattle.std.proofs.Common.{Err, ap, refl}
+use Rattle.gq_reply.proofs.Replying.{replied, wrong_depth, wrong_lex}
+use Rattle.gq_session.specs.declared.answering.Tone.TheVariants as tone
+use Rattle.gq_reply.proofs.replier.Replier.reply.Goals as goal
+
+pub reply_to_tree-requires : goal.reply_to_tree-requires
+reply_to_tree-requires g c = (c.in-Ok.ensures.whole _).0 refl
+
+pub returns-in-Err-Lex : goal.returns-in-Err-Lex
+returns-in-Err-Lex g c =
+    replied _ tone.Refused _ (wrong_lex _ _ _ ((c.in-Err-Lex.ensures.lexes _).0 (ap Err c.in-Err-Lex.field-0-is))) _ _ c.write_at.ensures.bytes c.write_at.ensures.cause _ c.toned.ensures
+
+pub returns-in-Err-Depth : goal.returns-in-Err-Depth
+returns-in-Err-Depth g c =
+    replied _ tone.Refused _ (wrong_depth _ _ _ ((c.in-Err-Depth.ensures.depth _).0 (ap Err c.in-Err-Depth.field-0-is))) _ _ c.write_at-in-Err-Depth.ensures.bytes c.write_at-in-Err-Depth.ensures.cause _ c.toned-in-Err-Depth.ensures
+
+pub reply_to_syntax-requires-clause-cause : goal.reply_to_syntax-requires-clause-cause
+reply_to_syntax-requires-clause-cause g c = (c.in-Err-Syntax.ensures.syntax _).0 (ap Err c.in-Err-Syntax.field-0-is)
+
+pub returns-in-Err-Memory : goal.returns-in-Err-Memory
+returns-in-Err-Memory g c = replied _ tone.Memory _ refl _ _ c.write_all.ensures.bytes c.write_all.ensures.cause _ c.toned-in-Err-Memory.ensures

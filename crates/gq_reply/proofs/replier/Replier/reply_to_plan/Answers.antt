@@ -1,0 +1,26 @@
+use Rattle.std.proofs.Common.{◌≡◌, length, ap, ◌∙◌, refl, sym}
+use Rattle.gq_explain.specs.Plans.{plan_text}
+use Rattle.gq_reply.proofs.Replying.{as_many, columns_long, replied}
+use Rattle.gq_reply.specs.Replies.{context_of}
+use Rattle.gq_reply.specs.ReplyTexts.{columns_each}
+use Rattle.gq_session.specs.declared.answering.Tone.TheVariants as tone
+use Rattle.gq_reply.proofs.replier.Replier.reply_to_plan.Goals as goal
+
+pub returns-in_default : goal.returns-in_default
+returns-in_default g c = replied _ tone.Memory _ refl _ _ c.write_all.ensures.bytes c.write_all.ensures.cause _ c.toned.ensures
+
+pub returns-in_default-column_counts : goal.returns-in_default-column_counts
+returns-in_default-column_counts g c = replied _ tone.Memory _ refl _ _ c.write_all-in_default-column_counts.ensures.bytes c.write_all-in_default-column_counts.ensures.cause _ c.toned-in_default-column_counts.ensures
+
+pub write_plan-requires-clause-columns : goal.write_plan-requires-clause-columns
+write_plan-requires-clause-columns g c =
+    let counts : c.in-Ok-column_counts.counts ≡ columns_each c.args.bound.now.alternatives c.in-Ok.plans =
+    c.in-Ok-column_counts.ensures ∙ ap (λ ys. columns_each ys c.as_slice.result.now) c.as_slice-alternatives.ensures ∙ ap (λ ps. columns_each c.args.bound.now.alternatives ps) c.as_slice.ensures in
+    ap length counts ∙ columns_long _ _ (as_many (context_of c.args.self.now) c.args.bound.now _ c.in-Ok.ensures)
+
+pub returns : goal.returns
+returns g c =
+    let counts : c.in-Ok-column_counts.counts ≡ columns_each c.args.bound.now.alternatives c.in-Ok.plans =
+    c.in-Ok-column_counts.ensures ∙ ap (λ ys. columns_each ys c.as_slice.result.now) c.as_slice-alternatives.ensures ∙ ap (λ ps. columns_each c.args.bound.now.alternatives ps) c.as_slice.ensures in
+    replied _ tone.Good _ (record { plans = c.in-Ok.plans; are = c.in-Ok.ensures; is = ap (plan_text c.args.bound.now c.args.self.now.graph.now.catalog c.in-Ok.plans) counts })
+    _ _ c.write_plan.ensures.bytes c.write_plan.ensures.cause _ c.toned-2.ensures

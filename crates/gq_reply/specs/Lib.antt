@@ -1,0 +1,5 @@
+pub mod BindLines
+pub mod Bindings
+pub mod ReplyTexts
+pub mod Replies
+pub mod Steps

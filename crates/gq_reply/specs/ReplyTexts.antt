@@ -1,0 +1,51 @@
+-- The text of a reply to a query, and of its plans (this project's profile).
+use Rattle.std.specs.Prelude.{◌≡◌, ℕ, List, [], ◌∷◌, map, codes}
+use Rattle.gq_base.specs.Plain.{Graph}
+use Rattle.gq_base.specs.Values.{Val}
+use Rattle.gq_execute.specs.Replies.{Reply, Rows, Faulted, TooManyRows}
+use Rattle.gq_execute.specs.Planned.{plans_in}
+use Rattle.gq_execute.specs.declared.settings.Order.{Order}
+use Rattle.gq_explain.specs.Columns.{columns_of}
+use Rattle.gq_explain.specs.Plans.{plan_text}
+use Rattle.gq_expr.specs.declared.Fault.{Fault}
+use Rattle.gq_expr.specs.declared.Fault.TheVariants as fault
+use Rattle.gq_plan.specs.Steps.{plan_of}
+use Rattle.gq_plan.specs.declared.Bound.{Bound}
+use Rattle.gq_plan.specs.declared.Plan as code_plan
+use Rattle.gq_plan.specs.declared.typed.Typed.{Typed}
+use Rattle.gq_render.specs.Listings.{ends_text, listing_text}
+use Rattle.gq_render.specs.Texts.{refusal_line}
+use Rattle.gq_reply.specs.declared.replier.Form.{Form}
+use Rattle.gq_reply.specs.declared.replier.Form.TheVariants as form
+
+-- the lines that say why there are no rows
+abbrev pub fault_text : Fault → List ℕ
+fault_text fault.Overflow = refusal_line (codes "error: Fault Overflow") [] []
+fault_text fault.DivideByZero = refusal_line (codes "error: Fault DivideByZero") [] []
+fault_text fault.Kind = refusal_line (codes "error: Fault Kind") [] []
+
+abbrev pub many_text : ℕ → List ℕ
+many_text most = refusal_line (codes "error: TooManyRows ") [] (record { before = []; number = most } ∷ [])
+
+-- rows in full: a header, a line for each and their number; or in short: the first, the last and their number
+abbrev pub rows_text : Form → Graph → Bound → List (List Val) → List ℕ
+rows_text form.Full graph bound lines = listing_text (map (λ c. c.name) bound.columns) graph lines
+rows_text form.Short graph bound lines = ends_text graph lines
+
+-- the rows, or one line that says why there are none
+abbrev pub reply_text : Form → ℕ → Graph → Bound → Reply → List ℕ
+reply_text f most graph bound (Rows lines) = rows_text f graph bound lines
+reply_text f most graph bound (Faulted why) = fault_text why
+reply_text f most graph bound TooManyRows = many_text most
+
+-- how many columns the pipeline of each plan fills
+abbrev pub columns_each : List Typed → List code_plan.Plan → List ℕ
+columns_each [] ps = []
+columns_each (y ∷ ys) [] = []
+columns_each (y ∷ ys) (p ∷ ps) = columns_of y (plan_of p) ∷ columns_each ys ps
+
+-- the text of a query's plans in an order, by the sizes of the graph's tables
+pub record IsPlanText (order : Order) (graph : Graph) (bound : Bound) (text : List ℕ) : Type 0 where
+  pub plans : List code_plan.Plan
+  pub are : map plan_of plans ≡ plans_in order graph bound.alternatives
+  pub is : text ≡ plan_text bound graph.catalog plans (columns_each bound.alternatives plans)

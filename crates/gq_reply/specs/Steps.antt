@@ -1,0 +1,46 @@
+-- How a reply is written, for the contracts of its parts.
+use Rattle.std.specs.Prelude.{◌≡◌, ◌⊎◌, ℕ, List, Result, Ok, Err}
+use Rattle.gq_base.specs.Values.{Val}
+use Rattle.gq_binder.specs.Binding.{IsBound}
+use Rattle.gq_execute.specs.Replies.{Rows, Faulted, TooManyRows, IsPermitted}
+use Rattle.gq_expr.specs.declared.Fault.{Fault}
+use Rattle.gq_io.specs.Causes.{HasCause}
+use Rattle.gq_io.specs.declared.Failed.{Failed}
+use Rattle.gq_plan.specs.declared.Bound.{Bound}
+use Rattle.gq_reply.specs.Replies.{Context, memory_line, question}
+use Rattle.gq_reply.specs.ReplyTexts.{IsPlanText, reply_text}
+use Rattle.gq_session.specs.Replies.{Answered}
+use Rattle.gq_session.specs.Sessions.{Span}
+use Rattle.gq_session.specs.declared.answering.Tone.{Tone}
+use Rattle.gq_session.specs.declared.answering.Tone.TheVariants as tone
+use Rattle.gq_syntax.specs.declared.statement.Query.{Query}
+
+-- the tone of a reply that was written, or the failure to write it
+abbrev pub toned : Result (Unit {0}) Failed → Tone → Result Tone Failed
+toned (Ok _) t = Ok t
+toned (Err failed) t = Err failed
+
+-- a permitted reply was written, or a front of one, and the sink failed
+pub record Replied (May : Tone → List ℕ → Type 0) (out : Span) (result : Result Tone Failed) : Type 0 where
+  pub bytes : Answered May out.old out.new result
+  pub cause : HasCause out.before out.now result
+
+-- the replies to a query that is bound: its rows, a line in their place, or the line for want of memory
+abbrev pub MayAsk : Context → Query → Bound → Tone → List ℕ → Type 0
+MayAsk c query bound tone.Good text = (lines : List (List Val)) × IsPermitted (question c query bound) (Rows lines)
+    × (text ≡ reply_text c.form c.settings.rows c.graph bound (Rows lines))
+MayAsk c query bound tone.Refused text =
+    ((f : Fault) × IsPermitted (question c query bound) (Faulted f) × (text ≡ reply_text c.form c.settings.rows c.graph bound (Faulted f)))
+    ⊎ (IsPermitted (question c query bound) TooManyRows × (text ≡ reply_text c.form c.settings.rows c.graph bound TooManyRows))
+MayAsk c query bound tone.Memory text = text ≡ memory_line
+
+-- the same for each query that is bound so
+abbrev pub Asks : Context → Bound → Span → Result Tone Failed → Type 0
+Asks c bound out result =
+    (query : Query) (statement : List ℕ) → IsBound query statement c.graph.catalog bound → Replied (MayAsk c query bound) out result
+
+-- the plans of a query that is bound, by their text
+abbrev pub MayShow : Context → Bound → Tone → List ℕ → Type 0
+MayShow c bound tone.Good text = IsPlanText c.settings.order c.graph bound text
+MayShow c bound tone.Refused text = ⊥
+MayShow c bound tone.Memory text = text ≡ memory_line

@@ -1,0 +1,62 @@
+//! The reply to a statement that asks for the plans of a query.
+
+ghost use Rattle.std.specs.Prelude.{◌≡◌, ◌<◌, All, IfOk, length};
+ghost use Rattle.gq_explain.specs.Columns.{columns_of};
+ghost use Rattle.gq_plan.specs.Soundness.{IsSound};
+ghost use Rattle.gq_plan.specs.Steps.{plan_of};
+ghost use Rattle.gq_reply.specs.Replies.{context_of};
+ghost use Rattle.gq_reply.specs.ReplyTexts.{columns_each};
+ghost use Rattle.gq_reply.specs.Steps.{MayShow, Replied};
+ghost use Rattle.gq_session.specs.Sessions.{span_of};
+
+use crate::replier::Replier;
+use crate::tone::toned;
+use gq_base::{List, Memory};
+use gq_execute::plans;
+use gq_explain::{columns, write_plan};
+use gq_io::{Failed, Sink, write_all};
+use gq_plan::{Bound, Plan, Typed};
+use gq_session::Tone;
+use std::alloc::Global;
+
+fn column_count(alloc: Global, plan: &Plan, typed: &Typed) -> Result<u32, Memory>
+    ensures { IfOk result (λ count. count ≡ columns_of typed.now (plan_of plan.now)) }
+{
+    match u32::try_from(columns(alloc, plan, typed)?) {
+        Ok(count) => Ok(count),
+        Err(_) => Err(Memory),
+    }
+}
+
+// How many columns the pipeline of each plan fills.
+fn column_counts(alloc: Global, alternatives: &[Typed], plans: &[Plan]) -> Result<List<u32>, Memory>
+    ensures { IfOk result (λ counts. counts ≡ columns_each alternatives.now plans.now) }
+{
+    let mut counts = List::new(alloc);
+    for (typed, plan) in alternatives.iter().zip(plans) {
+        counts.push(column_count(alloc, plan, typed)?)?;
+    }
+    Ok(counts)
+}
+
+impl Replier<'_> {
+    /// Replies to a statement that asks for the plans of a bound query: with their text. The query is not run.
+    pub(crate) fn reply_to_plan<O: Sink>(&self, out: &mut O, bound: &Bound) -> Result<Tone, Failed>
+        requires sound { All (IsSound self.now.graph.now.catalog) bound.now.alternatives }
+        requires begins { All (λ y. 0 < length y.nodes) bound.now.alternatives }
+        ensures { Replied (MayShow (context_of self.now) bound.now)
+            (span_of O.taken O.faults out.old out.new) result }
+    {
+        let Ok(plans) = plans(self.alloc, self.graph, bound, self.settings.order) else {
+            return toned(write_all(out, b"error: Memory\n"), Tone::Memory);
+        };
+        let alternatives = bound.alternatives.as_slice();
+        let Ok(counts) = column_counts(self.alloc, alternatives, plans.as_slice()) else {
+            return toned(write_all(out, b"error: Memory\n"), Tone::Memory);
+        };
+        toned(
+            write_plan(out, self.graph, bound, &plans, &counts),
+            Tone::Good,
+        )
+    }
+}

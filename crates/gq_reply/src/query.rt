@@ -1,0 +1,79 @@
+//! The reply to a query that is bound.
+
+ghost use Rattle.std.specs.Prelude.{◌<◌, All, length};
+ghost use Rattle.gq_io.specs.Causes.{HasCause};
+ghost use Rattle.gq_io.specs.Outside.{Writes};
+ghost use Rattle.gq_plan.specs.Soundness.{IsSound};
+ghost use Rattle.gq_reply.specs.Replies.{context_of};
+ghost use Rattle.gq_reply.specs.ReplyTexts.{fault_text, many_text, rows_text};
+ghost use Rattle.gq_reply.specs.Steps.{Asks};
+ghost use Rattle.gq_session.specs.Sessions.{span_of};
+
+use crate::replier::{Form, Replier};
+use crate::tone::toned;
+use gq_execute::{AnswerRefusal, answer};
+use gq_expr::Fault;
+use gq_io::{Failed, Sink, write_all};
+use gq_plan::Bound;
+use gq_render::{Place, write_ends, write_listing, write_refusal};
+use gq_rows::Listing;
+use gq_session::Tone;
+
+fn write_fault<O: Sink>(out: &mut O, fault: Fault) -> Result<(), Failed>
+    ensures bytes { Writes (O.taken out.old) (O.taken out.new) (fault_text fault) result }
+    ensures cause { HasCause (O.faults out.old) (O.faults out.new) result }
+{
+    match fault {
+        Fault::Overflow => write_refusal(out, "error: Fault Overflow", "", &[]),
+        Fault::DivideByZero => write_refusal(out, "error: Fault DivideByZero", "", &[]),
+        Fault::Kind => write_refusal(out, "error: Fault Kind", "", &[]),
+    }
+}
+
+// Writes the line of a query that would keep more rows than these.
+fn write_many<O: Sink>(out: &mut O, rows: u32) -> Result<(), Failed>
+    ensures bytes { Writes (O.taken out.old) (O.taken out.new) (many_text rows) result }
+    ensures cause { HasCause (O.faults out.old) (O.faults out.new) result }
+{
+    let place = Place {
+        before: "",
+        number: rows,
+    };
+    write_refusal(out, "error: TooManyRows ", "", &[place])
+}
+
+impl Replier<'_> {
+    // Writes the rows of a query.
+    fn write_rows<O: Sink>(
+        &self,
+        out: &mut O,
+        bound: &Bound,
+        listing: &Listing<'_>,
+    ) -> Result<(), Failed>
+        ensures bytes { Writes (O.taken out.old) (O.taken out.new)
+            (rows_text self.now.form self.now.graph.now bound.now listing.now) result }
+        ensures cause { HasCause (O.faults out.old) (O.faults out.new) result }
+    {
+        match self.form {
+            Form::Full => write_listing(out, self.graph, bound, listing),
+            Form::Short => write_ends(out, self.graph, listing),
+        }
+    }
+
+    /// Replies to a query that is bound: with its rows, or with the line that says why there are none.
+    pub(crate) fn reply_to_query<O: Sink>(&self, out: &mut O, bound: &Bound) -> Result<Tone, Failed>
+        requires sound { All (IsSound self.now.graph.now.catalog) bound.now.alternatives }
+        requires begins { All (λ y. 0 < length y.nodes) bound.now.alternatives }
+        ensures { Asks (context_of self.now) bound.now
+            (span_of O.taken O.faults out.old out.new) result }
+    {
+        match answer(self.alloc, self.graph, bound, &self.settings) {
+            Ok(listing) => toned(self.write_rows(out, bound, &listing), Tone::Good),
+            Err(AnswerRefusal::Fault(fault)) => toned(write_fault(out, fault), Tone::Refused),
+            Err(AnswerRefusal::TooManyRows { .. }) => {
+                toned(write_many(out, self.settings.rows), Tone::Refused)
+            }
+            Err(AnswerRefusal::Memory) => toned(write_all(out, b"error: Memory\n"), Tone::Memory),
+        }
+    }
+}

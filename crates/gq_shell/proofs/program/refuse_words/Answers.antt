@@ -1,6 +1,0 @@
-use Rattle.std.proofs.Common.{refl}
-use Rattle.gq_shell.specs.declared.status.Status.TheVariants as status
-use Rattle.gq_shell.proofs.program.refuse_words.Goals as goal
-
-pub returns-in-Err : goal.returns-in-Err
-returns-in-Err g c = ((status.Usage, _, refl, c.in-Err.ensures.bytes), c.in-Err.ensures.cause.failed)

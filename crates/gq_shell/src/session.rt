@@ -1,0 +1,66 @@
+//! The session over a graph.
+
+ghost use Rattle.std.specs.Prelude.{◌≡◌};
+ghost use Rattle.gq_session.specs.Sessions.{span_of};
+ghost use Rattle.gq_shell.specs.Statuses.{status_of};
+ghost use Rattle.gq_shell.specs.Steps.{Served};
+
+use crate::status::Status;
+use gq_execute::Settings;
+use gq_io::{Sink, Source};
+use gq_reply::{Form, Replier};
+use gq_session::{Stop, Tone, session};
+use gq_store::Graph;
+use std::alloc::Global;
+
+/// The longest statement, in bytes.
+const MOST_STATEMENT: usize = 65_536;
+
+/// The longest input, in bytes.
+const MOST_INPUT: usize = 1_073_741_824;
+
+/// The status of a run whose session ended so.
+pub(crate) fn status_of(ended: Result<Tone, Stop>) -> Status
+    ensures { result ≡ status_of ended }
+{
+    match ended {
+        Ok(Tone::Good) => Status::Ended,
+        Ok(Tone::Refused) => Status::Refused,
+        Ok(Tone::Memory) => Status::Memory,
+        Err(Stop::Read) => Status::ReadFault,
+        Err(Stop::Write) => Status::WriteFault,
+        Err(Stop::TooLong) => Status::TooLong,
+    }
+}
+
+/// Answers the statements of the input over a graph, each as it ends, and says how that ended.
+pub(crate) fn serve<I: Source, O: Sink>(
+    alloc: Global,
+    graph: &Graph,
+    settings: Settings,
+    input: &mut I,
+    out: &mut O,
+) -> Status
+    ensures { Served graph.now settings (span_of I.left I.faults input.old input.new)
+        (span_of O.taken O.faults out.old out.new) result }
+{
+    let Ok(mut statement) = vec![in alloc; 0u8; MOST_STATEMENT] else {
+        return Status::Memory;
+    };
+    let replier = Replier {
+        alloc,
+        graph,
+        settings,
+        form: Form::Full,
+    };
+    let mut workspace = ();
+    let ended = session(
+        &replier,
+        &mut workspace,
+        &mut statement,
+        MOST_INPUT,
+        input,
+        out,
+    );
+    status_of(ended)
+}
