@@ -45,21 +45,23 @@ pub enum Place {
     File,
 }
 
-/// A title, and the line of its file where the case begins; what the program is given: its words, the files, of which the last of a name counts, the input, which calls fail, and
-/// how many bytes a read of the input gives and a write takes; and its output and status. A mixed output may have its
-/// lines between the first and the last in any order.
+/// A title, and the line of its file where the case begins; what the program is given: its words, whether each order is to
+/// be named behind them, the files, of which the last of a name counts, the input, which calls fail, and how many bytes a
+/// read of the input gives and a write takes, where the case says it; and its output and status. A mixed output may have
+/// its lines between the first and the last in any order.
 #[derive(Clone, Drop)]
 pub struct Case {
     pub title: String,
     pub line: usize,
     pub words: Vec<String>,
+    pub both_orders: bool,
     pub files: Vec<CaseFile>,
     pub input: Vec<u8>,
     pub place: Place,
     pub failing_files: Vec<u64>,
     pub failing_input: Vec<u64>,
     pub failing_output: Vec<u64>,
-    pub piece: u32,
+    pub piece: Option<u32>,
     pub output: Vec<u8>,
     pub mixed: bool,
     pub status: Option<u8>,
@@ -80,28 +82,54 @@ impl Case {
             title: String::new(alloc),
             line: 0,
             words: standard_words(alloc)?,
+            both_orders: false,
             files: Vec::new(alloc),
             input: Vec::new(alloc),
             place: Place::Input,
             failing_files: Vec::new(alloc),
             failing_input: Vec::new(alloc),
             failing_output: Vec::new(alloc),
-            piece: 4096,
+            piece: None,
             output: Vec::new(alloc),
             mixed: false,
             status: None,
         })
     }
 
-    /// The status that is wanted: what the case says, or else that of the output's front.
+    /// Whether some call fails.
+    pub fn fails(&self) -> bool {
+        !self.failing_files.is_empty()
+            || !self.failing_input.is_empty()
+            || !self.failing_output.is_empty()
+    }
+
+    /// The status that is wanted: what the case says, or else what the lines of the output tell.
     pub fn wanted_status(&self) -> u8 {
-        let output = self.output.as_slice();
         match self.status {
             Some(status) => status,
-            None if output.starts_with(b"error: ") => 1,
-            None if output.starts_with(b"usage: ") => 2,
-            None if output.starts_with(b"load: ") => 3,
-            None => 0,
+            None => status_of_lines(self.output.as_slice()),
         }
     }
+}
+
+// What a line of an output tells of the status.
+fn status_of_line(line: &str) -> u8 {
+    if line == "error: Memory" {
+        return 6;
+    }
+    match line.split_once(' ') {
+        Some(("error:", _)) => 1,
+        Some(("usage:", _)) => 2,
+        Some(("load:", _)) => 3,
+        _ => 0,
+    }
+}
+
+// The greatest that a line tells.
+fn status_of_lines(output: &[u8]) -> u8 {
+    let mut status = 0;
+    for line in str::from_utf8(output).unwrap_or("").lines() {
+        status = status_of_line(line).max(status);
+    }
+    status
 }

@@ -1,4 +1,5 @@
-//! Runs the program over cases that are written as text, and prints each case whose output or status is another one.
+//! Runs the program over cases that are written as text, each in pieces of several lengths, and prints each case whose
+//! output or status is another one.
 #![tactic(auto)]
 
 mod case;

@@ -2,7 +2,7 @@
 
 use crate::case::{Case, Place, Stop};
 use crate::taking::take_line;
-use crate::trial::{Got, agrees, run_case};
+use crate::trial::{Got, difference};
 use std::fs;
 
 /// How many cases do what they are to do, and how many do not.
@@ -36,26 +36,27 @@ fn shown(bytes: &[u8]) -> &str {
 
 fn tell(rt: &HostRuntime, file: &str, case: &Case, got: &Got) -> Result<(), Stop> {
     let printed = println!(rt;
-        "{file} line {}: {}\n{}wanted, with status {}:\n{}got, with status {}:\n{}",
+        "{file} line {}: {}\n{}wanted, with status {}:\n{}got, with status {}, in pieces of {}, in the order {}:\n{}",
         case.line,
         case.title,
         shown(case.input.as_slice()),
         case.wanted_status(),
         shown(case.output.as_slice()),
         got.status,
+        got.piece,
+        got.order.as_str(),
         shown(got.output.as_slice())
     );
     printed.map_err(|_| Stop::Outside)
 }
 
 fn try_case(rt: &HostRuntime, file: &str, case: &Case, tally: &mut Tally) -> Result<(), Stop> {
-    let got = run_case(rt.alloc(), case)?;
-    let agree = agrees(rt.alloc(), case, &got)?;
-    tally.count(agree);
-    if agree {
-        return Ok(());
+    let got = difference(rt.alloc(), case)?;
+    tally.count(got.is_none());
+    match got {
+        None => Ok(()),
+        Some(got) => tell(rt, file, case, &got),
     }
-    tell(rt, file, case, &got)
 }
 
 // A line of a case file, by its number from 1.

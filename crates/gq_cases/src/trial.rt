@@ -11,11 +11,29 @@ use std::alloc::Global;
 /// The room for an output, in bytes.
 const ROOM: u32 = 65_536;
 
-/// What a run wrote, and its exit status.
+// The lengths of the pieces in which an input is given, where a case does not say it.
+static PIECES: [u32; 5] = [1, 2, 7, 4_096, 65_536];
+
+// The length where some call fails, so that the number of the call tells where.
+static ONE_PIECE: [u32; 1] = [4_096];
+
+static ORDERS: [&str; 2] = ["given", "greedy"];
+
+/// What a run wrote and its exit status; and how it was run: in pieces of which length, and in which order.
 #[derive(Drop)]
 pub struct Got {
     pub status: u8,
     pub output: Vec<u8>,
+    pub piece: u32,
+    pub order: String,
+}
+
+// A case with the words that it is run with, and the order that they name last.
+#[derive(Clone, Copy)]
+struct Trial<'t> {
+    case: &'t Case,
+    words: &'t [String],
+    order: &'t str,
 }
 
 // The names and the bytes, the last file first, since the first of a name counts.
@@ -36,34 +54,78 @@ fn calls(alloc: Global, failing: &[u64]) -> Result<List<u64>, Stop> {
     Ok(List::from_vec(Vec::from_slice(alloc, failing)?))
 }
 
-fn run_in_pieces(alloc: Global, case: &Case, piece: u32) -> Result<Got, Stop>
+fn run_in_pieces(alloc: Global, trial: Trial<'_>, piece: u32) -> Result<Got, Stop>
     requires { 0 < piece }
 {
+    let case = trial.case;
     let mut files = files(alloc, case.files.as_slice(), case.failing_files.as_slice())?;
     let bytes = Bytes::new(alloc, case.input.as_slice())?;
     let failing_input = calls(alloc, case.failing_input.as_slice())?;
     let mut input = MemorySource::new(bytes, piece, failing_input);
     let failing_output = calls(alloc, case.failing_output.as_slice())?;
     let mut out = MemorySink::new(alloc, ROOM, piece, failing_output)?;
-    let status = run(
-        alloc,
-        case.words.as_slice(),
-        &mut files,
-        &mut input,
-        &mut out,
-    );
+    let status = run(alloc, trial.words, &mut files, &mut input, &mut out);
     Ok(Got {
         status: status.code(),
         output: Vec::from_slice(alloc, out.taken())?,
+        piece,
+        order: String::from_str(alloc, trial.order)?,
     })
 }
 
-/// Runs the program as a case says.
-pub fn run_case(alloc: Global, case: &Case) -> Result<Got, Stop> {
-    if case.piece == 0 {
-        return Err(Stop::Malformed);
+// The first run in pieces of one of these lengths that does not do what its case wants.
+fn differs_in(alloc: Global, trial: Trial<'_>, pieces: &[u32]) -> Result<Option<Got>, Stop> {
+    for piece in pieces {
+        if *piece == 0 {
+            return Err(Stop::Malformed);
+        }
+        let got = run_in_pieces(alloc, trial, *piece)?;
+        if !agrees(alloc, trial.case, &got)? {
+            return Ok(Some(got));
+        }
     }
-    run_in_pieces(alloc, case, case.piece)
+    Ok(None)
+}
+
+fn differs_with(alloc: Global, trial: Trial<'_>) -> Result<Option<Got>, Stop> {
+    if let Some(piece) = trial.case.piece {
+        let named = [piece];
+        return differs_in(alloc, trial, named.as_slice());
+    }
+    if trial.case.fails() {
+        return differs_in(alloc, trial, ONE_PIECE.as_slice());
+    }
+    differs_in(alloc, trial, PIECES.as_slice())
+}
+
+// The words of a case, and an order behind them.
+fn ordered_words(alloc: Global, case: &Case, order: &str) -> Result<Vec<String>, Stop> {
+    let mut words = case.words.clone()?;
+    words.push(String::from_str(alloc, "--order")?)?;
+    words.push(String::from_str(alloc, order)?)?;
+    Ok(words)
+}
+
+fn differs_in_orders(alloc: Global, case: &Case) -> Result<Option<Got>, Stop> {
+    for order in ORDERS {
+        let words = ordered_words(alloc, case, order)?;
+        let words = words.as_slice();
+        let got = differs_with(alloc, Trial { case, words, order })?;
+        if got.is_some() {
+            return Ok(got);
+        }
+    }
+    Ok(None)
+}
+
+/// Runs the program as a case says, in each way, and gives the first run that does not do what the case wants.
+pub fn difference(alloc: Global, case: &Case) -> Result<Option<Got>, Stop> {
+    if case.both_orders {
+        return differs_in_orders(alloc, case);
+    }
+    let words = case.words.as_slice();
+    let order = "of the words";
+    differs_with(alloc, Trial { case, words, order })
 }
 
 fn sorted_lines<'t>(alloc: Global, text: &'t str) -> Result<Vec<&'t str>, Stop> {
@@ -82,8 +144,8 @@ fn same_mixed(alloc: Global, one: &str, other: &str) -> Result<bool, Stop> {
     Ok(ends && sorted_lines(alloc, one)?.as_slice() == sorted_lines(alloc, other)?.as_slice())
 }
 
-/// Whether a run did what its case wants.
-pub fn agrees(alloc: Global, case: &Case, got: &Got) -> Result<bool, Stop> {
+// Whether a run did what its case wants.
+fn agrees(alloc: Global, case: &Case, got: &Got) -> Result<bool, Stop> {
     if got.status != case.wanted_status() {
         return Ok(false);
     }
