@@ -1,1 +1,1 @@
-MATCH (p:Person) RETURN p.name;
+MATCH (p:Person) RETURN p.name ORDER BY p.name;

