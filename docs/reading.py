@@ -1,0 +1,149 @@
+#!/usr/bin/env python3
+"""The reading list of the claim: what has to be read to know what `gq_shell::run` promises.
+
+It follows every name from the signature and the clauses of `run`: to definitions of specs/, to types, traits and constants of
+src/, and from a struct with an `impl Model` to its `Value`; a word that a definition binds is followed too where it names
+something. It lists the kit's words and what it cannot resolve, and counts no blank lines, imports and bodies of functions.
+
+    docs/reading.py                  each file, with its lines that are reached and all its lines; the kit; the total
+    docs/reading.py --definitions    the same, with each definition by name
+    docs/reading.py --unreached      what of specs/ no public function's clause uses, nor a definition that one reaches
+"""
+import re
+import sys
+from itertools import takewhile
+from pathlib import Path
+
+CRATES = Path(__file__).resolve().parent.parent / "crates"
+SOURCES = {}  # each file by its path, as gq_shell/specs/Claim
+KEYWORDS = set("→ × λ : = _ | let in record data where module mutual pub abbrev unfoldable unfolding as Type Unit tt ⊥ "
+               "absurd ¬ 𝓛 cc grind Prim Some None Ok Err result self Self".split())
+WORD = re.compile(r'"(?:\\.|[^"\\])*"|(\[\]|(?<![^\s()\[\]{},;])[^\s()\[\]{},;".\d][^\s()\[\]{},;"]*)')
+LABEL = re.compile(r"([{;]\s*)\S+ = |⟦<(\w+).*?>⟧")
+BINDER = re.compile(r"λ ([^.]*)\.|\blet (\S+)|[({]([^(){}:]+) :|^ *(?:(?:pub|abbrev|unfoldable) )*(\S+) :", re.M)
+IMPORT = re.compile(r"^ *(ghost )?(?:pub(?:\(crate\))? )?use ([^\s;]+?)(?:\.\{([^}]*)\}| as (\S+?))?;?$", re.M)
+OF_KIT = re.compile(r"(?:std|core|clap|csv|indexmap|itoa|memchr)\b")
+NO_CODE = re.compile(r" *(?:--|//|#|infix|(?:pub )?mod |module _ |(?:unfoldable )?mutual$)")
+ITEM = re.compile(r"(?:pub(?:\(crate\))? )?(fn|struct|enum|trait|type|const|impl)\b(?:<.*?>)? (?:(\w+).* for )?(\w+)")
+FUNCTION = re.compile(r"^(?= *(?:pub(?:\(crate\))? )?(?:const )?fn )", re.M)
+BODY = re.compile(r"^( *)(?:(?:\)|(?:pub(?:\(crate\))? )?(?:const )?fn ).*)?\{\n(?:(?!\1\S).*\n)*\1\}$", re.M)
+CLAUSE = re.compile(r"\b(?:requires|ensures|ghost)\*?(?: \w+)?(?: ?[:=])? \{((?:[^{}]|\{(?:[^{}]|\{[^{}]*\})*\})*)\}")
+
+
+class Item:  # a definition or a contract: its lines by number, its text in antt, its words in Rust, and what it binds
+    def __init__(self, source, name, lines, text, words, bound):
+        self.source, self.name, self.lines = source, name, {number for number, _ in lines}
+        self.text, self.words, self.bound = text, words, bound
+        source.items.append(self)
+
+    def uses(self):  # the words that it uses, each with what it means
+        bound = self.bound.union(*(re.findall(r"[^\s(),]+", " ".join(names)) for names in BINDER.findall(self.text)))
+        for word in {word.rstrip(".") for word in WORD.findall(LABEL.sub(r"\1\2", self.text))} - {""}:
+            head, meant = word.split(".")[0], self.source.meaning(word)
+            if head not in KEYWORDS and (meant or head not in bound):
+                yield word, meant
+        yield from ((word, self.source.meaning(word, is_rust=True)) for word in self.words)
+
+
+class Source:  # a file: what its words bring from elsewhere, its items, and its definitions by the words that they declare
+    def __init__(self, path):
+        self.path, self.text = path.relative_to(CRATES), path.read_text().replace("::", ".")
+        self.crate, self.is_rust = self.path.parts[0], path.suffix == ".rt"
+        self.items, self.declared, self.imports, self.uses = [], {}, {}, {}
+        for ghost, module, names, alias in IMPORT.findall(self.text):
+            for name, _, other in (item.strip().partition(" as ") for item in names.strip(", \n").split(",")):
+                last, of_rust = module.split(".")[-1], self.is_rust and not ghost
+                crate = module.split(".")[0] if module.startswith("gq_") else self.crate
+                home = f"Rattle.{crate}.specs.declared.{name or last}" if of_rust and not OF_KIT.match(module) else module
+                words = dict.fromkeys((other or name or alias or last).split("◌"), (home, name))
+                (self.uses if of_rust else self.imports).update(words)
+        self.read_rust() if self.is_rust else self.read_antt()
+
+    def pieces(self, form):
+        for piece in re.finditer(form, self.text, re.M):
+            start = self.text.count("\n", 0, piece.start()) + 1
+            yield [(n, line) for n, line in enumerate(piece[0].split("\n"), start) if line and not IMPORT.match(line)]
+
+    def read_antt(self):  # a paragraph is a definition, a signature and its cases; one that is indented stands in a block
+        blocks = re.findall(r"^ *module _ .*", self.text, re.M)
+        for lines in self.pieces(r"(?:.+\n)+"):
+            code = [line for _, line in lines if not NO_CODE.match(line)]
+            if code:
+                is_data, name = re.match(r" *(?:(?:unfoldable|abbrev|pub) )*(?:(?:(data)|record) )?(\S+) ", code[0]).groups()
+                cases = re.findall(rf"^{re.match(' *', code[0])[0]}(\S.*?) =(?: |$)", "\n".join(code), re.M)
+                text, bound = "\n".join(code + blocks * (code[0][0] == " ")), {*re.findall(r"[^\s()]+", " ".join(cases))}
+                words = [*name.split("◌"), *re.findall(r"^ *(\S+) :", "\n".join(code[1:]) if is_data else "", re.M)]
+                self.declared.update(dict.fromkeys(words, Item(self, name, lines, text, (), bound)))
+
+    def read_rust(self):  # an item ends at the left edge; functions and impls have contracts, the others are definitions
+        for lines in self.pieces(r"(?:.*\n)*?(?:[^\s/#].*)?[;}]\n"):
+            code = [line for _, line in lines if not NO_CODE.match(line)]
+            kind, trait, name = ITEM.match(code[0]).groups() if code and ITEM.match(code[0]) else ("use", None, None)
+            text, lines = BODY.sub("", "\n".join(code)), list(takewhile(lambda line: line[1] != "{", lines))
+            if trait == "Model":
+                model = self.declared[name]
+                model.text, model.words, model.bound = rust_parts(code[0], re.search("ghost Value .*", text)[0])
+                model.lines.update(number for number, _ in lines)
+            elif kind in ("fn", "impl"):
+                for part in FUNCTION.split(text):
+                    if trait or re.match(" *pub ", part):
+                        Item(self, name, lines, *rust_parts(code[0], part))
+            elif name:
+                self.declared[name] = Item(self, name, lines, *rust_parts(code[0], text))
+
+    def meaning(self, word, is_rust=False):  # a definition, a module of the kit with its word, or None
+        head, _, rest = word.partition(".")
+        imports = self.uses if is_rust else {**self.uses, **self.imports}
+        if head not in imports:
+            return self.declared.get(head) or (("Rust's prelude", word) if is_rust else None)
+        module, member = imports[head][0], imports[head][1] or rest.split(".")[0]
+        if not module.startswith("Rattle.gq_"):
+            return module, member or word
+        _, crate, _, *path = module.split(".")
+        if path[0] not in ("declared", "contracts"):
+            return SOURCES["/".join([crate, "specs", *path])].meaning(member)
+        name = member if "TheConstants" in path else [part for part in path if not re.match("The[A-Z]", part)][-1]
+        found = {source.declared.get(name) for source in SOURCES.values() if source.crate == crate and source.is_rust}
+        return next(iter(found - {None}), None)
+
+
+def rust_parts(head, text):  # the clauses and ghost members of an item, the words of the rest, and what the item binds
+    rust = re.sub(r"'\w+|\"[^\"]*\"|^    [A-Z]\w*", "", CLAUSE.sub("", text), flags=re.M)
+    bound = {*re.findall(r"\b[A-Z]\b", head + rust), *re.findall(r"\bghost (\w+)", text), *re.findall(r"(\w+):", rust)}
+    words = {*re.findall(r"(?<!\.)\b[A-Z]\w*|\b\w+(?=\.\w*[A-Z])", rust)} - bound - {"Self"}
+    return "\n".join(CLAUSE.findall(text)), words, bound
+
+
+def main(flags):
+    for path in sorted(CRATES.glob("*/s*/**/*.*t")):
+        SOURCES[str(path.relative_to(CRATES).with_suffix(""))] = Source(path)
+    of_claim = "--unreached" not in flags
+    reached, kit, unresolved, total, count = set(), {}, set(), 0, 0
+    todo = [item for item in SOURCES["gq_shell/src/program"].items if item.name == "run"]
+    for source in SOURCES.values() if not of_claim else ():  # a crate shows its root file's items, and what this passes on
+        root = SOURCES.get(f"{source.crate}/src/lib")
+        shown = re.findall(r"\w+", " ".join(re.findall(r"^pub use [^;]*", root.text if root else "", re.M)))
+        todo += (item for item in source.items if source.is_rust and (source is root or item.name in shown))
+    while todo:
+        item = todo.pop()
+        for word, meant in item.uses() if item not in reached else ():
+            if isinstance(meant, tuple):
+                kit.setdefault(meant[0], set()).add(meant[1])
+            elif meant:
+                todo.append(meant)
+            else:
+                unresolved.add(f"unresolved: {word} in {item.name} of {item.source.path}\n")
+        reached.add(item)
+    for source in SOURCES.values():
+        chosen = [item for item in source.items if (item in reached) == of_claim and (of_claim or not source.is_rust)]
+        lines = len(set().union(*(item.lines for item in chosen)))
+        total, count = total + lines, count + len(chosen)
+        if chosen:
+            print(f"{lines:5} of {source.text.count(chr(10)):3}  {source.path}")
+            print(*(f"{'':17}{item.name}\n" for item in chosen if flags), sep="", end="")
+    kit_lines = (f"the kit's {module}: {' '.join(sorted(kit[module]))}\n" for module in sorted(kit) if of_claim)
+    print(*kit_lines, *sorted(unresolved), f"{total} lines of {count} definitions", sep="")
+
+
+if __name__ == "__main__":
+    main(sys.argv[1:])
