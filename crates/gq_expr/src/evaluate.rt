@@ -1,5 +1,5 @@
 //! The value of an expression in a row, or its first fault.
-ghost use Rattle.std.specs.Prelude.{◌≡◌, Some, true, map};
+ghost use Rattle.std.specs.Prelude.{◌≡◌, Ok, Some, IfSome, true, map};
 ghost use Rattle.gq_base.specs.Plain.{Graph};
 ghost use Rattle.gq_base.specs.Values.{val, null};
 ghost use Rattle.gq_expr.specs.Operators.{outcome, type_val};
@@ -48,8 +48,39 @@ pub trait Reads {
 /// The value of an expression in a row, or the first fault met. Evaluation is strict, the left operand first. It
 /// takes no memory, and the value lives as long as the graph and the expression.
 #[cycle(eval)]
-#[tactic(auto, using(crate::proofs::Equations::equations))]
+#[inline(always)]
 pub fn eval<'v, G: Reads, R: Assigned>(
+    expr: &'v Expr,
+    graph: &'v G,
+    row: &R,
+) -> Result<Value<'v>, Fault>
+    ensures { outcome result ≡ meaning (G.graph graph.now) (R.assignment row.now) expr.now }
+{
+    match leaf_value(expr, graph, row) {
+        Some(value) => Ok(value),
+        None => eval_parts(expr, graph, row),
+    }
+}
+
+// The value of a literal or a property. These are most of what is evaluated, and take no call.
+#[inline(always)]
+#[tactic(auto, using(crate::proofs::Equations::equations))]
+fn leaf_value<'v, G: Reads, R: Assigned>(expr: &'v Expr, graph: &'v G, row: &R) -> Option<Value<'v>>
+    ensures { IfSome result (λ value.
+        meaning (G.graph graph.now) (R.assignment row.now) expr.now ≡ Ok (val value)) }
+{
+    match expr {
+        Expr::Literal(literal) => Some(literal_value(literal)),
+        Expr::NodeProperty(variable, name) => Some(node_property(graph, row.node(*variable), name)),
+        Expr::RelProperty(variable, name) => Some(rel_property(graph, row.rel(*variable), name)),
+        _ => None,
+    }
+}
+
+#[cycle(eval)]
+#[inline(never)]
+#[tactic(auto, using(crate::proofs::Equations::equations))]
+fn eval_parts<'v, G: Reads, R: Assigned>(
     expr: &'v Expr,
     graph: &'v G,
     row: &R,
