@@ -7,6 +7,3 @@ mod reading;
 
 pub use meaning::{Order, Source, Words};
 pub use reading::{WordsRefusal, read_words};
-
-#[cfg(test)]
-mod tests;
