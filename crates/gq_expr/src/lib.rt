@@ -11,6 +11,3 @@ pub use evaluate::{Assigned, Reads, eval};
 pub use expr::{Bound, BoundArith, BoundCompare, BoundTester, Expr, Fault, LogicOp, Tester};
 pub use gq_base::{ArithOp, CompareOp};
 pub use kinds::{FieldList, Kinds, can_fault, kinds_keep_their_promise};
-
-#[cfg(test)]
-mod tests;
