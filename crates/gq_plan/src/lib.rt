@@ -25,6 +25,3 @@ pub use plan::{Plan, Step, Way};
 pub use reads::PropertyReads;
 pub use typed::{PathPart, RelPair, Typed, TypedRel};
 pub use variable::Variable;
-
-#[cfg(test)]
-mod tests;
