@@ -9,7 +9,6 @@ pub mod Levels
 pub mod Making
 pub mod Moving
 pub mod Pushing
-pub mod Ring
 pub mod Searching
 pub mod Stepping
 pub mod Testing

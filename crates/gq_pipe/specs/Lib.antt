@@ -7,6 +7,5 @@ pub mod Limits
 pub mod Moves
 pub mod Outcomes
 pub mod Progress
-pub mod Ring
 pub mod Standing
 pub mod Tries

@@ -10,6 +10,3 @@ mod plan_run;
 
 pub use builds::{Builds, make_builds};
 pub use flat::FlatPipeline;
-
-#[cfg(test)]
-mod tests;

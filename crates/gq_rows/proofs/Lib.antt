@@ -10,7 +10,6 @@ mod Fronts
 pub mod Listings
 mod Looking
 mod Pieces
-pub mod Pushing
 mod Ranked
 mod Rising
 mod Standings

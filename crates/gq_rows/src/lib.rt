@@ -12,6 +12,3 @@ mod table;
 pub use listing::Listing;
 pub use refusal::{More, RowRefusal};
 pub use table::RowTable;
-
-#[cfg(test)]
-mod tests;
