@@ -4,11 +4,11 @@ use Rattle.std.specs.Prelude.{nat_lt, nat_le}
 use Rattle.std.specs.List.{AllZip, list_all, list_any}
 use Rattle.std.proofs.lemmas.List.{length-map}
 use Rattle.std.proofs.lemmas.Bool.Decides.{nat_tests}
-use Rattle.gq_answers.proofs.Laws.{alternatives_part_outcomes, late_plan_at}
+use Rattle.gq_law_answers.proofs.Laws.{alternatives_part_outcomes, late_plan_at}
 use Rattle.gq_base.specs.Plain.{Graph}
 use Rattle.gq_base.specs.Valid.{is_valid}
 use Rattle.gq_binder.specs.Binding.{IsBound}
-use Rattle.gq_meaning.proofs.Sides.{given_counts, greedy_counts}
+use Rattle.gq_law_plans.proofs.Sides.{given_counts, greedy_counts}
 use Rattle.gq_join.specs.declared.build.JoinRefusal.{JoinRefusal}
 use Rattle.gq_join.specs.declared.build.JoinRefusal.TheVariants as join
 use Rattle.gq_pipe.proofs.Making.{within_sides}

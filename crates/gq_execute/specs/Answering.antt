@@ -2,7 +2,7 @@
 use Rattle.std.specs.Prelude.{◌≡◌, ◌⊎◌, ◌≤◌, ℕ, length, take, true, false, Some, Result, Ok, Err, List, [], ◌++◌, flat_map, slice_get}
 use Rattle.std.specs.List.Sorted.{IsPermutation}
 use Rattle.gq_base.specs.Values.{Val}
-use Rattle.gq_answers.specs.Answered.{MakesLateOutcomes}
+use Rattle.gq_law_answers.specs.Answered.{MakesLateOutcomes}
 use Rattle.gq_binder.specs.Binding.{IsBound}
 use Rattle.gq_expr.specs.declared.Fault.{Fault}
 use Rattle.gq_plan.specs.Covers.{Covers}

@@ -6,8 +6,8 @@ use Rattle.std.specs.List.Sorted.{IsPermutation}
 use Rattle.gq_base.specs.Plain.{Graph}
 use Rattle.gq_base.specs.Values.{Val}
 use Rattle.gq_expr.specs.declared.Fault.{Fault}
-use Rattle.gq_answers.specs.Answered as answered
-use Rattle.gq_answers.specs.Answered.{outcomes_of}
+use Rattle.gq_law_answers.specs.Answered as answered
+use Rattle.gq_law_answers.specs.Answered.{outcomes_of}
 use Rattle.gq_plan.specs.Outcomes.{Row}
 use Rattle.gq_plan.specs.Parts.{Part, given_parts, greedy_parts, part_assignments}
 use Rattle.gq_plan.specs.declared.Bound.{Bound}

@@ -1,0 +1,77 @@
+-- What a plan that covers an alternative makes is of the graph, lies in the alternative and makes its tests true.
+use Rattle.std.proofs.Common.{◌≡◌, ℕ, ◌<◌, true, ◌&&◌, List, map, filter, length, IsTrue, arith}
+use Rattle.std.specs.List.{AllByRecursion, list_all, range_with_len}
+use Rattle.std.proofs.lemmas.Bool.{lt-ltb, and_parts}
+use Rattle.std.proofs.lemmas.List.Elements.{All-from_recursion}
+use Rattle.std.proofs.lemmas.List.Sorted.{All-permutation, IsPermutation-sym}
+use Rattle.gq_base.specs.Plain.{Graph}
+use Rattle.gq_base.specs.declared.NodeId.{NodeId}
+use Rattle.gq_base.specs.declared.RelId.{RelId}
+use Rattle.gq_plan.specs.Allowed.{lies_in}
+use Rattle.gq_plan.specs.Assignments.{Assignment, tuples, assignments, nodes_of, all_nodes, rels_of, all_rels, rows_at, rels_at, is_node, is_rel, row_of}
+use Rattle.gq_plan.specs.Conditions.{allows, passes, differs}
+use Rattle.gq_plan.specs.Meaning.{meaning}
+use Rattle.gq_plan.specs.declared.typed.Typed.{Typed}
+use Rattle.gq_plan.proofs.Each.{each_of, each_then, each_map, each_flat_map, each_kept, each_below}
+use Rattle.gq_plan.proofs.Products.{each_tuple}
+use Rattle.gq_law_plans.specs.Safe.{IsMade, PlansMake}
+use Rattle.gq_law_plans.proofs.Wholes.{plans_mean}
+
+abbrev IsNode : Graph → NodeId → Type 0
+IsNode g n = IsTrue (is_node g n)
+
+abbrev IsRel : Graph → RelId → Type 0
+IsRel g r = IsTrue (is_rel g r)
+
+-- an assignment has so many nodes and relationships, of the graph
+record IsOf (g : Graph) (n m : ℕ) (t : Assignment) : Type 0 where
+  nodes : AllByRecursion (IsNode g) t.nodes
+  rels : AllByRecursion (IsRel g) t.rels
+  node_count : length t.nodes ≡ n
+  rel_count : length t.rels ≡ m
+
+nodes_real : (g : Graph) → AllByRecursion (IsNode g) (all_nodes g)
+unfolding all_nodes nodes_of
+nodes_real g =
+    each_flat_map (λ k. Unit {0}) (IsNode g) (nodes_of g)
+    (λ k _. each_map (λ r. r < length (rows_at g k)) (IsNode g) (λ r. record { table = k; row = r }) (λ r low. lt-ltb r (length (rows_at g k)) low)
+    (range_with_len 0 (length (rows_at g k))) (each_below 0 (length (rows_at g k)) (length (rows_at g k)) (omega arith)))
+    (range_with_len 0 (length g.nodes)) (each_of _ (λ k. tt) (range_with_len 0 (length g.nodes)))
+
+rels_real : (g : Graph) → AllByRecursion (IsRel g) (all_rels g)
+unfolding all_rels rels_of
+rels_real g =
+    each_flat_map (λ k. Unit {0}) (IsRel g) (rels_of g)
+    (λ k _. each_map (λ r. r < length (rels_at g k)) (IsRel g) (λ r. record { table = k; row = r }) (λ r low. lt-ltb r (length (rels_at g k)) low)
+    (range_with_len 0 (length (rels_at g k))) (each_below 0 (length (rels_at g k)) (length (rels_at g k)) (omega arith)))
+    (range_with_len 0 (length g.rels)) (each_of _ (λ k. tt) (range_with_len 0 (length g.rels)))
+
+each_real : (n m : ℕ) (g : Graph) → AllByRecursion (IsOf g n m) (assignments n m g)
+unfolding assignments
+each_real n m g =
+    each_flat_map (λ ns. AllByRecursion (IsNode g) ns × (length ns ≡ n)) (IsOf g n m) (λ ns. map (λ rs. record { nodes = ns; rels = rs }) (tuples m (all_rels g)))
+    (λ ns h. each_map (λ rs. AllByRecursion (IsRel g) rs × (length rs ≡ m)) (IsOf g n m) (λ rs. record { nodes = ns; rels = rs })
+    (λ rs k. record { nodes = h.0; rels = k.0; node_count = h.1; rel_count = k.1 }) (tuples m (all_rels g)) (each_tuple (IsRel g) m (all_rels g) (rels_real g)))
+    (tuples n (all_nodes g)) (each_tuple (IsNode g) n (all_nodes g) (nodes_real g))
+
+allowed_made : (g : Graph) (y : Typed) (t : Assignment) → IsOf g (length y.nodes) (length y.rels) t × (allows g y t ≡ true) → IsMade g y t
+allowed_made g y t h =
+    let parts = and_parts (lies_in g y t) (list_all (passes g (row_of t)) y.tests && list_all (differs (row_of t)) y.pairs) h.1 in
+    let more = and_parts (list_all (passes g (row_of t)) y.tests) (list_all (differs (row_of t)) y.pairs) parts.1 in
+    record {
+      node_count = h.0.node_count;
+      rel_count = h.0.rel_count;
+      nodes = All-from_recursion (IsNode g) t.nodes h.0.nodes;
+      rels = All-from_recursion (IsRel g) t.rels h.0.rels;
+      lies = parts.0;
+      tests = more.0;
+      pairs = more.1;
+    }
+
+pub plans_make : PlansMake
+plans_make g y p real sound covers =
+    let all : List Assignment = assignments (length y.nodes) (length y.rels) g in
+    All-permutation (IsMade g y) (filter (allows g y) all) (meaning g y p) (IsPermutation-sym _ _ (plans_mean g y p real sound covers))
+    (All-from_recursion (IsMade g y) (filter (allows g y) all)
+    (each_then (λ t. IsOf g (length y.nodes) (length y.rels) t × (allows g y t ≡ true)) (IsMade g y) (allowed_made g y) (filter (allows g y) all)
+    (each_kept (IsOf g (length y.nodes) (length y.rels)) (allows g y) all (each_real (length y.nodes) (length y.rels) g))))

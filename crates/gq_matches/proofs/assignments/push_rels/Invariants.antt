@@ -1,6 +1,0 @@
-use Rattle.std.proofs.Common.{◌≡◌, ◌++◌, map}
-use Rattle.std.specs.List.{range_with_len}
-use Rattle.gq_matches.proofs.assignments.push_rels.Given as goal
-
-abbrev pub invariant-loop-row : goal.invariant-loop-row
-invariant-loop-row l = l.rels ≡ l.fn.rels ++ map (λ row. record { table = l.table; row = row }) (range_with_len 0 l.row)
