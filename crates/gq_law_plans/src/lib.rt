@@ -1,4 +1,4 @@
-//! The laws of what plans mean: a plan that covers an alternative makes what the alternative allows.
+//! The laws that a plan which covers an alternative makes what the alternative allows, and that no test of it faults.
 #![tactic(auto)]
 
 mod law;

@@ -1,4 +1,4 @@
-//! What the program does: the words, the graph that they name, and the session over it.
+//! One run of the program: which status it may end with for its words, files and input, and what it writes then.
 #![tactic(auto)]
 
 mod load_line;

@@ -6,9 +6,9 @@ ghost use Rattle.gq_shell.specs.Statuses.{exit_status};
 /// The status of a run. Its number is the program's exit status, from 0 in this order.
 #[derive(Clone, Copy, Debug, PartialEq, Eq)]
 pub enum Status {
-    /// The input was read to its end, and no reply is a refusal.
+    /// All statements of the input, or all questions of the sample, were answered, and no reply is a refusal.
     Ended,
-    /// The input was read to its end, and a reply is a refusal.
+    /// All of them were answered, and a reply is a refusal.
     Refused,
     /// The words are not those of the program.
     Usage,
@@ -18,9 +18,10 @@ pub enum Status {
     ReadFault,
     /// The output could not be written.
     WriteFault,
-    /// There was not enough memory. Nothing was written.
+    /// There was no memory before the first statement, and nothing was written; or all were answered, and for one or more
+    /// there was no memory.
     Memory,
-    /// The input is longer than a statement may be.
+    /// The input, or a statement of it, is longer than it may be.
     TooLong,
 }
 
