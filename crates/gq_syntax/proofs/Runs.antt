@@ -107,12 +107,19 @@ pure-run same x ts = record { a = []; split = refl; means = (refl, refl); local 
 pub fail-run : {A : Type 0} (same : Bool) (R RMore : List Token → A → Type 0) → Sample R → (ts : List Token) → Run same fail fail R RMore ts Syntax ts
 fail-run same R RMore v ts = record { a = []; split = refl; means = v; local = λ kept r s. refl }
 
-module _ {S B : Type 0} (same : Bool) (f : Token → Option S) (p p2 : S → Reader B) (q q2 : Reader B) (P PMore : S → List Token → B → Type 0) (Q QMore : List Token → B → Type 0) where
-  fork-other : (v : Verdict B) (a rest : List Token) → Means same Q QMore v a rest → Means same (Fork f P Q) (Fork f PMore QMore) v a rest
-  fork-other (Done x) a rest h = inr h
-  fork-other Syntax a rest h = (h.0, h.1, inr h.2)
-  fork-other Deep a rest h = ((h.0.0, h.0.1, inr h.0.2), λ e. let o = h.1 e in (o.0, o.1, o.2, (o.3.0, o.3.1, inr o.3.2)))
+-- the same of a reader that does the same, and of relations that hold of more
+pub run-along : {A : Type 0} (same : Bool) (p p2 p3 : Reader A) (R RMore T TMore : List Token → A → Type 0) → ((ts : List Token) → p3 ts ≡ p2 ts) → Within R T → Within RMore TMore
+    → (ts : List Token) (v : Verdict A) (rest : List Token) → Run same p p2 R RMore ts v rest → Run same p p3 T TMore ts v rest
+run-along same p p2 p3 R RMore T TMore e to to2 ts (Done x) rest h = record { a = h.a; split = h.split; means = to h.a x h.means; local = λ kept r s. e (h.a ++ r) ∙ h.local kept r s }
+run-along same p p2 p3 R RMore T TMore e to to2 ts Syntax rest h = record { a = h.a; split = h.split; means = (h.means.0, h.means.1, to (h.a ++ h.means.0) h.means.1 h.means.2); local = λ kept r s. e (h.a ++ r) ∙ h.local kept r s }
+run-along same p p2 p3 R RMore T TMore e to to2 ts Deep rest h = record {
+  a = h.a;
+  split = h.split;
+  means = ((h.means.0.0, h.means.0.1, to (h.a ++ h.means.0.0) h.means.0.1 h.means.0.2), λ d. let o = h.means.1 d in (o.0, o.1, o.2, (o.3.0, o.3.1, to2 ((h.a ++ (o.0 ∷ [])) ++ o.3.0) o.3.1 o.3.2)));
+  local = λ kept r s. e (h.a ++ r) ∙ h.local kept r s;
+}
 
+module _ {S B : Type 0} (same : Bool) (f : Token → Option S) (p p2 : S → Reader B) (q q2 : Reader B) (P PMore : S → List Token → B → Type 0) (Q QMore : List Token → B → Type 0) where
   fork-taken : (t : Token) (s : S) → f t ≡ Some s → (v : Verdict B) (a rest : List Token) → Means same (P s) (PMore s) v a rest → Means same (Fork f P Q) (Fork f PMore QMore) v (t ∷ a) rest
   fork-taken t s e (Done x) a rest h = inl (t, s, a, refl, e, h)
   fork-taken t s e Syntax a rest h = (h.0, h.1, inl (t, s, a ++ h.0, refl, e, h.2))
@@ -120,12 +127,12 @@ module _ {S B : Type 0} (same : Bool) (f : Token → Option S) (p p2 : S → Rea
 
   fork-at : (h : Option S) (ts : List Token) → head_by f ts ≡ h
       → ((t : Token) (s : S) (r : List Token) → ts ≡ t ∷ r → Run same (p s) (p2 s) (P s) (PMore s) r (p s r).0 (p s r).1)
-      → Run same q q2 Q QMore ts (q ts).0 (q ts).1
+      → Run same q q2 (Fork f P Q) (Fork f PMore QMore) ts (q ts).0 (q ts).1
       → Run same (fork f p q) (fork f p2 q2) (Fork f P Q) (Fork f PMore QMore) ts (on_head h (λ s. p s (tail ts)) (q ts)).0 (on_head h (λ s. p s (tail ts)) (q ts)).1
   fork-at None ts e ps other = record {
     a = other.a;
     split = other.split;
-    means = fork-other (q ts).0 other.a (q ts).1 other.means;
+    means = other.means;
     local = λ kept r s. let same_head = head-kept f None ts other.a (q ts).1 r other.split s e in rw same_head (other.local kept r s);
   }
   fork-at (Some s) [] e ps other = cc
@@ -140,7 +147,9 @@ module _ {S B : Type 0} (same : Bool) (f : Token → Option S) (p p2 : S → Rea
       → ((t : Token) (s : S) (r : List Token) → ts ≡ t ∷ r → Run same (p s) (p2 s) (P s) (PMore s) r (p s r).0 (p s r).1)
       → Run same q q2 Q QMore ts (q ts).0 (q ts).1
       → Run same (fork f p q) (fork f p2 q2) (Fork f P Q) (Fork f PMore QMore) ts (fork f p q ts).0 (fork f p q ts).1
-  fork-run ts ps other = fork-at (head_by f ts) ts refl ps other
+  fork-run ts ps other =
+      fork-at (head_by f ts) ts refl ps
+      (run-along same q q2 q2 Q QMore (Fork f P Q) (Fork f PMore QMore) (λ ts. refl) (λ a x h. inr h) (λ a x h. inr h) ts (q ts).0 (q ts).1 other)
 
 -- where nothing else can come
 module _ {S B : Type 0} (same : Bool) (f : Token → Option S) (p p2 : S → Reader B) (P PMore : S → List Token → B → Type 0) where
@@ -150,27 +159,10 @@ module _ {S B : Type 0} (same : Bool) (f : Token → Option S) (p p2 : S → Rea
   abbrev MustMore : List Token → B → Type 0
   MustMore = Fork f PMore (λ ts x. ⊥)
 
-  must-at : (h : Option S) (ts : List Token) → head_by f ts ≡ h → Sample Must
-      → ((t : Token) (s : S) (r : List Token) → ts ≡ t ∷ r → Run same (p s) (p2 s) (P s) (PMore s) r (p s r).0 (p s r).1)
-      → Run same (fork f p fail) (fork f p2 fail) Must MustMore ts (on_head h (λ s. p s (tail ts)) (Syntax, ts)).0 (on_head h (λ s. p s (tail ts)) (Syntax, ts)).1
-  must-at None ts e one ps = record {
-    a = [];
-    split = refl;
-    means = one;
-    local = λ kept r s. let same_head = head-kept f None ts [] ts r refl s e in rw same_head refl;
-  }
-  must-at (Some s) [] e one ps = cc
-  must-at (Some s) (t ∷ r) e one ps = let taken = ps t s r refl in record {
-    a = t ∷ taken.a;
-    split = ap (λ w. t ∷ w) taken.split;
-    means = fork-taken same f p p2 fail fail P PMore (λ ts x. ⊥) (λ ts x. ⊥) t s e (p s r).0 taken.a (p s r).1 taken.means;
-    local = λ kept w h. rw e (taken.local kept w h);
-  }
-
   pub must-run : (ts : List Token) → Sample Must
       → ((t : Token) (s : S) (r : List Token) → ts ≡ t ∷ r → Run same (p s) (p2 s) (P s) (PMore s) r (p s r).0 (p s r).1)
       → Run same (fork f p fail) (fork f p2 fail) Must MustMore ts (fork f p fail ts).0 (fork f p fail ts).1
-  must-run ts one ps = must-at (head_by f ts) ts refl one ps
+  must-run ts one ps = fork-at same f p p2 fail fail P PMore (λ ts x. ⊥) (λ ts x. ⊥) (head_by f ts) ts refl ps (fail-run same Must MustMore one ts)
 
 -- ---- no room for what f takes
 
@@ -193,17 +185,12 @@ module _ {S B : Type 0} (f : Token → Option S) (q q2 : Reader B) (p2 : S → R
   pub too_deep-run : (ts : List Token) → Run true q q2 Q QMore ts (q ts).0 (q ts).1 → Run true (too_deep f q) (too_deep f q2) Q QMore ts (too_deep f q ts).0 (too_deep f q ts).1
   too_deep-run ts other = same-at (head_by f ts) ts refl other
 
-  more-means : (v : Verdict B) (a rest : List Token) → Means false Q QMore v a rest → Means false Q (Fork f PMore QMore) v a rest
-  more-means (Done x) a rest h = h
-  more-means Syntax a rest h = h
-  more-means Deep a rest h = (h.0, λ e. let o = h.1 e in (o.0, o.1, o.2, (o.3.0, o.3.1, inr o.3.2)))
-
-  more-at : ((s : S) → Sample (PMore s)) → (h : Option S) (ts : List Token) → head_by f ts ≡ h → Run false q q2 Q QMore ts (q ts).0 (q ts).1
+  more-at : ((s : S) → Sample (PMore s)) → (h : Option S) (ts : List Token) → head_by f ts ≡ h → Run false q q2 Q (Fork f PMore QMore) ts (q ts).0 (q ts).1
       → Run false (too_deep f q) (fork f p2 q2) Q (Fork f PMore QMore) ts (on_head h (λ s. (Deep, ts)) (q ts)).0 (on_head h (λ s. (Deep, ts)) (q ts)).1
   more-at more None ts e other = record {
     a = other.a;
     split = other.split;
-    means = more-means (q ts).0 other.a (q ts).1 other.means;
+    means = other.means;
     local = λ kept r s. let same_head = head-kept f None ts other.a (q ts).1 r other.split s e in rw same_head (other.local kept r s);
   }
   more-at more (Some s) [] e other = cc
@@ -215,7 +202,9 @@ module _ {S B : Type 0} (f : Token → Option S) (q q2 : Reader B) (p2 : S → R
   }
 
   pub room-run : ((s : S) → Sample (PMore s)) → (ts : List Token) → Run false q q2 Q QMore ts (q ts).0 (q ts).1 → Run false (too_deep f q) (fork f p2 q2) Q (Fork f PMore QMore) ts (too_deep f q ts).0 (too_deep f q ts).1
-  room-run more ts other = more-at more (head_by f ts) ts refl other
+  room-run more ts other =
+      more-at more (head_by f ts) ts refl
+      (run-along false q q2 q2 Q QMore Q (Fork f PMore QMore) (λ ts. refl) (λ a x h. h) (λ a x h. inr h) ts (q ts).0 (q ts).1 other)
 
 -- ---- what is spelled is read
 
@@ -240,17 +229,6 @@ module _ {S B : Type 0} (f : Token → Option S) (p : S → Reader B) (q : Reade
   fork-only ps qs avoid a r y (inr h) stop = rw (avoid a r y h stop) (qs a r y h stop)
 
 -- ---- repetition
-
-pub run-along : {A : Type 0} (same : Bool) (p p2 p3 : Reader A) (R RMore T TMore : List Token → A → Type 0) → ((ts : List Token) → p3 ts ≡ p2 ts) → Within R T → Within RMore TMore
-    → (ts : List Token) (v : Verdict A) (rest : List Token) → Run same p p2 R RMore ts v rest → Run same p p3 T TMore ts v rest
-run-along same p p2 p3 R RMore T TMore e to to2 ts (Done x) rest h = record { a = h.a; split = h.split; means = to h.a x h.means; local = λ kept r s. e (h.a ++ r) ∙ h.local kept r s }
-run-along same p p2 p3 R RMore T TMore e to to2 ts Syntax rest h = record { a = h.a; split = h.split; means = (h.means.0, h.means.1, to (h.a ++ h.means.0) h.means.1 h.means.2); local = λ kept r s. e (h.a ++ r) ∙ h.local kept r s }
-run-along same p p2 p3 R RMore T TMore e to to2 ts Deep rest h = record {
-  a = h.a;
-  split = h.split;
-  means = ((h.means.0.0, h.means.0.1, to (h.a ++ h.means.0.0) h.means.0.1 h.means.0.2), λ d. let o = h.means.1 d in (o.0, o.1, o.2, (o.3.0, o.3.1, to2 ((h.a ++ (o.0 ∷ [])) ++ o.3.0) o.3.1 o.3.2)));
-  local = λ kept r s. e (h.a ++ r) ∙ h.local kept r s;
-}
 
 on_done-same : {A B : Type 0} (v : Verdict A) (rest : List Token) (K L : A → Reader B) → ((x : A) → K x rest ≡ L x rest) → on_done v rest K ≡ on_done v rest L
 on_done-same (Done x) rest K L h = h x

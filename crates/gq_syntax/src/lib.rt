@@ -9,6 +9,7 @@ mod parsing;
 mod patterns;
 mod queries;
 mod refusal;
+mod repeats;
 mod statement;
 mod tokens;
 mod words;
