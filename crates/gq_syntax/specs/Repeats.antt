@@ -1,23 +1,16 @@
--- Function values that a repetition calls, by the tests and readers that they stand for.
-use Rattle.std.specs.Prelude.{◌≡◌, List, Option, Result, if◌then◌else◌}
-use Rattle.std.specs.Option.{is_some}
+-- Function values that a repetition calls, by the readers that they stand for.
+use Rattle.std.specs.Prelude.{List, Result}
 use denote.Ref.{MutBor}
 use Rattle.gq_lexer.specs.declared.token.Token.{Token}
 use Rattle.gq_syntax.specs.Parsing.{Reads}
-use Rattle.gq_syntax.specs.Readers.{Reader, head_by, tail}
+use Rattle.gq_syntax.specs.Readers.{Reader}
 use Rattle.gq_syntax.specs.declared.tokens.Stop.{Stop}
 
 -- the tokens that are left, before a call and after it
 abbrev pub Place : Type 0
 Place = MutBor (List Token)
 
--- each call goes past the next token where f takes it, and answers what it stands for
-abbrev pub Leads : {S : Type 0} → (Token → Option S) → (Place → Option S → Place → Type 0) → Type 0
-Leads {S} f post =
-    (old new : Place) (o : Option S) → post old o new
-    → (o ≡ head_by f old.now) × (new.now ≡ (if is_some o then tail old.now else old.now))
-
--- each call reads what the reader does behind such a token
+-- each call reads what the reader does behind a token that leads it in
 abbrev pub Items : {S B : Type 0} → (S → Reader B) → (Place → S → Result B Stop → Place → Type 0)
     → Type 0
 Items {S} {B} read post =

@@ -6,6 +6,7 @@ ghost use Rattle.gq_syntax.specs.Parsers as p;
 ghost use Rattle.gq_syntax.specs.Parsing.{Reads};
 
 use crate::expression::{ArithTerm, Ast, AstNode, AstTester, CompareTerm, Term, Tester};
+use crate::leads::{Addition, Comparison, Multiplication, Tests, Word};
 use crate::literals::list;
 use crate::opening::{Level, TestWord};
 use crate::repeats::{led, listed, many};
@@ -195,7 +196,7 @@ impl<F: Fn(Global, &mut Tokens<'_>, usize, Level) -> Result<Ast, Stop>> Grammar<
         many(
             self.alloc,
             tokens,
-            |tokens| tokens.take_multiplication(),
+            Multiplication,
             |tokens, op| self.multiplied(tokens, op),
         )
     }
@@ -239,7 +240,7 @@ impl<F: Fn(Global, &mut Tokens<'_>, usize, Level) -> Result<Ast, Stop>> Grammar<
         many(
             self.alloc,
             tokens,
-            |tokens| tokens.take_addition(),
+            Addition,
             |tokens, op| self.added(tokens, op),
         )
     }
@@ -302,7 +303,7 @@ impl<F: Fn(Global, &mut Tokens<'_>, usize, Level) -> Result<Ast, Stop>> Grammar<
         many(
             self.alloc,
             tokens,
-            |tokens| tokens.take_test_word(),
+            Tests,
             |tokens, word| self.tested(tokens, word),
         )
     }
@@ -346,7 +347,7 @@ impl<F: Fn(Global, &mut Tokens<'_>, usize, Level) -> Result<Ast, Stop>> Grammar<
         many(
             self.alloc,
             tokens,
-            |tokens| tokens.take_comparison(),
+            Comparison,
             |tokens, op| self.compared(tokens, op),
         )
     }
@@ -397,7 +398,7 @@ impl<F: Fn(Global, &mut Tokens<'_>, usize, Level) -> Result<Ast, Stop>> Grammar<
         many(
             self.alloc,
             tokens,
-            |tokens| tokens.lead_word("AND"),
+            Word("AND"),
             |tokens, _| self.negation(tokens),
         )
     }
@@ -430,7 +431,7 @@ impl<F: Fn(Global, &mut Tokens<'_>, usize, Level) -> Result<Ast, Stop>> Grammar<
         many(
             self.alloc,
             tokens,
-            |tokens| tokens.lead_word("XOR"),
+            Word("XOR"),
             |tokens, _| self.and(tokens),
         )
     }
@@ -460,12 +461,7 @@ impl<F: Fn(Global, &mut Tokens<'_>, usize, Level) -> Result<Ast, Stop>> Grammar<
         ensures { Reads (p.ors self.now.room (p.inside self.now.room) tokens.old)
             result tokens.new }
     {
-        many(
-            self.alloc,
-            tokens,
-            |tokens| tokens.lead_word("OR"),
-            |tokens, _| self.xor(tokens),
-        )
+        many(self.alloc, tokens, Word("OR"), |tokens, _| self.xor(tokens))
     }
 
     // An expression.

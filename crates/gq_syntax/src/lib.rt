@@ -3,6 +3,7 @@
 
 mod descent;
 mod expression;
+mod leads;
 mod literals;
 mod opening;
 mod parsing;

@@ -5,6 +5,7 @@ ghost use Rattle.gq_syntax.specs.Parsers as p;
 ghost use Rattle.gq_syntax.specs.Parsing.{Reads};
 ghost use Rattle.gq_syntax.specs.Readers as r;
 
+use crate::leads::Tips;
 use crate::literals::literal;
 use crate::opening::Tip;
 use crate::repeats::{behind, listed, many};
@@ -110,13 +111,7 @@ fn some_kinds(alloc: Global, tokens: &mut Tokens<'_>) -> Result<List<Text>, Stop
     ensures { Reads (p.some_kinds tokens.old) result tokens.new }
 {
     let first = tokens.expect_called()?;
-    behind(
-        alloc,
-        tokens,
-        first,
-        |tokens| tokens.lead_sign(Sign::Bar),
-        |tokens, _| kind(tokens),
-    )
+    behind(alloc, tokens, first, Sign::Bar, |tokens, _| kind(tokens))
 }
 
 // The types of a relationship, if any come next.
@@ -206,12 +201,7 @@ fn hop(alloc: Global, tokens: &mut Tokens<'_>, tip: Tip) -> Result<Hop, Stop>
 fn hops(alloc: Global, tokens: &mut Tokens<'_>) -> Result<List<Hop>, Stop>
     ensures { Reads (p.hops tokens.old) result tokens.new }
 {
-    many(
-        alloc,
-        tokens,
-        |tokens| tokens.take_tip(),
-        |tokens, tip| hop(alloc, tokens, tip),
-    )
+    many(alloc, tokens, Tips, |tokens, tip| hop(alloc, tokens, tip))
 }
 
 /// A path, which has to come next.

@@ -5,6 +5,7 @@ ghost use Rattle.gq_syntax.specs.Parsers as p;
 ghost use Rattle.gq_syntax.specs.Parsing.{Reads};
 
 use crate::descent::expr;
+use crate::leads::Word;
 use crate::patterns::path;
 use crate::repeats::{behind, listed, many};
 use crate::statement::{Clause, Item, Path, Query, Sort, Statement};
@@ -61,7 +62,7 @@ fn some_clauses(alloc: Global, tokens: &mut Tokens<'_>) -> Result<List<Clause>, 
         alloc,
         tokens,
         first,
-        |tokens| tokens.lead_word("MATCH"),
+        Word("MATCH"),
         |tokens, _| clause(alloc, tokens),
     )
 }
@@ -92,12 +93,7 @@ fn some_items(alloc: Global, tokens: &mut Tokens<'_>) -> Result<List<Item>, Stop
 fn more_items(alloc: Global, tokens: &mut Tokens<'_>) -> Result<List<Item>, Stop>
     ensures { Reads (p.more_items 64 tokens.old) result tokens.new }
 {
-    many(
-        alloc,
-        tokens,
-        |tokens| tokens.lead_sign(Sign::Comma),
-        |tokens, _| item(alloc, tokens),
-    )
+    many(alloc, tokens, Sign::Comma, |tokens, _| item(alloc, tokens))
 }
 
 // The columns behind RETURN and its DISTINCT.

@@ -1,12 +1,9 @@
 use Rattle.std.proofs.Common.{rules}
-use Rattle.gq_lexer.specs.declared.token.Sign.TheVariants.{Bar}
 use Rattle.gq_syntax.specs.Parsers as p
-use Rattle.gq_syntax.specs.Words.{sign_is}
 use Rattle.gq_syntax.proofs.patterns.some_kinds.Goals as goal
 
 pub returns : goal.returns
 unfolding p.some_kinds
 returns c =
     let first = c.in_ok-first.ensures in
-    rw first (c.behind.ensures (sign_is Bar) (λ _. p.kind) (λ old new o k. search rules)
-    (λ old new s found k. search rules))
+    rw first (c.behind.ensures (λ _. p.kind) (λ old new s found k. search rules))
