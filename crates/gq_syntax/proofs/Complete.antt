@@ -7,16 +7,12 @@ use Rattle.gq_lexer.specs.declared.token.Token.{Token}
 use Rattle.gq_syntax.specs.Readers.{Reader, ◌>>=◌, fail, fork, head_by, many, must, pure, spanned, too_deep}
 use Rattle.gq_syntax.specs.Relations.{Fork, Many, Must, Nothing, Pure, Spanned, Then}
 use Rattle.gq_syntax.proofs.Classes.{Takes, class_of, kind_class}
-use Rattle.gq_syntax.proofs.Runs.{Only, fork-only, many-only, pure-only, spanned-only, then-only}
+use Rattle.gq_syntax.proofs.Runs.{Only, Rel, fork-only, many-only, pure-only, spanned-only, then-only}
 use Rattle.gq_syntax.proofs.Sets.{among, among_first, among_second, apart, apart_among, within, within_among}
 
 -- the first token, or the end, is of one of these classes
 abbrev pub Starts : List ℕ → List Token → Type 0
 Starts G ts = among (class_of ts) G ≡ true
-
--- what lists of tokens spell
-abbrev pub Rel : Type 0 → Type 1
-Rel A = List Token → A → Type 0
 
 -- where R spells tokens, and what follows them starts with one of the classes `after`, p reads them, and they or what
 -- follows starts with one of the classes `first`

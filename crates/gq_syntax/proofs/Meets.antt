@@ -13,8 +13,9 @@ use Rattle.gq_syntax.specs.Trees.{Node, chain_made, made, tail_made, term}
 use Rattle.gq_syntax.specs.declared.expression.Ast.{Ast}
 use Rattle.gq_syntax.specs.declared.expression.Term.{Term}
 use Rattle.gq_syntax.proofs.Classes.{Takes, sign_class, takes_sign}
-use Rattle.gq_syntax.proofs.Complete.{Complete, Rel, complete-fork, complete-many, complete-must, complete-pure, complete-spanned, complete-then, complete-widen}
+use Rattle.gq_syntax.proofs.Complete.{Complete, complete-fork, complete-many, complete-must, complete-pure, complete-spanned, complete-then, complete-widen}
 use Rattle.gq_syntax.proofs.Laws.{Law, law-fork, law-many, law-must, law-pure, law-spanned, law-then, short}
+use Rattle.gq_syntax.proofs.Runs.{Rel}
 use Rattle.gq_syntax.proofs.Sets.{apart, within}
 
 -- p has the room that there is, and p2 as much (same) or more; what p reads begins with one of the classes `first`, and

@@ -23,9 +23,10 @@ use Rattle.gq_syntax.specs.declared.statement.Arrow.TheVariants as arrow
 use Rattle.gq_syntax.specs.declared.statement.Statement.{Statement}
 use Rattle.gq_syntax.specs.declared.statement.Statement.TheVariants as statement
 use Rattle.gq_syntax.proofs.Classes.{Takes, names, takes_addition, takes_big, takes_called, takes_comparison, takes_direction, takes_multiplication, takes_name, takes_negative, takes_number, takes_plain, takes_sign, takes_test, takes_tip, takes_word, word_class, words}
-use Rattle.gq_syntax.proofs.Complete.{Rel, complete-deep}
+use Rattle.gq_syntax.proofs.Complete.{complete-deep}
 use Rattle.gq_syntax.proofs.Laws.{Law, law-finish, law-room, law-then, law-too_deep}
 use Rattle.gq_syntax.proofs.Meets.{Meets, meets-chain, meets-enclosed, meets-fork, meets-into, meets-listed, meets-many, meets-maybe, meets-must, meets-pure, meets-spanned, meets-terms, meets-then, meets-widen}
+use Rattle.gq_syntax.proofs.Runs.{Rel}
 use Rattle.gq_syntax.proofs.Sets.{apart, within}
 
 -- ---- literals and lists
