@@ -10,19 +10,27 @@ use crate::opening::{TestWord, Tip};
 use crate::tokens::Tokens;
 use crate::words;
 use gq_base::{ArithOp, CompareOp};
-use gq_lexer::Sign;
+use gq_lexer::{Sign, Token};
 
 /// What leads in an item of a repetition.
 pub(crate) trait Lead: Copy {
     type Found: Copy;
 
-    /// What a token stands for, if it leads in an item.
     ghost test: { Self → Token → Option Self.Found };
+
+    /// What a token stands for, if it leads in an item.
+    fn found(self, token: &Token) -> Option<Self::Found>
+        ensures { result ≡ test self token.now };
 
     /// Takes the next token, if it leads in an item.
     fn take(self, tokens: &mut Tokens<'_>) -> Option<Self::Found>
         ensures taken { result ≡ r.head_by (test self) tokens.old }
-        ensures left { tokens.new ≡ if is_some result then r.tail tokens.old else tokens.old };
+        ensures left { tokens.new ≡ if is_some result then r.tail tokens.old else tokens.old }
+    {
+        let found = self.found(tokens.left().first()?)?;
+        tokens.skip();
+        Some(found)
+    }
 }
 
 impl Lead for Sign {
@@ -30,8 +38,8 @@ impl Lead for Sign {
 
     ghost test = { w.sign_is };
 
-    fn take(self, tokens: &mut Tokens<'_>) -> Option<()> {
-        tokens.lead_sign(self)
+    fn found(self, token: &Token) -> Option<()> {
+        words::is_sign(self, &token.kind).then_some(())
     }
 }
 
@@ -44,8 +52,8 @@ impl Lead for Word {
 
     ghost test = { λ word. w.word_is word.0.now };
 
-    fn take(self, tokens: &mut Tokens<'_>) -> Option<()> {
-        tokens.lead_word(self.0)
+    fn found(self, token: &Token) -> Option<()> {
+        words::is_word(self.0, &token.kind).then_some(())
     }
 }
 
@@ -58,10 +66,8 @@ impl Lead for Multiplication {
 
     ghost test = { λ _. w.multiplication };
 
-    fn take(self, tokens: &mut Tokens<'_>) -> Option<ArithOp> {
-        let found = words::multiplication_of(&tokens.left().first()?.kind)?;
-        tokens.skip();
-        Some(found)
+    fn found(self, token: &Token) -> Option<ArithOp> {
+        words::multiplication_of(&token.kind)
     }
 }
 
@@ -74,10 +80,8 @@ impl Lead for Addition {
 
     ghost test = { λ _. w.addition };
 
-    fn take(self, tokens: &mut Tokens<'_>) -> Option<ArithOp> {
-        let found = words::addition_of(&tokens.left().first()?.kind)?;
-        tokens.skip();
-        Some(found)
+    fn found(self, token: &Token) -> Option<ArithOp> {
+        words::addition_of(&token.kind)
     }
 }
 
@@ -90,10 +94,8 @@ impl Lead for Tests {
 
     ghost test = { λ _. w.test_word };
 
-    fn take(self, tokens: &mut Tokens<'_>) -> Option<TestWord> {
-        let found = words::test_word_of(&tokens.left().first()?.kind)?;
-        tokens.skip();
-        Some(found)
+    fn found(self, token: &Token) -> Option<TestWord> {
+        words::test_word_of(&token.kind)
     }
 }
 
@@ -106,10 +108,8 @@ impl Lead for Comparison {
 
     ghost test = { λ _. w.comparison };
 
-    fn take(self, tokens: &mut Tokens<'_>) -> Option<CompareOp> {
-        let found = words::comparison_of(&tokens.left().first()?.kind)?;
-        tokens.skip();
-        Some(found)
+    fn found(self, token: &Token) -> Option<CompareOp> {
+        words::comparison_of(&token.kind)
     }
 }
 
@@ -122,9 +122,7 @@ impl Lead for Tips {
 
     ghost test = { λ _. w.tip };
 
-    fn take(self, tokens: &mut Tokens<'_>) -> Option<Tip> {
-        let found = words::tip_of(tokens.left().first()?)?;
-        tokens.skip();
-        Some(found)
+    fn found(self, token: &Token) -> Option<Tip> {
+        words::tip_of(token)
     }
 }

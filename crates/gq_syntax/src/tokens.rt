@@ -117,42 +117,16 @@ impl<'t> Tokens<'t> {
         }
     }
 
-    /// Takes this sign, if it comes next, as what leads in an item.
-    pub(crate) fn lead_sign(&mut self, sign: Sign) -> Option<()>
-        ensures taken { result ≡ r.head_by (w.sign_is sign) self.old }
-        ensures left { self.new ≡ if is_some result then r.tail self.old else self.old }
-    {
-        let [first, rest @ ..] = self.left else {
-            return None;
-        };
-        if !words::is_sign(sign, &first.kind) {
-            return None;
-        }
-        self.left = rest;
-        Some(())
-    }
-
     /// Takes this sign, if it comes next.
     pub(crate) fn take_sign(&mut self, sign: Sign) -> bool
         ensures taken { result ≡ is_some (r.head_by (w.sign_is sign) self.old) }
         ensures left { self.new ≡ if result then r.tail self.old else self.old }
     {
-        self.lead_sign(sign).is_some()
-    }
-
-    /// Takes this word, if it comes next, in any ASCII case, as what leads in an item.
-    pub(crate) fn lead_word(&mut self, word: &str) -> Option<()>
-        ensures taken { result ≡ r.head_by (w.word_is word.now) self.old }
-        ensures left { self.new ≡ if is_some result then r.tail self.old else self.old }
-    {
-        let [first, rest @ ..] = self.left else {
-            return None;
-        };
-        if !words::is_word(word, &first.kind) {
-            return None;
+        let found = self.sees_sign(sign);
+        if found {
+            self.skip();
         }
-        self.left = rest;
-        Some(())
+        found
     }
 
     /// Takes this word, if it comes next, in any ASCII case.
@@ -160,7 +134,11 @@ impl<'t> Tokens<'t> {
         ensures taken { result ≡ is_some (r.head_by (w.word_is word.now) self.old) }
         ensures left { self.new ≡ if result then r.tail self.old else self.old }
     {
-        self.lead_word(word).is_some()
+        let found = self.sees_word(word);
+        if found {
+            self.skip();
+        }
+        found
     }
 
     /// Takes this sign, which has to come next.
