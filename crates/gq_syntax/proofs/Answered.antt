@@ -8,9 +8,8 @@ use Rattle.gq_syntax.specs.Parsers.{statement_of, whole}
 use Rattle.gq_syntax.specs.Readers.{Deep, Done, Out, Syntax, Verdict, finish, on_done}
 use Rattle.gq_syntax.specs.Relations.{Pure, Then}
 use Rattle.gq_syntax.specs.declared.statement.Statement.{Statement}
+use Rattle.gq_syntax.proofs.Productions.{rooms-more, rooms-same, spelled_read, statement-meets, whole-law}
 use Rattle.gq_syntax.proofs.Runs.{Run, SameHead, Within}
-use Rattle.gq_syntax.proofs.Sound.{rooms-more, rooms-same, statement-law, whole-law}
-use Rattle.gq_syntax.proofs.Spelled.{spelled_read}
 
 abbrev Whole : ℕ → List Token → Statement → Type 0
 Whole d = Then (SpelledStatement d) Pure
@@ -45,7 +44,7 @@ at_most_or_more (suc n) (suc d) = elim (at_most_or_more n d) [ inl l ↦ inl (om
 
 -- what is spelled is spelled with more room
 within_deeper : (d n : ℕ) → d ≤ n → Within (SpelledStatement d) (SpelledStatement n)
-within_deeper d n h a x w = elim (less_or_equal d n h) [ inl l ↦ (statement-law false d n (rooms-more d n l)).within a x w | inr e ↦ subst (λ m. SpelledStatement m a x) e w ]
+within_deeper d n h a x w = elim (less_or_equal d n h) [ inl l ↦ (statement-meets false d n (rooms-more d n l)).law.within a x w | inr e ↦ subst (λ m. SpelledStatement m a x) e w ]
 
 pub same_depth : (d : ℕ) (tokens : List Token) (s other : Statement) → SpelledStatement d tokens s → SpelledStatement d tokens other → s ≡ other
 same_depth d tokens s other h k =

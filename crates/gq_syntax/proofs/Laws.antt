@@ -4,16 +4,16 @@ use Rattle.gq_lexer.specs.declared.token.Token.{Token}
 use Rattle.gq_lexer.specs.declared.token.Span.{Span}
 use Rattle.gq_syntax.specs.Readers.{Verdict, Done, Syntax, Deep, Out, Reader, on_done, ◌>>=◌, pure, fail, finish, head_by, tail, on_head, fork, too_deep, many_from, many, spanned}
 use Rattle.gq_syntax.specs.Relations.{span_of, Pure, Then, Fork, Many, Spanned}
-use Rattle.gq_syntax.proofs.Runs.{Run, Within, Sample, then-run, pure-run, fork-run, must-run, too_deep-run, room-run, many-run, many-within, run-shorter, spanned-run, finish-run}
+use Rattle.gq_syntax.proofs.Runs.{Rel, Run, Within, Sample, then-run, pure-run, fork-run, must-run, too_deep-run, room-run, many-run, many-within, run-shorter, spanned-run, finish-run}
 
-pub record Law {A : Type 0} (same : Bool) (p p2 : Reader A) (R RMore : List Token → A → Type 0) : Type 0 where
+pub record Law {A : Type 0} (same : Bool) (p p2 : Reader A) (R RMore : Rel A) : Type 0 where
   pub run : (ts : List Token) → Run same p p2 R RMore ts (p ts).0 (p ts).1
   pub within : Within R RMore
   pub some : Sample R
   pub some2 : Sample RMore
   pub short2 : (ts : List Token) → length (p2 ts).1 ≤ length ts
 
-pub short : {A : Type 0} {same : Bool} {p p2 : Reader A} {R RMore : List Token → A → Type 0} → Law same p p2 R RMore → (ts : List Token) → length (p ts).1 ≤ length ts
+pub short : {A : Type 0} {same : Bool} {p p2 : Reader A} {R RMore : Rel A} → Law same p p2 R RMore → (ts : List Token) → length (p ts).1 ≤ length ts
 short {same = same} {p = p} {p2 = p2} {R = R} {RMore = RMore} h ts = run-shorter same p p2 R RMore ts (p ts).0 (p ts).1 (h.run ts)
 
 on_done-short : {A B : Type 0} (v : Verdict A) (rest : List Token) (q : A → Reader B) (n : ℕ) → length rest ≤ n → ((x : A) → length (q x rest).1 ≤ length rest) → length (on_done v rest q).1 ≤ n
@@ -44,11 +44,11 @@ deep-short : {S B : Type 0} (o : Option S) (ts : List Token) (other : Out B) →
 deep-short None ts other h = h
 deep-short (Some s) ts other h = omega arith
 
-fork-within : {S B : Type 0} (f : Token → Option S) (P PMore : S → List Token → B → Type 0) (Q QMore : List Token → B → Type 0) → ((s : S) → Within (P s) (PMore s)) → Within Q QMore → Within (Fork f P Q) (Fork f PMore QMore)
+fork-within : {S B : Type 0} (f : Token → Option S) (P PMore : S → Rel B) (Q QMore : Rel B) → ((s : S) → Within (P s) (PMore s)) → Within Q QMore → Within (Fork f P Q) (Fork f PMore QMore)
 fork-within f P PMore Q QMore h k a y (inl w) = inl (w.0, w.1, w.2, w.3, w.4, h w.1 w.2 y w.5)
 fork-within f P PMore Q QMore h k a y (inr w) = inr (k a y w)
 
-pub law-then : {A B : Type 0} {same : Bool} {p p2 : Reader A} {R RMore : List Token → A → Type 0} {q q2 : A → Reader B} {S SMore : A → List Token → B → Type 0}
+pub law-then : {A B : Type 0} {same : Bool} {p p2 : Reader A} {R RMore : Rel A} {q q2 : A → Reader B} {S SMore : A → Rel B}
     → Law same p p2 R RMore → ((x : A) → Law same (q x) (q2 x) (S x) (SMore x)) → Law same (p >>= q) (p2 >>= q2) (Then R S) (Then RMore SMore)
 law-then {same = same} {p = p} {p2 = p2} {R = R} {RMore = RMore} {q = q} {q2 = q2} {S = S} {SMore = SMore} h k = record {
   run = λ ts. then-run same p p2 q q2 R RMore S SMore h.within (λ x. (k x).some) (λ x. (k x).some2) ts (p ts).0 (p ts).1 (h.run ts) (λ x d. (k x).run (p ts).1);
@@ -64,7 +64,7 @@ law-pure same x = record { run = λ ts. pure-run same x ts; within = λ a y h. h
 pub law-finish : {A : Type 0} (same : Bool) (x : A) → Law same (finish x) (finish x) (Pure x) (Pure x)
 law-finish same x = record { run = λ ts. finish-run same x ts; within = λ a y h. h; some = ([], x, (refl, refl)); some2 = ([], x, (refl, refl)); short2 = λ ts. finish-short x ts }
 
-pub law-fork : {S B : Type 0} {same : Bool} (f : Token → Option S) {p p2 : S → Reader B} {P PMore : S → List Token → B → Type 0} {q q2 : Reader B} {Q QMore : List Token → B → Type 0}
+pub law-fork : {S B : Type 0} {same : Bool} (f : Token → Option S) {p p2 : S → Reader B} {P PMore : S → Rel B} {q q2 : Reader B} {Q QMore : Rel B}
     → ((s : S) → Law same (p s) (p2 s) (P s) (PMore s)) → Law same q q2 Q QMore → Law same (fork f p q) (fork f p2 q2) (Fork f P Q) (Fork f PMore QMore)
 law-fork {same = same} f {p = p} {p2 = p2} {P = P} {PMore = PMore} {q = q} {q2 = q2} {Q = Q} {QMore = QMore} h k = record {
   run = λ ts. fork-run same f p p2 q q2 P PMore Q QMore ts (λ t s r e. (h s).run r) (k.run ts);
@@ -75,13 +75,13 @@ law-fork {same = same} f {p = p} {p2 = p2} {P = P} {PMore = PMore} {q = q} {q2 =
 }
 
 -- a token that f takes has to come: t is one
-pub law-must : {S B : Type 0} {same : Bool} (f : Token → Option S) (t : Token) (s : S) → f t ≡ Some s → {p p2 : S → Reader B} {P PMore : S → List Token → B → Type 0}
+pub law-must : {S B : Type 0} {same : Bool} (f : Token → Option S) (t : Token) (s : S) → f t ≡ Some s → {p p2 : S → Reader B} {P PMore : S → Rel B}
     → ((s : S) → Law same (p s) (p2 s) (P s) (PMore s)) → Law same (fork f p fail) (fork f p2 fail) (Fork f P (λ ts x. ⊥)) (Fork f PMore (λ ts x. ⊥))
 law-must {B = B} {same = same} f t s e {p = p} {p2 = p2} {P = P} {PMore = PMore} h =
     let one : Sample (Fork f P (λ ts x. ⊥)) = (t ∷ (h s).some.0, (h s).some.1, inl (t, s, (h s).some.0, refl, e, (h s).some.2)) in
     let two : Sample (Fork f PMore (λ ts x. ⊥)) = (t ∷ (h s).some2.0, (h s).some2.1, inl (t, s, (h s).some2.0, refl, e, (h s).some2.2)) in
-    let R : List Token → B → Type 0 = Fork f P (λ ts x. ⊥) in
-    let RMore : List Token → B → Type 0 = Fork f PMore (λ ts x. ⊥) in
+    let R : Rel B = Fork f P (λ ts x. ⊥) in
+    let RMore : Rel B = Fork f PMore (λ ts x. ⊥) in
     record {
       run = λ ts. must-run same f p p2 P PMore ts one (λ t s r e. (h s).run r);
       within = λ a y w. fork-within f P PMore (λ ts x. ⊥) (λ ts x. ⊥) (λ s. (h s).within) (λ a x k. k) a y w;
@@ -90,7 +90,7 @@ law-must {B = B} {same = same} f t s e {p = p} {p2 = p2} {P = P} {PMore = PMore}
       short2 = λ ts. on_head-short (head_by f ts) ts p2 (Syntax, ts) (omega arith) (λ s. (h s).short2 (tail ts));
     }
 
-pub law-many : {S B : Type 0} {same : Bool} (f : Token → Option S) {p p2 : S → Reader B} {P PMore : S → List Token → B → Type 0}
+pub law-many : {S B : Type 0} {same : Bool} (f : Token → Option S) {p p2 : S → Reader B} {P PMore : S → Rel B}
     → ((s : S) → Law same (p s) (p2 s) (P s) (PMore s)) → Law same (many f p) (many f p2) (Many f P) (Many f PMore)
 unfolding many
 law-many {same = same} f {p = p} {p2 = p2} {P = P} {PMore = PMore} h = record {
@@ -101,7 +101,7 @@ law-many {same = same} f {p = p} {p2 = p2} {P = P} {PMore = PMore} h = record {
   short2 = λ ts. many-short f p2 (λ s. (h s).short2) (length ts) ts;
 }
 
-pub law-spanned : {A B : Type 0} {same : Bool} (make : A → Span → B) {p p2 : Reader A} {R RMore : List Token → A → Type 0} → Law same p p2 R RMore → Law same (spanned make p) (spanned make p2) (Spanned make R) (Spanned make RMore)
+pub law-spanned : {A B : Type 0} {same : Bool} (make : A → Span → B) {p p2 : Reader A} {R RMore : Rel A} → Law same p p2 R RMore → Law same (spanned make p) (spanned make p2) (Spanned make R) (Spanned make RMore)
 law-spanned {same = same} make {p = p} {p2 = p2} {R = R} {RMore = RMore} h = record {
   run = λ ts. spanned-run same make p p2 R RMore ts (h.run ts);
   within = λ a y w. (w.0, h.within a w.0 w.1, w.2);
@@ -110,7 +110,7 @@ law-spanned {same = same} make {p = p} {p2 = p2} {R = R} {RMore = RMore} h = rec
   short2 = λ ts. on_done-short (p2 ts).0 (p2 ts).1 (λ x r. (Done (make x (span_of (take (length ts - length r) ts))), r)) (length ts) (h.short2 ts) (λ x. omega arith);
 }
 
-pub law-too_deep : {S B : Type 0} (f : Token → Option S) {q q2 : Reader B} {Q QMore : List Token → B → Type 0} → Law true q q2 Q QMore → Law true (too_deep f q) (too_deep f q2) Q QMore
+pub law-too_deep : {S B : Type 0} (f : Token → Option S) {q q2 : Reader B} {Q QMore : Rel B} → Law true q q2 Q QMore → Law true (too_deep f q) (too_deep f q2) Q QMore
 law-too_deep f {q = q} {q2 = q2} {Q = Q} {QMore = QMore} h = record {
   run = λ ts. too_deep-run f q q2 (λ s. q) Q QMore (λ s. Q) h.some ts (h.run ts);
   within = h.within;
@@ -119,7 +119,7 @@ law-too_deep f {q = q} {q2 = q2} {Q = Q} {QMore = QMore} h = record {
   short2 = λ ts. deep-short (head_by f ts) ts (q2 ts) (h.short2 ts);
 }
 
-pub law-room : {S B : Type 0} (f : Token → Option S) {q q2 : Reader B} {Q QMore : List Token → B → Type 0} (p2 : S → Reader B) (PMore : S → List Token → B → Type 0)
+pub law-room : {S B : Type 0} (f : Token → Option S) {q q2 : Reader B} {Q QMore : Rel B} (p2 : S → Reader B) (PMore : S → Rel B)
     → Law false q q2 Q QMore → ((s : S) → Sample (PMore s)) → ((s : S) (ts : List Token) → length (p2 s ts).1 ≤ length ts) → Law false (too_deep f q) (fork f p2 q2) Q (Fork f PMore QMore)
 law-room f {q = q} {q2 = q2} {Q = Q} {QMore = QMore} p2 PMore h more shorter = record {
   run = λ ts. room-run f q q2 p2 Q QMore PMore h.some more ts (h.run ts);

@@ -4,10 +4,9 @@ pub mod Complete
 pub mod Exact
 pub mod Laws
 pub mod Loops
+pub mod Meets
+pub mod Productions
 pub mod Runs
 pub mod Sets
-pub mod Sound
 pub mod SpanLemmas
-pub mod Spelled
-pub mod Turns
 pub mod Whole

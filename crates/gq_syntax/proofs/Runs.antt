@@ -6,8 +6,12 @@ use Rattle.gq_lexer.specs.declared.token.Span.{Span}
 use Rattle.gq_syntax.specs.Readers.{Verdict, Done, Syntax, Deep, Out, Reader, on_done, ◌>>=◌, pure, fail, finish, head_by, tail, on_head, fork, too_deep, many_from, many, spanned}
 use Rattle.gq_syntax.specs.Relations.{span_of, Pure, Then, Fork, Many, Spanned}
 
+-- what lists of tokens spell
+abbrev pub Rel : Type 0 → Type 1
+Rel A = List Token → A → Type 0
+
 -- some list that begins with a is spelled
-abbrev pub Viable : {A : Type 0} → (List Token → A → Type 0) → List Token → Type 0
+abbrev pub Viable : {A : Type 0} → Rel A → List Token → Type 0
 Viable {A} R a = (q : List Token) × (x : A) × R (a ++ q) x
 
 -- two lists have the same first token, or none
@@ -18,11 +22,11 @@ SameHead (t ∷ r) [] = ⊥
 SameHead (t ∷ r) (u ∷ s) = t ≡ u
 
 -- the next token can be read with more room
-abbrev pub Opens : {A : Type 0} → (List Token → A → Type 0) → List Token → List Token → Type 0
+abbrev pub Opens : {A : Type 0} → Rel A → List Token → List Token → Type 0
 Opens R a rest = (t : Token) × (r : List Token) × (rest ≡ t ∷ r) × Viable R (a ++ (t ∷ []))
 
 -- R is with the room that there is, and RMore with as much (same) or with more
-abbrev pub Means : {A : Type 0} → Bool → (R RMore : List Token → A → Type 0) → Verdict A → List Token → List Token → Type 0
+abbrev pub Means : {A : Type 0} → Bool → (R RMore : Rel A) → Verdict A → List Token → List Token → Type 0
 Means same R RMore (Done x) a rest = R a x
 Means same R RMore Syntax a rest = Viable R a
 Means same R RMore Deep a rest = Viable R a × (same ≡ false → Opens RMore a rest)
@@ -33,17 +37,17 @@ Kept same Syntax = Unit {0}
 Kept same Deep = same ≡ true
 
 -- what p did at ts, where it answered v and left rest
-pub record Run {A : Type 0} (same : Bool) (p p2 : Reader A) (R RMore : List Token → A → Type 0) (ts : List Token) (v : Verdict A) (rest : List Token) : Type 0 where
+pub record Run {A : Type 0} (same : Bool) (p p2 : Reader A) (R RMore : Rel A) (ts : List Token) (v : Verdict A) (rest : List Token) : Type 0 where
   pub a : List Token
   pub split : ts ≡ a ++ rest
   pub means : Means same R RMore v a rest
   -- no token after the next had a part in it
   pub local : Kept same v → (r : List Token) → SameHead rest r → p2 (a ++ r) ≡ (v, r)
 
-abbrev pub Within : {A : Type 0} → (R RMore : List Token → A → Type 0) → Type 0
+abbrev pub Within : {A : Type 0} → (R RMore : Rel A) → Type 0
 Within {A} R RMore = (a : List Token) (x : A) → R a x → RMore a x
 
-abbrev pub Sample : {A : Type 0} → (List Token → A → Type 0) → Type 0
+abbrev pub Sample : {A : Type 0} → Rel A → Type 0
 Sample {A} R = (a : List Token) × (x : A) × R a x
 
 same_head-append : (b r s : List Token) → SameHead r s → SameHead (b ++ r) (b ++ s)
@@ -59,7 +63,7 @@ same_head-by f (t ∷ r) (u ∷ s) h = ap f (sym h)
 head-kept : {S : Type 0} (f : Token → Option S) (o : Option S) (ts a rest r : List Token) → ts ≡ a ++ rest → SameHead rest r → head_by f ts ≡ o → head_by f (a ++ r) ≡ o
 head-kept f o ts a rest r split s e = same_head-by f (a ++ rest) (a ++ r) (same_head-append a rest r s) ∙ ap (head_by f) (sym split) ∙ e
 
-module _ {A B : Type 0} (R : List Token → A → Type 0) (S : A → List Token → B → Type 0) where
+module _ {A B : Type 0} (R : Rel A) (S : A → Rel B) where
   then-viable : (a : List Token) → Viable R a → ((x : A) → Sample (S x)) → Viable (Then R S) a
   then-viable a v more = let m = more v.1 in (v.0 ++ m.0, m.1, (a ++ v.0, m.0, v.1, sym (append_assoc a v.0 m.0), v.2, m.2))
 
@@ -72,7 +76,7 @@ module _ {A B : Type 0} (R : List Token → A → Type 0) (S : A → List Token 
   then-opens-right : (x : A) (a b rest : List Token) → R a x → Opens (S x) b rest → Opens (Then R S) (a ++ b) rest
   then-opens-right x a b rest h k = (k.0, k.1, k.2, rw (append_assoc a b (k.0 ∷ [])) (then-viable-right x a (b ++ (k.0 ∷ [])) h k.3))
 
-module _ {A B : Type 0} (same : Bool) (p p2 : Reader A) (q q2 : A → Reader B) (R RMore : List Token → A → Type 0) (S SMore : A → List Token → B → Type 0) (within : Within R RMore) where
+module _ {A B : Type 0} (same : Bool) (p p2 : Reader A) (q q2 : A → Reader B) (R RMore : Rel A) (S SMore : A → Rel B) (within : Within R RMore) where
   then-means : (x : A) (w : Verdict B) (a b rest : List Token) → R a x → Means same (S x) (SMore x) w b rest → Means same (Then R S) (Then RMore SMore) w (a ++ b) rest
   then-means x (Done y) a b rest h k = (a, b, x, refl, h, k)
   then-means x Syntax a b rest h k = then-viable-right R S x a b h k
@@ -104,15 +108,22 @@ module _ {A B : Type 0} (same : Bool) (p p2 : Reader A) (q q2 : A → Reader B) 
 pub pure-run : {A : Type 0} (same : Bool) (x : A) (ts : List Token) → Run same (pure x) (pure x) (Pure x) (Pure x) ts (Done x) ts
 pure-run same x ts = record { a = []; split = refl; means = (refl, refl); local = λ kept r s. refl }
 
-pub fail-run : {A : Type 0} (same : Bool) (R RMore : List Token → A → Type 0) → Sample R → (ts : List Token) → Run same fail fail R RMore ts Syntax ts
+pub fail-run : {A : Type 0} (same : Bool) (R RMore : Rel A) → Sample R → (ts : List Token) → Run same fail fail R RMore ts Syntax ts
 fail-run same R RMore v ts = record { a = []; split = refl; means = v; local = λ kept r s. refl }
 
-module _ {S B : Type 0} (same : Bool) (f : Token → Option S) (p p2 : S → Reader B) (q q2 : Reader B) (P PMore : S → List Token → B → Type 0) (Q QMore : List Token → B → Type 0) where
-  fork-other : (v : Verdict B) (a rest : List Token) → Means same Q QMore v a rest → Means same (Fork f P Q) (Fork f PMore QMore) v a rest
-  fork-other (Done x) a rest h = inr h
-  fork-other Syntax a rest h = (h.0, h.1, inr h.2)
-  fork-other Deep a rest h = ((h.0.0, h.0.1, inr h.0.2), λ e. let o = h.1 e in (o.0, o.1, o.2, (o.3.0, o.3.1, inr o.3.2)))
+-- the same of a reader that does the same, and of relations that hold of more
+pub run-along : {A : Type 0} (same : Bool) (p p2 p3 : Reader A) (R RMore T TMore : Rel A) → ((ts : List Token) → p3 ts ≡ p2 ts) → Within R T → Within RMore TMore
+    → (ts : List Token) (v : Verdict A) (rest : List Token) → Run same p p2 R RMore ts v rest → Run same p p3 T TMore ts v rest
+run-along same p p2 p3 R RMore T TMore e to to2 ts (Done x) rest h = record { a = h.a; split = h.split; means = to h.a x h.means; local = λ kept r s. e (h.a ++ r) ∙ h.local kept r s }
+run-along same p p2 p3 R RMore T TMore e to to2 ts Syntax rest h = record { a = h.a; split = h.split; means = (h.means.0, h.means.1, to (h.a ++ h.means.0) h.means.1 h.means.2); local = λ kept r s. e (h.a ++ r) ∙ h.local kept r s }
+run-along same p p2 p3 R RMore T TMore e to to2 ts Deep rest h = record {
+  a = h.a;
+  split = h.split;
+  means = ((h.means.0.0, h.means.0.1, to (h.a ++ h.means.0.0) h.means.0.1 h.means.0.2), λ d. let o = h.means.1 d in (o.0, o.1, o.2, (o.3.0, o.3.1, to2 ((h.a ++ (o.0 ∷ [])) ++ o.3.0) o.3.1 o.3.2)));
+  local = λ kept r s. e (h.a ++ r) ∙ h.local kept r s;
+}
 
+module _ {S B : Type 0} (same : Bool) (f : Token → Option S) (p p2 : S → Reader B) (q q2 : Reader B) (P PMore : S → Rel B) (Q QMore : Rel B) where
   fork-taken : (t : Token) (s : S) → f t ≡ Some s → (v : Verdict B) (a rest : List Token) → Means same (P s) (PMore s) v a rest → Means same (Fork f P Q) (Fork f PMore QMore) v (t ∷ a) rest
   fork-taken t s e (Done x) a rest h = inl (t, s, a, refl, e, h)
   fork-taken t s e Syntax a rest h = (h.0, h.1, inl (t, s, a ++ h.0, refl, e, h.2))
@@ -120,12 +131,12 @@ module _ {S B : Type 0} (same : Bool) (f : Token → Option S) (p p2 : S → Rea
 
   fork-at : (h : Option S) (ts : List Token) → head_by f ts ≡ h
       → ((t : Token) (s : S) (r : List Token) → ts ≡ t ∷ r → Run same (p s) (p2 s) (P s) (PMore s) r (p s r).0 (p s r).1)
-      → Run same q q2 Q QMore ts (q ts).0 (q ts).1
+      → Run same q q2 (Fork f P Q) (Fork f PMore QMore) ts (q ts).0 (q ts).1
       → Run same (fork f p q) (fork f p2 q2) (Fork f P Q) (Fork f PMore QMore) ts (on_head h (λ s. p s (tail ts)) (q ts)).0 (on_head h (λ s. p s (tail ts)) (q ts)).1
   fork-at None ts e ps other = record {
     a = other.a;
     split = other.split;
-    means = fork-other (q ts).0 other.a (q ts).1 other.means;
+    means = other.means;
     local = λ kept r s. let same_head = head-kept f None ts other.a (q ts).1 r other.split s e in rw same_head (other.local kept r s);
   }
   fork-at (Some s) [] e ps other = cc
@@ -140,41 +151,26 @@ module _ {S B : Type 0} (same : Bool) (f : Token → Option S) (p p2 : S → Rea
       → ((t : Token) (s : S) (r : List Token) → ts ≡ t ∷ r → Run same (p s) (p2 s) (P s) (PMore s) r (p s r).0 (p s r).1)
       → Run same q q2 Q QMore ts (q ts).0 (q ts).1
       → Run same (fork f p q) (fork f p2 q2) (Fork f P Q) (Fork f PMore QMore) ts (fork f p q ts).0 (fork f p q ts).1
-  fork-run ts ps other = fork-at (head_by f ts) ts refl ps other
+  fork-run ts ps other =
+      fork-at (head_by f ts) ts refl ps
+      (run-along same q q2 q2 Q QMore (Fork f P Q) (Fork f PMore QMore) (λ ts. refl) (λ a x h. inr h) (λ a x h. inr h) ts (q ts).0 (q ts).1 other)
 
 -- where nothing else can come
-module _ {S B : Type 0} (same : Bool) (f : Token → Option S) (p p2 : S → Reader B) (P PMore : S → List Token → B → Type 0) where
-  abbrev Must : List Token → B → Type 0
+module _ {S B : Type 0} (same : Bool) (f : Token → Option S) (p p2 : S → Reader B) (P PMore : S → Rel B) where
+  abbrev Must : Rel B
   Must = Fork f P (λ ts x. ⊥)
 
-  abbrev MustMore : List Token → B → Type 0
+  abbrev MustMore : Rel B
   MustMore = Fork f PMore (λ ts x. ⊥)
-
-  must-at : (h : Option S) (ts : List Token) → head_by f ts ≡ h → Sample Must
-      → ((t : Token) (s : S) (r : List Token) → ts ≡ t ∷ r → Run same (p s) (p2 s) (P s) (PMore s) r (p s r).0 (p s r).1)
-      → Run same (fork f p fail) (fork f p2 fail) Must MustMore ts (on_head h (λ s. p s (tail ts)) (Syntax, ts)).0 (on_head h (λ s. p s (tail ts)) (Syntax, ts)).1
-  must-at None ts e one ps = record {
-    a = [];
-    split = refl;
-    means = one;
-    local = λ kept r s. let same_head = head-kept f None ts [] ts r refl s e in rw same_head refl;
-  }
-  must-at (Some s) [] e one ps = cc
-  must-at (Some s) (t ∷ r) e one ps = let taken = ps t s r refl in record {
-    a = t ∷ taken.a;
-    split = ap (λ w. t ∷ w) taken.split;
-    means = fork-taken same f p p2 fail fail P PMore (λ ts x. ⊥) (λ ts x. ⊥) t s e (p s r).0 taken.a (p s r).1 taken.means;
-    local = λ kept w h. rw e (taken.local kept w h);
-  }
 
   pub must-run : (ts : List Token) → Sample Must
       → ((t : Token) (s : S) (r : List Token) → ts ≡ t ∷ r → Run same (p s) (p2 s) (P s) (PMore s) r (p s r).0 (p s r).1)
       → Run same (fork f p fail) (fork f p2 fail) Must MustMore ts (fork f p fail ts).0 (fork f p fail ts).1
-  must-run ts one ps = must-at (head_by f ts) ts refl one ps
+  must-run ts one ps = fork-at same f p p2 fail fail P PMore (λ ts x. ⊥) (λ ts x. ⊥) (head_by f ts) ts refl ps (fail-run same Must MustMore one ts)
 
 -- ---- no room for what f takes
 
-module _ {S B : Type 0} (f : Token → Option S) (q q2 : Reader B) (p2 : S → Reader B) (Q QMore : List Token → B → Type 0) (PMore : S → List Token → B → Type 0) (some : Sample Q) where
+module _ {S B : Type 0} (f : Token → Option S) (q q2 : Reader B) (p2 : S → Reader B) (Q QMore : Rel B) (PMore : S → Rel B) (some : Sample Q) where
   same-at : (h : Option S) (ts : List Token) → head_by f ts ≡ h → Run true q q2 Q QMore ts (q ts).0 (q ts).1
       → Run true (too_deep f q) (too_deep f q2) Q QMore ts (on_head h (λ s. (Deep, ts)) (q ts)).0 (on_head h (λ s. (Deep, ts)) (q ts)).1
   same-at None ts e other = record {
@@ -193,17 +189,12 @@ module _ {S B : Type 0} (f : Token → Option S) (q q2 : Reader B) (p2 : S → R
   pub too_deep-run : (ts : List Token) → Run true q q2 Q QMore ts (q ts).0 (q ts).1 → Run true (too_deep f q) (too_deep f q2) Q QMore ts (too_deep f q ts).0 (too_deep f q ts).1
   too_deep-run ts other = same-at (head_by f ts) ts refl other
 
-  more-means : (v : Verdict B) (a rest : List Token) → Means false Q QMore v a rest → Means false Q (Fork f PMore QMore) v a rest
-  more-means (Done x) a rest h = h
-  more-means Syntax a rest h = h
-  more-means Deep a rest h = (h.0, λ e. let o = h.1 e in (o.0, o.1, o.2, (o.3.0, o.3.1, inr o.3.2)))
-
-  more-at : ((s : S) → Sample (PMore s)) → (h : Option S) (ts : List Token) → head_by f ts ≡ h → Run false q q2 Q QMore ts (q ts).0 (q ts).1
+  more-at : ((s : S) → Sample (PMore s)) → (h : Option S) (ts : List Token) → head_by f ts ≡ h → Run false q q2 Q (Fork f PMore QMore) ts (q ts).0 (q ts).1
       → Run false (too_deep f q) (fork f p2 q2) Q (Fork f PMore QMore) ts (on_head h (λ s. (Deep, ts)) (q ts)).0 (on_head h (λ s. (Deep, ts)) (q ts)).1
   more-at more None ts e other = record {
     a = other.a;
     split = other.split;
-    means = more-means (q ts).0 other.a (q ts).1 other.means;
+    means = other.means;
     local = λ kept r s. let same_head = head-kept f None ts other.a (q ts).1 r other.split s e in rw same_head (other.local kept r s);
   }
   more-at more (Some s) [] e other = cc
@@ -215,42 +206,33 @@ module _ {S B : Type 0} (f : Token → Option S) (q q2 : Reader B) (p2 : S → R
   }
 
   pub room-run : ((s : S) → Sample (PMore s)) → (ts : List Token) → Run false q q2 Q QMore ts (q ts).0 (q ts).1 → Run false (too_deep f q) (fork f p2 q2) Q (Fork f PMore QMore) ts (too_deep f q ts).0 (too_deep f q ts).1
-  room-run more ts other = more-at more (head_by f ts) ts refl other
+  room-run more ts other =
+      more-at more (head_by f ts) ts refl
+      (run-along false q q2 q2 Q QMore Q (Fork f PMore QMore) (λ ts. refl) (λ a x h. h) (λ a x h. inr h) ts (q ts).0 (q ts).1 other)
 
 -- ---- what is spelled is read
 
 -- where R spells a list, and Stops holds of what follows it, p reads it
-abbrev pub Only : {A : Type 0} → Reader A → (List Token → A → Type 0) → (List Token → Type 0) → Type 0
+abbrev pub Only : {A : Type 0} → Reader A → Rel A → (List Token → Type 0) → Type 0
 Only {A} p R Stops = (a r : List Token) (x : A) → R a x → Stops r → p (a ++ r) ≡ (Done x, r)
 
 pub pure-only : {A : Type 0} (x : A) (Stops : List Token → Type 0) → Only (pure x) (Pure x) Stops
 pure-only x Stops a r y h s = rw (h.0, h.1) refl
 
-module _ {A B : Type 0} (p : Reader A) (q : A → Reader B) (R : List Token → A → Type 0) (S : A → List Token → B → Type 0) (Before After : List Token → Type 0) where
+module _ {A B : Type 0} (p : Reader A) (q : A → Reader B) (R : Rel A) (S : A → Rel B) (Before After : List Token → Type 0) where
   pub then-only : Only p R Before → ((x : A) → Only (q x) (S x) After)
       → ((x : A) (b r : List Token) (y : B) → S x b y → After r → Before (b ++ r)) → Only (p >>= q) (Then R S) After
   then-only ps qs follow a r y h stop =
       let e : p (h.0 ++ (h.1 ++ r)) ≡ (Done h.2, h.1 ++ r) = ps h.0 (h.1 ++ r) h.2 h.4 (follow h.2 h.1 r y h.5 stop) in
       rw (h.3, append_assoc, e) (qs h.2 h.1 r y h.5 stop)
 
-module _ {S B : Type 0} (f : Token → Option S) (p : S → Reader B) (q : Reader B) (P : S → List Token → B → Type 0) (Q : List Token → B → Type 0) (After : List Token → Type 0) where
+module _ {S B : Type 0} (f : Token → Option S) (p : S → Reader B) (q : Reader B) (P : S → Rel B) (Q : Rel B) (After : List Token → Type 0) where
   pub fork-only : ((s : S) → Only (p s) (P s) After) → Only q Q After
       → ((a r : List Token) (y : B) → Q a y → After r → head_by f (a ++ r) ≡ None) → Only (fork f p q) (Fork f P Q) After
   fork-only ps qs avoid a r y (inl h) stop = let e : f h.0 ≡ Some h.1 = h.4 in rw (h.3, e) (ps h.1 h.2 r y h.5 stop)
   fork-only ps qs avoid a r y (inr h) stop = rw (avoid a r y h stop) (qs a r y h stop)
 
 -- ---- repetition
-
-pub run-along : {A : Type 0} (same : Bool) (p p2 p3 : Reader A) (R RMore T TMore : List Token → A → Type 0) → ((ts : List Token) → p3 ts ≡ p2 ts) → Within R T → Within RMore TMore
-    → (ts : List Token) (v : Verdict A) (rest : List Token) → Run same p p2 R RMore ts v rest → Run same p p3 T TMore ts v rest
-run-along same p p2 p3 R RMore T TMore e to to2 ts (Done x) rest h = record { a = h.a; split = h.split; means = to h.a x h.means; local = λ kept r s. e (h.a ++ r) ∙ h.local kept r s }
-run-along same p p2 p3 R RMore T TMore e to to2 ts Syntax rest h = record { a = h.a; split = h.split; means = (h.means.0, h.means.1, to (h.a ++ h.means.0) h.means.1 h.means.2); local = λ kept r s. e (h.a ++ r) ∙ h.local kept r s }
-run-along same p p2 p3 R RMore T TMore e to to2 ts Deep rest h = record {
-  a = h.a;
-  split = h.split;
-  means = ((h.means.0.0, h.means.0.1, to (h.a ++ h.means.0.0) h.means.0.1 h.means.0.2), λ d. let o = h.means.1 d in (o.0, o.1, o.2, (o.3.0, o.3.1, to2 ((h.a ++ (o.0 ∷ [])) ++ o.3.0) o.3.1 o.3.2)));
-  local = λ kept r s. e (h.a ++ r) ∙ h.local kept r s;
-}
 
 on_done-same : {A B : Type 0} (v : Verdict A) (rest : List Token) (K L : A → Reader B) → ((x : A) → K x rest ≡ L x rest) → on_done v rest K ≡ on_done v rest L
 on_done-same (Done x) rest K L h = h x
@@ -289,7 +271,7 @@ module _ {S B : Type 0} (f : Token → Option S) (p : S → Reader B) (shorter :
       (λ s. on_done-same (p s r).0 (p s r).1 (λ x. many_from f p (length r) >>= λ xs. pure (x ∷ xs)) (λ x. many f p >>= λ xs. pure (x ∷ xs))
       (λ x. let short = shorter s r in let e : many_from f p (length r) (p s r).1 ≡ many_from f p (length (p s r).1) (p s r).1 = enough (length r) (length (p s r).1) (p s r).1 short (omega arith) in rw e refl))
 
-module _ {S B : Type 0} (f : Token → Option S) (P : S → List Token → B → Type 0) where
+module _ {S B : Type 0} (f : Token → Option S) (P : S → Rel B) where
   abbrev Unrolled : List Token → List B → Type 0
   Unrolled = Fork f (λ s. Then (P s) (λ x. Then (Many f P) (λ xs. Pure (x ∷ xs)))) (Pure [])
 
@@ -298,7 +280,7 @@ module _ {S B : Type 0} (f : Token → Option S) (P : S → List Token → B →
   rolled ts xs (inl h) = let u = h.5 in let v = u.5 in
       rw v.5.1 (h.0, h.1, u.0, v.0, (h.3 ∙ ap (λ w. h.0 ∷ w) (u.3 ∙ ap (λ w. u.0 ++ w) (v.3 ∙ rw (v.5.0, append-nil) refl))), h.4, u.4, v.4)
 
-pub many-within : {S B : Type 0} (f : Token → Option S) (P PMore : S → List Token → B → Type 0) → ((s : S) → Within (P s) (PMore s)) → Within (Many f P) (Many f PMore)
+pub many-within : {S B : Type 0} (f : Token → Option S) (P PMore : S → Rel B) → ((s : S) → Within (P s) (PMore s)) → Within (Many f P) (Many f PMore)
 many-within f P PMore w a [] h = h
 many-within f P PMore w a (x ∷ xs) h = (h.0, h.1, h.2, h.3, h.4, h.5, w h.1 h.2 x h.6, many-within f P PMore w h.3 xs h.7)
 
@@ -307,7 +289,7 @@ none_such [] h = refl
 none_such (t ∷ r) h = absurd (omega arith)
 
 module _ {S B : Type 0} (same : Bool) (f : Token → Option S) (p p2 : S → Reader B) (shorter : (s : S) (ts : List Token) → length (p s ts).1 ≤ length ts) (shorter2 : (s : S) (ts : List Token) → length (p2 s ts).1 ≤ length ts)
-    (P PMore : S → List Token → B → Type 0) (within : (s : S) → Within (P s) (PMore s)) where
+    (P PMore : S → Rel B) (within : (s : S) → Within (P s) (PMore s)) where
   abbrev AtMany : List Token → Type 0
   AtMany w = Run same (many f p) (many f p2) (Many f P) (Many f PMore) w (many f p w).0 (many f p w).1
 
@@ -336,7 +318,7 @@ module _ {S B : Type 0} (same : Bool) (f : Token → Option S) (p p2 : S → Rea
   pub many-run : ((s : S) (ts : List Token) → Run same (p s) (p2 s) (P s) (PMore s) ts (p s ts).0 (p s ts).1) → (ts : List Token) → AtMany ts
   many-run ps ts = many-run-below ps (length ts) ts (omega arith)
 
-module _ {S B : Type 0} (f : Token → Option S) (p : S → Reader B) (shorter : (s : S) (ts : List Token) → length (p s ts).1 ≤ length ts) (P : S → List Token → B → Type 0) where
+module _ {S B : Type 0} (f : Token → Option S) (p : S → Reader B) (shorter : (s : S) (ts : List Token) → length (p s ts).1 ≤ length ts) (P : S → Rel B) where
   pub many-only : (Before After : List Token → Type 0) → ((s : S) → Only (p s) (P s) Before)
       → ((b r : List Token) (xs : List B) → Many f P b xs → After r → Before (b ++ r))
       → ((r : List Token) → After r → head_by f r ≡ None) → Only (many f p) (Many f P) After
@@ -348,7 +330,7 @@ module _ {S B : Type 0} (f : Token → Option S) (p : S → Reader B) (shorter :
       rw (h.4, unrolled f p shorter ((h.0 ∷ (h.2 ++ h.3)) ++ r), e, append_assoc, first, others) refl
 
 -- a reader with a run goes no further back
-pub run-shorter : {A : Type 0} (same : Bool) (p p2 : Reader A) (R RMore : List Token → A → Type 0) (ts : List Token) (v : Verdict A) (rest : List Token) → Run same p p2 R RMore ts v rest → length rest ≤ length ts
+pub run-shorter : {A : Type 0} (same : Bool) (p p2 : Reader A) (R RMore : Rel A) (ts : List Token) (v : Verdict A) (rest : List Token) → Run same p p2 R RMore ts v rest → length rest ≤ length ts
 run-shorter same p p2 R RMore ts v rest h = let e = ap length h.split in let l = length-append h.a rest in omega arith
 
 -- ---- the end
@@ -368,8 +350,8 @@ taken ts a rest e =
     let k : length (a ++ rest) - length rest ≡ length a = let l = length-append a rest in omega arith in
     rw (e, k, take-append_seam) refl
 
-module _ {A B : Type 0} (same : Bool) (make : A → Span → B) (p p2 : Reader A) (R RMore : List Token → A → Type 0) where
-  spanned-viable : (T : List Token → A → Type 0) (a : List Token) → Viable T a → Viable (Spanned make T) a
+module _ {A B : Type 0} (same : Bool) (make : A → Span → B) (p p2 : Reader A) (R RMore : Rel A) where
+  spanned-viable : (T : Rel A) (a : List Token) → Viable T a → Viable (Spanned make T) a
   spanned-viable T a v = (v.0, make v.1 (span_of (a ++ v.0)), (v.1, v.2, refl))
 
   pub spanned-at : (ts : List Token) (v : Verdict A) (rest : List Token) → Run same p p2 R RMore ts v rest

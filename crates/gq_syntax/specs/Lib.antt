@@ -6,6 +6,7 @@ pub mod Parsing
 pub mod Readers
 pub mod Refusals
 pub mod Relations
+pub mod Repeats
 pub mod Spans
 pub mod Trees
 pub mod Words

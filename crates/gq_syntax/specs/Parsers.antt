@@ -1,5 +1,5 @@
 -- The grammar as readers, one for each of its relations.
-use Rattle.std.specs.Prelude.{ℕ, zero, suc, Bool, true, false, List, [], ◌∷◌, Option, codes}
+use Rattle.std.specs.Prelude.{ℕ, zero, suc, Bool, true, false, List, [], ◌∷◌, ◌⊎◌, Option, codes}
 use Rattle.std.proofs.Common.{inl, inr}
 use Rattle.std.proofs.Math.IntN.{neg_ℤ, pos}
 use Rattle.gq_base.specs.declared.literal.Literal.{Literal}
@@ -50,6 +50,11 @@ list = must (sign_is sign.LeftBracket) (λ _. enclosed sign.RightBracket literal
 
 -- ---- expressions
 
+-- an operand that stands alone, or what is made of it and of what follows
+abbrev pub tailed : {X : Type 0} → (Ast → List X → Node ⊎ Ast) → Reader Ast → Reader (List X)
+    → Reader Ast
+tailed make operand more = spanned made (operand >>= λ x. into (make x) more)
+
 module _ (room : ℕ) (inside : Level → Reader Ast) where
   unfoldable pub arguments : Reader (List Ast)
   arguments = listed (inside level.Expr)
@@ -60,19 +65,23 @@ module _ (room : ℕ) (inside : Level → Reader Ast) where
   unfoldable pub named : Name → Reader Node
   named n =
       nest room (sign_is sign.LeftParen) (λ _. into (e.Call n) passed)
-      (fork (sign_is sign.Dot) (λ _. must called (λ key. pure (e.Property n key))) (pure (e.Variable n)))
+      (fork (sign_is sign.Dot) (λ _. must called (λ key. pure (e.Property n key)))
+      (pure (e.Variable n)))
 
   unfoldable pub grouped : Reader Node
   grouped = inside level.Expr >>= λ x. must (sign_is sign.RightParen) (λ _. pure (e.Paren x))
 
   unfoldable pub atom : Reader Node
-  atom = nest room (sign_is sign.LeftParen) (λ _. grouped) (fork plain (λ value. pure (e.Literal value)) (must name named))
+  atom = nest room (sign_is sign.LeftParen) (λ _. grouped)
+      (fork plain (λ value. pure (e.Literal value)) (must name named))
 
   unfoldable pub negated : Reader Node
-  negated = fork big (λ _. pure (e.Literal (l.Int (neg_ℤ (pos 9223372036854775808))))) (into e.Negate (inside level.Sign))
+  negated = fork big (λ _. pure (e.Literal (l.Int (neg_ℤ (pos 9223372036854775808)))))
+      (into e.Negate (inside level.Sign))
 
   unfoldable pub operand : Reader Node
-  operand = nest room (sign_is sign.Plus) (λ _. into e.Plus (inside level.Sign)) (nest room (sign_is sign.Minus) (λ _. negated) atom)
+  operand = nest room (sign_is sign.Plus) (λ _. into e.Plus (inside level.Sign))
+      (nest room (sign_is sign.Minus) (λ _. negated) atom)
 
   unfoldable pub signed : Reader Ast
   signed = spanned tree_of operand
@@ -84,7 +93,7 @@ module _ (room : ℕ) (inside : Level → Reader Ast) where
   multiplications = many multiplication multiplied
 
   unfoldable pub product : Reader Ast
-  product = spanned made (signed >>= λ x. into (tail_made e.Product x) multiplications)
+  product = tailed (tail_made e.Product) signed multiplications
 
   unfoldable pub added : ArithOp → Reader (Term ArithOp Ast)
   added op = into (term op) product
@@ -93,10 +102,12 @@ module _ (room : ℕ) (inside : Level → Reader Ast) where
   additions = many addition added
 
   unfoldable pub sum : Reader Ast
-  sum = spanned made (product >>= λ x. into (tail_made e.Sum x) additions)
+  sum = tailed (tail_made e.Sum) product additions
 
   unfoldable pub tested : TestWord → Reader (Tester Ast)
-  tested test.Is = fork (word_is (codes "NOT")) (λ _. must (word_is (codes "NULL")) (λ _. pure tester.IsNotNull)) (must (word_is (codes "NULL")) (λ _. pure tester.IsNull))
+  tested test.Is = fork (word_is (codes "NOT"))
+      (λ _. must (word_is (codes "NULL")) (λ _. pure tester.IsNotNull))
+      (must (word_is (codes "NULL")) (λ _. pure tester.IsNull))
   tested test.In = into tester.Member list
   tested test.Starts = must (word_is (codes "WITH")) (λ _. into tester.Starts sum)
   tested test.Ends = must (word_is (codes "WITH")) (λ _. into tester.Ends sum)
@@ -106,7 +117,7 @@ module _ (room : ℕ) (inside : Level → Reader Ast) where
   testers = many test_word tested
 
   unfoldable pub tests : Reader Ast
-  tests = spanned made (sum >>= λ x. into (tail_made e.Test x) testers)
+  tests = tailed (tail_made e.Test) sum testers
 
   unfoldable pub compared : CompareOp → Reader (Term CompareOp Ast)
   compared op = into (term op) tests
@@ -115,28 +126,29 @@ module _ (room : ℕ) (inside : Level → Reader Ast) where
   comparisons = many comparison compared
 
   unfoldable pub compare : Reader Ast
-  compare = spanned made (tests >>= λ x. into (tail_made e.Compare x) comparisons)
+  compare = tailed (tail_made e.Compare) tests comparisons
 
   unfoldable pub negation : Reader Ast
-  negation = spanned made (nest room (word_is (codes "NOT")) (λ _. into (λ x. inl (e.Not x)) (inside level.Not)) (into inr compare))
+  negation = spanned made (nest room (word_is (codes "NOT"))
+      (λ _. into (λ x. inl (e.Not x)) (inside level.Not)) (into inr compare))
 
   unfoldable pub ands : Reader (List Ast)
   ands = many (word_is (codes "AND")) (λ _. negation)
 
   unfoldable pub and : Reader Ast
-  and = spanned made (negation >>= λ x. into (chain_made e.And x) ands)
+  and = tailed (chain_made e.And) negation ands
 
   unfoldable pub xors : Reader (List Ast)
   xors = many (word_is (codes "XOR")) (λ _. and)
 
   unfoldable pub xor : Reader Ast
-  xor = spanned made (and >>= λ x. into (chain_made e.Xor x) xors)
+  xor = tailed (chain_made e.Xor) and xors
 
   unfoldable pub ors : Reader (List Ast)
   ors = many (word_is (codes "OR")) (λ _. xor)
 
   unfoldable pub or : Reader Ast
-  or = spanned made (xor >>= λ x. into (chain_made e.Or x) ors)
+  or = tailed (chain_made e.Or) xor ors
 
   abbrev pub rule : Level → Reader Ast
   rule level.Expr = or
@@ -153,7 +165,8 @@ expr depth = or depth (inside depth)
 -- ---- patterns
 
 unfoldable pub value : Name → Reader Entry
-value key = must (sign_is sign.Colon) (λ _. into (tree.entry key) (spanned (λ value span. (value, span)) literal))
+value key = must (sign_is sign.Colon) (λ _. into (tree.entry key)
+    (spanned (λ value span. (value, span)) literal))
 
 unfoldable pub entry : Reader Entry
 entry = must called value
@@ -183,7 +196,8 @@ kinds = fork (sign_is sign.Colon) (λ _. some_kinds) (pure [])
 
 unfoldable pub detail : Reader RelDetail
 detail = fork (sign_is sign.LeftBracket)
-    (λ _. maybe name pure >>= λ n. kinds >>= λ ks. map >>= λ es. must (sign_is sign.RightBracket) (λ _. pure (detail_of n ks es)))
+    (λ _. maybe name pure >>= λ n. kinds >>= λ ks. map >>= λ es. must (sign_is sign.RightBracket)
+    (λ _. pure (detail_of n ks es)))
     (pure no_detail)
 
 unfoldable pub pointed : Bool → Reader Arrow
@@ -232,13 +246,16 @@ module _ (depth : ℕ) where
   more_items = many (sign_is sign.Comma) (λ _. item)
 
   unfoldable pub items : Bool → Reader Columns
-  items distinct = fork (sign_is sign.Star) (λ _. into (columns distinct true) more_items) (into (columns distinct false) some_items)
+  items distinct = fork (sign_is sign.Star) (λ _. into (columns distinct true) more_items)
+      (into (columns distinct false) some_items)
 
   unfoldable pub returns : Reader Columns
-  returns = must (word_is (codes "RETURN")) (λ _. fork (word_is (codes "DISTINCT")) (λ _. items true) (items false))
+  returns = must (word_is (codes "RETURN")) (λ _. fork (word_is (codes "DISTINCT"))
+      (λ _. items true) (items false))
 
   unfoldable pub sort : Reader Sort
-  sort = expr depth >>= λ x. fork direction (λ down. pure (tree.sort x down)) (pure (tree.sort x false))
+  sort = expr depth >>= λ x. fork direction (λ down. pure (tree.sort x down))
+      (pure (tree.sort x false))
 
   unfoldable pub sorts : Reader (List Sort)
   sorts = listed sort
@@ -258,7 +275,8 @@ module _ (depth : ℕ) where
 
   unfoldable pub command : Reader Statement
   command = fork (word_is (codes "SCHEMA")) (λ _. pure statement.Schema)
-      (fork (word_is (codes "PLAN")) (λ _. into statement.Plan query) (must (word_is (codes "PROFILE")) (λ _. into statement.Profile query)))
+      (fork (word_is (codes "PLAN")) (λ _. into statement.Plan query)
+      (must (word_is (codes "PROFILE")) (λ _. into statement.Profile query)))
 
   unfoldable pub statement_of : Reader Statement
   statement_of = fork (sign_is sign.Colon) (λ _. command) (into statement.Query query)

@@ -1,29 +1,22 @@
 //! Expressions, by descent: one function for each production. They recur only where a construct nests.
 
-ghost use Rattle.std.specs.Prelude.{◌≡◌, ◌∷◌, ◌<◌, IfOk};
+ghost use Rattle.std.specs.Prelude.{◌≡◌, ◌<◌};
 ghost use Rattle.gq_syntax.specs.Nesting.{Nests, Opens};
 ghost use Rattle.gq_syntax.specs.Parsers as p;
 ghost use Rattle.gq_syntax.specs.Parsing.{Reads};
 
 use crate::expression::{ArithTerm, Ast, AstNode, AstTester, CompareTerm, Term, Tester};
+use crate::leads::{Addition, Comparison, Multiplication, Tests, Word};
 use crate::literals::list;
 use crate::opening::{Level, TestWord};
+use crate::repeats::{led, listed, many};
 use crate::tokens::{Stop, Tokens};
-use gq_base::{ArithOp, Boxed, CompareOp, List, Literal, Memory, Text};
+use gq_base::{ArithOp, Boxed, CompareOp, List, Literal, Text};
 use gq_lexer::Sign;
 use std::alloc::Global;
 
 /// How many constructs may nest in one another.
 const MAX_NESTING: usize = 64;
-
-// The first operand and those behind it.
-fn led(first: Ast, more: List<Ast>) -> Result<List<Ast>, Memory>
-    ensures { IfOk result (λ all. all ≡ first ∷ more) }
-{
-    let mut all = more.into_vec();
-    all.insert(0, first)?;
-    Ok(List::from_vec(all))
-}
 
 /// The productions of expressions.
 #[derive(Clone, Copy)]
@@ -61,7 +54,8 @@ impl<F: Fn(Global, &mut Tokens<'_>, usize, Level) -> Result<Ast, Stop>> Grammar<
     fn grouped(&self, tokens: &mut Tokens<'_>) -> Result<AstNode<Ast>, Stop>
         requires room { 0 < self.now.room }
         requires nests { Nests self.now.room (F.pre self.now.nested) (F.post self.now.nested) }
-        ensures { Reads (p.grouped self.now.room (p.inside self.now.room) tokens.old) result tokens.new }
+        ensures { Reads (p.grouped self.now.room (p.inside self.now.room) tokens.old)
+            result tokens.new }
     {
         let tree = self.inside(tokens, Level::Expr)?;
         tokens.expect_sign(Sign::RightParen)?;
@@ -73,16 +67,12 @@ impl<F: Fn(Global, &mut Tokens<'_>, usize, Level) -> Result<Ast, Stop>> Grammar<
     fn arguments(&self, tokens: &mut Tokens<'_>) -> Result<List<Ast>, Stop>
         requires room { 0 < self.now.room }
         requires nests { Nests self.now.room (F.pre self.now.nested) (F.post self.now.nested) }
-        ensures { Reads (p.arguments self.now.room (p.inside self.now.room) tokens.old) result tokens.new }
+        ensures { Reads (p.arguments self.now.room (p.inside self.now.room) tokens.old)
+            result tokens.new }
     {
-        let mut found = List::new(self.alloc);
-        let first = self.inside(tokens, Level::Expr)?;
-        found.push(first)?;
-        'more: while tokens.take_sign(Sign::Comma) {
-            let next = self.inside(tokens, Level::Expr)?;
-            found.push(next)?;
-        }
-        Ok(found)
+        listed(self.alloc, tokens, |tokens| {
+            self.inside(tokens, Level::Expr)
+        })
     }
 
     // The arguments of a call and the parenthesis that closes it.
@@ -90,7 +80,8 @@ impl<F: Fn(Global, &mut Tokens<'_>, usize, Level) -> Result<Ast, Stop>> Grammar<
     fn passed(&self, tokens: &mut Tokens<'_>) -> Result<List<Ast>, Stop>
         requires room { 0 < self.now.room }
         requires nests { Nests self.now.room (F.pre self.now.nested) (F.post self.now.nested) }
-        ensures { Reads (p.passed self.now.room (p.inside self.now.room) tokens.old) result tokens.new }
+        ensures { Reads (p.passed self.now.room (p.inside self.now.room) tokens.old)
+            result tokens.new }
     {
         if tokens.take_sign(Sign::RightParen) {
             return Ok(List::new(self.alloc));
@@ -104,7 +95,8 @@ impl<F: Fn(Global, &mut Tokens<'_>, usize, Level) -> Result<Ast, Stop>> Grammar<
     #[tactic(auto, using(crate::proofs::Loops::nest_opens, crate::proofs::Loops::nest_deep, crate::proofs::Loops::nest_other), unfolding(crate::specs::Parsers::named))]
     fn named(&self, tokens: &mut Tokens<'_>, name: Text) -> Result<AstNode<Ast>, Stop>
         requires nests { Nests self.now.room (F.pre self.now.nested) (F.post self.now.nested) }
-        ensures { Reads (p.named self.now.room (p.inside self.now.room) name tokens.old) result tokens.new }
+        ensures { Reads (p.named self.now.room (p.inside self.now.room) name tokens.old)
+            result tokens.new }
     {
         if tokens.sees_sign(Sign::LeftParen) {
             self.open(tokens)?;
@@ -122,7 +114,8 @@ impl<F: Fn(Global, &mut Tokens<'_>, usize, Level) -> Result<Ast, Stop>> Grammar<
     #[tactic(auto, using(crate::proofs::Loops::nest_opens, crate::proofs::Loops::nest_deep, crate::proofs::Loops::nest_other), unfolding(crate::specs::Parsers::atom))]
     fn atom(&self, tokens: &mut Tokens<'_>) -> Result<AstNode<Ast>, Stop>
         requires nests { Nests self.now.room (F.pre self.now.nested) (F.post self.now.nested) }
-        ensures { Reads (p.atom self.now.room (p.inside self.now.room) tokens.old) result tokens.new }
+        ensures { Reads (p.atom self.now.room (p.inside self.now.room) tokens.old)
+            result tokens.new }
     {
         if tokens.sees_sign(Sign::LeftParen) {
             self.open(tokens)?;
@@ -140,7 +133,8 @@ impl<F: Fn(Global, &mut Tokens<'_>, usize, Level) -> Result<Ast, Stop>> Grammar<
     fn negated(&self, tokens: &mut Tokens<'_>) -> Result<AstNode<Ast>, Stop>
         requires room { 0 < self.now.room }
         requires nests { Nests self.now.room (F.pre self.now.nested) (F.post self.now.nested) }
-        ensures { Reads (p.negated self.now.room (p.inside self.now.room) tokens.old) result tokens.new }
+        ensures { Reads (p.negated self.now.room (p.inside self.now.room) tokens.old)
+            result tokens.new }
     {
         if tokens.take_big() {
             return Ok(AstNode::Literal(Literal::Int(i64::MIN)));
@@ -153,7 +147,8 @@ impl<F: Fn(Global, &mut Tokens<'_>, usize, Level) -> Result<Ast, Stop>> Grammar<
     #[tactic(auto, using(crate::proofs::Loops::nest_opens, crate::proofs::Loops::nest_deep, crate::proofs::Loops::nest_other), unfolding(crate::specs::Parsers::operand))]
     fn operand(&self, tokens: &mut Tokens<'_>) -> Result<AstNode<Ast>, Stop>
         requires nests { Nests self.now.room (F.pre self.now.nested) (F.post self.now.nested) }
-        ensures { Reads (p.operand self.now.room (p.inside self.now.room) tokens.old) result tokens.new }
+        ensures { Reads (p.operand self.now.room (p.inside self.now.room) tokens.old)
+            result tokens.new }
     {
         if tokens.sees_sign(Sign::Plus) {
             self.open(tokens)?;
@@ -171,7 +166,8 @@ impl<F: Fn(Global, &mut Tokens<'_>, usize, Level) -> Result<Ast, Stop>> Grammar<
     #[tactic(auto, unfolding(crate::specs::Parsers::signed))]
     fn signed(&self, tokens: &mut Tokens<'_>) -> Result<Ast, Stop>
         requires nests { Nests self.now.room (F.pre self.now.nested) (F.post self.now.nested) }
-        ensures { Reads (p.signed self.now.room (p.inside self.now.room) tokens.old) result tokens.new }
+        ensures { Reads (p.signed self.now.room (p.inside self.now.room) tokens.old)
+            result tokens.new }
     {
         let start = tokens.left();
         let node = self.operand(tokens)?;
@@ -183,7 +179,8 @@ impl<F: Fn(Global, &mut Tokens<'_>, usize, Level) -> Result<Ast, Stop>> Grammar<
     #[tactic(auto, unfolding(crate::specs::Parsers::multiplied))]
     fn multiplied(&self, tokens: &mut Tokens<'_>, op: ArithOp) -> Result<ArithTerm, Stop>
         requires nests { Nests self.now.room (F.pre self.now.nested) (F.post self.now.nested) }
-        ensures { Reads (p.multiplied self.now.room (p.inside self.now.room) op tokens.old) result tokens.new }
+        ensures { Reads (p.multiplied self.now.room (p.inside self.now.room) op tokens.old)
+            result tokens.new }
     {
         let tree = self.signed(tokens)?;
         Ok(Term { op, tree })
@@ -193,21 +190,23 @@ impl<F: Fn(Global, &mut Tokens<'_>, usize, Level) -> Result<Ast, Stop>> Grammar<
     #[tactic(auto, unfolding(crate::specs::Parsers::multiplications))]
     fn multiplications(&self, tokens: &mut Tokens<'_>) -> Result<List<ArithTerm>, Stop>
         requires nests { Nests self.now.room (F.pre self.now.nested) (F.post self.now.nested) }
-        ensures { Reads (p.multiplications self.now.room (p.inside self.now.room) tokens.old) result tokens.new }
+        ensures { Reads (p.multiplications self.now.room (p.inside self.now.room) tokens.old)
+            result tokens.new }
     {
-        let mut found = List::new(self.alloc);
-        'more: while let Some(op) = tokens.take_multiplication() {
-            let next = self.multiplied(tokens, op)?;
-            found.push(next)?;
-        }
-        Ok(found)
+        many(
+            self.alloc,
+            tokens,
+            Multiplication,
+            |tokens, op| self.multiplied(tokens, op),
+        )
     }
 
     // A product.
     #[tactic(auto, unfolding(crate::specs::Parsers::product))]
     fn product(&self, tokens: &mut Tokens<'_>) -> Result<Ast, Stop>
         requires nests { Nests self.now.room (F.pre self.now.nested) (F.post self.now.nested) }
-        ensures { Reads (p.product self.now.room (p.inside self.now.room) tokens.old) result tokens.new }
+        ensures { Reads (p.product self.now.room (p.inside self.now.room) tokens.old)
+            result tokens.new }
     {
         let start = tokens.left();
         let first = self.signed(tokens)?;
@@ -224,7 +223,8 @@ impl<F: Fn(Global, &mut Tokens<'_>, usize, Level) -> Result<Ast, Stop>> Grammar<
     #[tactic(auto, unfolding(crate::specs::Parsers::added))]
     fn added(&self, tokens: &mut Tokens<'_>, op: ArithOp) -> Result<ArithTerm, Stop>
         requires nests { Nests self.now.room (F.pre self.now.nested) (F.post self.now.nested) }
-        ensures { Reads (p.added self.now.room (p.inside self.now.room) op tokens.old) result tokens.new }
+        ensures { Reads (p.added self.now.room (p.inside self.now.room) op tokens.old)
+            result tokens.new }
     {
         let tree = self.product(tokens)?;
         Ok(Term { op, tree })
@@ -234,21 +234,23 @@ impl<F: Fn(Global, &mut Tokens<'_>, usize, Level) -> Result<Ast, Stop>> Grammar<
     #[tactic(auto, unfolding(crate::specs::Parsers::additions))]
     fn additions(&self, tokens: &mut Tokens<'_>) -> Result<List<ArithTerm>, Stop>
         requires nests { Nests self.now.room (F.pre self.now.nested) (F.post self.now.nested) }
-        ensures { Reads (p.additions self.now.room (p.inside self.now.room) tokens.old) result tokens.new }
+        ensures { Reads (p.additions self.now.room (p.inside self.now.room) tokens.old)
+            result tokens.new }
     {
-        let mut found = List::new(self.alloc);
-        'more: while let Some(op) = tokens.take_addition() {
-            let next = self.added(tokens, op)?;
-            found.push(next)?;
-        }
-        Ok(found)
+        many(
+            self.alloc,
+            tokens,
+            Addition,
+            |tokens, op| self.added(tokens, op),
+        )
     }
 
     // A sum.
     #[tactic(auto, unfolding(crate::specs::Parsers::sum))]
     fn sum(&self, tokens: &mut Tokens<'_>) -> Result<Ast, Stop>
         requires nests { Nests self.now.room (F.pre self.now.nested) (F.post self.now.nested) }
-        ensures { Reads (p.sum self.now.room (p.inside self.now.room) tokens.old) result tokens.new }
+        ensures { Reads (p.sum self.now.room (p.inside self.now.room) tokens.old)
+            result tokens.new }
     {
         let start = tokens.left();
         let first = self.product(tokens)?;
@@ -265,7 +267,8 @@ impl<F: Fn(Global, &mut Tokens<'_>, usize, Level) -> Result<Ast, Stop>> Grammar<
     #[tactic(auto, unfolding(crate::specs::Parsers::tested))]
     fn tested(&self, tokens: &mut Tokens<'_>, word: TestWord) -> Result<AstTester, Stop>
         requires nests { Nests self.now.room (F.pre self.now.nested) (F.post self.now.nested) }
-        ensures { Reads (p.tested self.now.room (p.inside self.now.room) word tokens.old) result tokens.new }
+        ensures { Reads (p.tested self.now.room (p.inside self.now.room) word tokens.old)
+            result tokens.new }
     {
         match word {
             TestWord::Is => {
@@ -294,21 +297,23 @@ impl<F: Fn(Global, &mut Tokens<'_>, usize, Level) -> Result<Ast, Stop>> Grammar<
     #[tactic(auto, unfolding(crate::specs::Parsers::testers))]
     fn testers(&self, tokens: &mut Tokens<'_>) -> Result<List<AstTester>, Stop>
         requires nests { Nests self.now.room (F.pre self.now.nested) (F.post self.now.nested) }
-        ensures { Reads (p.testers self.now.room (p.inside self.now.room) tokens.old) result tokens.new }
+        ensures { Reads (p.testers self.now.room (p.inside self.now.room) tokens.old)
+            result tokens.new }
     {
-        let mut found = List::new(self.alloc);
-        'more: while let Some(word) = tokens.take_test_word() {
-            let next = self.tested(tokens, word)?;
-            found.push(next)?;
-        }
-        Ok(found)
+        many(
+            self.alloc,
+            tokens,
+            Tests,
+            |tokens, word| self.tested(tokens, word),
+        )
     }
 
     // A sum and its tests.
     #[tactic(auto, unfolding(crate::specs::Parsers::tests))]
     fn tests(&self, tokens: &mut Tokens<'_>) -> Result<Ast, Stop>
         requires nests { Nests self.now.room (F.pre self.now.nested) (F.post self.now.nested) }
-        ensures { Reads (p.tests self.now.room (p.inside self.now.room) tokens.old) result tokens.new }
+        ensures { Reads (p.tests self.now.room (p.inside self.now.room) tokens.old)
+            result tokens.new }
     {
         let start = tokens.left();
         let first = self.sum(tokens)?;
@@ -325,7 +330,8 @@ impl<F: Fn(Global, &mut Tokens<'_>, usize, Level) -> Result<Ast, Stop>> Grammar<
     #[tactic(auto, unfolding(crate::specs::Parsers::compared))]
     fn compared(&self, tokens: &mut Tokens<'_>, op: CompareOp) -> Result<CompareTerm, Stop>
         requires nests { Nests self.now.room (F.pre self.now.nested) (F.post self.now.nested) }
-        ensures { Reads (p.compared self.now.room (p.inside self.now.room) op tokens.old) result tokens.new }
+        ensures { Reads (p.compared self.now.room (p.inside self.now.room) op tokens.old)
+            result tokens.new }
     {
         let tree = self.tests(tokens)?;
         Ok(Term { op, tree })
@@ -335,21 +341,23 @@ impl<F: Fn(Global, &mut Tokens<'_>, usize, Level) -> Result<Ast, Stop>> Grammar<
     #[tactic(auto, unfolding(crate::specs::Parsers::comparisons))]
     fn comparisons(&self, tokens: &mut Tokens<'_>) -> Result<List<CompareTerm>, Stop>
         requires nests { Nests self.now.room (F.pre self.now.nested) (F.post self.now.nested) }
-        ensures { Reads (p.comparisons self.now.room (p.inside self.now.room) tokens.old) result tokens.new }
+        ensures { Reads (p.comparisons self.now.room (p.inside self.now.room) tokens.old)
+            result tokens.new }
     {
-        let mut found = List::new(self.alloc);
-        'more: while let Some(op) = tokens.take_comparison() {
-            let next = self.compared(tokens, op)?;
-            found.push(next)?;
-        }
-        Ok(found)
+        many(
+            self.alloc,
+            tokens,
+            Comparison,
+            |tokens, op| self.compared(tokens, op),
+        )
     }
 
     // A comparison.
     #[tactic(auto, unfolding(crate::specs::Parsers::compare))]
     fn compare(&self, tokens: &mut Tokens<'_>) -> Result<Ast, Stop>
         requires nests { Nests self.now.room (F.pre self.now.nested) (F.post self.now.nested) }
-        ensures { Reads (p.compare self.now.room (p.inside self.now.room) tokens.old) result tokens.new }
+        ensures { Reads (p.compare self.now.room (p.inside self.now.room) tokens.old)
+            result tokens.new }
     {
         let start = tokens.left();
         let first = self.tests(tokens)?;
@@ -366,7 +374,8 @@ impl<F: Fn(Global, &mut Tokens<'_>, usize, Level) -> Result<Ast, Stop>> Grammar<
     #[tactic(auto, using(crate::proofs::Loops::nest_opens, crate::proofs::Loops::nest_deep, crate::proofs::Loops::nest_other), unfolding(crate::specs::Parsers::negation))]
     fn negation(&self, tokens: &mut Tokens<'_>) -> Result<Ast, Stop>
         requires nests { Nests self.now.room (F.pre self.now.nested) (F.post self.now.nested) }
-        ensures { Reads (p.negation self.now.room (p.inside self.now.room) tokens.old) result tokens.new }
+        ensures { Reads (p.negation self.now.room (p.inside self.now.room) tokens.old)
+            result tokens.new }
     {
         let start = tokens.left();
         if tokens.sees_word("NOT") {
@@ -383,21 +392,23 @@ impl<F: Fn(Global, &mut Tokens<'_>, usize, Level) -> Result<Ast, Stop>> Grammar<
     #[tactic(auto, unfolding(crate::specs::Parsers::ands))]
     fn ands(&self, tokens: &mut Tokens<'_>) -> Result<List<Ast>, Stop>
         requires nests { Nests self.now.room (F.pre self.now.nested) (F.post self.now.nested) }
-        ensures { Reads (p.ands self.now.room (p.inside self.now.room) tokens.old) result tokens.new }
+        ensures { Reads (p.ands self.now.room (p.inside self.now.room) tokens.old)
+            result tokens.new }
     {
-        let mut found = List::new(self.alloc);
-        'more: while tokens.take_word("AND") {
-            let next = self.negation(tokens)?;
-            found.push(next)?;
-        }
-        Ok(found)
+        many(
+            self.alloc,
+            tokens,
+            Word("AND"),
+            |tokens, _| self.negation(tokens),
+        )
     }
 
     // A conjunction.
     #[tactic(auto, unfolding(crate::specs::Parsers::and))]
     fn and(&self, tokens: &mut Tokens<'_>) -> Result<Ast, Stop>
         requires nests { Nests self.now.room (F.pre self.now.nested) (F.post self.now.nested) }
-        ensures { Reads (p.and self.now.room (p.inside self.now.room) tokens.old) result tokens.new }
+        ensures { Reads (p.and self.now.room (p.inside self.now.room) tokens.old)
+            result tokens.new }
     {
         let start = tokens.left();
         let first = self.negation(tokens)?;
@@ -414,21 +425,23 @@ impl<F: Fn(Global, &mut Tokens<'_>, usize, Level) -> Result<Ast, Stop>> Grammar<
     #[tactic(auto, unfolding(crate::specs::Parsers::xors))]
     fn xors(&self, tokens: &mut Tokens<'_>) -> Result<List<Ast>, Stop>
         requires nests { Nests self.now.room (F.pre self.now.nested) (F.post self.now.nested) }
-        ensures { Reads (p.xors self.now.room (p.inside self.now.room) tokens.old) result tokens.new }
+        ensures { Reads (p.xors self.now.room (p.inside self.now.room) tokens.old)
+            result tokens.new }
     {
-        let mut found = List::new(self.alloc);
-        'more: while tokens.take_word("XOR") {
-            let next = self.and(tokens)?;
-            found.push(next)?;
-        }
-        Ok(found)
+        many(
+            self.alloc,
+            tokens,
+            Word("XOR"),
+            |tokens, _| self.and(tokens),
+        )
     }
 
     // An exclusive disjunction.
     #[tactic(auto, unfolding(crate::specs::Parsers::xor))]
     fn xor(&self, tokens: &mut Tokens<'_>) -> Result<Ast, Stop>
         requires nests { Nests self.now.room (F.pre self.now.nested) (F.post self.now.nested) }
-        ensures { Reads (p.xor self.now.room (p.inside self.now.room) tokens.old) result tokens.new }
+        ensures { Reads (p.xor self.now.room (p.inside self.now.room) tokens.old)
+            result tokens.new }
     {
         let start = tokens.left();
         let first = self.and(tokens)?;
@@ -445,14 +458,10 @@ impl<F: Fn(Global, &mut Tokens<'_>, usize, Level) -> Result<Ast, Stop>> Grammar<
     #[tactic(auto, unfolding(crate::specs::Parsers::ors))]
     fn ors(&self, tokens: &mut Tokens<'_>) -> Result<List<Ast>, Stop>
         requires nests { Nests self.now.room (F.pre self.now.nested) (F.post self.now.nested) }
-        ensures { Reads (p.ors self.now.room (p.inside self.now.room) tokens.old) result tokens.new }
+        ensures { Reads (p.ors self.now.room (p.inside self.now.room) tokens.old)
+            result tokens.new }
     {
-        let mut found = List::new(self.alloc);
-        'more: while tokens.take_word("OR") {
-            let next = self.xor(tokens)?;
-            found.push(next)?;
-        }
-        Ok(found)
+        many(self.alloc, tokens, Word("OR"), |tokens, _| self.xor(tokens))
     }
 
     // An expression.

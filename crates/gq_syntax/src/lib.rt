@@ -3,12 +3,14 @@
 
 mod descent;
 mod expression;
+mod leads;
 mod literals;
 mod opening;
 mod parsing;
 mod patterns;
 mod queries;
 mod refusal;
+mod repeats;
 mod statement;
 mod tokens;
 mod words;

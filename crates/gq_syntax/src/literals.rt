@@ -4,6 +4,7 @@ ghost use Rattle.std.specs.Prelude.{◌≡◌};
 ghost use Rattle.gq_syntax.specs.Parsers as p;
 ghost use Rattle.gq_syntax.specs.Parsing.{Reads};
 
+use crate::repeats::listed;
 use crate::tokens::{Stop, Tokens};
 use gq_base::{List, Literal};
 use gq_lexer::Sign;
@@ -28,14 +29,7 @@ pub(crate) fn literal(tokens: &mut Tokens<'_>) -> Result<Literal, Stop>
 fn literals(alloc: Global, tokens: &mut Tokens<'_>) -> Result<List<Literal>, Stop>
     ensures { Reads (p.literals tokens.old) result tokens.new }
 {
-    let mut found = List::new(alloc);
-    let first = literal(tokens)?;
-    found.push(first)?;
-    'more: while tokens.take_sign(Sign::Comma) {
-        let next = literal(tokens)?;
-        found.push(next)?;
-    }
-    Ok(found)
+    listed(alloc, tokens, literal)
 }
 
 /// A list, which has to come next.

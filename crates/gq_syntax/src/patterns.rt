@@ -5,8 +5,10 @@ ghost use Rattle.gq_syntax.specs.Parsers as p;
 ghost use Rattle.gq_syntax.specs.Parsing.{Reads};
 ghost use Rattle.gq_syntax.specs.Readers as r;
 
+use crate::leads::Tips;
 use crate::literals::literal;
 use crate::opening::Tip;
+use crate::repeats::{behind, listed, many};
 use crate::statement::{Arrow, Entry, Hop, NodePart, Path, RelPart};
 use crate::tokens::{Stop, Tokens};
 use gq_base::{List, Text};
@@ -43,14 +45,7 @@ fn entry(tokens: &mut Tokens<'_>) -> Result<Entry, Stop>
 fn entries(alloc: Global, tokens: &mut Tokens<'_>) -> Result<List<Entry>, Stop>
     ensures { Reads (p.entries tokens.old) result tokens.new }
 {
-    let mut found = List::new(alloc);
-    let first = entry(tokens)?;
-    found.push(first)?;
-    'more: while tokens.take_sign(Sign::Comma) {
-        let next = entry(tokens)?;
-        found.push(next)?;
-    }
-    Ok(found)
+    listed(alloc, tokens, entry)
 }
 
 // The entries of a map, if one comes next.
@@ -115,14 +110,8 @@ fn kind(tokens: &mut Tokens<'_>) -> Result<Text, Stop>
 fn some_kinds(alloc: Global, tokens: &mut Tokens<'_>) -> Result<List<Text>, Stop>
     ensures { Reads (p.some_kinds tokens.old) result tokens.new }
 {
-    let mut found = List::new(alloc);
     let first = tokens.expect_called()?;
-    found.push(first)?;
-    'more: while tokens.take_sign(Sign::Bar) {
-        let next = kind(tokens)?;
-        found.push(next)?;
-    }
-    Ok(found)
+    behind(alloc, tokens, first, Sign::Bar, |tokens, _| kind(tokens))
 }
 
 // The types of a relationship, if any come next.
@@ -212,12 +201,7 @@ fn hop(alloc: Global, tokens: &mut Tokens<'_>, tip: Tip) -> Result<Hop, Stop>
 fn hops(alloc: Global, tokens: &mut Tokens<'_>) -> Result<List<Hop>, Stop>
     ensures { Reads (p.hops tokens.old) result tokens.new }
 {
-    let mut found = List::new(alloc);
-    'more: while let Some(tip) = tokens.take_tip() {
-        let next = hop(alloc, tokens, tip)?;
-        found.push(next)?;
-    }
-    Ok(found)
+    many(alloc, tokens, Tips, |tokens, tip| hop(alloc, tokens, tip))
 }
 
 /// A path, which has to come next.

@@ -5,7 +5,9 @@ ghost use Rattle.gq_syntax.specs.Parsers as p;
 ghost use Rattle.gq_syntax.specs.Parsing.{Reads};
 
 use crate::descent::expr;
+use crate::leads::Word;
 use crate::patterns::path;
+use crate::repeats::{behind, listed, many};
 use crate::statement::{Clause, Item, Path, Query, Sort, Statement};
 use crate::tokens::{Stop, Tokens};
 use gq_base::List;
@@ -25,14 +27,7 @@ pub(crate) struct Columns {
 fn paths(alloc: Global, tokens: &mut Tokens<'_>) -> Result<List<Path>, Stop>
     ensures { Reads (p.paths tokens.old) result tokens.new }
 {
-    let mut found = List::new(alloc);
-    let first = path(alloc, tokens)?;
-    found.push(first)?;
-    'more: while tokens.take_sign(Sign::Comma) {
-        let next = path(alloc, tokens)?;
-        found.push(next)?;
-    }
-    Ok(found)
+    listed(alloc, tokens, |tokens| path(alloc, tokens))
 }
 
 // A clause, behind its MATCH.
@@ -62,14 +57,14 @@ fn clauses(alloc: Global, tokens: &mut Tokens<'_>) -> Result<List<Clause>, Stop>
 fn some_clauses(alloc: Global, tokens: &mut Tokens<'_>) -> Result<List<Clause>, Stop>
     ensures { Reads (p.some_clauses 64 tokens.old) result tokens.new }
 {
-    let mut found = List::new(alloc);
     let first = clause(alloc, tokens)?;
-    found.push(first)?;
-    'more: while tokens.take_word("MATCH") {
-        let next = clause(alloc, tokens)?;
-        found.push(next)?;
-    }
-    Ok(found)
+    behind(
+        alloc,
+        tokens,
+        first,
+        Word("MATCH"),
+        |tokens, _| clause(alloc, tokens),
+    )
 }
 
 // A column.
@@ -90,14 +85,7 @@ fn item(alloc: Global, tokens: &mut Tokens<'_>) -> Result<Item, Stop>
 fn some_items(alloc: Global, tokens: &mut Tokens<'_>) -> Result<List<Item>, Stop>
     ensures { Reads (p.some_items 64 tokens.old) result tokens.new }
 {
-    let mut found = List::new(alloc);
-    let first = item(alloc, tokens)?;
-    found.push(first)?;
-    'more: while tokens.take_sign(Sign::Comma) {
-        let next = item(alloc, tokens)?;
-        found.push(next)?;
-    }
-    Ok(found)
+    listed(alloc, tokens, |tokens| item(alloc, tokens))
 }
 
 // Any number of columns, each behind a comma.
@@ -105,12 +93,7 @@ fn some_items(alloc: Global, tokens: &mut Tokens<'_>) -> Result<List<Item>, Stop
 fn more_items(alloc: Global, tokens: &mut Tokens<'_>) -> Result<List<Item>, Stop>
     ensures { Reads (p.more_items 64 tokens.old) result tokens.new }
 {
-    let mut found = List::new(alloc);
-    'more: while tokens.take_sign(Sign::Comma) {
-        let next = item(alloc, tokens)?;
-        found.push(next)?;
-    }
-    Ok(found)
+    many(alloc, tokens, Sign::Comma, |tokens, _| item(alloc, tokens))
 }
 
 // The columns behind RETURN and its DISTINCT.
@@ -158,14 +141,7 @@ fn sort(alloc: Global, tokens: &mut Tokens<'_>) -> Result<Sort, Stop>
 fn sorts(alloc: Global, tokens: &mut Tokens<'_>) -> Result<List<Sort>, Stop>
     ensures { Reads (p.sorts 64 tokens.old) result tokens.new }
 {
-    let mut found = List::new(alloc);
-    let first = sort(alloc, tokens)?;
-    found.push(first)?;
-    'more: while tokens.take_sign(Sign::Comma) {
-        let next = sort(alloc, tokens)?;
-        found.push(next)?;
-    }
-    Ok(found)
+    listed(alloc, tokens, |tokens| sort(alloc, tokens))
 }
 
 // The sort items behind ORDER BY, if it comes next.

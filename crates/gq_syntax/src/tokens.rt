@@ -7,9 +7,8 @@ ghost use Rattle.gq_syntax.specs.Readers as r;
 ghost use Rattle.gq_syntax.specs.Relations.{span_of};
 ghost use Rattle.gq_syntax.specs.Words as w;
 
-use crate::opening::{TestWord, Tip};
 use crate::words;
-use gq_base::{ArithOp, CompareOp, Literal, Memory, Text};
+use gq_base::{Literal, Memory, Text};
 use gq_lexer::{Sign, Span, Token};
 use std::alloc::AllocError;
 use std::marker::Model;
@@ -164,46 +163,6 @@ impl<'t> Tokens<'t> {
         }
     }
 
-    /// Takes a comparison's sign, if one comes next.
-    pub(crate) fn take_comparison(&mut self) -> Option<CompareOp>
-        ensures taken { result ≡ r.head_by w.comparison self.old }
-        ensures left { self.new ≡ if is_some result then r.tail self.old else self.old }
-    {
-        let op = words::comparison_of(&self.left.first()?.kind)?;
-        self.skip();
-        Some(op)
-    }
-
-    /// Takes `+` or `-`, if one comes next.
-    pub(crate) fn take_addition(&mut self) -> Option<ArithOp>
-        ensures taken { result ≡ r.head_by w.addition self.old }
-        ensures left { self.new ≡ if is_some result then r.tail self.old else self.old }
-    {
-        let op = words::addition_of(&self.left.first()?.kind)?;
-        self.skip();
-        Some(op)
-    }
-
-    /// Takes `*`, `/` or `%`, if one comes next.
-    pub(crate) fn take_multiplication(&mut self) -> Option<ArithOp>
-        ensures taken { result ≡ r.head_by w.multiplication self.old }
-        ensures left { self.new ≡ if is_some result then r.tail self.old else self.old }
-    {
-        let op = words::multiplication_of(&self.left.first()?.kind)?;
-        self.skip();
-        Some(op)
-    }
-
-    /// Takes the first word of a test, if one comes next.
-    pub(crate) fn take_test_word(&mut self) -> Option<TestWord>
-        ensures taken { result ≡ r.head_by w.test_word self.old }
-        ensures left { self.new ≡ if is_some result then r.tail self.old else self.old }
-    {
-        let word = words::test_word_of(&self.left.first()?.kind)?;
-        self.skip();
-        Some(word)
-    }
-
     /// Takes the word that gives a sort item its direction, if one comes next.
     pub(crate) fn take_direction(&mut self) -> Option<bool>
         ensures taken { result ≡ r.head_by w.direction self.old }
@@ -212,16 +171,6 @@ impl<'t> Tokens<'t> {
         let down = words::direction_of(&self.left.first()?.kind)?;
         self.skip();
         Some(down)
-    }
-
-    /// Takes the first sign of a relationship, if one comes next.
-    pub(crate) fn take_tip(&mut self) -> Option<Tip>
-        ensures taken { result ≡ r.head_by w.tip self.old }
-        ensures left { self.new ≡ if is_some result then r.tail self.old else self.old }
-    {
-        let tip = words::tip_of(self.left.first()?)?;
-        self.skip();
-        Some(tip)
     }
 
     /// Takes the integer whose negation is the least of 64 signed bits, if it comes next.
