@@ -9,6 +9,7 @@ mod copying;
 mod counts;
 mod made;
 mod naming;
+mod operands;
 mod parts;
 mod patterns;
 mod renames;
