@@ -10,7 +10,6 @@ mod counts;
 mod made;
 mod naming;
 mod operands;
-mod parts;
 mod patterns;
 mod renames;
 mod resolution;
