@@ -57,7 +57,9 @@ impl<'r, 's> Resolver<'r, 's> {
         ensures { IfOk result (λ e. e ≡ resolved (calls_of self.now.calls) self.now.scope.now tree.now) }
     {
         match &tree.node {
-            AstNode::Literal(literal) => Ok(Some(Expr::Literal(copy_literal(self.alloc, literal)?))),
+            AstNode::Literal(literal) => Ok(Some(Expr::Literal(copy_literal(
+                self.alloc, literal,
+            )?))),
             AstNode::Variable(name) => self.scope.bare(self.alloc, copying, name),
             AstNode::Property(name, key) => self.scope.property(self.alloc, name, key),
             AstNode::Call(name, all) => match self.all(copying, all.as_slice())? {
