@@ -1,12 +1,10 @@
-pub mod MadeLemmas
 pub mod NamingLemmas
 pub mod RangeLemmas
 pub mod RenameLemmas
 pub mod Resolved
-pub mod SameEquations
-pub mod SameLemmas
 pub mod ScopeLemmas
 pub mod SliceLemmas
 pub mod SourceLemmas
 pub mod Splits
 pub mod UseLemmas
+pub mod Walks

@@ -13,8 +13,3 @@ read_there text bytes read span is found whole = let there = found ∙ ap text_o
 pub never_none : {E : Type 0} (r : Result (List ℕ) E) (text : List ℕ) (span : Span) → None ≡ text_of (source_text text span) → IfOk r (λ t. IsWhole text span → t ≡ source_text text span)
 never_none (Err e) text span none = tt
 never_none (Ok t) text span none = λ whole. let there = none ∙ text_of-text (source_text text span) whole.utf8 in cc
-
--- what holds of a value gives what else does
-pub weaker : {A E : Type 0} (r : Result A E) (P Q : A → Type 0) → ((a : A) → P a → Q a) → IfOk r P → IfOk r Q
-weaker (Ok a) P Q k h = k a h
-weaker (Err e) P Q k h = tt

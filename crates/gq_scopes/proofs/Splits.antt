@@ -1,7 +1,9 @@
 -- The equation of the conjuncts of a condition, with a tree opened by one level; a condition that is split stands for
 -- what the tree stands for.
-use Rattle.std.proofs.Common.{◌≡◌, ◌∙◌, ℕ, suc, ◌+◌, ◌<◌, length, drop, get_or, drop-cons, add-one, sym, ap, ap₂, refl, subst, List, [], ◌∷◌, ◌++◌, map, flat_map, append-nil, Option, Some, None}
+use Rattle.std.proofs.Common.{◌≡◌, ◌∙◌, ℕ, suc, ◌+◌, ◌<◌, length, drop, get_or, drop-cons, add-one, sym, ap, refl, subst, List, [], ◌∷◌, ◌++◌, map, flat_map, append-nil, Option, Some, None}
 use Rattle.std.proofs.lemmas.List.{map-append}
+use Rattle.std.proofs.lemmas.List.Folds.{flat_map-map}
+use mathlib.Core.Former.{map-map}
 use Rattle.gq_base.proofs.ListLaws.{prepend, prepend-first}
 use Rattle.gq_expr.specs.declared.Expr.{Expr}
 use Rattle.gq_plan.specs.declared.NamedExpr.{NamedExpr}
@@ -9,10 +11,6 @@ use Rattle.gq_syntax.specs.declared.Ast.{Ast, Ast-F, out-Ast, roll-Ast, map-Ast,
 use Rattle.gq_syntax.specs.declared.expression.Ast.TheShapes.{former-Ast-node as parts}
 use Rattle.gq_syntax.specs.declared.AstNode.{AstNode}
 use Rattle.gq_syntax.specs.declared.AstNode.TheVariants as ast
-use Rattle.gq_syntax.specs.declared.Term.{Term}
-use Rattle.gq_syntax.specs.declared.Tester.{Tester as Tested}
-use Rattle.gq_syntax.specs.declared.Tester.TheVariants as tested
-use Rattle.gq_scopes.proofs.Resolved.{tests_of}
 use Rattle.gq_scopes.specs.Conjuncts.{conjunct_expr, conjuncts_in, listed_behind, whole_conjunct}
 use Rattle.gq_scopes.specs.Resolving.{Calls, Conjunct, Split, functions, resolved, resolve_step, split, split_node, split_step, all_some}
 use Rattle.gq_scopes.specs.Scopes.{Scope}
@@ -27,51 +25,16 @@ module _ (calls : Calls) (s : Scope) where
   abbrev whole_of : Split → Option Expr
   whole_of part = part.expr
 
-  same_parts : (qs : List Part) → map whole_of (map (split calls s) (map (λ q. q.0) qs)) ≡ map (resolved calls s) (map (λ q. q.0) qs)
-  same_parts [] = refl
-  same_parts (q ∷ qs) = ap₂ ◌∷◌ q.1 (same_parts qs)
-
-  abbrev term_map : {A B O : Type 0} → (A → B) → Term O A → Term O B
-  term_map f t = record { op = t.op; tree = f t.tree }
-
-  same_terms : {O : Type 0} (ts : List (Term O Part)) → map (term_map whole_of) (map (term_map (split calls s)) (map (term_map (λ q. q.0)) ts)) ≡ map (term_map (resolved calls s)) (map (term_map (λ q. q.0)) ts)
-  same_terms [] = refl
-  same_terms (t ∷ ts) = ap₂ ◌∷◌ (ap (λ e. record { op = t.op; tree = e }) t.tree.1) (same_terms ts)
-
   abbrev seen : AstNode Part → AstNode Ast
   seen n = parts.map Part Ast (λ q. q.0) n
 
-  abbrev by_split : AstNode Part → AstNode (Option Expr)
-  by_split n = parts.map Split (Option Expr) whole_of (parts.map Ast Split (split calls s) (seen n))
-
-  abbrev by_tree : AstNode Part → AstNode (Option Expr)
-  by_tree n = parts.map Ast (Option Expr) (resolved calls s) (seen n)
-
-  same_tests : (q : Part) (ts : List (Tested Part)) → tests_of (by_split (ast.Test q ts)) ≡ tests_of (by_tree (ast.Test q ts))
-  same_tests q [] = refl
-  same_tests q (tested.IsNull ∷ ts) = ap (λ r. tested.IsNull ∷ r) (same_tests q ts)
-  same_tests q (tested.IsNotNull ∷ ts) = ap (λ r. tested.IsNotNull ∷ r) (same_tests q ts)
-  same_tests q (tested.Member ls ∷ ts) = ap (λ r. tested.Member ls ∷ r) (same_tests q ts)
-  same_tests q (tested.Starts p ∷ ts) = ap₂ (λ e r. tested.Starts e ∷ r) p.1 (same_tests q ts)
-  same_tests q (tested.Ends p ∷ ts) = ap₂ (λ e r. tested.Ends e ∷ r) p.1 (same_tests q ts)
-  same_tests q (tested.Contains p ∷ ts) = ap₂ (λ e r. tested.Contains e ∷ r) p.1 (same_tests q ts)
-
-  level : (n : AstNode Part) → by_split n ≡ by_tree n
-  level (ast.Literal l) = refl
-  level (ast.Variable name) = refl
-  level (ast.Property name key) = refl
-  level (ast.Call name qs) = ap (ast.Call name) (same_parts qs)
-  level (ast.Paren q) = ap ast.Paren q.1
-  level (ast.Negate q) = ap ast.Negate q.1
-  level (ast.Plus q) = ap ast.Plus q.1
-  level (ast.Not q) = ap ast.Not q.1
-  level (ast.Or qs) = ap ast.Or (same_parts qs)
-  level (ast.Xor qs) = ap ast.Xor (same_parts qs)
-  level (ast.And qs) = ap ast.And (same_parts qs)
-  level (ast.Compare q ts) = ap₂ ast.Compare q.1 (same_terms ts)
-  level (ast.Test q ts) = ap₂ ast.Test q.1 (same_tests q ts)
-  level (ast.Sum q ts) = ap₂ ast.Sum q.1 (same_terms ts)
-  level (ast.Product q ts) = ap₂ ast.Product q.1 (same_terms ts)
+  level : (n : AstNode Part) → parts.map Split (Option Expr) whole_of (parts.map Ast Split (split calls s) (seen n)) ≡ parts.map Ast (Option Expr) (resolved calls s) (seen n)
+  level n =
+      let each : ◌≡◌ {A = Part → Option Expr} (λ q. whole_of (split calls s q.0)) (λ q. resolved calls s q.0) = λ i. λ q. q.1 i in
+      map-map parts Ast Split (Option Expr) (split calls s) whole_of (seen n)
+      ∙ map-map parts Part Ast (Option Expr) (λ q. q.0) (λ t. whole_of (split calls s t)) n
+      ∙ ap (λ (f : Part → Option Expr). parts.map Part (Option Expr) f n) each
+      ∙ sym (map-map parts Part Ast (Option Expr) (λ q. q.0) (resolved calls s) n)
 
   split_roll : (x : Ast-F Ast) → split calls s (roll-Ast x) ≡ split_step calls s (parts.map Ast Split (split calls s) x.node) x.span
   unfolding split
@@ -96,26 +59,9 @@ module _ (calls : Calls) (s : Scope) where
   opened (ast.Paren t) whole = (split calls s t).conjuncts
   opened node whole = whole ∷ []
 
-  members : (ts : List Ast) → flat_map (λ part. part.conjuncts) (map (split calls s) ts) ≡ flat_map (λ t. (split calls s t).conjuncts) ts
-  members [] = refl
-  members (t ∷ ts) = ap (λ cs. (split calls s t).conjuncts ++ cs) (members ts)
-
   opens : (n : AstNode Ast) (whole : Conjunct) → split_node (parts.map Ast Split (split calls s) n) whole ≡ opened n whole
-  opens (ast.Literal l) whole = refl
-  opens (ast.Variable name) whole = refl
-  opens (ast.Property name key) whole = refl
-  opens (ast.Call name ts) whole = refl
-  opens (ast.Paren t) whole = refl
-  opens (ast.Negate t) whole = refl
-  opens (ast.Plus t) whole = refl
-  opens (ast.Not t) whole = refl
-  opens (ast.Or ts) whole = refl
-  opens (ast.Xor ts) whole = refl
-  opens (ast.And ts) whole = members ts
-  opens (ast.Compare t ts) whole = refl
-  opens (ast.Test t ts) whole = refl
-  opens (ast.Sum t ts) whole = refl
-  opens (ast.Product t ts) whole = refl
+  opens (ast.And ts) whole = flat_map-map (λ part. part.conjuncts) (split calls s) ts
+  opens n whole = refl
 
   split_at : (t : Ast) → split calls s t ≡ split_step calls s (parts.map Ast Split (split calls s) (out-Ast t).node) (out-Ast t).span
   unfolding split

@@ -1,6 +1,7 @@
 pub mod Checks
 pub mod Conjuncts
 pub mod MadeOf
+pub mod Operands
 pub mod Patterns
 pub mod Renames
 pub mod Resolving

@@ -7,18 +7,22 @@ use Rattle.gq_base.specs.Values.{literal_val, order_vals}
 use Rattle.gq_base.specs.declared.Literal.{Literal}
 use Rattle.gq_base.specs.declared.ArithOp.{ArithOp}
 use Rattle.gq_base.specs.declared.ArithOp.TheVariants as arith
-use Rattle.gq_expr.specs.declared.Bound.{Bound}
 use Rattle.gq_base.specs.declared.CompareOp.{CompareOp}
 use Rattle.gq_base.specs.declared.CompareOp.TheVariants as compare
-use Rattle.gq_expr.specs.declared.Expr.{Expr, Expr-F, out-Expr, map-Expr, fold-Expr}
+use Rattle.gq_expr.specs.declared.Bound.{Bound}
+use Rattle.gq_expr.specs.declared.Expr.{Expr, Expr-F, out-Expr}
 use Rattle.gq_expr.specs.declared.Expr.TheVariants as expr
 use Rattle.gq_expr.specs.declared.Tester.{Tester}
 use Rattle.gq_expr.specs.declared.Tester.TheVariants as tester
+use Rattle.gq_scopes.specs.Operands.{places, walk}
 use Rattle.gq_scopes.specs.declared.scope.Column.{Column}
 
 -- literals are the same where their values are, and null is the same as null
 abbrev pub same_literal : Literal → Literal → Bool
 same_literal l m = is_eq (order_vals (literal_val l) (literal_val m))
+
+abbrev pub same_literals : List Literal → List Literal → Bool
+same_literals ls ms = pointwise same_literal ls ms
 
 abbrev pub compare_rank : CompareOp → ℕ
 compare_rank compare.Equal = 0
@@ -35,118 +39,74 @@ arith_rank arith.Multiply = 2
 arith_rank arith.Divide = 3
 arith_rank arith.Remainder = 4
 
--- a test of another expression, for one that is compared with it
-abbrev pub Test : Type 0
-Test = Expr → Bool
+abbrev pub same_compare : Bound CompareOp Expr → Bound CompareOp Expr → Bool
+same_compare t u = nat_eq (compare_rank t.op) (compare_rank u.op)
 
--- the lists agree item by item
-abbrev pub each_passes : List Test → List Expr → Bool
-each_passes [] [] = true
-each_passes [] (e ∷ es) = false
-each_passes (t ∷ ts) [] = false
-each_passes (t ∷ ts) (e ∷ es) = t e && each_passes ts es
+abbrev pub same_arith : Bound ArithOp Expr → Bound ArithOp Expr → Bool
+same_arith t u = nat_eq (arith_rank t.op) (arith_rank u.op)
 
-abbrev pub terms_pass : {O : Type 0} → (O → ℕ) → List (Bound O Test) → List (Bound O Expr) → Bool
-terms_pass rank [] [] = true
-terms_pass rank [] (e ∷ es) = false
-terms_pass rank (t ∷ ts) [] = false
-terms_pass rank (t ∷ ts) (e ∷ es) = (nat_eq (rank t.op) (rank e.op) && t.expr e.expr) && terms_pass rank ts es
+-- tests are the same but for their operands
+abbrev pub same_test : Tester Expr → Tester Expr → Bool
+same_test tester.IsNull tester.IsNull = true
+same_test tester.IsNotNull tester.IsNotNull = true
+same_test (tester.Member ls) (tester.Member ms) = same_literals ls ms
+same_test (tester.Starts d) (tester.Starts e) = true
+same_test (tester.Ends d) (tester.Ends e) = true
+same_test (tester.Contains d) (tester.Contains e) = true
+same_test t u = false
 
-abbrev pub same_literals : List Literal → List Literal → Bool
-same_literals ls ms = pointwise same_literal ls ms
+-- two levels are the same but for their operands
+abbrev pub same_head : Expr-F Expr → Expr-F Expr → Bool
+same_head (Expr-F.Literal l) (Expr-F.Literal m) = same_literal l m
+same_head (Expr-F.Node v) (Expr-F.Node w) = nat_eq v w
+same_head (Expr-F.Rel x) (Expr-F.Rel y) = nat_eq x y
+same_head (Expr-F.NodeProperty v k) (Expr-F.NodeProperty w l) = nat_eq v w && pointwise nat_eq k l
+same_head (Expr-F.RelProperty x k) (Expr-F.RelProperty y l) = nat_eq x y && pointwise nat_eq k l
+same_head (Expr-F.TypeName d) (Expr-F.TypeName e) = true
+same_head (Expr-F.Coalesce ds) (Expr-F.Coalesce es) = true
+same_head (Expr-F.Negate d) (Expr-F.Negate e) = true
+same_head (Expr-F.Plus d) (Expr-F.Plus e) = true
+same_head (Expr-F.Not d) (Expr-F.Not e) = true
+same_head (Expr-F.Or ds) (Expr-F.Or es) = true
+same_head (Expr-F.Xor ds) (Expr-F.Xor es) = true
+same_head (Expr-F.And ds) (Expr-F.And es) = true
+same_head (Expr-F.Compare d ts) (Expr-F.Compare e us) = pointwise same_compare ts us
+same_head (Expr-F.Test d ts) (Expr-F.Test e us) = pointwise same_test ts us
+same_head (Expr-F.Arith d ts) (Expr-F.Arith e us) = pointwise same_arith ts us
+same_head d e = false
 
-abbrev pub tester_passes : Tester Test → Tester Expr → Bool
-tester_passes tester.IsNull tester.IsNull = true
-tester_passes tester.IsNotNull tester.IsNotNull = true
-tester_passes (tester.Member ls) (tester.Member ms) = same_literals ls ms
-tester_passes (tester.Starts t) (tester.Starts e) = t e
-tester_passes (tester.Ends t) (tester.Ends e) = t e
-tester_passes (tester.Contains t) (tester.Contains e) = t e
-tester_passes t e = false
+-- an operand passes the test at its place, or there is neither
+abbrev pub agrees : Option (Expr → Bool) → Option Expr → Bool
+agrees None None = true
+agrees (Some test) (Some e) = test e
+agrees test e = false
 
-abbrev pub testers_pass : List (Tester Test) → List (Tester Expr) → Bool
-testers_pass [] [] = true
-testers_pass [] (e ∷ es) = false
-testers_pass (t ∷ ts) [] = false
-testers_pass (t ∷ ts) (e ∷ es) = tester_passes t e && testers_pass ts es
+abbrev pub same_step : Expr → List (Option (Expr → Bool)) → Expr → Bool
+same_step e tests other = same_head (out-Expr e) (out-Expr other) && pointwise agrees tests (places (out-Expr other))
 
--- one level of a comparison
-abbrev pub same_level : Expr-F Test → Expr-F Expr → Bool
-same_level (Expr-F.Literal l) (Expr-F.Literal m) = same_literal l m
-same_level (Expr-F.Node v) (Expr-F.Node w) = nat_eq v w
-same_level (Expr-F.Rel x) (Expr-F.Rel y) = nat_eq x y
-same_level (Expr-F.NodeProperty v k) (Expr-F.NodeProperty w l) = nat_eq v w && pointwise nat_eq k l
-same_level (Expr-F.RelProperty x k) (Expr-F.RelProperty y l) = nat_eq x y && pointwise nat_eq k l
-same_level (Expr-F.TypeName t) (Expr-F.TypeName e) = t e
-same_level (Expr-F.Coalesce ts) (Expr-F.Coalesce es) = each_passes ts es
-same_level (Expr-F.Negate t) (Expr-F.Negate e) = t e
-same_level (Expr-F.Plus t) (Expr-F.Plus e) = t e
-same_level (Expr-F.Not t) (Expr-F.Not e) = t e
-same_level (Expr-F.Or ts) (Expr-F.Or es) = each_passes ts es
-same_level (Expr-F.Xor ts) (Expr-F.Xor es) = each_passes ts es
-same_level (Expr-F.And ts) (Expr-F.And es) = each_passes ts es
-same_level (Expr-F.Compare t ts) (Expr-F.Compare e es) = t e && terms_pass compare_rank ts es
-same_level (Expr-F.Test t ts) (Expr-F.Test e es) = t e && testers_pass ts es
-same_level (Expr-F.Arith t ts) (Expr-F.Arith e es) = t e && terms_pass arith_rank ts es
-same_level t e = false
-
--- two expressions are the same
+-- two expressions are the same: they are but for their operands, and so are these at each place
 unfoldable pub same_expr : Expr → Expr → Bool
-same_expr = fold-Expr Test (λ level other. same_level level (out-Expr other))
+same_expr = walk same_step
 
--- an expression, as it is compared with others, and whether it is made of columns
-pub record Made : Type 0 where
-  pub is : Test
-  pub made : Bool
+-- what an expression is besides its operands is made of columns: a literal is, and so are a property of a variable that
+-- is a column, and what is no variable and no property
+abbrev pub is_made_alone : List Expr → Expr-F Expr → Bool
+is_made_alone columns (Expr-F.Node v) = false
+is_made_alone columns (Expr-F.Rel x) = false
+is_made_alone columns (Expr-F.NodeProperty v k) = list_any (same_expr (expr.Node v)) columns
+is_made_alone columns (Expr-F.RelProperty x k) = list_any (same_expr (expr.Rel x)) columns
+is_made_alone columns level = true
 
-abbrev pub made_term : {O : Type 0} → Bound O Made → Bool
-made_term t = t.expr.made
+abbrev pub if_there : Option Bool → Bool
+if_there None = true
+if_there (Some made) = made
 
-abbrev pub made_tester : Tester Made → Bool
-made_tester tester.IsNull = true
-made_tester tester.IsNotNull = true
-made_tester (tester.Member ls) = true
-made_tester (tester.Starts m) = m.made
-made_tester (tester.Ends m) = m.made
-made_tester (tester.Contains m) = m.made
+abbrev pub made_step : List Expr → Expr → List (Option Bool) → Bool
+made_step columns e parts = list_any (same_expr e) columns || (is_made_alone columns (out-Expr e) && list_all if_there parts)
 
--- made of columns by its parts: a literal, a property of a variable that is a column, or what is no variable and no
--- property and has such parts alone
-abbrev pub made_by_parts : List Expr → Expr-F Made → Bool
-made_by_parts columns (Expr-F.Literal l) = true
-made_by_parts columns (Expr-F.Node v) = false
-made_by_parts columns (Expr-F.Rel x) = false
-made_by_parts columns (Expr-F.NodeProperty v k) = list_any (same_expr (expr.Node v)) columns
-made_by_parts columns (Expr-F.RelProperty x k) = list_any (same_expr (expr.Rel x)) columns
-made_by_parts columns (Expr-F.TypeName m) = m.made
-made_by_parts columns (Expr-F.Coalesce ms) = list_all (λ m. m.made) ms
-made_by_parts columns (Expr-F.Negate m) = m.made
-made_by_parts columns (Expr-F.Plus m) = m.made
-made_by_parts columns (Expr-F.Not m) = m.made
-made_by_parts columns (Expr-F.Or ms) = list_all (λ m. m.made) ms
-made_by_parts columns (Expr-F.Xor ms) = list_all (λ m. m.made) ms
-made_by_parts columns (Expr-F.And ms) = list_all (λ m. m.made) ms
-made_by_parts columns (Expr-F.Compare m ts) = m.made && list_all made_term ts
-made_by_parts columns (Expr-F.Test m ts) = m.made && list_all made_tester ts
-made_by_parts columns (Expr-F.Arith m ts) = m.made && list_all made_term ts
-
-abbrev pub made_level : List Expr → Expr-F Made → Made
-made_level columns level =
-    let same : Test = λ other. same_level (map-Expr Made Test (λ m. m.is) level) (out-Expr other) in
-    record { is = same; made = list_any same columns || made_by_parts columns level }
-
--- an expression is made of columns: it is one, or by its parts
+-- an expression is made of columns: it is one, or it is made of them besides its operands, and each operand is
 unfoldable pub is_made_of : List Expr → Expr → Bool
-is_made_of columns e = (fold-Expr Made (made_level columns) e).made
-
--- the same of a test's operand, if it has one
-abbrev pub tester_is_made_of : List Expr → Tester Expr → Bool
-tester_is_made_of columns tester.IsNull = true
-tester_is_made_of columns tester.IsNotNull = true
-tester_is_made_of columns (tester.Member ls) = true
-tester_is_made_of columns (tester.Starts e) = is_made_of columns e
-tester_is_made_of columns (tester.Ends e) = is_made_of columns e
-tester_is_made_of columns (tester.Contains e) = is_made_of columns e
+is_made_of columns = walk (made_step columns)
 
 abbrev pub where_known : Option Expr → List Expr
 where_known None = []

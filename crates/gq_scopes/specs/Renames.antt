@@ -6,7 +6,7 @@ use Rattle.gq_expr.specs.declared.Expr.{Expr}
 use Rattle.gq_syntax.specs.declared.Ast.{Ast}
 use Rattle.gq_syntax.specs.declared.Item.{Item}
 use Rattle.gq_scopes.specs.MadeOf.{same_expr}
-use Rattle.gq_scopes.specs.Patterns.{Name, is_called}
+use Rattle.gq_scopes.specs.Patterns.{Name}
 use Rattle.gq_scopes.specs.Resolving.{as_lists, resolved, variable}
 use Rattle.gq_scopes.specs.Scopes.{Scope}
 use Rattle.gq_scopes.specs.Uses.{Use, bare, owner, call, is_variable, refused_unless}
@@ -15,16 +15,6 @@ abbrev pub same_known : Option Expr → Option Expr → Bool
 same_known None e = false
 same_known (Some d) None = false
 same_known (Some d) (Some e) = same_expr d e
-
--- AS gives a name to a column that is not the variable of that name
-abbrev pub renames : Scope → Name → Item → Bool
-renames s name item = is_called name item.name && not (same_known (resolved as_lists s item.tree) (variable s name))
-
--- a name in ORDER BY, by itself or with a property, is a variable, and AS gives it to another column
-abbrev pub ambiguous_name : Scope → List Item → Use → Option Name
-ambiguous_name s items (bare name) = refused_unless (not (is_variable s name && list_any (renames s name) items)) name
-ambiguous_name s items (owner name) = refused_unless (not (is_variable s name && list_any (renames s name) items)) name
-ambiguous_name s items (call name arguments) = None
 
 -- a name is a variable, and a tree does not stand for it
 abbrev pub gives_away : Scope → Ast → Name → Bool
@@ -46,3 +36,7 @@ abbrev pub renamed_name : List Name → Use → Option Name
 renamed_name names (bare name) = refused_unless (not (is_among names name)) name
 renamed_name names (owner name) = refused_unless (not (is_among names name)) name
 renamed_name names (call name arguments) = None
+
+-- a name in ORDER BY, by itself or with a property, is a variable, and AS gives it to another column
+abbrev pub ambiguous_name : Scope → List Item → Use → Option Name
+ambiguous_name s items = renamed_name (renamed_names s items)

@@ -1,7 +1,7 @@
 //! How much one statement may copy.
 ghost use Rattle.std.specs.Prelude.{◌≡◌, ◌+◌, ◌<◌, ◌≤◌, OnOk};
 
-use gq_base::{Literal, Memory, Text};
+use gq_base::{Literal, Memory};
 use gq_expr::Expr;
 use std::marker::Model;
 
@@ -36,11 +36,12 @@ impl Copying {
     pub fn take_part(&mut self, expr: &Expr) -> Result<(), Memory>
         ensures { OnOk result (self.new < self.old) }
     {
+        self.take(1)?;
         match expr {
-            Expr::Literal(literal) => self.take_literal(literal),
-            Expr::NodeProperty(_, name) => self.take_text(name),
-            Expr::RelProperty(_, name) => self.take_text(name),
-            _ => self.take(1),
+            Expr::Literal(literal) => self.take_text(literal),
+            Expr::NodeProperty(_, name) => self.take(name.as_str().len()),
+            Expr::RelProperty(_, name) => self.take(name.as_str().len()),
+            _ => Ok(()),
         }
     }
 
@@ -49,25 +50,19 @@ impl Copying {
         ensures { OnOk result (self.new ≤ self.old) }
     {
         for literal in literals {
-            self.take_literal(literal)?;
+            self.take(1)?;
+            self.take_text(literal)?;
         }
         Ok(())
     }
 
-    fn take_literal(&mut self, literal: &Literal) -> Result<(), Memory>
-        ensures { OnOk result (self.new < self.old) }
+    fn take_text(&mut self, literal: &Literal) -> Result<(), Memory>
+        ensures { OnOk result (self.new ≤ self.old) }
     {
         match literal {
-            Literal::Str(text) => self.take_text(text),
-            _ => self.take(1),
+            Literal::Str(text) => self.take(text.as_str().len()),
+            _ => Ok(()),
         }
-    }
-
-    fn take_text(&mut self, text: &Text) -> Result<(), Memory>
-        ensures { OnOk result (self.new < self.old) }
-    {
-        self.take(1)?;
-        self.take(text.as_str().len())
     }
 
     fn take(&mut self, parts: usize) -> Result<(), Memory>

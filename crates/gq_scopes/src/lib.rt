@@ -9,7 +9,7 @@ mod copying;
 mod counts;
 mod made;
 mod naming;
-mod parts;
+mod operands;
 mod patterns;
 mod renames;
 mod resolution;

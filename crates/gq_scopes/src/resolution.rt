@@ -6,10 +6,6 @@ ghost use Rattle.gq_scopes.specs.Trees.{term_with, tester_with};
 use crate::calls::{CallForm, call};
 use crate::copies::{copy_literal, copy_literals};
 use crate::copying::Copying;
-use crate::parts::{
-    all_of, any_of, compared, computed, contains, denied, ends, negated, one_of, starts, tested,
-    with_plus,
-};
 use crate::scope::Scope;
 use gq_base::{Boxed, List, Memory};
 use gq_expr::{Bound, BoundArith, BoundCompare, BoundTester, Expr, Tester};
@@ -29,8 +25,6 @@ pub fn resolve(
 }
 
 /// The same, out of what may still be copied: each bare name that is a column copies the column's expression.
-#[cycle(resolve_part)]
-#[tactic(auto, using(crate::proofs::Resolved::resolved_out))]
 pub fn resolve_part(
     alloc: Global,
     copying: &mut Copying,
@@ -40,177 +34,168 @@ pub fn resolve_part(
 ) -> Result<Option<Expr>, Memory>
     ensures { IfOk result (λ e. e ≡ resolved (calls_of calls) scope.now tree.now) }
 {
-    match &tree.node {
-        AstNode::Literal(literal) => Ok(Some(Expr::Literal(copy_literal(alloc, literal)?))),
-        AstNode::Variable(name) => scope.bare(alloc, copying, name),
-        AstNode::Property(name, key) => scope.property(alloc, name, key),
-        AstNode::Call(name, all) => match resolve_all(
-            alloc,
-            copying,
-            calls,
-            scope,
-            all.as_slice(),
-        )? {
-            Some(all) => call(alloc, calls, name, all),
-            None => Ok(None),
-        },
-        AstNode::Paren(inner) => resolve_part(alloc, copying, calls, scope, inner.get()),
-        AstNode::Negate(inner) => Ok(negated(resolve_boxed(
-            alloc,
-            copying,
-            calls,
-            scope,
-            inner.get(),
-        )?)),
-        AstNode::Plus(inner) => Ok(with_plus(resolve_boxed(
-            alloc,
-            copying,
-            calls,
-            scope,
-            inner.get(),
-        )?)),
-        AstNode::Not(inner) => Ok(denied(resolve_boxed(
-            alloc,
-            copying,
-            calls,
-            scope,
-            inner.get(),
-        )?)),
-        AstNode::Or(all) => Ok(any_of(resolve_all(alloc, copying, calls, scope, all.as_slice())?)),
-        AstNode::Xor(all) => Ok(one_of(resolve_all(alloc, copying, calls, scope, all.as_slice())?)),
-        AstNode::And(all) => Ok(all_of(resolve_all(alloc, copying, calls, scope, all.as_slice())?)),
-        AstNode::Compare(first, terms) => {
-            let first = resolve_boxed(alloc, copying, calls, scope, first.get())?;
-            let terms = resolve_compares(alloc, copying, calls, scope, terms.as_slice())?;
-            Ok(compared(first, terms))
-        }
-        AstNode::Test(first, testers) => {
-            let first = resolve_boxed(alloc, copying, calls, scope, first.get())?;
-            let testers = resolve_testers(alloc, copying, calls, scope, testers.as_slice())?;
-            Ok(tested(first, testers))
-        }
-        AstNode::Sum(first, terms) => {
-            let first = resolve_boxed(alloc, copying, calls, scope, first.get())?;
-            let terms = resolve_ariths(alloc, copying, calls, scope, terms.as_slice())?;
-            Ok(computed(first, terms))
-        }
-        AstNode::Product(first, terms) => {
-            let first = resolve_boxed(alloc, copying, calls, scope, first.get())?;
-            let terms = resolve_ariths(alloc, copying, calls, scope, terms.as_slice())?;
-            Ok(computed(first, terms))
-        }
-    }
+    let resolver = Resolver {
+        alloc,
+        calls,
+        scope,
+    };
+    resolver.part(copying, tree)
 }
 
-#[cycle(resolve_part)]
-fn resolve_boxed(
+// What the trees of a statement are resolved with.
+#[derive(Clone, Copy)]
+struct Resolver<'r, 's> {
     alloc: Global,
-    copying: &mut Copying,
     calls: CallForm,
-    scope: &Scope<'_>,
-    tree: &Ast,
-) -> Result<Option<Boxed<Expr>>, Memory>
-    ensures { IfOk result (λ e. e ≡ resolved (calls_of calls) scope.now tree.now) }
-{
-    match resolve_part(alloc, copying, calls, scope, tree)? {
-        Some(expr) => Ok(Some(Boxed::new(alloc, expr)?)),
-        None => Ok(None),
-    }
+    scope: &'r Scope<'s>,
 }
 
-#[cycle(resolve_part)]
-#[tactic(auto, using(crate::proofs::Resolved::gathering))]
-fn resolve_all(
-    alloc: Global,
-    copying: &mut Copying,
-    calls: CallForm,
-    scope: &Scope<'_>,
-    trees: &[Ast],
-) -> Result<Option<List<Expr>>, Memory>
-    ensures { IfOk result (λ es. es ≡ all_some (map (resolved (calls_of calls) scope.now) trees.now)) }
-{
-    let mut all = List::new(alloc);
-    for tree in trees {
-        match resolve_part(alloc, copying, calls, scope, tree)? {
-            Some(expr) => all.push(expr)?,
-            None => return Ok(None),
-        }
-    }
-    Ok(Some(all))
-}
-
-#[cycle(resolve_part)]
-#[tactic(auto, using(crate::proofs::Resolved::gathering))]
-fn resolve_compares(
-    alloc: Global,
-    copying: &mut Copying,
-    calls: CallForm,
-    scope: &Scope<'_>,
-    terms: &[CompareTerm],
-) -> Result<Option<List<BoundCompare>>, Memory>
-    ensures { let go = resolved (calls_of calls) scope.now in
-        IfOk result (λ ts. ts ≡ all_some (map bound_term (map (term_with go) terms.now))) }
-{
-    let mut all = List::new(alloc);
-    for term in terms {
-        match resolve_part(alloc, copying, calls, scope, &term.tree)? {
-            Some(expr) => all.push(Bound { op: term.op, expr })?,
-            None => return Ok(None),
-        }
-    }
-    Ok(Some(all))
-}
-
-#[cycle(resolve_part)]
-#[tactic(auto, using(crate::proofs::Resolved::gathering))]
-fn resolve_ariths(
-    alloc: Global,
-    copying: &mut Copying,
-    calls: CallForm,
-    scope: &Scope<'_>,
-    terms: &[ArithTerm],
-) -> Result<Option<List<BoundArith>>, Memory>
-    ensures { let go = resolved (calls_of calls) scope.now in
-        IfOk result (λ ts. ts ≡ all_some (map bound_term (map (term_with go) terms.now))) }
-{
-    let mut all = List::new(alloc);
-    for term in terms {
-        match resolve_part(alloc, copying, calls, scope, &term.tree)? {
-            Some(expr) => all.push(Bound { op: term.op, expr })?,
-            None => return Ok(None),
-        }
-    }
-    Ok(Some(all))
-}
-
-#[cycle(resolve_part)]
-#[tactic(auto, using(crate::proofs::Resolved::gathering))]
-fn resolve_testers(
-    alloc: Global,
-    copying: &mut Copying,
-    calls: CallForm,
-    scope: &Scope<'_>,
-    testers: &[AstTester],
-) -> Result<Option<List<BoundTester>>, Memory>
-    ensures { let go = resolved (calls_of calls) scope.now in
-        IfOk result (λ ts. ts ≡ all_some (map bound_tester (map (tester_with go) testers.now))) }
-{
-    let mut all = List::new(alloc);
-    for tester in testers {
-        let found = match tester {
-            Tested::IsNull => Some(Tester::IsNull),
-            Tested::IsNotNull => Some(Tester::IsNotNull),
-            Tested::Member(literals) => {
-                Some(Tester::Member(copy_literals(alloc, literals.as_slice())?))
+impl<'r, 's> Resolver<'r, 's> {
+    #[cycle(part)]
+    #[tactic(auto, using(crate::proofs::Resolved::resolved_out))]
+    fn part(&self, copying: &mut Copying, tree: &Ast) -> Result<Option<Expr>, Memory>
+        ensures { IfOk result (λ e. e ≡ resolved (calls_of self.now.calls) self.now.scope.now tree.now) }
+    {
+        match &tree.node {
+            AstNode::Literal(literal) => Ok(Some(Expr::Literal(copy_literal(
+                self.alloc, literal,
+            )?))),
+            AstNode::Variable(name) => self.scope.bare(self.alloc, copying, name),
+            AstNode::Property(name, key) => self.scope.property(self.alloc, name, key),
+            AstNode::Call(name, all) => match self.all(copying, all.as_slice())? {
+                Some(all) => call(self.alloc, self.calls, name, all),
+                None => Ok(None),
+            },
+            AstNode::Paren(inner) => self.part(copying, inner.get()),
+            AstNode::Negate(inner) => Ok(self.boxed(copying, inner.get())?.map(Expr::Negate)),
+            AstNode::Plus(inner) => Ok(self.boxed(copying, inner.get())?.map(Expr::Plus)),
+            AstNode::Not(inner) => Ok(self.boxed(copying, inner.get())?.map(Expr::Not)),
+            AstNode::Or(all) => Ok(self.all(copying, all.as_slice())?.map(Expr::Or)),
+            AstNode::Xor(all) => Ok(self.all(copying, all.as_slice())?.map(Expr::Xor)),
+            AstNode::And(all) => Ok(self.all(copying, all.as_slice())?.map(Expr::And)),
+            AstNode::Compare(first, terms) => {
+                let Some(first) = self.boxed(copying, first.get())? else {
+                    return Ok(None);
+                };
+                let Some(terms) = self.compares(copying, terms.as_slice())? else {
+                    return Ok(None);
+                };
+                Ok(Some(Expr::Compare(first, terms)))
             }
-            Tested::Starts(prefix) => starts(resolve_part(alloc, copying, calls, scope, prefix)?),
-            Tested::Ends(suffix) => ends(resolve_part(alloc, copying, calls, scope, suffix)?),
-            Tested::Contains(part) => contains(resolve_part(alloc, copying, calls, scope, part)?),
-        };
-        match found {
-            Some(tester) => all.push(tester)?,
-            None => return Ok(None),
+            AstNode::Test(first, testers) => {
+                let Some(first) = self.boxed(copying, first.get())? else {
+                    return Ok(None);
+                };
+                let Some(testers) = self.testers(copying, testers.as_slice())? else {
+                    return Ok(None);
+                };
+                Ok(Some(Expr::Test(first, testers)))
+            }
+            AstNode::Sum(first, terms) | AstNode::Product(first, terms) => {
+                let Some(first) = self.boxed(copying, first.get())? else {
+                    return Ok(None);
+                };
+                let Some(terms) = self.ariths(copying, terms.as_slice())? else {
+                    return Ok(None);
+                };
+                Ok(Some(Expr::Arith(first, terms)))
+            }
         }
     }
-    Ok(Some(all))
+
+    #[cycle(part)]
+    fn boxed(&self, copying: &mut Copying, tree: &Ast) -> Result<Option<Boxed<Expr>>, Memory>
+        ensures { IfOk result (λ e. e ≡ resolved (calls_of self.now.calls) self.now.scope.now tree.now) }
+    {
+        match self.part(copying, tree)? {
+            Some(expr) => Ok(Some(Boxed::new(self.alloc, expr)?)),
+            None => Ok(None),
+        }
+    }
+
+    #[cycle(part)]
+    #[tactic(auto, using(crate::proofs::Resolved::gathering))]
+    fn all(&self, copying: &mut Copying, trees: &[Ast]) -> Result<Option<List<Expr>>, Memory>
+        ensures { let go = resolved (calls_of self.now.calls) self.now.scope.now in
+            IfOk result (λ es. es ≡ all_some (map go trees.now)) }
+    {
+        let mut all = List::new(self.alloc);
+        for tree in trees {
+            match self.part(copying, tree)? {
+                Some(expr) => all.push(expr)?,
+                None => return Ok(None),
+            }
+        }
+        Ok(Some(all))
+    }
+
+    #[cycle(part)]
+    #[tactic(auto, using(crate::proofs::Resolved::gathering))]
+    fn compares(
+        &self,
+        copying: &mut Copying,
+        terms: &[CompareTerm],
+    ) -> Result<Option<List<BoundCompare>>, Memory>
+        ensures { let go = resolved (calls_of self.now.calls) self.now.scope.now in
+            IfOk result (λ ts. ts ≡ all_some (map bound_term (map (term_with go) terms.now))) }
+    {
+        let mut all = List::new(self.alloc);
+        for term in terms {
+            match self.part(copying, &term.tree)? {
+                Some(expr) => all.push(Bound { op: term.op, expr })?,
+                None => return Ok(None),
+            }
+        }
+        Ok(Some(all))
+    }
+
+    #[cycle(part)]
+    #[tactic(auto, using(crate::proofs::Resolved::gathering))]
+    fn ariths(
+        &self,
+        copying: &mut Copying,
+        terms: &[ArithTerm],
+    ) -> Result<Option<List<BoundArith>>, Memory>
+        ensures { let go = resolved (calls_of self.now.calls) self.now.scope.now in
+            IfOk result (λ ts. ts ≡ all_some (map bound_term (map (term_with go) terms.now))) }
+    {
+        let mut all = List::new(self.alloc);
+        for term in terms {
+            match self.part(copying, &term.tree)? {
+                Some(expr) => all.push(Bound { op: term.op, expr })?,
+                None => return Ok(None),
+            }
+        }
+        Ok(Some(all))
+    }
+
+    #[cycle(part)]
+    #[tactic(auto, using(crate::proofs::Resolved::gathering))]
+    fn testers(
+        &self,
+        copying: &mut Copying,
+        testers: &[AstTester],
+    ) -> Result<Option<List<BoundTester>>, Memory>
+        ensures { let go = resolved (calls_of self.now.calls) self.now.scope.now in
+            IfOk result (λ ts. ts ≡ all_some (map bound_tester (map (tester_with go) testers.now))) }
+    {
+        let mut all = List::new(self.alloc);
+        for tester in testers {
+            let found = match tester {
+                Tested::IsNull => Some(Tester::IsNull),
+                Tested::IsNotNull => Some(Tester::IsNotNull),
+                Tested::Member(literals) => {
+                    Some(Tester::Member(copy_literals(self.alloc, literals.as_slice())?))
+                }
+                Tested::Starts(prefix) => self.part(copying, prefix)?.map(Tester::Starts),
+                Tested::Ends(suffix) => self.part(copying, suffix)?.map(Tester::Ends),
+                Tested::Contains(part) => self.part(copying, part)?.map(Tester::Contains),
+            };
+            match found {
+                Some(tester) => all.push(tester)?,
+                None => return Ok(None),
+            }
+        }
+        Ok(Some(all))
+    }
 }

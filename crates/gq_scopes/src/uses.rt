@@ -38,13 +38,13 @@ pub fn first_refused<'t>(check: Check<'_>, scope: &Scope<'_>, tree: &'t Ast) -> 
             Some(name) => Some(name),
             None => first_of_all(check, scope, all.as_slice()),
         },
-        AstNode::Paren(inner) => first_refused(check, scope, inner.get()),
-        AstNode::Negate(inner) => first_refused(check, scope, inner.get()),
-        AstNode::Plus(inner) => first_refused(check, scope, inner.get()),
-        AstNode::Not(inner) => first_refused(check, scope, inner.get()),
-        AstNode::Or(all) => first_of_all(check, scope, all.as_slice()),
-        AstNode::Xor(all) => first_of_all(check, scope, all.as_slice()),
-        AstNode::And(all) => first_of_all(check, scope, all.as_slice()),
+        AstNode::Paren(inner)
+        | AstNode::Negate(inner)
+        | AstNode::Plus(inner)
+        | AstNode::Not(inner) => first_refused(check, scope, inner.get()),
+        AstNode::Or(all) | AstNode::Xor(all) | AstNode::And(all) => {
+            first_of_all(check, scope, all.as_slice())
+        }
         AstNode::Compare(first, terms) => match first_refused(check, scope, first.get()) {
             Some(name) => Some(name),
             None => first_of_compares(check, scope, terms.as_slice()),
@@ -53,14 +53,12 @@ pub fn first_refused<'t>(check: Check<'_>, scope: &Scope<'_>, tree: &'t Ast) -> 
             Some(name) => Some(name),
             None => first_of_testers(check, scope, testers.as_slice()),
         },
-        AstNode::Sum(first, terms) => match first_refused(check, scope, first.get()) {
-            Some(name) => Some(name),
-            None => first_of_ariths(check, scope, terms.as_slice()),
-        },
-        AstNode::Product(first, terms) => match first_refused(check, scope, first.get()) {
-            Some(name) => Some(name),
-            None => first_of_ariths(check, scope, terms.as_slice()),
-        },
+        AstNode::Sum(first, terms) | AstNode::Product(first, terms) => {
+            match first_refused(check, scope, first.get()) {
+                Some(name) => Some(name),
+                None => first_of_ariths(check, scope, terms.as_slice()),
+            }
+        }
     }
 }
 
@@ -118,12 +116,10 @@ fn first_of_testers<'t>(
 {
     for tester in testers {
         let found = match tester {
-            Tester::IsNull => None,
-            Tester::IsNotNull => None,
-            Tester::Member(_) => None,
-            Tester::Starts(prefix) => first_refused(check, scope, prefix),
-            Tester::Ends(suffix) => first_refused(check, scope, suffix),
-            Tester::Contains(part) => first_refused(check, scope, part),
+            Tester::IsNull | Tester::IsNotNull | Tester::Member(_) => None,
+            Tester::Starts(part) | Tester::Ends(part) | Tester::Contains(part) => {
+                first_refused(check, scope, part)
+            }
         };
         if let Some(name) = found {
             return Some(name);

@@ -1,9 +1,9 @@
 use Rattle.std.proofs.Common.{◌∙◌, ap, sym, subst, None, Some}
+use Rattle.std.proofs.lemmas.Result.{IfOk-weaker}
 use Rattle.gq_syntax.specs.Spans.{IsWholeTree}
 use Rattle.gq_syntax.proofs.SpanLemmas.{and_whole, paren_whole, tree_span}
 use Rattle.gq_syntax.specs.declared.AstNode.TheVariants as ast
 use Rattle.gq_scopes.specs.Conjuncts.{listed_behind}
-use Rattle.gq_scopes.proofs.SourceLemmas.{weaker}
 use Rattle.gq_scopes.proofs.Splits.{and_conjuncts, one_more, other_conjuncts, paren_conjuncts}
 use Rattle.gq_scopes.proofs.conjuncts.+with_conjuncts.Goals as goal
 
@@ -23,18 +23,18 @@ pub with_conjuncts-returns-in-And : goal.with_conjuncts-returns-in-And
 with_conjuncts-returns-in-And t c =
     let is = c.in-And.is ∙ ap ast.And (sym c.as_slice.ensures) in
     let same = and_conjuncts c.args.scope.now c.args.tree.now c.as_slice.result.now is in
-    weaker c.with_all_conjuncts.result _ _
+    IfOk-weaker c.with_all_conjuncts.result _ _
     (λ cs k whole. k (and_whole c.args.text.now c.args.tree.now c.as_slice.result.now is whole) ∙ ap (listed_behind c.args.before c.args.text.now) (sym same)) c.with_all_conjuncts.ensures
 
 pub with_conjuncts-returns-in-Paren : goal.with_conjuncts-returns-in-Paren
 with_conjuncts-returns-in-Paren t c =
     let is = c.in-Paren.is ∙ ap ast.Paren (sym c.get.ensures) in
     let same = paren_conjuncts c.args.scope.now c.args.tree.now c.get.result.now is in
-    weaker c.with_conjuncts.result _ _
+    IfOk-weaker c.with_conjuncts.result _ _
     (λ cs k whole. k (paren_whole c.args.text.now c.args.tree.now c.get.result.now is whole) ∙ ap (listed_behind c.args.before c.args.text.now) (sym same)) c.with_conjuncts.ensures
 
 pub with_conjuncts-returns-in_default : goal.with_conjuncts-returns-in_default
 with_conjuncts-returns-in_default t c =
     let same = other_conjuncts c.args.scope.now c.args.tree.now c.in_default.not-And c.in_default.not-Paren in
-    weaker c.with_whole.result _ _
+    IfOk-weaker c.with_whole.result _ _
     (λ cs k whole. k (tree_span c.args.text.now c.args.tree.now whole) ∙ ap (listed_behind c.args.before c.args.text.now) (sym same)) c.with_whole.ensures

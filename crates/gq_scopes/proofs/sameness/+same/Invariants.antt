@@ -1,19 +1,14 @@
-use Rattle.std.proofs.Common.{◌≡◌, drop, map}
-use Rattle.gq_scopes.specs.MadeOf.{same_expr, each_passes, terms_pass, testers_pass, compare_rank, arith_rank}
-use Rattle.gq_expr.specs.Parts.{bound_with, tester_with}
+use Rattle.std.proofs.Common.{◌≡◌, drop}
+use Rattle.std.specs.Cmp.Lexicographic.{pointwise}
+use Rattle.gq_expr.specs.declared.Expr.{out-Expr}
+use Rattle.gq_scopes.specs.Operands.{places}
+use Rattle.gq_scopes.proofs.Walks.{depth, same_place}
 use Rattle.gq_scopes.proofs.sameness.+same.Given as goal
 
-abbrev pub invariant-all_same-loop-at : goal.invariant-all_same-loop-at
-invariant-all_same-loop-at l = each_passes (map same_expr (drop l.at l.all)) (drop l.at l.others) ≡ each_passes (map same_expr l.all) l.others
+abbrev pub decreases-same : goal.decreases-same
+decreases-same l = depth l.expr.now
 
-abbrev pub invariant-compares_same-loop-at : goal.invariant-compares_same-loop-at
-invariant-compares_same-loop-at l =
-    terms_pass compare_rank (map (bound_with same_expr) (drop l.at l.terms)) (drop l.at l.others) ≡ terms_pass compare_rank (map (bound_with same_expr) l.terms) l.others
-
-abbrev pub invariant-ariths_same-loop-at : goal.invariant-ariths_same-loop-at
-invariant-ariths_same-loop-at l =
-    terms_pass arith_rank (map (bound_with same_expr) (drop l.at l.terms)) (drop l.at l.others) ≡ terms_pass arith_rank (map (bound_with same_expr) l.terms) l.others
-
-abbrev pub invariant-testers_same-loop-at : goal.invariant-testers_same-loop-at
-invariant-testers_same-loop-at l =
-    testers_pass (map (tester_with same_expr) (drop l.at l.testers)) (drop l.at l.others) ≡ testers_pass (map (tester_with same_expr) l.testers) l.others
+abbrev pub invariant-loop-place : goal.invariant-loop-place
+invariant-loop-place l =
+    pointwise same_place (drop l.place (places (out-Expr l.expr))) (drop l.place (places (out-Expr l.other)))
+    ≡ pointwise same_place (places (out-Expr l.expr)) (places (out-Expr l.other))
