@@ -1,11 +1,9 @@
 -- The columns, conjuncts and keys of a query whose names and calls are known stand for expressions.
-use Rattle.std.proofs.Common.{◌≡◌, ◌∙◌, sym, refl, ap, ap₂, subst, ℕ, suc, ◌+◌, nat_eq, Bool, true, false, not, ◌||◌, cond, List, [], ◌∷◌, ◌++◌, map, flat_map, length, Option, Some, None, if◌then◌else◌}
-use Rattle.std.specs.Prelude.{All, nat_lt}
-use Rattle.std.specs.List.{AllByRecursion, position, prefix_len, position_or_len}
+use Rattle.std.proofs.Common.{◌≡◌, ◌∙◌, sym, refl, ap, ap₂, subst, ℕ, suc, Bool, true, false, List, [], ◌∷◌, ◌++◌, map, flat_map, Option, Some, None, if◌then◌else◌}
+use Rattle.std.specs.Prelude.{All, filter_map, unwrap_or}
+use Rattle.std.specs.List.{AllByRecursion, cons_option}
 use Rattle.std.specs.Option.{option_map}
-use Rattle.std.specs.Cmp.Lexicographic.{pointwise}
-use Rattle.std.proofs.lemmas.List.{length-map, map-append}
-use Rattle.std.proofs.lemmas.List.Elements.{All-from_recursion}
+use Rattle.std.proofs.lemmas.List.Elements.{All-from_recursion, filter_map-append}
 use Rattle.gq_base.specs.Lists.{with_first}
 use Rattle.gq_alternatives.proofs.Shapes.{each_left, each_right}
 use Rattle.gq_expr.specs.declared.Expr.{Expr}
@@ -14,9 +12,9 @@ use Rattle.gq_plan.proofs.Each.{each_of, each_map, each_append}
 use Rattle.gq_scopes.proofs.Splits.{split_whole}
 use Rattle.gq_scopes.specs.Conjuncts.{conjunct_expr}
 use Rattle.gq_scopes.specs.Patterns.{Name, Pattern, no_pattern, pattern_of, with_paths}
-use Rattle.gq_scopes.specs.Resolving.{Conjunct, Split, functions, as_lists, resolved, resolve_step, split, split_node, split_step, all_some, find_column}
+use Rattle.gq_scopes.specs.Resolving.{Conjunct, Split, functions, resolved, resolve_step, split, split_node, split_step, all_some}
 use Rattle.gq_scopes.specs.Scopes.{Scope, scope_of}
-use Rattle.gq_scopes.specs.Uses.{Use, bare, owner, call, uses, or_else, first_name, refused_unless, is_there, is_variable, unknown_name, unknown_function, wrong_count}
+use Rattle.gq_scopes.specs.Uses.{Use, uses, or_else, first_name, unknown_name, unknown_function, wrong_count}
 use Rattle.gq_scopes.specs.declared.Column.{Column}
 use Rattle.gq_syntax.specs.declared.AstNode.{AstNode}
 use Rattle.gq_syntax.specs.declared.AstNode.TheVariants as ast
@@ -26,19 +24,12 @@ use Rattle.gq_syntax.specs.declared.Clause.{Clause}
 use Rattle.gq_syntax.specs.declared.Item.{Item}
 use Rattle.gq_syntax.specs.declared.Query.{Query}
 use Rattle.gq_syntax.specs.declared.Sort.{Sort}
-use Rattle.gq_binder.proofs.Known.{IsKnown, IsKnownColumn, mapped, both, refused_use, known_tree}
-use Rattle.gq_binder.specs.Columns.{Scoped, scoped_in, conditions_from, conditions, columns, columns_in, column_of, star_columns, firsts_behind, item_column, item_name, sort_scope, column_expr, sort_expr}
-use Rattle.gq_binder.specs.Conditions.{conjuncts_of}
-use Rattle.gq_binder.specs.Refusals.{first_in, expressions, items_in, sorts_in, sort_trees}
-use Rattle.gq_binder.specs.Verdicts.{IsNamed}
-use Rattle.gq_binder.specs.declared.refusal.BindRefusal.{BindRefusal}
-use Rattle.gq_binder.specs.declared.refusal.BindRefusal.TheVariants as refusal
+use Rattle.gq_binder.proofs.Known.{IsKnown, IsKnownColumn, mapped, refused_use, known_tree}
+use Rattle.gq_binder.specs.Columns.{Scoped, scoped_in, conditions_from, conditions, conjuncts, columns, columns_in, column_of, star_columns, firsts_behind, item_column, sort_scope, column_expr, sort_expr}
+use Rattle.gq_binder.specs.Parts.{known_conjuncts}
+use Rattle.gq_binder.specs.Refusals.{first_in, items_in, sorts_in}
 
 -- ---- what the checks say of each expression
-
-none_of : (f : Name → BindRefusal) (o : Option Name) → option_map f o ≡ None → o ≡ None
-none_of f None e = refl
-none_of f (Some n) e = cc e
 
 first_none : (a b : Option Name) → or_else a b ≡ None → a ≡ None
 first_none None b e = refl
@@ -71,32 +62,44 @@ all_fine (e ∷ es) v f c =
       all_fine es (second_none (first_name (unknown_name e.scope) us) (first_in unknown_name es) v) (second_none (first_name unknown_function us) (first_in (λ _. unknown_function) es) f) (second_none (first_name wrong_count us) (first_in (λ _. wrong_count) es) c),
     )
 
-module _ (query : Query) (text : List ℕ) where
+-- the expressions of a query in text order, with its functions known
+abbrev pub known_expressions : Query → List ℕ → List Scoped
+known_expressions query text = conditions query ++ (items_in (scope_of (pattern_of query.clauses)) query.items ++ sorts_in (sort_scope functions text query) query.order)
+
+-- all names and calls of a query are known
+pub record IsNamed (query : Query) (text : List ℕ) : Type 0 where
+  pub variables : first_in unknown_name (known_expressions query text) ≡ None
+  pub functions : first_in (λ _. unknown_function) (known_expressions query text) ≡ None
+  pub counts : first_in (λ _. wrong_count) (known_expressions query text) ≡ None
+
+module _ (query : Query) (text : List ℕ) (named : IsNamed query text) where
   abbrev items : List Scoped
   items = items_in (scope_of (pattern_of query.clauses)) query.items
 
-  expressions_fine : IsNamed query text → AllByRecursion IsFine (conditions query ++ (items ++ sort_trees text query))
-  unfolding expressions
-  expressions_fine named =
-      all_fine (conditions query ++ (items ++ sort_trees text query))
-      (none_of refusal.UnknownVariable (first_in unknown_name (expressions text query)) named.variables)
-      (none_of refusal.UnknownFunction (first_in (λ _. unknown_function) (expressions text query)) named.functions)
-      (none_of refusal.ArgumentCount (first_in (λ _. wrong_count) (expressions text query)) named.counts)
+  abbrev sorts : List Scoped
+  sorts = sorts_in (sort_scope functions text query) query.order
 
-  conditions_fine : IsNamed query text → AllByRecursion IsFine (conditions query)
-  conditions_fine named = each_left IsFine (conditions query) (items ++ sort_trees text query) (expressions_fine named)
+  expressions_fine : AllByRecursion IsFine (conditions query ++ (items ++ sorts))
+  expressions_fine = all_fine (conditions query ++ (items ++ sorts)) named.variables named.functions named.counts
 
-  items_fine : IsNamed query text → AllByRecursion IsFine items
-  items_fine named = each_left IsFine items (sort_trees text query) (each_right IsFine (conditions query) (items ++ sort_trees text query) (expressions_fine named))
+  conditions_fine : AllByRecursion IsFine (conditions query)
+  conditions_fine = each_left IsFine (conditions query) (items ++ sorts) expressions_fine
 
-  sorts_fine : IsNamed query text → AllByRecursion IsFine (sort_trees text query)
-  sorts_fine named = each_right IsFine items (sort_trees text query) (each_right IsFine (conditions query) (items ++ sort_trees text query) (expressions_fine named))
+  items_fine : AllByRecursion IsFine items
+  items_fine = each_left IsFine items sorts (each_right IsFine (conditions query) (items ++ sorts) expressions_fine)
+
+  sorts_fine : AllByRecursion IsFine sorts
+  sorts_fine = each_right IsFine items sorts (each_right IsFine (conditions query) (items ++ sorts) expressions_fine)
 
 -- ---- lists of known parts
 
-gathered : {A B : Type 0} (f : A → Option B) (xs : List A) → AllByRecursion (λ x. IsKnown (f x)) xs → IsKnown (all_some (map f xs))
-gathered f [] h = tt
-gathered f (x ∷ xs) h = both (f x) (all_some (map f xs)) h.0 (gathered f xs h.1)
+one_there : {B : Type 0} (o : Option B) (r : Option (List B)) (ys : List B) → IsKnown o → r ≡ Some ys → with_first o r ≡ Some (cons_option o ys)
+one_there None r ys h e = absurd h
+one_there (Some y) r ys h e = ap (with_first (Some y)) e
+
+all_there : {A B : Type 0} (f : A → Option B) (xs : List A) → AllByRecursion (λ x. IsKnown (f x)) xs → all_some (map f xs) ≡ Some (filter_map f xs)
+all_there f [] h = refl
+all_there f (x ∷ xs) h = one_there (f x) (all_some (map f xs)) (filter_map f xs) h.0 (all_there f xs h.1)
 
 first_known : {A : Type 0} (o : Option A) (r : Option (List A)) → IsKnown (with_first o r) → IsKnown o
 first_known None r h = h
@@ -135,74 +138,19 @@ named_known : (cs : List Column) → AllByRecursion IsKnownColumn cs → AllByRe
 named_known [] h = tt
 named_known (c ∷ cs) h = (mapped _ c.expr h.0, named_known cs h.1)
 
-there : {A : Type 0} (o : Option A) → IsKnown o → None ≡ o → ⊥
-there None h e = h
-there (Some x) h e = cc e
-
-pub columns_there : (query : Query) (text : List ℕ) → IsNamed query text → None ≡ all_some (map column_expr (columns functions text query)) → ⊥
-columns_there query text named =
-    there (all_some (map column_expr (columns functions text query))) (gathered column_expr (columns functions text query) (named_known (columns functions text query) (each_column query text named)))
+pub columns_there : (query : Query) (text : List ℕ) → IsNamed query text → all_some (map column_expr (columns functions text query)) ≡ Some (filter_map column_expr (columns functions text query))
+columns_there query text named = all_there column_expr (columns functions text query) (named_known (columns functions text query) (each_column query text named))
 
 -- ---- keys
 
-front : {A B : Type 0} (f : A → B) (p : B → Bool) (xs : List A) → prefix_len p (map f xs) ≡ prefix_len (λ x. p (f x)) xs
-front f p [] = refl
-front f p (x ∷ xs) = ap (λ k. cond (p (f x)) (1 + k) 0) (front f p xs)
+sorts_known : (s : Scope) → All IsKnownColumn s.columns → (order : List Sort) → AllByRecursion IsFine (sorts_in s order) → AllByRecursion (λ o. IsKnown (sort_expr s o)) order
+sorts_known s known [] h = tt
+sorts_known s known (o ∷ os) h = (mapped _ (resolved functions s o.tree) (known_tree s known o.tree h.0), sorts_known s known os h.1)
 
-abbrev within : ℕ → ℕ → Option ℕ
-within at n = cond (nat_lt at n) (Some at) None
-
-position_map : {A B : Type 0} (f : A → B) (p : B → Bool) (xs : List A) → position p (map f xs) ≡ position (λ x. p (f x)) xs
-position_map f p xs =
-    ap (λ k. within k (length (map f xs))) (front f (λ b. not (p b)) xs) ∙ ap (within (position_or_len (λ x. p (f x)) xs)) (length-map xs f)
-
-abbrev names_of : List Column → List Name
-names_of cs = map (λ c. c.name) cs
-
-found_by_name : (cs ds : List Column) (name : Name) → names_of cs ≡ names_of ds → find_column cs name ≡ find_column ds name
-found_by_name cs ds name e =
-    let test : Name → Bool = λ n. pointwise nat_eq n name in
-    sym (position_map (λ c. c.name) test cs) ∙ ap (position test) e ∙ position_map (λ c. c.name) test ds
-
-item_names : (text : List ℕ) (s : Scope) (is : List Item) → names_of (map (item_column as_lists text s) is) ≡ names_of (map (item_column functions text s) is)
-item_names text s [] = refl
-item_names text s (i ∷ is) = ap (λ ns. item_name text i ∷ ns) (item_names text s is)
-
-column_names : (query : Query) (text : List ℕ) → names_of (columns as_lists text query) ≡ names_of (columns functions text query)
-unfolding columns_in
-column_names query text =
-    let p : Pattern = pattern_of query.clauses in
-    let star : List Column = if query.star then star_columns p else [] in
-    map-append (λ c. c.name) star (map (item_column as_lists text (scope_of p)) query.items)
-    ∙ ap (λ ns. names_of star ++ ns) (item_names text (scope_of p) query.items)
-    ∙ sym (map-append (λ c. c.name) star (map (item_column functions text (scope_of p)) query.items))
-
-abbrev with_columns : Pattern → List Column → Scope
-with_columns p cs = record (scope_of p) { columns = cs }
-
-refused_same : (p : Pattern) (cs ds : List Column) → names_of cs ≡ names_of ds → (u : Use) → refused_use (with_columns p cs) u ≡ refused_use (with_columns p ds) u
-refused_same p cs ds e (bare name) = ap (λ c. or_else (refused_unless (is_there c || is_variable (scope_of p) name) name) None) (found_by_name cs ds name e)
-refused_same p cs ds e (owner name) = refl
-refused_same p cs ds e (call name n) = refl
-
-first_same : (a b : Use → Option Name) → ((u : Use) → a u ≡ b u) → (us : List Use) → first_name a us ≡ first_name b us
-first_same a b e [] = refl
-first_same a b e (u ∷ us) = ap₂ or_else (e u) (first_same a b e us)
-
-sorts_known : (p : Pattern) (cs ds : List Column) → names_of cs ≡ names_of ds → All IsKnownColumn ds → (order : List Sort) → AllByRecursion IsFine (sorts_in (with_columns p cs) order)
-    → AllByRecursion (λ o. IsKnown (sort_expr (with_columns p ds) o)) order
-sorts_known p cs ds e known [] h = tt
-sorts_known p cs ds e known (o ∷ os) h = (
-  mapped _ (resolved functions (with_columns p ds) o.tree) (known_tree (with_columns p ds) known o.tree (sym (first_same (refused_use (with_columns p cs)) (refused_use (with_columns p ds)) (refused_same p cs ds e) (uses o.tree)) ∙ h.0)),
-  sorts_known p cs ds e known os h.1,
-)
-
-pub keys_there : (query : Query) (text : List ℕ) → IsNamed query text → None ≡ all_some (map (sort_expr (sort_scope functions text query)) query.order) → ⊥
+pub keys_there : (query : Query) (text : List ℕ) → IsNamed query text → all_some (map (sort_expr (sort_scope functions text query)) query.order) ≡ Some (filter_map (sort_expr (sort_scope functions text query)) query.order)
 keys_there query text named =
-    there (all_some (map (sort_expr (sort_scope functions text query)) query.order))
-    (gathered (sort_expr (sort_scope functions text query)) query.order
-    (sorts_known (pattern_of query.clauses) (columns as_lists text query) (columns functions text query) (column_names query text)
-    (All-from_recursion IsKnownColumn (columns functions text query) (each_column query text named)) query.order (sorts_fine query text named)))
+    all_there (sort_expr (sort_scope functions text query)) query.order
+    (sorts_known (sort_scope functions text query) (All-from_recursion IsKnownColumn (columns functions text query) (each_column query text named)) query.order (sorts_fine query text named))
 
 -- ---- conjuncts
 
@@ -289,14 +237,29 @@ placed number p (c ∷ cs) =
     let q : Pattern = with_paths number c.paths p in
     each_append IsPlaced (scoped_in (scope_of q) c.filter) (conditions_from (suc number) q cs) (placed_one q c.filter) (placed (suc number) q cs)
 
-each_conjunct : (cs : List Scoped) → AllByRecursion IsFine cs → AllByRecursion IsPlaced cs → AllByRecursion IsKnownConjunct (conjuncts_of cs)
-each_conjunct [] h k = tt
-each_conjunct (c ∷ cs) h k =
-    each_append IsKnownConjunct (split functions c.scope c.tree).conjuncts (conjuncts_of cs)
-    (split_known c.scope c.tree (known_tree c.scope k.0 c.tree h.0)) (each_conjunct cs h.1 k.1)
+abbrev split_of : Scoped → List Conjunct
+split_of c = (split functions c.scope c.tree).conjuncts
 
-pub conjuncts_there : (query : Query) (text : List ℕ) → IsNamed query text → None ≡ all_some (map (conjunct_expr text) (conjuncts_of (conditions query))) → ⊥
+-- each conjunct of a condition stands for an expression
+abbrev IsSplitKnown : List ℕ → Scoped → Type 0
+IsSplitKnown text c = AllByRecursion (λ k. IsKnown (conjunct_expr text k)) (split_of c)
+
+each_condition : (text : List ℕ) (cs : List Scoped) → AllByRecursion IsFine cs → AllByRecursion IsPlaced cs → AllByRecursion (IsSplitKnown text) cs
+each_condition text [] h k = tt
+each_condition text (c ∷ cs) h k = (named_conjuncts text (split_of c) (split_known c.scope c.tree (known_tree c.scope k.0 c.tree h.0)), each_condition text cs h.1 k.1)
+
+each_conjunct : (text : List ℕ) (cs : List Scoped) → AllByRecursion (IsSplitKnown text) cs → AllByRecursion (λ k. IsKnown (conjunct_expr text k)) (flat_map split_of cs)
+each_conjunct text [] h = tt
+each_conjunct text (c ∷ cs) h = each_append (λ k. IsKnown (conjunct_expr text k)) (split_of c) (flat_map split_of cs) h.0 (each_conjunct text cs h.1)
+
+listed : (text : List ℕ) (cs : List Scoped) → AllByRecursion (IsSplitKnown text) cs → filter_map (conjunct_expr text) (flat_map split_of cs) ≡ known_conjuncts text cs
+listed text [] h = refl
+listed text (c ∷ cs) h =
+    filter_map-append (conjunct_expr text) (split_of c) (flat_map split_of cs)
+    ∙ ap₂ ◌++◌ (sym (ap (λ o. unwrap_or o []) (all_there (conjunct_expr text) (split_of c) h.0))) (listed text cs h.1)
+
+pub conjuncts_there : (query : Query) (text : List ℕ) → IsNamed query text → all_some (map (conjunct_expr text) (conjuncts query)) ≡ Some (known_conjuncts text (conditions query))
+unfolding conjuncts
 conjuncts_there query text named =
-    there (all_some (map (conjunct_expr text) (conjuncts_of (conditions query))))
-    (gathered (conjunct_expr text) (conjuncts_of (conditions query))
-    (named_conjuncts text (conjuncts_of (conditions query)) (each_conjunct (conditions query) (conditions_fine query text named) (placed 0 no_pattern query.clauses))))
+    let each = each_condition text (conditions query) (conditions_fine query text named) (placed 0 no_pattern query.clauses) in
+    all_there (conjunct_expr text) (flat_map split_of (conditions query)) (each_conjunct text (conditions query) each) ∙ ap Some (listed text (conditions query) each)

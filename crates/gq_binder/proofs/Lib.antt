@@ -1,10 +1,11 @@
 pub mod Accepted
-pub mod ConditionLemmas
+pub mod Checked
+pub mod ColumnNames
 pub mod Known
 pub mod MetLemmas
 pub mod NameLemmas
+pub mod PartLemmas
 pub mod Patterns
-pub mod Named
 pub mod ReadingLemmas
 pub mod RefusalLemmas
 mod WorkedRefusals

@@ -1,9 +1,10 @@
 -- What stands behind what, item by item, beside the names that were met.
-use Rattle.std.proofs.Common.{◌≡◌, ◌∙◌, ℕ, ◌+◌, ◌<◌, ◌≤◌, Bool, true, false, cond, not, Option, Some, None, List, [], ◌∷◌, ◌++◌, length, map, filter, take, drop, get_or, nat_eq, refl, sym, ap, ap₂, append-nil, append_assoc}
+use Rattle.std.proofs.Common.{◌≡◌, ◌∙◌, ℕ, ◌+◌, ◌<◌, Bool, true, false, cond, not, Option, Some, None, List, [], ◌∷◌, ◌++◌, length, map, filter, take, drop, get_or, nat_eq, refl, sym, ap, ap₂, append-nil, append_assoc}
 use Rattle.std.specs.Prelude.{◌&&◌, ◌||◌}
 use Rattle.std.specs.List.{list_any}
+use Rattle.std.specs.Option.{option_map}
 use Rattle.std.specs.Cmp.Lexicographic.{pointwise}
-use Rattle.std.proofs.lemmas.List.{drop_all, drop_more, take_more, map-append}
+use Rattle.std.proofs.lemmas.List.{drop_more, take_more, map-append}
 use Rattle.std.proofs.lemmas.List.Elements.{filter-append}
 use Rattle.gq_scopes.specs.Patterns.{NamedVariable}
 use Rattle.gq_plan.specs.Reads.{Variable, node, rel}
@@ -13,6 +14,7 @@ use Rattle.gq_binder.specs.Columns.{firsts_behind, if_first}
 use Rattle.gq_scopes.specs.Uses.{or_else, refused_unless}
 use Rattle.gq_scopes.specs.Patterns.{Name, is_called}
 use Rattle.gq_binder.specs.declared.met.Met.{Met}
+use Rattle.gq_binder.specs.declared.refusal.BindRefusal.{BindRefusal}
 
 and_true : (a : Bool) → (a && true) ≡ a
 and_true true = refl
@@ -25,15 +27,15 @@ and_false false = refl
 -- ---- a list gone through
 
 module _ {A : Type 0} (check : List A → A → Option Name) (xs : List A) (at : ℕ) (h : first_behind check (take at xs) (drop at xs) ≡ first_behind check [] xs) where
-  pub ended : length xs ≤ at → None ≡ first_behind check [] xs
-  ended e = rw (sym h, drop_all at xs e) refl
-
   module _ (more : at < length xs) (x : A) (is : x ≡ get_or xs at x) where
     opened : first_behind check (take at xs) (drop at xs) ≡ or_else (check (take at xs) x) (first_behind check (take (at + 1) xs) (drop (at + 1) xs))
     opened = rw (drop_more xs at x more, take_more xs at x more, sym is) refl
 
-    pub refused : (name : Name) → check (take at xs) x ≡ Some name → Some name ≡ first_behind check [] xs
+    refused : (name : Name) → check (take at xs) x ≡ Some name → Some name ≡ first_behind check [] xs
     refused name e = sym (ap (λ o. or_else o (first_behind check (take (at + 1) xs) (drop (at + 1) xs))) e) ∙ sym opened ∙ h
+
+    pub refused_as : (make : Name → BindRefusal) (name : Name) → check (take at xs) x ≡ Some name → option_map make (first_behind check [] xs) ≡ Some (make name)
+    refused_as make name e = ap (option_map make) (sym (refused name e))
 
     pub passed : check (take at xs) x ≡ None → first_behind check (take (at + 1) xs) (drop (at + 1) xs) ≡ first_behind check [] xs
     passed e = sym (ap (λ o. or_else o (first_behind check (take (at + 1) xs) (drop (at + 1) xs))) e) ∙ sym opened ∙ h

@@ -6,7 +6,7 @@ use Rattle.std.specs.Option.{option_map}
 use Rattle.std.proofs.lemmas.Bool.{ltb-false, not-true}
 use Rattle.std.proofs.lemmas.Grind.{flat_map-append}
 use Rattle.std.proofs.lemmas.List.{length-map}
-use Rattle.std.proofs.lemmas.List.Elements.{All-from_recursion}
+use Rattle.std.proofs.lemmas.List.Elements.{All-from_recursion, filter-append}
 use Rattle.std.proofs.lemmas.List.Folds.{flat_map-map}
 use Rattle.std.proofs.lemmas.Option.{same_Some}
 use Rattle.gq_base.specs.Catalogs.{Tables}
@@ -21,7 +21,7 @@ use Rattle.gq_expr.specs.declared.Expr.{Expr}
 use Rattle.gq_expr.specs.declared.Expr.TheVariants as expr
 use Rattle.gq_expr.specs.declared.Kinds.{Kinds}
 use Rattle.gq_plan.proofs.Each.{each_of, each_then, each_map, each_append, each_kept}
-use Rattle.gq_plan.specs.Reads.{Variable, node, rel, Read, reads, property, properties, distinct}
+use Rattle.gq_plan.specs.Reads.{Variable, node, rel, Read, reads, is_property, property, properties, distinct}
 use Rattle.gq_plan.specs.Soundness.{max_variables, max_reads, IsSound, HasVariable, kinds_for, kinds_of, test_reads}
 use Rattle.gq_plan.specs.declared.Bound.{Bound}
 use Rattle.gq_plan.specs.declared.NamedExpr.{NamedExpr}
@@ -45,6 +45,7 @@ use Rattle.gq_scopes.specs.declared.Column.{Column}
 use Rattle.gq_binder.proofs.Patterns.{names_counted}
 use Rattle.gq_binder.specs.Binding.{IsBound}
 use Rattle.gq_binder.specs.Columns.{Scoped, scoped_in, conditions_from, conditions, conjuncts, columns, property_of, entry_expr, entry_test, Resolves, HasAlternatives}
+use Rattle.gq_binder.specs.Parts.{reads_in}
 use Rattle.gq_binder.specs.Refusals.{first_of_all, unknown_variable, variable_conflict, relationship_repeated, column_repeated, nothing_to_return, order_out_of_scope, ambiguous_order_name, function_unknown, argument_count, over_limit, max_columns, max_alternatives, too_many_patterns, all_reads, first_refusal}
 use Rattle.gq_binder.specs.declared.refusal.BindRefusal.{BindRefusal}
 use Rattle.gq_binder.specs.declared.refusal.BindRefusal.TheVariants as refusal
@@ -219,6 +220,22 @@ entries_read : (text : List ℕ) (es : List MapEntry) → flat_map named_reads (
 unfolding named_reads
 entries_read text [] = refl
 entries_read text (e ∷ es) = ap₂ ◌++◌ (entry_reads e) (entries_read text es)
+
+-- the reads of a query are those of the tests of its maps and those of its conjuncts
+properties_listed : (es : List NamedExpr) → properties (flat_map named_reads es) ≡ reads_in es
+unfolding named_reads
+properties_listed [] = refl
+properties_listed (e ∷ es) = filter-append (λ r. is_property r.property) (reads e.expr) (flat_map named_reads es) ∙ ap (λ rs. properties (reads e.expr) ++ rs) (properties_listed es)
+
+entries_listed : (text : List ℕ) (es : List MapEntry) → reads_in (map (entry_test text) es) ≡ map entry_read es
+entries_listed text [] = refl
+entries_listed text (e ∷ es) = ap₂ ◌++◌ (ap properties (entry_reads e)) (entries_listed text es)
+
+pub reads_listed : (query : Query) (text : List ℕ) (es : List NamedExpr) → all_some (map (conjunct_expr text) (conjuncts query)) ≡ Some es
+    → reads_in (map (entry_test text) (pattern_of query.clauses).entries) ++ reads_in es ≡ all_reads query
+unfolding all_reads
+reads_listed query text es e =
+    ap₂ ◌++◌ (entries_listed text (pattern_of query.clauses).entries) (sym (properties_listed es) ∙ ap properties (conjuncts_known query text es e).same)
 
 property_safe : (kinds : Kinds) (v : Variable) (name : Name) → (may kinds (property_of v name)).faults ≡ false
 property_safe kinds (node v) name = ap (λ m. m.faults) (may_NodeProperty kinds v name)

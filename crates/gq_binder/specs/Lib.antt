@@ -1,7 +1,7 @@
-pub mod Asked
 pub mod Binding
+pub mod Checks
 pub mod Columns
-pub mod Conditions
 pub mod Met
+pub mod Names
+pub mod Parts
 pub mod Refusals
-pub mod Verdicts

@@ -1,28 +1,21 @@
-//! The bound form of a query.
-ghost use Rattle.std.specs.Prelude.{◌≡◌, [], Some, None, map, unwrap_or, IfOk};
-ghost use Rattle.gq_alternatives.specs.Alternatives.{alternatives, typed_of};
-ghost use Rattle.gq_binder.specs.Binding.{Answers, IsBound};
-ghost use Rattle.gq_binder.specs.Columns as written;
-ghost use Rattle.gq_binder.specs.Columns.{column_expr, sort_expr, sort_scope, entry_test};
+//! The bound form of a query, or why it has none.
+ghost use Rattle.std.specs.Prelude.{◌≡◌, [], map, filter_map, IfOk};
+ghost use Rattle.gq_alternatives.specs.Alternatives.{typed_of};
+ghost use Rattle.gq_binder.specs.Binding.{Answers};
+ghost use Rattle.gq_binder.specs.Columns.{sort_expr};
+ghost use Rattle.gq_binder.specs.Parts.{bound_in};
 ghost use Rattle.gq_binder.specs.Refusals.{first_refusal};
-ghost use Rattle.gq_binder.specs.Verdicts.{IsNamed, IsListed};
-ghost use Rattle.gq_scopes.specs.Conjuncts.{conjunct_expr};
-ghost use Rattle.gq_scopes.specs.Patterns.{pattern_of};
-ghost use Rattle.gq_scopes.specs.Resolving.{all_some, as_lists, functions};
-ghost use Rattle.gq_syntax.specs.Spans.{SpelledQuery, StandsIn};
+ghost use Rattle.gq_syntax.specs.Spans.{SpelledQuery};
 
-use crate::asked::Asked;
-use crate::columns::columns_of;
-use crate::conditions::all_conjuncts;
-use crate::entries::entry_tests;
-use crate::keys::{keys_of, known_columns};
+use crate::checks::{check, few_alternatives};
+use crate::columns::known_columns;
+use crate::parts::{QueryParts, parts_of};
 use crate::refusal::BindRefusal;
-use crate::verdict::{Verdict, verdict_of};
 use gq_alternatives::{Choice, typed};
 use gq_base::{Catalog, List, Memory, Text};
 use gq_plan::{Bound, NamedExpr, SortExpr, Typed};
-use gq_scopes::{CallForm, Column, Pattern, copy_text};
-use gq_syntax::Query;
+use gq_scopes::{CallForm, Copying, Pattern, Scope, copy_text, resolve_part};
+use gq_syntax::{Query, Sort};
 use std::alloc::Global;
 
 /// Binds a query, which a text spells, over a catalogue. The answer is the bound query, whose alternatives are sound
@@ -36,61 +29,76 @@ pub fn bind(
     requires { SpelledQuery text.now query.now }
     ensures { Answers query.now text.now catalog.now result }
 {
-    let pattern = Pattern::of(alloc, query.clauses.as_slice())?;
-    let columns = columns_of(alloc, CallForm::Lists, text, &pattern, query)?;
-    bound_over(alloc, text, query, &pattern, columns.as_slice(), catalog)
+    let parts = parts_of(alloc, text, query)?;
+    check(alloc, text, query, &parts)?;
+    let choices = few_alternatives(alloc, catalog, &parts.pattern)?;
+    Ok(bound_of(alloc, catalog, query, parts, choices.as_slice())?)
 }
 
-fn bound_over(
+/// Why a query, which a text spells, cannot be bound over a catalogue: the first check that applies, or none.
+pub fn refusal_of(
     alloc: Global,
-    text: &[u8],
     query: &Query,
-    pattern: &Pattern<'_>,
-    columns: &[Column],
+    text: &[u8],
     catalog: &Catalog,
-) -> Result<Bound, BindRefusal>
-    requires pattern { pattern.now ≡ pattern_of query.now.clauses }
-    requires columns { columns.now ≡ written.columns as_lists text.now query.now }
-    requires stands { StandsIn text.now query.now }
-    ensures { Answers query.now text.now catalog.now result }
+) -> Result<Option<BindRefusal>, Memory>
+    requires { SpelledQuery text.now query.now }
+    ensures { IfOk result (λ r. r ≡ first_refusal query.now text.now catalog.now) }
 {
-    let asked = Asked::new(text, query, pattern, columns);
-    match verdict_of(alloc, &asked, catalog)? {
-        Verdict::Refused(refusal) => Err(refusal),
-        Verdict::Accepted(choices) => Ok(bound_of(alloc, &asked, catalog, choices.as_slice())?),
+    match bind(alloc, query, text, catalog) {
+        Ok(_) => Ok(None),
+        Err(refusal) => match refusal {
+            BindRefusal::Memory => Err(Memory),
+            other => Ok(Some(other)),
+        },
     }
 }
 
-// The bound form of a query that no check refuses.
-#[tactic(auto, using(crate::proofs::SoundAlternatives::is_bound, crate::proofs::Named::accepted_named))]
+// The bound form that the parts of a query give, with what stands for an expression: where no check refuses the query,
+// all does.
 fn bound_of(
     alloc: Global,
-    asked: &Asked<'_>,
     catalog: &Catalog,
+    query: &Query,
+    parts: QueryParts<'_>,
     choices: &[Choice],
 ) -> Result<Bound, Memory>
-    requires accepted { first_refusal asked.now.query asked.now.text catalog.now ≡ None }
-    requires choices { choices.now ≡ alternatives asked.now.query catalog.now }
-    ensures { IfOk result (λ b. IsBound asked.now.query asked.now.text catalog.now b) }
+    ensures { IfOk result (λ b. b ≡ bound_in catalog.now query.now parts.entry choices.now) }
 {
-    let query = asked.query();
-    let listed = list_of(alloc, asked)?;
-    let conjuncts = conjuncts(alloc, asked)?;
-    let entries = entry_tests(alloc, asked.text(), asked.pattern().entries())?;
-    let alternatives = all_typed(
-        alloc,
-        catalog,
-        asked.pattern(),
-        entries.as_slice(),
-        conjuncts.as_slice(),
-        choices,
-    )?;
-    Ok(Bound {
-        node_names: copy_texts(alloc, asked.pattern().node_names())?,
-        rel_names: copy_texts(alloc, asked.pattern().rel_names())?,
-        columns: listed.columns,
+    let mut bound = without_lists(alloc, catalog, query, &parts, choices)?;
+    let QueryParts {
+        columns,
         conjuncts,
-        keys: listed.keys,
+        ..
+    } = parts;
+    bound.columns = known_columns(alloc, columns)?;
+    bound.conjuncts = conjuncts;
+    Ok(bound)
+}
+
+// The bound form but for its columns and conjuncts.
+fn without_lists(
+    alloc: Global,
+    catalog: &Catalog,
+    query: &Query,
+    parts: &QueryParts<'_>,
+    choices: &[Choice],
+) -> Result<Bound, Memory>
+    ensures { IfOk result (λ b. b
+        ≡ record (bound_in catalog.now query.now parts.now choices.now) { columns = []; conjuncts = [] }) }
+{
+    let pattern = &parts.pattern;
+    let scope = pattern.scope(parts.columns.as_slice())?;
+    let keys = known_keys(alloc, &scope, query.order.as_slice())?;
+    let tests = parts.tests.as_slice();
+    let conjuncts = parts.conjuncts.as_slice();
+    let alternatives = all_typed(alloc, catalog, pattern, tests, conjuncts, choices)?;
+    Ok(Bound {
+        node_names: copy_texts(alloc, pattern.node_names())?,
+        rel_names: copy_texts(alloc, pattern.rel_names())?,
+        columns: List::new(alloc),
+        conjuncts: List::new(alloc),
+        keys,
         distinct: query.distinct,
         skip: query.skip.unwrap_or(0),
         limit: query.limit,
@@ -98,67 +106,23 @@ fn bound_of(
     })
 }
 
-/// What a query lists and sorts by.
-#[derive(Drop)]
-pub struct Listed {
-    columns: List<NamedExpr>,
-    keys: List<SortExpr>,
-}
-
-fn list_of(alloc: Global, asked: &Asked<'_>) -> Result<Listed, Memory>
-    requires { IsNamed asked.now.query asked.now.text }
-    ensures { IfOk result (λ l. IsListed asked.now.query asked.now.text l) }
+// The keys of ORDER BY, of those that stand for an expression.
+fn known_keys(alloc: Global, scope: &Scope<'_>, order: &[Sort]) -> Result<List<SortExpr>, Memory>
+    ensures { IfOk result (λ keys. keys ≡ filter_map (sort_expr scope.now) order.now) }
 {
-    let columns = columns_of(
-        alloc,
-        CallForm::Functions,
-        asked.text(),
-        asked.pattern(),
-        asked.query(),
-    )?;
-    let keys = keys(alloc, asked, columns.as_slice())?;
-    let columns = named_columns(alloc, asked, columns)?;
-    Ok(Listed { columns, keys })
-}
-
-#[tactic(auto, using(crate::proofs::Accepted::keys_there))]
-fn keys(alloc: Global, asked: &Asked<'_>, columns: &[Column]) -> Result<List<SortExpr>, Memory>
-    requires named { IsNamed asked.now.query asked.now.text }
-    requires columns { columns.now ≡ written.columns functions asked.now.text asked.now.query }
-    ensures { IfOk result (λ ks. all_some (map (sort_expr (sort_scope functions asked.now.text asked.now.query)) asked.now.query.order) ≡ Some ks) }
-{
-    let scope = asked.pattern().scope(columns)?;
-    match keys_of(alloc, &scope, asked.query().order.as_slice())? {
-        Some(keys) => Ok(keys),
-        None => unreachable!(),
+    let mut copying = Copying::new();
+    let mut keys = List::new(alloc);
+    for sort in order {
+        let known = resolve_part(alloc, &mut copying, CallForm::Functions, scope, &sort.tree)?;
+        let Some(expr) = known else {
+            continue;
+        };
+        keys.push(SortExpr {
+            expr,
+            down: sort.down,
+        })?;
     }
-}
-
-#[tactic(auto, using(crate::proofs::Accepted::columns_there))]
-fn named_columns(
-    alloc: Global,
-    asked: &Asked<'_>,
-    all: List<Column>,
-) -> Result<List<NamedExpr>, Memory>
-    requires named { IsNamed asked.now.query asked.now.text }
-    requires columns { all ≡ written.columns functions asked.now.text asked.now.query }
-    ensures { IfOk result (λ cs. all_some (map column_expr (written.columns functions asked.now.text asked.now.query)) ≡ Some cs) }
-{
-    match known_columns(alloc, all)? {
-        Some(columns) => Ok(columns),
-        None => unreachable!(),
-    }
-}
-
-#[tactic(auto, using(crate::proofs::Named::conjuncts_listed, crate::proofs::Named::conjuncts_listed_there))]
-fn conjuncts(alloc: Global, asked: &Asked<'_>) -> Result<List<NamedExpr>, Memory>
-    requires { IsNamed asked.now.query asked.now.text }
-    ensures { IfOk result (λ cs. all_some (map (conjunct_expr asked.now.text) (written.conjuncts asked.now.query)) ≡ Some cs) }
-{
-    match all_conjuncts(alloc, asked.text(), asked.query().clauses.as_slice())? {
-        Some(conjuncts) => Ok(conjuncts),
-        None => unreachable!(),
-    }
+    Ok(keys)
 }
 
 fn all_typed(

@@ -1,106 +1,182 @@
-//! The checks of a query, each by itself.
-ghost use Rattle.std.specs.Prelude.{◌≡◌, IfOk, length};
-ghost use Rattle.std.specs.Option.{option_copied};
-ghost use Rattle.gq_binder.specs.Columns as columns;
+//! The checks of a query in their order, and those of its patterns, columns and numbers.
+ghost use Rattle.std.specs.Prelude.{◌≡◌, ◌++◌, [], All, IfOk, OnOk, length};
+ghost use Rattle.std.specs.Option.{option_map};
+ghost use Rattle.gq_alternatives.specs.Alternatives.{pattern_alternatives};
+ghost use Rattle.gq_binder.specs.Checks.{Checks};
+ghost use Rattle.gq_binder.specs.Parts.{checks_in, reads_in};
 ghost use Rattle.gq_binder.specs.Refusals as refusals;
-ghost use Rattle.gq_binder.specs.declared.refusal.BindRefusal.TheVariants.{TooManyColumns};
-ghost use Rattle.gq_scopes.specs.Patterns.{pattern_of};
-ghost use Rattle.gq_scopes.specs.Resolving.{as_lists};
+ghost use Rattle.gq_binder.specs.Refusals.{first_of_all, first_behind, conflicting, repeating, nothing, over_limit, max_alternatives, max_columns};
+ghost use Rattle.gq_binder.specs.declared.refusal.BindRefusal.TheVariants as refusal;
+ghost use Rattle.gq_plan.specs.Reads.{distinct, with_reads};
+ghost use Rattle.gq_plan.specs.Soundness.{max_reads};
+ghost use Rattle.gq_syntax.specs.Spans.{IsWholeTree};
 
-use crate::asked::Asked;
-use crate::columns::repeated_column;
-use crate::names::first_in_expressions;
-use crate::pattern_checks::{conflict, repeated};
+use crate::met::Met;
+use crate::order::{ambiguous_order_name, order_out_of_scope};
+use crate::parts::QueryParts;
 use crate::refusal::BindRefusal;
-use gq_base::{Memory, Text};
-use gq_scopes::{Check, copy_text};
+use gq_alternatives::{Choice, choices_of};
+use gq_base::{Catalog, List, Memory};
+use gq_plan::{NamedExpr, PropertyReads};
+use gq_scopes::{Column, NamedVariable, Names, Pattern, Variable, copy_text};
+use gq_syntax::Query;
 use std::alloc::Global;
 
-/// An expression names what its scope does not have.
-pub fn unknown_variable(alloc: Global, asked: &Asked<'_>) -> Result<Option<BindRefusal>, Memory>
-    ensures { IfOk result (λ r. r ≡ refusals.unknown_variable asked.now.text asked.now.query) }
-{
-    let first = first_in_expressions(alloc, Check::UnknownName, asked)?;
-    match copied(alloc, first)? {
-        Some(name) => Ok(Some(BindRefusal::UnknownVariable { name })),
-        None => Ok(None),
-    }
-}
+const MAX_VARIABLES: usize = 24;
 
-/// One name is a node variable and a relationship variable.
-pub fn variable_conflict(alloc: Global, asked: &Asked<'_>) -> Result<Option<BindRefusal>, Memory>
-    ensures { IfOk result (λ r. r ≡ refusals.variable_conflict (pattern_of asked.now.query.clauses)) }
-{
-    match copied(alloc, conflict(alloc, asked.pattern().named())?)? {
-        Some(name) => Ok(Some(BindRefusal::VariableConflict { name })),
-        None => Ok(None),
-    }
-}
-
-/// A relationship variable stands in two patterns.
-pub fn relationship_repeated(
-    alloc: Global,
-    asked: &Asked<'_>,
-) -> Result<Option<BindRefusal>, Memory>
-    ensures { IfOk result (λ r. r ≡ refusals.relationship_repeated (pattern_of asked.now.query.clauses)) }
-{
-    match copied(alloc, repeated(alloc, asked.pattern().named())?)? {
-        Some(name) => Ok(Some(BindRefusal::RelationshipRepeated { name })),
-        None => Ok(None),
-    }
-}
-
-/// Two columns have one name.
-pub fn column_repeated(alloc: Global, asked: &Asked<'_>) -> Result<Option<BindRefusal>, Memory>
-    ensures { IfOk result (λ r. r ≡ refusals.column_repeated (columns.columns as_lists asked.now.text asked.now.query)) }
-{
-    match copied(alloc, repeated_column(alloc, asked.columns())?)? {
-        Some(name) => Ok(Some(BindRefusal::ColumnRepeated { name })),
-        None => Ok(None),
-    }
-}
-
-/// A call names no function.
-pub fn function_unknown(alloc: Global, asked: &Asked<'_>) -> Result<Option<BindRefusal>, Memory>
-    ensures { IfOk result (λ r. r ≡ refusals.function_unknown asked.now.text asked.now.query) }
-{
-    let first = first_in_expressions(alloc, Check::UnknownFunction, asked)?;
-    match copied(alloc, first)? {
-        Some(name) => Ok(Some(BindRefusal::UnknownFunction { name })),
-        None => Ok(None),
-    }
-}
-
-/// A function does not take so many arguments.
-pub fn argument_count(alloc: Global, asked: &Asked<'_>) -> Result<Option<BindRefusal>, Memory>
-    ensures { IfOk result (λ r. r ≡ refusals.argument_count asked.now.text asked.now.query) }
-{
-    let first = first_in_expressions(alloc, Check::WrongCount, asked)?;
-    match copied(alloc, first)? {
-        Some(name) => Ok(Some(BindRefusal::ArgumentCount { name })),
-        None => Ok(None),
-    }
-}
-
-/// There are too many columns.
-pub fn too_many_columns(asked: &Asked<'_>) -> Option<BindRefusal>
-    ensures { result ≡ refusals.over_limit refusals.max_columns (length (columns.columns as_lists asked.now.text asked.now.query)) TooManyColumns }
-{
-    if asked.columns().len() > MAX_COLUMNS {
-        Some(BindRefusal::TooManyColumns)
-    } else {
-        None
-    }
-}
+const MAX_READS: usize = 64;
 
 const MAX_COLUMNS: usize = 64;
 
-/// A copy of a name.
-pub fn copied(alloc: Global, name: Option<&Text>) -> Result<Option<Text>, Memory>
-    ensures { IfOk result (λ n. n ≡ option_copied name.entry) }
+const MAX_ALTERNATIVES: usize = 512;
+
+/// The checks of a query in their order, but for that of its alternatives.
+#[tactic(auto, using(crate::proofs::RefusalLemmas::firsts))]
+pub fn check(
+    alloc: Global,
+    text: &[u8],
+    query: &Query,
+    parts: &QueryParts<'_>,
+) -> Result<(), BindRefusal>
+    requires { All (λ item. IsWholeTree text.now item.tree) query.now.items }
+    ensures { Checks (first_of_all (checks_in text.now query.now parts.now)) result }
 {
-    match name {
-        Some(name) => Ok(Some(copy_text(alloc, name)?)),
-        None => Ok(None),
+    let pattern = &parts.pattern;
+    let columns = parts.columns.as_slice();
+    parts.names.unknown_variable(alloc)?;
+    variable_conflict(alloc, pattern.named())?;
+    relationship_repeated(alloc, pattern.named())?;
+    column_repeated(alloc, columns)?;
+    nothing_to_return(query.star, pattern.named())?;
+    order_out_of_scope(alloc, text, query, pattern)?;
+    ambiguous_order_name(alloc, query, pattern)?;
+    parts.names.unknown_function(alloc)?;
+    parts.names.argument_count(alloc)?;
+    too_many_patterns(pattern)?;
+    too_many_reads(alloc, parts.tests.as_slice(), parts.conjuncts.as_slice())?;
+    too_many_columns(columns)
+}
+
+/// One name is a node variable and a relationship variable.
+fn variable_conflict(alloc: Global, named: &[NamedVariable<'_>]) -> Result<(), BindRefusal>
+    ensures { Checks (option_map refusal.VariableConflict (first_behind conflicting [] named.now)) result }
+{
+    let mut met = Met::new(alloc);
+    for variable in named {
+        if met.conflicts(variable) {
+            let name = copy_text(alloc, variable.name)?;
+            return Err(BindRefusal::VariableConflict { name });
+        }
+        met.push(variable)?;
+    }
+    Ok(())
+}
+
+/// A relationship variable stands in two patterns.
+fn relationship_repeated(alloc: Global, named: &[NamedVariable<'_>]) -> Result<(), BindRefusal>
+    ensures { Checks (option_map refusal.RelationshipRepeated (first_behind repeating [] named.now)) result }
+{
+    let mut met = Met::new(alloc);
+    for variable in named {
+        if met.repeats(variable) {
+            let name = copy_text(alloc, variable.name)?;
+            return Err(BindRefusal::RelationshipRepeated { name });
+        }
+        met.push(variable)?;
+    }
+    Ok(())
+}
+
+/// Two columns have one name.
+fn column_repeated(alloc: Global, columns: &[Column]) -> Result<(), BindRefusal>
+    ensures { Checks (refusals.column_repeated columns.now) result }
+{
+    let mut met = Names::new(alloc);
+    for column in columns {
+        if met.contains(&column.name) {
+            let name = copy_text(alloc, &column.name)?;
+            return Err(BindRefusal::ColumnRepeated { name });
+        }
+        met.push_name(&column.name)?;
+    }
+    Ok(())
+}
+
+/// `*` stands for no variable.
+fn nothing_to_return(star: bool, named: &[NamedVariable<'_>]) -> Result<(), BindRefusal>
+    ensures { Checks (nothing star named.now) result }
+{
+    if star && named.is_empty() {
+        Err(BindRefusal::NothingToReturn)
+    } else {
+        Ok(())
+    }
+}
+
+/// There are too many patterns.
+fn too_many_patterns(pattern: &Pattern<'_>) -> Result<(), BindRefusal>
+    ensures { Checks (refusals.too_many_patterns pattern.now) result }
+{
+    if pattern.nodes().len() > MAX_VARIABLES || pattern.rels().len() > MAX_VARIABLES {
+        Err(BindRefusal::TooManyPatterns)
+    } else {
+        Ok(())
+    }
+}
+
+/// There are too many different pairs of a variable and a property.
+#[tactic(auto, using(crate::proofs::ReadingLemmas::counted))]
+fn too_many_reads(
+    alloc: Global,
+    tests: &[NamedExpr],
+    conjuncts: &[NamedExpr],
+) -> Result<(), BindRefusal>
+    ensures { Checks (over_limit max_reads
+        (length (distinct (reads_in tests.now ++ reads_in conjuncts.now))) refusal.TooManyReads) result }
+{
+    let mut reads = PropertyReads::new(alloc);
+    add_reads(&mut reads, tests)?;
+    add_reads(&mut reads, conjuncts)?;
+    if reads.len() > MAX_READS {
+        Err(BindRefusal::TooManyReads)
+    } else {
+        Ok(())
+    }
+}
+
+fn add_reads<'e>(reads: &mut PropertyReads<'e>, exprs: &'e [NamedExpr]) -> Result<(), Memory>
+    ensures { OnOk result (reads.new ≡ with_reads reads.old (reads_in exprs.now)) }
+{
+    for named in exprs {
+        reads.add_all(&named.expr)?;
+    }
+    Ok(())
+}
+
+/// There are too many columns.
+fn too_many_columns(columns: &[Column]) -> Result<(), BindRefusal>
+    ensures { Checks (over_limit max_columns (length columns.now) refusal.TooManyColumns) result }
+{
+    if columns.len() > MAX_COLUMNS {
+        Err(BindRefusal::TooManyColumns)
+    } else {
+        Ok(())
+    }
+}
+
+/// The alternatives of patterns, unless there are too many.
+#[tactic(auto, using(crate::proofs::RefusalLemmas::within, crate::proofs::RefusalLemmas::beyond))]
+pub fn few_alternatives(
+    alloc: Global,
+    catalog: &Catalog,
+    pattern: &Pattern<'_>,
+) -> Result<List<Choice>, BindRefusal>
+    ensures few { Checks (over_limit max_alternatives
+        (length (pattern_alternatives catalog.now pattern.now)) refusal.TooManyAlternatives) result }
+    ensures choices { IfOk result (λ cs. cs ≡ pattern_alternatives catalog.now pattern.now) }
+{
+    match choices_of(alloc, catalog, pattern, MAX_ALTERNATIVES)? {
+        Some(choices) => Ok(choices),
+        None => Err(BindRefusal::TooManyAlternatives),
     }
 }

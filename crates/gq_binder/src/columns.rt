@@ -1,18 +1,16 @@
 //! The columns of a query and their names.
-ghost use Rattle.std.specs.Prelude.{◌≡◌, ◌++◌, ◌∷◌, [], map, All, IfOk, if◌then◌else◌};
+ghost use Rattle.std.specs.Prelude.{◌≡◌, ◌++◌, ◌∷◌, [], map, filter_map, All, IfOk, if◌then◌else◌};
 ghost use Rattle.std.specs.List.{list_any};
-ghost use Rattle.std.specs.Option.{option_copied};
 ghost use Rattle.gq_binder.specs.Columns as columns;
-ghost use Rattle.gq_binder.specs.Columns.{columns_in, column_of, star_columns, item_column, item_name};
+ghost use Rattle.gq_binder.specs.Columns.{columns_in, column_expr, column_of, item_column, item_name};
 ghost use Rattle.gq_scopes.specs.Patterns.{is_called};
-ghost use Rattle.gq_scopes.specs.Scopes.{scope_of};
-ghost use Rattle.gq_binder.specs.Refusals.{first_behind, repeating_column};
 ghost use Rattle.gq_scopes.specs.Resolving.{calls_of};
 ghost use Rattle.gq_scopes.specs.Variables.{seen};
 ghost use Rattle.gq_syntax.specs.Spans.{IsWholeTree};
 
 use gq_base::{List, Memory, Text};
 use gq_expr::Expr;
+use gq_plan::NamedExpr;
 use gq_scopes::{
     CallForm, Column, NamedVariable, Names, Pattern, Scope, Variable, copy_text, resolve,
     source_text,
@@ -33,20 +31,16 @@ pub fn columns_of(
     ensures { IfOk result (λ cs. cs ≡ columns_in (calls_of form) text.now pattern.now query.now) }
 {
     let mut all = List::new(alloc);
+    let named = pattern.named();
     if query.star {
-        push_star(alloc, &mut all, pattern)?;
+        push_firsts(alloc, &mut all, named)?;
     }
     let scope = pattern.scope(&[])?;
     push_items(alloc, &mut all, form, text, &scope, query.items.as_slice())?;
     Ok(all)
 }
 
-fn push_star(alloc: Global, all: &mut List<Column>, pattern: &Pattern<'_>) -> Result<(), Memory>
-    ensures { IfOk result (λ _. all.new ≡ all.old ++ star_columns pattern.now) }
-{
-    push_firsts(alloc, all, pattern.named())
-}
-
+// Pushes each named variable where its name stands first.
 fn push_firsts(
     alloc: Global,
     all: &mut List<Column>,
@@ -125,16 +119,17 @@ fn name_of(alloc: Global, text: &[u8], item: &Item) -> Result<Text, Memory>
     }
 }
 
-/// The first name that a column before has.
-pub fn repeated_column(alloc: Global, columns: &[Column]) -> Result<Option<&Text>, Memory>
-    ensures { IfOk result (λ n. option_copied n ≡ first_behind repeating_column [] columns.now) }
+/// Columns with their expressions, of those that have one.
+pub fn known_columns(alloc: Global, columns: List<Column>) -> Result<List<NamedExpr>, Memory>
+    ensures { IfOk result (λ known. known ≡ filter_map column_expr columns) }
 {
-    let mut met = Names::new(alloc);
-    for column in columns {
-        if met.contains(&column.name) {
-            return Ok(Some(&column.name));
-        }
-        met.push_name(&column.name)?;
+    let mut known = List::new(alloc);
+    for column in columns.into_vec() {
+        let Column { name, expr } = column;
+        let Some(expr) = expr else {
+            continue;
+        };
+        known.push(NamedExpr { name, expr })?;
     }
-    Ok(None)
+    Ok(known)
 }

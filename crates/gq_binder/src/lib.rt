@@ -2,22 +2,15 @@
 //! alternatives are listed.
 #![tactic(auto)]
 
-mod asked;
 mod bound;
 mod checks;
 mod columns;
-mod conditions;
 mod entries;
-mod groups;
-mod keys;
 mod met;
 mod names;
 mod order;
-mod pattern_checks;
-mod reading;
+mod parts;
 mod refusal;
-mod verdict;
 
-pub use bound::bind;
+pub use bound::{bind, refusal_of};
 pub use refusal::BindRefusal;
-pub use verdict::refusal_of;

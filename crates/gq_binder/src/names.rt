@@ -1,95 +1,123 @@
-//! The first name of all expressions of a query that a check refuses.
-ghost use Rattle.std.specs.Prelude.{◌≡◌, IfOk};
-ghost use Rattle.std.specs.Option.{option_copied};
-ghost use Rattle.gq_scopes.specs.Scopes.{scope_of};
+//! The first names and calls of a query's expressions that the checks of names refuse.
+ghost use Rattle.std.specs.Prelude.{◌≡◌};
+ghost use Rattle.std.specs.Option.{option_copied, option_map};
+ghost use Rattle.gq_binder.specs.Checks.{Checks};
+ghost use Rattle.gq_binder.specs.Names.{no_names, with_expression, with_expressions};
+ghost use Rattle.gq_binder.specs.Refusals.{items_in, sorts_in};
+ghost use Rattle.gq_binder.specs.declared.refusal.BindRefusal.TheVariants as refusal;
 ghost use Rattle.gq_scopes.specs.Checks.{check_of};
-ghost use Rattle.gq_binder.specs.Columns.{conditions, conditions_from, scoped_in};
-ghost use Rattle.gq_scopes.specs.Patterns.{no_pattern};
-ghost use Rattle.gq_binder.specs.Refusals.{first_in, items_in, sorts_in, expressions};
+ghost use Rattle.gq_scopes.specs.Uses.{first_name, or_else, uses};
 
-use crate::asked::Asked;
-use gq_base::{Memory, Text};
-use gq_scopes::{Check, Pattern, Scope, first_refused, next};
-use gq_syntax::{Ast, Clause, Item, Sort};
+use crate::refusal::BindRefusal;
+use gq_base::Text;
+use gq_scopes::{Check, Scope, copy_text, first_refused};
+use gq_syntax::{Ast, Item, Sort};
 use std::alloc::Global;
+use std::marker::Model;
 
-/// The first refused name of all expressions of a query, each in its own scope.
-#[tactic(auto, using(crate::proofs::NameLemmas::gathering), unfolding(crate::specs::Refusals::expressions))]
-pub fn first_in_expressions<'q>(
-    alloc: Global,
-    check: Check<'_>,
-    asked: &Asked<'q>,
-) -> Result<Option<&'q Text>, Memory>
-    ensures { IfOk result (λ n. option_copied n ≡ first_in (check_of check.entry) (expressions asked.now.text asked.now.query)) }
-{
-    let query = asked.query();
-    if let Some(name) = first_in_conditions(alloc, check, query.clauses.as_slice())? {
-        return Ok(Some(name));
-    }
-    if let Some(name) = first_in_items(check, &asked.scope()?, query.items.as_slice()) {
-        return Ok(Some(name));
-    }
-    Ok(first_in_sorts(check, &asked.sort_scope()?, query.order.as_slice()))
+/// Of the expressions that were read, the first name that its scope does not have, the first call that names no
+/// function, and the first call with a wrong number of arguments.
+#[derive(Drop)]
+pub struct FirstNames<'q> {
+    variable: Option<&'q Text>,
+    function: Option<&'q Text>,
+    arguments: Option<&'q Text>,
 }
 
-// The first refused name of the conditions of MATCH clauses; each sees the variables of its clause and of earlier ones.
-#[tactic(auto, using(crate::proofs::NameLemmas::gathering))]
-fn first_in_conditions<'t>(
-    alloc: Global,
-    check: Check<'_>,
-    clauses: &'t [Clause],
-) -> Result<Option<&'t Text>, Memory>
-    ensures { IfOk result (λ n. option_copied n ≡ first_in (check_of check.entry) (conditions_from 0 no_pattern clauses.now)) }
-{
-    let mut pattern = Pattern::new(alloc);
-    let mut number = 0;
-    for clause in clauses {
-        pattern.push_paths(alloc, number, clause.paths.as_slice())?;
-        if let Some(name) = first_in_condition(check, &pattern, &clause.filter)? {
-            return Ok(Some(name));
-        }
-        number = next(number)?;
-    }
-    Ok(None)
+impl<'q> Model for FirstNames<'q> {
+    ghost use Rattle.std.specs.Option.{option_copied};
+    ghost use Rattle.gq_binder.specs.Names.{FirstNames};
+
+    ghost Value = { FirstNames };
+
+    ghost view = { λ n. record { variable = option_copied n.variable; function = option_copied n.function; arguments = option_copied n.arguments } };
 }
 
-fn first_in_condition<'t>(
-    check: Check<'_>,
-    pattern: &Pattern<'_>,
-    filter: &'t Option<Ast>,
-) -> Result<Option<&'t Text>, Memory>
-    ensures { IfOk result (λ n. option_copied n ≡ first_in (check_of check.entry) (scoped_in (scope_of pattern.now) filter.now)) }
-{
-    match filter {
-        None => Ok(None),
-        Some(tree) => Ok(first_refused(check, &pattern.scope(&[])?, tree)),
-    }
-}
-
-// The first refused name of items.
-fn first_in_items<'t>(check: Check<'_>, scope: &Scope<'_>, items: &'t [Item]) -> Option<&'t Text>
-    ensures { option_copied result ≡ first_in (check_of check.entry) (items_in scope.now items.now) }
-{
-    for item in items {
-        if let Some(name) = first_refused(check, scope, &item.tree) {
-            return Some(name);
+impl<'q> FirstNames<'q> {
+    /// None yet.
+    pub fn new() -> FirstNames<'q>
+        ensures { result ≡ no_names }
+    {
+        FirstNames {
+            variable: None,
+            function: None,
+            arguments: None,
         }
     }
-    None
+
+    /// Reads one more expression.
+    pub fn read(&mut self, scope: &Scope<'_>, tree: &'q Ast)
+        ensures { self.new ≡ with_expression self.old (record { scope = scope.now; tree = tree.now }) }
+    {
+        self.variable = or_first(self.variable, Check::UnknownName, scope, tree);
+        self.function = or_first(self.function, Check::UnknownFunction, scope, tree);
+        self.arguments = or_first(self.arguments, Check::WrongCount, scope, tree);
+    }
+
+    /// Reads the expressions of items.
+    pub fn read_items(&mut self, scope: &Scope<'_>, items: &'q [Item])
+        ensures { self.new ≡ with_expressions self.old (items_in scope.now items.now) }
+    {
+        for item in items {
+            self.read(scope, &item.tree);
+        }
+    }
+
+    /// Reads the expressions of sort items.
+    pub fn read_sorts(&mut self, scope: &Scope<'_>, order: &'q [Sort])
+        ensures { self.new ≡ with_expressions self.old (sorts_in scope.now order.now) }
+    {
+        for sort in order {
+            self.read(scope, &sort.tree);
+        }
+    }
+
+    /// An expression names what its scope does not have.
+    pub fn unknown_variable(&self, alloc: Global) -> Result<(), BindRefusal>
+        ensures { Checks (option_map refusal.UnknownVariable self.now.variable) result }
+    {
+        let Some(name) = self.variable else {
+            return Ok(());
+        };
+        let name = copy_text(alloc, name)?;
+        Err(BindRefusal::UnknownVariable { name })
+    }
+
+    /// A call names no function.
+    pub fn unknown_function(&self, alloc: Global) -> Result<(), BindRefusal>
+        ensures { Checks (option_map refusal.UnknownFunction self.now.function) result }
+    {
+        let Some(name) = self.function else {
+            return Ok(());
+        };
+        let name = copy_text(alloc, name)?;
+        Err(BindRefusal::UnknownFunction { name })
+    }
+
+    /// A function does not take so many arguments.
+    pub fn argument_count(&self, alloc: Global) -> Result<(), BindRefusal>
+        ensures { Checks (option_map refusal.ArgumentCount self.now.arguments) result }
+    {
+        let Some(name) = self.arguments else {
+            return Ok(());
+        };
+        let name = copy_text(alloc, name)?;
+        Err(BindRefusal::ArgumentCount { name })
+    }
 }
 
-/// The first refused name of sort items.
-pub fn first_in_sorts<'t>(
+// The name that is known, or the first that a check refuses.
+fn or_first<'q>(
+    known: Option<&'q Text>,
     check: Check<'_>,
     scope: &Scope<'_>,
-    order: &'t [Sort],
-) -> Option<&'t Text>
-    ensures { option_copied result ≡ first_in (check_of check.entry) (sorts_in scope.now order.now) }
+    tree: &'q Ast,
+) -> Option<&'q Text>
+    ensures { option_copied result
+        ≡ or_else (option_copied known.entry) (first_name (check_of check.entry scope.now) (uses tree.now)) }
 {
-    for sort in order {
-        if let Some(name) = first_refused(check, scope, &sort.tree) {
-            return Some(name);
-        }
+    match known {
+        Some(name) => Some(name),
+        None => first_refused(check, scope, tree),
     }
-    None
 }

@@ -1,33 +1,43 @@
 //! What ORDER BY may not ask.
-ghost use Rattle.std.specs.Prelude.{◌≡◌, IfOk};
-ghost use Rattle.gq_binder.specs.Refusals as refusals;
-ghost use Rattle.gq_binder.specs.Refusals.{out_of_scope_from, first_in, sort_trees, sorts_in};
+ghost use Rattle.std.specs.Prelude.{◌≡◌, All, IfOk};
 ghost use Rattle.std.specs.Option.{option_copied};
-ghost use Rattle.gq_scopes.specs.Patterns.{pattern_of};
-ghost use Rattle.gq_scopes.specs.Renames.{ambiguous_name, renamed_name};
-ghost use Rattle.gq_scopes.specs.Scopes.{scope_of};
+ghost use Rattle.gq_binder.specs.Checks.{Checks};
+ghost use Rattle.gq_binder.specs.Parts.{ambiguous_in, out_of_scope_in};
+ghost use Rattle.gq_binder.specs.Refusals as refusals;
+ghost use Rattle.gq_binder.specs.Refusals.{first_in, out_of_scope_from, sorts_in};
+ghost use Rattle.gq_scopes.specs.Checks.{check_of};
 ghost use Rattle.gq_scopes.specs.MadeOf.{column_exprs};
+ghost use Rattle.gq_scopes.specs.Renames.{renamed_name};
 ghost use Rattle.gq_scopes.specs.Resolving.{as_lists, resolved};
+ghost use Rattle.gq_syntax.specs.Spans.{IsWholeTree};
 
-use crate::asked::Asked;
-use crate::checks::copied;
-use crate::names::first_in_sorts;
+use crate::columns::columns_of;
 use crate::refusal::BindRefusal;
 use gq_base::{Memory, Text};
-use gq_scopes::{CallForm, Check, Column, Copying, Renamed, Scope, is_made_of, next, resolve_part};
-use gq_syntax::{Ast, Sort};
+use gq_scopes::{
+    CallForm, Check, Column, Copying, Pattern, Renamed, Scope, copy_text, first_refused,
+    is_made_of, next, resolve_part,
+};
+use gq_syntax::{Ast, Query, Sort};
 use std::alloc::Global;
 
-/// With DISTINCT, an item of ORDER BY is not made of columns.
-pub fn order_out_of_scope(alloc: Global, asked: &Asked<'_>) -> Result<Option<BindRefusal>, Memory>
-    ensures { IfOk result (λ r. r ≡ refusals.order_out_of_scope asked.now.text asked.now.query) }
+/// With DISTINCT, an item of ORDER BY is not made of columns. Here alone calls are compared as they are written, since
+/// they may yet be none.
+pub fn order_out_of_scope(
+    alloc: Global,
+    text: &[u8],
+    query: &Query,
+    pattern: &Pattern<'_>,
+) -> Result<(), BindRefusal>
+    requires { All (λ item. IsWholeTree text.now item.tree) query.now.items }
+    ensures { Checks (out_of_scope_in text.now query.now pattern.now) result }
 {
-    let query = asked.query();
     if !query.distinct {
-        return Ok(None);
+        return Ok(());
     }
-    let scope = asked.sort_scope()?;
-    first_out_of_scope(alloc, asked.columns(), &scope, query.order.as_slice())
+    let columns = columns_of(alloc, CallForm::Lists, text, pattern, query)?;
+    let scope = pattern.scope(columns.as_slice())?;
+    first_out_of_scope(alloc, columns.as_slice(), &scope, query.order.as_slice())
 }
 
 fn first_out_of_scope(
@@ -35,18 +45,18 @@ fn first_out_of_scope(
     columns: &[Column],
     scope: &Scope<'_>,
     order: &[Sort],
-) -> Result<Option<BindRefusal>, Memory>
-    ensures { IfOk result (λ r. r ≡ out_of_scope_from 1 (column_exprs columns.now) scope.now order.now) }
+) -> Result<(), BindRefusal>
+    ensures { Checks (out_of_scope_from 1 (column_exprs columns.now) scope.now order.now) result }
 {
     let mut copying = Copying::new();
     let mut item = 1;
     for sort in order {
         if !is_made(alloc, &mut copying, columns, scope, &sort.tree)? {
-            return Ok(Some(BindRefusal::OrderOutOfScope { item }));
+            return Err(BindRefusal::OrderOutOfScope { item });
         }
         item = next(item)?;
     }
-    Ok(None)
+    Ok(())
 }
 
 // Whether a tree is made of columns; one without an expression is refused elsewhere.
@@ -66,27 +76,25 @@ fn is_made(
 }
 
 /// A name in ORDER BY is a variable, and AS gives it to another column.
-pub fn ambiguous_order_name(alloc: Global, asked: &Asked<'_>) -> Result<Option<BindRefusal>, Memory>
-    ensures { IfOk result (λ r. r ≡ refusals.ambiguous_order_name asked.now.text asked.now.query) }
+pub fn ambiguous_order_name(
+    alloc: Global,
+    query: &Query,
+    pattern: &Pattern<'_>,
+) -> Result<(), BindRefusal>
+    ensures { Checks (ambiguous_in query.now pattern.now) result }
 {
-    match first_ambiguous(alloc, asked)? {
-        Some(name) => Ok(Some(BindRefusal::AmbiguousOrderName { name })),
-        None => Ok(None),
+    let scope = pattern.scope(&[])?;
+    let renamed = Renamed::of(alloc, &scope, query.items.as_slice())?;
+    match first_renamed(&renamed, &scope, query.order.as_slice()) {
+        Some(name) => {
+            let name = copy_text(alloc, name)?;
+            Err(BindRefusal::AmbiguousOrderName { name })
+        }
+        None => Ok(()),
     }
 }
 
-// The first such name.
-#[tactic(auto, using(crate::proofs::RefusalLemmas::ambiguous_is))]
-fn first_ambiguous(alloc: Global, asked: &Asked<'_>) -> Result<Option<Text>, Memory>
-    ensures { IfOk result (λ name. name ≡ first_in (λ _. ambiguous_name (scope_of (pattern_of asked.now.query.clauses)) asked.now.query.items)
-        (sort_trees asked.now.text asked.now.query)) }
-{
-    let query = asked.query();
-    let renamed = Renamed::of(alloc, &asked.scope()?, query.items.as_slice())?;
-    let first = first_renamed(&renamed, &asked.sort_scope()?, query.order.as_slice());
-    copied(alloc, first)
-}
-
+// The first name that AS gives to another column.
 fn first_renamed<'q>(
     renamed: &Renamed<'_>,
     scope: &Scope<'_>,
@@ -95,4 +103,16 @@ fn first_renamed<'q>(
     ensures { option_copied result ≡ first_in (λ _. renamed_name renamed.now) (sorts_in scope.now order.now) }
 {
     first_in_sorts(Check::AmbiguousName(renamed), scope, order)
+}
+
+// The first name of sort items that a check refuses.
+fn first_in_sorts<'t>(check: Check<'_>, scope: &Scope<'_>, order: &'t [Sort]) -> Option<&'t Text>
+    ensures { option_copied result ≡ first_in (check_of check.entry) (sorts_in scope.now order.now) }
+{
+    for sort in order {
+        if let Some(name) = first_refused(check, scope, &sort.tree) {
+            return Some(name);
+        }
+    }
+    None
 }

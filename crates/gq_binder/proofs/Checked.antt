@@ -1,0 +1,198 @@
+-- What the checks find in the parts of a query is its first refusal; a query that they pass is bound by its parts.
+use Rattle.std.proofs.Common.{◌≡◌, ◌∙◌, sym, refl, ap, subst, ℕ, length, List, [], ◌∷◌, ◌++◌, map, Option, Some, None, Err}
+use Rattle.std.specs.Option.{option_map}
+use Rattle.gq_alternatives.specs.Alternatives.{Choice, alternatives, pattern_alternatives}
+use Rattle.gq_base.specs.Catalogs.{Tables}
+use Rattle.gq_binder.proofs.Accepted.{IsNamed, known_expressions, columns_there, keys_there, conjuncts_there}
+use Rattle.gq_binder.proofs.ColumnNames.{columns_repeated, columns_counted, sorts_same, unknown_names, refused_calls}
+use Rattle.gq_binder.proofs.NameLemmas.{first_variable, first_function, first_arguments}
+use Rattle.gq_binder.proofs.Patterns.{node_names_there}
+use Rattle.gq_binder.proofs.RefusalLemmas.{first_then, first_append, or_none, same_behind}
+use Rattle.gq_binder.proofs.SoundAlternatives.{each_none, is_bound, reads_listed}
+use Rattle.gq_binder.specs.Binding.{Answers, IsBound}
+use Rattle.gq_binder.specs.Checks.{IsOfQuery}
+use Rattle.gq_binder.specs.Columns.{conditions, columns, entry_test, sort_scope}
+use Rattle.gq_binder.specs.Names.{FirstNames, no_names, with_expressions}
+use Rattle.gq_binder.specs.Parts.{known_conjuncts, parts_of, ambiguous_in, reads_in, checks_in, bound_in}
+use Rattle.gq_binder.specs.Refusals.{first_of_all, unknown_variable, variable_conflict, relationship_repeated, column_repeated, nothing_to_return, order_out_of_scope, ambiguous_order_name, function_unknown, argument_count, over_limit, max_columns, max_alternatives, too_many_patterns, all_reads, first_refusal}
+use Rattle.gq_binder.specs.declared.parts.QueryParts.{QueryParts}
+use Rattle.gq_binder.specs.declared.refusal.BindRefusal.{BindRefusal}
+use Rattle.gq_binder.specs.declared.refusal.BindRefusal.TheVariants as refusal
+use Rattle.gq_plan.specs.Reads.{Read, distinct}
+use Rattle.gq_plan.specs.Soundness.{max_reads}
+use Rattle.gq_scopes.specs.Patterns.{Name, Pattern, pattern_of}
+use Rattle.gq_scopes.specs.Renames.{ambiguous_name}
+use Rattle.gq_scopes.specs.Resolving.{functions, as_lists}
+use Rattle.gq_scopes.specs.Scopes.{scope_of}
+use Rattle.gq_scopes.specs.Uses.{or_else, unknown_function, wrong_count}
+use Rattle.gq_syntax.specs.Spans.{StandsIn}
+use Rattle.gq_syntax.specs.declared.Query.{Query}
+
+none_of : (f : Name → BindRefusal) (o : Option Name) → option_map f o ≡ None → o ≡ None
+none_of f None e = refl
+none_of f (Some n) e = cc e
+
+module _ (query : Query) (text : List ℕ) where
+  abbrev p : Pattern
+  p = pattern_of query.clauses
+
+  abbrev names : FirstNames
+  names = with_expressions no_names (known_expressions query text)
+
+  named_by : option_map refusal.UnknownVariable names.variable ≡ None → option_map refusal.UnknownFunction names.function ≡ None → option_map refusal.ArgumentCount names.arguments ≡ None → IsNamed query text
+  named_by v f n = record {
+    variables = sym (first_variable (known_expressions query text)) ∙ none_of refusal.UnknownVariable names.variable v;
+    functions = sym (first_function (known_expressions query text)) ∙ none_of refusal.UnknownFunction names.function f;
+    counts = sym (first_arguments (known_expressions query text)) ∙ none_of refusal.ArgumentCount names.arguments n;
+  }
+
+  -- the checks before those of numbers
+  abbrev early : List (Option BindRefusal)
+  early =
+      option_map refusal.UnknownVariable names.variable
+      ∷ variable_conflict p
+      ∷ relationship_repeated p
+      ∷ column_repeated (columns functions text query)
+      ∷ nothing_to_return query p
+      ∷ order_out_of_scope text query
+      ∷ ambiguous_in query p
+      ∷ option_map refusal.UnknownFunction names.function
+      ∷ option_map refusal.ArgumentCount names.arguments
+      ∷ too_many_patterns p ∷ []
+
+  abbrev numbers : List Read → List (Option BindRefusal)
+  numbers reads =
+      over_limit max_reads (length (distinct reads)) refusal.TooManyReads
+      ∷ over_limit max_columns (length (columns functions text query)) refusal.TooManyColumns ∷ []
+
+  abbrev listed_reads : List Read
+  listed_reads = reads_in (map (entry_test text) p.entries) ++ reads_in (known_conjuncts text (conditions query))
+
+  -- where all names and calls are known, the conjuncts read what the conditions read
+  same_reads : first_of_all (early ++ numbers listed_reads) ≡ first_of_all (early ++ numbers (all_reads query))
+  same_reads =
+      same_behind early (numbers listed_reads) (numbers (all_reads query)) (λ passed.
+      let named : IsNamed query text = named_by passed.0 passed.1.1.1.1.1.1.1.0 passed.1.1.1.1.1.1.1.1.0 in
+      ap (λ reads. first_of_all (numbers reads)) (reads_listed query text (known_conjuncts text (conditions query)) (conjuncts_there query text named)))
+
+  -- the checks before that of alternatives
+  abbrev before_last : List (Option BindRefusal)
+  before_last =
+      unknown_variable text query
+      ∷ variable_conflict p
+      ∷ relationship_repeated p
+      ∷ column_repeated (columns as_lists text query)
+      ∷ nothing_to_return query p
+      ∷ order_out_of_scope text query
+      ∷ ambiguous_order_name text query
+      ∷ function_unknown text query
+      ∷ argument_count text query
+      ∷ too_many_patterns p
+      ∷ over_limit max_reads (length (distinct (all_reads query))) refusal.TooManyReads
+      ∷ over_limit max_columns (length (columns as_lists text query)) refusal.TooManyColumns ∷ []
+
+  same_checks : first_of_all (early ++ numbers (all_reads query)) ≡ first_of_all before_last
+  same_checks =
+      let unknown : option_map refusal.UnknownVariable names.variable ≡ unknown_variable text query = ap (option_map refusal.UnknownVariable) (first_variable (known_expressions query text) ∙ unknown_names query text) in
+      let repeated : column_repeated (columns functions text query) ≡ column_repeated (columns as_lists text query) = columns_repeated query text in
+      let ambiguous : ambiguous_in query p ≡ ambiguous_order_name text query = ap (option_map refusal.AmbiguousOrderName) (sorts_same (λ _. ambiguous_name (scope_of p) query.items) (scope_of p) (sort_scope as_lists text query) (λ u. refl) query.order) in
+      let function : option_map refusal.UnknownFunction names.function ≡ function_unknown text query = ap (option_map refusal.UnknownFunction) (first_function (known_expressions query text) ∙ refused_calls query text unknown_function) in
+      let count : option_map refusal.ArgumentCount names.arguments ≡ argument_count text query = ap (option_map refusal.ArgumentCount) (first_arguments (known_expressions query text) ∙ refused_calls query text wrong_count) in
+      let columns_many : length (columns functions text query) ≡ length (columns as_lists text query) = columns_counted query text in
+      λ i.
+      first_of_all
+      (unknown i
+      ∷ variable_conflict p
+      ∷ relationship_repeated p
+      ∷ repeated i
+      ∷ nothing_to_return query p
+      ∷ order_out_of_scope text query
+      ∷ ambiguous i
+      ∷ function i
+      ∷ count i
+      ∷ too_many_patterns p
+      ∷ over_limit max_reads (length (distinct (all_reads query))) refusal.TooManyReads
+      ∷ over_limit max_columns (columns_many i) refusal.TooManyColumns ∷ [])
+
+  abbrev found : Option BindRefusal
+  found = first_of_all (checks_in text query (parts_of text query))
+
+  checked : found ≡ first_of_all before_last
+  unfolding parts_of
+  checked = same_reads ∙ same_checks
+
+  named_parts : found ≡ None → IsNamed query text
+  unfolding parts_of
+  named_parts e =
+      let passed = each_none (early ++ numbers listed_reads) e in
+      named_by passed.0 passed.1.1.1.1.1.1.1.0 passed.1.1.1.1.1.1.1.1.0
+
+  pattern_is : (parts_of text query).pattern ≡ p
+  unfolding parts_of
+  pattern_is = refl
+
+  module _ (catalog : Tables) where
+    abbrev last : Option BindRefusal
+    last = over_limit max_alternatives (length (alternatives query catalog)) refusal.TooManyAlternatives
+
+    refusal_is : first_refusal query text catalog ≡ or_else found last
+    unfolding first_refusal
+    refusal_is =
+        first_append before_last (last ∷ [])
+        ∙ ap (or_else (first_of_all before_last)) (first_then last [] ∙ or_none last)
+        ∙ ap (λ o. or_else o last) (sym checked)
+
+    answered : (e : BindRefusal) → (IsOfQuery e → first_refusal query text catalog ≡ Some e) → Answers query text catalog (Err e)
+    answered refusal.Memory h = tt
+    answered e h = h tt
+
+    -- a check refuses the query
+    pub refused_early : (parts : QueryParts) (e : BindRefusal) → parts ≡ parts_of text query → (IsOfQuery e → first_of_all (checks_in text query parts) ≡ Some e)
+        → Answers query text catalog (Err e)
+    refused_early parts e is h =
+        answered e (λ q. refusal_is ∙ ap (λ o. or_else o last) (sym (ap (λ ps. first_of_all (checks_in text query ps)) is) ∙ h q))
+
+    abbrev many : Pattern → Option BindRefusal
+    many pattern = over_limit max_alternatives (length (pattern_alternatives catalog pattern)) refusal.TooManyAlternatives
+
+    module _ (parts : QueryParts) (is : parts ≡ parts_of text query) (passed : first_of_all (checks_in text query parts) ≡ None) where
+      passes : found ≡ None
+      passes = sym (ap (λ ps. first_of_all (checks_in text query ps)) is) ∙ passed
+
+      pattern_so : parts.pattern ≡ p
+      pattern_so = ap (λ (ps : QueryParts). ps.pattern) is ∙ pattern_is
+
+      rest : first_refusal query text catalog ≡ many parts.pattern
+      rest = refusal_is ∙ ap (λ o. or_else o last) passes ∙ sym (ap many pattern_so)
+
+      -- the last check refuses it
+      pub refused_last : (e : BindRefusal) → (IsOfQuery e → many parts.pattern ≡ Some e) → Answers query text catalog (Err e)
+      refused_last e h = answered e (λ q. rest ∙ h q)
+
+      bound_by_parts : StandsIn text query → first_refusal query text catalog ≡ None → IsNamed query text → IsBound query text catalog (bound_in catalog query (parts_of text query) (alternatives query catalog))
+      unfolding parts_of
+      bound_by_parts stands accepted named =
+          is_bound query text catalog (bound_in catalog query (parts_of text query) (alternatives query catalog)) accepted
+          (record {
+            node_names = refl;
+            rel_names = refl;
+            columns = columns_there query text named;
+            conjuncts = conjuncts_there query text named;
+            keys = keys_there query text named;
+            distinct = refl;
+            skip = refl;
+            limit = refl;
+          })
+          refl (node_names_there text query stands)
+
+      -- no check refuses it
+      pub accepted : (choices : List Choice) → StandsIn text query → many parts.pattern ≡ None → choices ≡ pattern_alternatives catalog parts.pattern → IsBound query text catalog (bound_in catalog query parts choices)
+      accepted choices stands few all =
+          subst (λ ps. IsBound query text catalog (bound_in catalog query ps choices)) (sym is)
+          (subst (λ cs. IsBound query text catalog (bound_in catalog query (parts_of text query) cs)) (sym (all ∙ ap (pattern_alternatives catalog) pattern_so))
+          (bound_by_parts stands (rest ∙ few) (named_parts passes)))
+
+    -- a refusal that is no want of memory
+    pub refused_so : (e : BindRefusal) → (e ≡ refusal.Memory → ⊥) → Answers query text catalog (Err e) → Some e ≡ first_refusal query text catalog
+    refused_so refusal.Memory other h = absurd (other refl)
+    refused_so e other h = sym h

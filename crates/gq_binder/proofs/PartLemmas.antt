@@ -1,0 +1,74 @@
+-- The names and conjuncts of some conditions and then others.
+use Rattle.std.proofs.Common.{◌≡◌, ◌∙◌, ℕ, suc, ◌+◌, ◌<◌, List, [], ◌∷◌, ◌++◌, map, length, drop, get_or, drop-cons, add-one, append_assoc, sym, ap}
+use Rattle.std.specs.Prelude.{unwrap_or}
+use Rattle.std.proofs.lemmas.Grind.{flat_map-append}
+use Rattle.gq_binder.proofs.NameLemmas.{with_expressions_append}
+use Rattle.gq_binder.specs.Columns.{Scoped, columns_in, conditions, conditions_from, entry_test, scoped_in}
+use Rattle.gq_binder.specs.Names.{FirstNames, no_names, with_expressions}
+use Rattle.gq_binder.specs.Parts.{known_conjuncts, parts_of}
+use Rattle.gq_binder.specs.Refusals.{items_in, sorts_in}
+use Rattle.gq_plan.specs.declared.NamedExpr.{NamedExpr}
+use Rattle.gq_scopes.specs.Conjuncts.{conjunct_expr}
+use Rattle.gq_scopes.specs.Patterns.{Pattern, pattern_of, with_clauses, with_paths}
+use Rattle.gq_scopes.specs.Resolving.{functions, split, all_some}
+use Rattle.gq_scopes.specs.Scopes.{scope_of}
+use Rattle.gq_scopes.specs.declared.Column.{Column}
+use Rattle.gq_syntax.specs.declared.Clause.{Clause}
+use Rattle.gq_syntax.specs.declared.Query.{Query}
+
+pub known_conjuncts_append : (text : List ℕ) (cs ds : List Scoped) → known_conjuncts text (cs ++ ds) ≡ known_conjuncts text cs ++ known_conjuncts text ds
+known_conjuncts_append text cs ds = flat_map-append (λ c. unwrap_or (all_some (map (conjunct_expr text) (split functions c.scope c.tree).conjuncts)) []) cs ds
+
+-- one more clause of several
+module _ (clauses : List Clause) (at : ℕ) (more : at < length clauses) (c : Clause) (is : c ≡ get_or clauses at c) where
+  cut : drop at clauses ≡ c ∷ drop (at + 1) clauses
+  cut = rw (add-one at) (drop-cons clauses at c more ∙ ap (λ y. y ∷ drop (suc at) clauses) (sym is))
+
+  module _ (number next : ℕ) (p q : Pattern) (counted : next ≡ suc number) (is_q : q ≡ with_paths number c.paths p) where
+    pub next_pattern : (whole : Pattern) → with_clauses number (drop at clauses) p ≡ whole → with_clauses next (drop (at + 1) clauses) q ≡ whole
+    next_pattern whole h = (λ i. with_clauses (counted i) (drop (at + 1) clauses) (is_q i)) ∙ sym (ap (λ cs. with_clauses number cs p) cut) ∙ h
+
+    abbrev rest : List Scoped
+    rest = conditions_from (suc number) (with_paths number c.paths p) (drop (at + 1) clauses)
+
+    abbrev first : List Scoped
+    first = scoped_in (scope_of (with_paths number c.paths p)) c.filter
+
+    pub next_names : (old new whole : FirstNames) → new ≡ with_expressions old (scoped_in (scope_of q) c.filter) → with_expressions old (conditions_from number p (drop at clauses)) ≡ whole
+        → with_expressions new (conditions_from next q (drop (at + 1) clauses)) ≡ whole
+    next_names old new whole e h =
+        (λ i. with_expressions new (conditions_from (counted i) (is_q i) (drop (at + 1) clauses)))
+        ∙ ap (λ n. with_expressions n rest) (e ∙ ap (λ r. with_expressions old (scoped_in (scope_of r) c.filter)) is_q)
+        ∙ sym (with_expressions_append old first rest)
+        ∙ sym (ap (λ cs. with_expressions old (conditions_from number p cs)) cut)
+        ∙ h
+
+    pub next_conjuncts : (text : List ℕ) (old new whole : List NamedExpr) → new ≡ old ++ known_conjuncts text (scoped_in (scope_of q) c.filter) → old ++ known_conjuncts text (conditions_from number p (drop at clauses)) ≡ whole
+        → new ++ known_conjuncts text (conditions_from next q (drop (at + 1) clauses)) ≡ whole
+    next_conjuncts text old new whole e h =
+        (λ i. new ++ known_conjuncts text (conditions_from (counted i) (is_q i) (drop (at + 1) clauses)))
+        ∙ ap (λ n. n ++ known_conjuncts text rest) (e ∙ ap (λ r. old ++ known_conjuncts text (scoped_in (scope_of r) c.filter)) is_q)
+        ∙ append_assoc old (known_conjuncts text first) (known_conjuncts text rest)
+        ∙ ap (λ l. old ++ l) (sym (known_conjuncts_append text first rest))
+        ∙ sym (ap (λ cs. old ++ known_conjuncts text (conditions_from number p cs)) cut)
+        ∙ h
+
+-- the parts of a query, made one after another
+pub parts_made : (query : Query) (text : List ℕ) (p : Pattern) (names after : FirstNames) (cs : List Column) (es ts : List NamedExpr)
+    → p ≡ pattern_of query.clauses → names ≡ with_expressions no_names (conditions query) → es ≡ known_conjuncts text (conditions query)
+    → cs ≡ columns_in functions text p query → ts ≡ map (entry_test text) p.entries
+    → after ≡ with_expressions (with_expressions names (items_in (scope_of p) query.items)) (sorts_in (record (scope_of p) { columns = columns_in functions text p query }) query.order)
+    → record { pattern = p; names = after; columns = cs; conjuncts = es; tests = ts } ≡ parts_of text query
+unfolding parts_of
+parts_made query text p names after cs es ts is_p is_names is_es is_cs is_ts is_after =
+    let items : Pattern → List Scoped = λ q. items_in (scope_of q) query.items in
+    let sorts : Pattern → List Scoped = λ q. sorts_in (record (scope_of q) { columns = columns_in functions text q query }) query.order in
+    let q : Pattern = pattern_of query.clauses in
+    let all : after ≡ with_expressions no_names (conditions query ++ (items q ++ sorts q)) =
+    is_after
+    ∙ (λ i. with_expressions (with_expressions (is_names i) (items (is_p i))) (sorts (is_p i)))
+    ∙ sym (with_expressions_append (with_expressions no_names (conditions query)) (items q) (sorts q))
+    ∙ sym (with_expressions_append no_names (conditions query) (items q ++ sorts q)) in
+    let columns : cs ≡ columns_in functions text q query = is_cs ∙ ap (λ r. columns_in functions text r query) is_p in
+    let tests : ts ≡ map (entry_test text) q.entries = is_ts ∙ ap (λ (r : Pattern). map (entry_test text) r.entries) is_p in
+    λ i. record { pattern = is_p i; names = all i; columns = columns i; conjuncts = is_es i; tests = tests i }

@@ -1,0 +1,14 @@
+use Rattle.std.proofs.Common.{◌∙◌, ap}
+use Rattle.gq_binder.proofs.PartLemmas.{next_pattern, next_names, next_conjuncts}
+use Rattle.gq_scopes.specs.Patterns.{with_paths}
+use Rattle.gq_binder.proofs.parts.conditions_of.Goals as goal
+
+pub loop-clause-preserved : goal.loop-clause-preserved
+loop-clause-preserved c =
+    let l = c.loop-clause in
+    let paths = c.in_ok-push_paths.ensures ∙ ap (λ ps. with_paths c.loop-clause.number ps c.loop-clause.pattern) c.as_slice.ensures in
+    record {
+      pattern = next_pattern c.args.clauses.now l.clause-index c.loop-clause-test.true c.clause-item.result c.clause-item.is l.number c.in_ok-number.number l.pattern c.push_paths.new.self c.in_ok-number.ensures paths _ l.invariant.pattern;
+      names = next_names c.args.clauses.now l.clause-index c.loop-clause-test.true c.clause-item.result c.clause-item.is l.number c.in_ok-number.number l.pattern c.push_paths.new.self c.in_ok-number.ensures paths l.names c.read_condition.new.names _ c.in_ok-read_condition.ensures.names l.invariant.names;
+      conjuncts = next_conjuncts c.args.clauses.now l.clause-index c.loop-clause-test.true c.clause-item.result c.clause-item.is l.number c.in_ok-number.number l.pattern c.push_paths.new.self c.in_ok-number.ensures paths c.args.text.now l.conjuncts c.read_condition.new.conjuncts _ c.in_ok-read_condition.ensures.conjuncts l.invariant.conjuncts;
+    }

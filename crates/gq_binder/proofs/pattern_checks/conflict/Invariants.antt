@@ -1,7 +1,0 @@
-use Rattle.std.proofs.Common.{◌≡◌, [], take, drop}
-use Rattle.gq_binder.specs.Refusals.{first_behind, conflicting}
-use Rattle.gq_binder.specs.Met.{met_of}
-use Rattle.gq_binder.proofs.pattern_checks.conflict.Given as goal
-
-abbrev pub invariant-loop-variable : goal.invariant-loop-variable
-invariant-loop-variable l = record { met : l.met ≡ met_of (take l.variable-index l.named); first : first_behind conflicting (take l.variable-index l.named) (drop l.variable-index l.named) ≡ first_behind conflicting [] l.named }

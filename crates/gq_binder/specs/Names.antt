@@ -1,0 +1,29 @@
+-- The first names and calls that the checks of names refuse among expressions.
+use Rattle.std.specs.Prelude.{Option, None, List, [], ◌∷◌}
+use Rattle.gq_binder.specs.Columns.{Scoped}
+use Rattle.gq_scopes.specs.Checks.{check_of}
+use Rattle.gq_scopes.specs.Patterns.{Name}
+use Rattle.gq_scopes.specs.Uses.{or_else, first_name, uses}
+use Rattle.gq_scopes.specs.declared.Check.TheVariants as check
+
+-- the first name that its scope does not have, the first call that names no function, and the first call with a wrong
+-- number of arguments
+pub record FirstNames : Type 0 where
+  pub variable : Option Name
+  pub function : Option Name
+  pub arguments : Option Name
+
+abbrev pub no_names : FirstNames
+no_names = record { variable = None; function = None; arguments = None }
+
+-- with one more expression
+abbrev pub with_expression : FirstNames → Scoped → FirstNames
+with_expression names e = record {
+  variable = or_else names.variable (first_name (check_of check.UnknownName e.scope) (uses e.tree));
+  function = or_else names.function (first_name (check_of check.UnknownFunction e.scope) (uses e.tree));
+  arguments = or_else names.arguments (first_name (check_of check.WrongCount e.scope) (uses e.tree));
+}
+
+abbrev pub with_expressions : FirstNames → List Scoped → FirstNames
+with_expressions names [] = names
+with_expressions names (e ∷ es) = with_expressions (with_expression names e) es

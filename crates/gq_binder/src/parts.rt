@@ -1,0 +1,163 @@
+//! The parts of a query that its checks and its bound form share, each made once.
+ghost use Rattle.std.specs.Prelude.{◌≡◌, ◌++◌, map, All, IfOk, IfSome, OnOk};
+ghost use Rattle.gq_binder.specs.Columns.{columns_in, conditions_from, entry_test, scoped_in};
+ghost use Rattle.gq_binder.specs.Names.{no_names, with_expressions};
+ghost use Rattle.gq_binder.specs.Parts.{known_conjuncts, parts_of};
+ghost use Rattle.gq_binder.specs.Refusals.{items_in, sorts_in};
+ghost use Rattle.gq_scopes.specs.Patterns.{no_pattern, pattern_of};
+ghost use Rattle.gq_scopes.specs.Resolving.{functions};
+ghost use Rattle.gq_scopes.specs.Scopes.{scope_of};
+ghost use Rattle.gq_syntax.specs.Spans.{IsWholeClause, IsWholeEntry, IsWholeTree, StandsIn};
+
+use crate::columns::columns_of;
+use crate::entries::entry_tests;
+use crate::names::FirstNames;
+use gq_base::{List, Memory};
+use gq_plan::NamedExpr;
+use gq_scopes::{CallForm, Column, Pattern, conjuncts_of, next};
+use gq_syntax::{Ast, Clause, Query};
+use std::alloc::Global;
+
+/// The parts of a query: its patterns, the first names that the checks of names refuse, its columns, the conjuncts of
+/// its conditions, and the tests of the maps of its patterns.
+#[derive(Drop)]
+pub struct QueryParts<'q> {
+    pub pattern: Pattern<'q>,
+    pub names: FirstNames<'q>,
+    pub columns: List<Column>,
+    pub conjuncts: List<NamedExpr>,
+    pub tests: List<NamedExpr>,
+}
+
+/// The parts of a query that stands in a text.
+pub fn parts_of<'q>(alloc: Global, text: &[u8], query: &'q Query) -> Result<QueryParts<'q>, Memory>
+    requires { StandsIn text.now query.now }
+    ensures { IfOk result (λ parts. parts ≡ parts_of text.now query.now) }
+{
+    let conditions = conditions_of(alloc, text, query.clauses.as_slice())?;
+    let Conditions {
+        pattern,
+        mut names,
+        conjuncts,
+    } = conditions;
+    let lists = lists_of(alloc, text, query, &pattern, &mut names)?;
+    Ok(QueryParts {
+        pattern,
+        names,
+        columns: lists.columns,
+        conjuncts,
+        tests: lists.tests,
+    })
+}
+
+// The columns of a query, and the tests of the maps of its patterns.
+#[derive(Drop)]
+struct Lists {
+    columns: List<Column>,
+    tests: List<NamedExpr>,
+}
+
+// Reads the items and sort items of a query with these patterns.
+fn lists_of<'q>(
+    alloc: Global,
+    text: &[u8],
+    query: &'q Query,
+    pattern: &Pattern<'_>,
+    names: &mut FirstNames<'q>,
+) -> Result<Lists, Memory>
+    requires items { All (λ item. IsWholeTree text.now item.tree) query.now.items }
+    requires entries { All (λ e. IsWholeEntry text.now e.entry) pattern.now.entries }
+    ensures columns { IfOk result (λ lists. lists.columns
+        ≡ columns_in functions text.now pattern.now query.now) }
+    ensures tests { IfOk result (λ lists. lists.tests
+        ≡ map (entry_test text.now) pattern.now.entries) }
+    ensures names { OnOk result (names.new
+        ≡ with_expressions (with_expressions names.old (items_in (scope_of pattern.now) query.now.items))
+        (sorts_in (record (scope_of pattern.now) { columns = columns_in functions text.now pattern.now query.now }) query.now.order)) }
+{
+    let columns = columns_of(alloc, CallForm::Functions, text, pattern, query)?;
+    let tests = entry_tests(alloc, text, pattern.entries())?;
+    names.read_items(&pattern.scope(&[])?, query.items.as_slice());
+    names.read_sorts(&pattern.scope(columns.as_slice())?, query.order.as_slice());
+    Ok(Lists { columns, tests })
+}
+
+// The patterns of clauses, the first names that are refused in their conditions, and the conjuncts of these.
+#[derive(Drop)]
+struct Conditions<'q> {
+    pattern: Pattern<'q>,
+    names: FirstNames<'q>,
+    conjuncts: List<NamedExpr>,
+}
+
+// Each condition sees the variables of its clause and of earlier ones.
+#[tactic(auto, using(crate::proofs::NameLemmas::with_expressions_append, crate::proofs::PartLemmas::known_conjuncts_append), unfolding(gq_scopes::specs::Patterns::pattern_of))]
+fn conditions_of<'q>(
+    alloc: Global,
+    text: &[u8],
+    clauses: &'q [Clause],
+) -> Result<Conditions<'q>, Memory>
+    requires { All (IsWholeClause text.now) clauses.now }
+    ensures pattern { IfOk result (λ c. c.pattern ≡ pattern_of clauses.now) }
+    ensures names { IfOk result (λ c. c.names
+        ≡ with_expressions no_names (conditions_from 0 no_pattern clauses.now)) }
+    ensures conjuncts { IfOk result (λ c. c.conjuncts
+        ≡ known_conjuncts text.now (conditions_from 0 no_pattern clauses.now)) }
+{
+    let mut pattern = Pattern::new(alloc);
+    let mut names = FirstNames::new();
+    let mut conjuncts = List::new(alloc);
+    let mut number = 0;
+    for clause in clauses {
+        pattern.push_paths(alloc, number, clause.paths.as_slice())?;
+        read_condition(
+            alloc,
+            text,
+            &pattern,
+            &clause.filter,
+            &mut names,
+            &mut conjuncts,
+        )?;
+        number = next(number)?;
+    }
+    Ok(Conditions {
+        pattern,
+        names,
+        conjuncts,
+    })
+}
+
+// Reads the condition of a clause. One that stands for no expression has no conjuncts: a check refuses it.
+fn read_condition<'q>(
+    alloc: Global,
+    text: &[u8],
+    pattern: &Pattern<'_>,
+    filter: &'q Option<Ast>,
+    names: &mut FirstNames<'q>,
+    conjuncts: &mut List<NamedExpr>,
+) -> Result<(), Memory>
+    requires { IfSome filter.now (IsWholeTree text.now) }
+    ensures names { OnOk result (names.new
+        ≡ with_expressions names.old (scoped_in (scope_of pattern.now) filter.now)) }
+    ensures conjuncts { OnOk result (conjuncts.new
+        ≡ conjuncts.old ++ known_conjuncts text.now (scoped_in (scope_of pattern.now) filter.now)) }
+{
+    let Some(tree) = filter else {
+        return Ok(());
+    };
+    let scope = pattern.scope(&[])?;
+    names.read(&scope, tree);
+    match conjuncts_of(alloc, text, &scope, tree)? {
+        Some(more) => push_all(conjuncts, more),
+        None => Ok(()),
+    }
+}
+
+fn push_all(all: &mut List<NamedExpr>, more: List<NamedExpr>) -> Result<(), Memory>
+    ensures { OnOk result (all.new ≡ all.old ++ more) }
+{
+    for conjunct in more.into_vec() {
+        all.push(conjunct)?;
+    }
+    Ok(())
+}
