@@ -64,7 +64,8 @@ pub fn first_refused<'t>(check: Check<'_>, scope: &Scope<'_>, tree: &'t Ast) -> 
 
 #[cycle(first_refused)]
 fn first_of_all<'t>(check: Check<'_>, scope: &Scope<'_>, trees: &'t [Ast]) -> Option<&'t Text>
-    ensures { option_copied result ≡ first_of (check_of check.entry scope.now) (map uses.uses trees.now) }
+    ensures { let uss = map uses.uses trees.now in
+        option_copied result ≡ first_of (check_of check.entry scope.now) uss }
 {
     for tree in trees {
         if let Some(name) = first_refused(check, scope, tree) {
@@ -80,7 +81,8 @@ fn first_of_compares<'t>(
     scope: &Scope<'_>,
     terms: &'t [CompareTerm],
 ) -> Option<&'t Text>
-    ensures { option_copied result ≡ first_of (check_of check.entry scope.now) (map term_uses (map (term_with uses.uses) terms.now)) }
+    ensures { let uss = map term_uses (map (term_with uses.uses) terms.now) in
+        option_copied result ≡ first_of (check_of check.entry scope.now) uss }
 {
     for term in terms {
         if let Some(name) = first_refused(check, scope, &term.tree) {
@@ -96,7 +98,8 @@ fn first_of_ariths<'t>(
     scope: &Scope<'_>,
     terms: &'t [ArithTerm],
 ) -> Option<&'t Text>
-    ensures { option_copied result ≡ first_of (check_of check.entry scope.now) (map term_uses (map (term_with uses.uses) terms.now)) }
+    ensures { let uss = map term_uses (map (term_with uses.uses) terms.now) in
+        option_copied result ≡ first_of (check_of check.entry scope.now) uss }
 {
     for term in terms {
         if let Some(name) = first_refused(check, scope, &term.tree) {
@@ -112,7 +115,8 @@ fn first_of_testers<'t>(
     scope: &Scope<'_>,
     testers: &'t [AstTester],
 ) -> Option<&'t Text>
-    ensures { option_copied result ≡ first_of (check_of check.entry scope.now) (map tester_uses (map (tester_with uses.uses) testers.now)) }
+    ensures { let uss = map tester_uses (map (tester_with uses.uses) testers.now) in
+        option_copied result ≡ first_of (check_of check.entry scope.now) uss }
 {
     for tester in testers {
         let found = match tester {
