@@ -20,8 +20,8 @@ use Rattle.gq_base.specs.declared.catalog.RelTable.{RelTable}
 use Rattle.gq_base.specs.declared.cell.Cell.{Cell}
 use Rattle.gq_base.specs.declared.cell.PlainRel.{PlainRel}
 use Rattle.gq_manifest.specs.Manifests.{AreWhole}
-use Rattle.gq_manifest.specs.declared.order.TableNumber.{TableNumber}
-use Rattle.gq_manifest.specs.declared.order.TableNumber.TheVariants as table
+use Rattle.gq_manifest.specs.declared.manifest.TableNumber.{TableNumber}
+use Rattle.gq_manifest.specs.declared.manifest.TableNumber.TheVariants as table
 use Rattle.gq_loader.specs.Answers.{IsUnread, KeepsOthers}
 
 abbrev Rows : Type 0

@@ -8,9 +8,9 @@ use Rattle.std.proofs.lemmas.List.Elements.{All-weaker}
 use Rattle.gq_base.specs.Catalogs.{Tables}
 use Rattle.gq_base.specs.Plain.{Graph}
 use Rattle.gq_io.specs.Outside.{Names}
-use Rattle.gq_manifest.specs.Orders.{IsNumberOf}
-use Rattle.gq_manifest.specs.declared.order.TableNumber.{TableNumber}
-use Rattle.gq_manifest.specs.declared.order.TableNumber.TheVariants as table
+use Rattle.gq_manifest.specs.Manifests.{IsNumberOf}
+use Rattle.gq_manifest.specs.declared.manifest.TableNumber.{TableNumber}
+use Rattle.gq_manifest.specs.declared.manifest.TableNumber.TheVariants as table
 use Rattle.gq_loader.specs.Answers.{Answers, AsMany, Leaves}
 use Rattle.gq_loader.specs.Loads.{beginning_of, load_of, take_table, take_tables}
 use Rattle.gq_loader.specs.Refusals.{and_then}

@@ -6,8 +6,8 @@ use Rattle.gq_base.specs.Catalogs.{Tables}
 use Rattle.gq_base.specs.Plain.{Graph}
 use Rattle.gq_base.specs.Valid.{row_count}
 use Rattle.gq_io.specs.Outside.{Names}
-use Rattle.gq_manifest.specs.declared.order.TableNumber.{TableNumber}
-use Rattle.gq_manifest.specs.declared.order.TableNumber.TheVariants as table
+use Rattle.gq_manifest.specs.declared.manifest.TableNumber.{TableNumber}
+use Rattle.gq_manifest.specs.declared.manifest.TableNumber.TheVariants as table
 use Rattle.gq_loader.specs.Refusals.{IsOfFiles}
 use Rattle.gq_loader.specs.declared.limits.Limits.{Limits}
 use Rattle.gq_loader.specs.declared.refusal.LoadRefusal.{LoadRefusal}

@@ -1,5 +1,5 @@
--- Which graph the files give, or what is refused first (this project's profile). The tables of a manifest are `manifest_of`
--- its text, in the order `order_of` of its lines; what the bytes of one file give are `node_table_of` and `rel_table_of`.
+-- Which graph the files give, or what is refused first (this project's profile). What a manifest names is `manifest_of` its
+-- text; what the bytes of the file of a table give are `node_table_of` and `rel_table_of`.
 use Rattle.std.specs.Prelude.{ℕ, ◌+◌, List, [], ◌∷◌, length, replicate, slice_get, slice_set, option_map, unwrap_or, Ok}
 use Rattle.std.specs.declared.option.Option.{Option}
 use Rattle.std.specs.declared.option.Option.TheVariants.{Some, None}
@@ -13,9 +13,9 @@ use Rattle.gq_base.specs.declared.catalog.NodeTable.{NodeTable}
 use Rattle.gq_base.specs.declared.catalog.RelTable.{RelTable}
 use Rattle.gq_io.specs.Outside.{Names}
 use Rattle.gq_manifest.specs.Manifests.{manifest_of}
-use Rattle.gq_manifest.specs.Orders.{order_of}
-use Rattle.gq_manifest.specs.declared.order.TableNumber.{TableNumber}
-use Rattle.gq_manifest.specs.declared.order.TableNumber.TheVariants as table
+use Rattle.gq_manifest.specs.declared.manifest.Manifest.{Manifest}
+use Rattle.gq_manifest.specs.declared.manifest.TableNumber.{TableNumber}
+use Rattle.gq_manifest.specs.declared.manifest.TableNumber.TheVariants as table
 use Rattle.gq_tables.specs.Nodes.{node_table_of}
 use Rattle.gq_tables.specs.Rels.{KeyTable, rel_table_of}
 use Rattle.gq_tables.specs.declared.nodes.NodeTableRows.{NodeTableRows}
@@ -100,19 +100,22 @@ module _ (files : Names) (limits : Limits) where
   take_tables loading (next ∷ more) = and_then (take_table loading next) (λ after. take_tables after more)
 
 -- what a manifest gives: the graph of its tables, none of which was read, and the order in which they are
-abbrev pub begun : List ℕ → Tables → Beginning
-begun text tables = record { loading = record { graph = empty_graph tables; total = 0 }; order = order_of text }
+abbrev pub begun : Manifest → Beginning
+begun manifest = record {
+  loading = record { graph = empty_graph manifest.catalog; total = 0 };
+  order = manifest.order;
+}
 
 -- the manifest of this name, all of whose lines are read
 abbrev pub beginning_of : List ℕ → Names → Result Beginning LoadRefusal
 beginning_of name files =
     and_then (file_of files is_short_manifest name) (λ text.
-    and_then (in_manifest (manifest_of text)) (λ tables.
-    Ok (begun text tables)))
+    and_then (in_manifest (manifest_of text)) (λ manifest.
+    Ok (begun manifest)))
 
 -- the load of the manifest of this name: first the manifest, and then the file of each of its lines, in their order
 abbrev pub load_of : List ℕ → Names → Limits → Result Graph LoadRefusal
 load_of name files limits =
-    and_then (beginning_of name files) (λ tables.
-    and_then (take_tables files limits tables.loading tables.order) (λ loading.
+    and_then (beginning_of name files) (λ beginning.
+    and_then (take_tables files limits beginning.loading beginning.order) (λ loading.
     Ok loading.graph))

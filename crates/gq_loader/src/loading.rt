@@ -2,7 +2,7 @@
 ghost use Rattle.std.specs.Prelude.{◌≡◌, ◌≢◌, true, All, AllPairs, IfOk};
 ghost use Rattle.gq_base.specs.Valid.{is_valid};
 ghost use Rattle.gq_io.specs.Causes.{Rose};
-ghost use Rattle.gq_manifest.specs.Orders.{IsNumberOf};
+ghost use Rattle.gq_manifest.specs.Manifests.{IsNumberOf};
 ghost use Rattle.gq_loader.specs.Answers.{Answers, IsFresh, IsUnread};
 ghost use Rattle.gq_loader.specs.Effects.{ByFault, ByMiss, Reads, ReadsFew, told_of};
 ghost use Rattle.gq_loader.specs.Limits.{IsWithin, most_bytes, most_manifest};
@@ -14,7 +14,7 @@ use crate::refusal::LoadRefusal;
 use crate::tables::{Loading, take_table};
 use gq_base::List;
 use gq_io::Files;
-use gq_manifest::{TableNumber, read_manifest, read_order};
+use gq_manifest::{Manifest, TableNumber, read_manifest};
 use gq_plain::PlainGraph;
 use gq_store::Graph;
 use std::alloc::Global;
@@ -69,8 +69,7 @@ fn begin<F: Files>(alloc: Global, files: &mut F, manifest: &str) -> Result<Begin
     ensures reads { Reads most_manifest (told_of F.held F.left F.faults F.misses files.old) (told_of F.held F.left F.faults F.misses files.new) result }
 {
     let text = read_file(alloc, files, manifest, MOST_MANIFEST)?;
-    let catalog = read_manifest(alloc, text.as_slice())?;
-    let order = read_order(alloc, text.as_slice())?;
+    let Manifest { catalog, order } = read_manifest(alloc, text.as_slice())?;
     let loading = Loading {
         graph: PlainGraph::new(alloc, catalog)?,
         total: 0,

@@ -2,13 +2,13 @@
 ghost use Rattle.std.specs.Prelude.{◌≡◌, ◌+◌, ◌<◌, ◌≤◌, ◌^◌, true, length, IfOk, OnOk};
 ghost use Rattle.std.specs.List.{list_all};
 ghost use Rattle.gq_base.specs.Valid.{are_fields, is_rel, is_valid, keeps_mult};
-ghost use Rattle.gq_manifest.specs.Orders.{IsNumberOf};
+ghost use Rattle.gq_manifest.specs.Manifests.{IsNumberOf};
 ghost use Rattle.gq_loader.specs.Answers.{Answers, AsMany, IsGoing, IsUnread, KeepsOthers, Leaves};
 ghost use Rattle.gq_loader.specs.Effects.{Reads, told_of};
 ghost use Rattle.gq_loader.specs.Files.{file_of};
 ghost use Rattle.gq_loader.specs.Limits.{IsWithin, is_short};
 ghost use Rattle.gq_loader.specs.Loads.{end_of, key_kind, take_nodes, take_rels, take_table};
-ghost use Rattle.gq_manifest.specs.declared.order.TableNumber.TheVariants as table;
+ghost use Rattle.gq_manifest.specs.declared.manifest.TableNumber.TheVariants as table;
 ghost use Rattle.gq_tables.specs.Answers.{Answers as TableAnswers, seen_end};
 ghost use Rattle.gq_tables.specs.Rels.{rel_table_of};
 

@@ -4,8 +4,6 @@
 mod cut;
 mod line;
 mod manifest;
-mod order;
 mod tables;
 
-pub use manifest::{ManifestRefusal, read_manifest};
-pub use order::{TableNumber, read_order};
+pub use manifest::{Manifest, ManifestRefusal, TableNumber, read_manifest};

@@ -1,7 +1,7 @@
 use Rattle.std.proofs.Common.{◌≡◌, ℕ, ◌<◌, ◌≤◌, true, All, drop, get_or, length, Ok}
 use Rattle.gq_base.specs.Valid.{is_valid}
-use Rattle.gq_manifest.specs.Orders.{IsNumberOf}
-use Rattle.gq_manifest.specs.declared.order.TableNumber.{TableNumber}
+use Rattle.gq_manifest.specs.Manifests.{IsNumberOf}
+use Rattle.gq_manifest.specs.declared.manifest.TableNumber.{TableNumber}
 use Rattle.gq_loader.specs.Answers.{IsGoing, IsUnread}
 use Rattle.gq_loader.specs.Effects.{Reads, told_of}
 use Rattle.gq_loader.specs.Limits.{most_bytes}
