@@ -7,8 +7,9 @@ use Rattle.gq_manifest.specs.declared.line.RelLine.{RelLine as ReadRel}
 use Rattle.gq_manifest.specs.declared.line.TableLine.{TableLine as ReadTable}
 use Rattle.gq_manifest.specs.declared.line.TableLine.TheVariants as read
 use Rattle.gq_manifest.specs.declared.manifest.Manifest.{Manifest}
-use Rattle.gq_manifest.specs.declared.manifest.ManifestRefusal.{ManifestRefusal}
-use Rattle.gq_manifest.specs.declared.manifest.ManifestRefusal.TheVariants as refusal
+use Rattle.gq_manifest.specs.declared.refusal.ManifestRefusal.{ManifestRefusal}
+use Rattle.gq_manifest.specs.declared.refusal.ManifestStop.{ManifestStop}
+use Rattle.gq_manifest.specs.declared.refusal.ManifestStop.TheVariants as stop
 
 -- a line that was read
 abbrev pub seen_node : ReadNode → NodeLine
@@ -28,17 +29,17 @@ seen_table (read.Node line) = node (seen_node line)
 seen_table (read.Rel line) = rel (seen_rel line)
 
 -- the refusal that is meant, or want of memory
-abbrev pub Refuses : Result Manifest ManifestRefusal → ManifestRefusal → Type 0
-Refuses meant refusal.Memory = Unit {0}
-Refuses meant e = meant ≡ Err e
+abbrev pub Refuses : Result Manifest ManifestRefusal → ManifestStop → Type 0
+Refuses meant (stop.Refused refusal) = meant ≡ Err refusal
+Refuses meant stop.Memory = Unit {0}
 
 -- the answer is what is meant, or want of memory
-abbrev pub Reads : Result Manifest ManifestRefusal → Result Manifest ManifestRefusal → Type 0
+abbrev pub Reads : Result Manifest ManifestRefusal → Result Manifest ManifestStop → Type 0
 Reads meant (Ok manifest) = meant ≡ Ok manifest
 Reads meant (Err e) = Refuses meant e
 
 -- the same, where `Ok` leaves the manifest that is meant behind
 abbrev pub Adds : {T : Type 0} → Result Manifest ManifestRefusal → Manifest
-    → Result T ManifestRefusal → Type 0
+    → Result T ManifestStop → Type 0
 Adds meant left (Ok done) = meant ≡ Ok left
 Adds meant left (Err e) = Refuses meant e

@@ -1,4 +1,5 @@
--- Which tables a manifest names and in which order, or which line is refused first, and why (this project's profile).
+-- Which tables a manifest names and in which order, or which line is refused first, and why (this
+-- project's profile).
 use Rattle.std.specs.Prelude.{◌≡◌, ◌≢◌, ℕ, ◌+◌, ◌<◌, ◌≤◌, nat_le, All, AllPairs, if◌then◌else◌}
 use Rattle.std.specs.Prelude.{List, [], ◌∷◌, ◌++◌, length, is_some, Ok, Err}
 use Rattle.std.specs.declared.option.Option.{Option}
@@ -9,11 +10,12 @@ use Rattle.gq_base.specs.Catalogs.{Tables, find_label, find_type}
 use Rattle.gq_base.specs.declared.catalog.NodeTable.{NodeTable}
 use Rattle.gq_base.specs.declared.catalog.RelTable.{RelTable}
 use Rattle.gq_manifest.specs.Lines.{NodeLine, RelLine, TableLine, node, rel, is_skipped, table_of}
+use Rattle.gq_manifest.specs.Refusals.{on_line}
 use Rattle.gq_manifest.specs.declared.manifest.Manifest.{Manifest}
-use Rattle.gq_manifest.specs.declared.manifest.ManifestRefusal.{ManifestRefusal}
-use Rattle.gq_manifest.specs.declared.manifest.ManifestRefusal.TheVariants as refusal
 use Rattle.gq_manifest.specs.declared.manifest.TableNumber.{TableNumber}
 use Rattle.gq_manifest.specs.declared.manifest.TableNumber.TheVariants as numbered
+use Rattle.gq_manifest.specs.declared.refusal.LineFault.TheVariants as fault
+use Rattle.gq_manifest.specs.declared.refusal.ManifestRefusal.{ManifestRefusal}
 
 -- how many lines there may be of each form
 abbrev pub most_tables : ℕ
@@ -45,23 +47,27 @@ with_rel before table = record {
 -- a node line at this number: its label is on no line before it, and fewer than 64 node lines are
 abbrev pub add_node : ℕ → Manifest → NodeLine → Result Manifest ManifestRefusal
 add_node number before line =
-    if is_some (find_label before.catalog.nodes line.label) then Err (refusal.LabelRepeated number)
-    else if nat_le most_tables (length before.catalog.nodes) then Err (refusal.TooManyTables number)
+    if is_some (find_label before.catalog.nodes line.label)
+    then Err (on_line number fault.LabelRepeated)
+    else if nat_le most_tables (length before.catalog.nodes)
+    then Err (on_line number fault.TooManyTables)
     else Ok (with_node before (node_table line))
 
--- a rel line whose ends are the node tables of these numbers, where both labels are on lines before it
-abbrev pub add_between : ℕ → Manifest → RelLine → Option ℕ → Option ℕ → Result Manifest ManifestRefusal
+-- a rel line between the node tables of these numbers, where both labels are on lines before it
+abbrev pub add_between : ℕ → Manifest → RelLine → Option ℕ → Option ℕ
+    → Result Manifest ManifestRefusal
 add_between number before line (Some from) (Some to) =
-    if nat_le most_tables (length before.catalog.rels) then Err (refusal.TooManyTables number)
+    if nat_le most_tables (length before.catalog.rels) then Err (on_line number fault.TooManyTables)
     else Ok (with_rel before (rel_table line from to))
-add_between number before line from to = Err (refusal.NoSuchLabel number)
+add_between number before line from to = Err (on_line number fault.NoSuchLabel)
 
 -- a rel line: its type is new, its labels are not, and fewer than 64 rel lines are before it
 abbrev pub add_rel : ℕ → Manifest → RelLine → Result Manifest ManifestRefusal
 add_rel number before line =
-    if is_some (find_type before.catalog.rels line.name) then Err (refusal.TypeRepeated number)
+    if is_some (find_type before.catalog.rels line.name)
+    then Err (on_line number fault.TypeRepeated)
     else add_between number before line
-        (find_label before.catalog.nodes line.from) (find_label before.catalog.nodes line.to)
+    (find_label before.catalog.nodes line.from) (find_label before.catalog.nodes line.to)
 
 -- the table that a line names
 abbrev pub add_table : ℕ → Manifest → TableLine → Result Manifest ManifestRefusal
@@ -70,7 +76,7 @@ add_table number before (rel line) = add_rel number before line
 
 -- a line that is not skipped names a table
 abbrev pub add_line : ℕ → Manifest → Option TableLine → Result Manifest ManifestRefusal
-add_line number before None = Err (refusal.BadLine number)
+add_line number before None = Err (on_line number fault.BadLine)
 add_line number before (Some line) = add_table number before line
 
 -- one line, and the manifest with it
@@ -94,14 +100,15 @@ take_lines number before (line ∷ more) =
 abbrev pub blank : Manifest
 blank = record { catalog = record { nodes = []; rels = [] }; order = [] }
 
--- the tables of a manifest and their order, or the first refusal: its lines are counted from 1 and end at LF or CR LF, and
--- the last may have no end
+-- the tables of a manifest and their order, or the first refusal: its lines are counted from 1 and
+-- end at LF or CR LF, and the last may have no end
 abbrev pub manifest_of : List ℕ → Result Manifest ManifestRefusal
 manifest_of text = take_lines 1 blank (lines text)
 
 -- ---- what holds of each manifest
 
--- the tables are few, no two of a form have one name, their ends are node tables, and none has fields yet
+-- the tables are few, no two of a form have one name, their ends are node tables, and none has
+-- fields yet
 pub record AreWhole (tables : Tables) : Type 0 where
   pub few_nodes : length tables.nodes ≤ most_tables
   pub few_rels : length tables.rels ≤ most_tables

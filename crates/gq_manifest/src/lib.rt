@@ -4,6 +4,8 @@
 mod cut;
 mod line;
 mod manifest;
+mod refusal;
 mod tables;
 
-pub use manifest::{Manifest, ManifestRefusal, TableNumber, read_manifest};
+pub use manifest::{Manifest, TableNumber, read_manifest};
+pub use refusal::{LineFault, ManifestRefusal, ManifestStop};

@@ -2,12 +2,12 @@
 ghost use Rattle.std.specs.Prelude.{◌≡◌, ◌^◌, ◌<◌, length, IfOk};
 ghost use Rattle.gq_manifest.specs.Answers.{Adds, Reads};
 ghost use Rattle.gq_manifest.specs.Manifests.{IsWhole, manifest_of, take_line};
-ghost use Rattle.gq_manifest.specs.declared.manifest.ManifestRefusal.TheVariants as refusal;
 
 use crate::cut::{cut_line, is_skipped};
 use crate::line::read_line;
+use crate::refusal::{LineFault, ManifestStop};
 use crate::tables::add_table;
-use gq_base::{Catalog, List, Memory};
+use gq_base::{Catalog, List};
 use std::alloc::Global;
 
 /// A table, by its number among those of its form, from 0 in the order of their lines.
@@ -28,38 +28,12 @@ pub struct Manifest {
     pub order: List<TableNumber>,
 }
 
-/// Why a manifest names no tables: the first line that is refused, counted from 1, and the first rule that refuses it, in
-/// the order below.
-#[derive(Clone, Copy, Debug, PartialEq, Eq)]
-pub enum ManifestRefusal {
-    /// The line is not UTF-8, or not of one of the two forms.
-    BadLine { line: u32 },
-    /// Its label is that of an earlier line.
-    LabelRepeated { line: u32 },
-    /// Its type is that of an earlier line.
-    TypeRepeated { line: u32 },
-    /// A label that it goes from or to is on no earlier line.
-    NoSuchLabel { line: u32 },
-    /// It is the 65th line of its form.
-    TooManyTables { line: u32 },
-    /// There was not enough memory.
-    Memory,
-}
-
-impl From<Memory> for ManifestRefusal {
-    ghost from_gives = { λ _ e. e ≡ refusal.Memory };
-
-    fn from(_memory: Memory) -> ManifestRefusal {
-        ManifestRefusal::Memory
-    }
-}
-
 /// The tables that a manifest names, and their order.
 ///
-/// A manifest is lines ended by LF or CR LF, of words set apart by spaces and tabs: `node LABEL FILE`, or
-/// `rel TYPE FROM TO MULT FILE`, where MULT is `many_many`, `many_one`, `one_many` or `one_one`. Lines without words
-/// and lines that begin with `#` are skipped.
-pub fn read_manifest(alloc: Global, text: &[u8]) -> Result<Manifest, ManifestRefusal>
+/// A manifest is lines ended by LF or CR LF, of words set apart by spaces and tabs: `node LABEL
+/// FILE`, or `rel TYPE FROM TO MULT FILE`, where MULT is `many_many`, `many_one`, `one_many` or
+/// `one_one`. Lines without words and lines that begin with `#` are skipped.
+pub fn read_manifest(alloc: Global, text: &[u8]) -> Result<Manifest, ManifestStop>
     requires { length text.now < 2 ^ 32 }
     ensures reads { Reads (manifest_of text.now) result }
     ensures whole { IfOk result IsWhole }
@@ -85,7 +59,7 @@ fn take_line(
     manifest: &mut Manifest,
     number: u32,
     line: &[u8],
-) -> Result<(), ManifestRefusal>
+) -> Result<(), ManifestStop>
     ensures { Adds (take_line number manifest.old line.now) manifest.new result }
 {
     if is_skipped(line) {
@@ -93,6 +67,6 @@ fn take_line(
     }
     match read_line(alloc, line)? {
         Some(table) => add_table(alloc, manifest, number, table),
-        None => Err(ManifestRefusal::BadLine { line: number }),
+        None => Err(ManifestStop::on_line(number, LineFault::BadLine)),
     }
 }

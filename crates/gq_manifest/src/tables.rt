@@ -3,7 +3,8 @@ ghost use Rattle.gq_manifest.specs.Answers.{Adds, seen_node, seen_rel, seen_tabl
 ghost use Rattle.gq_manifest.specs.Manifests.{add_node, add_rel, add_table};
 
 use crate::line::{NodeLine, RelLine, TableLine};
-use crate::manifest::{Manifest, ManifestRefusal, TableNumber};
+use crate::manifest::{Manifest, TableNumber};
+use crate::refusal::{LineFault, ManifestStop};
 use gq_base::{List, NodeTable, RelTable, Text};
 use std::alloc::Global;
 
@@ -16,7 +17,7 @@ pub(crate) fn add_table(
     manifest: &mut Manifest,
     line: u32,
     table: TableLine<'_>,
-) -> Result<(), ManifestRefusal>
+) -> Result<(), ManifestStop>
     ensures { Adds (add_table line manifest.old (seen_table table.entry)) manifest.new result }
 {
     match table {
@@ -30,15 +31,15 @@ fn add_node(
     manifest: &mut Manifest,
     line: u32,
     node: NodeLine<'_>,
-) -> Result<(), ManifestRefusal>
+) -> Result<(), ManifestStop>
     ensures { Adds (add_node line manifest.old (seen_node node.entry)) manifest.new result }
 {
     let number = manifest.catalog.node_tables();
     if manifest.catalog.find_label(node.label).is_some() {
-        return Err(ManifestRefusal::LabelRepeated { line });
+        return Err(ManifestStop::on_line(line, LineFault::LabelRepeated));
     }
     if number >= MOST_TABLES {
-        return Err(ManifestRefusal::TooManyTables { line });
+        return Err(ManifestStop::on_line(line, LineFault::TooManyTables));
     }
     manifest.catalog.add_node(NodeTable {
         label: Text::new(alloc, node.label)?,
@@ -54,21 +55,21 @@ fn add_rel(
     manifest: &mut Manifest,
     line: u32,
     rel: RelLine<'_>,
-) -> Result<(), ManifestRefusal>
+) -> Result<(), ManifestStop>
     ensures { Adds (add_rel line manifest.old (seen_rel rel.entry)) manifest.new result }
 {
     let number = manifest.catalog.rel_tables();
     if manifest.catalog.find_type(rel.name).is_some() {
-        return Err(ManifestRefusal::TypeRepeated { line });
+        return Err(ManifestStop::on_line(line, LineFault::TypeRepeated));
     }
     let Some(from) = manifest.catalog.find_label(rel.from) else {
-        return Err(ManifestRefusal::NoSuchLabel { line });
+        return Err(ManifestStop::on_line(line, LineFault::NoSuchLabel));
     };
     let Some(to) = manifest.catalog.find_label(rel.to) else {
-        return Err(ManifestRefusal::NoSuchLabel { line });
+        return Err(ManifestStop::on_line(line, LineFault::NoSuchLabel));
     };
     if number >= MOST_TABLES {
-        return Err(ManifestRefusal::TooManyTables { line });
+        return Err(ManifestStop::on_line(line, LineFault::TooManyTables));
     }
     manifest.catalog.add_rel(RelTable {
         name: Text::new(alloc, rel.name)?,

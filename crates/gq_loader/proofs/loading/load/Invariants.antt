@@ -13,7 +13,11 @@ invariant-loop-table g l = record {
   going : IsGoing l.limits l.loading;
   numbers : All (IsNumberOf l.loading.graph.catalog) l.table-items;
   valid : is_valid l.loading.graph ≡ true;
-  unread : (k : ℕ) (d : TableNumber) → l.table-index ≤ k → k < length l.table-items → IsUnread l.loading.graph (get_or l.table-items k d);
-  meant : Meant l.manifest l.limits (g.F.Files.held l.fn.files) l.loading (drop l.table-index l.table-items);
-  reads : Reads (most_bytes l.limits) (told_of g.F.Files.held g.F.Files.left g.F.Files.faults g.F.Files.misses l.fn.files) (told_of g.F.Files.held g.F.Files.left g.F.Files.faults g.F.Files.misses l.files) (Ok l.loading);
+  unread : (k : ℕ) (d : TableNumber) → l.table-index ≤ k → k < length l.table-items
+      → IsUnread l.loading.graph (get_or l.table-items k d);
+  meant : Meant l.manifest l.limits (g.F.Files.held l.fn.files) l.loading
+      (drop l.table-index l.table-items);
+  reads : Reads (most_bytes l.limits) (told_of g.F.Files.held g.F.Files.left g.F.Files.faults
+      g.F.Files.misses l.fn.files) (told_of g.F.Files.held g.F.Files.left g.F.Files.faults
+      g.F.Files.misses l.files) (Ok l.loading);
 }
