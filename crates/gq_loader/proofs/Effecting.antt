@@ -10,17 +10,20 @@ use Rattle.gq_io.specs.Outside.{Names, Selects}
 use Rattle.gq_io.specs.Reading.{FailsByFault, ReadsWithin}
 use Rattle.gq_io.specs.declared.reading.ReadFile.{ReadFile}
 use Rattle.gq_io.specs.declared.reading.ReadStop.{ReadStop}
-use Rattle.gq_io.specs.declared.reading.ReadStop.TheVariants as stop
+use Rattle.gq_io.specs.declared.reading.ReadStop.TheVariants as read_stop
 use Rattle.gq_io.proofs.Counts.{Rose-later}
 use Rattle.gq_loader.specs.Effects.{Reads, ReadsFew, Told}
-use Rattle.gq_loader.specs.declared.refusal.LoadRefusal.{LoadRefusal}
 use Rattle.gq_loader.specs.declared.refusal.LoadRefusal.TheVariants as refusal
+use Rattle.gq_loader.specs.declared.refusal.LoadStop.{LoadStop}
+use Rattle.gq_loader.specs.declared.refusal.LoadStop.TheVariants as stop
 
 -- ---- one file
 
 -- the choice of a file failed
-pub choice_failed : {T : Type 0} (most : ℕ) (old new : Told) (r : Result T LoadRefusal) → new.held ≡ old.held → old.faults ≤ new.faults → Rose old.faults new.faults → old.misses ≤ new.misses
-    → ((n : List ℕ) → r ≢ Err (refusal.NoFile n)) → Reads most old new r
+pub choice_failed : {T : Type 0} (most : ℕ) (old new : Told) (r : Result T LoadStop)
+    → new.held ≡ old.held → old.faults ≤ new.faults → Rose old.faults new.faults
+    → old.misses ≤ new.misses
+    → ((n : List ℕ) → r ≢ Err (stop.Refused (refusal.NoFile n))) → Reads most old new r
 choice_failed most old new r held faults rose misses other = record {
   held = held;
   faults = record { later = faults; failed = λ n e. rose };
@@ -28,50 +31,81 @@ choice_failed most old new r held faults rose misses other = record {
   few = λ none. absurd (none rose);
 }
 
-none_eaten : (held : Option Names) (name : List ℕ) (left : Option (List ℕ)) → IfSome held (λ files. files name ≡ None) → IfSome held (λ files. Consumes (files name) left [])
+none_eaten : (held : Option Names) (name : List ℕ) (left : Option (List ℕ))
+    → IfSome held (λ files. files name ≡ None)
+    → IfSome held (λ files. Consumes (files name) left [])
 none_eaten held name left is = IfSome_then held is (λ files e. rw e tt)
 
 -- there is no file of this name
-pub not_there : {T : Type 0} (most : ℕ) (name : List ℕ) (old new : Told) (r : Result T LoadRefusal) → new.held ≡ old.held → old.faults ≤ new.faults → old.misses ≤ new.misses → Rose old.misses new.misses
-    → Selects old.held name new.left false → ((n : List ℕ) → r ≢ Err (refusal.ReadFault n)) → Reads most old new r
+pub not_there : {T : Type 0} (most : ℕ) (name : List ℕ) (old new : Told) (r : Result T LoadStop)
+    → new.held ≡ old.held
+    → old.faults ≤ new.faults → old.misses ≤ new.misses → Rose old.misses new.misses
+    → Selects old.held name new.left false → ((n : List ℕ) → r ≢ Err (stop.ReadFault n))
+    → Reads most old new r
 not_there most name old new r held faults misses rose chosen other = record {
   held = held;
   faults = record { later = faults; failed = λ n e. absurd (other n e) };
   misses = record { later = misses; missed = λ n e. rose };
-  few = λ none. record { name = name; eaten = []; few = omega arith; took = none_eaten old.held name new.left chosen.0 };
+  few = λ none. record {
+    name = name;
+    eaten = [];
+    few = omega arith;
+    took = none_eaten old.held name new.left chosen.0;
+  };
 }
 
 -- a file was chosen and read
-pub file_read : {T : Type 0} (most : ℕ) (name : List ℕ) (old mid new : Told) (read : Result ReadFile ReadStop) (r : Result T LoadRefusal)
-    → mid.held ≡ old.held → old.faults ≤ mid.faults → old.misses ≤ mid.misses → Selects old.held name mid.left true
-    → new.held ≡ mid.held → FailsByFault mid.faults new.faults read → mid.misses ≤ new.misses → ReadsWithin most mid.left new.left read
-    → ((n : List ℕ) → r ≡ Err (refusal.ReadFault n) → read ≡ Err stop.Failed) → ((n : List ℕ) → r ≢ Err (refusal.NoFile n)) → Reads most old new r
-file_read most name old mid new read r held faults misses chosen held2 fails misses2 within only other = record {
-  held = held2 ∙ held;
-  faults = record { later = omega (arith, fails.later); failed = λ n e. Rose-later _ _ _ faults (fails.failed (only n e)) };
-  misses = record { later = omega arith; missed = λ n e. absurd (other n e) };
-  few = λ none. record {
-    name = name;
-    eaten = within.eaten;
-    few = within.few;
-    took = IfSome_then old.held chosen (λ files is. subst (λ l. Consumes l new.left within.eaten) is.1 within.took);
-  };
-}
+pub file_read : {T : Type 0} (most : ℕ) (name : List ℕ) (old mid new : Told)
+    (read : Result ReadFile ReadStop) (r : Result T LoadStop)
+    → mid.held ≡ old.held → old.faults ≤ mid.faults → old.misses ≤ mid.misses
+    → Selects old.held name mid.left true
+    → new.held ≡ mid.held → FailsByFault mid.faults new.faults read → mid.misses ≤ new.misses
+    → ReadsWithin most mid.left new.left read
+    → ((n : List ℕ) → r ≡ Err (stop.ReadFault n) → read ≡ Err read_stop.Failed)
+    → ((n : List ℕ) → r ≢ Err (stop.Refused (refusal.NoFile n))) → Reads most old new r
+file_read most name old mid new read r held faults misses chosen
+    same fails later within only other = record {
+      held = same ∙ held;
+      faults = record {
+        later = omega (arith, fails.later);
+        failed = λ n e. Rose-later _ _ _ faults (fails.failed (only n e));
+      };
+      misses = record { later = omega arith; missed = λ n e. absurd (other n e) };
+      few = λ none. record {
+        name = name;
+        eaten = within.eaten;
+        few = within.few;
+        took = IfSome_then old.held chosen
+            (λ files is. subst (λ l. Consumes l new.left within.eaten) is.1 within.took);
+      };
+    }
 
 -- ---- one part after another
 
 -- a part is followed by another
-pub then_reads : {S T : Type 0} (most : ℕ) (a b c : Told) (q : Result S LoadRefusal) (r : Result T LoadRefusal) → Reads most a b q → Reads most b c r → Reads most a c r
+pub then_reads : {S T : Type 0} (most : ℕ) (a b c : Told) (q : Result S LoadStop)
+    (r : Result T LoadStop) → Reads most a b q → Reads most b c r → Reads most a c r
 then_reads most a b c q r p s = record {
   held = s.held ∙ p.held;
-  faults = record { later = omega (arith, p.faults.later, s.faults.later); failed = λ n e. Rose-later _ _ _ p.faults.later (s.faults.failed n e) };
-  misses = record { later = omega (arith, p.misses.later, s.misses.later); missed = λ n e. Rose-later _ _ _ p.misses.later (s.misses.missed n e) };
-  few = λ none. subst (λ h. ReadsFew h c.left most) p.held (s.few (λ rose. none (Rose-later _ _ _ p.faults.later rose)));
+  faults = record {
+    later = omega (arith, p.faults.later, s.faults.later);
+    failed = λ n e. Rose-later _ _ _ p.faults.later (s.faults.failed n e);
+  };
+  misses = record {
+    later = omega (arith, p.misses.later, s.misses.later);
+    missed = λ n e. Rose-later _ _ _ p.misses.later (s.misses.missed n e);
+  };
+  few = λ none. subst (λ h. ReadsFew h c.left most) p.held
+      (s.few (λ rose. none (Rose-later _ _ _ p.faults.later rose)));
 }
 
 -- a part is followed by what reads no file
-pub then_answers : {S T : Type 0} (most : ℕ) (a b : Told) (q : Result S LoadRefusal) (r : Result T LoadRefusal) → Reads most a b q
-    → ((n : List ℕ) → r ≡ Err (refusal.ReadFault n) → q ≡ Err (refusal.ReadFault n)) → ((n : List ℕ) → r ≡ Err (refusal.NoFile n) → q ≡ Err (refusal.NoFile n)) → Reads most a b r
+pub then_answers : {S T : Type 0} (most : ℕ) (a b : Told) (q : Result S LoadStop)
+    (r : Result T LoadStop) → Reads most a b q
+    → ((n : List ℕ) → r ≡ Err (stop.ReadFault n) → q ≡ Err (stop.ReadFault n))
+    → ((n : List ℕ) → r ≡ Err (stop.Refused (refusal.NoFile n))
+    → q ≡ Err (stop.Refused (refusal.NoFile n)))
+    → Reads most a b r
 then_answers most a b q r p fault miss = record {
   held = p.held;
   faults = record { later = p.faults.later; failed = λ n e. p.faults.failed n (fault n e) };
@@ -80,10 +114,16 @@ then_answers most a b q r p fault miss = record {
 }
 
 -- a part that reads less than it might
-pub reads_less : {T : Type 0} (some most : ℕ) (a b : Told) (r : Result T LoadRefusal) → some ≤ most → Reads some a b r → Reads most a b r
+pub reads_less : {T : Type 0} (some most : ℕ) (a b : Told) (r : Result T LoadStop) → some ≤ most
+    → Reads some a b r → Reads most a b r
 reads_less some most a b r less p = record {
   held = p.held;
   faults = p.faults;
   misses = p.misses;
-  few = λ none. let k = p.few none in record { name = k.name; eaten = k.eaten; few = omega (arith, k.few); took = k.took };
+  few = λ none. let k = p.few none in record {
+    name = k.name;
+    eaten = k.eaten;
+    few = omega (arith, k.few);
+    took = k.took;
+  };
 }

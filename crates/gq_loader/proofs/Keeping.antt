@@ -1,6 +1,8 @@
 -- A graph stays valid while its tables are read, one after the other.
-use Rattle.std.proofs.Common.{◌≡◌, ◌≢◌, ℕ, zero, suc, ◌+◌, ◌<◌, ◌≤◌, ◌^◌, Bool, true, List, [], ◌∷◌, length, get_or, Some, None, refl, sym, ap, ◌∙◌, arith}
-use Rattle.std.specs.Prelude.{◌&&◌, nat_lt, nat_le, All, AllPairs, replicate, slice_get, slice_set, unwrap_or}
+use Rattle.std.proofs.Common.{◌≡◌, ◌≢◌, ℕ, zero, suc, ◌+◌, ◌<◌, ◌≤◌, ◌^◌, Bool, true, List, [], ◌∷◌}
+use Rattle.std.proofs.Common.{length, get_or, Some, None, refl, sym, ap, ◌∙◌, arith}
+use Rattle.std.specs.Prelude.{◌&&◌, nat_lt, nat_le, All, AllPairs, replicate, slice_get, slice_set}
+use Rattle.std.specs.Prelude.{unwrap_or}
 use Rattle.std.specs.List.{list_all}
 use Rattle.std.specs.declared.option.Option.{Option}
 use Rattle.std.proofs.lemmas.Bool.Decides.{nat_tests}
@@ -11,7 +13,8 @@ use Rattle.gq_base.proofs.ListLaws.{two}
 use Rattle.gq_base.specs.Catalogs.{Tables, with_node_fields, with_rel_fields}
 use Rattle.gq_base.specs.Lists.{all_zip}
 use Rattle.gq_base.specs.Plain.{Graph, rows_of}
-use Rattle.gq_base.specs.Valid.{are_fields, are_nodes, are_rels, fits_fields, has_ends, has_keys, is_rel, is_valid, keeps_mult, row_count}
+use Rattle.gq_base.specs.Valid.{are_fields, are_nodes, are_rels, fits_fields, has_ends, has_keys}
+use Rattle.gq_base.specs.Valid.{is_rel, is_valid, keeps_mult, row_count}
 use Rattle.gq_base.specs.declared.catalog.Field.{Field}
 use Rattle.gq_base.specs.declared.catalog.Mult.{Mult}
 use Rattle.gq_base.specs.declared.catalog.Mult.TheVariants.{ManyMany, ManyOne, OneMany, OneOne}
@@ -20,8 +23,8 @@ use Rattle.gq_base.specs.declared.catalog.RelTable.{RelTable}
 use Rattle.gq_base.specs.declared.cell.Cell.{Cell}
 use Rattle.gq_base.specs.declared.cell.PlainRel.{PlainRel}
 use Rattle.gq_manifest.specs.Manifests.{AreWhole}
-use Rattle.gq_manifest.specs.declared.order.TableNumber.{TableNumber}
-use Rattle.gq_manifest.specs.declared.order.TableNumber.TheVariants as table
+use Rattle.gq_manifest.specs.declared.manifest.TableNumber.{TableNumber}
+use Rattle.gq_manifest.specs.declared.manifest.TableNumber.TheVariants as table
 use Rattle.gq_loader.specs.Answers.{IsUnread, KeepsOthers}
 
 abbrev Rows : Type 0
@@ -34,7 +37,8 @@ both a b p q = rw (p, q) refl
 
 module _ {A B : Type 0} (p : A → B → Bool) where
   -- another item on either side of a place
-  zip-set : (xs : List A) (ys : List B) (at : ℕ) (x : A) (y : B) → all_zip p xs ys ≡ true → p x y ≡ true → all_zip p (slice_set xs at x) (slice_set ys at y) ≡ true
+  zip-set : (xs : List A) (ys : List B) (at : ℕ) (x : A) (y : B) → all_zip p xs ys ≡ true
+      → p x y ≡ true → all_zip p (slice_set xs at x) (slice_set ys at y) ≡ true
   zip-set [] [] at x y h e = refl
   zip-set [] (b ∷ ys) at x y h e = cc h
   zip-set (a ∷ xs) [] at x y h e = cc h
@@ -43,7 +47,8 @@ module _ {A B : Type 0} (p : A → B → Bool) where
       let k = two (p a b) (all_zip p xs ys) h in
       both (p a b) (all_zip p (slice_set xs at x) (slice_set ys at y)) k.0 (zip-set xs ys at x y k.1 e)
 
-  zip-weaker : (q : A → B → Bool) → ((x : A) (y : B) → p x y ≡ true → q x y ≡ true) → (xs : List A) (ys : List B) → all_zip p xs ys ≡ true → all_zip q xs ys ≡ true
+  zip-weaker : (q : A → B → Bool) → ((x : A) (y : B) → p x y ≡ true → q x y ≡ true)
+      → (xs : List A) (ys : List B) → all_zip p xs ys ≡ true → all_zip q xs ys ≡ true
   zip-weaker q f [] [] h = refl
   zip-weaker q f [] (b ∷ ys) h = cc h
   zip-weaker q f (a ∷ xs) [] h = cc h
@@ -51,7 +56,8 @@ module _ {A B : Type 0} (p : A → B → Bool) where
       let k = two (p a b) (all_zip p xs ys) h in
       both (q a b) (all_zip q xs ys) (f a b k.0) (zip-weaker q f xs ys k.1)
 
-all-weaker : {A : Type 0} (p q : A → Bool) → ((x : A) → p x ≡ true → q x ≡ true) → (xs : List A) → list_all p xs ≡ true → list_all q xs ≡ true
+all-weaker : {A : Type 0} (p q : A → Bool) → ((x : A) → p x ≡ true → q x ≡ true) → (xs : List A)
+    → list_all p xs ≡ true → list_all q xs ≡ true
 all-weaker p q f [] h = refl
 all-weaker p q f (x ∷ xs) h = let k = two (p x) (list_all p xs) h in both (q x) (list_all q xs) (f x k.0) (all-weaker p q f xs k.1)
 
@@ -60,7 +66,8 @@ found [] at h = absurd (omega arith)
 found (x ∷ xs) zero h = (x, refl)
 found (x ∷ xs) (suc at) h = found xs at (omega arith)
 
-other_stays : {X : Type 0} (xs : List X) (at other : ℕ) (x : X) → other ≢ at → slice_get (slice_set xs at x) other ≡ slice_get xs other
+other_stays : {X : Type 0} (xs : List X) (at other : ℕ) (x : X) → other ≢ at
+    → slice_get (slice_set xs at x) other ≡ slice_get xs other
 other_stays [] at other x h = refl
 other_stays (y ∷ xs) zero zero x h = absurd (h refl)
 other_stays (y ∷ xs) zero (suc other) x h = refl
@@ -96,7 +103,8 @@ whole graph h = rw (h.few_nodes, h.few_rels, h.nodes, h.rels) refl
 
 -- ---- no table was read
 
-empty_nodes : (tables : List NodeTable) → All (λ t. t.fields ≡ []) tables → all_zip are_nodes tables (replicate (length tables) []) ≡ true
+empty_nodes : (tables : List NodeTable) → All (λ t. t.fields ≡ []) tables
+    → all_zip are_nodes tables (replicate (length tables) []) ≡ true
 empty_nodes [] h = refl
 empty_nodes (t ∷ tables) h =
     let none : t.fields ≡ [] = All-head (λ t. t.fields ≡ []) t tables h in
@@ -108,7 +116,9 @@ none_kept ManyOne = refl
 none_kept OneMany = refl
 none_kept OneOne = refl
 
-empty_rels : (nodes : List Rows) (tables : List RelTable) → All (λ t. (t.from < length nodes) × (t.to < length nodes)) tables → All (λ t. t.fields ≡ []) tables
+empty_rels : (nodes : List Rows) (tables : List RelTable)
+    → All (λ t. (t.from < length nodes) × (t.to < length nodes)) tables
+    → All (λ t. t.fields ≡ []) tables
     → all_zip (are_rels nodes) tables (replicate (length tables) []) ≡ true
 empty_rels nodes [] ends h = refl
 empty_rels nodes (t ∷ tables) ends h =
@@ -118,7 +128,9 @@ empty_rels nodes (t ∷ tables) ends h =
     (rw (none, less t.from (length nodes) here.0, less t.to (length nodes) here.1, none_kept t.mult) refl)
     (empty_rels nodes tables (All-tail (λ t. (t.from < length nodes) × (t.to < length nodes)) t tables ends) (All-tail (λ t. t.fields ≡ []) t tables h))
 
-pub empty_valid : (graph : Graph) (tables : Tables) → AreWhole tables → graph.catalog ≡ tables → graph.nodes ≡ replicate (length tables.nodes) [] → graph.rels ≡ replicate (length tables.rels) [] → is_valid graph ≡ true
+pub empty_valid : (graph : Graph) (tables : Tables) → AreWhole tables → graph.catalog ≡ tables
+    → graph.nodes ≡ replicate (length tables.nodes) []
+    → graph.rels ≡ replicate (length tables.rels) [] → is_valid graph ≡ true
 empty_valid graph tables h catalog nodes rels =
     let size : length (replicate {A = Rows} (length tables.nodes) []) ≡ length tables.nodes = length-replicate (length tables.nodes) [] in
     rw (catalog, nodes, rels) (whole (record { catalog = tables; nodes = replicate (length tables.nodes) []; rels = replicate (length tables.rels) [] }) record {
@@ -133,24 +145,29 @@ none_yet zero number = refl
 none_yet (suc tables) zero = refl
 none_yet (suc tables) (suc number) = none_yet tables number
 
-all_unread : (graph : Graph) (tables : ℕ) → graph.nodes ≡ replicate tables [] → (number : TableNumber) → IsUnread graph number
+all_unread : (graph : Graph) (tables : ℕ) → graph.nodes ≡ replicate tables []
+    → (number : TableNumber) → IsUnread graph number
 all_unread graph tables e (table.Node number) = rw e (none_yet tables number)
 all_unread graph tables e (table.Rel number) = tt
 
-pub none_read : (graph : Graph) (tables : ℕ) (order : List TableNumber) → graph.nodes ≡ replicate tables [] → All (IsUnread graph) order
+pub none_read : (graph : Graph) (tables : ℕ) (order : List TableNumber)
+    → graph.nodes ≡ replicate tables [] → All (IsUnread graph) order
 none_read graph tables order e = λ at d within. all_unread graph tables e (get_or order at d)
 
 -- ---- a node table is read
 
 -- no node table has fewer rows, where one that had none has others
-counts_grow : (nodes : List Rows) (number : ℕ) (rows : Rows) (at : ℕ) → row_count nodes number ≡ 0 → row_count nodes at ≤ row_count (slice_set nodes number rows) at
+counts_grow : (nodes : List Rows) (number : ℕ) (rows : Rows) (at : ℕ) → row_count nodes number ≡ 0
+    → row_count nodes at ≤ row_count (slice_set nodes number rows) at
 counts_grow [] number rows at h = omega arith
 counts_grow (x ∷ nodes) zero rows zero h = omega arith
 counts_grow (x ∷ nodes) zero rows (suc at) h = omega arith
 counts_grow (x ∷ nodes) (suc number) rows zero h = omega arith
 counts_grow (x ∷ nodes) (suc number) rows (suc at) h = counts_grow nodes number rows at h
 
-rel_stays : (fields : List Field) (sources targets more_sources more_targets : ℕ) → sources ≤ more_sources → targets ≤ more_targets → (rel : PlainRel) → is_rel fields sources targets rel ≡ true
+rel_stays : (fields : List Field) (sources targets more_sources more_targets : ℕ)
+    → sources ≤ more_sources → targets ≤ more_targets → (rel : PlainRel)
+    → is_rel fields sources targets rel ≡ true
     → is_rel fields more_sources more_targets rel ≡ true
 rel_stays fields sources targets more_sources more_targets s t rel h =
     let a = two (nat_lt rel.source sources && nat_lt rel.target targets) (fits_fields fields rel.cells) h in
@@ -160,7 +177,8 @@ rel_stays fields sources targets more_sources more_targets s t rel h =
     rw (source, target, a.1) refl
 
 module _ (old new : List Rows) (size : length new ≡ length old) (grows : (at : ℕ) → row_count old at ≤ row_count new at) where
-  rels_stay : (t : RelTable) (rels : List PlainRel) → are_rels old t rels ≡ true → are_rels new t rels ≡ true
+  rels_stay : (t : RelTable) (rels : List PlainRel) → are_rels old t rels ≡ true
+      → are_rels new t rels ≡ true
   rels_stay t rels h =
       let ends = has_ends (length old) t in
       let fields = are_fields t.fields in
@@ -175,9 +193,11 @@ module _ (old new : List Rows) (size : length new ≡ length old) (grows : (at :
       rw (size, d.0, d.1, c.1, more, a.1) refl
 
 pub nodes_valid : (old new : Graph) (number : ℕ) (fields : List Field) (rows : Rows)
-    → new.catalog ≡ record old.catalog { nodes = with_node_fields number fields old.catalog.nodes } → new.nodes ≡ slice_set old.nodes number rows → new.rels ≡ old.rels
+    → new.catalog ≡ record old.catalog { nodes = with_node_fields number fields old.catalog.nodes }
+    → new.nodes ≡ slice_set old.nodes number rows → new.rels ≡ old.rels
     → is_valid old ≡ true → number < length old.catalog.nodes → row_count old.nodes number ≡ 0
-    → length rows ≤ 2 ^ 24 → are_fields fields ≡ true → list_all (fits_fields fields) rows ≡ true → has_keys rows ≡ true
+    → length rows ≤ 2 ^ 24 → are_fields fields ≡ true → list_all (fits_fields fields) rows ≡ true
+    → has_keys rows ≡ true
     → is_valid new ≡ true
 nodes_valid old new number fields rows catalog nodes rels valid within none few named fit keys =
     let h = parts old valid in
@@ -194,9 +214,12 @@ nodes_valid old new number fields rows catalog nodes rels valid within none few 
 -- ---- a relationship table is read
 
 pub rels_valid : (old new : Graph) (number : ℕ) (t : RelTable) (fields : List Field) (rels : List PlainRel)
-    → new.catalog ≡ record old.catalog { rels = with_rel_fields number fields old.catalog.rels } → new.nodes ≡ old.nodes → new.rels ≡ slice_set old.rels number rels
-    → is_valid old ≡ true → slice_get old.catalog.rels number ≡ Some t → All (λ y. (y.from < length old.nodes) × (y.to < length old.nodes)) old.catalog.rels
-    → length rels ≤ 2 ^ 25 → are_fields fields ≡ true → list_all (is_rel fields (row_count old.nodes t.from) (row_count old.nodes t.to)) rels ≡ true → keeps_mult t.mult rels ≡ true
+    → new.catalog ≡ record old.catalog { rels = with_rel_fields number fields old.catalog.rels }
+    → new.nodes ≡ old.nodes → new.rels ≡ slice_set old.rels number rels
+    → is_valid old ≡ true → slice_get old.catalog.rels number ≡ Some t
+    → All (λ y. (y.from < length old.nodes) × (y.to < length old.nodes)) old.catalog.rels
+    → length rels ≤ 2 ^ 25 → are_fields fields ≡ true
+    → list_all (is_rel fields (row_count old.nodes t.from) (row_count old.nodes t.to)) rels ≡ true → keeps_mult t.mult rels ≡ true
     → is_valid new ≡ true
 rels_valid old new number t fields rels catalog nodes same valid is ends few named fit kept =
     let h = parts old valid in
@@ -216,12 +239,14 @@ count_at (Some rows) = refl
 
 -- ---- the tables that are still to be read
 
-still_unread : (old new : Graph) (read other : TableNumber) → KeepsOthers read old new → other ≢ read → IsUnread old other → IsUnread new other
+still_unread : (old new : Graph) (read other : TableNumber) → KeepsOthers read old new
+    → other ≢ read → IsUnread old other → IsUnread new other
 still_unread old new read (table.Node number) keeps h none = rw (keeps number h) none
 still_unread old new read (table.Rel number) keeps h none = tt
 
 -- one more was read, and it stands once
-pub unread_next : (old new : Graph) (order : List TableNumber) (at : ℕ) (d : TableNumber) → at < length order → AllPairs (λ a b. a ≢ b) order → KeepsOthers (get_or order at d) old new
+pub unread_next : (old new : Graph) (order : List TableNumber) (at : ℕ) (d : TableNumber)
+    → at < length order → AllPairs (λ a b. a ≢ b) order → KeepsOthers (get_or order at d) old new
     → ((k : ℕ) (e : TableNumber) → at ≤ k → k < length order → IsUnread old (get_or order k e))
     → (k : ℕ) (e : TableNumber) → at + 1 ≤ k → k < length order → IsUnread new (get_or order k e)
 unread_next old new order at d here once keeps unread k e later within =
@@ -229,5 +254,6 @@ unread_next old new order at d here once keeps unread k e later within =
     still_unread old new (get_or order at d) (get_or order k e) keeps (λ same. other (get_or_default order at e d here ∙ sym same)) (unread k e (omega arith) within)
 
 -- the rows of the other tables, where one table has others
-pub others_keep : (old new : Graph) (number : ℕ) (rows : Rows) → new.nodes ≡ slice_set old.nodes number rows → KeepsOthers (table.Node number) old new
+pub others_keep : (old new : Graph) (number : ℕ) (rows : Rows)
+    → new.nodes ≡ slice_set old.nodes number rows → KeepsOthers (table.Node number) old new
 others_keep old new number rows e other h = rw e (other_stays old.nodes number other rows (λ same. h (ap table.Node same)))

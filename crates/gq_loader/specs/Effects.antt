@@ -5,20 +5,22 @@ use Rattle.std.specs.declared.result.Result.{Result}
 use Rattle.std.specs.Io.KnownBytes.{Consumes}
 use Rattle.gq_io.specs.Causes.{Rose}
 use Rattle.gq_io.specs.Outside.{Names}
-use Rattle.gq_loader.specs.declared.refusal.LoadRefusal.{LoadRefusal}
 use Rattle.gq_loader.specs.declared.refusal.LoadRefusal.TheVariants as refusal
+use Rattle.gq_loader.specs.declared.refusal.LoadStop.{LoadStop}
+use Rattle.gq_loader.specs.declared.refusal.LoadStop.TheVariants as stop
 
 -- the count of faults did not fall, and `ReadFault` comes only where it rose
-pub record ByFault {T : Type 0} (before now : ℕ) (result : Result T LoadRefusal) : Type 0 where
+pub record ByFault {T : Type 0} (before now : ℕ) (result : Result T LoadStop) : Type 0 where
   pub later : before ≤ now
-  pub failed : (name : List ℕ) → result ≡ Err (refusal.ReadFault name) → Rose before now
+  pub failed : (name : List ℕ) → result ≡ Err (stop.ReadFault name) → Rose before now
 
 -- the count of misses did not fall, and `NoFile` comes only where it rose
-pub record ByMiss {T : Type 0} (before now : ℕ) (result : Result T LoadRefusal) : Type 0 where
+pub record ByMiss {T : Type 0} (before now : ℕ) (result : Result T LoadStop) : Type 0 where
   pub later : before ≤ now
-  pub missed : (name : List ℕ) → result ≡ Err (refusal.NoFile name) → Rose before now
+  pub missed : (name : List ℕ) → result ≡ Err (stop.Refused (refusal.NoFile name)) → Rose before now
 
--- of the file that was chosen last at most one byte more than so many was read; where it is not there, there is nothing to read
+-- of the file that was chosen last at most one byte more than so many was read; where it is not
+-- there, there is nothing to read
 pub record ReadsFew (held : Option Names) (left : Option (List ℕ)) (most : ℕ) : Type 0 where
   pub name : List ℕ
   pub eaten : List ℕ
@@ -32,11 +34,18 @@ pub record Told : Type 0 where
   pub faults : ℕ
   pub misses : ℕ
 
-abbrev pub told_of : {D : Type 0} → (D → Option Names) → (D → Option (List ℕ)) → (D → ℕ) → (D → ℕ) → D → Told
-told_of held left faults misses files = record { held = held files; left = left files; faults = faults files; misses = misses files }
+abbrev pub told_of : {D : Type 0} → (D → Option Names) → (D → Option (List ℕ)) → (D → ℕ) → (D → ℕ)
+    → D → Told
+told_of held left faults misses files = record {
+  held = held files;
+  left = left files;
+  faults = faults files;
+  misses = misses files;
+}
 
--- what a part of a load does to the files: it changes none, its faults and misses have their causes, and unless a call failed it read no more of a file than it may
-pub record Reads {T : Type 0} (most : ℕ) (old new : Told) (result : Result T LoadRefusal) : Type 0 where
+-- what a part of a load does to the files: it changes none, its faults and misses have their
+-- causes, and unless a call failed it read no more of a file than it may
+pub record Reads {T : Type 0} (most : ℕ) (old new : Told) (result : Result T LoadStop) : Type 0 where
   pub held : new.held ≡ old.held
   pub faults : ByFault old.faults new.faults result
   pub misses : ByMiss old.misses new.misses result

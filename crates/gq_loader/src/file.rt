@@ -4,7 +4,7 @@ ghost use Rattle.gq_loader.specs.Answers.{Answers};
 ghost use Rattle.gq_loader.specs.Effects.{Reads, told_of};
 ghost use Rattle.gq_loader.specs.Files.{file_of};
 
-use crate::refusal::LoadRefusal;
+use crate::refusal::{LoadRefusal, LoadStop};
 use gq_base::{Bytes, Text};
 use gq_io::{Files, ReadFile, ReadStop, read_chosen};
 use std::alloc::Global;
@@ -15,29 +15,32 @@ pub(crate) fn read_file<F: Files>(
     files: &mut F,
     name: &str,
     most: usize,
-) -> Result<Bytes, LoadRefusal>
-    ensures answers { Answers (F.held files.old) (λ names. file_of names (λ length. nat_le length most) name.now) result }
+) -> Result<Bytes, LoadStop>
+    ensures answers { Answers (F.held files.old)
+        (λ names. file_of names (λ length. nat_le length most) name.now) result }
     ensures few { IfOk result (λ bytes. length bytes ≤ most) }
-    ensures reads { Reads most (told_of F.held F.left F.faults F.misses files.old) (told_of F.held F.left F.faults F.misses files.new) result }
+    ensures reads { Reads most
+        (told_of F.held F.left F.faults F.misses files.old)
+        (told_of F.held F.left F.faults F.misses files.new) result }
 {
     let Ok(found) = files.select(name) else {
-        return Err(LoadRefusal::ReadFault {
+        return Err(LoadStop::ReadFault {
             name: Text::new(alloc, name)?,
         });
     };
     if !found {
-        return Err(LoadRefusal::NoFile {
+        return Err(LoadStop::Refused(LoadRefusal::NoFile {
             name: Text::new(alloc, name)?,
-        });
+        }));
     }
     match read_chosen(alloc, files, most) {
         Ok(ReadFile::Whole(bytes)) => Ok(bytes),
-        Ok(ReadFile::TooLong) => Err(LoadRefusal::FileTooLong {
+        Ok(ReadFile::TooLong) => Err(LoadStop::Refused(LoadRefusal::FileTooLong {
+            name: Text::new(alloc, name)?,
+        })),
+        Err(ReadStop::Failed) => Err(LoadStop::ReadFault {
             name: Text::new(alloc, name)?,
         }),
-        Err(ReadStop::Failed) => Err(LoadRefusal::ReadFault {
-            name: Text::new(alloc, name)?,
-        }),
-        Err(ReadStop::Memory) => Err(LoadRefusal::Memory),
+        Err(ReadStop::Memory) => Err(LoadStop::Memory),
     }
 }

@@ -9,7 +9,7 @@ mod tables;
 
 pub use limits::Limits;
 pub use loading::load;
-pub use refusal::LoadRefusal;
+pub use refusal::{LoadRefusal, LoadStop};
 
 #[cfg(test)]
 mod tests;

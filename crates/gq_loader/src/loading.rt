@@ -2,7 +2,7 @@
 ghost use Rattle.std.specs.Prelude.{◌≡◌, ◌≢◌, true, All, AllPairs, IfOk};
 ghost use Rattle.gq_base.specs.Valid.{is_valid};
 ghost use Rattle.gq_io.specs.Causes.{Rose};
-ghost use Rattle.gq_manifest.specs.Orders.{IsNumberOf};
+ghost use Rattle.gq_manifest.specs.Manifests.{IsNumberOf};
 ghost use Rattle.gq_loader.specs.Answers.{Answers, IsFresh, IsUnread};
 ghost use Rattle.gq_loader.specs.Effects.{ByFault, ByMiss, Reads, ReadsFew, told_of};
 ghost use Rattle.gq_loader.specs.Limits.{IsWithin, most_bytes, most_manifest};
@@ -10,11 +10,11 @@ ghost use Rattle.gq_loader.specs.Loads.{beginning_of, load_of};
 
 use crate::file::read_file;
 use crate::limits::Limits;
-use crate::refusal::LoadRefusal;
+use crate::refusal::LoadStop;
 use crate::tables::{Loading, take_table};
 use gq_base::List;
 use gq_io::Files;
-use gq_manifest::{TableNumber, read_manifest, read_order};
+use gq_manifest::{Manifest, TableNumber, read_manifest};
 use gq_plain::PlainGraph;
 use gq_store::Graph;
 use std::alloc::Global;
@@ -22,25 +22,27 @@ use std::alloc::Global;
 /// The most bytes of a manifest.
 const MOST_MANIFEST: usize = 1_048_576;
 
-// What a manifest gives: the graph of its tables, none of which was read, and the order in which they are.
+// What a manifest gives: the graph of its tables, none of which was read, and the order in which
+// they are.
 #[derive(Drop)]
 struct Beginning {
     loading: Loading,
     order: List<TableNumber>,
 }
 
-/// Loads the graph of the manifest of this name: the manifest first, and then the file of each of its lines, in their
-/// order. The answer is the first refusal in that order, or the stored graph of all files, which is valid. Want of memory
-/// may end a load at any time, also while the graph is stored.
+/// Loads the graph of the manifest of this name: the manifest first, and then the file of each of
+/// its lines, in their order. The answer is the first refusal in that order, or the stored graph of
+/// all files, which is valid. Want of memory may end a load at any time, also while the graph is
+/// stored.
 ///
-/// A file that two lines name is read twice. No file is kept longer than it takes to read its table, and the rows that were
-/// read are moved into the stored graph, not copied.
+/// A file that two lines name is read twice. No file is kept longer than it takes to read its
+/// table, and the rows that were read are moved into the stored graph, not copied.
 pub fn load<F: Files>(
     alloc: Global,
     files: &mut F,
     manifest: &str,
     limits: &Limits,
-) -> Result<Graph, LoadRefusal>
+) -> Result<Graph, LoadStop>
     requires { IsWithin limits.now }
     ensures loads { Answers (F.held files.old)
         (λ names. load_of manifest.now names limits.now) result }
@@ -59,18 +61,20 @@ pub fn load<F: Files>(
 }
 
 // Reads the manifest of this name.
-fn begin<F: Files>(alloc: Global, files: &mut F, manifest: &str) -> Result<Beginning, LoadRefusal>
+fn begin<F: Files>(alloc: Global, files: &mut F, manifest: &str) -> Result<Beginning, LoadStop>
     ensures answers { Answers (F.held files.old) (λ names. beginning_of manifest.now names) result }
     ensures fresh { IfOk result (λ tables. IsFresh tables.loading) }
-    ensures numbers { IfOk result (λ tables. All (IsNumberOf tables.loading.graph.catalog) tables.order) }
+    ensures numbers { IfOk result (λ tables.
+        All (IsNumberOf tables.loading.graph.catalog) tables.order) }
     ensures once { IfOk result (λ tables. AllPairs (λ a b. a ≢ b) tables.order) }
     ensures valid { IfOk result (λ tables. is_valid tables.loading.graph ≡ true) }
     ensures unread { IfOk result (λ tables. All (IsUnread tables.loading.graph) tables.order) }
-    ensures reads { Reads most_manifest (told_of F.held F.left F.faults F.misses files.old) (told_of F.held F.left F.faults F.misses files.new) result }
+    ensures reads { Reads most_manifest
+        (told_of F.held F.left F.faults F.misses files.old)
+        (told_of F.held F.left F.faults F.misses files.new) result }
 {
     let text = read_file(alloc, files, manifest, MOST_MANIFEST)?;
-    let catalog = read_manifest(alloc, text.as_slice())?;
-    let order = read_order(alloc, text.as_slice())?;
+    let Manifest { catalog, order } = read_manifest(alloc, text.as_slice())?;
     let loading = Loading {
         graph: PlainGraph::new(alloc, catalog)?,
         total: 0,

@@ -1,10 +1,12 @@
-//! Loads within smaller limits than those of the program, which no run of it shows, worked out by hand.
+//! Loads within smaller limits than those of the program, which no run of it shows, worked out by
+//! hand.
 ghost use Rattle.std.specs.Prelude.{◌≡◌, true};
 ghost use Rattle.gq_loader.specs.Limits.{IsWithin};
 
-use crate::{Limits, LoadRefusal, load};
+use crate::{Limits, LoadRefusal, LoadStop, load};
 use gq_base::{Bytes, List, Text};
 use gq_io::SureFiles;
+use gq_tables::TableRefusal;
 use std::alloc::Global;
 use std::test::Fail;
 
@@ -50,8 +52,17 @@ fn refused(alloc: Global, limits: &Limits) -> Result<String, Fail> {
     }
     match load(alloc, &mut files, "g.manifest", limits) {
         Ok(_graph) => Ok(String::new(alloc)),
-        Err(LoadRefusal::TooManyRows { file }) => Ok(format!(in alloc; "rows of {file}")?),
-        Err(LoadRefusal::FileTooLong { name }) => Ok(format!(in alloc; "bytes of {name}")?),
+        Err(
+            LoadStop::Refused(
+                LoadRefusal::Table {
+                    file,
+                    refusal: TableRefusal::TooManyRows,
+                },
+            ),
+        ) => Ok(format!(in alloc; "rows of {file}")?),
+        Err(LoadStop::Refused(LoadRefusal::FileTooLong { name })) => {
+            Ok(format!(in alloc; "bytes of {name}")?)
+        }
         Err(_) => Err(Fail::from("another refusal")),
     }
 }

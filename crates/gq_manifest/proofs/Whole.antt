@@ -1,6 +1,7 @@
--- What holds of the tables of a manifest, whatever its lines.
-use Rattle.std.proofs.Common.{◌≡◌, ◌≢◌, ℕ, ◌+◌, ◌<◌, ◌≤◌, Bool, true, false, List, [], ◌∷◌, ◌++◌, length, Some, None, Ok, Err, refl, subst, arith, length-append}
-use Rattle.std.specs.Prelude.{if◌then◌else◌, nat_le, is_some}
+-- What holds of each manifest, whatever its lines.
+use Rattle.std.proofs.Common.{◌≡◌, ◌≢◌, ℕ, ◌+◌, ◌<◌, ◌≤◌, Bool, true, false, List, [], ◌∷◌, ◌++◌}
+use Rattle.std.proofs.Common.{length, Some, None, Ok, Err, refl, subst, arith, length-append}
+use Rattle.std.specs.Prelude.{if◌then◌else◌, nat_le, is_some, All}
 use Rattle.std.specs.declared.option.Option.{Option}
 use Rattle.std.specs.declared.result.Result.{Result}
 use Rattle.std.specs.Str.{bytes_eq}
@@ -13,106 +14,212 @@ use Rattle.gq_base.specs.Catalogs.{Tables, find_label, find_type}
 use Rattle.gq_base.specs.declared.catalog.NodeTable.{NodeTable}
 use Rattle.gq_base.specs.declared.catalog.RelTable.{RelTable}
 use Rattle.gq_manifest.specs.Lines.{NodeLine, RelLine, TableLine, node, rel, is_skipped, table_of}
-use Rattle.gq_manifest.specs.Manifests.{AreWhole, add_between, add_line, add_node, add_rel, and_then, manifest_of, take_line, take_lines}
-use Rattle.gq_manifest.specs.declared.manifest.ManifestRefusal.{ManifestRefusal}
-use Rattle.gq_manifest.specs.declared.manifest.ManifestRefusal.TheVariants as refusal
+use Rattle.gq_manifest.specs.Manifests.{IsNumberOf, IsWhole, add_between, add_line}
+use Rattle.gq_manifest.specs.Manifests.{add_node, add_rel}
+use Rattle.gq_manifest.specs.Manifests.{and_then, blank, manifest_of, node_table, rel_table}
+use Rattle.gq_manifest.specs.Manifests.{take_line, take_lines}
+use Rattle.gq_manifest.specs.Manifests.{with_node, with_rel}
+use Rattle.gq_manifest.specs.Refusals.{on_line}
+use Rattle.gq_manifest.specs.declared.manifest.Manifest.{Manifest}
+use Rattle.gq_manifest.specs.declared.manifest.TableNumber.{TableNumber}
+use Rattle.gq_manifest.specs.declared.manifest.TableNumber.TheVariants as numbered
+use Rattle.gq_manifest.specs.declared.refusal.LineFault.TheVariants as fault
+use Rattle.gq_manifest.specs.declared.refusal.ManifestRefusal.{ManifestRefusal}
 
--- ---- lists
+abbrev Answer : Type 0
+Answer = Result Manifest ManifestRefusal
+
+-- ---- steps
+
+if_ok : (b : Bool) (e : ManifestRefusal) (r : Answer) (m : Manifest)
+    → (if b then Err e else r) ≡ Ok m → (b ≡ false) × (r ≡ Ok m)
+if_ok true e r m h = cc h
+if_ok false e r m h = (refl, h)
+
+then_ok : (r : Answer) (f : Manifest → Answer) (m : Manifest) → and_then r f ≡ Ok m
+    → (n : Manifest) × (r ≡ Ok n) × (f n ≡ Ok m)
+then_ok (Ok n) f m e = (n, refl, e)
+then_ok (Err x) f m e = cc
 
 other_text : (a b : List ℕ) → bytes_eq a b ≡ false → a ≢ b
 other_text a b e = λ h. let same = (bytes_eq-Decides a b).1 h in cc
 
--- ---- steps
-
-pub if_ok : (b : Bool) (e : ManifestRefusal) (r : Result Tables ManifestRefusal) (t : Tables) → (if b then Err e else r) ≡ Ok t → (b ≡ false) × (r ≡ Ok t)
-if_ok true e r t h = cc h
-if_ok false e r t h = (refl, h)
-
-abbrev Between : ℕ → RelTable → Type 0
-Between nodes table = (table.from < nodes) × (table.to < nodes)
-
 room : (xs : ℕ) → nat_le 64 xs ≡ false → xs + 1 ≤ 64
 room xs e = grind (arith, nat_tests)
 
-node_whole : (number : ℕ) (tables t : Tables) (line : NodeLine) → AreWhole tables → add_node number tables line ≡ Ok t → AreWhole t
-node_whole number tables t line h e =
-    let table : NodeTable = record { label = line.label; file = line.file; fields = [] } in
-    let added : Result Tables ManifestRefusal = Ok (record tables { nodes = tables.nodes ++ table ∷ [] }) in
-    let (new, e1) = if_ok (is_some (find_label tables.nodes line.label)) (refusal.LabelRepeated number) (if nat_le 64 (length tables.nodes) then Err (refusal.TooManyTables number) else added) t e in
-    let (few, e2) = if_ok (nat_le 64 (length tables.nodes)) (refusal.TooManyTables number) added t e1 in
-    let now : record tables { nodes = tables.nodes ++ table ∷ [] } ≡ t = cc e2 in
-    let longer : length (tables.nodes ++ table ∷ []) ≡ length tables.nodes + 1 = length-append tables.nodes (table ∷ []) in
-    let others = All-weaker (λ y. bytes_eq y.label line.label ≡ false) (λ y. y.label ≢ line.label) (λ y k. other_text y.label line.label k) tables.nodes (none_passes (λ y. bytes_eq y.label line.label) tables.nodes new) in
-    subst AreWhole now record {
-      few_nodes = omega (arith, longer, room (length tables.nodes) few);
-      few_rels = h.few_rels;
-      labels = pairs_push (λ a b. a.label ≢ b.label) tables.nodes table h.labels others;
-      types = h.types;
-      ends = All-weaker (Between (length tables.nodes)) (Between (length (tables.nodes ++ table ∷ []))) (λ y k. (omega (arith, longer, k.0), omega (arith, longer, k.1))) tables.rels h.ends;
-      node_fields = All-push (λ y. y.fields ≡ []) tables.nodes table h.node_fields refl;
-      rel_fields = h.rel_fields;
+-- ---- the numbers of the tables
+
+-- numbers stay those of tables where tables are added
+still_number : (old new : Tables) → length old.nodes ≤ length new.nodes
+    → length old.rels ≤ length new.rels
+    → (t : TableNumber) → IsNumberOf old t → IsNumberOf new t
+still_number old new n r (numbered.Node number) h = omega arith
+still_number old new n r (numbered.Rel number) h = omega arith
+
+-- no table has the number of the next
+not_next_node : (tables : Tables) (t : TableNumber) → IsNumberOf tables t
+    → t ≢ numbered.Node (length tables.nodes)
+not_next_node tables (numbered.Node number) h =
+    λ e. let same : number ≡ length tables.nodes = cc e in omega arith
+not_next_node tables (numbered.Rel number) h = λ e. cc e
+
+not_next_rel : (tables : Tables) (t : TableNumber) → IsNumberOf tables t
+    → t ≢ numbered.Rel (length tables.rels)
+not_next_rel tables (numbered.Node number) h = λ e. cc e
+not_next_rel tables (numbered.Rel number) h =
+    λ e. let same : number ≡ length tables.rels = cc e in omega arith
+
+-- ---- one more table
+
+node_added : (before : Manifest) (table : NodeTable) → IsWhole before
+    → length before.catalog.nodes + 1 ≤ 64
+    → All (λ y. y.label ≢ table.label) before.catalog.nodes → table.fields ≡ []
+    → IsWhole (with_node before table)
+node_added before table h few new none =
+    let tables = before.catalog in
+    let after = (with_node before table).catalog in
+    let next = numbered.Node (length tables.nodes) in
+    let longer : length (tables.nodes ++ table ∷ []) ≡ length tables.nodes + 1 =
+    length-append tables.nodes (table ∷ []) in
+    record {
+      tables = record {
+        few_nodes = omega (arith, longer);
+        few_rels = h.tables.few_rels;
+        labels = pairs_push (λ a b. a.label ≢ b.label) tables.nodes table h.tables.labels new;
+        types = h.tables.types;
+        ends = All-weaker (λ t. (t.from < length tables.nodes) × (t.to < length tables.nodes))
+            (λ t. (t.from < length after.nodes) × (t.to < length after.nodes))
+            (λ t k. (omega (arith, longer, k.0), omega (arith, longer, k.1)))
+            tables.rels h.tables.ends;
+        node_fields = All-push (λ t. t.fields ≡ []) tables.nodes table h.tables.node_fields none;
+        rel_fields = h.tables.rel_fields;
+      };
+      numbers = All-push (IsNumberOf after) before.order next
+          (All-weaker (IsNumberOf tables) (IsNumberOf after)
+          (still_number tables after (omega (arith, longer)) (omega arith)) before.order h.numbers)
+          (omega (arith, longer));
+      once = pairs_push (λ a b. a ≢ b) before.order next h.once
+          (All-weaker (IsNumberOf tables) (λ t. t ≢ next) (not_next_node tables)
+          before.order h.numbers);
     }
 
-pub between_ok : (number : ℕ) (tables t : Tables) (line : RelLine) (from to : Option ℕ) → add_between number tables line from to ≡ Ok t
-    → (f : ℕ) × (g : ℕ) × (from ≡ Some f) × (to ≡ Some g) × (nat_le 64 (length tables.rels) ≡ false)
-    × (record tables { rels = tables.rels ++ record { name = line.name; from = f; to = g; mult = line.mult; file = line.file; fields = [] } ∷ [] } ≡ t)
-between_ok number tables t line (Some f) (Some g) e =
-    let table : RelTable = record { name = line.name; from = f; to = g; mult = line.mult; file = line.file; fields = [] } in
-    let (few, e1) = if_ok (nat_le 64 (length tables.rels)) (refusal.TooManyTables number) (Ok (record tables { rels = tables.rels ++ table ∷ [] })) t e in
+rel_added : (before : Manifest) (table : RelTable) → IsWhole before
+    → length before.catalog.rels + 1 ≤ 64
+    → All (λ y. y.name ≢ table.name) before.catalog.rels
+    → table.from < length before.catalog.nodes → table.to < length before.catalog.nodes
+    → table.fields ≡ [] → IsWhole (with_rel before table)
+rel_added before table h few new from to none =
+    let tables = before.catalog in
+    let after = (with_rel before table).catalog in
+    let next = numbered.Rel (length tables.rels) in
+    let longer : length (tables.rels ++ table ∷ []) ≡ length tables.rels + 1 =
+    length-append tables.rels (table ∷ []) in
+    record {
+      tables = record {
+        few_nodes = h.tables.few_nodes;
+        few_rels = omega (arith, longer);
+        labels = h.tables.labels;
+        types = pairs_push (λ a b. a.name ≢ b.name) tables.rels table h.tables.types new;
+        ends = All-push (λ t. (t.from < length tables.nodes) × (t.to < length tables.nodes))
+            tables.rels table h.tables.ends (from, to);
+        node_fields = h.tables.node_fields;
+        rel_fields = All-push (λ t. t.fields ≡ []) tables.rels table h.tables.rel_fields none;
+      };
+      numbers = All-push (IsNumberOf after) before.order next
+          (All-weaker (IsNumberOf tables) (IsNumberOf after)
+          (still_number tables after (omega arith) (omega (arith, longer))) before.order h.numbers)
+          (omega (arith, longer));
+      once = pairs_push (λ a b. a ≢ b) before.order next h.once
+          (All-weaker (IsNumberOf tables) (λ t. t ≢ next) (not_next_rel tables)
+          before.order h.numbers);
+    }
+
+-- ---- one line
+
+node_whole : (number : ℕ) (before m : Manifest) (line : NodeLine) → IsWhole before
+    → add_node number before line ≡ Ok m → IsWhole m
+node_whole number before m line h e =
+    let nodes = before.catalog.nodes in
+    let added : Answer = Ok (with_node before (node_table line)) in
+    let unless_full : Answer =
+    if nat_le 64 (length nodes) then Err (on_line number fault.TooManyTables) else added in
+    let (new, e1) = if_ok (is_some (find_label nodes line.label))
+    (on_line number fault.LabelRepeated) unless_full m e in
+    let (few, e2) = if_ok (nat_le 64 (length nodes))
+    (on_line number fault.TooManyTables) added m e1 in
+    let now : with_node before (node_table line) ≡ m = cc e2 in
+    let others = All-weaker (λ y. bytes_eq y.label line.label ≡ false) (λ y. y.label ≢ line.label)
+    (λ y k. other_text y.label line.label k) nodes
+    (none_passes (λ y. bytes_eq y.label line.label) nodes new) in
+    subst IsWhole now
+    (node_added before (node_table line) h (room (length nodes) few) others refl)
+
+between_ok : (number : ℕ) (before m : Manifest) (line : RelLine) (from to : Option ℕ)
+    → add_between number before line from to ≡ Ok m
+    → (f : ℕ) × (g : ℕ) × (from ≡ Some f) × (to ≡ Some g)
+    × (nat_le 64 (length before.catalog.rels) ≡ false)
+    × (with_rel before (rel_table line f g) ≡ m)
+between_ok number before m line (Some f) (Some g) e =
+    let (few, e1) = if_ok (nat_le 64 (length before.catalog.rels))
+    (on_line number fault.TooManyTables) (Ok (with_rel before (rel_table line f g))) m e in
     (f, g, refl, refl, few, cc e1)
-between_ok number tables t line (Some f) None e = cc
-between_ok number tables t line None to e = cc
+between_ok number before m line (Some f) None e = cc
+between_ok number before m line None to e = cc
 
-rel_whole : (number : ℕ) (tables t : Tables) (line : RelLine) → AreWhole tables → add_rel number tables line ≡ Ok t → AreWhole t
-rel_whole number tables t line h e =
-    let from = find_label tables.nodes line.from in
-    let to = find_label tables.nodes line.to in
-    let (new, e1) = if_ok (is_some (find_type tables.rels line.name)) (refusal.TypeRepeated number) (add_between number tables line from to) t e in
-    let b = between_ok number tables t line from to e1 in
-    let table : RelTable = record { name = line.name; from = b.0; to = b.1; mult = line.mult; file = line.file; fields = [] } in
-    let longer : length (tables.rels ++ table ∷ []) ≡ length tables.rels + 1 = length-append tables.rels (table ∷ []) in
-    let others = All-weaker (λ y. bytes_eq y.name line.name ≡ false) (λ y. y.name ≢ line.name) (λ y k. other_text y.name line.name k) tables.rels (none_passes (λ y. bytes_eq y.name line.name) tables.rels new) in
-    let ends : Between (length tables.nodes) table = (found_within (λ y. bytes_eq y.label line.from) tables.nodes b.0 b.2, found_within (λ y. bytes_eq y.label line.to) tables.nodes b.1 b.3) in
-    subst AreWhole b.5 record {
-      few_nodes = h.few_nodes;
-      few_rels = omega (arith, longer, room (length tables.rels) b.4);
-      labels = h.labels;
-      types = pairs_push (λ a b. a.name ≢ b.name) tables.rels table h.types others;
-      ends = All-push (Between (length tables.nodes)) tables.rels table h.ends ends;
-      node_fields = h.node_fields;
-      rel_fields = All-push (λ y. y.fields ≡ []) tables.rels table h.rel_fields refl;
-    }
+rel_whole : (number : ℕ) (before m : Manifest) (line : RelLine) → IsWhole before
+    → add_rel number before line ≡ Ok m → IsWhole m
+rel_whole number before m line h e =
+    let nodes = before.catalog.nodes in
+    let rels = before.catalog.rels in
+    let from = find_label nodes line.from in
+    let to = find_label nodes line.to in
+    let (new, e1) = if_ok (is_some (find_type rels line.name)) (on_line number fault.TypeRepeated)
+    (add_between number before line from to) m e in
+    let b = between_ok number before m line from to e1 in
+    let others = All-weaker (λ y. bytes_eq y.name line.name ≡ false) (λ y. y.name ≢ line.name)
+    (λ y k. other_text y.name line.name k) rels
+    (none_passes (λ y. bytes_eq y.name line.name) rels new) in
+    subst IsWhole b.5 (rel_added before (rel_table line b.0 b.1) h (room (length rels) b.4) others
+    (found_within (λ y. bytes_eq y.label line.from) nodes b.0 b.2)
+    (found_within (λ y. bytes_eq y.label line.to) nodes b.1 b.3) refl)
 
-table_whole : (number : ℕ) (tables t : Tables) (o : Option TableLine) → AreWhole tables → add_line number tables o ≡ Ok t → AreWhole t
-table_whole number tables t None h e = cc
-table_whole number tables t (Some (node line)) h e = node_whole number tables t line h e
-table_whole number tables t (Some (rel line)) h e = rel_whole number tables t line h e
+table_whole : (number : ℕ) (before m : Manifest) (o : Option TableLine) → IsWhole before
+    → add_line number before o ≡ Ok m → IsWhole m
+table_whole number before m None h e = cc
+table_whole number before m (Some (node line)) h e = node_whole number before m line h e
+table_whole number before m (Some (rel line)) h e = rel_whole number before m line h e
 
-line_whole : (number : ℕ) (tables t : Tables) (line : List ℕ) (b : Bool) → AreWhole tables → (if b then Ok tables else add_line number tables (table_of line)) ≡ Ok t → AreWhole t
-line_whole number tables t line true h e = let same : tables ≡ t = cc e in subst AreWhole same h
-line_whole number tables t line false h e = table_whole number tables t (table_of line) h e
+line_whole : (number : ℕ) (before m : Manifest) (line : List ℕ) (b : Bool) → IsWhole before
+    → (if b then Ok before else add_line number before (table_of line)) ≡ Ok m → IsWhole m
+line_whole number before m line true h e = let same : before ≡ m = cc e in subst IsWhole same h
+line_whole number before m line false h e = table_whole number before m (table_of line) h e
 
-pub then_ok : (r : Result Tables ManifestRefusal) (f : Tables → Result Tables ManifestRefusal) (t : Tables) → and_then r f ≡ Ok t → (u : Tables) × (r ≡ Ok u) × (f u ≡ Ok t)
-then_ok (Ok u) f t e = (u, refl, e)
-then_ok (Err x) f t e = cc
+-- ---- all lines
 
-lines_whole : (number : ℕ) (tables t : Tables) (lines : List (List ℕ)) → AreWhole tables → take_lines number tables lines ≡ Ok t → AreWhole t
-lines_whole number tables t [] h e = let same : tables ≡ t = cc e in subst AreWhole same h
-lines_whole number tables t (line ∷ more) h e =
-    let step = then_ok (take_line number tables line) (λ u. take_lines (number + 1) u more) t e in
-    lines_whole (number + 1) step.0 t more (line_whole number tables step.0 line (is_skipped line) h step.1) step.2
+lines_whole : (number : ℕ) (before m : Manifest) (lines : List (List ℕ)) → IsWhole before
+    → take_lines number before lines ≡ Ok m → IsWhole m
+lines_whole number before m [] h e = let same : before ≡ m = cc e in subst IsWhole same h
+lines_whole number before m (line ∷ more) h e =
+    let later = λ (after : Manifest). take_lines (number + 1) after more in
+    let step = then_ok (take_line number before line) later m e in
+    let next = line_whole number before step.0 line (is_skipped line) h step.1 in
+    lines_whole (number + 1) step.0 m more next step.2
 
-none_whole : AreWhole (record { nodes = []; rels = [] })
-none_whole = record {
-  few_nodes = omega arith;
-  few_rels = omega arith;
-  labels = λ i j d less within. absurd (omega arith);
-  types = λ i j d less within. absurd (omega arith);
-  ends = All-nil _;
-  node_fields = All-nil _;
-  rel_fields = All-nil _;
+blank_whole : IsWhole blank
+blank_whole = record {
+  tables = record {
+    few_nodes = omega arith;
+    few_rels = omega arith;
+    labels = λ i j d less within. absurd (omega arith);
+    types = λ i j d less within. absurd (omega arith);
+    ends = All-nil _;
+    node_fields = All-nil _;
+    rel_fields = All-nil _;
+  };
+  numbers = All-nil _;
+  once = λ i j d less within. absurd (omega arith);
 }
 
--- the tables of each manifest that is taken
-pub manifest_whole : (text : List ℕ) (t : Tables) → manifest_of text ≡ Ok t → AreWhole t
-manifest_whole text t e = lines_whole 1 (record { nodes = []; rels = [] }) t (lines text) none_whole e
+-- each manifest that is taken
+pub manifest_whole : (text : List ℕ) (m : Manifest) → manifest_of text ≡ Ok m → IsWhole m
+manifest_whole text m e = lines_whole 1 blank m (lines text) blank_whole e

@@ -1,4 +1,4 @@
 pub mod Answers
 pub mod Lines
 pub mod Manifests
-pub mod Orders
+pub mod Refusals

@@ -1,5 +1,6 @@
 -- The words of a line, and the table that they name (this project's profile).
-use Rattle.std.specs.Prelude.{ℕ, nat_eq, Bool, ◌||◌, ◌==◌, not, if◌then◌else◌, List, [], ◌∷◌, length, codes, filter}
+use Rattle.std.specs.Prelude.{ℕ, nat_eq, Bool, ◌||◌, ◌==◌, not, if◌then◌else◌, List, [], ◌∷◌}
+use Rattle.std.specs.Prelude.{length, codes, filter}
 use Rattle.std.specs.declared.option.Option.{Option}
 use Rattle.std.specs.declared.option.Option.TheVariants.{Some, None}
 use Rattle.std.specs.List.{list_all, slice_split, starts_with}
@@ -57,15 +58,21 @@ node_of (Some label) (Some file) = Some (node (record { label = label; file = fi
 node_of label file = None
 
 -- the words TYPE FROM TO MULT FILE, where all are of their form
-abbrev pub rel_of : Option (List ℕ) → Option (List ℕ) → Option (List ℕ) → Option Mult → Option (List ℕ) → Option TableLine
-rel_of (Some name) (Some from) (Some to) (Some mult) (Some file) = Some (rel (record { name = name; from = from; to = to; mult = mult; file = file }))
+abbrev pub rel_of : Option (List ℕ) → Option (List ℕ) → Option (List ℕ) → Option Mult
+    → Option (List ℕ) → Option TableLine
+rel_of (Some name) (Some from) (Some to) (Some mult) (Some file) =
+    Some (rel (record { name = name; from = from; to = to; mult = mult; file = file }))
 rel_of name from to mult file = None
 
--- the words of one of the two forms, `node LABEL FILE` and `rel TYPE FROM TO MULT FILE`: LABEL, TYPE, FROM and TO are plain names, and FILE is UTF-8
+-- the words of one of the two forms, `node LABEL FILE` and `rel TYPE FROM TO MULT FILE`: LABEL,
+-- TYPE, FROM and TO are plain names, and FILE is UTF-8
 abbrev pub form_of : List (List ℕ) → Option TableLine
-form_of (keyword ∷ label ∷ file ∷ []) = if bytes_eq keyword (codes "node") then node_of (name_of label) (text_of file) else None
+form_of (keyword ∷ label ∷ file ∷ []) =
+    if bytes_eq keyword (codes "node") then node_of (name_of label) (text_of file) else None
 form_of (keyword ∷ name ∷ from ∷ to ∷ mult ∷ file ∷ []) =
-    if bytes_eq keyword (codes "rel") then rel_of (name_of name) (name_of from) (name_of to) (mult_of mult) (text_of file) else None
+    if bytes_eq keyword (codes "rel")
+    then rel_of (name_of name) (name_of from) (name_of to) (mult_of mult) (text_of file)
+    else None
 form_of words = None
 
 -- a line that is UTF-8 and of one of the two forms

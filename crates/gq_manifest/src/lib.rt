@@ -4,8 +4,8 @@
 mod cut;
 mod line;
 mod manifest;
-mod order;
+mod refusal;
 mod tables;
 
-pub use manifest::{ManifestRefusal, read_manifest};
-pub use order::{TableNumber, read_order};
+pub use manifest::{Manifest, TableNumber, read_manifest};
+pub use refusal::{LineFault, ManifestRefusal, ManifestStop};

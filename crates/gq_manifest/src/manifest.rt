@@ -1,77 +1,72 @@
 //! The reading of a manifest: its lines in order, up to the first that is refused.
 ghost use Rattle.std.specs.Prelude.{◌≡◌, ◌^◌, ◌<◌, length, IfOk};
 ghost use Rattle.gq_manifest.specs.Answers.{Adds, Reads};
-ghost use Rattle.gq_manifest.specs.Manifests.{AreWhole, manifest_of, take_line};
-ghost use Rattle.gq_manifest.specs.declared.manifest.ManifestRefusal.TheVariants as refusal;
+ghost use Rattle.gq_manifest.specs.Manifests.{IsWhole, manifest_of, take_line};
 
 use crate::cut::{cut_line, is_skipped};
 use crate::line::read_line;
+use crate::refusal::{LineFault, ManifestStop};
 use crate::tables::add_table;
-use gq_base::{Catalog, Memory};
+use gq_base::{Catalog, List};
 use std::alloc::Global;
 
-/// Why a manifest gives no catalogue: the first line that is refused, counted from 1, and the first rule that
-/// refuses it, in the order below.
+/// A table, by its number among those of its form, from 0 in the order of their lines.
 #[derive(Clone, Copy, Debug, PartialEq, Eq)]
-pub enum ManifestRefusal {
-    /// The line is not UTF-8, or not of one of the two forms.
-    BadLine { line: u32 },
-    /// Its label is that of an earlier line.
-    LabelRepeated { line: u32 },
-    /// Its type is that of an earlier line.
-    TypeRepeated { line: u32 },
-    /// A label that it goes from or to is on no earlier line.
-    NoSuchLabel { line: u32 },
-    /// It is the 65th line of its form.
-    TooManyTables { line: u32 },
-    /// There was not enough memory.
-    Memory,
+pub enum TableNumber {
+    /// The node table of this number.
+    Node(u32),
+    /// The relationship table of this number.
+    Rel(u32),
 }
 
-impl From<Memory> for ManifestRefusal {
-    ghost from_gives = { λ _ e. e ≡ refusal.Memory };
-
-    fn from(_memory: Memory) -> ManifestRefusal {
-        ManifestRefusal::Memory
-    }
+/// What a manifest names.
+#[derive(Debug, Drop)]
+pub struct Manifest {
+    /// The tables, which have no fields yet.
+    pub catalog: Catalog,
+    /// The tables in the order of their lines.
+    pub order: List<TableNumber>,
 }
 
-/// The catalogue that a manifest names; its tables have no fields yet.
+/// The tables that a manifest names, and their order.
 ///
-/// A manifest is lines ended by LF or CR LF, of words set apart by spaces and tabs: `node LABEL FILE`, or
-/// `rel TYPE FROM TO MULT FILE`, where MULT is `many_many`, `many_one`, `one_many` or `one_one`. Lines without words
-/// and lines that begin with `#` are skipped.
-pub fn read_manifest(alloc: Global, text: &[u8]) -> Result<Catalog, ManifestRefusal>
+/// A manifest is lines ended by LF or CR LF, of words set apart by spaces and tabs: `node LABEL
+/// FILE`, or `rel TYPE FROM TO MULT FILE`, where MULT is `many_many`, `many_one`, `one_many` or
+/// `one_one`. Lines without words and lines that begin with `#` are skipped.
+pub fn read_manifest(alloc: Global, text: &[u8]) -> Result<Manifest, ManifestStop>
     requires { length text.now < 2 ^ 32 }
     ensures reads { Reads (manifest_of text.now) result }
-    ensures whole { IfOk result AreWhole }
+    ensures whole { IfOk result IsWhole }
 {
-    let mut catalog = Catalog::new(alloc);
+    let mut manifest = Manifest {
+        catalog: Catalog::new(alloc),
+        order: List::new(alloc),
+    };
     let mut rest = text;
     let mut number = 0;
     'lines: while !rest.is_empty() {
         let (line, after) = cut_line(rest);
         number += 1;
-        take_line(alloc, &mut catalog, number, line)?;
+        take_line(alloc, &mut manifest, number, line)?;
         rest = after;
     }
-    Ok(catalog)
+    Ok(manifest)
 }
 
 // Adds the table that a line names, if it is not skipped.
 fn take_line(
     alloc: Global,
-    catalog: &mut Catalog,
+    manifest: &mut Manifest,
     number: u32,
     line: &[u8],
-) -> Result<(), ManifestRefusal>
-    ensures { Adds (take_line number catalog.old line.now) catalog.new result }
+) -> Result<(), ManifestStop>
+    ensures { Adds (take_line number manifest.old line.now) manifest.new result }
 {
     if is_skipped(line) {
         return Ok(());
     }
     match read_line(alloc, line)? {
-        Some(table) => add_table(alloc, catalog, number, table),
-        None => Err(ManifestRefusal::BadLine { line: number }),
+        Some(table) => add_table(alloc, manifest, number, table),
+        None => Err(ManifestStop::on_line(number, LineFault::BadLine)),
     }
 }

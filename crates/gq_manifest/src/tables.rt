@@ -3,8 +3,9 @@ ghost use Rattle.gq_manifest.specs.Answers.{Adds, seen_node, seen_rel, seen_tabl
 ghost use Rattle.gq_manifest.specs.Manifests.{add_node, add_rel, add_table};
 
 use crate::line::{NodeLine, RelLine, TableLine};
-use crate::manifest::ManifestRefusal;
-use gq_base::{Catalog, List, NodeTable, RelTable, Text};
+use crate::manifest::{Manifest, TableNumber};
+use crate::refusal::{LineFault, ManifestStop};
+use gq_base::{List, NodeTable, RelTable, Text};
 use std::alloc::Global;
 
 /// How many node tables there may be, and how many relationship tables.
@@ -13,61 +14,64 @@ const MOST_TABLES: u32 = 64;
 /// Adds the table that the line of this number names.
 pub(crate) fn add_table(
     alloc: Global,
-    catalog: &mut Catalog,
+    manifest: &mut Manifest,
     line: u32,
     table: TableLine<'_>,
-) -> Result<(), ManifestRefusal>
-    ensures { Adds (add_table line catalog.old (seen_table table.entry)) catalog.new result }
+) -> Result<(), ManifestStop>
+    ensures { Adds (add_table line manifest.old (seen_table table.entry)) manifest.new result }
 {
     match table {
-        TableLine::Node(node) => add_node(alloc, catalog, line, node),
-        TableLine::Rel(rel) => add_rel(alloc, catalog, line, rel),
+        TableLine::Node(node) => add_node(alloc, manifest, line, node),
+        TableLine::Rel(rel) => add_rel(alloc, manifest, line, rel),
     }
 }
 
 fn add_node(
     alloc: Global,
-    catalog: &mut Catalog,
+    manifest: &mut Manifest,
     line: u32,
     node: NodeLine<'_>,
-) -> Result<(), ManifestRefusal>
-    ensures { Adds (add_node line catalog.old (seen_node node.entry)) catalog.new result }
+) -> Result<(), ManifestStop>
+    ensures { Adds (add_node line manifest.old (seen_node node.entry)) manifest.new result }
 {
-    if catalog.find_label(node.label).is_some() {
-        return Err(ManifestRefusal::LabelRepeated { line });
+    let number = manifest.catalog.node_tables();
+    if manifest.catalog.find_label(node.label).is_some() {
+        return Err(ManifestStop::on_line(line, LineFault::LabelRepeated));
     }
-    if catalog.node_tables() >= MOST_TABLES {
-        return Err(ManifestRefusal::TooManyTables { line });
+    if number >= MOST_TABLES {
+        return Err(ManifestStop::on_line(line, LineFault::TooManyTables));
     }
-    catalog.add_node(NodeTable {
+    manifest.catalog.add_node(NodeTable {
         label: Text::new(alloc, node.label)?,
         file: Text::new(alloc, node.file)?,
         fields: List::new(alloc),
     })?;
+    manifest.order.push(TableNumber::Node(number))?;
     Ok(())
 }
 
 fn add_rel(
     alloc: Global,
-    catalog: &mut Catalog,
+    manifest: &mut Manifest,
     line: u32,
     rel: RelLine<'_>,
-) -> Result<(), ManifestRefusal>
-    ensures { Adds (add_rel line catalog.old (seen_rel rel.entry)) catalog.new result }
+) -> Result<(), ManifestStop>
+    ensures { Adds (add_rel line manifest.old (seen_rel rel.entry)) manifest.new result }
 {
-    if catalog.find_type(rel.name).is_some() {
-        return Err(ManifestRefusal::TypeRepeated { line });
+    let number = manifest.catalog.rel_tables();
+    if manifest.catalog.find_type(rel.name).is_some() {
+        return Err(ManifestStop::on_line(line, LineFault::TypeRepeated));
     }
-    let Some(from) = catalog.find_label(rel.from) else {
-        return Err(ManifestRefusal::NoSuchLabel { line });
+    let Some(from) = manifest.catalog.find_label(rel.from) else {
+        return Err(ManifestStop::on_line(line, LineFault::NoSuchLabel));
     };
-    let Some(to) = catalog.find_label(rel.to) else {
-        return Err(ManifestRefusal::NoSuchLabel { line });
+    let Some(to) = manifest.catalog.find_label(rel.to) else {
+        return Err(ManifestStop::on_line(line, LineFault::NoSuchLabel));
     };
-    if catalog.rel_tables() >= MOST_TABLES {
-        return Err(ManifestRefusal::TooManyTables { line });
+    if number >= MOST_TABLES {
+        return Err(ManifestStop::on_line(line, LineFault::TooManyTables));
     }
-    catalog.add_rel(RelTable {
+    manifest.catalog.add_rel(RelTable {
         name: Text::new(alloc, rel.name)?,
         from,
         to,
@@ -75,5 +79,6 @@ fn add_rel(
         file: Text::new(alloc, rel.file)?,
         fields: List::new(alloc),
     })?;
+    manifest.order.push(TableNumber::Rel(number))?;
     Ok(())
 }

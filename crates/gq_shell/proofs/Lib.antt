@@ -1,3 +1,4 @@
 pub mod OneStatus
 pub mod Quizzing
 pub mod Running
+pub mod Sequence

@@ -14,9 +14,9 @@ use Rattle.gq_loader.specs.Answers.{Answers}
 use Rattle.gq_loader.specs.Effects.{ByFault}
 use Rattle.gq_loader.specs.Limits.{standard}
 use Rattle.gq_loader.specs.Loads.{load_of}
-use Rattle.gq_loader.specs.Refusals.{IsOfFiles}
 use Rattle.gq_loader.specs.declared.refusal.LoadRefusal.{LoadRefusal}
-use Rattle.gq_loader.specs.declared.refusal.LoadRefusal.TheVariants as refusal
+use Rattle.gq_loader.specs.declared.refusal.LoadStop.{LoadStop}
+use Rattle.gq_loader.specs.declared.refusal.LoadStop.TheVariants as load
 use Rattle.gq_reply.specs.Replies.{Context, IsReply}
 use Rattle.gq_session.specs.Replies as replies
 use Rattle.gq_session.specs.Sessions.{Session, Span}
@@ -56,10 +56,11 @@ same_told left a b p q = let e : ◌≡◌ {A = Option (List ℕ)} (Some a) (Som
 not_told : {R : Type 0} (a : List ℕ) → ◌≡◌ {A = Option (List ℕ)} None (Some a) → R
 not_told a e = cc e
 
-refuses : (held : Option Names) (path : List ℕ) (e : LoadRefusal) → IsOfFiles e → IfSome held (λ files. load_of path files standard ≡ Err e)
+refuses : (held : Option Names) (path : List ℕ) (e : LoadRefusal)
+    → IfSome held (λ files. load_of path files standard ≡ Err e)
     → IfSome held (λ files. Refuses (load_of path files standard) (load_line e))
-refuses None path e ours is = tt
-refuses (Some files) path e ours is = subst (λ r. Refuses r (load_line e)) (sym is) (ours, refl)
+refuses None path e is = tt
+refuses (Some files) path e is = subst (λ r. Refuses r (load_line e)) (sym is) refl
 
 -- the sizes of samples that words may say
 sample_size : (m s : Option Text) (size : ℕ) → IsSource m s (source.Sample size) → (1 ≤ size) × (size ≤ 1000000)
@@ -117,14 +118,16 @@ module _ (words : List (List ℕ)) (o : Outside) where
           broken_line answer status.NotLoaded (load_line e) (record { read = read; given = given; path = path; from = from; told = refused }) is front rose same
 
       -- the load gave no graph
-      pub exit_refused : (answer : Status) (graph : Result Graph LoadRefusal) (e : LoadRefusal) → graph ≡ Err e → Answers o.held (λ files. load_of path files standard) graph
+      pub exit_refused : (answer : Status) (graph : Result Graph LoadStop) (e : LoadStop)
+          → graph ≡ Err e → Answers o.held (λ files. load_of path files standard) graph
           → ByFault o.files_faults.before o.files_faults.now graph → o.unread ≡ o.left → EndsLoad e (out_of o) answer → Runs words o answer
-      exit_refused answer graph (refusal.ReadFault name) is loads fault same (kept, ends) =
+      exit_refused answer graph (load.Refused e) is loads fault same ends =
+          let meant : IfSome o.held (λ files. load_of path files standard ≡ Err e) = rw is at loads in
+          exit_line answer e (refuses o.held path e meant) same ends
+      exit_refused answer graph (load.ReadFault name) is loads fault same (kept, ends) =
           rw ends (unread status.ReadFault same (inl (kept, fault.failed name is)))
-      exit_refused answer graph refusal.Memory is loads fault same (kept, ends) = exit_memory answer ends same kept
-      exit_refused answer graph e is loads fault same ends =
-          let meant : Answers o.held (λ files. load_of path files standard) (Err e) = rw is at loads in
-          exit_line answer e (refuses o.held path e tt (meant tt)) same ends
+      exit_refused answer graph load.Memory is loads fault same (kept, ends) =
+          exit_memory answer ends same kept
 
       module _ (graph : Graph) (loads : IfSome o.held (λ files. load_of path files standard ≡ Ok graph)) where
         abbrev here : Context

@@ -12,7 +12,6 @@ use Rattle.gq_io.specs.Causes.{Rose}
 use Rattle.gq_io.specs.Outside.{AppendsFront, Names}
 use Rattle.gq_loader.specs.Limits.{standard}
 use Rattle.gq_loader.specs.Loads.{load_of}
-use Rattle.gq_loader.specs.Refusals.{IsOfFiles}
 use Rattle.gq_loader.specs.declared.refusal.LoadRefusal.{LoadRefusal}
 use Rattle.gq_plan.specs.declared.Bound.{Bound}
 use Rattle.gq_render.specs.Texts.{line}
@@ -73,7 +72,7 @@ short size settings = record { graph = sample_graph size; settings = settings; f
 -- the files give no graph, and this line names their first refusal
 abbrev pub Refuses : Result Graph LoadRefusal → List ℕ → Type 0
 Refuses (Ok graph) text = ⊥
-Refuses (Err refusal) text = IsOfFiles refusal × (text ≡ load_line refusal)
+Refuses (Err refusal) text = text ≡ load_line refusal
 
 -- the words name a manifest, and the files give no graph
 pub record IsNotLoaded (words : List (List ℕ)) (held : Option Names) (text : List ℕ) : Type 0 where

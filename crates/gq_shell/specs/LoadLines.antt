@@ -1,8 +1,12 @@
 -- The line of each refusal of a load (this project's profile).
-use Rattle.std.specs.Prelude.{ℕ, List, [], ◌∷◌, codes}
+use Rattle.std.specs.Prelude.{ℕ, List, [], ◌∷◌, ◌++◌, codes}
+use Rattle.gq_loader.specs.Refusals.{name_of}
 use Rattle.gq_loader.specs.declared.refusal.LoadRefusal.{LoadRefusal}
 use Rattle.gq_loader.specs.declared.refusal.LoadRefusal.TheVariants as refusal
 use Rattle.gq_render.specs.Texts.{PlaceText, refusal_line}
+use Rattle.gq_tables.specs.Refusals.{place_of}
+use Rattle.gq_tables.specs.declared.refusal.TablePlace.{TablePlace}
+use Rattle.gq_tables.specs.declared.refusal.TablePlace.TheVariants as place
 
 abbrev pub at_line : ℕ → PlaceText
 at_line number = record { before = codes " line "; number = number }
@@ -13,23 +17,19 @@ at_record number = record { before = codes " record "; number = number }
 abbrev pub at_column : ℕ → PlaceText
 at_column number = record { before = codes " column "; number = number }
 
--- the line that names a refusal, the file or the line of the manifest, and the place in the file; a failed call and want of memory have none
+-- the place in the file of a table
+abbrev pub places_of : TablePlace → List PlaceText
+places_of place.File = []
+places_of (place.Record number) = at_record number ∷ []
+places_of (place.Field number column) = at_record number ∷ at_column column ∷ []
+
+-- where a refusal is: on a line of the manifest, or in a file
+abbrev pub place_line : LoadRefusal → List ℕ
+place_line (refusal.NoFile name) = refusal_line (codes " ") name []
+place_line (refusal.FileTooLong name) = refusal_line (codes " ") name []
+place_line (refusal.Manifest e) = refusal_line [] [] (at_line e.line ∷ [])
+place_line (refusal.Table file e) = refusal_line (codes " ") file (places_of (place_of e))
+
+-- the line of a refusal: its name, and where it is
 abbrev pub load_line : LoadRefusal → List ℕ
-load_line (refusal.NoFile name) = refusal_line (codes "load: NoFile ") name []
-load_line (refusal.FileTooLong name) = refusal_line (codes "load: FileTooLong ") name []
-load_line (refusal.BadLine number) = refusal_line (codes "load: BadLine") [] (at_line number ∷ [])
-load_line (refusal.LabelRepeated number) = refusal_line (codes "load: LabelRepeated") [] (at_line number ∷ [])
-load_line (refusal.TypeRepeated number) = refusal_line (codes "load: TypeRepeated") [] (at_line number ∷ [])
-load_line (refusal.NoSuchLabel number) = refusal_line (codes "load: NoSuchLabel") [] (at_line number ∷ [])
-load_line (refusal.TooManyTables number) = refusal_line (codes "load: TooManyTables") [] (at_line number ∷ [])
-load_line (refusal.BadHeader file) = refusal_line (codes "load: BadHeader ") file []
-load_line (refusal.TooManyProperties file) = refusal_line (codes "load: TooManyProperties ") file []
-load_line (refusal.TooManyRows file) = refusal_line (codes "load: TooManyRows ") file []
-load_line (refusal.FieldCount file number) = refusal_line (codes "load: FieldCount ") file (at_record number ∷ [])
-load_line (refusal.BadField file number column) = refusal_line (codes "load: BadField ") file (at_record number ∷ at_column column ∷ [])
-load_line (refusal.NullKey file number) = refusal_line (codes "load: NullKey ") file (at_record number ∷ [])
-load_line (refusal.NoSuchNode file number column) = refusal_line (codes "load: NoSuchNode ") file (at_record number ∷ at_column column ∷ [])
-load_line (refusal.KeyRepeated file number) = refusal_line (codes "load: KeyRepeated ") file (at_record number ∷ [])
-load_line (refusal.NotSingle file number) = refusal_line (codes "load: NotSingle ") file (at_record number ∷ [])
-load_line (refusal.ReadFault name) = []
-load_line refusal.Memory = []
+load_line e = codes "load: " ++ name_of e ++ place_line e

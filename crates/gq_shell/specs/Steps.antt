@@ -6,8 +6,8 @@ use Rattle.gq_execute.specs.declared.settings.Settings.{Settings}
 use Rattle.gq_io.specs.Causes.{Rose}
 use Rattle.gq_io.specs.Outside.{AppendsFront}
 use Rattle.gq_io.specs.declared.Failed.{Failed}
-use Rattle.gq_loader.specs.declared.LoadRefusal.{LoadRefusal}
-use Rattle.gq_loader.specs.declared.LoadRefusal.TheVariants as refusal
+use Rattle.gq_loader.specs.declared.LoadStop.{LoadStop}
+use Rattle.gq_loader.specs.declared.LoadStop.TheVariants as load
 use Rattle.gq_reply.specs.Replies.{Context, IsReply}
 use Rattle.gq_session.specs.Replies.{Wrote, WroteFront}
 use Rattle.gq_session.specs.Sessions.{Session, Span}
@@ -32,11 +32,12 @@ Told text s out answer =
     ((answer ≡ s) × Appends out.old out.new text)
     ⊎ ((answer ≡ status.WriteFault) × AppendsFront out.old out.new text × Rose out.before out.now)
 
--- what becomes of a load that gave no graph: its line is written, or nothing after a fault and for want of memory
-abbrev pub EndsLoad : LoadRefusal → Span → Status → Type 0
-EndsLoad (refusal.ReadFault name) out answer = Keeps out.old out.new × (answer ≡ status.ReadFault)
-EndsLoad refusal.Memory out answer = Keeps out.old out.new × (answer ≡ status.Memory)
-EndsLoad e out answer = Told (load_line e) status.NotLoaded out answer
+-- what becomes of a load that gave no graph: the line of its refusal is written, or nothing after a
+-- fault and for want of memory
+abbrev pub EndsLoad : LoadStop → Span → Status → Type 0
+EndsLoad (load.Refused e) out answer = Told (load_line e) status.NotLoaded out answer
+EndsLoad (load.ReadFault name) out answer = Keeps out.old out.new × (answer ≡ status.ReadFault)
+EndsLoad load.Memory out answer = Keeps out.old out.new × (answer ≡ status.Memory)
 
 -- how a session over a graph ended
 pub record IsServed (graph : Graph) (settings : Settings) (input out : Span) (answer : Status) : Type 0 where

@@ -13,7 +13,7 @@ use crate::session::serve;
 use crate::status::Status;
 use gq_execute::{Order, Settings};
 use gq_io::{Failed, Files, Sink, Source, write_all};
-use gq_loader::{Limits, LoadRefusal, load};
+use gq_loader::{Limits, LoadStop, load};
 use gq_words::{Order as OrderWord, Source as SourceWord, Words, WordsRefusal, read_words};
 use std::alloc::Global;
 
@@ -51,14 +51,15 @@ fn write_usage<O: Sink>(out: &mut O) -> Result<(), Failed>
     )
 }
 
-// Ends a run whose files gave no graph: with the line of the refusal, or with nothing after a fault and for want of memory.
-fn end_load<O: Sink>(out: &mut O, refusal: &LoadRefusal) -> Status
-    ensures { EndsLoad refusal.now (span_of O.taken O.faults out.old out.new) result }
+// Ends a run whose files gave no graph: with the line of the refusal, or with nothing after a fault
+// and for want of memory.
+fn end_load<O: Sink>(out: &mut O, why: &LoadStop) -> Status
+    ensures { EndsLoad why.now (span_of O.taken O.faults out.old out.new) result }
 {
-    match refusal {
-        LoadRefusal::ReadFault { .. } => Status::ReadFault,
-        LoadRefusal::Memory => Status::Memory,
-        _ => told(write_load_line(out, refusal), Status::NotLoaded),
+    match why {
+        LoadStop::Refused(refusal) => told(write_load_line(out, refusal), Status::NotLoaded),
+        LoadStop::ReadFault { .. } => Status::ReadFault,
+        LoadStop::Memory => Status::Memory,
     }
 }
 
@@ -85,7 +86,7 @@ fn execute<F: Files, I: Source, O: Sink>(
     };
     match load(alloc, files, path, &Limits::standard()) {
         Ok(graph) => serve(alloc, &graph, settings, input, out),
-        Err(refusal) => end_load(out, &refusal),
+        Err(why) => end_load(out, &why),
     }
 }
 

@@ -4,15 +4,16 @@ use Rattle.std.specs.declared.result.Result.{Result}
 use Rattle.gq_tables.specs.Rels.{KeyTable}
 use Rattle.gq_tables.specs.declared.keys.End.{End}
 use Rattle.gq_tables.specs.declared.refusal.TableRefusal.{TableRefusal}
-use Rattle.gq_tables.specs.declared.refusal.TableRefusal.TheVariants as refusal
+use Rattle.gq_tables.specs.declared.refusal.TableStop.{TableStop}
+use Rattle.gq_tables.specs.declared.refusal.TableStop.TheVariants as stop
 
 -- the refusal that is meant, or want of memory, which is free
-abbrev pub Refuses : {T : Type 0} → Result T TableRefusal → TableRefusal → Type 0
-Refuses meant refusal.Memory = Unit {0}
-Refuses meant e = meant ≡ Err e
+abbrev pub Refuses : {T : Type 0} → Result T TableRefusal → TableStop → Type 0
+Refuses meant (stop.Refused refusal) = meant ≡ Err refusal
+Refuses meant stop.Memory = Unit {0}
 
 -- the answer is what is meant, or want of memory
-abbrev pub Answers : {T : Type 0} → Result T TableRefusal → Result T TableRefusal → Type 0
+abbrev pub Answers : {T : Type 0} → Result T TableRefusal → Result T TableStop → Type 0
 Answers meant (Ok value) = meant ≡ Ok value
 Answers meant (Err e) = Refuses meant e
 

@@ -9,7 +9,9 @@ pub mod NearKeys
 pub mod Nodes
 pub mod Passes
 pub mod Records
+pub mod Refusals
 pub mod Rels
 pub mod Sides
 pub mod Slots
+pub mod Tables
 pub mod Unread

@@ -7,14 +7,14 @@ ghost use Rattle.gq_fields.specs.Fields.{cell_of};
 ghost use Rattle.gq_tables.specs.Answers.{Answers};
 ghost use Rattle.gq_tables.specs.Cells.{and_then, read_cell, read_cells};
 
-use crate::refusal::TableRefusal;
+use crate::refusal::{TableRefusal, TableStop};
 use csv::ByteRecord;
 use gq_base::{Cell, Field, Kind, List, Memory, Row, Text, Value};
 use gq_fields::{read_flag, read_int, read_text};
 use std::alloc::Global;
 
-/// The cells of these fields, behind cells that the record gave before. The first of the fields stands behind
-/// `before` others.
+/// The cells of these fields, behind cells that the record gave before. The first of the fields
+/// stands behind `before` others.
 pub(crate) fn read_cells(
     alloc: Global,
     number: u32,
@@ -22,17 +22,18 @@ pub(crate) fn read_cells(
     fields: &[Field],
     texts: &ByteRecord,
     cells: Vec<Option<Cell>>,
-) -> Result<Row, TableRefusal>
+) -> Result<Row, TableStop>
     requires wide { length (fields_of texts.now) ≡ before + length fields.now }
     requires few { before + length fields.now < 2 ^ 32 }
-    ensures { Answers (and_then (read_cells number (before + 1) fields.now (drop before (fields_of texts.now)))
+    ensures { Answers (and_then
+        (read_cells number (before + 1) fields.now (drop before (fields_of texts.now)))
         (λ more. Ok (cells.items ++ more))) result }
 {
     let mut cells = cells;
     for (place, field) in fields.iter().enumerate() {
         let at = before + place;
         let Some(text) = texts.get(at) else {
-            return Err(TableRefusal::FieldCount { number });
+            return Err(TableStop::Refused(TableRefusal::FieldCount { number }));
         };
         let column = (at + 1) as u32;
         cells.push(read_cell(alloc, number, column, field.kind, text)?)?;
@@ -47,17 +48,17 @@ pub(crate) fn read_cell(
     column: u32,
     kind: Kind,
     text: &[u8],
-) -> Result<Option<Cell>, TableRefusal>
+) -> Result<Option<Cell>, TableStop>
     ensures { Answers (read_cell number column kind text.now) result }
 {
     match cell_of(alloc, kind, text)? {
         Some(cell) => Ok(cell),
-        None => Err(TableRefusal::BadField { number, column }),
+        None => Err(TableStop::Refused(TableRefusal::BadField { number, column })),
     }
 }
 
-/// The value of the cell that a text spells, where it spells one of this kind. It borrows the text, so that a key which
-/// is only looked up takes no memory.
+/// The value of the cell that a text spells, where it spells one of this kind. It borrows the text,
+/// so that a key which is only looked up takes no memory.
 pub(crate) fn value_of(kind: Kind, text: &[u8]) -> Option<Value<'_>>
     ensures { option_map val result ≡ option_map cell_val (cell_of kind text.now) }
 {

@@ -8,7 +8,7 @@ ghost use Rattle.gq_tables.specs.Unread.{IsOpen, records_left};
 ghost use Rattle.std.specs.Prelude.{Ok};
 
 use crate::records::read_next;
-use crate::refusal::TableRefusal;
+use crate::refusal::{TableRefusal, TableStop};
 use csv::{ByteRecord, Reader};
 use gq_base::{Bytes, Field, List, Memory};
 use gq_fields::{FileKind, HeaderRefusal, read_header};
@@ -19,33 +19,30 @@ pub(crate) fn read_head(
     alloc: Global,
     reader: &mut Reader<&[u8]>,
     kind: FileKind,
-) -> Result<List<Field>, TableRefusal>
+) -> Result<List<Field>, TableStop>
     requires { IsOpen reader.old }
     ensures is_open { IfOk result (λ fields. IsOpen reader.new) }
     ensures head { Answers (head_of kind (records_left reader.old)) result }
-    ensures rest { IfOk result (λ fields. IsHead kind fields (records_left reader.old) (records_left reader.new)) }
+    ensures rest { IfOk result (λ fields.
+        IsHead kind fields (records_left reader.old) (records_left reader.new)) }
 {
     let mut texts = ByteRecord::new(alloc);
     if !read_next(reader, &mut texts)? {
-        return Err(TableRefusal::BadHeader);
+        return Err(TableStop::Refused(TableRefusal::BadHeader));
     }
     read_fields(alloc, &texts, kind)
 }
 
 // The properties that the record names.
-fn read_fields(
-    alloc: Global,
-    texts: &ByteRecord,
-    kind: FileKind,
-) -> Result<List<Field>, TableRefusal>
+fn read_fields(alloc: Global, texts: &ByteRecord, kind: FileKind) -> Result<List<Field>, TableStop>
     ensures { Answers (under_header (header_of kind (fields_of texts.now)) Ok) result }
 {
     let texts = copy_texts(alloc, texts)?;
     match read_header(alloc, &texts, kind) {
         Ok(fields) => Ok(fields),
-        Err(HeaderRefusal::Bad) => Err(TableRefusal::BadHeader),
-        Err(HeaderRefusal::TooMany) => Err(TableRefusal::TooManyProperties),
-        Err(HeaderRefusal::Memory) => Err(TableRefusal::Memory),
+        Err(HeaderRefusal::Bad) => Err(TableStop::Refused(TableRefusal::BadHeader)),
+        Err(HeaderRefusal::TooMany) => Err(TableStop::Refused(TableRefusal::TooManyProperties)),
+        Err(HeaderRefusal::Memory) => Err(TableStop::Memory),
     }
 }
 

@@ -1,4 +1,5 @@
-//! The rows that the CSV files of a graph give: one table of nodes or of relationships, or why there is none.
+//! The rows that the CSV files of a graph give: one table of nodes or of relationships, or why
+//! there is none.
 #![tactic(auto)]
 
 mod batch;
@@ -18,5 +19,5 @@ mod slots;
 
 pub use keys::End;
 pub use nodes::{NodeTableRows, read_nodes};
-pub use refusal::TableRefusal;
+pub use refusal::{TablePlace, TableRefusal, TableStop};
 pub use rels::{RelTableRows, read_rels, read_rels_within};

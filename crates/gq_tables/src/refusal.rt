@@ -1,12 +1,13 @@
 //! Why the bytes of a file give no table.
 ghost use Rattle.std.specs.Prelude.{◌≡◌};
-ghost use Rattle.gq_tables.specs.declared.refusal.TableRefusal.TheVariants as refusal;
+ghost use Rattle.gq_tables.specs.Refusals.{name_of, place_of};
+ghost use Rattle.gq_tables.specs.declared.refusal.TableStop.TheVariants as stop;
 
 use gq_base::Memory;
 use std::alloc::{AllocError, AllocFailed};
 
-/// The first record of a file that is refused, and the first rule that refuses it. Records are counted from 1, the
-/// header among them, and so are the columns of their fields.
+/// The first record of a file that is refused, and the first rule that refuses it. Records are
+/// counted from 1, the header among them, and so are the columns of their fields.
 #[derive(Clone, Copy, Debug, PartialEq, Eq)]
 pub enum TableRefusal {
     /// There is no record, or the first is not of the form of a header.
@@ -25,32 +26,94 @@ pub enum TableRefusal {
     NoSuchNode { number: u32, column: u32 },
     /// The key of a node is that of an earlier one.
     KeyRepeated { number: u32 },
-    /// An end of a relationship has one already, and the multiplicity of the table allows no second.
+    /// An end of a relationship has one already, and the multiplicity of the table allows no
+    /// second.
     NotSingle { number: u32 },
+}
+
+/// Where a file is refused.
+#[derive(Clone, Copy, Debug, PartialEq, Eq)]
+pub enum TablePlace {
+    /// The file as a whole.
+    File,
+    /// The record of this number.
+    Record { number: u32 },
+    /// The field in this column of the record of this number.
+    Field { number: u32, column: u32 },
+}
+
+/// Why there is no table.
+#[derive(Clone, Copy, Debug, PartialEq, Eq)]
+pub enum TableStop {
+    /// The file is refused.
+    Refused(TableRefusal),
     /// There was not enough memory.
     Memory,
 }
 
-impl From<Memory> for TableRefusal {
-    ghost from_gives = { λ _ e. e ≡ refusal.Memory };
+impl TableRefusal {
+    /// The name of the rule.
+    pub fn name(self) -> &'static str
+        ensures { result.now ≡ name_of self }
+    {
+        match self {
+            TableRefusal::BadHeader => "BadHeader",
+            TableRefusal::TooManyProperties => "TooManyProperties",
+            TableRefusal::TooManyRows => "TooManyRows",
+            TableRefusal::FieldCount { .. } => "FieldCount",
+            TableRefusal::BadField { .. } => "BadField",
+            TableRefusal::NullKey { .. } => "NullKey",
+            TableRefusal::NoSuchNode { .. } => "NoSuchNode",
+            TableRefusal::KeyRepeated { .. } => "KeyRepeated",
+            TableRefusal::NotSingle { .. } => "NotSingle",
+        }
+    }
 
-    fn from(_memory: Memory) -> TableRefusal {
-        TableRefusal::Memory
+    /// The place that it refuses.
+    pub fn place(self) -> TablePlace
+        ensures { result ≡ place_of self }
+    {
+        match self {
+            TableRefusal::BadHeader | TableRefusal::TooManyProperties | TableRefusal::TooManyRows =>
+                TablePlace::File,
+            TableRefusal::FieldCount { number }
+            | TableRefusal::NullKey { number }
+            | TableRefusal::KeyRepeated { number }
+            | TableRefusal::NotSingle { number } => TablePlace::Record { number },
+            TableRefusal::BadField { number, column }
+            | TableRefusal::NoSuchNode { number, column } => TablePlace::Field { number, column },
+        }
     }
 }
 
-impl From<AllocError> for TableRefusal {
-    ghost from_gives = { λ _ e. e ≡ refusal.Memory };
+impl From<TableRefusal> for TableStop {
+    ghost from_gives = { λ refusal e. e ≡ stop.Refused refusal };
 
-    fn from(_error: AllocError) -> TableRefusal {
-        TableRefusal::Memory
+    fn from(refusal: TableRefusal) -> TableStop {
+        TableStop::Refused(refusal)
     }
 }
 
-impl<T: Drop> From<AllocFailed<T>> for TableRefusal {
-    ghost from_gives = { λ _ e. e ≡ refusal.Memory };
+impl From<Memory> for TableStop {
+    ghost from_gives = { λ _ e. e ≡ stop.Memory };
 
-    fn from(_failed: AllocFailed<T>) -> TableRefusal {
-        TableRefusal::Memory
+    fn from(_memory: Memory) -> TableStop {
+        TableStop::Memory
+    }
+}
+
+impl From<AllocError> for TableStop {
+    ghost from_gives = { λ _ e. e ≡ stop.Memory };
+
+    fn from(_error: AllocError) -> TableStop {
+        TableStop::Memory
+    }
+}
+
+impl<T: Drop> From<AllocFailed<T>> for TableStop {
+    ghost from_gives = { λ _ e. e ≡ stop.Memory };
+
+    fn from(_failed: AllocFailed<T>) -> TableStop {
+        TableStop::Memory
     }
 }

@@ -1,11 +1,12 @@
 //! The relationships of a relationship table.
-ghost use Rattle.std.specs.Prelude.{◌≡◌, ◌+◌, ◌<◌, ◌≤◌, ◌^◌, ◌++◌, [], List, ℕ, true, length, All, IfErr, IfOk, OnOk, vec_len};
-ghost use Rattle.std.specs.List.{list_all};
+ghost use Rattle.std.specs.Prelude.{◌≡◌, ℕ, ◌+◌, ◌<◌, ◌≤◌, ◌^◌, List, [], ◌++◌, length};
+ghost use Rattle.std.specs.Prelude.{All, IfErr, IfOk, OnOk};
 ghost use Rattle.csv.specs.Records.{fields_of};
-ghost use Rattle.gq_base.specs.Valid.{are_fields, is_rel, keeps_mult};
 ghost use Rattle.gq_tables.specs.Answers.{Answers, Refuses, seen_end};
-ghost use Rattle.gq_tables.specs.Batches.{AreMarked, HasEnds, rel_by, rels_by, texts_of};
+ghost use Rattle.gq_tables.specs.Batches.{AreMarked, HasEnds, rel_by, rels_by, sources_of};
+ghost use Rattle.gq_tables.specs.Batches.{targets_of, texts_of};
 ghost use Rattle.gq_tables.specs.Rels.{rel_of, rel_table_of};
+ghost use Rattle.gq_tables.specs.Tables.{IsRelTable};
 ghost use Rattle.gq_tables.specs.Unread.{IsOpen, records_left};
 
 use crate::batch::{Ends, PendingRel, fill, find_ends, new_batch, read_keys};
@@ -13,7 +14,7 @@ use crate::cells::read_cells;
 use crate::header::read_head;
 use crate::keys::{End, Keys};
 use crate::records::open_records;
-use crate::refusal::TableRefusal;
+use crate::refusal::{TableRefusal, TableStop};
 use crate::sides::Sides;
 use csv::Reader;
 use gq_base::{Field, List, Mult, PlainRel, RelRows};
@@ -36,11 +37,12 @@ struct RelForm<'k, 'g> {
     limit: u32,
 }
 
-/// The relationship table of a file with these bytes, of at most `limit` relationships, or the first refusal.
+/// The relationship table of a file with these bytes, of at most `limit` relationships, or the
+/// first refusal.
 ///
-/// The first record is the header. Each other record gives a relationship, whose ends are the rows of `source` and
-/// `target` that have the keys in its first two fields, and whose load number is its place among them, from 0. It takes
-/// n log n steps for n bytes and rows.
+/// The first record is the header. Each other record gives a relationship, whose ends are the rows
+/// of `source` and `target` that have the keys in its first two fields, and whose load number is
+/// its place among them, from 0. It takes n log n steps for n bytes and rows.
 pub fn read_rels(
     alloc: Global,
     bytes: &[u8],
@@ -48,15 +50,14 @@ pub fn read_rels(
     target: End<'_>,
     mult: Mult,
     limit: u32,
-) -> Result<RelTableRows, TableRefusal>
+) -> Result<RelTableRows, TableStop>
     requires few_bytes { length bytes.now < 2 ^ 32 }
     requires few_sources { length source.rows.now < 2 ^ 32 }
     requires few_targets { length target.rows.now < 2 ^ 32 }
-    ensures answers { Answers (rel_table_of (seen_end source.entry) (seen_end target.entry) mult limit bytes.now) result }
+    ensures answers { Answers
+        (rel_table_of (seen_end source.entry) (seen_end target.entry) mult limit bytes.now) result }
     ensures few { IfOk result (λ table. length table.rels ≤ limit) }
-    ensures fields { IfOk result (λ table. are_fields table.fields ≡ true) }
-    ensures rels { IfOk result (λ table. list_all (is_rel table.fields (length source.entry.rows.now) (length target.entry.rows.now)) table.rels ≡ true) }
-    ensures mult { IfOk result (λ table. keeps_mult mult table.rels ≡ true) }
+    ensures valid { IfOk result (IsRelTable (seen_end source.entry) (seen_end target.entry) mult) }
 {
     let sources = Keys::new(alloc, source)?;
     let targets = Keys::new(alloc, target)?;
@@ -67,22 +68,21 @@ pub fn read_rels(
     read_table(alloc, bytes, ends, mult, limit)
 }
 
-/// The relationship table of a file with these bytes, both of whose ends are one node table: what `read_rels` answers,
-/// with one index of the keys in place of two.
+/// The relationship table of a file with these bytes, both of whose ends are one node table: what
+/// `read_rels` answers, with one index of the keys in place of two.
 pub fn read_rels_within(
     alloc: Global,
     bytes: &[u8],
     end: End<'_>,
     mult: Mult,
     limit: u32,
-) -> Result<RelTableRows, TableRefusal>
+) -> Result<RelTableRows, TableStop>
     requires few_bytes { length bytes.now < 2 ^ 32 }
     requires few_rows { length end.rows.now < 2 ^ 32 }
-    ensures answers { Answers (rel_table_of (seen_end end.entry) (seen_end end.entry) mult limit bytes.now) result }
+    ensures answers { Answers (rel_table_of (seen_end end.entry) (seen_end end.entry) mult limit
+        bytes.now) result }
     ensures few { IfOk result (λ table. length table.rels ≤ limit) }
-    ensures fields { IfOk result (λ table. are_fields table.fields ≡ true) }
-    ensures rels { IfOk result (λ table. list_all (is_rel table.fields (length end.entry.rows.now) (length end.entry.rows.now)) table.rels ≡ true) }
-    ensures mult { IfOk result (λ table. keeps_mult mult table.rels ≡ true) }
+    ensures valid { IfOk result (IsRelTable (seen_end end.entry) (seen_end end.entry) mult) }
 {
     let keys = Keys::new(alloc, end)?;
     let ends = Ends {
@@ -98,13 +98,12 @@ fn read_table(
     ends: Ends<'_, '_>,
     mult: Mult,
     limit: u32,
-) -> Result<RelTableRows, TableRefusal>
+) -> Result<RelTableRows, TableStop>
     requires few_bytes { length bytes.now < 2 ^ 32 }
-    ensures answers { Answers (rel_table_of (seen_end ends.entry.sources.now.end) (seen_end ends.entry.targets.now.end) mult limit bytes.now) result }
+    ensures answers { Answers
+        (rel_table_of (sources_of ends.entry) (targets_of ends.entry) mult limit bytes.now) result }
     ensures few { IfOk result (λ table. length table.rels ≤ limit) }
-    ensures fields { IfOk result (λ table. are_fields table.fields ≡ true) }
-    ensures rels { IfOk result (λ table. list_all (is_rel table.fields (length ends.entry.sources.now.end.rows.now) (length ends.entry.targets.now.end.rows.now)) table.rels ≡ true) }
-    ensures mult { IfOk result (λ table. keeps_mult mult table.rels ≡ true) }
+    ensures valid { IfOk result (IsRelTable (sources_of ends.entry) (targets_of ends.entry) mult) }
 {
     let mut reader = open_records(alloc, bytes);
     let fields = read_head(alloc, &mut reader, FileKind::Rels)?;
@@ -123,7 +122,7 @@ fn read_records(
     alloc: Global,
     reader: &mut Reader<&[u8]>,
     form: &RelForm<'_, '_>,
-) -> Result<RelRows, TableRefusal>
+) -> Result<RelRows, TableStop>
     requires is_open { IsOpen reader.old }
     requires few_records { length (records_left reader.old) + 1 < 2 ^ 32 }
     requires few_fields { length form.now.fields.now + 2 < 2 ^ 32 }
@@ -154,14 +153,15 @@ fn take_batch(
     batch: &[PendingRel],
     sides: &mut Sides,
     rels: &mut Vec<PlainRel>,
-) -> Result<(), TableRefusal>
-    requires found { All (HasEnds (seen_end form.now.ends.sources.now.end) (seen_end form.now.ends.targets.now.end)) batch.now }
+) -> Result<(), TableStop>
+    requires found { All (HasEnds (sources_of form.now.ends) (targets_of form.now.ends)) batch.now }
     requires marked { AreMarked form.now rels.old.items sides.old }
     requires few_rels { length rels.old.items ≤ form.now.limit }
     requires few_records { length rels.old.items + length batch.now + 1 < 2 ^ 32 }
     requires few_fields { length form.now.fields.now + 2 < 2 ^ 32 }
     ensures taken { OnOk result ((left : List (List (List ℕ))) →
-        rels_by form.now rels.old.items (texts_of batch.now ++ left) ≡ rels_by form.now rels.new.items left) }
+        rels_by form.now rels.old.items (texts_of batch.now ++ left)
+        ≡ rels_by form.now rels.new.items left) }
     ensures marked { OnOk result (AreMarked form.now rels.new.items sides.new) }
     ensures few { OnOk result (length rels.new.items ≤ form.now.limit) }
     ensures count { OnOk result (length rels.new.items ≡ length rels.old.items + length batch.now) }
@@ -171,9 +171,9 @@ fn take_batch(
     for pending in batch {
         let rel = read_rel(alloc, form, rels.len(), pending)?;
         if !sides.take(&rel) {
-            return Err(TableRefusal::NotSingle {
+            return Err(TableStop::Refused(TableRefusal::NotSingle {
                 number: (rels.len() + 2) as u32,
-            });
+            }));
         }
         rels.push(rel)?;
     }
@@ -186,18 +186,18 @@ fn read_rel(
     form: &RelForm<'_, '_>,
     count: usize,
     pending: &PendingRel,
-) -> Result<PlainRel, TableRefusal>
-    requires found { HasEnds (seen_end form.now.ends.sources.now.end) (seen_end form.now.ends.targets.now.end) pending.now }
+) -> Result<PlainRel, TableStop>
+    requires found { HasEnds (sources_of form.now.ends) (targets_of form.now.ends) pending.now }
     requires few_rels { count + 2 < 2 ^ 32 }
     requires few_fields { length form.now.fields.now + 2 < 2 ^ 32 }
     ensures { Answers (rel_by form.now count (fields_of pending.now.texts)) result }
 {
     if count >= form.limit as usize {
-        return Err(TableRefusal::TooManyRows);
+        return Err(TableStop::Refused(TableRefusal::TooManyRows));
     }
     let number = (count + 2) as u32;
     if pending.texts.len() != form.fields.len() + 2 {
-        return Err(TableRefusal::FieldCount { number });
+        return Err(TableStop::Refused(TableRefusal::FieldCount { number }));
     }
     rel_of(alloc, number, form, pending)
 }
@@ -207,11 +207,11 @@ fn rel_of(
     number: u32,
     form: &RelForm<'_, '_>,
     pending: &PendingRel,
-) -> Result<PlainRel, TableRefusal>
-    requires found { HasEnds (seen_end form.now.ends.sources.now.end) (seen_end form.now.ends.targets.now.end) pending.now }
+) -> Result<PlainRel, TableStop>
+    requires found { HasEnds (sources_of form.now.ends) (targets_of form.now.ends) pending.now }
     requires wide { length (fields_of pending.now.texts) ≡ length form.now.fields.now + 2 }
     requires few { length form.now.fields.now + 2 < 2 ^ 32 }
-    ensures { Answers (rel_of number (seen_end form.now.ends.sources.now.end) (seen_end form.now.ends.targets.now.end)
+    ensures { Answers (rel_of number (sources_of form.now.ends) (targets_of form.now.ends)
         form.now.fields.now (fields_of pending.now.texts)) result }
 {
     let source = pending.source.row(number, 1)?;

@@ -5,20 +5,20 @@ ghost use Rattle.gq_tables.specs.Passes.{add_nodes, up_to_repeat};
 
 use crate::key_index::KeyIndex;
 use crate::keys::put_row;
-use crate::refusal::TableRefusal;
+use crate::refusal::{TableRefusal, TableStop};
 use gq_base::{Memory, NodeRows, Row};
 use std::alloc::Global;
 
 /// These rows, where no key stands in two of them. The first is that of record 2.
-pub(crate) fn with_distinct_keys(alloc: Global, rows: NodeRows) -> Result<NodeRows, TableRefusal>
+pub(crate) fn with_distinct_keys(alloc: Global, rows: NodeRows) -> Result<NodeRows, TableStop>
     requires { length rows + 2 ≤ 2 ^ 32 }
     ensures answers { Answers (add_nodes 2 [] rows) result }
     ensures same { IfOk result (λ kept. kept ≡ rows) }
 {
     match first_repeat(alloc, rows.as_slice())? {
-        Some(at) => Err(TableRefusal::KeyRepeated {
+        Some(at) => Err(TableStop::Refused(TableRefusal::KeyRepeated {
             number: (at + 2) as u32,
-        }),
+        })),
         None => Ok(rows),
     }
 }

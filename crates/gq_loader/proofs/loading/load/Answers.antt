@@ -15,20 +15,26 @@ loop-table-init g c =
       numbers = rw items b.numbers;
       valid = b.valid;
       unread = rw items (λ k d from within. b.unread k d within);
-      meant = rw items (meant_first c.args.manifest.now c.args.limits.now (g.F.Files.held c.args.files.now) c.in_ok-loading.field-0 b.answers);
-      reads = reads_less _ (most_bytes c.args.limits.now) _ _ _ (omega arith) (then_answers _ _ _ _ _ b.reads (λ n e. cc) (λ n e. cc));
+      meant = rw items (meant_first c.args.manifest.now c.args.limits.now
+          (g.F.Files.held c.args.files.now) c.in_ok-loading.field-0 b.answers);
+      reads = reads_less _ (most_bytes c.args.limits.now) _ _ _ (omega arith)
+          (then_answers _ _ _ _ _ b.reads (λ n e. cc) (λ n e. cc));
     }
 
 pub returns-in_err-take_table-clause-loads : goal.returns-in_err-take_table-clause-loads
 returns-in_err-take_table-clause-loads g c =
-    let p = err_from_is_err_and c.from_residual-in_err-take_table.result c.from_residual-in_err-take_table.ensures.1 in
+    let p = err_from_is_err_and c.from_residual-in_err-take_table.result
+    c.from_residual-in_err-take_table.ensures.1 in
     let i = c.loop-table.invariant in
-    meant_stops c.args.manifest.now c.args.limits.now _ _ _ _ _ _ _ c.in_err-take_table.field-0.0 _ _ c.loop-table-test.true i.reads.held c.take_table.ensures.leaves c.in_err-take_table.was (cc (p.1, p.2)) i.meant
+    meant_stops c.args.manifest.now c.args.limits.now _ _ _ _ _ _ _ c.in_err-take_table.field-0.0 _
+    _ c.loop-table-test.true i.reads.held c.take_table.ensures.leaves c.in_err-take_table.was
+    (cc (p.1, p.2)) i.meant
 
 pub returns-in_err-take_table-clause-few : goal.returns-in_err-take_table-clause-few
 returns-in_err-take_table-clause-few g c =
     let i = c.loop-table.invariant in
-    (then_reads _ _ _ _ _ _ i.reads (reads_less _ (most_bytes c.args.limits.now) _ _ _ (omega arith) c.take_table.ensures.reads)).few
+    (then_reads _ _ _ _ _ _ i.reads (reads_less _ (most_bytes c.args.limits.now) _ _ _ (omega arith)
+    c.take_table.ensures.reads)).few
 
 pub loop-table-preserved : goal.loop-table-preserved
 loop-table-preserved g c =
@@ -40,7 +46,11 @@ loop-table-preserved g c =
       going = t.going;
       numbers = numbers_stay _ _ _ t.tables i.numbers;
       valid = t.valid;
-      unread = unread_next c.loop-table.loading.graph c.take_table.new.loading.graph _ _ _ c.loop-table-test.true (rw items b.once) t.others i.unread;
-      meant = meant_next c.args.manifest.now c.args.limits.now _ _ _ _ _ _ _ c.loop-table-test.true i.reads.held t.leaves i.meant;
-      reads = then_answers _ _ _ _ _ (then_reads _ _ _ _ _ _ i.reads (reads_less _ (most_bytes c.args.limits.now) _ _ _ (omega arith) t.reads)) (λ n e. cc) (λ n e. cc);
+      unread = unread_next c.loop-table.loading.graph c.take_table.new.loading.graph _ _ _
+          c.loop-table-test.true (rw items b.once) t.others i.unread;
+      meant = meant_next c.args.manifest.now c.args.limits.now _ _ _ _ _ _ _ c.loop-table-test.true
+          i.reads.held t.leaves i.meant;
+      reads = then_answers _ _ _ _ _ (then_reads _ _ _ _ _ _ i.reads
+          (reads_less _ (most_bytes c.args.limits.now) _ _ _ (omega arith) t.reads)) (λ n e. cc)
+          (λ n e. cc);
     }

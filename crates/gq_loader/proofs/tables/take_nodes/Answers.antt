@@ -11,11 +11,15 @@ returns-clause-valid g c =
     let good = c.in-Ok.ensures in
     let few : length read.rows ≤ 2 ^ 24 = omega (arith, good.few, c.requires.within.nodes) in
     nodes_valid old new c.args.number read.fields read.rows
-    (c.set_node_rows.ensures.catalog ∙ c.set_node_fields.ensures.catalog) (c.set_node_rows.ensures.nodes ∙ ap (λ l. slice_set l c.args.number read.rows) c.set_node_fields.ensures.nodes)
-    (c.set_node_rows.ensures.rels ∙ c.set_node_fields.ensures.rels) c.requires.valid c.requires.number c.requires.unread few good.fields good.rows good.keys
+    (c.set_node_rows.ensures.catalog ∙ c.set_node_fields.ensures.catalog)
+    (c.set_node_rows.ensures.nodes ∙ ap (λ l. slice_set l c.args.number read.rows)
+    c.set_node_fields.ensures.nodes)
+    (c.set_node_rows.ensures.rels ∙ c.set_node_fields.ensures.rels) c.requires.valid
+    c.requires.number c.requires.unread few good.valid.fields good.valid.rows good.valid.keys
 
 pub returns-clause-others : goal.returns-clause-others
 returns-clause-others g c =
     let read = c.in-Ok.read in
     others_keep c.args.loading.now.graph c.set_node_rows.new.self c.args.number read.rows
-    (c.set_node_rows.ensures.nodes ∙ ap (λ l. slice_set l c.args.number read.rows) c.set_node_fields.ensures.nodes)
+    (c.set_node_rows.ensures.nodes ∙ ap (λ l. slice_set l c.args.number read.rows)
+    c.set_node_fields.ensures.nodes)

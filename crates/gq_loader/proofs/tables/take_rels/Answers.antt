@@ -14,10 +14,17 @@ returns-clause-valid g c =
     let good = c.in-Ok.ensures in
     let t = c.rel_table-table.result.now in
     let few : length read.rels ≤ 2 ^ 25 = omega (arith, good.few, c.requires.within.rels) in
-    let is : slice_get old.catalog.rels c.args.number ≡ Some t = sym (c.rel_table-table.ensures ∙ ap (λ (k : Tables). slice_get k.rels c.args.number) c.catalog.ensures.value) in
-    let sources : length (end_of old t.from).rows ≡ row_count old.nodes t.from = count_at (slice_get old.nodes t.from) in
-    let targets : length (end_of old t.to).rows ≡ row_count old.nodes t.to = count_at (slice_get old.nodes t.to) in
+    let is : slice_get old.catalog.rels c.args.number ≡ Some t =
+    sym (c.rel_table-table.ensures ∙ ap (λ (k : Tables). slice_get k.rels c.args.number)
+    c.catalog.ensures.value) in
+    let sources : length (end_of old t.from).rows ≡ row_count old.nodes t.from =
+    count_at (slice_get old.nodes t.from) in
+    let targets : length (end_of old t.to).rows ≡ row_count old.nodes t.to =
+    count_at (slice_get old.nodes t.to) in
     rels_valid old new c.args.number t read.fields read.rels
-    (c.set_rel_rows.ensures.catalog ∙ c.set_rel_fields.ensures.catalog) (c.set_rel_rows.ensures.nodes ∙ c.set_rel_fields.ensures.nodes)
-    (c.set_rel_rows.ensures.rels ∙ ap (λ l. slice_set l c.args.number read.rels) c.set_rel_fields.ensures.rels)
-    c.requires.valid is c.requires.going.ends few good.fields (rw (sources, targets) at good.rels) good.mult
+    (c.set_rel_rows.ensures.catalog ∙ c.set_rel_fields.ensures.catalog)
+    (c.set_rel_rows.ensures.nodes ∙ c.set_rel_fields.ensures.nodes)
+    (c.set_rel_rows.ensures.rels ∙ ap (λ l. slice_set l c.args.number read.rels)
+    c.set_rel_fields.ensures.rels)
+    c.requires.valid is c.requires.going.ends few good.valid.fields
+    (rw (sources, targets) at good.valid.rels) good.valid.kept

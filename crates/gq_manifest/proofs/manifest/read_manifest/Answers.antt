@@ -8,5 +8,8 @@ use Rattle.gq_manifest.proofs.manifest.read_manifest.Goals as goal
 
 pub returns-clause-whole : goal.returns-clause-whole
 returns-clause-whole c =
-    let none : length c.lines.rest.now ≡ 0 = grind (arith, nat_tests, c.lines-test.false, c.is_empty.ensures) in
-    manifest_whole c.args.text.now c.lines.catalog (c.lines.invariant.taken ∙ ap (λ rest. take_lines (c.lines.number + 1) c.lines.catalog (lines rest)) (nil_from_length c.lines.rest.now none))
+    let none : length c.lines.rest.now ≡ 0 =
+    grind (arith, nat_tests, c.lines-test.false, c.is_empty.ensures) in
+    let last = ap (λ rest. take_lines (c.lines.number + 1) c.lines.manifest (lines rest))
+    (nil_from_length c.lines.rest.now none) in
+    manifest_whole c.args.text.now c.lines.manifest (c.lines.invariant.taken ∙ last)

@@ -8,51 +8,70 @@ use Rattle.gq_tables.proofs.rels.take_batch.Goals as goal
 
 pub take-requires-clause-source_in : goal.take-requires-clause-source_in
 take-requires-clause-source_in c =
-    let next = records-drop c.args.batch.now c.loop-pending.pending-index c.pending-item.result [] c.loop-pending-test.true c.pending-item.is in
-    let size : c.len.result ≡ length c.loop-pending.rels.items = (let ok = c.loop-pending.rels.ok.0 in omega arith) in
-    source_in _ _ _ _ _ _ _ _ _ _ _ (c.loop-pending.invariant.taken []) _ _ next c.in_ok-rel.rel (rw size at c.in_ok-rel.ensures)
+    let next = records-drop c.args.batch.now c.loop-pending.pending-index c.pending-item.result []
+    c.loop-pending-test.true c.pending-item.is in
+    let size : c.len.result ≡ length c.loop-pending.rels.items =
+    (let ok = c.loop-pending.rels.ok.0 in omega arith) in
+    source_in _ _ _ _ _ _ _ _ _ _ _ (c.loop-pending.invariant.taken []) _ _ next c.in_ok-rel.rel
+    (rw size at c.in_ok-rel.ensures)
 
 pub take-requires-clause-target_in : goal.take-requires-clause-target_in
 take-requires-clause-target_in c =
-    let next = records-drop c.args.batch.now c.loop-pending.pending-index c.pending-item.result [] c.loop-pending-test.true c.pending-item.is in
-    let size : c.len.result ≡ length c.loop-pending.rels.items = (let ok = c.loop-pending.rels.ok.0 in omega arith) in
-    target_in _ _ _ _ _ _ _ _ _ _ _ (c.loop-pending.invariant.taken []) _ _ next c.in_ok-rel.rel (rw size at c.in_ok-rel.ensures)
+    let next = records-drop c.args.batch.now c.loop-pending.pending-index c.pending-item.result []
+    c.loop-pending-test.true c.pending-item.is in
+    let size : c.len.result ≡ length c.loop-pending.rels.items =
+    (let ok = c.loop-pending.rels.ok.0 in omega arith) in
+    target_in _ _ _ _ _ _ _ _ _ _ _ (c.loop-pending.invariant.taken []) _ _ next c.in_ok-rel.rel
+    (rw size at c.in_ok-rel.ensures)
 
 pub returns-in_err-rel-clause-refused : goal.returns-in_err-rel-clause-refused
 returns-in_err-rel-clause-refused c =
     let p = err_from_is_err_and c.from_residual.result c.from_residual.ensures.1 in
     let next = records-drop c.args.batch.now c.loop-pending.pending-index c.pending-item.result in
-    let size : c.len.result ≡ length c.loop-pending.rels.items = (let ok = c.loop-pending.rels.ok.0 in omega arith) in
+    let size : c.len.result ≡ length c.loop-pending.rels.items =
+    (let ok = c.loop-pending.rels.ok.0 in omega arith) in
     let part = rw size at c.in_err-rel.ensures in
     rw (p.1, p.2) (λ left. passed_on _ _ c.in_err-rel.field-0.0 part
-    (λ e. stopped _ _ _ _ _ _ _ _ _ _ _ (c.loop-pending.invariant.taken left) _ _ (next left c.loop-pending-test.true c.pending-item.is) c.in_err-rel.field-0.0 e))
+    (stopped _ _ _ _ _ _ _ _ _ _ _ (c.loop-pending.invariant.taken left) _ _
+    (next left c.loop-pending-test.true c.pending-item.is)))
 
 pub returns-then-not-take-clause-refused : goal.returns-then-not-take-clause-refused
 returns-then-not-take-clause-refused c =
     let next = records-drop c.args.batch.now c.loop-pending.pending-index c.pending-item.result in
-    let size : c.len.result ≡ length c.loop-pending.rels.items = (let ok = c.loop-pending.rels.ok.0 in omega arith) in
-    let number : c.len-then-not-take.result ≡ length c.loop-pending.rels.items = (let ok = c.loop-pending.rels.ok.0 in omega arith) in
+    let size : c.len.result ≡ length c.loop-pending.rels.items =
+    (let ok = c.loop-pending.rels.ok.0 in omega arith) in
+    let number : c.len-then-not-take.result ≡ length c.loop-pending.rels.items =
+    (let ok = c.loop-pending.rels.ok.0 in omega arith) in
     let barred = not_not _ (sym c.if-not-take.true ∙ c.take.ensures.free) in
-    λ left. rw number (not_single _ _ _ _ _ _ _ _ _ _ _ (c.loop-pending.invariant.taken left) _ _ (next left c.loop-pending-test.true c.pending-item.is)
+    λ left. rw number (not_single _ _ _ _ _ _ _ _ _ _ _ (c.loop-pending.invariant.taken left) _ _
+    (next left c.loop-pending-test.true c.pending-item.is)
     c.in_ok-rel.rel (rw size at c.in_ok-rel.ensures) barred)
 
 pub loop-pending-preserved : goal.loop-pending-preserved
 loop-pending-preserved c =
     let next = records-drop c.args.batch.now c.loop-pending.pending-index c.pending-item.result in
-    let size : c.len.result ≡ length c.loop-pending.rels.items = (let ok = c.loop-pending.rels.ok.0 in omega arith) in
+    let size : c.len.result ≡ length c.loop-pending.rels.items =
+    (let ok = c.loop-pending.rels.ok.0 in omega arith) in
     let free = not_yet _ (sym c.if-not-take.false ∙ c.take.ensures.free) in
     let sources = rw c.if-not-take.false at c.take.ensures.sources in
     let targets = rw c.if-not-take.false at c.take.ensures.targets in
     record {
-      size = omega (arith, c.loop-pending.invariant.size, simp length-append at (ap length c.in_ok-push.ensures.items));
+      size = omega (
+        arith,
+        c.loop-pending.invariant.size,
+        simp length-append at
+            (ap length c.in_ok-push.ensures.items),
+      );
       taken = λ left. rw (c.in_ok-push.ensures.items, sources, targets)
-          (one_rel _ _ _ _ _ _ _ _ _ _ _ (c.loop-pending.invariant.taken left) _ _ (next left c.loop-pending-test.true c.pending-item.is)
+          (one_rel _ _ _ _ _ _ _ _ _ _ _ (c.loop-pending.invariant.taken left) _ _
+          (next left c.loop-pending-test.true c.pending-item.is)
           c.in_ok-rel.rel (rw size at c.in_ok-rel.ensures) free);
     }
 
 pub returns-clause-marked : goal.returns-clause-marked
 returns-clause-marked c =
-    let gathered = c.loop-pending.invariant.taken [] in record { sources = gathered.sources_told; targets = gathered.targets_told }
+    let gathered = c.loop-pending.invariant.taken [] in
+    record { sources = gathered.sources_told; targets = gathered.targets_told }
 
 pub returns-clause-few : goal.returns-clause-few
 returns-clause-few c = (c.loop-pending.invariant.taken []).few
