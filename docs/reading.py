@@ -19,7 +19,7 @@ SOURCES = {}  # each file by its path, as gq_shell/specs/Claim
 KEYWORDS = set("→ × λ : = _ | let in record data where module mutual pub abbrev unfoldable unfolding as Type Unit tt ⊥ "
                "absurd ¬ 𝓛 cc grind Prim Some None Ok Err result self Self".split())
 WORD = re.compile(r'"(?:\\.|[^"\\])*"|(\[\]|(?<![^\s()\[\]{},;])[^\s()\[\]{},;".\d][^\s()\[\]{},;"]*)')
-LABEL = re.compile(r"([{;]\s*)\S+ = |⟦<(\w+).*?>⟧")
+LABEL = re.compile(r"([{;]\s*)\S+ =\s|⟦<(\w+).*?>⟧")
 BINDER = re.compile(r"λ ([^.]*)\.|\blet (\S+)|[({]([^(){}:]+) :|^ *(?:(?:pub|abbrev|unfoldable) )*(\S+) :", re.M)
 IMPORT = re.compile(r"^ *(ghost )?(?:pub(?:\(crate\))? )?use ([^\s;]+?)(?:\.\{([^}]*)\}| as (\S+?))?;?$", re.M)
 OF_KIT = re.compile(r"(?:std|core|clap|csv|indexmap|itoa|memchr)\b")
