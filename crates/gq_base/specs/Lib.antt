@@ -1,6 +1,7 @@
 pub mod Catalogs
 pub mod Lists
 pub mod Plain
+pub mod Rels
 pub mod Truth
 pub mod Valid
 pub mod ValueLaws

@@ -66,6 +66,3 @@ pub struct PlainRel {
     pub target: u32,
     pub cells: Row,
 }
-
-/// The relationships of a relationship table, in load order.
-pub type RelRows = List<PlainRel>;

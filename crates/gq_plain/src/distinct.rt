@@ -2,10 +2,11 @@
 //! of its relationships. Ordered sets and marks keep it from being quadratic.
 ghost use Rattle.std.specs.Prelude.{◌≡◌, ◌==◌, ◌<◌, All, IfOk, map};
 ghost use Rattle.gq_base.specs.Lists.{all_distinct};
+ghost use Rattle.gq_base.specs.Rels.{rel_seen};
 ghost use Rattle.gq_base.specs.Valid.{has_keys, same_name};
 ghost use Rattle.gq_plain.specs.Ends.{row_at};
 
-use crate::{Memory, PlainRel, Row};
+use crate::{Memory, RelRef, RelRows, Row};
 use gq_base::{Field, key_of};
 use std::alloc::Global;
 use std::collections::BTreeSet;
@@ -52,7 +53,7 @@ pub(crate) fn have_keys(alloc: Global, rows: &[Row]) -> Result<bool, Memory>
 /// in one pass.
 pub(crate) fn have_distinct_rows(
     alloc: Global,
-    rels: &[PlainRel],
+    rels: &RelRows,
     end: End,
     count: usize,
 ) -> Result<bool, Memory>
@@ -60,8 +61,8 @@ pub(crate) fn have_distinct_rows(
     ensures { IfOk result (λ answer. answer ≡ all_distinct (λ a b. a == b) (map (row_at end) rels.now)) }
 {
     let mut marks = vec![in alloc; false; count]?;
-    for rel in rels {
-        let row = row_at(rel, end) as usize;
+    for number in 0..rels.len() {
+        let row = row_at(&rels.rel(number), end) as usize;
         if marks[row] {
             return Ok(false);
         }
@@ -70,8 +71,8 @@ pub(crate) fn have_distinct_rows(
     Ok(true)
 }
 
-fn row_at(rel: &PlainRel, end: End) -> u32
-    ensures { result ≡ row_at end rel.now }
+fn row_at(rel: &RelRef<'_>, end: End) -> u32
+    ensures { result ≡ row_at end (rel_seen rel.now) }
 {
     match end {
         End::Source => rel.source,

@@ -10,7 +10,7 @@ mod distinct;
 mod validity;
 
 use gq_base::{Field, List};
-pub use gq_base::{Catalog, Cell, Memory, NodeRows, PlainRel, RelRows, Row};
+pub use gq_base::{Catalog, Cell, Memory, NodeRows, PlainRel, RelRef, RelRows, Row};
 use std::alloc::Global;
 use std::marker::Model;
 use validity::are_valid;
@@ -41,8 +41,8 @@ impl PlainGraph {
         ensures nodes { IfOk result (λ g. g.nodes ≡ replicate (length catalog.nodes) []) }
         ensures rels { IfOk result (λ g. g.rels ≡ replicate (length catalog.rels) []) }
     {
-        let nodes = empty_lists(alloc, catalog.node_tables())?;
-        let rels = empty_lists(alloc, catalog.rel_tables())?;
+        let nodes = empty_nodes(alloc, catalog.node_tables())?;
+        let rels = empty_rels(alloc, catalog.rel_tables())?;
         Ok(PlainGraph {
             catalog,
             nodes,
@@ -75,11 +75,11 @@ impl PlainGraph {
     }
 
     /// The relationships of a relationship table, in load order.
-    pub fn rel_rows(&self, table: u32) -> &[PlainRel]
+    pub fn rel_rows(&self, table: u32) -> &RelRows
         requires { table < length self.now.rels }
         ensures { slice_get self.now.rels table ≡ Some result.now }
     {
-        self.rels[table as usize].as_slice()
+        &self.rels[table as usize]
     }
 
     /// Whether the graph is valid. It is where
@@ -167,15 +167,26 @@ impl PlainGraph {
     }
 }
 
-// So many empty lists.
-fn empty_lists<T: Drop>(alloc: Global, count: u32) -> Result<Vec<List<T>>, Memory>
-    ensures { IfOk result (λ lists. lists.items ≡ replicate count []) }
+// The rows of so many tables without rows.
+fn empty_nodes(alloc: Global, count: u32) -> Result<Vec<NodeRows>, Memory>
+    ensures { IfOk result (λ tables. tables.items ≡ replicate count []) }
 {
-    let mut lists = Vec::with_capacity(alloc, count as usize)?;
+    let mut tables = Vec::with_capacity(alloc, count as usize)?;
     for _ in 0..count {
-        lists.push(List::new(alloc))?;
+        tables.push(List::new(alloc))?;
     }
-    Ok(lists)
+    Ok(tables)
+}
+
+// The relationships of so many tables without relationships.
+fn empty_rels(alloc: Global, count: u32) -> Result<Vec<RelRows>, Memory>
+    ensures { IfOk result (λ tables. tables.items ≡ replicate count []) }
+{
+    let mut tables = Vec::with_capacity(alloc, count as usize)?;
+    for _ in 0..count {
+        tables.push(RelRows::new(alloc))?;
+    }
+    Ok(tables)
 }
 
 #[cfg(test)]

@@ -1,7 +1,7 @@
 //! A graph of two people and one acquaintance, how it grows, and what makes it invalid. Answers are worked out by hand.
 ghost use Rattle.std.specs.Prelude.{◌≡◌, ◌<◌, length, IfOk};
 
-use crate::{Catalog, Cell, PlainGraph, PlainRel, Row};
+use crate::{Catalog, Cell, PlainGraph, PlainRel, RelRows, Row};
 use gq_base::{Field, Kind, List, Mult, NodeTable, RelTable, Text};
 use std::alloc::Global;
 use std::str::SplitWhitespace;
@@ -116,9 +116,10 @@ fn relationships_stand_in_the_order_of_their_pushes(rt: HostRuntime) -> Result<(
     graph.push_rel(0, rel(alloc, "1 0 -")?)?;
     let rels = graph.rel_rows(0);
     assert_eq!(rt; rels.len(), 2);
-    assert_eq!(rt; (rels[0].source, rels[0].target), (0, 1));
-    assert_eq!(rt; (rels[1].source, rels[1].target), (1, 0));
-    assert!(rt; rels[1].cells.as_slice() == [None].as_slice());
+    let (first, second) = (rels.rel(0), rels.rel(1));
+    assert_eq!(rt; (first.source, first.target), (0, 1));
+    assert_eq!(rt; (second.source, second.target), (1, 0));
+    assert!(rt; second.cells == [None].as_slice());
     Ok(())
 }
 
@@ -126,15 +127,15 @@ fn relationships_stand_in_the_order_of_their_pushes(rt: HostRuntime) -> Result<(
 fn rows_that_are_set_take_the_place_of_others(rt: HostRuntime) -> Result<(), Fail> {
     let alloc = rt.alloc();
     let mut graph = people(alloc, Mult::ManyMany)?;
-    let mut rels = List::new(alloc);
+    let mut rels = RelRows::new(alloc);
     rels.push(rel(alloc, "1 1 2001")?)?;
     graph.set_rel_rows(0, rels);
     assert_eq!(rt; graph.rel_rows(0).len(), 1);
-    assert_eq!(rt; graph.rel_rows(0)[0].source, 1);
+    assert_eq!(rt; graph.rel_rows(0).rel(0).source, 1);
     graph.set_node_rows(0, List::new(alloc));
     assert_eq!(rt; graph.node_rows(0).len(), 0);
     assert!(rt; !graph.valid(alloc)?);
-    graph.set_rel_rows(0, List::new(alloc));
+    graph.set_rel_rows(0, RelRows::new(alloc));
     assert!(rt; graph.valid(alloc)?);
     Ok(())
 }
@@ -229,7 +230,7 @@ fn fields_are_few_and_of_distinct_names(rt: HostRuntime) -> Result<(), Fail> {
     let alloc = rt.alloc();
     for (count, last, valid) in FIELDS {
         let mut graph = people(alloc, Mult::ManyMany)?;
-        graph.set_rel_rows(0, List::new(alloc));
+        graph.set_rel_rows(0, RelRows::new(alloc));
         graph.set_rel_fields(0, numbered(alloc, count, last)?);
         assert_eq!(rt;
             graph.valid(alloc)?,

@@ -3,10 +3,11 @@
 ghost use Rattle.std.specs.Prelude.{◌≡◌, ◌<◌, length, All, IfOk};
 ghost use Rattle.std.specs.List.{list_all};
 ghost use Rattle.gq_base.specs.Lists.{all_zip};
+ghost use Rattle.gq_base.specs.Rels.{rel_seen};
 ghost use Rattle.gq_base.specs.Valid.{are_fields, are_nodes, are_rels, fits_fields, is_of_kind, is_rel, is_valid, keeps_mult, limits_sources, limits_targets, row_count};
 
 use crate::distinct::{End, have_distinct_names, have_distinct_rows, have_keys};
-use crate::{Catalog, Cell, Memory, NodeRows, PlainRel, RelRows, Row};
+use crate::{Catalog, Cell, Memory, NodeRows, RelRef, RelRows, Row};
 use gq_base::{Field, Kind, Mult, NodeTable, RelTable};
 use std::alloc::Global;
 
@@ -67,7 +68,7 @@ fn are_all_rels(
     ensures { IfOk result (λ answer. answer ≡ all_zip (are_rels nodes.now) catalog.now.rels rels.now) }
 {
     for table in 0..catalog.rel_tables() {
-        let rels = rels[table as usize].as_slice();
+        let rels = &rels[table as usize];
         let pass = are_rels(alloc, nodes, catalog.rel_table(table), rels)?;
         if !pass {
             return Ok(false);
@@ -93,7 +94,7 @@ fn are_rels(
     alloc: Global,
     nodes: &[NodeRows],
     table: &RelTable,
-    rels: &[PlainRel],
+    rels: &RelRows,
 ) -> Result<bool, Memory>
     ensures { IfOk result (λ answer. answer ≡ are_rels nodes.now table.now rels.now) }
 {
@@ -141,18 +142,23 @@ fn all_fit(fields: &[Field], rows: &[Row]) -> bool
 }
 
 // Whether each relationship is between nodes of which there are so many, and its cells fit the fields.
-fn all_connect(fields: &[Field], sources: usize, targets: usize, rels: &[PlainRel]) -> bool
+fn all_connect(fields: &[Field], sources: usize, targets: usize, rels: &RelRows) -> bool
     ensures { result ≡ list_all (is_rel fields.now sources targets) rels.now }
 {
-    rels.iter().all(|rel| is_rel(fields, sources, targets, rel))
+    for number in 0..rels.len() {
+        if !is_rel(fields, sources, targets, &rels.rel(number)) {
+            return false;
+        }
+    }
+    true
 }
 
-fn is_rel(fields: &[Field], sources: usize, targets: usize, rel: &PlainRel) -> bool
-    ensures { result ≡ is_rel fields.now sources targets rel.now }
+fn is_rel(fields: &[Field], sources: usize, targets: usize, rel: &RelRef<'_>) -> bool
+    ensures { result ≡ is_rel fields.now sources targets (rel_seen rel.now) }
 {
     (rel.source as usize) < sources
         && (rel.target as usize) < targets
-        && fits_fields(fields, rel.cells.as_slice())
+        && fits_fields(fields, rel.cells)
 }
 
 // Whether there is one cell for each field, of its kind.
@@ -187,7 +193,7 @@ fn is_of_kind(kind: Kind, cell: &Option<Cell>) -> bool
 fn keeps_mult(
     alloc: Global,
     mult: Mult,
-    rels: &[PlainRel],
+    rels: &RelRows,
     sources: usize,
     targets: usize,
 ) -> Result<bool, Memory>
