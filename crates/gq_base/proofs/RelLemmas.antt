@@ -14,9 +14,9 @@ pub length_rels_from : (start : ℕ) (heads : List Head) (cells : List (Option C
 length_rels_from start [] cells = refl
 length_rels_from start (head ∷ heads) cells = omega (arith, length_rels_from head.end heads cells)
 
-pub cut-le : (start : ℕ) (heads : List Head) (cells : List (Option Cell)) → AreCut start heads cells → start ≤ length cells
-cut-le start [] cells cut = omega (arith, cut)
-cut-le start (head ∷ heads) cells (le, cut) = omega (arith, le, cut-le head.end heads cells cut)
+pub cut_le : (start : ℕ) (heads : List Head) (cells : List (Option Cell)) → AreCut start heads cells → start ≤ length cells
+cut_le start [] cells cut = omega (arith, cut)
+cut_le start (head ∷ heads) cells (le, cut) = omega (arith, le, cut_le head.end heads cells cut)
 
 -- a part of a list is one of the list when it has grown
 part_kept : (cells more : List (Option Cell)) (start end : ℕ) → start ≤ end → end ≤ length cells → slice_range (cells ++ more) start end ≡ slice_range cells start end
@@ -31,18 +31,18 @@ part_behind cells more =
     ∙ take_all (length (cells ++ more) - length cells) more (omega (arith, length-append cells more))
 
 -- one more relationship, whose cells are appended
-pub rels-push : (start : ℕ) (heads : List Head) (cells more : List (Option Cell)) (head : Head) → AreCut start heads cells → head.end ≡ length (cells ++ more)
+pub rels_push : (start : ℕ) (heads : List Head) (cells more : List (Option Cell)) (head : Head) → AreCut start heads cells → head.end ≡ length (cells ++ more)
     → rels_from start (heads ++ head ∷ []) (cells ++ more) ≡ rels_from start heads cells ++ record { source = head.source; target = head.target; cells = more } ∷ []
-rels-push start [] cells more head cut end =
+rels_push start [] cells more head cut end =
     ap (λ part. record { source = head.source; target = head.target; cells = part } ∷ []) (ap (slice_range (cells ++ more) start) end ∙ ap (λ s. slice_range (cells ++ more) s (length (cells ++ more))) cut ∙ part_behind cells more)
-rels-push start (h ∷ heads) cells more head (le, cut) end =
-    ap (λ part. record { source = h.source; target = h.target; cells = part } ∷ rels_from h.end (heads ++ head ∷ []) (cells ++ more)) (part_kept cells more start h.end le (cut-le h.end heads cells cut))
-    ∙ ap (λ rels. record { source = h.source; target = h.target; cells = slice_range cells start h.end } ∷ rels) (rels-push h.end heads cells more head cut end)
+rels_push start (h ∷ heads) cells more head (le, cut) end =
+    ap (λ part. record { source = h.source; target = h.target; cells = part } ∷ rels_from h.end (heads ++ head ∷ []) (cells ++ more)) (part_kept cells more start h.end le (cut_le h.end heads cells cut))
+    ∙ ap (λ rels. record { source = h.source; target = h.target; cells = slice_range cells start h.end } ∷ rels) (rels_push h.end heads cells more head cut end)
 
-pub cut-push : (start : ℕ) (heads : List Head) (cells more : List (Option Cell)) (head : Head) → AreCut start heads cells
+pub cut_push : (start : ℕ) (heads : List Head) (cells more : List (Option Cell)) (head : Head) → AreCut start heads cells
     → head.end ≡ length (cells ++ more) → AreCut start (heads ++ head ∷ []) (cells ++ more)
-cut-push start [] cells more head cut end = (omega (arith, cut, end, length-append cells more), omega (arith, end))
-cut-push start (h ∷ heads) cells more head (le, cut) end = (le, cut-push h.end heads cells more head cut end)
+cut_push start [] cells more head cut end = (omega (arith, cut, end, length-append cells more), omega (arith, end))
+cut_push start (h ∷ heads) cells more head (le, cut) end = (le, cut_push h.end heads cells more head cut end)
 
 -- a relationship with its cells
 pub rels_at : (start : ℕ) (heads : List Head) (cells : List (Option Cell)) (number : ℕ) (d : Head) → number < length heads
@@ -56,7 +56,7 @@ rels_at start (h ∷ heads) cells (suc number) d within = rels_at h.end heads ce
 pub cut_at : (start : ℕ) (heads : List Head) (cells : List (Option Cell)) (number : ℕ) (d : Head) → AreCut start heads cells → number < length heads
     → (start_at start heads number ≤ (get_or heads number d).end) × ((get_or heads number d).end ≤ length cells)
 cut_at start [] cells number d cut within = absurd (omega arith)
-cut_at start (h ∷ heads) cells zero d (le, cut) within = (le, cut-le h.end heads cells cut)
+cut_at start (h ∷ heads) cells zero d (le, cut) within = (le, cut_le h.end heads cells cut)
 cut_at start (h ∷ heads) cells (suc number) d (le, cut) within = cut_at h.end heads cells number d cut (omega arith)
 
 -- the cells of one begin where those of the one before it end

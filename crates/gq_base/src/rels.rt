@@ -1,9 +1,10 @@
 //! The relationships of a table, whose cells stand one behind the other in one vector.
 ghost use Rattle.std.specs.Prelude.{◌≡◌, [], ◌∷◌, ◌++◌, ◌<◌, ◌≤◌, length, slice_get};
-ghost use Rattle.std.specs.Prelude.{OnOk, OnErr, Some};
+ghost use Rattle.std.specs.Prelude.{IfOk, OnOk, OnErr, Some};
 ghost use Rattle.gq_base.specs.Rels.{rel_seen, start_at};
 
-use crate::cell::{Cell, PlainRel};
+use crate::cell::{Cell, PlainRel, Row};
+use crate::list::List;
 use crate::memory::Memory;
 use std::alloc::Global;
 use std::marker::Model;
@@ -91,6 +92,24 @@ impl RelRows {
         ensures pushed { OnOk result (self.new ≡ self.old ++ rel ∷ []) }
         ensures kept { OnErr result (self.new ≡ self.old) }
     {
+        self.take(rel)?;
+        Ok(())
+    }
+
+    /// Appends a relationship as `push` does, and answers the list that held its cells: it is empty,
+    /// and has room for those of the next.
+    #[tactic(
+        auto,
+        using(
+            crate::proofs::RelLemmas::cut_push,
+            crate::proofs::RelLemmas::rels_push
+        )
+    )]
+    pub fn take(&mut self, rel: PlainRel) -> Result<Row, Memory>
+        ensures taken { OnOk result (self.new ≡ self.old ++ rel ∷ []) }
+        ensures room { IfOk result (λ room. room ≡ []) }
+        ensures kept { OnErr result (self.new ≡ self.old) }
+    {
         let PlainRel {
             source,
             target,
@@ -103,7 +122,7 @@ impl RelRows {
         }
         let end = self.cells.len();
         match self.heads.push(Head { source, target, end }) {
-            Ok(()) => Ok(()),
+            Ok(()) => Ok(List::from_vec(cells)),
             Err(_) => {
                 self.cells.truncate(before);
                 Err(Memory)

@@ -17,7 +17,7 @@ use crate::records::open_records;
 use crate::refusal::{TableRefusal, TableStop};
 use crate::sides::Sides;
 use csv::Reader;
-use gq_base::{Field, List, Mult, PlainRel, RelRows};
+use gq_base::{Field, List, Mult, PlainRel, RelRows, Row};
 use gq_fields::FileKind;
 use std::alloc::Global;
 
@@ -133,7 +133,7 @@ fn read_records(
     let mut sides = Sides::new(alloc, form.mult, ends.sources.count(), ends.targets.count())?;
     let mut records = new_batch(alloc)?;
     let batch = records.as_mut_slice();
-    let mut rels = Vec::new(alloc);
+    let mut rels = RelRows::new(alloc);
     let mut more = true;
     while more {
         let count = fill(reader, batch)?;
@@ -143,7 +143,7 @@ fn read_records(
         find_ends(read, &ends);
         take_batch(alloc, form, read, &mut sides, &mut rels)?;
     }
-    Ok(List::from_vec(rels))
+    Ok(rels)
 }
 
 // Takes the relationships of these records in their order, or answers the first refusal.
@@ -152,44 +152,47 @@ fn take_batch(
     form: &RelForm<'_, '_>,
     batch: &[PendingRel],
     sides: &mut Sides,
-    rels: &mut Vec<PlainRel>,
+    rels: &mut RelRows,
 ) -> Result<(), TableStop>
     requires found { All (HasEnds (sources_of form.now.ends) (targets_of form.now.ends)) batch.now }
-    requires marked { AreMarked form.now rels.old.items sides.old }
-    requires few_rels { length rels.old.items ≤ form.now.limit }
-    requires few_records { length rels.old.items + length batch.now + 1 < 2 ^ 32 }
+    requires marked { AreMarked form.now rels.old sides.old }
+    requires few_rels { length rels.old ≤ form.now.limit }
+    requires few_records { length rels.old + length batch.now + 1 < 2 ^ 32 }
     requires few_fields { length form.now.fields.now + 2 < 2 ^ 32 }
     ensures taken { OnOk result ((left : List (List (List ℕ))) →
-        rels_by form.now rels.old.items (texts_of batch.now ++ left)
-        ≡ rels_by form.now rels.new.items left) }
-    ensures marked { OnOk result (AreMarked form.now rels.new.items sides.new) }
-    ensures few { OnOk result (length rels.new.items ≤ form.now.limit) }
-    ensures count { OnOk result (length rels.new.items ≡ length rels.old.items + length batch.now) }
+        rels_by form.now rels.old (texts_of batch.now ++ left)
+        ≡ rels_by form.now rels.new left) }
+    ensures marked { OnOk result (AreMarked form.now rels.new sides.new) }
+    ensures few { OnOk result (length rels.new ≤ form.now.limit) }
+    ensures count { OnOk result (length rels.new ≡ length rels.old + length batch.now) }
     ensures refused { IfErr result (λ refusal. (left : List (List (List ℕ))) →
-        Refuses (rels_by form.now rels.old.items (texts_of batch.now ++ left)) refusal) }
+        Refuses (rels_by form.now rels.old (texts_of batch.now ++ left)) refusal) }
 {
+    let mut room = List::new(alloc);
     for pending in batch {
-        let rel = read_rel(alloc, form, rels.len(), pending)?;
+        let rel = read_rel(alloc, form, rels.len(), pending, room)?;
         if !sides.take(&rel) {
             return Err(TableStop::Refused(TableRefusal::NotSingle {
                 number: (rels.len() + 2) as u32,
             }));
         }
-        rels.push(rel)?;
+        room = rels.take(rel)?;
     }
     Ok(())
 }
 
-// The relationship of the record after so many relationships.
+// The relationship of the record after so many relationships. Its cells are gathered in `room`.
 fn read_rel(
     alloc: Global,
     form: &RelForm<'_, '_>,
     count: usize,
     pending: &PendingRel,
+    room: Row,
 ) -> Result<PlainRel, TableStop>
     requires found { HasEnds (sources_of form.now.ends) (targets_of form.now.ends) pending.now }
     requires few_rels { count + 2 < 2 ^ 32 }
     requires few_fields { length form.now.fields.now + 2 < 2 ^ 32 }
+    requires empty { room ≡ [] }
     ensures { Answers (rel_by form.now count (fields_of pending.now.texts)) result }
 {
     if count >= form.limit as usize {
@@ -199,7 +202,7 @@ fn read_rel(
     if pending.texts.len() != form.fields.len() + 2 {
         return Err(TableStop::Refused(TableRefusal::FieldCount { number }));
     }
-    rel_of(alloc, number, form, pending)
+    rel_of(alloc, number, form, pending, room)
 }
 
 fn rel_of(
@@ -207,16 +210,18 @@ fn rel_of(
     number: u32,
     form: &RelForm<'_, '_>,
     pending: &PendingRel,
+    room: Row,
 ) -> Result<PlainRel, TableStop>
     requires found { HasEnds (sources_of form.now.ends) (targets_of form.now.ends) pending.now }
     requires wide { length (fields_of pending.now.texts) ≡ length form.now.fields.now + 2 }
     requires few { length form.now.fields.now + 2 < 2 ^ 32 }
+    requires empty { room ≡ [] }
     ensures { Answers (rel_of number (sources_of form.now.ends) (targets_of form.now.ends)
         form.now.fields.now (fields_of pending.now.texts)) result }
 {
     let source = pending.source.row(number, 1)?;
     let target = pending.target.row(number, 2)?;
-    let cells = Vec::with_capacity(alloc, form.fields.len())?;
+    let cells = room.into_vec();
     let cells = read_cells(alloc, number, 2, form.fields, &pending.texts, cells)?;
     Ok(PlainRel {
         source,

@@ -20,11 +20,11 @@ records c =
     ∙ c.read_keys.ensures.texts))
 
 given : (c : After-find_ends) → rels_by c.args.form.now []
-    (records_left c.args.reader.now) ≡ rels_by c.args.form.now c.loop-more.rels.items
+    (records_left c.args.reader.now) ≡ rels_by c.args.form.now c.loop-more.rels
     (texts_of c.find_ends.new.batch ++ unread (nat_eq c.in_ok-count.count (length c.fill.new.batch))
     (records_left c.fill.new.reader))
 given c = (rw c.loop-more-test.true at c.loop-more.invariant.taken.given)
-    ∙ ap (rels_by c.args.form.now c.loop-more.rels.items) (records c)
+    ∙ ap (rels_by c.args.form.now c.loop-more.rels) (records c)
 
 pub loop-more-preserved : goal.loop-more-preserved
 loop-more-preserved c =

@@ -11,9 +11,9 @@ abbrev pub invariant-loop-more : goal.invariant-loop-more
 invariant-loop-more l = record {
   room : 0 < length l.batch;
   is_open : l.more ≡ true → IsOpen l.reader;
-  size : length l.rels.items + length (unread l.more (records_left l.reader)) ≡ length (records_left l.initial.reader);
+  size : length l.rels + length (unread l.more (records_left l.reader)) ≡ length (records_left l.initial.reader);
   taken : Gathering (seen_end l.form.ends.sources.now.end) (seen_end l.form.ends.targets.now.end) l.form.limit (length l.form.fields.now + 2) l.form.fields.now l.form.mult
-      (rels_by l.form [] (records_left l.initial.reader)) (unread l.more (records_left l.reader)) l.rels.items l.sides.sources l.sides.targets;
+      (rels_by l.form [] (records_left l.initial.reader)) (unread l.more (records_left l.reader)) l.rels l.sides.sources l.sides.targets;
 }
 
 abbrev pub decreases-loop-more : goal.decreases-loop-more

@@ -6,8 +6,8 @@ use Rattle.gq_tables.proofs.rels.take_batch.Given as goal
 
 abbrev pub invariant-loop-pending : goal.invariant-loop-pending
 invariant-loop-pending l = record {
-  size : length l.rels.items ≡ length l.initial.rels.items + l.pending-index;
+  size : length l.rels ≡ length l.initial.rels + l.pending-index;
   taken : (left : List (List (List ℕ)))
       → Gathering (seen_end l.form.ends.sources.now.end) (seen_end l.form.ends.targets.now.end) l.form.limit (length l.form.fields.now + 2) l.form.fields.now l.form.mult
-      (rels_by l.form l.initial.rels.items (texts_of l.batch ++ left)) (texts_of (drop l.pending-index l.batch) ++ left) l.rels.items l.sides.sources l.sides.targets;
+      (rels_by l.form l.initial.rels (texts_of l.batch ++ left)) (texts_of (drop l.pending-index l.batch) ++ left) l.rels l.sides.sources l.sides.targets;
 }
