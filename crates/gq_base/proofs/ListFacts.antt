@@ -1,12 +1,13 @@
 -- Facts of lists that several crates use: parts, pieces, places and pairs.
 use Rattle.std.proofs.Common.{◌≡◌, ℕ, ◌+◌, ◌<◌, ◌≤◌, Bool, true, false, cond, List, [], ◌∷◌, ◌++◌, length, length-append, take, drop, get_or, flat_map, Some, None, refl, sym, ap, ◌∙◌, append-nil, arith, inl, inr}
-use Rattle.std.specs.Prelude.{nat_lt, position, is_some, All, AllPairs}
+use Rattle.std.specs.Prelude.{map, nat_lt, slice_get, position, is_some, All, AllPairs}
 use Rattle.std.specs.List.{position_or_len}
 use Rattle.std.proofs.Math.Seq.{get_or-append_seam}
 use Rattle.std.proofs.lemmas.Bool.{cases_lt}
 use Rattle.std.proofs.lemmas.Bool.Decides.{nat_tests}
 use Rattle.std.proofs.lemmas.Grind.{flat_map-append}
-use Rattle.std.proofs.lemmas.List.{drop-take, get_or_append_left, get_or_push, take_more, take-append-drop, take-take}
+use Rattle.std.proofs.lemmas.List.{drop-take, get_or_append_left, get_or_push, map-append, take_more, take-append-drop, take-take}
+use Rattle.std.proofs.lemmas.Option.{get_or_from_slice_get, slice_get_within}
 use Rattle.std.proofs.lemmas.List.Elements.{All-cons, All-nil}
 
 -- ---- parts
@@ -21,6 +22,11 @@ take-add m n xs = sym (take-append-drop m (take (m + n) xs)) ∙ ap (λ l. l ++ 
 pub flat_map_next : {X A : Type 0} (f : X → List A) (xs : List X) (at : ℕ) (d x : X) → at < length xs → x ≡ get_or xs at d → flat_map f (take at xs) ++ f x ≡ flat_map f (take (at + 1) xs)
 flat_map_next f xs at d x h is = ap (λ y. flat_map f (take at xs) ++ f y) is
     ∙ sym (ap (flat_map f) (take_more xs at d h) ∙ flat_map-append f (take at xs) (get_or xs at d ∷ []) ∙ ap (λ l. flat_map f (take at xs) ++ l) (append-nil _))
+
+-- what f gives for the items up to one, and for it
+pub map_next : {A B : Type 0} (f : A → B) (xs : List A) (at : ℕ) (x : A) → slice_get xs at ≡ Some x → map f (take (at + 1) xs) ≡ map f (take at xs) ++ f x ∷ []
+map_next f xs at x is = ap (map f) (take_more xs at x (slice_get_within xs at x is)) ∙ map-append f (take at xs) (get_or xs at x ∷ [])
+    ∙ ap (λ y. map f (take at xs) ++ f y ∷ []) (get_or_from_slice_get xs at x x is)
 
 -- the first pieces and the others
 pub flat_map_split : {X A : Type 0} (f : X → List A) (xs : List X) (at : ℕ) → flat_map f (take at xs) ++ flat_map f (drop at xs) ≡ flat_map f xs

@@ -176,7 +176,11 @@ fn ends_of(graph: &PlainGraph, rel: RelId) -> Option<Ends>
         return None;
     }
     let table = graph.catalog().rel_table(rel.table);
-    let found = graph.rel_rows(rel.table).get(rel.row as usize)?;
+    let rels = graph.rel_rows(rel.table);
+    if rel.row as usize >= rels.len() {
+        return None;
+    }
+    let found = rels.rel(rel.row as usize);
     Some(Ends {
         source: NodeId {
             table: table.from,

@@ -33,13 +33,12 @@ pub(crate) fn rel_property<'g>(graph: &'g PlainGraph, rel: RelId, name: &Text) -
     if rel.table >= catalog.rel_tables() {
         return Value::Null;
     }
-    match graph.rel_rows(rel.table).get(rel.row as usize) {
-        None => Value::Null,
-        Some(found) => {
-            let fields = catalog.rel_table(rel.table).fields.as_slice();
-            property_of(fields, name, found.cells.as_slice())
-        }
+    let rels = graph.rel_rows(rel.table);
+    if rel.row as usize >= rels.len() {
+        return Value::Null;
     }
+    let fields = catalog.rel_table(rel.table).fields.as_slice();
+    property_of(fields, name, rels.rel(rel.row as usize).cells)
 }
 
 // The property of a row whose cells are of these fields.

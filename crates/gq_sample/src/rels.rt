@@ -11,7 +11,7 @@ pub(crate) fn knows(alloc: Global, size: u32) -> Result<RelRows, Memory>
     requires { size ≤ 1000000 }
     ensures { IfOk result (λ rels. rels ≡ knows_of size) }
 {
-    let mut rels = List::new(alloc);
+    let mut rels = RelRows::new(alloc);
     for row in 0..size {
         push_known(alloc, &mut rels, size, row + 1)?;
     }
@@ -23,7 +23,7 @@ pub(crate) fn homes(alloc: Global, size: u32) -> Result<RelRows, Memory>
     requires { size ≤ 1000000 }
     ensures { IfOk result (λ rels. rels ≡ homes_of size) }
 {
-    let mut rels = List::new(alloc);
+    let mut rels = RelRows::new(alloc);
     for row in 0..size {
         let person = row + 1;
         if has_home(person) {

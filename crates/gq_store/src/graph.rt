@@ -16,7 +16,7 @@ ghost use Rattle.gq_store.specs.Stored.{AreLinked, IsLinked, IsSide};
 use crate::direction::Direction;
 use crate::links::{Links, Places, Side, links_of, numbers_by_place};
 use crate::property::TableCells;
-use gq_base::{Catalog, List, Memory, Value};
+use gq_base::{Catalog, List, Memory, RelRows, Value};
 use gq_column::Column;
 use gq_dict::Dict;
 use gq_plain::PlainGraph;
@@ -410,7 +410,7 @@ fn all_rels(
         let fields = plain.catalog().rel_table(rel).fields.as_slice();
         let rels = plain.rel_rows(rel);
         all.push(TableCells::of_rels(alloc, fields, rels, numbers.as_slice())?)?;
-        plain.set_rel_rows(rel, List::new(alloc));
+        plain.set_rel_rows(rel, RelRows::new(alloc));
     }
     Ok(all)
 }

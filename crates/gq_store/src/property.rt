@@ -7,7 +7,7 @@ ghost use Rattle.gq_base.specs.Values.{val};
 ghost use Rattle.gq_store.specs.Columns.{AreCells, HasText, IsCellOf, IsDictOf, column_of, texts_in};
 ghost use Rattle.gq_store.specs.RelColumns.{cell_numbered};
 
-use gq_base::{Cell, Field, Kind, Memory, PlainRel, Row, Value};
+use gq_base::{Cell, Field, Kind, Memory, RelRows, Row, Value};
 use gq_column::Column;
 use gq_dict::Dict;
 use std::alloc::Global;
@@ -121,7 +121,7 @@ impl TableCells {
     pub(crate) fn of_rels(
         alloc: Global,
         fields: &[Field],
-        rels: &[PlainRel],
+        rels: &RelRows,
         numbers: &[Option<u32>],
     ) -> Result<TableCells, Memory>
         requires few { length rels.now < 2 ^ 32 }
@@ -164,7 +164,7 @@ fn cells_of<'a>(
 // The cells of a property of relationships, place by place, which are borrowed.
 fn placed_cells<'a>(
     alloc: Global,
-    rels: &'a [PlainRel],
+    rels: &'a RelRows,
     numbers: &[Option<u32>],
     property: usize,
     absent: &'a Option<Cell>,
@@ -184,7 +184,7 @@ fn placed_cells<'a>(
 
 // The cell of a property of the relationship with a load number, or `absent` where there is none.
 fn placed_cell<'a>(
-    rels: &'a [PlainRel],
+    rels: &'a RelRows,
     number: Option<u32>,
     property: usize,
     absent: &'a Option<Cell>,
@@ -195,7 +195,7 @@ fn placed_cell<'a>(
     ensures { result.now ≡ cell_numbered property rels.now number }
 {
     match number {
-        Some(number) => &rels[number as usize].cells.as_slice()[property],
+        Some(number) => &rels.rel(number as usize).cells[property],
         None => absent,
     }
 }

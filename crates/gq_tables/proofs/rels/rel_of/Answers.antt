@@ -24,13 +24,13 @@ returns-in_err-target c =
     c.in_err-target.field-0.0
     (sym (c.requires.found.target t.to t.second c.args.number 2) ∙ sym c.in_err-target.ensures))
 
-pub returns-in_err-cells-2 : goal.returns-in_err-cells-2
-returns-in_err-cells-2 c =
-    let p = err_from_is_err_and c.from_residual-in_err-cells-2.result
-    c.from_residual-in_err-cells-2.ensures.1 in
+pub returns-in_err-cells : goal.returns-in_err-cells
+returns-in_err-cells c =
+    let p = err_from_is_err_and c.from_residual-in_err-cells.result
+    c.from_residual-in_err-cells.ensures.1 in
     let t = two_texts (fields_of c.args.pending.now.texts) _ c.requires.wide in
-    let part = rw c.in_ok-cells.ensures.items at c.in_err-cells-2.ensures in
-    rw (p.1, p.2) (passed_on _ _ c.in_err-cells-2.field-0.0 part
+    let part = rw (c.into_vec-cells.ensures ∙ c.requires.empty) at c.in_err-cells.ensures in
+    rw (p.1, p.2) (passed_on _ _ c.in_err-cells.field-0.0 part
     (bad_cells c.args.number _ _ c.args.form.now.fields.now _ t.from t.to t.first t.second
     c.in_ok-source.source
     (sym (c.requires.found.source t.from t.first c.args.number 1) ∙ sym c.in_ok-source.ensures)
@@ -40,10 +40,10 @@ returns-in_err-cells-2 c =
 pub returns : goal.returns
 returns c =
     let t = two_texts (fields_of c.args.pending.now.texts) _ c.requires.wide in
-    let part = rw c.in_ok-cells.ensures.items at c.in_ok-cells-2.ensures in
+    let part = rw (c.into_vec-cells.ensures ∙ c.requires.empty) at c.in_ok-cells.ensures in
     whole_rel c.args.number _ _ c.args.form.now.fields.now _ t.from t.to t.first t.second
     c.in_ok-source.source
     (sym (c.requires.found.source t.from t.first c.args.number 1) ∙ sym c.in_ok-source.ensures)
     c.in_ok-target.target
     (sym (c.requires.found.target t.to t.second c.args.number 2) ∙ sym c.in_ok-target.ensures)
-    c.in_ok-cells-2.cells part
+    c.in_ok-cells.cells part

@@ -51,13 +51,14 @@ loop-pending-preserved c =
     let sources = rw c.if-not-take.false at c.take.ensures.sources in
     let targets = rw c.if-not-take.false at c.take.ensures.targets in
     record {
+      empty = c.in_ok-room.ensures.room;
       size = omega (
         arith,
         c.loop-pending.invariant.size,
         simp length-append at
-            (ap length c.in_ok-take-2.ensures.taken),
+            (ap length c.in_ok-room.ensures.taken),
       );
-      taken = λ left. rw (c.in_ok-take-2.ensures.taken, sources, targets)
+      taken = λ left. rw (c.in_ok-room.ensures.taken, sources, targets)
           (one_rel _ _ _ _ _ _ _ _ _ _ _ (c.loop-pending.invariant.taken left) _ _
           (next left c.loop-pending-test.true c.pending-item.is)
           c.in_ok-rel.rel (rw size at c.in_ok-rel.ensures) free);
