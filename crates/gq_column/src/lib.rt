@@ -1,4 +1,6 @@
-//! A column of optional integers that keeps only those that are not null.
+//! A column of optional integers that keeps only those that are not null. It is seen as the list of
+//! its cells. The crate stands on the bits of `gq_bits`, which say which rows have a cell and where
+//! it is kept.
 #![tactic(auto)]
 
 ghost use Rattle.std.specs.Prelude.{◌≡◌, ℕ, ◌+◌, ◌-◌, ◌^◌, ◌++◌, [], ◌∷◌, ◌<◌, ◌≤◌, length, map};

@@ -1,4 +1,5 @@
-//! A pool of vectors of cells, whose slots are lent out and given back.
+//! A pool of vectors of cells, whose slots are lent out and given back. It is seen as a list of
+//! vectors, of which a write changes one. The crate stands on `gq_bits` for the length of a vector.
 #![tactic(auto)]
 
 ghost use Rattle.std.specs.Prelude.{◌≡◌, ◌≢◌, ◌↔◌, ℕ, ◌+◌, ◌<◌, ◌≤◌, length, All, IfOk, IfNone};
