@@ -1,7 +1,7 @@
 //! What a choice is made from: the readings that fit a relationship pattern, and the tables that
 //! fit a node variable.
 ghost use Rattle.std.specs.Prelude.{◌≡◌, ◌<◌, ◌∷◌, ◌++◌, [], false, true, filter, nat_lt, length};
-ghost use Rattle.std.specs.Prelude.{slice_get, Some, IfOk};
+ghost use Rattle.std.specs.Prelude.{Some, IfOk};
 ghost use Rattle.std.specs.List.{list_all, list_any};
 ghost use Rattle.std.specs.Cmp.Lexicographic.{pointwise};
 ghost use Rattle.std.specs.Prelude.{nat_eq};

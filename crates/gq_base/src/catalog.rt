@@ -1,5 +1,5 @@
 //! The catalogue: which tables a graph has, and the fields of each.
-ghost use Rattle.std.specs.Prelude.{◌≡◌, ℕ, ◌+◌, ◌^◌, ◌<◌, [], ◌∷◌, ◌++◌, length, slice_get, Some};
+ghost use Rattle.std.specs.Prelude.{◌≡◌, ◌+◌, ◌^◌, ◌<◌, [], ◌∷◌, ◌++◌, length, slice_get, Some};
 ghost use Rattle.std.specs.Prelude.{None, OnOk, OnErr, IfSome};
 ghost use Rattle.gq_base.specs.Catalogs.{find_label, find_type, with_node_fields, with_rel_fields};
 

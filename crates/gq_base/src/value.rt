@@ -1,5 +1,5 @@
 //! Values, how they compare, and the order that they stand in.
-ghost use Rattle.std.specs.Prelude.{◌≡◌, Bool, Some};
+ghost use Rattle.std.specs.Prelude.{◌≡◌, Some};
 ghost use Rattle.std.specs.Ordering.{is_eq};
 ghost use Rattle.std.specs.Cmp.{IsTotalOrder, on_per, on_equiv, on_po, on_total, eq_by_cmp_equiv};
 ghost use Rattle.std.specs.Cmp.{partial_equiv_from_equiv, partial_order_from_total};

@@ -1,6 +1,6 @@
 //! Places of relationships in order of their sources, in pages of 128 sources.
 
-ghost use Rattle.std.specs.Prelude.{◌≡◌, ℕ, ◌+◌, ◌*◌, ◌/◌, ◌^◌, ◌<◌, ◌≤◌, length, All, IfOk};
+ghost use Rattle.std.specs.Prelude.{◌≡◌, ℕ, ◌+◌, ◌*◌, ◌/◌, ◌^◌, ◌<◌, length, All, IfOk};
 ghost use Rattle.std.specs.Prelude.{slice_index, vec_len};
 ghost use Rattle.std.specs.List.{concat, range_with_len};
 ghost use Rattle.gq_edges.specs.Order.{numbers_of, page_start_of, IsPlaceOf};

@@ -1,6 +1,6 @@
 //! A build that grows, row by row.
-ghost use Rattle.std.specs.Prelude.{◌≡◌, ◌∷◌, [], ◌++◌, ◌+◌, ◌*◌, ◌^◌, ◌<◌, ◌≤◌, true, map, length};
-ghost use Rattle.std.specs.Prelude.{slice_index, All, OnOk, IfOk, IfErr};
+ghost use Rattle.std.specs.Prelude.{◌≡◌, ◌++◌, ◌^◌, ◌<◌, true, length};
+ghost use Rattle.std.specs.Prelude.{All, OnOk, IfOk, IfErr};
 ghost use Rattle.gq_join.specs.Kept.{place_of, values_of, empty_build, with_row, is_refusal};
 ghost use Rattle.gq_join.specs.Kept.{sealed_of};
 

@@ -1,5 +1,5 @@
 //! Sealed builds: rows that are found by their keys.
-ghost use Rattle.std.specs.Prelude.{◌≡◌, ◌<◌, ◌^◌, map, length, slice_index, slice_index_or, All};
+ghost use Rattle.std.specs.Prelude.{◌≡◌, ◌<◌, ◌^◌, length, slice_index_or, All};
 ghost use Rattle.gq_join.specs.Kept.{place_of, values_of, matches, matches_of, node_in, rel_in};
 ghost use Rattle.gq_join.specs.Kept.{column_at};
 ghost use Rattle.gq_join.specs.Order.{Ascends, at};

@@ -1,7 +1,7 @@
 //! Comparisons of 64 cells or ids at once, as masks with one bit for each place.
 
-ghost use Rattle.std.specs.Prelude.{◌≡◌, ◌==◌, ℕ, ◌<◌, ◌≤◌, length, pos, slice_index};
-ghost use Rattle.std.specs.Prelude.{slice_index_or, FitsSigned};
+ghost use Rattle.std.specs.Prelude.{◌≡◌, ◌==◌, ℕ, ◌<◌, ◌≤◌, length, slice_index};
+ghost use Rattle.std.specs.Prelude.{FitsSigned};
 ghost use Rattle.std.specs.Int.{w64, bit_at};
 ghost use Rattle.gq_lanes.specs.Tests.{compares, cell};
 

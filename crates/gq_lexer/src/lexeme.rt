@@ -1,6 +1,6 @@
 //! The lexeme that a text begins with.
 
-ghost use Rattle.std.specs.Prelude.{◌≡◌, ◌+◌, ◌<◌, ◌≤◌, [], length, IfOk, IfSome};
+ghost use Rattle.std.specs.Prelude.{◌≡◌, ◌+◌, ◌<◌, ◌≤◌, length, IfOk, IfSome};
 ghost use Rattle.gq_lexer.specs.Lexemes.{quoted_at, string_at, slash_at, word_at, lexeme};
 
 use crate::number::read_number;

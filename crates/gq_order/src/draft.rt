@@ -1,5 +1,5 @@
 //! A plan as far as it has come, with the variables that it binds.
-ghost use Rattle.std.specs.Prelude.{◌≡◌, ◌<◌, ◌≤◌, ◌++◌, ◌&&◌, length, slice_get, map, filter};
+ghost use Rattle.std.specs.Prelude.{◌≡◌, ◌<◌, ◌≤◌, ◌&&◌, length, slice_get, filter};
 ghost use Rattle.std.specs.Prelude.{IfOk};
 ghost use Rattle.std.specs.List.{range_with_len};
 ghost use Rattle.gq_order.specs.Drafts.{draft_of, other_of};

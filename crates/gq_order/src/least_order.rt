@@ -1,11 +1,11 @@
 //! Plans that take the connected components of an alternative one by one, each by the least weight
 //! and the least fans.
-ghost use Rattle.std.specs.Prelude.{◌≡◌, ◌<◌, [], drop, length, IfOk, IsTrue, All};
-ghost use Rattle.std.specs.List.{AllZip, list_all, range_with_len};
+ghost use Rattle.std.specs.Prelude.{◌≡◌, ◌<◌, [], length, IfOk, IsTrue, All};
+ghost use Rattle.std.specs.List.{AllZip, list_all};
 ghost use Rattle.gq_order.specs.Drafts.{draft_of};
 ghost use Rattle.gq_order.specs.Given.{blank};
 ghost use Rattle.gq_order.specs.Greedy as greedy;
-ghost use Rattle.gq_order.specs.Greedy.{greedy_order, greedy_plan, numbers, piece};
+ghost use Rattle.gq_order.specs.Greedy.{greedy_order, greedy_plan, piece};
 ghost use Rattle.gq_order.specs.Orders.{with_piece, with_pieces};
 ghost use Rattle.gq_order.specs.Keys.{join_keys};
 ghost use Rattle.gq_base.specs.Lists.{is_empty};

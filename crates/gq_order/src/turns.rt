@@ -1,7 +1,6 @@
 //! Which relationship is taken next.
-ghost use Rattle.std.specs.Prelude.{◌≡◌, ◌<◌, not, ◌&&◌, ◌||◌, ◌++◌, ℕ, filter, length, slice_get};
-ghost use Rattle.std.specs.Prelude.{IfOk, IfSome};
-ghost use Rattle.std.specs.List.{range_with_len};
+ghost use Rattle.std.specs.Prelude.{◌≡◌, ◌<◌, ◌&&◌, ◌||◌, length, slice_get};
+ghost use Rattle.std.specs.Prelude.{IfOk};
 ghost use Rattle.gq_order.specs.Greedy as greedy;
 ghost use Rattle.gq_order.specs.Greedy.{closes, extends, closing, extending, fan_from, least};
 ghost use Rattle.gq_order.specs.Greedy.{turns, from_bound};

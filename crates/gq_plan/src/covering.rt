@@ -1,5 +1,5 @@
 //! Whether a plan covers a typed alternative.
-ghost use Rattle.std.specs.Prelude.{◌≡◌, ◌↔◌, ◌&&◌, ◌<◌, ◌+◌, ◌≤◌, IsTrue, true, false, length};
+ghost use Rattle.std.specs.Prelude.{◌≡◌, ◌↔◌, ◌&&◌, ◌+◌, IsTrue, false, length};
 ghost use Rattle.std.specs.Prelude.{filter, min, slice_get};
 ghost use Rattle.std.specs.List.{list_all, range_with_len};
 ghost use Rattle.gq_plan.specs.Covers as cover;

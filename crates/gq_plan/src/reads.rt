@@ -1,5 +1,5 @@
 //! The properties of variables that expressions read.
-ghost use Rattle.std.specs.Prelude.{◌≡◌, ◌&&◌, [], nat_eq, length, flat_map, IfOk};
+ghost use Rattle.std.specs.Prelude.{◌≡◌, ◌&&◌, [], length, flat_map, IfOk};
 ghost use Rattle.std.specs.List.{list_any};
 ghost use Rattle.gq_plan.specs.Reads as reads;
 ghost use Rattle.gq_plan.specs.Reads.{property, properties, properties_of, tester_properties};

@@ -2,7 +2,7 @@
 //! vectors, of which a write changes one. The crate stands on `gq_bits` for the length of a vector.
 #![tactic(auto)]
 
-ghost use Rattle.std.specs.Prelude.{◌≡◌, ◌≢◌, ◌↔◌, ℕ, ◌+◌, ◌<◌, ◌≤◌, length, All, IfOk, IfNone};
+ghost use Rattle.std.specs.Prelude.{◌≡◌, ◌≢◌, ◌↔◌, ℕ, ◌+◌, ◌<◌, ◌≤◌, length, IfOk, IfNone};
 ghost use Rattle.std.specs.Prelude.{IfSome, IsNone, slice_index_or, pos};
 ghost use Rattle.std.specs.Borrow.{sem};
 ghost use Rattle.gq_pool.specs.Pool.{IsOut, IsFree, IsFresh, cells_of, cell_at, spare_of, freed};

@@ -1,10 +1,10 @@
 //! The reply to a statement.
 
-ghost use Rattle.std.specs.Prelude.{◌≡◌, ◌≤◌, ◌++◌, length, codes, decimal};
+ghost use Rattle.std.specs.Prelude.{◌≤◌, ◌++◌, length, decimal};
 ghost use Rattle.gq_io.specs.Causes.{HasCause};
 ghost use Rattle.gq_io.specs.Outside.{Writes};
 ghost use Rattle.gq_render.specs.Texts.{line};
-ghost use Rattle.gq_reply.specs.BindLines.{bind_line, bind_tone};
+ghost use Rattle.gq_reply.specs.BindLines.{bind_line};
 ghost use Rattle.gq_reply.specs.Replies.{IsReply, context_of};
 ghost use Rattle.gq_reply.specs.Steps.{Replied};
 ghost use Rattle.gq_session.specs.Sessions.{span_of};

@@ -1,5 +1,5 @@
 //! The table that takes the rows of a query.
-ghost use Rattle.std.specs.Prelude.{◌≡◌, [], None, Some, IsSome, false, true};
+ghost use Rattle.std.specs.Prelude.{◌≡◌, [], None, Some, IsSome, false};
 ghost use Rattle.gq_rows.specs.Keeping.{HasForm};
 ghost use Rattle.gq_rows.specs.Tables.{IsSameQuery, PushesRow, StandsFor, StandsForSome};
 ghost use Rattle.gq_rows.specs.Tables.{is_full_table};

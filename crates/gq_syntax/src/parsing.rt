@@ -1,6 +1,6 @@
 //! Statements, from their text.
 
-ghost use Rattle.std.specs.Prelude.{◌≡◌, ℕ, ◌^◌, ◌<◌, ◌≤◌, length, List, Ok, Err};
+ghost use Rattle.std.specs.Prelude.{◌≡◌, ℕ, ◌≤◌, length, List, Ok, Err};
 ghost use Rattle.gq_lexer.specs.Tokens.{lexed};
 ghost use Rattle.gq_lexer.specs.declared.token.Token.{Token};
 ghost use Rattle.gq_syntax.specs.Outcomes.{Cause, ComesWhere, DepthAt, SpelledText, SpellsOne};
