@@ -1,5 +1,5 @@
 -- Filters and maps of a range of numbers, with one more at its end.
-use Rattle.std.proofs.Common.{◌≡◌, ◌∙◌, ap, ℕ, ◌+◌, Bool, false, true, cond, List, [], ◌∷◌, ◌++◌, filter, map, flat_map, sym, append-nil, zero-add}
+use Rattle.std.proofs.Common.{◌≡◌, ◌∙◌, ap, ℕ, ◌+◌, Bool, false, true, cond, List, [], ◌∷◌, ◌++◌, filter, map, flat_map, append-nil, zero-add}
 use Rattle.std.specs.List.{range_with_len}
 use Rattle.std.proofs.lemmas.Grind.{flat_map-append}
 use Rattle.std.proofs.lemmas.List.Elements.{filter-append}

@@ -1,5 +1,5 @@
 -- The steps of a search and what they add.
-use Rattle.std.proofs.Common.{◌≡◌, ℕ, zero, suc, ◌+◌, ◌-◌, ◌<◌, ◌≤◌, Bool, true, false, cond, Option, Some, None, List, [], ◌∷◌, ◌++◌, length, take, drop, get_or, map, filter, flat_map, slice_get, slice_set, if◌then◌else◌, refl, sym, ap, ap₂, ◌∙◌, arith, append-nil, append_assoc, length-append}
+use Rattle.std.proofs.Common.{◌≡◌, ℕ, zero, suc, ◌-◌, ◌<◌, ◌≤◌, true, Option, Some, None, List, [], ◌∷◌, ◌++◌, length, take, drop, get_or, map, filter, flat_map, slice_get, slice_set, if◌then◌else◌, refl, sym, ap, ap₂, ◌∙◌, arith, append-nil, append_assoc, length-append}
 use Rattle.std.proofs.lemmas.List.{take-append-le, take_all, map-append}
 use Rattle.gq_base.specs.Catalogs.{Tables}
 use Rattle.gq_alternatives.specs.Alternatives.{Reading, Choice}

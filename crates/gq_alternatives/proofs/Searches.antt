@@ -1,5 +1,5 @@
 -- The search finds the alternatives of patterns, in their order.
-use Rattle.std.proofs.Common.{◌≡◌, ℕ, zero, suc, ◌+◌, ◌<◌, ◌≤◌, Bool, true, false, not, ◌&&◌, ◌||◌, cond, nat_eq, nat_lt, Option, Some, None, List, [], ◌∷◌, ◌++◌, map, filter, flat_map, length, slice_get, slice_set, if◌then◌else◌, refl, sym, ap, ap₂, ◌∙◌, subst, arith, true≢false, append_assoc, append-nil, zero-add}
+use Rattle.std.proofs.Common.{◌≡◌, ℕ, zero, suc, ◌+◌, ◌<◌, Bool, true, false, not, ◌&&◌, ◌||◌, cond, nat_eq, nat_lt, Option, Some, None, List, [], ◌∷◌, ◌++◌, map, filter, flat_map, length, slice_get, slice_set, refl, sym, ap, ap₂, ◌∙◌, subst, arith, true≢false, append_assoc, append-nil, zero-add}
 use Rattle.std.specs.List.{range_with_len, AllByRecursion, list_all, list_any}
 use Rattle.std.specs.Option.{option_map}
 use Rattle.std.proofs.Math.Bool.{and-true, and-false, and_assoc}
@@ -13,9 +13,9 @@ use Rattle.gq_base.specs.declared.RelTable.{RelTable}
 use Rattle.gq_plan.specs.Assignments.{tuples}
 use Rattle.std.proofs.lemmas.Option.{slice_get_past}
 use Rattle.gq_plan.proofs.Each.{each_of, each_then, each_map, each_flat_map}
-use Rattle.gq_alternatives.specs.Alternatives.{Reading, Choice, all_readings, choices, source_of, target_of, same_table, label_in, label_agrees, reading_agrees, readings_agree, agrees, pattern_alternatives}
-use Rattle.gq_alternatives.specs.Matches.{has_label, has_type}
-use Rattle.gq_alternatives.specs.Searching.{Step, is_nil, no_reading, one_of_each, reading_fits, step_of, steps_of, label_fits, labels_fit, tables_for, tables_of, ends_agree, all_ends_agree, agreeing, may_be, admits, filled, knowing, reached, searched}
+use Rattle.gq_alternatives.specs.Alternatives.{Reading, Choice, all_readings, choices, source_of, target_of, same_table, label_in, label_agrees, readings_agree, agrees, pattern_alternatives}
+use Rattle.gq_alternatives.specs.Matches.{has_label}
+use Rattle.gq_alternatives.specs.Searching.{Step, is_nil, no_reading, one_of_each, reading_fits, steps_of, label_fits, labels_fit, tables_of, ends_agree, all_ends_agree, agreeing, may_be, admits, filled, reached, searched}
 use Rattle.gq_scopes.specs.Patterns.{NodePattern, RelPattern, Pattern}
 
 -- ---- filters and products

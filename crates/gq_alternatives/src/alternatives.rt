@@ -1,5 +1,5 @@
 //! The alternatives of patterns: the choices of tables and directions that the catalogue allows.
-ghost use Rattle.std.specs.Prelude.{◌≡◌, map, IfOk};
+ghost use Rattle.std.specs.Prelude.{◌≡◌, IfOk};
 ghost use Rattle.std.specs.List.{list_any};
 ghost use Rattle.gq_alternatives.specs.Alternatives.{pattern_alternatives};
 ghost use Rattle.gq_alternatives.specs.Searching as searching;
@@ -13,16 +13,17 @@ use gq_base::{Catalog, List, Memory};
 use gq_scopes::Pattern;
 use std::alloc::Global;
 
-/// The alternatives of patterns, in lexicographic order, or `None` where there are more than `most`: for each
-/// relationship pattern, in text order, a table and a direction, by table number and forward before backward, and for
-/// each node variable a table, by number.
+/// The alternatives of patterns, in lexicographic order, or `None` where there are more than
+/// `most`: for each relationship pattern, in text order, a table and a direction, by table number
+/// and forward before backward, and for each node variable a table, by number.
 pub fn choices_of(
     alloc: Global,
     catalog: &Catalog,
     pattern: &Pattern<'_>,
     most: usize,
 ) -> Result<Option<List<Choice>>, Memory>
-    ensures { IfOk result (λ found. found ≡ at_most most (pattern_alternatives catalog.now pattern.now)) }
+    ensures { IfOk result (λ found.
+        found ≡ at_most most (pattern_alternatives catalog.now pattern.now)) }
 {
     let count = pattern.names().len();
     if !all_within(pattern.nodes(), count) {
@@ -43,7 +44,8 @@ fn choices_among(
     tables: &[List<u32>],
     most: usize,
 ) -> Result<Option<List<Choice>>, Memory>
-    ensures { IfOk result (λ found. found ≡ at_most most (agreeing catalog.now steps.now tables.now)) }
+    ensures { IfOk result (λ found.
+        found ≡ at_most most (agreeing catalog.now steps.now tables.now)) }
 {
     if some_without_table(tables) {
         return Ok(Some(List::new(alloc)));

@@ -1,5 +1,7 @@
-//! What a choice is made from: the readings that fit a relationship pattern, and the tables that fit a node variable.
-ghost use Rattle.std.specs.Prelude.{◌≡◌, ◌<◌, ◌∷◌, ◌++◌, [], false, true, filter, nat_lt, length, slice_get, Some, IfOk};
+//! What a choice is made from: the readings that fit a relationship pattern, and the tables that
+//! fit a node variable.
+ghost use Rattle.std.specs.Prelude.{◌≡◌, ◌<◌, ◌∷◌, ◌++◌, [], false, true, filter, nat_lt, length};
+ghost use Rattle.std.specs.Prelude.{Some, IfOk};
 ghost use Rattle.std.specs.List.{list_all, list_any};
 ghost use Rattle.std.specs.Cmp.Lexicographic.{pointwise};
 ghost use Rattle.std.specs.Prelude.{nat_eq};
@@ -53,7 +55,8 @@ fn readings_of(
     catalog: &Catalog,
     pattern: &RelPattern<'_>,
 ) -> Result<List<Reading>, Memory>
-    ensures { IfOk result (λ cs. cs ≡ filter (reading_fits catalog.now pattern.now) (all_readings catalog.now)) }
+    ensures { IfOk result (λ cs.
+        cs ≡ filter (reading_fits catalog.now pattern.now) (all_readings catalog.now)) }
 {
     let mut readings = List::new(alloc);
     for table in 0..catalog.rel_tables() {
@@ -70,7 +73,10 @@ fn push_readings(
     table: u32,
 ) -> Result<(), Memory>
     requires { table < length catalog.now.rels }
-    ensures { IfOk result (λ _. readings.new ≡ readings.old ++ filter (reading_fits catalog.now pattern.now) (record { table = table; reversed = false } ∷ record { table = table; reversed = true } ∷ [])) }
+    ensures { IfOk result (λ _. readings.new
+        ≡ readings.old ++ filter (reading_fits catalog.now pattern.now)
+        (record { table = table; reversed = false }
+        ∷ record { table = table; reversed = true } ∷ [])) }
 {
     if !has_type(catalog, pattern.part.kinds.as_slice(), table) {
         return Ok(());

@@ -47,7 +47,8 @@ fn rel_kinds(alloc: Global, catalog: &Catalog, rels: &[TypedRel]) -> Result<List
 
 // The fields of a node table; none where there is no such table.
 fn node_fields(alloc: Global, catalog: &Catalog, table: u32) -> Result<FieldList, Memory>
-    ensures { IfOk result (λ fs. fs ∷ [] ≡ (soundness.kinds_for catalog.now (table ∷ []) []).nodes) }
+    ensures { IfOk result (λ fs.
+        fs ∷ [] ≡ (soundness.kinds_for catalog.now (table ∷ []) []).nodes) }
 {
     if table < catalog.node_tables() {
         copy_fields(alloc, catalog.node_table(table).fields.as_slice())
@@ -58,7 +59,8 @@ fn node_fields(alloc: Global, catalog: &Catalog, table: u32) -> Result<FieldList
 
 // The fields of a relationship's table; none where there is no such table.
 fn rel_fields(alloc: Global, catalog: &Catalog, rel: &TypedRel) -> Result<FieldList, Memory>
-    ensures { IfOk result (λ fs. fs ∷ [] ≡ (soundness.kinds_for catalog.now [] (rel.now ∷ [])).rels) }
+    ensures { IfOk result (λ fs.
+        fs ∷ [] ≡ (soundness.kinds_for catalog.now [] (rel.now ∷ [])).rels) }
 {
     if rel.table < catalog.rel_tables() {
         copy_fields(alloc, catalog.rel_table(rel.table).fields.as_slice())

@@ -11,7 +11,8 @@ use gq_base::{Catalog, List, Memory};
 use gq_scopes::{RelPattern, next};
 use std::alloc::Global;
 
-/// The relationship patterns with candidates for their readings, and candidates for the table of each node variable.
+/// The relationship patterns with candidates for their readings, and candidates for the table of
+/// each node variable.
 #[derive(Drop)]
 pub struct Candidates<'s> {
     pub steps: List<Step<'s>>,
@@ -27,7 +28,8 @@ pub fn narrowed<'s>(
     catalog: &Catalog,
     first: Candidates<'s>,
 ) -> Result<Candidates<'s>, Memory>
-    ensures { IfOk result (λ c. agreeing catalog.now c.steps c.tables ≡ agreeing catalog.now first.entry.steps first.entry.tables) }
+    ensures { IfOk result (λ c. agreeing catalog.now c.steps c.tables
+        ≡ agreeing catalog.now first.entry.steps first.entry.tables) }
 {
     let mut candidates = first;
     for _ in 0..ROUNDS {
@@ -46,7 +48,8 @@ fn narrowed_once<'s>(
     catalog: &Catalog,
     candidates: &Candidates<'s>,
 ) -> Result<Candidates<'s>, Memory>
-    ensures { IfOk result (λ c. agreeing catalog.now c.steps c.tables ≡ agreeing catalog.now candidates.now.steps candidates.now.tables) }
+    ensures { IfOk result (λ c. agreeing catalog.now c.steps c.tables
+        ≡ agreeing catalog.now candidates.now.steps candidates.now.tables) }
 {
     let tables = candidates.tables.as_slice();
     let steps = standing_steps(alloc, catalog, tables, candidates.steps.as_slice())?;
@@ -54,7 +57,8 @@ fn narrowed_once<'s>(
     Ok(Candidates { steps, tables })
 }
 
-// The relationship patterns, each with those of its readings whose ends have tables that the node variables may have.
+// The relationship patterns, each with those of its readings whose ends have tables that the node
+// variables may have.
 fn standing_steps<'s>(
     alloc: Global,
     catalog: &Catalog,
@@ -87,7 +91,8 @@ fn standing(
     pattern: &RelPattern<'_>,
     readings: &[Reading],
 ) -> Result<List<Reading>, Memory>
-    ensures { IfOk result (λ cs. cs ≡ filter (searching.stands catalog.now tables.now pattern.now) readings.now) }
+    ensures { IfOk result (λ cs.
+        cs ≡ filter (searching.stands catalog.now tables.now pattern.now) readings.now) }
 {
     let mut kept = List::new(alloc);
     for reading in readings {
@@ -131,7 +136,8 @@ fn supported_tables(
     steps: &[Step<'_>],
     lists: &[List<u32>],
 ) -> Result<List<List<u32>>, Memory>
-    ensures { IfOk result (λ tss. tss ≡ kept (searching.supported catalog.now steps.now) 0 lists.now) }
+    ensures { IfOk result (λ tss.
+        tss ≡ kept (searching.supported catalog.now steps.now) 0 lists.now) }
 {
     let mut fewer = List::new(alloc);
     let mut variable = 0;
@@ -150,7 +156,8 @@ fn supported_of(
     variable: u32,
     tables: &[u32],
 ) -> Result<List<u32>, Memory>
-    ensures { IfOk result (λ ts. ts ≡ filter (searching.supported catalog.now steps.now variable) tables.now) }
+    ensures { IfOk result (λ ts.
+        ts ≡ filter (searching.supported catalog.now steps.now variable) tables.now) }
 {
     let mut fewer = List::new(alloc);
     for table in tables {
@@ -189,7 +196,8 @@ fn some_suits(
     pattern: &RelPattern<'_>,
     readings: &[Reading],
 ) -> bool
-    ensures { result ≡ list_any (searching.suits catalog.now variable table pattern.now) readings.now }
+    ensures { result
+        ≡ list_any (searching.suits catalog.now variable table pattern.now) readings.now }
 {
     readings.iter().any(|reading| suits(catalog, variable, table, pattern, *reading))
 }

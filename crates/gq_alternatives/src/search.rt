@@ -1,7 +1,10 @@
-//! The search of alternatives: depth first over the relationship patterns, and then over the node variables.
-ghost use Rattle.std.specs.Prelude.{◌≡◌, ◌<◌, ◌≤◌, ◌-◌, [], ◌∷◌, ◌++◌, suc, map, flat_map, take, drop, length, slice_get, slice_set, None, OnOk, IfOk, nat_lt};
+//! The search of alternatives: depth first over the relationship patterns, and then over the node
+//! variables.
+ghost use Rattle.std.specs.Prelude.{◌≡◌, ◌<◌, ◌≤◌, ◌-◌, [], ◌∷◌, ◌++◌, suc, map, flat_map, take};
+ghost use Rattle.std.specs.Prelude.{drop, length, slice_get, slice_set, None, OnOk, IfOk, nat_lt};
 ghost use Rattle.gq_alternatives.specs.Searching as searching;
-ghost use Rattle.gq_alternatives.specs.Searching.{adding, filled, following, knowing, searched, taking};
+ghost use Rattle.gq_alternatives.specs.Searching.{adding, filled, following, knowing, searched};
+ghost use Rattle.gq_alternatives.specs.Searching.{taking};
 
 use crate::candidates::Step;
 use crate::choice::{Choice, Reading};
@@ -11,7 +14,8 @@ use gq_scopes::RelPattern;
 use std::alloc::Global;
 use std::marker::Model;
 
-/// What a search goes through: the tables of each node variable, and at most how many choices are wanted.
+/// What a search goes through: the tables of each node variable, and at most how many choices are
+/// wanted.
 #[derive(Drop)]
 pub struct Space<'s> {
     pub catalog: &'s Catalog,
@@ -27,13 +31,14 @@ impl<'s> Model for Space<'s> {
     ghost view = { λ s. record { catalog = s.catalog.now; tables = s.tables.now; most = s.most } };
 }
 
-/// The steps that one search may take. A step gives a relationship pattern a reading or a node variable a table. Many more
-/// steps than there are choices come where patterns that are far apart in the text do not fit one another, as round a cycle
-/// that cannot close: then dead ends are met again and again.
+/// The steps that one search may take. A step gives a relationship pattern a reading or a node
+/// variable a table. Many more steps than there are choices come where patterns that are far apart
+/// in the text do not fit one another, as round a cycle that cannot close: then dead ends are met
+/// again and again.
 const MOST_STEPS: u32 = 33_554_432;
 
-/// What a search has found: the node tables that are known, the readings and the tables that are chosen, and the whole
-/// choices; and how many steps it may still take.
+/// What a search has found: the node tables that are known, the readings and the tables that are
+/// chosen, and the whole choices; and how many steps it may still take.
 #[derive(Drop)]
 pub struct Found {
     left: u32,
@@ -48,13 +53,23 @@ impl Model for Found {
 
     ghost Value = { Found };
 
-    ghost view = { λ f. record { known = f.known; readings = f.readings.items; tables = f.tables.items; choices = f.choices } };
+    ghost view = { λ f. record {
+      known = f.known;
+      readings = f.readings.items;
+      tables = f.tables.items;
+      choices = f.choices;
+    } };
 }
 
 impl Found {
     /// Nothing yet, where each node variable has one of these lists of tables.
     pub fn new(alloc: Global, tables: &[List<u32>]) -> Result<Found, Memory>
-        ensures { IfOk result (λ f. f ≡ record { known = map (λ l. None) tables.now; readings = []; tables = []; choices = [] }) }
+        ensures { IfOk result (λ f. f ≡ record {
+          known = map (λ l. None) tables.now;
+          readings = [];
+          tables = [];
+          choices = [];
+        }) }
     {
         Ok(Found {
             left: MOST_STEPS,
@@ -95,7 +110,8 @@ impl Found {
     }
 
     fn push_reading(&mut self, reading: Reading) -> Result<(), Memory>
-        ensures { OnOk result (self.new ≡ record self.old { readings = self.old.readings ++ reading ∷ [] }) }
+        ensures { OnOk result
+            (self.new ≡ record self.old { readings = self.old.readings ++ reading ∷ [] }) }
     {
         self.left = step_from(self.left)?;
         match self.readings.push(reading) {
@@ -105,13 +121,15 @@ impl Found {
     }
 
     fn pop_reading(&mut self)
-        ensures { self.new ≡ record self.old { readings = take (length self.old.readings - 1) self.old.readings } }
+        ensures { self.new
+            ≡ record self.old { readings = take (length self.old.readings - 1) self.old.readings } }
     {
         let _ = self.readings.pop();
     }
 
     fn push_table(&mut self, table: u32) -> Result<(), Memory>
-        ensures { OnOk result (self.new ≡ record self.old { tables = self.old.tables ++ table ∷ [] }) }
+        ensures { OnOk result
+            (self.new ≡ record self.old { tables = self.old.tables ++ table ∷ [] }) }
     {
         self.left = step_from(self.left)?;
         match self.tables.push(table) {
@@ -121,7 +139,8 @@ impl Found {
     }
 
     fn pop_table(&mut self)
-        ensures { self.new ≡ record self.old { tables = take (length self.old.tables - 1) self.old.tables } }
+        ensures { self.new
+            ≡ record self.old { tables = take (length self.old.tables - 1) self.old.tables } }
     {
         let _ = self.tables.pop();
     }
@@ -136,7 +155,8 @@ impl Found {
     #[tactic(auto, using(crate::proofs::Limits::limits))]
     fn push_choice(&mut self, alloc: Global, most: usize) -> Result<(), Memory>
         requires { length self.old.choices ≤ suc most }
-        ensures { OnOk result (self.new ≡ adding most (record { readings = self.old.readings; tables = self.old.tables } ∷ []) self.old) }
+        ensures { OnOk result (self.new ≡ adding most
+            (record { readings = self.old.readings; tables = self.old.tables } ∷ []) self.old) }
     {
         if self.is_full(most) {
             return Ok(());
@@ -149,7 +169,8 @@ impl Found {
     }
 }
 
-// How many steps are left behind one more; where none is, the search is given up for want of memory.
+// How many steps are left behind one more; where none is, the search is given up for want of
+// memory.
 fn step_from(left: u32) -> Result<u32, Memory>
     ensures { IfOk result (λ after. suc after ≡ left) }
 {
@@ -198,7 +219,9 @@ pub fn search(
 ) -> Result<(), Memory>
     requires few { length found.old.choices ≤ suc space.now.most }
     requires begun { found.old.tables ≡ [] }
-    ensures { OnOk result (found.new ≡ adding space.now.most (searched space.now.catalog space.now.tables steps.now found.old.known found.old.readings) found.old) }
+    ensures { OnOk result (found.new ≡ adding space.now.most
+        (searched space.now.catalog space.now.tables steps.now found.old.known found.old.readings)
+        found.old) }
 {
     match steps {
         [] => fill(alloc, space.most, space.tables, found),
@@ -226,7 +249,9 @@ fn follow_each(
 ) -> Result<(), Memory>
     requires few { length found.old.choices ≤ suc space.now.most }
     requires begun { found.old.tables ≡ [] }
-    ensures { OnOk result (found.new ≡ adding space.now.most (flat_map (λ c. following space.now.catalog space.now.tables rest.now pattern.now found.old.known found.old.readings c) readings.now) found.old) }
+    ensures { OnOk result (found.new ≡ adding space.now.most
+        (flat_map (λ c. following space.now.catalog space.now.tables rest.now pattern.now
+        found.old.known found.old.readings c) readings.now) found.old) }
 {
     for reading in readings {
         follow(alloc, space, pattern, *reading, rest, found)?;
@@ -246,7 +271,9 @@ fn follow(
 ) -> Result<(), Memory>
     requires few { length found.old.choices ≤ suc space.now.most }
     requires begun { found.old.tables ≡ [] }
-    ensures { OnOk result (found.new ≡ adding space.now.most (following space.now.catalog space.now.tables rest.now pattern.now found.old.known found.old.readings reading) found.old) }
+    ensures { OnOk result (found.new ≡ adding space.now.most
+        (following space.now.catalog space.now.tables rest.now pattern.now
+        found.old.known found.old.readings reading) found.old) }
 {
     if found.is_full(space.most) {
         return Ok(());
@@ -287,7 +314,10 @@ fn enter_source(
 ) -> Result<(), Memory>
     requires few { length found.old.choices ≤ suc space.now.most }
     requires begun { found.old.tables ≡ [] }
-    ensures { OnOk result (found.new ≡ adding space.now.most (knowing source.variable source.table found.old.known (λ one. knowing target.variable target.table one (λ ks. searched space.now.catalog space.now.tables rest.now ks found.old.readings))) found.old) }
+    ensures { OnOk result (found.new ≡ adding space.now.most
+        (knowing source.variable source.table found.old.known (λ one.
+        knowing target.variable target.table one (λ ks.
+        searched space.now.catalog space.now.tables rest.now ks found.old.readings))) found.old) }
 {
     let place = source.variable as usize;
     match found.known_of(place) {
@@ -311,7 +341,9 @@ fn enter_target(
 ) -> Result<(), Memory>
     requires few { length found.old.choices ≤ suc space.now.most }
     requires begun { found.old.tables ≡ [] }
-    ensures { OnOk result (found.new ≡ adding space.now.most (knowing target.variable target.table found.old.known (λ ks. searched space.now.catalog space.now.tables rest.now ks found.old.readings)) found.old) }
+    ensures { OnOk result (found.new ≡ adding space.now.most
+        (knowing target.variable target.table found.old.known (λ ks.
+        searched space.now.catalog space.now.tables rest.now ks found.old.readings)) found.old) }
 {
     let place = target.variable as usize;
     match found.known_of(place) {
@@ -329,7 +361,9 @@ fn enter_target(
 #[cycle(fill)]
 fn fill(alloc: Global, most: usize, lists: &[List<u32>], found: &mut Found) -> Result<(), Memory>
     requires { length found.old.choices ≤ suc most }
-    ensures { OnOk result (found.new ≡ adding most (map (λ ts. record { readings = found.old.readings; tables = found.old.tables ++ ts }) (filled (drop (length found.old.tables) found.old.known) lists.now)) found.old) }
+    ensures { OnOk result (found.new ≡ adding most
+        (map (λ ts. record { readings = found.old.readings; tables = found.old.tables ++ ts })
+        (filled (drop (length found.old.tables) found.old.known) lists.now)) found.old) }
 {
     match lists {
         [] => found.push_choice(alloc, most),
@@ -350,7 +384,9 @@ fn fill_from(
     found: &mut Found,
 ) -> Result<(), Memory>
     requires { length found.old.choices ≤ suc most }
-    ensures { OnOk result (found.new ≡ adding most (flat_map (λ t. taking found.old.known found.old.readings found.old.tables rest.now known t) tables.now) found.old) }
+    ensures { OnOk result (found.new ≡ adding most (flat_map (λ t.
+        taking found.old.known found.old.readings found.old.tables rest.now known t)
+        tables.now) found.old) }
 {
     for table in tables {
         fill_with(alloc, most, known, *table, rest, found)?;
@@ -368,7 +404,9 @@ fn fill_with(
     found: &mut Found,
 ) -> Result<(), Memory>
     requires { length found.old.choices ≤ suc most }
-    ensures { OnOk result (found.new ≡ adding most (taking found.old.known found.old.readings found.old.tables rest.now known table) found.old) }
+    ensures { OnOk result (found.new ≡ adding most
+        (taking found.old.known found.old.readings found.old.tables rest.now known table)
+        found.old) }
 {
     if found.is_full(most) {
         return Ok(());

@@ -14,8 +14,8 @@ use gq_scopes::{Pattern, RelPattern, copy, copy_text, next};
 use gq_syntax::Arrow;
 use std::alloc::Global;
 
-/// An alternative of patterns with its tests, late conjuncts and pairs: the entries of the patterns' maps and the
-/// conjuncts that cannot fault are its tests, the other conjuncts are late.
+/// An alternative of patterns with its tests, late conjuncts and pairs: the entries of the
+/// patterns' maps and the conjuncts that cannot fault are its tests, the other conjuncts are late.
 #[tactic(auto, unfolding(crate::specs::Alternatives::typed_of))]
 pub fn typed(
     alloc: Global,
@@ -25,7 +25,8 @@ pub fn typed(
     conjuncts: &[NamedExpr],
     choice: &Choice,
 ) -> Result<Typed, Memory>
-    ensures { IfOk result (λ y. y ≡ typed_of catalog.now pattern.now entries.now conjuncts.now choice.now) }
+    ensures { IfOk result (λ y.
+        y ≡ typed_of catalog.now pattern.now entries.now conjuncts.now choice.now) }
 {
     let readings = choice.readings.as_slice();
     let tables = choice.tables.as_slice();
@@ -151,7 +152,8 @@ fn tests_of(
     entries: &[NamedExpr],
     conjuncts: &[NamedExpr],
 ) -> Result<List<NamedExpr>, Memory>
-    ensures { IfOk result (λ ts. ts ≡ entries.now ++ filter (λ e. not (can_fault kinds.now e.expr)) conjuncts.now) }
+    ensures { IfOk result (λ ts.
+        ts ≡ entries.now ++ filter (λ e. not (can_fault kinds.now e.expr)) conjuncts.now) }
 {
     let mut tests = copy_all_named(alloc, entries)?;
     for conjunct in conjuncts {
@@ -184,7 +186,8 @@ fn pairs_of(
     patterns: &[RelPattern<'_>],
     readings: &[Reading],
 ) -> Result<List<RelPair>, Memory>
-    ensures { IfOk result (λ ps. ps ≡ filter (alternatives.one_table readings.now) (pairs_from 0 patterns.now)) }
+    ensures { IfOk result (λ ps.
+        ps ≡ filter (alternatives.one_table readings.now) (pairs_from 0 patterns.now)) }
 {
     let mut pairs = List::new(alloc);
     let mut first = 0;
@@ -209,7 +212,9 @@ fn push_pairs(
     first: u32,
     rest: &[RelPattern<'_>],
 ) -> Result<(), Memory>
-    ensures { IfOk result (λ _. pairs.new ≡ pairs.old ++ filter (alternatives.one_table readings.now) (pairs_with clause first (suc first) rest.now)) }
+    ensures { IfOk result (λ _. pairs.new ≡ pairs.old
+        ++ filter (alternatives.one_table readings.now)
+        (pairs_with clause first (suc first) rest.now)) }
 {
     let mut second = next(first)?;
     for pattern in rest {

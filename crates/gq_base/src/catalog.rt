@@ -1,5 +1,6 @@
 //! The catalogue: which tables a graph has, and the fields of each.
-ghost use Rattle.std.specs.Prelude.{◌≡◌, ℕ, ◌+◌, ◌^◌, ◌<◌, [], ◌∷◌, ◌++◌, length, slice_get, Some, None, OnOk, OnErr, IfSome};
+ghost use Rattle.std.specs.Prelude.{◌≡◌, ◌+◌, ◌^◌, ◌<◌, [], ◌∷◌, ◌++◌, length, slice_get, Some};
+ghost use Rattle.std.specs.Prelude.{None, OnOk, OnErr, IfSome};
 ghost use Rattle.gq_base.specs.Catalogs.{find_label, find_type, with_node_fields, with_rel_fields};
 
 use crate::list::List;
@@ -16,8 +17,8 @@ pub enum Kind {
     Flag,
 }
 
-/// How many relationships of a table a vertex may have: `ManyOne` gives each source at most one, `OneMany` each
-/// target, `OneOne` both.
+/// How many relationships of a table a vertex may have: `ManyOne` gives each source at most one,
+/// `OneMany` each target, `OneOne` both.
 #[derive(Clone, Copy, Debug, PartialEq, Eq)]
 pub enum Mult {
     ManyMany,
@@ -126,8 +127,8 @@ impl Catalog {
         }
     }
 
-    /// Adds a relationship table, whose type is new and whose ends are there. After `Memory` the catalogue is as
-    /// before.
+    /// Adds a relationship table, whose type is new and whose ends are there. After `Memory` the
+    /// catalogue is as before.
     pub fn add_rel(&mut self, table: RelTable) -> Result<(), Memory>
         requires fits { length self.old.rels + 1 < 2 ^ 32 }
         requires fresh { find_type self.old.rels table.name ≡ None }

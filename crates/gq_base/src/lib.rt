@@ -1,5 +1,6 @@
-//! The base types of graphq: lists, boxes, texts, values, cells, operators and the catalogue, which contracts see as
-//! plain data.
+//! The base types of graphq: values, which compare, sort and combine as openCypher says, and lists,
+//! boxes, texts, cells, operators and the catalogue, which contracts see as plain data. Its
+//! definitions say what a plain graph is and which are valid. The crate stands on std alone.
 #![tactic(auto)]
 
 mod boxed;

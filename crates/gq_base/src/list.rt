@@ -1,5 +1,6 @@
 //! A growable list whose contract is the list of its items.
-ghost use Rattle.std.specs.Prelude.{◌≡◌, [], ◌∷◌, ◌++◌, ◌<◌, length, slice_get, slice_set, ◌↔◌, IsTrue, OnOk, OnErr, OnSome};
+ghost use Rattle.std.specs.Prelude.{◌≡◌, [], ◌∷◌, ◌++◌, ◌<◌, length, slice_get, slice_set, ◌↔◌};
+ghost use Rattle.std.specs.Prelude.{IsTrue, OnOk, OnErr, OnSome};
 ghost use Rattle.std.specs.Option.{option_copied};
 ghost use Rattle.std.specs.List.{AllZip};
 ghost use Rattle.std.specs.Cmp.Lexicographic.{pointwise, lists_per, lists_equiv};
@@ -8,8 +9,8 @@ use crate::memory::Memory;
 use std::alloc::{AllocError, Global};
 use std::marker::Model;
 
-/// A `Vec` that contracts see as the list of its items, so that lists of equal items are equal and a type may hold
-/// itself through it.
+/// A `Vec` that contracts see as the list of its items, so that lists of equal items are equal and
+/// a type may hold itself through it.
 #[derive(Debug, Drop)]
 pub struct List<T> {
     vec: Vec<T>,

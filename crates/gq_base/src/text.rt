@@ -5,8 +5,9 @@ ghost use Rattle.std.specs.Ordering.{nat_cmp};
 ghost use Rattle.std.proofs.Common.{rules};
 ghost use Rattle.std.specs.Hash as fed;
 ghost use Rattle.std.specs.Cmp as Cmp;
-ghost use Rattle.std.specs.Cmp.Rules.{comparing, hashing};
-ghost use Rattle.std.specs.Cmp.Lexicographic.{pointwise, slice_cmp, nat_list_eq_equiv, nat_list_cmp_total, texts_ties, texts_po};
+ghost use Rattle.std.specs.Cmp.Rules.{hashing};
+ghost use Rattle.std.specs.Cmp.Lexicographic.{pointwise, slice_cmp, nat_list_eq_equiv};
+ghost use Rattle.std.specs.Cmp.Lexicographic.{nat_list_cmp_total, texts_ties, texts_po};
 
 use crate::memory::Memory;
 use std::alloc::{AllocError, Global};
@@ -15,8 +16,8 @@ use std::fmt;
 use std::hash::{Hash, Hasher};
 use std::marker::Model;
 
-/// A `String` that contracts see as the list of its bytes, which are UTF-8. Texts compare by these bytes, which is
-/// the order of their Unicode code points.
+/// A `String` that contracts see as the list of its bytes, which are UTF-8. Texts compare by these
+/// bytes, which is the order of their Unicode code points.
 #[derive(Debug, Drop)]
 pub struct Text {
     string: String,

@@ -1,7 +1,8 @@
 //! Values, how they compare, and the order that they stand in.
-ghost use Rattle.std.specs.Prelude.{◌≡◌, Bool, Some};
+ghost use Rattle.std.specs.Prelude.{◌≡◌, Some};
 ghost use Rattle.std.specs.Ordering.{is_eq};
-ghost use Rattle.std.specs.Cmp.{IsTotalOrder, on_per, on_equiv, on_po, on_total, eq_by_cmp_equiv, partial_equiv_from_equiv, partial_order_from_total};
+ghost use Rattle.std.specs.Cmp.{IsTotalOrder, on_per, on_equiv, on_po, on_total, eq_by_cmp_equiv};
+ghost use Rattle.std.specs.Cmp.{partial_equiv_from_equiv, partial_order_from_total};
 ghost use Rattle.std.proofs.Common.{refl, ap};
 ghost use Rattle.gq_base.specs.ValueLaws.{order_vals_total, same_val};
 ghost use Rattle.gq_base.specs.Values.{val, val_hash, order_vals, less_vals, equal_vals, kind_rank};
@@ -78,7 +79,8 @@ pub fn equal3(a: &Value<'_>, b: &Value<'_>) -> Option<bool>
     }
 }
 
-/// The operator `<`; `None` stands for null, which all give but two booleans, two integers or two strings.
+/// The operator `<`; `None` stands for null, which all give but two booleans, two integers or two
+/// strings.
 pub fn less3(a: &Value<'_>, b: &Value<'_>) -> Option<bool>
     ensures { result ≡ less_vals (val a.now) (val b.now) }
 {

@@ -1,6 +1,6 @@
 //! Gathering the cells of a column beside loops that read one cell after the other.
 
-ghost use Rattle.std.specs.Prelude.{◌≡◌, ◌+◌, ◌<◌, ◌≤◌, All, length};
+ghost use Rattle.std.specs.Prelude.{◌+◌, ◌<◌, ◌≤◌, All, length};
 
 use crate::cells::{column_cells, numbers};
 use crate::report::Failed;

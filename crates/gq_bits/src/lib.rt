@@ -1,4 +1,5 @@
-//! Truth values packed 64 to a word: lists with a rank, and the marks of one vector.
+//! Truth values packed 64 to a word: a list of bits with the count of ones before each place, and
+//! the marks of one vector. The crate stands on `gq_base` alone.
 #![tactic(auto)]
 
 mod ranked;

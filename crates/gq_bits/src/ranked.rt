@@ -1,6 +1,8 @@
 //! Lists of bits that count the ones before a place in constant time.
 
-ghost use Rattle.std.specs.Prelude.{◌≡◌, ◌↔◌, ℕ, ◌+◌, ◌*◌, ◌/◌, ◌^◌, ◌<◌, ◌≤◌, [], IsTrue, length, false, take, slice_index, slice_index_or, count_by, IfOk, vec_len};
+ghost use Rattle.std.specs.Prelude.{◌≡◌, ◌↔◌, ℕ, ◌+◌, ◌*◌, ◌/◌, ◌^◌, ◌<◌, ◌≤◌, [], IsTrue, length};
+ghost use Rattle.std.specs.Prelude.{false, take, slice_index, slice_index_or, count_by, IfOk};
+ghost use Rattle.std.specs.Prelude.{vec_len};
 ghost use Rattle.gq_bits.specs.Bits.{bit_of, bits_of};
 
 use gq_base::Memory;
@@ -83,10 +85,12 @@ impl BitList {
     }
 }
 
-// The bits, packed, and a word more where the last one is full: each place up to the length has a word.
+// The bits, packed, and a word more where the last one is full: each place up to the length has a
+// word.
 fn words_of(alloc: Global, bits: &[bool]) -> Result<Vec<u64>, Memory>
     ensures len { IfOk result (λ words. vec_len words ≡ length bits.now / 64 + 1) }
-    ensures bits { IfOk result (λ words. (k : ℕ) → bit_of words.items k ≡ slice_index_or bits.now k false) }
+    ensures bits { IfOk result (λ words.
+        (k : ℕ) → bit_of words.items k ≡ slice_index_or bits.now k false) }
 {
     let mut words = vec![in alloc; 0u64; bits.len() / 64 + 1]?;
     for (place, bit) in bits.iter().enumerate() {
@@ -99,7 +103,8 @@ fn words_of(alloc: Global, bits: &[bool]) -> Result<Vec<u64>, Memory>
 fn sums_of(alloc: Global, words: &[u64]) -> Result<Vec<u32>, Memory>
     requires { 64 * length words.now ≤ 2 ^ 32 }
     ensures len { IfOk result (λ sums. vec_len sums ≡ length words.now) }
-    ensures ones { IfOk result (λ sums. (k : ℕ) → k < length words.now → slice_index sums.items k ≡ count_by (λ on. on) (bits_of (64 * k) words.now)) }
+    ensures ones { IfOk result (λ sums. (k : ℕ) → k < length words.now
+        → slice_index sums.items k ≡ count_by (λ on. on) (bits_of (64 * k) words.now)) }
 {
     let mut sums = Vec::with_capacity(alloc, words.len())?;
     let mut before = 0u64;

@@ -1,6 +1,7 @@
 //! Marks: one truth value for each place of a vector.
 
-ghost use Rattle.std.specs.Prelude.{◌≡◌, ℕ, ◌+◌, ◌*◌, ◌<◌, ◌≤◌, List, Bool, length, true, false, not, nat_lt, slice_set, MatchOption, count_by, ◌&&◌, ◌==◌};
+ghost use Rattle.std.specs.Prelude.{◌≡◌, ℕ, ◌+◌, ◌*◌, ◌<◌, ◌≤◌, List, Bool, length, true, false};
+ghost use Rattle.std.specs.Prelude.{not, nat_lt, slice_set, MatchOption, count_by, ◌&&◌, ◌==◌};
 ghost use Rattle.std.specs.Int.{bit_at};
 ghost use Rattle.gq_bits.specs.Places.{is_marked, allows};
 
@@ -73,7 +74,8 @@ impl Marks {
     /// Keeps the places that `other` marks too.
     pub fn and(&mut self, other: &Marks)
         ensures whole { length self.new ≡ VECTOR }
-        ensures both { (k : ℕ) → is_marked self.new k ≡ (is_marked self.old k && is_marked other.now k) }
+        ensures both { (k : ℕ) → is_marked self.new k
+            ≡ (is_marked self.old k && is_marked other.now k) }
     {
         for index in 0..WORDS {
             self.words[index] &= other.words[index];
@@ -83,7 +85,8 @@ impl Marks {
     /// Keeps the places that `other` does not mark.
     pub fn and_not(&mut self, other: &Marks)
         ensures whole { length self.new ≡ VECTOR }
-        ensures without { (k : ℕ) → is_marked self.new k ≡ (is_marked self.old k && not (is_marked other.now k)) }
+        ensures without { (k : ℕ) → is_marked self.new k
+            ≡ (is_marked self.old k && not (is_marked other.now k)) }
     {
         for index in 0..WORDS {
             self.words[index] &= !other.words[index];
@@ -94,7 +97,8 @@ impl Marks {
     pub fn next_from(&self, place: u32) -> Option<u32>
         ensures found { MatchOption result ((k : ℕ) → place ≤ k → is_marked self.now k ≡ false)
             (λ p. (place ≤ p) × (is_marked self.now p ≡ true)) }
-        ensures least { MatchOption result (0 ≤ 0) (λ p. (k : ℕ) → place ≤ k → k < p → is_marked self.now k ≡ false) }
+        ensures least { MatchOption result (0 ≤ 0) (λ p.
+            (k : ℕ) → place ≤ k → k < p → is_marked self.now k ≡ false) }
     {
         let words = &self.words;
         if place >= VECTOR {
@@ -128,16 +132,19 @@ impl Marks {
     pub fn word(&self, index: u32) -> u64
         requires { 64 * index < VECTOR }
         ensures whole { length self.now ≡ VECTOR }
-        ensures bits { (i : ℕ) → i < 64 → (bit_at result i == 1) ≡ is_marked self.now (64 * index + i) }
+        ensures bits { (i : ℕ) → i < 64
+            → (bit_at result i == 1) ≡ is_marked self.now (64 * index + i) }
     {
         self.words[index as usize]
     }
 
-    /// Keeps those of the 64 places from `64 * index` on whose bit in `mask` is set, and all other places.
+    /// Keeps those of the 64 places from `64 * index` on whose bit in `mask` is set, and all other
+    /// places.
     pub fn keep_word(&mut self, index: u32, mask: u64)
         requires { 64 * index < VECTOR }
         ensures whole { length self.new ≡ VECTOR }
-        ensures kept { (k : ℕ) → is_marked self.new k ≡ (is_marked self.old k && allows index mask k) }
+        ensures kept { (k : ℕ) → is_marked self.new k
+            ≡ (is_marked self.old k && allows index mask k) }
     {
         self.words[index as usize] &= mask;
     }

@@ -1,7 +1,11 @@
-//! A column of optional integers that keeps only those that are not null.
+//! A column of optional integers that keeps only those that are not null. It is seen as the list of
+//! its cells. The crate stands on the bits of `gq_bits`, which say which rows have a cell and where
+//! it is kept.
 #![tactic(auto)]
 
-ghost use Rattle.std.specs.Prelude.{◌≡◌, ℕ, ◌+◌, ◌-◌, ◌^◌, ◌++◌, [], ◌∷◌, ◌<◌, ◌≤◌, length, map, All, IfOk, slice_index, slice_range, slice_index_or, pos, is_some};
+ghost use Rattle.std.specs.Prelude.{◌≡◌, ℕ, ◌+◌, ◌-◌, ◌^◌, ◌++◌, [], ◌∷◌, ◌<◌, ◌≤◌, length, map};
+ghost use Rattle.std.specs.Prelude.{All, IfOk, slice_index, slice_range, slice_index_or, pos};
+ghost use Rattle.std.specs.Prelude.{is_some};
 ghost use Rattle.gq_column.specs.Cells.{Gathered, BlockGathered, cell_at, kept_of};
 
 use gq_base::Memory;
@@ -113,15 +117,16 @@ impl Column {
         }
     }
 
-    // Gathers the places from `low` to below `high`. No branch hangs on a cell, since nulls stand in no order. The last
-    // place comes first, so that the word grows by doubling.
+    // Gathers the places from `low` to below `high`. No branch hangs on a cell, since nulls stand
+    // in no order. The last place comes first, so that the word grows by doubling.
     fn gather_block(&self, rows: &[u32], low: usize, high: usize, out: &mut [i64]) -> u64
         requires ordered { low ≤ high }
         requires few { high - low ≤ 64 }
         requires covered { high ≤ length rows.now }
         requires inside { All (λ row. row < length self.now) rows.now }
         requires room { length rows.now ≤ length out.old }
-        ensures { BlockGathered (λ k. cell_at self.now (slice_index rows.now k)) low high out.old out.new result }
+        ensures { BlockGathered
+            (λ k. cell_at self.now (slice_index rows.now k)) low high out.old out.new result }
     {
         let null = self.kept.len() - 1;
         let mut word = 0;
@@ -153,7 +158,8 @@ impl Column {
         }
     }
 
-    // Gathers the rows from `low + first` on into the places from `first` to below `end`, without a branch on a cell.
+    // Gathers the rows from `low + first` on into the places from `first` to below `end`, without a
+    // branch on a cell.
     fn gather_span_block(&self, low: u32, first: u32, end: u32, out: &mut [i64]) -> u64
         requires ordered { first ≤ end }
         requires few { end - first ≤ 64 }
@@ -181,7 +187,8 @@ fn flags_of(alloc: Global, cells: &[Option<i64>]) -> Result<Vec<bool>, Memory>
     Ok(cells.iter().map(|cell| cell.is_some()).collect(alloc)?)
 }
 
-// The cells that are not null, and a 0. Room for so many is made at once, so that none is left over.
+// The cells that are not null, and a 0. Room for so many is made at once, so that none is left
+// over.
 fn kept_cells(alloc: Global, cells: &[Option<i64>], room: usize) -> Result<Vec<i64>, Memory>
     ensures { IfOk result (λ kept. kept.items ≡ (kept_of cells.now ++ (pos 0 ∷ []))) }
 {
@@ -198,8 +205,10 @@ fn kept_cells(alloc: Global, cells: &[Option<i64>], room: usize) -> Result<Vec<i
 fn copy_rows(cells: &[i64], rows: &[u32], out: &mut [i64])
     requires inside { All (λ row. row < length cells.now) rows.now }
     requires room { length rows.now ≤ length out.old }
-    ensures written { (k : ℕ) → k < length rows.now → slice_index_or out.new k (pos 0) ≡ slice_index_or cells.now (slice_index rows.now k) (pos 0) }
-    ensures rest { (k : ℕ) → length rows.now ≤ k → slice_index_or out.new k (pos 0) ≡ slice_index_or out.old k (pos 0) }
+    ensures written { (k : ℕ) → k < length rows.now → slice_index_or out.new k (pos 0)
+        ≡ slice_index_or cells.now (slice_index rows.now k) (pos 0) }
+    ensures rest { (k : ℕ) → length rows.now ≤ k
+        → slice_index_or out.new k (pos 0) ≡ slice_index_or out.old k (pos 0) }
 {
     for (place, row) in rows.iter().enumerate() {
         out[place] = cells[*row as usize];

@@ -1,6 +1,7 @@
 //! Places of relationships in order of their sources, in pages of 128 sources.
 
-ghost use Rattle.std.specs.Prelude.{◌≡◌, ℕ, ◌+◌, ◌*◌, ◌/◌, ◌^◌, ◌<◌, ◌≤◌, length, All, IfOk, slice_index, vec_len};
+ghost use Rattle.std.specs.Prelude.{◌≡◌, ℕ, ◌+◌, ◌*◌, ◌/◌, ◌^◌, ◌<◌, length, All, IfOk};
+ghost use Rattle.std.specs.Prelude.{slice_index, vec_len};
 ghost use Rattle.std.specs.List.{concat, range_with_len};
 ghost use Rattle.gq_edges.specs.Order.{numbers_of, page_start_of, IsPlaceOf};
 
@@ -12,8 +13,8 @@ use std::marker::Model;
 /// How many sources a page has.
 const PAGE: u32 = 128;
 
-/// The places of the relationships of a table: their positions when all are put in order of source and then of number.
-/// It is seen as the numbers of each source, in order.
+/// The places of the relationships of a table: their positions when all are put in order of source
+/// and then of number. It is seen as the numbers of each source, in order.
 #[derive(Drop)]
 pub struct Pages {
     // The numbers of each source, and so the number at each place.
@@ -54,12 +55,14 @@ impl Pages {
         self.places.len() as u32
     }
 
-    /// The place of the relationship with this number: the only one at which `number_at` answers it.
+    /// The place of the relationship with this number: the only one at which `number_at` answers
+    /// it.
     pub fn place_of(&self, number: u32) -> u32
         requires { number < length (concat self.now) }
         ensures within { result < length (concat self.now) }
         ensures place { slice_index (concat self.now) result ≡ number }
-        ensures only { (place : ℕ) → place < length (concat self.now) → slice_index (concat self.now) place ≡ number → result ≡ place }
+        ensures only { (place : ℕ) → place < length (concat self.now)
+            → slice_index (concat self.now) place ≡ number → result ≡ place }
     {
         self.places[number as usize]
     }
@@ -110,7 +113,8 @@ fn places_of(alloc: Global, order: &[u32]) -> Result<Vec<u32>, Memory>
     requires few { length order.now < 2 ^ 32 }
     requires inside { All (λ number. number < length order.now) order.now }
     ensures len { IfOk result (λ places. vec_len places ≡ length order.now) }
-    ensures placed { IfOk result (λ places. All (λ number. IsPlaceOf order.now number (slice_index places.items number)) order.now) }
+    ensures placed { IfOk result (λ places.
+        All (λ number. IsPlaceOf order.now number (slice_index places.items number)) order.now) }
 {
     let mut places = vec![in alloc; 0u32; order.len()]?;
     for (place, number) in order.iter().enumerate() {

@@ -61,7 +61,8 @@ impl Single {
         requires from_below { All (λ v. v < vertices) from.now }
         requires few { length from.now < 2 ^ 32 }
         ensures len { IfOk result (λ single. length single ≡ vertices) }
-        ensures pairs { IfOk result (λ single. (v : ℕ) → v < vertices → IsPairOf from.now to.now v (pair_at single v)) }
+        ensures pairs { IfOk result (λ single.
+            (v : ℕ) → v < vertices → IsPairOf from.now to.now v (pair_at single v)) }
         ensures once { OnOk result (AreOnce from.now) }
         ensures second { (at : ℕ) → result ≡ Err (SingleRefusal.Second at) → IsSecond from.now at }
     {

@@ -1,4 +1,5 @@
-//! Answers a query alternative by alternative: the plan of each one runs, and what it makes goes into one table of rows.
+//! Answers a query alternative by alternative: the plan of each one runs, and what it makes goes
+//! into one table of rows.
 ghost use Rattle.std.specs.Prelude.{◌≡◌, ◌<◌, false, length, All, OnOk};
 ghost use Rattle.gq_execute.specs.Answering.{Drains, Fills, IsFresh, RepliesToEach};
 ghost use Rattle.gq_execute.specs.Taking.{IsRunOf, TakesAll, owed_outcomes};
@@ -16,7 +17,8 @@ use gq_rows::{Listing, More, RowTable};
 use gq_store::Graph;
 use std::alloc::Global;
 
-// Pushes what a pipeline owes, one assignment after another, until nothing is owed or the table has enough.
+// Pushes what a pipeline owes, one assignment after another, until nothing is owed or the table has
+// enough.
 fn drain<'g>(
     graph: &'g Graph,
     pipeline: &mut FlatPipeline<'_>,
@@ -25,7 +27,8 @@ fn drain<'g>(
     requires run { IsRunOf graph.now table.old pipeline.old }
     requires stands { StandsForSome table.old }
     requires room { is_full_table table.old ≡ false }
-    ensures takes { TakesAll (owed_outcomes graph.now table.old pipeline.old) table.old table.new result }
+    ensures takes { TakesAll (owed_outcomes graph.now table.old pipeline.old)
+        table.old table.new result }
 {
     'rows: while pipeline.advance() {
         match table.push_row(pipeline.row(), graph) {
@@ -53,7 +56,8 @@ fn take_turn<'g>(
     requires stands { StandsForSome table.old }
     requires room { is_full_table table.old ≡ false }
     requires most { settings.now.rows ≡ table.old.most }
-    ensures drains { Drains graph.now table.old.bound settings.now.order typed.now table.old table.new result }
+    ensures drains { Drains graph.now table.old.bound settings.now.order typed.now
+        table.old table.new result }
 {
     let _ = graph.catalog();
     let plan = plan_for(alloc, settings.order, graph, stats, typed)?;
@@ -94,12 +98,13 @@ fn fill<'g>(
     Ok(())
 }
 
-/// Answers a bound query over a graph: the lines of its rows, or why there are none. The alternatives are taken in order;
-/// after enough rows none is begun.
+/// Answers a bound query over a graph: the lines of its rows, or why there are none. The
+/// alternatives are taken in order; after enough rows none is begun.
 ///
-/// The answer is permitted by openCypher's meaning of each query that is bound so: the lines are a window of an arrangement
-/// of its rows; a fault is one of an outcome that is looked at; `TooManyRows` comes where more rows than `settings.rows`
-/// would be kept, or where a part of an alternative whose turn comes has more assignments. `Memory` may come at any time.
+/// The answer is permitted by openCypher's meaning of each query that is bound so: the lines are a
+/// window of an arrangement of its rows; a fault is one of an outcome that is looked at;
+/// `TooManyRows` comes where more rows than `settings.rows` would be kept, or where a part of an
+/// alternative whose turn comes has more assignments. `Memory` may come at any time.
 pub fn answer<'g>(
     alloc: Global,
     graph: &'g Graph,

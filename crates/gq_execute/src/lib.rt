@@ -1,4 +1,7 @@
-//! Executes a bound query over a stored graph: its rows, or why it has none.
+//! Executes a bound query over a stored graph: it is answered as openCypher's meaning permits, with
+//! its rows or with why it has none. The crate stands on the plans of `gq_order`, the assignments
+//! of `gq_pipe` and the lines of `gq_rows`, and on the laws of `gq_law_answers`, by which these are
+//! of all matches of the query.
 #![tactic(auto)]
 
 mod answering;

@@ -47,7 +47,8 @@ fn rel_counts(alloc: Global, graph: &Graph) -> Result<List<u64>, Memory>
     Ok(counts)
 }
 
-/// The plan of an alternative in this order. It covers the alternative, and joins one side plan without joins for each part.
+/// The plan of an alternative in this order. It covers the alternative, and joins one side plan
+/// without joins for each part.
 pub(crate) fn plan_for(
     alloc: Global,
     order: Order,
@@ -61,7 +62,8 @@ pub(crate) fn plan_for(
     requires rels { length stats.now.rels ≡ length graph.now.catalog.rels }
     ensures covers { IfOk result (λ p. Covers graph.now.catalog typed.now (plan_of p)) }
     ensures parts { IfOk result (λ p.
-        AllZip (IsSide graph.now.catalog typed.now) (parts_by order typed.now) (sides (plan_of p))) }
+        AllZip (IsSide graph.now.catalog typed.now)
+        (parts_by order typed.now) (sides (plan_of p))) }
     ensures alone { IfOk result (λ p. IsTrue (list_all is_flat (sides (plan_of p)))) }
     ensures plan { IfOk result (λ p.
         plan_of p ≡ plan_in order graph.now.catalog stats.now typed.now) }
@@ -72,8 +74,8 @@ pub(crate) fn plan_for(
     }
 }
 
-/// The plan of each alternative of a bound query, in this order and by the sizes of the graph's tables. After `Memory`
-/// there is none.
+/// The plan of each alternative of a bound query, in this order and by the sizes of the graph's
+/// tables. After `Memory` there is none.
 pub fn plans(
     alloc: Global,
     graph: &Graph,

@@ -77,7 +77,8 @@ fn own_columns(step: &Step, typed: &Typed) -> usize
 // Takes the properties that the test of a step reads.
 #[tactic(auto, using(gq_plan::proofs::StepEquations::equations))]
 fn add_reads<'e>(reads: &mut PropertyReads<'e>, step: &Step, typed: &'e Typed) -> Result<(), Memory>
-    ensures { IfOk result (λ _. reads.new ≡ with_reads reads.old (step_reads typed.now (step_of step.now))) }
+    ensures { IfOk result (λ _.
+        reads.new ≡ with_reads reads.old (step_reads typed.now (step_of step.now))) }
 {
     match step {
         Step::Keep { test } => match typed.tests.get(*test as usize) {
@@ -104,9 +105,10 @@ fn plus(count: usize, more: usize) -> Result<usize, Memory>
     }
 }
 
-/// How many columns of the pool the pipeline of a plan fills: one for each step that follows a relationship by a column, one
-/// for each different property that the tests read, and one for each node variable that a join brings, its keys left out.
-/// Side plans have pipelines of their own and are not counted. `Memory` may come also where the number passes 64 bits.
+/// How many columns of the pool the pipeline of a plan fills: one for each step that follows a
+/// relationship by a column, one for each different property that the tests read, and one for each
+/// node variable that a join brings, its keys left out. Side plans have pipelines of their own and
+/// are not counted. `Memory` may come also where the number passes 64 bits.
 pub fn columns(alloc: Global, plan: &Plan, typed: &Typed) -> Result<usize, Memory>
     ensures { IfOk result (λ count. count ≡ columns_of typed.now (plan_of plan.now)) }
 {

@@ -1,11 +1,13 @@
 //! The plans of a query: those of its alternatives, one after another.
 
-ghost use Rattle.std.specs.Prelude.{◌≡◌, ◌+◌, ◌<◌, ◌^◌, ◌++◌, [], flat_map, length, option_map, slice_get, unwrap_or};
+ghost use Rattle.std.specs.Prelude.{◌≡◌, ◌+◌, ◌<◌, ◌^◌, ◌++◌, [], flat_map, length, option_map};
+ghost use Rattle.std.specs.Prelude.{slice_get, unwrap_or};
 ghost use Rattle.std.specs.List.{range_with_len};
 ghost use Rattle.gq_io.specs.Causes.{HasCause};
 ghost use Rattle.gq_io.specs.Outside.{Writes};
 ghost use Rattle.gq_io.specs.Putting.{Puts};
-ghost use Rattle.gq_explain.specs.Plans.{alternative_at, alternative_text, end_text, late_line, plan_lines, plan_text};
+ghost use Rattle.gq_explain.specs.Plans.{alternative_at, alternative_text, end_text, late_line};
+ghost use Rattle.gq_explain.specs.Plans.{plan_lines, plan_text};
 ghost use Rattle.gq_plan.specs.Steps.{plan_of};
 
 use crate::naming::Naming;
@@ -53,7 +55,8 @@ fn put_lates<O: Sink>(
     late: &[u32],
 ) -> Result<(), Failed>
     ensures bytes { Puts (O.taken out.old) (O.taken out.new) batch.old batch.new
-        (flat_map (late_line naming.now.bound.now naming.now.catalog.now naming.now.typed.now) late.now) result }
+        (flat_map (late_line naming.now.bound.now naming.now.catalog.now naming.now.typed.now)
+        late.now) result }
     ensures cause { HasCause (O.faults out.old) (O.faults out.new) result }
 {
     for conjunct in late {
@@ -193,10 +196,11 @@ fn put_plans<O: Sink>(
     put_pieces(batch, out, &end)
 }
 
-/// Writes the plans of a query: for each alternative `alternative K`, a line for each step of its plan, `late TEXT` for each
-/// conjunct that is looked at late, and `columns M`; at the end `alternatives N`. There is one plan for each alternative,
-/// and beside it the number of columns that its pipeline fills. It takes no memory. After `Failed` the sink took some front
-/// of that text.
+/// Writes the plans of a query: for each alternative `alternative K`, a line for each step of its
+/// plan, `late TEXT` for each conjunct that is looked at late, and `columns M`; at the end
+/// `alternatives N`. There is one plan for each alternative, and beside it the number of columns
+/// that its pipeline fills. It takes no memory. After `Failed` the sink took some front of that
+/// text.
 pub fn write_plan<O: Sink>(
     out: &mut O,
     graph: &Graph,

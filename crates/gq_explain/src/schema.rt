@@ -4,7 +4,8 @@ ghost use Rattle.std.specs.Prelude.{◌≡◌, ◌<◌, ◌++◌, codes, flat_ma
 ghost use Rattle.gq_io.specs.Causes.{HasCause};
 ghost use Rattle.gq_io.specs.Outside.{Writes};
 ghost use Rattle.gq_io.specs.Putting.{Puts};
-ghost use Rattle.gq_explain.specs.Schema.{field_text, kind_text, label_of, mult_text, node_line, node_lines};
+ghost use Rattle.gq_explain.specs.Schema.{field_text, kind_text, label_of, mult_text, node_line};
+ghost use Rattle.gq_explain.specs.Schema.{node_lines};
 ghost use Rattle.gq_explain.specs.Schema.{rel_line, rel_lines, schema_text};
 
 use crate::pieces::{Piece, put_pieces};
@@ -159,9 +160,9 @@ fn put_schema<O: Sink>(batch: &mut Batch, out: &mut O, graph: &Graph) -> Result<
     put_rel_lines(batch, out, graph)
 }
 
-/// Writes a line for each table of a graph, those of nodes first: `node LABEL ROWS` or `rel TYPE FROM TO MULT ROWS`, and
-/// then ` name:kind` for each property, as in the files' headers. It takes no memory. After `Failed` the sink took some
-/// front of that text.
+/// Writes a line for each table of a graph, those of nodes first: `node LABEL ROWS` or `rel TYPE
+/// FROM TO MULT ROWS`, and then ` name:kind` for each property, as in the files' headers. It takes
+/// no memory. After `Failed` the sink took some front of that text.
 pub fn write_schema<O: Sink>(out: &mut O, graph: &Graph) -> Result<(), Failed>
     ensures bytes { Writes (O.taken out.old) (O.taken out.new) (schema_text graph.now) result }
     ensures cause { HasCause (O.faults out.old) (O.faults out.new) result }

@@ -3,8 +3,10 @@
 ghost use Rattle.std.specs.Prelude.{◌≡◌, ◌++◌, codes, flat_map, slice_get};
 ghost use Rattle.gq_io.specs.Causes.{HasCause};
 ghost use Rattle.gq_io.specs.Putting.{Puts};
-ghost use Rattle.gq_explain.specs.Plans.{close_line, close_word, closing, deeper, extend_line, extend_word, keys_text};
-ghost use Rattle.gq_explain.specs.Plans.{differ_line, join_line, keep_line, next_key, no_loop_line, opening};
+ghost use Rattle.gq_explain.specs.Plans.{close_line, close_word, closing, deeper, extend_line};
+ghost use Rattle.gq_explain.specs.Plans.{extend_word, keys_text};
+ghost use Rattle.gq_explain.specs.Plans.{differ_line, join_line, keep_line, next_key, no_loop_line};
+ghost use Rattle.gq_explain.specs.Plans.{opening};
 ghost use Rattle.gq_explain.specs.Plans.{plan_lines, scan_line, step_lines};
 ghost use Rattle.gq_plan.specs.Steps.{plan_of, step_of};
 
@@ -169,7 +171,8 @@ fn put_other_keys<O: Sink>(
     keys: &[u32],
 ) -> Result<(), Failed>
     ensures bytes { Puts (O.taken out.old) (O.taken out.new) batch.old batch.new
-        (flat_map (next_key naming.now.bound.now naming.now.catalog.now naming.now.typed.now) keys.now) result }
+        (flat_map (next_key naming.now.bound.now naming.now.catalog.now naming.now.typed.now)
+        keys.now) result }
     ensures cause { HasCause (O.faults out.old) (O.faults out.new) result }
 {
     for key in keys {

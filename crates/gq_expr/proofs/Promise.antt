@@ -12,7 +12,7 @@ use Rattle.gq_base.specs.declared.Literal.TheVariants as literal
 use Rattle.gq_base.specs.declared.NodeId.{NodeId}
 use Rattle.gq_base.specs.declared.RelId.{RelId}
 use Rattle.gq_base.specs.declared.RelTable.{RelTable}
-use Rattle.gq_expr.specs.Kinds.{May, Sort, may, may_step, misfits, may_fault, safe, truth, all_of, type_may, test_may, field_kind, term_faults, tester_faults, literal_kinds, kinds_at, is_boolean, is_relationship}
+use Rattle.gq_expr.specs.Kinds.{May, Sort, may, may_step, misfits, may_fault, truth, type_may, test_may, field_kind, term_faults, tester_faults, literal_kinds, kinds_at, is_boolean, is_relationship}
 use Rattle.gq_expr.specs.Kinds as sort
 use Rattle.gq_expr.specs.Meaning.{meaning, meaning_step, and_then, logic_all, logic_chain, coalesce_all, compare_chain, test_chain, test_val}
 use Rattle.gq_expr.specs.Operators.{Outcome, of_truth, logic3, logic_vals, not_val, first_known, compare_vals, member_of, starts_vals, ends_vals, contains_vals, type_val}

@@ -4,8 +4,10 @@ ghost use Rattle.gq_base.specs.Plain.{Graph};
 ghost use Rattle.gq_base.specs.Values.{val, null};
 ghost use Rattle.gq_expr.specs.Operators.{outcome, type_val};
 ghost use Rattle.gq_expr.specs.Reading as reading;
-ghost use Rattle.gq_expr.specs.Reading.{Assignment, node_val, rel_val, node_property, rel_property, property_at, type_name};
-ghost use Rattle.gq_expr.specs.Meaning.{meaning, logic_all, coalesce_all, compare_chain, arith_chain, test_chain};
+ghost use Rattle.gq_expr.specs.Reading.{Assignment, node_val, rel_val, node_property, rel_property};
+ghost use Rattle.gq_expr.specs.Reading.{property_at, type_name};
+ghost use Rattle.gq_expr.specs.Meaning.{meaning, logic_all, coalesce_all, compare_chain};
+ghost use Rattle.gq_expr.specs.Meaning.{arith_chain, test_chain};
 ghost use Rattle.gq_expr.specs.Parts.{bound_with, tester_with};
 
 use crate::expr::{BoundArith, BoundCompare, BoundTester, Expr, Fault, LogicOp, Tester};
@@ -45,8 +47,8 @@ pub trait Reads {
         ensures { val result ≡ type_name (graph self.now) rel };
 }
 
-/// The value of an expression in a row, or the first fault met. Evaluation is strict, the left operand first. It
-/// takes no memory, and the value lives as long as the graph and the expression.
+/// The value of an expression in a row, or the first fault met. Evaluation is strict, the left
+/// operand first. It takes no memory, and the value lives as long as the graph and the expression.
 #[cycle(eval)]
 #[inline(always)]
 pub fn eval<'v, G: Reads, R: Assigned>(
@@ -164,7 +166,8 @@ fn eval_compares<'v, G: Reads, R: Assigned>(
     row: &R,
 ) -> Result<Value<'v>, Fault>
     ensures { let go = meaning (G.graph graph.now) (R.assignment row.now) in
-        outcome result ≡ compare_chain (Some true) (val first.entry) (map (bound_with go) terms.now) }
+        outcome result
+        ≡ compare_chain (Some true) (val first.entry) (map (bound_with go) terms.now) }
 {
     let mut before = first;
     let mut truth = Some(true);

@@ -3,7 +3,9 @@ ghost use Rattle.std.specs.Prelude.{◌≡◌, ◌<◌, ◌||◌, not, length, m
 ghost use Rattle.std.specs.List.{list_any};
 ghost use Rattle.gq_base.specs.Catalogs.{find_field};
 ghost use Rattle.gq_expr.specs.Kinds as rule;
-ghost use Rattle.gq_expr.specs.Kinds.{may, summary_of, both, field_kind, kinds_at, literal_kinds, safe, all_of, truth, misfits, test_may, term_faults, tester_faults};
+ghost use Rattle.gq_expr.specs.Kinds.{may, summary_of, both, field_kind, kinds_at, literal_kinds};
+ghost use Rattle.gq_expr.specs.Kinds.{safe, all_of, truth, misfits, test_may, term_faults};
+ghost use Rattle.gq_expr.specs.Kinds.{tester_faults};
 ghost use Rattle.gq_expr.specs.Parts.{bound_with, tester_with};
 ghost use Rattle.gq_expr.specs.Safety.{KindsPromise};
 
@@ -31,17 +33,18 @@ struct Summary {
     relationship: bool,
 }
 
-/// Whether a condition may fault, or have another value than true, false and null, as far as the kinds tell. It may
-/// where it has a sign or an operator on integers, where an operand of a logical operator may be no boolean, where
-/// an argument of `type` may be no relationship, and where it may itself be no boolean. Null fits everywhere.
+/// Whether a condition may fault, or have another value than true, false and null, as far as the
+/// kinds tell. It may where it has a sign or an operator on integers, where an operand of a logical
+/// operator may be no boolean, where an argument of `type` may be no relationship, and where it may
+/// itself be no boolean. Null fits everywhere.
 pub fn can_fault(expr: &Expr, kinds: &Kinds) -> bool
     ensures { result ≡ rule.can_fault kinds.now expr.now }
 {
     misfits(summarize(expr, kinds))
 }
 
-/// A law for the crates above: a condition that cannot fault is true, false or null in every graph, under each
-/// assignment that fits the kinds. It does nothing.
+/// A law for the crates above: a condition that cannot fault is true, false or null in every graph,
+/// under each assignment that fits the kinds. It does nothing.
 #[tactic(auto, using(crate::proofs::Promise::kinds_promise))]
 pub fn kinds_keep_their_promise()
     ensures { KindsPromise }
@@ -128,7 +131,8 @@ fn some_term_faults(terms: &[BoundCompare], kinds: &Kinds) -> bool
 
 #[cycle(summarize)]
 fn summary_of_tests(first: Summary, testers: &[BoundTester], kinds: &Kinds) -> Summary
-    ensures { (m : _) → first ≡ summary_of m → result ≡ summary_of (test_may m (map (tester_with (may kinds.now)) testers.now)) }
+    ensures { (m : _) → first ≡ summary_of m
+        → result ≡ summary_of (test_may m (map (tester_with (may kinds.now)) testers.now)) }
 {
     match testers {
         [] => first,

@@ -1,4 +1,6 @@
-//! Bound expressions of openCypher: what they mean in a graph, and their evaluation.
+//! Bound expressions of openCypher: what they mean in a graph, and their evaluation, which answers
+//! that value or the first fault. The crate stands on the values and operators of `gq_base`, and on
+//! `memchr`, which finds a text in another.
 #![tactic(auto)]
 
 mod evaluate;

@@ -1,7 +1,10 @@
 //! The operators at values: comparisons, tests and integers.
 ghost use Rattle.std.specs.Prelude.{◌≡◌};
 ghost use Rattle.gq_base.specs.Values.{val, literal_val};
-ghost use Rattle.gq_expr.specs.Operators.{outcome, compare_vals, is_null_val, member_of, starts_vals, ends_vals, contains_vals, occurs, arith_vals, int_arith, fitting_or_overflow, negate_val, plus_val, first_known};
+ghost use Rattle.gq_expr.specs.Operators.{outcome, compare_vals, is_null_val, member_of};
+ghost use Rattle.gq_expr.specs.Operators.{starts_vals, ends_vals, contains_vals, occurs};
+ghost use Rattle.gq_expr.specs.Operators.{arith_vals, int_arith, fitting_or_overflow, negate_val};
+ghost use Rattle.gq_expr.specs.Operators.{plus_val, first_known};
 
 use crate::expr::Fault;
 use gq_base::{ArithOp, CompareOp, Literal, Value, equal3, less3, not3, or3};

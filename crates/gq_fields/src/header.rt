@@ -3,7 +3,8 @@ ghost use Rattle.std.specs.Prelude.{◌≡◌, ◌==◌, ◌<◌, length, positi
 ghost use Rattle.std.specs.List.{after_first, before_first};
 ghost use Rattle.std.specs.Option.{option_copied};
 ghost use Rattle.gq_fields.specs.Fields.{field_of, kind_of};
-ghost use Rattle.gq_fields.specs.Headers.{Answers, after_ends, are_ends, form_of, has_key, header_of, properties_of};
+ghost use Rattle.gq_fields.specs.Headers.{Answers, after_ends, are_ends, form_of, has_key};
+ghost use Rattle.gq_fields.specs.Headers.{header_of, properties_of};
 ghost use Rattle.gq_base.specs.Valid.{same_name};
 ghost use Rattle.gq_base.specs.Lists.{all_distinct, each};
 ghost use Rattle.gq_fields.specs.declared.header.HeaderRefusal.TheVariants as refusal;
@@ -45,10 +46,10 @@ impl From<Memory> for HeaderRefusal {
 
 /// The properties that a header names, of which there are at most 64.
 ///
-/// In a file of nodes each field is `name:kind`, the names are distinct plain names, and there is a first field, the
-/// key, which is no `bool`. In a file of relationships the fields `from` and `to` come first. Any number of such
-/// properties follows them, of any kinds; they may be called `from` and `to` too. A record that is `Bad` is never
-/// `TooMany`. It takes n log n steps for n fields.
+/// In a file of nodes each field is `name:kind`, the names are distinct plain names, and there is a
+/// first field, the key, which is no `bool`. In a file of relationships the fields `from` and `to`
+/// come first. Any number of such properties follows them, of any kinds; they may be called `from`
+/// and `to` too. A record that is `Bad` is never `TooMany`. It takes n log n steps for n fields.
 pub fn read_header(
     alloc: Global,
     record_fields: &List<Bytes>,

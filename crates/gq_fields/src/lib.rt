@@ -1,4 +1,5 @@
-//! What the fields of a graph's CSV files spell: the header of a table, and the values of its records.
+//! What the fields of a graph's CSV files spell: the header of a table, and the values of its
+//! records.
 #![tactic(auto)]
 
 mod field;

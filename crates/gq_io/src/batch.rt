@@ -7,7 +7,8 @@ use std::marker::Model;
 
 const ROOM: usize = 4096;
 
-/// Bytes that were put and that no sink took yet, at most 4,096. A dropped batch writes nothing: flush it first.
+/// Bytes that were put and that no sink took yet, at most 4,096. A dropped batch writes nothing:
+/// flush it first.
 pub struct Batch {
     bytes: [u8; 4096],
     filled: usize,
@@ -81,7 +82,8 @@ impl Batch {
 
     /// Puts a piece behind what waits. After `Failed` nothing is said of what waits.
     pub fn put<O: Sink>(&mut self, out: &mut O, piece: &[u8]) -> Result<(), Failed>
-        ensures bytes { Puts (O.taken out.old) (O.taken out.new) self.old self.new piece.now result }
+        ensures bytes { Puts (O.taken out.old) (O.taken out.new)
+            self.old self.new piece.now result }
         ensures cause { HasCause (O.faults out.old) (O.faults out.new) result }
     {
         if piece.len() <= ROOM - self.len() {

@@ -1,4 +1,5 @@
-//! Files, a source and a sink as traits whose clauses tell what moved, over memory and over the system.
+//! Files, a source and a sink as traits whose clauses tell what moved, over memory and over the
+//! system. A call fails only where its count of faults rises. The crate stands on `gq_base` alone.
 #![tactic(auto)]
 
 mod batch;

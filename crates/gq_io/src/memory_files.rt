@@ -1,6 +1,6 @@
 //! Files in memory.
 
-ghost use Rattle.std.specs.Prelude.{◌≡◌, ℕ, ◌≤◌, length, Some, [], IfOk, position};
+ghost use Rattle.std.specs.Prelude.{◌≡◌, ◌≤◌, length, Some, IfOk, position};
 ghost use Rattle.std.specs.Io.{ReadsAtMost};
 ghost use Rattle.std.specs.Io.KnownBytes.{ReadConsumes};
 ghost use Rattle.std.specs.Str.{bytes_eq};
@@ -47,7 +47,8 @@ impl Model for SureFiles {
 impl SureFiles {
     ghost use Rattle.gq_io.specs.InMemory.{new_shelf};
 
-    /// Files by name and, at the same place, their bytes; none is chosen. Of two files with one name the first counts.
+    /// Files by name and, at the same place, their bytes; none is chosen. Of two files with one
+    /// name the first counts.
     pub fn new(names: List<Text>, contents: List<Bytes>) -> SureFiles
         requires { length names ≡ length contents }
         ensures { result ≡ new_shelf names contents }
@@ -114,8 +115,9 @@ impl Model for MemoryFiles {
 impl MemoryFiles {
     ghost use Rattle.gq_io.specs.InMemory.{new_shelf, no_calls};
 
-    /// Files by name and, at the same place, their bytes; none is chosen. Of two files with one name the first counts.
-    /// The calls with these numbers fail, counted from 0 over `select` and `read`.
+    /// Files by name and, at the same place, their bytes; none is chosen. Of two files with one
+    /// name the first counts. The calls with these numbers fail, counted from 0 over `select` and
+    /// `read`.
     pub fn new(names: List<Text>, contents: List<Bytes>, failing: List<u64>) -> MemoryFiles
         requires { length names ≡ length contents }
         ensures { result ≡ record { shelf = new_shelf names contents; calls = no_calls failing } }
@@ -142,7 +144,8 @@ impl Files for MemoryFiles {
 
     fn select(&mut self, name: &str) -> Result<bool, Failed>
         ensures held { Some (files_of self.new.shelf) ≡ Some (files_of self.old.shelf) }
-        ensures chosen { let held = Some (files_of self.old.shelf) in IfOk result (Selects held name.now (Some self.new.shelf.left)) }
+        ensures chosen { let held = Some (files_of self.old.shelf) in
+            IfOk result (Selects held name.now (Some self.new.shelf.left)) }
         ensures cause { HasCause self.old.calls.faults self.new.calls.faults result }
         ensures miss { HasMiss self.old.shelf.misses self.new.shelf.misses result }
         ensures call { IsCall self.old.calls self.new.calls result }
@@ -154,7 +157,8 @@ impl Files for MemoryFiles {
     fn read(&mut self, into: &mut [u8]) -> Result<usize, Failed>
         ensures held { Some (files_of self.new.shelf) ≡ Some (files_of self.old.shelf) }
         ensures bound { ReadsAtMost result into.new }
-        ensures bytes { ReadConsumes (Some self.old.shelf.left) (Some self.new.shelf.left) result into.new }
+        ensures bytes { ReadConsumes (Some self.old.shelf.left) (Some self.new.shelf.left)
+            result into.new }
         ensures cause { HasCause self.old.calls.faults self.new.calls.faults result }
         ensures misses { self.old.shelf.misses ≤ self.new.shelf.misses }
         ensures call { IsCall self.old.calls self.new.calls result }

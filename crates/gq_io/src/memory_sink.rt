@@ -1,6 +1,6 @@
 //! Output in memory.
 
-ghost use Rattle.std.specs.Prelude.{◌≡◌, ℕ, ◌<◌, ◌≤◌, length, Some, None, IfOk};
+ghost use Rattle.std.specs.Prelude.{◌≡◌, ◌<◌, ◌≤◌, length, Some, None, IfOk};
 ghost use Rattle.std.specs.Io.KnownBytes.{WriteAppends};
 
 use crate::copying::copy_to;

@@ -1,6 +1,6 @@
 //! Input in memory.
 
-ghost use Rattle.std.specs.Prelude.{◌≡◌, ℕ, ◌<◌, ◌≤◌, Some, IfOk, IsOk};
+ghost use Rattle.std.specs.Prelude.{◌≡◌, ◌<◌, ◌≤◌, Some, IfOk, IsOk};
 ghost use Rattle.std.specs.Io.{ReadsAtMost};
 ghost use Rattle.std.specs.Io.KnownBytes.{ReadConsumes};
 
@@ -81,7 +81,8 @@ impl Model for MemorySource {
 impl MemorySource {
     ghost use Rattle.gq_io.specs.InMemory.{new_feed, no_calls};
 
-    /// These bytes, at most `piece` of them for each read. The reads with these numbers, counted from 0, fail.
+    /// These bytes, at most `piece` of them for each read. The reads with these numbers, counted
+    /// from 0, fail.
     pub fn new(bytes: Bytes, piece: u32, failing: List<u64>) -> MemorySource
         requires { 0 < piece }
         ensures { result ≡ record { feed = new_feed bytes piece; calls = no_calls failing } }
@@ -103,7 +104,8 @@ impl Source for MemorySource {
 
     fn read(&mut self, into: &mut [u8]) -> Result<usize, Failed>
         ensures bound { ReadsAtMost result into.new }
-        ensures bytes { ReadConsumes (Some self.old.feed.left) (Some self.new.feed.left) result into.new }
+        ensures bytes { ReadConsumes (Some self.old.feed.left) (Some self.new.feed.left)
+            result into.new }
         ensures cause { HasCause self.old.calls.faults self.new.calls.faults result }
         ensures piece { IfOk result (λ n. n ≤ self.old.feed.piece) }
         ensures same { self.new.feed.piece ≡ self.old.feed.piece }

@@ -1,6 +1,6 @@
 //! The read of all that is left, up to a limit.
 
-ghost use Rattle.std.specs.Prelude.{◌≡◌, ℕ, ◌+◌, ◌<◌, ◌≤◌, IfSome, IfOk, OnOk, take, vec_len};
+ghost use Rattle.std.specs.Prelude.{◌≡◌, ◌+◌, ◌<◌, ◌≤◌, IfSome, IfOk, OnOk, take, vec_len};
 ghost use Rattle.gq_io.specs.Reading.{AnswersFor, ReadsWithin, FailsByFault};
 ghost use Rattle.gq_io.specs.declared.reading.ReadStop.TheVariants as stop;
 

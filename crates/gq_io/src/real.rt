@@ -1,6 +1,6 @@
 //! The system's files, input and output behind the traits: the trusted edge.
 
-ghost use Rattle.std.specs.Prelude.{◌≡◌, ℕ, ◌≤◌, None};
+ghost use Rattle.std.specs.Prelude.{◌≡◌, None};
 
 use crate::{Failed, Files, Sink, Source};
 use std::io::{ErrorKind, Read, Write};

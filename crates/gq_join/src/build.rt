@@ -1,6 +1,8 @@
 //! A build that grows, row by row.
-ghost use Rattle.std.specs.Prelude.{◌≡◌, ◌∷◌, [], ◌++◌, ◌+◌, ◌*◌, ◌^◌, ◌<◌, ◌≤◌, true, map, length, slice_index, All, OnOk, IfOk, IfErr};
-ghost use Rattle.gq_join.specs.Kept.{place_of, values_of, empty_build, with_row, is_refusal, sealed_of};
+ghost use Rattle.std.specs.Prelude.{◌≡◌, ◌++◌, ◌^◌, ◌<◌, true, length};
+ghost use Rattle.std.specs.Prelude.{All, OnOk, IfOk, IfErr};
+ghost use Rattle.gq_join.specs.Kept.{place_of, values_of, empty_build, with_row, is_refusal};
+ghost use Rattle.gq_join.specs.Kept.{sealed_of};
 
 use crate::index::index;
 use crate::order::Table;
@@ -22,8 +24,9 @@ pub enum JoinRefusal {
     Memory,
 }
 
-/// Rows that are collected for a join, of which it keeps the numbers of some variables. Its keys are node variables that it
-/// keeps. It is seen as its variables, its rows in order of arrival, and whether it may still be used.
+/// Rows that are collected for a join, of which it keeps the numbers of some variables. Its keys
+/// are node variables that it keeps. It is seen as its variables, its rows in order of arrival, and
+/// whether it may still be used.
 #[derive(Drop)]
 pub struct Build {
     alloc: Global,
@@ -50,8 +53,8 @@ impl Model for Build {
 }
 
 impl Build {
-    /// A build without rows, which keeps these node variables and relationship variables of at most so many rows, and whose
-    /// rows are to be found by these keys.
+    /// A build without rows, which keeps these node variables and relationship variables of at most
+    /// so many rows, and whose rows are to be found by these keys.
     pub fn new(
         alloc: Global,
         keys: List<u32>,
@@ -77,7 +80,8 @@ impl Build {
         }
     }
 
-    /// Takes what it keeps of a row, if there is room. After a refusal the build may only be dropped.
+    /// Takes what it keeps of a row, if there is room. After a refusal the build may only be
+    /// dropped.
     pub fn push_row(&mut self, row: &Assignment) -> Result<(), JoinRefusal>
         requires usable { self.old.usable ≡ true }
         requires nodes { All (λ v. v < length row.now.nodes) self.old.nodes }
@@ -109,7 +113,8 @@ impl Build {
         Ok(())
     }
 
-    /// The same rows, to be found by their keys. `Memory` comes also where a key has row 4,294,967,295, of which there is none.
+    /// The same rows, to be found by their keys. `Memory` comes also where a key has row
+    /// 4,294,967,295, of which there is none.
     pub fn seal(self) -> Result<Sealed, Memory>
         requires { self.usable ≡ true }
         ensures { IfOk result (λ s. s ≡ sealed_of self) }

@@ -1,6 +1,7 @@
 //! Sealed builds: rows that are found by their keys.
-ghost use Rattle.std.specs.Prelude.{◌≡◌, ◌<◌, ◌^◌, map, length, slice_index, slice_index_or, All};
-ghost use Rattle.gq_join.specs.Kept.{place_of, values_of, matches, matches_of, node_in, rel_in, column_at};
+ghost use Rattle.std.specs.Prelude.{◌≡◌, ◌<◌, ◌^◌, length, slice_index_or, All};
+ghost use Rattle.gq_join.specs.Kept.{place_of, values_of, matches, matches_of, node_in, rel_in};
+ghost use Rattle.gq_join.specs.Kept.{column_at};
 ghost use Rattle.gq_join.specs.Order.{Ascends, at};
 
 use crate::order::{Table, place_of};
@@ -9,7 +10,8 @@ use gq_base::List;
 use gq_plan::Assignment;
 use std::marker::Model;
 
-/// The rows that were pushed to a build, by number in order of arrival, which are found by their keys.
+/// The rows that were pushed to a build, by number in order of arrival, which are found by their
+/// keys.
 #[derive(Drop)]
 pub struct Sealed {
     pub(crate) keys: List<u32>,
@@ -35,7 +37,8 @@ impl Model for Sealed {
 }
 
 impl Sealed {
-    /// The rows with a key, one number for each key variable, in order of arrival. It takes no memory.
+    /// The rows with a key, one number for each key variable, in order of arrival. It takes no
+    /// memory.
     pub fn matches(&self, key: &[u32]) -> &[u32]
         requires { length key.now ≡ length self.now.keys }
         ensures value { result.now ≡ matches self.now key.now }
@@ -53,7 +56,8 @@ impl Sealed {
         rows
     }
 
-    /// The rows that have the same nodes at the keys as an assignment, in order of arrival. It takes no memory.
+    /// The rows that have the same nodes at the keys as an assignment, in order of arrival. It
+    /// takes no memory.
     pub fn matches_of(&self, row: &Assignment) -> &[u32]
         requires { All (λ v. v < length row.now.nodes) self.now.keys }
         ensures value { result.now ≡ matches_of self.now row.now }

@@ -12,7 +12,8 @@ use gq_bits::{Marks, VECTOR};
 pub fn keep_const(op: LaneOp, cells: &[i64], constant: i64, known: &Marks, marks: &mut Marks)
     requires fits { length cells.now ≤ VECTOR }
     requires within { (k : ℕ) → length cells.now ≤ k → is_marked marks.old k ≡ false }
-    ensures { (k : ℕ) → is_marked marks.new k ≡ (is_marked marks.old k && (is_marked known.now k && compares op (cell cells.now k) constant)) }
+    ensures { (k : ℕ) → is_marked marks.new k ≡ (is_marked marks.old k
+        && (is_marked known.now k && compares op (cell cells.now k) constant)) }
 {
     for index in 0..cells.len().div_ceil(64) {
         let mask = const_mask(op, part_of(cells, index), constant);
@@ -20,12 +21,14 @@ pub fn keep_const(op: LaneOp, cells: &[i64], constant: i64, known: &Marks, marks
     }
 }
 
-/// Keeps the marked places that are known and whose cell on the left compares so with the one on the right.
+/// Keeps the marked places that are known and whose cell on the left compares so with the one on
+/// the right.
 pub fn keep_columns(op: LaneOp, left: &[i64], right: &[i64], known: &Marks, marks: &mut Marks)
     requires one_length { length right.now ≡ length left.now }
     requires fits { length left.now ≤ VECTOR }
     requires within { (k : ℕ) → length left.now ≤ k → is_marked marks.old k ≡ false }
-    ensures { (k : ℕ) → is_marked marks.new k ≡ (is_marked marks.old k && (is_marked known.now k && compares op (cell left.now k) (cell right.now k))) }
+    ensures { (k : ℕ) → is_marked marks.new k ≡ (is_marked marks.old k
+        && (is_marked known.now k && compares op (cell left.now k) (cell right.now k))) }
 {
     for index in 0..left.len().div_ceil(64) {
         let left_part = part_of(left, index);
@@ -39,7 +42,8 @@ pub fn keep_columns(op: LaneOp, left: &[i64], right: &[i64], known: &Marks, mark
 pub fn keep_range(cells: &[i64], low: i64, high: i64, known: &Marks, marks: &mut Marks)
     requires fits { length cells.now ≤ VECTOR }
     requires within { (k : ℕ) → length cells.now ≤ k → is_marked marks.old k ≡ false }
-    ensures { (k : ℕ) → is_marked marks.new k ≡ (is_marked marks.old k && (is_marked known.now k && is_between low high (cell cells.now k))) }
+    ensures { (k : ℕ) → is_marked marks.new k ≡ (is_marked marks.old k
+        && (is_marked known.now k && is_between low high (cell cells.now k))) }
 {
     for index in 0..cells.len().div_ceil(64) {
         let part = part_of(cells, index);

@@ -11,7 +11,8 @@ use gq_bits::{Marks, VECTOR};
 pub fn keep_equal_id(ids: &[u32], id: u32, marks: &mut Marks)
     requires fits { length ids.now ≤ VECTOR }
     requires within { (k : ℕ) → length ids.now ≤ k → is_marked marks.old k ≡ false }
-    ensures { (k : ℕ) → is_marked marks.new k ≡ (is_marked marks.old k && (slice_index ids.now k == id)) }
+    ensures { (k : ℕ) → is_marked marks.new k
+        ≡ (is_marked marks.old k && (slice_index ids.now k == id)) }
 {
     for index in 0..ids.len().div_ceil(64) {
         let mask = id_mask(part_of(ids, index), id);
@@ -23,7 +24,8 @@ pub fn keep_equal_id(ids: &[u32], id: u32, marks: &mut Marks)
 pub fn keep_other_id(ids: &[u32], id: u32, marks: &mut Marks)
     requires fits { length ids.now ≤ VECTOR }
     requires within { (k : ℕ) → length ids.now ≤ k → is_marked marks.old k ≡ false }
-    ensures { (k : ℕ) → is_marked marks.new k ≡ (is_marked marks.old k && not (slice_index ids.now k == id)) }
+    ensures { (k : ℕ) → is_marked marks.new k
+        ≡ (is_marked marks.old k && not (slice_index ids.now k == id)) }
 {
     for index in 0..ids.len().div_ceil(64) {
         let mask = id_mask(part_of(ids, index), id);

@@ -1,6 +1,7 @@
 //! Comparisons of 64 cells or ids at once, as masks with one bit for each place.
 
-ghost use Rattle.std.specs.Prelude.{◌≡◌, ◌==◌, ℕ, ◌<◌, ◌≤◌, length, pos, slice_index, slice_index_or, FitsSigned};
+ghost use Rattle.std.specs.Prelude.{◌≡◌, ◌==◌, ℕ, ◌<◌, ◌≤◌, length, slice_index};
+ghost use Rattle.std.specs.Prelude.{FitsSigned};
 ghost use Rattle.std.specs.Int.{w64, bit_at};
 ghost use Rattle.gq_lanes.specs.Tests.{compares, cell};
 
@@ -20,7 +21,8 @@ pub enum LaneOp {
 /// The places of at most 64 cells that compare so with the constant.
 pub(crate) fn const_mask(op: LaneOp, cells: &[i64], constant: i64) -> u64
     requires { length cells.now ≤ 64 }
-    ensures { (i : ℕ) → i < length cells.now → (bit_at result i == 1) ≡ compares op (cell cells.now i) constant }
+    ensures { (i : ℕ) → i < length cells.now
+        → (bit_at result i == 1) ≡ compares op (cell cells.now i) constant }
 {
     if cells.len() == 64 {
         const_lanes(op, cells, constant)
@@ -33,7 +35,8 @@ pub(crate) fn const_mask(op: LaneOp, cells: &[i64], constant: i64) -> u64
 pub(crate) fn columns_mask(op: LaneOp, left: &[i64], right: &[i64]) -> u64
     requires one_length { length right.now ≡ length left.now }
     requires few { length left.now ≤ 64 }
-    ensures { (i : ℕ) → i < length left.now → (bit_at result i == 1) ≡ compares op (cell left.now i) (cell right.now i) }
+    ensures { (i : ℕ) → i < length left.now
+        → (bit_at result i == 1) ≡ compares op (cell left.now i) (cell right.now i) }
 {
     if left.len() == 64 {
         columns_lanes(op, left, right)
@@ -45,7 +48,8 @@ pub(crate) fn columns_mask(op: LaneOp, left: &[i64], right: &[i64]) -> u64
 /// The places of at most 64 ids that equal `id`.
 pub(crate) fn id_mask(ids: &[u32], id: u32) -> u64
     requires { length ids.now ≤ 64 }
-    ensures { (i : ℕ) → i < length ids.now → (bit_at result i == 1) ≡ (slice_index ids.now i == id) }
+    ensures { (i : ℕ) → i < length ids.now
+        → (bit_at result i == 1) ≡ (slice_index ids.now i == id) }
 {
     if ids.len() == 64 {
         id_lanes(ids, id)
@@ -76,7 +80,8 @@ fn const_lanes(op: LaneOp, cells: &[i64], constant: i64) -> u64
 fn columns_lanes(op: LaneOp, left: &[i64], right: &[i64]) -> u64
     requires left_whole { length left.now ≡ 64 }
     requires right_whole { length right.now ≡ 64 }
-    ensures { (i : ℕ) → i < 64 → (bit_at result i == 1) ≡ compares op (cell left.now i) (cell right.now i) }
+    ensures { (i : ℕ) → i < 64
+        → (bit_at result i == 1) ≡ compares op (cell left.now i) (cell right.now i) }
 {
     in_range(left);
     in_range(right);
@@ -111,7 +116,8 @@ fn padded(cells: &[i64]) -> [i64; 64]
     padded
 }
 
-// Each cell is in its type's range: a proof learns it where a cell is read. The loop does nothing, and the compiler drops it.
+// Each cell is in its type's range: a proof learns it where a cell is read. The loop does nothing,
+// and the compiler drops it.
 fn in_range(cells: &[i64])
     ensures { (k : ℕ) → k < length cells.now → FitsSigned w64 (cell cells.now k) }
 {

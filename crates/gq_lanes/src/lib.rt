@@ -1,4 +1,5 @@
-//! Kernels that keep the marked places of a vector whose cells or ids pass a test, 64 places at a time.
+//! Kernels that keep the marked places of a vector whose cells or ids pass a test, 64 places at a
+//! time.
 #![tactic(auto)]
 
 mod columns;

@@ -1,57 +1,66 @@
-//! The laws that the alternatives of a bound query, and plans that cover them, give its matches for which all conjuncts
-//! are true, and the outcomes of all its matches.
-ghost use Rattle.gq_law_answers.specs.Answered.{AllowedOutcomes, AlternativesPartOutcomes, BoundAllowsAnswers, BoundPlansMeanAnswers, EachPlanMeansLateOutcomes, EachPlanMeansMatches, EachPlanMeansOutcomes, LateOutcomes, PlansMeanOutcomes};
+//! The laws that the alternatives of a bound query, and plans that cover them, give its matches for
+//! which all conjuncts are true, and the outcomes of all its matches.
+ghost use Rattle.gq_law_answers.specs.Answered.{AllowedOutcomes, AlternativesPartOutcomes};
+ghost use Rattle.gq_law_answers.specs.Answered.{BoundAllowsAnswers, BoundPlansMeanAnswers};
+ghost use Rattle.gq_law_answers.specs.Answered.{EachPlanMeansLateOutcomes, EachPlanMeansMatches};
+ghost use Rattle.gq_law_answers.specs.Answered.{EachPlanMeansOutcomes, LateOutcomes};
+ghost use Rattle.gq_law_answers.specs.Answered.{PlansMeanOutcomes};
 
-/// A law for the crates above: in a valid graph, what the alternatives of a bound query allow, without what their late
-/// conjuncts drop, are its matches for which all conjuncts are true, each once. It does nothing.
+/// A law for the crates above: in a valid graph, what the alternatives of a bound query allow,
+/// without what their late conjuncts drop, are its matches for which all conjuncts are true, each
+/// once. It does nothing.
 pub fn bound_allows_answers()
     ensures { BoundAllowsAnswers }
 {}
 
-/// A law for the crates above: in a valid graph, one covering plan for each alternative of a bound query makes its matches
-/// for which all conjuncts are true, each once, where no conjunct is late. It does nothing.
+/// A law for the crates above: in a valid graph, one covering plan for each alternative of a bound
+/// query makes its matches for which all conjuncts are true, each once, where no conjunct is late.
+/// It does nothing.
 pub fn bound_plans_mean_answers()
     ensures { BoundPlansMeanAnswers }
 {}
 
-/// A law for the crates above: in a valid graph, a plan that covers an alternative of a bound query makes the query's
-/// matches that lie in the alternative and make its tests true, each once. It does nothing.
+/// A law for the crates above: in a valid graph, a plan that covers an alternative of a bound query
+/// makes the query's matches that lie in the alternative and make its tests true, each once. It
+/// does nothing.
 pub fn each_plan_means_matches()
     ensures { EachPlanMeansMatches }
 {}
 
-/// A law for the crates above: in a valid graph, the outcomes of what a plan makes that covers an alternative of a bound
-/// query are those of the query's matches that lie in the alternative, each as often. It does nothing.
+/// A law for the crates above: in a valid graph, the outcomes of what a plan makes that covers an
+/// alternative of a bound query are those of the query's matches that lie in the alternative, each
+/// as often. It does nothing.
 pub fn each_plan_means_outcomes()
     ensures { EachPlanMeansOutcomes }
 {}
 
-/// A law for the crates above: where an assignment makes an alternative's tests true, its outcome hangs on the late
-/// conjuncts alone. It does nothing.
+/// A law for the crates above: where an assignment makes an alternative's tests true, its outcome
+/// hangs on the late conjuncts alone. It does nothing.
 pub fn late_conjuncts_tell_the_outcome()
     ensures { LateOutcomes }
 {}
 
-/// A law for the crates above: so, of what a plan makes that covers an alternative of a bound query, only the late
-/// conjuncts need to be looked at. It does nothing.
+/// A law for the crates above: so, of what a plan makes that covers an alternative of a bound
+/// query, only the late conjuncts need to be looked at. It does nothing.
 pub fn each_plan_means_late_outcomes()
     ensures { EachPlanMeansLateOutcomes }
 {}
 
-/// A law for the crates above: in a valid graph, the outcomes of the matches that lie in the alternatives of a bound
-/// query, alternative by alternative, are those of its matches, each as often. It does nothing.
+/// A law for the crates above: in a valid graph, the outcomes of the matches that lie in the
+/// alternatives of a bound query, alternative by alternative, are those of its matches, each as
+/// often. It does nothing.
 pub fn alternatives_part_outcomes()
     ensures { AlternativesPartOutcomes }
 {}
 
-/// A law for the crates above: in a valid graph, the outcomes of what the alternatives of a bound query allow are those of
-/// its matches, each as often. It does nothing.
+/// A law for the crates above: in a valid graph, the outcomes of what the alternatives of a bound
+/// query allow are those of its matches, each as often. It does nothing.
 pub fn allowed_outcomes_are_of_matches()
     ensures { AllowedOutcomes }
 {}
 
-/// A law for the crates above: in a valid graph, the outcomes of what covering plans make, one for each alternative of a
-/// bound query, are those of its matches, each as often. It does nothing.
+/// A law for the crates above: in a valid graph, the outcomes of what covering plans make, one for
+/// each alternative of a bound query, are those of its matches, each as often. It does nothing.
 pub fn plans_mean_outcomes()
     ensures { PlansMeanOutcomes }
 {}

@@ -1,4 +1,5 @@
-//! The laws that a plan which covers an alternative makes what the alternative allows, and that no test of it faults.
+//! The laws that a plan which covers an alternative makes what the alternative allows, and that no
+//! test of it faults.
 #![tactic(auto)]
 
 mod law;

@@ -1,6 +1,6 @@
 //! The lexeme that a text begins with.
 
-ghost use Rattle.std.specs.Prelude.{◌≡◌, ◌+◌, ◌<◌, ◌≤◌, [], length, IfOk, IfSome};
+ghost use Rattle.std.specs.Prelude.{◌≡◌, ◌+◌, ◌<◌, ◌≤◌, length, IfOk, IfSome};
 ghost use Rattle.gq_lexer.specs.Lexemes.{quoted_at, string_at, slash_at, word_at, lexeme};
 
 use crate::number::read_number;
@@ -10,7 +10,7 @@ use crate::token::{Sign, TokenKind};
 use gq_base::{Memory, is_word_start};
 use std::alloc::Global;
 
-/// A lexeme: how many characters it takes, and the token that it is; none for white space and comments.
+/// A lexeme: how many characters it takes, and its token; none for white space and comments.
 #[derive(Drop)]
 pub(crate) struct Lexeme {
     pub(crate) size: usize,
@@ -32,7 +32,8 @@ fn read_word(alloc: Global, rest: &[char]) -> Result<Option<Lexeme>, Memory>
 // What stands in backquotes, behind the first.
 fn read_quoted(alloc: Global, behind: &[char]) -> Result<Option<Lexeme>, Memory>
     ensures value { IfOk result (λ r. r ≡ quoted_at behind.now) }
-    ensures size { IfOk result (λ r. IfSome r (λ l. (0 < l.size) × (l.size ≤ length behind.now + 1))) }
+    ensures size { IfOk result (λ r.
+        IfSome r (λ l. (0 < l.size) × (l.size ≤ length behind.now + 1))) }
 {
     let name = spell(alloc, Form::Quoted, behind)?;
     if name.size == 0 || behind.get(name.size) != Some(&'`') {
@@ -47,7 +48,8 @@ fn read_quoted(alloc: Global, behind: &[char]) -> Result<Option<Lexeme>, Memory>
 // A string, behind its first quote.
 fn read_string(alloc: Global, quote: char, behind: &[char]) -> Result<Option<Lexeme>, Memory>
     ensures value { IfOk result (λ r. r ≡ string_at quote behind.now) }
-    ensures size { IfOk result (λ r. IfSome r (λ l. (0 < l.size) × (l.size ≤ length behind.now + 1))) }
+    ensures size { IfOk result (λ r.
+        IfSome r (λ l. (0 < l.size) × (l.size ≤ length behind.now + 1))) }
 {
     let value = spell(alloc, Form::Str(quote), behind)?;
     if behind.get(value.size) != Some(&quote) {

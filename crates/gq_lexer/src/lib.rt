@@ -1,4 +1,5 @@
-//! The tokens of a query's text.
+//! The tokens of a query's text, each with its place, or the place where the text fails, exactly as
+//! their definition says. The crate stands on `gq_base` alone.
 #![tactic(auto)]
 
 mod lexeme;

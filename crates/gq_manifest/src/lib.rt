@@ -1,4 +1,5 @@
-//! The manifest of a graph: which tables it has, and the file of each.
+//! The manifest of a graph: which tables it has, in which order, and the file of each, or its first
+//! refused line and why. The crate stands on `gq_base` alone.
 #![tactic(auto)]
 
 mod cut;

@@ -1,5 +1,5 @@
 //! The reading of a manifest: its lines in order, up to the first that is refused.
-ghost use Rattle.std.specs.Prelude.{◌≡◌, ◌^◌, ◌<◌, length, IfOk};
+ghost use Rattle.std.specs.Prelude.{◌^◌, ◌<◌, length, IfOk};
 ghost use Rattle.gq_manifest.specs.Answers.{Adds, Reads};
 ghost use Rattle.gq_manifest.specs.Manifests.{IsWhole, manifest_of, take_line};
 

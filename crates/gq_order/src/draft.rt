@@ -1,5 +1,6 @@
 //! A plan as far as it has come, with the variables that it binds.
-ghost use Rattle.std.specs.Prelude.{◌≡◌, ◌<◌, ◌≤◌, ◌++◌, ◌&&◌, length, slice_get, map, filter, IfOk};
+ghost use Rattle.std.specs.Prelude.{◌≡◌, ◌<◌, ◌≤◌, ◌&&◌, length, slice_get, filter};
+ghost use Rattle.std.specs.Prelude.{IfOk};
 ghost use Rattle.std.specs.List.{range_with_len};
 ghost use Rattle.gq_order.specs.Drafts.{draft_of, other_of};
 ghost use Rattle.gq_order.specs.Given as plans;
@@ -36,7 +37,8 @@ impl Draft {
         }
     }
 
-    /// A draft that begins at a node variable, beside another plan that may have placed tests already.
+    /// A draft that begins at a node variable, beside another plan that may have placed tests
+    /// already.
     pub fn begun(
         alloc: Global,
         node: u32,
@@ -80,7 +82,8 @@ impl Draft {
         other: Option<Known>,
     ) -> Result<Draft, Memory>
         requires { IsSound catalog.now typed.now }
-        ensures { IfOk result (λ d. draft_of d ≡ with_rels catalog.now typed.now (other_of other) (draft_of self) rels.now) }
+        ensures { IfOk result (λ d. draft_of d
+            ≡ with_rels catalog.now typed.now (other_of other) (draft_of self) rels.now) }
     {
         let mut draft = self;
         for rel in rels {
@@ -97,7 +100,8 @@ impl Draft {
         other: Option<Known>,
     ) -> Result<Draft, Memory>
         requires { IsSound catalog.now typed.now }
-        ensures { IfOk result (λ d. draft_of d ≡ with_step catalog.now typed.now (other_of other) (draft_of self) rel (slice_get typed.now.rels rel)) }
+        ensures { IfOk result (λ d. draft_of d ≡ with_step catalog.now typed.now (other_of other)
+            (draft_of self) rel (slice_get typed.now.rels rel)) }
     {
         match typed.rels.get(rel as usize) {
             None => Ok(self),
@@ -153,7 +157,8 @@ impl Draft {
         requires rel { rel < max_variables }
         requires right { soundness.right_of found.now < max_variables }
         requires table { found.now.table < length catalog.now.rels }
-        ensures { IfOk result (λ d. draft_of d ≡ with_step catalog.now typed.now (other_of other) (draft_of self) rel (Some found.now)) }
+        ensures { IfOk result (λ d. draft_of d ≡ with_step catalog.now typed.now (other_of other)
+            (draft_of self) rel (Some found.now)) }
     {
         let Draft { known, mut steps } = self;
         steps.push(rel_step(known, rel, found, catalog))?;
@@ -173,7 +178,8 @@ impl Draft {
     /// The draft that joins a side plan.
     pub fn with_side(self, alloc: Global, side: Draft, typed: &Typed) -> Result<Draft, Memory>
         requires { length typed.now.nodes ≤ max_variables }
-        ensures { IfOk result (λ d. draft_of d ≡ with_side typed.now (draft_of self) (draft_of side)) }
+        ensures { IfOk result (λ d.
+            draft_of d ≡ with_side typed.now (draft_of self) (draft_of side)) }
     {
         let Draft { known, mut steps } = self;
         let own = side.known;
@@ -263,7 +269,9 @@ pub fn right_of(rel: &TypedRel) -> u32
 // The node variables that two plans bind, of so many.
 fn shared(alloc: Global, nodes: usize, side: Known, known: Known) -> Result<List<u32>, Memory>
     requires { nodes ≤ max_variables }
-    ensures { IfOk result (λ keys. keys ≡ filter (λ v. (known_of side).nodes v && (known_of known).nodes v) (range_with_len 0 nodes)) }
+    ensures { IfOk result (λ keys.
+        keys ≡ filter (λ v. (known_of side).nodes v && (known_of known).nodes v)
+        (range_with_len 0 nodes)) }
 {
     let mut keys = List::new(alloc);
     for node in 0..nodes as u32 {

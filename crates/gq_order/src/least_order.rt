@@ -1,10 +1,11 @@
-//! Plans that take the connected components of an alternative one by one, each by the least weight and the least fans.
-ghost use Rattle.std.specs.Prelude.{◌≡◌, ◌<◌, [], drop, length, IfOk, IsTrue, All};
-ghost use Rattle.std.specs.List.{AllZip, list_all, range_with_len};
+//! Plans that take the connected components of an alternative one by one, each by the least weight
+//! and the least fans.
+ghost use Rattle.std.specs.Prelude.{◌≡◌, ◌<◌, [], length, IfOk, IsTrue, All};
+ghost use Rattle.std.specs.List.{AllZip, list_all};
 ghost use Rattle.gq_order.specs.Drafts.{draft_of};
 ghost use Rattle.gq_order.specs.Given.{blank};
 ghost use Rattle.gq_order.specs.Greedy as greedy;
-ghost use Rattle.gq_order.specs.Greedy.{greedy_order, greedy_plan, numbers, piece};
+ghost use Rattle.gq_order.specs.Greedy.{greedy_order, greedy_plan, piece};
 ghost use Rattle.gq_order.specs.Orders.{with_piece, with_pieces};
 ghost use Rattle.gq_order.specs.Keys.{join_keys};
 ghost use Rattle.gq_base.specs.Lists.{is_empty};
@@ -24,11 +25,12 @@ use gq_base::{Catalog, List, Memory};
 use gq_plan::{Plan, Typed};
 use std::alloc::Global;
 
-/// The plan that takes the connected components of an alternative in the order of their first nodes. The first makes the
-/// main plan, each other a side plan, which is joined without keys. A component begins with a scan of the node variable
-/// of least weight. Then the first relationship both ends of which are bound is closed, or else the one with the least
-/// fan is extended. Tests, pairs and loop exclusions come as soon as their variables are bound. After `Memory` there is
-/// no plan.
+/// The plan that takes the connected components of an alternative in the order of their first
+/// nodes. The first makes the main plan, each other a side plan, which is joined without keys. A
+/// component begins with a scan of the node variable of least weight. Then the first relationship
+/// both ends of which are bound is closed, or else the one with the least fan is extended. Tests,
+/// pairs and loop exclusions come as soon as their variables are bound. After `Memory` there is no
+/// plan.
 pub fn greedy(
     alloc: Global,
     typed: &Typed,
@@ -134,7 +136,8 @@ fn with_piece(
 ) -> Result<Draft, Memory>
     requires sound { IsSound catalog.now typed.now }
     requires first { piece.now.first < length typed.now.nodes }
-    ensures { IfOk result (λ d. draft_of d ≡ with_piece catalog.now typed.now (draft_of draft) piece.now) }
+    ensures { IfOk result (λ d.
+        draft_of d ≡ with_piece catalog.now typed.now (draft_of draft) piece.now) }
 {
     let turns = piece.turns.as_slice();
     if !draft.is_begun() {

@@ -1,8 +1,9 @@
 //! Which relationship is taken next.
-ghost use Rattle.std.specs.Prelude.{◌≡◌, ◌<◌, not, ◌&&◌, ◌||◌, ◌++◌, ℕ, filter, length, slice_get, IfOk, IfSome};
-ghost use Rattle.std.specs.List.{range_with_len};
+ghost use Rattle.std.specs.Prelude.{◌≡◌, ◌<◌, ◌&&◌, ◌||◌, length, slice_get};
+ghost use Rattle.std.specs.Prelude.{IfOk};
 ghost use Rattle.gq_order.specs.Greedy as greedy;
-ghost use Rattle.gq_order.specs.Greedy.{closes, extends, closing, extending, fan_from, least, turns, from_bound};
+ghost use Rattle.gq_order.specs.Greedy.{closes, extends, closing, extending, fan_from, least};
+ghost use Rattle.gq_order.specs.Greedy.{turns, from_bound};
 ghost use Rattle.gq_order.specs.Orders.{known_by, read_by};
 ghost use Rattle.gq_plan.specs.Known.{known_of, with_node, none};
 ghost use Rattle.gq_plan.specs.Soundness.{IsSound, max_variables};

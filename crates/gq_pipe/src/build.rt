@@ -1,5 +1,6 @@
 //! The build of one join: the assignments of its side plan.
-ghost use Rattle.std.specs.Prelude.{◌≡◌, ◌<◌, ◌≤◌, ◌^◌, true, filter, length, All, IfOk, IfErr, OnOk};
+ghost use Rattle.std.specs.Prelude.{◌≡◌, ◌<◌, ◌≤◌, ◌^◌, true, filter, length, All, IfOk, IfErr};
+ghost use Rattle.std.specs.Prelude.{OnOk};
 ghost use Rattle.std.specs.List.{range_with_len};
 ghost use Rattle.gq_plan.specs.Covers.{Fits, after};
 ghost use Rattle.gq_plan.specs.Known.{none, set_of};
@@ -17,8 +18,8 @@ use gq_plan::{Plan, Typed, VariableSet, bound_after};
 use gq_store::Graph;
 use std::alloc::Global;
 
-/// A build that holds, in order, the assignments of a side plan, to be found by these keys. The builds are those of the side
-/// plan's own joins.
+/// A build that holds, in order, the assignments of a side plan, to be found by these keys. The
+/// builds are those of the side plan's own joins.
 pub(crate) fn make_build(
     alloc: Global,
     graph: &Graph,

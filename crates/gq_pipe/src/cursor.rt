@@ -1,6 +1,8 @@
-//! Where a pipeline is: the rows and load numbers, and the place of each step that is to be tried next.
+//! Where a pipeline is: the rows and load numbers, and the place of each step that is to be tried
+//! next.
 ghost use Rattle.std.specs.Prelude.{length};
-ghost use Rattle.gq_pipe.specs.Moves.{run_of, IsRun, IsOpen, owed_by, owed_after, owed_at, IsSearched};
+ghost use Rattle.gq_pipe.specs.Moves.{run_of, IsRun, IsOpen, owed_by, owed_after, owed_at};
+ghost use Rattle.gq_pipe.specs.Moves.{IsSearched};
 
 use crate::plan_run::{PlanRun, Tried};
 use gq_plan::Assignment;
@@ -37,7 +39,8 @@ impl Cursor {
         }
     }
 
-    // Goes on to the next assignment of all steps from where the step at a depth is to be tried at a place.
+    // Goes on to the next assignment of all steps from where the step at a depth is to be tried at
+    // a place.
     fn search(&mut self, plan_run: &PlanRun<'_>, mut depth: usize, mut place: u32) -> bool
         requires run { IsRun (run_of plan_run.now) }
         requires open { IsOpen (run_of plan_run.now) self.old depth }

@@ -1,4 +1,6 @@
-//! The flat pipeline: the assignments of a plan, one after another, over the stored graph, and the builds of its joins.
+//! The flat pipeline: the assignments of a plan over a stored graph, one after another, without
+//! memory for each, and the builds of its joins. The crate stands on the plans of `gq_plan`, the
+//! graph of `gq_store`, the builds of `gq_join` and the expressions of `gq_expr`.
 #![tactic(auto)]
 
 mod build;

@@ -5,7 +5,8 @@ ghost use Rattle.gq_join.specs.Kept.{place_of};
 ghost use Rattle.gq_plan.specs.Soundness.{IsSound};
 ghost use Rattle.gq_pipe.specs.Levels.{known};
 ghost use Rattle.gq_pipe.specs.Moves.{run_of, IsRun, IsHeld, IsTried};
-ghost use Rattle.gq_pipe.specs.Outcomes.{IsSized, IsScanned, CanFollow, IsHopFound, IsExtended, IsClosed};
+ghost use Rattle.gq_pipe.specs.Outcomes.{IsSized, IsScanned, CanFollow, IsHopFound, IsExtended};
+ghost use Rattle.gq_pipe.specs.Outcomes.{IsClosed};
 ghost use Rattle.gq_pipe.specs.Outcomes.{CanJoin, IsJoined, with_nodes, with_rels};
 ghost use Rattle.gq_pipe.specs.Outcomes.{passes_at, differs_at, no_loop_at, tested};
 
@@ -47,7 +48,8 @@ struct Follow {
 }
 
 impl PlanRun<'_> {
-    /// Tries the step at a depth at a place. What it binds there is written into the rows and load numbers.
+    /// Tries the step at a depth at a place. What it binds there is written into the rows and load
+    /// numbers.
     pub(crate) fn try_step(&self, depth: usize, place: u32, row: &mut Assignment) -> Tried
         requires run { IsRun (run_of self.now) }
         requires depth { depth < length self.now.steps.now }
@@ -106,7 +108,8 @@ impl PlanRun<'_> {
         Tried::Made
     }
 
-    // The relationship at the place, for a relationship variable, and the row to which it leads, for a node variable.
+    // The relationship at the place, for a relationship variable, and the row to which it leads,
+    // for a node variable.
     fn extend(&self, follow: Follow, place: u32, row: &mut Assignment) -> Tried
         requires { CanFollow self.now.graph.now self.now.typed.now row.old follow }
         ensures { IsExtended self.now.graph.now self.now.typed.now follow place
@@ -122,7 +125,8 @@ impl PlanRun<'_> {
         }
     }
 
-    // The relationship at the place, for a relationship variable, where it leads to the row that a node variable has.
+    // The relationship at the place, for a relationship variable, where it leads to the row that a
+    // node variable has.
     fn close(&self, follow: Follow, place: u32, row: &mut Assignment) -> Tried
         requires { CanFollow self.now.graph.now self.now.typed.now row.old follow }
         ensures { IsClosed self.now.graph.now self.now.typed.now follow place

@@ -1,4 +1,6 @@
-//! The plain graph: a catalogue and the rows that were loaded, as they stand in the files.
+//! The plain graph: a catalogue and the rows that were loaded, as they stand in the files. Each
+//! push appends one row to one table, and the graph tells whether it is valid. The crate stands on
+//! `gq_base` alone, which defines what a graph is and which are valid.
 #![tactic(auto)]
 
 ghost use Rattle.std.specs.Prelude.{◌≡◌, [], ◌<◌, length, replicate, IfOk, OnOk, OnErr, Some, slice_get, slice_set};

@@ -1,5 +1,6 @@
 //! Whether a plan covers a typed alternative.
-ghost use Rattle.std.specs.Prelude.{◌≡◌, ◌↔◌, ◌&&◌, ◌<◌, ◌+◌, ◌≤◌, IsTrue, true, false, length, filter, min, slice_get};
+ghost use Rattle.std.specs.Prelude.{◌≡◌, ◌↔◌, ◌&&◌, ◌+◌, IsTrue, false, length};
+ghost use Rattle.std.specs.Prelude.{filter, min, slice_get};
 ghost use Rattle.std.specs.List.{list_all, range_with_len};
 ghost use Rattle.gq_plan.specs.Covers as cover;
 ghost use Rattle.gq_plan.specs.Covers.{Covers, placed, placed_step, demands, leaves_loops_out};
@@ -14,9 +15,10 @@ use crate::plan::{Plan, Step};
 use crate::typed::Typed;
 use gq_base::Catalog;
 
-/// Whether a plan covers a typed alternative: it fits, binds every variable, once each but for the keys of joins, and
-/// has each relationship, test, pair and loop exclusion exactly once, side plans included. It takes no memory, and
-/// goes through the plan once for each thing that the alternative demands.
+/// Whether a plan covers a typed alternative: it fits, binds every variable, once each but for the
+/// keys of joins, and has each relationship, test, pair and loop exclusion exactly once, side plans
+/// included. It takes no memory, and goes through the plan once for each thing that the alternative
+/// demands.
 pub fn covers(plan: &Plan, typed: &Typed, catalog: &Catalog) -> bool
     requires { IsSound catalog.now typed.now }
     ensures { IsTrue result ↔ Covers catalog.now typed.now (plan_of plan.now) }
@@ -33,46 +35,55 @@ fn meets_all(plan: &Plan, typed: &Typed) -> bool
 }
 
 fn meets_variables(plan: &Plan, typed: &Typed) -> bool
-    ensures { result ≡ (list_all (λ v. is_once (plan_of plan.now) (Demand.InTable v)) (range_with_len 0 (length typed.now.nodes))
-        && list_all (λ x. is_once (plan_of plan.now) (Demand.Joins x)) (range_with_len 0 (length typed.now.rels))) }
+    ensures { result ≡ (list_all (λ v. is_once (plan_of plan.now) (Demand.InTable v))
+        (range_with_len 0 (length typed.now.nodes))
+        && list_all (λ x. is_once (plan_of plan.now) (Demand.Joins x))
+        (range_with_len 0 (length typed.now.rels))) }
 {
     meets_nodes(plan, typed.nodes.len()) && meets_rels(plan, typed.rels.len())
 }
 
 fn meets_conditions(plan: &Plan, typed: &Typed) -> bool
-    ensures { result ≡ (list_all (λ i. is_once (plan_of plan.now) (Demand.Passes i)) (range_with_len 0 (length typed.now.tests))
-        && list_all (λ p. is_once (plan_of plan.now) (Demand.Differs p)) (range_with_len 0 (length typed.now.pairs))) }
+    ensures { result ≡ (list_all (λ i. is_once (plan_of plan.now) (Demand.Passes i))
+        (range_with_len 0 (length typed.now.tests))
+        && list_all (λ p. is_once (plan_of plan.now) (Demand.Differs p))
+        (range_with_len 0 (length typed.now.pairs))) }
 {
     meets_tests(plan, typed.tests.len()) && meets_pairs(plan, typed.pairs.len())
 }
 
 fn meets_nodes(plan: &Plan, count: usize) -> bool
-    ensures { result ≡ list_all (λ v. is_once (plan_of plan.now) (Demand.InTable v)) (range_with_len 0 count) }
+    ensures { result
+        ≡ list_all (λ v. is_once (plan_of plan.now) (Demand.InTable v)) (range_with_len 0 count) }
 {
     (0..count).all(|node| meets(plan, Demand::InTable(node)))
 }
 
 fn meets_rels(plan: &Plan, count: usize) -> bool
-    ensures { result ≡ list_all (λ x. is_once (plan_of plan.now) (Demand.Joins x)) (range_with_len 0 count) }
+    ensures { result
+        ≡ list_all (λ x. is_once (plan_of plan.now) (Demand.Joins x)) (range_with_len 0 count) }
 {
     (0..count).all(|rel| meets(plan, Demand::Joins(rel)))
 }
 
 fn meets_tests(plan: &Plan, count: usize) -> bool
-    ensures { result ≡ list_all (λ i. is_once (plan_of plan.now) (Demand.Passes i)) (range_with_len 0 count) }
+    ensures { result
+        ≡ list_all (λ i. is_once (plan_of plan.now) (Demand.Passes i)) (range_with_len 0 count) }
 {
     (0..count).all(|test| meets(plan, Demand::Passes(test)))
 }
 
 fn meets_pairs(plan: &Plan, count: usize) -> bool
-    ensures { result ≡ list_all (λ p. is_once (plan_of plan.now) (Demand.Differs p)) (range_with_len 0 count) }
+    ensures { result
+        ≡ list_all (λ p. is_once (plan_of plan.now) (Demand.Differs p)) (range_with_len 0 count) }
 {
     (0..count).all(|pair| meets(plan, Demand::Differs(pair)))
 }
 
 fn meets_loops(plan: &Plan, typed: &Typed) -> bool
     ensures { result ≡ list_all (λ x. is_once (plan_of plan.now) (Demand.IsNoLoop x))
-        (filter (λ x. holds leaves_loops_out (slice_get typed.now.rels x)) (range_with_len 0 (length typed.now.rels))) }
+        (filter (λ x. holds leaves_loops_out (slice_get typed.now.rels x))
+        (range_with_len 0 (length typed.now.rels))) }
 {
     (0..typed.rels.len())
         .filter(|rel| leaves_loops_out(typed, *rel))
@@ -139,7 +150,8 @@ fn once(demand: Demand, met: Demand) -> u32
 }
 
 fn once_of_two(demand: Demand, rel: u32, to: u32) -> u32
-    ensures { result ≡ one (same_demand demand (Demand.Joins rel)) + one (same_demand demand (Demand.InTable to)) }
+    ensures { result ≡ one (same_demand demand (Demand.Joins rel))
+        + one (same_demand demand (Demand.InTable to)) }
 {
     once(demand, Demand::Joins(rel as usize)) + once(demand, Demand::InTable(to as usize))
 }

@@ -1,8 +1,11 @@
 //! Whether a plan fits a typed alternative.
-ghost use Rattle.std.specs.Prelude.{◌≡◌, ◌↔◌, ◌&&◌, ◌||◌, ◌<◌, ◌≤◌, not, IsTrue, true, false, length, slice_get};
+ghost use Rattle.std.specs.Prelude.{◌≡◌, ◌↔◌, ◌&&◌, ◌||◌, ◌<◌, ◌≤◌, not, IsTrue, true, false};
+ghost use Rattle.std.specs.Prelude.{length, slice_get};
 ghost use Rattle.std.specs.List.{list_all, range_with_len};
 ghost use Rattle.gq_plan.specs.Covers as fit;
-ghost use Rattle.gq_plan.specs.Covers.{after, after_step, fits_step, fits_extend, fits_close, is_new, is_joined, goes, start_of, end_of, test_bound, pair_bound, loop_bound, Fits};
+ghost use Rattle.gq_plan.specs.Covers.{after, after_step, fits_step, fits_extend, fits_close};
+ghost use Rattle.gq_plan.specs.Covers.{is_new, is_joined, goes, start_of, end_of, test_bound};
+ghost use Rattle.gq_plan.specs.Covers.{pair_bound, loop_bound, Fits};
 ghost use Rattle.gq_plan.specs.Known.{known_of, none, with_node, with_rel, with_both};
 ghost use Rattle.gq_plan.specs.Meaning.{holds};
 ghost use Rattle.gq_plan.specs.Soundness as soundness;
@@ -26,10 +29,11 @@ pub fn is_single(mult: Mult, way: Way) -> bool
     }
 }
 
-/// Whether a plan fits a typed alternative by itself: each step names what the alternative has, uses variables that
-/// are bound where it stands and binds new ones; it leads from its relationship's source to its target, backward the
-/// other way round; it is a column step exactly where the relationship's type is single on that way; and a side plan
-/// fits by itself and shares with the plan that joins it the keys and nothing else. It takes no memory.
+/// Whether a plan fits a typed alternative by itself: each step names what the alternative has,
+/// uses variables that are bound where it stands and binds new ones; it leads from its
+/// relationship's source to its target, backward the other way round; it is a column step exactly
+/// where the relationship's type is single on that way; and a side plan fits by itself and shares
+/// with the plan that joins it the keys and nothing else. It takes no memory.
 pub fn fits(plan: &Plan, typed: &Typed, catalog: &Catalog) -> bool
     requires { IsSound catalog.now typed.now }
     ensures { IsTrue result ↔ Fits catalog.now typed.now (plan_of plan.now) }
@@ -38,7 +42,8 @@ pub fn fits(plan: &Plan, typed: &Typed, catalog: &Catalog) -> bool
     takes_plan(plan, typed, catalog, &mut known)
 }
 
-/// What a plan binds that fits a typed alternative by itself. It takes no memory, and goes through the plan once.
+/// What a plan binds that fits a typed alternative by itself. It takes no memory, and goes through
+/// the plan once.
 pub fn bound_after(plan: &Plan, typed: &Typed, catalog: &Catalog) -> Known
     requires sound { IsSound catalog.now typed.now }
     requires fits { Fits catalog.now typed.now (plan_of plan.now) }
@@ -53,8 +58,10 @@ pub fn bound_after(plan: &Plan, typed: &Typed, catalog: &Catalog) -> Known
 #[cycle(takes_plan)]
 fn takes_plan(plan: &Plan, typed: &Typed, catalog: &Catalog, known: &mut Known) -> bool
     requires { IsSound catalog.now typed.now }
-    ensures value { result ≡ fit.fits catalog.now typed.now (plan_of plan.now) (known_of known.old) }
-    ensures bound { result ≡ true → known_of known.new ≡ after (plan_of plan.now) (known_of known.old) }
+    ensures value { result
+        ≡ fit.fits catalog.now typed.now (plan_of plan.now) (known_of known.old) }
+    ensures bound { result ≡ true
+        → known_of known.new ≡ after (plan_of plan.now) (known_of known.old) }
 {
     for step in plan.steps.as_slice() {
         if !takes_step(step, typed, catalog, known) {
@@ -68,8 +75,10 @@ fn takes_plan(plan: &Plan, typed: &Typed, catalog: &Catalog, known: &mut Known) 
 #[tactic(auto, using(crate::proofs::StepEquations::equations), unfolding(crate::specs::Covers::fits_step, crate::specs::Covers::after_step))]
 fn takes_step(step: &Step, typed: &Typed, catalog: &Catalog, known: &mut Known) -> bool
     requires { IsSound catalog.now typed.now }
-    ensures value { result ≡ fits_step catalog.now typed.now (step_of step.now) (known_of known.old) }
-    ensures bound { result ≡ true → known_of known.new ≡ after_step (step_of step.now) (known_of known.old) }
+    ensures value { result
+        ≡ fits_step catalog.now typed.now (step_of step.now) (known_of known.old) }
+    ensures bound { result ≡ true
+        → known_of known.new ≡ after_step (step_of step.now) (known_of known.old) }
 {
     match step {
         Step::Scan { node } => takes_scan(*node, typed, known),
@@ -121,8 +130,10 @@ struct Follow {
 impl Follow {
     fn extends(self, typed: &Typed, catalog: &Catalog, known: &mut Known) -> bool
         requires { IsSound catalog.now typed.now }
-        ensures value { result ≡ fits_extend catalog.now typed.now self.column self.rel self.from self.to self.direction (known_of known.old) }
-        ensures bound { result ≡ true → known_of known.new ≡ with_node self.to (with_rel self.rel (known_of known.old)) }
+        ensures value { result ≡ fits_extend catalog.now typed.now
+            self.column self.rel self.from self.to self.direction (known_of known.old) }
+        ensures bound { result ≡ true
+            → known_of known.new ≡ with_node self.to (with_rel self.rel (known_of known.old)) }
     {
         if !(follows(self, typed, catalog)
             && !known.rels.has(self.rel)
@@ -138,8 +149,10 @@ impl Follow {
 
     fn closes(self, typed: &Typed, catalog: &Catalog, known: &mut Known) -> bool
         requires { IsSound catalog.now typed.now }
-        ensures value { result ≡ fits_close catalog.now typed.now self.column self.rel self.from self.to self.direction (known_of known.old) }
-        ensures bound { result ≡ true → known_of known.new ≡ with_rel self.rel (known_of known.old) }
+        ensures value { result ≡ fits_close catalog.now typed.now
+            self.column self.rel self.from self.to self.direction (known_of known.old) }
+        ensures bound { result ≡ true
+            → known_of known.new ≡ with_rel self.rel (known_of known.old) }
     {
         if !(follows(self, typed, catalog)
             && !known.rels.has(self.rel)
@@ -154,7 +167,8 @@ impl Follow {
 }
 
 fn following(column: bool, rel: u32, from: u32, to: u32, direction: Way) -> Follow
-    ensures { result ≡ record { column = column; rel = rel; from = from; to = to; direction = direction } }
+    ensures { result
+        ≡ record { column = column; rel = rel; from = from; to = to; direction = direction } }
 {
     Follow {
         column,
@@ -186,7 +200,9 @@ fn is_new(node: u32, typed: &Typed, known: Known) -> bool
 // Whether the alternative has a relationship that goes so.
 fn follows(follow: Follow, typed: &Typed, catalog: &Catalog) -> bool
     requires { IsSound catalog.now typed.now }
-    ensures value { result ≡ holds (goes catalog.now follow.column follow.from follow.to follow.direction) (slice_get typed.now.rels follow.rel) }
+    ensures value { result ≡ holds
+        (goes catalog.now follow.column follow.from follow.to follow.direction)
+        (slice_get typed.now.rels follow.rel) }
     ensures within { result ≡ true → follow.rel < max_variables }
 {
     match typed.rels.get(follow.rel as usize) {
@@ -197,7 +213,8 @@ fn follows(follow: Follow, typed: &Typed, catalog: &Catalog) -> bool
 
 fn goes(follow: Follow, rel: &TypedRel, catalog: &Catalog) -> bool
     requires { rel.now.table < length catalog.now.rels }
-    ensures { result ≡ fit.goes catalog.now follow.column follow.from follow.to follow.direction rel.now }
+    ensures { result
+        ≡ fit.goes catalog.now follow.column follow.from follow.to follow.direction rel.now }
 {
     let (start, end) = ends_of(rel, follow.direction);
     let single = is_single(catalog.rel_table(rel.table).mult, follow.direction);
@@ -219,7 +236,8 @@ fn takes_join(side: Known, keys: &[u32], typed: &Typed, known: &mut Known) -> bo
     requires nodes { length typed.now.nodes ≤ max_variables }
     requires rels { length typed.now.rels ≤ max_variables }
     ensures value { result ≡ is_joined typed.now keys.now (known_of side) (known_of known.old) }
-    ensures bound { result ≡ true → known_of known.new ≡ with_both (known_of side) (known_of known.old) }
+    ensures bound { result ≡ true
+        → known_of known.new ≡ with_both (known_of side) (known_of known.old) }
 {
     if !(has_keys(side, keys, *known)
         && shares_keys(side, keys, typed.nodes.len() as u32, *known)
@@ -232,7 +250,8 @@ fn takes_join(side: Known, keys: &[u32], typed: &Typed, known: &mut Known) -> bo
 }
 
 fn has_keys(side: Known, keys: &[u32], known: Known) -> bool
-    ensures { result ≡ list_all (λ v. (known_of side).nodes v && (known_of known).nodes v) keys.now }
+    ensures { result
+        ≡ list_all (λ v. (known_of side).nodes v && (known_of known).nodes v) keys.now }
 {
     keys.iter()
         .all(|key| side.nodes.has(*key) && known.nodes.has(*key))
@@ -240,7 +259,9 @@ fn has_keys(side: Known, keys: &[u32], known: Known) -> bool
 
 // Whether each of the first node variables that both know is a key.
 fn shares_keys(side: Known, keys: &[u32], nodes: u32, known: Known) -> bool
-    ensures { result ≡ list_all (λ v. not ((known_of side).nodes v && (known_of known).nodes v) || has_number keys.now v) (range_with_len 0 nodes) }
+    ensures { result ≡ list_all (λ v.
+        not ((known_of side).nodes v && (known_of known).nodes v) || has_number keys.now v)
+        (range_with_len 0 nodes) }
 {
     (0..nodes).all(|node| {
         !(side.nodes.has(node) && known.nodes.has(node)) || has_number(keys, node)
@@ -249,7 +270,8 @@ fn shares_keys(side: Known, keys: &[u32], nodes: u32, known: Known) -> bool
 
 // Whether none of the first relationship variables is known to both.
 fn shares_none(side: Known, rels: u32, known: Known) -> bool
-    ensures { result ≡ list_all (λ x. not ((known_of side).rels x && (known_of known).rels x)) (range_with_len 0 rels) }
+    ensures { result ≡ list_all (λ x. not ((known_of side).rels x && (known_of known).rels x))
+        (range_with_len 0 rels) }
 {
     (0..rels).all(|rel| !(side.rels.has(rel) && known.rels.has(rel)))
 }

@@ -1,5 +1,7 @@
-//! Bound queries: what a query asks once its names are resolved, the typed alternatives that answer it, and the plans that
-//! find the assignments of an alternative.
+//! Bound queries: what a query asks once its names are resolved, the typed alternatives that answer
+//! it, and the plans that find the assignments of an alternative. It says what these mean, and
+//! tells whether a plan fits an alternative and covers it. The crate stands on the expressions of
+//! `gq_expr`.
 #![tactic(auto)]
 
 mod assignment;

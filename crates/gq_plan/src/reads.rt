@@ -1,8 +1,9 @@
 //! The properties of variables that expressions read.
-ghost use Rattle.std.specs.Prelude.{◌≡◌, ◌&&◌, [], nat_eq, length, flat_map, IfOk};
+ghost use Rattle.std.specs.Prelude.{◌≡◌, ◌&&◌, [], length, flat_map, IfOk};
 ghost use Rattle.std.specs.List.{list_any};
 ghost use Rattle.gq_plan.specs.Reads as reads;
-ghost use Rattle.gq_plan.specs.Reads.{property, properties, properties_of, tester_properties, same_read, with_read, with_reads};
+ghost use Rattle.gq_plan.specs.Reads.{property, properties, properties_of, tester_properties};
+ghost use Rattle.gq_plan.specs.Reads.{same_read, with_read, with_reads};
 ghost use Rattle.gq_plan.specs.Variables.{seen};
 
 use crate::variable::Variable;
@@ -28,8 +29,9 @@ impl<'e> Model for PropertyRead<'e> {
     ghost view = { λ r. property (seen r.variable) r.name.now };
 }
 
-/// The different properties of variables that expressions read, in the order of their first appearance. The names of
-/// properties stand in an ordered set too, so that a new name is told without going through the list.
+/// The different properties of variables that expressions read, in the order of their first
+/// appearance. The names of properties stand in an ordered set too, so that a new name is told
+/// without going through the list.
 #[derive(Drop)]
 pub struct PropertyReads<'e> {
     reads: List<PropertyRead<'e>>,
@@ -49,7 +51,9 @@ impl<'e> Model for PropertyReads<'e> {
 
     ghost view = { λ r. r.reads };
 
-    ghost invariant = { λ r. (name : Bor (List ℕ)) → contains (λ x y. slice_cmp nat_cmp x.now y.now) r.names name ≡ false → list_any (has_name name.now) r.reads ≡ false };
+    ghost invariant = { λ r. (name : Bor (List ℕ))
+        → contains (λ x y. slice_cmp nat_cmp x.now y.now) r.names name ≡ false
+        → list_any (has_name name.now) r.reads ≡ false };
 }
 
 impl<'e> PropertyReads<'e> {
@@ -71,14 +75,16 @@ impl<'e> PropertyReads<'e> {
     }
 
     fn contains(&self, variable: Variable, name: &Text) -> bool
-        ensures { result ≡ list_any (λ q. same_read q (property (seen variable) name.now)) self.now }
+        ensures { result
+            ≡ list_any (λ q. same_read q (property (seen variable) name.now)) self.now }
     {
         stands_in(self.reads.as_slice(), variable, name)
     }
 
     /// Takes a property of a variable, unless it stands already.
     pub fn add(&mut self, variable: Variable, name: &'e Text) -> Result<(), Memory>
-        ensures { IfOk result (λ _. self.new ≡ with_read self.old (property (seen variable) name.now)) }
+        ensures { IfOk result (λ _.
+            self.new ≡ with_read self.old (property (seen variable) name.now)) }
     {
         let is_new = match self.names.insert(name.as_str()) {
             Ok(is_new) => is_new,
@@ -97,7 +103,8 @@ impl<'e> PropertyReads<'e> {
     #[cycle(add_all)]
     #[tactic(auto, using(crate::proofs::ReadLemmas::equations))]
     pub fn add_all(&mut self, expr: &'e Expr) -> Result<(), Memory>
-        ensures { IfOk result (λ _. self.new ≡ with_reads self.old (properties (reads.reads expr.now))) }
+        ensures { IfOk result (λ _.
+            self.new ≡ with_reads self.old (properties (reads.reads expr.now))) }
     {
         match expr {
             Expr::Literal(_) => Ok(()),
@@ -130,7 +137,8 @@ impl<'e> PropertyReads<'e> {
 
     #[cycle(add_all)]
     fn add_each(&mut self, all: &'e [Expr]) -> Result<(), Memory>
-        ensures { IfOk result (λ _. self.new ≡ with_reads self.old (flat_map properties_of all.now)) }
+        ensures { IfOk result (λ _.
+            self.new ≡ with_reads self.old (flat_map properties_of all.now)) }
     {
         for part in all {
             self.add_all(part)?;
@@ -140,7 +148,8 @@ impl<'e> PropertyReads<'e> {
 
     #[cycle(add_all)]
     fn add_compares(&mut self, terms: &'e [BoundCompare]) -> Result<(), Memory>
-        ensures { IfOk result (λ _. self.new ≡ with_reads self.old (flat_map (λ t. properties_of t.expr) terms.now)) }
+        ensures { IfOk result (λ _.
+            self.new ≡ with_reads self.old (flat_map (λ t. properties_of t.expr) terms.now)) }
     {
         for term in terms {
             self.add_all(&term.expr)?;
@@ -150,7 +159,8 @@ impl<'e> PropertyReads<'e> {
 
     #[cycle(add_all)]
     fn add_ariths(&mut self, terms: &'e [BoundArith]) -> Result<(), Memory>
-        ensures { IfOk result (λ _. self.new ≡ with_reads self.old (flat_map (λ t. properties_of t.expr) terms.now)) }
+        ensures { IfOk result (λ _.
+            self.new ≡ with_reads self.old (flat_map (λ t. properties_of t.expr) terms.now)) }
     {
         for term in terms {
             self.add_all(&term.expr)?;
@@ -160,7 +170,8 @@ impl<'e> PropertyReads<'e> {
 
     #[cycle(add_all)]
     fn add_testers(&mut self, testers: &'e [BoundTester]) -> Result<(), Memory>
-        ensures { IfOk result (λ _. self.new ≡ with_reads self.old (flat_map tester_properties testers.now)) }
+        ensures { IfOk result (λ _.
+            self.new ≡ with_reads self.old (flat_map tester_properties testers.now)) }
     {
         for tester in testers {
             match tester {

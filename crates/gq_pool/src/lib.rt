@@ -1,9 +1,12 @@
-//! A pool of vectors of cells, whose slots are lent out and given back.
+//! A pool of vectors of cells, whose slots are lent out and given back. It is seen as a list of
+//! vectors, of which a write changes one. The crate stands on `gq_bits` for the length of a vector.
 #![tactic(auto)]
 
-ghost use Rattle.std.specs.Prelude.{◌≡◌, ◌≢◌, ◌↔◌, ℕ, ◌+◌, ◌<◌, ◌≤◌, length, All, IfOk, IfNone, IfSome, IsNone, slice_index_or, pos};
+ghost use Rattle.std.specs.Prelude.{◌≡◌, ◌≢◌, ◌↔◌, ℕ, ◌+◌, ◌<◌, ◌≤◌, length, IfOk, IfNone};
+ghost use Rattle.std.specs.Prelude.{IfSome, IsNone, slice_index_or, pos};
 ghost use Rattle.std.specs.Borrow.{sem};
-ghost use Rattle.gq_pool.specs.Pool.{IsOut, IsFree, IsFresh, cells_of, cell_at, spare_of, freed, taken};
+ghost use Rattle.gq_pool.specs.Pool.{IsOut, IsFree, IsFresh, cells_of, cell_at, spare_of, freed};
+ghost use Rattle.gq_pool.specs.Pool.{taken};
 ghost use Rattle.gq_pool.specs.Lending.{LendsCells};
 
 use gq_base::Memory;
@@ -12,8 +15,8 @@ use std::alloc::Global;
 use std::marker::Model;
 use std::mem;
 
-/// A slot that was taken from a pool. It can be neither copied nor dropped: it ends where it is given back.
-/// It is seen as its number.
+/// A slot that was taken from a pool. It can be neither copied nor dropped: it ends where it is
+/// given back. It is seen as its number.
 pub struct Slot {
     number: u32,
 }
@@ -26,7 +29,8 @@ impl Model for Slot {
     ghost view = { λ s. s.number };
 }
 
-/// A pool of at most 4,096 slots of `VECTOR` cells each. It is seen as the cells of each slot, and which slots are out.
+/// A pool of at most 4,096 slots of `VECTOR` cells each. It is seen as the cells of each slot, and
+/// which slots are out.
 #[derive(Drop)]
 pub struct VectorPool {
     lanes: Vec<Vec<i64>>,
@@ -39,7 +43,8 @@ impl Model for VectorPool {
 
     ghost Value = { Pool };
 
-    ghost view = { λ p. record { cells = map (λ lane. lane.items) p.lanes.items; out = p.out.items } };
+    ghost view = { λ p.
+        record { cells = map (λ lane. lane.items) p.lanes.items; out = p.out.items } };
 
     ghost invariant = { λ p. AreLanes p.lanes.items p.out.items };
 }
@@ -106,7 +111,8 @@ impl VectorPool {
         self.lanes[slot.number as usize].as_slice()
     }
 
-    /// The cells of a slot, to be written. What is written there is in the pool afterwards, and the cells of all other slots stay.
+    /// The cells of a slot, to be written. What is written there is in the pool afterwards, and the
+    /// cells of all other slots stay.
     pub fn cells_mut(&mut self, slot: &Slot) -> &mut [i64]
         requires { IsOut self.old slot.now }
         ensures* writes_back { sem 𝓛 (LendsCells self.entry slot.now result) }
@@ -123,7 +129,8 @@ impl VectorPool {
         requires to_out { IsOut self.old to.now }
         requires different { from.now ≢ to.now }
         requires callable { (k : ℕ) → k < VECTOR → F.pre f (cell_at self.old from.now k) }
-        ensures copied { (k : ℕ) → k < VECTOR → F.post f (cell_at self.old from.now k) (cell_at self.new to.now k) }
+        ensures copied { (k : ℕ) → k < VECTOR
+            → F.post f (cell_at self.old from.now k) (cell_at self.new to.now k) }
         ensures others { (s : ℕ) → s ≢ to.now → cells_of self.new s ≡ cells_of self.old s }
         ensures same_out { self.new.out ≡ self.old.out }
         ensures still_out { (s : ℕ) → IsOut self.old s → IsOut self.new s }
@@ -142,8 +149,10 @@ impl VectorPool {
 // Writes `f` of each cell of `from` into the cell of `to` at its place.
 fn map_cells<F: Fn(i64) -> i64>(from: &[i64], to: &mut [i64], f: F)
     requires one_length { length to.old ≡ length from.now }
-    requires callable { (k : ℕ) → k < length from.now → F.pre f (slice_index_or from.now k (pos 0)) }
-    ensures { (k : ℕ) → k < length from.now → F.post f (slice_index_or from.now k (pos 0)) (slice_index_or to.new k (pos 0)) }
+    requires callable { (k : ℕ) → k < length from.now
+        → F.pre f (slice_index_or from.now k (pos 0)) }
+    ensures { (k : ℕ) → k < length from.now
+        → F.post f (slice_index_or from.now k (pos 0)) (slice_index_or to.new k (pos 0)) }
 {
     for (place, cell) in from.iter().enumerate() {
         to[place] = f(*cell);

@@ -1,4 +1,5 @@
-//! What assignments are made of: all nodes and all relationships of a graph, and all tuples of them.
+//! What assignments are made of: all nodes and all relationships of a graph, and all tuples of
+//! them.
 ghost use Rattle.std.specs.Prelude.{◌≡◌, ◌∷◌, ◌++◌, map, flat_map, IfOk};
 ghost use Rattle.std.specs.List.{range_with_len};
 ghost use Rattle.gq_plan.specs.Assignments as assignments;
@@ -45,7 +46,8 @@ fn all_nodes(alloc: Global, graph: &PlainGraph) -> Result<List<NodeId>, Memory>
 }
 
 fn push_nodes(nodes: &mut List<NodeId>, table: u32, count: usize) -> Result<(), Memory>
-    ensures { IfOk result (λ _. nodes.new ≡ nodes.old ++ map (λ row. record { table = table; row = row }) (range_with_len 0 count)) }
+    ensures { IfOk result (λ _. nodes.new
+        ≡ nodes.old ++ map (λ row. record { table = table; row = row }) (range_with_len 0 count)) }
 {
     for row in 0..number(count)? {
         nodes.push(NodeId { table, row })?;
@@ -66,7 +68,8 @@ fn all_rels(alloc: Global, graph: &PlainGraph) -> Result<List<RelId>, Memory>
 }
 
 fn push_rels(rels: &mut List<RelId>, table: u32, count: usize) -> Result<(), Memory>
-    ensures { IfOk result (λ _. rels.new ≡ rels.old ++ map (λ row. record { table = table; row = row }) (range_with_len 0 count)) }
+    ensures { IfOk result (λ _. rels.new
+        ≡ rels.old ++ map (λ row. record { table = table; row = row }) (range_with_len 0 count)) }
 {
     for row in 0..number(count)? {
         rels.push(RelId { table, row })?;

@@ -1,4 +1,5 @@
-//! The matches of patterns by their definition: all assignments of a small graph, each of which is tested.
+//! The matches of patterns by their definition: all assignments of a small graph, each of which is
+//! tested.
 #![tactic(auto)]
 
 mod assignments;

@@ -26,9 +26,10 @@ impl Model for Match {
     ghost view = { λ m. record { nodes = m.nodes; rels = m.rels } };
 }
 
-/// All matches of patterns in a graph, in the order of their nodes and then of their relationships. Each assignment is
-/// made and tested, so the steps grow as the number of nodes to the power of the number of variables: it is for small
-/// graphs, and to compare other ways with. `Memory` may come at any graph.
+/// All matches of patterns in a graph, in the order of their nodes and then of their relationships.
+/// Each assignment is made and tested, so the steps grow as the number of nodes to the power of the
+/// number of variables: it is for small graphs, and to compare other ways with. `Memory` may come
+/// at any graph.
 pub fn matches(
     alloc: Global,
     graph: &PlainGraph,
@@ -55,7 +56,9 @@ fn matches_among(
     rel_tuples: &[List<RelId>],
 ) -> Result<List<Match>, Memory>
     ensures { let passes = is_match conditions.now.graph.now conditions.now.pattern.now in
-        IfOk result (λ ms. ms ≡ flat_map (λ ns. filter passes (map (λ rs. record { nodes = ns; rels = rs }) rel_tuples.now)) node_tuples.now) }
+        IfOk result (λ ms. ms ≡ flat_map (λ ns.
+        filter passes (map (λ rs. record { nodes = ns; rels = rs }) rel_tuples.now))
+        node_tuples.now) }
 {
     let mut found = List::new(alloc);
     for nodes in node_tuples {
@@ -73,7 +76,8 @@ fn push_matches(
     found: &mut List<Match>,
 ) -> Result<(), Memory>
     ensures { let passes = is_match conditions.now.graph.now conditions.now.pattern.now in
-        IfOk result (λ _. found.new ≡ found.old ++ filter passes (map (λ rs. record { nodes = nodes.now; rels = rs }) rel_tuples.now)) }
+        IfOk result (λ _. found.new ≡ found.old
+        ++ filter passes (map (λ rs. record { nodes = nodes.now; rels = rs }) rel_tuples.now)) }
 {
     for rels in rel_tuples {
         let chosen = Chosen {

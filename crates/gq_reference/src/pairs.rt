@@ -1,4 +1,5 @@
-//! The pairs of relationship patterns that never get the same relationship: those of one MATCH clause.
+//! The pairs of relationship patterns that never get the same relationship: those of one MATCH
+//! clause.
 ghost use Rattle.std.specs.Prelude.{◌≡◌, suc, ◌++◌, IfOk};
 ghost use Rattle.gq_alternatives.specs.Matches.{pairs_from, pairs_with};
 
@@ -27,7 +28,8 @@ fn push_pairs(
     first: u32,
     patterns: &[RelPattern<'_>],
 ) -> Result<(), Memory>
-    ensures { IfOk result (λ _. pairs.new ≡ pairs.old ++ pairs_with clause first (suc first) patterns.now) }
+    ensures { IfOk result (λ _.
+        pairs.new ≡ pairs.old ++ pairs_with clause first (suc first) patterns.now) }
 {
     let mut second = first;
     for pattern in patterns {

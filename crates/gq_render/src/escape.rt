@@ -7,7 +7,8 @@ ghost use Rattle.gq_render.specs.Escapes.{byte_text};
 
 use gq_io::{Batch, Failed, Sink};
 
-// Which bytes are written with a backslash: backslash, LF, CR and tab, and in a quoted string the single quote too.
+// Which bytes are written with a backslash: backslash, LF, CR and tab, and in a quoted string the
+// single quote too.
 #[derive(Clone, Copy)]
 pub(crate) enum Form {
     Name,
@@ -16,7 +17,8 @@ pub(crate) enum Form {
 
 // The byte behind the backslash, where the byte is written with one.
 fn escape_of(form: Form, byte: u8) -> Option<u8>
-    ensures { MatchOption result (byte_text form byte ≡ byte ∷ []) (λ letter. byte_text form byte ≡ 92 ∷ letter ∷ []) }
+    ensures { MatchOption result (byte_text form byte ≡ byte ∷ [])
+        (λ letter. byte_text form byte ≡ 92 ∷ letter ∷ []) }
 {
     match (byte, form) {
         (b'\\', _) => Some(b'\\'),

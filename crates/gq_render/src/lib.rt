@@ -1,5 +1,7 @@
-//! The texts of replies, written to a sink: names, refusals, values, rows and listings. Each writer gathers its text in a
-//! batch, so that a sink is called once for some thousand bytes, and takes no memory.
+//! The texts of replies, written to a sink: names, refusals, values, rows and listings. On `Ok` the
+//! exact text was appended, else some front of it. Each writer gathers its text in a batch of
+//! `gq_io`, so that a sink is called once for some thousand bytes, and takes no memory. The crate
+//! stands on the rows of `gq_rows` and the graph of `gq_store`.
 #![tactic(auto)]
 
 mod escape;

@@ -5,7 +5,8 @@ ghost use Rattle.gq_base.specs.Values.{val};
 ghost use Rattle.gq_io.specs.Causes.{HasCause};
 ghost use Rattle.gq_io.specs.Outside.{Writes};
 ghost use Rattle.gq_io.specs.Putting.{Puts};
-ghost use Rattle.gq_render.specs.Listings.{column_names, count_text, end_rows_text, ends_text, header_text, listing_text, row_text, value_text};
+ghost use Rattle.gq_render.specs.Listings.{column_names, count_text, end_rows_text, ends_text};
+ghost use Rattle.gq_render.specs.Listings.{header_text, listing_text, row_text, value_text};
 ghost use Rattle.gq_render.specs.Texts.{after_tab, name_text, tabbed};
 
 use crate::name::put_name;
@@ -183,9 +184,10 @@ fn put_listing<O: Sink>(
     put_row_count(batch, out, listing.len())
 }
 
-/// Writes the reply of a query: the names of its columns, as `write_name` writes them, a line for each row with its values,
-/// as `write_value` writes them, and `rows N` with the number of rows. One tab stands between names and between values. It
-/// takes no memory. After `Failed` the sink took some front of that text.
+/// Writes the reply of a query: the names of its columns, as `write_name` writes them, a line for
+/// each row with its values, as `write_value` writes them, and `rows N` with the number of rows.
+/// One tab stands between names and between values. It takes no memory. After `Failed` the sink
+/// took some front of that text.
 pub fn write_listing<O: Sink>(
     out: &mut O,
     graph: &Graph,
@@ -201,8 +203,8 @@ pub fn write_listing<O: Sink>(
     batch.flush(out)
 }
 
-/// Writes the line of a row, counted from 0, with its LF, as `write_listing` writes it. It takes no memory. After `Failed`
-/// the sink took some front of that text.
+/// Writes the line of a row, counted from 0, with its LF, as `write_listing` writes it. It takes no
+/// memory. After `Failed` the sink took some front of that text.
 pub fn write_row<O: Sink>(
     out: &mut O,
     graph: &Graph,
@@ -252,9 +254,9 @@ fn put_ends<O: Sink>(
     put_row_count(batch, out, listing.len())
 }
 
-/// Writes the lines of the first and of the last row of a listing, also where they are one row, and `rows N` with the number
-/// of rows, as `write_listing` writes them. Where there are no rows it writes `rows 0` alone. It takes no memory. After
-/// `Failed` the sink took some front of that text.
+/// Writes the lines of the first and of the last row of a listing, also where they are one row, and
+/// `rows N` with the number of rows, as `write_listing` writes them. Where there are no rows it
+/// writes `rows 0` alone. It takes no memory. After `Failed` the sink took some front of that text.
 pub fn write_ends<O: Sink>(out: &mut O, graph: &Graph, listing: &Listing<'_>) -> Result<(), Failed>
     ensures bytes { Writes (O.taken out.old) (O.taken out.new)
         (ends_text graph.now listing.now) result }

@@ -1,6 +1,6 @@
 //! Lines that name a refusal.
 
-ghost use Rattle.std.specs.Prelude.{◌++◌, codes, flat_map, map};
+ghost use Rattle.std.specs.Prelude.{◌++◌, flat_map, map};
 ghost use Rattle.gq_io.specs.Causes.{HasCause};
 ghost use Rattle.gq_io.specs.Outside.{Writes};
 ghost use Rattle.gq_io.specs.Putting.{Puts};

@@ -1,18 +1,14 @@
 -- How a reply that was written is one that its statement may have.
-use Rattle.std.proofs.Common.{◌≡◌, ℕ, List, [], ◌∷◌, length, map, suc, Some, None, Ok, Err, refl, sym, ap, ◌∙◌, subst, append-nil, arith, inl, inr}
+use Rattle.std.proofs.Common.{◌≡◌, ℕ, List, [], ◌∷◌, length, map, suc, Some, Ok, Err, refl, sym, ap, ◌∙◌, subst, append-nil, arith, inl, inr}
 use Rattle.std.proofs.lemmas.List.{length-map}
 use Rattle.std.specs.Prelude.{◌<◌, All, ◌++◌, codes, decimal, Result}
 use Rattle.gq_base.specs.Catalogs.{Tables}
-use Rattle.gq_base.specs.Values.{Val}
 use Rattle.gq_binder.specs.Binding.{Answers, IsBound}
 use Rattle.gq_binder.specs.Refusals.{first_refusal}
 use Rattle.gq_binder.specs.declared.refusal.BindRefusal.{BindRefusal}
 use Rattle.gq_binder.specs.declared.refusal.BindRefusal.TheVariants as bind
 use Rattle.gq_execute.specs.Planned.{plans_in}
 use Rattle.gq_execute.specs.Replies.{Reply, Rows, Faulted, TooManyRows, IsPermitted}
-use Rattle.gq_explain.specs.Plans.{plan_text}
-use Rattle.gq_explain.specs.Schema.{schema_text}
-use Rattle.gq_expr.specs.declared.Fault.{Fault}
 use Rattle.gq_io.specs.Causes.{HasCause}
 use Rattle.gq_io.specs.Outside.{Writes}
 use Rattle.gq_io.specs.declared.Failed.{Failed}

@@ -48,21 +48,24 @@ pub fn tone_of(refusal: &BindRefusal) -> Tone
 }
 
 fn named<O: Sink>(out: &mut O, front: &str, name: &Text) -> Result<(), Failed>
-    ensures bytes { Writes (O.taken out.old) (O.taken out.new) (refusal_line front.now name.now []) result }
+    ensures bytes { Writes (O.taken out.old) (O.taken out.new)
+        (refusal_line front.now name.now []) result }
     ensures cause { HasCause (O.faults out.old) (O.faults out.new) result }
 {
     write_refusal(out, front, name.as_str(), &[])
 }
 
 fn alone<O: Sink>(out: &mut O, front: &str) -> Result<(), Failed>
-    ensures bytes { Writes (O.taken out.old) (O.taken out.new) (refusal_line front.now [] []) result }
+    ensures bytes { Writes (O.taken out.old) (O.taken out.new)
+        (refusal_line front.now [] []) result }
     ensures cause { HasCause (O.faults out.old) (O.faults out.new) result }
 {
     write_refusal(out, front, "", &[])
 }
 
 fn on_item<O: Sink>(out: &mut O, front: &str, item: u32) -> Result<(), Failed>
-    ensures bytes { Writes (O.taken out.old) (O.taken out.new) (refusal_line front.now [] (at_item item ∷ [])) result }
+    ensures bytes { Writes (O.taken out.old) (O.taken out.new)
+        (refusal_line front.now [] (at_item item ∷ [])) result }
     ensures cause { HasCause (O.faults out.old) (O.faults out.new) result }
 {
     let places = [Place {

@@ -1,5 +1,7 @@
-//! The reply to one statement over a graph: to a query its rows, to `:schema` the tables, to `:plan` the plans, and else
-//! the line that says why there is none.
+//! The reply to one statement over a graph, which is one that the statement may have: to a query
+//! its rows, to `:schema` the tables, to `:plan` the plans, and else the line that says why there
+//! is none. The crate stands on `gq_syntax` and `gq_binder`, which read the statement, on
+//! `gq_execute`, which answers it, and on `gq_render` and `gq_explain`, which write.
 #![tactic(auto)]
 
 mod bind_line;

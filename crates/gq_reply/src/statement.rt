@@ -1,10 +1,10 @@
 //! The reply to a statement.
 
-ghost use Rattle.std.specs.Prelude.{◌≡◌, ◌≤◌, ◌++◌, length, codes, decimal};
+ghost use Rattle.std.specs.Prelude.{◌≤◌, ◌++◌, length, decimal};
 ghost use Rattle.gq_io.specs.Causes.{HasCause};
 ghost use Rattle.gq_io.specs.Outside.{Writes};
 ghost use Rattle.gq_render.specs.Texts.{line};
-ghost use Rattle.gq_reply.specs.BindLines.{bind_line, bind_tone};
+ghost use Rattle.gq_reply.specs.BindLines.{bind_line};
 ghost use Rattle.gq_reply.specs.Replies.{IsReply, context_of};
 ghost use Rattle.gq_reply.specs.Steps.{Replied};
 ghost use Rattle.gq_session.specs.Sessions.{span_of};
@@ -25,7 +25,8 @@ use gq_syntax::{Query, Statement, SyntaxRefusal, parse};
 
 // Writes a line that ends in the number of a byte.
 fn write_at<O: Sink>(out: &mut O, front: &str, at: u32) -> Result<(), Failed>
-    ensures bytes { Writes (O.taken out.old) (O.taken out.new) (line (front.now ++ decimal at)) result }
+    ensures bytes { Writes (O.taken out.old) (O.taken out.new)
+        (line (front.now ++ decimal at)) result }
     ensures cause { HasCause (O.faults out.old) (O.faults out.new) result }
 {
     let place = Place {
@@ -70,7 +71,8 @@ impl Replier<'_> {
         }
     }
 
-    // Replies to a statement that asks for the profile of a query, which is not built, unless the query cannot be bound.
+    // Replies to a statement that asks for the profile of a query, which is not built, unless the
+    // query cannot be bound.
     fn reply_to_unbuilt<O: Sink>(
         &self,
         out: &mut O,

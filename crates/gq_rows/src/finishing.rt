@@ -3,7 +3,8 @@ ghost use Rattle.std.specs.Prelude.{◌≡◌, List, IfOk};
 ghost use Rattle.gq_plan.specs.Outcomes.{Row};
 ghost use Rattle.gq_rows.specs.Answers.{at_most, columns_of, most_listed, window};
 ghost use Rattle.gq_rows.specs.Keeping.{HoldsOf, held_of};
-ghost use Rattle.gq_rows.specs.Sorting.{ArrangesRows, ChoosesRows, HasFirsts, IsWindowOf, ListsRows};
+ghost use Rattle.gq_rows.specs.Sorting.{ArrangesRows, ChoosesRows, HasFirsts, IsWindowOf};
+ghost use Rattle.gq_rows.specs.Sorting.{ListsRows};
 ghost use Rattle.gq_rows.specs.Tables.{AnswersListings, Holds, StandsForSome};
 
 use crate::held::Rows;
@@ -111,8 +112,8 @@ fn listing_of<'g>(alloc: Global, bound: &Bound, rows: Rows<'g>) -> Result<Listin
 }
 
 impl<'g> RowTable<'g> {
-    /// The lines that answer the listings of outcomes that the table stands for. A table that refused an assignment
-    /// stands for none.
+    /// The lines that answer the listings of outcomes that the table stands for. A table that
+    /// refused an assignment stands for none.
     pub fn finish(self) -> Result<Listing<'g>, Memory>
         requires { StandsForSome self }
         ensures { IfOk result (AnswersListings self.entry) }

@@ -2,7 +2,8 @@
 ghost use Rattle.std.specs.Prelude.{◌≡◌, ◌+◌, ◌<◌, ◌≤◌, ◌^◌, false, length, map, min, true};
 ghost use Rattle.gq_rows.specs.Judged.{asked_outcome, column_count, key_count};
 ghost use Rattle.gq_base.specs.Values.{val};
-ghost use Rattle.gq_rows.specs.Keeping.{Adds, AddsFirst, IsBehind, IsOpen, PushesBy, bar_of, last_of};
+ghost use Rattle.gq_rows.specs.Keeping.{Adds, AddsFirst, IsBehind, IsOpen, PushesBy, bar_of};
+ghost use Rattle.gq_rows.specs.Keeping.{last_of};
 ghost use Rattle.gq_rows.specs.declared.held.Form.TheVariants.{All, Classes, First, Top};
 
 use crate::judging::{Question, judge};
@@ -26,9 +27,10 @@ pub enum Form {
     Classes,
 }
 
-/// The values of rows, one row after another: those of the columns, and those of the keys. With DISTINCT the columns of
-/// the first row of each class are in the set, and the list of columns is work space. Where only the rows that come first
-/// count, the bar has the keys of the last of them since the rows were cut last.
+/// The values of rows, one row after another: those of the columns, and those of the keys. With
+/// DISTINCT the columns of the first row of each class are in the set, and the list of columns is
+/// work space. Where only the rows that come first count, the bar has the keys of the last of them
+/// since the rows were cut last.
 #[derive(Drop)]
 pub struct Rows<'g> {
     pub(crate) columns: Vec<Value<'g>>,
@@ -48,7 +50,8 @@ impl<'g> Rows<'g> {
     ) -> Result<bool, RowRefusal>
         requires { self.old.count < 2 ^ 40 }
         ensures { let adds = Adds (column_count question.now) (key_count question.now) in
-            adds (asked_outcome question.now row.now) may question.now.limit self.old self.new result }
+            adds (asked_outcome question.now row.now) may question.now.limit
+            self.old self.new result }
     {
         match judge(&mut self.columns, &mut self.keys, question, row) {
             Ok(true) => {

@@ -3,7 +3,8 @@ ghost use Rattle.std.specs.Prelude.{◌≡◌};
 ghost use Rattle.gq_expr.specs.Operators.{outcome};
 ghost use Rattle.gq_plan.specs.Outcomes.{key_meanings, late_conjuncts, meanings_of};
 ghost use Rattle.gq_plan.specs.Rows.{as_read};
-ghost use Rattle.gq_rows.specs.Judged.{Judges, PushesValues, asked_outcome, behind, check_after, column_count, key_count, one_more};
+ghost use Rattle.gq_rows.specs.Judged.{Judges, PushesValues, asked_outcome, behind, check_after};
+ghost use Rattle.gq_rows.specs.Judged.{column_count, key_count, one_more};
 ghost use Rattle.gq_rows.specs.declared.judging.Checked.TheVariants.{Met};
 
 use crate::refusal::RowRefusal;
@@ -51,12 +52,14 @@ fn after(checked: Checked, answer: Result<Value<'_>, Fault>) -> Checked
     }
 }
 
-// Looks at the conjuncts that the alternative leaves: one that drops counts before any fault, also an earlier one.
+// Looks at the conjuncts that the alternative leaves: one that drops counts before any fault, also
+// an earlier one.
 
 #[tactic(auto, using(crate::proofs::Dropping::stays_dropped))]
 fn check_late(graph: &Graph, bound: &Bound, row: &TypedRow<'_>) -> Checked
     ensures { let here = as_read row.now.typed.now row.now.row.now in
-        result ≡ check_after Met (meanings_of graph.now here (late_conjuncts bound.now row.now.typed.now)) }
+        result ≡ check_after Met
+        (meanings_of graph.now here (late_conjuncts bound.now row.now.typed.now)) }
 {
     let late = row.typed.late.as_slice();
     let mut checked = Checked::Met;
@@ -79,7 +82,8 @@ fn push_columns<'g>(
     row: &TypedRow<'_>,
 ) -> Result<(), RowRefusal>
     ensures { let here = as_read row.now.typed.now row.now.row.now in
-        PushesValues (meanings_of graph.now here columns.now) values.old.items values.new.items result }
+        PushesValues (meanings_of graph.now here columns.now)
+        values.old.items values.new.items result }
 {
     'columns: for column in columns {
         match eval(&column.expr, graph, row) {
@@ -102,7 +106,8 @@ fn push_keys<'g>(
     row: &TypedRow<'_>,
 ) -> Result<(), RowRefusal>
     ensures { let here = as_read row.now.typed.now row.now.row.now in
-        PushesValues (key_meanings graph.now here keys.now) values.old.items values.new.items result }
+        PushesValues (key_meanings graph.now here keys.now)
+        values.old.items values.new.items result }
 {
     'keys: for key in keys {
         match eval(&key.expr, graph, row) {
@@ -117,8 +122,8 @@ fn push_keys<'g>(
     Ok(())
 }
 
-/// Appends the values of an assignment's row, or answers false where the conjuncts that are left drop it. After a refusal
-/// some of the values may stand there.
+/// Appends the values of an assignment's row, or answers false where the conjuncts that are left
+/// drop it. After a refusal some of the values may stand there.
 pub(crate) fn judge<'g>(
     columns: &mut Vec<Value<'g>>,
     keys: &mut Vec<Value<'g>>,
@@ -126,7 +131,8 @@ pub(crate) fn judge<'g>(
     row: &Assignment,
 ) -> Result<bool, RowRefusal>
     ensures { let judges = Judges (column_count question.now) (key_count question.now) in
-        judges (asked_outcome question.now row.now) columns.old.items columns.new.items keys.old.items keys.new.items result }
+        judges (asked_outcome question.now row.now)
+        columns.old.items columns.new.items keys.old.items keys.new.items result }
 {
     let graph = question.graph;
     let bound = question.bound;

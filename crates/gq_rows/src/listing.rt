@@ -1,12 +1,13 @@
 //! The lines of an answer.
-ghost use Rattle.std.specs.Prelude.{◌≡◌, ◌<◌, [], All, Some, length, map, nat_eq, slice_get, slice_index_or};
+ghost use Rattle.std.specs.Prelude.{◌≡◌, ◌<◌, [], All, Some, length, map, nat_eq, slice_get};
+ghost use Rattle.std.specs.Prelude.{slice_index_or};
 ghost use Rattle.gq_base.specs.Values.{null, val};
 
 use gq_base::Value;
 use std::marker::Model;
 
-/// The lines that answer a query, each with one value for each of its columns. The first lines of the list of values are
-/// skipped.
+/// The lines that answer a query, each with one value for each of its columns. The first lines of
+/// the list of values are skipped.
 #[derive(Drop)]
 pub struct Listing<'g> {
     pub(crate) values: Vec<Value<'g>>,

@@ -1,7 +1,8 @@
 //! The table that takes the rows of a query.
-ghost use Rattle.std.specs.Prelude.{◌≡◌, [], None, Some, IsSome, false, true};
+ghost use Rattle.std.specs.Prelude.{◌≡◌, [], None, Some, IsSome, false};
 ghost use Rattle.gq_rows.specs.Keeping.{HasForm};
-ghost use Rattle.gq_rows.specs.Tables.{IsSameQuery, PushesRow, StandsFor, StandsForSome, is_full_table};
+ghost use Rattle.gq_rows.specs.Tables.{IsSameQuery, PushesRow, StandsFor, StandsForSome};
+ghost use Rattle.gq_rows.specs.Tables.{is_full_table};
 
 use crate::held::{Form, Rows};
 use crate::judging::Question;
@@ -12,11 +13,11 @@ use indexmap::IndexSet;
 use std::alloc::Global;
 use std::marker::Model;
 
-/// The rows of a query as far as they may be answered. It takes the assignments of one alternative after another, and
-/// stands for the listing of their outcomes.
+/// The rows of a query as far as they may be answered. It takes the assignments of one alternative
+/// after another, and stands for the listing of their outcomes.
 ///
-/// It holds all rows that are looked at; but with DISTINCT only the first row of each class, and without DISTINCT, with
-/// ORDER BY and LIMIT at most twice SKIP plus LIMIT of them.
+/// It holds all rows that are looked at; but with DISTINCT only the first row of each class, and
+/// without DISTINCT, with ORDER BY and LIMIT at most twice SKIP plus LIMIT of them.
 #[derive(Drop)]
 pub struct RowTable<'g> {
     pub(crate) alloc: Global,
@@ -64,7 +65,8 @@ fn form_of(bound: &Bound) -> Form
 }
 
 impl<'g> RowTable<'g> {
-    /// A table without rows, for the rows of a query, of which at most `limit` are kept. It takes no memory.
+    /// A table without rows, for the rows of a query, of which at most `limit` are kept. It takes
+    /// no memory.
     pub fn new(alloc: Global, bound: &'g Bound, limit: u32) -> RowTable<'g>
         ensures none { StandsFor bound.now limit [] result.held }
         ensures bound { result.bound ≡ bound.now }
@@ -94,9 +96,11 @@ impl<'g> RowTable<'g> {
         self.typed = Some(typed);
     }
 
-    /// Takes an assignment of the alternative that was started. After a refusal the table may only be dropped.
+    /// Takes an assignment of the alternative that was started. After a refusal the table may only
+    /// be dropped.
     ///
-    /// It refuses with the fault of the outcome, or where the kept rows would be more than the limit.
+    /// It refuses with the fault of the outcome, or where the kept rows would be more than the
+    /// limit.
     pub fn push_row(&mut self, row: &Assignment, graph: &'g Graph) -> Result<More, RowRefusal>
         requires started { IsSome self.old.alternative }
         requires stands { StandsForSome self.old }
@@ -121,8 +125,8 @@ impl<'g> RowTable<'g> {
         }
     }
 
-    /// Whether further assignments cannot change what the table answers: with LIMIT, but neither DISTINCT nor ORDER BY,
-    /// SKIP plus LIMIT rows are held.
+    /// Whether further assignments cannot change what the table answers: with LIMIT, but neither
+    /// DISTINCT nor ORDER BY, SKIP plus LIMIT rows are held.
     pub fn enough(&self) -> bool
         ensures { result ≡ is_full_table self.now }
     {

@@ -1,4 +1,6 @@
-//! A sample graph of so many persons, to try the program without any file, and the questions that are asked of it.
+//! A sample graph of so many persons, to try the program without any file, and the questions that
+//! are asked of it. The graph of a size is that of its definition. The crate stands on `gq_plain`
+//! and `gq_store`, which keep its rows.
 #![tactic(auto)]
 
 ghost use Rattle.std.specs.Prelude.{◌≡◌, ◌≤◌, IfOk};

@@ -1,6 +1,7 @@
 //! Who knows whom in the sample graph, and who lives where.
 ghost use Rattle.std.specs.Prelude.{◌≡◌, ◌≤◌, ◌++◌, IfOk, OnOk};
-ghost use Rattle.gq_sample.specs.Sample.{has_home, homes_of, known_by, knows, knows_of, lives_in, since};
+ghost use Rattle.gq_sample.specs.Sample.{has_home, homes_of, known_by, knows, knows_of, lives_in};
+ghost use Rattle.gq_sample.specs.Sample.{since};
 
 use crate::nodes::city_count;
 use gq_base::{Cell, List, Memory, PlainRel, RelRows};

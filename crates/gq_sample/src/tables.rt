@@ -1,6 +1,8 @@
 //! The catalogue of the sample graph.
-ghost use Rattle.std.specs.Prelude.{◌≡◌, [], ◌∷◌, IfOk};
-ghost use Rattle.gq_sample.specs.Sample.{city_fields, city_table, field, knows_fields, knows_table, lives_in_table, person_fields, person_table, sample_tables};
+ghost use Rattle.std.specs.Prelude.{◌≡◌, IfOk};
+ghost use Rattle.gq_sample.specs.Sample.{city_table, field, knows_table};
+ghost use Rattle.gq_sample.specs.Sample.{lives_in_table, person_table};
+ghost use Rattle.gq_sample.specs.Sample.{sample_tables};
 
 use gq_base::{Catalog, Field, Kind, List, Memory, Mult, NodeTable, RelTable, Text};
 use std::alloc::Global;

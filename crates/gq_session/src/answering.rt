@@ -46,7 +46,8 @@ pub trait Answerer {
     /// The longest statement that it answers, in bytes.
     ghost longest: { ℕ };
 
-    /// Writes a reply to the statement, and says what it is like. After `Failed` some front of a reply was written.
+    /// Writes a reply to the statement, and says what it is like. After `Failed` some front of a
+    /// reply was written.
     fn answer<O: Sink>(
         &self,
         workspace: &mut Self::Workspace,
@@ -56,9 +57,11 @@ pub trait Answerer {
         requires ready { ready workspace.old }
         requires fits { length statement.now ≤ longest }
         ensures ready { ready workspace.new }
-        ensures bytes { Answered (answers self.now statement.now) (O.taken out.old) (O.taken out.new) result }
+        ensures bytes { Answered (answers self.now statement.now)
+            (O.taken out.old) (O.taken out.new) result }
         ensures cause { HasCause (O.faults out.old) (O.faults out.new) result };
 
     /// Each statement has a reply.
-    ghost has_reply: { (a : Self) (statement : List ℕ) → (t : Tone) × (reply : List ℕ) × answers a statement t reply };
+    ghost has_reply: { (a : Self) (statement : List ℕ) → (t : Tone) × (reply : List ℕ)
+        × answers a statement t reply };
 }

@@ -1,5 +1,6 @@
-//! A session: the input is cut into statements at each `;` that stands in no string, quoted name or comment, and each
-//! statement is answered. What is written does not depend on the pieces in which the input comes.
+//! A session: the input is cut into statements at each `;` that stands in no string, quoted name or
+//! comment, and each statement is answered. What is written does not depend on the pieces in which
+//! the input comes.
 #![tactic(auto)]
 
 mod answering;

@@ -1,6 +1,6 @@
 //! The scanner: a machine over bytes that finds where a statement ends.
 
-ghost use Rattle.std.specs.Prelude.{◌≡◌, ℕ, ◌≤◌, length};
+ghost use Rattle.std.specs.Prelude.{◌≡◌, ◌≤◌, length};
 ghost use Rattle.gq_session.specs.Feeding.{Feeds, scan_of};
 ghost use Rattle.gq_session.specs.Scanning.{ends, next_state};
 

@@ -1,6 +1,6 @@
 -- For given words, files and input one status alone may be answered, but where memory may end and for queries that may have
 -- rows or a fault.
-use Rattle.std.proofs.Common.{◌≡◌, ℕ, List, [], Some, None, Ok, Err, codes, refl, sym, ap, ◌∙◌, subst, inl, inr}
+use Rattle.std.proofs.Common.{◌≡◌, ℕ, List, Some, None, Ok, codes, refl, sym, ap, ◌∙◌, subst, inl, inr}
 use Rattle.std.specs.Prelude.{◌⊎◌, Option, Result}
 use Rattle.std.specs.Io.KnownBytes.{Appends}
 use Rattle.clap.specs.Words.{Row, Text, first_of}

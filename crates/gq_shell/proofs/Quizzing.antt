@@ -1,5 +1,5 @@
 -- One question after another.
-use Rattle.std.proofs.Common.{◌≡◌, ℕ, ◌+◌, ◌-◌, ◌≤◌, List, [], ◌∷◌, ◌++◌, drop, map, Ok, Err, refl, sym, ap, ap₂, ◌∙◌, subst, append_assoc, arith}
+use Rattle.std.proofs.Common.{◌≡◌, ℕ, ◌+◌, ◌-◌, ◌≤◌, List, [], ◌∷◌, ◌++◌, drop, map, Ok, Err, refl, sym, ap₂, ◌∙◌, subst, arith}
 use Rattle.std.specs.Prelude.{Result}
 use Rattle.std.specs.Io.KnownBytes.{Appends}
 use Rattle.std.specs.List.{range_with_len}
@@ -9,14 +9,12 @@ use Rattle.std.proofs.lemmas.List.{drop-map, take-append-drop}
 use Rattle.gq_io.proofs.Counts.{Rose-later}
 use Rattle.gq_io.proofs.Moved.{Appends-both, front_after, front_longer}
 use Rattle.gq_io.specs.Causes.{HasCause}
-use Rattle.gq_io.specs.Outside.{AppendsFront, Writes}
+use Rattle.gq_io.specs.Outside.{AppendsFront}
 use Rattle.gq_io.specs.declared.Failed.{Failed}
 use Rattle.gq_reply.specs.Replies.{Context, IsReply, memory_line}
-use Rattle.gq_reply.specs.Steps.{Replied}
 use Rattle.gq_sample.specs.Questions.{question_text}
 use Rattle.gq_session.proofs.Texts.{front-more, front-one, replies-append, wrote-more, wrote-one}
 use Rattle.gq_session.specs.Replies.{Answered, Replies, Wrote, WroteFront}
-use Rattle.gq_session.specs.Sessions.{Span}
 use Rattle.gq_session.specs.Tones.{worse}
 use Rattle.gq_session.specs.declared.answering.Tone.{Tone}
 use Rattle.gq_session.specs.declared.answering.Tone.TheVariants as tone

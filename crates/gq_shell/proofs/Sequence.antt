@@ -1,9 +1,9 @@
 -- One text written after another, which together are a text.
-use Rattle.std.proofs.Common.{◌≡◌, ℕ, List, ◌++◌, Option, Result, Ok, Err, refl, subst}
+use Rattle.std.proofs.Common.{◌≡◌, ℕ, List, ◌++◌, Option, Result, Ok, Err, subst}
 use Rattle.std.specs.Result.{IsErrAnd}
 use Rattle.std.specs.Io.KnownBytes.{Appends}
 use Rattle.std.proofs.lemmas.Result.{err_from_is_err_and}
-use Rattle.gq_io.specs.Outside.{AppendsFront, Writes}
+use Rattle.gq_io.specs.Outside.{Writes}
 use Rattle.gq_io.proofs.Moved.{Appends-both, front_after, front_longer}
 
 -- a text was written, and then another was written or broke off

@@ -22,7 +22,6 @@ use Rattle.gq_session.specs.Replies.{Replies}
 use Rattle.gq_session.specs.Whole as session
 use Rattle.gq_session.specs.declared.answering.Tone.{Tone}
 use Rattle.gq_session.specs.declared.answering.Tone.TheVariants as tone
-use Rattle.gq_session.specs.declared.run.Stop.{Stop}
 use Rattle.gq_session.specs.declared.run.Stop.TheVariants as stop
 use Rattle.gq_shell.specs.LoadLines.{load_line}
 use Rattle.gq_shell.specs.Questions.{IsNumbered, questions}

@@ -1,4 +1,5 @@
-//! One run of the program: which status it may end with for its words, files and input, and what it writes then.
+//! One run of the program: which status it may end with for its words, files and input, and what it
+//! writes then.
 #![tactic(auto)]
 
 mod load_line;

@@ -1,5 +1,6 @@
 //! A graph as queries read it.
-ghost use Rattle.std.specs.Prelude.{◌≡◌, ◌≢◌, ℕ, ◌+◌, ◌<◌, ◌≤◌, ◌^◌, true, false, List, length, slice_get, All, IfOk, IfSome, Some, None};
+ghost use Rattle.std.specs.Prelude.{◌≡◌, ◌≢◌, ℕ, ◌+◌, ◌<◌, ◌≤◌, ◌^◌, true, false, List, length};
+ghost use Rattle.std.specs.Prelude.{slice_get, All, IfOk, IfSome, Some, None};
 ghost use Rattle.gq_adj.specs.Adjacent.{targets};
 ghost use Rattle.gq_base.specs.Plain.{cell_val};
 ghost use Rattle.gq_base.specs.Valid.{is_valid, row_count};
@@ -8,7 +9,8 @@ ghost use Rattle.gq_base.specs.declared.Mult.TheVariants.{ManyMany};
 ghost use Rattle.gq_store.specs.Cells.{node_cell, node_fields, rel_cell, rel_fields};
 ghost use Rattle.gq_store.specs.Columns.{AreCells, IsDictOf, node_cells};
 ghost use Rattle.gq_store.specs.Kept.{AreNodesKept, AreRelsKept};
-ghost use Rattle.gq_store.specs.Neighbours.{is_listed, mult_at, near_ends, near_rows, neighbours, numbers, opposite, rels_at};
+ghost use Rattle.gq_store.specs.Neighbours.{is_listed, mult_at, near_ends, near_rows, neighbours};
+ghost use Rattle.gq_store.specs.Neighbours.{numbers, opposite, rels_at};
 ghost use Rattle.gq_store.specs.Places.{by_source, first_number, number_at};
 ghost use Rattle.gq_store.specs.RelColumns.{rel_cells};
 ghost use Rattle.gq_store.specs.Stored.{AreLinked, IsLinked, IsSide};
@@ -29,10 +31,11 @@ use std::snapshot::Snapshot;
 /// and those of relationships by place. It is seen as the plain graph of which it was made, which
 /// stands for contracts alone.
 ///
-/// Tables, rows and load numbers are counted from 0. The load number of a relationship is its number among those of its
-/// table as they stand in the file; its place goes by its ends. The place is the row of the source where a source has one
-/// relationship at most, else the row of the target where a target has one at most, else the number in the order of
-/// sources and, for each source, of load numbers.
+/// Tables, rows and load numbers are counted from 0. The load number of a relationship is its
+/// number among those of its table as they stand in the file; its place goes by its ends. The place
+/// is the row of the source where a source has one relationship at most, else the row of the target
+/// where a target has one at most, else the number in the order of sources and, for each source, of
+/// load numbers.
 #[derive(Drop)]
 pub struct Graph {
     // The plain graph that this one stands for, for contracts alone: it has no bytes.
@@ -106,8 +109,8 @@ impl Graph {
         self.rels[rel as usize].rows
     }
 
-    /// Whether a row may have many relationships of a table in a direction. It is false forward where a source has one at
-    /// most, and backward where a target has one at most.
+    /// Whether a row may have many relationships of a table in a direction. It is false forward
+    /// where a source has one at most, and backward where a target has one at most.
     pub fn listed(&self, rel: u32, direction: Direction) -> bool
         requires { rel < length self.now.catalog.rels }
         ensures { result ≡ is_listed self.now rel direction }
@@ -115,13 +118,15 @@ impl Graph {
         matches!(self.side(rel, direction), Side::Listed(_))
     }
 
-    /// The rows that a row's relationships lead to, in load order, where a row may have many. Nothing is copied.
+    /// The rows that a row's relationships lead to, in load order, where a row may have many.
+    /// Nothing is copied.
     pub fn list(&self, rel: u32, direction: Direction, row: u32) -> &[u32]
         requires within { rel < length self.now.catalog.rels }
         requires listed { is_listed self.now rel direction ≡ true }
         requires row { row < near_rows self.now rel direction }
         ensures neighbours { result.now ≡ neighbours self.now rel direction row }
-        ensures ends { All (λ other. other < near_rows self.now rel (opposite direction)) result.now }
+        ensures ends { All (λ other.
+            other < near_rows self.now rel (opposite direction)) result.now }
         ensures few { length result.now < 2 ^ 32 }
     {
         match self.side(rel, direction) {
@@ -130,14 +135,16 @@ impl Graph {
         }
     }
 
-    /// The row that a row's relationship leads to, where a row has one at most, or `None` where it has none.
+    /// The row that a row's relationship leads to, where a row has one at most, or `None` where it
+    /// has none.
     pub fn single(&self, rel: u32, direction: Direction, row: u32) -> Option<u32>
         requires within { rel < length self.now.catalog.rels }
         requires single { is_listed self.now rel direction ≡ false }
         requires row { row < near_rows self.now rel direction }
         ensures neighbour { result ≡ slice_get (neighbours self.now rel direction row) 0 }
         ensures one { length (neighbours self.now rel direction row) ≤ 1 }
-        ensures ends { IfSome result (λ other. other < near_rows self.now rel (opposite direction)) }
+        ensures ends { IfSome result (λ other.
+            other < near_rows self.now rel (opposite direction)) }
     {
         match self.side(rel, direction) {
             Side::Listed(_) => unreachable!(),
@@ -145,12 +152,14 @@ impl Graph {
         }
     }
 
-    /// The place of a row's relationship, by its position among the row's relationships in a direction.
+    /// The place of a row's relationship, by its position among the row's relationships in a
+    /// direction.
     pub fn edge_place(&self, rel: u32, direction: Direction, row: u32, position: u32) -> u32
         requires within { rel < length self.now.catalog.rels }
         requires row { row < near_rows self.now rel direction }
         requires position { position < length (neighbours self.now rel direction row) }
-        ensures number { number_at self.now rel result ≡ slice_get (numbers self.now rel direction row) position }
+        ensures number { number_at self.now rel result
+            ≡ slice_get (numbers self.now rel direction row) position }
         ensures there { number_at self.now rel result ≢ None }
     {
         match &self.links(rel).places {
@@ -190,7 +199,8 @@ impl Graph {
         }
     }
 
-    /// The value of a property of a node, by the property's place in its table: null where the cell is.
+    /// The value of a property of a node, by the property's place in its table: null where the cell
+    /// is.
     pub fn node_value(&self, table: u32, property: u32, row: u32) -> Value<'_>
         requires within { table < length self.now.catalog.nodes }
         requires property { property < length (node_fields self.now table) }
@@ -220,8 +230,8 @@ impl Graph {
         self.nodes[table as usize].properties[property as usize].dict()
     }
 
-    /// The value of a property of the relationship with a load number, by the property's place in its table: null where
-    /// the cell is.
+    /// The value of a property of the relationship with a load number, by the property's place in
+    /// its table: null where the cell is.
     pub fn rel_value(&self, rel: u32, property: u32, number: u32) -> Value<'_>
         requires within { rel < length self.now.catalog.rels }
         requires property { property < length (rel_fields self.now rel) }
@@ -266,7 +276,8 @@ impl Graph {
         requires { rel < length self.now.catalog.rels }
         ensures valid { is_valid self.now ≡ true }
         ensures side { IsSide (is_listed self.now rel direction) (near_rows self.now rel direction)
-            (near_ends self.now rel direction) (near_ends self.now rel (opposite direction)) result.now }
+            (near_ends self.now rel direction) (near_ends self.now rel (opposite direction))
+            result.now }
     {
         let links = self.links(rel);
         match direction {
@@ -292,12 +303,15 @@ impl Graph {
         }
     }
 
-    // The row at an end of one of a row's relationships: the end from which relationships are followed in the direction `at`.
+    // The row at an end of one of a row's relationships: the end from which relationships are
+    // followed in the direction `at`.
     fn end(&self, rel: u32, direction: Direction, row: u32, position: u32, at: Direction) -> u32
         requires within { rel < length self.now.catalog.rels }
         requires row { row < near_rows self.now rel direction }
         requires position { position < length (neighbours self.now rel direction row) }
-        ensures { slice_get (targets row (near_ends self.now rel direction) (near_ends self.now rel at)) position ≡ Some result }
+        ensures { slice_get
+            (targets row (near_ends self.now rel direction) (near_ends self.now rel at)) position
+            ≡ Some result }
     {
         match (direction, at) {
             (Direction::Forward, Direction::Forward) | (Direction::Backward, Direction::Backward) =>
@@ -313,7 +327,8 @@ impl Graph {
         requires many { mult_at self.now rel ≡ Some ManyMany }
         requires row { row < near_rows self.now rel Direction.Forward }
         requires position { position < length (neighbours self.now rel Direction.Forward row) }
-        ensures { slice_get (by_source self.now rel) result ≡ slice_get (numbers self.now rel Direction.Forward row) position }
+        ensures { slice_get (by_source self.now rel) result
+            ≡ slice_get (numbers self.now rel Direction.Forward row) position }
     {
         match &self.links(rel).forward {
             Side::Listed(lists) => lists.start(row) + position,
@@ -327,7 +342,8 @@ impl Graph {
         requires many { mult_at self.now rel ≡ Some ManyMany }
         requires row { row < near_rows self.now rel Direction.Backward }
         requires position { position < length (neighbours self.now rel Direction.Backward row) }
-        ensures { slice_get (by_source self.now rel) result ≡ slice_get (numbers self.now rel Direction.Backward row) position }
+        ensures { slice_get (by_source self.now rel) result
+            ≡ slice_get (numbers self.now rel Direction.Backward row) position }
     {
         let links = self.links(rel);
         let Places::Paged(pages) = &links.places else {

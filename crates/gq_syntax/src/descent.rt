@@ -1,6 +1,6 @@
 //! Expressions, by descent: one function for each production. They recur only where a construct nests.
 
-ghost use Rattle.std.specs.Prelude.{◌≡◌, ◌<◌};
+ghost use Rattle.std.specs.Prelude.{◌<◌};
 ghost use Rattle.gq_syntax.specs.Nesting.{Nests, Opens};
 ghost use Rattle.gq_syntax.specs.Parsers as p;
 ghost use Rattle.gq_syntax.specs.Parsing.{Reads};

@@ -1,6 +1,5 @@
 //! Literals and lists of them.
 
-ghost use Rattle.std.specs.Prelude.{◌≡◌};
 ghost use Rattle.gq_syntax.specs.Parsers as p;
 ghost use Rattle.gq_syntax.specs.Parsing.{Reads};
 

@@ -1,9 +1,10 @@
 //! Statements, from their text.
 
-ghost use Rattle.std.specs.Prelude.{◌≡◌, ℕ, ◌^◌, ◌<◌, ◌≤◌, length, List, Ok, Err};
+ghost use Rattle.std.specs.Prelude.{◌≡◌, ℕ, ◌≤◌, length, List, Ok, Err};
 ghost use Rattle.gq_lexer.specs.Tokens.{lexed};
 ghost use Rattle.gq_lexer.specs.declared.token.Token.{Token};
-ghost use Rattle.gq_syntax.specs.Outcomes.{Cause, ComesWhere, DepthAt, SpelledText, SpellsOne, SyntaxAt, place_of};
+ghost use Rattle.gq_syntax.specs.Outcomes.{Cause, ComesWhere, DepthAt, SpelledText, SpellsOne};
+ghost use Rattle.gq_syntax.specs.Outcomes.{SyntaxAt, place_of};
 ghost use Rattle.gq_syntax.specs.declared.refusal.SyntaxRefusal.TheVariants as refusal;
 ghost use Rattle.gq_syntax.specs.declared.statement.Statement.{Statement};
 
@@ -41,7 +42,8 @@ fn answered(alloc: Global, text: &[u8]) -> Result<Statement, SyntaxRefusal>
     }
 }
 
-/// The statement that a text spells, or why and where it spells none. It takes time in proportion to the text.
+/// The statement that a text spells, or why and where it spells none. It takes time in proportion
+/// to the text.
 pub fn parse(alloc: Global, text: &[u8]) -> Result<Statement, SyntaxRefusal>
     requires { length text.now ≤ 65536 }
     ensures whole { (s : Statement) → ComesWhere (SpelledText text.now s) (Ok s) result }

@@ -1,6 +1,5 @@
 //! Statements and their clauses.
 
-ghost use Rattle.std.specs.Prelude.{◌≡◌};
 ghost use Rattle.gq_syntax.specs.Parsers as p;
 ghost use Rattle.gq_syntax.specs.Parsing.{Reads};
 

@@ -93,10 +93,12 @@ fn most_rows(text: Option<&str>) -> Option<u32>
     }
 }
 
-/// What the options say, or `None` where they say nothing: not exactly one of manifest and sample is given.
+/// What the options say, or `None` where they say nothing: not exactly one of manifest and sample
+/// is given.
 pub fn meaning_of<'a>(matches: &ArgMatches<'a>) -> Option<Words<'a>>
     ensures some { IfSome result (Means (rows_of (found_of matches.now))) }
-    ensures none { IfNone result ((words : Words) → ¬ (Means (rows_of (found_of matches.now)) words)) }
+    ensures none { IfNone result
+        ((words : Words) → ¬ (Means (rows_of (found_of matches.now)) words)) }
 {
     let Some(source) = source_of(matches.get_str("manifest"), matches.get_str("sample")) else {
         return None;

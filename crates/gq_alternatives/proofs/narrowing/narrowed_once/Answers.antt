@@ -1,4 +1,4 @@
-use Rattle.std.proofs.Common.{◌≡◌, ℕ, List, map, ap, ap₂, ◌∙◌}
+use Rattle.std.proofs.Common.{ℕ, List, map, ap, ap₂, ◌∙◌}
 use Rattle.gq_base.specs.Catalogs.{Tables}
 use Rattle.gq_alternatives.specs.Searching.{Step, agreeing, kept, standing, supported}
 use Rattle.gq_alternatives.proofs.Narrowed.{standing_agree, supported_agree}

@@ -1,4 +1,4 @@
-use Rattle.std.proofs.Common.{◌≡◌, ℕ, ◌∷◌, [], ◌++◌, List, Option, Some, None, true, OnOk, ◌-◌, length, take, drop, map, flat_map, slice_get, get_or, sym, ap, ◌∙◌, subst, refl}
+use Rattle.std.proofs.Common.{◌≡◌, ℕ, ◌++◌, List, Some, None, true, OnOk, ◌-◌, length, take, drop, map, flat_map, slice_get, get_or, sym, ap, ◌∙◌, subst}
 use Rattle.std.proofs.lemmas.Bool.{ltb-true}
 use Rattle.std.proofs.lemmas.List.{get_or_default}
 use Rattle.gq_alternatives.specs.Alternatives.{Choice}

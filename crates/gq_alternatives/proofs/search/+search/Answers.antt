@@ -1,7 +1,6 @@
-use Rattle.std.proofs.Common.{◌≡◌, ℕ, ◌-◌, ◌≤◌, nat_lt, ◌∷◌, [], ◌++◌, List, Option, Some, None, true, OnOk, length, take, drop, map, flat_map, slice_get, slice_set, get_or, sym, ap, ◌∙◌, subst, refl, arith}
+use Rattle.std.proofs.Common.{◌≡◌, ℕ, ◌-◌, ◌≤◌, nat_lt, ◌∷◌, [], ◌++◌, List, Option, Some, true, OnOk, length, take, drop, map, flat_map, slice_get, sym, ap, ◌∙◌, subst, arith}
 use Rattle.std.proofs.lemmas.Bool.{ltb-true}
 use Rattle.std.proofs.lemmas.Option.{slice_get_past}
-use Rattle.std.proofs.lemmas.List.{get_or_default}
 use Rattle.gq_alternatives.specs.Alternatives.{Choice, Reading}
 use Rattle.gq_alternatives.specs.Searching.{Found, Space, Step, adding, filled, following, knowing, reached, searched, may_be}
 use Rattle.gq_scopes.specs.Patterns.{RelPattern}

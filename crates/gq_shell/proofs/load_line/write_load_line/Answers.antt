@@ -1,4 +1,4 @@
-use Rattle.std.proofs.Common.{◌≡◌, ◌++◌, ◌∙◌, ap, codes, refl}
+use Rattle.std.proofs.Common.{◌++◌, ◌∙◌, codes}
 use Rattle.gq_io.proofs.Moved.{Appends-both}
 use Rattle.gq_loader.specs.Refusals.{name_of}
 use Rattle.gq_shell.proofs.Sequence.{broke, writes_then}

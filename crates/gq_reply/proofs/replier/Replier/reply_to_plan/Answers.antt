@@ -1,4 +1,4 @@
-use Rattle.std.proofs.Common.{◌≡◌, length, ap, ◌∙◌, refl, sym}
+use Rattle.std.proofs.Common.{◌≡◌, length, ap, ◌∙◌, refl}
 use Rattle.gq_explain.specs.Plans.{plan_text}
 use Rattle.gq_reply.proofs.Replying.{as_many, columns_long, replied}
 use Rattle.gq_reply.specs.Replies.{context_of}
