@@ -3,8 +3,11 @@
 
 ghost use Rattle.std.specs.Prelude.{◌≡◌, ◌↔◌, ℕ, List, ◌^◌, ◌<◌, ◌≤◌, ◌-◌, [], true, false, length, ◌&&◌, nat_le, nat_lt, nat_eq, Contains, IfOk, IfSome, IfNone, count_by, map, ◌≢◌};
 ghost use Rattle.std.specs.List.{starts_with};
-ghost use Rattle.gq_dict.specs.Texts.{IsAscending, IsInOrder, comes_before, text_at};
+ghost use Rattle.gq_dict.specs.Texts.{IsAscending, comes_before, text_at};
 
+mod coding;
+
+pub use coding::Coded;
 use gq_base::{List, Memory, Text};
 use std::alloc::Global;
 use std::marker::Model;
@@ -40,21 +43,8 @@ impl Dict {
         ensures ascending { IfOk result IsAscending }
         ensures same { IfOk result (λ dict. (text : List ℕ) → Contains dict text ↔ Contains texts.now text) }
     {
-        Dict::of_borrowed(alloc, borrowed(alloc, texts.as_slice())?)
-    }
-
-    /// The dictionary of borrowed texts, in which each stands once. Each distinct text is copied once.
-    pub fn of_borrowed(alloc: Global, texts: Vec<&str>) -> Result<Dict, Memory>
-        requires { length texts.items < 2 ^ 32 }
-        ensures few { IfOk result (λ dict. length dict < 2 ^ 32) }
-        ensures ascending { IfOk result IsAscending }
-        ensures same { IfOk result (λ dict. (text : List ℕ) →
-            Contains dict text ↔ Contains (map (λ text. text.now) texts.entry.items) text) }
-    {
-        let mut sorted = texts;
-        sorted.sort_unstable();
-        let distinct = distinct_of(alloc, sorted.as_slice())?;
-        Ok(Dict { texts: distinct })
+        let Coded { dict, codes: _ } = Coded::build(alloc, borrowed(alloc, texts.as_slice())?)?;
+        Ok(dict)
     }
 
     /// How many texts there are.
@@ -145,33 +135,6 @@ fn borrowed<'a>(alloc: Global, texts: &'a [Text]) -> Result<Vec<&'a str>, Memory
         all.push(text.as_str())?;
     }
     Ok(all)
-}
-
-// A copy of each text that differs from the one before it.
-fn distinct_of(alloc: Global, sorted: &[&str]) -> Result<Vec<Text>, Memory>
-    requires few { length sorted.now < 2 ^ 32 }
-    requires sorted { IsInOrder (map (λ text. text.now) sorted.now) }
-    ensures ascending { IfOk result (λ texts. IsAscending texts.items) }
-    ensures few { IfOk result (λ texts. length texts.items ≤ length sorted.now) }
-    ensures same { IfOk result (λ texts. (text : List ℕ) → Contains texts.items text ↔ Contains (map (λ text. text.now) sorted.now) text) }
-{
-    let mut texts: Vec<Text> = Vec::new(alloc);
-    for (i, text) in sorted.iter().enumerate() {
-        if is_first(sorted, i) {
-            let copy = Text::new(alloc, text)?;
-            texts.push(copy)?;
-        }
-    }
-    Ok(texts)
-}
-
-// Whether no text before it is the same, where the texts are in order.
-fn is_first(sorted: &[&str], i: usize) -> bool
-    requires { i < length sorted.now }
-    ensures front { i ≡ 0 → result ≡ true }
-    ensures later { 0 < i → result ≡ comes_before (text_at (map (λ text. text.now) sorted.now) (i - 1)) (text_at (map (λ text. text.now) sorted.now) i) }
-{
-    i == 0 || sorted[i - 1].cmp(sorted[i]).is_lt()
 }
 
 #[cfg(test)]

@@ -1,19 +1,20 @@
 -- Cells as integers, and back.
-use Rattle.std.proofs.Common.{◌≡◌, ℕ, ℤ, pos, zero, suc, ◌+◌, ◌<◌, ◌^◌, Bool, List, [], ◌∷◌, ◌++◌, Some, None, Option, true, false, length, get_or, map, refl, sym, ap, ◌∙◌, subst, arith, inl, inr, Bor, T, Fits, w32, w64, to_z, of_z}
+use Rattle.std.proofs.Common.{◌≡◌, ℕ, ℤ, pos, ◌+◌, ◌<◌, ◌^◌, Bool, List, [], ◌∷◌, ◌++◌, Some, None, Option, true, false, length, get_or, drop, map, refl, sym, ap, ◌∙◌, subst, arith, inl, inr, Bor, T, Fits, w32, w64, to_z, of_z}
 use Rattle.std.specs.Prelude.{Contains, All, ◌↔◌}
 use Rattle.std.proofs.Math.Facts.{to_z_pos}
 use Rattle.std.proofs.Math.IntN.{nat_abs}
 use Rattle.std.specs.Int.Signed.{non_neg}
 use Rattle.std.proofs.lemmas.Bool.{cases_lt, true≢false}
-use Rattle.std.proofs.lemmas.List.{ext_get_or, get_or-map, length-map, get_or_append_left, get_or-append-add, length_push}
+use Rattle.std.proofs.lemmas.List.{drop_more, ext_get_or, get_or-map, length-append, length-map, get_or_append_left, get_or-append-add, length_push}
+use Rattle.std.proofs.lemmas.List.Elements.{All-head, All-tail}
 use Rattle.gq_base.specs.Valid.{is_of_kind}
 use Rattle.gq_base.specs.declared.catalog.Kind.{Kind}
 use Rattle.gq_base.specs.declared.catalog.Kind.TheVariants as kind
 use Rattle.gq_base.specs.declared.cell.Cell.{Cell}
 use Rattle.gq_base.specs.declared.cell.Cell.TheVariants as cell
-use Rattle.gq_dict.specs.Texts.{IsAscending, text_at}
+use Rattle.gq_dict.specs.Texts.{AreCodes, IsAscending, text_at}
 use Rattle.gq_dict.proofs.OneDict.{one_dict}
-use Rattle.gq_store.specs.Columns.{AreCells, HasText, IsCellOf, IsCode, IsDictOf, IsKept, cell_of, cells_of, flag_code, flag_of, natural, texts_in}
+use Rattle.gq_store.specs.Columns.{AreCells, IsCellOf, IsCode, IsDictOf, IsKept, cell_of, cells_of, flag_code, flag_of, natural, texts_in}
 
 -- ---- one cell
 
@@ -122,23 +123,53 @@ code_fits dict column row z s h is =
 
 -- ---- texts
 
-pub texts_at : (cells : List (Option Cell)) (k : ℕ) (s : List ℕ) → k < length cells → get_or cells k None ≡ Some (cell.Str s) → Contains (texts_in cells) s
-texts_at [] k s h is = absurd (omega (arith, h))
-texts_at (c ∷ cells) zero s h is = rw is (0, omega arith, refl)
-texts_at (c ∷ cells) (suc k) s h is = more c (texts_at cells k s (omega (arith, h)) is)
-  where
-    more : (c : Option Cell) → Contains (texts_in cells) s → Contains (texts_in (c ∷ cells)) s
-    more None has = has
-    more (Some (cell.Int z)) has = has
-    more (Some (cell.Flag b)) has = has
-    more (Some (cell.Str t)) has = let (k, low, at) = has in (suc k, omega (arith, low), at)
+-- cells of a kind that is not that of texts have none
+pub no_texts : (k : Kind) (cells : List (Option Cell)) → ((s : List ℕ) → is_of_kind k (Some (cell.Str s)) ≡ false) → All (λ c. is_of_kind k c ≡ true) cells → texts_in cells ≡ []
+no_texts k [] other kinds = refl
+no_texts k (None ∷ cells) other kinds = no_texts k cells other (All-tail (λ c. is_of_kind k c ≡ true) None cells kinds)
+no_texts k (Some (cell.Int z) ∷ cells) other kinds = no_texts k cells other (All-tail (λ c. is_of_kind k c ≡ true) (Some (cell.Int z)) cells kinds)
+no_texts k (Some (cell.Flag b) ∷ cells) other kinds = no_texts k cells other (All-tail (λ c. is_of_kind k c ≡ true) (Some (cell.Flag b)) cells kinds)
+no_texts k (Some (cell.Str s) ∷ cells) other kinds = absurd (true≢false (sym (All-head (λ c. is_of_kind k c ≡ true) (Some (cell.Str s)) cells kinds) ∙ other s))
 
--- the texts of cells stand in a dictionary that has them all
-pub has_text : (dict : List (List ℕ)) (cells : List (Option Cell)) (k : ℕ) (c : Option Cell) → ((text : List ℕ) → Contains (texts_in cells) text → Contains dict text) → k < length cells → get_or cells k None ≡ c → HasText dict c
-has_text dict cells k None all h is = tt
-has_text dict cells k (Some (cell.Int z)) all h is = tt
-has_text dict cells k (Some (cell.Flag b)) all h is = tt
-has_text dict cells k (Some (cell.Str s)) all h is = all s (texts_at cells k s h is)
+pub texts_in-cons : (c : Option Cell) (cells : List (Option Cell)) → texts_in (c ∷ cells) ≡ texts_in (c ∷ []) ++ texts_in cells
+texts_in-cons None cells = refl
+texts_in-cons (Some (cell.Int z)) cells = refl
+texts_in-cons (Some (cell.Flag b)) cells = refl
+texts_in-cons (Some (cell.Str s)) cells = refl
+
+-- the first of the codes is that of the first text, and the others are those of the others
+pub first_code : (dict : List (List ℕ)) (s : List ℕ) (texts : List (List ℕ)) (code : ℕ) (codes : List ℕ) → AreCodes dict (s ∷ texts) (code ∷ codes) → IsCode dict s (pos code) × AreCodes dict texts codes
+first_code dict s texts code codes a = (
+  record { code = code; is = refl; within = All-head (λ c. c < length dict) code codes a.within; text_is = ap (λ l. get_or l 0 []) a.same },
+  record { within = All-tail (λ c. c < length dict) code codes a.within; same = ap (drop 1) a.same },
+)
+
+pub code_count : (dict texts : List (List ℕ)) (codes : List ℕ) → AreCodes dict texts codes → length codes ≡ length texts
+code_count dict texts codes a = sym (length-map codes (λ code. text_at dict code)) ∙ ap length a.same
+
+-- the integers of the first n cells, and the codes of the texts among the others
+pub record AreIntegers (n : ℕ) (cells : List (Option Cell)) (codes left : List ℕ) (column : List (Option ℤ)) : Type 0 where
+  pub size : length left ≡ length (texts_in (drop n cells))
+  pub each : (dict : List (List ℕ)) → AreCodes dict (texts_in cells) codes → AreCellsBelow n dict cells column × AreCodes dict (texts_in (drop n cells)) left
+
+pub no_integers : (cells : List (Option Cell)) (codes : List ℕ) → length codes ≡ length (texts_in cells) → AreIntegers 0 cells codes codes []
+no_integers cells codes size = record { size = size; each = λ dict a. (no_cells dict cells, a) }
+
+pub left_texts : (n : ℕ) (cells : List (Option Cell)) (c : Option Cell) → n < length cells → get_or cells n None ≡ c → texts_in (drop n cells) ≡ texts_in (c ∷ []) ++ texts_in (drop (n + 1) cells)
+left_texts n cells c h is = ap texts_in (drop_more cells n None h) ∙ texts_in-cons (get_or cells n None) (drop (n + 1) cells) ∙ ap (λ d. texts_in (d ∷ []) ++ texts_in (drop (n + 1) cells)) is
+
+pub integers_more : (n : ℕ) (cells : List (Option Cell)) (codes left rest : List ℕ) (column : List (Option ℤ)) (c : Option Cell) (z : Option ℤ) → AreIntegers n cells codes left column → n < length cells
+    → get_or cells n None ≡ c → length (texts_in (c ∷ [])) + length rest ≡ length left
+    → ((dict others : List (List ℕ)) → AreCodes dict (texts_in (c ∷ []) ++ others) left → IsCellOf dict c z × AreCodes dict others rest) → AreIntegers (n + 1) cells codes rest (column ++ z ∷ [])
+integers_more n cells codes left rest column c z s h is size next =
+    let more = left_texts n cells c h is in
+    record {
+      size = omega (arith, size, s.size, ap length more, length-append (texts_in (c ∷ [])) (texts_in (drop (n + 1) cells)));
+      each = λ dict a.
+          let had = s.each dict a in
+          let now = next dict (texts_in (drop (n + 1) cells)) (subst (λ l. AreCodes dict l left) more had.1) in
+          (cells_more n dict cells column z had.0 (rw is now.0), now.1);
+    }
 
 -- ---- one dictionary
 

@@ -1,15 +1,16 @@
 //! The cells of tables: a column of integers for each property, in which a text has its code.
-ghost use Rattle.std.specs.Prelude.{◌≡◌, ℕ, List, [], ◌∷◌, ◌^◌, ◌<◌, ◌≤◌, true, length, map, All, Contains, IfOk, IfSome, None, slice_index_or};
+ghost use Rattle.std.specs.Prelude.{◌≡◌, ℕ, List, [], ◌∷◌, ◌++◌, ◌+◌, ◌^◌, ◌<◌, ◌≤◌, true, length, map, All, IfOk, IfSome, None, slice_index_or};
 ghost use Rattle.std.specs.List.{list_all};
 ghost use Rattle.gq_base.specs.Plain.{cell_val};
 ghost use Rattle.gq_base.specs.Valid.{fits_fields, is_of_kind};
 ghost use Rattle.gq_base.specs.Values.{val};
-ghost use Rattle.gq_store.specs.Columns.{AreCells, HasText, IsCellOf, IsDictOf, column_of, texts_in};
+ghost use Rattle.gq_dict.specs.Texts.{AreCodes};
+ghost use Rattle.gq_store.specs.Columns.{AreCells, IsCellOf, IsDictOf, column_of, texts_in};
 ghost use Rattle.gq_store.specs.RelColumns.{cell_numbered};
 
 use gq_base::{Cell, Field, Kind, Memory, RelRows, Row, Value};
 use gq_column::Column;
-use gq_dict::Dict;
+use gq_dict::{Coded, Dict};
 use std::alloc::Global;
 use std::marker::Model;
 
@@ -49,9 +50,9 @@ impl Property {
             (map (λ cell. cell.now) cells.now) }
         ensures { IfOk result (λ property. property ≡ map (λ cell. cell.now) cells.now) }
     {
-        let dict = Dict::of_borrowed(alloc, texts_of(alloc, cells)?)?;
-        let codes = codes_of(alloc, &dict, cells)?;
-        let column = Column::build(alloc, codes.as_slice())?;
+        let Coded { dict, codes } = Coded::build(alloc, texts_of(alloc, kind, cells)?)?;
+        let integers = integers_of(alloc, cells, codes.as_slice())?;
+        let column = Column::build(alloc, integers.as_slice())?;
         Ok(Property { kind, column, dict })
     }
 
@@ -200,13 +201,30 @@ fn placed_cell<'a>(
     }
 }
 
-// The texts among cells.
-fn texts_of<'a>(alloc: Global, cells: &[&'a Option<Cell>]) -> Result<Vec<&'a str>, Memory>
+// The texts among cells of a kind.
+fn texts_of<'a>(
+    alloc: Global,
+    kind: Kind,
+    cells: &[&'a Option<Cell>],
+) -> Result<Vec<&'a str>, Memory>
+    requires { All (λ cell. is_of_kind kind cell ≡ true) (map (λ cell. cell.now) cells.now) }
     ensures value { IfOk result (λ texts.
         map (λ text. text.now) texts.items ≡ texts_in (map (λ cell. cell.now) cells.now)) }
     ensures few { IfOk result (λ texts. length texts.items ≤ length cells.now) }
 {
-    let mut texts = Vec::new(alloc);
+    match kind {
+        Kind::Str => texts_among(alloc, cells),
+        Kind::Int | Kind::Flag => Ok(Vec::new(alloc)),
+    }
+}
+
+// The texts among cells.
+fn texts_among<'a>(alloc: Global, cells: &[&'a Option<Cell>]) -> Result<Vec<&'a str>, Memory>
+    ensures value { IfOk result (λ texts.
+        map (λ text. text.now) texts.items ≡ texts_in (map (λ cell. cell.now) cells.now)) }
+    ensures few { IfOk result (λ texts. length texts.items ≤ length cells.now) }
+{
+    let mut texts = Vec::with_capacity(alloc, cells.len())?;
     for cell in cells {
         if let Some(Cell::Str(text)) = *cell {
             texts.push(text.as_str())?;
@@ -215,31 +233,42 @@ fn texts_of<'a>(alloc: Global, cells: &[&'a Option<Cell>]) -> Result<Vec<&'a str
     Ok(texts)
 }
 
-// The integers of cells, whose texts stand in a dictionary.
-fn codes_of(alloc: Global, dict: &Dict, cells: &[&Option<Cell>]) -> Result<Vec<Option<i64>>, Memory>
-    requires { (text : List ℕ) →
-        Contains (texts_in (map (λ cell. cell.now) cells.now)) text → Contains dict.now text }
-    ensures { IfOk result (λ codes.
-        AreCells dict.now (map (λ cell. cell.now) cells.now) codes.items) }
+// The integers of cells, where each text takes the next of the codes.
+fn integers_of(
+    alloc: Global,
+    cells: &[&Option<Cell>],
+    codes: &[u32],
+) -> Result<Vec<Option<i64>>, Memory>
+    requires { length codes.now ≡ length (texts_in (map (λ cell. cell.now) cells.now)) }
+    ensures { IfOk result (λ integers. (dict : List (List ℕ)) →
+        AreCodes dict (texts_in (map (λ cell. cell.now) cells.now)) codes.now →
+        AreCells dict (map (λ cell. cell.now) cells.now) integers.items) }
 {
-    let mut codes = Vec::with_capacity(alloc, cells.len())?;
+    let mut integers = Vec::with_capacity(alloc, cells.len())?;
+    let mut left = codes;
     for cell in cells {
-        codes.push(code_of(dict, cell))?;
+        let (integer, rest) = integer_of(cell, left);
+        integers.push(integer)?;
+        left = rest;
     }
-    Ok(codes)
+    Ok(integers)
 }
 
-fn code_of(dict: &Dict, cell: &Option<Cell>) -> Option<i64>
-    requires { HasText dict.now cell.now }
-    ensures { IsCellOf dict.now cell.now result }
+// The integer of a cell, where a text takes the first of the codes, and the codes that are left.
+fn integer_of<'c>(cell: &Option<Cell>, codes: &'c [u32]) -> (Option<i64>, &'c [u32])
+    requires { length (texts_in (cell.now ∷ [])) ≤ length codes.now }
+    ensures left { length (texts_in (cell.now ∷ [])) + length result.1.now ≡ length codes.now }
+    ensures is { (dict others : List (List ℕ)) →
+        AreCodes dict (texts_in (cell.now ∷ []) ++ others) codes.now →
+        IsCellOf dict cell.now result.0 × AreCodes dict others result.1.now }
 {
     match cell {
-        None => None,
-        Some(Cell::Int(value)) => Some(*value),
-        Some(Cell::Flag(flag)) => Some(i64::from(*flag)),
-        Some(Cell::Str(text)) => match dict.code(text.as_str()) {
-            Some(code) => Some(i64::from(code)),
-            None => unreachable!(),
+        None => (None, codes),
+        Some(Cell::Int(value)) => (Some(*value), codes),
+        Some(Cell::Flag(flag)) => (Some(i64::from(*flag)), codes),
+        Some(Cell::Str(_)) => match codes {
+            [code, others @ ..] => (Some(i64::from(*code)), others),
+            [] => unreachable!(),
         },
     }
 }
