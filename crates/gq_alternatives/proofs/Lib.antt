@@ -8,6 +8,3 @@ mod Worked
 pub mod Shapes
 pub mod ShapesOfPatterns
 pub mod SoundPatterns
-pub mod SoundReads
-pub mod SoundTests
-pub mod SoundConditions

@@ -12,6 +12,7 @@ use Rattle.gq_plan.specs.declared.PathPart.{PathPart}
 use Rattle.gq_plan.proofs.Each.{each_then, each_append, each_below}
 use Rattle.gq_scopes.proofs.RangeLemmas.{range_more}
 use Rattle.gq_scopes.specs.Patterns.{MapEntry}
+use Rattle.gq_scopes.specs.Variables.{IsThere}
 
 -- the node variables at the left and at the right of a relationship
 pub record Ends : Type 0 where
@@ -42,11 +43,6 @@ path_ends es q = map (slice_get es) q.rels
 -- the node variables of a path
 abbrev pub walk : List Ends → PathPart → List ℕ
 walk es q = q.first ∷ rights_of (path_ends es q)
-
--- a variable is one of so many of nodes and so many of relationships
-abbrev pub IsThere : ℕ → ℕ → Variable → Type 0
-IsThere n m (node v) = v < n
-IsThere n m (rel x) = x < m
 
 -- patterns with so many node variables and node patterns, relationships with these ends, these paths and entries
 pub record IsShape (n k : ℕ) (es : List Ends) (ps : List PathPart) (entries : List MapEntry) : Type 0 where

@@ -9,12 +9,12 @@ use Rattle.gq_alternatives.proofs.Shapes.{each_left, each_right}
 use Rattle.gq_expr.specs.declared.Expr.{Expr}
 use Rattle.gq_expr.specs.declared.Expr.TheVariants as expr
 use Rattle.gq_plan.proofs.Each.{each_of, each_map, each_append}
-use Rattle.gq_scopes.proofs.Splits.{split_whole}
-use Rattle.gq_scopes.specs.Conjuncts.{conjunct_expr}
+use Rattle.gq_trees.proofs.Splits.{split_whole}
+use Rattle.gq_trees.specs.Conjuncts.{conjunct_expr}
 use Rattle.gq_scopes.specs.Patterns.{Name, Pattern, no_pattern, pattern_of, with_paths}
-use Rattle.gq_scopes.specs.Resolving.{Conjunct, Split, functions, resolved, resolve_step, split, split_node, split_step, all_some}
+use Rattle.gq_trees.specs.Resolving.{Conjunct, Split, functions, resolved, resolve_step, split, split_node, split_step, all_some}
 use Rattle.gq_scopes.specs.Scopes.{Scope, scope_of}
-use Rattle.gq_scopes.specs.Uses.{Use, uses, or_else, first_name, unknown_name, unknown_function, wrong_count}
+use Rattle.gq_trees.specs.Uses.{Use, uses, or_else, first_name, unknown_name, unknown_function, wrong_count}
 use Rattle.gq_scopes.specs.declared.Column.{Column}
 use Rattle.gq_syntax.specs.declared.AstNode.{AstNode}
 use Rattle.gq_syntax.specs.declared.AstNode.TheVariants as ast

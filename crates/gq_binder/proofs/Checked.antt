@@ -21,10 +21,10 @@ use Rattle.gq_binder.specs.declared.refusal.BindRefusal.TheVariants as refusal
 use Rattle.gq_plan.specs.Reads.{Read, distinct}
 use Rattle.gq_plan.specs.Soundness.{max_reads}
 use Rattle.gq_scopes.specs.Patterns.{Name, Pattern, pattern_of}
-use Rattle.gq_scopes.specs.Renames.{ambiguous_name}
-use Rattle.gq_scopes.specs.Resolving.{functions, as_lists}
+use Rattle.gq_trees.specs.Renames.{ambiguous_name}
+use Rattle.gq_trees.specs.Resolving.{functions, as_lists}
 use Rattle.gq_scopes.specs.Scopes.{scope_of}
-use Rattle.gq_scopes.specs.Uses.{or_else, unknown_function, wrong_count}
+use Rattle.gq_trees.specs.Uses.{or_else, unknown_function, wrong_count}
 use Rattle.gq_syntax.specs.Spans.{StandsIn}
 use Rattle.gq_syntax.specs.declared.Query.{Query}
 

@@ -10,9 +10,9 @@ use Rattle.gq_binder.specs.Columns.{Scoped, conditions, columns, columns_in, sta
 use Rattle.gq_binder.specs.Refusals.{first_in, first_behind, expressions, items_in, sorts_in, repeating_column, column_repeated}
 use Rattle.gq_binder.specs.declared.refusal.BindRefusal.TheVariants as refusal
 use Rattle.gq_scopes.specs.Patterns.{Name, Pattern, pattern_of}
-use Rattle.gq_scopes.specs.Resolving.{functions, as_lists, find_column}
-use Rattle.gq_scopes.specs.Scopes.{Scope, scope_of}
-use Rattle.gq_scopes.specs.Uses.{Use, bare, owner, call, uses, or_else, first_name, refused_unless, is_there, is_variable, unknown_name}
+use Rattle.gq_trees.specs.Resolving.{functions, as_lists}
+use Rattle.gq_trees.specs.Uses.{Use, bare, owner, call, uses, or_else, first_name, refused_unless, unknown_name}
+use Rattle.gq_scopes.specs.Scopes.{Scope, find_column, is_there, is_variable, scope_of}
 use Rattle.gq_scopes.specs.declared.Column.{Column}
 use Rattle.gq_syntax.specs.declared.Item.{Item}
 use Rattle.gq_syntax.specs.declared.Query.{Query}

@@ -11,7 +11,7 @@ use Rattle.gq_plan.specs.Reads.{Variable, node, rel}
 use Rattle.gq_binder.specs.Met.{met_of, meeting, meeting_as, met_otherwise, met_again}
 use Rattle.gq_binder.specs.Refusals.{conflicting, repeating, first_behind, same_form, is_rel}
 use Rattle.gq_binder.specs.Columns.{firsts_behind, if_first}
-use Rattle.gq_scopes.specs.Uses.{or_else, refused_unless}
+use Rattle.gq_trees.specs.Uses.{or_else, refused_unless}
 use Rattle.gq_scopes.specs.Patterns.{Name, is_called}
 use Rattle.gq_binder.specs.declared.met.Met.{Met}
 use Rattle.gq_binder.specs.declared.refusal.BindRefusal.{BindRefusal}

@@ -5,7 +5,7 @@ use Rattle.gq_binder.specs.Names.{FirstNames, no_names, with_expression, with_ex
 use Rattle.gq_binder.specs.Refusals.{first_in}
 use Rattle.gq_scopes.specs.Patterns.{Name}
 use Rattle.gq_scopes.specs.Scopes.{Scope}
-use Rattle.gq_scopes.specs.Uses.{Use, uses, or_else, first_name, unknown_name, unknown_function, wrong_count}
+use Rattle.gq_trees.specs.Uses.{Use, uses, or_else, first_name, unknown_name, unknown_function, wrong_count}
 
 regroup : (a b c : Option Name) → or_else a (or_else b c) ≡ or_else (or_else a b) c
 regroup None b c = refl

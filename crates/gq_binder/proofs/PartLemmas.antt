@@ -8,9 +8,9 @@ use Rattle.gq_binder.specs.Names.{FirstNames, no_names, with_expressions}
 use Rattle.gq_binder.specs.Parts.{known_conjuncts, parts_of}
 use Rattle.gq_binder.specs.Refusals.{items_in, sorts_in}
 use Rattle.gq_plan.specs.declared.NamedExpr.{NamedExpr}
-use Rattle.gq_scopes.specs.Conjuncts.{conjunct_expr}
+use Rattle.gq_trees.specs.Conjuncts.{conjunct_expr}
 use Rattle.gq_scopes.specs.Patterns.{Pattern, pattern_of, with_clauses, with_paths}
-use Rattle.gq_scopes.specs.Resolving.{functions, split, all_some}
+use Rattle.gq_trees.specs.Resolving.{functions, split, all_some}
 use Rattle.gq_scopes.specs.Scopes.{scope_of}
 use Rattle.gq_scopes.specs.declared.Column.{Column}
 use Rattle.gq_syntax.specs.declared.Clause.{Clause}

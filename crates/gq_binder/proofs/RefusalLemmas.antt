@@ -9,11 +9,11 @@ use Rattle.gq_binder.specs.Parts.{ambiguous_in}
 use Rattle.gq_binder.specs.Refusals.{first_of_all, first_in, over_limit, sorts_in}
 use Rattle.gq_binder.specs.declared.refusal.BindRefusal.{BindRefusal}
 use Rattle.gq_binder.specs.declared.refusal.BindRefusal.TheVariants as refusal
-use Rattle.gq_scopes.proofs.RenameLemmas.{renamed_is}
+use Rattle.gq_trees.proofs.RenameLemmas.{renamed_is}
 use Rattle.gq_scopes.specs.Patterns.{Name, Pattern}
-use Rattle.gq_scopes.specs.Renames.{ambiguous_name, renamed_name, renamed_names}
+use Rattle.gq_trees.specs.Renames.{ambiguous_name, renamed_name, renamed_names}
 use Rattle.gq_scopes.specs.Scopes.{Scope, scope_of}
-use Rattle.gq_scopes.specs.Uses.{Use, or_else}
+use Rattle.gq_trees.specs.Uses.{Use, or_else}
 use Rattle.gq_syntax.specs.declared.Item.{Item}
 use Rattle.gq_syntax.specs.declared.Query.{Query}
 use Rattle.gq_syntax.specs.declared.Sort.{Sort}

@@ -29,17 +29,18 @@ use Rattle.gq_plan.specs.declared.Typed.{Typed}
 use Rattle.gq_syntax.specs.declared.Ast.{Ast}
 use Rattle.gq_syntax.specs.declared.Clause.{Clause}
 use Rattle.gq_syntax.specs.declared.Query.{Query}
-use Rattle.gq_alternatives.proofs.Shapes.{IsThere, each_left, each_right}
+use Rattle.gq_alternatives.proofs.Shapes.{each_left, each_right}
 use Rattle.gq_alternatives.proofs.ShapesOfPatterns.{Grows, grows_same, grows_then, clauses_grow, IsShaped, ends_of, pattern_shaped}
-use Rattle.gq_alternatives.proofs.SoundConditions.{alike_more, conjuncts_read}
+use Rattle.gq_trees.proofs.ConditionReads.{alike_more, conjuncts_read}
 use Rattle.gq_alternatives.proofs.SoundPatterns.{IsChoice, each_alternative, pattern_sound, typed_count}
-use Rattle.gq_alternatives.proofs.SoundReads.{reads_Literal, reads_NodeProperty, reads_RelProperty, reads_Compare, AllAmong, some_among, properties_among, distinct_fewer}
-use Rattle.gq_alternatives.proofs.SoundTests.{AllThere, Alike}
+use Rattle.gq_trees.proofs.ReadEquations.{reads_Literal, reads_NodeProperty, reads_RelProperty, reads_Compare, AllAmong, some_among, properties_among, distinct_fewer}
+use Rattle.gq_trees.proofs.AlikeReads.{AllThere, Alike}
 use Rattle.gq_alternatives.specs.Alternatives.{Choice, typed_rels, agrees, alternatives, typed_of}
-use Rattle.gq_scopes.specs.Conjuncts.{conjunct_expr}
+use Rattle.gq_trees.specs.Conjuncts.{conjunct_expr}
 use Rattle.gq_scopes.specs.Patterns.{Name, MapEntry, Pattern, no_pattern, pattern_of, with_paths, with_clauses}
-use Rattle.gq_scopes.specs.Resolving.{Conjunct, functions, as_lists, all_some, resolved, split}
+use Rattle.gq_trees.specs.Resolving.{Conjunct, functions, as_lists, all_some, resolved, split}
 use Rattle.gq_scopes.specs.Scopes.{Scope, scope_of}
+use Rattle.gq_scopes.specs.Variables.{IsThere}
 use Rattle.gq_lexer.specs.Sources.{source_text}
 use Rattle.gq_scopes.specs.declared.Column.{Column}
 use Rattle.gq_binder.proofs.Patterns.{names_counted}

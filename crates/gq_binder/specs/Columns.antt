@@ -17,9 +17,9 @@ use Rattle.gq_syntax.specs.declared.Item.{Item}
 use Rattle.gq_syntax.specs.declared.Query.{Query}
 use Rattle.gq_syntax.specs.declared.Sort.{Sort}
 use Rattle.gq_alternatives.specs.Alternatives.{alternatives, typed_of}
-use Rattle.gq_scopes.specs.Conjuncts.{conjunct_expr}
+use Rattle.gq_trees.specs.Conjuncts.{conjunct_expr}
 use Rattle.gq_scopes.specs.Patterns.{Name, MapEntry, NamedVariable, Pattern, no_pattern, pattern_of, with_paths, is_same_name}
-use Rattle.gq_scopes.specs.Resolving.{Calls, Conjunct, functions, resolved, split, all_some}
+use Rattle.gq_trees.specs.Resolving.{Calls, Conjunct, functions, resolved, split, all_some}
 use Rattle.gq_scopes.specs.Scopes.{Scope, scope_of}
 use Rattle.gq_lexer.specs.Sources.{source_text}
 use Rattle.gq_scopes.specs.declared.Column.{Column}

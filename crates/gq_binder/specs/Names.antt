@@ -1,10 +1,10 @@
 -- The first names and calls that the checks of names refuse among expressions.
 use Rattle.std.specs.Prelude.{Option, None, List, [], ◌∷◌}
 use Rattle.gq_binder.specs.Columns.{Scoped}
-use Rattle.gq_scopes.specs.Checks.{check_of}
+use Rattle.gq_trees.specs.Checks.{check_of}
 use Rattle.gq_scopes.specs.Patterns.{Name}
-use Rattle.gq_scopes.specs.Uses.{or_else, first_name, uses}
-use Rattle.gq_scopes.specs.declared.Check.TheVariants as check
+use Rattle.gq_trees.specs.Uses.{or_else, first_name, uses}
+use Rattle.gq_trees.specs.declared.Check.TheVariants as check
 
 -- the first name that its scope does not have, the first call that names no function, and the first call with a wrong
 -- number of arguments

@@ -14,11 +14,11 @@ use Rattle.gq_binder.specs.Refusals.{items_in, sorts_in, first_in, variable_conf
 use Rattle.gq_binder.specs.declared.parts.QueryParts.{QueryParts}
 use Rattle.gq_binder.specs.declared.refusal.BindRefusal.{BindRefusal}
 use Rattle.gq_binder.specs.declared.refusal.BindRefusal.TheVariants as refusal
-use Rattle.gq_scopes.specs.Conjuncts.{conjunct_expr}
-use Rattle.gq_scopes.specs.MadeOf.{column_exprs}
+use Rattle.gq_trees.specs.Conjuncts.{conjunct_expr}
+use Rattle.gq_trees.specs.MadeOf.{column_exprs}
 use Rattle.gq_scopes.specs.Patterns.{Pattern, pattern_of}
-use Rattle.gq_scopes.specs.Renames.{ambiguous_name}
-use Rattle.gq_scopes.specs.Resolving.{as_lists, functions, split, all_some}
+use Rattle.gq_trees.specs.Renames.{ambiguous_name}
+use Rattle.gq_trees.specs.Resolving.{as_lists, functions, split, all_some}
 use Rattle.gq_scopes.specs.Scopes.{scope_of}
 
 -- the conjuncts of conditions, of those all of whose conjuncts stand for an expression

@@ -13,11 +13,11 @@ use Rattle.gq_syntax.specs.declared.Query.{Query}
 use Rattle.gq_syntax.specs.declared.Sort.{Sort}
 use Rattle.gq_alternatives.specs.Alternatives.{alternatives}
 use Rattle.gq_binder.specs.Columns.{Scoped, conditions, columns, sort_scope}
-use Rattle.gq_scopes.specs.MadeOf.{column_exprs, is_made_of}
-use Rattle.gq_scopes.specs.Renames.{ambiguous_name}
+use Rattle.gq_trees.specs.MadeOf.{column_exprs, is_made_of}
+use Rattle.gq_trees.specs.Renames.{ambiguous_name}
 use Rattle.gq_scopes.specs.Patterns.{Name, NamedVariable, Pattern, pattern_of, is_same_name}
-use Rattle.gq_scopes.specs.Uses.{Use, uses, or_else, first_name, refused_unless, unknown_name, unknown_function, wrong_count}
-use Rattle.gq_scopes.specs.Resolving.{as_lists, resolved}
+use Rattle.gq_trees.specs.Uses.{Use, uses, or_else, first_name, refused_unless, unknown_name, unknown_function, wrong_count}
+use Rattle.gq_trees.specs.Resolving.{as_lists, resolved}
 use Rattle.gq_binder.specs.declared.refusal.BindRefusal.{BindRefusal}
 use Rattle.gq_binder.specs.declared.refusal.BindRefusal.TheVariants as refusal
 use Rattle.gq_scopes.specs.declared.Column.{Column}

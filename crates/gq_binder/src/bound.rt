@@ -14,8 +14,9 @@ use crate::refusal::BindRefusal;
 use gq_alternatives::{Choice, typed};
 use gq_base::{Catalog, List, Memory, Text};
 use gq_plan::{Bound, NamedExpr, SortExpr, Typed};
-use gq_scopes::{CallForm, Copying, Pattern, Scope, copy_text, resolve_part};
+use gq_scopes::{Copying, Pattern, Scope, copy_text};
 use gq_syntax::{Query, Sort};
+use gq_trees::{CallForm, resolve_part};
 use std::alloc::Global;
 
 /// Binds a query, which a text spells, over a catalogue. The answer is the bound query, whose alternatives are sound

@@ -4,18 +4,16 @@ ghost use Rattle.std.specs.List.{list_any};
 ghost use Rattle.gq_binder.specs.Columns as columns;
 ghost use Rattle.gq_binder.specs.Columns.{columns_in, column_expr, column_of, item_column, item_name};
 ghost use Rattle.gq_scopes.specs.Patterns.{is_called};
-ghost use Rattle.gq_scopes.specs.Resolving.{calls_of};
+ghost use Rattle.gq_trees.specs.Resolving.{calls_of};
 ghost use Rattle.gq_scopes.specs.Variables.{seen};
 ghost use Rattle.gq_syntax.specs.Spans.{IsWholeTree};
 
 use gq_base::{List, Memory, Text};
 use gq_expr::Expr;
 use gq_plan::NamedExpr;
-use gq_scopes::{
-    CallForm, Column, NamedVariable, Names, Pattern, Scope, Variable, copy_text, resolve,
-    source_text,
-};
+use gq_scopes::{Column, NamedVariable, Names, Pattern, Scope, Variable, copy_text};
 use gq_syntax::{Item, Query};
+use gq_trees::{CallForm, resolve, source_text};
 use std::alloc::Global;
 
 /// The columns of a query with these patterns, whose items stand in this text.

@@ -8,7 +8,8 @@ ghost use Rattle.gq_syntax.specs.Spans.{IsWholeEntry};
 use gq_base::{Boxed, CompareOp, List, Memory, Text};
 use gq_expr::{Bound, Expr};
 use gq_plan::NamedExpr;
-use gq_scopes::{MapEntry, Variable, copy_literal, copy_text, source_text};
+use gq_scopes::{MapEntry, Variable, copy_literal, copy_text};
+use gq_trees::source_text;
 use std::alloc::Global;
 
 /// The tests of map entries: a property of an entry's variable equals the entry's literal.

@@ -5,13 +5,14 @@ ghost use Rattle.gq_binder.specs.Checks.{Checks};
 ghost use Rattle.gq_binder.specs.Names.{no_names, with_expression, with_expressions};
 ghost use Rattle.gq_binder.specs.Refusals.{items_in, sorts_in};
 ghost use Rattle.gq_binder.specs.declared.refusal.BindRefusal.TheVariants as refusal;
-ghost use Rattle.gq_scopes.specs.Checks.{check_of};
-ghost use Rattle.gq_scopes.specs.Uses.{first_name, or_else, uses};
+ghost use Rattle.gq_trees.specs.Checks.{check_of};
+ghost use Rattle.gq_trees.specs.Uses.{first_name, or_else, uses};
 
 use crate::refusal::BindRefusal;
 use gq_base::Text;
-use gq_scopes::{Check, Scope, copy_text, first_refused};
+use gq_scopes::{Scope, copy_text};
 use gq_syntax::{Ast, Item, Sort};
+use gq_trees::{Check, first_refused};
 use std::alloc::Global;
 use std::marker::Model;
 

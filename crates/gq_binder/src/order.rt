@@ -5,20 +5,18 @@ ghost use Rattle.gq_binder.specs.Checks.{Checks};
 ghost use Rattle.gq_binder.specs.Parts.{ambiguous_in, out_of_scope_in};
 ghost use Rattle.gq_binder.specs.Refusals as refusals;
 ghost use Rattle.gq_binder.specs.Refusals.{first_in, out_of_scope_from, sorts_in};
-ghost use Rattle.gq_scopes.specs.Checks.{check_of};
-ghost use Rattle.gq_scopes.specs.MadeOf.{column_exprs};
-ghost use Rattle.gq_scopes.specs.Renames.{renamed_name};
-ghost use Rattle.gq_scopes.specs.Resolving.{as_lists, resolved};
+ghost use Rattle.gq_trees.specs.Checks.{check_of};
+ghost use Rattle.gq_trees.specs.MadeOf.{column_exprs};
+ghost use Rattle.gq_trees.specs.Renames.{renamed_name};
+ghost use Rattle.gq_trees.specs.Resolving.{as_lists, resolved};
 ghost use Rattle.gq_syntax.specs.Spans.{IsWholeTree};
 
 use crate::columns::columns_of;
 use crate::refusal::BindRefusal;
 use gq_base::{Memory, Text};
-use gq_scopes::{
-    CallForm, Check, Column, Copying, Pattern, Renamed, Scope, copy_text, first_refused,
-    is_made_of, next, resolve_part,
-};
+use gq_scopes::{Column, Copying, Pattern, Scope, copy_text, next};
 use gq_syntax::{Ast, Query, Sort};
+use gq_trees::{CallForm, Check, Renamed, first_refused, is_made_of, resolve_part};
 use std::alloc::Global;
 
 /// With DISTINCT, an item of ORDER BY is not made of columns. Here alone calls are compared as they are written, since

@@ -5,7 +5,7 @@ ghost use Rattle.gq_binder.specs.Names.{no_names, with_expressions};
 ghost use Rattle.gq_binder.specs.Parts.{known_conjuncts, parts_of};
 ghost use Rattle.gq_binder.specs.Refusals.{items_in, sorts_in};
 ghost use Rattle.gq_scopes.specs.Patterns.{no_pattern, pattern_of};
-ghost use Rattle.gq_scopes.specs.Resolving.{functions};
+ghost use Rattle.gq_trees.specs.Resolving.{functions};
 ghost use Rattle.gq_scopes.specs.Scopes.{scope_of};
 ghost use Rattle.gq_syntax.specs.Spans.{IsWholeClause, IsWholeEntry, IsWholeTree, StandsIn};
 
@@ -14,8 +14,9 @@ use crate::entries::entry_tests;
 use crate::names::FirstNames;
 use gq_base::{List, Memory};
 use gq_plan::NamedExpr;
-use gq_scopes::{CallForm, Column, Pattern, conjuncts_of, next};
+use gq_scopes::{Column, Pattern, next};
 use gq_syntax::{Ast, Clause, Query};
+use gq_trees::{CallForm, conjuncts_of};
 use std::alloc::Global;
 
 /// The parts of a query: its patterns, the first names that the checks of names refuse, its columns, the conjuncts of

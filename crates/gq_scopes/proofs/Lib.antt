@@ -1,10 +1,3 @@
 pub mod NamingLemmas
 pub mod RangeLemmas
-pub mod RenameLemmas
-pub mod Resolved
 pub mod ScopeLemmas
-pub mod SliceLemmas
-pub mod SourceLemmas
-pub mod Splits
-pub mod UseLemmas
-pub mod Walks

@@ -5,7 +5,7 @@ use Rattle.std.specs.List.{position, prefix_len, position_or_len}
 use Rattle.std.proofs.lemmas.List.{length-map}
 use mathlib.Core.Bool.{cond}
 use Rattle.gq_scopes.specs.Patterns.{Name, find_name, is_called}
-use Rattle.gq_scopes.specs.Resolving.{find_column}
+use Rattle.gq_scopes.specs.Scopes.{find_column}
 use Rattle.gq_scopes.specs.declared.scope.Column.{Column}
 
 front : {A B : Type 0} (f : A → B) (p : B → Bool) (xs : List A) → prefix_len p (map f xs) ≡ prefix_len (λ x. p (f x)) xs

@@ -1,11 +1,3 @@
-pub mod Checks
-pub mod Conjuncts
-pub mod MadeOf
-pub mod Operands
 pub mod Patterns
-pub mod Renames
-pub mod Resolving
 pub mod Scopes
-pub mod Trees
-pub mod Uses
 pub mod Variables

@@ -28,7 +28,8 @@ impl Model for Names {
 
     ghost view = { λ n. n.list.items };
 
-    ghost invariant = { λ n. (name : Name) → get (slice_cmp nat_cmp) n.places name ≡ find_name n.list.items name };
+    ghost invariant = { λ n. (name : Name)
+        → get (slice_cmp nat_cmp) n.places name ≡ find_name n.list.items name };
 }
 
 impl Names {

@@ -62,7 +62,12 @@ impl<'t> Model for RelPattern<'t> {
 
     ghost Value = { RelPattern };
 
-    ghost view = { λ r. record { clause = r.clause; left = r.left; right = r.right; part = r.part.now } };
+    ghost view = { λ r. record {
+      clause = r.clause;
+      left = r.left;
+      right = r.right;
+      part = r.part.now;
+    } };
 }
 
 /// The relationship patterns in text order, each found by its name.
@@ -149,7 +154,11 @@ impl<'t> Model for MapEntry<'t> {
 
     ghost use Rattle.gq_scopes.specs.Variables.{seen};
 
-    ghost view = { λ e. record { variable = seen e.variable; called = e.called; entry = e.entry.now } };
+    ghost view = { λ e. record {
+      variable = seen e.variable;
+      called = e.called;
+      entry = e.entry.now;
+    } };
 }
 
 /// The patterns of a query with their variables, paths and map entries, in text order.
@@ -172,7 +181,17 @@ impl<'t> Model for Pattern<'t> {
 
     ghost Value = { Pattern };
 
-    ghost view = { λ p. record { names = p.names; named = p.named; node_names = p.node_names; rel_names = p.rel_names; unnamed = p.unnamed; nodes = p.nodes; rels = p.rels; paths = p.paths; entries = p.entries } };
+    ghost view = { λ p. record {
+      names = p.names;
+      named = p.named;
+      node_names = p.node_names;
+      rel_names = p.rel_names;
+      unnamed = p.unnamed;
+      nodes = p.nodes;
+      rels = p.rels;
+      paths = p.paths;
+      entries = p.entries;
+    } };
 }
 
 impl<'t> Pattern<'t> {
@@ -501,7 +520,8 @@ fn push_entries<'t>(
     called: &Text,
     map: &'t [Entry],
 ) -> Result<(), Memory>
-    ensures { IfOk result (λ _. entries.new ≡ entries.old ++ entries_of (seen variable) called.now map.now) }
+    ensures { IfOk result (λ _. entries.new
+        ≡ entries.old ++ entries_of (seen variable) called.now map.now) }
 {
     if map.len().saturating_mul(called.as_str().len()) > MOST_CALLED {
         return Err(Memory);

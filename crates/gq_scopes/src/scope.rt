@@ -1,7 +1,7 @@
 //! What the expressions of a query may name.
 ghost use Rattle.std.specs.Prelude.{◌≡◌, ◌<◌, ◌^◌, true, false, length, map, Some, IfOk, IfSome};
-ghost use Rattle.gq_scopes.specs.Resolving as resolving;
-ghost use Rattle.gq_scopes.specs.Uses.{bare, owner, refused_unless, unknown_name};
+ghost use Rattle.gq_scopes.specs.Scopes as scopes;
+ghost use Rattle.gq_scopes.specs.Scopes.{is_known, is_variable};
 
 use crate::copies::{copy_part, copy_text};
 use crate::copying::Copying;
@@ -39,9 +39,14 @@ impl<'s> Model for Scope<'s> {
 
     ghost coded = { Prim.hlevel (codes, expr.the_row.coded) };
 
-    ghost view = { λ s. record { columns = s.columns.now; nodes = s.nodes.now; rels = map (λ r. r.part.name) s.rels.now } };
+    ghost view = { λ s. record {
+      columns = s.columns.now;
+      nodes = s.nodes.now;
+      rels = map (λ r. r.part.name) s.rels.now;
+    } };
 
-    ghost invariant = { λ s. (length s.nodes.now < 2 ^ 32) × (length s.rels.now < 2 ^ 32) × (s.column_names ≡ map (λ c. Some c.name) s.columns.now) };
+    ghost invariant = { λ s. (length s.nodes.now < 2 ^ 32) × (length s.rels.now < 2 ^ 32)
+        × (s.column_names ≡ map (λ c. Some c.name) s.columns.now) };
 }
 
 impl<'s> Scope<'s> {
@@ -54,7 +59,11 @@ impl<'s> Scope<'s> {
     ) -> Result<Scope<'s>, Memory>
         requires nodes { length nodes.now < 2 ^ 32 }
         requires rels { length rels.now < 2 ^ 32 }
-        ensures { IfOk result (λ s. s ≡ record { columns = columns.now; nodes = nodes.now; rels = map (λ r. r.part.name) rels.now }) }
+        ensures { IfOk result (λ s. s ≡ record {
+          columns = columns.now;
+          nodes = nodes.now;
+          rels = map (λ r. r.part.name) rels.now;
+        }) }
     {
         let column_names = names_of(alloc, columns)?;
         Ok(Scope {
@@ -67,7 +76,7 @@ impl<'s> Scope<'s> {
 
     /// The variable of a name.
     pub fn variable(&self, name: &Text) -> Option<Expr>
-        ensures { result ≡ resolving.variable self.now name.now }
+        ensures { result ≡ scopes.variable self.now name.now }
     {
         match self.nodes.find(name) {
             Some(at) => Some(Expr::Node(at as u32)),
@@ -80,8 +89,8 @@ impl<'s> Scope<'s> {
 
     /// Whether an expression may name it: alone it may be a column or a variable, else a variable.
     pub fn knows(&self, name: &Text, alone: bool) -> bool
-        ensures alone { alone ≡ true → refused_unless result name.now ≡ unknown_name self.now (bare name.now) }
-        ensures owner { alone ≡ false → refused_unless result name.now ≡ unknown_name self.now (owner name.now) }
+        ensures alone { alone ≡ true → result ≡ is_known self.now name.now }
+        ensures owner { alone ≡ false → result ≡ is_variable self.now name.now }
     {
         (alone && self.find_column(name).is_some())
             || self.nodes.find(name).is_some()
@@ -90,7 +99,7 @@ impl<'s> Scope<'s> {
 
     /// A property of a variable.
     pub fn property(&self, alloc: Global, name: &Text, key: &Text) -> Result<Option<Expr>, Memory>
-        ensures { IfOk result (λ e. e ≡ resolving.property self.now name.now key.now) }
+        ensures { IfOk result (λ e. e ≡ scopes.property self.now name.now key.now) }
     {
         match self.nodes.find(name) {
             Some(at) => Ok(Some(Expr::NodeProperty(at as u32, copy_text(alloc, key)?))),
@@ -108,7 +117,7 @@ impl<'s> Scope<'s> {
         copying: &mut Copying,
         name: &Text,
     ) -> Result<Option<Expr>, Memory>
-        ensures { IfOk result (λ e. e ≡ resolving.bare self.now name.now) }
+        ensures { IfOk result (λ e. e ≡ scopes.bare self.now name.now) }
     {
         match self.find_column(name) {
             Some(at) => copy_known(alloc, copying, &self.columns[at].expr),
@@ -119,7 +128,7 @@ impl<'s> Scope<'s> {
     // The first column of a name.
     #[tactic(auto, using(crate::proofs::ScopeLemmas::found_column))]
     fn find_column(&self, name: &Text) -> Option<usize>
-        ensures value { result ≡ resolving.find_column self.now.columns name.now }
+        ensures value { result ≡ scopes.find_column self.now.columns name.now }
         ensures within { IfSome result (λ at. at < length self.now.columns) }
     {
         self.column_names.find(name)

@@ -1,0 +1,10 @@
+pub mod AlikeReads
+pub mod ConditionReads
+pub mod ReadEquations
+pub mod RenameLemmas
+pub mod Resolved
+pub mod SliceLemmas
+pub mod SourceLemmas
+pub mod Splits
+pub mod UseLemmas
+pub mod Walks

@@ -1,0 +1,8 @@
+pub mod Checks
+pub mod Conjuncts
+pub mod MadeOf
+pub mod Operands
+pub mod Renames
+pub mod Resolving
+pub mod Trees
+pub mod Uses

@@ -1,0 +1,94 @@
+-- The names and calls of an expression, in text order, and the first that a check refuses.
+use Rattle.std.specs.Prelude.{ℕ, nat_eq, Bool, true, false, not, ◌||◌, Option, Some, None, List, [], ◌∷◌, ◌++◌, map, flat_map, length, codes, if◌then◌else◌}
+use Rattle.gq_syntax.specs.declared.Ast.{Ast, fold-Ast}
+use Rattle.gq_syntax.specs.declared.AstNode.{AstNode}
+use Rattle.gq_syntax.specs.declared.AstNode.TheVariants as ast
+use Rattle.gq_syntax.specs.declared.Term.{Term}
+use Rattle.gq_syntax.specs.declared.Tester.{Tester}
+use Rattle.gq_syntax.specs.declared.Tester.TheVariants as tester
+use Rattle.gq_scopes.specs.Patterns.{Name}
+use Rattle.gq_trees.specs.Resolving.{is_function}
+use Rattle.gq_scopes.specs.Scopes.{Scope, is_known, is_variable}
+
+-- a name by itself, a name with a property, or a call with a number of arguments
+pub data Use : Type 0 where
+  bare : Name → Use
+  owner : Name → Use
+  call : Name → ℕ → Use
+
+abbrev pub tester_uses : Tester (List Use) → List Use
+tester_uses tester.IsNull = []
+tester_uses tester.IsNotNull = []
+tester_uses (tester.Member ls) = []
+tester_uses (tester.Starts us) = us
+tester_uses (tester.Ends us) = us
+tester_uses (tester.Contains us) = us
+
+abbrev pub term_uses : {O : Type 0} → Term O (List Use) → List Use
+term_uses t = t.tree
+
+abbrev pub all_uses : List (List Use) → List Use
+all_uses uss = flat_map (λ us. us) uss
+
+-- one level of a tree, by the uses of its parts
+abbrev pub uses_step : AstNode (List Use) → List Use
+uses_step (ast.Literal l) = []
+uses_step (ast.Variable name) = bare name ∷ []
+uses_step (ast.Property name key) = owner name ∷ []
+uses_step (ast.Call name uss) = call name (length uss) ∷ all_uses uss
+uses_step (ast.Paren us) = us
+uses_step (ast.Negate us) = us
+uses_step (ast.Plus us) = us
+uses_step (ast.Not us) = us
+uses_step (ast.Or uss) = all_uses uss
+uses_step (ast.Xor uss) = all_uses uss
+uses_step (ast.And uss) = all_uses uss
+uses_step (ast.Compare us ts) = us ++ all_uses (map term_uses ts)
+uses_step (ast.Test us ts) = us ++ all_uses (map tester_uses ts)
+uses_step (ast.Sum us ts) = us ++ all_uses (map term_uses ts)
+uses_step (ast.Product us ts) = us ++ all_uses (map term_uses ts)
+
+-- the names and calls of a tree, in text order
+unfoldable pub uses : Ast → List Use
+uses = fold-Ast (List Use) (λ a. uses_step a.node)
+
+abbrev pub or_else : {A : Type 0} → Option A → Option A → Option A
+or_else None y = y
+or_else (Some x) y = Some x
+
+-- the first name that a check refuses
+abbrev pub first_name : (Use → Option Name) → List Use → Option Name
+first_name check [] = None
+first_name check (u ∷ us) = or_else (check u) (first_name check us)
+
+-- the same of several lists, one after another
+abbrev pub first_of : (Use → Option Name) → List (List Use) → Option Name
+first_of check [] = None
+first_of check (us ∷ uss) = or_else (first_name check us) (first_of check uss)
+
+abbrev pub refused_unless : Bool → Name → Option Name
+refused_unless true name = None
+refused_unless false name = Some name
+
+-- a name that the scope does not have: by itself it may be a column or a variable, with a property a variable
+abbrev pub unknown_name : Scope → Use → Option Name
+unknown_name s (bare name) = refused_unless (is_known s name) name
+unknown_name s (owner name) = refused_unless (is_variable s name) name
+unknown_name s (call name arguments) = None
+
+abbrev pub is_some_function : Name → Bool
+is_some_function name = is_function name (codes "type") || is_function name (codes "coalesce")
+
+-- a call that names no function
+abbrev pub unknown_function : Use → Option Name
+unknown_function (call name arguments) = refused_unless (is_some_function name) name
+unknown_function u = None
+
+-- `type` takes one argument, and `coalesce` one and more
+abbrev pub takes : Name → ℕ → Bool
+takes name arguments =
+    if is_function name (codes "type") then nat_eq arguments 1 else if is_function name (codes "coalesce") then not (nat_eq arguments 0) else true
+
+abbrev pub wrong_count : Use → Option Name
+wrong_count (call name arguments) = refused_unless (takes name arguments) name
+wrong_count u = None

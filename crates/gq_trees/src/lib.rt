@@ -1,0 +1,22 @@
+//! What the trees of a query's expressions stand for: bound expressions, the conjuncts of a condition, the first name or
+//! call that a check refuses; and whether two expressions are the same.
+#![tactic(auto)]
+
+mod calls;
+mod conjuncts;
+mod made;
+mod operands;
+mod renames;
+mod resolution;
+mod sameness;
+mod source;
+mod uses;
+
+pub use calls::CallForm;
+pub use conjuncts::conjuncts_of;
+pub use made::is_made_of;
+pub use renames::Renamed;
+pub use resolution::{resolve, resolve_part};
+pub use sameness::same;
+pub use source::source_text;
+pub use uses::{Check, first_refused};

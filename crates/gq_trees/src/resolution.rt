@@ -1,0 +1,202 @@
+//! From trees of expressions to bound expressions.
+ghost use Rattle.std.specs.Prelude.{◌≡◌, map, IfOk};
+ghost use Rattle.gq_trees.specs.Resolving.{resolved, all_some, bound_term, bound_tester, calls_of};
+ghost use Rattle.gq_trees.specs.Trees.{term_with, tester_with};
+
+use crate::calls::{CallForm, call};
+use gq_base::{Boxed, List, Memory};
+use gq_expr::{Bound, BoundArith, BoundCompare, BoundTester, Expr, Tester};
+use gq_scopes::{Copying, Scope, copy_literal, copy_literals};
+use gq_syntax::{ArithTerm, Ast, AstNode, AstTester, CompareTerm, Tester as Tested};
+use std::alloc::Global;
+
+/// The expression that a tree stands for, or `None` where it names what the scope does not have, or a call is none.
+pub fn resolve(
+    alloc: Global,
+    calls: CallForm,
+    scope: &Scope<'_>,
+    tree: &Ast,
+) -> Result<Option<Expr>, Memory>
+    ensures { IfOk result (λ e. e ≡ resolved (calls_of calls) scope.now tree.now) }
+{
+    resolve_part(alloc, &mut Copying::new(), calls, scope, tree)
+}
+
+/// The same, out of what may still be copied: each bare name that is a column copies the column's expression.
+pub fn resolve_part(
+    alloc: Global,
+    copying: &mut Copying,
+    calls: CallForm,
+    scope: &Scope<'_>,
+    tree: &Ast,
+) -> Result<Option<Expr>, Memory>
+    ensures { IfOk result (λ e. e ≡ resolved (calls_of calls) scope.now tree.now) }
+{
+    let resolver = Resolver {
+        alloc,
+        calls,
+        scope,
+    };
+    resolver.part(copying, tree)
+}
+
+// What the trees of a statement are resolved with.
+#[derive(Clone, Copy)]
+struct Resolver<'r, 's> {
+    alloc: Global,
+    calls: CallForm,
+    scope: &'r Scope<'s>,
+}
+
+impl<'r, 's> Resolver<'r, 's> {
+    #[cycle(part)]
+    #[tactic(auto, using(crate::proofs::Resolved::resolved_out))]
+    fn part(&self, copying: &mut Copying, tree: &Ast) -> Result<Option<Expr>, Memory>
+        ensures { let go = resolved (calls_of self.now.calls) self.now.scope.now in
+            IfOk result (λ e. e ≡ go tree.now) }
+    {
+        match &tree.node {
+            AstNode::Literal(literal) => Ok(Some(Expr::Literal(copy_literal(
+                self.alloc, literal,
+            )?))),
+            AstNode::Variable(name) => self.scope.bare(self.alloc, copying, name),
+            AstNode::Property(name, key) => self.scope.property(self.alloc, name, key),
+            AstNode::Call(name, all) => match self.all(copying, all.as_slice())? {
+                Some(all) => call(self.alloc, self.calls, name, all),
+                None => Ok(None),
+            },
+            AstNode::Paren(inner) => self.part(copying, inner.get()),
+            AstNode::Negate(inner) => Ok(self.boxed(copying, inner.get())?.map(Expr::Negate)),
+            AstNode::Plus(inner) => Ok(self.boxed(copying, inner.get())?.map(Expr::Plus)),
+            AstNode::Not(inner) => Ok(self.boxed(copying, inner.get())?.map(Expr::Not)),
+            AstNode::Or(all) => Ok(self.all(copying, all.as_slice())?.map(Expr::Or)),
+            AstNode::Xor(all) => Ok(self.all(copying, all.as_slice())?.map(Expr::Xor)),
+            AstNode::And(all) => Ok(self.all(copying, all.as_slice())?.map(Expr::And)),
+            AstNode::Compare(first, terms) => {
+                let Some(first) = self.boxed(copying, first.get())? else {
+                    return Ok(None);
+                };
+                let Some(terms) = self.compares(copying, terms.as_slice())? else {
+                    return Ok(None);
+                };
+                Ok(Some(Expr::Compare(first, terms)))
+            }
+            AstNode::Test(first, testers) => {
+                let Some(first) = self.boxed(copying, first.get())? else {
+                    return Ok(None);
+                };
+                let Some(testers) = self.testers(copying, testers.as_slice())? else {
+                    return Ok(None);
+                };
+                Ok(Some(Expr::Test(first, testers)))
+            }
+            AstNode::Sum(first, terms) | AstNode::Product(first, terms) => {
+                let Some(first) = self.boxed(copying, first.get())? else {
+                    return Ok(None);
+                };
+                let Some(terms) = self.ariths(copying, terms.as_slice())? else {
+                    return Ok(None);
+                };
+                Ok(Some(Expr::Arith(first, terms)))
+            }
+        }
+    }
+
+    #[cycle(part)]
+    fn boxed(&self, copying: &mut Copying, tree: &Ast) -> Result<Option<Boxed<Expr>>, Memory>
+        ensures { let go = resolved (calls_of self.now.calls) self.now.scope.now in
+            IfOk result (λ e. e ≡ go tree.now) }
+    {
+        match self.part(copying, tree)? {
+            Some(expr) => Ok(Some(Boxed::new(self.alloc, expr)?)),
+            None => Ok(None),
+        }
+    }
+
+    #[cycle(part)]
+    #[tactic(auto, using(crate::proofs::Resolved::gathering))]
+    fn all(&self, copying: &mut Copying, trees: &[Ast]) -> Result<Option<List<Expr>>, Memory>
+        ensures { let go = resolved (calls_of self.now.calls) self.now.scope.now in
+            IfOk result (λ es. es ≡ all_some (map go trees.now)) }
+    {
+        let mut all = List::new(self.alloc);
+        for tree in trees {
+            match self.part(copying, tree)? {
+                Some(expr) => all.push(expr)?,
+                None => return Ok(None),
+            }
+        }
+        Ok(Some(all))
+    }
+
+    #[cycle(part)]
+    #[tactic(auto, using(crate::proofs::Resolved::gathering))]
+    fn compares(
+        &self,
+        copying: &mut Copying,
+        terms: &[CompareTerm],
+    ) -> Result<Option<List<BoundCompare>>, Memory>
+        ensures { let go = resolved (calls_of self.now.calls) self.now.scope.now in
+            IfOk result (λ ts. ts ≡ all_some (map bound_term (map (term_with go) terms.now))) }
+    {
+        let mut all = List::new(self.alloc);
+        for term in terms {
+            match self.part(copying, &term.tree)? {
+                Some(expr) => all.push(Bound { op: term.op, expr })?,
+                None => return Ok(None),
+            }
+        }
+        Ok(Some(all))
+    }
+
+    #[cycle(part)]
+    #[tactic(auto, using(crate::proofs::Resolved::gathering))]
+    fn ariths(
+        &self,
+        copying: &mut Copying,
+        terms: &[ArithTerm],
+    ) -> Result<Option<List<BoundArith>>, Memory>
+        ensures { let go = resolved (calls_of self.now.calls) self.now.scope.now in
+            IfOk result (λ ts. ts ≡ all_some (map bound_term (map (term_with go) terms.now))) }
+    {
+        let mut all = List::new(self.alloc);
+        for term in terms {
+            match self.part(copying, &term.tree)? {
+                Some(expr) => all.push(Bound { op: term.op, expr })?,
+                None => return Ok(None),
+            }
+        }
+        Ok(Some(all))
+    }
+
+    #[cycle(part)]
+    #[tactic(auto, using(crate::proofs::Resolved::gathering))]
+    fn testers(
+        &self,
+        copying: &mut Copying,
+        testers: &[AstTester],
+    ) -> Result<Option<List<BoundTester>>, Memory>
+        ensures { let go = resolved (calls_of self.now.calls) self.now.scope.now in
+            IfOk result (λ ts. ts
+            ≡ all_some (map bound_tester (map (tester_with go) testers.now))) }
+    {
+        let mut all = List::new(self.alloc);
+        for tester in testers {
+            let found = match tester {
+                Tested::IsNull => Some(Tester::IsNull),
+                Tested::IsNotNull => Some(Tester::IsNotNull),
+                Tested::Member(literals) => {
+                    Some(Tester::Member(copy_literals(self.alloc, literals.as_slice())?))
+                }
+                Tested::Starts(prefix) => self.part(copying, prefix)?.map(Tester::Starts),
+                Tested::Ends(suffix) => self.part(copying, suffix)?.map(Tester::Ends),
+                Tested::Contains(part) => self.part(copying, part)?.map(Tester::Contains),
+            };
+            match found {
+                Some(tester) => all.push(tester)?,
+                None => return Ok(None),
+            }
+        }
+        Ok(Some(all))
+    }
+}

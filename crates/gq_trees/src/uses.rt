@@ -1,0 +1,195 @@
+//! The names and calls of an expression, and the first that a check refuses.
+ghost use Rattle.std.specs.Prelude.{◌≡◌, true, false, map};
+ghost use Rattle.std.specs.Option.{option_copied};
+ghost use Rattle.gq_trees.specs.Checks.{check_of};
+ghost use Rattle.gq_trees.specs.Trees.{term_with, tester_with};
+ghost use Rattle.gq_trees.specs.Uses as uses;
+ghost use Rattle.gq_trees.specs.Uses.{first_name, first_of, term_uses, tester_uses, bare, owner, refused_unless, takes, is_some_function};
+
+use crate::renames::Renamed;
+use gq_base::Text;
+use gq_scopes::Scope;
+use gq_syntax::{ArithTerm, Ast, AstNode, AstTester, CompareTerm, Tester};
+
+/// What is looked for in an expression.
+#[derive(Clone, Copy)]
+pub enum Check<'c> {
+    /// A name that the scope does not have.
+    UnknownName,
+    /// A call that names no function.
+    UnknownFunction,
+    /// A call of a function that does not take so many arguments.
+    WrongCount,
+    /// A name that AS gives to another column than the variable of this name.
+    AmbiguousName(&'c Renamed<'c>),
+}
+
+/// The first name of an expression, in text order, that a check refuses.
+#[cycle(first_refused)]
+#[tactic(auto, using(crate::proofs::UseLemmas::opening))]
+pub fn first_refused<'t>(check: Check<'_>, scope: &Scope<'_>, tree: &'t Ast) -> Option<&'t Text>
+    ensures { option_copied result
+        ≡ first_name (check_of check.entry scope.now) (uses.uses tree.now) }
+{
+    match &tree.node {
+        AstNode::Literal(_) => None,
+        AstNode::Variable(name) => refused_name(check, scope, name, true),
+        AstNode::Property(name, _) => refused_name(check, scope, name, false),
+        AstNode::Call(name, all) => match refused_call(check, scope, name, all.len()) {
+            Some(name) => Some(name),
+            None => first_of_all(check, scope, all.as_slice()),
+        },
+        AstNode::Paren(inner)
+        | AstNode::Negate(inner)
+        | AstNode::Plus(inner)
+        | AstNode::Not(inner) => first_refused(check, scope, inner.get()),
+        AstNode::Or(all) | AstNode::Xor(all) | AstNode::And(all) => {
+            first_of_all(check, scope, all.as_slice())
+        }
+        AstNode::Compare(first, terms) => match first_refused(check, scope, first.get()) {
+            Some(name) => Some(name),
+            None => first_of_compares(check, scope, terms.as_slice()),
+        },
+        AstNode::Test(first, testers) => match first_refused(check, scope, first.get()) {
+            Some(name) => Some(name),
+            None => first_of_testers(check, scope, testers.as_slice()),
+        },
+        AstNode::Sum(first, terms) | AstNode::Product(first, terms) => {
+            match first_refused(check, scope, first.get()) {
+                Some(name) => Some(name),
+                None => first_of_ariths(check, scope, terms.as_slice()),
+            }
+        }
+    }
+}
+
+#[cycle(first_refused)]
+fn first_of_all<'t>(check: Check<'_>, scope: &Scope<'_>, trees: &'t [Ast]) -> Option<&'t Text>
+    ensures { let uss = map uses.uses trees.now in
+        option_copied result ≡ first_of (check_of check.entry scope.now) uss }
+{
+    for tree in trees {
+        if let Some(name) = first_refused(check, scope, tree) {
+            return Some(name);
+        }
+    }
+    None
+}
+
+#[cycle(first_refused)]
+fn first_of_compares<'t>(
+    check: Check<'_>,
+    scope: &Scope<'_>,
+    terms: &'t [CompareTerm],
+) -> Option<&'t Text>
+    ensures { let uss = map term_uses (map (term_with uses.uses) terms.now) in
+        option_copied result ≡ first_of (check_of check.entry scope.now) uss }
+{
+    for term in terms {
+        if let Some(name) = first_refused(check, scope, &term.tree) {
+            return Some(name);
+        }
+    }
+    None
+}
+
+#[cycle(first_refused)]
+fn first_of_ariths<'t>(
+    check: Check<'_>,
+    scope: &Scope<'_>,
+    terms: &'t [ArithTerm],
+) -> Option<&'t Text>
+    ensures { let uss = map term_uses (map (term_with uses.uses) terms.now) in
+        option_copied result ≡ first_of (check_of check.entry scope.now) uss }
+{
+    for term in terms {
+        if let Some(name) = first_refused(check, scope, &term.tree) {
+            return Some(name);
+        }
+    }
+    None
+}
+
+#[cycle(first_refused)]
+fn first_of_testers<'t>(
+    check: Check<'_>,
+    scope: &Scope<'_>,
+    testers: &'t [AstTester],
+) -> Option<&'t Text>
+    ensures { let uss = map tester_uses (map (tester_with uses.uses) testers.now) in
+        option_copied result ≡ first_of (check_of check.entry scope.now) uss }
+{
+    for tester in testers {
+        let found = match tester {
+            Tester::IsNull | Tester::IsNotNull | Tester::Member(_) => None,
+            Tester::Starts(part) | Tester::Ends(part) | Tester::Contains(part) => {
+                first_refused(check, scope, part)
+            }
+        };
+        if let Some(name) = found {
+            return Some(name);
+        }
+    }
+    None
+}
+
+fn unless<'t>(allowed: bool, name: &'t Text) -> Option<&'t Text>
+    ensures { option_copied result ≡ refused_unless allowed name.now }
+{
+    if allowed { None } else { Some(name) }
+}
+
+fn refused_name<'t>(
+    check: Check<'_>,
+    scope: &Scope<'_>,
+    name: &'t Text,
+    alone: bool,
+) -> Option<&'t Text>
+    ensures bare { alone ≡ true
+        → option_copied result ≡ check_of check.entry scope.now (bare name.now) }
+    ensures owner { alone ≡ false
+        → option_copied result ≡ check_of check.entry scope.now (owner name.now) }
+{
+    match check {
+        Check::UnknownName => unless(scope.knows(name, alone), name),
+        Check::UnknownFunction => None,
+        Check::WrongCount => None,
+        Check::AmbiguousName(renamed) => unless(!renamed.contains(name), name),
+    }
+}
+
+fn refused_call<'t>(
+    check: Check<'_>,
+    scope: &Scope<'_>,
+    name: &'t Text,
+    arguments: usize,
+) -> Option<&'t Text>
+    ensures { option_copied result ≡ check_of check.entry scope.now (uses.call name.now arguments) }
+{
+    match check {
+        Check::UnknownName => None,
+        Check::UnknownFunction => unless(names_function(name), name),
+        Check::WrongCount => unless(takes_arguments(name, arguments), name),
+        Check::AmbiguousName(_) => None,
+    }
+}
+
+fn names_function(name: &Text) -> bool
+    ensures { result ≡ is_some_function name.now }
+{
+    let name = name.as_str();
+    name.eq_ignore_ascii_case("type") || name.eq_ignore_ascii_case("coalesce")
+}
+
+fn takes_arguments(name: &Text, arguments: usize) -> bool
+    ensures { result ≡ takes name.now arguments }
+{
+    let name = name.as_str();
+    if name.eq_ignore_ascii_case("type") {
+        arguments == 1
+    } else if name.eq_ignore_ascii_case("coalesce") {
+        arguments != 0
+    } else {
+        true
+    }
+}
