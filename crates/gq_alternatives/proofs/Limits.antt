@@ -4,7 +4,8 @@ use Rattle.std.proofs.lemmas.List.{take-append-le, take_all, length-take, take_m
 use Rattle.std.proofs.lemmas.Bool.{lt-ltb, le-ltb, ltb-true, ltb-false}
 use Rattle.std.proofs.lemmas.Grind.{flat_map-append}
 use Rattle.gq_alternatives.specs.Alternatives.{Choice}
-use Rattle.gq_alternatives.specs.Searching.{Found, adding, at_most}
+use Rattle.gq_alternatives.specs.Searching.{at_most}
+use Rattle.gq_alternatives.specs.steps.Searching.{Found, adding}
 
 -- nothing is added to what is full
 pub when_full : (most : ℕ) (cs : List Choice) (s : Found) → length s.choices ≤ suc most → most < length s.choices → s ≡ adding most cs s

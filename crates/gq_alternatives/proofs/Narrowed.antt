@@ -8,7 +8,7 @@ use Rattle.std.proofs.lemmas.List.Folds.{flat_map-map}
 use Rattle.gq_base.specs.Catalogs.{Tables}
 use Rattle.gq_plan.proofs.Each.{each_of, each_then, each_map, each_flat_map}
 use Rattle.gq_alternatives.specs.Alternatives.{Reading, Choice, source_of, target_of, same_table}
-use Rattle.gq_alternatives.specs.Searching.{Step, one_of_each, ends_agree, all_ends_agree, agreeing, stands_at, stands, standing, suits, supports, supported, kept}
+use Rattle.gq_alternatives.specs.steps.Searching.{Step, one_of_each, ends_agree, all_ends_agree, agreeing, stands_at, stands, standing, suits, supports, supported, kept}
 use Rattle.gq_alternatives.proofs.Searches.{filter_both, filter_cons, flat_map_flat_map, flat_map_same, flat_map_none, flat_map_filtered, filter_none, filter_same}
 use Rattle.gq_scopes.specs.Patterns.{RelPattern}
 

@@ -3,7 +3,7 @@ use Rattle.std.proofs.Common.{◌≡◌, ℕ, zero, suc, ◌-◌, ◌<◌, ◌�
 use Rattle.std.proofs.lemmas.List.{take-append-le, take_all, map-append}
 use Rattle.gq_base.specs.Catalogs.{Tables}
 use Rattle.gq_alternatives.specs.Alternatives.{Reading, Choice}
-use Rattle.gq_alternatives.specs.Searching.{Step, Found, adding, following, searched, filled, may_be, admits, knowing, taking}
+use Rattle.gq_alternatives.specs.steps.Searching.{Step, Found, adding, following, searched, filled, may_be, admits, knowing, taking}
 use Rattle.gq_alternatives.proofs.Searches.{flat_map_filtered}
 
 module _ {X : Type 0} where

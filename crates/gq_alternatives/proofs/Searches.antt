@@ -15,7 +15,7 @@ use Rattle.std.proofs.lemmas.Option.{slice_get_past}
 use Rattle.gq_plan.proofs.Each.{each_of, each_then, each_map, each_flat_map}
 use Rattle.gq_alternatives.specs.Alternatives.{Reading, Choice, all_readings, choices, source_of, target_of, same_table, label_in, label_agrees, readings_agree, agrees, pattern_alternatives}
 use Rattle.gq_alternatives.specs.Matches.{has_label}
-use Rattle.gq_alternatives.specs.Searching.{Step, is_nil, no_reading, one_of_each, reading_fits, steps_of, label_fits, labels_fit, tables_of, ends_agree, all_ends_agree, agreeing, may_be, admits, filled, reached, searched}
+use Rattle.gq_alternatives.specs.steps.Searching.{Step, is_nil, no_reading, one_of_each, reading_fits, steps_of, label_fits, labels_fit, tables_of, ends_agree, all_ends_agree, agreeing, may_be, admits, filled, reached, searched}
 use Rattle.gq_scopes.specs.Patterns.{NodePattern, RelPattern, Pattern}
 
 -- ---- filters and products

@@ -12,7 +12,7 @@ use Rattle.gq_plan.specs.declared.PathPart.{PathPart}
 use Rattle.gq_plan.proofs.Each.{each_then, each_append, each_below}
 use Rattle.gq_scopes.proofs.RangeLemmas.{range_more}
 use Rattle.gq_scopes.specs.Patterns.{MapEntry}
-use Rattle.gq_scopes.specs.Variables.{IsThere}
+use Rattle.gq_scopes.specs.steps.Variables.{IsThere}
 
 -- the node variables at the left and at the right of a relationship
 pub record Ends : Type 0 where

@@ -2,3 +2,4 @@ pub mod Alternatives
 pub mod Matches
 pub mod Parted
 pub mod Searching
+pub mod steps

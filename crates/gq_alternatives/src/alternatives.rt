@@ -2,8 +2,9 @@
 ghost use Rattle.std.specs.Prelude.{◌≡◌, IfOk};
 ghost use Rattle.std.specs.List.{list_any};
 ghost use Rattle.gq_alternatives.specs.Alternatives.{pattern_alternatives};
-ghost use Rattle.gq_alternatives.specs.Searching as searching;
-ghost use Rattle.gq_alternatives.specs.Searching.{at_most, agreeing};
+ghost use Rattle.gq_alternatives.specs.steps.Searching as searching;
+ghost use Rattle.gq_alternatives.specs.Searching.{at_most};
+ghost use Rattle.gq_alternatives.specs.steps.Searching.{agreeing};
 
 use crate::candidates::{Step, all_within, steps_of, tables_of};
 use crate::choice::Choice;

@@ -8,8 +8,8 @@ ghost use Rattle.std.specs.Prelude.{nat_eq};
 ghost use Rattle.gq_alternatives.specs.Alternatives as alternatives;
 ghost use Rattle.gq_alternatives.specs.Alternatives.{all_readings};
 ghost use Rattle.gq_alternatives.specs.Matches as matches;
-ghost use Rattle.gq_alternatives.specs.Searching as searching;
-ghost use Rattle.gq_alternatives.specs.Searching.{reading_fits};
+ghost use Rattle.gq_alternatives.specs.steps.Searching as searching;
+ghost use Rattle.gq_alternatives.specs.steps.Searching.{reading_fits};
 
 use crate::choice::Reading;
 use gq_base::{Catalog, List, Memory, Text};
@@ -26,7 +26,7 @@ pub struct Step<'s> {
 }
 
 impl<'s> Model for Step<'s> {
-    ghost use Rattle.gq_alternatives.specs.Searching.{Step};
+    ghost use Rattle.gq_alternatives.specs.steps.Searching.{Step};
 
     ghost Value = { Step };
 

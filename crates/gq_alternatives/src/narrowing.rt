@@ -1,8 +1,8 @@
 //! Narrowing: candidates that can stand in no choice are dropped before the search.
 ghost use Rattle.std.specs.Prelude.{◌≡◌, filter, map, slice_get, Some, IfOk};
-ghost use Rattle.gq_alternatives.specs.Searching.{agreeing, kept};
+ghost use Rattle.gq_alternatives.specs.steps.Searching.{agreeing, kept};
 ghost use Rattle.std.specs.List.{list_any};
-ghost use Rattle.gq_alternatives.specs.Searching as searching;
+ghost use Rattle.gq_alternatives.specs.steps.Searching as searching;
 
 use crate::candidates::Step;
 use crate::choice::Reading;

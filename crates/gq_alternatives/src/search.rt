@@ -2,9 +2,10 @@
 //! variables.
 ghost use Rattle.std.specs.Prelude.{◌≡◌, ◌<◌, ◌≤◌, ◌-◌, [], ◌∷◌, ◌++◌, suc, map, flat_map, take};
 ghost use Rattle.std.specs.Prelude.{drop, length, slice_get, slice_set, None, OnOk, IfOk, nat_lt};
-ghost use Rattle.gq_alternatives.specs.Searching as searching;
-ghost use Rattle.gq_alternatives.specs.Searching.{adding, filled, following, knowing, searched};
-ghost use Rattle.gq_alternatives.specs.Searching.{taking};
+ghost use Rattle.gq_alternatives.specs.steps.Searching as searching;
+ghost use Rattle.gq_alternatives.specs.steps.Searching.{adding, filled, following, knowing};
+ghost use Rattle.gq_alternatives.specs.steps.Searching.{searched};
+ghost use Rattle.gq_alternatives.specs.steps.Searching.{taking};
 
 use crate::candidates::Step;
 use crate::choice::{Choice, Reading};
@@ -24,7 +25,7 @@ pub struct Space<'s> {
 }
 
 impl<'s> Model for Space<'s> {
-    ghost use Rattle.gq_alternatives.specs.Searching.{Space};
+    ghost use Rattle.gq_alternatives.specs.steps.Searching.{Space};
 
     ghost Value = { Space };
 
@@ -49,7 +50,7 @@ pub struct Found {
 }
 
 impl Model for Found {
-    ghost use Rattle.gq_alternatives.specs.Searching.{Found};
+    ghost use Rattle.gq_alternatives.specs.steps.Searching.{Found};
 
     ghost Value = { Found };
 

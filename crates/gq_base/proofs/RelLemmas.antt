@@ -1,13 +1,11 @@
 -- Relationships whose cells stand one behind the other: how they grow, and where the cells of each stand.
-use Rattle.std.proofs.Common.{◌≡◌, ℕ, zero, suc, ◌+◌, ◌-◌, ◌<◌, ◌≤◌, List, [], ◌∷◌, ◌++◌, length, take, drop, get_or, Some, refl, subst, sym, ap, ◌∙◌, arith, inl, inr, length-append}
+use Rattle.std.proofs.Common.{◌≡◌, ℕ, zero, suc, ◌-◌, ◌<◌, ◌≤◌, List, [], ◌∷◌, ◌++◌, length, take, drop, get_or, Some, refl, ap, ◌∙◌, arith, inl, inr, length-append}
 use Rattle.std.specs.Prelude.{slice_range, slice_get}
 use Rattle.std.specs.declared.option.Option.{Option}
 use Rattle.std.proofs.lemmas.Bool.{cases_lt}
 use Rattle.std.proofs.lemmas.List.{drop-append-le, take-append-le, drop_at, length-drop, take_all}
-use native.Mathlib.Numerals.{unary_clauses}
-use Rattle.gq_base.specs.Rels.{AreCut, rels_from, start_at}
+use Rattle.gq_base.specs.steps.Rels.{AreCut, rels_from, start_at}
 use Rattle.gq_base.specs.declared.cell.Cell.{Cell}
-use Rattle.gq_base.specs.declared.cell.PlainRel.{PlainRel}
 use Rattle.gq_base.specs.declared.rels.Head.{Head}
 
 pub length_rels_from : (start : ℕ) (heads : List Head) (cells : List (Option Cell)) → length (rels_from start heads cells) ≡ length heads

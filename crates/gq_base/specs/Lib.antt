@@ -8,3 +8,4 @@ pub mod ValueLaws
 pub mod Values
 pub mod Words
 pub mod formers
+pub mod steps

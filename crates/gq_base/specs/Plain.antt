@@ -1,11 +1,10 @@
 -- The plain graph: a catalogue and its rows. It knows of no columns, dictionaries or adjacency lists.
-use Rattle.std.specs.Prelude.{ℕ, List, [], map, slice_get}
+use Rattle.std.specs.Prelude.{ℕ, List, [], slice_get}
 use Rattle.std.specs.declared.option.Option.{Option}
 use Rattle.std.specs.declared.option.Option.TheVariants.{Some, None}
-use Rattle.gq_base.specs.Catalogs.{Tables, find_label, find_field}
+use Rattle.gq_base.specs.Catalogs.{Tables, find_field}
 use Rattle.gq_base.specs.Values.{Val, null, flag, int, str}
 use Rattle.gq_base.specs.declared.catalog.Field.{Field}
-use Rattle.gq_base.specs.declared.catalog.NodeTable.{NodeTable}
 use Rattle.gq_base.specs.declared.cell.Cell.{Cell}
 use Rattle.gq_base.specs.declared.cell.Cell.TheVariants as cell
 use Rattle.gq_base.specs.declared.cell.PlainRel.{PlainRel}
@@ -38,18 +37,6 @@ cell_at row (Some place) = flat (slice_get row place)
 abbrev pub property_of : List Field → List ℕ → List (Option Cell) → Option Cell
 property_of fields name row = cell_at row (find_field fields name)
 
-abbrev fields_of : Option NodeTable → List Field
-fields_of None = []
-fields_of (Some table) = table.fields
-
 abbrev pub rows_of : Option (List (List (Option Cell))) → List (List (Option Cell))
 rows_of None = []
 rows_of (Some rows) = rows
-
-abbrev of_label : Graph → List ℕ → Option ℕ → List (Option Cell)
-of_label graph name None = []
-of_label graph name (Some table) = map (property_of (fields_of (slice_get graph.catalog.nodes table)) name) (rows_of (slice_get graph.nodes table))
-
--- a property of each node that has a label, in row order; none where no table has the label
-abbrev pub properties : Graph → List ℕ → List ℕ → List (Option Cell)
-properties graph label name = of_label graph name (find_label graph.catalog.nodes label)

@@ -1,7 +1,8 @@
 //! The relationships of a table, whose cells stand one behind the other in one vector.
 ghost use Rattle.std.specs.Prelude.{◌≡◌, [], ◌∷◌, ◌++◌, ◌<◌, ◌≤◌, length, slice_get};
 ghost use Rattle.std.specs.Prelude.{IfOk, OnOk, OnErr, Some};
-ghost use Rattle.gq_base.specs.Rels.{rel_seen, start_at};
+ghost use Rattle.gq_base.specs.Rels.{rel_seen};
+ghost use Rattle.gq_base.specs.steps.Rels.{start_at};
 
 use crate::cell::{Cell, PlainRel, Row};
 use crate::list::List;
@@ -36,7 +37,7 @@ pub struct RelRef<'r> {
 
 impl Model for RelRows {
     ghost use Rattle.std.specs.Prelude.{List};
-    ghost use Rattle.gq_base.specs.Rels.{AreCut, rels_from};
+    ghost use Rattle.gq_base.specs.steps.Rels.{AreCut, rels_from};
     ghost use Rattle.gq_base.specs.declared.cell.PlainRel.{PlainRel};
 
     ghost Value = { List PlainRel };

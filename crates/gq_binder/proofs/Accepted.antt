@@ -26,7 +26,7 @@ use Rattle.gq_syntax.specs.declared.Query.{Query}
 use Rattle.gq_syntax.specs.declared.Sort.{Sort}
 use Rattle.gq_binder.proofs.Known.{IsKnown, IsKnownColumn, mapped, refused_use, known_tree}
 use Rattle.gq_binder.specs.Columns.{Scoped, scoped_in, conditions_from, conditions, conjuncts, columns, columns_in, column_of, star_columns, firsts_behind, item_column, sort_scope, column_expr, sort_expr}
-use Rattle.gq_binder.specs.Parts.{known_conjuncts}
+use Rattle.gq_binder.specs.steps.Parts.{known_conjuncts}
 use Rattle.gq_binder.specs.Refusals.{first_in, items_in, sorts_in}
 
 -- ---- what the checks say of each expression

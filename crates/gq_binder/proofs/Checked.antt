@@ -10,10 +10,10 @@ use Rattle.gq_binder.proofs.Patterns.{node_names_there}
 use Rattle.gq_binder.proofs.RefusalLemmas.{first_then, first_append, or_none, same_behind}
 use Rattle.gq_binder.proofs.SoundAlternatives.{each_none, is_bound, reads_listed}
 use Rattle.gq_binder.specs.Binding.{Answers, IsBound}
-use Rattle.gq_binder.specs.Checks.{IsOfQuery}
+use Rattle.gq_binder.specs.steps.Checks.{IsOfQuery}
 use Rattle.gq_binder.specs.Columns.{conditions, columns, entry_test, sort_scope}
-use Rattle.gq_binder.specs.Names.{FirstNames, no_names, with_expressions}
-use Rattle.gq_binder.specs.Parts.{known_conjuncts, parts_of, ambiguous_in, reads_in, checks_in, bound_in}
+use Rattle.gq_binder.specs.steps.Names.{FirstNames, no_names, with_expressions}
+use Rattle.gq_binder.specs.steps.Parts.{known_conjuncts, parts_of, ambiguous_in, reads_in, checks_in, bound_in}
 use Rattle.gq_binder.specs.Refusals.{first_of_all, unknown_variable, variable_conflict, relationship_repeated, column_repeated, nothing_to_return, order_out_of_scope, ambiguous_order_name, function_unknown, argument_count, over_limit, max_columns, max_alternatives, too_many_patterns, all_reads, first_refusal}
 use Rattle.gq_binder.specs.declared.parts.QueryParts.{QueryParts}
 use Rattle.gq_binder.specs.declared.refusal.BindRefusal.{BindRefusal}
@@ -25,7 +25,7 @@ use Rattle.gq_trees.specs.Renames.{ambiguous_name}
 use Rattle.gq_trees.specs.Resolving.{functions, as_lists}
 use Rattle.gq_scopes.specs.Scopes.{scope_of}
 use Rattle.gq_trees.specs.Uses.{or_else, unknown_function, wrong_count}
-use Rattle.gq_syntax.specs.Spans.{StandsIn}
+use Rattle.gq_syntax.specs.steps.Spans.{StandsIn}
 use Rattle.gq_syntax.specs.declared.Query.{Query}
 
 none_of : (f : Name → BindRefusal) (o : Option Name) → option_map f o ≡ None → o ≡ None

@@ -12,7 +12,7 @@ use Rattle.gq_expr.specs.declared.Expr.{Expr}
 use Rattle.gq_expr.specs.declared.Tester.TheVariants as tester
 use Rattle.gq_scopes.specs.Patterns.{Name, find_name}
 use Rattle.gq_trees.specs.Resolving.{functions, resolved, resolve_step, all_some, and_then, over_known, bound_term, bound_tester, type_call, coalesce_call, is_function}
-use Rattle.gq_trees.specs.Trees.{term_with}
+use Rattle.gq_trees.specs.steps.Trees.{term_with}
 use Rattle.gq_trees.specs.Uses.{Use, bare, owner, call, uses, uses_step, all_uses, term_uses, tester_uses, or_else, first_name, refused_unless, is_some_function, takes, unknown_name, unknown_function, wrong_count}
 use Rattle.gq_scopes.specs.Scopes.{Scope, column_or, either_property, either_variable, expr_of, find_column, is_there, is_variable}
 use Rattle.gq_trees.proofs.Resolved.{tests_of}

@@ -8,7 +8,7 @@ use Rattle.std.proofs.lemmas.List.{drop_more, take_more, map-append}
 use Rattle.std.proofs.lemmas.List.Elements.{filter-append}
 use Rattle.gq_scopes.specs.Patterns.{NamedVariable}
 use Rattle.gq_plan.specs.Reads.{Variable, node, rel}
-use Rattle.gq_binder.specs.Met.{met_of, meeting, meeting_as, met_otherwise, met_again}
+use Rattle.gq_binder.specs.steps.Met.{met_of, meeting, meeting_as, met_otherwise, met_again}
 use Rattle.gq_binder.specs.Refusals.{conflicting, repeating, first_behind, same_form, is_rel}
 use Rattle.gq_binder.specs.Columns.{firsts_behind, if_first}
 use Rattle.gq_trees.specs.Uses.{or_else, refused_unless}

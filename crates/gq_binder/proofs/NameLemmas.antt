@@ -1,7 +1,7 @@
 -- The first refused names and calls of some expressions and then others.
 use Rattle.std.proofs.Common.{◌≡◌, ◌∙◌, ap, refl, sym, List, [], ◌∷◌, ◌++◌, Option, None, Some}
 use Rattle.gq_binder.specs.Columns.{Scoped}
-use Rattle.gq_binder.specs.Names.{FirstNames, no_names, with_expression, with_expressions}
+use Rattle.gq_binder.specs.steps.Names.{FirstNames, no_names, with_expression, with_expressions}
 use Rattle.gq_binder.specs.Refusals.{first_in}
 use Rattle.gq_scopes.specs.Patterns.{Name}
 use Rattle.gq_scopes.specs.Scopes.{Scope}

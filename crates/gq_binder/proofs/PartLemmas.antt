@@ -4,8 +4,8 @@ use Rattle.std.specs.Prelude.{unwrap_or}
 use Rattle.std.proofs.lemmas.Grind.{flat_map-append}
 use Rattle.gq_binder.proofs.NameLemmas.{with_expressions_append}
 use Rattle.gq_binder.specs.Columns.{Scoped, columns_in, conditions, conditions_from, entry_test, scoped_in}
-use Rattle.gq_binder.specs.Names.{FirstNames, no_names, with_expressions}
-use Rattle.gq_binder.specs.Parts.{known_conjuncts, parts_of}
+use Rattle.gq_binder.specs.steps.Names.{FirstNames, no_names, with_expressions}
+use Rattle.gq_binder.specs.steps.Parts.{known_conjuncts, parts_of}
 use Rattle.gq_binder.specs.Refusals.{items_in, sorts_in}
 use Rattle.gq_plan.specs.declared.NamedExpr.{NamedExpr}
 use Rattle.gq_trees.specs.Conjuncts.{conjunct_expr}

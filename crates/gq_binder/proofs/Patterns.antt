@@ -6,7 +6,7 @@ use Rattle.std.proofs.lemmas.List.{length_push}
 use Rattle.std.proofs.lemmas.List.Elements.{All-append, All-head, All-map, All-nil, All-weaker, recursion_from_All}
 use Rattle.gq_plan.specs.declared.PathPart.{PathPart}
 use Rattle.gq_plan.proofs.Each.{each_of}
-use Rattle.gq_syntax.specs.Spans.{IsWholeClause, IsWholeEntry, IsWholeHop, IsWholePath, StandsIn}
+use Rattle.gq_syntax.specs.steps.Spans.{IsWholeClause, IsWholeEntry, IsWholeHop, IsWholePath, StandsIn}
 use Rattle.gq_syntax.specs.declared.Clause.{Clause}
 use Rattle.gq_syntax.specs.declared.Entry.{Entry}
 use Rattle.gq_syntax.specs.declared.Hop.{Hop}

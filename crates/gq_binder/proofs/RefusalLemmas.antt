@@ -5,7 +5,7 @@ use Rattle.std.specs.Option.{option_map}
 use Rattle.gq_alternatives.specs.Alternatives.{Choice}
 use Rattle.gq_alternatives.specs.Searching.{at_most}
 use Rattle.gq_binder.specs.Columns.{Scoped}
-use Rattle.gq_binder.specs.Parts.{ambiguous_in}
+use Rattle.gq_binder.specs.steps.Parts.{ambiguous_in}
 use Rattle.gq_binder.specs.Refusals.{first_of_all, first_in, over_limit, sorts_in}
 use Rattle.gq_binder.specs.declared.refusal.BindRefusal.{BindRefusal}
 use Rattle.gq_binder.specs.declared.refusal.BindRefusal.TheVariants as refusal

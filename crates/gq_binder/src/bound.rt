@@ -3,7 +3,7 @@ ghost use Rattle.std.specs.Prelude.{◌≡◌, [], map, filter_map, IfOk};
 ghost use Rattle.gq_alternatives.specs.Alternatives.{typed_of};
 ghost use Rattle.gq_binder.specs.Binding.{Answers};
 ghost use Rattle.gq_binder.specs.Columns.{sort_expr};
-ghost use Rattle.gq_binder.specs.Parts.{bound_in};
+ghost use Rattle.gq_binder.specs.steps.Parts.{bound_in};
 ghost use Rattle.gq_binder.specs.Refusals.{first_refusal};
 ghost use Rattle.gq_syntax.specs.Spans.{SpelledQuery};
 
@@ -19,8 +19,8 @@ use gq_syntax::{Query, Sort};
 use gq_trees::{CallForm, resolve_part};
 use std::alloc::Global;
 
-/// Binds a query, which a text spells, over a catalogue. The answer is the bound query, whose alternatives are sound
-/// for the catalogue, or the first refusal that applies, or want of memory.
+/// Binds a query, which a text spells, over a catalogue. The answer is the bound query, whose
+/// alternatives are sound for the catalogue, or the first refusal that applies, or want of memory.
 pub fn bind(
     alloc: Global,
     query: &Query,
@@ -36,7 +36,8 @@ pub fn bind(
     Ok(bound_of(alloc, catalog, query, parts, choices.as_slice())?)
 }
 
-/// Why a query, which a text spells, cannot be bound over a catalogue: the first check that applies, or none.
+/// Why a query, which a text spells, cannot be bound over a catalogue: the first check that
+/// applies, or none.
 pub fn refusal_of(
     alloc: Global,
     query: &Query,
@@ -55,8 +56,8 @@ pub fn refusal_of(
     }
 }
 
-// The bound form that the parts of a query give, with what stands for an expression: where no check refuses the query,
-// all does.
+// The bound form that the parts of a query give, with what stands for an expression: where no check
+// refuses the query, all does.
 fn bound_of(
     alloc: Global,
     catalog: &Catalog,
@@ -86,7 +87,8 @@ fn without_lists(
     choices: &[Choice],
 ) -> Result<Bound, Memory>
     ensures { IfOk result (λ b. b
-        ≡ record (bound_in catalog.now query.now parts.now choices.now) { columns = []; conjuncts = [] }) }
+        ≡ record (bound_in catalog.now query.now parts.now choices.now) {
+        columns = []; conjuncts = [] }) }
 {
     let pattern = &parts.pattern;
     let scope = pattern.scope(parts.columns.as_slice())?;
@@ -134,7 +136,8 @@ fn all_typed(
     conjuncts: &[NamedExpr],
     choices: &[Choice],
 ) -> Result<List<Typed>, Memory>
-    ensures { IfOk result (λ ys. ys ≡ map (typed_of catalog.now pattern.now entries.now conjuncts.now) choices.now) }
+    ensures { IfOk result (λ ys.
+        ys ≡ map (typed_of catalog.now pattern.now entries.now conjuncts.now) choices.now) }
 {
     let mut all = List::new(alloc);
     for choice in choices {

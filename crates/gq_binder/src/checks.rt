@@ -2,10 +2,11 @@
 ghost use Rattle.std.specs.Prelude.{◌≡◌, ◌++◌, [], All, IfOk, OnOk, length};
 ghost use Rattle.std.specs.Option.{option_map};
 ghost use Rattle.gq_alternatives.specs.Alternatives.{pattern_alternatives};
-ghost use Rattle.gq_binder.specs.Checks.{Checks};
-ghost use Rattle.gq_binder.specs.Parts.{checks_in, reads_in};
+ghost use Rattle.gq_binder.specs.steps.Checks.{Checks};
+ghost use Rattle.gq_binder.specs.steps.Parts.{checks_in, reads_in};
 ghost use Rattle.gq_binder.specs.Refusals as refusals;
-ghost use Rattle.gq_binder.specs.Refusals.{first_of_all, first_behind, conflicting, repeating, nothing, over_limit, max_alternatives, max_columns};
+ghost use Rattle.gq_binder.specs.Refusals.{first_of_all, first_behind, conflicting, repeating};
+ghost use Rattle.gq_binder.specs.Refusals.{nothing, over_limit, max_alternatives, max_columns};
 ghost use Rattle.gq_binder.specs.declared.refusal.BindRefusal.TheVariants as refusal;
 ghost use Rattle.gq_plan.specs.Reads.{distinct, with_reads};
 ghost use Rattle.gq_plan.specs.Soundness.{max_reads};
@@ -59,7 +60,8 @@ pub fn check(
 
 /// One name is a node variable and a relationship variable.
 fn variable_conflict(alloc: Global, named: &[NamedVariable<'_>]) -> Result<(), BindRefusal>
-    ensures { Checks (option_map refusal.VariableConflict (first_behind conflicting [] named.now)) result }
+    ensures { Checks
+        (option_map refusal.VariableConflict (first_behind conflicting [] named.now)) result }
 {
     let mut met = Met::new(alloc);
     for variable in named {
@@ -74,7 +76,8 @@ fn variable_conflict(alloc: Global, named: &[NamedVariable<'_>]) -> Result<(), B
 
 /// A relationship variable stands in two patterns.
 fn relationship_repeated(alloc: Global, named: &[NamedVariable<'_>]) -> Result<(), BindRefusal>
-    ensures { Checks (option_map refusal.RelationshipRepeated (first_behind repeating [] named.now)) result }
+    ensures { Checks
+        (option_map refusal.RelationshipRepeated (first_behind repeating [] named.now)) result }
 {
     let mut met = Met::new(alloc);
     for variable in named {
@@ -132,7 +135,8 @@ fn too_many_reads(
     conjuncts: &[NamedExpr],
 ) -> Result<(), BindRefusal>
     ensures { Checks (over_limit max_reads
-        (length (distinct (reads_in tests.now ++ reads_in conjuncts.now))) refusal.TooManyReads) result }
+        (length (distinct (reads_in tests.now ++ reads_in conjuncts.now))) refusal.TooManyReads)
+        result }
 {
     let mut reads = PropertyReads::new(alloc);
     add_reads(&mut reads, tests)?;
@@ -172,7 +176,8 @@ pub fn few_alternatives(
     pattern: &Pattern<'_>,
 ) -> Result<List<Choice>, BindRefusal>
     ensures few { Checks (over_limit max_alternatives
-        (length (pattern_alternatives catalog.now pattern.now)) refusal.TooManyAlternatives) result }
+        (length (pattern_alternatives catalog.now pattern.now)) refusal.TooManyAlternatives)
+        result }
     ensures choices { IfOk result (λ cs. cs ≡ pattern_alternatives catalog.now pattern.now) }
 {
     match choices_of(alloc, catalog, pattern, MAX_ALTERNATIVES)? {

@@ -2,10 +2,11 @@
 ghost use Rattle.std.specs.Prelude.{◌≡◌, ◌++◌, ◌∷◌, [], map, filter_map, All, IfOk, if◌then◌else◌};
 ghost use Rattle.std.specs.List.{list_any};
 ghost use Rattle.gq_binder.specs.Columns as columns;
-ghost use Rattle.gq_binder.specs.Columns.{columns_in, column_expr, column_of, item_column, item_name};
+ghost use Rattle.gq_binder.specs.Columns.{columns_in, column_expr, column_of, item_column};
+ghost use Rattle.gq_binder.specs.Columns.{item_name};
 ghost use Rattle.gq_scopes.specs.Patterns.{is_called};
 ghost use Rattle.gq_trees.specs.Resolving.{calls_of};
-ghost use Rattle.gq_scopes.specs.Variables.{seen};
+ghost use Rattle.gq_plan.specs.Variables.{seen};
 ghost use Rattle.gq_syntax.specs.Spans.{IsWholeTree};
 
 use gq_base::{List, Memory, Text};
@@ -44,7 +45,8 @@ fn push_firsts(
     all: &mut List<Column>,
     named: &[NamedVariable<'_>],
 ) -> Result<(), Memory>
-    ensures { IfOk result (λ _. all.new ≡ all.old ++ map column_of (columns.firsts_behind [] named.now)) }
+    ensures { IfOk result (λ _.
+        all.new ≡ all.old ++ map column_of (columns.firsts_behind [] named.now)) }
 {
     let mut met = Names::new(alloc);
     for variable in named {
@@ -60,7 +62,8 @@ fn push_unless_met(
     met: &Names,
     variable: &NamedVariable<'_>,
 ) -> Result<(), Memory>
-    ensures { IfOk result (λ _. all.new ≡ all.old ++ map column_of (if list_any (is_called variable.now.name) met.now then [] else variable.now ∷ [])) }
+    ensures { IfOk result (λ _. all.new ≡ all.old ++ map column_of
+        (if list_any (is_called variable.now.name) met.now then [] else variable.now ∷ [])) }
 {
     if met.contains(variable.name) {
         return Ok(());
@@ -96,7 +99,8 @@ fn push_items(
     items: &[Item],
 ) -> Result<(), Memory>
     requires { All (λ item. IsWholeTree text.now item.tree) items.now }
-    ensures { IfOk result (λ _. all.new ≡ all.old ++ map (item_column (calls_of form) text.now scope.now) items.now) }
+    ensures { IfOk result (λ _.
+        all.new ≡ all.old ++ map (item_column (calls_of form) text.now scope.now) items.now) }
 {
     for item in items {
         let name = name_of(alloc, text, item)?;

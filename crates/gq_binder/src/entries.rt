@@ -2,8 +2,8 @@
 ghost use Rattle.std.specs.Prelude.{◌≡◌, ◌++◌, codes, map, All, IfOk};
 ghost use Rattle.gq_binder.specs.Columns as columns;
 ghost use Rattle.gq_lexer.specs.Sources as sources;
-ghost use Rattle.gq_scopes.specs.Variables.{seen};
-ghost use Rattle.gq_syntax.specs.Spans.{IsWholeEntry};
+ghost use Rattle.gq_plan.specs.Variables.{seen};
+ghost use Rattle.gq_syntax.specs.steps.Spans.{IsWholeEntry};
 
 use gq_base::{Boxed, CompareOp, List, Memory, Text};
 use gq_expr::{Bound, Expr};
@@ -43,7 +43,8 @@ fn entry_test(alloc: Global, text: &[u8], entry: &MapEntry<'_>) -> Result<NamedE
 fn entry_name(alloc: Global, text: &[u8], entry: &MapEntry<'_>) -> Result<Text, Memory>
     requires { IsWholeEntry text.now entry.now.entry }
     ensures { let literal = sources.source_text text.now entry.now.entry.value_span in
-        IfOk result (λ t. t ≡ entry.now.called ++ (codes "." ++ (entry.now.entry.key ++ (codes " = " ++ literal)))) }
+        IfOk result (λ t.
+        t ≡ entry.now.called ++ (codes "." ++ (entry.now.entry.key ++ (codes " = " ++ literal)))) }
 {
     let called = &entry.called;
     let key = &entry.entry.key;

@@ -1,6 +1,6 @@
 //! The names of variables that were met, by their form.
 ghost use Rattle.std.specs.Prelude.{◌≡◌, [], IfOk};
-ghost use Rattle.gq_binder.specs.Met.{meeting, met_again, met_otherwise};
+ghost use Rattle.gq_binder.specs.steps.Met.{meeting, met_again, met_otherwise};
 
 use gq_base::Memory;
 use gq_scopes::{NamedVariable, Names, Variable};

@@ -1,8 +1,8 @@
 //! The first names and calls of a query's expressions that the checks of names refuse.
 ghost use Rattle.std.specs.Prelude.{◌≡◌};
 ghost use Rattle.std.specs.Option.{option_copied, option_map};
-ghost use Rattle.gq_binder.specs.Checks.{Checks};
-ghost use Rattle.gq_binder.specs.Names.{no_names, with_expression, with_expressions};
+ghost use Rattle.gq_binder.specs.steps.Checks.{Checks};
+ghost use Rattle.gq_binder.specs.steps.Names.{no_names, with_expression, with_expressions};
 ghost use Rattle.gq_binder.specs.Refusals.{items_in, sorts_in};
 ghost use Rattle.gq_binder.specs.declared.refusal.BindRefusal.TheVariants as refusal;
 ghost use Rattle.gq_trees.specs.Checks.{check_of};
@@ -16,8 +16,8 @@ use gq_trees::{Check, first_refused};
 use std::alloc::Global;
 use std::marker::Model;
 
-/// Of the expressions that were read, the first name that its scope does not have, the first call that names no
-/// function, and the first call with a wrong number of arguments.
+/// Of the expressions that were read, the first name that its scope does not have, the first call
+/// that names no function, and the first call with a wrong number of arguments.
 #[derive(Drop)]
 pub struct FirstNames<'q> {
     variable: Option<&'q Text>,
@@ -27,11 +27,12 @@ pub struct FirstNames<'q> {
 
 impl<'q> Model for FirstNames<'q> {
     ghost use Rattle.std.specs.Option.{option_copied};
-    ghost use Rattle.gq_binder.specs.Names.{FirstNames};
+    ghost use Rattle.gq_binder.specs.steps.Names.{FirstNames};
 
     ghost Value = { FirstNames };
 
-    ghost view = { λ n. record { variable = option_copied n.variable; function = option_copied n.function; arguments = option_copied n.arguments } };
+    ghost view = { λ n. record { variable = option_copied n.variable;
+        function = option_copied n.function; arguments = option_copied n.arguments } };
 }
 
 impl<'q> FirstNames<'q> {
@@ -48,7 +49,8 @@ impl<'q> FirstNames<'q> {
 
     /// Reads one more expression.
     pub fn read(&mut self, scope: &Scope<'_>, tree: &'q Ast)
-        ensures { self.new ≡ with_expression self.old (record { scope = scope.now; tree = tree.now }) }
+        ensures { self.new
+            ≡ with_expression self.old (record { scope = scope.now; tree = tree.now }) }
     {
         self.variable = or_first(self.variable, Check::UnknownName, scope, tree);
         self.function = or_first(self.function, Check::UnknownFunction, scope, tree);
@@ -115,7 +117,8 @@ fn or_first<'q>(
     tree: &'q Ast,
 ) -> Option<&'q Text>
     ensures { option_copied result
-        ≡ or_else (option_copied known.entry) (first_name (check_of check.entry scope.now) (uses tree.now)) }
+        ≡ or_else (option_copied known.entry)
+        (first_name (check_of check.entry scope.now) (uses tree.now)) }
 {
     match known {
         Some(name) => Some(name),

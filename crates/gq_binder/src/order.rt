@@ -1,8 +1,8 @@
 //! What ORDER BY may not ask.
 ghost use Rattle.std.specs.Prelude.{◌≡◌, All, IfOk};
 ghost use Rattle.std.specs.Option.{option_copied};
-ghost use Rattle.gq_binder.specs.Checks.{Checks};
-ghost use Rattle.gq_binder.specs.Parts.{ambiguous_in, out_of_scope_in};
+ghost use Rattle.gq_binder.specs.steps.Checks.{Checks};
+ghost use Rattle.gq_binder.specs.steps.Parts.{ambiguous_in, out_of_scope_in};
 ghost use Rattle.gq_binder.specs.Refusals as refusals;
 ghost use Rattle.gq_binder.specs.Refusals.{first_in, out_of_scope_from, sorts_in};
 ghost use Rattle.gq_trees.specs.Checks.{check_of};
@@ -19,8 +19,8 @@ use gq_syntax::{Ast, Query, Sort};
 use gq_trees::{CallForm, Check, Renamed, first_refused, is_made_of, resolve_part};
 use std::alloc::Global;
 
-/// With DISTINCT, an item of ORDER BY is not made of columns. Here alone calls are compared as they are written, since
-/// they may yet be none.
+/// With DISTINCT, an item of ORDER BY is not made of columns. Here alone calls are compared as they
+/// are written, since they may yet be none.
 pub fn order_out_of_scope(
     alloc: Global,
     text: &[u8],
@@ -65,7 +65,8 @@ fn is_made(
     scope: &Scope<'_>,
     tree: &Ast,
 ) -> Result<bool, Memory>
-    ensures { IfOk result (λ b. b ≡ refusals.is_made (column_exprs columns.now) (resolved as_lists scope.now tree.now)) }
+    ensures { IfOk result (λ b.
+        b ≡ refusals.is_made (column_exprs columns.now) (resolved as_lists scope.now tree.now)) }
 {
     match resolve_part(alloc, copying, CallForm::Lists, scope, tree)? {
         Some(expr) => Ok(is_made_of(columns, &expr)),
@@ -98,14 +99,16 @@ fn first_renamed<'q>(
     scope: &Scope<'_>,
     order: &'q [Sort],
 ) -> Option<&'q Text>
-    ensures { option_copied result ≡ first_in (λ _. renamed_name renamed.now) (sorts_in scope.now order.now) }
+    ensures { option_copied result
+        ≡ first_in (λ _. renamed_name renamed.now) (sorts_in scope.now order.now) }
 {
     first_in_sorts(Check::AmbiguousName(renamed), scope, order)
 }
 
 // The first name of sort items that a check refuses.
 fn first_in_sorts<'t>(check: Check<'_>, scope: &Scope<'_>, order: &'t [Sort]) -> Option<&'t Text>
-    ensures { option_copied result ≡ first_in (check_of check.entry) (sorts_in scope.now order.now) }
+    ensures { option_copied result
+        ≡ first_in (check_of check.entry) (sorts_in scope.now order.now) }
 {
     for sort in order {
         if let Some(name) = first_refused(check, scope, &sort.tree) {

@@ -1,13 +1,14 @@
 //! The parts of a query that its checks and its bound form share, each made once.
 ghost use Rattle.std.specs.Prelude.{◌≡◌, ◌++◌, map, All, IfOk, IfSome, OnOk};
 ghost use Rattle.gq_binder.specs.Columns.{columns_in, conditions_from, entry_test, scoped_in};
-ghost use Rattle.gq_binder.specs.Names.{no_names, with_expressions};
-ghost use Rattle.gq_binder.specs.Parts.{known_conjuncts, parts_of};
+ghost use Rattle.gq_binder.specs.steps.Names.{no_names, with_expressions};
+ghost use Rattle.gq_binder.specs.steps.Parts.{known_conjuncts, parts_of};
 ghost use Rattle.gq_binder.specs.Refusals.{items_in, sorts_in};
 ghost use Rattle.gq_scopes.specs.Patterns.{no_pattern, pattern_of};
 ghost use Rattle.gq_trees.specs.Resolving.{functions};
 ghost use Rattle.gq_scopes.specs.Scopes.{scope_of};
-ghost use Rattle.gq_syntax.specs.Spans.{IsWholeClause, IsWholeEntry, IsWholeTree, StandsIn};
+ghost use Rattle.gq_syntax.specs.Spans.{IsWholeTree};
+ghost use Rattle.gq_syntax.specs.steps.Spans.{IsWholeClause, IsWholeEntry, StandsIn};
 
 use crate::columns::columns_of;
 use crate::entries::entry_tests;
@@ -19,8 +20,8 @@ use gq_syntax::{Ast, Clause, Query};
 use gq_trees::{CallForm, conjuncts_of};
 use std::alloc::Global;
 
-/// The parts of a query: its patterns, the first names that the checks of names refuse, its columns, the conjuncts of
-/// its conditions, and the tests of the maps of its patterns.
+/// The parts of a query: its patterns, the first names that the checks of names refuse, its
+/// columns, the conjuncts of its conditions, and the tests of the maps of its patterns.
 #[derive(Drop)]
 pub struct QueryParts<'q> {
     pub pattern: Pattern<'q>,
@@ -73,8 +74,10 @@ fn lists_of<'q>(
     ensures tests { IfOk result (λ lists. lists.tests
         ≡ map (entry_test text.now) pattern.now.entries) }
     ensures names { OnOk result (names.new
-        ≡ with_expressions (with_expressions names.old (items_in (scope_of pattern.now) query.now.items))
-        (sorts_in (record (scope_of pattern.now) { columns = columns_in functions text.now pattern.now query.now }) query.now.order)) }
+        ≡ with_expressions (with_expressions names.old
+        (items_in (scope_of pattern.now) query.now.items))
+        (sorts_in (record (scope_of pattern.now) {
+        columns = columns_in functions text.now pattern.now query.now }) query.now.order)) }
 {
     let columns = columns_of(alloc, CallForm::Functions, text, pattern, query)?;
     let tests = entry_tests(alloc, text, pattern.entries())?;
@@ -83,7 +86,8 @@ fn lists_of<'q>(
     Ok(Lists { columns, tests })
 }
 
-// The patterns of clauses, the first names that are refused in their conditions, and the conjuncts of these.
+// The patterns of clauses, the first names that are refused in their conditions, and the conjuncts
+// of these.
 #[derive(Drop)]
 struct Conditions<'q> {
     pattern: Pattern<'q>,
@@ -128,7 +132,8 @@ fn conditions_of<'q>(
     })
 }
 
-// Reads the condition of a clause. One that stands for no expression has no conjuncts: a check refuses it.
+// Reads the condition of a clause. One that stands for no expression has no conjuncts: a check
+// refuses it.
 fn read_condition<'q>(
     alloc: Global,
     text: &[u8],

@@ -10,7 +10,7 @@ use Rattle.std.proofs.lemmas.List.Sums.{sum_by-cons, sum_by-append, sum_by_more,
 use Rattle.std.proofs.lemmas.List.FromFn.{length-map-range_with_len, get_or-map-range_with_len, length-range_with_len}
 use Rattle.std.proofs.lemmas.Nat.Bits.{bit_at-lt, bit_at_above, same_from_bits}
 use Rattle.std.proofs.lemmas.Simd.{bit_mask_l, ones-mask_l}
-use Rattle.gq_bits.specs.Bits.{bit_of}
+use Rattle.gq_bits.specs.steps.Bits.{bit_of}
 
 abbrev one_if : {X : Type 0} → (X → Bool) → X → ℕ
 one_if p x = cond (p x) 1 0

@@ -10,7 +10,7 @@ use Rattle.std.proofs.lemmas.List.Sums.{count_by-le-length}
 use Rattle.std.proofs.lemmas.List.FromFn.{take-map-range_with_len}
 use Rattle.std.proofs.lemmas.Nat.{and_mask, one_shl, pow_pos}
 use Rattle.std.proofs.lemmas.Nat.Bits.{bit_at-lt, bit_at-zero, bit_at_or, bit_at_set_same, bit_at_set_other}
-use Rattle.gq_bits.specs.Bits.{bit_of, bits_of}
+use Rattle.gq_bits.specs.steps.Bits.{bit_of, bits_of}
 use Rattle.gq_bits.proofs.Words.{test-bit_and, length-bits_of, bit_of-set_same, bit_of-set_other}
 use Rattle.gq_bits.proofs.Search.{low_part}
 use Rattle.gq_bits.proofs.Counts.{count_by-map, count_part}

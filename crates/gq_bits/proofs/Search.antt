@@ -5,7 +5,7 @@ use Rattle.std.specs.Int.{bit_at, trailing_zeros}
 use Rattle.std.proofs.lemmas.Bool.{cases_lt, cases_eq, lt-ltb, le-ltb, le-leb, lt-leb}
 use Rattle.std.proofs.lemmas.Nat.{and_le_l, one_shl}
 use Rattle.std.proofs.lemmas.Nat.Bits.{ones_shl, bit_at_mask_inside, bit_at_mask_below, bit_at-trailing_zeros, bit_at_ones, bit_at_ones_above, bit_at-zero}
-use Rattle.gq_bits.specs.Bits.{bit_of}
+use Rattle.gq_bits.specs.steps.Bits.{bit_of}
 use Rattle.gq_bits.proofs.Words.{bit_of-past, bit_of-set_same, bit_of-set_other, word_bit, test-bit_and}
 
 -- the search for a bit at or after a place has passed the words before index, and has word left of that one

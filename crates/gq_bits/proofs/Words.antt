@@ -6,7 +6,7 @@ use Rattle.std.proofs.lemmas.Bool.{cases_lt, cases_eq, eq-eqb, ne_eqb}
 use Rattle.std.proofs.lemmas.List.{same_lists, length-set, get_or-set_same, get_or-set_other, get_or_past, get_or-replicate, length-replicate}
 use Rattle.std.proofs.lemmas.List.FromFn.{length-map-range_with_len, get_or-map-range_with_len}
 use Rattle.std.proofs.lemmas.Nat.Bits.{bit_at_and, bit_at-lt, bit_at-zero, bit_at_not}
-use Rattle.gq_bits.specs.Bits.{bit_of, bits_of}
+use Rattle.gq_bits.specs.steps.Bits.{bit_of, bits_of}
 use Rattle.gq_bits.specs.Places.{is_marked, allows}
 
 pub length-bits_of : (n : ℕ) (ws : List ℕ) → length (bits_of n ws) ≡ n

@@ -3,7 +3,7 @@
 ghost use Rattle.std.specs.Prelude.{◌≡◌, ◌↔◌, ℕ, ◌+◌, ◌*◌, ◌/◌, ◌^◌, ◌<◌, ◌≤◌, [], IsTrue, length};
 ghost use Rattle.std.specs.Prelude.{false, take, slice_index, slice_index_or, count_by, IfOk};
 ghost use Rattle.std.specs.Prelude.{vec_len};
-ghost use Rattle.gq_bits.specs.Bits.{bit_of, bits_of};
+ghost use Rattle.gq_bits.specs.steps.Bits.{bit_of, bits_of};
 
 use gq_base::Memory;
 use std::alloc::Global;
@@ -20,7 +20,7 @@ pub struct BitList {
 
 impl Model for BitList {
     ghost use Rattle.std.specs.Prelude.{List, Bool};
-    ghost use Rattle.gq_bits.specs.Bits.{bits_of, IsRanked};
+    ghost use Rattle.gq_bits.specs.steps.Bits.{bits_of, IsRanked};
 
     ghost Value = { List Bool };
 

@@ -18,7 +18,7 @@ pub struct Marks {
 
 impl Model for Marks {
     ghost use Rattle.std.specs.Prelude.{List, Bool, ◌*◌, length};
-    ghost use Rattle.gq_bits.specs.Bits.{bits_of};
+    ghost use Rattle.gq_bits.specs.steps.Bits.{bits_of};
 
     ghost Value = { List Bool };
 

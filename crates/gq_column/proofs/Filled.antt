@@ -7,7 +7,8 @@ use Rattle.std.proofs.lemmas.Bool.{cases_lt, cases_eq, lt-ltb, le-ltb, eq-eqb, n
 use Rattle.std.proofs.lemmas.List.{ext_get_or, length-drop, get_or-drop, get_or-set_same, get_or-set_other, get_or_past, get_or_append_left, get_or-append_right, get_or-take, length-append, length-take}
 use Rattle.std.proofs.lemmas.Nat.Bits.{bit_at_lowest, bit_at-suc, bit_at-zero, bit_at_or, bit_at_set_same, bit_at_set_other}
 use Rattle.gq_bits.specs.Places.{is_marked, allows}
-use Rattle.gq_column.specs.Cells.{cell_at, Gathered, BlockGathered}
+use Rattle.gq_column.specs.Cells.{cell_at, Gathered}
+use Rattle.gq_column.specs.steps.Cells.{BlockGathered}
 
 -- the first n cells are gathered, and all places behind them are still marked
 pub record Filled (cells : List (Option ℤ)) (n : ℕ) (old new : List ℤ) (known : List Bool) : Type 0 where

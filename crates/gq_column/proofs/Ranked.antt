@@ -5,7 +5,8 @@ use Rattle.std.proofs.lemmas.List.{length-take, length-drop, length-map, get_or-
 use Rattle.std.proofs.lemmas.List.Sums.{sum_by-cons, sum_by-append, sum_by-take-le, count_by_more_yes, count_by-le-length, sum_by_more}
 use Rattle.std.proofs.lemmas.List.FromFn.{length-map-range_with_len, get_or-map-range_with_len}
 use Rattle.gq_base.proofs.ListFacts.{take-add}
-use Rattle.gq_column.specs.Cells.{cell_at, kept_of, cells_of, AreKept}
+use Rattle.gq_column.specs.Cells.{cell_at}
+use Rattle.gq_column.specs.steps.Cells.{kept_of, cells_of, AreKept}
 
 abbrev pub rank : List Bool → ℕ → ℕ
 rank present row = count_by (λ on. on) (take row present)

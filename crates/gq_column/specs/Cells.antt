@@ -1,40 +1,13 @@
 -- A column as a list of optional integers, and what gathering leaves.
-use Rattle.std.specs.Prelude.{ℕ, ℤ, pos, ◌≡◌, ◌^◌, ◌<◌, ◌≤◌, ◌+◌, ◌==◌, false, List, [], ◌∷◌, Bool, Option, Some, None, is_some, unwrap_or, if◌then◌else◌, length, map, take, drop, slice_index_or, count_by}
-use Rattle.std.specs.List.{range_with_len}
-use Rattle.std.specs.Int.{bit_at}
+use Rattle.std.specs.Prelude.{ℕ, ℤ, pos, ◌≡◌, ◌<◌, List, Bool, Option, None, is_some, unwrap_or, length, drop, slice_index_or}
 use Rattle.gq_bits.specs.Places.{is_marked}
 
 -- the cell of a row; past the end it is null
 abbrev pub cell_at : List (Option ℤ) → ℕ → Option ℤ
 cell_at column row = slice_index_or column row None
 
--- the cells that are not null, in order
-abbrev pub kept_of : List (Option ℤ) → List ℤ
-kept_of [] = []
-kept_of (None ∷ cells) = kept_of cells
-kept_of (Some cell ∷ cells) = cell ∷ kept_of cells
-
--- the cells that bits and kept cells stand for: where a row's bit is set, its cell stands at the row's rank
-abbrev pub cells_of : List Bool → List ℤ → List (Option ℤ)
-cells_of present kept =
-    map (λ row. if slice_index_or present row false then Some (slice_index_or kept (count_by (λ on. on) (take row present)) (pos 0)) else None)
-    (range_with_len 0 (length present))
-
--- as many cells are kept as rows are not null, and a 0 behind them
-pub record AreKept (present : List Bool) (kept : List ℤ) : Type 0 where
-  pub few : length present < 2 ^ 32
-  pub count : length kept ≡ count_by (λ on. on) present + 1
-  pub zero : slice_index_or kept (count_by (λ on. on) present) (pos 0) ≡ pos 0
-
 -- the cells are written to the front of out, 0 for null; the rest of out stays; exactly the places whose cell is not null are marked
 pub record Gathered (cells : List (Option ℤ)) (old new : List ℤ) (known : List Bool) : Type 0 where
   pub written : (k : ℕ) → k < length cells → slice_index_or new k (pos 0) ≡ unwrap_or (cell_at cells k) (pos 0)
   pub rest : drop (length cells) new ≡ drop (length cells) old
   pub marked : (k : ℕ) → is_marked known k ≡ is_some (cell_at cells k)
-
--- the cells of the places from low to below high are written, 0 for null; the rest of out stays; bit i of the word tells whether the cell of the place low + i is there
-pub record BlockGathered (cell : ℕ → Option ℤ) (low high : ℕ) (old new : List ℤ) (word : ℕ) : Type 0 where
-  pub written : (k : ℕ) → low ≤ k → k < high → slice_index_or new k (pos 0) ≡ unwrap_or (cell k) (pos 0)
-  pub before : (k : ℕ) → k < low → slice_index_or new k (pos 0) ≡ slice_index_or old k (pos 0)
-  pub after : (k : ℕ) → high ≤ k → slice_index_or new k (pos 0) ≡ slice_index_or old k (pos 0)
-  pub marked : (i : ℕ) → low + i < high → (bit_at word i == 1) ≡ is_some (cell (low + i))

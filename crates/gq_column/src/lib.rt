@@ -6,7 +6,8 @@
 ghost use Rattle.std.specs.Prelude.{◌≡◌, ℕ, ◌+◌, ◌-◌, ◌^◌, ◌++◌, [], ◌∷◌, ◌<◌, ◌≤◌, length, map};
 ghost use Rattle.std.specs.Prelude.{All, IfOk, slice_index, slice_range, slice_index_or, pos};
 ghost use Rattle.std.specs.Prelude.{is_some};
-ghost use Rattle.gq_column.specs.Cells.{Gathered, BlockGathered, cell_at, kept_of};
+ghost use Rattle.gq_column.specs.Cells.{Gathered, cell_at};
+ghost use Rattle.gq_column.specs.steps.Cells.{BlockGathered, kept_of};
 
 use gq_base::Memory;
 use gq_bits::{BitList, Marks, VECTOR};
@@ -25,7 +26,7 @@ pub struct Column {
 
 impl Model for Column {
     ghost use Rattle.std.specs.Prelude.{List, ℤ, Option};
-    ghost use Rattle.gq_column.specs.Cells.{cells_of, AreKept};
+    ghost use Rattle.gq_column.specs.steps.Cells.{cells_of, AreKept};
 
     ghost Value = { List (Option ℤ) };
 

@@ -1,7 +1,9 @@
 //! A dictionary: distinct texts in order of their bytes, each with its place as its code.
 #![tactic(auto)]
 
-ghost use Rattle.std.specs.Prelude.{◌≡◌, ◌↔◌, ℕ, List, ◌^◌, ◌<◌, ◌≤◌, ◌-◌, [], true, false, length, ◌&&◌, nat_le, nat_lt, nat_eq, Contains, IfOk, IfSome, IfNone, count_by, map, ◌≢◌};
+ghost use Rattle.std.specs.Prelude.{◌≡◌, ◌↔◌, ℕ, List, ◌^◌, ◌<◌, ◌≤◌, ◌-◌, true, false, length};
+ghost use Rattle.std.specs.Prelude.{◌&&◌, nat_le, nat_lt, nat_eq, Contains, IfOk, IfSome, IfNone};
+ghost use Rattle.std.specs.Prelude.{count_by, map, ◌≢◌};
 ghost use Rattle.std.specs.List.{starts_with};
 ghost use Rattle.gq_dict.specs.Texts.{IsAscending, comes_before, text_at};
 
@@ -12,7 +14,8 @@ use gq_base::{List, Memory, Text};
 use std::alloc::Global;
 use std::marker::Model;
 
-/// At most 2^32 - 1 distinct texts, which ascend by their bytes. It is seen as the list of the texts' bytes.
+/// At most 2^32 - 1 distinct texts, which ascend by their bytes. It is seen as the list of the
+/// texts' bytes.
 #[derive(Drop)]
 pub struct Dict {
     texts: Vec<Text>,
@@ -20,7 +23,7 @@ pub struct Dict {
 
 impl Model for Dict {
     ghost use Rattle.std.specs.Prelude.{List, ℕ};
-    ghost use Rattle.gq_dict.specs.Texts.{IsDict};
+    ghost use Rattle.gq_dict.specs.steps.Texts.{IsDict};
 
     ghost Value = { List (List ℕ) };
 
@@ -41,7 +44,8 @@ impl Dict {
     pub fn build(alloc: Global, texts: &List<Text>) -> Result<Dict, Memory>
         requires { length texts.now < 2 ^ 32 }
         ensures ascending { IfOk result IsAscending }
-        ensures same { IfOk result (λ dict. (text : List ℕ) → Contains dict text ↔ Contains texts.now text) }
+        ensures same { IfOk result (λ dict.
+            (text : List ℕ) → Contains dict text ↔ Contains texts.now text) }
     {
         let Coded { dict, codes: _ } = Coded::build(alloc, borrowed(alloc, texts.as_slice())?)?;
         Ok(dict)
@@ -56,8 +60,10 @@ impl Dict {
 
     /// The code of the text, where it is there.
     pub fn code(&self, text: &str) -> Option<u32>
-        ensures some { IfSome result (λ code. (code < length self.now) × (text_at self.now code ≡ text.now)) }
-        ensures none { IfNone result ((code : ℕ) → code < length self.now → text_at self.now code ≢ text.now) }
+        ensures some { IfSome result (λ code.
+            (code < length self.now) × (text_at self.now code ≡ text.now)) }
+        ensures none { IfNone result
+            ((code : ℕ) → code < length self.now → text_at self.now code ≢ text.now) }
     {
         let code = self.below(text);
         if (code as usize) < self.texts.len() && self.texts[code as usize].is(text) {
@@ -79,8 +85,10 @@ impl Dict {
     pub fn below(&self, text: &str) -> u32
         ensures count { result ≡ count_by (λ other. comes_before other text.now) self.now }
         ensures within { result ≤ length self.now }
-        ensures before { (code : ℕ) → code < result → comes_before (text_at self.now code) text.now ≡ true }
-        ensures rest { (code : ℕ) → result ≤ code → code < length self.now → comes_before (text_at self.now code) text.now ≡ false }
+        ensures before { (code : ℕ) → code < result
+            → comes_before (text_at self.now code) text.now ≡ true }
+        ensures rest { (code : ℕ) → result ≤ code → code < length self.now
+            → comes_before (text_at self.now code) text.now ≡ false }
     {
         let texts = self.texts.as_slice();
         let mut low = 0;
@@ -101,7 +109,8 @@ impl Dict {
         ensures ordered { result.low ≤ result.high }
         ensures within { result.high ≤ length self.now }
         ensures exact { (code : ℕ) → code < length self.now →
-            (nat_le result.low code && nat_lt code result.high) ≡ starts_with nat_eq (text_at self.now code) prefix.now }
+            (nat_le result.low code && nat_lt code result.high)
+            ≡ starts_with nat_eq (text_at self.now code) prefix.now }
     {
         let first = self.below(prefix);
         let texts = self.texts.as_slice();

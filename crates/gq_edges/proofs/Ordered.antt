@@ -7,7 +7,8 @@ use Rattle.std.proofs.lemmas.List.{length-set, get_or-set_same, get_or-set_other
 use Rattle.std.proofs.lemmas.List.FromFn.{length-range_with_len, get_or-range_with_len, map-range_with_len_more}
 use Rattle.std.proofs.lemmas.Map.Steps.{le-length_from_below}
 use Rattle.gq_adj.proofs.Members.{lists-reach, lists-hold}
-use Rattle.gq_edges.specs.Order.{numbers_of, IsPlaceOf}
+use Rattle.gq_edges.specs.Order.{numbers_of}
+use Rattle.gq_edges.specs.steps.Order.{IsPlaceOf}
 
 -- the numbers at the first n places have their places
 pub record Placed (n : ℕ) (order places : List ℕ) : Type 0 where

@@ -2,7 +2,8 @@
 use Rattle.std.proofs.Common.{◌≡◌, ◌≢◌, ℕ, zero, suc, ◌+◌, ◌-◌, ◌^◌, ◌<◌, List, [], ◌∷◌, length, get_or, set, cond, eqb, Some, None, refl, sym, ap, ◌∙◌, subst, arith, inl, inr}
 use Rattle.std.proofs.lemmas.Bool.{cases_eq, eq-eqb, ne_eqb, cases_lt}
 use Rattle.std.proofs.lemmas.List.{length-set, get_or-set_same, get_or-set_other}
-use Rattle.gq_edges.specs.Once.{Pair, pairs_of, pair_at, IsPairOf, IsSecond}
+use Rattle.gq_edges.specs.Once.{Pair, pair_at, IsPairOf, IsSecond}
+use Rattle.gq_edges.specs.steps.Once.{pairs_of}
 
 pub length-pairs_of : (ns ts : List ℕ) → length ts ≡ length ns → length (pairs_of ns ts) ≡ length ns
 length-pairs_of [] ts e = refl

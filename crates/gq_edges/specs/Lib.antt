@@ -1,2 +1,3 @@
 pub mod Order
 pub mod Once
+pub mod steps

@@ -3,7 +3,8 @@
 ghost use Rattle.std.specs.Prelude.{◌≡◌, ℕ, ◌+◌, ◌*◌, ◌/◌, ◌^◌, ◌<◌, length, All, IfOk};
 ghost use Rattle.std.specs.Prelude.{slice_index, vec_len};
 ghost use Rattle.std.specs.List.{concat, range_with_len};
-ghost use Rattle.gq_edges.specs.Order.{numbers_of, page_start_of, IsPlaceOf};
+ghost use Rattle.gq_edges.specs.Order.{numbers_of, page_start_of};
+ghost use Rattle.gq_edges.specs.steps.Order.{IsPlaceOf};
 
 use gq_adj::Lists;
 use gq_base::Memory;
@@ -25,7 +26,7 @@ pub struct Pages {
 
 impl Model for Pages {
     ghost use Rattle.std.specs.Prelude.{List, ℕ};
-    ghost use Rattle.gq_edges.specs.Order.{ArePlaced};
+    ghost use Rattle.gq_edges.specs.steps.Order.{ArePlaced};
 
     ghost Value = { List (List ℕ) };
 

@@ -40,7 +40,8 @@ pub struct Single {
 
 impl Model for Single {
     ghost use Rattle.std.specs.Prelude.{List, Option};
-    ghost use Rattle.gq_edges.specs.Once.{Pair, pairs_of, AreColumns};
+    ghost use Rattle.gq_edges.specs.Once.{Pair};
+    ghost use Rattle.gq_edges.specs.steps.Once.{pairs_of, AreColumns};
 
     ghost Value = { List (Option Pair) };
 

@@ -20,7 +20,7 @@ use Rattle.gq_rows.specs.Tables as rows
 use Rattle.gq_rows.specs.declared.refusal.RowRefusal.{RowRefusal}
 use Rattle.gq_rows.specs.declared.refusal.RowRefusal.TheVariants as row_refusal
 use Rattle.gq_execute.specs.Refusals.{of_rows}
-use Rattle.gq_execute.specs.Taking.{Cut, MeetsFault, MeetsMany, Pushed, Stands, Takes, TakesAll}
+use Rattle.gq_execute.specs.steps.Taking.{Cut, MeetsFault, MeetsMany, Pushed, Stands, Takes, TakesAll}
 
 module _ (g : Graph) (b : Bound) (y : Typed) where
   -- the outcome of one assignment

@@ -14,9 +14,10 @@ use Rattle.gq_plan.specs.declared.Bound.{Bound}
 use Rattle.gq_rows.specs.Tables.{StandsFor, StandsForSome, Table, is_full, is_full_table}
 use Rattle.gq_execute.specs.declared.settings.Order.{Order}
 use Rattle.gq_execute.specs.declared.settings.Settings.{Settings}
-use Rattle.gq_execute.specs.Answering.{AreParted, Came, Drains, IsFresh, Reached, Replies, Runs}
+use Rattle.gq_execute.specs.Answering.{Replies}
+use Rattle.gq_execute.specs.steps.Answering.{AreParted, Came, Drains, IsFresh, Reached, Runs}
 use Rattle.gq_execute.specs.Replies.{Question, IsPermitted, Rows, TooManyRows, has_large_part}
-use Rattle.gq_execute.specs.Taking.{MeetsMany, Stands, Takes}
+use Rattle.gq_execute.specs.steps.Taking.{MeetsMany, Stands, Takes}
 use Rattle.gq_execute.specs.declared.refusal.AnswerRefusal.{AnswerRefusal}
 use Rattle.gq_execute.specs.declared.refusal.AnswerRefusal.TheVariants as refusal
 use Rattle.gq_execute.proofs.Replying.{reached_start, reached_next, reached_more, fault_permitted, many_permitted, rows_permitted, heavy_permitted}

@@ -20,9 +20,9 @@ use Rattle.gq_plan.specs.Flat.{is_flat}
 use Rattle.gq_plan.specs.Meaning.{mean, meaning, nothing}
 use Rattle.gq_plan.specs.Parts.{IsSide, Part, part_assignments, sides}
 use Rattle.gq_plan.specs.Soundness.{IsSound}
-use Rattle.gq_plan.specs.Steps.{Plan}
+use Rattle.gq_plan.specs.Plans.{Plan}
 use Rattle.gq_plan.specs.declared.Typed.{Typed}
-use Rattle.gq_execute.specs.Answering.{AreParted, Drains}
+use Rattle.gq_execute.specs.steps.Answering.{AreParted, Drains}
 use Rattle.gq_execute.specs.Replies.{Question, has_large_part, parts_by}
 use Rattle.gq_execute.specs.declared.settings.Order.{Order}
 use Rattle.gq_execute.specs.declared.settings.Order.TheVariants as order

@@ -13,7 +13,7 @@ use Rattle.gq_plan.specs.declared.Typed.{Typed}
 use Rattle.gq_rows.specs.Answers.{Answers, rows_in, cut_of, first_of, looked_at, kept}
 use Rattle.gq_rows.specs.Tables.{Held, StandsFor, is_full}
 use Rattle.gq_execute.specs.Replies.{Question, all_outcomes, outcomes_in, has_turn, has_large_part, some_heavy, Rows, Faulted, TooManyRows, IsPermitted}
-use Rattle.gq_execute.specs.Answering.{AreParted, Reached}
+use Rattle.gq_execute.specs.steps.Answering.{AreParted, Reached}
 use Rattle.gq_rows.proofs.Listings.{looked_front, rows_append, kept_grows, kept_few, full_enough, full_looked, open_few, few_rows}
 use Rattle.gq_rows.specs.Answers.{row_in}
 use Rattle.gq_law_answers.proofs.Reordered.{permuted_flat_map}

@@ -6,12 +6,12 @@ use Rattle.gq_pipe.specs.Progress.{Progress}
 use Rattle.gq_plan.specs.Covers.{Covers}
 use Rattle.gq_plan.specs.Meaning.{meaning}
 use Rattle.gq_plan.specs.Outcomes.{Row, late_outcomes}
-use Rattle.gq_plan.specs.Steps.{Plan}
+use Rattle.gq_plan.specs.Plans.{Plan}
 use Rattle.gq_plan.specs.declared.typed.Typed.{Typed}
 use Rattle.gq_rows.specs.Tables.{Table}
-use Rattle.gq_execute.specs.Answering.{Drains}
+use Rattle.gq_execute.specs.steps.Answering.{Drains}
 use Rattle.gq_execute.specs.Replies.{has_large_part}
-use Rattle.gq_execute.specs.Taking.{TakesAll, owed_outcomes}
+use Rattle.gq_execute.specs.steps.Taking.{TakesAll, owed_outcomes}
 use Rattle.gq_execute.specs.declared.refusal.AnswerRefusal.{AnswerRefusal}
 use Rattle.gq_execute.specs.declared.refusal.AnswerRefusal.TheVariants as refusal
 use Rattle.gq_execute.specs.declared.settings.Order.{Order}

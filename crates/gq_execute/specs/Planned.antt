@@ -7,7 +7,7 @@ use Rattle.gq_base.specs.Valid.{row_count}
 use Rattle.gq_order.specs.Given.{given_plan}
 use Rattle.gq_order.specs.Greedy.{greedy_plan}
 use Rattle.gq_order.specs.declared.stats.Stats.{Stats}
-use Rattle.gq_plan.specs.Steps.{Plan}
+use Rattle.gq_plan.specs.Plans.{Plan}
 use Rattle.gq_plan.specs.declared.typed.Typed.{Typed}
 use Rattle.gq_store.specs.Neighbours.{rels_at}
 use Rattle.gq_execute.specs.declared.settings.Order.{Order}

@@ -1,8 +1,9 @@
 //! Answers a query alternative by alternative: the plan of each one runs, and what it makes goes
 //! into one table of rows.
 ghost use Rattle.std.specs.Prelude.{◌≡◌, ◌<◌, false, length, All, OnOk};
-ghost use Rattle.gq_execute.specs.Answering.{Drains, Fills, IsFresh, RepliesToEach};
-ghost use Rattle.gq_execute.specs.Taking.{IsRunOf, TakesAll, owed_outcomes};
+ghost use Rattle.gq_execute.specs.Answering.{RepliesToEach};
+ghost use Rattle.gq_execute.specs.steps.Answering.{Drains, Fills, IsFresh};
+ghost use Rattle.gq_execute.specs.steps.Taking.{IsRunOf, TakesAll, owed_outcomes};
 ghost use Rattle.gq_plan.specs.Soundness.{IsSound};
 ghost use Rattle.gq_rows.specs.Tables.{StandsForSome, is_full_table};
 

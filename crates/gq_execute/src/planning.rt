@@ -7,7 +7,7 @@ ghost use Rattle.gq_plan.specs.Covers.{Covers};
 ghost use Rattle.gq_plan.specs.Flat.{is_flat};
 ghost use Rattle.gq_plan.specs.Parts.{IsSide, sides};
 ghost use Rattle.gq_plan.specs.Soundness.{IsSound};
-ghost use Rattle.gq_plan.specs.Steps.{plan_of};
+ghost use Rattle.gq_plan.specs.Plans.{plan_of};
 
 use crate::settings::Order;
 use gq_base::{List, Memory};

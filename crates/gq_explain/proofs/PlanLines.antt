@@ -4,7 +4,7 @@ use Rattle.gq_base.specs.Catalogs.{Tables}
 use Rattle.gq_explain.specs.Plans.{close_line, deeper, differ_line, extend_line, join_line, keep_line, no_loop_line, plan_lines, scan_line, step_lines}
 use Rattle.std.specs.Prelude.{slice_get}
 use Rattle.gq_plan.proofs.StepEquations.{plan_is, scan_is, extend_is, column_extend_is, close_is, column_close_is, join_is, keep_is, differ_is, no_loop_is}
-use Rattle.gq_plan.specs.Steps.{steps, step_of, plan_of}
+use Rattle.gq_plan.specs.Plans.{steps, step_of, plan_of}
 use Rattle.gq_plan.specs.declared.Bound.{Bound}
 use Rattle.gq_plan.specs.declared.plan.Plan as code_plan
 use Rattle.gq_plan.specs.declared.plan.Step as code

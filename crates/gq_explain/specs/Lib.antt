@@ -2,3 +2,4 @@ pub mod Columns
 pub mod Pieces
 pub mod Plans
 pub mod Schema
+pub mod steps

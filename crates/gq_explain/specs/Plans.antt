@@ -8,7 +8,7 @@ use Rattle.gq_explain.specs.Pieces.{indent, joined}
 use Rattle.gq_explain.specs.Schema.{label_of}
 use Rattle.std.specs.List.{range_with_len}
 use Rattle.gq_plan.specs.declared.Plan as code_plan
-use Rattle.gq_plan.specs.Steps.{plan_of, Plan, Done, Then, Step, Scan, Extend, Close, Join, Keep, Differ, NoLoop}
+use Rattle.gq_plan.specs.Plans.{plan_of, Plan, Done, Then, Step, Scan, Extend, Close, Join, Keep, Differ, NoLoop}
 use Rattle.gq_plan.specs.declared.Bound.{Bound}
 use Rattle.gq_plan.specs.declared.RelPair.{RelPair}
 use Rattle.gq_plan.specs.declared.Typed.{Typed}

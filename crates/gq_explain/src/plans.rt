@@ -8,7 +8,7 @@ ghost use Rattle.gq_io.specs.Outside.{Writes};
 ghost use Rattle.gq_io.specs.Putting.{Puts};
 ghost use Rattle.gq_explain.specs.Plans.{alternative_at, alternative_text, end_text, late_line};
 ghost use Rattle.gq_explain.specs.Plans.{plan_lines, plan_text};
-ghost use Rattle.gq_plan.specs.Steps.{plan_of};
+ghost use Rattle.gq_plan.specs.Plans.{plan_of};
 
 use crate::naming::Naming;
 use crate::pieces::{Piece, put_pieces};

@@ -8,7 +8,7 @@ ghost use Rattle.gq_explain.specs.Plans.{extend_word, keys_text};
 ghost use Rattle.gq_explain.specs.Plans.{differ_line, join_line, keep_line, next_key, no_loop_line};
 ghost use Rattle.gq_explain.specs.Plans.{opening};
 ghost use Rattle.gq_explain.specs.Plans.{plan_lines, scan_line, step_lines};
-ghost use Rattle.gq_plan.specs.Steps.{plan_of, step_of};
+ghost use Rattle.gq_plan.specs.Plans.{plan_of, step_of};
 
 use crate::naming::{Naming, label_in, name_of, test_of, type_in};
 use crate::pieces::{Piece, put_pieces};

@@ -3,7 +3,7 @@ use Rattle.std.proofs.Common.{◌≡◌, ◌∙◌, ap, sym, ℕ, List, [], ◌�
 use Rattle.std.specs.List.{list_any}
 use Rattle.gq_base.specs.declared.Literal.{Literal as Spelled}
 use Rattle.gq_expr.specs.Kinds.{May, may, may_step, safe, node, relationship, literal_kinds, kinds_at, field_kind, type_may, all_of, arithmetic, truth, misfits, term_faults, test_may}
-use Rattle.gq_expr.specs.Parts.{bound_with, tester_with}
+use Rattle.gq_expr.specs.steps.Parts.{bound_with, tester_with}
 use Rattle.gq_base.specs.declared.operator.ArithOp.{ArithOp}
 use Rattle.gq_expr.specs.declared.expr.Bound.{Bound}
 use Rattle.gq_base.specs.declared.operator.CompareOp.{CompareOp}

@@ -16,7 +16,7 @@ use Rattle.gq_expr.specs.Kinds.{May, Sort, may, may_step, misfits, may_fault, tr
 use Rattle.gq_expr.specs.Kinds as sort
 use Rattle.gq_expr.specs.Meaning.{meaning, meaning_step, and_then, logic_all, logic_chain, coalesce_all, compare_chain, test_chain, test_val}
 use Rattle.gq_expr.specs.Operators.{Outcome, of_truth, logic3, logic_vals, not_val, first_known, compare_vals, member_of, starts_vals, ends_vals, contains_vals, type_val}
-use Rattle.gq_expr.specs.Parts.{bound_with}
+use Rattle.gq_expr.specs.steps.Parts.{bound_with}
 use Rattle.gq_expr.specs.Reading.{Assignment, node_val, rel_val, property_at, node_property, rel_property, name_of, type_name}
 use Rattle.gq_expr.specs.Safety.{IsOfKind, FitsKinds, IsTruth, KindsPromise}
 use Rattle.gq_base.specs.Truth.{and3, not3}

@@ -1,7 +1,8 @@
 -- What is asked of the kinds of several expressions together.
 use Rattle.std.proofs.Common.{◌≡◌, refl, Bool, true, false, ◌||◌, ◌&&◌, List, [], ◌∷◌}
 use Rattle.std.proofs.lemmas.List.Folds.{list_all-append}
-use Rattle.gq_expr.specs.Kinds.{May, summary_of, all_of, both}
+use Rattle.gq_expr.specs.Kinds.{May, all_of}
+use Rattle.gq_expr.specs.steps.Kinds.{summary_of, both}
 use Rattle.gq_expr.specs.declared.kinds.Summary.{Summary}
 
 pub summary_first : (m : May) (ms : List May) → summary_of (all_of (m ∷ ms)) ≡ both (summary_of m) (summary_of (all_of ms))

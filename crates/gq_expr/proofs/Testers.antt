@@ -1,6 +1,6 @@
 -- A list of tests with their operands' answers is what the type's own map makes of it.
 use Rattle.std.proofs.Common.{◌≡◌, ap, refl, List, [], ◌∷◌, map}
-use Rattle.gq_expr.specs.Parts.{tester_with}
+use Rattle.gq_expr.specs.steps.Parts.{tester_with}
 use Rattle.gq_expr.specs.declared.expr.Expr.{Expr}
 use Rattle.gq_expr.specs.declared.expr.Expr.TheShapes.{former-Expr-Test-1}
 use Rattle.gq_expr.specs.declared.expr.Tester.{Tester}

@@ -1,5 +1,5 @@
 -- Which expressions may fault, as far as the kinds of the properties tell (this project's profile).
-use Rattle.std.specs.Prelude.{ℕ, Bool, true, false, not, ◌||◌, ◌&&◌, List, [], ◌∷◌, slice_get}
+use Rattle.std.specs.Prelude.{ℕ, Bool, true, false, not, ◌||◌, List, [], ◌∷◌, slice_get}
 use Rattle.std.specs.declared.option.Option.{Option}
 use Rattle.std.specs.declared.option.Option.TheVariants.{Some, None}
 use Rattle.std.specs.List.{list_any, list_all, flat_map}
@@ -15,7 +15,6 @@ use Rattle.gq_expr.specs.declared.expr.Expr.{Expr, Expr-F, fold-Expr}
 use Rattle.gq_expr.specs.declared.expr.Tester.{Tester}
 use Rattle.gq_expr.specs.declared.expr.Tester.TheVariants as tester
 use Rattle.gq_expr.specs.declared.kinds.Kinds.{Kinds}
-use Rattle.gq_expr.specs.declared.kinds.Summary.{Summary}
 
 -- the kind of a value that is not null
 pub data Sort : Type 0 where
@@ -137,11 +136,3 @@ may kinds = fold-Expr May (may_step kinds)
 -- whether a condition may fault, or have another value than true, false and null
 abbrev pub can_fault : Kinds → Expr → Bool
 can_fault kinds e = misfits (may kinds e)
-
--- what is asked of the kinds
-abbrev pub summary_of : May → Summary
-summary_of m = record { faults = m.faults; boolean = list_all is_boolean m.kinds; relationship = list_all is_relationship m.kinds }
-
--- the same of two expressions, of which the value may be that of either
-abbrev pub both : Summary → Summary → Summary
-both a b = record { faults = a.faults || b.faults; boolean = a.boolean && b.boolean; relationship = a.relationship && b.relationship }

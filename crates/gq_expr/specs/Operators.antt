@@ -36,11 +36,6 @@ with_truth null go = go None
 with_truth (flag b) go = go (Some b)
 with_truth v go = Err Kind
 
--- the same of a truth that a call answers
-abbrev pub with_known : Result (Option Bool) Fault → (Option Bool → Outcome) → Outcome
-with_known (Ok p) go = go p
-with_known (Err e) go = Err e
-
 -- the table of a logical operator (openCypher 9)
 abbrev pub logic3 : LogicOp → Option Bool → Option Bool → Option Bool
 logic3 logic.And p q = and3 p q
@@ -98,11 +93,6 @@ fits_i64 (negsuc n) = nat_lt n (2 ^ 63)
 
 abbrev pub fitting : ℤ → Outcome
 fitting z = if fits_i64 z then Ok (int z) else Err Overflow
-
--- an answer that may not fit
-abbrev pub fitting_or_overflow : Option ℤ → Outcome
-fitting_or_overflow None = Err Overflow
-fitting_or_overflow (Some z) = Ok (int z)
 
 -- an operator at two integers: `/` truncates towards zero and `%` has the sign of the dividend (openCypher 9);
 -- the faults are this project's profile

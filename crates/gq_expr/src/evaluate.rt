@@ -8,7 +8,7 @@ ghost use Rattle.gq_expr.specs.Reading.{Assignment, node_val, rel_val, node_prop
 ghost use Rattle.gq_expr.specs.Reading.{property_at, type_name};
 ghost use Rattle.gq_expr.specs.Meaning.{meaning, logic_all, coalesce_all, compare_chain};
 ghost use Rattle.gq_expr.specs.Meaning.{arith_chain, test_chain};
-ghost use Rattle.gq_expr.specs.Parts.{bound_with, tester_with};
+ghost use Rattle.gq_expr.specs.steps.Parts.{bound_with, tester_with};
 
 use crate::expr::{BoundArith, BoundCompare, BoundTester, Expr, Fault, LogicOp, Tester};
 use crate::operators::{

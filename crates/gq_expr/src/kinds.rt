@@ -3,10 +3,11 @@ ghost use Rattle.std.specs.Prelude.{◌≡◌, ◌<◌, ◌||◌, not, length, m
 ghost use Rattle.std.specs.List.{list_any};
 ghost use Rattle.gq_base.specs.Catalogs.{find_field};
 ghost use Rattle.gq_expr.specs.Kinds as rule;
-ghost use Rattle.gq_expr.specs.Kinds.{may, summary_of, both, field_kind, kinds_at, literal_kinds};
+ghost use Rattle.gq_expr.specs.Kinds.{may, field_kind, kinds_at, literal_kinds};
+ghost use Rattle.gq_expr.specs.steps.Kinds.{summary_of, both};
 ghost use Rattle.gq_expr.specs.Kinds.{safe, all_of, truth, misfits, test_may, term_faults};
 ghost use Rattle.gq_expr.specs.Kinds.{tester_faults};
-ghost use Rattle.gq_expr.specs.Parts.{bound_with, tester_with};
+ghost use Rattle.gq_expr.specs.steps.Parts.{bound_with, tester_with};
 ghost use Rattle.gq_expr.specs.Safety.{KindsPromise};
 
 use crate::expr::{BoundCompare, BoundTester, Expr, Tester};

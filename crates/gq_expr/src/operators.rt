@@ -3,7 +3,8 @@ ghost use Rattle.std.specs.Prelude.{◌≡◌};
 ghost use Rattle.gq_base.specs.Values.{val, literal_val};
 ghost use Rattle.gq_expr.specs.Operators.{outcome, compare_vals, is_null_val, member_of};
 ghost use Rattle.gq_expr.specs.Operators.{starts_vals, ends_vals, contains_vals, occurs};
-ghost use Rattle.gq_expr.specs.Operators.{arith_vals, int_arith, fitting_or_overflow, negate_val};
+ghost use Rattle.gq_expr.specs.Operators.{arith_vals, int_arith, negate_val};
+ghost use Rattle.gq_expr.specs.steps.Operators.{fitting_or_overflow};
 ghost use Rattle.gq_expr.specs.Operators.{plus_val, first_known};
 
 use crate::expr::Fault;

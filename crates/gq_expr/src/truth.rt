@@ -2,7 +2,8 @@
 ghost use Rattle.std.specs.Prelude.{◌≡◌, Option, Bool};
 ghost use Rattle.gq_base.specs.Values.{val};
 ghost use Rattle.gq_expr.specs.Operators.{Outcome, outcome, logic_vals, not_val, of_truth};
-ghost use Rattle.gq_expr.specs.Operators.{with_truth, with_known};
+ghost use Rattle.gq_expr.specs.Operators.{with_truth};
+ghost use Rattle.gq_expr.specs.steps.Operators.{with_known};
 
 use crate::expr::{Fault, LogicOp};
 use gq_base::{Value, and3, not3, or3, xor3};

@@ -1,21 +1,8 @@
 -- Files by name, as two lists: the names, and beside each its bytes (this project's profile).
-use Rattle.std.specs.Prelude.{ℕ, ◌+◌, ◌<◌, ◌≤◌, ◌≡◌, List, [], ◌++◌, take, drop, length, get_or, position, option_map}
+use Rattle.std.specs.Prelude.{ℕ, List, [], get_or, position, option_map}
 use Rattle.std.specs.declared.option.Option.{Option}
-use Rattle.std.specs.declared.option.Option.TheVariants.{None, Some}
 use Rattle.std.specs.Str.{bytes_eq}
 
 -- the bytes of the first file of this name
 abbrev pub held_of : List (List ℕ) → List (List ℕ) → List ℕ → Option (List ℕ)
 held_of names contents name = option_map (λ k. get_or contents k []) (position (λ n. bytes_eq n name) names)
-
--- the bytes of the file at a place, from one byte on; none where no file is chosen
-abbrev pub unread_of : List (List ℕ) → Option ℕ → ℕ → List ℕ
-unread_of contents None from = []
-unread_of contents (Some k) from = drop from (get_or contents k [])
-
--- `count` bytes from a place on, at most `most`, were copied to the front of a buffer: none only at the end or with no room
-pub record Copies (all : List ℕ) (at count most : ℕ) (into : List ℕ) : Type 0 where
-  pub bound : (count ≤ length into) × (count ≡ length (take count into))
-  pub few : count ≤ most
-  pub bytes : drop at all ≡ take count into ++ drop (at + count) all
-  pub end : count ≡ 0 → 0 < length into → 0 < most → drop (at + count) all ≡ []

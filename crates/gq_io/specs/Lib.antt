@@ -4,3 +4,4 @@ pub mod InMemory
 pub mod Outside
 pub mod Putting
 pub mod Reading
+pub mod steps

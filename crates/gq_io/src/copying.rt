@@ -1,7 +1,7 @@
 //! Copies between a list of bytes and a piece.
 
 ghost use Rattle.std.specs.Prelude.{◌≡◌, ◌+◌, ◌≤◌, ◌++◌, min, length, take, ◌-◌};
-ghost use Rattle.gq_io.specs.Held.{Copies};
+ghost use Rattle.gq_io.specs.steps.Held.{Copies};
 
 /// Copies what fits of the bytes from `at` on, and at most `most`.
 pub(crate) fn copy_from(all: &[u8], at: usize, most: usize, into: &mut [u8]) -> usize

@@ -29,7 +29,7 @@ pub struct SureFiles {
 
 impl Model for SureFiles {
     ghost use Rattle.std.specs.Prelude.{◌≡◌, length};
-    ghost use Rattle.gq_io.specs.Held.{unread_of};
+    ghost use Rattle.gq_io.specs.steps.Held.{unread_of};
     ghost use Rattle.gq_io.specs.InMemory.{Shelf};
 
     ghost Value = { Shelf };

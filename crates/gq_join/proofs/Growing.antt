@@ -4,9 +4,10 @@ use Rattle.std.specs.Prelude.{All, slice_index, slice_index_or}
 use Rattle.std.specs.List.{AllByRecursion}
 use Rattle.std.proofs.lemmas.List.{length-map, length-append, get_or-map, drop_more, drop_all}
 use Rattle.std.proofs.lemmas.List.Elements.{recursion_from_All}
-use Rattle.gq_join.specs.Inner.{IsBuild, growing_of, held_of}
-use Rattle.gq_join.specs.Kept.{Growing, columns, kept, node_in, place_of, rows_of}
-use Rattle.gq_join.specs.Order.{IsCells, IsIndex, IsOrder, IsSplit, cell, key_columns}
+use Rattle.gq_join.specs.steps.Inner.{IsBuild, growing_of, held_of}
+use Rattle.gq_join.specs.Kept.{Growing, columns, kept, node_in, place_of}
+use Rattle.gq_join.specs.steps.Kept.{rows_of}
+use Rattle.gq_join.specs.steps.Order.{IsCells, IsIndex, IsOrder, IsSplit, cell, key_columns}
 use Rattle.gq_plan.specs.declared.assignment.Assignment.{Assignment}
 use Rattle.gq_join.specs.declared.build.Build.TheInside.{Inside}
 use Rattle.gq_join.specs.declared.sealed.Sealed.TheInside as sealed

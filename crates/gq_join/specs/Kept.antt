@@ -1,5 +1,5 @@
 -- What a build keeps: for each row that was pushed the numbers of the variables that it keeps.
-use Rattle.std.specs.Prelude.{ℕ, zero, suc, nat_eq, ◌≡◌, ◌<◌, ◌≤◌, ◌++◌, Bool, true, false, ◌&&◌, List, [], ◌∷◌, map, take, drop, filter, length, slice_index, slice_index_or, if◌then◌else◌}
+use Rattle.std.specs.Prelude.{ℕ, suc, nat_eq, ◌≡◌, ◌<◌, ◌≤◌, ◌++◌, Bool, true, false, ◌&&◌, List, [], ◌∷◌, map, filter, length, slice_index, slice_index_or, if◌then◌else◌}
 use Rattle.std.specs.List.{range_with_len}
 use Rattle.gq_plan.specs.declared.assignment.Assignment.{Assignment}
 use Rattle.gq_join.specs.declared.build.JoinRefusal.{JoinRefusal}
@@ -82,10 +82,6 @@ node_in h v i = slice_index (row_at h i).nodes (place_of h.nodes v)
 abbrev pub rel_in : Held → ℕ → ℕ → ℕ
 rel_in h x i = slice_index (row_at h i).rels (place_of h.rels x)
 
--- what each row has at the key of a number
-abbrev pub column_at : Held → ℕ → ℕ → ℕ
-column_at h k = node_in h (slice_index h.keys k)
-
 -- what each row has at each key
 abbrev pub columns : Held → List (ℕ → ℕ)
 columns h = map (node_in h) h.keys
@@ -103,8 +99,3 @@ matches h key = filter (has_key (columns h) key) (range_with_len 0 (length h.row
 -- the rows that have the same nodes at the keys as an assignment
 abbrev pub matches_of : Held → Assignment → List ℕ
 matches_of h row = matches h (values_of h.keys row.nodes)
-
--- so many rows, cut from their numbers one after another
-abbrev pub rows_of : ℕ → ℕ → ℕ → List ℕ → List ℕ → List Kept
-rows_of zero n m xs ys = []
-rows_of (suc c) n m xs ys = record { nodes = take n xs; rels = take m ys } ∷ rows_of c n m (drop n xs) (drop m ys)

@@ -45,7 +45,7 @@ impl Model for Build {
 
     ghost Value = { Growing };
 
-    ghost use Rattle.gq_join.specs.Inner.{growing_of, IsBuild};
+    ghost use Rattle.gq_join.specs.steps.Inner.{growing_of, IsBuild};
 
     ghost view = { growing_of };
 

@@ -1,8 +1,8 @@
 //! Sealed builds: rows that are found by their keys.
 ghost use Rattle.std.specs.Prelude.{◌≡◌, ◌<◌, ◌^◌, length, slice_index_or, All};
 ghost use Rattle.gq_join.specs.Kept.{place_of, values_of, matches, matches_of, node_in, rel_in};
-ghost use Rattle.gq_join.specs.Kept.{column_at};
-ghost use Rattle.gq_join.specs.Order.{Ascends, at};
+ghost use Rattle.gq_join.specs.steps.Kept.{column_at};
+ghost use Rattle.gq_join.specs.steps.Order.{Ascends, at};
 
 use crate::order::{Table, place_of};
 use gq_adj::Lists;
@@ -29,7 +29,7 @@ impl Model for Sealed {
 
     ghost Value = { Held };
 
-    ghost use Rattle.gq_join.specs.Inner.{held_of, IsSealed};
+    ghost use Rattle.gq_join.specs.steps.Inner.{held_of, IsSealed};
 
     ghost view = { held_of };
 

@@ -16,7 +16,7 @@ use Rattle.gq_plan.specs.Conditions.{passes}
 use Rattle.gq_plan.specs.Covers.{Covers}
 use Rattle.gq_plan.specs.Meaning.{meaning}
 use Rattle.gq_plan.specs.Soundness.{IsSound, kinds_for}
-use Rattle.gq_plan.specs.Steps.{Plan}
+use Rattle.gq_plan.specs.Plans.{Plan}
 use Rattle.gq_plan.specs.declared.NamedExpr.{NamedExpr}
 use Rattle.gq_plan.specs.declared.Typed.{Typed}
 use Rattle.gq_plan.proofs.Bags.{parts_of_list}

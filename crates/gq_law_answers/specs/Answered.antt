@@ -13,7 +13,7 @@ use Rattle.gq_plan.specs.Conditions.{allows, passes}
 use Rattle.gq_plan.specs.Covers.{Covers}
 use Rattle.gq_plan.specs.Meaning.{holds, meaning}
 use Rattle.gq_plan.specs.Outcomes.{Row, outcome, outcome_by, outcomes, late_conjuncts, late_outcomes}
-use Rattle.gq_plan.specs.Steps.{Plan}
+use Rattle.gq_plan.specs.Plans.{Plan}
 use Rattle.gq_plan.specs.declared.Bound.{Bound}
 use Rattle.gq_plan.specs.declared.NamedExpr.{NamedExpr}
 use Rattle.gq_plan.specs.declared.Typed.{Typed}

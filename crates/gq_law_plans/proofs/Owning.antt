@@ -12,7 +12,7 @@ use Rattle.gq_plan.specs.Known as known
 use Rattle.gq_plan.specs.Known.{Known, none}
 use Rattle.gq_plan.specs.Meaning.{Partial, nothing, with_node, with_rel, with_all, look, far, nodes_for, arrive, agree, holds, keep_if, mean, step}
 use Rattle.gq_plan.specs.Soundness.{has_number}
-use Rattle.gq_plan.specs.Steps.{Plan, Done, Then, Step, Scan, Extend, Close, Join, Keep, Differ, NoLoop}
+use Rattle.gq_plan.specs.Plans.{Plan, Done, Then, Step, Scan, Extend, Close, Join, Keep, Differ, NoLoop}
 use Rattle.gq_plan.specs.declared.plan.Way.{Way}
 use Rattle.gq_plan.specs.declared.typed.Typed.{Typed}
 use Rattle.gq_plan.proofs.Each.{each_of, each_map, each_flat_map, each_kept}

@@ -12,7 +12,7 @@ use Rattle.gq_plan.specs.Covers.{after, after_step, fits, fits_step, is_joined}
 use Rattle.gq_plan.specs.Known.{none}
 use Rattle.gq_plan.specs.Meaning.{Partial, nothing, with_all, look, agree, mean, step}
 use Rattle.gq_plan.specs.Soundness.{IsSound}
-use Rattle.gq_plan.specs.Steps.{Plan, Done, Then, Step, Scan, Extend, Close, Join, Keep, Differ, NoLoop}
+use Rattle.gq_plan.specs.Plans.{Plan, Done, Then, Step, Scan, Extend, Close, Join, Keep, Differ, NoLoop}
 use Rattle.gq_plan.specs.declared.demand.Demand.{Demand}
 use Rattle.gq_plan.specs.declared.demand.Demand.TheVariants.{InTable, Joins, Passes, Differs, IsNoLoop}
 use Rattle.gq_plan.specs.declared.typed.Typed.{Typed}

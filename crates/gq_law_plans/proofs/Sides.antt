@@ -16,7 +16,7 @@ use Rattle.gq_plan.specs.Known.{none}
 use Rattle.gq_plan.specs.Meaning.{Partial, nothing, look, row, nodes_for, rels_for, holds, mean}
 use Rattle.gq_plan.specs.Parts.{Part, given_parts, greedy_parts, counts, joins_ends, meets, bindings, nodes_inside, rels_inside, part_choices, part_assignments, part_demands, ends_inside, IsSide, IsPiece}
 use Rattle.gq_plan.specs.Soundness.{IsSound}
-use Rattle.gq_plan.specs.Steps.{Plan}
+use Rattle.gq_plan.specs.Plans.{Plan}
 use Rattle.gq_plan.specs.declared.demand.Demand.TheVariants.{InTable, Joins, Passes, Differs, IsNoLoop}
 use Rattle.gq_plan.specs.declared.bound.NamedExpr.{NamedExpr}
 use Rattle.gq_plan.specs.declared.typed.RelPair.{RelPair}

@@ -15,7 +15,7 @@ use Rattle.gq_plan.specs.Conditions.{passes, differs, no_loop}
 use Rattle.gq_plan.specs.Covers.{start_of, end_of, goes, fits_step, test_bound, pair_bound, loop_bound}
 use Rattle.gq_plan.specs.Meaning.{Partial, with_node, with_rel, look, row, near, far, nodes_for, rels_at, arrive, holds, keep_if, step}
 use Rattle.gq_plan.specs.Soundness.{EndsFit, IsSound}
-use Rattle.gq_plan.specs.Steps.{Scan, Extend, Close, Keep, Differ, NoLoop}
+use Rattle.gq_plan.specs.Plans.{Scan, Extend, Close, Keep, Differ, NoLoop}
 use Rattle.gq_plan.specs.declared.bound.NamedExpr.{NamedExpr}
 use Rattle.gq_plan.specs.declared.demand.Demand.TheVariants.{InTable, Joins, Passes, Differs, IsNoLoop}
 use Rattle.gq_plan.specs.declared.plan.Way.{Way}

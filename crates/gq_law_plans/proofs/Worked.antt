@@ -16,7 +16,7 @@ use Rattle.gq_plan.specs.Conditions.{allows}
 use Rattle.gq_plan.specs.Covers.{Covers, fits, fits_step, after, after_step, placed, placed_step, demands}
 use Rattle.gq_plan.specs.Meaning.{meaning, mean, step}
 use Rattle.gq_plan.specs.Soundness.{IsSound, EndsFit, path_rels, joined}
-use Rattle.gq_plan.specs.Steps.{Plan, Done, Then, Scan, Extend, Join, NoLoop}
+use Rattle.gq_plan.specs.Plans.{Plan, Done, Then, Scan, Extend, Join, NoLoop}
 use Rattle.gq_plan.specs.declared.plan.Way.TheVariants.{Forward}
 use Rattle.gq_plan.specs.declared.typed.PathPart.{PathPart}
 use Rattle.gq_plan.specs.declared.typed.Typed.{Typed}

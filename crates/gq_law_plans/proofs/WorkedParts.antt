@@ -14,7 +14,7 @@ use Rattle.gq_plan.specs.Known.{none, with_both}
 use Rattle.gq_plan.specs.Meaning.{mean, step, nothing}
 use Rattle.gq_plan.specs.Parts.{Part, component, given_parts, greedy_parts, part_assignments, part_demands, IsSide}
 use Rattle.gq_plan.specs.Soundness.{IsSound, IsPair, EndsFit, path_rels, joined}
-use Rattle.gq_plan.specs.Steps.{Plan, Done, Then, Scan, Extend, Differ, NoLoop}
+use Rattle.gq_plan.specs.Plans.{Plan, Done, Then, Scan, Extend, Differ, NoLoop}
 use Rattle.gq_plan.specs.declared.plan.Way.TheVariants.{Backward}
 use Rattle.gq_plan.specs.declared.bound.NamedExpr.{NamedExpr}
 use Rattle.gq_plan.specs.declared.demand.Demand.TheVariants.{InTable, Joins, Passes, Differs, IsNoLoop}

@@ -11,7 +11,7 @@ use Rattle.gq_plan.specs.Conditions.{passes, differs}
 use Rattle.gq_plan.specs.Covers.{Covers}
 use Rattle.gq_plan.specs.Meaning.{meaning}
 use Rattle.gq_plan.specs.Soundness.{IsSound, kinds_of}
-use Rattle.gq_plan.specs.Steps.{Plan}
+use Rattle.gq_plan.specs.Plans.{Plan}
 use Rattle.gq_plan.specs.declared.typed.Typed.{Typed}
 
 -- in a valid graph, an assignment that lies in an alternative fits the kinds that the alternative gives its variables

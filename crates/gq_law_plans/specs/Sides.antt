@@ -5,7 +5,7 @@ use Rattle.gq_base.specs.Valid.{is_valid}
 use Rattle.gq_plan.specs.Meaning.{mean, nothing}
 use Rattle.gq_plan.specs.Parts.{Part, IsPiece, IsSide, part_assignments}
 use Rattle.gq_plan.specs.Soundness.{IsSound}
-use Rattle.gq_plan.specs.Steps.{Plan}
+use Rattle.gq_plan.specs.Plans.{Plan}
 use Rattle.gq_plan.specs.declared.typed.Typed.{Typed}
 
 -- in a valid graph, a plan that makes a part of a sound alternative has as many assignments as the part

@@ -10,7 +10,8 @@ use Rattle.std.proofs.lemmas.List.Elements.{All-append, All-cons, All-nil, All-s
 use Rattle.std.proofs.lemmas.Str.{IsCharBoundary-at_seam, IsUtf8-between, IsUtf8-from_is_utf8, encodes-append, encodes-chars, scalars-chars}
 use Rattle.gq_lexer.specs.Lexemes.{lexeme}
 use Rattle.gq_lexer.specs.Sources.{IsWhole}
-use Rattle.gq_lexer.specs.Tokens.{IntFits, Lexed, lexed, lexed_behind, lexed_from, prefixed, then_from, tokens_of, width}
+use Rattle.gq_lexer.specs.Tokens.{Lexed, lexed, lexed_behind, lexed_from, prefixed, then_from, tokens_of, width}
+use Rattle.gq_lexer.specs.steps.Tokens.{IntFits}
 use Rattle.gq_lexer.specs.declared.lexeme.Lexeme.{Lexeme}
 use Rattle.gq_lexer.specs.declared.token.Span.{Span}
 use Rattle.gq_lexer.specs.declared.token.Token.{Token}

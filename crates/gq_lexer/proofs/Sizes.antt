@@ -7,7 +7,7 @@ use Rattle.gq_base.specs.Words.{code, is_word_start}
 use Rattle.gq_lexer.specs.Characters.{begins, begins_digit}
 use Rattle.gq_lexer.specs.Lexemes.{lexeme, lone_sign, longest, number_at, number_kind, numeral, pair_sign, quoted_at, runs_on, sign_at, signed, sized, slash_at, string_at, word_at}
 use Rattle.gq_lexer.specs.Numbers.{digits_at, value_in}
-use Rattle.gq_lexer.specs.Tokens.{IntFits}
+use Rattle.gq_lexer.specs.steps.Tokens.{IntFits}
 use Rattle.gq_lexer.specs.declared.lexeme.Lexeme.{Lexeme}
 use Rattle.gq_lexer.specs.declared.token.Sign.{Sign}
 use Rattle.gq_lexer.specs.declared.token.TokenKind.{TokenKind}

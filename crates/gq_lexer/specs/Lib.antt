@@ -4,3 +4,4 @@ pub mod Numbers
 pub mod Runs
 pub mod Sources
 pub mod Tokens
+pub mod steps

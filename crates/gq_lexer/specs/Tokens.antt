@@ -1,5 +1,5 @@
 -- The tokens of a text (openCypher 9, where this project's profile does not say otherwise).
-use Rattle.std.specs.Prelude.{◌≡◌, ℕ, zero, suc, ◌+◌, ◌-◌, ◌^◌, ◌<◌, ◌≤◌, List, [], ◌∷◌, ◌++◌, length, take, if◌then◌else◌, Result, Ok, Err}
+use Rattle.std.specs.Prelude.{◌≡◌, ℕ, zero, suc, ◌+◌, ◌-◌, ◌<◌, ◌≤◌, List, [], ◌∷◌, ◌++◌, length, take, if◌then◌else◌, Result, Ok, Err}
 use Rattle.std.specs.Str.{chars, encode_utf8_all, is_utf8}
 use Rattle.std.specs.Str.Lossy.{utf8_valid_len}
 use Rattle.std.specs.declared.option.Option.{Option}
@@ -11,7 +11,6 @@ use Rattle.gq_lexer.specs.declared.token.LexRefusal.TheVariants.{Lex, Memory}
 use Rattle.gq_lexer.specs.declared.token.Span.{Span}
 use Rattle.gq_lexer.specs.declared.token.Token.{Token}
 use Rattle.gq_lexer.specs.declared.token.TokenKind.{TokenKind}
-use Rattle.gq_lexer.specs.declared.token.TokenKind.TheVariants as kind
 
 -- the tokens of a text, or the place of the first byte of the first lexeme that fails
 abbrev pub Lexed : Type 0
@@ -60,8 +59,3 @@ Answers outcome (Err Memory) = Unit {0}
 abbrev pub InOrder : ℕ → ℕ → List Token → Type 0
 InOrder from to [] = from ≤ to
 InOrder from to (t ∷ ts) = (from ≤ t.span.start) × (t.span.start < t.span.end) × InOrder t.span.end to ts
-
--- an integer is less than 2^63
-abbrev pub IntFits : TokenKind → Type 0
-IntFits (kind.Int n) = n < 2 ^ 63
-IntFits _ = Unit {0}

@@ -12,7 +12,8 @@ use Rattle.gq_io.specs.declared.reading.ReadFile.{ReadFile}
 use Rattle.gq_io.specs.declared.reading.ReadStop.{ReadStop}
 use Rattle.gq_io.specs.declared.reading.ReadStop.TheVariants as read_stop
 use Rattle.gq_io.proofs.Counts.{Rose-later}
-use Rattle.gq_loader.specs.Effects.{Reads, ReadsFew, Told}
+use Rattle.gq_loader.specs.Effects.{ReadsFew}
+use Rattle.gq_loader.specs.steps.Effects.{Reads, Told}
 use Rattle.gq_loader.specs.declared.refusal.LoadRefusal.TheVariants as refusal
 use Rattle.gq_loader.specs.declared.refusal.LoadStop.{LoadStop}
 use Rattle.gq_loader.specs.declared.refusal.LoadStop.TheVariants as stop

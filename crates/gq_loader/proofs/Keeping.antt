@@ -25,7 +25,7 @@ use Rattle.gq_base.specs.declared.cell.PlainRel.{PlainRel}
 use Rattle.gq_manifest.specs.Manifests.{AreWhole}
 use Rattle.gq_manifest.specs.declared.manifest.TableNumber.{TableNumber}
 use Rattle.gq_manifest.specs.declared.manifest.TableNumber.TheVariants as table
-use Rattle.gq_loader.specs.Answers.{IsUnread, KeepsOthers}
+use Rattle.gq_loader.specs.steps.Answers.{IsUnread, KeepsOthers}
 
 abbrev Rows : Type 0
 Rows = List (List (Option Cell))

@@ -12,7 +12,8 @@ use Rattle.gq_io.specs.Outside.{Names}
 use Rattle.gq_manifest.specs.Manifests.{IsNumberOf}
 use Rattle.gq_manifest.specs.declared.manifest.TableNumber.{TableNumber}
 use Rattle.gq_manifest.specs.declared.manifest.TableNumber.TheVariants as table
-use Rattle.gq_loader.specs.Answers.{Answers, AsMany, Leaves, Refuses}
+use Rattle.gq_loader.specs.Answers.{Answers, Refuses}
+use Rattle.gq_loader.specs.steps.Answers.{AsMany, Leaves}
 use Rattle.gq_loader.specs.Loads.{beginning_of, load_of, take_table, take_tables}
 use Rattle.gq_loader.specs.Refusals.{and_then}
 use Rattle.gq_loader.specs.declared.limits.Limits.{Limits}

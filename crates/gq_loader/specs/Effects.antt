@@ -26,27 +26,3 @@ pub record ReadsFew (held : Option Names) (left : Option (List ℕ)) (most : ℕ
   pub eaten : List ℕ
   pub few : length eaten ≤ most + 1
   pub took : IfSome held (λ files. Consumes (files name) left eaten)
-
--- what is told of the files at one time
-pub record Told : Type 0 where
-  pub held : Option Names
-  pub left : Option (List ℕ)
-  pub faults : ℕ
-  pub misses : ℕ
-
-abbrev pub told_of : {D : Type 0} → (D → Option Names) → (D → Option (List ℕ)) → (D → ℕ) → (D → ℕ)
-    → D → Told
-told_of held left faults misses files = record {
-  held = held files;
-  left = left files;
-  faults = faults files;
-  misses = misses files;
-}
-
--- what a part of a load does to the files: it changes none, its faults and misses have their
--- causes, and unless a call failed it read no more of a file than it may
-pub record Reads {T : Type 0} (most : ℕ) (old new : Told) (result : Result T LoadStop) : Type 0 where
-  pub held : new.held ≡ old.held
-  pub faults : ByFault old.faults new.faults result
-  pub misses : ByMiss old.misses new.misses result
-  pub few : ¬ (Rose old.faults new.faults) → ReadsFew old.held new.left most

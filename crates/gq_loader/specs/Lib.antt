@@ -4,3 +4,4 @@ pub mod Files
 pub mod Limits
 pub mod Loads
 pub mod Refusals
+pub mod steps

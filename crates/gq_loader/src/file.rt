@@ -1,7 +1,7 @@
 //! The bytes of one file, up to a limit.
 ghost use Rattle.std.specs.Prelude.{◌≤◌, IfOk, length, nat_le};
 ghost use Rattle.gq_loader.specs.Answers.{Answers};
-ghost use Rattle.gq_loader.specs.Effects.{Reads, told_of};
+ghost use Rattle.gq_loader.specs.steps.Effects.{Reads, told_of};
 ghost use Rattle.gq_loader.specs.Files.{file_of};
 
 use crate::refusal::{LoadRefusal, LoadStop};

@@ -3,8 +3,10 @@ ghost use Rattle.std.specs.Prelude.{◌≡◌, ◌≢◌, true, All, AllPairs, I
 ghost use Rattle.gq_base.specs.Valid.{is_valid};
 ghost use Rattle.gq_io.specs.Causes.{Rose};
 ghost use Rattle.gq_manifest.specs.Manifests.{IsNumberOf};
-ghost use Rattle.gq_loader.specs.Answers.{Answers, IsFresh, IsUnread};
-ghost use Rattle.gq_loader.specs.Effects.{ByFault, ByMiss, Reads, ReadsFew, told_of};
+ghost use Rattle.gq_loader.specs.Answers.{Answers};
+ghost use Rattle.gq_loader.specs.steps.Answers.{IsFresh, IsUnread};
+ghost use Rattle.gq_loader.specs.Effects.{ByFault, ByMiss, ReadsFew};
+ghost use Rattle.gq_loader.specs.steps.Effects.{Reads, told_of};
 ghost use Rattle.gq_loader.specs.Limits.{IsWithin, most_bytes, most_manifest};
 ghost use Rattle.gq_loader.specs.Loads.{beginning_of, load_of};
 

@@ -1,6 +1,7 @@
 //! Why the files give no graph.
 ghost use Rattle.std.specs.Prelude.{◌≡◌, IfOk};
-ghost use Rattle.gq_loader.specs.Answers.{of_manifest, of_table};
+ghost use Rattle.gq_loader.specs.Answers.{of_manifest};
+ghost use Rattle.gq_loader.specs.steps.Answers.{of_table};
 ghost use Rattle.gq_loader.specs.Refusals.{name_of};
 ghost use Rattle.gq_loader.specs.declared.refusal.LoadStop.TheVariants as stop;
 

@@ -2,8 +2,9 @@
 ghost use Rattle.std.specs.Prelude.{◌≡◌, ◌+◌, ◌<◌, ◌≤◌, ◌^◌, true, length, IfOk, OnOk};
 ghost use Rattle.gq_base.specs.Valid.{is_valid};
 ghost use Rattle.gq_manifest.specs.Manifests.{IsNumberOf};
-ghost use Rattle.gq_loader.specs.Answers.{Answers, AsMany, IsGoing, IsUnread, KeepsOthers, Leaves};
-ghost use Rattle.gq_loader.specs.Effects.{Reads, told_of};
+ghost use Rattle.gq_loader.specs.Answers.{Answers};
+ghost use Rattle.gq_loader.specs.steps.Answers.{AsMany, IsGoing, IsUnread, KeepsOthers, Leaves};
+ghost use Rattle.gq_loader.specs.steps.Effects.{Reads, told_of};
 ghost use Rattle.gq_loader.specs.Files.{file_of};
 ghost use Rattle.gq_loader.specs.Limits.{IsWithin, is_short};
 ghost use Rattle.gq_loader.specs.Loads.{end_of, key_kind, take_nodes, take_rels, take_table};

@@ -1,6 +1,6 @@
 //! The table that the words of a line name.
 ghost use Rattle.std.specs.Prelude.{◌≡◌, map, option_map, IfOk};
-ghost use Rattle.gq_manifest.specs.Answers.{seen_table};
+ghost use Rattle.gq_manifest.specs.steps.Answers.{seen_table};
 ghost use Rattle.gq_manifest.specs.Lines.{form_of, mult_of, node_of, rel_of, table_of};
 ghost use Rattle.gq_base.specs.Words.{name_of, text_of};
 

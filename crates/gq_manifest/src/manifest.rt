@@ -1,6 +1,7 @@
 //! The reading of a manifest: its lines in order, up to the first that is refused.
 ghost use Rattle.std.specs.Prelude.{◌^◌, ◌<◌, length, IfOk};
-ghost use Rattle.gq_manifest.specs.Answers.{Adds, Reads};
+ghost use Rattle.gq_manifest.specs.Answers.{Reads};
+ghost use Rattle.gq_manifest.specs.steps.Answers.{Adds};
 ghost use Rattle.gq_manifest.specs.Manifests.{IsWhole, manifest_of, take_line};
 
 use crate::cut::{cut_line, is_skipped};

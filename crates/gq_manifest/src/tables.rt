@@ -1,5 +1,5 @@
 //! The tables of a manifest, added line by line.
-ghost use Rattle.gq_manifest.specs.Answers.{Adds, seen_node, seen_rel, seen_table};
+ghost use Rattle.gq_manifest.specs.steps.Answers.{Adds, seen_node, seen_rel, seen_table};
 ghost use Rattle.gq_manifest.specs.Manifests.{add_node, add_rel, add_table};
 
 use crate::line::{NodeLine, RelLine, TableLine};

@@ -14,8 +14,8 @@ use Rattle.gq_plan.specs.Known.{is_bound}
 use Rattle.gq_plan.specs.Meaning.{holds}
 use Rattle.gq_plan.specs.Reads.{Read, Variable, node, rel, reads}
 use Rattle.gq_plan.specs.Soundness.{IsSound, IsPair, EndsFit, HasVariable, test_reads}
-use Rattle.gq_plan.specs.Steps.{steps}
-use Rattle.gq_plan.specs.Times.{one}
+use Rattle.gq_plan.specs.Plans.{steps}
+use Rattle.gq_plan.specs.steps.Times.{one}
 use Rattle.gq_plan.specs.declared.bound.NamedExpr.{NamedExpr}
 use Rattle.gq_plan.specs.declared.demand.Demand.{Demand}
 use Rattle.gq_plan.specs.declared.demand.Demand.TheVariants.{InTable, Joins, Passes, Differs, IsNoLoop}

@@ -14,7 +14,8 @@ use Rattle.gq_order.proofs.PartSides.{AreJoined, good_side}
 use Rattle.gq_order.proofs.SidesOf.{sides_in, begun_sides, found_sides, side_sides}
 use Rattle.gq_order.specs.Given.{Draft, begun, with_step, with_side, rel_step, loop_steps, known_with, due, due_pairs, due_tests, pair_due, test_due, shared, blank, way_of, single_in}
 use Rattle.gq_order.specs.Greedy.{at, components, numbers, piece}
-use Rattle.gq_order.specs.Orders.{read_by, with_turns, with_piece, with_pieces, known_then, IsFine}
+use Rattle.gq_order.specs.Orders.{read_by, with_turns, with_piece, with_pieces}
+use Rattle.gq_order.specs.steps.Orders.{known_then, IsFine}
 use Rattle.gq_order.specs.Keys.{own_keys, join_keys}
 use Rattle.gq_order.specs.declared.order.Piece.{Piece}
 use Rattle.gq_order.specs.declared.order.Turn.{Turn}
@@ -28,7 +29,7 @@ use Rattle.gq_plan.specs.Meaning.{holds}
 use Rattle.gq_plan.specs.Parts as parts
 use Rattle.gq_plan.specs.Parts.{Part, IsSide, pieces}
 use Rattle.gq_plan.specs.Soundness.{IsSound, left_of, right_of}
-use Rattle.gq_plan.specs.Steps.{Plan, Step, Extend, Close, Join, Keep, Differ, NoLoop, steps}
+use Rattle.gq_plan.specs.Plans.{Plan, Step, Extend, Close, Join, Keep, Differ, NoLoop, steps}
 use Rattle.gq_plan.specs.declared.typed.Typed.{Typed}
 use Rattle.gq_plan.specs.declared.typed.TypedRel.{TypedRel}
 

@@ -14,8 +14,8 @@ use Rattle.gq_plan.specs.Known.{Known, none, with_node, with_rel, is_bound}
 use Rattle.gq_plan.specs.Meaning.{holds}
 use Rattle.gq_plan.specs.Reads.{Variable, node, rel, reads}
 use Rattle.gq_plan.specs.Soundness.{left_of, right_of}
-use Rattle.gq_plan.specs.Steps.{Step, Scan, Extend, Close, NoLoop}
-use Rattle.gq_plan.specs.Times.{one, same_demand}
+use Rattle.gq_plan.specs.Plans.{Step, Scan, Extend, Close, NoLoop}
+use Rattle.gq_plan.specs.steps.Times.{one, same_demand}
 use Rattle.gq_plan.specs.declared.bound.NamedExpr.{NamedExpr}
 use Rattle.gq_plan.specs.declared.demand.Demand.{Demand}
 use Rattle.gq_plan.specs.declared.demand.Demand.TheVariants.{InTable, Joins, Passes, Differs, IsNoLoop}

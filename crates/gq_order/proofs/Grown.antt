@@ -12,7 +12,8 @@ use Rattle.gq_order.proofs.Taken.{each_at, at_each, least_of_each, same_bool, bo
 use Rattle.gq_order.proofs.TurnReads.{Ends, ends_within, right_within, found_by}
 use Rattle.gq_order.specs.Given.{known_with}
 use Rattle.gq_order.specs.Greedy.{at, components, weight, start, turns, piece, greedy_order}
-use Rattle.gq_order.specs.Orders.{facing, read_by, known_by, known_after, goes_on, is_connected, bound_alone, known_then, IsFine, Binds, IsOrderFrom, IsOrder}
+use Rattle.gq_order.specs.Orders.{facing, read_by, known_by}
+use Rattle.gq_order.specs.steps.Orders.{known_after, goes_on, is_connected, bound_alone, known_then, IsFine, Binds, IsOrderFrom, IsOrder}
 use Rattle.gq_order.specs.declared.order.Turn.{Turn}
 use Rattle.gq_order.specs.declared.stats.Stats.{Stats}
 use Rattle.gq_plan.proofs.Each.{each_then, each_kept, each_below}

@@ -7,7 +7,7 @@ use Rattle.gq_plan.specs.Known.{Known, none, with_node, with_both}
 use Rattle.gq_plan.specs.Meaning.{holds}
 use Rattle.gq_plan.specs.Parts.{sides, own_sides}
 use Rattle.gq_plan.specs.Soundness.{left_of, right_of, rights, has_number}
-use Rattle.gq_plan.specs.Steps.{Plan, Step, Extend, Close, Join, Keep, Differ, NoLoop, steps}
+use Rattle.gq_plan.specs.Plans.{Plan, Step, Extend, Close, Join, Keep, Differ, NoLoop, steps}
 use Rattle.gq_plan.specs.declared.typed.Typed.{Typed}
 use Rattle.gq_plan.specs.declared.typed.TypedRel.{TypedRel}
 

@@ -7,7 +7,7 @@ use Rattle.gq_order.specs.Given.{due_pairs, due_tests, shared}
 use Rattle.gq_order.specs.Greedy.{components, weight, fan_from, next, greedy_order, greedy_plan}
 use Rattle.gq_order.specs.Orders.{plan_by}
 use Rattle.gq_order.specs.declared.stats.Stats.{Stats}
-use Rattle.gq_plan.specs.Steps.{Scan, Extend, Close, Join, Differ, steps}
+use Rattle.gq_plan.specs.Plans.{Scan, Extend, Close, Join, Differ, steps}
 use Rattle.gq_plan.specs.declared.plan.Way.TheVariants.{Forward, Backward}
 
 abbrev stats : Stats

@@ -19,7 +19,7 @@ use Rattle.gq_order.specs.declared.stats.Stats.{Stats}
 use Rattle.gq_plan.specs.Known.{Known, none, with_node}
 use Rattle.gq_plan.specs.Meaning.{holds}
 use Rattle.gq_plan.specs.Soundness.{left_of}
-use Rattle.gq_plan.specs.Steps.{Plan}
+use Rattle.gq_plan.specs.Plans.{Plan}
 use Rattle.gq_plan.specs.declared.typed.Typed.{Typed}
 use Rattle.gq_plan.specs.declared.typed.TypedRel.{TypedRel}
 
@@ -55,11 +55,6 @@ numbers y = filter (λ v. nat_eq (at (components y) v) v) (range_with_len 0 (len
 abbrev pub least_of : (ℕ → ℕ) → ℕ → List ℕ → ℕ
 least_of f best [] = best
 least_of f best (v ∷ vs) = least_of f (if nat_lt (f v) (f best) then v else best) vs
-
--- the lesser of one that there may be and of one after it
-abbrev pub lesser : (ℕ → ℕ) → Option ℕ → ℕ → ℕ
-lesser f None v = v
-lesser f (Some best) v = if nat_lt (f v) (f best) then v else best
 
 abbrev pub least : (ℕ → ℕ) → List ℕ → Option ℕ
 least f [] = None

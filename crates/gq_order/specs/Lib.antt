@@ -1,5 +1,5 @@
-pub mod Drafts
 pub mod Given
 pub mod Greedy
 pub mod Keys
 pub mod Orders
+pub mod steps

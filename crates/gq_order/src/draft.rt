@@ -2,7 +2,7 @@
 ghost use Rattle.std.specs.Prelude.{◌≡◌, ◌<◌, ◌≤◌, ◌&&◌, length, slice_get, filter};
 ghost use Rattle.std.specs.Prelude.{IfOk};
 ghost use Rattle.std.specs.List.{range_with_len};
-ghost use Rattle.gq_order.specs.Drafts.{draft_of, other_of};
+ghost use Rattle.gq_order.specs.steps.Drafts.{draft_of, other_of};
 ghost use Rattle.gq_order.specs.Given as plans;
 ghost use Rattle.gq_order.specs.Given.{with_rels, with_step, with_side, rel_step, shared};
 ghost use Rattle.gq_order.specs.Orders as orders;
@@ -10,7 +10,7 @@ ghost use Rattle.gq_order.specs.Orders.{with_turns};
 ghost use Rattle.gq_plan.specs.Known.{known_of};
 ghost use Rattle.gq_plan.specs.Soundness as soundness;
 ghost use Rattle.gq_plan.specs.Soundness.{IsSound, max_variables};
-ghost use Rattle.gq_plan.specs.Steps.{plan_of, step_of, steps};
+ghost use Rattle.gq_plan.specs.Plans.{plan_of, step_of, steps};
 
 use crate::conditions::push_due;
 use crate::order::{Turn, read_by};

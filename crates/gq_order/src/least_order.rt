@@ -2,7 +2,7 @@
 //! and the least fans.
 ghost use Rattle.std.specs.Prelude.{◌≡◌, ◌<◌, [], length, IfOk, IsTrue, All};
 ghost use Rattle.std.specs.List.{AllZip, list_all};
-ghost use Rattle.gq_order.specs.Drafts.{draft_of};
+ghost use Rattle.gq_order.specs.steps.Drafts.{draft_of};
 ghost use Rattle.gq_order.specs.Given.{blank};
 ghost use Rattle.gq_order.specs.Greedy as greedy;
 ghost use Rattle.gq_order.specs.Greedy.{greedy_order, greedy_plan, piece};
@@ -13,7 +13,7 @@ ghost use Rattle.gq_plan.specs.Covers.{Covers};
 ghost use Rattle.gq_plan.specs.Flat.{is_flat};
 ghost use Rattle.gq_plan.specs.Parts.{IsSide, greedy_parts, sides};
 ghost use Rattle.gq_plan.specs.Soundness.{IsSound};
-ghost use Rattle.gq_plan.specs.Steps.{plan_of};
+ghost use Rattle.gq_plan.specs.Plans.{plan_of};
 
 use crate::components::{components, number_at};
 use crate::draft::Draft;

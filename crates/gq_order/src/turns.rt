@@ -2,6 +2,7 @@
 ghost use Rattle.std.specs.Prelude.{◌≡◌, ◌<◌, ◌&&◌, ◌||◌, length, slice_get};
 ghost use Rattle.std.specs.Prelude.{IfOk};
 ghost use Rattle.gq_order.specs.Greedy as greedy;
+ghost use Rattle.gq_order.specs.steps.Greedy as greedy_steps;
 ghost use Rattle.gq_order.specs.Greedy.{closes, extends, closing, extending, fan_from, least};
 ghost use Rattle.gq_order.specs.Greedy.{turns, from_bound};
 ghost use Rattle.gq_order.specs.Orders.{known_by, read_by};
@@ -113,7 +114,7 @@ fn lesser(
     stats: &Stats,
 ) -> u32
     requires { IsSound catalog.now typed.now }
-    ensures { result ≡ greedy.lesser
+    ensures { result ≡ greedy_steps.lesser
         (fan_from catalog.now typed.now stats.now (known_of known)) least rel }
 {
     match least {

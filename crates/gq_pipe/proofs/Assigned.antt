@@ -14,7 +14,7 @@ use Rattle.gq_plan.specs.Rows.{assigned, nodes_of_tables, rels_of_tables, table_
 use Rattle.gq_plan.specs.declared.assignment.Assignment.{Assignment}
 use Rattle.gq_plan.specs.declared.typed.Typed.{Typed}
 use Rattle.gq_plan.specs.declared.typed.TypedRel.{TypedRel}
-use Rattle.gq_plan.specs.Steps.{Plan}
+use Rattle.gq_plan.specs.Plans.{Plan}
 use Rattle.gq_pipe.specs.Bound.{all_bound, binds_all}
 use Rattle.gq_pipe.proofs.Binding.{Looks}
 use Rattle.gq_pipe.proofs.Joined.{in_range}

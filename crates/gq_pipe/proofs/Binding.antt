@@ -7,10 +7,11 @@ use Rattle.gq_base.specs.declared.RelId.{RelId}
 use Rattle.gq_plan.specs.Covers.{after, after_step, fits, fits_step}
 use Rattle.gq_plan.specs.Known.{Known, none}
 use Rattle.gq_plan.specs.Meaning.{Partial, nothing, with_node, with_rel, with_all, look}
-use Rattle.gq_plan.specs.Steps.{Plan, Done, Then, Step, Scan, Extend, Close, Join, Keep, Differ, NoLoop, steps}
+use Rattle.gq_plan.specs.Plans.{Plan, Done, Then, Step, Scan, Extend, Close, Join, Keep, Differ, NoLoop, steps}
 use Rattle.gq_plan.specs.declared.typed.Typed.{Typed}
-use Rattle.gq_pipe.specs.Levels.{Run, step_at, given, given_step, taken, known, before, behind, level}
-use Rattle.gq_pipe.specs.Moves.{IsRun, IsAlike}
+use Rattle.gq_pipe.specs.Levels.{given, given_step}
+use Rattle.gq_pipe.specs.steps.Levels.{Run, step_at, taken, known, before, behind, level}
+use Rattle.gq_pipe.specs.steps.Moves.{IsRun, IsAlike}
 use Rattle.gq_plan.specs.Rows.{node_table, rel_table, node_at, rel_at}
 use Rattle.gq_plan.specs.declared.assignment.Assignment.{Assignment}
 use Rattle.std.proofs.lemmas.List.{drop_all}

@@ -16,14 +16,14 @@ use Rattle.gq_plan.specs.Covers.{after, after_step, fits, fits_step, goes, is_jo
 use Rattle.gq_plan.specs.Known.{Known, none, with_both}
 use Rattle.gq_plan.specs.Meaning.{nothing, with_all, holds}
 use Rattle.gq_plan.specs.Soundness.{has_number}
-use Rattle.gq_plan.specs.Steps.{Plan, Done, Then, Step, Scan, Extend, Close, Join, Keep, Differ, NoLoop, steps}
+use Rattle.gq_plan.specs.Plans.{Plan, Done, Then, Step, Scan, Extend, Close, Join, Keep, Differ, NoLoop, steps}
 use Rattle.gq_plan.specs.declared.typed.Typed.{Typed}
 use Rattle.gq_pipe.specs.Built.{whole_row, HasBuild, FitsBuild, AreBuilds}
-use Rattle.gq_pipe.specs.Levels.{Run, step_at, known, before}
-use Rattle.gq_pipe.specs.Moves.{IsRun, IsHeld, IsAlike, IsTried}
-use Rattle.gq_pipe.specs.Outcomes.{with_kept, CanJoin, IsJoined}
+use Rattle.gq_pipe.specs.steps.Levels.{Run, step_at, known, before}
+use Rattle.gq_pipe.specs.steps.Moves.{IsRun, IsHeld, IsAlike, IsTried}
+use Rattle.gq_pipe.specs.steps.Outcomes.{with_kept, CanJoin, IsJoined}
 use Rattle.gq_plan.specs.Rows.{node_table}
-use Rattle.gq_pipe.specs.Tries.{tries}
+use Rattle.gq_pipe.specs.steps.Tries.{tries}
 use Rattle.gq_pipe.specs.declared.plan_run.Tried.{Tried}
 use Rattle.gq_pipe.specs.declared.plan_run.Tried.TheVariants.{Past, Missed, Made}
 use Rattle.gq_pipe.proofs.Binding.{looks, fits_at, given_alike}

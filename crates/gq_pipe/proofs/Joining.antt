@@ -13,13 +13,13 @@ use Rattle.gq_plan.specs.Allowed.{at_same}
 use Rattle.gq_plan.specs.Covers.{after}
 use Rattle.gq_plan.specs.Known.{Known, none}
 use Rattle.gq_plan.specs.Meaning.{Partial, nothing, with_all, look, agree}
-use Rattle.gq_plan.specs.Steps.{Plan, Join}
+use Rattle.gq_plan.specs.Plans.{Plan, Join}
 use Rattle.gq_plan.specs.declared.typed.Typed.{Typed}
 use Rattle.gq_pipe.specs.Built.{whole_row, IsBuildOf}
 use Rattle.gq_pipe.specs.Levels.{given}
-use Rattle.gq_pipe.specs.Outcomes.{set_all}
+use Rattle.gq_pipe.specs.steps.Outcomes.{set_all}
 use Rattle.gq_plan.specs.Rows.{node_table, node_at}
-use Rattle.gq_pipe.specs.Tries.{tries}
+use Rattle.gq_pipe.specs.steps.Tries.{tries}
 use Rattle.gq_pipe.proofs.Binding.{Looks, looks_given}
 
 -- ---- numbers that are written for several variables

@@ -5,11 +5,11 @@ use Rattle.std.proofs.lemmas.List.{append-nil, drop_more, drop_all}
 use Rattle.gq_base.specs.Plain.{Graph}
 use Rattle.gq_plan.specs.Allowed.{at_same}
 use Rattle.gq_plan.specs.Meaning.{Partial, with_node, with_rel, look, far, nodes_for, rels_at, arrive, keep_if, mean, step, with_all, agree, nothing}
-use Rattle.gq_plan.specs.Steps.{Step, Scan, Extend, Close, Join, Keep, Differ, NoLoop, steps}
+use Rattle.gq_plan.specs.Plans.{Step, Scan, Extend, Close, Join, Keep, Differ, NoLoop, steps}
 use Rattle.gq_plan.specs.declared.typed.Typed.{Typed}
-use Rattle.gq_pipe.specs.Levels.{Run, step_at, before, level, ahead}
-use Rattle.gq_pipe.specs.Moves.{to_try}
-use Rattle.gq_pipe.specs.Tries.{tries}
+use Rattle.gq_pipe.specs.steps.Levels.{Run, step_at, before, level, ahead}
+use Rattle.gq_pipe.specs.steps.Moves.{to_try}
+use Rattle.gq_pipe.specs.steps.Tries.{tries}
 use Rattle.gq_plan.specs.declared.assignment.Assignment.{Assignment}
 
 -- ---- one step, place by place

@@ -17,18 +17,18 @@ use Rattle.gq_plan.specs.Known as known_by
 use Rattle.gq_plan.specs.Known.{Known}
 use Rattle.gq_plan.specs.Meaning.{Partial, with_node, with_rel, look, far, rels_at, arrive, holds, keep_if}
 use Rattle.gq_plan.specs.Soundness.{EndsFit}
-use Rattle.gq_plan.specs.Steps.{Step, Scan, Extend, Close}
+use Rattle.gq_plan.specs.Plans.{Step, Scan, Extend, Close}
 use Rattle.gq_plan.specs.declared.plan.Way.{Way}
 use Rattle.gq_plan.specs.declared.plan.Way.TheVariants.{Forward, Backward}
 use Rattle.gq_plan.specs.declared.typed.Typed.{Typed}
 use Rattle.gq_plan.specs.declared.typed.TypedRel.{TypedRel}
 use Rattle.gq_store.specs.Neighbours.{near_rows, neighbours, numbers, end_rows, opposite}
-use Rattle.gq_pipe.specs.Hops.{direction_of, IsHop}
-use Rattle.gq_pipe.specs.Levels.{Run, step_at, taken, known, before}
-use Rattle.gq_pipe.specs.Moves.{IsRun, IsHeld, IsAlike, IsMade, IsMissed, IsPast}
-use Rattle.gq_pipe.specs.Outcomes.{with_row, with_number}
+use Rattle.gq_pipe.specs.steps.Hops.{direction_of, IsHop}
+use Rattle.gq_pipe.specs.steps.Levels.{Run, step_at, taken, known, before}
+use Rattle.gq_pipe.specs.steps.Moves.{IsRun, IsHeld, IsAlike, IsMade, IsMissed, IsPast}
+use Rattle.gq_pipe.specs.steps.Outcomes.{with_row, with_number}
 use Rattle.gq_plan.specs.Rows.{table_of, node_table, rel_table, node_at}
-use Rattle.gq_pipe.specs.Tries.{tries}
+use Rattle.gq_pipe.specs.steps.Tries.{tries}
 use Rattle.gq_plan.specs.declared.assignment.Assignment.{Assignment}
 use Rattle.gq_pipe.specs.declared.follow.Hop.{Hop}
 use Rattle.gq_pipe.proofs.Following.{near_table, far_table, rel, get_some, hop_leads, hop_next, hop_none, rels_met}

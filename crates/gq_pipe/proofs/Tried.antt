@@ -6,12 +6,12 @@ use Rattle.std.proofs.lemmas.Option.{slice_get_within}
 use Rattle.gq_plan.specs.Covers.{fits_step, goes}
 use Rattle.gq_plan.specs.Known.{Known}
 use Rattle.gq_plan.specs.Meaning.{Partial, look, holds}
-use Rattle.gq_plan.specs.Steps.{Step, Scan, Extend, Close, Keep, step_of}
+use Rattle.gq_plan.specs.Plans.{Step, Scan, Extend, Close, Keep, step_of}
 use Rattle.gq_plan.specs.declared.plan.Step as code
 use Rattle.gq_plan.specs.declared.plan.Way.{Way}
-use Rattle.gq_pipe.specs.Levels.{Run, step_at, known, before}
-use Rattle.gq_pipe.specs.Moves.{run_of, IsRun, IsHeld, IsTried}
-use Rattle.gq_pipe.specs.Outcomes.{IsSized, IsScanned, CanFollow, IsExtended, IsClosed, tested}
+use Rattle.gq_pipe.specs.steps.Levels.{Run, step_at, known, before}
+use Rattle.gq_pipe.specs.steps.Moves.{run_of, IsRun, IsHeld, IsTried}
+use Rattle.gq_pipe.specs.steps.Outcomes.{IsSized, IsScanned, CanFollow, IsExtended, IsClosed, tested}
 use Rattle.gq_plan.specs.Rows.{node_at}
 use Rattle.gq_plan.specs.declared.assignment.Assignment.{Assignment}
 use Rattle.gq_pipe.specs.declared.plan_run.PlanRun.{PlanRun}

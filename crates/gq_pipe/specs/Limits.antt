@@ -1,10 +1,10 @@
 -- How many assignments the side plans of a plan may make.
-use Rattle.std.specs.Prelude.{◌≡◌, ℕ, ◌<◌, Bool, true, false, ◌&&◌, nat_le, length}
+use Rattle.std.specs.Prelude.{◌≡◌, ℕ, Bool, true, false, ◌&&◌, nat_le, length}
 use Rattle.gq_base.specs.Plain.{Graph}
 use Rattle.gq_join.specs.declared.build.JoinRefusal.{JoinRefusal}
 use Rattle.gq_join.specs.declared.build.JoinRefusal.TheVariants.{TooManyRows, Memory}
 use Rattle.gq_plan.specs.Meaning.{meaning}
-use Rattle.gq_plan.specs.Steps.{Plan, Done, Then, Step, Scan, Extend, Close, Join, Keep, Differ, NoLoop}
+use Rattle.gq_plan.specs.Plans.{Plan, Done, Then, Step, Scan, Extend, Close, Join, Keep, Differ, NoLoop}
 use Rattle.gq_plan.specs.declared.typed.Typed.{Typed}
 
 module _ (g : Graph) (y : Typed) (limit : ℕ) where
@@ -24,17 +24,7 @@ module _ (g : Graph) (y : Typed) (limit : ℕ) where
     side_within (Differ p) = true
     side_within (NoLoop x) = true
 
--- TooManyRows only where a plan makes more assignments than the limit
-abbrev pub IsRefusal : Graph → Typed → ℕ → Plan → JoinRefusal → Type 0
-IsRefusal g y limit p (TooManyRows l) = (l ≡ limit) × (limit < length (meaning g y p))
-IsRefusal g y limit p Memory = Unit
-
--- TooManyRows only where some side plan does
+-- TooManyRows only where some side plan makes more assignments than the limit
 abbrev pub IsSidesRefusal : Graph → Typed → ℕ → Plan → JoinRefusal → Type 0
 IsSidesRefusal g y limit p (TooManyRows l) = (l ≡ limit) × (sides_within g y limit p ≡ false)
 IsSidesRefusal g y limit p Memory = Unit
-
--- the same of the side plan of a step
-abbrev pub IsSideRefusal : Graph → Typed → ℕ → Step → JoinRefusal → Type 0
-IsSideRefusal g y limit s (TooManyRows l) = (l ≡ limit) × (side_within g y limit s ≡ false)
-IsSideRefusal g y limit s Memory = Unit

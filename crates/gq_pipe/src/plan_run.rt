@@ -3,12 +3,13 @@ ghost use Rattle.std.specs.Prelude.{◌≡◌, ◌<◌, length, slice_index_or, 
 ghost use Rattle.std.specs.Option.{option_copied};
 ghost use Rattle.gq_join.specs.Kept.{place_of};
 ghost use Rattle.gq_plan.specs.Soundness.{IsSound};
-ghost use Rattle.gq_pipe.specs.Levels.{known};
-ghost use Rattle.gq_pipe.specs.Moves.{run_of, IsRun, IsHeld, IsTried};
-ghost use Rattle.gq_pipe.specs.Outcomes.{IsSized, IsScanned, CanFollow, IsHopFound, IsExtended};
-ghost use Rattle.gq_pipe.specs.Outcomes.{IsClosed};
-ghost use Rattle.gq_pipe.specs.Outcomes.{CanJoin, IsJoined, with_nodes, with_rels};
-ghost use Rattle.gq_pipe.specs.Outcomes.{passes_at, differs_at, no_loop_at, tested};
+ghost use Rattle.gq_pipe.specs.steps.Levels.{known};
+ghost use Rattle.gq_pipe.specs.steps.Moves.{run_of, IsRun, IsHeld, IsTried};
+ghost use Rattle.gq_pipe.specs.steps.Outcomes.{IsSized, IsScanned, CanFollow, IsHopFound};
+ghost use Rattle.gq_pipe.specs.steps.Outcomes.{IsExtended};
+ghost use Rattle.gq_pipe.specs.steps.Outcomes.{IsClosed};
+ghost use Rattle.gq_pipe.specs.steps.Outcomes.{CanJoin, IsJoined, with_nodes, with_rels};
+ghost use Rattle.gq_pipe.specs.steps.Outcomes.{passes_at, differs_at, no_loop_at, tested};
 
 use crate::follow::{Hop, direction_of, hop_at};
 use gq_base::{List, Value};

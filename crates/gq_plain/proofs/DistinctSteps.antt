@@ -16,7 +16,7 @@ use Rattle.gq_base.specs.declared.catalog.Field.{Field}
 use Rattle.gq_base.specs.declared.cell.Cell.{Cell}
 use Rattle.gq_base.specs.declared.cell.PlainRel.{PlainRel}
 use Rattle.gq_base.specs.declared.value.Value.{Value}
-use Rattle.gq_plain.specs.Ends.{row_at}
+use Rattle.gq_plain.specs.steps.Ends.{row_at}
 use Rattle.gq_plain.specs.declared.distinct.End.{End}
 
 -- ---- items of any kind

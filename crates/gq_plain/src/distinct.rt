@@ -1,10 +1,10 @@
-//! Whether no two items of a table are the same: the names of its fields, the keys of its nodes, or the rows at one end
-//! of its relationships. Ordered sets and marks keep it from being quadratic.
+//! Whether no two items of a table are the same: the names of its fields, the keys of its nodes, or
+//! the rows at one end of its relationships. Ordered sets and marks keep it from being quadratic.
 ghost use Rattle.std.specs.Prelude.{◌≡◌, ◌==◌, ◌<◌, All, IfOk, map};
 ghost use Rattle.gq_base.specs.Lists.{all_distinct};
 ghost use Rattle.gq_base.specs.Rels.{rel_seen};
 ghost use Rattle.gq_base.specs.Valid.{has_keys, same_name};
-ghost use Rattle.gq_plain.specs.Ends.{row_at};
+ghost use Rattle.gq_plain.specs.steps.Ends.{row_at};
 
 use crate::{Memory, RelRef, RelRows, Row};
 use gq_base::{Field, key_of};
@@ -49,8 +49,8 @@ pub(crate) fn have_keys(alloc: Global, rows: &[Row]) -> Result<bool, Memory>
     Ok(true)
 }
 
-/// Whether no two relationships have the same row at an end, where there are so many rows. A mark for each row tells it
-/// in one pass.
+/// Whether no two relationships have the same row at an end, where there are so many rows. A mark
+/// for each row tells it in one pass.
 pub(crate) fn have_distinct_rows(
     alloc: Global,
     rels: &RelRows,
@@ -58,7 +58,8 @@ pub(crate) fn have_distinct_rows(
     count: usize,
 ) -> Result<bool, Memory>
     requires { All (λ rel. row_at end rel < count) rels.now }
-    ensures { IfOk result (λ answer. answer ≡ all_distinct (λ a b. a == b) (map (row_at end) rels.now)) }
+    ensures { IfOk result (λ answer.
+        answer ≡ all_distinct (λ a b. a == b) (map (row_at end) rels.now)) }
 {
     let mut marks = vec![in alloc; false; count]?;
     for number in 0..rels.len() {

@@ -3,7 +3,8 @@
 //! `gq_base` alone, which defines what a graph is and which are valid.
 #![tactic(auto)]
 
-ghost use Rattle.std.specs.Prelude.{◌≡◌, [], ◌<◌, length, replicate, IfOk, OnOk, OnErr, Some, slice_get, slice_set};
+ghost use Rattle.std.specs.Prelude.{◌≡◌, [], ◌<◌, length, replicate, IfOk, OnOk, OnErr, Some};
+ghost use Rattle.std.specs.Prelude.{slice_get, slice_set};
 ghost use Rattle.gq_base.specs.Catalogs.{with_node_fields, with_rel_fields};
 ghost use Rattle.gq_base.specs.Valid.{is_valid};
 ghost use Rattle.gq_plain.specs.Rows.{with_row};
@@ -17,7 +18,8 @@ use std::alloc::Global;
 use std::marker::Model;
 use validity::are_valid;
 
-/// A property graph as it was loaded: the catalogue, and a list of rows for each table in the catalogue's order.
+/// A property graph as it was loaded: the catalogue, and a list of rows for each table in the
+/// catalogue's order.
 #[derive(Debug, Drop)]
 pub struct PlainGraph {
     catalog: Catalog,
@@ -31,9 +33,11 @@ impl Model for PlainGraph {
 
     ghost Value = { Graph };
 
-    ghost view = { λ g. record { catalog = g.catalog; nodes = g.nodes.items; rels = g.rels.items } };
+    ghost view = { λ g. record {
+        catalog = g.catalog; nodes = g.nodes.items; rels = g.rels.items } };
 
-    ghost invariant = { λ g. (length g.nodes.items ≡ length g.catalog.nodes) × (length g.rels.items ≡ length g.catalog.rels) };
+    ghost invariant = { λ g. (length g.nodes.items ≡ length g.catalog.nodes)
+        × (length g.rels.items ≡ length g.catalog.rels) };
 }
 
 impl PlainGraph {
@@ -93,8 +97,8 @@ impl PlainGraph {
     /// - a relationship table has at most 2^25 relationships, their ends are rows of the node tables that it names, and no
     ///   node has more of them than the table's multiplicity allows.
     ///
-    /// It takes n log n steps for n rows, and memory for the keys of a table, which are borrowed, or for a mark for each of
-    /// its rows. `Memory` may come at any graph.
+    /// It takes n log n steps for n rows, and memory for the keys of a table, which are borrowed,
+    /// or for a mark for each of its rows. `Memory` may come at any graph.
     pub fn valid(&self, alloc: Global) -> Result<bool, Memory>
         ensures value { IfOk result (λ answer. answer ≡ is_valid self.now) }
     {
@@ -109,7 +113,8 @@ impl PlainGraph {
     /// Gives a node table its fields, in place of those that it has.
     pub fn set_node_fields(&mut self, table: u32, fields: List<Field>)
         requires { table < length self.old.nodes }
-        ensures catalog { self.new.catalog ≡ record self.old.catalog { nodes = with_node_fields table fields self.old.catalog.nodes } }
+        ensures catalog { self.new.catalog ≡ record self.old.catalog {
+            nodes = with_node_fields table fields self.old.catalog.nodes } }
         ensures nodes { self.new.nodes ≡ self.old.nodes }
         ensures rels { self.new.rels ≡ self.old.rels }
     {
@@ -119,7 +124,8 @@ impl PlainGraph {
     /// Gives a relationship table its fields, in place of those that it has.
     pub fn set_rel_fields(&mut self, table: u32, fields: List<Field>)
         requires { table < length self.old.rels }
-        ensures catalog { self.new.catalog ≡ record self.old.catalog { rels = with_rel_fields table fields self.old.catalog.rels } }
+        ensures catalog { self.new.catalog ≡ record self.old.catalog {
+            rels = with_rel_fields table fields self.old.catalog.rels } }
         ensures nodes { self.new.nodes ≡ self.old.nodes }
         ensures rels { self.new.rels ≡ self.old.rels }
     {
@@ -136,7 +142,8 @@ impl PlainGraph {
         self.nodes[table as usize] = rows;
     }
 
-    /// Gives a relationship table its relationships, in place of those that it has. They are moved and not copied.
+    /// Gives a relationship table its relationships, in place of those that it has. They are moved
+    /// and not copied.
     pub fn set_rel_rows(&mut self, table: u32, rels: RelRows)
         requires { table < length self.old.rels }
         ensures rels { self.new.rels ≡ slice_set self.old.rels table rels }

@@ -1,5 +1,5 @@
 //! A graph of two people and one acquaintance, how it grows, and what makes it invalid. Answers are worked out by hand.
-ghost use Rattle.std.specs.Prelude.{◌≡◌, ◌<◌, length, IfOk};
+ghost use Rattle.std.specs.Prelude.{◌≡◌, length, IfOk};
 
 use crate::{Catalog, Cell, PlainGraph, PlainRel, RelRows, Row};
 use gq_base::{Field, Kind, List, Mult, NodeTable, RelTable, Text};

@@ -1,10 +1,12 @@
-//! Whether a graph is valid: its rows fit their tables, keys tell nodes apart, ends exist, and multiplicities and limits
-//! are kept.
+//! Whether a graph is valid: its rows fit their tables, keys tell nodes apart, ends exist, and
+//! multiplicities and limits are kept.
 ghost use Rattle.std.specs.Prelude.{◌≡◌, ◌<◌, length, All, IfOk};
 ghost use Rattle.std.specs.List.{list_all};
 ghost use Rattle.gq_base.specs.Lists.{all_zip};
 ghost use Rattle.gq_base.specs.Rels.{rel_seen};
-ghost use Rattle.gq_base.specs.Valid.{are_fields, are_nodes, are_rels, fits_fields, is_of_kind, is_rel, is_valid, keeps_mult, limits_sources, limits_targets, row_count};
+ghost use Rattle.gq_base.specs.Valid.{are_fields, are_nodes, are_rels, fits_fields, is_of_kind};
+ghost use Rattle.gq_base.specs.Valid.{is_rel, is_valid, keeps_mult, limits_sources, limits_targets};
+ghost use Rattle.gq_base.specs.Valid.{row_count};
 
 use crate::distinct::{End, have_distinct_names, have_distinct_rows, have_keys};
 use crate::{Catalog, Cell, Memory, NodeRows, RelRef, RelRows, Row};
@@ -32,7 +34,8 @@ pub(crate) fn are_valid(
 ) -> Result<bool, Memory>
     requires nodes { length nodes.now ≡ length catalog.now.nodes }
     requires rels { length rels.now ≡ length catalog.now.rels }
-    ensures { IfOk result (λ answer. answer ≡ is_valid (record { catalog = catalog.now; nodes = nodes.now; rels = rels.now })) }
+    ensures { IfOk result (λ answer.
+        answer ≡ is_valid (record { catalog = catalog.now; nodes = nodes.now; rels = rels.now })) }
 {
     if catalog.node_tables() > MOST_TABLES || catalog.rel_tables() > MOST_TABLES {
         return Ok(false);
@@ -65,7 +68,8 @@ fn are_all_rels(
     rels: &[RelRows],
 ) -> Result<bool, Memory>
     requires { length rels.now ≡ length catalog.now.rels }
-    ensures { IfOk result (λ answer. answer ≡ all_zip (are_rels nodes.now) catalog.now.rels rels.now) }
+    ensures { IfOk result (λ answer.
+        answer ≡ all_zip (are_rels nodes.now) catalog.now.rels rels.now) }
 {
     for table in 0..catalog.rel_tables() {
         let rels = &rels[table as usize];
@@ -141,7 +145,8 @@ fn all_fit(fields: &[Field], rows: &[Row]) -> bool
     rows.iter().all(|row| fits_fields(fields, row.as_slice()))
 }
 
-// Whether each relationship is between nodes of which there are so many, and its cells fit the fields.
+// Whether each relationship is between nodes of which there are so many, and its cells fit the
+// fields.
 fn all_connect(fields: &[Field], sources: usize, targets: usize, rels: &RelRows) -> bool
     ensures { result ≡ list_all (is_rel fields.now sources targets) rels.now }
 {
@@ -189,7 +194,8 @@ fn is_of_kind(kind: Kind, cell: &Option<Cell>) -> bool
     }
 }
 
-// Whether the relationships, between so many sources and targets, are no more than the multiplicity allows each.
+// Whether the relationships, between so many sources and targets, are no more than the multiplicity
+// allows each.
 fn keeps_mult(
     alloc: Global,
     mult: Mult,

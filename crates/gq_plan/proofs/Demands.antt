@@ -13,8 +13,8 @@ use Rattle.gq_plan.proofs.Each.{each_then, each_map, each_append, each_below, ea
 use Rattle.gq_plan.specs.Covers.{fits, fits_step, after_step, placed, placed_step, demands, is_key, leaves_loops_out, is_new, goes, test_bound, pair_bound, loop_bound, Covers}
 use Rattle.gq_plan.specs.Known.{Known, none}
 use Rattle.gq_plan.specs.Meaning.{holds}
-use Rattle.gq_plan.specs.Steps.{Plan, Done, Then, Step, Scan, Extend, Close, Join, Keep, Differ, NoLoop}
-use Rattle.gq_plan.specs.Times.{same_demand, one, times, is_once}
+use Rattle.gq_plan.specs.Plans.{Plan, Done, Then, Step, Scan, Extend, Close, Join, Keep, Differ, NoLoop}
+use Rattle.gq_plan.specs.steps.Times.{same_demand, one, times, is_once}
 use Rattle.gq_plan.specs.declared.demand.Demand.{Demand}
 use Rattle.gq_plan.specs.declared.demand.Demand.TheVariants.{InTable, Joins, Passes, Differs, IsNoLoop}
 use Rattle.gq_plan.specs.declared.typed.Typed.{Typed}

@@ -6,7 +6,7 @@ use Rattle.std.proofs.lemmas.Slice.Zip.{AllZip-long}
 use Rattle.gq_base.specs.Lists.{is_empty}
 use Rattle.gq_plan.specs.Flat.{is_flat}
 use Rattle.gq_plan.specs.Parts.{sides}
-use Rattle.gq_plan.specs.Steps.{Plan, Done, Then, Scan, Extend, Close, Join, Keep, Differ, NoLoop}
+use Rattle.gq_plan.specs.Plans.{Plan, Done, Then, Scan, Extend, Close, Join, Keep, Differ, NoLoop}
 
 pub flat_is : (p : Plan) → is_flat p ≡ is_empty (sides p)
 unfolding sides

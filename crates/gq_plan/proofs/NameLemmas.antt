@@ -5,7 +5,8 @@ use Rattle.std.specs.List.{list_any}
 use Rattle.std.specs.Str.{bytes_eq}
 use Rattle.std.proofs.lemmas.Bool.{true≢false}
 use Rattle.std.proofs.lemmas.List.Folds.{list_any-append}
-use Rattle.gq_plan.specs.Reads.{Read, Variable, has_name, property, same_read, same_variable}
+use Rattle.gq_plan.specs.Reads.{Read, Variable, property, same_read, same_variable}
+use Rattle.gq_plan.specs.steps.Reads.{has_name}
 
 none : (a b l m : Bool) → (b || l) ≡ false → (l ≡ false → m ≡ false) → ((a && b) || m) ≡ false
 none true false l m e h = h e

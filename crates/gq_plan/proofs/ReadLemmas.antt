@@ -11,13 +11,14 @@ use Rattle.gq_base.specs.declared.Literal.{Literal as Spelled}
 use Rattle.gq_base.specs.declared.ArithOp.{ArithOp}
 use Rattle.gq_base.specs.declared.CompareOp.{CompareOp}
 use Rattle.gq_expr.proofs.Testers.{testers_map}
-use Rattle.gq_expr.specs.Parts.{bound_with, tester_with}
+use Rattle.gq_expr.specs.steps.Parts.{bound_with, tester_with}
 use Rattle.gq_expr.specs.declared.Bound.{Bound}
 use Rattle.gq_expr.specs.declared.Expr.{Expr, Expr-F, out-Expr, map-Expr, fold_out-Expr}
 use Rattle.gq_expr.specs.declared.Expr.TheVariants.{Literal, Node, Rel, NodeProperty, RelProperty, TypeName, Coalesce, Negate, Plus, Not, Or, Xor, And, Compare, Test, Arith, outs-Literal, outs-Node, outs-Rel, outs-NodeProperty, outs-RelProperty, outs-TypeName, outs-Coalesce, outs-Negate, outs-Plus, outs-Not, outs-Or, outs-Xor, outs-And, outs-Compare, outs-Test, outs-Arith}
 use Rattle.gq_expr.specs.declared.Tester.{Tester}
 use Rattle.gq_expr.specs.declared.Tester.TheVariants as tester
-use Rattle.gq_plan.specs.Reads.{Read, is_property, Variable, node, rel, reads, reads_step, tester_reads, property, properties, properties_of, tester_properties, distinct, same_read, same_property, same_variable, with_read, with_reads}
+use Rattle.gq_plan.specs.Reads.{Read, is_property, Variable, node, rel, reads, reads_step, tester_reads, property, properties, properties_of, distinct, same_read, same_property, same_variable, with_read, with_reads}
+use Rattle.gq_plan.specs.steps.Reads.{tester_properties}
 
 -- ---- one by one
 

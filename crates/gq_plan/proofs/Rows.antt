@@ -1,6 +1,7 @@
 -- The node and the relationship that an assignment of rows and load numbers has at a variable.
 use Rattle.std.proofs.Common.{◌≡◌, refl, ℕ, zero, suc, Option, Some, None, List, [], ◌∷◌, slice_get}
-use Rattle.gq_plan.specs.Rows.{nodes_of_tables, rels_of_tables, node_in, rel_in, as_read}
+use Rattle.gq_plan.specs.Rows.{nodes_of_tables, rels_of_tables, as_read}
+use Rattle.gq_plan.specs.steps.Rows.{node_in, rel_in}
 use Rattle.gq_plan.specs.declared.assignment.Assignment.{Assignment}
 use Rattle.gq_plan.specs.declared.typed.Typed.{Typed}
 use Rattle.gq_plan.specs.declared.typed.TypedRel.{TypedRel}

@@ -1,6 +1,6 @@
 -- The plain step of each step of the program, and the plain plan of its steps.
 use Rattle.std.proofs.Common.{◌≡◌, ◌∙◌, ap, sym, refl, ℕ, true, false, List, map}
-use Rattle.gq_plan.specs.Steps.{Plan, Step, Scan, Extend, Close, Join, Keep, Differ, NoLoop, steps, step_layer, plan_layer, plan_of, step_of}
+use Rattle.gq_plan.specs.Plans.{Plan, Step, Scan, Extend, Close, Join, Keep, Differ, NoLoop, steps, step_layer, plan_layer, plan_of, step_of}
 use Rattle.gq_plan.specs.declared.plan.Plan as code_plan
 use Rattle.gq_plan.specs.declared.plan.Step as code
 use Rattle.gq_plan.specs.declared.plan.Step.TheOpen as layer

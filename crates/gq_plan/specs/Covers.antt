@@ -7,7 +7,7 @@ use Rattle.gq_base.specs.declared.Mult.{Mult}
 use Rattle.gq_plan.specs.Meaning.{holds}
 use Rattle.gq_plan.specs.Known.{Known, none, with_node, with_rel, with_both, reads_bound}
 use Rattle.gq_plan.specs.Soundness.{has_number}
-use Rattle.gq_plan.specs.Steps.{Plan, Done, Then, Step, Scan, Extend, Close, Join, Keep, Differ, NoLoop}
+use Rattle.gq_plan.specs.Plans.{Plan, Done, Then, Step, Scan, Extend, Close, Join, Keep, Differ, NoLoop}
 use Rattle.gq_plan.specs.declared.bound.NamedExpr.{NamedExpr}
 use Rattle.gq_plan.specs.declared.demand.Demand.{Demand}
 use Rattle.gq_plan.specs.declared.demand.Demand.TheVariants.{InTable, Joins, Passes, Differs, IsNoLoop}

@@ -1,9 +1,7 @@
 -- Which variables are bound.
-use Rattle.std.specs.Prelude.{ℕ, nat_eq, Bool, true, false, ◌||◌, slice_index_or}
+use Rattle.std.specs.Prelude.{ℕ, nat_eq, Bool, false, ◌||◌, slice_index_or}
 use Rattle.std.specs.List.{list_all}
 use Rattle.gq_expr.specs.declared.Expr.{Expr}
-use Rattle.gq_expr.specs.declared.Tester.{Tester}
-use Rattle.gq_expr.specs.declared.Tester.TheVariants as tester
 use Rattle.gq_plan.specs.Reads.{Variable, node, rel, reads}
 use Rattle.gq_plan.specs.declared.known.Known as code
 use Rattle.gq_plan.specs.declared.known.VariableSet.{VariableSet}
@@ -40,12 +38,3 @@ is_bound k (rel x) = k.rels x
 -- all that an expression reads is bound
 abbrev pub reads_bound : Known → Expr → Bool
 reads_bound k e = list_all (λ r. is_bound k r.variable) (reads e)
-
--- the same of a test's operand, if it has one
-abbrev pub tester_bound : Known → Tester Expr → Bool
-tester_bound k tester.IsNull = true
-tester_bound k tester.IsNotNull = true
-tester_bound k (tester.Member ls) = true
-tester_bound k (tester.Starts e) = reads_bound k e
-tester_bound k (tester.Ends e) = reads_bound k e
-tester_bound k (tester.Contains e) = reads_bound k e

@@ -7,7 +7,7 @@ use Rattle.gq_plan.specs.Conditions.{allows}
 use Rattle.gq_plan.specs.Covers.{Covers}
 use Rattle.gq_plan.specs.Meaning.{meaning}
 use Rattle.gq_plan.specs.Soundness.{IsSound}
-use Rattle.gq_plan.specs.Steps.{Plan}
+use Rattle.gq_plan.specs.Plans.{Plan}
 use Rattle.gq_plan.specs.declared.typed.Typed.{Typed}
 
 -- in a valid graph, a plan that covers a sound alternative makes the assignments that the alternative allows, each once

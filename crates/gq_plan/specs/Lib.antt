@@ -8,9 +8,9 @@ pub mod Law
 pub mod Meaning
 pub mod Outcomes
 pub mod Parts
+pub mod Plans
 pub mod Reads
 pub mod Rows
 pub mod Soundness
-pub mod Steps
-pub mod Times
 pub mod Variables
+pub mod steps

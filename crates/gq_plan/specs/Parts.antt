@@ -12,7 +12,7 @@ use Rattle.gq_plan.specs.Covers.{Fits, placed, test_bound, pair_bound, leaves_lo
 use Rattle.gq_plan.specs.Known.{Known, none, with_both}
 use Rattle.gq_plan.specs.Meaning.{Partial, row, nodes_for, rels_for, holds}
 use Rattle.gq_plan.specs.Soundness.{has_number, path_nodes}
-use Rattle.gq_plan.specs.Steps.{Plan, Done, Then, Step, Join}
+use Rattle.gq_plan.specs.Plans.{Plan, Done, Then, Step, Join}
 use Rattle.gq_plan.specs.declared.bound.NamedExpr.{NamedExpr}
 use Rattle.gq_plan.specs.declared.demand.Demand.{Demand}
 use Rattle.gq_plan.specs.declared.demand.Demand.TheVariants.{InTable, Joins, Passes, Differs, IsNoLoop}

@@ -79,10 +79,6 @@ abbrev pub distinct : List Read → List Read
 distinct [] = []
 distinct (r ∷ rs) = r ∷ filter (λ q. not (same_read r q)) (distinct rs)
 
--- a read is one of a property of this name
-abbrev pub has_name : List ℕ → Read → Bool
-has_name name r = same_property r.property (Some name)
-
 -- a read behind others, unless it stands there
 abbrev pub with_read : List Read → Read → List Read
 with_read rs r = if list_any (λ q. same_read q r) rs then rs else rs ++ r ∷ []
@@ -94,12 +90,3 @@ with_reads rs (q ∷ qs) = with_reads (with_read rs q) qs
 -- the properties that an expression reads, from left to right
 abbrev pub properties_of : Expr → List Read
 properties_of e = properties (reads e)
-
--- the same of a test's operand, if it has one
-abbrev pub tester_properties : Tester Expr → List Read
-tester_properties tester.IsNull = []
-tester_properties tester.IsNotNull = []
-tester_properties (tester.Member ls) = []
-tester_properties (tester.Starts e) = properties_of e
-tester_properties (tester.Ends e) = properties_of e
-tester_properties (tester.Contains e) = properties_of e

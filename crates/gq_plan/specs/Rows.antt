@@ -54,12 +54,3 @@ node_at y row v = record { table = node_table y v; row = slice_index row.nodes v
 
 abbrev pub rel_at : Typed → Assignment → ℕ → RelId
 rel_at y row x = record { table = rel_table y x; row = slice_index row.rels x }
-
--- the same by a table and a row, where both are there
-abbrev pub node_in : Option ℕ → Option ℕ → Option NodeId
-node_in (Some table) (Some row) = Some (record { table = table; row = row })
-node_in table row = None
-
-abbrev pub rel_in : Option TypedRel → Option ℕ → Option RelId
-rel_in (Some r) (Some number) = Some (record { table = r.table; row = number })
-rel_in r number = None

@@ -6,8 +6,8 @@ ghost use Rattle.gq_plan.specs.Covers as cover;
 ghost use Rattle.gq_plan.specs.Covers.{Covers, placed, placed_step, demands, leaves_loops_out};
 ghost use Rattle.gq_plan.specs.Meaning.{holds};
 ghost use Rattle.gq_plan.specs.Soundness.{IsSound, has_number};
-ghost use Rattle.gq_plan.specs.Steps.{plan_of, step_of};
-ghost use Rattle.gq_plan.specs.Times.{times, one, is_once, same_demand};
+ghost use Rattle.gq_plan.specs.Plans.{plan_of, step_of};
+ghost use Rattle.gq_plan.specs.steps.Times.{times, one, is_once, same_demand};
 
 use crate::demand::Demand;
 use crate::fitting::fits;

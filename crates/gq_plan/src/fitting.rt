@@ -10,7 +10,7 @@ ghost use Rattle.gq_plan.specs.Known.{known_of, none, with_node, with_rel, with_
 ghost use Rattle.gq_plan.specs.Meaning.{holds};
 ghost use Rattle.gq_plan.specs.Soundness as soundness;
 ghost use Rattle.gq_plan.specs.Soundness.{IsSound, has_number, max_variables};
-ghost use Rattle.gq_plan.specs.Steps.{plan_of, step_of};
+ghost use Rattle.gq_plan.specs.Plans.{plan_of, step_of};
 
 use crate::known::Known;
 use crate::plan::{Plan, Step, Way};

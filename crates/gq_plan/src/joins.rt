@@ -1,6 +1,6 @@
 //! Whether a plan has joins.
 ghost use Rattle.std.specs.Prelude.{◌≡◌};
-ghost use Rattle.gq_plan.specs.Steps.{plan_of, step_of};
+ghost use Rattle.gq_plan.specs.Plans.{plan_of, step_of};
 ghost use Rattle.gq_plan.specs.Flat as flat;
 
 use crate::plan::{Plan, Step};

@@ -2,7 +2,8 @@
 ghost use Rattle.std.specs.Prelude.{◌≡◌, ◌<◌, ◌||◌, false, nat_eq};
 ghost use Rattle.std.specs.List.{list_all};
 ghost use Rattle.gq_plan.specs.Known as known;
-ghost use Rattle.gq_plan.specs.Known.{set_of, known_of, with_both, reads_bound, tester_bound};
+ghost use Rattle.gq_plan.specs.Known.{set_of, known_of, with_both, reads_bound};
+ghost use Rattle.gq_plan.specs.steps.Known.{tester_bound};
 ghost use Rattle.gq_plan.specs.Soundness.{max_variables};
 
 use gq_expr::{BoundArith, BoundCompare, BoundTester, Expr, Tester};

@@ -2,7 +2,8 @@
 ghost use Rattle.std.specs.Prelude.{◌≡◌, ◌&&◌, [], length, flat_map, IfOk};
 ghost use Rattle.std.specs.List.{list_any};
 ghost use Rattle.gq_plan.specs.Reads as reads;
-ghost use Rattle.gq_plan.specs.Reads.{property, properties, properties_of, tester_properties};
+ghost use Rattle.gq_plan.specs.Reads.{property, properties, properties_of};
+ghost use Rattle.gq_plan.specs.steps.Reads.{tester_properties};
 ghost use Rattle.gq_plan.specs.Reads.{same_read, with_read, with_reads};
 ghost use Rattle.gq_plan.specs.Variables.{seen};
 
@@ -45,7 +46,8 @@ impl<'e> Model for PropertyReads<'e> {
     ghost use Rattle.std.specs.Cmp.Lexicographic.{slice_cmp};
     ghost use Rattle.std.specs.List.{list_any};
     ghost use Rattle.std.specs.Ordering.{nat_cmp};
-    ghost use Rattle.gq_plan.specs.Reads.{Read, has_name};
+    ghost use Rattle.gq_plan.specs.Reads.{Read};
+    ghost use Rattle.gq_plan.specs.steps.Reads.{has_name};
 
     ghost Value = { List Read };
 

@@ -1,8 +1,6 @@
 -- A pool of vectors: the cells of each slot, and which slots are out.
-use Rattle.std.specs.Prelude.{ℕ, ℤ, pos, ◌≡◌, ◌<◌, ◌≤◌, List, [], Bool, true, false, not, length, replicate, slice_set, slice_index_or, All, count_by, vec_len, Vec}
-use Rattle.std.specs.Global.{Global}
+use Rattle.std.specs.Prelude.{ℕ, ℤ, pos, ◌≡◌, ◌<◌, List, [], Bool, true, false, not, length, replicate, slice_set, slice_index_or, All, count_by}
 use Rattle.std.specs.List.{refill}
-use Rattle.gq_bits.specs.declared.TheConstants.{VECTOR}
 
 -- a pool as its callers see it
 pub record Pool : Type 0 where
@@ -48,9 +46,3 @@ pub record IsFresh (p : Pool) (slots : ℕ) : Type 0 where
   pub count : length p.cells ≡ slots
   pub free : p.out ≡ replicate slots false
   pub zero : (slot : ℕ) → slot < slots → All (λ cell. cell ≡ pos 0) (cells_of p slot)
-
--- each slot has the cells of one vector, and is out or free
-pub record AreLanes (lanes : List (Vec ℤ Global)) (out : List Bool) : Type 0 where
-  pub paired : length out ≡ length lanes
-  pub few : length lanes ≤ 4096
-  pub whole : All (λ lane. vec_len lane ≡ VECTOR) lanes

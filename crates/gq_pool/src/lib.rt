@@ -39,7 +39,8 @@ pub struct VectorPool {
 
 impl Model for VectorPool {
     ghost use Rattle.std.specs.Prelude.{map};
-    ghost use Rattle.gq_pool.specs.Pool.{Pool, AreLanes};
+    ghost use Rattle.gq_pool.specs.Pool.{Pool};
+    ghost use Rattle.gq_pool.specs.steps.Pool.{AreLanes};
 
     ghost Value = { Pool };
 

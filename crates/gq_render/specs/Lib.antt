@@ -1,4 +1,4 @@
 pub mod Texts
-pub mod Escapes
 pub mod Listings
 pub mod Places
+pub mod steps

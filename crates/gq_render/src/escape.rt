@@ -3,7 +3,7 @@
 ghost use Rattle.std.specs.Prelude.{◌≡◌, [], ◌∷◌, ◌++◌, MatchOption, flat_map};
 ghost use Rattle.gq_io.specs.Causes.{HasCause};
 ghost use Rattle.gq_io.specs.Putting.{Puts};
-ghost use Rattle.gq_render.specs.Escapes.{byte_text};
+ghost use Rattle.gq_render.specs.steps.Escapes.{byte_text};
 
 use gq_io::{Batch, Failed, Sink};
 

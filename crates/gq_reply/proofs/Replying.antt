@@ -14,16 +14,17 @@ use Rattle.gq_io.specs.Outside.{Writes}
 use Rattle.gq_io.specs.declared.Failed.{Failed}
 use Rattle.gq_lexer.specs.Tokens.{Lexed, lexed}
 use Rattle.gq_lexer.specs.declared.token.Token.{Token}
-use Rattle.gq_plan.specs.Steps.{plan_of}
+use Rattle.gq_plan.specs.Plans.{plan_of}
 use Rattle.gq_plan.specs.declared.Bound.{Bound}
 use Rattle.gq_plan.specs.declared.Plan as code_plan
 use Rattle.gq_plan.specs.declared.typed.Typed.{Typed}
 use Rattle.gq_render.specs.Texts.{line, refusal_line}
-use Rattle.gq_reply.specs.BindLines.{bind_line, bind_tone}
+use Rattle.gq_reply.specs.BindLines.{bind_line}
+use Rattle.gq_reply.specs.steps.BindLines.{bind_tone}
 use Rattle.gq_reply.specs.Bindings.{bind_refusal}
 use Rattle.gq_reply.specs.Replies.{Context, IsAsked, IsBlank, IsRefused, IsReply, IsStopped, IsUnbuilt, RepliesWith, question, refusal_text}
 use Rattle.gq_reply.specs.ReplyTexts.{columns_each, reply_text}
-use Rattle.gq_reply.specs.Steps.{MayAsk, MayShow, Replied, toned}
+use Rattle.gq_reply.specs.steps.Steps.{MayAsk, MayShow, Replied, toned}
 use Rattle.gq_session.specs.Sessions.{Span}
 use Rattle.gq_session.specs.declared.answering.Tone.{Tone}
 use Rattle.gq_session.specs.declared.answering.Tone.TheVariants as tone

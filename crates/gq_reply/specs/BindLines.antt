@@ -3,8 +3,6 @@ use Rattle.std.specs.Prelude.{ℕ, List, [], ◌∷◌, codes}
 use Rattle.gq_binder.specs.declared.refusal.BindRefusal.{BindRefusal}
 use Rattle.gq_binder.specs.declared.refusal.BindRefusal.TheVariants as refusal
 use Rattle.gq_render.specs.Texts.{PlaceText, refusal_line}
-use Rattle.gq_session.specs.declared.answering.Tone.{Tone}
-use Rattle.gq_session.specs.declared.answering.Tone.TheVariants as tone
 
 abbrev pub at_item : ℕ → PlaceText
 at_item item = record { before = codes " "; number = item }
@@ -25,8 +23,3 @@ bind_line refusal.TooManyReads = refusal_line (codes "error: TooManyReads") [] [
 bind_line refusal.TooManyColumns = refusal_line (codes "error: TooManyColumns") [] []
 bind_line refusal.TooManyAlternatives = refusal_line (codes "error: TooManyAlternatives") [] []
 bind_line refusal.Memory = refusal_line (codes "error: Memory") [] []
-
--- the tone of a reply by this line
-abbrev pub bind_tone : BindRefusal → Tone
-bind_tone refusal.Memory = tone.Memory
-bind_tone why = tone.Refused

@@ -2,4 +2,4 @@ pub mod BindLines
 pub mod Bindings
 pub mod ReplyTexts
 pub mod Replies
-pub mod Steps
+pub mod steps

@@ -9,7 +9,7 @@ use Rattle.gq_explain.specs.Columns.{columns_of}
 use Rattle.gq_explain.specs.Plans.{plan_text}
 use Rattle.gq_expr.specs.declared.Fault.{Fault}
 use Rattle.gq_expr.specs.declared.Fault.TheVariants as fault
-use Rattle.gq_plan.specs.Steps.{plan_of}
+use Rattle.gq_plan.specs.Plans.{plan_of}
 use Rattle.gq_plan.specs.declared.Bound.{Bound}
 use Rattle.gq_plan.specs.declared.Plan as code_plan
 use Rattle.gq_plan.specs.declared.typed.Typed.{Typed}

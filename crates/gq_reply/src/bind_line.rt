@@ -4,7 +4,8 @@ ghost use Rattle.std.specs.Prelude.{◌≡◌, [], ◌∷◌};
 ghost use Rattle.gq_io.specs.Causes.{HasCause};
 ghost use Rattle.gq_io.specs.Outside.{Writes};
 ghost use Rattle.gq_render.specs.Texts.{refusal_line};
-ghost use Rattle.gq_reply.specs.BindLines.{at_item, bind_line, bind_tone};
+ghost use Rattle.gq_reply.specs.BindLines.{at_item, bind_line};
+ghost use Rattle.gq_reply.specs.steps.BindLines.{bind_tone};
 
 use gq_base::Text;
 use gq_binder::BindRefusal;

@@ -3,10 +3,10 @@
 ghost use Rattle.std.specs.Prelude.{◌≡◌, ◌<◌, All, IfOk, length};
 ghost use Rattle.gq_explain.specs.Columns.{columns_of};
 ghost use Rattle.gq_plan.specs.Soundness.{IsSound};
-ghost use Rattle.gq_plan.specs.Steps.{plan_of};
+ghost use Rattle.gq_plan.specs.Plans.{plan_of};
 ghost use Rattle.gq_reply.specs.Replies.{context_of};
 ghost use Rattle.gq_reply.specs.ReplyTexts.{columns_each};
-ghost use Rattle.gq_reply.specs.Steps.{MayShow, Replied};
+ghost use Rattle.gq_reply.specs.steps.Steps.{MayShow, Replied};
 ghost use Rattle.gq_session.specs.Sessions.{span_of};
 
 use crate::replier::Replier;

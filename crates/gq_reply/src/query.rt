@@ -6,7 +6,7 @@ ghost use Rattle.gq_io.specs.Outside.{Writes};
 ghost use Rattle.gq_plan.specs.Soundness.{IsSound};
 ghost use Rattle.gq_reply.specs.Replies.{context_of};
 ghost use Rattle.gq_reply.specs.ReplyTexts.{fault_text, many_text, rows_text};
-ghost use Rattle.gq_reply.specs.Steps.{Asks};
+ghost use Rattle.gq_reply.specs.steps.Steps.{Asks};
 ghost use Rattle.gq_session.specs.Sessions.{span_of};
 
 use crate::replier::{Form, Replier};

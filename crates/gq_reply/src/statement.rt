@@ -6,7 +6,7 @@ ghost use Rattle.gq_io.specs.Outside.{Writes};
 ghost use Rattle.gq_render.specs.Texts.{line};
 ghost use Rattle.gq_reply.specs.BindLines.{bind_line};
 ghost use Rattle.gq_reply.specs.Replies.{IsReply, context_of};
-ghost use Rattle.gq_reply.specs.Steps.{Replied};
+ghost use Rattle.gq_reply.specs.steps.Steps.{Replied};
 ghost use Rattle.gq_session.specs.Sessions.{span_of};
 ghost use Rattle.gq_syntax.specs.Outcomes.{SpelledText, SyntaxAt};
 ghost use Rattle.gq_syntax.specs.declared.statement.Statement.TheVariants as tree;

@@ -1,7 +1,7 @@
 //! The tone of a reply that was written.
 
 ghost use Rattle.std.specs.Prelude.{◌≡◌};
-ghost use Rattle.gq_reply.specs.Steps.{toned};
+ghost use Rattle.gq_reply.specs.steps.Steps.{toned};
 
 use gq_io::Failed;
 use gq_session::Tone;

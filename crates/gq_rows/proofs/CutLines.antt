@@ -11,8 +11,8 @@ use Rattle.gq_base.specs.Values.{Val, val}
 use Rattle.gq_plan.specs.Outcomes.{Row}
 use Rattle.gq_plan.specs.declared.bound.Bound.{Bound}
 use Rattle.gq_rows.specs.Answers.{at_most, columns_of, first_of, most_listed, window}
-use Rattle.gq_rows.specs.Keeping.{HoldsOf}
-use Rattle.gq_rows.specs.Lines.{HasLines, cut_lines, lines_of}
+use Rattle.gq_rows.specs.steps.Keeping.{HoldsOf}
+use Rattle.gq_rows.specs.steps.Lines.{HasLines, cut_lines, lines_of}
 use Rattle.gq_rows.specs.declared.held.Rows.{Rows}
 use Rattle.gq_rows.specs.declared.listing.Listing.TheInside.{Inside}
 use Rattle.gq_rows.proofs.Tops.{cut-window}

@@ -20,8 +20,8 @@ use Rattle.gq_plan.specs.declared.assignment.Assignment.{Assignment}
 use Rattle.gq_plan.specs.declared.bound.Bound.{Bound}
 use Rattle.gq_plan.specs.declared.typed.Typed.{Typed}
 use Rattle.gq_rows.specs.Answers.{by_keys, cut_of, kept, looked_at, most_listed, rows_in}
-use Rattle.gq_rows.specs.Inner.{table_of}
-use Rattle.gq_rows.specs.Keeping.{HasForm, HoldsList, IsFull, IsNeverReached, IsNoFault, IsPast, Keeps, KeepsFirst, KeepsMore, PushesBy, held_of}
+use Rattle.gq_rows.specs.steps.Inner.{table_of}
+use Rattle.gq_rows.specs.steps.Keeping.{HasForm, HoldsList, IsFull, IsNeverReached, IsNoFault, IsPast, Keeps, KeepsFirst, KeepsMore, PushesBy, held_of}
 use Rattle.gq_rows.specs.Tables.{HasBar, PushesRow, Pushes, StandsFor, StandsForSome, Table, Takes, is_full, is_full_table, late_outcome, outcome_in}
 use Rattle.gq_rows.specs.declared.held.Form.{Form}
 use Rattle.gq_rows.specs.declared.held.Form.TheVariants as form

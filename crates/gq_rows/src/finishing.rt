@@ -2,9 +2,9 @@
 ghost use Rattle.std.specs.Prelude.{◌≡◌, List, IfOk};
 ghost use Rattle.gq_plan.specs.Outcomes.{Row};
 ghost use Rattle.gq_rows.specs.Answers.{at_most, columns_of, most_listed, window};
-ghost use Rattle.gq_rows.specs.Keeping.{HoldsOf, held_of};
-ghost use Rattle.gq_rows.specs.Sorting.{ArrangesRows, ChoosesRows, HasFirsts, IsWindowOf};
-ghost use Rattle.gq_rows.specs.Sorting.{ListsRows};
+ghost use Rattle.gq_rows.specs.steps.Keeping.{HoldsOf, held_of};
+ghost use Rattle.gq_rows.specs.steps.Sorting.{ArrangesRows, ChoosesRows, HasFirsts, IsWindowOf};
+ghost use Rattle.gq_rows.specs.steps.Sorting.{ListsRows};
 ghost use Rattle.gq_rows.specs.Tables.{AnswersListings, Holds, StandsForSome};
 
 use crate::held::Rows;

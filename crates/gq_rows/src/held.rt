@@ -1,9 +1,9 @@
 //! The rows that a table holds, as values.
 ghost use Rattle.std.specs.Prelude.{◌≡◌, ◌+◌, ◌<◌, ◌≤◌, ◌^◌, false, length, map, min, true};
-ghost use Rattle.gq_rows.specs.Judged.{asked_outcome, column_count, key_count};
+ghost use Rattle.gq_rows.specs.steps.Judged.{asked_outcome, column_count, key_count};
 ghost use Rattle.gq_base.specs.Values.{val};
-ghost use Rattle.gq_rows.specs.Keeping.{Adds, AddsFirst, IsBehind, IsOpen, PushesBy, bar_of};
-ghost use Rattle.gq_rows.specs.Keeping.{last_of};
+ghost use Rattle.gq_rows.specs.steps.Keeping.{Adds, AddsFirst, IsBehind, IsOpen, PushesBy, bar_of};
+ghost use Rattle.gq_rows.specs.steps.Keeping.{last_of};
 ghost use Rattle.gq_rows.specs.declared.held.Form.TheVariants.{All, Classes, First, Top};
 
 use crate::judging::{Question, judge};

@@ -3,8 +3,9 @@ ghost use Rattle.std.specs.Prelude.{◌≡◌};
 ghost use Rattle.gq_expr.specs.Operators.{outcome};
 ghost use Rattle.gq_plan.specs.Outcomes.{key_meanings, late_conjuncts, meanings_of};
 ghost use Rattle.gq_plan.specs.Rows.{as_read};
-ghost use Rattle.gq_rows.specs.Judged.{Judges, PushesValues, asked_outcome, behind, check_after};
-ghost use Rattle.gq_rows.specs.Judged.{column_count, key_count, one_more};
+ghost use Rattle.gq_rows.specs.steps.Judged.{Judges, PushesValues, asked_outcome, behind};
+ghost use Rattle.gq_rows.specs.steps.Judged.{check_after};
+ghost use Rattle.gq_rows.specs.steps.Judged.{column_count, key_count, one_more};
 ghost use Rattle.gq_rows.specs.declared.judging.Checked.TheVariants.{Met};
 
 use crate::refusal::RowRefusal;

@@ -22,7 +22,7 @@ impl<'g> Model for Listing<'g> {
 
     ghost Value = { List (List Val) };
 
-    ghost use Rattle.gq_rows.specs.Lines.{HasLines, lines_of};
+    ghost use Rattle.gq_rows.specs.steps.Lines.{HasLines, lines_of};
 
     ghost view = { lines_of };
 

@@ -1,6 +1,6 @@
 //! The table that takes the rows of a query.
 ghost use Rattle.std.specs.Prelude.{◌≡◌, [], None, Some, IsSome, false};
-ghost use Rattle.gq_rows.specs.Keeping.{HasForm};
+ghost use Rattle.gq_rows.specs.steps.Keeping.{HasForm};
 ghost use Rattle.gq_rows.specs.Tables.{IsSameQuery, PushesRow, StandsFor, StandsForSome};
 ghost use Rattle.gq_rows.specs.Tables.{is_full_table};
 
@@ -37,7 +37,7 @@ impl<'g> Model for RowTable<'g> {
 
     ghost coded = { Prim.hlevel (codes, expr.the_row.coded) };
 
-    ghost use Rattle.gq_rows.specs.Inner.{IsOfQuery, table_of};
+    ghost use Rattle.gq_rows.specs.steps.Inner.{IsOfQuery, table_of};
 
     ghost view = { table_of };
 

@@ -1,3 +1,3 @@
 pub mod Patterns
 pub mod Scopes
-pub mod Variables
+pub mod steps

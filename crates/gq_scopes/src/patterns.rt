@@ -1,10 +1,12 @@
 //! The patterns of a query, read from left to right.
-ghost use Rattle.std.specs.Prelude.{◌≡◌, ◌+◌, ◌++◌, ◌∷◌, ◌<◌, [], length, map, IfOk, IfSome};
+ghost use Rattle.std.specs.Prelude.{◌≡◌, ◌++◌, ◌∷◌, ◌<◌, [], length, map, IfOk, IfSome};
 ghost use Rattle.std.specs.List.{range_with_len};
 ghost use Rattle.gq_scopes.specs.Scopes.{scope_of};
 ghost use Rattle.gq_scopes.specs.Patterns as patterns;
-ghost use Rattle.gq_scopes.specs.Patterns.{pattern_of, with_clauses, with_paths, with_path, with_hops, with_rel, with_part, with_node, node_new, node_again, entries_of, naming, no_pattern};
-ghost use Rattle.gq_scopes.specs.Variables.{seen};
+ghost use Rattle.gq_scopes.specs.Patterns.{pattern_of, with_clauses, with_paths, with_path};
+ghost use Rattle.gq_scopes.specs.Patterns.{with_hops, with_rel, with_part, with_node, node_new};
+ghost use Rattle.gq_scopes.specs.Patterns.{node_again, entries_of, naming, no_pattern};
+ghost use Rattle.gq_plan.specs.Variables.{seen};
 
 use crate::copies::copy_text;
 use crate::counts::{next, number};
@@ -28,7 +30,7 @@ impl<'t> Model for NamedVariable<'t> {
 
     ghost Value = { NamedVariable };
 
-    ghost use Rattle.gq_scopes.specs.Variables.{seen};
+    ghost use Rattle.gq_plan.specs.Variables.{seen};
 
     ghost view = { λ n. record { name = n.name.now; variable = seen n.variable } };
 }
@@ -152,7 +154,7 @@ impl<'t> Model for MapEntry<'t> {
 
     ghost Value = { MapEntry };
 
-    ghost use Rattle.gq_scopes.specs.Variables.{seen};
+    ghost use Rattle.gq_plan.specs.Variables.{seen};
 
     ghost view = { λ e. record {
       variable = seen e.variable;

@@ -18,7 +18,7 @@ use Rattle.gq_session.specs.Whole as session
 use Rattle.gq_session.specs.declared.answering.Tone.{Tone}
 use Rattle.gq_session.specs.declared.answering.Tone.TheVariants as tone
 use Rattle.gq_shell.specs.Claim.{AreOpen, AsksQuery, IsNotLoaded, IsPath, IsToTheEnd, IsWhole, OnSample, Outside, Over, Permits, Refuses, Runs, Whole, full, long, most, settings_of}
-use Rattle.gq_shell.specs.Statuses.{status_of}
+use Rattle.gq_shell.specs.steps.Statuses.{status_of}
 use Rattle.gq_shell.specs.declared.status.Status.{Status}
 use Rattle.gq_shell.specs.declared.status.Status.TheVariants as status
 use Rattle.gq_words.specs.Meaning.{IsSource, Means}

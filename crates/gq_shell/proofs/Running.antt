@@ -28,8 +28,8 @@ use Rattle.gq_session.specs.declared.run.Stop.TheVariants as stop
 use Rattle.gq_shell.specs.Claim.{Ends, IsPath, Outside, Over, Permits, Refuses, Runs, WroteFront, full, long, most, settings_of, short, usage_text}
 use Rattle.gq_shell.specs.LoadLines.{load_line}
 use Rattle.gq_shell.specs.Questions.{IsNumbered, questions}
-use Rattle.gq_shell.specs.Statuses.{status_of}
-use Rattle.gq_shell.specs.Steps.{EndsLoad, Quizzed, Served, Told, told}
+use Rattle.gq_shell.specs.steps.Statuses.{status_of}
+use Rattle.gq_shell.specs.steps.Steps.{EndsLoad, Quizzed, Served, Told, told}
 use Rattle.gq_shell.specs.declared.status.Status.{Status}
 use Rattle.gq_shell.specs.declared.status.Status.TheVariants as status
 use Rattle.gq_words.specs.Meaning.{IsSource, Means}

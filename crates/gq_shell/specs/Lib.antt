@@ -2,4 +2,4 @@ pub mod LoadLines
 pub mod Questions
 pub mod Statuses
 pub mod Claim
-pub mod Steps
+pub mod steps

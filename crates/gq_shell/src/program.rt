@@ -5,7 +5,7 @@ ghost use Rattle.gq_io.specs.Causes.{HasCause, Rose};
 ghost use Rattle.gq_io.specs.Outside.{Writes};
 ghost use Rattle.gq_session.specs.Sessions.{span_of};
 ghost use Rattle.gq_shell.specs.Claim.{Runs, Whole, outside_of, settings_of, usage_text};
-ghost use Rattle.gq_shell.specs.Steps.{EndsLoad, told};
+ghost use Rattle.gq_shell.specs.steps.Steps.{EndsLoad, told};
 
 use crate::load_line::write_load_line;
 use crate::sample::show_sample;

@@ -4,11 +4,11 @@ ghost use Rattle.std.specs.Prelude.{◌≤◌};
 ghost use Rattle.gq_io.specs.Causes.{HasCause};
 ghost use Rattle.gq_io.specs.Outside.{Writes};
 ghost use Rattle.gq_reply.specs.Replies.{context_of};
-ghost use Rattle.gq_reply.specs.Steps.{Replied};
+ghost use Rattle.gq_reply.specs.steps.Steps.{Replied};
 ghost use Rattle.gq_sample.specs.Questions.{question_text};
 ghost use Rattle.gq_session.specs.Sessions.{span_of};
 ghost use Rattle.gq_shell.specs.Questions.{IsNumbered, label_text};
-ghost use Rattle.gq_shell.specs.Steps.{Asked, Quizzed};
+ghost use Rattle.gq_shell.specs.steps.Steps.{Asked, Quizzed};
 
 use crate::session::status_of;
 use crate::status::Status;

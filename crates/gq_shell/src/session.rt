@@ -2,8 +2,8 @@
 
 ghost use Rattle.std.specs.Prelude.{◌≡◌};
 ghost use Rattle.gq_session.specs.Sessions.{span_of};
-ghost use Rattle.gq_shell.specs.Statuses.{status_of};
-ghost use Rattle.gq_shell.specs.Steps.{Served};
+ghost use Rattle.gq_shell.specs.steps.Statuses.{status_of};
+ghost use Rattle.gq_shell.specs.steps.Steps.{Served};
 
 use crate::status::Status;
 use gq_execute::Settings;

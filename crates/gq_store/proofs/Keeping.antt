@@ -15,7 +15,7 @@ use Rattle.gq_base.specs.declared.cell.Cell.{Cell}
 use Rattle.gq_store.specs.Cells.{node_cell, node_fields, node_fields_of, rel_cell_in, rel_fields, rel_fields_of}
 use Rattle.gq_store.specs.Columns.{column_of, node_cells}
 use Rattle.gq_store.specs.Neighbours.{all_of, rels_at}
-use Rattle.gq_store.specs.Kept.{AreNodesKept, AreRelsKept, AreTableCells}
+use Rattle.gq_store.specs.steps.Kept.{AreNodesKept, AreRelsKept, AreTableCells}
 use Rattle.gq_store.specs.RelColumns.{cell_numbered, numbers_by_place, rel_cells}
 use Rattle.gq_store.specs.declared.property.TableCells.{TableCells}
 use Rattle.gq_store.proofs.Validity.{all-at, node_table, rel_table, zip-at, zip-length, row_length}

@@ -14,7 +14,7 @@ use Rattle.gq_store.specs.Cells.{rel_cell}
 use Rattle.gq_store.specs.Neighbours.{is_listed, is_single, mult_at, near_ends, near_rows, rels_at}
 use Rattle.gq_store.specs.Places.{by_source, first_number, number_at, number_in}
 use Rattle.gq_store.specs.RelColumns.{cell_numbered, numbers_by_place, place_count, place_count_in, rel_cells}
-use Rattle.gq_store.specs.Stored.{AreLinked, ArePlaces, IsLinked}
+use Rattle.gq_store.specs.steps.Stored.{AreLinked, ArePlaces, IsLinked}
 use Rattle.gq_store.specs.declared.direction.Direction.{Direction}
 use Rattle.gq_store.specs.declared.direction.Direction.TheVariants.{Forward, Backward}
 use Rattle.gq_store.specs.declared.links.Links.{Links}

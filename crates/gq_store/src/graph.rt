@@ -8,12 +8,12 @@ ghost use Rattle.gq_base.specs.Values.{val};
 ghost use Rattle.gq_base.specs.declared.Mult.TheVariants.{ManyMany};
 ghost use Rattle.gq_store.specs.Cells.{node_cell, node_fields, rel_cell, rel_fields};
 ghost use Rattle.gq_store.specs.Columns.{AreCells, IsDictOf, node_cells};
-ghost use Rattle.gq_store.specs.Kept.{AreNodesKept, AreRelsKept};
+ghost use Rattle.gq_store.specs.steps.Kept.{AreNodesKept, AreRelsKept};
 ghost use Rattle.gq_store.specs.Neighbours.{is_listed, mult_at, near_ends, near_rows, neighbours};
 ghost use Rattle.gq_store.specs.Neighbours.{numbers, opposite, rels_at};
 ghost use Rattle.gq_store.specs.Places.{by_source, first_number, number_at};
 ghost use Rattle.gq_store.specs.RelColumns.{rel_cells};
-ghost use Rattle.gq_store.specs.Stored.{AreLinked, IsLinked, IsSide};
+ghost use Rattle.gq_store.specs.steps.Stored.{AreLinked, IsLinked, IsSide};
 
 use crate::direction::Direction;
 use crate::links::{Links, Places, Side, links_of, numbers_by_place};
@@ -54,7 +54,7 @@ impl Model for Graph {
 
     ghost Value = { Plain };
 
-    ghost use Rattle.gq_store.specs.Kept.{IsStored};
+    ghost use Rattle.gq_store.specs.steps.Kept.{IsStored};
 
     ghost view = { λ g. g.of.value };
 

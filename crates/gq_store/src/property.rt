@@ -1,5 +1,6 @@
 //! The cells of tables: a column of integers for each property, in which a text has its code.
-ghost use Rattle.std.specs.Prelude.{◌≡◌, ℕ, List, [], ◌∷◌, ◌++◌, ◌+◌, ◌^◌, ◌<◌, ◌≤◌, true, length, map, All, IfOk, IfSome, None, slice_index_or};
+ghost use Rattle.std.specs.Prelude.{◌≡◌, ℕ, List, [], ◌∷◌, ◌++◌, ◌+◌, ◌^◌, ◌<◌, ◌≤◌, true, length};
+ghost use Rattle.std.specs.Prelude.{map, All, IfOk, IfSome, None, slice_index_or};
 ghost use Rattle.std.specs.List.{list_all};
 ghost use Rattle.gq_base.specs.Plain.{cell_val};
 ghost use Rattle.gq_base.specs.Valid.{fits_fields, is_of_kind};
@@ -31,7 +32,7 @@ impl Model for Property {
 
     ghost Value = { List (Option Cell) };
 
-    ghost use Rattle.gq_store.specs.Columns.{IsKept, cells_of};
+    ghost use Rattle.gq_store.specs.steps.Columns.{IsKept, cells_of};
 
     ghost view = { λ p. cells_of p.kind p.dict p.column };
 
@@ -93,7 +94,7 @@ pub(crate) struct TableCells {
 }
 
 impl TableCells {
-    ghost use Rattle.gq_store.specs.Kept.{AreTableCells};
+    ghost use Rattle.gq_store.specs.steps.Kept.{AreTableCells};
 
     /// Keeps the cells of a node table, row by row.
     pub(crate) fn of_rows(

@@ -4,7 +4,7 @@
 use Rattle.std.proofs.Common.{◌≡◌, ℕ, ◌≤◌, true, List, [], ◌∷◌, ◌++◌, length, Option, Some, None, inl, inr, refl, sym, ◌∙◌, ap, subst, append_assoc}
 use Rattle.gq_lexer.specs.declared.token.Span.{Span}
 use Rattle.gq_lexer.specs.declared.token.Token.{Token}
-use Rattle.gq_syntax.specs.Readers.{Reader, ◌>>=◌, fail, fork, head_by, many, must, pure, spanned, too_deep}
+use Rattle.gq_syntax.specs.steps.Readers.{Reader, ◌>>=◌, fail, fork, head_by, many, must, pure, spanned, too_deep}
 use Rattle.gq_syntax.specs.Relations.{Fork, Many, Must, Nothing, Pure, Spanned, Then}
 use Rattle.gq_syntax.proofs.Classes.{Takes, class_of, kind_class}
 use Rattle.gq_syntax.proofs.Runs.{Only, Rel, fork-only, many-only, pure-only, spanned-only, then-only}

@@ -2,7 +2,7 @@
 use Rattle.std.proofs.Common.{◌≡◌, ℕ, zero, suc, ◌-◌, ◌≤◌, Bool, true, false, List, [], ◌∷◌, ◌++◌, length, take, Option, Some, None, inl, inr, refl, arith}
 use Rattle.gq_lexer.specs.declared.token.Token.{Token}
 use Rattle.gq_lexer.specs.declared.token.Span.{Span}
-use Rattle.gq_syntax.specs.Readers.{Verdict, Done, Syntax, Deep, Out, Reader, on_done, ◌>>=◌, pure, fail, finish, head_by, tail, on_head, fork, too_deep, many_from, many, spanned}
+use Rattle.gq_syntax.specs.steps.Readers.{Verdict, Done, Syntax, Deep, Out, Reader, on_done, ◌>>=◌, pure, fail, finish, head_by, tail, on_head, fork, too_deep, many_from, many, spanned}
 use Rattle.gq_syntax.specs.Relations.{span_of, Pure, Then, Fork, Many, Spanned}
 use Rattle.gq_syntax.proofs.Runs.{Rel, Run, Within, Sample, then-run, pure-run, fork-run, must-run, too_deep-run, room-run, many-run, many-within, run-shorter, spanned-run, finish-run}
 

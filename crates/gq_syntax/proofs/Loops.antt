@@ -1,9 +1,9 @@
 -- Steps of readers: a construct that opens, and the turns of a repetition.
 use Rattle.std.proofs.Common.{◌≡◌, ℕ, zero, suc, ◌+◌, ◌-◌, ◌≤◌, ◌<◌, List, [], ◌∷◌, ◌++◌, length, Option, Some, None, Err, refl, sym, ◌∙◌, ap, subst, arith, append_assoc, append-nil}
 use Rattle.gq_lexer.specs.declared.token.Token.{Token}
-use Rattle.gq_syntax.specs.Parsing.{Reads}
-use Rattle.gq_syntax.specs.Readers.{Verdict, Done, Syntax, Deep, Out, Reader, on_done, pure, head_by, tail, many, many_from, nest}
-use Rattle.gq_syntax.specs.Parsers as p
+use Rattle.gq_syntax.specs.steps.Parsing.{Reads}
+use Rattle.gq_syntax.specs.steps.Readers.{Verdict, Done, Syntax, Deep, Out, Reader, on_done, pure, head_by, tail, many, many_from, nest}
+use Rattle.gq_syntax.specs.steps.Parsers as p
 use Rattle.gq_syntax.specs.declared.opening.Level.{Level}
 use Rattle.gq_syntax.specs.declared.tokens.Stop.{Stop}
 use Rattle.gq_syntax.specs.declared.tokens.Stop.TheVariants as stop

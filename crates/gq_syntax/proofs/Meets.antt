@@ -6,8 +6,8 @@ use Rattle.gq_lexer.specs.declared.token.Sign.TheVariants as sign
 use Rattle.gq_lexer.specs.declared.token.Span.{Span}
 use Rattle.gq_lexer.specs.declared.token.Token.{Token}
 use Rattle.gq_syntax.specs.Grammar.{Chain, Terms}
-use Rattle.gq_syntax.specs.Parsers.{tailed}
-use Rattle.gq_syntax.specs.Readers.{Reader, ◌>>=◌, enclosed, fork, into, listed, many, maybe, must, pure, spanned}
+use Rattle.gq_syntax.specs.steps.Parsers.{tailed}
+use Rattle.gq_syntax.specs.steps.Readers.{Reader, ◌>>=◌, enclosed, fork, into, listed, many, maybe, must, pure, spanned}
 use Rattle.gq_syntax.specs.Relations.{Enclosed, Fork, Into, Listed, Many, Maybe, Must, Pure, Spanned, Then}
 use Rattle.gq_syntax.specs.Trees.{Node, chain_made, made, tail_made, term}
 use Rattle.gq_syntax.specs.declared.expression.Ast.{Ast}

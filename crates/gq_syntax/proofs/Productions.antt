@@ -5,8 +5,8 @@ use Rattle.gq_base.specs.declared.literal.Literal.TheVariants as l
 use Rattle.gq_lexer.specs.declared.token.Sign.TheVariants as sign
 use Rattle.gq_lexer.specs.declared.token.Token.{Token}
 use Rattle.gq_syntax.specs.Grammar as g
-use Rattle.gq_syntax.specs.Parsers as p
-use Rattle.gq_syntax.specs.Readers.{◌>>=◌, Done, Reader, enclosed, fork, into, listed, must, nest, pure}
+use Rattle.gq_syntax.specs.steps.Parsers as p
+use Rattle.gq_syntax.specs.steps.Readers.{◌>>=◌, Done, Reader, enclosed, fork, into, listed, must, nest, pure}
 use Rattle.gq_syntax.specs.Relations.{Enclosed, Fork, Into, Maybe, Must, Nest, Pure, Then}
 use Rattle.gq_syntax.specs.Trees as tree
 use Rattle.gq_syntax.specs.Trees.{Node, columns, detail_of, made, no_detail, node_part, rel_part, tail_made, tree_of}

@@ -11,7 +11,7 @@ use Rattle.gq_lexer.specs.declared.token.Sign.{Sign}
 use Rattle.gq_lexer.specs.declared.token.Sign.TheVariants as sign
 use Rattle.gq_lexer.specs.declared.token.Span.{Span}
 use Rattle.gq_lexer.specs.declared.token.Token.{Token}
-use Rattle.gq_lexer.specs.Tokens.{IntFits}
+use Rattle.gq_lexer.specs.steps.Tokens.{IntFits}
 use Rattle.gq_lexer.specs.declared.token.TokenKind.{TokenKind}
 use Rattle.gq_lexer.specs.declared.token.TokenKind.TheVariants as kind
 use Rattle.gq_lexer.proofs.Boundaries as lexed
@@ -19,7 +19,8 @@ use Rattle.gq_lexer.proofs.Boundaries.{lexed_utf8, lexed_whole, whole_of}
 use Rattle.gq_syntax.specs.Grammar as g
 use Rattle.gq_syntax.specs.Outcomes.{SpelledText}
 use Rattle.gq_syntax.specs.Relations.{Enclosed, Fork, Into, Listed, Many, Maybe, Must, Nest, Nothing, Pure, Spanned, Then, last_end, span_of}
-use Rattle.gq_syntax.specs.Spans.{IsWholeClause, IsWholeEntry, IsWholeHop, IsWholePath, IsWholeTree, SpelledQuery, StandsIn, operand_spans, spans_of, tester_spans}
+use Rattle.gq_syntax.specs.Spans.{IsWholeTree, SpelledQuery, operand_spans, spans_of, tester_spans}
+use Rattle.gq_syntax.specs.steps.Spans.{IsWholeClause, IsWholeEntry, IsWholeHop, IsWholePath, StandsIn}
 use Rattle.gq_syntax.specs.Trees.{Node, chain_made, clause, columns, detail_of, entry, hop, item, made, no_detail, node_part, path, query, rel_part, sort, tail_made, term, tree_of}
 use Rattle.gq_syntax.specs.Words.{Name, addition, big, called, comparison, direction, multiplication, name, number, number_of, plain, sign_is, test_word, tip, word_is}
 use Rattle.gq_syntax.specs.declared.expression.Ast.{Ast, fold-roll-Ast}

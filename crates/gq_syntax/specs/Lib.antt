@@ -1,12 +1,8 @@
 pub mod Grammar
-pub mod Nesting
 pub mod Outcomes
-pub mod Parsers
-pub mod Parsing
-pub mod Readers
 pub mod Refusals
 pub mod Relations
-pub mod Repeats
 pub mod Spans
 pub mod Trees
 pub mod Words
+pub mod steps

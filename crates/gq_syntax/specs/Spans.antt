@@ -1,5 +1,5 @@
 -- Where the parts of a query stand in its text.
-use Rattle.std.specs.Prelude.{ℕ, ◌^◌, ◌<◌, List, [], ◌∷◌, ◌++◌, ◌⊎◌, length, flat_map, All, IfSome}
+use Rattle.std.specs.Prelude.{ℕ, List, [], ◌∷◌, ◌++◌, ◌⊎◌, flat_map, All}
 use Rattle.gq_lexer.specs.Sources.{IsWhole}
 use Rattle.gq_lexer.specs.declared.token.Span.{Span}
 use Rattle.gq_syntax.specs.Outcomes.{SpelledText}
@@ -8,10 +8,6 @@ use Rattle.gq_syntax.specs.declared.expression.AstNode.{AstNode}
 use Rattle.gq_syntax.specs.declared.expression.AstNode.TheVariants as e
 use Rattle.gq_syntax.specs.declared.expression.Tester.{Tester}
 use Rattle.gq_syntax.specs.declared.expression.Tester.TheVariants as tester
-use Rattle.gq_syntax.specs.declared.statement.Clause.{Clause}
-use Rattle.gq_syntax.specs.declared.statement.Entry.{Entry}
-use Rattle.gq_syntax.specs.declared.statement.Hop.{Hop}
-use Rattle.gq_syntax.specs.declared.statement.Path.{Path}
 use Rattle.gq_syntax.specs.declared.statement.Query.{Query}
 use Rattle.gq_syntax.specs.declared.statement.Statement.TheVariants as statement
 
@@ -49,32 +45,6 @@ module _ (text : List ℕ) where
   -- each span of an expression begins and ends between characters
   pub record IsWholeTree (tree : Ast) : Type 0 where
     pub spans : All (IsWhole text) (spans_of tree)
-
-  abbrev pub IsWholeEntry : Entry → Type 0
-  IsWholeEntry entry = IsWhole text entry.value_span
-
-  pub record IsWholeHop (hop : Hop) : Type 0 where
-    pub rel : All IsWholeEntry hop.rel.map
-    pub node : All IsWholeEntry hop.node.map
-
-  pub record IsWholePath (path : Path) : Type 0 where
-    pub first : All IsWholeEntry path.first.map
-    pub hops : All IsWholeHop path.hops
-
-  pub record IsWholeClause (clause : Clause) : Type 0 where
-    pub begins : 0 < length clause.paths
-    pub paths : All IsWholePath clause.paths
-    pub filter : IfSome clause.filter IsWholeTree
-
-  -- a query has a clause, and each clause a path; its spans begin and end between characters of the text, and its
-  -- numbers are less than 2^63
-  pub record StandsIn (query : Query) : Type 0 where
-    pub begins : 0 < length query.clauses
-    pub clauses : All IsWholeClause query.clauses
-    pub items : All (λ item. IsWholeTree item.tree) query.items
-    pub order : All (λ sort. IsWholeTree sort.tree) query.order
-    pub skip : IfSome query.skip (λ n. n < 2 ^ 63)
-    pub limit : IfSome query.limit (λ n. n < 2 ^ 63)
 
   -- a statement that the text spells has this query: by itself, or behind `:plan` or `:profile`
   abbrev pub SpelledQuery : Query → Type 0

@@ -1,9 +1,9 @@
 //! Expressions, by descent: one function for each production. They recur only where a construct nests.
 
 ghost use Rattle.std.specs.Prelude.{◌<◌};
-ghost use Rattle.gq_syntax.specs.Nesting.{Nests, Opens};
-ghost use Rattle.gq_syntax.specs.Parsers as p;
-ghost use Rattle.gq_syntax.specs.Parsing.{Reads};
+ghost use Rattle.gq_syntax.specs.steps.Nesting.{Nests, Opens};
+ghost use Rattle.gq_syntax.specs.steps.Parsers as p;
+ghost use Rattle.gq_syntax.specs.steps.Parsing.{Reads};
 
 use crate::expression::{ArithTerm, Ast, AstNode, AstTester, CompareTerm, Term, Tester};
 use crate::leads::{Addition, Comparison, Multiplication, Tests, Word};
@@ -50,7 +50,7 @@ impl<F: Fn(Global, &mut Tokens<'_>, usize, Level) -> Result<Ast, Stop>> Grammar<
     }
 
     // An expression and the parenthesis that closes it.
-    #[tactic(auto, unfolding(crate::specs::Parsers::grouped))]
+    #[tactic(auto, unfolding(crate::specs::steps::Parsers::grouped))]
     fn grouped(&self, tokens: &mut Tokens<'_>) -> Result<AstNode<Ast>, Stop>
         requires room { 0 < self.now.room }
         requires nests { Nests self.now.room (F.pre self.now.nested) (F.post self.now.nested) }
@@ -63,7 +63,7 @@ impl<F: Fn(Global, &mut Tokens<'_>, usize, Level) -> Result<Ast, Stop>> Grammar<
     }
 
     // One or more arguments, with commas between them.
-    #[tactic(auto, unfolding(crate::specs::Parsers::arguments))]
+    #[tactic(auto, unfolding(crate::specs::steps::Parsers::arguments))]
     fn arguments(&self, tokens: &mut Tokens<'_>) -> Result<List<Ast>, Stop>
         requires room { 0 < self.now.room }
         requires nests { Nests self.now.room (F.pre self.now.nested) (F.post self.now.nested) }
@@ -76,7 +76,7 @@ impl<F: Fn(Global, &mut Tokens<'_>, usize, Level) -> Result<Ast, Stop>> Grammar<
     }
 
     // The arguments of a call and the parenthesis that closes it.
-    #[tactic(auto, unfolding(crate::specs::Parsers::passed))]
+    #[tactic(auto, unfolding(crate::specs::steps::Parsers::passed))]
     fn passed(&self, tokens: &mut Tokens<'_>) -> Result<List<Ast>, Stop>
         requires room { 0 < self.now.room }
         requires nests { Nests self.now.room (F.pre self.now.nested) (F.post self.now.nested) }
@@ -92,7 +92,7 @@ impl<F: Fn(Global, &mut Tokens<'_>, usize, Level) -> Result<Ast, Stop>> Grammar<
     }
 
     // What a name begins: a call, a property or a variable.
-    #[tactic(auto, using(crate::proofs::Loops::nest_opens, crate::proofs::Loops::nest_deep, crate::proofs::Loops::nest_other), unfolding(crate::specs::Parsers::named))]
+    #[tactic(auto, using(crate::proofs::Loops::nest_opens, crate::proofs::Loops::nest_deep, crate::proofs::Loops::nest_other), unfolding(crate::specs::steps::Parsers::named))]
     fn named(&self, tokens: &mut Tokens<'_>, name: Text) -> Result<AstNode<Ast>, Stop>
         requires nests { Nests self.now.room (F.pre self.now.nested) (F.post self.now.nested) }
         ensures { Reads (p.named self.now.room (p.inside self.now.room) name tokens.old)
@@ -111,7 +111,7 @@ impl<F: Fn(Global, &mut Tokens<'_>, usize, Level) -> Result<Ast, Stop>> Grammar<
     }
 
     // An atom.
-    #[tactic(auto, using(crate::proofs::Loops::nest_opens, crate::proofs::Loops::nest_deep, crate::proofs::Loops::nest_other), unfolding(crate::specs::Parsers::atom))]
+    #[tactic(auto, using(crate::proofs::Loops::nest_opens, crate::proofs::Loops::nest_deep, crate::proofs::Loops::nest_other), unfolding(crate::specs::steps::Parsers::atom))]
     fn atom(&self, tokens: &mut Tokens<'_>) -> Result<AstNode<Ast>, Stop>
         requires nests { Nests self.now.room (F.pre self.now.nested) (F.post self.now.nested) }
         ensures { Reads (p.atom self.now.room (p.inside self.now.room) tokens.old)
@@ -129,7 +129,7 @@ impl<F: Fn(Global, &mut Tokens<'_>, usize, Level) -> Result<Ast, Stop>> Grammar<
     }
 
     // What stands behind a minus sign, negated.
-    #[tactic(auto, unfolding(crate::specs::Parsers::negated))]
+    #[tactic(auto, unfolding(crate::specs::steps::Parsers::negated))]
     fn negated(&self, tokens: &mut Tokens<'_>) -> Result<AstNode<Ast>, Stop>
         requires room { 0 < self.now.room }
         requires nests { Nests self.now.room (F.pre self.now.nested) (F.post self.now.nested) }
@@ -144,7 +144,7 @@ impl<F: Fn(Global, &mut Tokens<'_>, usize, Level) -> Result<Ast, Stop>> Grammar<
     }
 
     // An operand with its signs, without its place.
-    #[tactic(auto, using(crate::proofs::Loops::nest_opens, crate::proofs::Loops::nest_deep, crate::proofs::Loops::nest_other), unfolding(crate::specs::Parsers::operand))]
+    #[tactic(auto, using(crate::proofs::Loops::nest_opens, crate::proofs::Loops::nest_deep, crate::proofs::Loops::nest_other), unfolding(crate::specs::steps::Parsers::operand))]
     fn operand(&self, tokens: &mut Tokens<'_>) -> Result<AstNode<Ast>, Stop>
         requires nests { Nests self.now.room (F.pre self.now.nested) (F.post self.now.nested) }
         ensures { Reads (p.operand self.now.room (p.inside self.now.room) tokens.old)
@@ -163,7 +163,7 @@ impl<F: Fn(Global, &mut Tokens<'_>, usize, Level) -> Result<Ast, Stop>> Grammar<
     }
 
     // An operand with its signs.
-    #[tactic(auto, unfolding(crate::specs::Parsers::signed))]
+    #[tactic(auto, unfolding(crate::specs::steps::Parsers::signed))]
     fn signed(&self, tokens: &mut Tokens<'_>) -> Result<Ast, Stop>
         requires nests { Nests self.now.room (F.pre self.now.nested) (F.post self.now.nested) }
         ensures { Reads (p.signed self.now.room (p.inside self.now.room) tokens.old)
@@ -176,7 +176,7 @@ impl<F: Fn(Global, &mut Tokens<'_>, usize, Level) -> Result<Ast, Stop>> Grammar<
     }
 
     // What stands behind a sign of multiplication.
-    #[tactic(auto, unfolding(crate::specs::Parsers::multiplied))]
+    #[tactic(auto, unfolding(crate::specs::steps::Parsers::multiplied))]
     fn multiplied(&self, tokens: &mut Tokens<'_>, op: ArithOp) -> Result<ArithTerm, Stop>
         requires nests { Nests self.now.room (F.pre self.now.nested) (F.post self.now.nested) }
         ensures { Reads (p.multiplied self.now.room (p.inside self.now.room) op tokens.old)
@@ -187,7 +187,7 @@ impl<F: Fn(Global, &mut Tokens<'_>, usize, Level) -> Result<Ast, Stop>> Grammar<
     }
 
     // Any number of multiplications.
-    #[tactic(auto, unfolding(crate::specs::Parsers::multiplications))]
+    #[tactic(auto, unfolding(crate::specs::steps::Parsers::multiplications))]
     fn multiplications(&self, tokens: &mut Tokens<'_>) -> Result<List<ArithTerm>, Stop>
         requires nests { Nests self.now.room (F.pre self.now.nested) (F.post self.now.nested) }
         ensures { Reads (p.multiplications self.now.room (p.inside self.now.room) tokens.old)
@@ -202,7 +202,7 @@ impl<F: Fn(Global, &mut Tokens<'_>, usize, Level) -> Result<Ast, Stop>> Grammar<
     }
 
     // A product.
-    #[tactic(auto, unfolding(crate::specs::Parsers::product))]
+    #[tactic(auto, unfolding(crate::specs::steps::Parsers::product))]
     fn product(&self, tokens: &mut Tokens<'_>) -> Result<Ast, Stop>
         requires nests { Nests self.now.room (F.pre self.now.nested) (F.post self.now.nested) }
         ensures { Reads (p.product self.now.room (p.inside self.now.room) tokens.old)
@@ -220,7 +220,7 @@ impl<F: Fn(Global, &mut Tokens<'_>, usize, Level) -> Result<Ast, Stop>> Grammar<
     }
 
     // What stands behind a sign of addition.
-    #[tactic(auto, unfolding(crate::specs::Parsers::added))]
+    #[tactic(auto, unfolding(crate::specs::steps::Parsers::added))]
     fn added(&self, tokens: &mut Tokens<'_>, op: ArithOp) -> Result<ArithTerm, Stop>
         requires nests { Nests self.now.room (F.pre self.now.nested) (F.post self.now.nested) }
         ensures { Reads (p.added self.now.room (p.inside self.now.room) op tokens.old)
@@ -231,7 +231,7 @@ impl<F: Fn(Global, &mut Tokens<'_>, usize, Level) -> Result<Ast, Stop>> Grammar<
     }
 
     // Any number of additions.
-    #[tactic(auto, unfolding(crate::specs::Parsers::additions))]
+    #[tactic(auto, unfolding(crate::specs::steps::Parsers::additions))]
     fn additions(&self, tokens: &mut Tokens<'_>) -> Result<List<ArithTerm>, Stop>
         requires nests { Nests self.now.room (F.pre self.now.nested) (F.post self.now.nested) }
         ensures { Reads (p.additions self.now.room (p.inside self.now.room) tokens.old)
@@ -246,7 +246,7 @@ impl<F: Fn(Global, &mut Tokens<'_>, usize, Level) -> Result<Ast, Stop>> Grammar<
     }
 
     // A sum.
-    #[tactic(auto, unfolding(crate::specs::Parsers::sum))]
+    #[tactic(auto, unfolding(crate::specs::steps::Parsers::sum))]
     fn sum(&self, tokens: &mut Tokens<'_>) -> Result<Ast, Stop>
         requires nests { Nests self.now.room (F.pre self.now.nested) (F.post self.now.nested) }
         ensures { Reads (p.sum self.now.room (p.inside self.now.room) tokens.old)
@@ -264,7 +264,7 @@ impl<F: Fn(Global, &mut Tokens<'_>, usize, Level) -> Result<Ast, Stop>> Grammar<
     }
 
     // A test, behind its first word.
-    #[tactic(auto, unfolding(crate::specs::Parsers::tested))]
+    #[tactic(auto, unfolding(crate::specs::steps::Parsers::tested))]
     fn tested(&self, tokens: &mut Tokens<'_>, word: TestWord) -> Result<AstTester, Stop>
         requires nests { Nests self.now.room (F.pre self.now.nested) (F.post self.now.nested) }
         ensures { Reads (p.tested self.now.room (p.inside self.now.room) word tokens.old)
@@ -294,7 +294,7 @@ impl<F: Fn(Global, &mut Tokens<'_>, usize, Level) -> Result<Ast, Stop>> Grammar<
     }
 
     // Any number of tests.
-    #[tactic(auto, unfolding(crate::specs::Parsers::testers))]
+    #[tactic(auto, unfolding(crate::specs::steps::Parsers::testers))]
     fn testers(&self, tokens: &mut Tokens<'_>) -> Result<List<AstTester>, Stop>
         requires nests { Nests self.now.room (F.pre self.now.nested) (F.post self.now.nested) }
         ensures { Reads (p.testers self.now.room (p.inside self.now.room) tokens.old)
@@ -309,7 +309,7 @@ impl<F: Fn(Global, &mut Tokens<'_>, usize, Level) -> Result<Ast, Stop>> Grammar<
     }
 
     // A sum and its tests.
-    #[tactic(auto, unfolding(crate::specs::Parsers::tests))]
+    #[tactic(auto, unfolding(crate::specs::steps::Parsers::tests))]
     fn tests(&self, tokens: &mut Tokens<'_>) -> Result<Ast, Stop>
         requires nests { Nests self.now.room (F.pre self.now.nested) (F.post self.now.nested) }
         ensures { Reads (p.tests self.now.room (p.inside self.now.room) tokens.old)
@@ -327,7 +327,7 @@ impl<F: Fn(Global, &mut Tokens<'_>, usize, Level) -> Result<Ast, Stop>> Grammar<
     }
 
     // What stands behind the sign of a comparison.
-    #[tactic(auto, unfolding(crate::specs::Parsers::compared))]
+    #[tactic(auto, unfolding(crate::specs::steps::Parsers::compared))]
     fn compared(&self, tokens: &mut Tokens<'_>, op: CompareOp) -> Result<CompareTerm, Stop>
         requires nests { Nests self.now.room (F.pre self.now.nested) (F.post self.now.nested) }
         ensures { Reads (p.compared self.now.room (p.inside self.now.room) op tokens.old)
@@ -338,7 +338,7 @@ impl<F: Fn(Global, &mut Tokens<'_>, usize, Level) -> Result<Ast, Stop>> Grammar<
     }
 
     // Any number of comparisons.
-    #[tactic(auto, unfolding(crate::specs::Parsers::comparisons))]
+    #[tactic(auto, unfolding(crate::specs::steps::Parsers::comparisons))]
     fn comparisons(&self, tokens: &mut Tokens<'_>) -> Result<List<CompareTerm>, Stop>
         requires nests { Nests self.now.room (F.pre self.now.nested) (F.post self.now.nested) }
         ensures { Reads (p.comparisons self.now.room (p.inside self.now.room) tokens.old)
@@ -353,7 +353,7 @@ impl<F: Fn(Global, &mut Tokens<'_>, usize, Level) -> Result<Ast, Stop>> Grammar<
     }
 
     // A comparison.
-    #[tactic(auto, unfolding(crate::specs::Parsers::compare))]
+    #[tactic(auto, unfolding(crate::specs::steps::Parsers::compare))]
     fn compare(&self, tokens: &mut Tokens<'_>) -> Result<Ast, Stop>
         requires nests { Nests self.now.room (F.pre self.now.nested) (F.post self.now.nested) }
         ensures { Reads (p.compare self.now.room (p.inside self.now.room) tokens.old)
@@ -371,7 +371,7 @@ impl<F: Fn(Global, &mut Tokens<'_>, usize, Level) -> Result<Ast, Stop>> Grammar<
     }
 
     // A negation.
-    #[tactic(auto, using(crate::proofs::Loops::nest_opens, crate::proofs::Loops::nest_deep, crate::proofs::Loops::nest_other), unfolding(crate::specs::Parsers::negation))]
+    #[tactic(auto, using(crate::proofs::Loops::nest_opens, crate::proofs::Loops::nest_deep, crate::proofs::Loops::nest_other), unfolding(crate::specs::steps::Parsers::negation))]
     fn negation(&self, tokens: &mut Tokens<'_>) -> Result<Ast, Stop>
         requires nests { Nests self.now.room (F.pre self.now.nested) (F.post self.now.nested) }
         ensures { Reads (p.negation self.now.room (p.inside self.now.room) tokens.old)
@@ -389,7 +389,7 @@ impl<F: Fn(Global, &mut Tokens<'_>, usize, Level) -> Result<Ast, Stop>> Grammar<
     }
 
     // Any number of operands, each behind AND.
-    #[tactic(auto, unfolding(crate::specs::Parsers::ands))]
+    #[tactic(auto, unfolding(crate::specs::steps::Parsers::ands))]
     fn ands(&self, tokens: &mut Tokens<'_>) -> Result<List<Ast>, Stop>
         requires nests { Nests self.now.room (F.pre self.now.nested) (F.post self.now.nested) }
         ensures { Reads (p.ands self.now.room (p.inside self.now.room) tokens.old)
@@ -404,7 +404,7 @@ impl<F: Fn(Global, &mut Tokens<'_>, usize, Level) -> Result<Ast, Stop>> Grammar<
     }
 
     // A conjunction.
-    #[tactic(auto, unfolding(crate::specs::Parsers::and))]
+    #[tactic(auto, unfolding(crate::specs::steps::Parsers::and))]
     fn and(&self, tokens: &mut Tokens<'_>) -> Result<Ast, Stop>
         requires nests { Nests self.now.room (F.pre self.now.nested) (F.post self.now.nested) }
         ensures { Reads (p.and self.now.room (p.inside self.now.room) tokens.old)
@@ -422,7 +422,7 @@ impl<F: Fn(Global, &mut Tokens<'_>, usize, Level) -> Result<Ast, Stop>> Grammar<
     }
 
     // Any number of operands, each behind XOR.
-    #[tactic(auto, unfolding(crate::specs::Parsers::xors))]
+    #[tactic(auto, unfolding(crate::specs::steps::Parsers::xors))]
     fn xors(&self, tokens: &mut Tokens<'_>) -> Result<List<Ast>, Stop>
         requires nests { Nests self.now.room (F.pre self.now.nested) (F.post self.now.nested) }
         ensures { Reads (p.xors self.now.room (p.inside self.now.room) tokens.old)
@@ -437,7 +437,7 @@ impl<F: Fn(Global, &mut Tokens<'_>, usize, Level) -> Result<Ast, Stop>> Grammar<
     }
 
     // An exclusive disjunction.
-    #[tactic(auto, unfolding(crate::specs::Parsers::xor))]
+    #[tactic(auto, unfolding(crate::specs::steps::Parsers::xor))]
     fn xor(&self, tokens: &mut Tokens<'_>) -> Result<Ast, Stop>
         requires nests { Nests self.now.room (F.pre self.now.nested) (F.post self.now.nested) }
         ensures { Reads (p.xor self.now.room (p.inside self.now.room) tokens.old)
@@ -455,7 +455,7 @@ impl<F: Fn(Global, &mut Tokens<'_>, usize, Level) -> Result<Ast, Stop>> Grammar<
     }
 
     // Any number of operands, each behind OR.
-    #[tactic(auto, unfolding(crate::specs::Parsers::ors))]
+    #[tactic(auto, unfolding(crate::specs::steps::Parsers::ors))]
     fn ors(&self, tokens: &mut Tokens<'_>) -> Result<List<Ast>, Stop>
         requires nests { Nests self.now.room (F.pre self.now.nested) (F.post self.now.nested) }
         ensures { Reads (p.ors self.now.room (p.inside self.now.room) tokens.old)
@@ -465,7 +465,7 @@ impl<F: Fn(Global, &mut Tokens<'_>, usize, Level) -> Result<Ast, Stop>> Grammar<
     }
 
     // An expression.
-    #[tactic(auto, unfolding(crate::specs::Parsers::or))]
+    #[tactic(auto, unfolding(crate::specs::steps::Parsers::or))]
     fn or(&self, tokens: &mut Tokens<'_>) -> Result<Ast, Stop>
         requires nests { Nests self.now.room (F.pre self.now.nested) (F.post self.now.nested) }
         ensures { Reads (p.or self.now.room (p.inside self.now.room) tokens.old) result tokens.new }

@@ -3,7 +3,7 @@
 ghost use Rattle.std.specs.Prelude.{◌≡◌, Option, if◌then◌else◌};
 ghost use Rattle.std.specs.Option.{is_some};
 ghost use Rattle.gq_lexer.specs.declared.token.Token.{Token};
-ghost use Rattle.gq_syntax.specs.Readers as r;
+ghost use Rattle.gq_syntax.specs.steps.Readers as r;
 ghost use Rattle.gq_syntax.specs.Words as w;
 
 use crate::opening::{TestWord, Tip};

@@ -1,7 +1,7 @@
 //! Literals and lists of them.
 
-ghost use Rattle.gq_syntax.specs.Parsers as p;
-ghost use Rattle.gq_syntax.specs.Parsing.{Reads};
+ghost use Rattle.gq_syntax.specs.steps.Parsers as p;
+ghost use Rattle.gq_syntax.specs.steps.Parsing.{Reads};
 
 use crate::repeats::listed;
 use crate::tokens::{Stop, Tokens};
@@ -10,7 +10,7 @@ use gq_lexer::Sign;
 use std::alloc::Global;
 
 /// A literal, which has to come next.
-#[tactic(auto, unfolding(crate::specs::Parsers::literal))]
+#[tactic(auto, unfolding(crate::specs::steps::Parsers::literal))]
 pub(crate) fn literal(tokens: &mut Tokens<'_>) -> Result<Literal, Stop>
     ensures { Reads (p.literal tokens.old) result tokens.new }
 {
@@ -24,7 +24,7 @@ pub(crate) fn literal(tokens: &mut Tokens<'_>) -> Result<Literal, Stop>
 }
 
 // One or more literals, with commas between them.
-#[tactic(auto, unfolding(crate::specs::Parsers::literals))]
+#[tactic(auto, unfolding(crate::specs::steps::Parsers::literals))]
 fn literals(alloc: Global, tokens: &mut Tokens<'_>) -> Result<List<Literal>, Stop>
     ensures { Reads (p.literals tokens.old) result tokens.new }
 {
@@ -32,7 +32,7 @@ fn literals(alloc: Global, tokens: &mut Tokens<'_>) -> Result<List<Literal>, Sto
 }
 
 /// A list, which has to come next.
-#[tactic(auto, unfolding(crate::specs::Parsers::list))]
+#[tactic(auto, unfolding(crate::specs::steps::Parsers::list))]
 pub(crate) fn list(alloc: Global, tokens: &mut Tokens<'_>) -> Result<List<Literal>, Stop>
     ensures { Reads (p.list tokens.old) result tokens.new }
 {

@@ -1,9 +1,9 @@
 //! Patterns: paths of nodes and relationships.
 
 ghost use Rattle.std.specs.Prelude.{◌≡◌};
-ghost use Rattle.gq_syntax.specs.Parsers as p;
-ghost use Rattle.gq_syntax.specs.Parsing.{Reads};
-ghost use Rattle.gq_syntax.specs.Readers as r;
+ghost use Rattle.gq_syntax.specs.steps.Parsers as p;
+ghost use Rattle.gq_syntax.specs.steps.Parsing.{Reads};
+ghost use Rattle.gq_syntax.specs.steps.Readers as r;
 
 use crate::leads::Tips;
 use crate::literals::literal;
@@ -24,7 +24,7 @@ pub(crate) struct RelDetail {
 }
 
 // A key and its value.
-#[tactic(auto, unfolding(crate::specs::Parsers::entry, crate::specs::Parsers::value))]
+#[tactic(auto, unfolding(crate::specs::steps::Parsers::entry, crate::specs::steps::Parsers::value))]
 fn entry(tokens: &mut Tokens<'_>) -> Result<Entry, Stop>
     ensures { Reads (p.entry tokens.old) result tokens.new }
 {
@@ -41,7 +41,7 @@ fn entry(tokens: &mut Tokens<'_>) -> Result<Entry, Stop>
 }
 
 // One or more entries, with commas between them.
-#[tactic(auto, unfolding(crate::specs::Parsers::entries))]
+#[tactic(auto, unfolding(crate::specs::steps::Parsers::entries))]
 fn entries(alloc: Global, tokens: &mut Tokens<'_>) -> Result<List<Entry>, Stop>
     ensures { Reads (p.entries tokens.old) result tokens.new }
 {
@@ -49,7 +49,7 @@ fn entries(alloc: Global, tokens: &mut Tokens<'_>) -> Result<List<Entry>, Stop>
 }
 
 // The entries of a map, if one comes next.
-#[tactic(auto, unfolding(crate::specs::Parsers::map))]
+#[tactic(auto, unfolding(crate::specs::steps::Parsers::map))]
 fn map(alloc: Global, tokens: &mut Tokens<'_>) -> Result<List<Entry>, Stop>
     ensures { Reads (p.map tokens.old) result tokens.new }
 {
@@ -65,7 +65,7 @@ fn map(alloc: Global, tokens: &mut Tokens<'_>) -> Result<List<Entry>, Stop>
 }
 
 // The label of a node, if one comes next.
-#[tactic(auto, unfolding(crate::specs::Parsers::label))]
+#[tactic(auto, unfolding(crate::specs::steps::Parsers::label))]
 fn label(tokens: &mut Tokens<'_>) -> Result<Option<Text>, Stop>
     ensures { Reads (p.label tokens.old) result tokens.new }
 {
@@ -77,7 +77,7 @@ fn label(tokens: &mut Tokens<'_>) -> Result<Option<Text>, Stop>
 }
 
 // A node.
-#[tactic(auto, unfolding(crate::specs::Parsers::node))]
+#[tactic(auto, unfolding(crate::specs::steps::Parsers::node))]
 fn node(alloc: Global, tokens: &mut Tokens<'_>) -> Result<NodePart, Stop>
     ensures { Reads (p.node tokens.old) result tokens.new }
 {
@@ -97,7 +97,7 @@ fn node(alloc: Global, tokens: &mut Tokens<'_>) -> Result<NodePart, Stop>
 }
 
 // One more type, behind the bar.
-#[tactic(auto, unfolding(crate::specs::Parsers::kind))]
+#[tactic(auto, unfolding(crate::specs::steps::Parsers::kind))]
 fn kind(tokens: &mut Tokens<'_>) -> Result<Text, Stop>
     ensures { Reads (p.kind tokens.old) result tokens.new }
 {
@@ -106,7 +106,7 @@ fn kind(tokens: &mut Tokens<'_>) -> Result<Text, Stop>
 }
 
 // One or more types, with bars between them.
-#[tactic(auto, unfolding(crate::specs::Parsers::some_kinds))]
+#[tactic(auto, unfolding(crate::specs::steps::Parsers::some_kinds))]
 fn some_kinds(alloc: Global, tokens: &mut Tokens<'_>) -> Result<List<Text>, Stop>
     ensures { Reads (p.some_kinds tokens.old) result tokens.new }
 {
@@ -115,7 +115,7 @@ fn some_kinds(alloc: Global, tokens: &mut Tokens<'_>) -> Result<List<Text>, Stop
 }
 
 // The types of a relationship, if any come next.
-#[tactic(auto, unfolding(crate::specs::Parsers::kinds))]
+#[tactic(auto, unfolding(crate::specs::steps::Parsers::kinds))]
 fn kinds(alloc: Global, tokens: &mut Tokens<'_>) -> Result<List<Text>, Stop>
     ensures { Reads (p.kinds tokens.old) result tokens.new }
 {
@@ -126,7 +126,7 @@ fn kinds(alloc: Global, tokens: &mut Tokens<'_>) -> Result<List<Text>, Stop>
 }
 
 // What stands in the brackets of a relationship, if they come next.
-#[tactic(auto, unfolding(crate::specs::Parsers::detail))]
+#[tactic(auto, unfolding(crate::specs::steps::Parsers::detail))]
 fn detail(alloc: Global, tokens: &mut Tokens<'_>) -> Result<RelDetail, Stop>
     ensures { Reads (p.detail tokens.old) result tokens.new }
 {
@@ -145,7 +145,7 @@ fn detail(alloc: Global, tokens: &mut Tokens<'_>) -> Result<RelDetail, Stop>
 }
 
 // The end of a relationship that has begun with `<`, or with `-`.
-#[tactic(auto, unfolding(crate::specs::Parsers::pointed))]
+#[tactic(auto, unfolding(crate::specs::steps::Parsers::pointed))]
 fn pointed(tokens: &mut Tokens<'_>, left: bool) -> Arrow
     ensures { p.pointed left tokens.old ≡ (r.Done result, tokens.new) }
 {
@@ -159,7 +159,7 @@ fn pointed(tokens: &mut Tokens<'_>, left: bool) -> Arrow
 }
 
 // A relationship, from its detail on.
-#[tactic(auto, unfolding(crate::specs::Parsers::lined))]
+#[tactic(auto, unfolding(crate::specs::steps::Parsers::lined))]
 fn lined(alloc: Global, tokens: &mut Tokens<'_>, tip: Tip) -> Result<RelPart, Stop>
     ensures { Reads (p.lined tip tokens.old) result tokens.new }
 {
@@ -176,7 +176,7 @@ fn lined(alloc: Global, tokens: &mut Tokens<'_>, tip: Tip) -> Result<RelPart, St
 }
 
 // A relationship, behind its first sign.
-#[tactic(auto, unfolding(crate::specs::Parsers::rel_by))]
+#[tactic(auto, unfolding(crate::specs::steps::Parsers::rel_by))]
 fn rel(alloc: Global, tokens: &mut Tokens<'_>, tip: Tip) -> Result<RelPart, Stop>
     ensures { Reads (p.rel tip tokens.old) result tokens.new }
 {
@@ -187,7 +187,7 @@ fn rel(alloc: Global, tokens: &mut Tokens<'_>, tip: Tip) -> Result<RelPart, Stop
 }
 
 // A relationship, behind its first sign, and the node at its right.
-#[tactic(auto, unfolding(crate::specs::Parsers::hop))]
+#[tactic(auto, unfolding(crate::specs::steps::Parsers::hop))]
 fn hop(alloc: Global, tokens: &mut Tokens<'_>, tip: Tip) -> Result<Hop, Stop>
     ensures { Reads (p.hop tip tokens.old) result tokens.new }
 {
@@ -197,7 +197,7 @@ fn hop(alloc: Global, tokens: &mut Tokens<'_>, tip: Tip) -> Result<Hop, Stop>
 }
 
 // Any number of relationships, each with the node at its right.
-#[tactic(auto, unfolding(crate::specs::Parsers::hops))]
+#[tactic(auto, unfolding(crate::specs::steps::Parsers::hops))]
 fn hops(alloc: Global, tokens: &mut Tokens<'_>) -> Result<List<Hop>, Stop>
     ensures { Reads (p.hops tokens.old) result tokens.new }
 {
@@ -205,7 +205,7 @@ fn hops(alloc: Global, tokens: &mut Tokens<'_>) -> Result<List<Hop>, Stop>
 }
 
 /// A path, which has to come next.
-#[tactic(auto, unfolding(crate::specs::Parsers::path))]
+#[tactic(auto, unfolding(crate::specs::steps::Parsers::path))]
 pub(crate) fn path(alloc: Global, tokens: &mut Tokens<'_>) -> Result<Path, Stop>
     ensures { Reads (p.path tokens.old) result tokens.new }
 {

@@ -1,7 +1,7 @@
 //! Statements and their clauses.
 
-ghost use Rattle.gq_syntax.specs.Parsers as p;
-ghost use Rattle.gq_syntax.specs.Parsing.{Reads};
+ghost use Rattle.gq_syntax.specs.steps.Parsers as p;
+ghost use Rattle.gq_syntax.specs.steps.Parsing.{Reads};
 
 use crate::descent::expr;
 use crate::leads::Word;
@@ -22,7 +22,7 @@ pub(crate) struct Columns {
 }
 
 // One or more paths, with commas between them.
-#[tactic(auto, unfolding(crate::specs::Parsers::paths))]
+#[tactic(auto, unfolding(crate::specs::steps::Parsers::paths))]
 fn paths(alloc: Global, tokens: &mut Tokens<'_>) -> Result<List<Path>, Stop>
     ensures { Reads (p.paths tokens.old) result tokens.new }
 {
@@ -30,7 +30,7 @@ fn paths(alloc: Global, tokens: &mut Tokens<'_>) -> Result<List<Path>, Stop>
 }
 
 // A clause, behind its MATCH.
-#[tactic(auto, unfolding(crate::specs::Parsers::clause))]
+#[tactic(auto, unfolding(crate::specs::steps::Parsers::clause))]
 fn clause(alloc: Global, tokens: &mut Tokens<'_>) -> Result<Clause, Stop>
     ensures { Reads (p.clause 64 tokens.old) result tokens.new }
 {
@@ -43,7 +43,7 @@ fn clause(alloc: Global, tokens: &mut Tokens<'_>) -> Result<Clause, Stop>
 }
 
 // One or more clauses.
-#[tactic(auto, unfolding(crate::specs::Parsers::clauses))]
+#[tactic(auto, unfolding(crate::specs::steps::Parsers::clauses))]
 fn clauses(alloc: Global, tokens: &mut Tokens<'_>) -> Result<List<Clause>, Stop>
     ensures { Reads (p.clauses 64 tokens.old) result tokens.new }
 {
@@ -52,7 +52,7 @@ fn clauses(alloc: Global, tokens: &mut Tokens<'_>) -> Result<List<Clause>, Stop>
 }
 
 // One or more clauses, behind the first MATCH.
-#[tactic(auto, unfolding(crate::specs::Parsers::some_clauses))]
+#[tactic(auto, unfolding(crate::specs::steps::Parsers::some_clauses))]
 fn some_clauses(alloc: Global, tokens: &mut Tokens<'_>) -> Result<List<Clause>, Stop>
     ensures { Reads (p.some_clauses 64 tokens.old) result tokens.new }
 {
@@ -67,7 +67,7 @@ fn some_clauses(alloc: Global, tokens: &mut Tokens<'_>) -> Result<List<Clause>, 
 }
 
 // A column.
-#[tactic(auto, unfolding(crate::specs::Parsers::item))]
+#[tactic(auto, unfolding(crate::specs::steps::Parsers::item))]
 fn item(alloc: Global, tokens: &mut Tokens<'_>) -> Result<Item, Stop>
     ensures { Reads (p.item 64 tokens.old) result tokens.new }
 {
@@ -80,7 +80,7 @@ fn item(alloc: Global, tokens: &mut Tokens<'_>) -> Result<Item, Stop>
 }
 
 // One or more columns, with commas between them.
-#[tactic(auto, unfolding(crate::specs::Parsers::some_items))]
+#[tactic(auto, unfolding(crate::specs::steps::Parsers::some_items))]
 fn some_items(alloc: Global, tokens: &mut Tokens<'_>) -> Result<List<Item>, Stop>
     ensures { Reads (p.some_items 64 tokens.old) result tokens.new }
 {
@@ -88,7 +88,7 @@ fn some_items(alloc: Global, tokens: &mut Tokens<'_>) -> Result<List<Item>, Stop
 }
 
 // Any number of columns, each behind a comma.
-#[tactic(auto, unfolding(crate::specs::Parsers::more_items))]
+#[tactic(auto, unfolding(crate::specs::steps::Parsers::more_items))]
 fn more_items(alloc: Global, tokens: &mut Tokens<'_>) -> Result<List<Item>, Stop>
     ensures { Reads (p.more_items 64 tokens.old) result tokens.new }
 {
@@ -96,7 +96,7 @@ fn more_items(alloc: Global, tokens: &mut Tokens<'_>) -> Result<List<Item>, Stop
 }
 
 // The columns behind RETURN and its DISTINCT.
-#[tactic(auto, unfolding(crate::specs::Parsers::items))]
+#[tactic(auto, unfolding(crate::specs::steps::Parsers::items))]
 fn items(alloc: Global, tokens: &mut Tokens<'_>, distinct: bool) -> Result<Columns, Stop>
     ensures { Reads (p.items 64 distinct tokens.old) result tokens.new }
 {
@@ -114,7 +114,7 @@ fn items(alloc: Global, tokens: &mut Tokens<'_>, distinct: bool) -> Result<Colum
 }
 
 // RETURN and its columns.
-#[tactic(auto, unfolding(crate::specs::Parsers::returns))]
+#[tactic(auto, unfolding(crate::specs::steps::Parsers::returns))]
 fn returns(alloc: Global, tokens: &mut Tokens<'_>) -> Result<Columns, Stop>
     ensures { Reads (p.returns 64 tokens.old) result tokens.new }
 {
@@ -124,7 +124,7 @@ fn returns(alloc: Global, tokens: &mut Tokens<'_>) -> Result<Columns, Stop>
 }
 
 // A sort item.
-#[tactic(auto, unfolding(crate::specs::Parsers::sort))]
+#[tactic(auto, unfolding(crate::specs::steps::Parsers::sort))]
 fn sort(alloc: Global, tokens: &mut Tokens<'_>) -> Result<Sort, Stop>
     ensures { Reads (p.sort 64 tokens.old) result tokens.new }
 {
@@ -136,7 +136,7 @@ fn sort(alloc: Global, tokens: &mut Tokens<'_>) -> Result<Sort, Stop>
 }
 
 // One or more sort items, with commas between them.
-#[tactic(auto, unfolding(crate::specs::Parsers::sorts))]
+#[tactic(auto, unfolding(crate::specs::steps::Parsers::sorts))]
 fn sorts(alloc: Global, tokens: &mut Tokens<'_>) -> Result<List<Sort>, Stop>
     ensures { Reads (p.sorts 64 tokens.old) result tokens.new }
 {
@@ -144,7 +144,7 @@ fn sorts(alloc: Global, tokens: &mut Tokens<'_>) -> Result<List<Sort>, Stop>
 }
 
 // The sort items behind ORDER BY, if it comes next.
-#[tactic(auto, unfolding(crate::specs::Parsers::order))]
+#[tactic(auto, unfolding(crate::specs::steps::Parsers::order))]
 fn order(alloc: Global, tokens: &mut Tokens<'_>) -> Result<List<Sort>, Stop>
     ensures { Reads (p.order 64 tokens.old) result tokens.new }
 {
@@ -156,7 +156,7 @@ fn order(alloc: Global, tokens: &mut Tokens<'_>) -> Result<List<Sort>, Stop>
 }
 
 // The number behind this word, if it comes next.
-#[tactic(auto, unfolding(crate::specs::Parsers::count))]
+#[tactic(auto, unfolding(crate::specs::steps::Parsers::count))]
 fn count(tokens: &mut Tokens<'_>, word: &str) -> Result<Option<u64>, Stop>
     ensures { Reads (p.count word.now tokens.old) result tokens.new }
 {
@@ -168,7 +168,7 @@ fn count(tokens: &mut Tokens<'_>, word: &str) -> Result<Option<u64>, Stop>
 }
 
 // A query.
-#[tactic(auto, unfolding(crate::specs::Parsers::query))]
+#[tactic(auto, unfolding(crate::specs::steps::Parsers::query))]
 fn query(alloc: Global, tokens: &mut Tokens<'_>) -> Result<Query, Stop>
     ensures { Reads (p.query 64 tokens.old) result tokens.new }
 {
@@ -193,7 +193,7 @@ fn query(alloc: Global, tokens: &mut Tokens<'_>) -> Result<Query, Stop>
 }
 
 // A command, behind its colon.
-#[tactic(auto, unfolding(crate::specs::Parsers::command))]
+#[tactic(auto, unfolding(crate::specs::steps::Parsers::command))]
 fn command(alloc: Global, tokens: &mut Tokens<'_>) -> Result<Statement, Stop>
     ensures { Reads (p.command 64 tokens.old) result tokens.new }
 {
@@ -208,7 +208,7 @@ fn command(alloc: Global, tokens: &mut Tokens<'_>) -> Result<Statement, Stop>
 }
 
 // A statement, with tokens behind it or none.
-#[tactic(auto, unfolding(crate::specs::Parsers::statement_of))]
+#[tactic(auto, unfolding(crate::specs::steps::Parsers::statement_of))]
 fn statement(alloc: Global, tokens: &mut Tokens<'_>) -> Result<Statement, Stop>
     ensures { Reads (p.statement_of 64 tokens.old) result tokens.new }
 {
@@ -219,7 +219,7 @@ fn statement(alloc: Global, tokens: &mut Tokens<'_>) -> Result<Statement, Stop>
 }
 
 /// A statement, with nothing behind it.
-#[tactic(auto, unfolding(crate::specs::Parsers::whole))]
+#[tactic(auto, unfolding(crate::specs::steps::Parsers::whole))]
 pub(crate) fn whole(alloc: Global, tokens: &mut Tokens<'_>) -> Result<Statement, Stop>
     ensures { Reads (p.whole 64 tokens.old) result tokens.new }
 {

@@ -1,9 +1,9 @@
 //! Repetitions: the loop of the productions that repeat something, written once over what reads an item.
 
 ghost use Rattle.std.specs.Prelude.{◌≡◌, ◌∷◌, IfOk};
-ghost use Rattle.gq_syntax.specs.Parsing.{Reads};
-ghost use Rattle.gq_syntax.specs.Readers as r;
-ghost use Rattle.gq_syntax.specs.Repeats.{Items, Parts};
+ghost use Rattle.gq_syntax.specs.steps.Parsing.{Reads};
+ghost use Rattle.gq_syntax.specs.steps.Readers as r;
+ghost use Rattle.gq_syntax.specs.steps.Repeats.{Items, Parts};
 
 use crate::leads::Lead;
 use crate::tokens::{Stop, Tokens};

@@ -2,8 +2,8 @@
 
 ghost use Rattle.std.specs.Prelude.{◌≡◌, ◌-◌, length, take, if◌then◌else◌};
 ghost use Rattle.std.specs.Option.{is_some};
-ghost use Rattle.gq_syntax.specs.Parsing.{Reads};
-ghost use Rattle.gq_syntax.specs.Readers as r;
+ghost use Rattle.gq_syntax.specs.steps.Parsing.{Reads};
+ghost use Rattle.gq_syntax.specs.steps.Readers as r;
 ghost use Rattle.gq_syntax.specs.Relations.{span_of};
 ghost use Rattle.gq_syntax.specs.Words as w;
 

@@ -15,7 +15,7 @@ use Rattle.gq_base.specs.Plain.{cell_val}
 use Rattle.gq_base.specs.Values.{Val}
 use Rattle.gq_base.specs.declared.cell.Cell.{Cell}
 use Rattle.gq_fields.specs.Fields.{cell_of}
-use Rattle.gq_tables.specs.Batches.{IsEnd, spelled, texts_of}
+use Rattle.gq_tables.specs.steps.Batches.{IsEnd, spelled, texts_of}
 use Rattle.gq_tables.specs.Cells.{and_then}
 use Rattle.gq_tables.specs.Keys.{find_key}
 use Rattle.gq_tables.specs.Rels.{KeyTable, find_end}

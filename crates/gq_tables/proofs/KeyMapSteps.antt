@@ -6,7 +6,7 @@ use Rattle.std.specs.Cmp.Lexicographic.{slice_cmp}
 use Rattle.std.specs.Ordering.{is_eq, nat_cmp}
 use Rattle.std.proofs.lemmas.Map.Text.{btree_map_updates_str, is_eq-slice_cmp}
 use Rattle.gq_base.specs.Values.{Val, flag, int, node, null, rel, str}
-use Rattle.gq_tables.specs.KeyMaps.{row_at}
+use Rattle.gq_tables.specs.steps.KeyMaps.{row_at}
 use Rattle.gq_base.specs.Valid.{same_key}
 use Rattle.gq_tables.specs.declared.key_map.KeyMap.{KeyMap}
 

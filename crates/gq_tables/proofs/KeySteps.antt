@@ -9,12 +9,12 @@ use Rattle.gq_base.specs.Values.{Val, null}
 use Rattle.gq_base.specs.declared.cell.Cell.TheVariants as cell
 use Rattle.gq_base.proofs.ListLaws.{any-snoc}
 use Rattle.gq_tables.specs.Cells.{Cells}
-use Rattle.gq_tables.specs.KeyIndexes.{held, is_held}
-use Rattle.gq_tables.specs.KeyMaps.{with_row}
+use Rattle.gq_tables.specs.steps.KeyIndexes.{held, is_held}
+use Rattle.gq_tables.specs.steps.KeyMaps.{with_row}
 use Rattle.gq_tables.specs.Keys.{find_key, has_key, is_key}
 use Rattle.gq_base.specs.Valid.{key_of}
 use Rattle.gq_tables.specs.Nodes.{is_taken}
-use Rattle.gq_tables.specs.Passes.{add_nodes}
+use Rattle.gq_tables.specs.steps.Passes.{add_nodes}
 use Rattle.gq_tables.specs.declared.key_index.KeyIndex.{KeyIndex}
 use Rattle.gq_tables.specs.declared.refusal.TableRefusal.TheVariants as refusal
 

@@ -6,7 +6,7 @@ use Rattle.std.proofs.lemmas.Bool.Decides.{nat_tests}
 use Rattle.gq_base.specs.declared.catalog.Field.{Field}
 use Rattle.gq_tables.specs.Cells.{Cells, and_then}
 use Rattle.gq_tables.specs.Nodes.{add_node, is_taken, node_of, read_node, take_nodes}
-use Rattle.gq_tables.specs.Passes.{add_nodes, ending}
+use Rattle.gq_tables.specs.steps.Passes.{add_nodes, ending}
 use Rattle.gq_base.specs.Valid.{key_of}
 use Rattle.gq_tables.specs.declared.refusal.TableRefusal.{TableRefusal}
 use Rattle.gq_tables.specs.declared.refusal.TableRefusal.TheVariants as refusal

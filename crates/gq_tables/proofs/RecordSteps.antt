@@ -15,7 +15,7 @@ use Rattle.csv.specs.declared.parser.Action.{Action}
 use Rattle.csv.specs.declared.parser.Action.TheVariants as act
 use Rattle.csv.specs.declared.reader.Reader.{Reader}
 use Rattle.csv.proofs.ReadFacts.{rows-end, rows-more}
-use Rattle.gq_tables.specs.Unread.{IsOpen, bytes_left, records_after, records_left}
+use Rattle.gq_tables.specs.steps.Unread.{IsOpen, bytes_left, records_after, records_left}
 
 -- where a step ends a record, the state after it is between records
 record IsBetween (r : State × Action) : Type 0 where

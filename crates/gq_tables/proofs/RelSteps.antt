@@ -15,12 +15,12 @@ use Rattle.gq_base.specs.declared.cell.Cell.{Cell}
 use Rattle.gq_base.specs.declared.cell.PlainRel.{PlainRel}
 use Rattle.gq_base.proofs.ListLaws.{any-snoc}
 use Rattle.gq_tables.proofs.NodeSteps.{then_ok}
-use Rattle.gq_tables.specs.Batches.{Tells}
+use Rattle.gq_tables.specs.steps.Batches.{Tells}
 use Rattle.gq_tables.specs.Cells.{Cells, and_then, read_cell, read_cells}
 use Rattle.gq_tables.specs.Keys.{has_key}
 use Rattle.gq_tables.specs.Rels.{KeyTable, find_end, has_source, has_target, is_forbidden, read_end, read_rel, rel_of, take_rels}
 use Rattle.gq_base.specs.Valid.{limits_sources, limits_targets}
-use Rattle.gq_tables.specs.Sides.{Marks, is_barred, unmarked, with_mark}
+use Rattle.gq_tables.specs.steps.Sides.{Marks, is_barred, unmarked, with_mark}
 use Rattle.gq_tables.specs.declared.refusal.TableRefusal.{TableRefusal}
 use Rattle.gq_tables.specs.declared.refusal.TableRefusal.TheVariants as refusal
 

@@ -13,7 +13,7 @@ use Rattle.std.proofs.lemmas.Option.{slice_get-get_or, slice_get_past}
 use Rattle.gq_base.specs.Valid.{same_key}
 use Rattle.gq_base.specs.ValueLaws.{same_val}
 use Rattle.gq_base.specs.Values.{Val, val}
-use Rattle.gq_tables.specs.Slots.{IsSpare, has_key, is_open, own_slot, place_of, row_in, row_or, slot_of, window}
+use Rattle.gq_tables.specs.steps.Slots.{IsSpare, has_key, is_open, own_slot, place_of, row_in, row_or, slot_of, window}
 use Rattle.gq_tables.specs.declared.key_index.Entry.{Entry}
 use Rattle.gq_tables.specs.declared.key_index.TheConstants.{WINDOW}
 

@@ -9,9 +9,10 @@ use Rattle.gq_fields.specs.declared.header.FileKind.{FileKind}
 use Rattle.gq_fields.specs.declared.header.FileKind.TheVariants as file
 use Rattle.gq_tables.proofs.Counts.{few_records}
 use Rattle.gq_tables.proofs.HeaderSteps.{few_fields, length-nodes, length-rels}
-use Rattle.gq_tables.specs.Cells.{Cells, IsHead, and_then}
+use Rattle.gq_tables.specs.Cells.{Cells, and_then}
+use Rattle.gq_tables.specs.steps.Cells.{IsHead}
 use Rattle.gq_tables.specs.Nodes.{node_table, take_nodes}
-use Rattle.gq_tables.specs.Passes.{add_nodes, ending}
+use Rattle.gq_tables.specs.steps.Passes.{add_nodes, ending}
 use Rattle.gq_tables.specs.Records.{records_of}
 use Rattle.gq_tables.specs.Rels.{KeyTable, rel_table, take_rels}
 use Rattle.gq_tables.specs.declared.refusal.TableRefusal.{TableRefusal}

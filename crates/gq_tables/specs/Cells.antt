@@ -1,5 +1,5 @@
 -- The header of a file, and the records after it: their form, and the cells that their fields give (this project's profile).
-use Rattle.std.specs.Prelude.{◌≡◌, ℕ, ◌+◌, not, ◌==◌, nat_le, if◌then◌else◌, List, [], ◌∷◌, length, Ok, Err}
+use Rattle.std.specs.Prelude.{ℕ, ◌+◌, not, ◌==◌, nat_le, if◌then◌else◌, List, [], ◌∷◌, length, Ok, Err}
 use Rattle.std.specs.Option.{ok_or}
 use Rattle.std.specs.declared.option.Option.{Option}
 use Rattle.std.specs.declared.result.Result.{Result}
@@ -7,8 +7,7 @@ use Rattle.gq_base.specs.declared.catalog.Field.{Field}
 use Rattle.gq_base.specs.declared.catalog.Kind.{Kind}
 use Rattle.gq_base.specs.declared.cell.Cell.{Cell}
 use Rattle.gq_fields.specs.Fields.{cell_of}
-use Rattle.gq_fields.specs.Headers.{Header, named, bad, header_of, too_many}
-use Rattle.gq_fields.specs.declared.header.FileKind.{FileKind}
+use Rattle.gq_fields.specs.Headers.{Header, named, bad, too_many}
 use Rattle.gq_tables.specs.declared.refusal.TableRefusal.{TableRefusal}
 use Rattle.gq_tables.specs.declared.refusal.TableRefusal.TheVariants as refusal
 
@@ -45,16 +44,3 @@ read_cells number column (field ∷ fields) (text ∷ texts) =
     and_then (read_cells number (column + 1) fields texts) (λ cells.
     Ok (cell ∷ cells)))
 read_cells number column fields texts = Ok []
-
--- ---- the first record
-
--- the properties of the first of these records
-abbrev pub head_of : FileKind → List (List (List ℕ)) → Result (List Field) TableRefusal
-head_of kind [] = Err refusal.BadHeader
-head_of kind (header ∷ records) = under_header (header_of kind header) Ok
-
--- these properties are those of the first of the records, and the others stand behind it
-pub record IsHead (kind : FileKind) (fields : List Field) (records rest : List (List (List ℕ))) : Type 0 where
-  pub header : List (List ℕ)
-  pub is : records ≡ header ∷ rest
-  pub names : header_of kind header ≡ named fields

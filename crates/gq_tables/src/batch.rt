@@ -1,10 +1,12 @@
 //! Records of relationships that are read together, and their ends, which are looked up together.
-ghost use Rattle.std.specs.Prelude.{◌≡◌, ℕ, ◌<◌, ◌≤◌, ◌++◌, All, IfOk, List, Some, length, take, vec_len};
+ghost use Rattle.std.specs.Prelude.{◌≡◌, ℕ, ◌<◌, ◌≤◌, ◌++◌, All, IfOk, List, Some, length, take};
+ghost use Rattle.std.specs.Prelude.{vec_len};
 ghost use Rattle.csv.specs.Records.{field_at, fields_of};
 ghost use Rattle.gq_tables.specs.Answers.{seen_end};
 ghost use Rattle.gq_base.specs.Values.{val};
-ghost use Rattle.gq_tables.specs.Batches.{HasEnds, HasKeys, IsEnd, IsSpelled, row_meant, spelled, texts_of};
-ghost use Rattle.gq_tables.specs.Unread.{IsOpen, records_left};
+ghost use Rattle.gq_tables.specs.steps.Batches.{HasEnds, HasKeys, IsEnd, IsSpelled, row_meant};
+ghost use Rattle.gq_tables.specs.steps.Batches.{spelled, texts_of};
+ghost use Rattle.gq_tables.specs.steps.Unread.{IsOpen, records_left};
 
 use crate::cells::value_of;
 use crate::keys::Keys;
@@ -14,12 +16,14 @@ use csv::{ByteRecord, Reader};
 use gq_base::{Kind, Memory, Value};
 use std::alloc::Global;
 
-/// So many records are read before their ends are looked up. A look-up in an index that fits no cache waits for memory,
-/// and those of several records wait at once where nothing else stands between them. More records than these would
-/// themselves leave the nearest cache before their turn.
+/// So many records are read before their ends are looked up. A look-up in an index that fits no
+/// cache waits for memory, and those of several records wait at once where nothing else stands
+/// between them. More records than these would themselves leave the nearest cache before their
+/// turn.
 pub(crate) const BATCH: usize = 32;
 
-/// The keys at both ends of a relationship table. They are one index where both ends are one node table.
+/// The keys at both ends of a relationship table. They are one index where both ends are one node
+/// table.
 #[derive(Clone, Copy)]
 pub(crate) struct Ends<'k, 'g> {
     pub(crate) sources: &'k Keys<'g>,
@@ -86,7 +90,8 @@ pub(crate) fn fill(reader: &mut Reader<&[u8]>, batch: &mut [PendingRel]) -> Resu
 /// Reads the keys of the ends of each of these records, where they are integers.
 pub(crate) fn read_keys(batch: &mut [PendingRel], ends: &Ends<'_, '_>)
     ensures texts { texts_of batch.new ≡ texts_of batch.old }
-    ensures keys { All (HasKeys ends.now.sources.now.end.kind ends.now.targets.now.end.kind) batch.new }
+    ensures keys { All
+        (HasKeys ends.now.sources.now.end.kind ends.now.targets.now.end.kind) batch.new }
 {
     for pending in batch.iter_mut() {
         pending.source_key = key_at(ends.sources.end.kind, &pending.texts, 0);
@@ -96,7 +101,8 @@ pub(crate) fn read_keys(batch: &mut [PendingRel], ends: &Ends<'_, '_>)
 
 // The key that the text at this place of a record spells, where it is an integer.
 fn key_at(kind: Kind, texts: &ByteRecord, place: usize) -> Option<i64>
-    ensures { (text : List ℕ) → field_at (fields_of texts.now) place ≡ Some text → IsSpelled kind text result }
+    ensures { (text : List ℕ) → field_at (fields_of texts.now) place ≡ Some text
+        → IsSpelled kind text result }
 {
     if kind != Kind::Int {
         return None;
@@ -107,12 +113,14 @@ fn key_at(kind: Kind, texts: &ByteRecord, place: usize) -> Option<i64>
     }
 }
 
-/// Looks up the ends of each of these records, whose integer keys were read, and does nothing else between two look-ups:
-/// the processor then sees several ahead. It takes no memory.
+/// Looks up the ends of each of these records, whose integer keys were read, and does nothing else
+/// between two look-ups: the processor then sees several ahead. It takes no memory.
 pub(crate) fn find_ends(batch: &mut [PendingRel], ends: &Ends<'_, '_>)
-    requires keys { All (HasKeys ends.now.sources.now.end.kind ends.now.targets.now.end.kind) batch.old }
+    requires keys { All
+        (HasKeys ends.now.sources.now.end.kind ends.now.targets.now.end.kind) batch.old }
     ensures texts { texts_of batch.new ≡ texts_of batch.old }
-    ensures found { All (HasEnds (seen_end ends.now.sources.now.end) (seen_end ends.now.targets.now.end)) batch.new }
+    ensures found { All (HasEnds (seen_end ends.now.sources.now.end)
+        (seen_end ends.now.targets.now.end)) batch.new }
 {
     for pending in batch.iter_mut() {
         pending.source = end_by(ends.sources, pending.source_key, &pending.texts, 0);
@@ -122,8 +130,10 @@ pub(crate) fn find_ends(batch: &mut [PendingRel], ends: &Ends<'_, '_>)
 
 // The end at this place of a record, by its key where that was read.
 fn end_by(keys: &Keys<'_>, key: Option<i64>, texts: &ByteRecord, place: usize) -> FoundEnd
-    requires { (text : List ℕ) → field_at (fields_of texts.now) place ≡ Some text → IsSpelled keys.now.end.kind text key }
-    ensures { (text : List ℕ) → field_at (fields_of texts.now) place ≡ Some text → IsEnd (seen_end keys.now.end) text result }
+    requires { (text : List ℕ) → field_at (fields_of texts.now) place ≡ Some text
+        → IsSpelled keys.now.end.kind text key }
+    ensures { (text : List ℕ) → field_at (fields_of texts.now) place ≡ Some text
+        → IsEnd (seen_end keys.now.end) text result }
 {
     match key {
         Some(key) => end_of(keys, &Value::Int(key)),
@@ -131,9 +141,11 @@ fn end_by(keys: &Keys<'_>, key: Option<i64>, texts: &ByteRecord, place: usize) -
     }
 }
 
-// The end at this place of a record. A record without a text there has no end, and is refused before it is asked for.
+// The end at this place of a record. A record without a text there has no end, and is refused
+// before it is asked for.
 fn end_at(keys: &Keys<'_>, texts: &ByteRecord, place: usize) -> FoundEnd
-    ensures { (text : List ℕ) → field_at (fields_of texts.now) place ≡ Some text → IsEnd (seen_end keys.now.end) text result }
+    ensures { (text : List ℕ) → field_at (fields_of texts.now) place ≡ Some text
+        → IsEnd (seen_end keys.now.end) text result }
 {
     match texts.get(place) {
         Some(text) => find_end(keys, text),
@@ -153,7 +165,8 @@ fn find_end(keys: &Keys<'_>, text: &[u8]) -> FoundEnd
 
 // The end that a text gives which spells this key.
 fn end_of(keys: &Keys<'_>, key: &Value<'_>) -> FoundEnd
-    ensures { (text : List ℕ) → spelled keys.now.end.kind text ≡ Some (val key.now) → IsEnd (seen_end keys.now.end) text result }
+    ensures { (text : List ℕ) → spelled keys.now.end.kind text ≡ Some (val key.now)
+        → IsEnd (seen_end keys.now.end) text result }
 {
     match keys.find(key) {
         Some(row) => FoundEnd::Row(row),

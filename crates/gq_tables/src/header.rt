@@ -1,10 +1,11 @@
 //! The header of a file, which is its first record.
 ghost use Rattle.std.specs.Prelude.{◌≡◌, IfOk};
 ghost use Rattle.csv.specs.Records.{fields_of};
-ghost use Rattle.gq_fields.specs.Headers.{Answers as AnswersHeader, header_of};
+ghost use Rattle.gq_fields.specs.Headers.{header_of};
 ghost use Rattle.gq_tables.specs.Answers.{Answers};
-ghost use Rattle.gq_tables.specs.Cells.{IsHead, head_of, under_header};
-ghost use Rattle.gq_tables.specs.Unread.{IsOpen, records_left};
+ghost use Rattle.gq_tables.specs.Cells.{under_header};
+ghost use Rattle.gq_tables.specs.steps.Cells.{IsHead, head_of};
+ghost use Rattle.gq_tables.specs.steps.Unread.{IsOpen, records_left};
 ghost use Rattle.std.specs.Prelude.{Ok};
 
 use crate::records::read_next;

@@ -1,10 +1,11 @@
 //! Rows of a node table by their keys, so that a look-up seldom waits for memory more than once.
-ghost use Rattle.std.specs.Prelude.{◌≡◌, ◌<◌, ◌≤◌, ◌^◌, None, Some, length, cond, position, IfOk, IfSome};
+ghost use Rattle.std.specs.Prelude.{◌≡◌, ◌<◌, ◌≤◌, ◌^◌, None, Some, length, cond, position, IfOk};
+ghost use Rattle.std.specs.Prelude.{IfSome};
 ghost use Rattle.gq_base.specs.Plain.{cell_val};
 ghost use Rattle.gq_base.specs.Valid.{same_key};
 ghost use Rattle.gq_base.specs.Values.{Val, val};
-ghost use Rattle.gq_tables.specs.KeyMaps.{row_at};
-ghost use Rattle.gq_tables.specs.Slots.{IsSpare, is_open, place_of, row_in};
+ghost use Rattle.gq_tables.specs.steps.KeyMaps.{row_at};
+ghost use Rattle.gq_tables.specs.steps.Slots.{IsSpare, is_open, place_of, row_in};
 ghost use Rattle.gq_tables.specs.declared.key_index.TheConstants.{WINDOW};
 
 use crate::key_map::KeyMap;
@@ -12,11 +13,13 @@ use crate::slots::slot_of;
 use gq_base::{Cell, Memory, Value};
 use std::alloc::Global;
 
-// So many slots for each row. With fewer more keys stand in the ordered map, and with more the slots fill more memory.
+// So many slots for each row. With fewer more keys stand in the ordered map, and with more the
+// slots fill more memory.
 const SLOTS_PER_ROW: usize = 4;
 
-// A key may stand in so many slots that follow one another. Of keys that nobody chose fewer than one in a thousand finds
-// other keys in all of them, and keys that somebody chose make no look-up go through more.
+// A key may stand in so many slots that follow one another. Of keys that nobody chose fewer than
+// one in a thousand finds other keys in all of them, and keys that somebody chose make no look-up
+// go through more.
 const WINDOW: usize = 8;
 
 // A key, and the row that stands at it.
@@ -26,9 +29,10 @@ struct Entry<'k> {
     row: u32,
 }
 
-/// A row at each of some keys. A key stands in its window, the few slots from its own on: in the first of them that had
-/// no other key when it came, or, where other keys had them all, in an ordered map. No key is ever removed, so a free slot
-/// ends a search, and whoever chose the keys, a look-up takes `WINDOW` + log n steps at most.
+/// A row at each of some keys. A key stands in its window, the few slots from its own on: in the
+/// first of them that had no other key when it came, or, where other keys had them all, in an
+/// ordered map. No key is ever removed, so a free slot ends a search, and whoever chose the keys, a
+/// look-up takes `WINDOW` + log n steps at most.
 #[derive(Drop)]
 pub(crate) struct KeyIndex<'k> {
     slots: Vec<Option<Entry<'k>>>,
@@ -38,7 +42,7 @@ pub(crate) struct KeyIndex<'k> {
 }
 
 impl<'k> KeyIndex<'k> {
-    ghost use Rattle.gq_tables.specs.KeyIndexes.{held};
+    ghost use Rattle.gq_tables.specs.steps.KeyIndexes.{held};
 
     /// The index without keys, which has slots for so many rows.
     pub(crate) fn new(alloc: Global, rows: usize) -> Result<KeyIndex<'k>, Memory>
@@ -54,7 +58,8 @@ impl<'k> KeyIndex<'k> {
     pub(crate) fn insert(&mut self, key: &'k Cell, row: u32) -> Result<Option<u32>, Memory>
         ensures before { IfOk result (λ before. before ≡ held self.old (cell_val (Some key.now))) }
         ensures put { IfOk result (λ before. (v : Val) →
-            held self.new v ≡ cond (same_key (cell_val (Some key.now)) v) (Some row) (held self.old v)) }
+            held self.new v
+            ≡ cond (same_key (cell_val (Some key.now)) v) (Some row) (held self.old v)) }
     {
         let value = key.value();
         let Some(place) = place_of(self.slots.as_slice(), &value) else {

@@ -1,9 +1,9 @@
-//! Rows by their keys. Each kind of key has a map of its own, so that a key is compared as what it is, and a text that
-//! is looked up need not live as long as those in the map.
+//! Rows by their keys. Each kind of key has a map of its own, so that a key is compared as what it
+//! is, and a text that is looked up need not live as long as those in the map.
 ghost use Rattle.std.specs.Prelude.{◌≡◌, cond, None, Some, IfOk, OnErr};
 ghost use Rattle.gq_base.specs.Plain.{cell_val};
 ghost use Rattle.gq_base.specs.Values.{Val, val};
-ghost use Rattle.gq_tables.specs.KeyMaps.{row_at};
+ghost use Rattle.gq_tables.specs.steps.KeyMaps.{row_at};
 ghost use Rattle.gq_base.specs.Valid.{same_key};
 
 use gq_base::{Cell, Memory, Value};
@@ -32,9 +32,11 @@ impl<'k> KeyMap<'k> {
 
     /// Puts a row at a key, and answers which row was there before.
     pub(crate) fn insert(&mut self, key: &'k Cell, row: u32) -> Result<Option<u32>, Memory>
-        ensures before { IfOk result (λ before. before ≡ row_at self.old (cell_val (Some key.now))) }
+        ensures before { IfOk result (λ before.
+            before ≡ row_at self.old (cell_val (Some key.now))) }
         ensures put { IfOk result (λ before. (v : Val) →
-            row_at self.new v ≡ cond (same_key (cell_val (Some key.now)) v) (Some row) (row_at self.old v)) }
+            row_at self.new v
+            ≡ cond (same_key (cell_val (Some key.now)) v) (Some row) (row_at self.old v)) }
         ensures err { OnErr result ((v : Val) → row_at self.new v ≡ row_at self.old v) }
     {
         match key {

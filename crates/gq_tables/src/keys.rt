@@ -2,9 +2,9 @@
 ghost use Rattle.std.specs.Prelude.{◌≡◌, ◌<◌, ◌^◌, length, option_map, IfOk, None, Some};
 ghost use Rattle.gq_base.specs.Plain.{cell_val};
 ghost use Rattle.gq_base.specs.Values.{Val, null, val};
-ghost use Rattle.gq_tables.specs.Indexes.{found};
-ghost use Rattle.gq_tables.specs.KeyIndexes.{held, is_held};
-ghost use Rattle.gq_tables.specs.KeyMaps.{with_row};
+ghost use Rattle.gq_tables.specs.steps.Indexes.{found};
+ghost use Rattle.gq_tables.specs.steps.KeyIndexes.{held, is_held};
+ghost use Rattle.gq_tables.specs.steps.KeyMaps.{with_row};
 ghost use Rattle.gq_tables.specs.Keys.{find_key};
 ghost use Rattle.gq_base.specs.Valid.{key_of};
 

@@ -1,12 +1,12 @@
-//! Rows of a node table by integer keys that lie near one another: a place of 4 bytes for each number, so that a look-up
-//! compares no keys and the places of many rows fit a cache.
+//! Rows of a node table by integer keys that lie near one another: a place of 4 bytes for each
+//! number, so that a look-up compares no keys and the places of many rows fit a cache.
 ghost use Rattle.std.specs.Prelude.{◌≡◌, ◌+◌, ◌<◌, ◌^◌, None, Some, length, IfOk, IfSome};
 ghost use Rattle.std.specs.Bool.{OnTrue};
 ghost use Rattle.gq_base.specs.Valid.{key_of};
 ghost use Rattle.gq_base.specs.Values.{Val, int, val};
-ghost use Rattle.gq_tables.specs.KeyMaps.{with_row};
+ghost use Rattle.gq_tables.specs.steps.KeyMaps.{with_row};
 ghost use Rattle.gq_tables.specs.Keys.{find_key};
-ghost use Rattle.gq_tables.specs.NearKeys.{near, place_of};
+ghost use Rattle.gq_tables.specs.steps.NearKeys.{near, place_of};
 
 use gq_base::{Cell, Memory, Row, Value};
 use std::alloc::Global;
@@ -25,10 +25,12 @@ pub(crate) struct NearKeys {
 }
 
 impl NearKeys {
-    /// The first row with each key, or `None` where some row has no integer as its key, or the keys lie far apart.
+    /// The first row with each key, or `None` where some row has no integer as its key, or the keys
+    /// lie far apart.
     pub(crate) fn new(alloc: Global, rows: &[Row]) -> Result<Option<NearKeys>, Memory>
         requires { length rows.now < 2 ^ 32 }
-        ensures { IfOk result (λ made. IfSome made (λ index. (v : Val) → near index v ≡ find_key rows.now v)) }
+        ensures { IfOk result (λ made.
+            IfSome made (λ index. (v : Val) → near index v ≡ find_key rows.now v)) }
     {
         let Some((low, high)) = bounds_of(rows) else {
             return Ok(None);
@@ -41,8 +43,8 @@ impl NearKeys {
         Ok(NearKeys { low, rows: places }.with_rows(rows))
     }
 
-    // The empty index with these rows, or `None` where some key has no place. From the last row on, so that the first of
-    // the rows with one key is the one that stays.
+    // The empty index with these rows, or `None` where some key has no place. From the last row on,
+    // so that the first of the rows with one key is the one that stays.
     fn with_rows(mut self, rows: &[Row]) -> Option<NearKeys>
         requires few { length rows.now < 2 ^ 32 }
         requires empty { (v : Val) → near self v ≡ None }
@@ -61,7 +63,8 @@ impl NearKeys {
     // Puts a row at its key, or answers false where the key has no place.
     fn put(&mut self, row: &Row, number: u32) -> bool
         requires { number + 1 < 2 ^ 32 }
-        ensures { OnTrue result ((v : Val) → near self.new v ≡ with_row (key_of row.now) number v (near self.old v)) }
+        ensures { OnTrue result
+            ((v : Val) → near self.new v ≡ with_row (key_of row.now) number v (near self.old v)) }
     {
         let Some(place) = int_key(row).and_then(|key| place_of(self.low, key)) else {
             return false;

@@ -4,9 +4,9 @@ ghost use Rattle.csv.specs.Records.{fields_of};
 ghost use Rattle.gq_tables.specs.Answers.{Answers};
 ghost use Rattle.gq_tables.specs.Cells.{and_then};
 ghost use Rattle.gq_tables.specs.Nodes.{node_of, node_table_of, read_key, read_node, take_nodes};
-ghost use Rattle.gq_tables.specs.Passes.{add_nodes, ending};
+ghost use Rattle.gq_tables.specs.steps.Passes.{add_nodes, ending};
 ghost use Rattle.gq_tables.specs.Tables.{IsNodeTable};
-ghost use Rattle.gq_tables.specs.Unread.{IsOpen, records_left};
+ghost use Rattle.gq_tables.specs.steps.Unread.{IsOpen, records_left};
 
 use crate::cells::{read_cell, read_cells};
 use crate::header::read_head;

@@ -3,7 +3,7 @@ ghost use Rattle.std.specs.Prelude.{◌≡◌, [], ◌∷◌, IfOk};
 ghost use Rattle.std.specs.Bool.{MatchBool, OnTrue};
 ghost use Rattle.csv.specs.Records.{fields_of};
 ghost use Rattle.gq_tables.specs.Records.{records_of};
-ghost use Rattle.gq_tables.specs.Unread.{IsOpen, records_left};
+ghost use Rattle.gq_tables.specs.steps.Unread.{IsOpen, records_left};
 
 use csv::{ByteRecord, Reader, ReaderBuilder};
 use gq_base::Memory;

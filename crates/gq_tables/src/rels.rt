@@ -3,11 +3,11 @@ ghost use Rattle.std.specs.Prelude.{◌≡◌, ℕ, ◌+◌, ◌<◌, ◌≤◌,
 ghost use Rattle.std.specs.Prelude.{All, IfErr, IfOk, OnOk};
 ghost use Rattle.csv.specs.Records.{fields_of};
 ghost use Rattle.gq_tables.specs.Answers.{Answers, Refuses, seen_end};
-ghost use Rattle.gq_tables.specs.Batches.{AreMarked, HasEnds, rel_by, rels_by, sources_of};
-ghost use Rattle.gq_tables.specs.Batches.{targets_of, texts_of};
+ghost use Rattle.gq_tables.specs.steps.Batches.{AreMarked, HasEnds, rel_by, rels_by, sources_of};
+ghost use Rattle.gq_tables.specs.steps.Batches.{targets_of, texts_of};
 ghost use Rattle.gq_tables.specs.Rels.{rel_of, rel_table_of};
 ghost use Rattle.gq_tables.specs.Tables.{IsRelTable};
-ghost use Rattle.gq_tables.specs.Unread.{IsOpen, records_left};
+ghost use Rattle.gq_tables.specs.steps.Unread.{IsOpen, records_left};
 
 use crate::batch::{Ends, PendingRel, fill, find_ends, new_batch, read_keys};
 use crate::cells::read_cells;

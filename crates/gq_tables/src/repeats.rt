@@ -1,7 +1,7 @@
 //! Keys that stand in two rows.
 ghost use Rattle.std.specs.Prelude.{◌≡◌, ◌+◌, ◌<◌, ◌≤◌, ◌^◌, [], length, IfOk, IfSome};
 ghost use Rattle.gq_tables.specs.Answers.{Answers};
-ghost use Rattle.gq_tables.specs.Passes.{add_nodes, up_to_repeat};
+ghost use Rattle.gq_tables.specs.steps.Passes.{add_nodes, up_to_repeat};
 
 use crate::key_index::KeyIndex;
 use crate::keys::put_row;

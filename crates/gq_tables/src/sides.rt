@@ -2,7 +2,7 @@
 ghost use Rattle.std.specs.Prelude.{◌≡◌, ◌<◌, ◌||◌, true, not, length, IfOk};
 ghost use Rattle.std.specs.Bool.{OnTrue};
 ghost use Rattle.gq_base.specs.Valid.{limits_sources, limits_targets};
-ghost use Rattle.gq_tables.specs.Sides.{is_barred, unmarked, with_mark};
+ghost use Rattle.gq_tables.specs.steps.Sides.{is_barred, unmarked, with_mark};
 
 use gq_base::{Memory, Mult, PlainRel};
 use std::alloc::Global;
@@ -15,7 +15,8 @@ pub(crate) struct Sides {
     pub(crate) targets: Side,
 }
 
-/// One side: whether a vertex may have but one relationship, and if so a mark for each vertex that has it.
+/// One side: whether a vertex may have but one relationship, and if so a mark for each vertex that
+/// has it.
 #[derive(Drop)]
 pub(crate) struct Side {
     is_single: bool,
@@ -23,7 +24,7 @@ pub(crate) struct Side {
 }
 
 impl Model for Side {
-    ghost use Rattle.gq_tables.specs.Sides.{Marks};
+    ghost use Rattle.gq_tables.specs.steps.Sides.{Marks};
 
     ghost Value = { Marks };
 
@@ -31,15 +32,18 @@ impl Model for Side {
 }
 
 impl Sides {
-    /// The sides of a table that has no relationships yet, between so many sources and so many targets.
+    /// The sides of a table that has no relationships yet, between so many sources and so many
+    /// targets.
     pub(crate) fn new(
         alloc: Global,
         mult: Mult,
         sources: usize,
         targets: usize,
     ) -> Result<Sides, Memory>
-        ensures sources { IfOk result (λ sides. sides.sources ≡ unmarked (limits_sources mult) sources) }
-        ensures targets { IfOk result (λ sides. sides.targets ≡ unmarked (limits_targets mult) targets) }
+        ensures sources { IfOk result (λ sides.
+            sides.sources ≡ unmarked (limits_sources mult) sources) }
+        ensures targets { IfOk result (λ sides.
+            sides.targets ≡ unmarked (limits_targets mult) targets) }
     {
         Ok(Sides {
             sources: Side::new(alloc, limits_sources(mult), sources)?,
@@ -47,13 +51,19 @@ impl Sides {
         })
     }
 
-    /// Marks the ends of one more relationship, or answers false where one of them may have no more.
+    /// Marks the ends of one more relationship, or answers false where one of them may have no
+    /// more.
     pub(crate) fn take(&mut self, rel: &PlainRel) -> bool
-        requires source_in { self.old.sources.is_single ≡ true → rel.now.source < length self.old.sources.marks }
-        requires target_in { self.old.targets.is_single ≡ true → rel.now.target < length self.old.targets.marks }
-        ensures free { result ≡ not (is_barred self.old.sources rel.now.source || is_barred self.old.targets rel.now.target) }
-        ensures sources { OnTrue result (self.new.sources ≡ with_mark self.old.sources rel.now.source) }
-        ensures targets { OnTrue result (self.new.targets ≡ with_mark self.old.targets rel.now.target) }
+        requires source_in { self.old.sources.is_single ≡ true
+            → rel.now.source < length self.old.sources.marks }
+        requires target_in { self.old.targets.is_single ≡ true
+            → rel.now.target < length self.old.targets.marks }
+        ensures free { result ≡ not (is_barred self.old.sources rel.now.source
+            || is_barred self.old.targets rel.now.target) }
+        ensures sources { OnTrue result
+            (self.new.sources ≡ with_mark self.old.sources rel.now.source) }
+        ensures targets { OnTrue result
+            (self.new.targets ≡ with_mark self.old.targets rel.now.target) }
     {
         if self.sources.is_barred(rel.source) || self.targets.is_barred(rel.target) {
             return false;

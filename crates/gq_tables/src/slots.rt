@@ -1,7 +1,7 @@
 //! The slot of a key, which depends on the key alone.
 ghost use Rattle.std.specs.Prelude.{◌≡◌, ◌<◌};
 ghost use Rattle.gq_base.specs.Values.{val};
-ghost use Rattle.gq_tables.specs.Slots.{hash_of, hash_text, slot_of};
+ghost use Rattle.gq_tables.specs.steps.Slots.{hash_of, hash_text, slot_of};
 
 use gq_base::Value;
 

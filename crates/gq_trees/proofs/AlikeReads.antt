@@ -10,7 +10,7 @@ use Rattle.gq_plan.specs.Reads.{Read, reads}
 use Rattle.gq_plan.proofs.Each.{each_append}
 use Rattle.gq_trees.proofs.ReadEquations.{reads_Literal, reads_TypeName, reads_Coalesce}
 use Rattle.gq_scopes.specs.Patterns.{Name}
-use Rattle.gq_scopes.specs.Variables.{IsThere}
+use Rattle.gq_scopes.specs.steps.Variables.{IsThere}
 use Rattle.gq_trees.specs.Resolving.{functions, as_lists, is_function, type_call, coalesce_call, and_then, all_some, over_known}
 
 -- reads of variables that there are, of so many of nodes and so many of relationships

@@ -23,7 +23,7 @@ use Rattle.gq_expr.specs.declared.Tester.TheVariants as tester
 use Rattle.gq_trees.proofs.Resolved.{tests_of}
 use Rattle.gq_trees.proofs.Splits.{split_whole}
 use Rattle.gq_scopes.specs.Patterns.{Name, is_called, find_name}
-use Rattle.gq_scopes.specs.Variables.{IsThere}
+use Rattle.gq_scopes.specs.steps.Variables.{IsThere}
 use Rattle.gq_trees.specs.Resolving.{Calls, Conjunct, Split, functions, as_lists, all_some, bound_term, bound_tester, resolve_step, resolved, split, split_node, split_step}
 use Rattle.gq_scopes.specs.Scopes.{Scope, bare, either_property, either_variable, variable}
 

@@ -10,7 +10,7 @@ use Rattle.gq_base.specs.declared.ArithOp.{ArithOp}
 use Rattle.gq_base.specs.declared.CompareOp.{CompareOp}
 use Rattle.gq_base.specs.declared.Literal.{Literal as Spelled}
 use Rattle.gq_expr.proofs.Testers.{testers_map}
-use Rattle.gq_expr.specs.Parts.{bound_with, tester_with}
+use Rattle.gq_expr.specs.steps.Parts.{bound_with, tester_with}
 use Rattle.gq_expr.specs.declared.Bound.{Bound}
 use Rattle.gq_expr.specs.declared.Expr.{Expr, Expr-F, out-Expr, map-Expr, fold_out-Expr}
 use Rattle.gq_expr.specs.declared.Expr.TheVariants.{Literal, Node, Rel, NodeProperty, RelProperty, TypeName, Coalesce, Negate, Plus, Not, Or, Xor, And, Compare, Test, Arith, outs-Literal, outs-Node, outs-Rel, outs-NodeProperty, outs-RelProperty, outs-TypeName, outs-Coalesce, outs-Negate, outs-Plus, outs-Not, outs-Or, outs-Xor, outs-And, outs-Compare, outs-Test, outs-Arith}

@@ -9,7 +9,7 @@ use Rattle.gq_syntax.specs.declared.AstNode.TheVariants as ast
 use Rattle.gq_syntax.specs.declared.Tester.{Tester as Tested}
 use Rattle.gq_syntax.specs.declared.Tester.TheVariants as tested
 use Rattle.gq_trees.specs.Resolving.{Calls, resolved, resolve_step}
-use Rattle.gq_trees.specs.Trees.{term_with, tester_with}
+use Rattle.gq_trees.specs.steps.Trees.{term_with, tester_with}
 use Rattle.gq_scopes.specs.Scopes.{Scope}
 
 abbrev pub tests_of : {A : Type 0} → AstNode A → List (Tested A)

@@ -11,7 +11,8 @@ use Rattle.gq_syntax.specs.declared.Ast.{Ast, Ast-F, out-Ast, roll-Ast, map-Ast,
 use Rattle.gq_syntax.specs.declared.expression.Ast.TheShapes.{former-Ast-node as parts}
 use Rattle.gq_syntax.specs.declared.AstNode.{AstNode}
 use Rattle.gq_syntax.specs.declared.AstNode.TheVariants as ast
-use Rattle.gq_trees.specs.Conjuncts.{conjunct_expr, conjuncts_in, listed_behind, whole_conjunct}
+use Rattle.gq_trees.specs.Conjuncts.{conjunct_expr}
+use Rattle.gq_trees.specs.steps.Conjuncts.{conjuncts_in, listed_behind, whole_conjunct}
 use Rattle.gq_trees.specs.Resolving.{Calls, Conjunct, Split, functions, resolved, resolve_step, split, split_node, split_step, all_some}
 use Rattle.gq_scopes.specs.Scopes.{Scope}
 

@@ -4,7 +4,8 @@ use Rattle.std.proofs.lemmas.List.{length-map}
 use Rattle.gq_syntax.specs.declared.Ast.{Ast, out-Ast, fold_out-Ast}
 use Rattle.gq_trees.proofs.Resolved.{answered, opens}
 use Rattle.gq_scopes.specs.Patterns.{Name}
-use Rattle.gq_trees.specs.Uses.{Use, uses, uses_step, all_uses, or_else, first_name, first_of}
+use Rattle.gq_trees.specs.Uses.{Use, uses, uses_step, all_uses, or_else, first_name}
+use Rattle.gq_trees.specs.steps.Uses.{first_of}
 
 pub uses_out : (t : Ast) → uses t ≡ uses_step (answered uses (out-Ast t).node)
 unfolding uses

@@ -8,7 +8,7 @@ use Rattle.std.specs.Option.{option_map, option_and_then}
 use Rattle.std.specs.List.{list_any, list_all}
 use Rattle.std.specs.Cmp.Lexicographic.{pointwise}
 use Rattle.std.proofs.lemmas.List.{drop_more, drop_all}
-use Rattle.gq_expr.specs.Parts.{bound_with}
+use Rattle.gq_expr.specs.steps.Parts.{bound_with}
 use Rattle.gq_expr.specs.declared.Bound.{Bound}
 use Rattle.gq_expr.specs.declared.Expr.{Expr, Expr-F, out-Expr, map-Expr, fold-Expr, fold_out-Expr}
 use Rattle.gq_expr.specs.declared.expr.Expr.TheShapes.{former-Expr-Test-1}

@@ -4,5 +4,5 @@ pub mod MadeOf
 pub mod Operands
 pub mod Renames
 pub mod Resolving
-pub mod Trees
 pub mod Uses
+pub mod steps

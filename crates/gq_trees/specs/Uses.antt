@@ -61,11 +61,6 @@ abbrev pub first_name : (Use → Option Name) → List Use → Option Name
 first_name check [] = None
 first_name check (u ∷ us) = or_else (check u) (first_name check us)
 
--- the same of several lists, one after another
-abbrev pub first_of : (Use → Option Name) → List (List Use) → Option Name
-first_of check [] = None
-first_of check (us ∷ uss) = or_else (first_name check us) (first_of check uss)
-
 abbrev pub refused_unless : Bool → Name → Option Name
 refused_unless true name = None
 refused_unless false name = Some name

@@ -1,8 +1,9 @@
 //! The conjuncts of a condition.
 ghost use Rattle.std.specs.Prelude.{◌≡◌, ◌∷◌, [], map, All, IfOk};
-ghost use Rattle.gq_trees.specs.Conjuncts.{conjunct_expr, conjuncts_in, listed_behind, whole_conjunct};
+ghost use Rattle.gq_trees.specs.Conjuncts.{conjunct_expr};
+ghost use Rattle.gq_trees.specs.steps.Conjuncts.{conjuncts_in, listed_behind, whole_conjunct};
 ghost use Rattle.gq_trees.specs.Resolving as resolving;
-ghost use Rattle.gq_trees.specs.Resolving.{resolved, split, all_some};
+ghost use Rattle.gq_trees.specs.Resolving.{split, all_some};
 ghost use Rattle.gq_lexer.specs.Sources.{IsWhole};
 ghost use Rattle.gq_syntax.specs.Spans.{IsWholeTree};
 ghost use Rattle.gq_syntax.specs.declared.Ast.{out-Ast};

@@ -1,7 +1,7 @@
 //! From trees of expressions to bound expressions.
 ghost use Rattle.std.specs.Prelude.{◌≡◌, map, IfOk};
 ghost use Rattle.gq_trees.specs.Resolving.{resolved, all_some, bound_term, bound_tester, calls_of};
-ghost use Rattle.gq_trees.specs.Trees.{term_with, tester_with};
+ghost use Rattle.gq_trees.specs.steps.Trees.{term_with, tester_with};
 
 use crate::calls::{CallForm, call};
 use gq_base::{Boxed, List, Memory};

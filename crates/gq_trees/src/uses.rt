@@ -2,9 +2,11 @@
 ghost use Rattle.std.specs.Prelude.{◌≡◌, true, false, map};
 ghost use Rattle.std.specs.Option.{option_copied};
 ghost use Rattle.gq_trees.specs.Checks.{check_of};
-ghost use Rattle.gq_trees.specs.Trees.{term_with, tester_with};
+ghost use Rattle.gq_trees.specs.steps.Trees.{term_with, tester_with};
 ghost use Rattle.gq_trees.specs.Uses as uses;
-ghost use Rattle.gq_trees.specs.Uses.{first_name, first_of, term_uses, tester_uses, bare, owner, refused_unless, takes, is_some_function};
+ghost use Rattle.gq_trees.specs.Uses.{first_name, term_uses, tester_uses, bare, owner};
+ghost use Rattle.gq_trees.specs.Uses.{refused_unless, takes, is_some_function};
+ghost use Rattle.gq_trees.specs.steps.Uses.{first_of};
 
 use crate::renames::Renamed;
 use gq_base::Text;

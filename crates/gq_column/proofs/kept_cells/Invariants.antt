@@ -1,5 +1,5 @@
 use Rattle.std.proofs.Common.{◌≡◌, ◌++◌, drop}
-use Rattle.gq_column.specs.Cells.{kept_of}
+use Rattle.gq_column.specs.steps.Cells.{kept_of}
 use Rattle.gq_column.proofs.kept_cells.Given as goal
 
 abbrev pub invariant-loop-cell : goal.invariant-loop-cell

@@ -1,6 +1,7 @@
 use Rattle.std.proofs.Common.{◌++◌, suc, [], List, Some, None, map, take, ap, sym, ◌∙◌}
 use Rattle.gq_alternatives.specs.Alternatives.{Choice}
-use Rattle.gq_alternatives.specs.Searching.{Found, at_most, searched}
+use Rattle.gq_alternatives.specs.Searching.{at_most}
+use Rattle.gq_alternatives.specs.steps.Searching.{Found, searched}
 use Rattle.gq_alternatives.proofs.Limits.{at_most_none, at_most_taken}
 use Rattle.gq_alternatives.proofs.Searches.{none_of_readings, none_of_tables, search_finds}
 use Rattle.gq_alternatives.proofs.alternatives.choices_among.Goals as goal

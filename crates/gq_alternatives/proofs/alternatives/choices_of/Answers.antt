@@ -2,7 +2,8 @@ use Rattle.std.proofs.Common.{◌≡◌, ℕ, List, Some, IfOk, true, false, nat
 use Rattle.std.specs.List.{list_all}
 use Rattle.gq_base.specs.Catalogs.{Tables}
 use Rattle.gq_alternatives.specs.Alternatives.{pattern_alternatives}
-use Rattle.gq_alternatives.specs.Searching.{at_most, agreeing, steps_of, tables_of}
+use Rattle.gq_alternatives.specs.Searching.{at_most}
+use Rattle.gq_alternatives.specs.steps.Searching.{agreeing, steps_of, tables_of}
 use Rattle.gq_alternatives.proofs.Limits.{at_most_none}
 use Rattle.gq_alternatives.proofs.Searches.{none_outside, candidates_agree}
 use Rattle.gq_alternatives.proofs.alternatives.choices_of.Goals as goal

@@ -1,5 +1,5 @@
 use Rattle.std.proofs.Common.{◌≡◌}
-use Rattle.gq_alternatives.specs.Searching.{agreeing}
+use Rattle.gq_alternatives.specs.steps.Searching.{agreeing}
 use Rattle.gq_alternatives.proofs.narrowing.narrowed.Given as goal
 
 abbrev pub invariant-loop : goal.invariant-loop

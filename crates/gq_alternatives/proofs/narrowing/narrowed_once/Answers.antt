@@ -1,6 +1,6 @@
 use Rattle.std.proofs.Common.{ℕ, List, map, ap, ap₂, ◌∙◌}
 use Rattle.gq_base.specs.Catalogs.{Tables}
-use Rattle.gq_alternatives.specs.Searching.{Step, agreeing, kept, standing, supported}
+use Rattle.gq_alternatives.specs.steps.Searching.{Step, agreeing, kept, standing, supported}
 use Rattle.gq_alternatives.proofs.Narrowed.{standing_agree, supported_agree}
 use Rattle.gq_alternatives.proofs.narrowing.narrowed_once.Goals as goal
 

@@ -1,5 +1,5 @@
 use Rattle.std.proofs.Common.{◌≡◌, filter, take}
-use Rattle.gq_alternatives.specs.Searching.{stands}
+use Rattle.gq_alternatives.specs.steps.Searching.{stands}
 use Rattle.gq_alternatives.proofs.narrowing.standing.Given as goal
 
 abbrev pub invariant-loop-reading : goal.invariant-loop-reading

@@ -1,5 +1,5 @@
 use Rattle.std.proofs.Common.{◌≡◌, map, take}
-use Rattle.gq_alternatives.specs.Searching.{standing}
+use Rattle.gq_alternatives.specs.steps.Searching.{standing}
 use Rattle.gq_alternatives.proofs.narrowing.standing_steps.Given as goal
 
 abbrev pub invariant-loop-step : goal.invariant-loop-step

@@ -1,5 +1,5 @@
 use Rattle.std.proofs.Common.{◌≡◌, filter, take}
-use Rattle.gq_alternatives.specs.Searching.{supported}
+use Rattle.gq_alternatives.specs.steps.Searching.{supported}
 use Rattle.gq_alternatives.proofs.narrowing.supported_of.Given as goal
 
 abbrev pub invariant-loop-table : goal.invariant-loop-table

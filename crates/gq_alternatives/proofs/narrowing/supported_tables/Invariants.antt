@@ -1,5 +1,5 @@
 use Rattle.std.proofs.Common.{◌≡◌, ◌++◌, drop}
-use Rattle.gq_alternatives.specs.Searching.{kept, supported}
+use Rattle.gq_alternatives.specs.steps.Searching.{kept, supported}
 use Rattle.gq_alternatives.proofs.narrowing.supported_tables.Given as goal
 
 abbrev pub invariant-loop-tables : goal.invariant-loop-tables

@@ -2,7 +2,7 @@ use Rattle.std.proofs.Common.{◌≡◌, ℕ, ◌++◌, List, Some, None, true, 
 use Rattle.std.proofs.lemmas.Bool.{ltb-true}
 use Rattle.std.proofs.lemmas.List.{get_or_default}
 use Rattle.gq_alternatives.specs.Alternatives.{Choice}
-use Rattle.gq_alternatives.specs.Searching.{Found, adding, filled, may_be, taking}
+use Rattle.gq_alternatives.specs.steps.Searching.{Found, adding, filled, may_be, taking}
 use Rattle.gq_alternatives.proofs.Limits.{when_full, add_none, add_turn}
 use Rattle.gq_alternatives.proofs.SearchSteps.{fill_all, fill_none, fill_some, table_back, table_taken}
 use Rattle.gq_alternatives.proofs.search.+fill.Goals as goal

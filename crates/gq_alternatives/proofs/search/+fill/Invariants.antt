@@ -1,5 +1,5 @@
 use Rattle.std.proofs.Common.{◌≡◌, ◌+◌, ◌*◌, flat_map, take, length}
-use Rattle.gq_alternatives.specs.Searching.{adding, taking}
+use Rattle.gq_alternatives.specs.steps.Searching.{adding, taking}
 use Rattle.gq_alternatives.proofs.search.+fill.Given as goal
 
 abbrev pub decreases-fill : goal.decreases-fill

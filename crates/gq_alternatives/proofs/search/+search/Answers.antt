@@ -2,7 +2,7 @@ use Rattle.std.proofs.Common.{◌≡◌, ℕ, ◌-◌, ◌≤◌, nat_lt, ◌∷
 use Rattle.std.proofs.lemmas.Bool.{ltb-true}
 use Rattle.std.proofs.lemmas.Option.{slice_get_past}
 use Rattle.gq_alternatives.specs.Alternatives.{Choice, Reading}
-use Rattle.gq_alternatives.specs.Searching.{Found, Space, Step, adding, filled, following, knowing, reached, searched, may_be}
+use Rattle.gq_alternatives.specs.steps.Searching.{Found, Space, Step, adding, filled, following, knowing, reached, searched, may_be}
 use Rattle.gq_scopes.specs.Patterns.{RelPattern}
 use Rattle.gq_alternatives.proofs.Limits.{when_full, add_none, add_turn}
 use Rattle.gq_alternatives.proofs.SearchSteps.{known_back, known_taken, search_all, search_some}

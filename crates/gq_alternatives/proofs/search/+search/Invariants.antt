@@ -1,5 +1,5 @@
 use Rattle.std.proofs.Common.{◌≡◌, ◌+◌, ◌*◌, flat_map, take, length}
-use Rattle.gq_alternatives.specs.Searching.{adding, following}
+use Rattle.gq_alternatives.specs.steps.Searching.{adding, following}
 use Rattle.gq_alternatives.proofs.search.+search.Given as goal
 
 abbrev pub decreases-search : goal.decreases-search

@@ -1,7 +1,7 @@
 use Rattle.std.proofs.Common.{◌≡◌, ◌∙◌, sym, ap, not, take, true, false, Some}
 use Rattle.gq_scopes.specs.Patterns.{NamedVariable}
 use Rattle.gq_binder.specs.Refusals.{repeating}
-use Rattle.gq_binder.specs.Met.{meeting, met_of, met_again}
+use Rattle.gq_binder.specs.steps.Met.{meeting, met_of, met_again}
 use Rattle.gq_binder.specs.declared.refusal.BindRefusal.TheVariants as refusal
 use Rattle.gq_trees.specs.Uses.{refused_unless}
 use Rattle.gq_binder.proofs.MetLemmas.{refused_as, passed, again_met, next_met}

@@ -1,6 +1,6 @@
 use Rattle.std.proofs.Common.{◌≡◌, [], take, drop}
 use Rattle.gq_binder.specs.Refusals.{first_behind, conflicting}
-use Rattle.gq_binder.specs.Met.{met_of}
+use Rattle.gq_binder.specs.steps.Met.{met_of}
 use Rattle.gq_binder.proofs.checks.variable_conflict.Given as goal
 
 abbrev pub invariant-loop-variable : goal.invariant-loop-variable

@@ -1,7 +1,7 @@
 use Rattle.std.proofs.Common.{◌≡◌, ◌++◌, drop}
 use Rattle.gq_binder.specs.Columns.{conditions_from}
-use Rattle.gq_binder.specs.Names.{no_names, with_expressions}
-use Rattle.gq_binder.specs.Parts.{known_conjuncts}
+use Rattle.gq_binder.specs.steps.Names.{no_names, with_expressions}
+use Rattle.gq_binder.specs.steps.Parts.{known_conjuncts}
 use Rattle.gq_scopes.specs.Patterns.{no_pattern, with_clauses}
 use Rattle.gq_binder.proofs.parts.conditions_of.Given as goal
 

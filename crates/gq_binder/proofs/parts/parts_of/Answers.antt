@@ -2,8 +2,8 @@ use Rattle.std.proofs.Common.{All, List, ap, sym, subst, ◌∙◌}
 use Rattle.gq_binder.proofs.PartLemmas.{parts_made}
 use Rattle.gq_binder.proofs.Patterns.{IsWholeMap, entries_whole}
 use Rattle.gq_binder.specs.Columns.{conditions_from}
-use Rattle.gq_binder.specs.Names.{no_names, with_expressions}
-use Rattle.gq_binder.specs.Parts.{known_conjuncts}
+use Rattle.gq_binder.specs.steps.Names.{no_names, with_expressions}
+use Rattle.gq_binder.specs.steps.Parts.{known_conjuncts}
 use Rattle.gq_scopes.specs.Patterns.{Pattern, no_pattern, pattern_of}
 use Rattle.gq_syntax.specs.declared.Clause.{Clause}
 use Rattle.gq_binder.proofs.parts.parts_of.Goals as goal

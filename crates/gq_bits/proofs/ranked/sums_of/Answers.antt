@@ -1,5 +1,5 @@
 use Rattle.std.proofs.Common.{◌+◌, ◌*◌, ◌<◌, ◌^◌, get_or, ap, ◌∙◌, arith, count_by}
-use Rattle.gq_bits.specs.Bits.{bits_of}
+use Rattle.gq_bits.specs.steps.Bits.{bits_of}
 use Rattle.gq_bits.proofs.Counts.{ones_at_most}
 use Rattle.gq_base.proofs.ListFacts.{follows_push}
 use Rattle.gq_bits.proofs.Ranks.{ones_more, ones_le}

@@ -1,5 +1,5 @@
 use Rattle.std.proofs.Common.{◌≡◌, ◌*◌, ◌<◌, ℕ, get_or, vec_len, count_by}
-use Rattle.gq_bits.specs.Bits.{bits_of}
+use Rattle.gq_bits.specs.steps.Bits.{bits_of}
 use Rattle.gq_bits.proofs.ranked.sums_of.Given as goal
 
 abbrev pub invariant-loop-word : goal.invariant-loop-word

@@ -1,5 +1,5 @@
 use Rattle.std.proofs.Common.{◌≡◌, ◌+◌, ◌/◌, ℕ, length, take, get_or, false, vec_len}
-use Rattle.gq_bits.specs.Bits.{bit_of}
+use Rattle.gq_bits.specs.steps.Bits.{bit_of}
 use Rattle.gq_bits.proofs.ranked.words_of.Given as goal
 
 abbrev pub invariant-loop-place : goal.invariant-loop-place

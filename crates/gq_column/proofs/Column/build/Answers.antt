@@ -1,7 +1,7 @@
 use Rattle.std.proofs.Common.{◌≡◌, ◌+◌, ap, length, map, sym, ◌∙◌, arith, count_by, get_or, pos, ◌∷◌, []}
 use Rattle.std.specs.Prelude.{is_some}
 use Rattle.std.proofs.lemmas.List.{length-map, length-append, get_or_past}
-use Rattle.gq_column.specs.Cells.{cells_of, kept_of}
+use Rattle.gq_column.specs.steps.Cells.{cells_of, kept_of}
 use Rattle.gq_column.proofs.Ranked.{length-kept_of, padded, cells_of-kept_of}
 use Rattle.gq_column.proofs.Column.build.Goals as goal
 

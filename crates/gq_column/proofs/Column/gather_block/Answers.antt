@@ -4,7 +4,8 @@ use mir.Val.{bool_byte}
 use Rattle.std.proofs.Math.Facts.{to_z-of_z}
 use Rattle.std.proofs.lemmas.Grind.{pow_more}
 use Rattle.std.proofs.lemmas.List.{get_or_read_under}
-use Rattle.gq_column.specs.Cells.{BlockGathered, cell_at, cells_of}
+use Rattle.gq_column.specs.Cells.{cell_at}
+use Rattle.gq_column.specs.steps.Cells.{BlockGathered, cells_of}
 use Rattle.gq_column.proofs.Ranked.{length-cells_of, rank, chosen, chosen_inside}
 use Rattle.gq_column.proofs.Filled.{block_before}
 use Rattle.gq_column.proofs.Column.gather_block.Goals as goal

@@ -1,6 +1,7 @@
 use Rattle.std.proofs.Common.{◌-◌, ◌<◌, ◌^◌}
 use Rattle.std.specs.Prelude.{slice_index}
-use Rattle.gq_column.specs.Cells.{BlockGathered, cell_at}
+use Rattle.gq_column.specs.Cells.{cell_at}
+use Rattle.gq_column.specs.steps.Cells.{BlockGathered}
 use Rattle.gq_column.proofs.Column.gather_block.Given as goal
 
 abbrev pub invariant-loop-done : goal.invariant-loop-done

@@ -3,7 +3,8 @@ use Rattle.std.specs.Prelude.{unwrap_or, is_some}
 use mir.Val.{bool_byte}
 use Rattle.std.proofs.Math.Facts.{to_z-of_z}
 use Rattle.std.proofs.lemmas.List.{get_or_read_under}
-use Rattle.gq_column.specs.Cells.{cell_at, cells_of}
+use Rattle.gq_column.specs.Cells.{cell_at}
+use Rattle.gq_column.specs.steps.Cells.{cells_of}
 use Rattle.gq_column.proofs.Ranked.{length-cells_of, rank, rank_more, chosen, chosen_inside}
 use Rattle.gq_column.proofs.Filled.{block_behind}
 use Rattle.gq_column.proofs.Column.gather_span_block.Goals as goal

@@ -1,5 +1,6 @@
 use Rattle.std.proofs.Common.{◌≡◌, ◌+◌}
-use Rattle.gq_column.specs.Cells.{BlockGathered, cell_at}
+use Rattle.gq_column.specs.Cells.{cell_at}
+use Rattle.gq_column.specs.steps.Cells.{BlockGathered}
 use Rattle.gq_column.proofs.Ranked.{rank}
 use Rattle.gq_column.proofs.Filled.{IsFree}
 use Rattle.gq_column.proofs.Column.gather_span_block.Given as goal

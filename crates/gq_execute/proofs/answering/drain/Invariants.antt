@@ -1,6 +1,6 @@
 use Rattle.std.proofs.Common.{◌≡◌, false, length}
 use Rattle.gq_rows.specs.Tables.{IsSameQuery, StandsForSome, is_full_table}
-use Rattle.gq_execute.specs.Taking.{IsRunOf, Pushed}
+use Rattle.gq_execute.specs.steps.Taking.{IsRunOf, Pushed}
 use Rattle.gq_execute.proofs.answering.drain.Given as goal
 
 abbrev pub invariant-rows : goal.invariant-rows

@@ -1,6 +1,7 @@
 use Rattle.std.proofs.Common.{◌≡◌, List, ℕ, take}
 use Rattle.gq_binder.specs.Binding.{IsBound}
-use Rattle.gq_execute.specs.Answering.{Came, question}
+use Rattle.gq_execute.specs.Answering.{question}
+use Rattle.gq_execute.specs.steps.Answering.{Came}
 use Rattle.gq_rows.specs.Tables.{StandsForSome}
 use Rattle.gq_syntax.specs.declared.Query.{Query}
 use Rattle.gq_execute.proofs.answering.fill.Given as goal

@@ -1,7 +1,7 @@
 use Rattle.std.proofs.Common.{◌∙◌, ap, sym, Some}
 use Rattle.gq_pipe.specs.Limits.{sides_within}
 use Rattle.gq_pipe.specs.Progress.{Source}
-use Rattle.gq_plan.specs.Steps.{plan_of}
+use Rattle.gq_plan.specs.Plans.{plan_of}
 use Rattle.gq_rows.specs.Tables.{Table}
 use Rattle.gq_execute.proofs.Parting.{sides_light, sides_refused}
 use Rattle.gq_pipe.proofs.Assigned.{covers_bind_all}

@@ -1,5 +1,5 @@
 use Rattle.std.proofs.Common.{◌≡◌, map, take}
-use Rattle.gq_plan.specs.Steps.{plan_of}
+use Rattle.gq_plan.specs.Plans.{plan_of}
 use Rattle.gq_execute.specs.Planned.{plan_in, sizes}
 use Rattle.gq_execute.proofs.planning.plans.Given as goal
 

@@ -2,7 +2,7 @@ use Rattle.std.proofs.Common.{◌≡◌, drop, map, Some, true}
 use Rattle.gq_base.specs.Values.{val, null}
 use Rattle.gq_expr.specs.Operators.{Outcome}
 use Rattle.gq_expr.specs.Meaning.{meaning, logic_all, logic_chain, coalesce_all, compare_chain, arith_chain, test_chain}
-use Rattle.gq_expr.specs.Parts.{bound_with, tester_with}
+use Rattle.gq_expr.specs.steps.Parts.{bound_with, tester_with}
 use Rattle.gq_expr.specs.declared.expr.Expr.{Expr}
 use Rattle.gq_expr.proofs.evaluate.+eval.Given as goal
 

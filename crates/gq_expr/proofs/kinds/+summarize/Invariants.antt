@@ -1,7 +1,8 @@
 use Rattle.std.proofs.Common.{◌≡◌, drop, map}
 use Rattle.std.specs.List.{list_any}
-use Rattle.gq_expr.specs.Kinds.{may, summary_of, both, all_of, misfits, term_faults, tester_faults}
-use Rattle.gq_expr.specs.Parts.{bound_with, tester_with}
+use Rattle.gq_expr.specs.Kinds.{may, all_of, misfits, term_faults, tester_faults}
+use Rattle.gq_expr.specs.steps.Kinds.{summary_of, both}
+use Rattle.gq_expr.specs.steps.Parts.{bound_with, tester_with}
 use Rattle.gq_expr.proofs.kinds.+summarize.Given as goal
 
 abbrev pub invariant-summary_of_all-loop-part : goal.invariant-summary_of_all-loop-part

@@ -1,5 +1,5 @@
 use Rattle.std.proofs.lemmas.Result.{err_from_is_err_and}
-use Rattle.gq_loader.specs.Effects.{told_of}
+use Rattle.gq_loader.specs.steps.Effects.{told_of}
 use Rattle.gq_loader.proofs.Effecting.{choice_failed, file_read, not_there}
 use Rattle.gq_loader.proofs.file.read_file.Goals as goal
 

@@ -2,8 +2,8 @@ use Rattle.std.proofs.Common.{◌≡◌, ℕ, ◌<◌, ◌≤◌, true, All, dro
 use Rattle.gq_base.specs.Valid.{is_valid}
 use Rattle.gq_manifest.specs.Manifests.{IsNumberOf}
 use Rattle.gq_manifest.specs.declared.manifest.TableNumber.{TableNumber}
-use Rattle.gq_loader.specs.Answers.{IsGoing, IsUnread}
-use Rattle.gq_loader.specs.Effects.{Reads, told_of}
+use Rattle.gq_loader.specs.steps.Answers.{IsGoing, IsUnread}
+use Rattle.gq_loader.specs.steps.Effects.{Reads, told_of}
 use Rattle.gq_loader.specs.Limits.{most_bytes}
 use Rattle.gq_loader.proofs.Rest.{Meant}
 use Rattle.gq_loader.proofs.loading.load.Given as goal

@@ -12,7 +12,7 @@ use Rattle.gq_plan.proofs.Flats.{flat_where}
 use Rattle.gq_plan.specs.Covers.{Covers}
 use Rattle.gq_plan.specs.Flat.{is_flat}
 use Rattle.gq_plan.specs.Parts.{IsSide, greedy_parts, sides}
-use Rattle.gq_plan.specs.Steps.{plan_of, steps}
+use Rattle.gq_plan.specs.Plans.{plan_of, steps}
 
 pub with_pieces-requires-clause-firsts : goal.with_pieces-requires-clause-firsts
 with_pieces-requires-clause-firsts c =

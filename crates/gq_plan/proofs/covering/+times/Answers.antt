@@ -5,8 +5,8 @@ use Rattle.gq_plan.proofs.FirstSteps.{placed_first}
 use Rattle.gq_plan.proofs.StepEquations.{plan_is, join_is}
 use Rattle.gq_plan.proofs.covering.+times.Goals as goal
 use Rattle.gq_plan.specs.Covers.{placed, placed_step, is_key}
-use Rattle.gq_plan.specs.Steps.{steps, step_of, plan_of}
-use Rattle.gq_plan.specs.Times.{times}
+use Rattle.gq_plan.specs.Plans.{steps, step_of, plan_of}
+use Rattle.gq_plan.specs.steps.Times.{times}
 
 pub times-loop-step-preserved : goal.times-loop-step-preserved
 times-loop-step-preserved t c =

@@ -1,7 +1,7 @@
 use Rattle.std.proofs.Common.{◌≡◌, ◌≤◌, ◌+◌, min, drop, map}
 use Rattle.gq_plan.specs.Covers.{placed}
-use Rattle.gq_plan.specs.Steps.{steps, step_of}
-use Rattle.gq_plan.specs.Times.{times}
+use Rattle.gq_plan.specs.Plans.{steps, step_of}
+use Rattle.gq_plan.specs.steps.Times.{times}
 use Rattle.gq_plan.proofs.covering.+times.Given as goal
 
 abbrev pub invariant-times-loop-step : goal.invariant-times-loop-step

@@ -1,7 +1,7 @@
 use Rattle.std.proofs.Common.{◌∙◌, sym}
 use Rattle.gq_plan.proofs.Demands.{covers_if, covers_only_if}
 use Rattle.gq_plan.proofs.covering.covers.Goals as goal
-use Rattle.gq_plan.specs.Steps.{plan_of}
+use Rattle.gq_plan.specs.Plans.{plan_of}
 
 pub returns-then-fits : goal.returns-then-fits
 returns-then-fits c = (

@@ -5,7 +5,7 @@ use Rattle.gq_plan.proofs.StepEquations.{plan_is}
 use Rattle.gq_plan.proofs.fitting.+takes_plan.Goals as goal
 use Rattle.gq_plan.specs.Covers.{fits, after, after_step}
 use Rattle.gq_plan.specs.Known.{known_of}
-use Rattle.gq_plan.specs.Steps.{steps, step_of}
+use Rattle.gq_plan.specs.Plans.{steps, step_of}
 
 pub takes_plan-returns-then-not-takes_step-clause-value :
     goal.takes_plan-returns-then-not-takes_step-clause-value

@@ -1,7 +1,7 @@
 use Rattle.std.proofs.Common.{◌≡◌, drop, map}
 use Rattle.gq_plan.specs.Covers.{fits, after}
 use Rattle.gq_plan.specs.Known.{known_of}
-use Rattle.gq_plan.specs.Steps.{steps, step_of}
+use Rattle.gq_plan.specs.Plans.{steps, step_of}
 use Rattle.gq_plan.proofs.fitting.+takes_plan.Given as goal
 
 abbrev pub invariant-takes_plan-loop-step : goal.invariant-takes_plan-loop-step

@@ -2,7 +2,7 @@ use Rattle.std.proofs.Common.{◌+◌, ◌∙◌, ap, sym, false, cond, map, dro
 use Rattle.std.proofs.lemmas.List.{drop_all}
 use Rattle.gq_plan.proofs.FirstSteps.{first_of_rest}
 use Rattle.gq_plan.proofs.StepEquations.{plan_is}
-use Rattle.gq_plan.specs.Steps.{steps, step_of}
+use Rattle.gq_plan.specs.Plans.{steps, step_of}
 use Rattle.gq_plan.specs.Flat.{is_flat}
 use Rattle.gq_plan.proofs.joins.is_flat.Goals as goal
 

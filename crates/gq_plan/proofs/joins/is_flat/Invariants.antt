@@ -1,5 +1,5 @@
 use Rattle.std.proofs.Common.{◌≡◌, drop, map}
-use Rattle.gq_plan.specs.Steps.{steps, step_of}
+use Rattle.gq_plan.specs.Plans.{steps, step_of}
 use Rattle.gq_plan.specs.Flat.{is_flat}
 use Rattle.gq_plan.proofs.joins.is_flat.Given as goal
 

@@ -1,5 +1,5 @@
 use Rattle.std.proofs.Common.{ap, ◌∙◌, ◌++◌, ◌+◌, drop, flat_map, arith}
-use Rattle.gq_render.specs.Escapes.{byte_text}
+use Rattle.gq_render.specs.steps.Escapes.{byte_text}
 use Rattle.gq_base.proofs.ListFacts.{flat_map_split}
 use Rattle.gq_render.proofs.Runs.{run_none, run_more, run_ends, run_last}
 use Rattle.gq_render.proofs.Sequence.{next_broke, put_then, puts_then}

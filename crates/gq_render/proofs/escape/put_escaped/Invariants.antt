@@ -1,6 +1,6 @@
 use Rattle.std.proofs.Common.{◌≤◌, take, flat_map}
 use Rattle.gq_io.specs.Putting.{Put}
-use Rattle.gq_render.specs.Escapes.{byte_text}
+use Rattle.gq_render.specs.steps.Escapes.{byte_text}
 use Rattle.gq_render.proofs.Runs.{PlainRun}
 use Rattle.gq_render.proofs.escape.put_escaped.Given as goal
 

@@ -2,7 +2,7 @@ use Rattle.std.proofs.Common.{◌≡◌, ℕ, ◌+◌, ◌++◌, List, [], ◌�
 use Rattle.std.proofs.lemmas.Slice.Zip.{zip_end, zip_turn}
 use Rattle.std.proofs.lemmas.List.{drop_more}
 use Rattle.gq_explain.specs.Columns.{columns_of}
-use Rattle.gq_plan.specs.Steps.{plan_of}
+use Rattle.gq_plan.specs.Plans.{plan_of}
 use Rattle.gq_plan.specs.declared.Plan as code_plan
 use Rattle.gq_plan.specs.declared.typed.Typed.{Typed}
 use Rattle.gq_reply.specs.ReplyTexts.{columns_each}

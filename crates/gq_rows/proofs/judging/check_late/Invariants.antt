@@ -1,7 +1,7 @@
 use Rattle.std.proofs.Common.{◌≡◌, drop}
 use Rattle.gq_plan.specs.Outcomes.{late_conjuncts, meanings_of}
 use Rattle.gq_plan.specs.Rows.{as_read}
-use Rattle.gq_rows.specs.Judged.{check_after}
+use Rattle.gq_rows.specs.steps.Judged.{check_after}
 use Rattle.gq_rows.specs.declared.judging.Checked.TheVariants.{Met}
 use Rattle.gq_rows.proofs.Looking.{numbered}
 use Rattle.gq_rows.proofs.judging.check_late.Given as goal

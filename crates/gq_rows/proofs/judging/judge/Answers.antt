@@ -1,7 +1,7 @@
 use Rattle.std.proofs.Common.{rules, subst, Err}
 use Rattle.gq_plan.specs.Outcomes.{meanings_of, key_meanings}
 use Rattle.gq_plan.specs.Rows.{as_read}
-use Rattle.gq_rows.specs.Judged.{PushesValues}
+use Rattle.gq_rows.specs.steps.Judged.{PushesValues}
 use Rattle.gq_rows.proofs.Looking.{when_dropped, when_faulty, when_kept, column_failed, key_failed}
 use Rattle.gq_rows.proofs.judging.judge.Goals as goal
 

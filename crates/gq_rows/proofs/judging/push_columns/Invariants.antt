@@ -2,7 +2,7 @@ use Rattle.std.proofs.Common.{◌≡◌, drop, map}
 use Rattle.gq_base.specs.Values.{val}
 use Rattle.gq_plan.specs.Outcomes.{meanings_of}
 use Rattle.gq_plan.specs.Rows.{as_read}
-use Rattle.gq_rows.specs.Judged.{values_after}
+use Rattle.gq_rows.specs.steps.Judged.{values_after}
 use Rattle.gq_rows.proofs.judging.push_columns.Given as goal
 
 abbrev pub invariant-columns : goal.invariant-columns

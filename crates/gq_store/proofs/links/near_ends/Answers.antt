@@ -1,4 +1,3 @@
-use Rattle.std.proofs.Common.{◌≡◌, ◌++◌, ◌∷◌, [], ◌∙◌, ap, arith, sym}
 use Rattle.gq_base.proofs.ListFacts.{map_next}
 use Rattle.gq_base.specs.Rels.{rel_seen}
 use Rattle.gq_store.specs.Neighbours.{near}

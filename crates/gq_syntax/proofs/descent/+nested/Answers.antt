@@ -1,5 +1,5 @@
 use Rattle.std.proofs.Common.{arith, subst, sym}
-use Rattle.gq_syntax.specs.Parsing.{Reads}
+use Rattle.gq_syntax.specs.steps.Parsing.{Reads}
 use Rattle.gq_syntax.proofs.Loops.{inside_rule}
 use Rattle.gq_syntax.proofs.descent.+nested.Goals as goal
 

@@ -1,7 +1,7 @@
 use Rattle.std.proofs.Common.{◌≡◌, Err, length, rules, ap, subst, sym, ◌∙◌}
 use Rattle.gq_syntax.specs.Outcomes.{place_of}
-use Rattle.gq_syntax.specs.Parsers.{whole}
-use Rattle.gq_syntax.specs.Parsing.{Reads}
+use Rattle.gq_syntax.specs.steps.Parsers.{whole}
+use Rattle.gq_syntax.specs.steps.Parsing.{Reads}
 use Rattle.gq_syntax.specs.declared.tokens.Stop.TheVariants as stop
 use Rattle.gq_syntax.proofs.Answered.{read_spelled, stuck, too_deep}
 use Rattle.gq_syntax.proofs.Exact.{stops_at}

@@ -1,5 +1,5 @@
 use Rattle.std.proofs.Common.{rules}
-use Rattle.gq_syntax.specs.Parsers as p
+use Rattle.gq_syntax.specs.steps.Parsers as p
 use Rattle.gq_syntax.proofs.queries.some_clauses.Goals as goal
 
 pub returns : goal.returns

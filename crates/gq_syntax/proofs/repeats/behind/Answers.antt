@@ -1,6 +1,6 @@
 use Rattle.std.proofs.Common.{◌∷◌}
 use Rattle.std.proofs.lemmas.Result.{err_from_is_err_and}
-use Rattle.gq_syntax.specs.Readers.{many, pure}
+use Rattle.gq_syntax.specs.steps.Readers.{many, pure}
 use Rattle.gq_syntax.proofs.Loops.{after_first, fails_after}
 use Rattle.gq_syntax.proofs.repeats.behind.Goals as goal
 

@@ -1,6 +1,6 @@
 use Rattle.std.proofs.Common.{rules}
 use Rattle.std.proofs.lemmas.Result.{err_from_is_err_and}
-use Rattle.gq_syntax.specs.Readers.{many}
+use Rattle.gq_syntax.specs.steps.Readers.{many}
 use Rattle.gq_syntax.proofs.Loops.{all_read, item_fails, item_read, none_read, starts}
 use Rattle.gq_syntax.proofs.repeats.many.Goals as goal
 

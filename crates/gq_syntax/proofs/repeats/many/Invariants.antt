@@ -1,6 +1,6 @@
 use Rattle.std.proofs.Common.{◌≡◌, ◌-◌}
-use Rattle.gq_syntax.specs.Readers.{Reader, many, many_from}
-use Rattle.gq_syntax.specs.Repeats.{Items}
+use Rattle.gq_syntax.specs.steps.Readers.{Reader, many, many_from}
+use Rattle.gq_syntax.specs.steps.Repeats.{Items}
 use Rattle.gq_syntax.proofs.Loops.{fronted}
 use Rattle.gq_syntax.proofs.repeats.many.Given as goal
 

@@ -1,6 +1,6 @@
 use Rattle.std.proofs.Common.{◌≡◌, ◌++◌, take}
-use Rattle.gq_tables.specs.Batches.{texts_of}
-use Rattle.gq_tables.specs.Unread.{IsOpen, records_left}
+use Rattle.gq_tables.specs.steps.Batches.{texts_of}
+use Rattle.gq_tables.specs.steps.Unread.{IsOpen, records_left}
 use Rattle.gq_tables.proofs.batch.fill.Given as goal
 
 abbrev pub invariant-loop-count : goal.invariant-loop-count

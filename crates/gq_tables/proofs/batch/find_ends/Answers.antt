@@ -1,7 +1,7 @@
 use Rattle.std.proofs.Common.{◌≡◌, ◌∙◌, ◌<◌, arith, length, refl, take}
 use Rattle.std.proofs.lemmas.List.{take_all}
 use Rattle.std.proofs.lemmas.List.Elements.{All-set}
-use Rattle.gq_tables.specs.Batches.{HasEnds, HasKeys}
+use Rattle.gq_tables.specs.steps.Batches.{HasEnds, HasKeys}
 use Rattle.gq_tables.proofs.BatchSteps.{each-take, texts-set}
 use Rattle.gq_tables.proofs.batch.find_ends.Goals as goal
 

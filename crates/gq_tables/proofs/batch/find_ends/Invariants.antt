@@ -1,7 +1,7 @@
 use Rattle.std.proofs.Common.{◌≡◌, take}
 use Rattle.std.specs.Prelude.{All}
 use Rattle.gq_tables.specs.Answers.{seen_end}
-use Rattle.gq_tables.specs.Batches.{HasEnds, HasKeys, texts_of}
+use Rattle.gq_tables.specs.steps.Batches.{HasEnds, HasKeys, texts_of}
 use Rattle.gq_tables.proofs.batch.find_ends.Given as goal
 
 abbrev pub invariant-loop-pending : goal.invariant-loop-pending

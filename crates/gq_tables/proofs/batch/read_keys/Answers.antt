@@ -1,6 +1,6 @@
 use Rattle.std.proofs.Common.{◌≡◌, ◌∙◌, ◌<◌, arith, length, refl, take}
 use Rattle.std.proofs.lemmas.List.{take_all}
-use Rattle.gq_tables.specs.Batches.{HasKeys}
+use Rattle.gq_tables.specs.steps.Batches.{HasKeys}
 use Rattle.gq_tables.proofs.BatchSteps.{each-take, texts-set}
 use Rattle.gq_tables.proofs.batch.read_keys.Goals as goal
 

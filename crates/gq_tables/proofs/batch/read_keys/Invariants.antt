@@ -1,6 +1,6 @@
 use Rattle.std.proofs.Common.{◌≡◌, take}
 use Rattle.std.specs.Prelude.{All}
-use Rattle.gq_tables.specs.Batches.{HasKeys, texts_of}
+use Rattle.gq_tables.specs.steps.Batches.{HasKeys, texts_of}
 use Rattle.gq_tables.proofs.batch.read_keys.Given as goal
 
 abbrev pub invariant-loop-pending : goal.invariant-loop-pending

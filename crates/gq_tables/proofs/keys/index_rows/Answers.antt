@@ -1,6 +1,6 @@
 use Rattle.std.proofs.Common.{◌≡◌, arith}
 use Rattle.gq_tables.proofs.KeySteps.{all_mapped}
-use Rattle.gq_tables.specs.KeyIndexes.{held}
+use Rattle.gq_tables.specs.steps.KeyIndexes.{held}
 use Rattle.gq_tables.proofs.keys.index_rows.Goals as goal
 
 pub returns : goal.returns

@@ -1,5 +1,5 @@
 use Rattle.gq_tables.proofs.KeySteps.{Mapped}
-use Rattle.gq_tables.specs.KeyIndexes.{held}
+use Rattle.gq_tables.specs.steps.KeyIndexes.{held}
 use Rattle.gq_tables.proofs.keys.index_rows.Given as goal
 
 abbrev pub invariant-rows : goal.invariant-rows

@@ -1,6 +1,6 @@
 use Rattle.std.proofs.Common.{length}
 use Rattle.gq_tables.proofs.NodeSteps.{Gathering}
-use Rattle.gq_tables.specs.Unread.{IsOpen, records_left}
+use Rattle.gq_tables.specs.steps.Unread.{IsOpen, records_left}
 use Rattle.gq_tables.proofs.nodes.read_rows.Given as goal
 
 abbrev pub invariant-loop-rows : goal.invariant-loop-rows

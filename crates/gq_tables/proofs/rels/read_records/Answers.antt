@@ -4,8 +4,8 @@ use Rattle.std.specs.Prelude.{nat_eq}
 use Rattle.std.proofs.lemmas.Bool.Decides.{nat_tests}
 use Rattle.gq_tables.proofs.Answering.{passed_on}
 use Rattle.gq_tables.proofs.BatchSteps.{all_read, length-records, records-fill, room-behind, unread}
-use Rattle.gq_tables.specs.Batches.{rels_by, texts_of}
-use Rattle.gq_tables.specs.Unread.{records_left}
+use Rattle.gq_tables.specs.steps.Batches.{rels_by, texts_of}
+use Rattle.gq_tables.specs.steps.Unread.{records_left}
 use Rattle.gq_tables.proofs.rels.read_records.Goals as goal
 use Rattle.gq_tables.proofs.rels.read_records.Goals.{After-find_ends}
 

@@ -3,8 +3,8 @@ use Rattle.std.specs.Prelude.{if◌then◌else◌}
 use Rattle.gq_tables.proofs.BatchSteps.{unread}
 use Rattle.gq_tables.proofs.RelSteps.{Gathering}
 use Rattle.gq_tables.specs.Answers.{seen_end}
-use Rattle.gq_tables.specs.Batches.{rels_by}
-use Rattle.gq_tables.specs.Unread.{IsOpen, records_left}
+use Rattle.gq_tables.specs.steps.Batches.{rels_by}
+use Rattle.gq_tables.specs.steps.Unread.{IsOpen, records_left}
 use Rattle.gq_tables.proofs.rels.read_records.Given as goal
 
 abbrev pub invariant-loop-more : goal.invariant-loop-more

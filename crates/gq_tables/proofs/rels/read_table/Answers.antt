@@ -3,7 +3,7 @@ use Rattle.std.proofs.lemmas.Result.{err_from_is_err_and}
 use Rattle.gq_tables.proofs.Answering.{passed_on}
 use Rattle.gq_tables.proofs.TableSteps.{few_left, rel_refused, whole_rels}
 use Rattle.gq_tables.proofs.Validity.{rel_table_good}
-use Rattle.gq_tables.specs.Batches.{sources_of, targets_of}
+use Rattle.gq_tables.specs.steps.Batches.{sources_of, targets_of}
 use Rattle.gq_tables.specs.Records.{records_of}
 use Rattle.gq_tables.specs.Rels.{rel_table}
 use Rattle.gq_tables.proofs.rels.read_table.Goals as goal

@@ -1,7 +1,7 @@
 use Rattle.std.proofs.Common.{◌≡◌, ◌+◌, ◌++◌, [], List, ℕ, drop, length}
 use Rattle.gq_tables.proofs.RelSteps.{Gathering}
 use Rattle.gq_tables.specs.Answers.{seen_end}
-use Rattle.gq_tables.specs.Batches.{rels_by, texts_of}
+use Rattle.gq_tables.specs.steps.Batches.{rels_by, texts_of}
 use Rattle.gq_tables.proofs.rels.take_batch.Given as goal
 
 abbrev pub invariant-loop-pending : goal.invariant-loop-pending

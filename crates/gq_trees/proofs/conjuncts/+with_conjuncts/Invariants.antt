@@ -1,6 +1,6 @@
 use Rattle.std.proofs.Common.{◌≡◌, All, drop}
 use Rattle.gq_syntax.specs.Spans.{IsWholeTree}
-use Rattle.gq_trees.specs.Conjuncts.{conjuncts_in, listed_behind}
+use Rattle.gq_trees.specs.steps.Conjuncts.{conjuncts_in, listed_behind}
 use Rattle.gq_trees.proofs.conjuncts.+with_conjuncts.Given as goal
 
 abbrev pub invariant-with_all_conjuncts-loop-tree : goal.invariant-with_all_conjuncts-loop-tree

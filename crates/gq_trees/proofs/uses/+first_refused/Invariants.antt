@@ -1,7 +1,8 @@
 use Rattle.std.proofs.Common.{◌≡◌, drop, map}
 use Rattle.gq_trees.specs.Checks.{check_of}
-use Rattle.gq_trees.specs.Trees.{term_with, tester_with}
-use Rattle.gq_trees.specs.Uses.{uses, first_of, term_uses, tester_uses}
+use Rattle.gq_trees.specs.steps.Trees.{term_with, tester_with}
+use Rattle.gq_trees.specs.Uses.{uses, term_uses, tester_uses}
+use Rattle.gq_trees.specs.steps.Uses.{first_of}
 use Rattle.gq_trees.proofs.uses.+first_refused.Given as goal
 
 abbrev pub invariant-first_of_all-loop-tree : goal.invariant-first_of_all-loop-tree

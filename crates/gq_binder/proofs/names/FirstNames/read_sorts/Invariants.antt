@@ -1,5 +1,5 @@
 use Rattle.std.proofs.Common.{◌≡◌, drop}
-use Rattle.gq_binder.specs.Names.{with_expressions}
+use Rattle.gq_binder.specs.steps.Names.{with_expressions}
 use Rattle.gq_binder.specs.Refusals.{sorts_in}
 use Rattle.gq_binder.proofs.names.FirstNames.read_sorts.Given as goal
 

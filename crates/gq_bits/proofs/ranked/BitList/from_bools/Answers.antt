@@ -1,6 +1,6 @@
 use Rattle.std.proofs.Common.{ℕ, length, false, ◌∙◌, arith}
 use Rattle.std.proofs.lemmas.List.{ext_get_or}
-use Rattle.gq_bits.specs.Bits.{bits_of}
+use Rattle.gq_bits.specs.steps.Bits.{bits_of}
 use Rattle.gq_bits.proofs.Words.{length-bits_of, get_or-bits_of}
 use Rattle.gq_bits.proofs.ranked.BitList.from_bools.Goals as goal
 

@@ -2,7 +2,7 @@ use Rattle.std.proofs.Common.{◌≡◌, ◌<◌, ◌≤◌, ◌/◌, ◌%◌, �
 use Rattle.std.specs.Prelude.{count_ones, bit_and}
 use Rattle.std.proofs.lemmas.List.{get_or_read_under}
 use Rattle.gq_bits.proofs.Words.{length-bits_of}
-use Rattle.gq_bits.specs.Bits.{bits_of}
+use Rattle.gq_bits.specs.steps.Bits.{bits_of}
 use Rattle.gq_bits.proofs.Ranks.{rank_is, rank_le}
 use Rattle.gq_bits.proofs.ranked.BitList.rank.Goals as goal
 

@@ -1,6 +1,6 @@
 use Rattle.std.proofs.Common.{not}
 use Rattle.std.specs.Prelude.{◌&&◌}
-use Rattle.gq_bits.specs.Bits.{bit_of}
+use Rattle.gq_bits.specs.steps.Bits.{bit_of}
 use Rattle.gq_bits.proofs.Words.{ChangedBelow}
 use Rattle.gq_bits.proofs.vector_marks.Marks.and_not.Given as goal
 

@@ -3,7 +3,7 @@ use Rattle.std.specs.Prelude.{count_ones}
 use Rattle.std.specs.List.{sum_by, range_with_len}
 use Rattle.std.proofs.lemmas.List.{take_all}
 use Rattle.std.proofs.lemmas.List.Sums.{sum_by_more}
-use Rattle.gq_bits.specs.Bits.{bit_of}
+use Rattle.gq_bits.specs.steps.Bits.{bit_of}
 use Rattle.gq_bits.proofs.Counts.{count_by-map, count_words, ones_at_most}
 use Rattle.gq_bits.proofs.vector_marks.Marks.count.Goals as goal
 

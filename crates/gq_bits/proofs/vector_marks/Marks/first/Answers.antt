@@ -3,7 +3,7 @@ use Rattle.std.proofs.lemmas.Bool.{le-ltb}
 use Rattle.std.specs.Prelude.{nat_lt}
 use Rattle.std.proofs.lemmas.List.{length-set}
 use Rattle.gq_bits.specs.declared.TheConstants.{VECTOR}
-use Rattle.gq_bits.specs.Bits.{bit_of}
+use Rattle.gq_bits.specs.steps.Bits.{bit_of}
 use Rattle.gq_bits.proofs.Words.{is_marked-bits_of, length-bits_of, bit_of-zeros}
 use Rattle.gq_bits.proofs.Search.{first_more, low_bits, low_part}
 use Rattle.gq_bits.proofs.vector_marks.Marks.first.Goals as goal

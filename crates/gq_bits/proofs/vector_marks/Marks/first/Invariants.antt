@@ -1,6 +1,6 @@
 use Rattle.std.proofs.Common.{◌≡◌, ◌*◌, ℕ, length}
 use Rattle.std.specs.Prelude.{nat_lt}
-use Rattle.gq_bits.specs.Bits.{bit_of}
+use Rattle.gq_bits.specs.steps.Bits.{bit_of}
 use Rattle.gq_bits.proofs.vector_marks.Marks.first.Given as goal
 
 abbrev pub invariant-loop-index : goal.invariant-loop-index

@@ -1,6 +1,7 @@
 use Rattle.std.proofs.Common.{◌≡◌, drop}
 use Rattle.std.specs.List.{list_all}
-use Rattle.gq_plan.specs.Known.{known_of, reads_bound, tester_bound}
+use Rattle.gq_plan.specs.Known.{known_of, reads_bound}
+use Rattle.gq_plan.specs.steps.Known.{tester_bound}
 use Rattle.gq_plan.proofs.known.Known.+binds_all.Given as goal
 
 abbrev pub invariant-binds_each-loop-part : goal.invariant-binds_each-loop-part

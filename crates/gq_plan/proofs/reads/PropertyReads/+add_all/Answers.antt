@@ -1,5 +1,6 @@
 use Rattle.std.proofs.Common.{◌≡◌, ◌∙◌}
-use Rattle.gq_plan.specs.Reads.{properties_of, tester_properties, with_reads}
+use Rattle.gq_plan.specs.Reads.{properties_of, with_reads}
+use Rattle.gq_plan.specs.steps.Reads.{tester_properties}
 use Rattle.gq_plan.proofs.ReadLemmas.{reads_more}
 use Rattle.gq_plan.proofs.reads.PropertyReads.+add_all.Goals as goal
 use Rattle.gq_plan.proofs.reads.PropertyReads.+add_all.Goals.{add_testers-in-IsNull, add_testers-in-IsNotNull, add_testers-in-Member, add_testers-in-Starts+in_ok-add_all-in-Starts, add_testers-in-Ends+in_ok-add_all-in-Ends, add_testers-in-Contains+in_ok-add_all-in-Contains}

@@ -1,5 +1,6 @@
 use Rattle.std.proofs.Common.{◌≡◌, drop, flat_map}
-use Rattle.gq_plan.specs.Reads.{properties_of, tester_properties, with_reads}
+use Rattle.gq_plan.specs.Reads.{properties_of, with_reads}
+use Rattle.gq_plan.specs.steps.Reads.{tester_properties}
 use Rattle.gq_plan.proofs.reads.PropertyReads.+add_all.Given as goal
 
 abbrev pub invariant-add_each-loop-part : goal.invariant-add_each-loop-part

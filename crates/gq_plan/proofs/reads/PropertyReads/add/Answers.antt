@@ -5,7 +5,8 @@ use Rattle.std.specs.Ordering.{nat_cmp}
 use Rattle.std.specs.Str.{bytes_eq}
 use Rattle.std.specs.List.{list_any}
 use Rattle.std.proofs.lemmas.Map.Text.{is_eq-slice_cmp}
-use Rattle.gq_plan.specs.Reads.{Read, has_name, property, with_read, same_read}
+use Rattle.gq_plan.specs.Reads.{Read, property, with_read, same_read}
+use Rattle.gq_plan.specs.steps.Reads.{has_name}
 use Rattle.gq_plan.specs.Variables.{seen}
 use Rattle.gq_plan.proofs.NameLemmas.{no_read, not_there, still_apart}
 use Rattle.gq_plan.proofs.reads.PropertyReads.add.Goals as goal

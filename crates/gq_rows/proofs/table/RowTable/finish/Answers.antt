@@ -2,7 +2,7 @@ use Rattle.std.proofs.Common.{subst, sym}
 use Rattle.std.specs.Prelude.{IfOk}
 use Rattle.gq_rows.specs.Tables.{AnswersListings, StandsForSome}
 use Rattle.gq_rows.proofs.Answering.{finished}
-use Rattle.gq_rows.specs.Inner.{table_of}
+use Rattle.gq_rows.specs.steps.Inner.{table_of}
 use Rattle.gq_rows.proofs.table.RowTable.finish.Goals as goal
 
 pub listing_of-requires : goal.listing_of-requires

@@ -3,7 +3,7 @@ use Rattle.std.proofs.lemmas.List.{get_or_read}
 use Rattle.gq_base.specs.Plain.{Graph}
 use Rattle.gq_base.specs.declared.cell.Cell.{Cell}
 use Rattle.gq_store.specs.Columns.{AreCells, IsDictOf}
-use Rattle.gq_store.specs.Kept.{AreNodesKept}
+use Rattle.gq_store.specs.steps.Kept.{AreNodesKept}
 use Rattle.gq_store.proofs.Keeping.{node_table_at, property_at, property_reach}
 use Rattle.gq_store.proofs.graph.Graph.node_column.Goals as goal
 

@@ -3,7 +3,7 @@ use Rattle.std.proofs.lemmas.List.{get_or_read}
 use Rattle.gq_base.specs.Plain.{Graph}
 use Rattle.gq_base.specs.declared.cell.Cell.{Cell}
 use Rattle.gq_store.specs.Columns.{AreCells, IsDictOf}
-use Rattle.gq_store.specs.Kept.{AreRelsKept}
+use Rattle.gq_store.specs.steps.Kept.{AreRelsKept}
 use Rattle.gq_store.proofs.Keeping.{rel_table_at, property_at, property_reach}
 use Rattle.gq_store.proofs.graph.Graph.rel_column.Goals as goal
 

@@ -2,8 +2,8 @@ use Rattle.std.proofs.Common.{◌≡◌, None, Some, get_or, arith, ◌∙◌}
 use Rattle.std.proofs.lemmas.Grind.{common_steps}
 use Rattle.gq_base.specs.Values.{val}
 use Rattle.gq_tables.proofs.SlotSteps.{others_tell, place_tells}
-use Rattle.gq_tables.specs.KeyMaps.{row_at}
-use Rattle.gq_tables.specs.Slots.{place_of, row_in}
+use Rattle.gq_tables.specs.steps.KeyMaps.{row_at}
+use Rattle.gq_tables.specs.steps.Slots.{place_of, row_in}
 use Rattle.gq_tables.proofs.key_index.KeyIndex.get.Goals as goal
 
 pub returns-in-Some : goal.returns-in-Some

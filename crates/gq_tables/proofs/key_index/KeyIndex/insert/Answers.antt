@@ -3,8 +3,8 @@ use Rattle.std.specs.Prelude.{IfOk}
 use Rattle.std.proofs.lemmas.Grind.{common_steps}
 use Rattle.gq_base.specs.Plain.{cell_val}
 use Rattle.gq_tables.proofs.SlotSteps.{others_tell, place_tells, put_after, put_there, spare_after, spare_there}
-use Rattle.gq_tables.specs.KeyMaps.{row_at}
-use Rattle.gq_tables.specs.Slots.{place_of, row_in}
+use Rattle.gq_tables.specs.steps.KeyMaps.{row_at}
+use Rattle.gq_tables.specs.steps.Slots.{place_of, row_in}
 use Rattle.gq_tables.proofs.key_index.KeyIndex.insert.Goals as goal
 
 pub invariant_of-self-clause-spare : goal.invariant_of-self-clause-spare

@@ -1,6 +1,6 @@
 use Rattle.std.proofs.Common.{◌≡◌, ◌+◌, ◌*◌, None, replicate, rules}
 use Rattle.gq_tables.proofs.SlotSteps.{spare_free}
-use Rattle.gq_tables.specs.KeyMaps.{row_at}
+use Rattle.gq_tables.specs.steps.KeyMaps.{row_at}
 use Rattle.gq_tables.specs.declared.key_index.TheConstants.{SLOTS_PER_ROW, WINDOW}
 use Rattle.gq_tables.proofs.key_index.KeyIndex.new.Goals as goal
 

@@ -1,6 +1,6 @@
 use Rattle.std.proofs.Common.{◌≡◌, arith}
 use Rattle.gq_tables.proofs.KeySteps.{all_mapped}
-use Rattle.gq_tables.specs.NearKeys.{near}
+use Rattle.gq_tables.specs.steps.NearKeys.{near}
 use Rattle.gq_tables.proofs.near_keys.NearKeys.with_rows.Goals as goal
 
 pub returns : goal.returns

@@ -1,5 +1,5 @@
 use Rattle.gq_tables.proofs.KeySteps.{Mapped}
-use Rattle.gq_tables.specs.NearKeys.{near}
+use Rattle.gq_tables.specs.steps.NearKeys.{near}
 use Rattle.gq_tables.proofs.near_keys.NearKeys.with_rows.Given as goal
 
 abbrev pub invariant-rows : goal.invariant-rows

@@ -1,0 +1,88 @@
+-- What the checks and the bound form of a query share, what each check finds in it, and the bound form that it gives.
+use Rattle.std.specs.Prelude.{ℕ, Option, None, List, [], ◌∷◌, ◌++◌, map, flat_map, filter_map, length, unwrap_or, if◌then◌else◌}
+use Rattle.std.specs.Option.{option_map}
+use Rattle.gq_base.specs.Catalogs.{Tables}
+use Rattle.gq_plan.specs.Reads.{Read, properties_of, distinct}
+use Rattle.gq_plan.specs.Soundness.{max_reads}
+use Rattle.gq_plan.specs.declared.Bound.{Bound}
+use Rattle.gq_plan.specs.declared.NamedExpr.{NamedExpr}
+use Rattle.gq_syntax.specs.declared.Query.{Query}
+use Rattle.gq_alternatives.specs.Alternatives.{Choice, typed_of}
+use Rattle.gq_binder.specs.Columns.{Scoped, conditions, columns, columns_in, column_expr, entry_test, sort_expr, sort_scope}
+use Rattle.gq_binder.specs.steps.Names.{no_names, with_expressions}
+use Rattle.gq_binder.specs.Refusals.{items_in, sorts_in, first_in, variable_conflict, relationship_repeated, column_repeated, nothing_to_return, out_of_scope_from, too_many_patterns, over_limit, max_columns}
+use Rattle.gq_binder.specs.declared.parts.QueryParts.{QueryParts}
+use Rattle.gq_binder.specs.declared.refusal.BindRefusal.{BindRefusal}
+use Rattle.gq_binder.specs.declared.refusal.BindRefusal.TheVariants as refusal
+use Rattle.gq_trees.specs.Conjuncts.{conjunct_expr}
+use Rattle.gq_trees.specs.MadeOf.{column_exprs}
+use Rattle.gq_scopes.specs.Patterns.{Pattern, pattern_of}
+use Rattle.gq_trees.specs.Renames.{ambiguous_name}
+use Rattle.gq_trees.specs.Resolving.{as_lists, functions, split, all_some}
+use Rattle.gq_scopes.specs.Scopes.{scope_of}
+
+-- the conjuncts of conditions, of those all of whose conjuncts stand for an expression
+abbrev pub known_conjuncts : List ℕ → List Scoped → List NamedExpr
+known_conjuncts text cs =
+    flat_map (λ c. unwrap_or (all_some (map (conjunct_expr text) (split functions c.scope c.tree).conjuncts)) []) cs
+
+-- the parts of a query that stands in a text
+unfoldable pub parts_of : List ℕ → Query → QueryParts
+parts_of text query =
+    let p : Pattern = pattern_of query.clauses in
+    record {
+      pattern = p;
+      names = with_expressions no_names
+          (conditions query ++ (items_in (scope_of p) query.items ++ sorts_in (sort_scope functions text query) query.order));
+      columns = columns functions text query;
+      conjuncts = known_conjuncts text (conditions query);
+      tests = map (entry_test text) p.entries;
+    }
+
+-- with DISTINCT, an item of ORDER BY is not made of columns
+abbrev pub out_of_scope_in : List ℕ → Query → Pattern → Option BindRefusal
+out_of_scope_in text query p =
+    if query.distinct
+    then out_of_scope_from 1 (column_exprs (columns_in as_lists text p query))
+    (record (scope_of p) { columns = columns_in as_lists text p query }) query.order
+    else None
+
+-- a name in ORDER BY is a variable, and AS gives it to another column
+abbrev pub ambiguous_in : Query → Pattern → Option BindRefusal
+ambiguous_in query p =
+    option_map refusal.AmbiguousOrderName
+    (first_in (λ _. ambiguous_name (scope_of p) query.items) (sorts_in (scope_of p) query.order))
+
+-- the properties that expressions read
+abbrev pub reads_in : List NamedExpr → List Read
+reads_in es = flat_map (λ e. properties_of e.expr) es
+
+-- what each check but the last finds, in their order
+abbrev pub checks_in : List ℕ → Query → QueryParts → List (Option BindRefusal)
+checks_in text query parts =
+    option_map refusal.UnknownVariable parts.names.variable
+    ∷ variable_conflict parts.pattern
+    ∷ relationship_repeated parts.pattern
+    ∷ column_repeated parts.columns
+    ∷ nothing_to_return query parts.pattern
+    ∷ out_of_scope_in text query parts.pattern
+    ∷ ambiguous_in query parts.pattern
+    ∷ option_map refusal.UnknownFunction parts.names.function
+    ∷ option_map refusal.ArgumentCount parts.names.arguments
+    ∷ too_many_patterns parts.pattern
+    ∷ over_limit max_reads (length (distinct (reads_in parts.tests ++ reads_in parts.conjuncts))) refusal.TooManyReads
+    ∷ over_limit max_columns (length parts.columns) refusal.TooManyColumns ∷ []
+
+-- the bound form that the parts of a query give, with what stands for an expression
+abbrev pub bound_in : Tables → Query → QueryParts → List Choice → Bound
+bound_in catalog query parts choices = record {
+  node_names = parts.pattern.node_names;
+  rel_names = parts.pattern.rel_names;
+  columns = filter_map column_expr parts.columns;
+  conjuncts = parts.conjuncts;
+  keys = filter_map (sort_expr (record (scope_of parts.pattern) { columns = parts.columns })) query.order;
+  distinct = query.distinct;
+  skip = unwrap_or query.skip 0;
+  limit = query.limit;
+  alternatives = map (typed_of catalog parts.pattern parts.tests parts.conjuncts) choices;
+}

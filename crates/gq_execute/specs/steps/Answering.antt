@@ -1,0 +1,78 @@
+-- How far a query is answered, alternative by alternative.
+use Rattle.std.specs.Prelude.{◌≡◌, ◌⊎◌, ◌≤◌, ℕ, length, take, true, false, Some, Result, Ok, Err, List, [], ◌++◌, flat_map, slice_get}
+use Rattle.std.specs.List.Sorted.{IsPermutation}
+use Rattle.gq_law_answers.specs.Answered.{MakesLateOutcomes}
+use Rattle.gq_binder.specs.Binding.{IsBound}
+use Rattle.gq_expr.specs.declared.Fault.{Fault}
+use Rattle.gq_plan.specs.Covers.{Covers}
+use Rattle.gq_plan.specs.Meaning.{meaning}
+use Rattle.gq_plan.specs.Outcomes.{Row, late_outcomes}
+use Rattle.gq_plan.specs.Plans.{Plan}
+use Rattle.gq_plan.specs.declared.Bound.{Bound}
+use Rattle.gq_plan.specs.declared.Typed.{Typed}
+use Rattle.gq_rows.specs.Tables.{StandsFor, Table, is_full_table}
+use Rattle.gq_syntax.specs.declared.Query.{Query}
+use Rattle.gq_base.specs.Plain.{Graph}
+use Rattle.gq_execute.specs.Answering.{question, RepliesToEach}
+use Rattle.gq_execute.specs.Replies.{Question, all_outcomes, outcomes_in, has_large_part, some_heavy}
+use Rattle.gq_execute.specs.steps.Taking.{MeetsFault, MeetsMany, Takes}
+use Rattle.gq_execute.specs.declared.refusal.AnswerRefusal.{AnswerRefusal}
+use Rattle.gq_execute.specs.declared.refusal.AnswerRefusal.TheVariants as refusal
+use Rattle.gq_execute.specs.declared.settings.Order.{Order}
+use Rattle.gq_execute.specs.declared.settings.Settings.{Settings}
+
+-- each plan that covers an alternative makes the outcomes of the matches that lie in it, and these are together those of all
+-- matches
+pub record AreParted (a : Question) : Type 0 where
+  pub each : (k : ℕ) (y : Typed) → slice_get a.bound.alternatives k ≡ Some y
+      → MakesLateOutcomes a.graph a.query a.bound y
+  pub all : IsPermutation (flat_map (outcomes_in a) a.bound.alternatives) (all_outcomes a)
+
+-- these alternatives were begun: the outcomes in them are those that were pushed and those that are left, and none is heavy
+pub record Reached (a : Question) (begun : List Typed) (pushed left : List (Result Row Fault)) : Type 0 where
+  pub as_a_bag : IsPermutation (flat_map (outcomes_in a) begun) (pushed ++ left)
+  pub light : some_heavy a 0 begun ≡ false
+
+-- the table stands for what was pushed of them; all was pushed, or the table is full
+pub record Came (a : Question) (begun : List Typed) (table : Table) : Type 0 where
+  pub pushed : List (Result Row Fault)
+  pub left : List (Result Row Fault)
+  pub at : Reached a begun pushed left
+  pub bound : table.bound ≡ a.bound
+  pub most : table.most ≡ a.most
+  pub stands : StandsFor a.bound a.most pushed table.held
+  pub done : (is_full_table table ≡ true) ⊎ (left ≡ [])
+
+-- an alternative has no large part, and its plan, which covers it, makes outcomes that meet a property
+pub record Runs (g : Graph) (b : Bound) (order : Order) (most : ℕ) (y : Typed) (Meets : List (Result Row Fault) → Type 0) : Type 0 where
+  pub plan : Plan
+  pub covers : Covers g.catalog y plan
+  pub light : has_large_part g order most y ≡ false
+  pub meets : Meets (late_outcomes g b y (meaning g y plan))
+
+-- how the turn of an alternative ends: its outcomes went into the table, or one of them or a large part stopped it
+abbrev pub Drains : Graph → Bound → Order → Typed → Table → Table → Result (Unit {0}) AnswerRefusal → Type 0
+Drains g b order y old new (Ok _) = Runs g b order old.most y (λ os. Takes os old new)
+Drains g b order y old new (Err (refusal.Fault f)) = Runs g b order old.most y (λ os. MeetsFault os old f)
+Drains g b order y old new (Err (refusal.TooManyRows most)) =
+    (most ≡ old.most) × ((has_large_part g order old.most y ≡ true) ⊎ Runs g b order old.most y (λ os. MeetsMany os old))
+Drains g b order y old new (Err refusal.Memory) = Unit {0}
+
+-- an empty table for a query
+pub record IsFresh (b : Bound) (settings : Settings) (table : Table) : Type 0 where
+  pub bound : table.bound ≡ b
+  pub most : table.most ≡ settings.rows
+  pub none : StandsFor b settings.rows [] table.held
+
+-- the turns of these many alternatives were taken: of all, or of as many as filled the table
+pub record Filled (a : Question) (table : Table) : Type 0 where
+  pub turns : ℕ
+  pub came : Came a (take turns a.bound.alternatives) table
+  pub done : (is_full_table table ≡ true) ⊎ (length a.bound.alternatives ≤ turns)
+
+-- how the turns end, for each query that is bound so
+abbrev pub Fills : Graph → Bound → Settings → Table → Result (Unit {0}) AnswerRefusal → Type 0
+Fills g bound settings table (Ok _) =
+    (query : Query) (text : List ℕ) → IsBound query text g.catalog bound
+    → Filled (question g query bound settings) table
+Fills g bound settings table (Err refused) = RepliesToEach g bound settings (Err refused)

@@ -1,0 +1,4 @@
+pub mod Inner
+pub mod Kept
+pub mod Order
+pub mod Tables

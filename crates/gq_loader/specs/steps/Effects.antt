@@ -1,0 +1,32 @@
+-- What is told of the files before a part of a load and after it (this project's profile).
+use Rattle.std.specs.Prelude.{◌≡◌, ℕ, List}
+use Rattle.std.specs.declared.option.Option.{Option}
+use Rattle.std.specs.declared.result.Result.{Result}
+use Rattle.gq_io.specs.Causes.{Rose}
+use Rattle.gq_io.specs.Outside.{Names}
+use Rattle.gq_loader.specs.Effects.{ByFault, ByMiss, ReadsFew}
+use Rattle.gq_loader.specs.declared.refusal.LoadStop.{LoadStop}
+
+-- what is told of the files at one time
+pub record Told : Type 0 where
+  pub held : Option Names
+  pub left : Option (List ℕ)
+  pub faults : ℕ
+  pub misses : ℕ
+
+abbrev pub told_of : {D : Type 0} → (D → Option Names) → (D → Option (List ℕ)) → (D → ℕ) → (D → ℕ)
+    → D → Told
+told_of held left faults misses files = record {
+  held = held files;
+  left = left files;
+  faults = faults files;
+  misses = misses files;
+}
+
+-- what a part of a load does to the files: it changes none, its faults and misses have their
+-- causes, and unless a call failed it read no more of a file than it may
+pub record Reads {T : Type 0} (most : ℕ) (old new : Told) (result : Result T LoadStop) : Type 0 where
+  pub held : new.held ≡ old.held
+  pub faults : ByFault old.faults new.faults result
+  pub misses : ByMiss old.misses new.misses result
+  pub few : ¬ (Rose old.faults new.faults) → ReadsFew old.held new.left most

@@ -1,0 +1,4 @@
+pub mod Known
+pub mod Reads
+pub mod Rows
+pub mod Times

@@ -1,0 +1,2 @@
+pub mod BindLines
+pub mod Steps

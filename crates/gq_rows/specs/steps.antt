@@ -1,0 +1,5 @@
+pub mod Inner
+pub mod Judged
+pub mod Keeping
+pub mod Lines
+pub mod Sorting

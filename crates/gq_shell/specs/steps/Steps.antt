@@ -1,0 +1,66 @@
+-- How a part of a run ends, for the contracts of its helpers.
+use Rattle.std.specs.Prelude.{◌≡◌, ◌⊎◌, ℕ, ◌≤◌, List, Result, Ok, Err}
+use Rattle.std.specs.Io.KnownBytes.{Appends, Keeps}
+use Rattle.gq_base.specs.Plain.{Graph}
+use Rattle.gq_execute.specs.declared.settings.Settings.{Settings}
+use Rattle.gq_io.specs.Causes.{Rose}
+use Rattle.gq_io.specs.Outside.{AppendsFront}
+use Rattle.gq_io.specs.declared.Failed.{Failed}
+use Rattle.gq_loader.specs.declared.LoadStop.{LoadStop}
+use Rattle.gq_loader.specs.declared.LoadStop.TheVariants as load
+use Rattle.gq_reply.specs.Replies.{Context, IsReply}
+use Rattle.gq_session.specs.Replies.{Wrote, WroteFront}
+use Rattle.gq_session.specs.Sessions.{Session, Span}
+use Rattle.gq_session.specs.Whole as session
+use Rattle.gq_session.specs.declared.answering.Tone.{Tone}
+use Rattle.gq_session.specs.declared.run.Stop.{Stop}
+use Rattle.gq_shell.specs.Claim.{full, long, most, short}
+use Rattle.gq_shell.specs.LoadLines.{load_line}
+use Rattle.gq_shell.specs.Questions.{IsNumbered, questions}
+use Rattle.gq_shell.specs.steps.Statuses.{status_of}
+use Rattle.gq_shell.specs.declared.status.Status.{Status}
+use Rattle.gq_shell.specs.declared.status.Status.TheVariants as status
+
+-- the status of a run that ended with a line
+abbrev pub told : Result (Unit {0}) Failed → Status → Status
+told (Ok _) s = s
+told (Err _) s = status.WriteFault
+
+-- a line was written and this is the status, or a front of it was and the sink failed
+abbrev pub Told : List ℕ → Status → Span → Status → Type 0
+Told text s out answer =
+    ((answer ≡ s) × Appends out.old out.new text)
+    ⊎ ((answer ≡ status.WriteFault) × AppendsFront out.old out.new text × Rose out.before out.now)
+
+-- what becomes of a load that gave no graph: the line of its refusal is written, or nothing after a
+-- fault and for want of memory
+abbrev pub EndsLoad : LoadStop → Span → Status → Type 0
+EndsLoad (load.Refused e) out answer = Told (load_line e) status.NotLoaded out answer
+EndsLoad (load.ReadFault name) out answer = Keeps out.old out.new × (answer ≡ status.ReadFault)
+EndsLoad load.Memory out answer = Keeps out.old out.new × (answer ≡ status.Memory)
+
+-- how a session over a graph ended
+pub record IsServed (graph : Graph) (settings : Settings) (input out : Span) (answer : Status) : Type 0 where
+  pub result : Result Tone Stop
+  pub is : answer ≡ status_of result
+  pub read : Session (IsReply (full graph settings)) long most input out result
+  pub whole : session.Whole (IsReply (full graph settings)) long most input out result
+
+-- there was not enough memory to begin, or a session was had
+abbrev pub Served : Graph → Settings → Span → Span → Status → Type 0
+Served graph settings input out answer =
+    ((answer ≡ status.Memory) × (input.new ≡ input.old) × Keeps out.old out.new)
+    ⊎ IsServed graph settings input out answer
+
+-- the questions were answered, or a front of their answers was written and the sink failed
+abbrev pub Asked : Context → Span → Result Tone Failed → Type 0
+Asked c out (Ok t) = Wrote (IsNumbered c) questions t out.old out.new × (out.before ≤ out.now)
+Asked c out (Err failed) = WroteFront (IsNumbered c) questions out.old out.new × Rose out.before out.now
+
+-- there was not enough memory for the sample graph, or it was asked the questions
+abbrev pub Quizzed : ℕ → Settings → Span → Status → Type 0
+Quizzed size settings out answer =
+    ((answer ≡ status.Memory) × Keeps out.old out.new)
+    ⊎ ((t : Tone) × (answer ≡ status_of (Ok t)) × Wrote (IsNumbered (short size settings)) questions t out.old out.new)
+    ⊎ ((answer ≡ status.WriteFault) × WroteFront (IsNumbered (short size settings)) questions out.old out.new
+    × Rose out.before out.now)

@@ -1,0 +1,6 @@
+pub mod Nesting
+pub mod Parsers
+pub mod Parsing
+pub mod Readers
+pub mod Repeats
+pub mod Spans

@@ -1,0 +1,10 @@
+pub mod Batches
+pub mod Cells
+pub mod Indexes
+pub mod KeyIndexes
+pub mod KeyMaps
+pub mod NearKeys
+pub mod Passes
+pub mod Sides
+pub mod Slots
+pub mod Unread

@@ -1,0 +1,3 @@
+pub mod Conjuncts
+pub mod Trees
+pub mod Uses
