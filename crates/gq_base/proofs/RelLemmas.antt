@@ -45,7 +45,7 @@ cut_push start (h ∷ heads) cells more head (le, cut) end = (le, cut_push h.end
 -- a relationship with its cells
 pub rels_at : (start : ℕ) (heads : List Head) (cells : List (Option Cell)) (number : ℕ) (d : Head) → number < length heads
     → slice_get (rels_from start heads cells) number
-      ≡ Some (record { source = (get_or heads number d).source; target = (get_or heads number d).target; cells = slice_range cells (start_at start heads number) (get_or heads number d).end })
+    ≡ Some (record { source = (get_or heads number d).source; target = (get_or heads number d).target; cells = slice_range cells (start_at start heads number) (get_or heads number d).end })
 rels_at start [] cells number d within = absurd (omega arith)
 rels_at start (h ∷ heads) cells zero d within = refl
 rels_at start (h ∷ heads) cells (suc number) d within = rels_at h.end heads cells number d (omega arith)
@@ -65,6 +65,6 @@ start_next start (h ∷ heads) (suc number) d within = start_next h.end heads nu
 
 pub start_behind : (start : ℕ) (heads : List Head) (number : ℕ) (d : Head) → ¬ (number ≡ 0) → number ≤ length heads → (get_or heads (number - 1) d).end ≡ start_at start heads number
 start_behind start heads number d some within =
-    let least : 0 < number = elim (cases_lt 0 number) [ | inl more ↦ more | inr less ↦ absurd (some (omega arith)) ] in
+    let least : 0 < number = elim (cases_lt 0 number) [ inl more ↦ more | inr less ↦ absurd (some (omega arith)) ] in
     let next : suc (number - 1) ≡ number = omega (arith, least) in
     start_next start heads (number - 1) d (omega arith) ∙ ap (start_at start heads) next

@@ -67,14 +67,7 @@ impl RelRows {
     }
 
     /// The relationship with a load number.
-    #[tactic(
-        auto,
-        using(
-            crate::proofs::RelLemmas::length_rels_from,
-            crate::proofs::RelLemmas::cut_at,
-            crate::proofs::RelLemmas::rels_at
-        )
-    )]
+    #[tactic(auto, using(crate::proofs::RelLemmas::length_rels_from, crate::proofs::RelLemmas::cut_at, crate::proofs::RelLemmas::rels_at))]
     pub fn rel(&self, number: usize) -> RelRef<'_>
         requires { number < length self.now }
         ensures { slice_get self.now number ≡ Some (rel_seen result) }
@@ -99,13 +92,7 @@ impl RelRows {
 
     /// Appends a relationship as `push` does, and answers the list that held its cells: it is empty,
     /// and has room for those of the next.
-    #[tactic(
-        auto,
-        using(
-            crate::proofs::RelLemmas::cut_push,
-            crate::proofs::RelLemmas::rels_push
-        )
-    )]
+    #[tactic(auto, using(crate::proofs::RelLemmas::cut_push, crate::proofs::RelLemmas::rels_push))]
     pub fn take(&mut self, rel: PlainRel) -> Result<Row, Memory>
         ensures taken { OnOk result (self.new ≡ self.old ++ rel ∷ []) }
         ensures room { IfOk result (λ room. room ≡ []) }
@@ -122,7 +109,11 @@ impl RelRows {
             return Err(Memory);
         }
         let end = self.cells.len();
-        match self.heads.push(Head { source, target, end }) {
+        match self.heads.push(Head {
+            source,
+            target,
+            end,
+        }) {
             Ok(()) => Ok(List::from_vec(cells)),
             Err(_) => {
                 self.cells.truncate(before);

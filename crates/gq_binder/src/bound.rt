@@ -88,7 +88,9 @@ fn without_lists(
 ) -> Result<Bound, Memory>
     ensures { IfOk result (λ b. b
         ≡ record (bound_in catalog.now query.now parts.now choices.now) {
-        columns = []; conjuncts = [] }) }
+          columns = [];
+          conjuncts = [];
+        }) }
 {
     let pattern = &parts.pattern;
     let scope = pattern.scope(parts.columns.as_slice())?;

@@ -31,8 +31,11 @@ impl<'q> Model for FirstNames<'q> {
 
     ghost Value = { FirstNames };
 
-    ghost view = { λ n. record { variable = option_copied n.variable;
-        function = option_copied n.function; arguments = option_copied n.arguments } };
+    ghost view = { λ n. record {
+      variable = option_copied n.variable;
+      function = option_copied n.function;
+      arguments = option_copied n.arguments;
+    } };
 }
 
 impl<'q> FirstNames<'q> {

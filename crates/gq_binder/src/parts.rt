@@ -77,7 +77,8 @@ fn lists_of<'q>(
         ≡ with_expressions (with_expressions names.old
         (items_in (scope_of pattern.now) query.now.items))
         (sorts_in (record (scope_of pattern.now) {
-        columns = columns_in functions text.now pattern.now query.now }) query.now.order)) }
+          columns = columns_in functions text.now pattern.now query.now;
+        }) query.now.order)) }
 {
     let columns = columns_of(alloc, CallForm::Functions, text, pattern, query)?;
     let tests = entry_tests(alloc, text, pattern.entries())?;

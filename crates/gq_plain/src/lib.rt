@@ -34,7 +34,10 @@ impl Model for PlainGraph {
     ghost Value = { Graph };
 
     ghost view = { λ g. record {
-        catalog = g.catalog; nodes = g.nodes.items; rels = g.rels.items } };
+      catalog = g.catalog;
+      nodes = g.nodes.items;
+      rels = g.rels.items;
+    } };
 
     ghost invariant = { λ g. (length g.nodes.items ≡ length g.catalog.nodes)
         × (length g.rels.items ≡ length g.catalog.rels) };
@@ -114,7 +117,8 @@ impl PlainGraph {
     pub fn set_node_fields(&mut self, table: u32, fields: List<Field>)
         requires { table < length self.old.nodes }
         ensures catalog { self.new.catalog ≡ record self.old.catalog {
-            nodes = with_node_fields table fields self.old.catalog.nodes } }
+          nodes = with_node_fields table fields self.old.catalog.nodes;
+        } }
         ensures nodes { self.new.nodes ≡ self.old.nodes }
         ensures rels { self.new.rels ≡ self.old.rels }
     {
@@ -125,7 +129,8 @@ impl PlainGraph {
     pub fn set_rel_fields(&mut self, table: u32, fields: List<Field>)
         requires { table < length self.old.rels }
         ensures catalog { self.new.catalog ≡ record self.old.catalog {
-            rels = with_rel_fields table fields self.old.catalog.rels } }
+          rels = with_rel_fields table fields self.old.catalog.rels;
+        } }
         ensures nodes { self.new.nodes ≡ self.old.nodes }
         ensures rels { self.new.rels ≡ self.old.rels }
     {

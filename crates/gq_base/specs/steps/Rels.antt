@@ -9,7 +9,7 @@ use Rattle.gq_base.specs.declared.rels.Head.{Head}
 abbrev pub rels_from : ℕ → List Head → List (Option Cell) → List PlainRel
 rels_from start [] cells = []
 rels_from start (head ∷ heads) cells =
-  record { source = head.source; target = head.target; cells = slice_range cells start head.end } ∷ rels_from head.end heads cells
+    record { source = head.source; target = head.target; cells = slice_range cells start head.end } ∷ rels_from head.end heads cells
 
 -- the cells of each relationship end where those of the next begin, and those of the last where all end
 abbrev pub AreCut : ℕ → List Head → List (Option Cell) → Type 0

@@ -35,8 +35,12 @@ left c = length-records _ _ _ (records c)
 pub take_batch-requires-clause-few_records : goal.take_batch-requires-clause-few_records
 take_batch-requires-clause-few_records c =
     let before = rw c.loop-more-test.true at c.loop-more.invariant.size in
-    omega (arith, before, left (goal.at.take_batch-requires-clause-few_records c).After-find_ends,
-    c.requires.few_records)
+    omega (
+      arith,
+      before,
+      left (goal.at.take_batch-requires-clause-few_records c).After-find_ends,
+      c.requires.few_records,
+    )
 
 pub loop-more-smaller : goal.loop-more-smaller
 loop-more-smaller c =
