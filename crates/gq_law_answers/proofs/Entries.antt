@@ -1,5 +1,5 @@
 -- The test of a map entry is true where the entry holds.
-use Rattle.std.proofs.Common.{◌≡◌, ℕ, Bool, true, false, Option, Some, None, Ok, List, [], ◌∷◌, map, refl, ap₂, ◌∙◌}
+use Rattle.std.proofs.Common.{◌≡◌, ℕ, Bool, true, false, Option, Some, None, Ok, List, [], ◌∷◌, map, refl, ap₂, ◌∙◌, ◌&&◌}
 use Rattle.std.specs.List.{list_all}
 use Rattle.gq_base.specs.Plain.{Graph}
 use Rattle.gq_base.specs.Truth.{and3}

@@ -1,6 +1,6 @@
 -- The alternatives of a query, with tests of its map entries, and plans that cover them, give the matches for which all
 -- conjuncts are true.
-use Rattle.std.proofs.Common.{◌≡◌, suc, Bool, true, ◌&&◌, List, [], ◌∷◌, map, filter, flat_map, length, IsTrue, IsPermutation, refl, sym, ap, ap₂, ◌∙◌, subst, true≢false}
+use Rattle.std.proofs.Common.{◌≡◌, suc, Bool, true, ◌&&◌, List, [], ◌∷◌, map, filter, flat_map, length, IsTrue, IsPermutation, refl, sym, ap, ap₂, ◌∙◌, subst, true≢false, ◌++◌}
 use Rattle.std.specs.List.{AllByRecursion, All, AllZip, list_all}
 use Rattle.std.proofs.Math.Bool.{and_assoc, and_comm}
 use Rattle.std.proofs.lemmas.Bool.{and_parts}
