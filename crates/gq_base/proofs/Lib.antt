@@ -1,5 +1,5 @@
 pub mod ListFacts
 pub mod ListLaws
-pub mod RelLemmas
+pub mod RowLemmas
 pub mod Texts
 pub mod TruthLaws

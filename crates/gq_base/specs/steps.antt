@@ -1,1 +1,2 @@
 pub mod Rels
+pub mod Rows

@@ -44,10 +44,10 @@ pub fn cell_value(cell: &Option<Cell>) -> Value<'_>
 }
 
 /// The key of a node's row, its first cell, or `None` where that is null or missing.
-pub fn key_of(row: &Row) -> Option<Value<'_>>
+pub fn key_of(row: &[Option<Cell>]) -> Option<Value<'_>>
     ensures { option_map val result ≡ valid.key_of row.now }
 {
-    match row.as_slice() {
+    match row {
         [Some(cell), ..] => Some(cell.value()),
         _ => None,
     }
@@ -55,9 +55,6 @@ pub fn key_of(row: &Row) -> Option<Value<'_>>
 
 /// One optional cell for each field of the table, in the order of its fields.
 pub type Row = List<Option<Cell>>;
-
-/// The rows of a node table.
-pub type NodeRows = List<Row>;
 
 /// A relationship: the row of its source, the row of its target, and its cells.
 #[derive(Debug, Drop)]

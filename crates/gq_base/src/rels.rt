@@ -1,12 +1,11 @@
-//! The relationships of a table, whose cells stand one behind the other in one vector.
-ghost use Rattle.std.specs.Prelude.{◌≡◌, [], ◌∷◌, ◌++◌, ◌<◌, ◌≤◌, length, slice_get};
+//! The relationships of a table: their ends, and the rows of their cells.
+ghost use Rattle.std.specs.Prelude.{◌≡◌, [], ◌∷◌, ◌++◌, ◌<◌, length, slice_get};
 ghost use Rattle.std.specs.Prelude.{IfOk, OnOk, OnErr, Some};
 ghost use Rattle.gq_base.specs.Rels.{rel_seen};
-ghost use Rattle.gq_base.specs.steps.Rels.{start_at};
 
 use crate::cell::{Cell, PlainRel, Row};
-use crate::list::List;
 use crate::memory::Memory;
+use crate::rows::NodeRows;
 use std::alloc::Global;
 use std::marker::Model;
 
@@ -14,16 +13,16 @@ use std::marker::Model;
 /// its own, so that a table takes memory for its cells and 16 bytes for each relationship.
 #[derive(Debug, Drop)]
 pub struct RelRows {
-    heads: Vec<Head>,
-    cells: Vec<Option<Cell>>,
+    ends: Vec<Ends>,
+    // The cells of each relationship.
+    rows: NodeRows,
 }
 
-// The ends of a relationship, and where its cells end: they begin where those before it end.
+// The rows of the nodes that a relationship leads from and to.
 #[derive(Clone, Copy, Debug)]
-struct Head {
+struct Ends {
     source: u32,
     target: u32,
-    end: usize,
 }
 
 /// A relationship whose cells are borrowed: the row of its source, the row of its target, and a
@@ -36,15 +35,15 @@ pub struct RelRef<'r> {
 }
 
 impl Model for RelRows {
-    ghost use Rattle.std.specs.Prelude.{List};
-    ghost use Rattle.gq_base.specs.steps.Rels.{AreCut, rels_from};
+    ghost use Rattle.std.specs.Prelude.{◌≡◌, List, length};
+    ghost use Rattle.gq_base.specs.steps.Rels.{rels_of};
     ghost use Rattle.gq_base.specs.declared.cell.PlainRel.{PlainRel};
 
     ghost Value = { List PlainRel };
 
-    ghost view = { λ rels. rels_from 0 rels.heads.items rels.cells.items };
+    ghost view = { λ rels. rels_of rels.ends.items rels.rows };
 
-    ghost invariant = { λ rels. AreCut 0 rels.heads.items rels.cells.items };
+    ghost invariant = { λ rels. length rels.ends.items ≡ length rels.rows };
 }
 
 impl RelRows {
@@ -53,31 +52,30 @@ impl RelRows {
         ensures { result ≡ [] }
     {
         RelRows {
-            heads: Vec::new(alloc),
-            cells: Vec::new(alloc),
+            ends: Vec::new(alloc),
+            rows: NodeRows::new(alloc),
         }
     }
 
     /// How many relationships there are.
-    #[tactic(auto, using(crate::proofs::RelLemmas::length_rels_from))]
+    #[tactic(auto, using(crate::proofs::RowLemmas::length_rels_of))]
     pub fn len(&self) -> usize
         ensures { result ≡ length self.now }
     {
-        self.heads.len()
+        self.ends.len()
     }
 
     /// The relationship with a load number.
-    #[tactic(auto, using(crate::proofs::RelLemmas::length_rels_from, crate::proofs::RelLemmas::cut_at, crate::proofs::RelLemmas::rels_at))]
+    #[tactic(auto, using(crate::proofs::RowLemmas::length_rels_of, crate::proofs::RowLemmas::rels_at))]
     pub fn rel(&self, number: usize) -> RelRef<'_>
         requires { number < length self.now }
         ensures { slice_get self.now number ≡ Some (rel_seen result) }
     {
-        let head = self.heads[number];
-        let start = start_at(self.heads.as_slice(), number);
+        let Ends { source, target } = self.ends[number];
         RelRef {
-            source: head.source,
-            target: head.target,
-            cells: &self.cells[start..head.end],
+            source,
+            target,
+            cells: self.rows.row(number),
         }
     }
 
@@ -90,9 +88,9 @@ impl RelRows {
         Ok(())
     }
 
-    /// Appends a relationship as `push` does, and answers the list that held its cells: it is empty,
-    /// and has room for those of the next.
-    #[tactic(auto, using(crate::proofs::RelLemmas::cut_push, crate::proofs::RelLemmas::rels_push))]
+    /// Appends a relationship as `push` does, and answers the list that held its cells: it is
+    /// empty, and has room for those of the next.
+    #[tactic(auto, using(crate::proofs::RowLemmas::rels_push))]
     pub fn take(&mut self, rel: PlainRel) -> Result<Row, Memory>
         ensures taken { OnOk result (self.new ≡ self.old ++ rel ∷ []) }
         ensures room { IfOk result (λ room. room ≡ []) }
@@ -103,35 +101,12 @@ impl RelRows {
             target,
             cells,
         } = rel;
-        let mut cells = cells.into_vec();
-        let before = self.cells.len();
-        if self.cells.append(&mut cells).is_err() {
-            return Err(Memory);
+        // With room for the ends nothing fails behind the cells.
+        self.ends.reserve(1)?;
+        let room = self.rows.take(cells)?;
+        match self.ends.push(Ends { source, target }) {
+            Ok(()) => Ok(room),
+            Err(_) => unreachable!(),
         }
-        let end = self.cells.len();
-        match self.heads.push(Head {
-            source,
-            target,
-            end,
-        }) {
-            Ok(()) => Ok(List::from_vec(cells)),
-            Err(_) => {
-                self.cells.truncate(before);
-                Err(Memory)
-            }
-        }
-    }
-}
-
-// Where the cells of a relationship begin.
-#[tactic(auto, using(crate::proofs::RelLemmas::start_behind))]
-fn start_at(heads: &[Head], number: usize) -> usize
-    requires { number ≤ length heads.now }
-    ensures { result ≡ start_at 0 heads.now number }
-{
-    if number == 0 {
-        0
-    } else {
-        heads[number - 1].end
     }
 }
