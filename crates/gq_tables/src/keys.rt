@@ -10,14 +10,14 @@ ghost use Rattle.gq_base.specs.Valid.{key_of};
 
 use crate::key_index::KeyIndex;
 use crate::near_keys::NearKeys;
-use gq_base::{Cell, Kind, Memory, Row, Value};
+use gq_base::{Cell, Kind, Memory, NodeRows, Value};
 use std::alloc::Global;
 
 /// One end of a relationship table: the kind of the keys of a node table, and its rows.
 #[derive(Clone, Copy)]
 pub struct End<'g> {
     pub kind: Kind,
-    pub rows: &'g [Row],
+    pub rows: &'g NodeRows,
 }
 
 /// An end with its rows by their keys: the first row with each key.
@@ -62,7 +62,7 @@ impl<'g> Keys<'g> {
 }
 
 impl<'g> Index<'g> {
-    fn new(alloc: Global, rows: &'g [Row]) -> Result<Index<'g>, Memory>
+    fn new(alloc: Global, rows: &'g NodeRows) -> Result<Index<'g>, Memory>
         requires { length rows.now < 2 ^ 32 }
         ensures { IfOk result (λ index. (v : Val) → found index v ≡ find_key rows.now v) }
     {
@@ -83,7 +83,7 @@ impl<'g> Index<'g> {
 }
 
 // From the last row on, so that the first of the rows with one key is the one that stays.
-fn index_rows<'g>(alloc: Global, rows: &'g [Row]) -> Result<KeyIndex<'g>, Memory>
+fn index_rows<'g>(alloc: Global, rows: &'g NodeRows) -> Result<KeyIndex<'g>, Memory>
     requires { length rows.now < 2 ^ 32 }
     ensures { IfOk result (λ index. (v : Val) → held index v ≡ find_key rows.now v) }
 {
@@ -91,7 +91,7 @@ fn index_rows<'g>(alloc: Global, rows: &'g [Row]) -> Result<KeyIndex<'g>, Memory
     let mut at = rows.len();
     'rows: while at > 0 {
         at -= 1;
-        put_row(&mut index, &rows[at], at as u32)?;
+        put_row(&mut index, rows.row(at), at as u32)?;
     }
     Ok(index)
 }
@@ -99,7 +99,7 @@ fn index_rows<'g>(alloc: Global, rows: &'g [Row]) -> Result<KeyIndex<'g>, Memory
 /// Puts a row at its key, if it has one, and answers whether there was a row before.
 pub(crate) fn put_row<'k>(
     index: &mut KeyIndex<'k>,
-    row: &'k Row,
+    row: &'k [Option<Cell>],
     number: u32,
 ) -> Result<bool, Memory>
     ensures before { IfOk result (λ before. before ≡ is_held index.old (key_of row.now)) }
@@ -112,10 +112,10 @@ pub(crate) fn put_row<'k>(
     }
 }
 
-fn key_of(row: &Row) -> Option<&Cell>
+fn key_of(row: &[Option<Cell>]) -> Option<&Cell>
     ensures { option_map (λ key. cell_val (Some key.now)) result ≡ key_of row.now }
 {
-    match row.as_slice() {
+    match row {
         [Some(key), ..] => Some(key),
         _ => None,
     }

@@ -8,7 +8,7 @@ ghost use Rattle.gq_tables.specs.steps.KeyMaps.{with_row};
 ghost use Rattle.gq_tables.specs.Keys.{find_key};
 ghost use Rattle.gq_tables.specs.steps.NearKeys.{near, place_of};
 
-use gq_base::{Cell, Memory, Row, Value};
+use gq_base::{Cell, Memory, NodeRows, Value};
 use std::alloc::Global;
 
 // At most so many places for each row, so that they take no more than 16 bytes a row.
@@ -27,7 +27,7 @@ pub(crate) struct NearKeys {
 impl NearKeys {
     /// The first row with each key, or `None` where some row has no integer as its key, or the keys
     /// lie far apart.
-    pub(crate) fn new(alloc: Global, rows: &[Row]) -> Result<Option<NearKeys>, Memory>
+    pub(crate) fn new(alloc: Global, rows: &NodeRows) -> Result<Option<NearKeys>, Memory>
         requires { length rows.now < 2 ^ 32 }
         ensures { IfOk result (λ made.
             IfSome made (λ index. (v : Val) → near index v ≡ find_key rows.now v)) }
@@ -45,7 +45,7 @@ impl NearKeys {
 
     // The empty index with these rows, or `None` where some key has no place. From the last row on,
     // so that the first of the rows with one key is the one that stays.
-    fn with_rows(mut self, rows: &[Row]) -> Option<NearKeys>
+    fn with_rows(mut self, rows: &NodeRows) -> Option<NearKeys>
         requires few { length rows.now < 2 ^ 32 }
         requires empty { (v : Val) → near self v ≡ None }
         ensures { IfSome result (λ index. (v : Val) → near index v ≡ find_key rows.entry.now v) }
@@ -53,7 +53,7 @@ impl NearKeys {
         let mut at = rows.len();
         'rows: while at > 0 {
             at -= 1;
-            if !self.put(&rows[at], at as u32) {
+            if !self.put(rows.row(at), at as u32) {
                 return None;
             }
         }
@@ -61,7 +61,7 @@ impl NearKeys {
     }
 
     // Puts a row at its key, or answers false where the key has no place.
-    fn put(&mut self, row: &Row, number: u32) -> bool
+    fn put(&mut self, row: &[Option<Cell>], number: u32) -> bool
         requires { number + 1 < 2 ^ 32 }
         ensures { OnTrue result
             ((v : Val) → near self.new v ≡ with_row (key_of row.now) number v (near self.old v)) }
@@ -102,10 +102,10 @@ fn place_of(low: i64, key: i64) -> Option<usize>
 }
 
 // The least and the greatest key, where each row has an integer as its key.
-fn bounds_of(rows: &[Row]) -> Option<(i64, i64)> {
+fn bounds_of(rows: &NodeRows) -> Option<(i64, i64)> {
     let mut bounds = None;
-    for row in rows {
-        let key = int_key(row)?;
+    for row in 0..rows.len() {
+        let key = int_key(rows.row(row))?;
         bounds = match bounds {
             Some((low, high)) => Some((key.min(low), key.max(high))),
             None => Some((key, key)),
@@ -114,10 +114,10 @@ fn bounds_of(rows: &[Row]) -> Option<(i64, i64)> {
     bounds
 }
 
-fn int_key(row: &Row) -> Option<i64>
+fn int_key(row: &[Option<Cell>]) -> Option<i64>
     ensures { IfSome result (λ key. key_of row.now ≡ Some (int key)) }
 {
-    match row.as_slice() {
+    match row {
         [Some(Cell::Int(key)), ..] => Some(*key),
         _ => None,
     }

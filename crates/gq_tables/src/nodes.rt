@@ -70,35 +70,35 @@ fn read_rows(
     ensures short { IfOk result (λ read. length read.rows ≤ length (records_left reader.old)) }
 {
     let mut texts = ByteRecord::new(alloc);
-    let mut rows = Vec::new(alloc);
+    let mut rows = NodeRows::new(alloc);
+    let mut room = List::new(alloc);
     while read_next(reader, &mut texts)? {
-        match read_node(alloc, fields, limit, rows.len(), &texts) {
-            Ok(row) => rows.push(row)?,
+        match read_node(alloc, fields, limit, rows.len(), &texts, room) {
+            Ok(row) => room = rows.take(row)?,
             Err(TableStop::Memory) => return Err(Memory),
             Err(TableStop::Refused(refusal)) => {
                 return Ok(ReadRows {
-                    rows: List::from_vec(rows),
+                    rows,
                     stop: Some(refusal),
                 });
             }
         }
     }
-    Ok(ReadRows {
-        rows: List::from_vec(rows),
-        stop: None,
-    })
+    Ok(ReadRows { rows, stop: None })
 }
 
-// The row of the record after so many rows.
+// The row of the record after so many rows. Its cells are gathered in `room`.
 fn read_node(
     alloc: Global,
     fields: &[Field],
     limit: u32,
     count: usize,
     texts: &ByteRecord,
+    room: Row,
 ) -> Result<Row, TableStop>
     requires few_rows { count + 2 < 2 ^ 32 }
     requires few_fields { length fields.now < 2 ^ 32 }
+    requires empty { room ≡ [] }
     ensures { Answers (read_node limit (length fields.now) fields.now (count + 2) count
         (fields_of texts.now)) result }
 {
@@ -109,7 +109,7 @@ fn read_node(
     if texts.len() != fields.len() {
         return Err(TableStop::Refused(TableRefusal::FieldCount { number }));
     }
-    node_of(alloc, number, fields, texts)
+    node_of(alloc, number, fields, texts, room)
 }
 
 fn node_of(
@@ -117,9 +117,11 @@ fn node_of(
     number: u32,
     fields: &[Field],
     texts: &ByteRecord,
+    room: Row,
 ) -> Result<Row, TableStop>
     requires wide { length (fields_of texts.now) ≡ length fields.now }
     requires few { length fields.now < 2 ^ 32 }
+    requires empty { room ≡ [] }
     ensures { Answers (node_of number fields.now (fields_of texts.now)) result }
 {
     let [key, others @ ..] = fields else {
@@ -129,7 +131,7 @@ fn node_of(
         return Err(TableStop::Refused(TableRefusal::FieldCount { number }));
     };
     let cell = read_key(alloc, number, key.kind, text)?;
-    let mut cells = Vec::with_capacity(alloc, fields.len())?;
+    let mut cells = room.into_vec();
     cells.push(Some(cell))?;
     read_cells(alloc, number, 1, others, texts, cells)
 }

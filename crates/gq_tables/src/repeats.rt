@@ -6,7 +6,7 @@ ghost use Rattle.gq_tables.specs.steps.Passes.{add_nodes, up_to_repeat};
 use crate::key_index::KeyIndex;
 use crate::keys::put_row;
 use crate::refusal::{TableRefusal, TableStop};
-use gq_base::{Memory, NodeRows, Row};
+use gq_base::{Memory, NodeRows};
 use std::alloc::Global;
 
 /// These rows, where no key stands in two of them. The first is that of record 2.
@@ -15,7 +15,7 @@ pub(crate) fn with_distinct_keys(alloc: Global, rows: NodeRows) -> Result<NodeRo
     ensures answers { Answers (add_nodes 2 [] rows) result }
     ensures same { IfOk result (λ kept. kept ≡ rows) }
 {
-    match first_repeat(alloc, rows.as_slice())? {
+    match first_repeat(alloc, &rows)? {
         Some(at) => Err(TableStop::Refused(TableRefusal::KeyRepeated {
             number: (at + 2) as u32,
         })),
@@ -24,14 +24,14 @@ pub(crate) fn with_distinct_keys(alloc: Global, rows: NodeRows) -> Result<NodeRo
 }
 
 // The first row whose key stands in an earlier one.
-fn first_repeat(alloc: Global, rows: &[Row]) -> Result<Option<usize>, Memory>
+fn first_repeat(alloc: Global, rows: &NodeRows) -> Result<Option<usize>, Memory>
     requires { length rows.now < 2 ^ 32 }
     ensures value { IfOk result (λ at. add_nodes 2 [] rows.now ≡ up_to_repeat at rows.now) }
     ensures within { IfOk result (λ at. IfSome at (λ place. place < length rows.now)) }
 {
     let mut index = KeyIndex::new(alloc, rows.len())?;
-    for (at, row) in rows.iter().enumerate() {
-        if put_row(&mut index, row, at as u32)? {
+    for at in 0..rows.len() {
+        if put_row(&mut index, rows.row(at), at as u32)? {
             return Ok(Some(at));
         }
     }

@@ -26,7 +26,7 @@ returns c =
     c.in-Some.text.now c.in-len1-up.len_at_least c.key-item.is (sym c.in-Some.ensures.value)
     c.in_ok-cell.cell c.in_ok-cell.ensures in
     let cells = c.in_ok-push.ensures.items ∙ ap (λ l. l ++ Some c.in_ok-cell.cell ∷ [])
-    c.in_ok-cells.ensures.items in
+    (c.into_vec-cells.ensures ∙ c.requires.empty) in
     let fields = c.args.fields.now in
     let all : take (length fields - 1) (drop 1 fields) ≡ drop 1 fields =
     take_all (length fields - 1) (drop 1 fields) (omega (arith, length-drop 1 fields)) in
