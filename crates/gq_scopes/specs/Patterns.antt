@@ -91,22 +91,24 @@ abbrev pub naming : Option Name → Variable → List NamedVariable
 naming None variable = []
 naming (Some name) variable = record { name = name; variable = variable } ∷ []
 
+-- the name and the map entries of a variable
+abbrev pub with_variable : Variable → Option Name → List Entry → Pattern → Pattern
+with_variable variable name es p = record p {
+  named = p.named ++ naming name variable;
+  entries = p.entries ++ entries_of variable (called p.unnamed name) es;
+}
+
 -- a node pattern of a variable that stands already, and one of a new variable
 abbrev pub node_again : ℕ → NodePart → Pattern → Pattern
-node_again v part p = record p {
-  named = p.named ++ naming part.name (node v);
+node_again v part p = record (with_variable (node v) part.name part.map p) {
   nodes = p.nodes ++ record { variable = v; part = part } ∷ [];
-  entries = p.entries ++ entries_of (node v) (called p.unnamed part.name) part.map;
 }
 
 abbrev pub node_new : NodePart → Pattern → Pattern
-node_new part p = record p {
+node_new part p = record (node_again (length p.names) part p) {
   names = p.names ++ part.name ∷ [];
-  named = p.named ++ naming part.name (node (length p.names));
   node_names = p.node_names ++ called p.unnamed part.name ∷ [];
   unnamed = unnamed_after p.unnamed part.name;
-  nodes = p.nodes ++ record { variable = length p.names; part = part } ∷ [];
-  entries = p.entries ++ entries_of (node (length p.names)) (called p.unnamed part.name) part.map;
 }
 
 abbrev node_found : Option ℕ → NodePart → Pattern → Pattern
@@ -118,12 +120,10 @@ with_node part p = node_found (known_as p.names part.name) part p
 
 -- a relationship pattern between two node variables
 abbrev pub with_rel : ℕ → ℕ → ℕ → RelPart → Pattern → Pattern
-with_rel clause left right part p = record p {
-  named = p.named ++ naming part.name (rel (length p.rels));
+with_rel clause left right part p = record (with_variable (rel (length p.rels)) part.name part.map p) {
   rel_names = p.rel_names ++ called p.unnamed part.name ∷ [];
   unnamed = unnamed_after p.unnamed part.name;
   rels = p.rels ++ record { clause = clause; left = left; right = right; part = part } ∷ [];
-  entries = p.entries ++ entries_of (rel (length p.rels)) (called p.unnamed part.name) part.map;
 }
 
 -- the relationships and nodes of a path that follow a node variable

@@ -5,7 +5,7 @@ ghost use Rattle.gq_scopes.specs.Scopes.{scope_of};
 ghost use Rattle.gq_scopes.specs.Patterns as patterns;
 ghost use Rattle.gq_scopes.specs.Patterns.{pattern_of, with_clauses, with_paths, with_path};
 ghost use Rattle.gq_scopes.specs.Patterns.{with_hops, with_rel, with_part, with_node, node_new};
-ghost use Rattle.gq_scopes.specs.Patterns.{node_again, entries_of, naming, no_pattern};
+ghost use Rattle.gq_scopes.specs.Patterns.{node_again, entries_of, naming, no_pattern, with_variable};
 ghost use Rattle.gq_plan.specs.Variables.{seen};
 
 use crate::copies::copy_text;
@@ -231,51 +231,56 @@ impl<'t> Pattern<'t> {
         match known_as(&self.names, &part.name) {
             Some(at) => {
                 let variable = number(at)?;
-                self.push_node_again(alloc, variable, part)
+                let _ = self.push_node_of(alloc, variable, part)?;
+                Ok(())
             }
             None => self.push_new_node(alloc, part),
         }
     }
 
-    fn push_node_again(
+    // Appends the name and the map entries of a variable. The answer is what the variable is called.
+    fn push_variable(
+        &mut self,
+        alloc: Global,
+        variable: Variable,
+        name: &'t Option<Text>,
+        map: &'t [Entry],
+    ) -> Result<Text, Memory>
+        ensures pushed { IfOk result (λ _.
+            self.new ≡ with_variable (seen variable) name.now map.now self.old) }
+        ensures called { IfOk result (λ t. t ≡ patterns.called self.old.unnamed name.now) }
+    {
+        let called = called(alloc, self.unnamed, name)?;
+        push_naming(&mut self.named, name, variable)?;
+        push_entries(alloc, &mut self.entries, variable, &called, map)?;
+        Ok(called)
+    }
+
+    // Appends a node pattern of a variable that stands already. The answer is what the variable is called.
+    fn push_node_of(
         &mut self,
         alloc: Global,
         variable: u32,
         part: &'t NodePart,
-    ) -> Result<(), Memory>
-        ensures { IfOk result (λ _. self.new ≡ node_again variable part.now self.old) }
+    ) -> Result<Text, Memory>
+        ensures pushed { IfOk result (λ _. self.new ≡ node_again variable part.now self.old) }
+        ensures called { IfOk result (λ t. t ≡ patterns.called self.old.unnamed part.now.name) }
     {
-        let called = called(alloc, self.unnamed, &part.name)?;
         let whole = Variable::Node(variable);
-        push_naming(&mut self.named, &part.name, whole)?;
-        push_entries(
-            alloc,
-            &mut self.entries,
-            whole,
-            &called,
-            part.map.as_slice(),
-        )?;
-        self.nodes.push(NodePattern { variable, part })
+        let called = self.push_variable(alloc, whole, &part.name, part.map.as_slice())?;
+        self.nodes.push(NodePattern { variable, part })?;
+        Ok(called)
     }
 
     fn push_new_node(&mut self, alloc: Global, part: &'t NodePart) -> Result<(), Memory>
         ensures { IfOk result (λ _. self.new ≡ node_new part.now self.old) }
     {
         let variable = number(self.names.len())?;
-        let called = called(alloc, self.unnamed, &part.name)?;
-        let whole = Variable::Node(variable);
-        push_naming(&mut self.named, &part.name, whole)?;
-        push_entries(
-            alloc,
-            &mut self.entries,
-            whole,
-            &called,
-            part.map.as_slice(),
-        )?;
+        let called = self.push_node_of(alloc, variable, part)?;
         self.names.push(&part.name)?;
         self.node_names.push(called)?;
         self.unnamed = unnamed_after(self.unnamed, &part.name)?;
-        self.nodes.push(NodePattern { variable, part })
+        Ok(())
     }
 
     fn push_rel(
@@ -289,15 +294,7 @@ impl<'t> Pattern<'t> {
         ensures { IfOk result (λ _. self.new ≡ with_rel clause left right part.now self.old) }
     {
         let variable = Variable::Rel(number(self.rels.len())?);
-        let called = called(alloc, self.unnamed, &part.name)?;
-        push_naming(&mut self.named, &part.name, variable)?;
-        push_entries(
-            alloc,
-            &mut self.entries,
-            variable,
-            &called,
-            part.map.as_slice(),
-        )?;
+        let called = self.push_variable(alloc, variable, &part.name, part.map.as_slice())?;
         self.rel_names.push(called)?;
         self.unnamed = unnamed_after(self.unnamed, &part.name)?;
         self.rels.push(RelPattern {
