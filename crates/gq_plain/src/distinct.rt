@@ -6,7 +6,7 @@ ghost use Rattle.gq_base.specs.Rels.{rel_seen};
 ghost use Rattle.gq_base.specs.Valid.{has_keys, same_name};
 ghost use Rattle.gq_plain.specs.steps.Ends.{row_at};
 
-use crate::{Memory, RelRef, RelRows, Row};
+use crate::{Memory, NodeRows, RelRef, RelRows};
 use gq_base::{Field, key_of};
 use std::alloc::Global;
 use std::collections::BTreeSet;
@@ -33,12 +33,12 @@ pub(crate) fn have_distinct_names(alloc: Global, fields: &[Field]) -> Result<boo
 }
 
 /// Whether each row has a key, and no two rows have the same one.
-pub(crate) fn have_keys(alloc: Global, rows: &[Row]) -> Result<bool, Memory>
+pub(crate) fn have_keys(alloc: Global, rows: &NodeRows) -> Result<bool, Memory>
     ensures { IfOk result (λ answer. answer ≡ has_keys rows.now) }
 {
     let mut keys = BTreeSet::new(alloc);
-    for row in rows {
-        let Some(key) = key_of(row) else {
+    for number in 0..rows.len() {
+        let Some(key) = key_of(rows.row(number)) else {
             return Ok(false);
         };
         let is_new = keys.insert(key)?;

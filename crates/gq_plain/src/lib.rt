@@ -76,11 +76,11 @@ impl PlainGraph {
     }
 
     /// The rows of a node table, in load order.
-    pub fn node_rows(&self, table: u32) -> &[Row]
+    pub fn node_rows(&self, table: u32) -> &NodeRows
         requires { table < length self.now.nodes }
         ensures { slice_get self.now.nodes table ≡ Some result.now }
     {
-        self.nodes[table as usize].as_slice()
+        &self.nodes[table as usize]
     }
 
     /// The relationships of a relationship table, in load order.
@@ -187,7 +187,7 @@ fn empty_nodes(alloc: Global, count: u32) -> Result<Vec<NodeRows>, Memory>
 {
     let mut tables = Vec::with_capacity(alloc, count as usize)?;
     for _ in 0..count {
-        tables.push(List::new(alloc))?;
+        tables.push(NodeRows::new(alloc))?;
     }
     Ok(tables)
 }

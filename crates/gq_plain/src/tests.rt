@@ -1,7 +1,7 @@
 //! A graph of two people and one acquaintance, how it grows, and what makes it invalid. Answers are worked out by hand.
 ghost use Rattle.std.specs.Prelude.{◌≡◌, length, IfOk};
 
-use crate::{Catalog, Cell, PlainGraph, PlainRel, RelRows, Row};
+use crate::{Catalog, Cell, NodeRows, PlainGraph, PlainRel, RelRows, Row};
 use gq_base::{Field, Kind, List, Mult, NodeTable, RelTable, Text};
 use std::alloc::Global;
 use std::str::SplitWhitespace;
@@ -103,8 +103,8 @@ fn rows_stand_in_the_order_of_their_pushes(rt: HostRuntime) -> Result<(), Fail> 
     graph.push_node(0, node(alloc, "3 Cay")?)?;
     let rows = graph.node_rows(0);
     assert_eq!(rt; rows.len(), 3);
-    assert!(rt; rows[1].as_slice() == [Some(Cell::Int(2)), None].as_slice());
-    assert!(rt; rows[2] == node(alloc, "3 Cay")?);
+    assert!(rt; rows.row(1) == [Some(Cell::Int(2)), None].as_slice());
+    assert!(rt; rows.row(2) == node(alloc, "3 Cay")?.as_slice());
     assert_eq!(rt; graph.catalog().node_tables(), 1);
     Ok(())
 }
@@ -132,7 +132,7 @@ fn rows_that_are_set_take_the_place_of_others(rt: HostRuntime) -> Result<(), Fai
     graph.set_rel_rows(0, rels);
     assert_eq!(rt; graph.rel_rows(0).len(), 1);
     assert_eq!(rt; graph.rel_rows(0).rel(0).source, 1);
-    graph.set_node_rows(0, List::new(alloc));
+    graph.set_node_rows(0, NodeRows::new(alloc));
     assert_eq!(rt; graph.node_rows(0).len(), 0);
     assert!(rt; !graph.valid(alloc)?);
     graph.set_rel_rows(0, RelRows::new(alloc));
@@ -238,7 +238,7 @@ fn fields_are_few_and_of_distinct_names(rt: HostRuntime) -> Result<(), Fail> {
             "{count} {last} of relationships"
         );
         graph.set_rel_fields(0, List::new(alloc));
-        graph.set_node_rows(0, List::new(alloc));
+        graph.set_node_rows(0, NodeRows::new(alloc));
         graph.set_node_fields(0, numbered(alloc, count, last)?);
         assert_eq!(rt; graph.valid(alloc)?, valid, "{count} {last} of nodes");
     }

@@ -9,7 +9,7 @@ ghost use Rattle.gq_base.specs.Valid.{is_rel, is_valid, keeps_mult, limits_sourc
 ghost use Rattle.gq_base.specs.Valid.{row_count};
 
 use crate::distinct::{End, have_distinct_names, have_distinct_rows, have_keys};
-use crate::{Catalog, Cell, Memory, NodeRows, RelRef, RelRows, Row};
+use crate::{Catalog, Cell, Memory, NodeRows, RelRef, RelRows};
 use gq_base::{Field, Kind, Mult, NodeTable, RelTable};
 use std::alloc::Global;
 
@@ -52,7 +52,7 @@ fn are_all_nodes(alloc: Global, catalog: &Catalog, nodes: &[NodeRows]) -> Result
     ensures { IfOk result (λ answer. answer ≡ all_zip are_nodes catalog.now.nodes nodes.now) }
 {
     for table in 0..catalog.node_tables() {
-        let rows = nodes[table as usize].as_slice();
+        let rows = &nodes[table as usize];
         let pass = are_nodes(alloc, catalog.node_table(table), rows)?;
         if !pass {
             return Ok(false);
@@ -82,7 +82,7 @@ fn are_all_rels(
 }
 
 // Whether these may be the rows of a node table.
-fn are_nodes(alloc: Global, table: &NodeTable, rows: &[Row]) -> Result<bool, Memory>
+fn are_nodes(alloc: Global, table: &NodeTable, rows: &NodeRows) -> Result<bool, Memory>
     ensures { IfOk result (λ answer. answer ≡ are_nodes table.now rows.now) }
 {
     let fields = table.fields.as_slice();
@@ -139,10 +139,15 @@ fn are_fields(alloc: Global, fields: &[Field]) -> Result<bool, Memory>
 }
 
 // Whether each row fits the fields.
-fn all_fit(fields: &[Field], rows: &[Row]) -> bool
+fn all_fit(fields: &[Field], rows: &NodeRows) -> bool
     ensures { result ≡ list_all (fits_fields fields.now) rows.now }
 {
-    rows.iter().all(|row| fits_fields(fields, row.as_slice()))
+    for row in 0..rows.len() {
+        if !fits_fields(fields, rows.row(row)) {
+            return false;
+        }
+    }
+    true
 }
 
 // Whether each relationship is between nodes of which there are so many, and its cells fit the

@@ -3,5 +3,5 @@ use Rattle.gq_base.specs.Values.{order_vals, val}
 use Rattle.gq_plain.proofs.DistinctSteps.{Keyed}
 use Rattle.gq_plain.proofs.distinct.have_keys.Given as goal
 
-abbrev pub invariant-loop-row : goal.invariant-loop-row
-invariant-loop-row l = Keyed l.rows l.row-index (contains (λ x y. order_vals (val x) (val y)) l.keys)
+abbrev pub invariant-loop-number : goal.invariant-loop-number
+invariant-loop-number l = Keyed l.rows l.number (contains (λ x y. order_vals (val x) (val y)) l.keys)
