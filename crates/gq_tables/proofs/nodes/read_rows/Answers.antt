@@ -1,4 +1,4 @@
-use Rattle.std.proofs.Common.{◌≡◌, length, arith}
+use Rattle.std.proofs.Common.{◌≡◌, length}
 use Rattle.gq_tables.proofs.NodeSteps.{gathered, has_room, one_row}
 use Rattle.gq_tables.proofs.nodes.read_rows.Goals as goal
 
