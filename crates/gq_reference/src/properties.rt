@@ -16,13 +16,12 @@ pub(crate) fn node_property<'g>(graph: &'g PlainGraph, node: NodeId, name: &Text
     if node.table >= catalog.node_tables() {
         return Value::Null;
     }
-    match graph.node_rows(node.table).get(node.row as usize) {
-        None => Value::Null,
-        Some(row) => {
-            let fields = catalog.node_table(node.table).fields.as_slice();
-            property_of(fields, name, row.as_slice())
-        }
+    let rows = graph.node_rows(node.table);
+    if node.row as usize >= rows.len() {
+        return Value::Null;
     }
+    let fields = catalog.node_table(node.table).fields.as_slice();
+    property_of(fields, name, rows.row(node.row as usize))
 }
 
 /// A property of a relationship, null where it is missing.

@@ -10,11 +10,11 @@ pub(crate) fn persons(alloc: Global, size: u32) -> Result<NodeRows, Memory>
     requires { size ≤ 1000000 }
     ensures { IfOk result (λ rows. rows ≡ persons_of size) }
 {
-    let mut rows = Vec::with_capacity(alloc, size as usize)?;
+    let mut rows = NodeRows::new(alloc);
     for row in 0..size {
         rows.push(person(alloc, row + 1)?)?;
     }
-    Ok(List::from_vec(rows))
+    Ok(rows)
 }
 
 /// The rows of the cities that there are for so many persons.
@@ -23,11 +23,11 @@ pub(crate) fn cities(alloc: Global, size: u32) -> Result<NodeRows, Memory>
     ensures { IfOk result (λ rows. rows ≡ cities_of size) }
 {
     let count = city_count(size);
-    let mut rows = Vec::with_capacity(alloc, count as usize)?;
+    let mut rows = NodeRows::new(alloc);
     for row in 0..count {
         rows.push(city(alloc, row)?)?;
     }
-    Ok(List::from_vec(rows))
+    Ok(rows)
 }
 
 /// How many cities there are for so many persons.

@@ -18,7 +18,7 @@ ghost use Rattle.gq_store.specs.steps.Stored.{AreLinked, IsLinked, IsSide};
 use crate::direction::Direction;
 use crate::links::{Links, Places, Side, links_of, numbers_by_place};
 use crate::property::TableCells;
-use gq_base::{Catalog, List, Memory, RelRows, Value};
+use gq_base::{Catalog, Memory, NodeRows, RelRows, Value};
 use gq_column::Column;
 use gq_dict::Dict;
 use gq_plain::PlainGraph;
@@ -399,7 +399,7 @@ fn all_nodes(alloc: Global, plain: &mut PlainGraph) -> Result<Vec<TableCells>, M
     for table in 0..tables {
         let fields = plain.catalog().node_table(table).fields.as_slice();
         all.push(TableCells::of_rows(alloc, fields, plain.node_rows(table))?)?;
-        plain.set_node_rows(table, List::new(alloc));
+        plain.set_node_rows(table, NodeRows::new(alloc));
     }
     Ok(all)
 }

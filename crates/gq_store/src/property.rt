@@ -9,7 +9,7 @@ ghost use Rattle.gq_dict.specs.Texts.{AreCodes};
 ghost use Rattle.gq_store.specs.Columns.{AreCells, IsCellOf, IsDictOf, column_of, texts_in};
 ghost use Rattle.gq_store.specs.RelColumns.{cell_numbered};
 
-use gq_base::{Cell, Field, Kind, Memory, RelRows, Row, Value};
+use gq_base::{Cell, Field, Kind, Memory, NodeRows, RelRows, Value};
 use gq_column::Column;
 use gq_dict::{Coded, Dict};
 use std::alloc::Global;
@@ -100,7 +100,7 @@ impl TableCells {
     pub(crate) fn of_rows(
         alloc: Global,
         fields: &[Field],
-        rows: &[Row],
+        rows: &NodeRows,
     ) -> Result<TableCells, Memory>
         requires few { length rows.now < 2 ^ 32 }
         requires fit { list_all (fits_fields fields.now) rows.now ≡ true }
@@ -149,7 +149,7 @@ impl TableCells {
 // The cells of a property of rows, which are borrowed.
 fn cells_of<'a>(
     alloc: Global,
-    rows: &'a [Row],
+    rows: &'a NodeRows,
     property: usize,
 ) -> Result<Vec<&'a Option<Cell>>, Memory>
     requires { All (λ row. property < length row) rows.now }
@@ -157,8 +157,8 @@ fn cells_of<'a>(
         map (λ cell. cell.now) cells.items ≡ column_of property rows.now) }
 {
     let mut cells = Vec::with_capacity(alloc, rows.len())?;
-    for row in rows {
-        cells.push(&row.as_slice()[property])?;
+    for row in 0..rows.len() {
+        cells.push(&rows.row(row)[property])?;
     }
     Ok(cells)
 }
