@@ -149,9 +149,9 @@ fn plain_names_are_words(rt: HostRuntime) {
 #[test]
 fn the_key_is_the_first_cell(rt: HostRuntime) -> Result<(), Fail> {
     let mut row = Row::new(rt.alloc());
-    assert!(rt; key_of(&row).is_none());
+    assert!(rt; key_of(row.as_slice()).is_none());
     assert!(rt; row.push(Some(Cell::Str(text(&rt, "k")?))).is_ok());
     assert!(rt; row.push(None).is_ok());
-    assert!(rt; key_of(&row) == Some(Value::Str("k")));
+    assert!(rt; key_of(row.as_slice()) == Some(Value::Str("k")));
     Ok(())
 }
