@@ -7,7 +7,7 @@ use Rattle.std.specs.List.{list_all}
 use Rattle.std.specs.declared.option.Option.{Option}
 use Rattle.std.proofs.lemmas.Bool.Decides.{nat_tests}
 use Rattle.std.proofs.lemmas.List.{get_or_default, length-replicate, length-set}
-use Rattle.std.proofs.lemmas.List.Elements.{All-head, All-tail}
+use Rattle.std.proofs.lemmas.List.Elements.{All-head, All-tail, All-set}
 use Rattle.std.proofs.lemmas.Option.{get_or_from_slice_get, slice_get_within}
 use Rattle.gq_base.proofs.ListLaws.{two}
 use Rattle.gq_base.specs.Catalogs.{Tables, with_node_fields, with_rel_fields}
@@ -231,6 +231,15 @@ rels_valid old new number t fields rels catalog nodes same valid is ends few nam
       nodes = h.nodes;
       rels = zip-set (are_rels old.nodes) old.catalog.rels old.rels number (record t { fields = fields }) rels h.rels good;
     })
+
+-- the node tables at the ends of relationships are there still
+pub ends_stay : (old new : Graph) (number : ℕ) (t : RelTable) (fields : List Field)
+    → new.catalog ≡ record old.catalog { rels = with_rel_fields number fields old.catalog.rels } → new.nodes ≡ old.nodes
+    → slice_get old.catalog.rels number ≡ Some t → All (λ y. (y.from < length old.nodes) × (y.to < length old.nodes)) old.catalog.rels
+    → All (λ y. (y.from < length new.nodes) × (y.to < length new.nodes)) new.catalog.rels
+ends_stay old new number t fields catalog nodes is ends =
+    let here = rw (get_or_from_slice_get old.catalog.rels number t t is) at (ends number t (slice_get_within old.catalog.rels number t is)) in
+    rw (catalog, nodes, is) (All-set (λ y. (y.from < length old.nodes) × (y.to < length old.nodes)) old.catalog.rels number (record t { fields = fields }) here ends)
 
 -- how many rows there are at an end
 pub count_at : (rows : Option Rows) → length (unwrap_or rows []) ≡ length (rows_of rows)

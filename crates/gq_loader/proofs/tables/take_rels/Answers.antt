@@ -2,7 +2,7 @@ use Rattle.std.proofs.Common.{◌≡◌, ◌≤◌, ◌^◌, Some, sym, ap, ◌�
 use Rattle.std.specs.Prelude.{slice_get, slice_set}
 use Rattle.gq_base.specs.Catalogs.{Tables}
 use Rattle.gq_base.specs.Valid.{row_count}
-use Rattle.gq_loader.proofs.Keeping.{count_at, rels_valid}
+use Rattle.gq_loader.proofs.Keeping.{count_at, ends_stay, rels_valid}
 use Rattle.gq_loader.specs.Loads.{end_of}
 use Rattle.gq_loader.proofs.tables.take_rels.Goals as goal
 
@@ -28,3 +28,18 @@ returns-clause-valid g c =
     c.set_rel_fields.ensures.rels)
     c.requires.valid is c.requires.going.ends few good.valid.fields
     (rw (sources, targets) at good.valid.rels) good.valid.kept
+
+pub returns-clause-going : goal.returns-clause-going
+returns-clause-going g c =
+    let old = c.args.loading.now.graph in
+    let t = c.rel_table-table.result.now in
+    let is : slice_get old.catalog.rels c.args.number ≡ Some t =
+    sym (c.rel_table-table.ensures ∙ ap (λ (k : Tables). slice_get k.rels c.args.number)
+    c.catalog.ensures.value) in
+    let nodes = c.set_rel_rows.ensures.nodes ∙ c.set_rel_fields.ensures.nodes in
+    record {
+      ends = ends_stay old c.set_rel_rows.new.self c.args.number t c.in-Ok.read.fields
+          (c.set_rel_rows.ensures.catalog ∙ c.set_rel_fields.ensures.catalog) nodes is c.requires.going.ends;
+      few_rows = rw nodes c.requires.going.few_rows;
+      few_bytes = omega (arith, c.in_ok-bytes.ensures.all, c.len.ensures);
+    }
