@@ -97,33 +97,6 @@ fn people(alloc: Global, mult: Mult) -> Result<PlainGraph, Fail>
 }
 
 #[test]
-fn rows_stand_in_the_order_of_their_pushes(rt: HostRuntime) -> Result<(), Fail> {
-    let alloc = rt.alloc();
-    let mut graph = people(alloc, Mult::ManyMany)?;
-    graph.push_node(0, node(alloc, "3 Cay")?)?;
-    let rows = graph.node_rows(0);
-    assert_eq!(rt; rows.len(), 3);
-    assert!(rt; rows.row(1) == [Some(Cell::Int(2)), None].as_slice());
-    assert!(rt; rows.row(2) == node(alloc, "3 Cay")?.as_slice());
-    assert_eq!(rt; graph.catalog().node_tables(), 1);
-    Ok(())
-}
-
-#[test]
-fn relationships_stand_in_the_order_of_their_pushes(rt: HostRuntime) -> Result<(), Fail> {
-    let alloc = rt.alloc();
-    let mut graph = people(alloc, Mult::ManyMany)?;
-    graph.push_rel(0, rel(alloc, "1 0 -")?)?;
-    let rels = graph.rel_rows(0);
-    assert_eq!(rt; rels.len(), 2);
-    let (first, second) = (rels.rel(0), rels.rel(1));
-    assert_eq!(rt; (first.source, first.target), (0, 1));
-    assert_eq!(rt; (second.source, second.target), (1, 0));
-    assert!(rt; second.cells == [None].as_slice());
-    Ok(())
-}
-
-#[test]
 fn rows_that_are_set_take_the_place_of_others(rt: HostRuntime) -> Result<(), Fail> {
     let alloc = rt.alloc();
     let mut graph = people(alloc, Mult::ManyMany)?;

@@ -39,5 +39,3 @@ pub fn sample(alloc: Global, size: u32) -> Result<Graph, Memory>
     Graph::build(alloc, plain)
 }
 
-#[cfg(test)]
-mod tests;
