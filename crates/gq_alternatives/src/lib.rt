@@ -1,4 +1,5 @@
-//! The matches of a query in a plain graph, and its typed alternatives, which part them.
+//! The matches of a query in a plain graph, and its typed alternatives, which part them. The crate
+//! stands on the patterns of `gq_scopes` and the typed alternatives of `gq_plan`.
 #![tactic(auto)]
 
 mod alternatives;

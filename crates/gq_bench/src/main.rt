@@ -1,5 +1,6 @@
 //! Measures the leaves of the column store, each beside a plain loop that does the same. It prints a line for each, with
-//! the nanoseconds of both for one vector, or for one pair of a list, and their ratio.
+//! the nanoseconds of both for one vector, or for one pair of a list, and their ratio. The program stands on the leaves
+//! that it measures: `gq_adj`, `gq_bits`, `gq_column` and `gq_lanes`.
 #![tactic(auto)]
 
 mod cells;

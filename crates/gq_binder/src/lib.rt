@@ -1,5 +1,6 @@
-//! From the tree of a query to its bound form: what may not be asked is refused, and columns, conditions, keys and typed
-//! alternatives are listed.
+//! A query bound over a catalogue, or the first of thirteen refusals: its columns, conditions, keys
+//! and typed alternatives. The crate stands on the names of `gq_scopes`, the expressions of
+//! `gq_trees` and the alternatives of `gq_alternatives`.
 #![tactic(auto)]
 
 mod bound;

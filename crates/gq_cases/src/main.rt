@@ -1,5 +1,6 @@
 //! Runs the program over cases that are written as text, each in pieces of several lengths, and prints each case whose
-//! output or status is another one.
+//! output or status is another one. It stands on `gq_shell`, whose `run` is the program, and on the files, inputs and
+//! outputs in memory of `gq_io`.
 #![tactic(auto)]
 
 mod case;

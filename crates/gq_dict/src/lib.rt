@@ -1,4 +1,5 @@
-//! A dictionary: distinct texts in order of their bytes, each with its place as its code.
+//! A dictionary: distinct texts in order of their bytes, each with its place as its code. The crate
+//! stands on `gq_base` alone.
 #![tactic(auto)]
 
 ghost use Rattle.std.specs.Prelude.{◌≡◌, ◌↔◌, ℕ, List, ◌^◌, ◌<◌, ◌≤◌, ◌-◌, true, false, length};

@@ -1,4 +1,5 @@
-//! Explanations: the tables of a graph, and the plans of a query, as texts.
+//! Explanations: the tables of a graph, and the plans of a query, as texts. The crate stands on the
+//! plans of `gq_plan`, the graph of `gq_store` and the writers of `gq_render`.
 #![tactic(auto)]
 
 mod filling;

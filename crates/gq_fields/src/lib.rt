@@ -1,5 +1,5 @@
 //! What the fields of a graph's CSV files spell: the header of a table, and the values of its
-//! records.
+//! records. The crate stands on `gq_base` alone.
 #![tactic(auto)]
 
 mod field;

@@ -1,5 +1,5 @@
 //! Kernels that keep the marked places of a vector whose cells or ids pass a test, 64 places at a
-//! time.
+//! time. The crate stands on the marks of `gq_bits`.
 #![tactic(auto)]
 
 mod columns;

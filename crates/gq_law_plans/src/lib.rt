@@ -1,5 +1,5 @@
 //! The laws that a plan which covers an alternative makes what the alternative allows, and that no
-//! test of it faults.
+//! test of it faults. The crate stands on the plans of `gq_plan`, and does nothing at run time.
 #![tactic(auto)]
 
 mod law;

@@ -1,5 +1,5 @@
 //! The matches of patterns by their definition: all assignments of a small graph, each of which is
-//! tested.
+//! tested. The crate stands on the matches of `gq_alternatives` and the plain graph of `gq_plain`.
 #![tactic(auto)]
 
 mod assignments;

@@ -1,4 +1,5 @@
-//! What the names of a query stand for: its patterns with their variables, and what an expression may name.
+//! What the names of a query stand for: its patterns with their variables, and what an expression
+//! may name. The crate stands on the trees of `gq_syntax` and the bound expressions of `gq_expr`.
 #![tactic(auto)]
 
 mod copies;

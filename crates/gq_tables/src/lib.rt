@@ -1,5 +1,6 @@
-//! The rows that the CSV files of a graph give: one table of nodes or of relationships, or why
-//! there is none.
+//! The rows that the CSV files of a graph give: one table of nodes or of relationships, or its first
+//! refusal. The crate stands on `csv`, which cuts records, and on the headers and fields of
+//! `gq_fields`.
 #![tactic(auto)]
 
 mod batch;

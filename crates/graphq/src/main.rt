@@ -1,4 +1,5 @@
-//! The program: it makes the real files, input and output, calls `run`, and ends with the status that it answers.
+//! The program: it makes the real files, input and output of `gq_io`, calls `gq_shell::run`, and ends with the status
+//! that it answers.
 #![tactic(auto)]
 
 use gq_io::{RealFiles, RealSink, RealSource};
