@@ -1,5 +1,7 @@
 pub mod ListFacts
 pub mod ListLaws
+pub mod OptionLaws
+pub mod ResultLaws
 pub mod RowLemmas
 pub mod Texts
 pub mod TruthLaws

@@ -2,6 +2,7 @@ pub mod Catalogs
 pub mod Lists
 pub mod Plain
 pub mod Rels
+pub mod Results
 pub mod Truth
 pub mod Valid
 pub mod ValueLaws

@@ -1,8 +1,9 @@
 -- The columns, conjuncts and keys of a query whose names and calls are known stand for expressions.
 use Rattle.std.proofs.Common.{◌≡◌, ◌∙◌, sym, refl, ap, ap₂, subst, ℕ, suc, Bool, true, false, List, [], ◌∷◌, ◌++◌, map, flat_map, Option, Some, None, if◌then◌else◌}
+use Rattle.gq_base.proofs.OptionLaws.{or_first, or_second}
 use Rattle.std.specs.Prelude.{All, filter_map, unwrap_or}
 use Rattle.std.specs.List.{AllByRecursion, cons_option}
-use Rattle.std.specs.Option.{option_map}
+use Rattle.std.specs.Option.{option_map, option_or}
 use Rattle.std.proofs.lemmas.List.Elements.{All-from_recursion, filter_map-append}
 use Rattle.gq_base.specs.Lists.{with_first}
 use Rattle.gq_alternatives.proofs.Shapes.{each_left, each_right}
@@ -14,7 +15,7 @@ use Rattle.gq_trees.specs.Conjuncts.{conjunct_expr}
 use Rattle.gq_scopes.specs.Patterns.{Name, Pattern, no_pattern, pattern_of, with_paths}
 use Rattle.gq_trees.specs.Resolving.{Conjunct, Split, functions, resolved, resolve_step, split, split_node, split_step, all_some}
 use Rattle.gq_scopes.specs.Scopes.{Scope, scope_of}
-use Rattle.gq_trees.specs.Uses.{Use, uses, or_else, first_name, unknown_name, unknown_function, wrong_count}
+use Rattle.gq_trees.specs.Uses.{Use, uses, first_name, unknown_name, unknown_function, wrong_count}
 use Rattle.gq_scopes.specs.declared.Column.{Column}
 use Rattle.gq_syntax.specs.declared.AstNode.{AstNode}
 use Rattle.gq_syntax.specs.declared.AstNode.TheVariants as ast
@@ -31,23 +32,15 @@ use Rattle.gq_binder.specs.Refusals.{first_in, items_in, sorts_in}
 
 -- ---- what the checks say of each expression
 
-first_none : (a b : Option Name) → or_else a b ≡ None → a ≡ None
-first_none None b e = refl
-first_none (Some n) b e = e
+both_none : (a b : Option Name) → a ≡ None → b ≡ None → option_or a b ≡ None
+both_none a b e f = ap (λ o. option_or o b) e ∙ f
 
-second_none : (a b : Option Name) → or_else a b ≡ None → b ≡ None
-second_none None b e = e
-second_none (Some n) b e = cc e
-
-both_none : (a b : Option Name) → a ≡ None → b ≡ None → or_else a b ≡ None
-both_none a b e f = ap (λ o. or_else o b) e ∙ f
-
-joint : (a b : Use → Option Name) (us : List Use) → first_name a us ≡ None → first_name b us ≡ None → first_name (λ u. or_else (a u) (b u)) us ≡ None
+joint : (a b : Use → Option Name) (us : List Use) → first_name a us ≡ None → first_name b us ≡ None → first_name (λ u. option_or (a u) (b u)) us ≡ None
 joint a b [] e f = refl
 joint a b (u ∷ us) e f =
-    both_none (or_else (a u) (b u)) (first_name (λ v. or_else (a v) (b v)) us)
-    (both_none (a u) (b u) (first_none (a u) (first_name a us) e) (first_none (b u) (first_name b us) f))
-    (joint a b us (second_none (a u) (first_name a us) e) (second_none (b u) (first_name b us) f))
+    both_none (option_or (a u) (b u)) (first_name (λ v. option_or (a v) (b v)) us)
+    (both_none (a u) (b u) (or_first (a u) (first_name a us) e) (or_first (b u) (first_name b us) f))
+    (joint a b us (or_second (a u) (first_name a us) e) (or_second (b u) (first_name b us) f))
 
 -- no name and no call of an expression is refused
 abbrev IsFine : Scoped → Type 0
@@ -57,9 +50,9 @@ all_fine : (es : List Scoped) → first_in unknown_name es ≡ None → first_in
 all_fine [] v f c = tt
 all_fine (e ∷ es) v f c =
     let us : List Use = uses e.tree in (
-      joint (unknown_name e.scope) (λ u. or_else (unknown_function u) (wrong_count u)) us (first_none (first_name (unknown_name e.scope) us) (first_in unknown_name es) v)
-          (joint unknown_function wrong_count us (first_none (first_name unknown_function us) (first_in (λ _. unknown_function) es) f) (first_none (first_name wrong_count us) (first_in (λ _. wrong_count) es) c)),
-      all_fine es (second_none (first_name (unknown_name e.scope) us) (first_in unknown_name es) v) (second_none (first_name unknown_function us) (first_in (λ _. unknown_function) es) f) (second_none (first_name wrong_count us) (first_in (λ _. wrong_count) es) c),
+      joint (unknown_name e.scope) (λ u. option_or (unknown_function u) (wrong_count u)) us (or_first (first_name (unknown_name e.scope) us) (first_in unknown_name es) v)
+          (joint unknown_function wrong_count us (or_first (first_name unknown_function us) (first_in (λ _. unknown_function) es) f) (or_first (first_name wrong_count us) (first_in (λ _. wrong_count) es) c)),
+      all_fine es (or_second (first_name (unknown_name e.scope) us) (first_in unknown_name es) v) (or_second (first_name unknown_function us) (first_in (λ _. unknown_function) es) f) (or_second (first_name wrong_count us) (first_in (λ _. wrong_count) es) c),
     )
 
 -- the expressions of a query in text order, with its functions known

@@ -1,13 +1,14 @@
 -- What the checks find in the parts of a query is its first refusal; a query that they pass is bound by its parts.
 use Rattle.std.proofs.Common.{◌≡◌, ◌∙◌, sym, refl, ap, subst, ℕ, length, List, [], ◌∷◌, ◌++◌, map, Option, Some, None, Err}
-use Rattle.std.specs.Option.{option_map}
+use Rattle.gq_base.proofs.OptionLaws.{or_none}
+use Rattle.std.specs.Option.{option_map, option_or}
 use Rattle.gq_alternatives.specs.Alternatives.{Choice, alternatives, pattern_alternatives}
 use Rattle.gq_base.specs.Catalogs.{Tables}
 use Rattle.gq_binder.proofs.Accepted.{IsNamed, known_expressions, columns_there, keys_there, conjuncts_there}
 use Rattle.gq_binder.proofs.ColumnNames.{columns_repeated, columns_counted, sorts_same, unknown_names, refused_calls}
 use Rattle.gq_binder.proofs.NameLemmas.{first_variable, first_function, first_arguments}
 use Rattle.gq_binder.proofs.Patterns.{node_names_there}
-use Rattle.gq_binder.proofs.RefusalLemmas.{first_then, first_append, or_none, same_behind}
+use Rattle.gq_binder.proofs.RefusalLemmas.{first_then, first_append, same_behind}
 use Rattle.gq_binder.proofs.SoundAlternatives.{each_none, is_bound, reads_listed}
 use Rattle.gq_binder.specs.Binding.{Answers, IsBound}
 use Rattle.gq_binder.specs.steps.Checks.{IsOfQuery}
@@ -24,7 +25,7 @@ use Rattle.gq_scopes.specs.Patterns.{Name, Pattern, pattern_of}
 use Rattle.gq_trees.specs.Renames.{ambiguous_name}
 use Rattle.gq_trees.specs.Resolving.{functions, as_lists}
 use Rattle.gq_scopes.specs.Scopes.{scope_of}
-use Rattle.gq_trees.specs.Uses.{or_else, unknown_function, wrong_count}
+use Rattle.gq_trees.specs.Uses.{unknown_function, wrong_count}
 use Rattle.gq_syntax.specs.steps.Spans.{StandsIn}
 use Rattle.gq_syntax.specs.declared.Query.{Query}
 
@@ -135,12 +136,12 @@ module _ (query : Query) (text : List ℕ) where
     abbrev last : Option BindRefusal
     last = over_limit max_alternatives (length (alternatives query catalog)) refusal.TooManyAlternatives
 
-    refusal_is : first_refusal query text catalog ≡ or_else found last
+    refusal_is : first_refusal query text catalog ≡ option_or found last
     unfolding first_refusal
     refusal_is =
         first_append before_last (last ∷ [])
-        ∙ ap (or_else (first_of_all before_last)) (first_then last [] ∙ or_none last)
-        ∙ ap (λ o. or_else o last) (sym checked)
+        ∙ ap (option_or (first_of_all before_last)) (first_then last [] ∙ or_none last)
+        ∙ ap (λ o. option_or o last) (sym checked)
 
     answered : (e : BindRefusal) → (IsOfQuery e → first_refusal query text catalog ≡ Some e) → Answers query text catalog (Err e)
     answered refusal.Memory h = tt
@@ -150,7 +151,7 @@ module _ (query : Query) (text : List ℕ) where
     pub refused_early : (parts : QueryParts) (e : BindRefusal) → parts ≡ parts_of text query → (IsOfQuery e → first_of_all (checks_in text query parts) ≡ Some e)
         → Answers query text catalog (Err e)
     refused_early parts e is h =
-        answered e (λ q. refusal_is ∙ ap (λ o. or_else o last) (sym (ap (λ ps. first_of_all (checks_in text query ps)) is) ∙ h q))
+        answered e (λ q. refusal_is ∙ ap (λ o. option_or o last) (sym (ap (λ ps. first_of_all (checks_in text query ps)) is) ∙ h q))
 
     abbrev many : Pattern → Option BindRefusal
     many pattern = over_limit max_alternatives (length (pattern_alternatives catalog pattern)) refusal.TooManyAlternatives
@@ -163,7 +164,7 @@ module _ (query : Query) (text : List ℕ) where
       pattern_so = ap (λ (ps : QueryParts). ps.pattern) is ∙ pattern_is
 
       rest : first_refusal query text catalog ≡ many parts.pattern
-      rest = refusal_is ∙ ap (λ o. or_else o last) passes ∙ sym (ap many pattern_so)
+      rest = refusal_is ∙ ap (λ o. option_or o last) passes ∙ sym (ap many pattern_so)
 
       -- the last check refuses it
       pub refused_last : (e : BindRefusal) → (IsOfQuery e → many parts.pattern ≡ Some e) → Answers query text catalog (Err e)

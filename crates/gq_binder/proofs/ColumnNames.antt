@@ -1,7 +1,7 @@
 -- What the checks find in the columns of a query they find by their names, whatever its calls stand for.
 use Rattle.std.proofs.Common.{◌≡◌, ◌∙◌, sym, refl, ap, ap₂, ℕ, ◌+◌, nat_eq, nat_lt, Bool, not, ◌||◌, cond, List, [], ◌∷◌, ◌++◌, map, length, Option, Some, None, if◌then◌else◌}
 use Rattle.std.specs.List.{list_any, position, prefix_len, position_or_len}
-use Rattle.std.specs.Option.{option_map}
+use Rattle.std.specs.Option.{option_map, option_or}
 use Rattle.std.specs.Cmp.Lexicographic.{pointwise}
 use Rattle.std.proofs.lemmas.List.{length-map, map-append}
 use Rattle.gq_binder.proofs.Accepted.{known_expressions}
@@ -11,7 +11,7 @@ use Rattle.gq_binder.specs.Refusals.{first_in, first_behind, expressions, items_
 use Rattle.gq_binder.specs.declared.refusal.BindRefusal.TheVariants as refusal
 use Rattle.gq_scopes.specs.Patterns.{Name, Pattern, pattern_of}
 use Rattle.gq_trees.specs.Resolving.{functions, as_lists}
-use Rattle.gq_trees.specs.Uses.{Use, bare, owner, call, uses, or_else, first_name, refused_unless, unknown_name}
+use Rattle.gq_trees.specs.Uses.{Use, bare, owner, call, uses, first_name, refused_unless, unknown_name}
 use Rattle.gq_scopes.specs.Scopes.{Scope, find_column, is_there, is_variable, scope_of}
 use Rattle.gq_scopes.specs.declared.Column.{Column}
 use Rattle.gq_syntax.specs.declared.Item.{Item}
@@ -60,7 +60,7 @@ twice_named : (before cs : List Column) → first_behind repeating_column before
 unfolding repeating_name
 twice_named before [] = refl
 twice_named before (c ∷ cs) =
-    ap₂ or_else (ap (λ b. refused_unless (not b) c.name) (any_named c.name before))
+    ap₂ option_or (ap (λ b. refused_unless (not b) c.name) (any_named c.name before))
     (twice_named (before ++ c ∷ []) cs ∙ ap (λ names. first_behind repeating_name names (names_of cs)) (map-append (λ c. c.name) before (c ∷ [])))
 
 repeated_same : (cs ds : List Column) → names_of cs ≡ names_of ds → column_repeated cs ≡ column_repeated ds
@@ -92,16 +92,16 @@ columns_counted query text =
 
 first_same : (a b : Use → Option Name) → ((u : Use) → a u ≡ b u) → (us : List Use) → first_name a us ≡ first_name b us
 first_same a b e [] = refl
-first_same a b e (u ∷ us) = ap₂ or_else (e u) (first_same a b e us)
+first_same a b e (u ∷ us) = ap₂ option_or (e u) (first_same a b e us)
 
 pub sorts_same : (check : Scope → Use → Option Name) (s r : Scope) → ((u : Use) → check s u ≡ check r u) → (order : List Sort) → first_in check (sorts_in s order) ≡ first_in check (sorts_in r order)
 sorts_same check s r e [] = refl
-sorts_same check s r e (o ∷ os) = ap₂ or_else (first_same (check s) (check r) e (uses o.tree)) (sorts_same check s r e os)
+sorts_same check s r e (o ∷ os) = ap₂ option_or (first_same (check s) (check r) e (uses o.tree)) (sorts_same check s r e os)
 
 last_same : (check : Scope → Use → Option Name) (xs ys zs ws : List Scoped) → first_in check zs ≡ first_in check ws → first_in check (xs ++ (ys ++ zs)) ≡ first_in check (xs ++ (ys ++ ws))
 last_same check xs ys zs ws e =
     first_in_append check xs (ys ++ zs)
-    ∙ ap (or_else (first_in check xs)) (first_in_append check ys zs ∙ ap (or_else (first_in check ys)) e ∙ sym (first_in_append check ys ws))
+    ∙ ap (option_or (first_in check xs)) (first_in_append check ys zs ∙ ap (option_or (first_in check ys)) e ∙ sym (first_in_append check ys ws))
     ∙ sym (first_in_append check xs (ys ++ ws))
 
 module _ (query : Query) (text : List ℕ) where

@@ -1,7 +1,8 @@
 -- A tree whose names and calls pass the checks stands for an expression.
 use Rattle.std.proofs.Common.{◌≡◌, ◌∙◌, sym, refl, ap, subst, ℕ, suc, List, [], ◌∷◌, ◌++◌, map, length, slice_get, Option, Some, None, Bool, true, false, not, ◌||◌, nat_eq, codes, arith}
+use Rattle.gq_base.proofs.OptionLaws.{or_first, or_second}
 use Rattle.std.specs.Prelude.{if◌then◌else◌, All}
-use Rattle.std.specs.Option.{option_map}
+use Rattle.std.specs.Option.{option_map, option_or, option_and_then}
 use Rattle.std.proofs.lemmas.Bool.{false≢true}
 use Rattle.std.proofs.lemmas.List.{length-map}
 use Rattle.std.proofs.lemmas.List.Elements.{All-get_or}
@@ -11,9 +12,9 @@ use Rattle.gq_base.specs.Lists.{with_first}
 use Rattle.gq_expr.specs.declared.Expr.{Expr}
 use Rattle.gq_expr.specs.declared.Tester.TheVariants as tester
 use Rattle.gq_scopes.specs.Patterns.{Name, find_name}
-use Rattle.gq_trees.specs.Resolving.{functions, resolved, resolve_step, all_some, and_then, over_known, bound_term, bound_tester, type_call, coalesce_call, is_function}
+use Rattle.gq_trees.specs.Resolving.{functions, resolved, resolve_step, all_some, over_known, bound_term, bound_tester, type_call, coalesce_call, is_function}
 use Rattle.gq_trees.specs.steps.Trees.{term_with}
-use Rattle.gq_trees.specs.Uses.{Use, bare, owner, call, uses, uses_step, all_uses, term_uses, tester_uses, or_else, first_name, refused_unless, is_some_function, takes, unknown_name, unknown_function, wrong_count}
+use Rattle.gq_trees.specs.Uses.{Use, bare, owner, call, uses, uses_step, all_uses, term_uses, tester_uses, first_name, refused_unless, is_some_function, takes, unknown_name, unknown_function, wrong_count}
 use Rattle.gq_scopes.specs.Scopes.{Scope, column_or, either_property, either_variable, expr_of, find_column, is_there, is_variable}
 use Rattle.gq_trees.proofs.Resolved.{tests_of}
 use Rattle.gq_trees.proofs.UseLemmas.{first_name_append}
@@ -46,14 +47,6 @@ over_is node (Some e) None h k = absurd k
 over_is node (Some e) (Some ts) h k = tt
 
 -- names that are not refused
-
-or_first : (a b : Option Name) → or_else a b ≡ None → a ≡ None
-or_first None b h = refl
-or_first (Some x) b h = h
-
-pub or_second : (a b : Option Name) → or_else a b ≡ None → b ≡ None
-or_second None b h = h
-or_second (Some x) b h = cc
 
 front : (check : Use → Option Name) (us vs : List Use) → first_name check (us ++ vs) ≡ None → first_name check us ≡ None
 front check us vs h = or_first (first_name check us) (first_name check vs) (sym (first_name_append check us vs) ∙ h)
@@ -118,13 +111,13 @@ all_length : {A : Type 0} (os : List (Option A)) → HasLength (length os) (all_
 all_length [] = refl
 all_length (o ∷ os) = one_longer (length os) o (all_some os) (all_length os)
 
-called_is : (name : Name) (n : ℕ) (args : Option (List Expr)) → HasLength n args → IsKnown args → is_some_function name ≡ true → takes name n ≡ true → IsKnown (and_then args (functions name))
+called_is : (name : Name) (n : ℕ) (args : Option (List Expr)) → HasLength n args → IsKnown args → is_some_function name ≡ true → takes name n ≡ true → IsKnown (option_and_then (functions name) args)
 called_is name n None l h f k = absurd h
 called_is name n (Some args) l h f k = call_is (is_function name (codes "type")) (is_function name (codes "coalesce")) args f (subst (λ (m : ℕ). takes name m ≡ true) (sym l) k)
 
 -- what the checks of names and calls refuse
 abbrev pub refused_use : Scope → Use → Option Name
-refused_use s u = or_else (unknown_name s u) (or_else (unknown_function u) (wrong_count u))
+refused_use s u = option_or (unknown_name s u) (option_or (unknown_function u) (wrong_count u))
 
 module _ (s : Scope) (known : All IsKnownColumn s.columns) where
   abbrev check : Use → Option Name
@@ -171,13 +164,13 @@ module _ (s : Scope) (known : All IsKnownColumn s.columns) where
   tests_are q (tested.Contains p ∷ ts) h =
       both (option_map tester.Contains (go p.0)) (all_some (map bound_tester (tests go q ts))) (mapped tester.Contains (go p.0) (p.1 (front check (uses p.0) _ h))) (tests_are q ts (back check (uses p.0) _ h))
 
-  call_passes : (name : Name) (qs : List Part) → first_name check (call name (length (map uses (trees qs))) ∷ all_uses (map uses (trees qs))) ≡ None → IsKnown (and_then (all_some (map go (trees qs))) (functions name))
+  call_passes : (name : Name) (qs : List Part) → first_name check (call name (length (map uses (trees qs))) ∷ all_uses (map uses (trees qs))) ≡ None → IsKnown (option_and_then (functions name) (all_some (map go (trees qs))))
   call_passes name qs h =
       let n : ℕ = length (map uses (trees qs)) in
-      let kept : or_else (unknown_function (call name n)) (wrong_count (call name n)) ≡ None = or_first _ (first_name check (all_uses (map uses (trees qs)))) h in
+      let kept : option_or (unknown_function (call name n)) (wrong_count (call name n)) ≡ None = or_first _ (first_name check (all_uses (map uses (trees qs)))) h in
       let same : n ≡ length (map go (trees qs)) = length-map (trees qs) uses ∙ sym (length-map (trees qs) go) in
       called_is name (length (map go (trees qs))) (all_some (map go (trees qs))) (all_length (map go (trees qs)))
-      (all_are qs (or_second (or_else (unknown_function (call name n)) (wrong_count (call name n))) _ h))
+      (all_are qs (or_second (option_or (unknown_function (call name n)) (wrong_count (call name n))) _ h))
       (allowed (is_some_function name) name (or_first _ (wrong_count (call name n)) kept))
       (subst (λ (m : ℕ). takes name m ≡ true) same (allowed (takes name n) name (or_second (unknown_function (call name n)) _ kept)))
 

@@ -2,7 +2,7 @@
 use Rattle.std.proofs.Common.{◌≡◌, ◌∙◌, ℕ, ◌+◌, ◌<◌, Bool, true, false, cond, not, Option, Some, None, List, [], ◌∷◌, ◌++◌, length, map, filter, take, drop, get_or, nat_eq, refl, sym, ap, ap₂, append-nil, append_assoc}
 use Rattle.std.specs.Prelude.{◌&&◌, ◌||◌}
 use Rattle.std.specs.List.{list_any}
-use Rattle.std.specs.Option.{option_map}
+use Rattle.std.specs.Option.{option_map, option_or}
 use Rattle.std.specs.Cmp.Lexicographic.{pointwise}
 use Rattle.std.proofs.lemmas.List.{drop_more, take_more, map-append}
 use Rattle.std.proofs.lemmas.List.Elements.{filter-append}
@@ -11,7 +11,7 @@ use Rattle.gq_plan.specs.Reads.{Variable, node, rel}
 use Rattle.gq_binder.specs.steps.Met.{met_of, meeting, meeting_as, met_otherwise, met_again}
 use Rattle.gq_binder.specs.Refusals.{conflicting, repeating, first_behind, same_form, is_rel}
 use Rattle.gq_binder.specs.Columns.{firsts_behind, if_first}
-use Rattle.gq_trees.specs.Uses.{or_else, refused_unless}
+use Rattle.gq_trees.specs.Uses.{refused_unless}
 use Rattle.gq_scopes.specs.Patterns.{Name, is_called}
 use Rattle.gq_binder.specs.declared.met.Met.{Met}
 use Rattle.gq_binder.specs.declared.refusal.BindRefusal.{BindRefusal}
@@ -28,17 +28,17 @@ and_false false = refl
 
 module _ {A : Type 0} (check : List A → A → Option Name) (xs : List A) (at : ℕ) (h : first_behind check (take at xs) (drop at xs) ≡ first_behind check [] xs) where
   module _ (more : at < length xs) (x : A) (is : x ≡ get_or xs at x) where
-    opened : first_behind check (take at xs) (drop at xs) ≡ or_else (check (take at xs) x) (first_behind check (take (at + 1) xs) (drop (at + 1) xs))
+    opened : first_behind check (take at xs) (drop at xs) ≡ option_or (check (take at xs) x) (first_behind check (take (at + 1) xs) (drop (at + 1) xs))
     opened = rw (drop_more xs at x more, take_more xs at x more, sym is) refl
 
     refused : (name : Name) → check (take at xs) x ≡ Some name → Some name ≡ first_behind check [] xs
-    refused name e = sym (ap (λ o. or_else o (first_behind check (take (at + 1) xs) (drop (at + 1) xs))) e) ∙ sym opened ∙ h
+    refused name e = sym (ap (λ o. option_or o (first_behind check (take (at + 1) xs) (drop (at + 1) xs))) e) ∙ sym opened ∙ h
 
     pub refused_as : (make : Name → BindRefusal) (name : Name) → check (take at xs) x ≡ Some name → option_map make (first_behind check [] xs) ≡ Some (make name)
     refused_as make name e = ap (option_map make) (sym (refused name e))
 
     pub passed : check (take at xs) x ≡ None → first_behind check (take (at + 1) xs) (drop (at + 1) xs) ≡ first_behind check [] xs
-    passed e = sym (ap (λ o. or_else o (first_behind check (take (at + 1) xs) (drop (at + 1) xs))) e) ∙ sym opened ∙ h
+    passed e = sym (ap (λ o. option_or o (first_behind check (take (at + 1) xs) (drop (at + 1) xs))) e) ∙ sym opened ∙ h
 
 -- ---- names that were met
 

@@ -1,25 +1,19 @@
 -- The first refused names and calls of some expressions and then others.
 use Rattle.std.proofs.Common.{◌≡◌, ◌∙◌, ap, refl, sym, List, [], ◌∷◌, ◌++◌, Option, None, Some}
+use Rattle.gq_base.proofs.OptionLaws.{or_assoc, or_none}
+use Rattle.std.specs.Option.{option_or}
 use Rattle.gq_binder.specs.Columns.{Scoped}
 use Rattle.gq_binder.specs.steps.Names.{FirstNames, no_names, with_expression, with_expressions}
 use Rattle.gq_binder.specs.Refusals.{first_in}
 use Rattle.gq_scopes.specs.Patterns.{Name}
 use Rattle.gq_scopes.specs.Scopes.{Scope}
-use Rattle.gq_trees.specs.Uses.{Use, uses, or_else, first_name, unknown_name, unknown_function, wrong_count}
+use Rattle.gq_trees.specs.Uses.{Use, uses, first_name, unknown_name, unknown_function, wrong_count}
 
-regroup : (a b c : Option Name) → or_else a (or_else b c) ≡ or_else (or_else a b) c
-regroup None b c = refl
-regroup (Some x) b c = refl
-
-or_none : (a : Option Name) → or_else a None ≡ a
-or_none None = refl
-or_none (Some x) = refl
-
-pub first_in_append : (check : Scope → Use → Option Name) (xs ys : List Scoped) → first_in check (xs ++ ys) ≡ or_else (first_in check xs) (first_in check ys)
+pub first_in_append : (check : Scope → Use → Option Name) (xs ys : List Scoped) → first_in check (xs ++ ys) ≡ option_or (first_in check xs) (first_in check ys)
 first_in_append check [] ys = refl
 first_in_append check (x ∷ xs) ys =
-    ap (or_else (first_name (check x.scope) (uses x.tree))) (first_in_append check xs ys)
-    ∙ regroup (first_name (check x.scope) (uses x.tree)) (first_in check xs) (first_in check ys)
+    ap (option_or (first_name (check x.scope) (uses x.tree))) (first_in_append check xs ys)
+    ∙ or_assoc (first_name (check x.scope) (uses x.tree)) (first_in check xs) (first_in check ys)
 
 pub with_expressions_append : (names : FirstNames) (xs ys : List Scoped) → with_expressions names (xs ++ ys) ≡ with_expressions (with_expressions names xs) ys
 with_expressions_append names [] ys = refl
@@ -27,13 +21,13 @@ with_expressions_append names (x ∷ xs) ys = with_expressions_append (with_expr
 
 -- what one of the checks finds
 module _ (of : FirstNames → Option Name) (check : Scope → Use → Option Name)
-    (step : (names : FirstNames) (e : Scoped) → of (with_expression names e) ≡ or_else (of names) (first_name (check e.scope) (uses e.tree))) where
-  found : (names : FirstNames) (es : List Scoped) → of (with_expressions names es) ≡ or_else (of names) (first_in check es)
+    (step : (names : FirstNames) (e : Scoped) → of (with_expression names e) ≡ option_or (of names) (first_name (check e.scope) (uses e.tree))) where
+  found : (names : FirstNames) (es : List Scoped) → of (with_expressions names es) ≡ option_or (of names) (first_in check es)
   found names [] = sym (or_none (of names))
   found names (e ∷ es) =
       found (with_expression names e) es
-      ∙ ap (λ o. or_else o (first_in check es)) (step names e)
-      ∙ sym (regroup (of names) (first_name (check e.scope) (uses e.tree)) (first_in check es))
+      ∙ ap (λ o. option_or o (first_in check es)) (step names e)
+      ∙ sym (or_assoc (of names) (first_name (check e.scope) (uses e.tree)) (first_in check es))
 
 pub first_variable : (es : List Scoped) → (with_expressions no_names es).variable ≡ first_in unknown_name es
 first_variable es = found (λ names. names.variable) unknown_name (λ names e. refl) no_names es

@@ -1,7 +1,8 @@
 -- The first refusal of several checks.
 use Rattle.std.proofs.Common.{◌≡◌, ap, refl, sym, ℕ, Bool, true, false, nat_lt, length, List, [], ◌∷◌, ◌++◌, Option, Some, None, if◌then◌else◌, ◌∙◌}
+use Rattle.gq_base.proofs.OptionLaws.{or_none}
 use Rattle.std.specs.List.{AllByRecursion}
-use Rattle.std.specs.Option.{option_map}
+use Rattle.std.specs.Option.{option_map, option_or}
 use Rattle.gq_alternatives.specs.Alternatives.{Choice}
 use Rattle.gq_alternatives.specs.Searching.{at_most}
 use Rattle.gq_binder.specs.Columns.{Scoped}
@@ -13,22 +14,18 @@ use Rattle.gq_trees.proofs.RenameLemmas.{renamed_is}
 use Rattle.gq_scopes.specs.Patterns.{Name, Pattern}
 use Rattle.gq_trees.specs.Renames.{ambiguous_name, renamed_name, renamed_names}
 use Rattle.gq_scopes.specs.Scopes.{Scope, scope_of}
-use Rattle.gq_trees.specs.Uses.{Use, or_else}
+use Rattle.gq_trees.specs.Uses.{Use}
 use Rattle.gq_syntax.specs.declared.Item.{Item}
 use Rattle.gq_syntax.specs.declared.Query.{Query}
 use Rattle.gq_syntax.specs.declared.Sort.{Sort}
 
-pub first_then : {A : Type 0} (x : Option A) (xs : List (Option A)) → first_of_all (x ∷ xs) ≡ or_else x (first_of_all xs)
+pub first_then : {A : Type 0} (x : Option A) (xs : List (Option A)) → first_of_all (x ∷ xs) ≡ option_or x (first_of_all xs)
 first_then None xs = refl
 first_then (Some x) xs = refl
 
-pub or_none : {A : Type 0} (x : Option A) → or_else x None ≡ x
-or_none None = refl
-or_none (Some x) = refl
-
 pub ruleset firsts = (first_then, or_none)
 
-pub first_append : {A : Type 0} (xs ys : List (Option A)) → first_of_all (xs ++ ys) ≡ or_else (first_of_all xs) (first_of_all ys)
+pub first_append : {A : Type 0} (xs ys : List (Option A)) → first_of_all (xs ++ ys) ≡ option_or (first_of_all xs) (first_of_all ys)
 first_append [] ys = refl
 first_append (None ∷ xs) ys = first_append xs ys
 first_append (Some x ∷ xs) ys = refl

@@ -2,7 +2,7 @@
 -- project's profile).
 use Rattle.std.specs.Prelude.{ℕ, suc, nat_eq, nat_lt, Bool, true, false, not, ◌&&◌, Option, Some, None, List, [], ◌∷◌, ◌++◌, map, flat_map, length, if◌then◌else◌}
 use Rattle.std.specs.List.{list_any}
-use Rattle.std.specs.Option.{option_map}
+use Rattle.std.specs.Option.{option_map, option_or}
 use Rattle.std.specs.Cmp.Lexicographic.{pointwise}
 use Rattle.gq_base.specs.Catalogs.{Tables}
 use Rattle.gq_expr.specs.declared.Expr.{Expr}
@@ -16,7 +16,7 @@ use Rattle.gq_binder.specs.Columns.{Scoped, conditions, columns, sort_scope}
 use Rattle.gq_trees.specs.MadeOf.{column_exprs, is_made_of}
 use Rattle.gq_trees.specs.Renames.{ambiguous_name}
 use Rattle.gq_scopes.specs.Patterns.{Name, NamedVariable, Pattern, pattern_of, is_same_name}
-use Rattle.gq_trees.specs.Uses.{Use, uses, or_else, first_name, refused_unless, unknown_name, unknown_function, wrong_count}
+use Rattle.gq_trees.specs.Uses.{Use, uses, first_name, refused_unless, unknown_name, unknown_function, wrong_count}
 use Rattle.gq_trees.specs.Resolving.{as_lists, resolved}
 use Rattle.gq_binder.specs.declared.refusal.BindRefusal.{BindRefusal}
 use Rattle.gq_binder.specs.declared.refusal.BindRefusal.TheVariants as refusal
@@ -47,7 +47,7 @@ expressions text query = conditions query ++ (items_in (scope_of (pattern_of que
 -- the first name of the expressions that a check refuses
 abbrev pub first_in : (Scope → Use → Option Name) → List Scoped → Option Name
 first_in check [] = None
-first_in check (e ∷ es) = or_else (first_name (check e.scope) (uses e.tree)) (first_in check es)
+first_in check (e ∷ es) = option_or (first_name (check e.scope) (uses e.tree)) (first_in check es)
 
 abbrev pub unknown_variable : List ℕ → Query → Option BindRefusal
 unknown_variable text query = option_map refusal.UnknownVariable (first_in unknown_name (expressions text query))
@@ -60,7 +60,7 @@ same_form v w = false
 -- the first item that a check refuses behind those before it
 abbrev pub first_behind : {A : Type 0} → (List A → A → Option Name) → List A → List A → Option Name
 first_behind check before [] = None
-first_behind check before (x ∷ xs) = or_else (check before x) (first_behind check (before ++ x ∷ []) xs)
+first_behind check before (x ∷ xs) = option_or (check before x) (first_behind check (before ++ x ∷ []) xs)
 
 -- a name stands before as a variable of the other form
 abbrev pub conflicting : List NamedVariable → NamedVariable → Option Name

@@ -1,12 +1,12 @@
 //! The first names and calls of a query's expressions that the checks of names refuse.
 ghost use Rattle.std.specs.Prelude.{◌≡◌};
-ghost use Rattle.std.specs.Option.{option_copied, option_map};
+ghost use Rattle.std.specs.Option.{option_copied, option_map, option_or};
 ghost use Rattle.gq_binder.specs.steps.Checks.{Checks};
 ghost use Rattle.gq_binder.specs.steps.Names.{no_names, with_expression, with_expressions};
 ghost use Rattle.gq_binder.specs.Refusals.{items_in, sorts_in};
 ghost use Rattle.gq_binder.specs.declared.refusal.BindRefusal.TheVariants as refusal;
 ghost use Rattle.gq_trees.specs.Checks.{check_of};
-ghost use Rattle.gq_trees.specs.Uses.{first_name, or_else, uses};
+ghost use Rattle.gq_trees.specs.Uses.{first_name, uses};
 
 use crate::refusal::BindRefusal;
 use gq_base::Text;
@@ -120,7 +120,7 @@ fn or_first<'q>(
     tree: &'q Ast,
 ) -> Option<&'q Text>
     ensures { option_copied result
-        ≡ or_else (option_copied known.entry)
+        ≡ option_or (option_copied known.entry)
         (first_name (check_of check.entry scope.now) (uses tree.now)) }
 {
     match known {

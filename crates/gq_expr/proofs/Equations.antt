@@ -1,10 +1,11 @@
 -- The equations of `meaning`, one for each variant.
 use Rattle.std.proofs.Common.{◌≡◌, ◌∙◌, ap, sym, ℕ, List, map, Ok, Some, true}
+use Rattle.gq_base.specs.Results.{and_then}
 use Rattle.gq_base.specs.Plain.{Graph}
 use Rattle.gq_base.specs.Values.{literal_val, null}
 use Rattle.gq_base.specs.declared.Literal.{Literal as Spelled}
 use Rattle.gq_expr.specs.Operators.{Outcome, not_val, negate_val, plus_val, type_val}
-use Rattle.gq_expr.specs.Meaning.{meaning, meaning_step, and_then, logic_all, coalesce_all, compare_chain, arith_chain, test_chain}
+use Rattle.gq_expr.specs.Meaning.{meaning, meaning_step, logic_all, coalesce_all, compare_chain, arith_chain, test_chain}
 use Rattle.gq_expr.specs.steps.Parts.{bound_with, tester_with}
 use Rattle.gq_expr.specs.Reading.{Assignment, node_val, rel_val, property_at, node_property, rel_property, type_name}
 use Rattle.gq_base.specs.declared.operator.ArithOp.{ArithOp}

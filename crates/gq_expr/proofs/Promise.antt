@@ -1,5 +1,6 @@
 -- A condition that cannot fault, as far as the kinds tell, is true, false or null.
 use Rattle.std.proofs.Common.{◌≡◌, ◌∙◌, sym, refl, subst, List, [], ◌∷◌, map, slice_get, Option, Some, None, Bool, true, false, not, ◌||◌, ◌&&◌, Ok, Err}
+use Rattle.gq_base.specs.Results.{and_then}
 use Rattle.std.specs.List.{list_any, list_all, flat_map}
 use Rattle.std.proofs.lemmas.Bool.{false≢true}
 use Rattle.std.proofs.lemmas.List.Folds.{list_all-append}
@@ -14,7 +15,7 @@ use Rattle.gq_base.specs.declared.RelId.{RelId}
 use Rattle.gq_base.specs.declared.RelTable.{RelTable}
 use Rattle.gq_expr.specs.Kinds.{May, Sort, may, may_step, misfits, may_fault, truth, type_may, test_may, field_kind, term_faults, tester_faults, literal_kinds, kinds_at, is_boolean, is_relationship}
 use Rattle.gq_expr.specs.Kinds as sort
-use Rattle.gq_expr.specs.Meaning.{meaning, meaning_step, and_then, logic_all, logic_chain, coalesce_all, compare_chain, test_chain, test_val}
+use Rattle.gq_expr.specs.Meaning.{meaning, meaning_step, logic_all, logic_chain, coalesce_all, compare_chain, test_chain, test_val}
 use Rattle.gq_expr.specs.Operators.{Outcome, of_truth, logic3, logic_vals, not_val, first_known, compare_vals, member_of, starts_vals, ends_vals, contains_vals, type_val}
 use Rattle.gq_expr.specs.steps.Parts.{bound_with}
 use Rattle.gq_expr.specs.Reading.{Assignment, node_val, rel_val, property_at, node_property, rel_property, name_of, type_name}

@@ -1,7 +1,8 @@
 -- The meaning of an expression in a graph under an assignment: strict, the left operand first, and the first fault
 -- met is the answer (openCypher 9 has the operators; that evaluation is strict and the faults are this project's
 -- profile). Chains are read as pairs nested to the left.
-use Rattle.std.specs.Prelude.{Bool, true, not, List, [], ◌∷◌, Option, Some, Ok, Err}
+use Rattle.std.specs.Prelude.{Bool, true, not, List, [], ◌∷◌, Option, Some, Ok}
+use Rattle.gq_base.specs.Results.{and_then}
 use Rattle.gq_base.specs.Plain.{Graph}
 use Rattle.gq_base.specs.Values.{Val, null, flag, literal_val}
 use Rattle.gq_expr.specs.Operators.{Outcome, of_truth, logic_vals, not_val, first_known, compare_vals, is_null_val, member_of, starts_vals, ends_vals, contains_vals, arith_vals, negate_val, plus_val, type_val}
@@ -15,11 +16,6 @@ use Rattle.gq_expr.specs.declared.expr.LogicOp.{LogicOp}
 use Rattle.gq_expr.specs.declared.expr.LogicOp.TheVariants as logic
 use Rattle.gq_expr.specs.declared.expr.Tester.{Tester}
 use Rattle.gq_expr.specs.declared.expr.Tester.TheVariants as tester
-
--- a fault is the answer, a value goes on
-abbrev pub and_then : Outcome → (Val → Outcome) → Outcome
-and_then (Ok v) go = go v
-and_then (Err e) go = Err e
 
 -- the further operands of a logical chain, each evaluated after the operators before it
 abbrev pub logic_chain : LogicOp → Val → List Outcome → Outcome

@@ -1,11 +1,12 @@
 -- The test of a map entry is true where the entry holds.
 use Rattle.std.proofs.Common.{◌≡◌, ℕ, Bool, true, false, Option, Some, None, Ok, List, [], ◌∷◌, map, refl, ap₂, ◌∙◌, ◌&&◌}
+use Rattle.gq_base.specs.Results.{and_then}
 use Rattle.std.specs.List.{list_all}
 use Rattle.gq_base.specs.Plain.{Graph}
 use Rattle.gq_base.specs.Truth.{and3}
 use Rattle.gq_base.specs.Values.{equal_vals, literal_val}
 use Rattle.gq_base.specs.declared.CompareOp.TheVariants as compare
-use Rattle.gq_expr.specs.Meaning.{meaning, and_then, compare_chain}
+use Rattle.gq_expr.specs.Meaning.{meaning, compare_chain}
 use Rattle.gq_expr.specs.Operators.{Outcome, of_truth}
 use Rattle.gq_expr.specs.declared.Expr.TheVariants as expr
 use Rattle.gq_expr.proofs.Equations.{meaning_Literal, meaning_NodeProperty, meaning_RelProperty, meaning_Compare}

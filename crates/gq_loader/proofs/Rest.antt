@@ -1,5 +1,6 @@
 -- The load, as far as some tables were read, and what is left of it.
 use Rattle.std.proofs.Common.{◌≡◌, ℕ, ◌+◌, ◌<◌, List, [], ◌∷◌, length, drop, get_or, Some, None, Ok}
+use Rattle.gq_base.specs.Results.{and_then}
 use Rattle.std.proofs.Common.{Err, refl, ◌∙◌, drop-cons, add-one}
 use Rattle.std.specs.Prelude.{IfSome, All}
 use Rattle.std.specs.declared.option.Option.{Option}
@@ -15,7 +16,6 @@ use Rattle.gq_manifest.specs.declared.manifest.TableNumber.TheVariants as table
 use Rattle.gq_loader.specs.Answers.{Answers, Refuses}
 use Rattle.gq_loader.specs.steps.Answers.{AsMany, Leaves}
 use Rattle.gq_loader.specs.Loads.{beginning_of, load_of, take_table, take_tables}
-use Rattle.gq_loader.specs.Refusals.{and_then}
 use Rattle.gq_loader.specs.declared.limits.Limits.{Limits}
 use Rattle.gq_loader.specs.declared.loading.Beginning.{Beginning}
 use Rattle.gq_loader.specs.declared.refusal.LoadRefusal.{LoadRefusal}

@@ -1,9 +1,9 @@
 -- A file of a load (this project's profile).
 use Rattle.std.specs.Prelude.{ℕ, Bool, if◌then◌else◌, List, length, Ok, Err}
+use Rattle.gq_base.specs.Results.{and_then}
 use Rattle.std.specs.Option.{ok_or}
 use Rattle.std.specs.declared.result.Result.{Result}
 use Rattle.gq_io.specs.Outside.{Names}
-use Rattle.gq_loader.specs.Refusals.{and_then}
 use Rattle.gq_loader.specs.declared.refusal.LoadRefusal.{LoadRefusal}
 use Rattle.gq_loader.specs.declared.refusal.LoadRefusal.TheVariants as refusal
 

@@ -2,6 +2,7 @@
 -- names is `manifest_of` its text; what the file of a table gives is `node_table_of` its bytes, or
 -- `rel_table_of`.
 use Rattle.std.specs.Prelude.{ℕ, ◌+◌, List, [], ◌∷◌, length, replicate, slice_get, slice_set}
+use Rattle.gq_base.specs.Results.{and_then}
 use Rattle.std.specs.Prelude.{option_map, unwrap_or, Ok}
 use Rattle.std.specs.declared.option.Option.{Option}
 use Rattle.std.specs.declared.option.Option.TheVariants.{Some, None}
@@ -25,7 +26,7 @@ use Rattle.gq_tables.specs.declared.rels.RelTableRows.{RelTableRows}
 use Rattle.gq_tables.specs.declared.refusal.TableRefusal.{TableRefusal}
 use Rattle.gq_loader.specs.Files.{file_of}
 use Rattle.gq_loader.specs.Limits.{is_short, is_short_manifest}
-use Rattle.gq_loader.specs.Refusals.{and_then, refused_as}
+use Rattle.gq_loader.specs.Refusals.{refused_as}
 use Rattle.gq_loader.specs.declared.limits.Limits.{Limits}
 use Rattle.gq_loader.specs.declared.refusal.LoadRefusal.{LoadRefusal}
 use Rattle.gq_loader.specs.declared.refusal.LoadRefusal.TheVariants as refusal

@@ -14,12 +14,7 @@ name_of (refusal.FileTooLong name) = codes "FileTooLong"
 name_of (refusal.Manifest e) = manifest.name_of e.fault
 name_of (refusal.Table file e) = table.name_of e
 
--- what comes next, where nothing was refused
-abbrev pub and_then : {A B E : Type 0} → Result A E → (A → Result B E) → Result B E
-and_then (Err e) next = Err e
-and_then (Ok x) next = next x
-
--- the same, where a refusal is one of a load
+-- an answer whose refusal is one of a load
 abbrev pub refused_as : {A E : Type 0} → (E → LoadRefusal) → Result A E → Result A LoadRefusal
 refused_as form (Ok x) = Ok x
 refused_as form (Err e) = Err (form e)

@@ -1,5 +1,7 @@
 -- What holds of each manifest, whatever its lines.
 use Rattle.std.proofs.Common.{◌≡◌, ◌≢◌, ℕ, ◌+◌, ◌<◌, ◌≤◌, Bool, true, false, List, [], ◌∷◌, ◌++◌}
+use Rattle.gq_base.proofs.ResultLaws.{then_ok}
+use Rattle.gq_base.specs.Results.{and_then}
 use Rattle.std.proofs.Common.{length, Some, None, Ok, Err, refl, subst, arith, length-append}
 use Rattle.std.specs.Prelude.{if◌then◌else◌, nat_le, is_some, All}
 use Rattle.std.specs.declared.option.Option.{Option}
@@ -16,7 +18,7 @@ use Rattle.gq_base.specs.declared.catalog.RelTable.{RelTable}
 use Rattle.gq_manifest.specs.Lines.{NodeLine, RelLine, TableLine, node, rel, is_skipped, table_of}
 use Rattle.gq_manifest.specs.Manifests.{IsNumberOf, IsWhole, add_between, add_line}
 use Rattle.gq_manifest.specs.Manifests.{add_node, add_rel}
-use Rattle.gq_manifest.specs.Manifests.{and_then, blank, manifest_of, node_table, rel_table}
+use Rattle.gq_manifest.specs.Manifests.{blank, manifest_of, node_table, rel_table}
 use Rattle.gq_manifest.specs.Manifests.{take_line, take_lines}
 use Rattle.gq_manifest.specs.Manifests.{with_node, with_rel}
 use Rattle.gq_manifest.specs.Refusals.{on_line}
@@ -35,11 +37,6 @@ if_ok : (b : Bool) (e : ManifestRefusal) (r : Answer) (m : Manifest)
     → (if b then Err e else r) ≡ Ok m → (b ≡ false) × (r ≡ Ok m)
 if_ok true e r m h = cc h
 if_ok false e r m h = (refl, h)
-
-then_ok : (r : Answer) (f : Manifest → Answer) (m : Manifest) → and_then r f ≡ Ok m
-    → (n : Manifest) × (r ≡ Ok n) × (f n ≡ Ok m)
-then_ok (Ok n) f m e = (n, refl, e)
-then_ok (Err x) f m e = cc
 
 other_text : (a b : List ℕ) → bytes_eq a b ≡ false → a ≢ b
 other_text a b e = λ h. let same = (bytes_eq-Decides a b).1 h in cc

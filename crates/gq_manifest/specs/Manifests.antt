@@ -1,6 +1,7 @@
 -- Which tables a manifest names and in which order, or which line is refused first, and why (this
 -- project's profile).
 use Rattle.std.specs.Prelude.{◌≡◌, ◌≢◌, ℕ, ◌+◌, ◌<◌, ◌≤◌, nat_le, All, AllPairs, if◌then◌else◌}
+use Rattle.gq_base.specs.Results.{and_then}
 use Rattle.std.specs.Prelude.{List, [], ◌∷◌, ◌++◌, length, is_some, Ok, Err}
 use Rattle.std.specs.declared.option.Option.{Option}
 use Rattle.std.specs.declared.option.Option.TheVariants.{Some, None}
@@ -83,12 +84,6 @@ add_line number before (Some line) = add_table number before line
 abbrev pub take_line : ℕ → Manifest → List ℕ → Result Manifest ManifestRefusal
 take_line number before line =
     if is_skipped line then Ok before else add_line number before (table_of line)
-
--- what comes after a line, where the line is not refused
-abbrev pub and_then : Result Manifest ManifestRefusal → (Manifest → Result Manifest ManifestRefusal)
-    → Result Manifest ManifestRefusal
-and_then (Err e) f = Err e
-and_then (Ok manifest) f = f manifest
 
 -- the lines from this number on, in order, up to the first that is refused
 abbrev pub take_lines : ℕ → Manifest → List (List ℕ) → Result Manifest ManifestRefusal

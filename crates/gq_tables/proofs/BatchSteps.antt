@@ -1,5 +1,6 @@
 -- Records that are read together, on their way.
 use Rattle.std.proofs.Common.{◌≡◌, ◌∙◌, ℕ, ◌+◌, ◌<◌, Bool, List, [], ◌∷◌, ◌++◌, length, get_or, suc, zero, take, drop, true, false, refl, sym, ap, ◌≤◌, add-one, append-nil, inl, inr, length-append, length-drop, arith}
+use Rattle.gq_base.specs.Results.{and_then}
 use Rattle.std.specs.Prelude.{All, Err, if◌then◌else◌, nat_eq, option_map, slice_set}
 use Rattle.std.specs.Option.{ok_or}
 use Rattle.std.specs.declared.option.Option.{Option}
@@ -16,7 +17,6 @@ use Rattle.gq_base.specs.Values.{Val}
 use Rattle.gq_base.specs.declared.cell.Cell.{Cell}
 use Rattle.gq_fields.specs.Fields.{cell_of}
 use Rattle.gq_tables.specs.steps.Batches.{IsEnd, spelled, texts_of}
-use Rattle.gq_tables.specs.Cells.{and_then}
 use Rattle.gq_tables.specs.Keys.{find_key}
 use Rattle.gq_tables.specs.Rels.{KeyTable, find_end}
 use Rattle.gq_tables.specs.declared.batch.FoundEnd.TheVariants.{Missing}

@@ -1,5 +1,6 @@
 -- The cells of a record on their way.
 use Rattle.std.proofs.Common.{◌≡◌, ℕ, ◌+◌, ◌<◌, ◌≤◌, List, [], ◌∷◌, ◌++◌, length, drop, get_or, Some, None, Ok, Err, refl, sym, ap, ◌∙◌, append_assoc, append-nil, arith}
+use Rattle.gq_base.specs.Results.{and_then}
 use Rattle.std.specs.declared.option.Option.{Option}
 use Rattle.std.specs.declared.result.Result.{Result}
 use Rattle.std.proofs.lemmas.List.{drop_all, drop_more}
@@ -8,7 +9,7 @@ use Rattle.csv.proofs.RecordFacts.{field-there}
 use Rattle.gq_base.specs.declared.catalog.Field.{Field}
 use Rattle.gq_base.specs.declared.cell.Cell.{Cell}
 use Rattle.gq_tables.proofs.Texts.{from_place}
-use Rattle.gq_tables.specs.Cells.{Cells, and_then, read_cell, read_cells}
+use Rattle.gq_tables.specs.Cells.{Cells, read_cell, read_cells}
 use Rattle.gq_tables.specs.declared.refusal.TableRefusal.{TableRefusal}
 
 -- cells behind those before them

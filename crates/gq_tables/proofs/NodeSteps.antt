@@ -1,10 +1,12 @@
 -- The rows of a node table on their way: first without regard to their keys, then key by key.
 use Rattle.std.proofs.Common.{◌≡◌, ℕ, ◌+◌, ◌≤◌, Bool, true, false, List, [], ◌∷◌, ◌++◌, length, Some, None, Ok, Err, refl, sym, ap, ◌∙◌, append_assoc, append-nil, arith, length-append}
+use Rattle.gq_base.proofs.ResultLaws.{then_ok, then_itself, then_same, then_then}
+use Rattle.gq_base.specs.Results.{and_then}
 use Rattle.std.specs.Prelude.{if◌then◌else◌, nat_le}
 use Rattle.std.specs.declared.result.Result.{Result}
 use Rattle.std.proofs.lemmas.Bool.Decides.{nat_tests}
 use Rattle.gq_base.specs.declared.catalog.Field.{Field}
-use Rattle.gq_tables.specs.Cells.{Cells, and_then}
+use Rattle.gq_tables.specs.Cells.{Cells}
 use Rattle.gq_tables.specs.Nodes.{add_node, is_taken, node_of, read_node, take_nodes}
 use Rattle.gq_tables.specs.steps.Passes.{add_nodes, ending}
 use Rattle.gq_base.specs.Valid.{key_of}
@@ -17,10 +19,6 @@ added : (b : Bool) (e : TableRefusal) (x y : List Cells) → (if b then Err e el
 added true e x y h = cc h
 added false e x y h = cc h
 
-pub then_ok : {A B : Type 0} (r : Result A TableRefusal) (f : A → Result B TableRefusal) (y : B) → and_then r f ≡ Ok y → (x : A) × (r ≡ Ok x) × (f x ≡ Ok y)
-then_ok (Ok x) f y e = (x, refl, e)
-then_ok (Err x) f y e = cc
-
 -- where none is refused, the rows follow those before them
 pub all_added : (number : ℕ) (before rows all : List Cells) → add_nodes number before rows ≡ Ok all → all ≡ before ++ rows
 all_added number before [] all e = let same : before ≡ all = cc e in sym same ∙ sym (append-nil before)
@@ -28,10 +26,6 @@ all_added number before (row ∷ more) all e =
     let step = then_ok (add_node number before row) (λ a. add_nodes (number + 1) a more) all e in
     let one : before ++ row ∷ [] ≡ step.0 = added (is_taken before (key_of row)) (refusal.KeyRepeated number) (before ++ row ∷ []) step.0 step.1 in
     all_added (number + 1) step.0 more all step.2 ∙ ap (λ a. a ++ more) (sym one) ∙ append_assoc before (row ∷ []) more
-
-then_itself : {A : Type 0} (r : Result A TableRefusal) → and_then r Ok ≡ r
-then_itself (Ok x) = refl
-then_itself (Err e) = refl
 
 next_added : (r : Result (List Cells) TableRefusal) (number : ℕ) (x : Cells) (rows : List Cells) (row : Cells)
     → ((all : List Cells) → add_nodes (number + 1) all (rows ++ row ∷ []) ≡ and_then (add_nodes (number + 1) all rows) (λ a. add_node (number + 1 + length rows) a row))
@@ -48,18 +42,10 @@ last_added number before (x ∷ rows) row = next_added (add_node number before x
 
 -- ---- records that are read one after the other
 
-ignored : {A B : Type 0} (r : Result A TableRefusal) (f g : A → Result B TableRefusal) → ((x : A) → r ≡ Ok x → f x ≡ g x) → and_then r f ≡ and_then r g
-ignored (Ok x) f g h = h x refl
-ignored (Err e) f g h = refl
-
 known : {B : Type 0} (b : Bool) (e : TableRefusal) (x : List Cells) (f : List Cells → Result B TableRefusal)
     → and_then (if b then Err e else Ok x) f ≡ and_then (if b then Err e else Ok x) (λ _. f x)
 known true e x f = refl
 known false e x f = refl
-
-then_then : {A B C : Type 0} (r : Result A TableRefusal) (f : A → Result B TableRefusal) (g : B → Result C TableRefusal) → and_then (and_then r f) g ≡ and_then r (λ x. and_then (f x) g)
-then_then (Ok x) f g = refl
-then_then (Err e) f g = refl
 
 module _ (limit width : ℕ) (fields : List Field) where
   -- these rows were read, and the records that are left follow them, where no key is repeated
@@ -73,7 +59,7 @@ module _ (limit width : ℕ) (fields : List Field) where
 
   module _ (all left : List (List (List ℕ))) (rows : List Cells) (h : Gathering all left rows) where
     pub gathered : left ≡ [] → take_nodes limit width fields 2 [] all ≡ and_then (add_nodes 2 [] rows) (ending None)
-    gathered e = h.given ∙ rw e (ignored (add_nodes 2 [] rows) (λ _. Ok rows) (ending None) (λ x k. ap Ok (sym (all_added 2 [] rows x k))))
+    gathered e = h.given ∙ rw e (then_same (add_nodes 2 [] rows) (λ _. Ok rows) (ending None) (λ x k. ap Ok (sym (all_added 2 [] rows x k))))
 
     module _ (texts : List (List ℕ)) (rest : List (List (List ℕ))) (next : left ≡ texts ∷ rest) where
       pub room : length rows + 1 ≤ length all
@@ -81,7 +67,7 @@ module _ (limit width : ℕ) (fields : List Field) where
 
       pub stopped : (e : TableRefusal) → read_node limit width fields (length rows + 2) (length rows) texts ≡ Err e
           → take_nodes limit width fields 2 [] all ≡ and_then (add_nodes 2 [] rows) (ending (Some e))
-      stopped e r = h.given ∙ rw (next, r) (ignored (add_nodes 2 [] rows) (λ _. Err e) (ending (Some e)) (λ x k. refl))
+      stopped e r = h.given ∙ rw (next, r) (then_same (add_nodes 2 [] rows) (λ _. Err e) (ending (Some e)) (λ x k. refl))
 
       module _ (row : Cells) (r : read_node limit width fields (length rows + 2) (length rows) texts ≡ Ok row) where
         after : take_nodes limit width fields (length rows + 2) rows (texts ∷ rest) ≡ and_then (add_node (length rows + 2) rows row) (λ more. take_nodes limit width fields (length rows + 2 + 1) more rest)
@@ -104,7 +90,7 @@ module _ (limit width : ℕ) (fields : List Field) where
             record {
               few = omega (arith, longer);
               size = omega (arith, h.size, longer);
-              given = h.given ∙ rw next (ignored (add_nodes 2 [] rows) (λ _. take_nodes limit width fields (length rows + 2) rows (texts ∷ rest)) (λ x. and_then (add_node (2 + length rows) x row) (λ _. end)) before_next)
+              given = h.given ∙ rw next (then_same (add_nodes 2 [] rows) (λ _. take_nodes limit width fields (length rows + 2) rows (texts ∷ rest)) (λ x. and_then (add_node (2 + length rows) x row) (λ _. end)) before_next)
                   ∙ sym (then_then (add_nodes 2 [] rows) (λ x. add_node (2 + length rows) x row) (λ _. end))
                   ∙ sym (ap (λ o. and_then o (λ _. end)) (last_added 2 [] rows row));
             }

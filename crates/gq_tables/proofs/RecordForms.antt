@@ -1,11 +1,12 @@
 -- Records by their first fields.
 use Rattle.std.proofs.Common.{◌≡◌, ℕ, ◌+◌, ◌<◌, List, [], ◌∷◌, ◌++◌, length, drop, get_or, Some, None, Ok, Err, refl, arith}
+use Rattle.gq_base.specs.Results.{and_then}
 use Rattle.std.specs.declared.result.Result.{Result}
 use Rattle.csv.specs.Records.{field_at}
 use Rattle.gq_base.specs.declared.catalog.Field.{Field}
 use Rattle.gq_base.specs.declared.cell.Cell.{Cell}
 use Rattle.gq_base.specs.declared.cell.PlainRel.{PlainRel}
-use Rattle.gq_tables.specs.Cells.{Cells, and_then, read_cells}
+use Rattle.gq_tables.specs.Cells.{Cells, read_cells}
 use Rattle.gq_tables.specs.Nodes.{node_of, read_key}
 use Rattle.gq_tables.specs.Rels.{KeyTable, read_end, rel_of}
 use Rattle.gq_tables.specs.declared.refusal.TableRefusal.{TableRefusal}

@@ -1,5 +1,7 @@
 -- The relationships of a table on their way.
 use Rattle.std.proofs.Common.{◌≡◌, ℕ, ◌+◌, ◌<◌, ◌≤◌, Bool, true, false, List, [], ◌∷◌, ◌++◌, length, get_or, Some, None, Ok, Err, refl, sym, ap, ◌∙◌, arith, inl, inr, length-append}
+use Rattle.gq_base.proofs.ResultLaws.{then_ok}
+use Rattle.gq_base.specs.Results.{and_then}
 use Rattle.std.specs.Prelude.{if◌then◌else◌, ◌==◌, ◌&&◌, ◌||◌, nat_le, slice_set}
 use Rattle.std.specs.Option.{ok_or}
 use Rattle.std.specs.declared.option.Option.{Option}
@@ -14,9 +16,8 @@ use Rattle.gq_base.specs.declared.catalog.Mult.{Mult}
 use Rattle.gq_base.specs.declared.cell.Cell.{Cell}
 use Rattle.gq_base.specs.declared.cell.PlainRel.{PlainRel}
 use Rattle.gq_base.proofs.ListLaws.{any-snoc}
-use Rattle.gq_tables.proofs.NodeSteps.{then_ok}
 use Rattle.gq_tables.specs.steps.Batches.{Tells}
-use Rattle.gq_tables.specs.Cells.{Cells, and_then, read_cell, read_cells}
+use Rattle.gq_tables.specs.Cells.{Cells, read_cell, read_cells}
 use Rattle.gq_tables.specs.Keys.{has_key}
 use Rattle.gq_tables.specs.Rels.{KeyTable, find_end, has_source, has_target, is_forbidden, read_end, read_rel, rel_of, take_rels}
 use Rattle.gq_base.specs.Valid.{limits_sources, limits_targets}

@@ -1,5 +1,6 @@
 -- A table by its header and by the records behind it.
 use Rattle.std.proofs.Common.{◌≡◌, ℕ, ◌+◌, ◌^◌, ◌<◌, ◌≤◌, List, [], ◌∷◌, length, Ok, Err, refl, ap, ◌∙◌, arith}
+use Rattle.gq_base.specs.Results.{and_then}
 use Rattle.std.specs.declared.option.Option.{Option}
 use Rattle.std.specs.declared.option.Option.TheVariants.{Some, None}
 use Rattle.gq_base.specs.declared.catalog.Field.{Field}
@@ -9,7 +10,7 @@ use Rattle.gq_fields.specs.declared.header.FileKind.{FileKind}
 use Rattle.gq_fields.specs.declared.header.FileKind.TheVariants as file
 use Rattle.gq_tables.proofs.Counts.{few_records}
 use Rattle.gq_tables.proofs.HeaderSteps.{few_fields, length-nodes, length-rels}
-use Rattle.gq_tables.specs.Cells.{Cells, and_then}
+use Rattle.gq_tables.specs.Cells.{Cells}
 use Rattle.gq_tables.specs.steps.Cells.{IsHead}
 use Rattle.gq_tables.specs.Nodes.{node_table, take_nodes}
 use Rattle.gq_tables.specs.steps.Passes.{add_nodes, ending}

@@ -1,6 +1,7 @@
 -- What holds of each table that is taken, whatever its file: its rows fit its fields, its keys are
 -- distinct, and its ends and multiplicity are kept.
 use Rattle.std.proofs.Common.{◌≡◌, ℕ, ◌+◌, ◌<◌, Bool, true, false, List, [], ◌∷◌, ◌++◌, length, map}
+use Rattle.gq_base.proofs.ResultLaws.{then_ok}
 use Rattle.std.proofs.Common.{Some, None, Ok, Err, refl, sym, ap, subst, ◌∙◌, arith}
 use Rattle.std.specs.Prelude.{if◌then◌else◌, ◌==◌, ◌&&◌, ◌||◌, not, nat_le, nat_lt, option_map}
 use Rattle.std.specs.Option.{ok_or}
@@ -25,7 +26,6 @@ use Rattle.gq_fields.specs.Fields.{cell_of, flag_of, int_of}
 use Rattle.gq_fields.specs.Headers.{Header, bad, header_of, named, too_many}
 use Rattle.gq_fields.specs.declared.header.FileKind.TheVariants as file
 use Rattle.gq_tables.proofs.HeaderSteps.{first_some, good_fields, length-nodes, length-rels}
-use Rattle.gq_tables.proofs.NodeSteps.{then_ok}
 use Rattle.gq_tables.proofs.RelSteps.{rel_within}
 use Rattle.gq_tables.specs.Cells.{Cells, fitting, read_cell, read_cells, under_header}
 use Rattle.gq_tables.specs.Keys.{has_key, is_key}

@@ -1,5 +1,6 @@
 -- The header of a file, and the records after it: their form, and the cells that their fields give (this project's profile).
 use Rattle.std.specs.Prelude.{ℕ, ◌+◌, not, ◌==◌, nat_le, if◌then◌else◌, List, [], ◌∷◌, length, Ok, Err}
+use Rattle.gq_base.specs.Results.{and_then}
 use Rattle.std.specs.Option.{ok_or}
 use Rattle.std.specs.declared.option.Option.{Option}
 use Rattle.std.specs.declared.result.Result.{Result}
@@ -14,11 +15,6 @@ use Rattle.gq_tables.specs.declared.refusal.TableRefusal.TheVariants as refusal
 -- a row: one optional cell for each field
 abbrev pub Cells : Type 0
 Cells = List (Option Cell)
-
--- what comes next, where nothing was refused
-abbrev pub and_then : {A B : Type 0} → Result A TableRefusal → (A → Result B TableRefusal) → Result B TableRefusal
-and_then (Err e) next = Err e
-and_then (Ok x) next = next x
 
 -- what the properties of the header give, where it is of its form and has not too many
 abbrev pub under_header : {A : Type 0} → Header → (List Field → Result A TableRefusal) → Result A TableRefusal

@@ -1,5 +1,6 @@
 -- Which table of nodes the bytes of a file give, or what is refused first (this project's profile).
 use Rattle.std.specs.Prelude.{ℕ, ◌+◌, Bool, false, if◌then◌else◌, List, [], ◌∷◌, ◌++◌, length, Ok, Err}
+use Rattle.gq_base.specs.Results.{and_then}
 use Rattle.std.specs.List.{list_any}
 use Rattle.std.specs.Option.{ok_or}
 use Rattle.std.specs.declared.option.Option.{Option}
@@ -11,7 +12,7 @@ use Rattle.gq_base.specs.declared.catalog.Kind.{Kind}
 use Rattle.gq_base.specs.declared.cell.Cell.{Cell}
 use Rattle.gq_fields.specs.Headers.{header_of}
 use Rattle.gq_fields.specs.declared.header.FileKind.TheVariants as file
-use Rattle.gq_tables.specs.Cells.{Cells, and_then, fitting, read_cell, read_cells, under_header}
+use Rattle.gq_tables.specs.Cells.{Cells, fitting, read_cell, read_cells, under_header}
 use Rattle.gq_tables.specs.Keys.{has_key}
 use Rattle.gq_base.specs.Valid.{key_of}
 use Rattle.gq_tables.specs.Records.{records_of}

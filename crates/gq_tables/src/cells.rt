@@ -1,11 +1,12 @@
 //! The cells that the fields of a record give.
 ghost use Rattle.std.specs.Prelude.{◌≡◌, ◌+◌, ◌<◌, ◌^◌, ◌++◌, length, drop, option_map, IfOk, Ok};
+ghost use Rattle.gq_base.specs.Results.{and_then};
 ghost use Rattle.csv.specs.Records.{fields_of};
 ghost use Rattle.gq_base.specs.Plain.{cell_val};
 ghost use Rattle.gq_base.specs.Values.{val};
 ghost use Rattle.gq_fields.specs.Fields.{cell_of};
 ghost use Rattle.gq_tables.specs.Answers.{Answers};
-ghost use Rattle.gq_tables.specs.Cells.{and_then, read_cell, read_cells};
+ghost use Rattle.gq_tables.specs.Cells.{read_cell, read_cells};
 
 use crate::refusal::{TableRefusal, TableStop};
 use csv::ByteRecord;

@@ -1,8 +1,8 @@
 //! The rows of a node table.
 ghost use Rattle.std.specs.Prelude.{◌≡◌, ◌+◌, ◌<◌, ◌≤◌, ◌^◌, [], length, IfOk};
+ghost use Rattle.gq_base.specs.Results.{and_then};
 ghost use Rattle.csv.specs.Records.{fields_of};
 ghost use Rattle.gq_tables.specs.Answers.{Answers};
-ghost use Rattle.gq_tables.specs.Cells.{and_then};
 ghost use Rattle.gq_tables.specs.Nodes.{node_of, node_table_of, read_key, read_node, take_nodes};
 ghost use Rattle.gq_tables.specs.steps.Passes.{add_nodes, ending};
 ghost use Rattle.gq_tables.specs.Tables.{IsNodeTable};

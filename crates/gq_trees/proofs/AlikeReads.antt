@@ -1,7 +1,7 @@
 -- What the conjuncts of a condition read: variables of the scope, and what the condition as a whole reads.
 use Rattle.std.proofs.Common.{◌≡◌, ℕ, Bool, true, false, Option, Some, None, List, [], ◌∷◌, ◌++◌, flat_map, refl, sym, ap, ap₂, ◌∙◌, subst, if◌then◌else◌, append-nil, codes}
 use Rattle.std.specs.List.{AllByRecursion}
-use Rattle.std.specs.Option.{option_map}
+use Rattle.std.specs.Option.{option_map, option_and_then}
 use Rattle.gq_base.specs.Lists.{with_first}
 use Rattle.gq_base.specs.declared.Literal.{Literal as Spelled}
 use Rattle.gq_expr.specs.declared.Expr.{Expr}
@@ -11,7 +11,7 @@ use Rattle.gq_plan.proofs.Each.{each_append}
 use Rattle.gq_trees.proofs.ReadEquations.{reads_Literal, reads_TypeName, reads_Coalesce}
 use Rattle.gq_scopes.specs.Patterns.{Name}
 use Rattle.gq_scopes.specs.steps.Variables.{IsThere}
-use Rattle.gq_trees.specs.Resolving.{functions, as_lists, is_function, type_call, coalesce_call, and_then, all_some, over_known}
+use Rattle.gq_trees.specs.Resolving.{functions, as_lists, is_function, type_call, coalesce_call, all_some, over_known}
 
 -- reads of variables that there are, of so many of nodes and so many of relationships
 abbrev pub AllThere : ℕ → ℕ → List Read → Type 0
@@ -99,7 +99,7 @@ module _ (n m : ℕ) where
     alike_function false true es h k = alike_coalesce es h k
     alike_function false false es h k = k
 
-  pub alike_call : (name : Name) (os ps : Option (List Expr)) → Alike n m (flat_map reads) (flat_map reads) os ps → Alike n m reads reads (and_then os (functions name)) (and_then ps (as_lists name))
+  pub alike_call : (name : Name) (os ps : Option (List Expr)) → Alike n m (flat_map reads) (flat_map reads) os ps → Alike n m reads reads (option_and_then (functions name) os) (option_and_then (as_lists name) ps)
   alike_call name None None h = tt
   alike_call name None (Some fs) h = subst (AllThere n m) (sym (listed_reads _ fs)) h
   alike_call name (Some es) None h = absurd h

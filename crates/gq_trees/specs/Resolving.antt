@@ -1,7 +1,7 @@
 -- The expressions that trees stand for once their names are resolved (openCypher 9; the functions are those of this
 -- project's profile).
 use Rattle.std.specs.Prelude.{ℕ, Bool, Option, Some, None, List, [], ◌∷◌, map, flat_map, codes, if◌then◌else◌}
-use Rattle.std.specs.Option.{option_map}
+use Rattle.std.specs.Option.{option_and_then, option_map}
 use Rattle.std.specs.Str.{str_eq_ignore_ascii_case, str_to_ascii_lowercase}
 use Rattle.gq_base.specs.Lists.{each}
 use Rattle.gq_base.specs.declared.Literal.TheVariants as literal
@@ -53,10 +53,6 @@ abbrev pub calls_of : CallForm → Calls
 calls_of form.Functions = functions
 calls_of form.Lists = as_lists
 
-abbrev pub and_then : {A B : Type 0} → Option A → (A → Option B) → Option B
-and_then None go = None
-and_then (Some x) go = go x
-
 -- all of them, where all are there
 abbrev pub all_some : {A : Type 0} → List (Option A) → Option (List A)
 all_some xs = each (λ x. x) xs
@@ -86,7 +82,7 @@ abbrev pub resolve_step : Calls → Scope → AstNode (Option Expr) → Option E
 resolve_step calls s (ast.Literal l) = Some (expr.Literal l)
 resolve_step calls s (ast.Variable name) = bare s name
 resolve_step calls s (ast.Property name key) = property s name key
-resolve_step calls s (ast.Call name es) = and_then (all_some es) (calls name)
+resolve_step calls s (ast.Call name es) = option_and_then (calls name) (all_some es)
 resolve_step calls s (ast.Paren e) = e
 resolve_step calls s (ast.Negate e) = option_map expr.Negate e
 resolve_step calls s (ast.Plus e) = option_map expr.Plus e

@@ -1,5 +1,6 @@
 -- The names and calls of an expression, in text order, and the first that a check refuses.
 use Rattle.std.specs.Prelude.{ℕ, nat_eq, Bool, true, false, not, ◌||◌, Option, Some, None, List, [], ◌∷◌, ◌++◌, map, flat_map, length, codes, if◌then◌else◌}
+use Rattle.std.specs.Option.{option_or}
 use Rattle.gq_syntax.specs.declared.Ast.{Ast, fold-Ast}
 use Rattle.gq_syntax.specs.declared.AstNode.{AstNode}
 use Rattle.gq_syntax.specs.declared.AstNode.TheVariants as ast
@@ -52,14 +53,10 @@ uses_step (ast.Product us ts) = us ++ all_uses (map term_uses ts)
 unfoldable pub uses : Ast → List Use
 uses = fold-Ast (List Use) (λ a. uses_step a.node)
 
-abbrev pub or_else : {A : Type 0} → Option A → Option A → Option A
-or_else None y = y
-or_else (Some x) y = Some x
-
 -- the first name that a check refuses
 abbrev pub first_name : (Use → Option Name) → List Use → Option Name
 first_name check [] = None
-first_name check (u ∷ us) = or_else (check u) (first_name check us)
+first_name check (u ∷ us) = option_or (check u) (first_name check us)
 
 abbrev pub refused_unless : Bool → Name → Option Name
 refused_unless true name = None

@@ -1,9 +1,10 @@
 -- The first names and calls that the checks of names refuse among expressions.
 use Rattle.std.specs.Prelude.{Option, None, List, [], ◌∷◌}
+use Rattle.std.specs.Option.{option_or}
 use Rattle.gq_binder.specs.Columns.{Scoped}
 use Rattle.gq_trees.specs.Checks.{check_of}
 use Rattle.gq_scopes.specs.Patterns.{Name}
-use Rattle.gq_trees.specs.Uses.{or_else, first_name, uses}
+use Rattle.gq_trees.specs.Uses.{first_name, uses}
 use Rattle.gq_trees.specs.declared.Check.TheVariants as check
 
 -- the first name that its scope does not have, the first call that names no function, and the first call with a wrong
@@ -19,9 +20,9 @@ no_names = record { variable = None; function = None; arguments = None }
 -- with one more expression
 abbrev pub with_expression : FirstNames → Scoped → FirstNames
 with_expression names e = record {
-  variable = or_else names.variable (first_name (check_of check.UnknownName e.scope) (uses e.tree));
-  function = or_else names.function (first_name (check_of check.UnknownFunction e.scope) (uses e.tree));
-  arguments = or_else names.arguments (first_name (check_of check.WrongCount e.scope) (uses e.tree));
+  variable = option_or names.variable (first_name (check_of check.UnknownName e.scope) (uses e.tree));
+  function = option_or names.function (first_name (check_of check.UnknownFunction e.scope) (uses e.tree));
+  arguments = option_or names.arguments (first_name (check_of check.WrongCount e.scope) (uses e.tree));
 }
 
 abbrev pub with_expressions : FirstNames → List Scoped → FirstNames

@@ -1,10 +1,11 @@
 -- The two passes in which the rows of a node table are read: first without regard to earlier keys, then key by key.
 -- The definition of a table knows of no passes.
 use Rattle.std.specs.Prelude.{ℕ, ◌+◌, List, [], ◌∷◌, Ok, Err}
+use Rattle.gq_base.specs.Results.{and_then}
 use Rattle.std.specs.declared.option.Option.{Option}
 use Rattle.std.specs.declared.option.Option.TheVariants.{Some, None}
 use Rattle.std.specs.declared.result.Result.{Result}
-use Rattle.gq_tables.specs.Cells.{Cells, and_then}
+use Rattle.gq_tables.specs.Cells.{Cells}
 use Rattle.gq_tables.specs.Nodes.{add_node}
 use Rattle.gq_tables.specs.declared.refusal.TableRefusal.{TableRefusal}
 use Rattle.gq_tables.specs.declared.refusal.TableRefusal.TheVariants as refusal
