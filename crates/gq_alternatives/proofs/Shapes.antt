@@ -1,12 +1,13 @@
 -- Paths of joined relationships: what they keep where they grow by one relationship or one node variable.
 use Rattle.std.proofs.Common.{◌≡◌, ℕ, zero, suc, ◌+◌, ◌<◌, ◌≤◌, Bool, true, false, ◌&&◌, ◌||◌, nat_eq, Option, Some, None, List, [], ◌∷◌, ◌++◌, map, flat_map, length, slice_get, refl, sym, ap, ap₂, ◌∙◌, subst, arith, true≢false, append-nil, append_assoc, zero-add, inl, inr, length-append}
+use Rattle.gq_plan.specs.declared.variable.Variable.TheVariants.{Node as node, Rel as rel}
+use Rattle.gq_plan.specs.declared.variable.Variable.{Variable}
 use Rattle.std.specs.List.{range_with_len, AllByRecursion, list_any}
 use Rattle.std.proofs.Math.Bool.{or-true}
 use Rattle.std.proofs.lemmas.Bool.{eq-eqb, and_parts, and_from, cases_lt}
 use Rattle.std.proofs.lemmas.Grind.{flat_map-append}
 use Rattle.std.proofs.lemmas.List.{map_push}
 use Rattle.std.proofs.lemmas.List.Folds.{list_any-append}
-use Rattle.gq_plan.specs.Reads.{Variable, node, rel}
 use Rattle.gq_plan.specs.Soundness.{has_number}
 use Rattle.gq_plan.specs.declared.PathPart.{PathPart}
 use Rattle.gq_plan.proofs.Each.{each_then, each_append, each_below}

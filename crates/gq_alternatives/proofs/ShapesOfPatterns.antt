@@ -1,9 +1,10 @@
 -- The patterns of a query have a shape: paths of joined relationships, which together have each variable.
 use Rattle.std.proofs.Common.{◌≡◌, ℕ, suc, ◌+◌, ◌<◌, ◌≤◌, Option, Some, None, true, List, [], ◌∷◌, ◌++◌, map, flat_map, length, refl, unwrap_or, sym, ap, ◌∙◌, subst, arith}
+use Rattle.gq_plan.specs.declared.variable.Variable.TheVariants.{Node as node, Rel as rel}
+use Rattle.gq_plan.specs.declared.variable.Variable.{Variable}
 use Rattle.std.specs.List.{AllByRecursion}
 use Rattle.std.proofs.lemmas.List.{length-map, length_push, map_push}
 use Rattle.gq_base.proofs.ListFacts.{found_within}
-use Rattle.gq_plan.specs.Reads.{Variable, node, rel}
 use Rattle.gq_plan.specs.Soundness.{has_number}
 use Rattle.gq_plan.specs.declared.PathPart.{PathPart}
 use Rattle.gq_plan.proofs.Each.{each_of, each_map, each_then, each_append}

@@ -1,6 +1,8 @@
 -- The matches of a query in a plain graph (openCypher 9, pattern matching and relationship uniqueness): a filtered
 -- product, with no plan and no order of joining.
 use Rattle.std.specs.Prelude.{ℕ, suc, nat_eq, Bool, true, false, not, ◌&&◌, ◌||◌, Option, Some, None, List, [], ◌∷◌, ◌++◌, filter, length, slice_get, if◌then◌else◌}
+use Rattle.gq_plan.specs.declared.variable.Variable.TheVariants.{Node as node, Rel as rel}
+use Rattle.gq_plan.specs.declared.variable.Variable.{Variable}
 use Rattle.std.specs.List.{list_all, list_any}
 use Rattle.std.specs.Cmp.Lexicographic.{pointwise}
 use Rattle.gq_base.specs.Catalogs.{Tables}
@@ -13,7 +15,6 @@ use Rattle.gq_base.specs.declared.RelTable.{RelTable}
 use Rattle.gq_expr.specs.Reading.{property_at, node_property, rel_property}
 use Rattle.gq_plan.specs.Allowed.{leads}
 use Rattle.gq_plan.specs.Assignments.{Assignment, assignments, same_rel}
-use Rattle.gq_plan.specs.Reads.{Variable, node, rel}
 use Rattle.gq_plan.specs.declared.RelPair.{RelPair}
 use Rattle.gq_syntax.specs.declared.Arrow.{Arrow}
 use Rattle.gq_syntax.specs.declared.Arrow.TheVariants as arrow

@@ -1,5 +1,7 @@
 -- What stands behind what, item by item, beside the names that were met.
 use Rattle.std.proofs.Common.{◌≡◌, ◌∙◌, ℕ, ◌+◌, ◌<◌, Bool, true, false, cond, not, Option, Some, None, List, [], ◌∷◌, ◌++◌, length, map, filter, take, drop, get_or, nat_eq, refl, sym, ap, ap₂, append-nil, append_assoc}
+use Rattle.gq_plan.specs.declared.variable.Variable.TheVariants.{Node as node, Rel as rel}
+use Rattle.gq_plan.specs.declared.variable.Variable.{Variable}
 use Rattle.std.specs.Prelude.{◌&&◌, ◌||◌}
 use Rattle.std.specs.List.{list_any}
 use Rattle.std.specs.Option.{option_map, option_or}
@@ -7,7 +9,6 @@ use Rattle.std.specs.Cmp.Lexicographic.{pointwise}
 use Rattle.std.proofs.lemmas.List.{drop_more, take_more, map-append}
 use Rattle.std.proofs.lemmas.List.Elements.{filter-append}
 use Rattle.gq_scopes.specs.Patterns.{NamedVariable}
-use Rattle.gq_plan.specs.Reads.{Variable, node, rel}
 use Rattle.gq_binder.specs.steps.Met.{met_of, meeting, meeting_as, met_otherwise, met_again}
 use Rattle.gq_binder.specs.Refusals.{conflicting, repeating, first_behind, same_form, is_rel}
 use Rattle.gq_binder.specs.Columns.{firsts_behind, if_first}

@@ -1,6 +1,8 @@
 -- What the patterns of a query that stands in a text have: a node, a name for each node variable, and entries whose
 -- values begin and end between characters.
 use Rattle.std.proofs.Common.{◌≡◌, ℕ, suc, ◌<◌, List, [], ◌∷◌, ◌++◌, length, All, refl, arith}
+use Rattle.gq_plan.specs.declared.variable.Variable.TheVariants.{Node as node, Rel as rel}
+use Rattle.gq_plan.specs.declared.variable.Variable.{Variable}
 use Rattle.std.specs.List.{AllByRecursion}
 use Rattle.std.proofs.lemmas.List.{length_push}
 use Rattle.std.proofs.lemmas.List.Elements.{All-append, All-head, All-map, All-nil, All-weaker, recursion_from_All}
@@ -14,7 +16,6 @@ use Rattle.gq_syntax.specs.declared.NodePart.{NodePart}
 use Rattle.gq_syntax.specs.declared.Path.{Path}
 use Rattle.gq_syntax.specs.declared.Query.{Query}
 use Rattle.gq_syntax.specs.declared.RelPart.{RelPart}
-use Rattle.gq_plan.specs.Reads.{Variable, node, rel}
 use Rattle.gq_alternatives.proofs.ShapesOfPatterns.{clauses_grow, hops_grow, node_cases, paths_grow}
 use Rattle.gq_scopes.specs.Patterns.{MapEntry, Name, Pattern, called, entries_of, no_pattern, node_again, node_new, pattern_of, variable_of, with_clauses, with_hops, with_node, with_part, with_path, with_paths, with_rel}
 

@@ -1,5 +1,7 @@
 -- The alternatives that binding gives are sound for the catalogue.
 use Rattle.std.proofs.Common.{◌≡◌, ℕ, suc, ◌<◌, ◌≤◌, Bool, true, false, not, ◌||◌, cond, nat_lt, Option, Some, None, List, [], ◌∷◌, ◌++◌, map, filter, flat_map, length, if◌then◌else◌, refl, sym, ap, ap₂, ◌∙◌, subst, arith}
+use Rattle.gq_plan.specs.declared.variable.Variable.TheVariants.{Node as node, Rel as rel}
+use Rattle.gq_plan.specs.declared.variable.Variable.{Variable}
 use Rattle.std.specs.Prelude.{All}
 use Rattle.std.specs.List.{AllByRecursion}
 use Rattle.std.specs.Option.{option_map}
@@ -21,7 +23,7 @@ use Rattle.gq_expr.specs.declared.Expr.{Expr}
 use Rattle.gq_expr.specs.declared.Expr.TheVariants as expr
 use Rattle.gq_expr.specs.declared.Kinds.{Kinds}
 use Rattle.gq_plan.proofs.Each.{each_of, each_then, each_map, each_append, each_kept}
-use Rattle.gq_plan.specs.Reads.{Variable, node, rel, Read, reads, is_property, property, properties, distinct}
+use Rattle.gq_plan.specs.Reads.{Read, reads, is_property, property, properties, distinct}
 use Rattle.gq_plan.specs.Soundness.{max_variables, max_reads, IsSound, HasVariable, kinds_for, kinds_of, test_reads}
 use Rattle.gq_plan.specs.declared.Bound.{Bound}
 use Rattle.gq_plan.specs.declared.NamedExpr.{NamedExpr}

@@ -1,13 +1,14 @@
 -- What a query lists, tests and sorts by: its columns, conjuncts, keys and map entries, and when a bound query has them
 -- (openCypher 9; what a column without AS is called is this project's profile).
 use Rattle.std.specs.Prelude.{◌≡◌, ℕ, suc, Option, Some, None, List, [], ◌∷◌, ◌++◌, map, flat_map, codes, unwrap_or, if◌then◌else◌}
+use Rattle.gq_plan.specs.declared.variable.Variable.TheVariants.{Node as node, Rel as rel}
+use Rattle.gq_plan.specs.declared.variable.Variable.{Variable}
 use Rattle.std.specs.List.{list_any}
 use Rattle.std.specs.Option.{option_map}
 use Rattle.gq_base.specs.Catalogs.{Tables}
 use Rattle.gq_base.specs.declared.CompareOp.TheVariants as compare
 use Rattle.gq_expr.specs.declared.Expr.{Expr}
 use Rattle.gq_expr.specs.declared.Expr.TheVariants as expr
-use Rattle.gq_plan.specs.Reads.{Variable, node, rel}
 use Rattle.gq_plan.specs.declared.Bound.{Bound}
 use Rattle.gq_plan.specs.declared.NamedExpr.{NamedExpr}
 use Rattle.gq_plan.specs.declared.SortExpr.{SortExpr}

@@ -6,7 +6,6 @@ ghost use Rattle.gq_binder.specs.Columns.{columns_in, column_expr, column_of, it
 ghost use Rattle.gq_binder.specs.Columns.{item_name};
 ghost use Rattle.gq_scopes.specs.Patterns.{is_called};
 ghost use Rattle.gq_trees.specs.Resolving.{calls_of};
-ghost use Rattle.gq_plan.specs.Variables.{seen};
 ghost use Rattle.gq_syntax.specs.Spans.{IsWholeTree};
 
 use gq_base::{List, Memory, Text};
@@ -82,7 +81,7 @@ fn column(alloc: Global, variable: &NamedVariable<'_>) -> Result<Column, Memory>
 }
 
 fn whole(variable: Variable) -> Expr
-    ensures { result ≡ columns.whole (seen variable) }
+    ensures { result ≡ columns.whole variable }
 {
     match variable {
         Variable::Node(number) => Expr::Node(number),

@@ -2,7 +2,6 @@
 ghost use Rattle.std.specs.Prelude.{◌≡◌, ◌++◌, codes, map, All, IfOk};
 ghost use Rattle.gq_binder.specs.Columns as columns;
 ghost use Rattle.gq_lexer.specs.Sources as sources;
-ghost use Rattle.gq_plan.specs.Variables.{seen};
 ghost use Rattle.gq_syntax.specs.steps.Spans.{IsWholeEntry};
 
 use gq_base::{Boxed, CompareOp, List, Memory, Text};
@@ -69,7 +68,7 @@ fn entry_expr(alloc: Global, entry: &MapEntry<'_>) -> Result<Expr, Memory>
 }
 
 fn property_of(alloc: Global, variable: Variable, key: &Text) -> Result<Expr, Memory>
-    ensures { IfOk result (λ e. e ≡ columns.property_of (seen variable) key.now) }
+    ensures { IfOk result (λ e. e ≡ columns.property_of variable key.now) }
 {
     let key = copy_text(alloc, key)?;
     match variable {

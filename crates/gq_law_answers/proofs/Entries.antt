@@ -1,5 +1,7 @@
 -- The test of a map entry is true where the entry holds.
 use Rattle.std.proofs.Common.{◌≡◌, ℕ, Bool, true, false, Option, Some, None, Ok, List, [], ◌∷◌, map, refl, ap₂, ◌∙◌, ◌&&◌}
+use Rattle.gq_plan.specs.declared.variable.Variable.TheVariants.{Node as node, Rel as rel}
+use Rattle.gq_plan.specs.declared.variable.Variable.{Variable}
 use Rattle.gq_base.specs.Results.{and_then}
 use Rattle.std.specs.List.{list_all}
 use Rattle.gq_base.specs.Plain.{Graph}
@@ -12,7 +14,6 @@ use Rattle.gq_expr.specs.declared.Expr.TheVariants as expr
 use Rattle.gq_expr.proofs.Equations.{meaning_Literal, meaning_NodeProperty, meaning_RelProperty, meaning_Compare}
 use Rattle.gq_plan.specs.Assignments.{Assignment, row_of}
 use Rattle.gq_plan.specs.Conditions.{passes}
-use Rattle.gq_plan.specs.Reads.{Variable, node, rel}
 use Rattle.gq_alternatives.specs.Matches.{value_of, entry_holds}
 use Rattle.gq_binder.specs.Columns.{property_of, entry_expr, entry_test}
 use Rattle.gq_scopes.specs.Patterns.{MapEntry, Name, Pattern}

@@ -1,5 +1,7 @@
 -- Drafts whose steps fit and meet each demand that what they bind allows exactly once.
 use Rattle.std.proofs.Common.{◌≡◌, ◌∙◌, ap, ap₂, sym, refl, ℕ, zero, suc, ◌+◌, ◌<◌, Bool, true, false, not, ◌&&◌, ◌||◌, cond, Option, Some, None, List, [], ◌∷◌, ◌++◌, length, slice_get, eqb, ltb, zero-add, add-zero, true≢false, arith}
+use Rattle.gq_plan.specs.declared.variable.Variable.TheVariants.{Node as node, Rel as rel}
+use Rattle.gq_plan.specs.declared.variable.Variable.{Variable}
 use Rattle.std.specs.List.{list_all}
 use Rattle.std.specs.Option.{is_some}
 use Rattle.std.proofs.lemmas.Bool.{and_parts, and_from, eq-eqb, eqb-true, lt-ltb}
@@ -12,7 +14,7 @@ use Rattle.gq_order.specs.Orders.{flipped, facing}
 use Rattle.gq_plan.specs.Covers.{fits, after, placed, goes, is_single, agrees, start_of, end_of, test_bound, pair_bound, loop_bound, leaves_loops_out}
 use Rattle.gq_plan.specs.Known.{Known, none, with_node, with_rel, is_bound}
 use Rattle.gq_plan.specs.Meaning.{holds}
-use Rattle.gq_plan.specs.Reads.{Variable, node, rel, reads}
+use Rattle.gq_plan.specs.Reads.{reads}
 use Rattle.gq_plan.specs.Soundness.{left_of, right_of}
 use Rattle.gq_plan.specs.Plans.{Step, Scan, Extend, Close, NoLoop}
 use Rattle.gq_plan.specs.steps.Times.{one, same_demand}

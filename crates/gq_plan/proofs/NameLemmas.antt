@@ -1,11 +1,12 @@
 -- A name that no read has, beside a set of names.
 use Rattle.std.proofs.Common.{◌≡◌, ◌∙◌, ap, sym, refl, ℕ, Bool, true, false, not, cond, ◌&&◌, ◌||◌, List, [], ◌∷◌, ◌++◌, Bor}
+use Rattle.gq_plan.specs.declared.variable.Variable.{Variable}
 use Rattle.std.specs.Prelude.{Result, Ok, Err, OnOk, OnErr}
 use Rattle.std.specs.List.{list_any}
 use Rattle.std.specs.Str.{bytes_eq}
 use Rattle.std.proofs.lemmas.Bool.{true≢false}
 use Rattle.std.proofs.lemmas.List.Folds.{list_any-append}
-use Rattle.gq_plan.specs.Reads.{Read, Variable, property, same_read, same_variable}
+use Rattle.gq_plan.specs.Reads.{Read, property, same_read, same_variable}
 use Rattle.gq_plan.specs.steps.Reads.{has_name}
 
 none : (a b l m : Bool) → (b || l) ≡ false → (l ≡ false → m ≡ false) → ((a && b) || m) ≡ false

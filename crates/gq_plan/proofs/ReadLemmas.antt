@@ -1,6 +1,8 @@
 -- What expressions read, opened by one level; reads that are taken one by one, each unless it stands already, are the
 -- distinct ones.
 use Rattle.std.proofs.Common.{◌≡◌, ◌∙◌, ap, sym, refl, ℕ, Bool, true, false, not, cond, ◌&&◌, ◌||◌, Option, Some, None, List, [], ◌∷◌, ◌++◌, map, filter, flat_map, append_assoc, append-nil, nat_eq, suc, ◌+◌, ◌<◌, length, drop, get_or, drop-cons, add-one}
+use Rattle.gq_plan.specs.declared.variable.Variable.TheVariants.{Node as node, Rel as rel}
+use Rattle.gq_plan.specs.declared.variable.Variable.{Variable}
 use Rattle.std.specs.List.{list_any}
 use Rattle.std.specs.Cmp.Lexicographic.{pointwise}
 use Rattle.std.proofs.lemmas.Bool.{eqb-true, and_parts, true≢false}
@@ -17,7 +19,7 @@ use Rattle.gq_expr.specs.declared.Expr.{Expr, Expr-F, out-Expr, map-Expr, fold_o
 use Rattle.gq_expr.specs.declared.Expr.TheVariants.{Literal, Node, Rel, NodeProperty, RelProperty, TypeName, Coalesce, Negate, Plus, Not, Or, Xor, And, Compare, Test, Arith, outs-Literal, outs-Node, outs-Rel, outs-NodeProperty, outs-RelProperty, outs-TypeName, outs-Coalesce, outs-Negate, outs-Plus, outs-Not, outs-Or, outs-Xor, outs-And, outs-Compare, outs-Test, outs-Arith}
 use Rattle.gq_expr.specs.declared.Tester.{Tester}
 use Rattle.gq_expr.specs.declared.Tester.TheVariants as tester
-use Rattle.gq_plan.specs.Reads.{Read, is_property, Variable, node, rel, reads, reads_step, tester_reads, property, properties, properties_of, distinct, same_read, same_property, same_variable, with_read, with_reads}
+use Rattle.gq_plan.specs.Reads.{Read, is_property, reads, reads_step, tester_reads, property, properties, properties_of, distinct, same_read, same_property, same_variable, with_read, with_reads}
 use Rattle.gq_plan.specs.steps.Reads.{tester_properties}
 
 -- ---- one by one

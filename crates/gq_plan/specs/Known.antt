@@ -1,8 +1,10 @@
 -- Which variables are bound.
 use Rattle.std.specs.Prelude.{ℕ, nat_eq, Bool, false, ◌||◌, slice_index_or}
+use Rattle.gq_plan.specs.declared.variable.Variable.TheVariants.{Node as node, Rel as rel}
+use Rattle.gq_plan.specs.declared.variable.Variable.{Variable}
 use Rattle.std.specs.List.{list_all}
 use Rattle.gq_expr.specs.declared.Expr.{Expr}
-use Rattle.gq_plan.specs.Reads.{Variable, node, rel, reads}
+use Rattle.gq_plan.specs.Reads.{reads}
 use Rattle.gq_plan.specs.declared.known.Known as code
 use Rattle.gq_plan.specs.declared.known.VariableSet.{VariableSet}
 

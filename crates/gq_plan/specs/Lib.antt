@@ -12,5 +12,4 @@ pub mod Plans
 pub mod Reads
 pub mod Rows
 pub mod Soundness
-pub mod Variables
 pub mod steps

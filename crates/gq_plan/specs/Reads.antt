@@ -5,11 +5,8 @@ use Rattle.std.specs.Cmp.Lexicographic.{pointwise}
 use Rattle.gq_expr.specs.declared.Expr.{Expr, Expr-F, fold-Expr}
 use Rattle.gq_expr.specs.declared.Tester.{Tester}
 use Rattle.gq_expr.specs.declared.Tester.TheVariants as tester
-
--- a variable: those of nodes and those of relationships are counted from 0, each kind for itself
-pub data Variable : Type 0 where
-  node : ℕ → Variable
-  rel : ℕ → Variable
+use Rattle.gq_plan.specs.declared.variable.Variable.{Variable}
+use Rattle.gq_plan.specs.declared.variable.Variable.TheVariants.{Node as node, Rel as rel}
 
 abbrev pub same_variable : Variable → Variable → Bool
 same_variable (node m) (node n) = nat_eq m n

@@ -1,5 +1,7 @@
 -- When a typed alternative is sound for a catalogue (this project's profile: the limits of 24 and of 64).
 use Rattle.std.specs.Prelude.{◌≡◌, ℕ, nat_eq, ◌<◌, ◌≤◌, Bool, true, false, ◌&&◌, IsTrue, IsPermutation, Option, Some, None, List, [], ◌∷◌, map, flat_map, length, slice_get, option_map, if◌then◌else◌, All}
+use Rattle.gq_plan.specs.declared.variable.Variable.TheVariants.{Node as node, Rel as rel}
+use Rattle.gq_plan.specs.declared.variable.Variable.{Variable}
 use Rattle.std.specs.List.{range_with_len, list_any}
 use Rattle.gq_base.specs.Catalogs.{Tables}
 use Rattle.gq_base.specs.declared.Field.{Field}
@@ -7,7 +9,7 @@ use Rattle.gq_base.specs.declared.NodeTable.{NodeTable}
 use Rattle.gq_base.specs.declared.RelTable.{RelTable}
 use Rattle.gq_expr.specs.Kinds.{can_fault}
 use Rattle.gq_expr.specs.declared.Kinds.{Kinds}
-use Rattle.gq_plan.specs.Reads.{Variable, node, rel, Read, reads, properties, distinct}
+use Rattle.gq_plan.specs.Reads.{Read, reads, properties, distinct}
 use Rattle.gq_plan.specs.declared.typed.PathPart.{PathPart}
 use Rattle.gq_plan.specs.declared.typed.RelPair.{RelPair}
 use Rattle.gq_plan.specs.declared.typed.Typed.{Typed}

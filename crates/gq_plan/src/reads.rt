@@ -5,7 +5,6 @@ ghost use Rattle.gq_plan.specs.Reads as reads;
 ghost use Rattle.gq_plan.specs.Reads.{property, properties, properties_of};
 ghost use Rattle.gq_plan.specs.steps.Reads.{tester_properties};
 ghost use Rattle.gq_plan.specs.Reads.{same_read, with_read, with_reads};
-ghost use Rattle.gq_plan.specs.Variables.{seen};
 
 use crate::variable::Variable;
 use gq_base::{List, Memory, Text};
@@ -23,11 +22,10 @@ struct PropertyRead<'e> {
 
 impl<'e> Model for PropertyRead<'e> {
     ghost use Rattle.gq_plan.specs.Reads.{Read, property};
-    ghost use Rattle.gq_plan.specs.Variables.{seen};
 
     ghost Value = { Read };
 
-    ghost view = { λ r. property (seen r.variable) r.name.now };
+    ghost view = { λ r. property r.variable r.name.now };
 }
 
 /// The different properties of variables that expressions read, in the order of their first
@@ -78,7 +76,7 @@ impl<'e> PropertyReads<'e> {
 
     fn contains(&self, variable: Variable, name: &Text) -> bool
         ensures { result
-            ≡ list_any (λ q. same_read q (property (seen variable) name.now)) self.now }
+            ≡ list_any (λ q. same_read q (property variable name.now)) self.now }
     {
         stands_in(self.reads.as_slice(), variable, name)
     }
@@ -86,7 +84,7 @@ impl<'e> PropertyReads<'e> {
     /// Takes a property of a variable, unless it stands already.
     pub fn add(&mut self, variable: Variable, name: &'e Text) -> Result<(), Memory>
         ensures { IfOk result (λ _.
-            self.new ≡ with_read self.old (property (seen variable) name.now)) }
+            self.new ≡ with_read self.old (property variable name.now)) }
     {
         let is_new = match self.names.insert(name.as_str()) {
             Ok(is_new) => is_new,
@@ -190,19 +188,19 @@ impl<'e> PropertyReads<'e> {
 }
 
 fn stands_in(reads: &[PropertyRead<'_>], variable: Variable, name: &Text) -> bool
-    ensures { result ≡ list_any (λ q. same_read q (property (seen variable) name.now)) reads.now }
+    ensures { result ≡ list_any (λ q. same_read q (property variable name.now)) reads.now }
 {
     reads.iter().any(|read| is_read(read, variable, name))
 }
 
 fn is_read(read: &PropertyRead<'_>, variable: Variable, name: &Text) -> bool
-    ensures { result ≡ same_read read.now (property (seen variable) name.now) }
+    ensures { result ≡ same_read read.now (property variable name.now) }
 {
     is_variable(read.variable, variable) && read.name.is(name.as_str())
 }
 
 fn is_variable(own: Variable, variable: Variable) -> bool
-    ensures { result ≡ reads.same_variable (seen own) (seen variable) }
+    ensures { result ≡ reads.same_variable own variable }
 {
     match (own, variable) {
         (Variable::Node(own), Variable::Node(node)) => own == node,

@@ -7,7 +7,6 @@ ghost use Rattle.gq_alternatives.specs.Matches as matching;
 ghost use Rattle.gq_alternatives.specs.Matches.{pairs_from};
 ghost use Rattle.gq_plan.specs.Allowed as allowed;
 ghost use Rattle.gq_plan.specs.Assignments as assignments;
-ghost use Rattle.gq_plan.specs.Variables.{seen};
 
 use crate::chosen::Chosen;
 use crate::pairs::pairs_of;
@@ -216,7 +215,7 @@ fn value_of<'g>(
     variable: Variable,
     name: &Text,
 ) -> Value<'g>
-    ensures { val result ≡ matching.value_of graph.now chosen.now (seen variable) name.now }
+    ensures { val result ≡ matching.value_of graph.now chosen.now variable name.now }
 {
     match variable {
         Variable::Node(variable) => match chosen.node(variable) {

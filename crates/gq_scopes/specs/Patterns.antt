@@ -1,9 +1,10 @@
 -- The patterns of a query, read from left to right: a name is one variable wherever it stands, and a node pattern
 -- without a name is a variable of its own (openCypher 9).
 use Rattle.std.specs.Prelude.{ℕ, suc, nat_eq, Bool, false, Option, Some, None, List, [], ◌∷◌, ◌++◌, length, map, codes, decimal, unwrap_or}
+use Rattle.gq_plan.specs.declared.variable.Variable.TheVariants.{Node as node, Rel as rel}
+use Rattle.gq_plan.specs.declared.variable.Variable.{Variable}
 use Rattle.std.specs.List.{position, range_with_len}
 use Rattle.std.specs.Cmp.Lexicographic.{pointwise}
-use Rattle.gq_plan.specs.Reads.{Variable, node, rel}
 use Rattle.gq_plan.specs.declared.PathPart.{PathPart}
 use Rattle.gq_syntax.specs.declared.Clause.{Clause}
 use Rattle.gq_syntax.specs.declared.Entry.{Entry}

@@ -6,7 +6,6 @@ ghost use Rattle.gq_scopes.specs.Patterns as patterns;
 ghost use Rattle.gq_scopes.specs.Patterns.{pattern_of, with_clauses, with_paths, with_path};
 ghost use Rattle.gq_scopes.specs.Patterns.{with_hops, with_rel, with_part, with_node, node_new};
 ghost use Rattle.gq_scopes.specs.Patterns.{node_again, entries_of, naming, no_pattern, with_variable};
-ghost use Rattle.gq_plan.specs.Variables.{seen};
 
 use crate::copies::copy_text;
 use crate::counts::{next, number};
@@ -30,9 +29,8 @@ impl<'t> Model for NamedVariable<'t> {
 
     ghost Value = { NamedVariable };
 
-    ghost use Rattle.gq_plan.specs.Variables.{seen};
 
-    ghost view = { λ n. record { name = n.name.now; variable = seen n.variable } };
+    ghost view = { λ n. record { name = n.name.now; variable = n.variable } };
 }
 
 /// A node pattern and its variable.
@@ -154,10 +152,9 @@ impl<'t> Model for MapEntry<'t> {
 
     ghost Value = { MapEntry };
 
-    ghost use Rattle.gq_plan.specs.Variables.{seen};
 
     ghost view = { λ e. record {
-      variable = seen e.variable;
+      variable = e.variable;
       called = e.called;
       entry = e.entry.now;
     } };
@@ -247,7 +244,7 @@ impl<'t> Pattern<'t> {
         map: &'t [Entry],
     ) -> Result<Text, Memory>
         ensures pushed { IfOk result (λ _.
-            self.new ≡ with_variable (seen variable) name.now map.now self.old) }
+            self.new ≡ with_variable variable name.now map.now self.old) }
         ensures called { IfOk result (λ t. t ≡ patterns.called self.old.unnamed name.now) }
     {
         let called = called(alloc, self.unnamed, name)?;
@@ -501,7 +498,7 @@ fn push_naming<'t>(
     name: &'t Option<Text>,
     variable: Variable,
 ) -> Result<(), Memory>
-    ensures { IfOk result (λ _. named.new ≡ named.old ++ naming name.now (seen variable)) }
+    ensures { IfOk result (λ _. named.new ≡ named.old ++ naming name.now variable) }
 {
     match name {
         None => Ok(()),
@@ -520,7 +517,7 @@ fn push_entries<'t>(
     map: &'t [Entry],
 ) -> Result<(), Memory>
     ensures { IfOk result (λ _. entries.new
-        ≡ entries.old ++ entries_of (seen variable) called.now map.now) }
+        ≡ entries.old ++ entries_of variable called.now map.now) }
 {
     if map.len().saturating_mul(called.as_str().len()) > MOST_CALLED {
         return Err(Memory);

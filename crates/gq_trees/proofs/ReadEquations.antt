@@ -1,5 +1,7 @@
 -- What expressions read, variant by variant, and how many different reads a part of reads has.
 use Rattle.std.proofs.Common.{◌≡◌, ℕ, suc, ◌≤◌, Bool, true, false, not, ◌||◌, cond, nat_eq, Option, Some, None, List, [], ◌∷◌, ◌++◌, map, filter, flat_map, length, refl, sym, ap, ap₂, ◌∙◌, subst, arith, true≢false}
+use Rattle.gq_plan.specs.declared.variable.Variable.TheVariants.{Node as node, Rel as rel}
+use Rattle.gq_plan.specs.declared.variable.Variable.{Variable}
 use Rattle.std.specs.List.{AllByRecursion, list_any}
 use Rattle.std.specs.Cmp.Lexicographic.{pointwise}
 use Rattle.std.proofs.Math.Bool.{or-true}
@@ -15,7 +17,7 @@ use Rattle.gq_expr.specs.declared.Bound.{Bound}
 use Rattle.gq_expr.specs.declared.Expr.{Expr, Expr-F, out-Expr, map-Expr, fold_out-Expr}
 use Rattle.gq_expr.specs.declared.Expr.TheVariants.{Literal, Node, Rel, NodeProperty, RelProperty, TypeName, Coalesce, Negate, Plus, Not, Or, Xor, And, Compare, Test, Arith, outs-Literal, outs-Node, outs-Rel, outs-NodeProperty, outs-RelProperty, outs-TypeName, outs-Coalesce, outs-Negate, outs-Plus, outs-Not, outs-Or, outs-Xor, outs-And, outs-Compare, outs-Test, outs-Arith}
 use Rattle.gq_expr.specs.declared.Tester.{Tester}
-use Rattle.gq_plan.specs.Reads.{Variable, node, rel, Read, reads, reads_step, tester_reads, whole, property, same_variable, same_property, same_read, is_property, properties, distinct}
+use Rattle.gq_plan.specs.Reads.{Read, reads, reads_step, tester_reads, whole, property, same_variable, same_property, same_read, is_property, properties, distinct}
 use Rattle.gq_plan.proofs.ReadLemmas.{read_is}
 use Rattle.gq_plan.proofs.Each.{each_of, each_then, each_append, each_kept}
 

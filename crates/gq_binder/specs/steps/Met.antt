@@ -1,9 +1,10 @@
 -- The names of variables that were met, by their form.
 use Rattle.std.specs.Prelude.{Bool, not, ◌&&◌, Some, List, [], ◌∷◌, ◌++◌, map, filter}
+use Rattle.gq_plan.specs.declared.variable.Variable.TheVariants.{Node as node, Rel as rel}
+use Rattle.gq_plan.specs.declared.variable.Variable.{Variable}
 use Rattle.std.specs.List.{list_any}
 use Rattle.gq_binder.specs.Refusals.{is_rel}
 use Rattle.gq_binder.specs.declared.met.Met.{Met}
-use Rattle.gq_plan.specs.Reads.{Variable, node, rel}
 use Rattle.gq_scopes.specs.Patterns.{Name, NamedVariable, is_called}
 
 -- the names of node variables, and those of relationships

@@ -1,7 +1,6 @@
 use Rattle.std.proofs.Common.{◌≡◌, ◌++◌, take}
 use Rattle.gq_scopes.specs.Patterns.{entries_of}
-use Rattle.gq_plan.specs.Variables.{seen}
 use Rattle.gq_scopes.proofs.patterns.push_entries.Given as goal
 
 abbrev pub invariant-loop-entry : goal.invariant-loop-entry
-invariant-loop-entry l = l.entries ≡ l.fn.entries ++ entries_of (seen l.variable) l.called (take l.entry-index l.map)
+invariant-loop-entry l = l.entries ≡ l.fn.entries ++ entries_of l.variable l.called (take l.entry-index l.map)
