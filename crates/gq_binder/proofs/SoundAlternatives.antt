@@ -18,7 +18,7 @@ use Rattle.gq_base.specs.declared.CompareOp.TheVariants as compare
 use Rattle.gq_base.specs.declared.Literal.{Literal as Spelled}
 use Rattle.gq_expr.proofs.KindEquations.{may_Literal, may_NodeProperty, may_RelProperty, may_Compare}
 use Rattle.gq_expr.specs.Kinds.{May, may, misfits, truth, can_fault}
-use Rattle.gq_expr.specs.declared.Bound.{Bound as Operand}
+use Rattle.gq_expr.specs.declared.Operand.{Operand}
 use Rattle.gq_expr.specs.declared.Expr.{Expr}
 use Rattle.gq_expr.specs.declared.Expr.TheVariants as expr
 use Rattle.gq_expr.specs.declared.Kinds.{Kinds}

@@ -5,7 +5,7 @@ ghost use Rattle.gq_lexer.specs.Sources as sources;
 ghost use Rattle.gq_syntax.specs.steps.Spans.{IsWholeEntry};
 
 use gq_base::{Boxed, CompareOp, List, Memory, Text};
-use gq_expr::{Bound, Expr};
+use gq_expr::{Operand, Expr};
 use gq_plan::NamedExpr;
 use gq_scopes::{MapEntry, Variable, copy_literal, copy_text};
 use gq_trees::source_text;
@@ -60,7 +60,7 @@ fn entry_expr(alloc: Global, entry: &MapEntry<'_>) -> Result<Expr, Memory>
     let property = property_of(alloc, entry.variable, &entry.entry.key)?;
     let value = Expr::Literal(copy_literal(alloc, &entry.entry.value)?);
     let mut terms = List::new(alloc);
-    terms.push(Bound {
+    terms.push(Operand {
         op: CompareOp::Equal,
         expr: value,
     })?;

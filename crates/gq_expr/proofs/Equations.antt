@@ -6,10 +6,10 @@ use Rattle.gq_base.specs.Values.{literal_val, null}
 use Rattle.gq_base.specs.declared.Literal.{Literal as Spelled}
 use Rattle.gq_expr.specs.Operators.{Outcome, not_val, negate_val, plus_val, type_val}
 use Rattle.gq_expr.specs.Meaning.{meaning, meaning_step, logic_all, coalesce_all, compare_chain, arith_chain, test_chain}
-use Rattle.gq_expr.specs.steps.Parts.{bound_with, tester_with}
+use Rattle.gq_expr.specs.steps.Parts.{operand_with, tester_with}
 use Rattle.gq_expr.specs.Reading.{Assignment, node_val, rel_val, property_at, node_property, rel_property, type_name}
 use Rattle.gq_base.specs.declared.operator.ArithOp.{ArithOp}
-use Rattle.gq_expr.specs.declared.expr.Bound.{Bound}
+use Rattle.gq_expr.specs.declared.expr.Operand.{Operand}
 use Rattle.gq_base.specs.declared.operator.CompareOp.{CompareOp}
 use Rattle.gq_expr.specs.declared.expr.Expr.{Expr, Expr-F, out-Expr, map-Expr, fold_out-Expr}
 use Rattle.gq_expr.specs.declared.expr.Expr.TheVariants.{Literal, Node, Rel, NodeProperty, RelProperty, TypeName, Coalesce, Negate, Plus, Not, Or, Xor, And, Compare, Test, Arith, outs-Literal, outs-Node, outs-Rel, outs-NodeProperty, outs-RelProperty, outs-TypeName, outs-Coalesce, outs-Negate, outs-Plus, outs-Not, outs-Or, outs-Xor, outs-And, outs-Compare, outs-Test, outs-Arith}
@@ -60,13 +60,13 @@ meaning_Xor g row es = meaning_at g row (Xor es) (Expr-F.Xor es) (outs-Xor es)
 pub meaning_And : (g : Graph) (row : Assignment) (es : List Expr) → meaning g row (And es) ≡ logic_all logic.And (map (meaning g row) es)
 meaning_And g row es = meaning_at g row (And es) (Expr-F.And es) (outs-And es)
 
-pub meaning_Compare : (g : Graph) (row : Assignment) (e : Expr) (ts : List (Bound CompareOp Expr)) → meaning g row (Compare e ts) ≡ and_then (meaning g row e) (λ a. compare_chain (Some true) a (map (bound_with (meaning g row)) ts))
+pub meaning_Compare : (g : Graph) (row : Assignment) (e : Expr) (ts : List (Operand CompareOp Expr)) → meaning g row (Compare e ts) ≡ and_then (meaning g row e) (λ a. compare_chain (Some true) a (map (operand_with (meaning g row)) ts))
 meaning_Compare g row e ts = meaning_at g row (Compare e ts) (Expr-F.Compare e ts) (outs-Compare e ts)
 
 pub meaning_Test : (g : Graph) (row : Assignment) (e : Expr) (ts : List (Tester Expr)) → meaning g row (Test e ts) ≡ and_then (meaning g row e) (λ a. test_chain a (map (tester_with (meaning g row)) ts))
 meaning_Test g row e ts = meaning_at g row (Test e ts) (Expr-F.Test e ts) (outs-Test e ts) ∙ ap (λ r. and_then (meaning g row e) (λ a. test_chain a r)) (sym (testers_map (meaning g row) ts))
 
-pub meaning_Arith : (g : Graph) (row : Assignment) (e : Expr) (ts : List (Bound ArithOp Expr)) → meaning g row (Arith e ts) ≡ and_then (meaning g row e) (λ a. arith_chain a (map (bound_with (meaning g row)) ts))
+pub meaning_Arith : (g : Graph) (row : Assignment) (e : Expr) (ts : List (Operand ArithOp Expr)) → meaning g row (Arith e ts) ≡ and_then (meaning g row e) (λ a. arith_chain a (map (operand_with (meaning g row)) ts))
 meaning_Arith g row e ts = meaning_at g row (Arith e ts) (Expr-F.Arith e ts) (outs-Arith e ts)
 
 -- all of them

@@ -3,9 +3,9 @@ use Rattle.std.proofs.Common.{◌≡◌, ◌∙◌, ap, sym, ℕ, List, [], ◌�
 use Rattle.std.specs.List.{list_any}
 use Rattle.gq_base.specs.declared.Literal.{Literal as Spelled}
 use Rattle.gq_expr.specs.Kinds.{May, may, may_step, safe, node, relationship, literal_kinds, kinds_at, field_kind, type_may, all_of, arithmetic, truth, misfits, term_faults, test_may}
-use Rattle.gq_expr.specs.steps.Parts.{bound_with, tester_with}
+use Rattle.gq_expr.specs.steps.Parts.{operand_with, tester_with}
 use Rattle.gq_base.specs.declared.operator.ArithOp.{ArithOp}
-use Rattle.gq_expr.specs.declared.expr.Bound.{Bound}
+use Rattle.gq_expr.specs.declared.expr.Operand.{Operand}
 use Rattle.gq_base.specs.declared.operator.CompareOp.{CompareOp}
 use Rattle.gq_expr.specs.declared.expr.Expr.{Expr, Expr-F, out-Expr, map-Expr, fold_out-Expr}
 use Rattle.gq_expr.specs.declared.expr.Expr.TheVariants.{Literal, Node, Rel, NodeProperty, RelProperty, TypeName, Coalesce, Negate, Plus, Not, Or, Xor, And, Compare, Test, Arith, outs-Literal, outs-Node, outs-Rel, outs-NodeProperty, outs-RelProperty, outs-TypeName, outs-Coalesce, outs-Negate, outs-Plus, outs-Not, outs-Or, outs-Xor, outs-And, outs-Compare, outs-Test, outs-Arith}
@@ -56,10 +56,10 @@ may_Xor kinds es = may_at kinds (Xor es) (Expr-F.Xor es) (outs-Xor es)
 pub may_And : (kinds : Kinds) (es : List Expr) → may kinds (And es) ≡ truth (list_any misfits (map (may kinds) es))
 may_And kinds es = may_at kinds (And es) (Expr-F.And es) (outs-And es)
 
-pub may_Compare : (kinds : Kinds) (e : Expr) (ts : List (Bound CompareOp Expr)) → may kinds (Compare e ts) ≡ truth ((may kinds e).faults || list_any term_faults (map (bound_with (may kinds)) ts))
+pub may_Compare : (kinds : Kinds) (e : Expr) (ts : List (Operand CompareOp Expr)) → may kinds (Compare e ts) ≡ truth ((may kinds e).faults || list_any term_faults (map (operand_with (may kinds)) ts))
 may_Compare kinds e ts = may_at kinds (Compare e ts) (Expr-F.Compare e ts) (outs-Compare e ts)
 
-pub may_Arith : (kinds : Kinds) (e : Expr) (ts : List (Bound ArithOp Expr)) → may kinds (Arith e ts) ≡ arithmetic
+pub may_Arith : (kinds : Kinds) (e : Expr) (ts : List (Operand ArithOp Expr)) → may kinds (Arith e ts) ≡ arithmetic
 may_Arith kinds e ts = may_at kinds (Arith e ts) (Expr-F.Arith e ts) (outs-Arith e ts)
 
 pub may_Test : (kinds : Kinds) (e : Expr) (ts : List (Tester Expr)) → may kinds (Test e ts) ≡ test_may (may kinds e) (map (tester_with (may kinds)) ts)

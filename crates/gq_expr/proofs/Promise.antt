@@ -17,11 +17,11 @@ use Rattle.gq_expr.specs.Kinds.{May, Sort, may, may_step, misfits, may_fault, tr
 use Rattle.gq_expr.specs.Kinds as sort
 use Rattle.gq_expr.specs.Meaning.{meaning, meaning_step, logic_all, logic_chain, coalesce_all, compare_chain, test_chain, test_val}
 use Rattle.gq_expr.specs.Operators.{Outcome, of_truth, logic3, logic_vals, not_val, first_known, compare_vals, member_of, starts_vals, ends_vals, contains_vals, type_val}
-use Rattle.gq_expr.specs.steps.Parts.{bound_with}
+use Rattle.gq_expr.specs.steps.Parts.{operand_with}
 use Rattle.gq_expr.specs.Reading.{Assignment, node_val, rel_val, property_at, node_property, rel_property, name_of, type_name}
 use Rattle.gq_expr.specs.Safety.{IsOfKind, FitsKinds, IsTruth, KindsPromise}
 use Rattle.gq_base.specs.Truth.{and3, not3}
-use Rattle.gq_expr.specs.declared.expr.Bound.{Bound}
+use Rattle.gq_expr.specs.declared.expr.Operand.{Operand}
 use Rattle.gq_base.specs.declared.operator.CompareOp.{CompareOp}
 use Rattle.gq_expr.specs.declared.expr.Expr.{Expr, Expr-F, roll-Expr, map-Expr, fold-roll-Expr, ind-Expr}
 use Rattle.gq_expr.specs.declared.expr.Expr.TheShapes.{former-Expr-Test-1}
@@ -195,12 +195,12 @@ then_ok (Ok v) go h k = k v
 
 -- comparisons
 
-abbrev EachTerm : List (Bound CompareOp May) → List (Bound CompareOp Outcome) → Type 0
+abbrev EachTerm : List (Operand CompareOp May) → List (Operand CompareOp Outcome) → Type 0
 EachTerm [] [] = Unit {0}
 EachTerm (m ∷ ms) (o ∷ os) = Sound m.expr o.expr × EachTerm ms os
 EachTerm ms os = ⊥
 
-compare_truth : (q : Option Bool) (a : Val) (ms : List (Bound CompareOp May)) (os : List (Bound CompareOp Outcome)) → EachTerm ms os → list_any term_faults ms ≡ false → IsTruth (compare_chain q a os)
+compare_truth : (q : Option Bool) (a : Val) (ms : List (Operand CompareOp May)) (os : List (Operand CompareOp Outcome)) → EachTerm ms os → list_any term_faults ms ≡ false → IsTruth (compare_chain q a os)
 compare_truth q a [] [] h e = of_truth_is q
 compare_truth q a [] (o ∷ os) h e = absurd h
 compare_truth q a (m ∷ ms) [] h e = absurd h
@@ -319,10 +319,10 @@ module _ (kinds : Kinds) (g : Graph) (row : Assignment) where
   each_sound [] = tt
   each_sound (q ∷ qs) = (q.1, each_sound qs)
 
-  abbrev first_of : {O : Type 0} → Bound O (Part kinds g row) → Bound O Expr
+  abbrev first_of : {O : Type 0} → Operand O (Part kinds g row) → Operand O Expr
   first_of t = record { op = t.op; expr = t.expr.0 }
 
-  each_term : (ts : List (Bound CompareOp (Part kinds g row))) → EachTerm (map (bound_with (may kinds)) (map first_of ts)) (map (bound_with (meaning g row)) (map first_of ts))
+  each_term : (ts : List (Operand CompareOp (Part kinds g row))) → EachTerm (map (operand_with (may kinds)) (map first_of ts)) (map (operand_with (meaning g row)) (map first_of ts))
   each_term [] = tt
   each_term (t ∷ ts) = (t.expr.1, each_term ts)
 

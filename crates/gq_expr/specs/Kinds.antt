@@ -9,7 +9,7 @@ use Rattle.gq_base.specs.declared.Kind.{Kind}
 use Rattle.gq_base.specs.declared.Kind.TheVariants as kind
 use Rattle.gq_base.specs.declared.Literal.{Literal}
 use Rattle.gq_base.specs.declared.Literal.TheVariants as literal
-use Rattle.gq_expr.specs.declared.expr.Bound.{Bound}
+use Rattle.gq_expr.specs.declared.expr.Operand.{Operand}
 use Rattle.gq_base.specs.declared.operator.CompareOp.{CompareOp}
 use Rattle.gq_expr.specs.declared.expr.Expr.{Expr, Expr-F, fold-Expr}
 use Rattle.gq_expr.specs.declared.expr.Tester.{Tester}
@@ -95,7 +95,7 @@ type_may m = record { faults = m.faults || not (list_all is_relationship m.kinds
 abbrev pub all_of : List May → May
 all_of ms = record { faults = list_any may_fault ms; kinds = flat_map (λ m. m.kinds) ms }
 
-abbrev pub term_faults : Bound CompareOp May → Bool
+abbrev pub term_faults : Operand CompareOp May → Bool
 term_faults t = t.expr.faults
 
 abbrev pub tester_faults : Tester May → Bool

@@ -9,7 +9,7 @@ use Rattle.gq_expr.specs.Operators.{Outcome, of_truth, logic_vals, not_val, firs
 use Rattle.gq_expr.specs.Reading.{Assignment, node_val, rel_val, property_at, node_property, rel_property, type_name}
 use Rattle.gq_base.specs.Truth.{and3}
 use Rattle.gq_base.specs.declared.operator.ArithOp.{ArithOp}
-use Rattle.gq_expr.specs.declared.expr.Bound.{Bound}
+use Rattle.gq_expr.specs.declared.expr.Operand.{Operand}
 use Rattle.gq_base.specs.declared.operator.CompareOp.{CompareOp}
 use Rattle.gq_expr.specs.declared.expr.Expr.{Expr, Expr-F, fold-Expr}
 use Rattle.gq_expr.specs.declared.expr.LogicOp.{LogicOp}
@@ -33,7 +33,7 @@ coalesce_all acc [] = Ok acc
 coalesce_all acc (r ∷ rs) = and_then r (λ v. coalesce_all (first_known acc v) rs)
 
 -- a chain of comparisons: `a < b <= c` is `a < b AND b <= c`
-abbrev pub compare_chain : Option Bool → Val → List (Bound CompareOp Outcome) → Outcome
+abbrev pub compare_chain : Option Bool → Val → List (Operand CompareOp Outcome) → Outcome
 compare_chain acc a [] = Ok (of_truth acc)
 compare_chain acc a (t ∷ ts) = and_then t.expr (λ b. compare_chain (and3 acc (compare_vals t.op a b)) b ts)
 
@@ -52,7 +52,7 @@ test_chain a [] = Ok a
 test_chain a (t ∷ ts) = and_then (test_val t a) (λ b. test_chain b ts)
 
 -- a chain of operators on integers
-abbrev pub arith_chain : Val → List (Bound ArithOp Outcome) → Outcome
+abbrev pub arith_chain : Val → List (Operand ArithOp Outcome) → Outcome
 arith_chain a [] = Ok a
 arith_chain a (t ∷ ts) = and_then t.expr (λ b. and_then (arith_vals t.op a b) (λ c. arith_chain c ts))
 

@@ -8,9 +8,9 @@ ghost use Rattle.gq_expr.specs.Reading.{Assignment, node_val, rel_val, node_prop
 ghost use Rattle.gq_expr.specs.Reading.{property_at, type_name};
 ghost use Rattle.gq_expr.specs.Meaning.{meaning, logic_all, coalesce_all, compare_chain};
 ghost use Rattle.gq_expr.specs.Meaning.{arith_chain, test_chain};
-ghost use Rattle.gq_expr.specs.steps.Parts.{bound_with, tester_with};
+ghost use Rattle.gq_expr.specs.steps.Parts.{operand_with, tester_with};
 
-use crate::expr::{BoundArith, BoundCompare, BoundTester, Expr, Fault, LogicOp, Tester};
+use crate::expr::{ArithOperand, CompareOperand, ExprTester, Expr, Fault, LogicOp, Tester};
 use crate::operators::{
     arith, compare, contains, ends, is_member, is_null, known, literal_value, negate, plus, starts,
 };
@@ -161,13 +161,13 @@ fn eval_coalesce<'v, G: Reads, R: Assigned>(
 #[cycle(eval)]
 fn eval_compares<'v, G: Reads, R: Assigned>(
     first: Value<'v>,
-    terms: &'v [BoundCompare],
+    terms: &'v [CompareOperand],
     graph: &'v G,
     row: &R,
 ) -> Result<Value<'v>, Fault>
     ensures { let go = meaning (G.graph graph.now) (R.assignment row.now) in
         outcome result
-        ≡ compare_chain (Some true) (val first.entry) (map (bound_with go) terms.now) }
+        ≡ compare_chain (Some true) (val first.entry) (map (operand_with go) terms.now) }
 {
     let mut before = first;
     let mut truth = Some(true);
@@ -182,7 +182,7 @@ fn eval_compares<'v, G: Reads, R: Assigned>(
 #[cycle(eval)]
 fn eval_tests<'v, G: Reads, R: Assigned>(
     first: Value<'v>,
-    testers: &'v [BoundTester],
+    testers: &'v [ExprTester],
     graph: &'v G,
     row: &R,
 ) -> Result<Value<'v>, Fault>
@@ -215,12 +215,12 @@ fn eval_tests<'v, G: Reads, R: Assigned>(
 #[cycle(eval)]
 fn eval_ariths<'v, G: Reads, R: Assigned>(
     first: Value<'v>,
-    terms: &'v [BoundArith],
+    terms: &'v [ArithOperand],
     graph: &'v G,
     row: &R,
 ) -> Result<Value<'v>, Fault>
     ensures { let go = meaning (G.graph graph.now) (R.assignment row.now) in
-        outcome result ≡ arith_chain (val first.entry) (map (bound_with go) terms.now) }
+        outcome result ≡ arith_chain (val first.entry) (map (operand_with go) terms.now) }
 {
     let mut value = first;
     for term in terms {

@@ -22,7 +22,7 @@ pub enum Fault {
 
 /// An operator with its right operand.
 #[derive(Drop)]
-pub struct Bound<O, E> {
+pub struct Operand<O, E> {
     pub op: O,
     pub expr: E,
 }
@@ -69,16 +69,16 @@ pub enum Expr {
     Or(List<Expr>),
     Xor(List<Expr>),
     And(List<Expr>),
-    Compare(Boxed<Expr>, List<BoundCompare>),
-    Test(Boxed<Expr>, List<BoundTester>),
-    Arith(Boxed<Expr>, List<BoundArith>),
+    Compare(Boxed<Expr>, List<CompareOperand>),
+    Test(Boxed<Expr>, List<ExprTester>),
+    Arith(Boxed<Expr>, List<ArithOperand>),
 }
 
 /// A comparison with its right operand.
-pub type BoundCompare = Bound<CompareOp, Expr>;
+pub type CompareOperand = Operand<CompareOp, Expr>;
 
 /// An operator on integers with its right operand.
-pub type BoundArith = Bound<ArithOp, Expr>;
+pub type ArithOperand = Operand<ArithOp, Expr>;
 
 /// A test with the operand that it may have.
-pub type BoundTester = Tester<Expr>;
+pub type ExprTester = Tester<Expr>;

@@ -7,10 +7,10 @@ ghost use Rattle.gq_expr.specs.Kinds.{may, field_kind, kinds_at, literal_kinds};
 ghost use Rattle.gq_expr.specs.steps.Kinds.{summary_of, both};
 ghost use Rattle.gq_expr.specs.Kinds.{safe, all_of, truth, misfits, test_may, term_faults};
 ghost use Rattle.gq_expr.specs.Kinds.{tester_faults};
-ghost use Rattle.gq_expr.specs.steps.Parts.{bound_with, tester_with};
+ghost use Rattle.gq_expr.specs.steps.Parts.{operand_with, tester_with};
 ghost use Rattle.gq_expr.specs.Safety.{KindsPromise};
 
-use crate::expr::{BoundCompare, BoundTester, Expr, Tester};
+use crate::expr::{CompareOperand, ExprTester, Expr, Tester};
 use gq_base::{Field, Kind, List, Literal, Text};
 
 /// The fields of a table.
@@ -119,8 +119,8 @@ fn some_misfits(all: &[Expr], kinds: &Kinds) -> bool
 }
 
 #[cycle(summarize)]
-fn some_term_faults(terms: &[BoundCompare], kinds: &Kinds) -> bool
-    ensures { result ≡ list_any term_faults (map (bound_with (may kinds.now)) terms.now) }
+fn some_term_faults(terms: &[CompareOperand], kinds: &Kinds) -> bool
+    ensures { result ≡ list_any term_faults (map (operand_with (may kinds.now)) terms.now) }
 {
     for term in terms {
         if summarize(&term.expr, kinds).faults {
@@ -131,7 +131,7 @@ fn some_term_faults(terms: &[BoundCompare], kinds: &Kinds) -> bool
 }
 
 #[cycle(summarize)]
-fn summary_of_tests(first: Summary, testers: &[BoundTester], kinds: &Kinds) -> Summary
+fn summary_of_tests(first: Summary, testers: &[ExprTester], kinds: &Kinds) -> Summary
     ensures { (m : _) → first ≡ summary_of m
         → result ≡ summary_of (test_may m (map (tester_with (may kinds.now)) testers.now)) }
 {
@@ -142,7 +142,7 @@ fn summary_of_tests(first: Summary, testers: &[BoundTester], kinds: &Kinds) -> S
 }
 
 #[cycle(summarize)]
-fn some_tester_faults(testers: &[BoundTester], kinds: &Kinds) -> bool
+fn some_tester_faults(testers: &[ExprTester], kinds: &Kinds) -> bool
     ensures { result ≡ list_any tester_faults (map (tester_with (may kinds.now)) testers.now) }
 {
     for tester in testers {

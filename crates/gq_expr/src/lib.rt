@@ -1,4 +1,4 @@
-//! Bound expressions of openCypher: what they mean in a graph, and their evaluation, which answers
+//! Operand expressions of openCypher: what they mean in a graph, and their evaluation, which answers
 //! that value or the first fault. The crate stands on the values and operators of `gq_base`, and on
 //! `memchr`, which finds a text in another.
 #![tactic(auto)]
@@ -10,6 +10,6 @@ mod operators;
 mod truth;
 
 pub use evaluate::{Assigned, Reads, eval};
-pub use expr::{Bound, BoundArith, BoundCompare, BoundTester, Expr, Fault, LogicOp, Tester};
+pub use expr::{Operand, ArithOperand, CompareOperand, ExprTester, Expr, Fault, LogicOp, Tester};
 pub use gq_base::{ArithOp, CompareOp};
 pub use kinds::{FieldList, Kinds, can_fault, kinds_keep_their_promise};

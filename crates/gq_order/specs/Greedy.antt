@@ -9,7 +9,7 @@ use Rattle.gq_base.specs.declared.CompareOp.{CompareOp}
 use Rattle.gq_base.specs.declared.CompareOp.TheVariants as op
 use Rattle.gq_base.specs.declared.catalog.Field.{Field}
 use Rattle.gq_base.specs.declared.catalog.NodeTable.{NodeTable}
-use Rattle.gq_expr.specs.declared.expr.Bound.{Bound}
+use Rattle.gq_expr.specs.declared.expr.Operand.{Operand}
 use Rattle.gq_expr.specs.declared.expr.Expr.{Expr, Expr-F, out-Expr}
 use Rattle.gq_order.specs.Given.{single_in, way_of}
 use Rattle.gq_order.specs.Orders.{read_by, known_by, plan_by}
@@ -79,7 +79,7 @@ abbrev pub is_equal : CompareOp → Bool
 is_equal op.Equal = true
 is_equal o = false
 
-abbrev pub equals_literal : List (Bound CompareOp Expr) → Bool
+abbrev pub equals_literal : List (Operand CompareOp Expr) → Bool
 equals_literal (t ∷ []) = is_equal t.op && is_literal (out-Expr t.expr)
 equals_literal ts = false
 

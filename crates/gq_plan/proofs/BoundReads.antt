@@ -6,8 +6,8 @@ use Rattle.gq_base.specs.declared.ArithOp.{ArithOp}
 use Rattle.gq_base.specs.declared.CompareOp.{CompareOp}
 use Rattle.gq_base.specs.declared.Literal.{Literal as Spelled}
 use Rattle.gq_expr.proofs.Testers.{testers_map}
-use Rattle.gq_expr.specs.steps.Parts.{bound_with, tester_with}
-use Rattle.gq_expr.specs.declared.Bound.{Bound}
+use Rattle.gq_expr.specs.steps.Parts.{operand_with, tester_with}
+use Rattle.gq_expr.specs.declared.Operand.{Operand}
 use Rattle.gq_expr.specs.declared.Expr.{Expr, Expr-F, out-Expr, map-Expr, fold_out-Expr}
 use Rattle.gq_expr.specs.declared.Expr.TheVariants.{Literal, Node, Rel, NodeProperty, RelProperty, TypeName, Coalesce, Negate, Plus, Not, Or, Xor, And, Compare, Test, Arith, outs-Literal, outs-Node, outs-Rel, outs-NodeProperty, outs-RelProperty, outs-TypeName, outs-Coalesce, outs-Negate, outs-Plus, outs-Not, outs-Or, outs-Xor, outs-And, outs-Compare, outs-Test, outs-Arith}
 use Rattle.gq_expr.specs.declared.Tester.{Tester}
@@ -35,9 +35,9 @@ each_bound : (k : Known) (es : List Expr) → all_bound k (flat_map (λ rs. rs) 
 each_bound k [] = refl
 each_bound k (e ∷ es) = all_append k (reads e) (flat_map (λ rs. rs) (map reads es)) ∙ ap (λ b. reads_bound k e && b) (each_bound k es)
 
-terms_bound : {O : Type 0} (k : Known) (ts : List (Bound O Expr)) → all_bound k (flat_map (λ t. t.expr) (map (bound_with reads) ts)) ≡ list_all (λ t. reads_bound k t.expr) ts
+terms_bound : {O : Type 0} (k : Known) (ts : List (Operand O Expr)) → all_bound k (flat_map (λ t. t.expr) (map (operand_with reads) ts)) ≡ list_all (λ t. reads_bound k t.expr) ts
 terms_bound k [] = refl
-terms_bound k (t ∷ ts) = all_append k (reads t.expr) (flat_map (λ u. u.expr) (map (bound_with reads) ts)) ∙ ap (λ b. reads_bound k t.expr && b) (terms_bound k ts)
+terms_bound k (t ∷ ts) = all_append k (reads t.expr) (flat_map (λ u. u.expr) (map (operand_with reads) ts)) ∙ ap (λ b. reads_bound k t.expr && b) (terms_bound k ts)
 
 testers_bound : (k : Known) (ts : List (Tester Expr)) → all_bound k (flat_map tester_reads (map (tester_with reads) ts)) ≡ list_all (tester_bound k) ts
 testers_bound k [] = refl
@@ -87,16 +87,16 @@ bound_Xor k es = bound_at k (Xor es) (Expr-F.Xor es) (outs-Xor es) ∙ each_boun
 pub bound_And : (k : Known) (es : List Expr) → reads_bound k (And es) ≡ list_all (reads_bound k) es
 bound_And k es = bound_at k (And es) (Expr-F.And es) (outs-And es) ∙ each_bound k es
 
-pub bound_Compare : (k : Known) (e : Expr) (ts : List (Bound CompareOp Expr)) → reads_bound k (Compare e ts) ≡ (reads_bound k e && list_all (λ t. reads_bound k t.expr) ts)
+pub bound_Compare : (k : Known) (e : Expr) (ts : List (Operand CompareOp Expr)) → reads_bound k (Compare e ts) ≡ (reads_bound k e && list_all (λ t. reads_bound k t.expr) ts)
 bound_Compare k e ts =
     bound_at k (Compare e ts) (Expr-F.Compare e ts) (outs-Compare e ts)
-    ∙ all_append k (reads e) (flat_map (λ t. t.expr) (map (bound_with reads) ts))
+    ∙ all_append k (reads e) (flat_map (λ t. t.expr) (map (operand_with reads) ts))
     ∙ ap (λ b. reads_bound k e && b) (terms_bound k ts)
 
-pub bound_Arith : (k : Known) (e : Expr) (ts : List (Bound ArithOp Expr)) → reads_bound k (Arith e ts) ≡ (reads_bound k e && list_all (λ t. reads_bound k t.expr) ts)
+pub bound_Arith : (k : Known) (e : Expr) (ts : List (Operand ArithOp Expr)) → reads_bound k (Arith e ts) ≡ (reads_bound k e && list_all (λ t. reads_bound k t.expr) ts)
 bound_Arith k e ts =
     bound_at k (Arith e ts) (Expr-F.Arith e ts) (outs-Arith e ts)
-    ∙ all_append k (reads e) (flat_map (λ t. t.expr) (map (bound_with reads) ts))
+    ∙ all_append k (reads e) (flat_map (λ t. t.expr) (map (operand_with reads) ts))
     ∙ ap (λ b. reads_bound k e && b) (terms_bound k ts)
 
 pub bound_Test : (k : Known) (e : Expr) (ts : List (Tester Expr)) → reads_bound k (Test e ts) ≡ (reads_bound k e && list_all (tester_bound k) ts)

@@ -13,8 +13,8 @@ use Rattle.gq_base.specs.declared.Literal.{Literal as Spelled}
 use Rattle.gq_base.specs.declared.ArithOp.{ArithOp}
 use Rattle.gq_base.specs.declared.CompareOp.{CompareOp}
 use Rattle.gq_expr.proofs.Testers.{testers_map}
-use Rattle.gq_expr.specs.steps.Parts.{bound_with, tester_with}
-use Rattle.gq_expr.specs.declared.Bound.{Bound}
+use Rattle.gq_expr.specs.steps.Parts.{operand_with, tester_with}
+use Rattle.gq_expr.specs.declared.Operand.{Operand}
 use Rattle.gq_expr.specs.declared.Expr.{Expr, Expr-F, out-Expr, map-Expr, fold_out-Expr}
 use Rattle.gq_expr.specs.declared.Expr.TheVariants.{Literal, Node, Rel, NodeProperty, RelProperty, TypeName, Coalesce, Negate, Plus, Not, Or, Xor, And, Compare, Test, Arith, outs-Literal, outs-Node, outs-Rel, outs-NodeProperty, outs-RelProperty, outs-TypeName, outs-Coalesce, outs-Negate, outs-Plus, outs-Not, outs-Or, outs-Xor, outs-And, outs-Compare, outs-Test, outs-Arith}
 use Rattle.gq_expr.specs.declared.Tester.{Tester}
@@ -140,9 +140,9 @@ all_properties : (es : List Expr) → properties (flat_map (λ rs. rs) (map read
 all_properties [] = refl
 all_properties (e ∷ es) = properties_append (reads e) (flat_map (λ rs. rs) (map reads es)) ∙ ap (λ l. properties_of e ++ l) (all_properties es)
 
-term_properties : {O : Type 0} (ts : List (Bound O Expr)) → properties (flat_map (λ t. t.expr) (map (bound_with reads) ts)) ≡ flat_map (λ t. properties_of t.expr) ts
+term_properties : {O : Type 0} (ts : List (Operand O Expr)) → properties (flat_map (λ t. t.expr) (map (operand_with reads) ts)) ≡ flat_map (λ t. properties_of t.expr) ts
 term_properties [] = refl
-term_properties (t ∷ ts) = properties_append (reads t.expr) (flat_map (λ u. u.expr) (map (bound_with reads) ts)) ∙ ap (λ l. properties_of t.expr ++ l) (term_properties ts)
+term_properties (t ∷ ts) = properties_append (reads t.expr) (flat_map (λ u. u.expr) (map (operand_with reads) ts)) ∙ ap (λ l. properties_of t.expr ++ l) (term_properties ts)
 
 all_testers : (ts : List (Tester Expr)) → properties (flat_map tester_reads (map (tester_with reads) ts)) ≡ flat_map tester_properties ts
 all_testers [] = refl
@@ -192,16 +192,16 @@ reads_Xor es = reads_at (Xor es) (Expr-F.Xor es) (outs-Xor es) ∙ all_propertie
 pub reads_And : (es : List Expr) → properties_of (And es) ≡ flat_map properties_of es
 reads_And es = reads_at (And es) (Expr-F.And es) (outs-And es) ∙ all_properties es
 
-pub reads_Compare : (e : Expr) (ts : List (Bound CompareOp Expr)) → properties_of (Compare e ts) ≡ properties_of e ++ flat_map (λ t. properties_of t.expr) ts
+pub reads_Compare : (e : Expr) (ts : List (Operand CompareOp Expr)) → properties_of (Compare e ts) ≡ properties_of e ++ flat_map (λ t. properties_of t.expr) ts
 reads_Compare e ts =
     reads_at (Compare e ts) (Expr-F.Compare e ts) (outs-Compare e ts)
-    ∙ properties_append (reads e) (flat_map (λ t. t.expr) (map (bound_with reads) ts))
+    ∙ properties_append (reads e) (flat_map (λ t. t.expr) (map (operand_with reads) ts))
     ∙ ap (λ l. properties_of e ++ l) (term_properties ts)
 
-pub reads_Arith : (e : Expr) (ts : List (Bound ArithOp Expr)) → properties_of (Arith e ts) ≡ properties_of e ++ flat_map (λ t. properties_of t.expr) ts
+pub reads_Arith : (e : Expr) (ts : List (Operand ArithOp Expr)) → properties_of (Arith e ts) ≡ properties_of e ++ flat_map (λ t. properties_of t.expr) ts
 reads_Arith e ts =
     reads_at (Arith e ts) (Expr-F.Arith e ts) (outs-Arith e ts)
-    ∙ properties_append (reads e) (flat_map (λ t. t.expr) (map (bound_with reads) ts))
+    ∙ properties_append (reads e) (flat_map (λ t. t.expr) (map (operand_with reads) ts))
     ∙ ap (λ l. properties_of e ++ l) (term_properties ts)
 
 pub reads_Test : (e : Expr) (ts : List (Tester Expr)) → properties_of (Test e ts) ≡ properties_of e ++ flat_map tester_properties ts

@@ -6,7 +6,7 @@ ghost use Rattle.gq_plan.specs.Known.{set_of, known_of, with_both, reads_bound};
 ghost use Rattle.gq_plan.specs.steps.Known.{tester_bound};
 ghost use Rattle.gq_plan.specs.Soundness.{max_variables};
 
-use gq_expr::{BoundArith, BoundCompare, BoundTester, Expr, Tester};
+use gq_expr::{ArithOperand, CompareOperand, ExprTester, Expr, Tester};
 
 /// The most node variables, and the most relationships, of a query.
 pub const MAX_VARIABLES: usize = 24;
@@ -126,7 +126,7 @@ impl Known {
     }
 
     #[cycle(binds_all)]
-    fn binds_compares(self, terms: &[BoundCompare]) -> bool
+    fn binds_compares(self, terms: &[CompareOperand]) -> bool
         ensures { result ≡ list_all (λ t. reads_bound (known_of self) t.expr) terms.now }
     {
         for term in terms {
@@ -138,7 +138,7 @@ impl Known {
     }
 
     #[cycle(binds_all)]
-    fn binds_ariths(self, terms: &[BoundArith]) -> bool
+    fn binds_ariths(self, terms: &[ArithOperand]) -> bool
         ensures { result ≡ list_all (λ t. reads_bound (known_of self) t.expr) terms.now }
     {
         for term in terms {
@@ -150,7 +150,7 @@ impl Known {
     }
 
     #[cycle(binds_all)]
-    fn binds_testers(self, testers: &[BoundTester]) -> bool
+    fn binds_testers(self, testers: &[ExprTester]) -> bool
         ensures { result ≡ list_all (tester_bound (known_of self)) testers.now }
     {
         for tester in testers {

@@ -8,7 +8,7 @@ ghost use Rattle.gq_plan.specs.Reads.{same_read, with_read, with_reads};
 
 use crate::variable::Variable;
 use gq_base::{List, Memory, Text};
-use gq_expr::{BoundArith, BoundCompare, BoundTester, Expr, Tester};
+use gq_expr::{ArithOperand, CompareOperand, ExprTester, Expr, Tester};
 use std::alloc::Global;
 use std::collections::BTreeSet;
 use std::marker::Model;
@@ -147,7 +147,7 @@ impl<'e> PropertyReads<'e> {
     }
 
     #[cycle(add_all)]
-    fn add_compares(&mut self, terms: &'e [BoundCompare]) -> Result<(), Memory>
+    fn add_compares(&mut self, terms: &'e [CompareOperand]) -> Result<(), Memory>
         ensures { IfOk result (λ _.
             self.new ≡ with_reads self.old (flat_map (λ t. properties_of t.expr) terms.now)) }
     {
@@ -158,7 +158,7 @@ impl<'e> PropertyReads<'e> {
     }
 
     #[cycle(add_all)]
-    fn add_ariths(&mut self, terms: &'e [BoundArith]) -> Result<(), Memory>
+    fn add_ariths(&mut self, terms: &'e [ArithOperand]) -> Result<(), Memory>
         ensures { IfOk result (λ _.
             self.new ≡ with_reads self.old (flat_map (λ t. properties_of t.expr) terms.now)) }
     {
@@ -169,7 +169,7 @@ impl<'e> PropertyReads<'e> {
     }
 
     #[cycle(add_all)]
-    fn add_testers(&mut self, testers: &'e [BoundTester]) -> Result<(), Memory>
+    fn add_testers(&mut self, testers: &'e [ExprTester]) -> Result<(), Memory>
         ensures { IfOk result (λ _.
             self.new ≡ with_reads self.old (flat_map tester_properties testers.now)) }
     {

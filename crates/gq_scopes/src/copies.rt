@@ -3,7 +3,7 @@ ghost use Rattle.std.specs.Prelude.{◌≡◌, IfOk};
 
 use crate::copying::Copying;
 use gq_base::{Boxed, List, Literal, Memory, Text};
-use gq_expr::{Bound, BoundArith, BoundCompare, BoundTester, Expr, Tester};
+use gq_expr::{Operand, ArithOperand, CompareOperand, ExprTester, Expr, Tester};
 use std::alloc::Global;
 
 /// A copy of a text.
@@ -107,14 +107,14 @@ fn copy_all(alloc: Global, copying: &mut Copying, all: &[Expr]) -> Result<List<E
 fn copy_compares(
     alloc: Global,
     copying: &mut Copying,
-    terms: &[BoundCompare],
-) -> Result<List<BoundCompare>, Memory>
+    terms: &[CompareOperand],
+) -> Result<List<CompareOperand>, Memory>
     ensures { IfOk result (λ ts. ts ≡ terms.now) }
 {
     let mut copies = List::new(alloc);
     for term in terms {
         let expr = copy_part(alloc, copying, &term.expr)?;
-        copies.push(Bound { op: term.op, expr })?;
+        copies.push(Operand { op: term.op, expr })?;
     }
     Ok(copies)
 }
@@ -123,14 +123,14 @@ fn copy_compares(
 fn copy_ariths(
     alloc: Global,
     copying: &mut Copying,
-    terms: &[BoundArith],
-) -> Result<List<BoundArith>, Memory>
+    terms: &[ArithOperand],
+) -> Result<List<ArithOperand>, Memory>
     ensures { IfOk result (λ ts. ts ≡ terms.now) }
 {
     let mut copies = List::new(alloc);
     for term in terms {
         let expr = copy_part(alloc, copying, &term.expr)?;
-        copies.push(Bound { op: term.op, expr })?;
+        copies.push(Operand { op: term.op, expr })?;
     }
     Ok(copies)
 }
@@ -139,8 +139,8 @@ fn copy_ariths(
 fn copy_testers(
     alloc: Global,
     copying: &mut Copying,
-    testers: &[BoundTester],
-) -> Result<List<BoundTester>, Memory>
+    testers: &[ExprTester],
+) -> Result<List<ExprTester>, Memory>
     ensures { IfOk result (λ ts. ts ≡ testers.now) }
 {
     let mut copies = List::new(alloc);

@@ -5,7 +5,7 @@ use Rattle.std.proofs.lemmas.Grind.{flat_map-append}
 use Rattle.std.proofs.lemmas.List.{map-append}
 use Rattle.gq_base.proofs.ListFacts.{found_within}
 use Rattle.gq_base.specs.Lists.{with_first}
-use Rattle.gq_expr.specs.declared.Bound.{Bound}
+use Rattle.gq_expr.specs.declared.Operand.{Operand}
 use Rattle.gq_expr.specs.declared.Expr.{Expr}
 use Rattle.gq_expr.specs.declared.Expr.TheVariants as expr
 use Rattle.gq_plan.specs.Reads.{Read, reads}
@@ -137,7 +137,7 @@ module _ (n m : ℕ) where
     abbrev term_map : {A B O : Type 0} → (A → B) → Term O A → Term O B
     term_map f t = record { op = t.op; tree = f t.tree }
 
-    abbrev terms_by : {O : Type 0} → (Ast → Option Expr) → List (Term O Part) → List (Option (Bound O Expr))
+    abbrev terms_by : {O : Type 0} → (Ast → Option Expr) → List (Term O Part) → List (Option (Operand O Expr))
     terms_by go ts = map bound_term (map (term_map go) (map (term_map (λ q. q.0)) ts))
 
     each_term : {O : Type 0} (ts : List (Term O Part)) → AllAlike n m term_reads term_reads (terms_by by_functions ts) (terms_by by_lists ts)

@@ -12,8 +12,8 @@ use Rattle.gq_base.specs.declared.ArithOp.{ArithOp}
 use Rattle.gq_base.specs.declared.CompareOp.{CompareOp}
 use Rattle.gq_base.specs.declared.Literal.{Literal as Spelled}
 use Rattle.gq_expr.proofs.Testers.{testers_map}
-use Rattle.gq_expr.specs.steps.Parts.{bound_with, tester_with}
-use Rattle.gq_expr.specs.declared.Bound.{Bound}
+use Rattle.gq_expr.specs.steps.Parts.{operand_with, tester_with}
+use Rattle.gq_expr.specs.declared.Operand.{Operand}
 use Rattle.gq_expr.specs.declared.Expr.{Expr, Expr-F, out-Expr, map-Expr, fold_out-Expr}
 use Rattle.gq_expr.specs.declared.Expr.TheVariants.{Literal, Node, Rel, NodeProperty, RelProperty, TypeName, Coalesce, Negate, Plus, Not, Or, Xor, And, Compare, Test, Arith, outs-Literal, outs-Node, outs-Rel, outs-NodeProperty, outs-RelProperty, outs-TypeName, outs-Coalesce, outs-Negate, outs-Plus, outs-Not, outs-Or, outs-Xor, outs-And, outs-Compare, outs-Test, outs-Arith}
 use Rattle.gq_expr.specs.declared.Tester.{Tester}
@@ -70,20 +70,20 @@ pub reads_And : (es : List Expr) → reads (And es) ≡ flat_map reads es
 reads_And es = reads_at (And es) (Expr-F.And es) (outs-And es) ∙ together es
 
 -- what an operator's operand reads, and what a test's does
-abbrev pub term_reads : {O : Type 0} → Bound O Expr → List Read
+abbrev pub term_reads : {O : Type 0} → Operand O Expr → List Read
 term_reads t = reads t.expr
 
 abbrev pub test_reads : Tester Expr → List Read
 test_reads t = tester_reads (tester_with reads t)
 
-terms_together : {O : Type 0} (ts : List (Bound O Expr)) → flat_map (λ t. t.expr) (map (bound_with reads) ts) ≡ flat_map term_reads ts
+terms_together : {O : Type 0} (ts : List (Operand O Expr)) → flat_map (λ t. t.expr) (map (operand_with reads) ts) ≡ flat_map term_reads ts
 terms_together [] = refl
 terms_together (t ∷ ts) = ap (λ rs. reads t.expr ++ rs) (terms_together ts)
 
-pub reads_Compare : (e : Expr) (ts : List (Bound CompareOp Expr)) → reads (Compare e ts) ≡ reads e ++ flat_map term_reads ts
+pub reads_Compare : (e : Expr) (ts : List (Operand CompareOp Expr)) → reads (Compare e ts) ≡ reads e ++ flat_map term_reads ts
 reads_Compare e ts = reads_at (Compare e ts) (Expr-F.Compare e ts) (outs-Compare e ts) ∙ ap (λ rs. reads e ++ rs) (terms_together ts)
 
-pub reads_Arith : (e : Expr) (ts : List (Bound ArithOp Expr)) → reads (Arith e ts) ≡ reads e ++ flat_map term_reads ts
+pub reads_Arith : (e : Expr) (ts : List (Operand ArithOp Expr)) → reads (Arith e ts) ≡ reads e ++ flat_map term_reads ts
 reads_Arith e ts = reads_at (Arith e ts) (Expr-F.Arith e ts) (outs-Arith e ts) ∙ ap (λ rs. reads e ++ rs) (terms_together ts)
 
 pub reads_Test : (e : Expr) (ts : List (Tester Expr)) → reads (Test e ts) ≡ reads e ++ flat_map test_reads ts

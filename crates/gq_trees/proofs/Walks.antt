@@ -8,8 +8,8 @@ use Rattle.std.specs.Option.{option_map, option_and_then}
 use Rattle.std.specs.List.{list_any, list_all}
 use Rattle.std.specs.Cmp.Lexicographic.{pointwise}
 use Rattle.std.proofs.lemmas.List.{drop_more, drop_all}
-use Rattle.gq_expr.specs.steps.Parts.{bound_with}
-use Rattle.gq_expr.specs.declared.Bound.{Bound}
+use Rattle.gq_expr.specs.steps.Parts.{operand_with}
+use Rattle.gq_expr.specs.declared.Operand.{Operand}
 use Rattle.gq_expr.specs.declared.Expr.{Expr, Expr-F, out-Expr, map-Expr, fold-Expr, fold_out-Expr}
 use Rattle.gq_expr.specs.declared.expr.Expr.TheShapes.{former-Expr-Test-1}
 use Rattle.gq_expr.specs.declared.Tester.{Tester}
@@ -29,8 +29,8 @@ module _ (A : Type 0) (go : Expr → Expr → A) where
   of_all [] = refl
   of_all (e ∷ es) = ap (λ r. Some (go e e) ∷ r) (of_all es)
 
-  of_terms : {O : Type 0} (ts : List (Bound O Expr))
-      → at_places (term_places (map (bound_with go) ts)) (term_places ts) ≡ at_each (term_places ts)
+  of_terms : {O : Type 0} (ts : List (Operand O Expr))
+      → at_places (term_places (map (operand_with go) ts)) (term_places ts) ≡ at_each (term_places ts)
   of_terms [] = refl
   of_terms (t ∷ ts) = ap (λ r. Some (go t.expr t.expr) ∷ r) (of_terms ts)
 

@@ -9,7 +9,7 @@ use Rattle.gq_base.specs.declared.ArithOp.{ArithOp}
 use Rattle.gq_base.specs.declared.ArithOp.TheVariants as arith
 use Rattle.gq_base.specs.declared.CompareOp.{CompareOp}
 use Rattle.gq_base.specs.declared.CompareOp.TheVariants as compare
-use Rattle.gq_expr.specs.declared.Bound.{Bound}
+use Rattle.gq_expr.specs.declared.Operand.{Operand}
 use Rattle.gq_expr.specs.declared.Expr.{Expr, Expr-F, out-Expr}
 use Rattle.gq_expr.specs.declared.Expr.TheVariants as expr
 use Rattle.gq_expr.specs.declared.Tester.{Tester}
@@ -39,10 +39,10 @@ arith_rank arith.Multiply = 2
 arith_rank arith.Divide = 3
 arith_rank arith.Remainder = 4
 
-abbrev pub same_compare : Bound CompareOp Expr → Bound CompareOp Expr → Bool
+abbrev pub same_compare : Operand CompareOp Expr → Operand CompareOp Expr → Bool
 same_compare t u = nat_eq (compare_rank t.op) (compare_rank u.op)
 
-abbrev pub same_arith : Bound ArithOp Expr → Bound ArithOp Expr → Bool
+abbrev pub same_arith : Operand ArithOp Expr → Operand ArithOp Expr → Bool
 same_arith t u = nat_eq (arith_rank t.op) (arith_rank u.op)
 
 -- tests are the same but for their operands

@@ -1,6 +1,6 @@
 -- The operands of an expression at one level, and what a walk over all its levels makes of it.
 use Rattle.std.specs.Prelude.{Option, Some, None, List, [], ◌∷◌, map}
-use Rattle.gq_expr.specs.declared.Bound.{Bound}
+use Rattle.gq_expr.specs.declared.Operand.{Operand}
 use Rattle.gq_expr.specs.declared.Expr.{Expr, Expr-F, out-Expr, fold-Expr}
 use Rattle.gq_expr.specs.declared.Tester.{Tester}
 use Rattle.gq_expr.specs.declared.Tester.TheVariants as tester
@@ -17,7 +17,7 @@ test_operand (tester.Contains e) = Some e
 abbrev pub list_places : {A : Type 0} → List A → List (Option A)
 list_places es = map (λ e. Some e) es
 
-abbrev pub term_places : {O A : Type 0} → List (Bound O A) → List (Option A)
+abbrev pub term_places : {O A : Type 0} → List (Operand O A) → List (Option A)
 term_places ts = map (λ t. Some t.expr) ts
 
 abbrev pub test_places : {A : Type 0} → List (Tester A) → List (Option A)

@@ -5,7 +5,7 @@ use Rattle.std.specs.Option.{option_and_then, option_map}
 use Rattle.std.specs.Str.{str_eq_ignore_ascii_case, str_to_ascii_lowercase}
 use Rattle.gq_base.specs.Lists.{each}
 use Rattle.gq_base.specs.declared.Literal.TheVariants as literal
-use Rattle.gq_expr.specs.declared.Bound.{Bound}
+use Rattle.gq_expr.specs.declared.Operand.{Operand}
 use Rattle.gq_expr.specs.declared.Expr.{Expr}
 use Rattle.gq_expr.specs.declared.Expr.TheVariants as expr
 use Rattle.gq_expr.specs.declared.Tester.{Tester}
@@ -58,7 +58,7 @@ abbrev pub all_some : {A : Type 0} → List (Option A) → Option (List A)
 all_some xs = each (λ x. x) xs
 
 -- an operator with its operand, where that is known
-abbrev pub bound_term : {O : Type 0} → Term O (Option Expr) → Option (Bound O Expr)
+abbrev pub bound_term : {O : Type 0} → Term O (Option Expr) → Option (Operand O Expr)
 bound_term t = option_map (λ e. record { op = t.op; expr = e }) t.tree
 
 abbrev pub bound_tester : Tested (Option Expr) → Option (Tester Expr)

@@ -5,7 +5,7 @@ ghost use Rattle.gq_expr.specs.declared.Expr.{out-Expr};
 ghost use Rattle.gq_trees.specs.Operands as operands;
 ghost use Rattle.gq_trees.specs.Operands.{places, list_places, term_places, test_places};
 
-use gq_expr::{Bound, BoundTester, Expr, Tester};
+use gq_expr::{Operand, ExprTester, Expr, Tester};
 
 /// How many places an expression has for operands.
 pub fn place_count(expr: &Expr) -> usize
@@ -49,7 +49,7 @@ fn operand_of_list(all: &[Expr], place: usize) -> Option<&Expr>
 #[tactic(auto, using(crate::proofs::Walks::at_place))]
 fn operand_of_terms<'e, O>(
     first: &'e Expr,
-    terms: &'e [Bound<O, Expr>],
+    terms: &'e [Operand<O, Expr>],
     place: usize,
 ) -> Option<&'e Expr>
     ensures { option_copied result ≡ get_or (Some first.now ∷ term_places terms.now) place None }
@@ -66,7 +66,7 @@ fn operand_of_terms<'e, O>(
 #[tactic(auto, using(crate::proofs::Walks::at_place))]
 fn operand_of_tests<'e>(
     first: &'e Expr,
-    testers: &'e [BoundTester],
+    testers: &'e [ExprTester],
     place: usize,
 ) -> Option<&'e Expr>
     ensures { option_copied result ≡ get_or (Some first.now ∷ test_places testers.now) place None }
@@ -80,7 +80,7 @@ fn operand_of_tests<'e>(
     }
 }
 
-fn test_operand(tester: &BoundTester) -> Option<&Expr>
+fn test_operand(tester: &ExprTester) -> Option<&Expr>
     ensures { option_copied result ≡ operands.test_operand tester.now }
 {
     match tester {

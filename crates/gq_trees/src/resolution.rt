@@ -5,7 +5,7 @@ ghost use Rattle.gq_trees.specs.steps.Trees.{term_with, tester_with};
 
 use crate::calls::{CallForm, call};
 use gq_base::{Boxed, List, Memory};
-use gq_expr::{Bound, BoundArith, BoundCompare, BoundTester, Expr, Tester};
+use gq_expr::{Operand, ArithOperand, CompareOperand, ExprTester, Expr, Tester};
 use gq_scopes::{Copying, Scope, copy_literal, copy_literals};
 use gq_syntax::{ArithTerm, Ast, AstNode, AstTester, CompareTerm, Tester as Tested};
 use std::alloc::Global;
@@ -135,14 +135,14 @@ impl<'r, 's> Resolver<'r, 's> {
         &self,
         copying: &mut Copying,
         terms: &[CompareTerm],
-    ) -> Result<Option<List<BoundCompare>>, Memory>
+    ) -> Result<Option<List<CompareOperand>>, Memory>
         ensures { let go = resolved (calls_of self.now.calls) self.now.scope.now in
             IfOk result (λ ts. ts ≡ all_some (map bound_term (map (term_with go) terms.now))) }
     {
         let mut all = List::new(self.alloc);
         for term in terms {
             match self.part(copying, &term.tree)? {
-                Some(expr) => all.push(Bound { op: term.op, expr })?,
+                Some(expr) => all.push(Operand { op: term.op, expr })?,
                 None => return Ok(None),
             }
         }
@@ -155,14 +155,14 @@ impl<'r, 's> Resolver<'r, 's> {
         &self,
         copying: &mut Copying,
         terms: &[ArithTerm],
-    ) -> Result<Option<List<BoundArith>>, Memory>
+    ) -> Result<Option<List<ArithOperand>>, Memory>
         ensures { let go = resolved (calls_of self.now.calls) self.now.scope.now in
             IfOk result (λ ts. ts ≡ all_some (map bound_term (map (term_with go) terms.now))) }
     {
         let mut all = List::new(self.alloc);
         for term in terms {
             match self.part(copying, &term.tree)? {
-                Some(expr) => all.push(Bound { op: term.op, expr })?,
+                Some(expr) => all.push(Operand { op: term.op, expr })?,
                 None => return Ok(None),
             }
         }
@@ -175,7 +175,7 @@ impl<'r, 's> Resolver<'r, 's> {
         &self,
         copying: &mut Copying,
         testers: &[AstTester],
-    ) -> Result<Option<List<BoundTester>>, Memory>
+    ) -> Result<Option<List<ExprTester>>, Memory>
         ensures { let go = resolved (calls_of self.now.calls) self.now.scope.now in
             IfOk result (λ ts. ts
             ≡ all_some (map bound_tester (map (tester_with go) testers.now))) }

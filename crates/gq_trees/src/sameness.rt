@@ -8,7 +8,7 @@ ghost use Rattle.gq_trees.specs.MadeOf.{same_arith, same_compare, same_expr};
 
 use crate::operands::{operand, place_count};
 use gq_base::{ArithOp, CompareOp, Literal, Value, same as same_value};
-use gq_expr::{BoundArith, BoundCompare, BoundTester, Expr, Tester};
+use gq_expr::{ArithOperand, CompareOperand, ExprTester, Expr, Tester};
 
 /// Whether two expressions are the same.
 #[tactic(auto, using(crate::proofs::Walks::sameness))]
@@ -83,7 +83,7 @@ fn same_head(expr: &Expr, other: &Expr) -> bool
     }
 }
 
-fn same_compares(terms: &[BoundCompare], others: &[BoundCompare]) -> bool
+fn same_compares(terms: &[CompareOperand], others: &[CompareOperand]) -> bool
     ensures { result ≡ pointwise same_compare terms.now others.now }
 {
     for (at, term) in terms.iter().enumerate() {
@@ -95,7 +95,7 @@ fn same_compares(terms: &[BoundCompare], others: &[BoundCompare]) -> bool
     others.len() <= terms.len()
 }
 
-fn same_ariths(terms: &[BoundArith], others: &[BoundArith]) -> bool
+fn same_ariths(terms: &[ArithOperand], others: &[ArithOperand]) -> bool
     ensures { result ≡ pointwise same_arith terms.now others.now }
 {
     for (at, term) in terms.iter().enumerate() {
@@ -107,7 +107,7 @@ fn same_ariths(terms: &[BoundArith], others: &[BoundArith]) -> bool
     others.len() <= terms.len()
 }
 
-fn same_tests(testers: &[BoundTester], others: &[BoundTester]) -> bool
+fn same_tests(testers: &[ExprTester], others: &[ExprTester]) -> bool
     ensures { result ≡ pointwise made.same_test testers.now others.now }
 {
     for (at, tester) in testers.iter().enumerate() {
@@ -119,7 +119,7 @@ fn same_tests(testers: &[BoundTester], others: &[BoundTester]) -> bool
     others.len() <= testers.len()
 }
 
-fn same_test(tester: &BoundTester, other: &BoundTester) -> bool
+fn same_test(tester: &ExprTester, other: &ExprTester) -> bool
     ensures { result ≡ made.same_test tester.now other.now }
 {
     match tester {

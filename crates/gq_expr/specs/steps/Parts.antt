@@ -1,12 +1,12 @@
 -- The parts of an expression's lists, with an answer in the place of each operand.
-use Rattle.gq_expr.specs.declared.expr.Bound.{Bound}
+use Rattle.gq_expr.specs.declared.expr.Operand.{Operand}
 use Rattle.gq_expr.specs.declared.expr.Expr.{Expr}
 use Rattle.gq_expr.specs.declared.expr.Tester.{Tester}
 use Rattle.gq_expr.specs.declared.expr.Tester.TheVariants as tester
 
 -- an operator with the answer of its operand
-abbrev pub bound_with : {O A : Type 0} → (Expr → A) → Bound O Expr → Bound O A
-bound_with go t = record { op = t.op; expr = go t.expr }
+abbrev pub operand_with : {O A : Type 0} → (Expr → A) → Operand O Expr → Operand O A
+operand_with go t = record { op = t.op; expr = go t.expr }
 
 -- a test with the answer of its operand, if it has one
 abbrev pub tester_with : {A : Type 0} → (Expr → A) → Tester Expr → Tester A

@@ -2,7 +2,7 @@ use Rattle.std.proofs.Common.{◌≡◌, drop, map, Some, true}
 use Rattle.gq_base.specs.Values.{val, null}
 use Rattle.gq_expr.specs.Operators.{Outcome}
 use Rattle.gq_expr.specs.Meaning.{meaning, logic_all, logic_chain, coalesce_all, compare_chain, arith_chain, test_chain}
-use Rattle.gq_expr.specs.steps.Parts.{bound_with, tester_with}
+use Rattle.gq_expr.specs.steps.Parts.{operand_with, tester_with}
 use Rattle.gq_expr.specs.declared.expr.Expr.{Expr}
 use Rattle.gq_expr.proofs.evaluate.+eval.Given as goal
 
@@ -19,7 +19,7 @@ invariant-eval_coalesce-loop-part g l =
 abbrev pub invariant-eval_compares-loop-term : goal.invariant-eval_compares-loop-term
 invariant-eval_compares-loop-term g l =
     let go : Expr → Outcome = meaning (g.G.Reads.graph l.graph) (g.R.Assigned.assignment l.row) in
-    compare_chain l.truth (val l.before) (map (bound_with go) (drop l.term-index l.terms)) ≡ compare_chain (Some true) (val l.first) (map (bound_with go) l.terms)
+    compare_chain l.truth (val l.before) (map (operand_with go) (drop l.term-index l.terms)) ≡ compare_chain (Some true) (val l.first) (map (operand_with go) l.terms)
 
 abbrev pub invariant-eval_tests-loop-tester : goal.invariant-eval_tests-loop-tester
 invariant-eval_tests-loop-tester g l =
@@ -29,4 +29,4 @@ invariant-eval_tests-loop-tester g l =
 abbrev pub invariant-eval_ariths-loop-term : goal.invariant-eval_ariths-loop-term
 invariant-eval_ariths-loop-term g l =
     let go : Expr → Outcome = meaning (g.G.Reads.graph l.graph) (g.R.Assigned.assignment l.row) in
-    arith_chain (val l.value) (map (bound_with go) (drop l.term-index l.terms)) ≡ arith_chain (val l.first) (map (bound_with go) l.terms)
+    arith_chain (val l.value) (map (operand_with go) (drop l.term-index l.terms)) ≡ arith_chain (val l.first) (map (operand_with go) l.terms)
