@@ -2,7 +2,7 @@
 use Rattle.std.proofs.Common.{◌≡◌, ℕ, zero, suc, ◌+◌, arith, not, Bool, true, false, ◌&&◌, ◌||◌, nat_eq, Option, Some, None, List, [], ◌∷◌, map, filter, flat_map, slice_get, refl, sym, ap, ap₂, ◌∙◌, true≢false, zero-add, ◌++◌}
 use Rattle.std.specs.List.{AllByRecursion, list_any}
 use Rattle.std.specs.Option.{option_map}
-use Rattle.std.proofs.Math.Bool.{and-false}
+use Rattle.std.proofs.Math.Bool.{and-false, or-true}
 use Rattle.std.proofs.lemmas.Bool.{and_parts, and_from, eqb-true, eq-eqb}
 use Rattle.std.proofs.lemmas.List.Folds.{flat_map-map}
 use Rattle.gq_base.specs.Catalogs.{Tables}
@@ -19,16 +19,12 @@ of_lists [] (t ∷ ts) = false
 of_lists (xs ∷ xss) [] = false
 of_lists (xs ∷ xss) (t ∷ ts) = list_any (λ u. nat_eq u t) xs && of_lists xss ts
 
-either_way : (b : Bool) → (b || true) ≡ true
-either_way true = refl
-either_way false = refl
-
 -- each item of a list is one of it
 each_member : (xs : List ℕ) → AllByRecursion (λ t. list_any (λ u. nat_eq u t) xs ≡ true) xs
 each_member [] = tt
 each_member (x ∷ xs) = (
   ap (λ b. b || list_any (λ u. nat_eq u x) xs) (eq-eqb x x refl),
-  each_then (λ t. list_any (λ u. nat_eq u t) xs ≡ true) (λ t. (nat_eq x t || list_any (λ u. nat_eq u t) xs) ≡ true) (λ t h. ap (λ b. nat_eq x t || b) h ∙ either_way (nat_eq x t)) xs (each_member xs),
+  each_then (λ t. list_any (λ u. nat_eq u t) xs ≡ true) (λ t. (nat_eq x t || list_any (λ u. nat_eq u t) xs) ≡ true) (λ t h. ap (λ b. nat_eq x t || b) h ∙ or-true (nat_eq x t)) xs (each_member xs),
 )
 
 each_of_lists : (xss : List (List ℕ)) → AllByRecursion (λ ts. of_lists xss ts ≡ true) (one_of_each xss)
@@ -133,7 +129,7 @@ each_candidate : (rs : List Reading) → AllByRecursion (λ c. (q : Reading → 
 each_candidate [] = tt
 each_candidate (r ∷ rs) = (
   λ q e. ap (λ b. b || list_any q rs) e,
-  each_then (λ c. (q : Reading → Bool) → q c ≡ true → list_any q rs ≡ true) (λ c. (q : Reading → Bool) → q c ≡ true → (q r || list_any q rs) ≡ true) (λ c h q e. ap (λ b. q r || b) (h q e) ∙ either_way (q r)) rs (each_candidate rs),
+  each_then (λ c. (q : Reading → Bool) → q c ≡ true → list_any q rs ≡ true) (λ c. (q : Reading → Bool) → q c ≡ true → (q r || list_any q rs) ≡ true) (λ c h q e. ap (λ b. q r || b) (h q e) ∙ or-true (q r)) rs (each_candidate rs),
 )
 
 each_chosen : (ss : List Step) → AllByRecursion (Chosen ss) (one_of_each (map (λ s. s.readings) ss))

@@ -1,5 +1,7 @@
 -- The alternatives of a query have no match in common, and together they have all its matches.
 use Rattle.std.proofs.Common.{◌≡◌, ℕ, zero, suc, ◌+◌, ◌<◌, Bool, true, false, not, ◌&&◌, ◌||◌, cond, nat_eq, Option, Some, None, List, [], ◌∷◌, map, filter, flat_map, length, slice_get, IsPermutation, if◌then◌else◌, refl, sym, ap, ap₂, ◌∙◌, subst, arith, true≢false}
+use Rattle.gq_base.proofs.BoolLaws.{and_pairs}
+use Rattle.std.proofs.Math.Bool.{and-true, and-false}
 use Rattle.std.specs.List.{range_with_len, AllByRecursion, list_all}
 use Rattle.std.specs.Option.{option_map}
 use Rattle.std.proofs.lemmas.Bool.{eqb-true, lt-ltb, and_parts, and_from}
@@ -198,18 +200,14 @@ module _ (g : Graph) (t : Assignment) (ks : List ℕ) (tables : in_tables ks t.n
 
 -- ---- what a choice demands, as its alternative demands it
 
-and_true : (b : Bool) → b ≡ (b && true)
-and_true true = refl
-and_true false = refl
-
 -- a way that the arrow allows, with its ends, and no self-loop where none is wanted
 way_is : (g : Graph) (way : Arrow) (l q : Option NodeId) (b : Bool) (r : RelId)
     → read_by g way l q b r ≡ (allows way b && (leads g (if b then q else l) (if b then l else q) r && (not (b && is_either way) || not (at_same (if b then q else l) (if b then l else q)))))
-way_is g arrow.Right l q false r = and_true (leads g l q r)
+way_is g arrow.Right l q false r = sym (and-true (leads g l q r))
 way_is g arrow.Right l q true r = refl
 way_is g arrow.Left l q false r = refl
-way_is g arrow.Left l q true r = and_true (leads g q l r)
-way_is g arrow.Either l q false r = and_true (leads g l q r)
+way_is g arrow.Left l q true r = sym (and-true (leads g q l r))
+way_is g arrow.Either l q false r = sym (and-true (leads g l q r))
 way_is g arrow.Either l q true r = refl
 
 regroup : (e a l n h s : Bool) → (e ≡ true → h ≡ true) → (e ≡ true → l ≡ true → s ≡ true) → (e && (a && (l && n))) ≡ ((e && (l && n)) && ((h && a) && s))
@@ -222,16 +220,6 @@ regroup true true true true true true f k = refl
 regroup true true true false true true f k = refl
 regroup true false true true true true f k = refl
 regroup true false true false true true f k = refl
-
-pairwise : (a b c d : Bool) → ((a && b) && (c && d)) ≡ ((a && c) && (b && d))
-pairwise true true c d = refl
-pairwise true false true d = refl
-pairwise true false false d = refl
-pairwise false b c d = refl
-
-last_false : (a : Bool) → (a && false) ≡ false
-last_false true = refl
-last_false false = refl
 
 module _ (g : Graph) (t : Assignment) where
   module _ (ks : List ℕ) (tables : in_tables ks t.nodes ≡ true) where
@@ -261,13 +249,13 @@ module _ (g : Graph) (t : Assignment) where
         → in_readings g t ps cs rs ≡ (rels_lie g t (typed_rels ps cs) rs && readings_agree g.catalog ks ps cs)
     readings_are [] [] [] h = refl
     readings_are [] [] (r ∷ rs) h = refl
-    readings_are [] (c ∷ cs) rs h = sym (last_false (rels_lie g t [] rs))
-    readings_are (p ∷ ps) [] rs h = sym (last_false (rels_lie g t [] rs))
+    readings_are [] (c ∷ cs) rs h = sym (and-false (rels_lie g t [] rs))
+    readings_are (p ∷ ps) [] rs h = sym (and-false (rels_lie g t [] rs))
     readings_are (p ∷ ps) (c ∷ cs) [] h = refl
     readings_are (p ∷ ps) (c ∷ cs) (r ∷ rs) h =
         let parts = and_parts (rel_holds g t p r) (rels_hold g t ps rs) h in
         ap₂ ◌&&◌ (reading_is p c.reversed c.table r parts.0) (readings_are ps cs rs parts.1)
-        ∙ pairwise (rel_lies g t (typed_rel p c) r) (reading_agrees g.catalog ks p c) (rels_lie g t (typed_rels ps cs) rs) (readings_agree g.catalog ks ps cs)
+        ∙ and_pairs (rel_lies g t (typed_rel p c) r) (reading_agrees g.catalog ks p c) (rels_lie g t (typed_rels ps cs) rs) (readings_agree g.catalog ks ps cs)
 
   -- for a match, a choice is chosen where it agrees with the catalogue and the match lies in its alternative
   chosen_is : (p : Pattern) (c : Choice) → list_all (label_holds g t) p.nodes ≡ true → rels_hold g t p.rels t.rels ≡ true
@@ -277,11 +265,11 @@ module _ (g : Graph) (t : Assignment) where
       go : (b : Bool) → in_tables c.tables t.nodes ≡ b
           → ((b && rels_lie g t (typed_rels p.rels c.readings) t.rels) && (list_all (label_agrees g.catalog c.tables) p.nodes && readings_agree g.catalog c.tables p.rels c.readings))
           ≡ (in_readings g t p.rels c.readings t.rels && b)
-      go false e = sym (last_false (in_readings g t p.rels c.readings t.rels))
+      go false e = sym (and-false (in_readings g t p.rels c.readings t.rels))
       go true e =
           ap (λ d. rels_lie g t (typed_rels p.rels c.readings) t.rels && (d && readings_agree g.catalog c.tables p.rels c.readings)) (labels_agree g t c.tables e p.nodes labels)
           ∙ sym (readings_are c.tables e p.rels c.readings t.rels holds)
-          ∙ and_true (in_readings g t p.rels c.readings t.rels)
+          ∙ sym (and-true (in_readings g t p.rels c.readings t.rels))
 
 -- ---- the law
 

@@ -1,5 +1,6 @@
 -- The search finds the alternatives of patterns, in their order.
 use Rattle.std.proofs.Common.{◌≡◌, ℕ, zero, suc, ◌+◌, ◌<◌, Bool, true, false, not, ◌&&◌, ◌||◌, cond, nat_eq, nat_lt, Option, Some, None, List, [], ◌∷◌, ◌++◌, map, filter, flat_map, length, slice_get, slice_set, refl, sym, ap, ap₂, ◌∙◌, subst, arith, true≢false, append_assoc, append-nil, zero-add}
+use Rattle.gq_base.proofs.BoolLaws.{and_pairs}
 use Rattle.std.specs.List.{range_with_len, AllByRecursion, list_all, list_any}
 use Rattle.std.specs.Option.{option_map}
 use Rattle.std.proofs.Math.Bool.{and-true, and-false, and_assoc}
@@ -117,12 +118,6 @@ module _ {X : Type 0} where
 
 -- ---- labels
 
-and_trade : (a b c d : Bool) → ((a && b) && (c && d)) ≡ ((a && c) && (b && d))
-and_trade true true c d = refl
-and_trade true false true d = refl
-and_trade true false false d = refl
-and_trade false b c d = refl
-
 module _ {X : Type 0} where
   all_fit_true : (a : ℕ) (xs : List X) → all_fit (λ v x. true) a xs ≡ true
   all_fit_true a [] = refl
@@ -130,7 +125,7 @@ module _ {X : Type 0} where
 
   all_fit_both : (f h : ℕ → X → Bool) (a : ℕ) (xs : List X) → all_fit (λ v x. f v x && h v x) a xs ≡ (all_fit f a xs && all_fit h a xs)
   all_fit_both f h a [] = refl
-  all_fit_both f h a (x ∷ xs) = ap (λ b. (f a x && h a x) && b) (all_fit_both f h (a + 1) xs) ∙ and_trade (f a x) (h a x) (all_fit f (a + 1) xs) (all_fit h (a + 1) xs)
+  all_fit_both f h a (x ∷ xs) = ap (λ b. (f a x && h a x) && b) (all_fit_both f h (a + 1) xs) ∙ and_pairs (f a x) (h a x) (all_fit f (a + 1) xs) (all_fit h (a + 1) xs)
 
   -- a test of the items at one place
   all_fit_past : (q : X → Bool) (k a : ℕ) (xs : List X) → k < a → all_fit (λ v x. not (nat_eq k v) || q x) a xs ≡ true

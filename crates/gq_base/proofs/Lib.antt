@@ -1,3 +1,4 @@
+pub mod BoolLaws
 pub mod ListFacts
 pub mod ListLaws
 pub mod OptionLaws

@@ -1,5 +1,6 @@
 -- The places of numbers in an order of all numbers.
 use Rattle.std.proofs.Common.{◌≡◌, ◌≢◌, ℕ, zero, suc, ◌+◌, ◌<◌, ◌≤◌, ◌⊎◌, Bool, true, false, List, [], ◌∷◌, ◌++◌, length, get_or, set, eqb, eq-eqb, refl, sym, ap, ◌∙◌, subst, arith, inl, inr}
+use Rattle.std.proofs.Math.Bool.{or-true}
 use Rattle.std.specs.Prelude.{◌||◌, All}
 use Rattle.std.specs.List.{concat, list_any, range_with_len}
 use Rattle.std.proofs.lemmas.Bool.{cases_eq}
@@ -91,11 +92,7 @@ here : (q x : ℕ) (xs : List ℕ) → x ≡ q → (eqb q x || list_any (eqb q) 
 here q x xs e = rw (eq-eqb q x (sym e)) refl
 
 later : (q x : ℕ) (xs : List ℕ) → list_any (eqb q) xs ≡ true → (eqb q x || list_any (eqb q) xs) ≡ true
-later q x xs e = rw e (or_true (eqb q x))
-  where
-    or_true : (b : Bool) → (b || true) ≡ true
-    or_true true = refl
-    or_true false = refl
+later q x xs e = rw e (or-true (eqb q x))
 
 stands : (xs : List ℕ) (at q : ℕ) → at < length xs → get_or xs at 0 ≡ q → list_any (eqb q) xs ≡ true
 stands [] at q h e = absurd (omega arith)

@@ -1,5 +1,6 @@
 -- The alternatives of a bound query part its outcomes, and the builds of a plan tell whether a part is too large.
 use Rattle.std.proofs.Common.{◌≡◌, ℕ, Bool, true, false, not, ◌&&◌, ◌||◌, List, [], ◌∷◌, length, map, IsTrue, refl, sym, ap, ap₂, ◌∙◌, arith, true≢false, Err, inl}
+use Rattle.std.proofs.lemmas.Bool.{not-true, not-false}
 use Rattle.std.specs.Prelude.{nat_lt, nat_le}
 use Rattle.std.specs.List.{AllZip, list_all, list_any}
 use Rattle.std.proofs.lemmas.List.{length-map}
@@ -82,19 +83,11 @@ module _ (g : Graph) (by : Order) (y : Typed) (most : ℕ) where
 
   pub sides_light : (p : Plan) → IsTrue (is_valid g) → IsSound g.catalog y → AllZip (IsSide g.catalog y) (parts_by by y) (sides p) → list_all is_flat (sides p) ≡ true
       → sides_within g y most p ≡ true → has_large_part g by most y ≡ false
-  sides_light p real sound are flat few = flipped (has_large_part g by most y) (sym (sides_tell p real sound are flat) ∙ few)
-    where
-      flipped : (b : Bool) → not b ≡ true → b ≡ false
-      flipped true e = absurd (true≢false (sym e))
-      flipped false e = refl
+  sides_light p real sound are flat few = not-true (has_large_part g by most y) (sym (sides_tell p real sound are flat) ∙ few)
 
   pub sides_heavy : (p : Plan) → IsTrue (is_valid g) → IsSound g.catalog y → AllZip (IsSide g.catalog y) (parts_by by y) (sides p) → list_all is_flat (sides p) ≡ true
       → sides_within g y most p ≡ false → has_large_part g by most y ≡ true
-  sides_heavy p real sound are flat many = flipped (has_large_part g by most y) (sym (sides_tell p real sound are flat) ∙ many)
-    where
-      flipped : (b : Bool) → not b ≡ false → b ≡ true
-      flipped true e = refl
-      flipped false e = absurd (true≢false e)
+  sides_heavy p real sound are flat many = not-false (has_large_part g by most y) (sym (sides_tell p real sound are flat) ∙ many)
 
 -- a part is too large where the builds of a plan are refused for their rows
 pub sides_refused : (g : Graph) (by : Order) (y : Typed) (b : Bound) (old new : Table) (p : Plan) → IsTrue (is_valid g) → IsSound g.catalog y → AllZip (IsSide g.catalog y) (parts_by by y) (sides p)

@@ -1,5 +1,7 @@
 -- What is answered at each step of a query is a permitted reply.
 use Rattle.std.proofs.Common.{◌≡◌, ℕ, ◌+◌, ◌<◌, ◌≤◌, Bool, true, false, ◌&&◌, ◌||◌, Option, Some, None, List, [], ◌∷◌, ◌++◌, flat_map, length, Result, Err, refl, sym, ap, ap₂, ◌∙◌, subst, arith, add-zero, append_assoc, append-nil, length-append, inl, inr}
+use Rattle.std.proofs.lemmas.Bool.{or_from, and_right}
+use Rattle.std.proofs.Math.Bool.{or-true, or_assoc}
 use Rattle.std.specs.Prelude.{◌⊎◌, nat_lt}
 use Rattle.std.specs.List.{Contains}
 use Rattle.std.specs.List.Sorted.{IsPermutation}
@@ -23,21 +25,6 @@ pub rows_bag : (xs ys : List (Result Row Fault)) → IsPermutation xs ys → len
 rows_bag xs ys same = sym (length_permutation _ _ (permuted_flat_map row_in xs ys same))
 
 -- ---- heavy alternatives
-
-or_true : (b : Bool) → (b || true) ≡ true
-or_true true = refl
-or_true false = refl
-
-or_none : (b c : Bool) → b ≡ false → c ≡ false → (b || c) ≡ false
-or_none b c e f = rw (e, f) refl
-
-or_assoc : (b c d : Bool) → ((b || c) || d) ≡ (b || (c || d))
-or_assoc true c d = refl
-or_assoc false c d = refl
-
-and_none : (b c : Bool) → c ≡ false → (b && c) ≡ false
-and_none true c e = e
-and_none false c e = refl
 
 module _ (a : Question) where
   -- the rows of alternatives, together
@@ -65,7 +52,7 @@ module _ (a : Question) where
   light_behind : (n before : ℕ) (ys : List Typed) → cut_of a.bound ≡ Some n → n ≤ before → some_heavy a before ys ≡ false
   light_behind n before [] e h = refl
   light_behind n before (y ∷ ys) e h =
-      or_none _ _ (ap (λ b. b && has_large_part a.graph a.order a.most y) (no_turn n before e h)) (light_behind n (before + length (rows_in (outcomes_in a y))) ys e (omega arith))
+      or_from _ _ (ap (λ b. b && has_large_part a.graph a.order a.most y) (no_turn n before e h)) (light_behind n (before + length (rows_in (outcomes_in a y))) ys e (omega arith))
 
   has_turn_of : (cut : Option ℕ) (before : ℕ) → ((n : ℕ) → cut ≡ Some n → before < n) → has_turn cut before ≡ true
   has_turn_of None before h = refl
@@ -89,7 +76,7 @@ module _ (a : Question) where
         (subst (λ l. IsPermutation l os) (sym (append-nil (outcomes_in a y))) gives));
     light =
         heavy_append 0 begun (y ∷ [])
-        ∙ or_none _ _ at.light (or_none _ _ (and_none (has_turn (cut_of a.bound) (0 + rows_of begun)) (has_large_part a.graph a.order a.most y) light) refl);
+        ∙ or_from _ _ at.light (or_from _ _ (and_right (has_turn (cut_of a.bound) (0 + rows_of begun)) (has_large_part a.graph a.order a.most y) light) refl);
   }
 
   -- a front of what is left is pushed
@@ -148,7 +135,7 @@ module _ (a : Question) (parted : AreParted a) (begun later : List Typed) (pushe
   light_by : (cut : Option ℕ) → cut_of a.bound ≡ cut → (held : Held) → StandsFor a.bound a.most pushed held → is_full (cut_of a.bound) held ≡ true → some_heavy a 0 (begun ++ later) ≡ false
   light_by None e held stands full = absurd (let no : false ≡ true = sym (ap (λ c. is_full c held) e) ∙ full in cc)
   light_by (Some n) e held stands full =
-      heavy_append a 0 begun later ∙ or_none _ _ at.light (light_behind a n (0 + rows_of a begun) later e (omega (arith, turns_end held stands full n e)))
+      heavy_append a 0 begun later ∙ or_from _ _ at.light (light_behind a n (0 + rows_of a begun) later e (omega (arith, turns_end held stands full n e)))
 
   light_all : (held : Held) → StandsFor a.bound a.most pushed held → (is_full (cut_of a.bound) held ≡ true) ⊎ ((left ≡ []) × (later ≡ [])) → some_heavy a 0 (begun ++ later) ≡ false
   light_all held stands (inl full) = light_by (cut_of a.bound) refl held stands full
@@ -175,7 +162,7 @@ module _ (a : Question) (parted : AreParted a) (begun later : List Typed) (pushe
     listing = listing;
     as_a_bag = listing_bag;
     permits = (
-      or_none _ _ (few_kept a.most (kept a.bound (rows_in listing)) (kept_few a.bound a.most pushed held stands behind (rest_of held done))) (ap (some_heavy a 0) are ∙ light_all held stands done),
+      or_from _ _ (few_kept a.most (kept a.bound (rows_in listing)) (kept_few a.bound a.most pushed held stands behind (rest_of held done))) (ap (some_heavy a 0) are ∙ light_all held stands done),
       record { rows = answers.rows; looked = same_looked held stands done ∙ answers.looked; lists = answers.lists },
     );
   }
@@ -186,7 +173,7 @@ pub heavy_permitted : (a : Question) → AreParted a → (begun later : List Typ
 heavy_permitted a parted begun later y pushed held are at stands room heavy = record {
   listing = listing a parted begun (y ∷ later) pushed [] are at;
   as_a_bag = listing_bag a parted begun (y ∷ later) pushed [] are at;
-  permits = ap (λ b. nat_lt a.most (kept a.bound (rows_in (listing a parted begun (y ∷ later) pushed [] are at))) || b) (ap (some_heavy a 0) are ∙ heavy_append a 0 begun (y ∷ later) ∙ here) ∙ or_true _;
+  permits = ap (λ b. nat_lt a.most (kept a.bound (rows_in (listing a parted begun (y ∷ later) pushed [] are at))) || b) (ap (some_heavy a 0) are ∙ heavy_append a 0 begun (y ∷ later) ∙ here) ∙ or-true _;
 }
   where
     here : (some_heavy a 0 begun || some_heavy a (0 + rows_of a begun) (y ∷ later)) ≡ true
@@ -194,4 +181,4 @@ heavy_permitted a parted begun later y pushed held are at stands room heavy = re
         let zero_rows : 0 + rows_of a begun ≡ rows_of a begun = omega arith in
         ap (λ b. some_heavy a 0 begun || (b || some_heavy a (0 + rows_of a begun + length (rows_in (outcomes_in a y))) later))
         (ap₂ ◌&&◌ (ap (has_turn (cut_of a.bound)) zero_rows ∙ turn_comes a parted begun (y ∷ later) pushed [] are at held stands room refl) heavy)
-        ∙ or_true (some_heavy a 0 begun)
+        ∙ or-true (some_heavy a 0 begun)

@@ -1,5 +1,6 @@
 -- Nodes and relationships of tables, counted against an assignment; which demands it meets, and which partial assignments it extends.
 use Rattle.std.proofs.Common.{◌≡◌, ℕ, Bool, true, false, ◌&&◌, cond, nat_eq, nat_lt, Option, Some, None, List, length, slice_get, refl, sym, ap, ap₂, ◌∙◌, arith, zero-add, true≢false}
+use Rattle.gq_base.proofs.BoolLaws.{and_pairs}
 use Rattle.std.specs.List.{range_with_len, list_all}
 use Rattle.std.proofs.Math.Bool.{and_assoc}
 use Rattle.std.proofs.lemmas.Bool.{eqb-true, and_parts}
@@ -116,11 +117,7 @@ extends_with_rel x r a t = and_swap (nodes_in t a.nodes) (is_rel_at (slice_get t
 
 pub extends_with_all : (b a : Partial) (t : Assignment) → extends (with_all b a) t ≡ (extends b t && extends a t)
 extends_with_all b a t =
-    ap₂ ◌&&◌ (list_all-append _ b.nodes a.nodes) (list_all-append _ b.rels a.rels) ∙ go (nodes_in t b.nodes) (nodes_in t a.nodes) (rels_in t b.rels) (rels_in t a.rels)
-  where
-    go : (p q r s : Bool) → ((p && q) && (r && s)) ≡ ((p && r) && (q && s))
-    go true q r s = and_swap q r s
-    go false q r s = refl
+    ap₂ ◌&&◌ (list_all-append _ b.nodes a.nodes) (list_all-append _ b.rels a.rels) ∙ and_pairs (nodes_in t b.nodes) (nodes_in t a.nodes) (rels_in t b.rels) (rels_in t a.rels)
 
 pub known_by_all : (b a : Partial) → known_by (with_all b a) ≡ known.with_both (known_by b) (known_by a)
 known_by_all b a = λ i. record { nodes = λ v. bound_append b.nodes a.nodes v i; rels = λ x. bound_append b.rels a.rels x i }

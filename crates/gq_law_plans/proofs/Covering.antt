@@ -1,7 +1,7 @@
 -- The demands of a plan that its joins leave out are met all the same.
 use Rattle.std.proofs.Common.{◌≡◌, ℕ, Bool, true, false, not, ◌&&◌, ◌||◌, nat_eq, inl, inr, refl, sym, ap, ap₂, ◌∙◌, true≢false}
 use Rattle.std.specs.List.{list_all}
-use Rattle.std.proofs.lemmas.Bool.{eqb-true, and_parts, or_cases}
+use Rattle.std.proofs.lemmas.Bool.{eqb-true, and_parts, or_cases, not-false}
 use Rattle.std.proofs.lemmas.List.Folds.{list_all-append}
 use Rattle.gq_base.specs.Catalogs.{Tables}
 use Rattle.gq_plan.specs.Covers.{after, after_step, fits, fits_step, is_joined, is_key, placed, placed_step}
@@ -13,10 +13,6 @@ use Rattle.gq_plan.specs.declared.demand.Demand.TheVariants.{InTable, Joins, Pas
 use Rattle.gq_plan.specs.declared.typed.Typed.{Typed}
 use Rattle.gq_plan.proofs.Permuted.{all_dropped, all_numbers}
 use Rattle.gq_law_plans.proofs.PlanCounts.{placed_all, placed_all_step}
-
-not_not : (b : Bool) → not b ≡ false → b ≡ true
-not_not true e = refl
-not_not false e = absurd (true≢false e)
 
 -- the demands that joins leave out are met already
 module _ (catalog : Tables) (y : Typed) (met : Demand → Bool) where
@@ -72,7 +68,7 @@ module _ (catalog : Tables) (y : Typed) (met : Demand → Bool) where
         (kept (λ v e. before v (and_parts ((after side none).nodes v) (k.nodes v) (all_numbers (λ v. (after side none).nodes v && k.nodes v) ks keys.0 v e)).1)) (placed side))
       where
         kept : ((v : ℕ) → has_number ks v ≡ true → met (InTable v) ≡ true) → (d : Demand) → not (is_key ks d) ≡ false → met d ≡ true
-        kept known (InTable w) e = known w (not_not (has_number ks w) e)
+        kept known (InTable w) e = known w (not-false (has_number ks w) e)
         kept known (Joins x) e = absurd (true≢false e)
         kept known (Passes i) e = absurd (true≢false e)
         kept known (Differs p) e = absurd (true≢false e)

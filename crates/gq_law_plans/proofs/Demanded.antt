@@ -1,5 +1,6 @@
 -- What an alternative demands is what it allows of the assignments of a graph.
 use Rattle.std.proofs.Common.{◌≡◌, ℕ, zero, suc, ◌+◌, Bool, true, false, not, ◌&&◌, ◌||◌, nat_eq, Option, Some, None, List, [], ◌∷◌, ◌++◌, map, filter, length, slice_get, refl, ap, ap₂, ◌∙◌, arith, add-one}
+use Rattle.gq_base.proofs.BoolLaws.{and_pairs}
 use Rattle.std.specs.List.{range_with_len, list_all}
 use Rattle.std.proofs.lemmas.List.Folds.{list_all-append, list_all-map}
 use Rattle.gq_base.specs.Plain.{Graph}
@@ -44,12 +45,6 @@ range_beside p (x ∷ xs) (y ∷ ys) e =
     ap (λ b. p x (Some y) && b) (range_shift (λ k. holds (λ x. p x (slice_get (y ∷ ys) k)) (slice_get (x ∷ xs) k)) 0 (length xs) ∙ range_beside p xs ys (omega arith))
 
 -- ---- truth tables
-
-pairwise : (a b c d : Bool) → ((a && b) && (c && d)) ≡ ((a && c) && (b && d))
-pairwise true true c d = refl
-pairwise true false true d = refl
-pairwise true false false d = refl
-pairwise false b c d = refl
 
 rel_bits : (e r l n a b : Bool) → ((((e && r) && l) && n) && (a && b)) ≡ (((e && (l && n)) && a) && (r && b))
 rel_bits false r l n a b = refl
@@ -104,7 +99,7 @@ module _ (g : Graph) (y : Typed) (t : Assignment) where
   tables_are (k ∷ ks) [] = refl
   tables_are (k ∷ ks) (n ∷ ns) =
       ap (λ b. (nat_eq n.table k && is_node g n) && b) (tables_are ks ns)
-      ∙ pairwise (nat_eq n.table k) (is_node g n) (in_tables ks ns) (list_all (is_node g) ns)
+      ∙ and_pairs (nat_eq n.table k) (is_node g n) (in_tables ks ns) (list_all (is_node g) ns)
 
   rels_are : (ks : List TypedRel) (rs : List RelId) → beside demanded_rel ks rs ≡ (rels_lie g t ks rs && list_all (is_rel g) rs)
   rels_are [] [] = refl

@@ -3,7 +3,7 @@
 use Rattle.std.proofs.Common.{◌≡◌, ℕ, zero, suc, ◌+◌, ◌<◌, Bool, true, false, ◌||◌, nat_eq, Option, Some, None, List, [], ◌∷◌, map, length, slice_get, unwrap_or, refl, sym, ap, ◌∙◌, subst, arith, zero-add, true≢false}
 use Rattle.std.specs.List.{AllByRecursion, range_with_len, list_all, list_any}
 use Rattle.std.specs.Option.{option_map}
-use Rattle.std.proofs.lemmas.Bool.{eq-eqb, and_from}
+use Rattle.std.proofs.lemmas.Bool.{eq-eqb, and_from, or_right}
 use Rattle.std.proofs.lemmas.List.{length-map}
 use Rattle.std.proofs.lemmas.List.FromFn.{length-map-range_with_len}
 use Rattle.std.proofs.lemmas.List.Sorted.{length_permutation}
@@ -58,11 +58,7 @@ module _ {X : Type 0} (spare : X) (test : Option X → X → Bool) (test_self : 
   filled_has (d ∷ ds) h low =
       and_from (test (slice_get filled d.0) d.1) (list_all (λ b. test (slice_get filled b.0) b.1) ds)
       (ap (λ o. test o d.1) (filled_at d.0 (low d.0 (ap (λ b. b || bound ds d.0) (eq-eqb d.0 d.0 refl))) ∙ ap (λ o. Some (unwrap_or o spare)) h.0) ∙ test_self d.1)
-      (filled_has ds h.1 (λ v k. low v (or_back (nat_eq v d.0) (bound ds v) k)))
-    where
-      or_back : (a b : Bool) → b ≡ true → (a || b) ≡ true
-      or_back true b k = refl
-      or_back false b k = k
+      (filled_has ds h.1 (λ v k. low v (or_right (nat_eq v d.0) (bound ds v) k)))
 
   filled_spare : (v : ℕ) → v < n → bound bs v ≡ false → slice_get filled v ≡ Some spare
   filled_spare v low out = filled_at v low ∙ ap (λ o. Some (unwrap_or o spare)) (look_none bs v out)

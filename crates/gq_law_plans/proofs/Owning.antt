@@ -1,7 +1,7 @@
 -- What a plan binds it binds in one way: a look-up finds each binding, and what is bound is a variable of the alternative.
 use Rattle.std.proofs.Common.{◌≡◌, ℕ, ◌<◌, Bool, true, false, not, ◌&&◌, ◌||◌, nat_eq, nat_lt, Option, Some, None, List, ◌∷◌, ◌++◌, length, slice_get, inl, inr, refl, sym, ap, ◌∙◌, subst, zero-add, true≢false}
 use Rattle.std.specs.List.{range_with_len, AllByRecursion, list_all}
-use Rattle.std.proofs.lemmas.Bool.{eqb-true, ltb-true, and_parts, or_cases}
+use Rattle.std.proofs.lemmas.Bool.{eqb-true, ltb-true, and_parts, or_cases, not-true}
 use Rattle.std.proofs.lemmas.Option.{slice_get_within}
 use Rattle.gq_base.specs.Plain.{Graph}
 use Rattle.gq_base.specs.declared.NodeId.{NodeId}
@@ -23,10 +23,6 @@ use Rattle.gq_plan.proofs.Permuted.{range_all, all_numbers}
 
 pub agree_look : (ks : List ℕ) (a b : Partial) → agree ks a b ≡ true → (v : ℕ) → has_number ks v ≡ true → look a.nodes v ≡ look b.nodes v
 agree_look ks a b h v k = at_same_is (look a.nodes v) (look b.nodes v) (all_numbers (λ w. at_same (look a.nodes w) (look b.nodes w)) ks h v k)
-
-not_true : (b : Bool) → not b ≡ true → b ≡ false
-not_true true e = sym e
-not_true false e = refl
 
 not_both : (a b : Bool) → not (a && b) ≡ true → a ≡ true → b ≡ true → ⊥
 not_both true true h j k = true≢false (sym h)
@@ -57,7 +53,7 @@ module _ (g : Graph) (y : Typed) where
   owns_node v n a new h =
       let parts = and_parts (nat_lt v (length y.nodes)) (not (bound a.nodes v)) new in
       record {
-        nodes = found_bind v n a.nodes (not_true (bound a.nodes v) parts.1) h.nodes;
+        nodes = found_bind v n a.nodes (not-true (bound a.nodes v) parts.1) h.nodes;
         rels = h.rels;
         nodes_low = one_more v (length y.nodes) n a.nodes (ltb-true v _ parts.0) h.nodes_low;
         rels_low = h.rels_low;
@@ -66,7 +62,7 @@ module _ (g : Graph) (y : Typed) where
   owns_rel : (x : ℕ) (r : RelId) (a : Partial) → x < length y.rels → not (bound a.rels x) ≡ true → Owns y a → Owns y (with_rel x r a)
   owns_rel x r a low new h = record {
     nodes = h.nodes;
-    rels = found_bind x r a.rels (not_true (bound a.rels x) new) h.rels;
+    rels = found_bind x r a.rels (not-true (bound a.rels x) new) h.rels;
     nodes_low = h.nodes_low;
     rels_low = one_more x (length y.rels) r a.rels low h.rels_low;
   }

@@ -1,7 +1,7 @@
 -- What one step makes of a partial assignment, counted against an assignment that extends it.
 use Rattle.std.proofs.Common.{◌≡◌, ℕ, ◌+◌, Bool, true, false, not, ◌&&◌, cond, nat_eq, nat_lt, Option, Some, None, List, [], ◌∷◌, filter, length, slice_get, option_map, IsTrue, refl, sym, ap, ap₂, ◌∙◌, subst, true≢false}
 use Rattle.std.specs.List.{list_all}
-use Rattle.std.proofs.Math.Bool.{and_assoc, and_comm}
+use Rattle.std.proofs.Math.Bool.{and_assoc, and_comm, and-false}
 use Rattle.std.proofs.lemmas.Bool.{eqb-true, eq-eqb, ltb-true, and_parts, and_from}
 use Rattle.std.proofs.lemmas.Option.{slice_get_within, get_or_from_slice_get}
 use Rattle.std.specs.List.{All}
@@ -46,16 +46,8 @@ extend_bit p q b true true same = rw (same refl) (go q b)
     go : (q b : Bool) → cond q (bit (b && true)) 0 ≡ bit ((q && b) && true)
     go true b = refl
     go false b = refl
-extend_bit true q b true false same = ap bit (go b ∙ sym (go (q && b)))
-  where
-    go : (b : Bool) → (b && false) ≡ false
-    go true = refl
-    go false = refl
-extend_bit false q b true false same = ap bit (sym (go (q && b)))
-  where
-    go : (b : Bool) → (b && false) ≡ false
-    go true = refl
-    go false = refl
+extend_bit true q b true false same = ap bit (and-false b ∙ sym (and-false (q && b)))
+extend_bit false q b true false same = ap bit (sym (and-false (q && b)))
 extend_bit true q true false c same = refl
 extend_bit true q false false c same = refl
 extend_bit false q b false c same = refl
@@ -67,12 +59,8 @@ close_bit p p' q q' true true same same' = rw (same refl, same' refl) (go q q')
     go true true = refl
     go true false = refl
     go false r = refl
-close_bit p p' q q' true false same same' = none p p' ∙ ap bit (sym (go (q && q')))
+close_bit p p' q q' true false same same' = none p p' ∙ ap bit (sym (and-false (q && q')))
   where
-    go : (b : Bool) → (b && false) ≡ false
-    go true = refl
-    go false = refl
-
     none : (a b : Bool) → cond a (cond b (bit false) 0) 0 ≡ bit false
     none true true = refl
     none true false = refl
