@@ -1,7 +1,7 @@
 -- A single column that is filled pair by pair.
-use Rattle.std.proofs.Common.{◌≡◌, ◌≢◌, ℕ, zero, suc, ◌+◌, ◌-◌, ◌^◌, ◌<◌, List, [], ◌∷◌, length, get_or, set, cond, eqb, Some, None, refl, sym, ap, ◌∙◌, subst, arith, inl, inr}
+use Rattle.std.proofs.Common.{◌≡◌, ◌≢◌, ℕ, zero, suc, ◌+◌, ◌-◌, ◌^◌, ◌<◌, List, [], ◌∷◌, length, get_or, set, cond, eqb, Option, Some, None, refl, sym, ap, ◌∙◌, subst, arith, inl, inr}
 use Rattle.std.proofs.lemmas.Bool.{cases_eq, eq-eqb, ne_eqb, cases_lt}
-use Rattle.std.proofs.lemmas.List.{length-set, get_or-set_same, get_or-set_other}
+use Rattle.std.proofs.lemmas.List.{length-set, get_or_read_under, get_or-set_same, get_or-set_other}
 use Rattle.gq_edges.specs.Once.{Pair, pair_at, IsPairOf, IsSecond}
 use Rattle.gq_edges.specs.steps.Once.{pairs_of}
 
@@ -16,6 +16,23 @@ pair-pairs_of [] ts v e h = absurd (omega arith)
 pair-pairs_of (n ∷ ns) [] v e h = absurd (omega arith)
 pair-pairs_of (n ∷ ns) (t ∷ ts) zero e h = refl
 pair-pairs_of (n ∷ ns) (t ∷ ts) (suc v) e h = pair-pairs_of ns ts v (omega arith) (omega arith)
+
+-- the pair of a source, as its number tells
+module _ (numbers targets : List ℕ) (v many number : ℕ) (pairs : List (Option Pair)) (seen : pairs_of numbers targets ≡ pairs) (paired : length targets ≡ length numbers) (len : many ≡ length numbers) (inside : v < length pairs) (read : number ≡ get_or numbers v number) where
+  inside_numbers : v < length numbers
+  inside_numbers = omega (arith, inside, ap length seen, length-pairs_of numbers targets paired)
+
+  number_is : number ≡ get_or numbers v 0
+  number_is = get_or_read_under numbers v many number 0 read (omega (arith, inside_numbers, len)) len
+
+  pair_is : pair_at pairs v ≡ cond (eqb number (2 ^ 32 - 1)) None (Some (record { number = number; target = get_or targets v 0 }))
+  pair_is = rw (← seen, number_is) (pair-pairs_of numbers targets v paired inside_numbers)
+
+  pub pair_none : number ≡ 2 ^ 32 - 1 → pair_at pairs v ≡ None
+  pair_none none = pair_is ∙ ap (λ b. cond b None (Some (record { number = number; target = get_or targets v 0 }))) (eq-eqb number (2 ^ 32 - 1) none)
+
+  pub pair_some : number ≢ 2 ^ 32 - 1 → pair_at pairs v ≡ Some (record { number = number; target = get_or targets v 0 })
+  pair_some some = pair_is ∙ ap (λ b. cond b None (Some (record { number = number; target = get_or targets v 0 }))) (ne_eqb number (2 ^ 32 - 1) some)
 
 -- the pairs before i are placed, and no two of them have one source
 pub record Seen (n i : ℕ) (numbers targets from to : List ℕ) : Type 0 where

@@ -18,6 +18,7 @@ use Rattle.gq_store.specs.Neighbours.{all_of, rels_at}
 use Rattle.gq_store.specs.steps.Kept.{AreNodesKept, AreRelsKept, AreTableCells}
 use Rattle.gq_store.specs.RelColumns.{cell_numbered, numbers_by_place, rel_cells}
 use Rattle.gq_store.specs.declared.property.TableCells.{TableCells}
+use Rattle.gq_store.proofs.Linking.{pushed}
 use Rattle.gq_store.proofs.Validity.{all-at, node_table, rel_table, zip-at, zip-length, row_length}
 
 cell_at_is : (row : List (Option Cell)) (property : ℕ) (cell : Option Cell) → slice_get row property ≡ Some cell → cell_at row (Some property) ≡ cell
@@ -118,18 +119,7 @@ module _ (count : ℕ → ℕ) (fields : ℕ → List Field) (cells : ℕ → �
       → AreTablesBelow (n + 1) count fields cells (all ++ next ∷ [])
   tables_more n all next s here = record {
     len = (let had : length all ≡ n = s.len in omega (arith, length_push all next));
-    each = λ table d h. elim (cases_lt table n) [
-      | inl before ↦
-          (let had : length all ≡ n = s.len in
-          let same : get_or (all ++ next ∷ []) table d ≡ get_or all table d = get_or_append_left all (next ∷ []) d table (omega arith) in
-          rw same (s.each table d before))
-      | inr last ↦
-          (let had : length all ≡ n = s.len in
-          let same : table ≡ n = omega arith in
-          let plus : n ≡ length all + 0 = omega arith in
-          let at : get_or (all ++ next ∷ []) n d ≡ next = ap (λ j. get_or (all ++ next ∷ []) j d) plus ∙ get_or-append-add all (next ∷ []) 0 d in
-          rw (same, at) here)
-    ];
+    each = λ table d h. pushed (λ k one. AreTableCells (count k) (fields k) (cells k) one) n all next s.len s.each here table d h;
   }
 
 -- the first n node tables
@@ -250,3 +240,16 @@ node_table_at g all table kept s low read = subst (AreTableCells (row_count g.no
 pub rel_table_at : (g : Graph) (all : List TableCells) (rel : ℕ) (kept : TableCells) → AreRelsKept g all → rel < length all → kept ≡ get_or all rel kept
     → AreTableCells (length (rels_at g rel)) (rel_fields g rel) (λ property. rel_cells g rel property) kept
 rel_table_at g all rel kept s low read = subst (AreTableCells (length (rels_at g rel)) (rel_fields g rel) (λ property. rel_cells g rel property)) (sym read) (s.each rel kept low)
+
+-- the cells of a property of a table that is kept
+pub node_cells_at : (of g : Graph) (all : List TableCells) (table property : ℕ) (kept : TableCells) (cells : List (Option Cell)) → AreNodesKept of all → of ≡ g → table < length g.catalog.nodes
+    → kept ≡ get_or all table kept → property < length (node_fields g table) → cells ≡ get_or kept.properties.items property cells → cells ≡ node_cells g table property
+node_cells_at of g all table property kept cells s view within kept_is inside cells_is =
+    let at : AreNodesKept g all = subst (λ (p : Graph). AreNodesKept p all) view s in
+    property_at _ _ _ kept property (node_table_at g all table kept at (omega (arith, at.len, within)) kept_is) inside cells cells_is
+
+pub rel_cells_at : (of g : Graph) (all : List TableCells) (rel property : ℕ) (kept : TableCells) (cells : List (Option Cell)) → AreRelsKept of all → of ≡ g → rel < length g.catalog.rels
+    → kept ≡ get_or all rel kept → property < length (rel_fields g rel) → cells ≡ get_or kept.properties.items property cells → cells ≡ rel_cells g rel property
+rel_cells_at of g all rel property kept cells s view within kept_is inside cells_is =
+    let at : AreRelsKept g all = subst (λ (p : Graph). AreRelsKept p all) view s in
+    property_at _ _ _ kept property (rel_table_at g all rel kept at (omega (arith, at.len, within)) kept_is) inside cells cells_is

@@ -4,23 +4,34 @@ use Rattle.std.specs.Prelude.{All, IfSome, not}
 use Rattle.std.specs.List.{concat, range_with_len}
 use Rattle.std.proofs.lemmas.List.{get_or-map, get_or_default, length-map}
 use Rattle.std.proofs.lemmas.Option.{slice_get_within}
+use Rattle.std.specs.Option.{option_map}
 use Rattle.std.proofs.lemmas.List.FromFn.{get_or-range_with_len, length-range_with_len}
+use Rattle.gq_adj.specs.Adjacent.{Adjacency}
+use Rattle.gq_base.specs.Catalogs.{Tables}
 use Rattle.gq_base.specs.Plain.{Graph}
 use Rattle.gq_base.specs.declared.Cell.{Cell}
 use Rattle.gq_base.specs.declared.Mult.{Mult}
 use Rattle.gq_base.specs.declared.Mult.TheVariants.{ManyMany, ManyOne, OneMany, OneOne}
 use Rattle.gq_base.specs.Valid.{is_valid}
+use Rattle.gq_edges.specs.Once.{Pair, pair_at}
 use Rattle.gq_store.specs.Cells.{rel_cell}
+use Rattle.gq_store.specs.Cells.{rel_fields}
 use Rattle.gq_store.specs.Neighbours.{is_listed, is_single, mult_at, near_ends, near_rows, rels_at}
 use Rattle.gq_store.specs.Places.{by_source, first_number, number_at, number_in}
 use Rattle.gq_store.specs.RelColumns.{cell_numbered, numbers_by_place, place_count, place_count_in, rel_cells}
-use Rattle.gq_store.specs.steps.Stored.{AreLinked, ArePlaces, IsLinked}
+use Rattle.gq_store.specs.steps.Kept.{IsStored}
+use Rattle.gq_store.specs.steps.Stored.{AreLinked, ArePlaces, IsLinked, side}
 use Rattle.gq_store.specs.declared.direction.Direction.{Direction}
 use Rattle.gq_store.specs.declared.direction.Direction.TheVariants.{Forward, Backward}
 use Rattle.gq_store.specs.declared.links.Links.{Links}
 use Rattle.gq_store.specs.declared.links.Places.{Places}
+use Rattle.gq_store.specs.declared.links.Places.TheVariants.{Sources, Targets}
+use Rattle.gq_store.specs.declared.links.Side.TheVariants.{Listed, Single}
 use Rattle.gq_store.specs.declared.links.Side.{Side}
+use Rattle.gq_store.specs.declared.property.TableCells.{TableCells}
+use Rattle.gq_store.proofs.Keeping.{rel_cells_at}
 use Rattle.gq_store.proofs.Picking.{length-range}
+use Rattle.gq_store.proofs.Reading.{clash, kept_column, kept_lists, number_at_source, number_at_target, single_row, sources_is, targets_is}
 use Rattle.gq_store.proofs.Reading.{in_pages, number_below, paged_below, row_within}
 use Rattle.gq_store.proofs.Validity.{ends_below, length-ends}
 
@@ -120,3 +131,49 @@ module _ (g : Graph) (rel : ℕ) where
   rel_column_at property place number h is =
       let f : Option ℕ → Option Cell = λ n. cell_numbered property (rels_at g rel) n in
       get_or-map f (numbers_by_place g rel) place None None (omega (arith, length-numbers, h)) ∙ ap f (number_by_place place h ∙ is)
+
+-- ---- columns whose rows are places
+
+module _ (g : Graph) (rel : ℕ) (links : Links) (linked : IsLinked g rel links) where
+  -- a side of one relationship at most is not kept as lists
+  pub not_lists : (way : Direction) (lists : Adjacency) → side way links ≡ Listed lists → is_listed g rel way ≡ false → ⊥
+  not_lists way lists is single =
+      let k = kept_lists (is_listed g rel way) _ _ _ (side way links) lists (linked.sides way) is in
+      clash (sym k.0 ∙ single)
+
+  pub column_length : (way : Direction) (column : List (Option Pair)) → side way links ≡ Single column → length column ≡ near_rows g rel way
+  column_length way column is =
+      let k = kept_column (is_listed g rel way) _ _ _ (side way links) column (linked.sides way) is in
+      k.1.len
+
+  module _ (place : ℕ) (low : place < place_count g rel) where
+    -- what a column says of a place that is one of its rows
+    told : (way : Direction) (column : List (Option Pair)) → side way links ≡ Single column → place_count g rel ≡ near_rows g rel way → number_at g rel place ≡ first_number g rel way place
+        → (place < length column) × (option_map (λ (p : Pair). p.number) (pair_at column place) ≡ number_at g rel place)
+    told way column is count number =
+        let here = single_row g rel place way (side way links) column (linked.sides way) is (omega (arith, low, count)) in
+        (here.within, here.number ∙ sym number)
+
+    pub source_told : (ends : _) (column : List (Option Pair)) → links.places ≡ Sources ends → links.forward ≡ Single column
+        → (place < length column) × (option_map (λ (p : Pair). p.number) (pair_at column place) ≡ number_at g rel place)
+    source_told ends column at is =
+        let single = (sources_is g rel links ends linked at).0 in
+        told Forward column is (count_at_source g rel single) (number_at_source g rel place single)
+
+    pub target_told : (ends : _) (column : List (Option Pair)) → links.places ≡ Targets ends → links.backward ≡ Single column
+        → (place < length column) × (option_map (λ (p : Pair). p.number) (pair_at column place) ≡ number_at g rel place)
+    target_told ends column at is =
+        let (listed, single, same) = targets_is g rel links ends linked at in
+        told Backward column is (count_at_target g rel listed single) (number_at_target g rel place listed single)
+
+-- the cell of a property at the place of a number, in a graph that is stored
+pub stored_rel_cell : (of g : Graph) (catalog : Tables) (nodes rels : List TableCells) (links : List Links) → IsStored of catalog nodes rels links → of ≡ g
+    → (rel property place number : ℕ) (kept : TableCells) (cells : List (Option Cell)) → rel < length g.catalog.rels → property < length (rel_fields g rel) → number_at g rel place ≡ Some number
+    → kept ≡ get_or rels rel kept → cells ≡ get_or kept.properties.items property cells → (place < length cells) × (get_or cells place None ≡ rel_cell g rel property number)
+stored_rel_cell of g catalog nodes rels links stored view rel property place number kept cells within inside is kept_is cells_is =
+    let s : IsStored g catalog nodes rels links = subst (λ (p : Graph). IsStored p catalog nodes rels links) view stored in
+    let are : cells ≡ rel_cells g rel property = rel_cells_at g g rels rel property kept cells s.rel_cells refl within kept_is inside cells_is in
+    let reach : place < place_count g rel = place_reach g rel s.valid within links s.linked place number is in (
+      omega (arith, ap (λ (l : List (Option Cell)). length l) are, length-rel_cells g rel property, reach),
+      ap (λ (l : List (Option Cell)). get_or l place None) are ∙ rel_column_at g rel property place number reach is,
+    )

@@ -28,7 +28,6 @@ returns-then-get c =
 pub returns-else-get : goal.returns-else-get
 returns-else-get c =
     let present = c.self.inside.present in
-    let kept = c.self.inside.kept in
-    let row = c.args.row in
-    let inside : row < length present = omega (arith, ap length c.self.view_is, length-cells_of present kept.items) in
-    rw (← c.self.view_is) (ap (λ b. cond b (Some (get_or kept.items (rank present row) (pos 0))) None) c.if-get.ensures ∙ sym (cell-cells_of present kept.items row inside))
+    let items = c.self.inside.kept.items in
+    let inside : c.args.row < length present = omega (arith, ap length c.self.view_is, length-cells_of present items) in
+    rw (← c.self.view_is) (ap (λ b. cond b (Some (get_or items (rank present c.args.row) (pos 0))) None) c.if-get.ensures ∙ sym (cell-cells_of present items c.args.row inside))

@@ -3,13 +3,9 @@ use Rattle.gq_io.proofs.Bounded.{read_more}
 use Rattle.gq_io.proofs.reading.read_chosen.Goals as goal
 
 pub loop-filled-preserved : goal.loop-filled-preserved
-loop-filled-preserved g c =
-    let room = c.in_ok-make_room.ensures in
-    let read = c.in_ok-count.ensures in
-    let view = c.deref_mut.ensures in
-    record {
-      going = read_more _ _ _ _ _ _ _ _ _ _ _ c.loop-filled.invariant.going (rw view.value room.kept) (omega arith) (omega arith) view.len c.read.auto.into read.bound.0 read.bytes.0;
-      later = omega (arith, read.cause.later);
-      misses = omega (arith, read.misses);
-      held = cc;
-    }
+loop-filled-preserved g c = record {
+  going = read_more _ _ _ _ _ _ _ _ _ _ _ c.loop-filled.invariant.going (rw c.deref_mut.ensures.value c.in_ok-make_room.ensures.kept) (omega (arith, c.in_ok-make_room.ensures)) (omega (arith, c.in_ok-make_room.ensures)) c.deref_mut.ensures.len c.read.auto.into c.in_ok-count.ensures.bound.0 c.in_ok-count.ensures.bytes.0;
+  later = omega (arith, c.in_ok-count.ensures.cause.later);
+  misses = omega (arith, c.in_ok-count.ensures.misses);
+  held = cc;
+}
