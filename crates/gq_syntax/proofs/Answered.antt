@@ -5,11 +5,11 @@ use Rattle.gq_lexer.specs.declared.token.Token.{Token}
 use Rattle.gq_syntax.specs.Grammar.{SpelledStatement}
 use Rattle.gq_syntax.specs.Outcomes.{Begins, SpellsOne, Stuck, TooDeep, Viable}
 use Rattle.gq_syntax.specs.steps.Parsers.{statement_of, whole}
-use Rattle.gq_syntax.specs.steps.Readers.{Deep, Done, Out, Syntax, Verdict, finish, on_done}
-use Rattle.gq_syntax.specs.Relations.{Pure, Then}
+use Rattle.gq_tokens.specs.Readers.{Deep, Done, Out, Syntax, Verdict, finish, on_done}
+use Rattle.gq_tokens.specs.Relations.{Pure, Then}
 use Rattle.gq_syntax.specs.declared.statement.Statement.{Statement}
 use Rattle.gq_syntax.proofs.Productions.{rooms-more, rooms-same, spelled_read, statement-meets, whole-law}
-use Rattle.gq_syntax.proofs.Runs.{Run, SameHead, Within}
+use Rattle.gq_tokens.proofs.Runs.{Run, SameHead, Within}
 
 abbrev Whole : ℕ → List Token → Statement → Type 0
 Whole d = Then (SpelledStatement d) Pure

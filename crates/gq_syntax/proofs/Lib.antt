@@ -1,12 +1,7 @@
 pub mod Answered
-pub mod Classes
-pub mod Complete
 pub mod Exact
-pub mod Laws
-pub mod Loops
-pub mod Meets
+pub mod Inside
+pub mod Operators
 pub mod Productions
-pub mod Runs
-pub mod Sets
 pub mod SpanLemmas
 pub mod Whole

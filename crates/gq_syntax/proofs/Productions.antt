@@ -6,28 +6,29 @@ use Rattle.gq_lexer.specs.declared.token.Sign.TheVariants as sign
 use Rattle.gq_lexer.specs.declared.token.Token.{Token}
 use Rattle.gq_syntax.specs.Grammar as g
 use Rattle.gq_syntax.specs.steps.Parsers as p
-use Rattle.gq_syntax.specs.steps.Readers.{◌>>=◌, Done, Reader, enclosed, fork, into, listed, must, nest, pure}
-use Rattle.gq_syntax.specs.Relations.{Enclosed, Fork, Into, Maybe, Must, Nest, Pure, Then}
+use Rattle.gq_tokens.specs.Readers.{◌>>=◌, Done, Reader, enclosed, fork, into, listed, must, nest, pure}
+use Rattle.gq_tokens.specs.Relations.{Enclosed, Fork, Into, Maybe, Must, Nest, Pure, Then}
 use Rattle.gq_syntax.specs.Trees as tree
 use Rattle.gq_syntax.specs.Trees.{Node, columns, detail_of, made, no_detail, node_part, rel_part, tail_made, tree_of}
-use Rattle.gq_syntax.specs.Words.{Name, big, called, number, sign_is, word_is}
+use Rattle.gq_tokens.specs.Words.{Name, big, called, number, sign_is, word_is}
 use Rattle.gq_syntax.specs.declared.expression.Ast.{Ast}
 use Rattle.gq_syntax.specs.declared.expression.AstNode.TheVariants as e
 use Rattle.gq_syntax.specs.declared.expression.Tester.TheVariants as tester
 use Rattle.gq_syntax.specs.declared.opening.Level.{Level}
 use Rattle.gq_syntax.specs.declared.opening.Level.TheVariants as level
-use Rattle.gq_syntax.specs.declared.opening.TestWord.{TestWord}
-use Rattle.gq_syntax.specs.declared.opening.TestWord.TheVariants as test
-use Rattle.gq_syntax.specs.declared.opening.Tip.{Tip}
+use Rattle.gq_tokens.specs.declared.opening.TestWord.{TestWord}
+use Rattle.gq_tokens.specs.declared.opening.TestWord.TheVariants as test
+use Rattle.gq_tokens.specs.declared.opening.Tip.{Tip}
 use Rattle.gq_syntax.specs.declared.statement.Arrow.TheVariants as arrow
 use Rattle.gq_syntax.specs.declared.statement.Statement.{Statement}
 use Rattle.gq_syntax.specs.declared.statement.Statement.TheVariants as statement
-use Rattle.gq_syntax.proofs.Classes.{Takes, names, takes_addition, takes_big, takes_called, takes_comparison, takes_direction, takes_multiplication, takes_name, takes_negative, takes_number, takes_plain, takes_sign, takes_test, takes_tip, takes_word, word_class, words}
-use Rattle.gq_syntax.proofs.Complete.{complete-deep}
-use Rattle.gq_syntax.proofs.Laws.{Law, law-finish, law-room, law-then, law-too_deep}
-use Rattle.gq_syntax.proofs.Meets.{Meets, meets-chain, meets-enclosed, meets-fork, meets-into, meets-listed, meets-many, meets-maybe, meets-must, meets-pure, meets-spanned, meets-terms, meets-then, meets-widen}
-use Rattle.gq_syntax.proofs.Runs.{Rel}
-use Rattle.gq_syntax.proofs.Sets.{apart, within}
+use Rattle.gq_tokens.proofs.Classes.{Takes, names, takes_addition, takes_big, takes_called, takes_comparison, takes_direction, takes_multiplication, takes_name, takes_negative, takes_number, takes_plain, takes_sign, takes_test, takes_tip, takes_word, word_class, words}
+use Rattle.gq_tokens.proofs.Complete.{complete-deep}
+use Rattle.gq_tokens.proofs.Laws.{Law, law-finish, law-room, law-then, law-too_deep}
+use Rattle.gq_tokens.proofs.Meets.{Meets, meets-enclosed, meets-fork, meets-into, meets-listed, meets-many, meets-maybe, meets-must, meets-pure, meets-spanned, meets-then, meets-widen}
+use Rattle.gq_syntax.proofs.Operators.{meets-chain, meets-terms}
+use Rattle.gq_tokens.proofs.Runs.{Rel}
+use Rattle.gq_tokens.proofs.Sets.{apart, within}
 
 -- ---- literals and lists
 

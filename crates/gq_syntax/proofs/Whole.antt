@@ -18,11 +18,11 @@ use Rattle.gq_lexer.proofs.Boundaries as lexed
 use Rattle.gq_lexer.proofs.Boundaries.{lexed_utf8, lexed_whole, whole_of}
 use Rattle.gq_syntax.specs.Grammar as g
 use Rattle.gq_syntax.specs.Outcomes.{SpelledText}
-use Rattle.gq_syntax.specs.Relations.{Enclosed, Fork, Into, Listed, Many, Maybe, Must, Nest, Nothing, Pure, Spanned, Then, last_end, span_of}
+use Rattle.gq_tokens.specs.Relations.{Enclosed, Fork, Into, Listed, Many, Maybe, Must, Nest, Nothing, Pure, Spanned, Then, last_end, span_of}
 use Rattle.gq_syntax.specs.Spans.{IsWholeTree, SpelledQuery, operand_spans, spans_of, tester_spans}
 use Rattle.gq_syntax.specs.steps.Spans.{IsWholeClause, IsWholeEntry, IsWholeHop, IsWholePath, StandsIn}
 use Rattle.gq_syntax.specs.Trees.{Node, chain_made, clause, columns, detail_of, entry, hop, item, made, no_detail, node_part, path, query, rel_part, sort, tail_made, term, tree_of}
-use Rattle.gq_syntax.specs.Words.{Name, addition, big, called, comparison, direction, multiplication, name, number, number_of, plain, sign_is, test_word, tip, word_is}
+use Rattle.gq_tokens.specs.Words.{Name, addition, big, called, comparison, direction, multiplication, name, number, number_of, plain, sign_is, test_word, tip, word_is}
 use Rattle.gq_syntax.specs.declared.expression.Ast.{Ast, fold-roll-Ast}
 use Rattle.gq_syntax.specs.declared.expression.Ast.TheShapes.{former-Ast-node as parts}
 use Rattle.gq_syntax.specs.declared.expression.AstNode.{AstNode}
@@ -32,9 +32,9 @@ use Rattle.gq_syntax.specs.declared.expression.Tester.{Tester}
 use Rattle.gq_syntax.specs.declared.expression.Tester.TheVariants as tester
 use Rattle.gq_syntax.specs.declared.opening.Level.{Level}
 use Rattle.gq_syntax.specs.declared.opening.Level.TheVariants as level
-use Rattle.gq_syntax.specs.declared.opening.TestWord.{TestWord}
-use Rattle.gq_syntax.specs.declared.opening.TestWord.TheVariants as test
-use Rattle.gq_syntax.specs.declared.opening.Tip.{Tip}
+use Rattle.gq_tokens.specs.declared.opening.TestWord.{TestWord}
+use Rattle.gq_tokens.specs.declared.opening.TestWord.TheVariants as test
+use Rattle.gq_tokens.specs.declared.opening.Tip.{Tip}
 use Rattle.gq_syntax.specs.declared.patterns.RelDetail.{RelDetail}
 use Rattle.gq_syntax.specs.declared.queries.Columns.{Columns}
 use Rattle.gq_syntax.specs.declared.statement.Entry.{Entry}

@@ -7,9 +7,9 @@ use Rattle.gq_base.specs.declared.literal.Literal.{Literal}
 use Rattle.gq_base.specs.declared.literal.Literal.TheVariants as literal
 use Rattle.gq_lexer.specs.declared.token.Sign.TheVariants as sign
 use Rattle.gq_lexer.specs.declared.token.Token.{Token}
-use Rattle.gq_syntax.specs.Relations.{Enclosed, Fork, Into, Listed, Many, Maybe, Must, Nest, Nothing, Pure, Spanned, Then}
+use Rattle.gq_tokens.specs.Relations.{Enclosed, Fork, Into, Listed, Many, Maybe, Must, Nest, Nothing, Pure, Spanned, Then}
 use Rattle.gq_syntax.specs.Trees.{Node, chain_made, clause, columns, detail_of, entry, hop, item, made, no_detail, node_part, path, query, rel_part, sort, tail_made, term, tree_of}
-use Rattle.gq_syntax.specs.Words.{Name, addition, big, called, comparison, direction, multiplication, name, negative, number, plain, sign_is, test_word, tip, word_is}
+use Rattle.gq_tokens.specs.Words.{Name, addition, big, called, comparison, direction, multiplication, name, negative, number, plain, sign_is, test_word, tip, word_is}
 use Rattle.gq_syntax.specs.declared.expression.Ast.{Ast}
 use Rattle.gq_syntax.specs.declared.expression.AstNode.TheVariants as e
 use Rattle.gq_syntax.specs.declared.expression.Term.{Term}
@@ -17,9 +17,9 @@ use Rattle.gq_syntax.specs.declared.expression.Tester.{Tester}
 use Rattle.gq_syntax.specs.declared.expression.Tester.TheVariants as tester
 use Rattle.gq_syntax.specs.declared.opening.Level.{Level}
 use Rattle.gq_syntax.specs.declared.opening.Level.TheVariants as level
-use Rattle.gq_syntax.specs.declared.opening.TestWord.{TestWord}
-use Rattle.gq_syntax.specs.declared.opening.TestWord.TheVariants as test
-use Rattle.gq_syntax.specs.declared.opening.Tip.{Tip}
+use Rattle.gq_tokens.specs.declared.opening.TestWord.{TestWord}
+use Rattle.gq_tokens.specs.declared.opening.TestWord.TheVariants as test
+use Rattle.gq_tokens.specs.declared.opening.Tip.{Tip}
 use Rattle.gq_syntax.specs.declared.patterns.RelDetail.{RelDetail}
 use Rattle.gq_syntax.specs.declared.queries.Columns.{Columns}
 use Rattle.gq_syntax.specs.declared.statement.Arrow.{Arrow}

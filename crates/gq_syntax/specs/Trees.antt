@@ -3,11 +3,11 @@ use Rattle.std.specs.Prelude.{ℕ, Bool, List, [], ◌∷◌, Option, None, ◌�
 use Rattle.std.proofs.Common.{inl, inr}
 use Rattle.gq_base.specs.declared.literal.Literal.{Literal}
 use Rattle.gq_lexer.specs.declared.token.Span.{Span}
-use Rattle.gq_syntax.specs.Words.{Name}
+use Rattle.gq_tokens.specs.Words.{Name}
 use Rattle.gq_syntax.specs.declared.expression.Ast.{Ast, roll-Ast}
 use Rattle.gq_syntax.specs.declared.expression.AstNode.{AstNode}
 use Rattle.gq_syntax.specs.declared.expression.Term.{Term}
-use Rattle.gq_syntax.specs.declared.opening.Tip.{Tip}
+use Rattle.gq_tokens.specs.declared.opening.Tip.{Tip}
 use Rattle.gq_syntax.specs.declared.patterns.RelDetail.{RelDetail}
 use Rattle.gq_syntax.specs.declared.queries.Columns.{Columns}
 use Rattle.gq_syntax.specs.declared.statement.Arrow.{Arrow}

@@ -3,16 +3,14 @@
 ghost use Rattle.std.specs.Prelude.{◌<◌};
 ghost use Rattle.gq_syntax.specs.steps.Nesting.{Nests, Opens};
 ghost use Rattle.gq_syntax.specs.steps.Parsers as p;
-ghost use Rattle.gq_syntax.specs.steps.Parsing.{Reads};
+ghost use Rattle.gq_tokens.specs.Answers.{Reads};
 
 use crate::expression::{ArithTerm, Ast, AstNode, AstTester, CompareTerm, Term, Tester};
-use crate::leads::{Addition, Comparison, Multiplication, Tests, Word};
 use crate::literals::list;
-use crate::opening::{Level, TestWord};
-use crate::repeats::{led, listed, many};
-use crate::tokens::{Stop, Tokens};
+use crate::opening::Level;
 use gq_base::{ArithOp, Boxed, CompareOp, List, Literal, Text};
 use gq_lexer::Sign;
+use gq_tokens::{Addition, Comparison, Multiplication, Stop, TestWord, Tests, Tokens, Word, led, listed, many};
 use std::alloc::Global;
 
 /// How many constructs may nest in one another.
@@ -92,7 +90,7 @@ impl<F: Fn(Global, &mut Tokens<'_>, usize, Level) -> Result<Ast, Stop>> Grammar<
     }
 
     // What a name begins: a call, a property or a variable.
-    #[tactic(auto, using(crate::proofs::Loops::nest_opens, crate::proofs::Loops::nest_deep, crate::proofs::Loops::nest_other), unfolding(crate::specs::steps::Parsers::named))]
+    #[tactic(auto, using(gq_tokens::proofs::Loops::nest_opens, gq_tokens::proofs::Loops::nest_deep, gq_tokens::proofs::Loops::nest_other), unfolding(crate::specs::steps::Parsers::named))]
     fn named(&self, tokens: &mut Tokens<'_>, name: Text) -> Result<AstNode<Ast>, Stop>
         requires nests { Nests self.now.room (F.pre self.now.nested) (F.post self.now.nested) }
         ensures { Reads (p.named self.now.room (p.inside self.now.room) name tokens.old)
@@ -111,7 +109,7 @@ impl<F: Fn(Global, &mut Tokens<'_>, usize, Level) -> Result<Ast, Stop>> Grammar<
     }
 
     // An atom.
-    #[tactic(auto, using(crate::proofs::Loops::nest_opens, crate::proofs::Loops::nest_deep, crate::proofs::Loops::nest_other), unfolding(crate::specs::steps::Parsers::atom))]
+    #[tactic(auto, using(gq_tokens::proofs::Loops::nest_opens, gq_tokens::proofs::Loops::nest_deep, gq_tokens::proofs::Loops::nest_other), unfolding(crate::specs::steps::Parsers::atom))]
     fn atom(&self, tokens: &mut Tokens<'_>) -> Result<AstNode<Ast>, Stop>
         requires nests { Nests self.now.room (F.pre self.now.nested) (F.post self.now.nested) }
         ensures { Reads (p.atom self.now.room (p.inside self.now.room) tokens.old)
@@ -144,7 +142,7 @@ impl<F: Fn(Global, &mut Tokens<'_>, usize, Level) -> Result<Ast, Stop>> Grammar<
     }
 
     // An operand with its signs, without its place.
-    #[tactic(auto, using(crate::proofs::Loops::nest_opens, crate::proofs::Loops::nest_deep, crate::proofs::Loops::nest_other), unfolding(crate::specs::steps::Parsers::operand))]
+    #[tactic(auto, using(gq_tokens::proofs::Loops::nest_opens, gq_tokens::proofs::Loops::nest_deep, gq_tokens::proofs::Loops::nest_other), unfolding(crate::specs::steps::Parsers::operand))]
     fn operand(&self, tokens: &mut Tokens<'_>) -> Result<AstNode<Ast>, Stop>
         requires nests { Nests self.now.room (F.pre self.now.nested) (F.post self.now.nested) }
         ensures { Reads (p.operand self.now.room (p.inside self.now.room) tokens.old)
@@ -371,7 +369,7 @@ impl<F: Fn(Global, &mut Tokens<'_>, usize, Level) -> Result<Ast, Stop>> Grammar<
     }
 
     // A negation.
-    #[tactic(auto, using(crate::proofs::Loops::nest_opens, crate::proofs::Loops::nest_deep, crate::proofs::Loops::nest_other), unfolding(crate::specs::steps::Parsers::negation))]
+    #[tactic(auto, using(gq_tokens::proofs::Loops::nest_opens, gq_tokens::proofs::Loops::nest_deep, gq_tokens::proofs::Loops::nest_other), unfolding(crate::specs::steps::Parsers::negation))]
     fn negation(&self, tokens: &mut Tokens<'_>) -> Result<Ast, Stop>
         requires nests { Nests self.now.room (F.pre self.now.nested) (F.post self.now.nested) }
         ensures { Reads (p.negation self.now.room (p.inside self.now.room) tokens.old)

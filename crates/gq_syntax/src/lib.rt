@@ -5,17 +5,13 @@
 
 mod descent;
 mod expression;
-mod leads;
 mod literals;
 mod opening;
 mod parsing;
 mod patterns;
 mod queries;
 mod refusal;
-mod repeats;
 mod statement;
-mod tokens;
-mod words;
 
 pub use expression::{ArithTerm, Ast, AstNode, AstTester, CompareTerm, Term, Tester};
 pub use gq_base::{ArithOp, CompareOp};

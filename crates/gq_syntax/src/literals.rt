@@ -1,12 +1,11 @@
 //! Literals and lists of them.
 
 ghost use Rattle.gq_syntax.specs.steps.Parsers as p;
-ghost use Rattle.gq_syntax.specs.steps.Parsing.{Reads};
+ghost use Rattle.gq_tokens.specs.Answers.{Reads};
 
-use crate::repeats::listed;
-use crate::tokens::{Stop, Tokens};
 use gq_base::{List, Literal};
 use gq_lexer::Sign;
+use gq_tokens::{Stop, Tokens, listed};
 use std::alloc::Global;
 
 /// A literal, which has to come next.

@@ -11,8 +11,8 @@ ghost use Rattle.gq_syntax.specs.declared.statement.Statement.{Statement};
 use crate::queries::whole;
 use crate::refusal::SyntaxRefusal;
 use crate::statement::Statement;
-use crate::tokens::{Stop, Tokens};
 use gq_lexer::{Token, lex};
+use gq_tokens::{Stop, Tokens};
 use std::alloc::Global;
 
 // The place of the first of these tokens, or the end of the text where there is none.

@@ -2,17 +2,14 @@
 
 ghost use Rattle.std.specs.Prelude.{◌≡◌};
 ghost use Rattle.gq_syntax.specs.steps.Parsers as p;
-ghost use Rattle.gq_syntax.specs.steps.Parsing.{Reads};
-ghost use Rattle.gq_syntax.specs.steps.Readers as r;
+ghost use Rattle.gq_tokens.specs.Answers.{Reads};
+ghost use Rattle.gq_tokens.specs.Readers as r;
 
-use crate::leads::Tips;
 use crate::literals::literal;
-use crate::opening::Tip;
-use crate::repeats::{behind, listed, many};
 use crate::statement::{Arrow, Entry, Hop, NodePart, Path, RelPart};
-use crate::tokens::{Stop, Tokens};
 use gq_base::{List, Text};
 use gq_lexer::Sign;
+use gq_tokens::{Stop, Tip, Tips, Tokens, behind, listed, many};
 use std::alloc::Global;
 
 /// What stands in the brackets of a relationship.

@@ -1,16 +1,14 @@
 //! Statements and their clauses.
 
 ghost use Rattle.gq_syntax.specs.steps.Parsers as p;
-ghost use Rattle.gq_syntax.specs.steps.Parsing.{Reads};
+ghost use Rattle.gq_tokens.specs.Answers.{Reads};
 
 use crate::descent::expr;
-use crate::leads::Word;
 use crate::patterns::path;
-use crate::repeats::{behind, listed, many};
 use crate::statement::{Clause, Item, Path, Query, Sort, Statement};
-use crate::tokens::{Stop, Tokens};
 use gq_base::List;
 use gq_lexer::Sign;
+use gq_tokens::{Stop, Tokens, Word, behind, listed, many};
 use std::alloc::Global;
 
 /// The columns of a query.

@@ -4,12 +4,12 @@ use Rattle.std.specs.declared.alloc.Global.{Global}
 use denote.Ref.{MutBor}
 use Rattle.gq_lexer.specs.declared.token.Token.{Token}
 use Rattle.gq_syntax.specs.steps.Parsers.{inside}
-use Rattle.gq_syntax.specs.steps.Parsing.{Reads}
-use Rattle.gq_syntax.specs.steps.Readers.{tail}
+use Rattle.gq_tokens.specs.Answers.{Reads}
+use Rattle.gq_tokens.specs.Readers.{tail}
 use Rattle.gq_syntax.specs.declared.expression.Ast.{Ast}
 use Rattle.gq_syntax.specs.declared.opening.Level.{Level}
-use Rattle.gq_syntax.specs.declared.tokens.Stop.{Stop}
-use Rattle.gq_syntax.specs.declared.tokens.Stop.TheVariants as stop
+use Rattle.gq_tokens.specs.declared.tokens.Stop.{Stop}
+use Rattle.gq_tokens.specs.declared.tokens.Stop.TheVariants as stop
 
 -- the token that opens a construct is taken where there is room for the construct, and else it is too deep
 abbrev pub Opens : ℕ → List Token → Result (Unit {0}) Stop → List Token → Type 0

@@ -5,10 +5,10 @@ use Rattle.std.proofs.Math.IntN.{neg_ℤ, pos}
 use Rattle.gq_base.specs.declared.literal.Literal.{Literal}
 use Rattle.gq_base.specs.declared.literal.Literal.TheVariants as l
 use Rattle.gq_lexer.specs.declared.token.Sign.TheVariants as sign
-use Rattle.gq_syntax.specs.steps.Readers.{◌>>=◌, Reader, enclosed, fail, finish, fork, into, listed, many, maybe, must, nest, pure, spanned}
+use Rattle.gq_tokens.specs.Readers.{◌>>=◌, Reader, enclosed, fail, finish, fork, into, listed, many, maybe, must, nest, pure, spanned}
 use Rattle.gq_syntax.specs.Trees.{Node, chain_made, columns, detail_of, made, no_detail, node_part, rel_part, tail_made, term, tree_of}
 use Rattle.gq_syntax.specs.Trees as tree
-use Rattle.gq_syntax.specs.Words.{Name, addition, big, called, comparison, direction, multiplication, name, negative, number, plain, sign_is, test_word, tip, word_is}
+use Rattle.gq_tokens.specs.Words.{Name, addition, big, called, comparison, direction, multiplication, name, negative, number, plain, sign_is, test_word, tip, word_is}
 use Rattle.gq_base.specs.declared.operator.ArithOp.{ArithOp}
 use Rattle.gq_syntax.specs.declared.expression.Ast.{Ast}
 use Rattle.gq_syntax.specs.declared.expression.AstNode.TheVariants as e
@@ -18,9 +18,9 @@ use Rattle.gq_syntax.specs.declared.expression.Tester.{Tester}
 use Rattle.gq_syntax.specs.declared.expression.Tester.TheVariants as tester
 use Rattle.gq_syntax.specs.declared.opening.Level.{Level}
 use Rattle.gq_syntax.specs.declared.opening.Level.TheVariants as level
-use Rattle.gq_syntax.specs.declared.opening.TestWord.{TestWord}
-use Rattle.gq_syntax.specs.declared.opening.TestWord.TheVariants as test
-use Rattle.gq_syntax.specs.declared.opening.Tip.{Tip}
+use Rattle.gq_tokens.specs.declared.opening.TestWord.{TestWord}
+use Rattle.gq_tokens.specs.declared.opening.TestWord.TheVariants as test
+use Rattle.gq_tokens.specs.declared.opening.Tip.{Tip}
 use Rattle.gq_syntax.specs.declared.patterns.RelDetail.{RelDetail}
 use Rattle.gq_syntax.specs.declared.queries.Columns.{Columns}
 use Rattle.gq_syntax.specs.declared.statement.Arrow.{Arrow}

@@ -1,6 +1,6 @@
 use Rattle.std.proofs.Common.{arith, subst, sym}
-use Rattle.gq_syntax.specs.steps.Parsing.{Reads}
-use Rattle.gq_syntax.proofs.Loops.{inside_rule}
+use Rattle.gq_tokens.specs.Answers.{Reads}
+use Rattle.gq_syntax.proofs.Inside.{inside_rule}
 use Rattle.gq_syntax.proofs.descent.+nested.Goals as goal
 
 pub or-requires : goal.or-requires

@@ -1,8 +1,8 @@
 use Rattle.std.proofs.Common.{◌≡◌, Err, length, rules, ap, subst, sym, ◌∙◌}
 use Rattle.gq_syntax.specs.Outcomes.{place_of}
 use Rattle.gq_syntax.specs.steps.Parsers.{whole}
-use Rattle.gq_syntax.specs.steps.Parsing.{Reads}
-use Rattle.gq_syntax.specs.declared.tokens.Stop.TheVariants as stop
+use Rattle.gq_tokens.specs.Answers.{Reads}
+use Rattle.gq_tokens.specs.declared.tokens.Stop.TheVariants as stop
 use Rattle.gq_syntax.proofs.Answered.{read_spelled, stuck, too_deep}
 use Rattle.gq_syntax.proofs.Exact.{stops_at}
 use Rattle.gq_syntax.proofs.parsing.answered.Goals as goal
