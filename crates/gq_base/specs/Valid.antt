@@ -19,6 +19,8 @@ use Rattle.gq_base.specs.declared.catalog.RelTable.{RelTable}
 use Rattle.gq_base.specs.declared.cell.Cell.{Cell}
 use Rattle.gq_base.specs.declared.cell.Cell.TheVariants as cell
 use Rattle.gq_base.specs.declared.cell.PlainRel.{PlainRel}
+use Rattle.gq_base.specs.declared.direction.Direction.{Direction}
+use Rattle.gq_base.specs.declared.direction.Direction.TheVariants.{Forward, Backward}
 
 -- ---- limits
 
@@ -98,6 +100,11 @@ abbrev pub limits_targets : Mult → Bool
 limits_targets OneMany = true
 limits_targets OneOne = true
 limits_targets mult = false
+
+-- a vertex has at most one relationship that is followed from it in this direction
+abbrev pub is_single : Mult → Direction → Bool
+is_single mult Forward = limits_sources mult
+is_single mult Backward = limits_targets mult
 
 -- no row stands twice, where that is forbidden
 abbrev pub once_if : Bool → List ℕ → Bool

@@ -2,7 +2,9 @@
 ghost use Rattle.std.specs.Prelude.{◌≡◌, ◌+◌, ◌^◌, ◌<◌, [], ◌∷◌, ◌++◌, length, slice_get, Some};
 ghost use Rattle.std.specs.Prelude.{None, OnOk, OnErr, IfSome};
 ghost use Rattle.gq_base.specs.Catalogs.{find_label, find_type, with_node_fields, with_rel_fields};
+ghost use Rattle.gq_base.specs.Valid.{is_single};
 
+use crate::direction::Direction;
 use crate::list::List;
 use crate::memory::Memory;
 use crate::text::Text;
@@ -25,6 +27,20 @@ pub enum Mult {
     ManyOne,
     OneMany,
     OneOne,
+}
+
+impl Mult {
+    /// Whether a vertex has at most one relationship that is followed from it in a direction.
+    pub fn is_single(self, direction: Direction) -> bool
+        ensures { result ≡ is_single self direction }
+    {
+        match (self, direction) {
+            (Mult::OneOne, _) => true,
+            (Mult::ManyOne, Direction::Forward) => true,
+            (Mult::OneMany, Direction::Backward) => true,
+            _ => false,
+        }
+    }
 }
 
 /// A property: its name and the kind of its values.

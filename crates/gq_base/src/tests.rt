@@ -1,8 +1,8 @@
 //! Each allocating call on its happy path, the order of values, Kleene's tables, and plain names.
 
 use crate::{
-    Boxed, Bytes, Catalog, Cell, Field, Kind, List, Mult, NodeId, NodeTable, RelId, RelTable, Row,
-    Text, Value, and3, key_of, not3, or3, order_of, read_name, xor3,
+    Boxed, Bytes, Catalog, Cell, Direction, Field, Kind, List, Literal, Mult, NodeId, NodeTable,
+    RelId, RelTable, Row, Text, Value, and3, key_of, not3, or3, order_of, read_name, xor3,
 };
 use std::cmp::Ordering;
 use std::test::Fail;
@@ -74,6 +74,7 @@ fn tables_are_found_by_name(rt: HostRuntime) -> Result<(), Fail> {
         (Some(0), Some(0))
     );
     assert!(rt; catalog.find_type("Person").is_none());
+    assert!(rt; !catalog.rel_table(0).mult.is_single(Direction::Forward));
     Ok(())
 }
 
@@ -144,6 +145,14 @@ fn plain_names_are_words(rt: HostRuntime) {
         assert!(rt; read_name(other.as_bytes()).is_none());
     }
     assert!(rt; read_name(b"a\xff").is_none());
+}
+
+#[test]
+fn a_literal_spells_its_value(rt: HostRuntime) -> Result<(), Fail> {
+    let word = Literal::Str(text(&rt, "k")?);
+    assert!(rt; word.value() == Value::Str("k"));
+    assert!(rt; Literal::Null.value() == Value::Null);
+    Ok(())
 }
 
 #[test]

@@ -12,7 +12,7 @@ ghost use Rattle.gq_expr.specs.steps.Parts.{operand_with, tester_with};
 
 use crate::expr::{ArithOperand, CompareOperand, ExprTester, Expr, Fault, LogicOp, Tester};
 use crate::operators::{
-    arith, compare, contains, ends, is_member, is_null, known, literal_value, negate, plus, starts,
+    arith, compare, contains, ends, is_member, is_null, known, negate, plus, starts,
 };
 use crate::truth::{logic, not_value, truth_value};
 use gq_base::{NodeId, RelId, Text, Value, and3};
@@ -72,7 +72,7 @@ fn leaf_value<'v, G: Reads, R: Assigned>(expr: &'v Expr, graph: &'v G, row: &R) 
         meaning (G.graph graph.now) (R.assignment row.now) expr.now ≡ Ok (val value)) }
 {
     match expr {
-        Expr::Literal(literal) => Some(literal_value(literal)),
+        Expr::Literal(literal) => Some(literal.value()),
         Expr::NodeProperty(variable, name) => Some(node_property(graph, row.node(*variable), name)),
         Expr::RelProperty(variable, name) => Some(rel_property(graph, row.rel(*variable), name)),
         _ => None,
@@ -90,7 +90,7 @@ fn eval_parts<'v, G: Reads, R: Assigned>(
     ensures { outcome result ≡ meaning (G.graph graph.now) (R.assignment row.now) expr.now }
 {
     match expr {
-        Expr::Literal(literal) => Ok(literal_value(literal)),
+        Expr::Literal(literal) => Ok(literal.value()),
         Expr::Node(variable) => Ok(node_value(row.node(*variable))),
         Expr::Rel(variable) => Ok(rel_value(row.rel(*variable))),
         Expr::NodeProperty(variable, name) => Ok(node_property(graph, row.node(*variable), name)),

@@ -1,6 +1,6 @@
 //! The operators at values: comparisons, tests and integers.
 ghost use Rattle.std.specs.Prelude.{◌≡◌};
-ghost use Rattle.gq_base.specs.Values.{val, literal_val};
+ghost use Rattle.gq_base.specs.Values.{val};
 ghost use Rattle.gq_expr.specs.Operators.{outcome, compare_vals, is_null_val, member_of};
 ghost use Rattle.gq_expr.specs.Operators.{starts_vals, ends_vals, contains_vals, occurs};
 ghost use Rattle.gq_expr.specs.Operators.{arith_vals, int_arith, negate_val};
@@ -10,17 +10,6 @@ ghost use Rattle.gq_expr.specs.Operators.{plus_val, first_known};
 use crate::expr::Fault;
 use gq_base::{ArithOp, CompareOp, Literal, Value, equal3, less3, not3, or3};
 use memchr::memmem;
-
-pub(crate) fn literal_value(literal: &Literal) -> Value<'_>
-    ensures { val result ≡ literal_val literal.now }
-{
-    match literal {
-        Literal::Null => Value::Null,
-        Literal::Flag(b) => Value::Flag(*b),
-        Literal::Int(n) => Value::Int(*n),
-        Literal::Str(text) => Value::Str(text.as_str()),
-    }
-}
 
 /// The first that is not null.
 pub(crate) fn known<'v>(a: Value<'v>, b: Value<'v>) -> Value<'v>
@@ -57,7 +46,7 @@ pub(crate) fn is_member(value: &Value<'_>, literals: &[Literal]) -> Option<bool>
 {
     let mut answer = Some(false);
     for literal in literals {
-        answer = or3(answer, equal3(value, &literal_value(literal)));
+        answer = or3(answer, equal3(value, &literal.value()));
     }
     answer
 }
