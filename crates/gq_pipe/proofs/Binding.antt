@@ -1,5 +1,6 @@
 -- What is bound before a step: what steps bind, as rows and load numbers have it.
 use Rattle.std.proofs.Common.{◌≡◌, ℕ, zero, suc, ◌+◌, ◌<◌, ◌≤◌, Bool, true, false, ◌||◌, ◌&&◌, cond, nat_eq, Option, Some, None, List, [], ◌∷◌, ◌++◌, length, drop, refl, sym, ap, ap₂, ◌∙◌, subst, inl, inr, ◌⊎◌, arith}
+use Rattle.std.specs.Option.{option_or}
 use Rattle.std.specs.Prelude.{slice_index}
 use Rattle.std.proofs.lemmas.Bool.{eqb-true, eq-eqb, ne_eqb, cases_eq, and_parts, or_left, or_right}
 use Rattle.gq_base.specs.declared.NodeId.{NodeId}
@@ -125,23 +126,19 @@ module _ (c : Run) (old new : Assignment) where
 
 -- ---- what is looked up
 
-abbrev or_else : {X : Type 0} → Option X → Option X → Option X
-or_else later None = later
-or_else later (Some x) = Some x
-
-look_either : {X : Type 0} (bs cs : List (ℕ × X)) (v : ℕ) → look (bs ++ cs) v ≡ or_else (look cs v) (look bs v)
+look_either : {X : Type 0} (bs cs : List (ℕ × X)) (v : ℕ) → look (bs ++ cs) v ≡ option_or (look bs v) (look cs v)
 look_either [] cs v = refl
 look_either (b ∷ bs) cs v = go (nat_eq b.0 v) (look_either bs cs v)
   where
-    go : (t : Bool) → look (bs ++ cs) v ≡ or_else (look cs v) (look bs v) → cond t (Some b.1) (look (bs ++ cs) v) ≡ or_else (look cs v) (cond t (Some b.1) (look bs v))
+    go : (t : Bool) → look (bs ++ cs) v ≡ option_or (look bs v) (look cs v) → cond t (Some b.1) (look (bs ++ cs) v) ≡ option_or (cond t (Some b.1) (look bs v)) (look cs v)
     go true e = refl
     go false e = e
 
 look_append : {X : Type 0} (made : ℕ → X) (one two : ℕ → Bool) (bs cs : List (ℕ × X)) → ((v : ℕ) → look bs v ≡ cond (one v) (Some (made v)) None) → ((v : ℕ) → look cs v ≡ cond (two v) (Some (made v)) None)
     → (v : ℕ) → look (bs ++ cs) v ≡ cond (one v || two v) (Some (made v)) None
-look_append made one two bs cs h k v = look_either bs cs v ∙ ap₂ or_else (k v) (h v) ∙ go (one v)
+look_append made one two bs cs h k v = look_either bs cs v ∙ ap₂ option_or (h v) (k v) ∙ go (one v)
   where
-    go : (b : Bool) → or_else (cond (two v) (Some (made v)) None) (cond b (Some (made v)) None) ≡ cond (b || two v) (Some (made v)) None
+    go : (b : Bool) → option_or (cond b (Some (made v)) None) (cond (two v) (Some (made v)) None) ≡ cond (b || two v) (Some (made v)) None
     go true = refl
     go false = refl
 

@@ -5,6 +5,7 @@
 -- 50 on NULL TRUE FALSE STARTS ENDS WITH CONTAINS EXISTS. SCHEMA PLAN PROFILE are 60 to 62, other words 63, names in
 -- backquotes 64, integers 65, 9223372036854775808 is 66, and strings 67.
 use Rattle.std.proofs.Common.{◌≡◌, ℕ, suc, Bool, true, false, not, ◌||◌, if◌then◌else◌, List, [], ◌∷◌, ◌++◌, Option, Some, None, refl, sym, ◌∙◌, ap, subst, codes}
+use Rattle.std.specs.Option.{option_or}
 use Rattle.std.specs.Str.{bytes_eq, str_eq_ignore_ascii_case, str_to_ascii_lowercase}
 use Rattle.std.proofs.Math.IntN.{neg_ℤ, pos}
 use Rattle.std.proofs.lemmas.Slice.Eq.{bytes_eq-Decides}
@@ -17,7 +18,7 @@ use Rattle.gq_lexer.specs.declared.token.Sign.TheVariants as sign
 use Rattle.gq_lexer.specs.declared.token.Token.{Token}
 use Rattle.gq_lexer.specs.declared.token.TokenKind.{TokenKind}
 use Rattle.gq_lexer.specs.declared.token.TokenKind.TheVariants as kind
-use Rattle.gq_tokens.specs.Words.{Name, addition, addition_of, big, called, called_of, comparison, comparison_of, direction, direction_of, is_among, is_big, is_reserved, is_sign, is_word, multiplication, multiplication_of, name, name_of, negative, negative_of, number, number_of, or_else, plain, plain_of, reserved_words, same_sign, sign_is, test_word, test_word_of, tip, tip_of, when, word_is, word_value}
+use Rattle.gq_tokens.specs.Words.{Name, addition, addition_of, big, called, called_of, comparison, comparison_of, direction, direction_of, is_among, is_big, is_reserved, is_sign, is_word, multiplication, multiplication_of, name, name_of, negative, negative_of, number, number_of, plain, plain_of, reserved_words, same_sign, sign_is, test_word, test_word_of, tip, tip_of, when, word_is, word_value}
 use Rattle.gq_base.specs.declared.operator.ArithOp.{ArithOp}
 use Rattle.gq_base.specs.declared.operator.ArithOp.TheVariants as op
 use Rattle.gq_base.specs.declared.operator.CompareOp.{CompareOp}
@@ -128,7 +129,7 @@ when_by true x s P h e = h refl
 when_by false x s P h e = cc
 
 or_else_by : {A : Type 0} (o other : Option A) (s : A) (P : Type 0) → (o ≡ Some s → P)
-    → (other ≡ Some s → P) → or_else o other ≡ Some s → P
+    → (other ≡ Some s → P) → option_or o other ≡ Some s → P
 or_else_by (Some x) other s P h k e = h e
 or_else_by None other s P h k e = k e
 
@@ -151,7 +152,7 @@ chosen : {A : Type 0} (w v : Name) (G : List ℕ) (x : A) → among (word_class 
 chosen w v G x h = record { taken = λ s e. by_word w v G x s h e }
 
 also : {A : Type 0} (w : Name) (G : List ℕ) {o other : Option A} → Chosen w G o → Chosen w G other
-    → Chosen w G (or_else o other)
+    → Chosen w G (option_or o other)
 also w G {o = o} {other = other} h k = record {
   taken = λ s e. or_else_by o other s (among (word_class w) G ≡ true) (h.taken s) (k.taken s) e;
 }

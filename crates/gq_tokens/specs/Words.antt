@@ -2,7 +2,7 @@
 use Prim.Native.String.{String}
 use Rattle.std.specs.Prelude.{ℕ, ◌^◌, Bool, true, false, nat_lt, not, if◌then◌else◌, ◌||◌, List, [], ◌∷◌, Option, Some, None, codes}
 use Rattle.std.proofs.Math.IntN.{ℤ, pos, neg_ℤ}
-use Rattle.std.specs.Option.{option_map}
+use Rattle.std.specs.Option.{option_map, option_or}
 use Rattle.std.specs.Str.{str_eq_ignore_ascii_case}
 use denote.Enum.Bare.{sameb}
 use Rattle.gq_base.specs.declared.literal.Literal.{Literal}
@@ -24,11 +24,6 @@ use Rattle.gq_tokens.specs.declared.opening.Tip.{Tip}
 -- the bytes of a name
 abbrev pub Name : Type 0
 Name = List ℕ
-
--- the first of two tests that takes it
-abbrev pub or_else : {A : Type 0} → Option A → Option A → Option A
-or_else (Some x) other = Some x
-or_else None other = other
 
 -- a value where a test holds
 abbrev pub when : {A : Type 0} → Bool → A → Option A
@@ -136,7 +131,7 @@ name t = name_of t.kind
 abbrev pub test_word_of : TokenKind → Option TestWord
 test_word_of (kind.Word w) =
     let is = λ (text : String). str_eq_ignore_ascii_case w (codes text) in
-    or_else (when (is "IS") test.Is) (or_else (when (is "IN") test.In) (or_else (when (is "STARTS") test.Starts) (or_else (when (is "ENDS") test.Ends) (when (is "CONTAINS") test.Contains))))
+    option_or (when (is "IS") test.Is) (option_or (when (is "IN") test.In) (option_or (when (is "STARTS") test.Starts) (option_or (when (is "ENDS") test.Ends) (when (is "CONTAINS") test.Contains))))
 test_word_of _ = None
 
 -- IS IN STARTS ENDS CONTAINS, in any ASCII case
@@ -146,7 +141,7 @@ test_word t = test_word_of t.kind
 abbrev pub direction_of : TokenKind → Option Bool
 direction_of (kind.Word w) =
     let is = λ (text : String). str_eq_ignore_ascii_case w (codes text) in
-    or_else (when (is "ASC") false) (or_else (when (is "ASCENDING") false) (or_else (when (is "DESC") true) (when (is "DESCENDING") true)))
+    option_or (when (is "ASC") false) (option_or (when (is "ASCENDING") false) (option_or (when (is "DESC") true) (when (is "DESCENDING") true)))
 direction_of _ = None
 
 -- ASC ASCENDING DESC DESCENDING, in any ASCII case: whether the order is from the greatest to the least
@@ -173,7 +168,7 @@ big t = when (is_big t.kind) tt
 
 -- TRUE FALSE NULL, in any ASCII case
 abbrev pub word_value : Name → Option Literal
-word_value w = or_else (when (str_eq_ignore_ascii_case w (codes "TRUE")) (literal.Flag true)) (or_else (when (str_eq_ignore_ascii_case w (codes "FALSE")) (literal.Flag false)) (when (str_eq_ignore_ascii_case w (codes "NULL")) literal.Null))
+word_value w = option_or (when (str_eq_ignore_ascii_case w (codes "TRUE")) (literal.Flag true)) (option_or (when (str_eq_ignore_ascii_case w (codes "FALSE")) (literal.Flag false)) (when (str_eq_ignore_ascii_case w (codes "NULL")) literal.Null))
 
 -- an integer of 64 signed bits
 abbrev pub int_value : ℕ → Option ℤ
