@@ -5,7 +5,8 @@ use Rattle.gq_lexer.specs.declared.token.Token.{Token}
 use Rattle.gq_syntax.specs.Grammar.{SpelledStatement}
 use Rattle.gq_syntax.specs.Outcomes.{Begins, SpellsOne, Stuck, TooDeep, Viable}
 use Rattle.gq_syntax.specs.steps.Parsers.{statement_of, whole}
-use Rattle.gq_tokens.specs.Readers.{Deep, Done, Out, Syntax, Verdict, finish, on_done}
+use Rattle.gq_tokens.specs.Readers.{Deep, Done, Out, Syntax, Verdict, on_done}
+use Rattle.gq_tokens.specs.steps.Constructs.{finish}
 use Rattle.gq_tokens.specs.Relations.{Pure, Then}
 use Rattle.gq_syntax.specs.declared.statement.Statement.{Statement}
 use Rattle.gq_syntax.proofs.Productions.{rooms-more, rooms-same, spelled_read, statement-meets, whole-law}

@@ -6,7 +6,9 @@ use Rattle.gq_lexer.specs.declared.token.Sign.TheVariants as sign
 use Rattle.gq_lexer.specs.declared.token.Token.{Token}
 use Rattle.gq_syntax.specs.Grammar as g
 use Rattle.gq_syntax.specs.steps.Parsers as p
-use Rattle.gq_tokens.specs.Readers.{◌>>=◌, Done, Reader, enclosed, fork, into, listed, must, nest, pure}
+use Rattle.gq_tokens.specs.Literals as lit
+use Rattle.gq_tokens.specs.Readers.{◌>>=◌, Done, Reader, enclosed, fork, into, listed, must, pure}
+use Rattle.gq_tokens.specs.steps.Constructs.{nest}
 use Rattle.gq_tokens.specs.Relations.{Enclosed, Fork, Into, Maybe, Must, Nest, Pure, Then}
 use Rattle.gq_syntax.specs.Trees as tree
 use Rattle.gq_syntax.specs.Trees.{Node, columns, detail_of, made, no_detail, node_part, rel_part, tail_made, tree_of}
@@ -37,15 +39,15 @@ abbrev Plain : {A : Type 0} → Bool → Reader A → Rel A → List ℕ → Lis
 Plain same r R first after = Meets same r r R R first after
 
 module _ (same : Bool) where
-  literal-meets : (after : List ℕ) → Plain same p.literal g.SpelledLiteral
+  literal-meets : (after : List ℕ) → Plain same lit.literal g.SpelledLiteral
       (11 ∷ 50 ∷ 51 ∷ 52 ∷ 65 ∷ 67 ∷ []) after
-  unfolding p.literal
+  unfolding lit.literal
   literal-meets after = meets-fork (takes_sign sign.Minus)
       (λ _. meets-must takes_negative (meets-pure same after))
       (meets-must takes_plain (meets-pure same after)) refl
 
-  list-meets : (after : List ℕ) → Plain same p.list g.SpelledList (3 ∷ []) after
-  unfolding p.list p.literals
+  list-meets : (after : List ℕ) → Plain same lit.list g.SpelledList (3 ∷ []) after
+  unfolding lit.list lit.literals
   list-meets after = meets-must (takes_sign sign.LeftBracket)
       (λ _. meets-enclosed sign.RightBracket after (meets-listed (literal-meets (7 ∷ 4 ∷ [])) refl)
       refl)

@@ -3,14 +3,16 @@
 ghost use Rattle.std.specs.Prelude.{◌<◌};
 ghost use Rattle.gq_syntax.specs.steps.Nesting.{Nests, Opens};
 ghost use Rattle.gq_syntax.specs.steps.Parsers as p;
-ghost use Rattle.gq_tokens.specs.Answers.{Reads};
+ghost use Rattle.gq_tokens.specs.Answers.{Reads, ReadsBeside};
 
 use crate::expression::{ArithTerm, Ast, AstNode, AstTester, CompareTerm, Term, Tester};
-use crate::literals::list;
 use crate::opening::Level;
 use gq_base::{ArithOp, Boxed, CompareOp, List, Literal, Text};
 use gq_lexer::Sign;
-use gq_tokens::{Addition, Comparison, Multiplication, Stop, TestWord, Tests, Tokens, Word, led, listed, many};
+use gq_tokens::{
+    Addition, Comparison, Multiplication, Stop, TestWord, Tests, Tokens, Word, led, list, listed,
+    with_many,
+};
 use std::alloc::Global;
 
 /// How many constructs may nest in one another.
@@ -56,7 +58,7 @@ impl<F: Fn(Global, &mut Tokens<'_>, usize, Level) -> Result<Ast, Stop>> Grammar<
             result tokens.new }
     {
         let tree = self.inside(tokens, Level::Expr)?;
-        tokens.expect_sign(Sign::RightParen)?;
+        let tree = tokens.closed(tree, Sign::RightParen)?;
         Ok(AstNode::Paren(Boxed::new(self.alloc, tree)?))
     }
 
@@ -85,8 +87,7 @@ impl<F: Fn(Global, &mut Tokens<'_>, usize, Level) -> Result<Ast, Stop>> Grammar<
             return Ok(List::new(self.alloc));
         }
         let found = self.arguments(tokens)?;
-        tokens.expect_sign(Sign::RightParen)?;
-        Ok(found)
+        tokens.closed(found, Sign::RightParen)
     }
 
     // What a name begins: a call, a property or a variable.
@@ -184,16 +185,21 @@ impl<F: Fn(Global, &mut Tokens<'_>, usize, Level) -> Result<Ast, Stop>> Grammar<
         Ok(Term { op, tree })
     }
 
-    // Any number of multiplications.
+    // What was read, and any number of multiplications.
     #[tactic(auto, unfolding(crate::specs::steps::Parsers::multiplications))]
-    fn multiplications(&self, tokens: &mut Tokens<'_>) -> Result<List<ArithTerm>, Stop>
+    fn multiplications(
+        &self,
+        tokens: &mut Tokens<'_>,
+        first: Ast,
+    ) -> Result<(Ast, List<ArithTerm>), Stop>
         requires nests { Nests self.now.room (F.pre self.now.nested) (F.post self.now.nested) }
-        ensures { Reads (p.multiplications self.now.room (p.inside self.now.room) tokens.old)
-            result tokens.new }
+        ensures { ReadsBeside first
+            (p.multiplications self.now.room (p.inside self.now.room) tokens.old) result tokens.new }
     {
-        many(
+        with_many(
             self.alloc,
             tokens,
+            first,
             Multiplication,
             |tokens, op| self.multiplied(tokens, op),
         )
@@ -208,7 +214,7 @@ impl<F: Fn(Global, &mut Tokens<'_>, usize, Level) -> Result<Ast, Stop>> Grammar<
     {
         let start = tokens.left();
         let first = self.signed(tokens)?;
-        let more = self.multiplications(tokens)?;
+        let (first, more) = self.multiplications(tokens, first)?;
         if more.is_empty() {
             return Ok(first);
         }
@@ -228,16 +234,17 @@ impl<F: Fn(Global, &mut Tokens<'_>, usize, Level) -> Result<Ast, Stop>> Grammar<
         Ok(Term { op, tree })
     }
 
-    // Any number of additions.
+    // What was read, and any number of additions.
     #[tactic(auto, unfolding(crate::specs::steps::Parsers::additions))]
-    fn additions(&self, tokens: &mut Tokens<'_>) -> Result<List<ArithTerm>, Stop>
+    fn additions(&self, tokens: &mut Tokens<'_>, first: Ast) -> Result<(Ast, List<ArithTerm>), Stop>
         requires nests { Nests self.now.room (F.pre self.now.nested) (F.post self.now.nested) }
-        ensures { Reads (p.additions self.now.room (p.inside self.now.room) tokens.old)
+        ensures { ReadsBeside first (p.additions self.now.room (p.inside self.now.room) tokens.old)
             result tokens.new }
     {
-        many(
+        with_many(
             self.alloc,
             tokens,
+            first,
             Addition,
             |tokens, op| self.added(tokens, op),
         )
@@ -252,7 +259,7 @@ impl<F: Fn(Global, &mut Tokens<'_>, usize, Level) -> Result<Ast, Stop>> Grammar<
     {
         let start = tokens.left();
         let first = self.product(tokens)?;
-        let more = self.additions(tokens)?;
+        let (first, more) = self.additions(tokens, first)?;
         if more.is_empty() {
             return Ok(first);
         }
@@ -291,16 +298,17 @@ impl<F: Fn(Global, &mut Tokens<'_>, usize, Level) -> Result<Ast, Stop>> Grammar<
         }
     }
 
-    // Any number of tests.
+    // What was read, and any number of tests.
     #[tactic(auto, unfolding(crate::specs::steps::Parsers::testers))]
-    fn testers(&self, tokens: &mut Tokens<'_>) -> Result<List<AstTester>, Stop>
+    fn testers(&self, tokens: &mut Tokens<'_>, first: Ast) -> Result<(Ast, List<AstTester>), Stop>
         requires nests { Nests self.now.room (F.pre self.now.nested) (F.post self.now.nested) }
-        ensures { Reads (p.testers self.now.room (p.inside self.now.room) tokens.old)
+        ensures { ReadsBeside first (p.testers self.now.room (p.inside self.now.room) tokens.old)
             result tokens.new }
     {
-        many(
+        with_many(
             self.alloc,
             tokens,
+            first,
             Tests,
             |tokens, word| self.tested(tokens, word),
         )
@@ -315,7 +323,7 @@ impl<F: Fn(Global, &mut Tokens<'_>, usize, Level) -> Result<Ast, Stop>> Grammar<
     {
         let start = tokens.left();
         let first = self.sum(tokens)?;
-        let more = self.testers(tokens)?;
+        let (first, more) = self.testers(tokens, first)?;
         if more.is_empty() {
             return Ok(first);
         }
@@ -335,16 +343,21 @@ impl<F: Fn(Global, &mut Tokens<'_>, usize, Level) -> Result<Ast, Stop>> Grammar<
         Ok(Term { op, tree })
     }
 
-    // Any number of comparisons.
+    // What was read, and any number of comparisons.
     #[tactic(auto, unfolding(crate::specs::steps::Parsers::comparisons))]
-    fn comparisons(&self, tokens: &mut Tokens<'_>) -> Result<List<CompareTerm>, Stop>
+    fn comparisons(
+        &self,
+        tokens: &mut Tokens<'_>,
+        first: Ast,
+    ) -> Result<(Ast, List<CompareTerm>), Stop>
         requires nests { Nests self.now.room (F.pre self.now.nested) (F.post self.now.nested) }
-        ensures { Reads (p.comparisons self.now.room (p.inside self.now.room) tokens.old)
-            result tokens.new }
+        ensures { ReadsBeside first
+            (p.comparisons self.now.room (p.inside self.now.room) tokens.old) result tokens.new }
     {
-        many(
+        with_many(
             self.alloc,
             tokens,
+            first,
             Comparison,
             |tokens, op| self.compared(tokens, op),
         )
@@ -359,7 +372,7 @@ impl<F: Fn(Global, &mut Tokens<'_>, usize, Level) -> Result<Ast, Stop>> Grammar<
     {
         let start = tokens.left();
         let first = self.tests(tokens)?;
-        let more = self.comparisons(tokens)?;
+        let (first, more) = self.comparisons(tokens, first)?;
         if more.is_empty() {
             return Ok(first);
         }
@@ -386,16 +399,17 @@ impl<F: Fn(Global, &mut Tokens<'_>, usize, Level) -> Result<Ast, Stop>> Grammar<
         self.compare(tokens)
     }
 
-    // Any number of operands, each behind AND.
+    // What was read, and any number of operands, each behind AND.
     #[tactic(auto, unfolding(crate::specs::steps::Parsers::ands))]
-    fn ands(&self, tokens: &mut Tokens<'_>) -> Result<List<Ast>, Stop>
+    fn ands(&self, tokens: &mut Tokens<'_>, first: Ast) -> Result<(Ast, List<Ast>), Stop>
         requires nests { Nests self.now.room (F.pre self.now.nested) (F.post self.now.nested) }
-        ensures { Reads (p.ands self.now.room (p.inside self.now.room) tokens.old)
+        ensures { ReadsBeside first (p.ands self.now.room (p.inside self.now.room) tokens.old)
             result tokens.new }
     {
-        many(
+        with_many(
             self.alloc,
             tokens,
+            first,
             Word("AND"),
             |tokens, _| self.negation(tokens),
         )
@@ -410,7 +424,7 @@ impl<F: Fn(Global, &mut Tokens<'_>, usize, Level) -> Result<Ast, Stop>> Grammar<
     {
         let start = tokens.left();
         let first = self.negation(tokens)?;
-        let more = self.ands(tokens)?;
+        let (first, more) = self.ands(tokens, first)?;
         if more.is_empty() {
             return Ok(first);
         }
@@ -419,16 +433,17 @@ impl<F: Fn(Global, &mut Tokens<'_>, usize, Level) -> Result<Ast, Stop>> Grammar<
         Ok(Ast { node, span })
     }
 
-    // Any number of operands, each behind XOR.
+    // What was read, and any number of operands, each behind XOR.
     #[tactic(auto, unfolding(crate::specs::steps::Parsers::xors))]
-    fn xors(&self, tokens: &mut Tokens<'_>) -> Result<List<Ast>, Stop>
+    fn xors(&self, tokens: &mut Tokens<'_>, first: Ast) -> Result<(Ast, List<Ast>), Stop>
         requires nests { Nests self.now.room (F.pre self.now.nested) (F.post self.now.nested) }
-        ensures { Reads (p.xors self.now.room (p.inside self.now.room) tokens.old)
+        ensures { ReadsBeside first (p.xors self.now.room (p.inside self.now.room) tokens.old)
             result tokens.new }
     {
-        many(
+        with_many(
             self.alloc,
             tokens,
+            first,
             Word("XOR"),
             |tokens, _| self.and(tokens),
         )
@@ -443,7 +458,7 @@ impl<F: Fn(Global, &mut Tokens<'_>, usize, Level) -> Result<Ast, Stop>> Grammar<
     {
         let start = tokens.left();
         let first = self.and(tokens)?;
-        let more = self.xors(tokens)?;
+        let (first, more) = self.xors(tokens, first)?;
         if more.is_empty() {
             return Ok(first);
         }
@@ -452,14 +467,20 @@ impl<F: Fn(Global, &mut Tokens<'_>, usize, Level) -> Result<Ast, Stop>> Grammar<
         Ok(Ast { node, span })
     }
 
-    // Any number of operands, each behind OR.
+    // What was read, and any number of operands, each behind OR.
     #[tactic(auto, unfolding(crate::specs::steps::Parsers::ors))]
-    fn ors(&self, tokens: &mut Tokens<'_>) -> Result<List<Ast>, Stop>
+    fn ors(&self, tokens: &mut Tokens<'_>, first: Ast) -> Result<(Ast, List<Ast>), Stop>
         requires nests { Nests self.now.room (F.pre self.now.nested) (F.post self.now.nested) }
-        ensures { Reads (p.ors self.now.room (p.inside self.now.room) tokens.old)
+        ensures { ReadsBeside first (p.ors self.now.room (p.inside self.now.room) tokens.old)
             result tokens.new }
     {
-        many(self.alloc, tokens, Word("OR"), |tokens, _| self.xor(tokens))
+        with_many(
+            self.alloc,
+            tokens,
+            first,
+            Word("OR"),
+            |tokens, _| self.xor(tokens),
+        )
     }
 
     // An expression.
@@ -470,7 +491,7 @@ impl<F: Fn(Global, &mut Tokens<'_>, usize, Level) -> Result<Ast, Stop>> Grammar<
     {
         let start = tokens.left();
         let first = self.xor(tokens)?;
-        let more = self.ors(tokens)?;
+        let (first, more) = self.ors(tokens, first)?;
         if more.is_empty() {
             return Ok(first);
         }

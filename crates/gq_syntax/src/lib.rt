@@ -5,7 +5,6 @@
 
 mod descent;
 mod expression;
-mod literals;
 mod opening;
 mod parsing;
 mod patterns;

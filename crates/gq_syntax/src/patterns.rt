@@ -5,11 +5,10 @@ ghost use Rattle.gq_syntax.specs.steps.Parsers as p;
 ghost use Rattle.gq_tokens.specs.Answers.{Reads};
 ghost use Rattle.gq_tokens.specs.Readers as r;
 
-use crate::literals::literal;
 use crate::statement::{Arrow, Entry, Hop, NodePart, Path, RelPart};
 use gq_base::{List, Text};
 use gq_lexer::Sign;
-use gq_tokens::{Stop, Tip, Tips, Tokens, behind, listed, many};
+use gq_tokens::{Stop, Tip, Tips, Tokens, behind, listed, literal, many};
 use std::alloc::Global;
 
 /// What stands in the brackets of a relationship.
@@ -57,8 +56,7 @@ fn map(alloc: Global, tokens: &mut Tokens<'_>) -> Result<List<Entry>, Stop>
         return Ok(List::new(alloc));
     }
     let found = entries(alloc, tokens)?;
-    tokens.expect_sign(Sign::RightBrace)?;
-    Ok(found)
+    tokens.closed(found, Sign::RightBrace)
 }
 
 // The label of a node, if one comes next.

@@ -33,10 +33,11 @@ fn clause(alloc: Global, tokens: &mut Tokens<'_>) -> Result<Clause, Stop>
     ensures { Reads (p.clause 64 tokens.old) result tokens.new }
 {
     let paths = paths(alloc, tokens)?;
-    let mut filter = None;
-    if tokens.take_word("WHERE") {
-        filter = Some(expr(alloc, tokens)?);
-    }
+    let filter = if tokens.take_word("WHERE") {
+        Some(expr(alloc, tokens)?)
+    } else {
+        None
+    };
     Ok(Clause { paths, filter })
 }
 
@@ -70,10 +71,11 @@ fn item(alloc: Global, tokens: &mut Tokens<'_>) -> Result<Item, Stop>
     ensures { Reads (p.item 64 tokens.old) result tokens.new }
 {
     let tree = expr(alloc, tokens)?;
-    let mut name = None;
-    if tokens.take_word("AS") {
-        name = Some(tokens.expect_name()?);
-    }
+    let name = if tokens.take_word("AS") {
+        Some(tokens.expect_name()?)
+    } else {
+        None
+    };
     Ok(Item { tree, name })
 }
 

@@ -4,7 +4,8 @@
 use Rattle.std.proofs.Common.{◌≡◌, ℕ, ◌≤◌, true, List, [], ◌∷◌, ◌++◌, length, Option, Some, None, inl, inr, refl, sym, ◌∙◌, ap, subst, append_assoc}
 use Rattle.gq_lexer.specs.declared.token.Span.{Span}
 use Rattle.gq_lexer.specs.declared.token.Token.{Token}
-use Rattle.gq_tokens.specs.Readers.{Reader, ◌>>=◌, fail, fork, head_by, many, must, pure, spanned, too_deep}
+use Rattle.gq_tokens.specs.Readers.{Reader, ◌>>=◌, fail, fork, head_by, many, must, pure}
+use Rattle.gq_tokens.specs.steps.Constructs.{spanned, too_deep}
 use Rattle.gq_tokens.specs.Relations.{Fork, Many, Must, Nothing, Pure, Spanned, Then}
 use Rattle.gq_tokens.proofs.Classes.{Takes, class_of, kind_class}
 use Rattle.gq_tokens.proofs.Runs.{Only, Rel, fork-only, many-only, pure-only, spanned-only, then-only}

@@ -2,7 +2,8 @@
 use Rattle.std.proofs.Common.{◌≡◌, ℕ, zero, suc, ◌-◌, ◌≤◌, Bool, true, false, List, [], ◌∷◌, ◌++◌, length, take, Option, Some, None, inl, inr, refl, arith}
 use Rattle.gq_lexer.specs.declared.token.Token.{Token}
 use Rattle.gq_lexer.specs.declared.token.Span.{Span}
-use Rattle.gq_tokens.specs.Readers.{Verdict, Done, Syntax, Deep, Out, Reader, on_done, ◌>>=◌, pure, fail, finish, head_by, tail, on_head, fork, too_deep, many_from, many, spanned}
+use Rattle.gq_tokens.specs.Readers.{Verdict, Done, Syntax, Deep, Out, Reader, on_done, ◌>>=◌, pure, fail, head_by, tail, on_head, fork, many_from, many}
+use Rattle.gq_tokens.specs.steps.Constructs.{finish, too_deep, spanned}
 use Rattle.gq_tokens.specs.Relations.{span_of, Pure, Then, Fork, Many, Spanned}
 use Rattle.gq_tokens.proofs.Runs.{Rel, Run, Within, Sample, then-run, pure-run, fork-run, must-run, too_deep-run, room-run, many-run, many-within, run-shorter, spanned-run, finish-run}
 

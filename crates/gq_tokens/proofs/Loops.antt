@@ -2,7 +2,8 @@
 use Rattle.std.proofs.Common.{◌≡◌, ℕ, zero, suc, ◌+◌, ◌-◌, ◌≤◌, ◌<◌, List, [], ◌∷◌, ◌++◌, length, Option, Some, None, Err, refl, sym, ◌∙◌, ap, subst, arith, append_assoc, append-nil}
 use Rattle.gq_lexer.specs.declared.token.Token.{Token}
 use Rattle.gq_tokens.specs.Answers.{Reads}
-use Rattle.gq_tokens.specs.Readers.{Verdict, Done, Syntax, Deep, Out, Reader, on_done, pure, head_by, tail, many, many_from, nest}
+use Rattle.gq_tokens.specs.Readers.{Verdict, Done, Syntax, Deep, Out, Reader, on_done, pure, head_by, tail, many, many_from}
+use Rattle.gq_tokens.specs.steps.Constructs.{nest}
 use Rattle.gq_tokens.specs.declared.tokens.Stop.{Stop}
 use Rattle.gq_tokens.specs.declared.tokens.Stop.TheVariants as stop
 

@@ -5,7 +5,8 @@ use Rattle.gq_lexer.specs.declared.token.Sign.{Sign}
 use Rattle.gq_lexer.specs.declared.token.Sign.TheVariants as sign
 use Rattle.gq_lexer.specs.declared.token.Span.{Span}
 use Rattle.gq_lexer.specs.declared.token.Token.{Token}
-use Rattle.gq_tokens.specs.Readers.{Reader, ◌>>=◌, enclosed, fork, into, listed, many, maybe, must, pure, spanned}
+use Rattle.gq_tokens.specs.Readers.{Reader, ◌>>=◌, enclosed, fork, into, listed, many, maybe, must, pure}
+use Rattle.gq_tokens.specs.steps.Constructs.{spanned}
 use Rattle.gq_tokens.specs.Relations.{Enclosed, Fork, Into, Listed, Many, Maybe, Must, Pure, Spanned, Then}
 use Rattle.gq_tokens.proofs.Classes.{Takes, sign_class, takes_sign}
 use Rattle.gq_tokens.proofs.Complete.{Complete, complete-fork, complete-many, complete-must, complete-pure, complete-spanned, complete-then, complete-widen}

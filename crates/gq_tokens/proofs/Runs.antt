@@ -3,7 +3,8 @@ use Rattle.std.proofs.Common.{◌≡◌, ℕ, zero, suc, ◌-◌, ◌≤◌, Boo
 use Rattle.std.proofs.Math.Seq.{take-append_seam}
 use Rattle.gq_lexer.specs.declared.token.Token.{Token}
 use Rattle.gq_lexer.specs.declared.token.Span.{Span}
-use Rattle.gq_tokens.specs.Readers.{Verdict, Done, Syntax, Deep, Out, Reader, on_done, ◌>>=◌, pure, fail, finish, head_by, tail, on_head, fork, too_deep, many_from, many, spanned}
+use Rattle.gq_tokens.specs.Readers.{Verdict, Done, Syntax, Deep, Out, Reader, on_done, ◌>>=◌, pure, fail, head_by, tail, on_head, fork, many_from, many}
+use Rattle.gq_tokens.specs.steps.Constructs.{finish, too_deep, spanned}
 use Rattle.gq_tokens.specs.Relations.{span_of, Pure, Then, Fork, Many, Spanned}
 
 -- what lists of tokens spell

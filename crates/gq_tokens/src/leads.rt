@@ -14,8 +14,10 @@ use gq_lexer::{Sign, Token};
 
 /// What leads in an item of a repetition.
 pub trait Lead: Copy {
+    /// What a token that leads in an item stands for.
     type Found: Copy;
 
+    // What each token stands for, if it leads in an item.
     ghost test: { Self → Token → Option Self.Found };
 
     /// What a token stands for, if it leads in an item.

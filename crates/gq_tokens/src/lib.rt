@@ -5,12 +5,14 @@
 #![tactic(auto)]
 
 mod leads;
+mod literals;
 mod opening;
 mod repeats;
 mod tokens;
 mod words;
 
 pub use leads::{Addition, Comparison, Lead, Multiplication, Tests, Tips, Word};
+pub use literals::{list, literal};
 pub use opening::{TestWord, Tip};
-pub use repeats::{behind, led, listed, many};
+pub use repeats::{behind, led, listed, many, with_many};
 pub use tokens::{Stop, Tokens};

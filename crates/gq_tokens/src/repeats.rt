@@ -1,7 +1,7 @@
 //! Repetitions: the loop of the productions that repeat something, written once over what reads an item.
 
 ghost use Rattle.std.specs.Prelude.{◌≡◌, ◌∷◌, IfOk};
-ghost use Rattle.gq_tokens.specs.Answers.{Reads};
+ghost use Rattle.gq_tokens.specs.Answers.{Reads, ReadsBeside};
 ghost use Rattle.gq_tokens.specs.Readers as r;
 ghost use Rattle.gq_tokens.specs.Repeats.{Items, Parts};
 
@@ -41,6 +41,22 @@ pub fn many<L: Lead, B: Drop, R: Fn(&mut Tokens<'_>, L::Found) -> Result<B, Stop
         found.push(next)?;
     }
     Ok(found)
+}
+
+/// A value that was read, and any number of items beside it, each behind a token that leads it in.
+pub fn with_many<A: Drop, L: Lead, B: Drop, R: Fn(&mut Tokens<'_>, L::Found) -> Result<B, Stop>>(
+    alloc: Global,
+    tokens: &mut Tokens<'_>,
+    first: A,
+    lead: L,
+    item: R,
+) -> Result<(A, List<B>), Stop>
+    requires { R.IsAlwaysCallable item }
+    ensures { (read : L.Found → r.Reader B) → Items read (R.post item)
+        → ReadsBeside first (r.many (L.test lead) read tokens.old) result tokens.new }
+{
+    let more = many(alloc, tokens, lead, item)?;
+    Ok((first, more))
 }
 
 /// An item that was read, and any number more, each behind a token that leads it in.

@@ -152,6 +152,14 @@ impl<'t> Tokens<'t> {
         }
     }
 
+    /// A value that was read, behind which this sign has to come next.
+    pub fn closed<A: Drop>(&mut self, found: A, sign: Sign) -> Result<A, Stop>
+        ensures { Reads (r.must (w.sign_is sign) (λ _. r.pure found) self.old) result self.new }
+    {
+        self.expect_sign(sign)?;
+        Ok(found)
+    }
+
     /// Takes this word, which has to come next, in any ASCII case.
     pub fn expect_word(&mut self, word: &str) -> Result<(), Stop>
         ensures { Reads (r.must (w.word_is word.now) r.pure self.old) result self.new }

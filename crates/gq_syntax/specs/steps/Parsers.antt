@@ -2,13 +2,14 @@
 use Rattle.std.specs.Prelude.{ℕ, zero, suc, Bool, true, false, List, [], ◌∷◌, ◌⊎◌, Option, codes}
 use Rattle.std.proofs.Common.{inl, inr}
 use Rattle.std.proofs.Math.IntN.{neg_ℤ, pos}
-use Rattle.gq_base.specs.declared.literal.Literal.{Literal}
 use Rattle.gq_base.specs.declared.literal.Literal.TheVariants as l
 use Rattle.gq_lexer.specs.declared.token.Sign.TheVariants as sign
-use Rattle.gq_tokens.specs.Readers.{◌>>=◌, Reader, enclosed, fail, finish, fork, into, listed, many, maybe, must, nest, pure, spanned}
+use Rattle.gq_tokens.specs.Literals.{list, literal}
+use Rattle.gq_tokens.specs.Readers.{◌>>=◌, Reader, enclosed, fail, fork, into, listed, many, maybe, must, pure}
+use Rattle.gq_tokens.specs.steps.Constructs.{finish, nest, spanned}
 use Rattle.gq_syntax.specs.Trees.{Node, chain_made, columns, detail_of, made, no_detail, node_part, rel_part, tail_made, term, tree_of}
 use Rattle.gq_syntax.specs.Trees as tree
-use Rattle.gq_tokens.specs.Words.{Name, addition, big, called, comparison, direction, multiplication, name, negative, number, plain, sign_is, test_word, tip, word_is}
+use Rattle.gq_tokens.specs.Words.{Name, addition, big, called, comparison, direction, multiplication, name, number, plain, sign_is, test_word, tip, word_is}
 use Rattle.gq_base.specs.declared.operator.ArithOp.{ArithOp}
 use Rattle.gq_syntax.specs.declared.expression.Ast.{Ast}
 use Rattle.gq_syntax.specs.declared.expression.AstNode.TheVariants as e
@@ -36,17 +37,6 @@ use Rattle.gq_syntax.specs.declared.statement.RelPart.{RelPart}
 use Rattle.gq_syntax.specs.declared.statement.Sort.{Sort}
 use Rattle.gq_syntax.specs.declared.statement.Statement.{Statement}
 use Rattle.gq_syntax.specs.declared.statement.Statement.TheVariants as statement
-
--- ---- literals and lists
-
-unfoldable pub literal : Reader Literal
-literal = fork (sign_is sign.Minus) (λ _. must negative pure) (must plain pure)
-
-unfoldable pub literals : Reader (List Literal)
-literals = listed literal
-
-unfoldable pub list : Reader (List Literal)
-list = must (sign_is sign.LeftBracket) (λ _. enclosed sign.RightBracket literals)
 
 -- ---- expressions
 
