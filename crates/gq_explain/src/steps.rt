@@ -204,6 +204,7 @@ fn put_keys<O: Sink>(
 }
 
 // Puts the keys of a join, and the end of its line.
+#[tactic(auto, using(crate::proofs::Chains::both_put, crate::proofs::Chains::one_broke))]
 fn put_keys_line<O: Sink>(
     batch: &mut Batch,
     out: &mut O,
