@@ -12,24 +12,25 @@ ghost use Rattle.gq_plan.specs.Plans.{plan_of, step_of};
 
 use crate::naming::{Naming, label_in, name_of, test_of, type_in};
 use crate::pieces::{Piece, put_pieces};
+use gq_base::Direction;
 use gq_io::{Batch, Failed, Sink};
-use gq_plan::{Plan, Step, Way};
+use gq_plan::{Plan, Step};
 
-fn opening(way: Way) -> &'static str
-    ensures { result.now ≡ opening way }
+fn opening(direction: Direction) -> &'static str
+    ensures { result.now ≡ opening direction }
 {
-    match way {
-        Way::Forward => " -[",
-        Way::Backward => " <-[",
+    match direction {
+        Direction::Forward => " -[",
+        Direction::Backward => " <-[",
     }
 }
 
-fn closing(way: Way) -> &'static str
-    ensures { result.now ≡ closing way }
+fn closing(direction: Direction) -> &'static str
+    ensures { result.now ≡ closing direction }
 {
-    match way {
-        Way::Forward => "]-> ",
-        Way::Backward => "]- ",
+    match direction {
+        Direction::Forward => "]-> ",
+        Direction::Backward => "]- ",
     }
 }
 
@@ -52,10 +53,10 @@ struct Follow {
     rel: u32,
     from: u32,
     to: u32,
-    direction: Way,
+    direction: Direction,
 }
 
-fn following(column: bool, rel: u32, from: u32, to: u32, direction: Way) -> Follow
+fn following(column: bool, rel: u32, from: u32, to: u32, direction: Direction) -> Follow
     ensures { result ≡
         record { column = column; rel = rel; from = from; to = to; direction = direction } }
 {

@@ -4,12 +4,15 @@ use Rattle.std.specs.List.{list_all}
 use Rattle.std.specs.Option.{is_some}
 use Rattle.std.proofs.lemmas.Bool.{and_parts, and_from, eq-eqb, eqb-true, lt-ltb}
 use Rattle.gq_base.specs.Catalogs.{Tables}
+use Rattle.gq_base.specs.Valid.{is_single}
 use Rattle.gq_base.specs.declared.RelTable.{RelTable}
+use Rattle.gq_base.specs.declared.direction.Direction.{Direction}
+use Rattle.gq_base.specs.declared.direction.Direction.TheVariants.{Forward, Backward}
 use Rattle.gq_order.proofs.Runs.{met_by, met_append, Runs, runs_none, runs_one, runs_append, runs_due, is_due, due_meets}
 use Rattle.gq_order.proofs.Tables.{later, first, one_more, one_new, one_marked}
-use Rattle.gq_order.specs.Given.{Draft, begun, with_step, loop_steps, known_with, way_of, single_in, due, test_taken, pair_taken, test_due, pair_due, has_some}
+use Rattle.gq_order.specs.Given.{Draft, begun, with_step, loop_steps, known_with, direction_of, single_in, due, test_taken, pair_taken, test_due, pair_due, has_some}
 use Rattle.gq_order.specs.Orders.{flipped, facing}
-use Rattle.gq_plan.specs.Covers.{fits, after, placed, goes, is_single, agrees, start_of, end_of, test_bound, pair_bound, loop_bound, leaves_loops_out}
+use Rattle.gq_plan.specs.Covers.{fits, after, placed, goes, agrees, start_of, end_of, test_bound, pair_bound, loop_bound, leaves_loops_out}
 use Rattle.gq_plan.specs.Known.{Known, none, with_node, with_rel, is_bound}
 use Rattle.gq_plan.specs.Meaning.{holds}
 use Rattle.gq_plan.specs.Reads.{Variable, node, rel, reads}
@@ -19,8 +22,6 @@ use Rattle.gq_plan.specs.steps.Times.{one, same_demand}
 use Rattle.gq_plan.specs.declared.bound.NamedExpr.{NamedExpr}
 use Rattle.gq_plan.specs.declared.demand.Demand.{Demand}
 use Rattle.gq_plan.specs.declared.demand.Demand.TheVariants.{InTable, Joins, Passes, Differs, IsNoLoop}
-use Rattle.gq_plan.specs.declared.plan.Way.{Way}
-use Rattle.gq_plan.specs.declared.plan.Way.TheVariants.{Forward, Backward}
 use Rattle.gq_plan.specs.declared.typed.RelPair.{RelPair}
 use Rattle.gq_plan.specs.declared.typed.Typed.{Typed}
 use Rattle.gq_plan.specs.declared.typed.TypedRel.{TypedRel}
@@ -129,8 +130,8 @@ module _ (catalog : Tables) (y : Typed) where
   -- a close where the right node is bound, else an extend
   abbrev step_by : ℕ → TypedRel → Bool → Step
   step_by x r bound =
-      cond bound (Close (single_in (slice_get catalog.rels r.table) (way_of r)) x (left_of r) (right_of r) (way_of r))
-      (Extend (single_in (slice_get catalog.rels r.table) (way_of r)) x (left_of r) (right_of r) (way_of r))
+      cond bound (Close (single_in (slice_get catalog.rels r.table) (direction_of r)) x (left_of r) (right_of r) (direction_of r))
+      (Extend (single_in (slice_get catalog.rels r.table) (direction_of r)) x (left_of r) (right_of r) (direction_of r))
 
   rel_meets : (x : ℕ) (r : TypedRel) (q : Demand) (bound : Bool) → met_by q (step_by x r bound ∷ []) ≡ one (same_demand q (Joins x)) + one (same_demand q (InTable (right_of r)) && not bound)
   unfolding placed
@@ -164,11 +165,11 @@ module _ (catalog : Tables) (y : Typed) where
       go true = same h.rel
       go false = refl
 
-  goes_seen : (column : Bool) (from to : ℕ) (way : Way) (q : TypedRel) → goes catalog column from to way q ≡ goes catalog column from to way (flipped q)
+  goes_seen : (column : Bool) (from to : ℕ) (way : Direction) (q : TypedRel) → goes catalog column from to way q ≡ goes catalog column from to way (flipped q)
   goes_seen column from to Forward q = refl
   goes_seen column from to Backward q = refl
 
-  single_agrees : (found : Option RelTable) (way : Way) → is_some found ≡ true → holds (λ table. agrees (single_in found way) (is_single table.mult way)) found ≡ true
+  single_agrees : (found : Option RelTable) (way : Direction) → is_some found ≡ true → holds (λ table. agrees (single_in found way) (is_single table.mult way)) found ≡ true
   single_agrees None way h = h
   single_agrees (Some table) way h = go (is_single table.mult way)
     where
@@ -182,9 +183,9 @@ module _ (catalog : Tables) (y : Typed) where
   there (x ∷ xs) (suc i) h = there xs i (omega arith)
 
   goes_by : (r : TypedRel) → r.table < length catalog.rels
-      → goes catalog (single_in (slice_get catalog.rels r.table) (way_of r)) (left_of r) (right_of r) (way_of r) r ≡ true
+      → goes catalog (single_in (slice_get catalog.rels r.table) (direction_of r)) (left_of r) (right_of r) (direction_of r) r ≡ true
   goes_by r h =
-      and_from _ _ (and_from _ _ (starts r.reversed) (ends r.reversed)) (single_agrees (slice_get catalog.rels r.table) (way_of r) (there catalog.rels r.table h))
+      and_from _ _ (and_from _ _ (starts r.reversed) (ends r.reversed)) (single_agrees (slice_get catalog.rels r.table) (direction_of r) (there catalog.rels r.table h))
     where
       starts : (b : Bool) → eqb (cond b r.target r.source) (start_of (cond b Backward Forward) r) ≡ true
       starts true = eq-eqb r.target r.target refl
@@ -198,7 +199,7 @@ module _ (catalog : Tables) (y : Typed) where
   unfolding fits after
   rel_runs k x r h true e =
       runs_one catalog y (step_by x r true) k (known_with k x r)
-      (and_from _ _ (seen (goes catalog (single_in (slice_get catalog.rels r.table) (way_of r)) (left_of r) (right_of r) (way_of r)) (goes_seen (single_in (slice_get catalog.rels r.table) (way_of r)) (left_of r) (right_of r) (way_of r)) k x r h ∙ goes_by r h.table)
+      (and_from _ _ (seen (goes catalog (single_in (slice_get catalog.rels r.table) (direction_of r)) (left_of r) (right_of r) (direction_of r)) (goes_seen (single_in (slice_get catalog.rels r.table) (direction_of r)) (left_of r) (right_of r) (direction_of r)) k x r h ∙ goes_by r h.table)
       (and_from (not (k.rels x)) _ (ap not h.fresh) (and_from (k.nodes (left_of r)) _ h.left e)))
       (λ i. record { nodes = λ v. old v (eqb v (right_of r)) refl i; rels = (with_rel x k).rels })
     where
@@ -207,7 +208,7 @@ module _ (catalog : Tables) (y : Typed) where
       old v false m = refl
   rel_runs k x r h false e =
       runs_one catalog y (step_by x r false) k (known_with k x r)
-      (and_from _ _ (seen (goes catalog (single_in (slice_get catalog.rels r.table) (way_of r)) (left_of r) (right_of r) (way_of r)) (goes_seen (single_in (slice_get catalog.rels r.table) (way_of r)) (left_of r) (right_of r) (way_of r)) k x r h ∙ goes_by r h.table)
+      (and_from _ _ (seen (goes catalog (single_in (slice_get catalog.rels r.table) (direction_of r)) (left_of r) (right_of r) (direction_of r)) (goes_seen (single_in (slice_get catalog.rels r.table) (direction_of r)) (left_of r) (right_of r) (direction_of r)) k x r h ∙ goes_by r h.table)
       (and_from (not (k.rels x)) _ (ap not h.fresh) (and_from (k.nodes (left_of r)) _ h.left (and_from (ltb (right_of r) (length y.nodes)) _ (lt-ltb (right_of r) (length y.nodes) h.right) (ap not e)))))
       refl
 

@@ -11,7 +11,7 @@ use Rattle.gq_base.specs.declared.catalog.Field.{Field}
 use Rattle.gq_base.specs.declared.catalog.NodeTable.{NodeTable}
 use Rattle.gq_expr.specs.declared.expr.Bound.{Bound}
 use Rattle.gq_expr.specs.declared.expr.Expr.{Expr, Expr-F, out-Expr}
-use Rattle.gq_order.specs.Given.{single_in, way_of}
+use Rattle.gq_order.specs.Given.{single_in, direction_of}
 use Rattle.gq_order.specs.Orders.{read_by, known_by, plan_by}
 use Rattle.gq_order.specs.declared.order.Piece.{Piece}
 use Rattle.gq_order.specs.declared.order.Turn.{Turn}
@@ -144,7 +144,8 @@ module _ (catalog : Tables) (y : Typed) (stats : Stats) where
 
   -- how many relationships of its table a node is taken to have there
   abbrev pub fan : TypedRel → ℕ
-  fan r = if single_in (slice_get catalog.rels r.table) (way_of r) then 1 else div_ceil (at stats.rels r.table) (max (nodes_of y stats (left_of r)) 1)
+  fan r = if single_in (slice_get catalog.rels r.table) (direction_of r) then 1
+      else div_ceil (at stats.rels r.table) (max (nodes_of y stats (left_of r)) 1)
 
   abbrev pub fan_read : Option TypedRel → ℕ
   fan_read None = 0

@@ -2,9 +2,9 @@ use Rattle.std.proofs.Common.{◌<◌, ℕ, List, Some, length, sym, ap, ◌∙�
 use Rattle.std.specs.Prelude.{slice_get}
 use Rattle.std.specs.List.{concat}
 use Rattle.std.proofs.lemmas.Option.{slice_get-get_or}
+use Rattle.gq_base.specs.declared.direction.Direction.TheVariants.{Forward, Backward}
 use Rattle.gq_edges.specs.Once.{pair_at}
 use Rattle.gq_store.specs.Neighbours.{is_listed, near_ends, near_rows}
-use Rattle.gq_store.specs.declared.direction.Direction.TheVariants.{Forward, Backward}
 use Rattle.gq_store.proofs.Placing.{count_at_source, count_at_target, count_in_pages}
 use Rattle.gq_store.proofs.Reading.{clash, ends_same, kept_column, kept_lists, number_at_source, number_at_target, number_in_pages, one_number, paged_is, sources_is, targets_is}
 use Rattle.gq_store.proofs.Validity.{length-ends}

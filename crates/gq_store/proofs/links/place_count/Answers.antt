@@ -1,6 +1,6 @@
 use Rattle.std.proofs.Common.{sym, ◌∙◌}
+use Rattle.gq_base.specs.declared.direction.Direction.TheVariants.{Forward, Backward}
 use Rattle.gq_store.specs.Neighbours.{is_listed, near_ends, near_rows}
-use Rattle.gq_store.specs.declared.direction.Direction.TheVariants.{Forward, Backward}
 use Rattle.gq_store.proofs.Placing.{count_at_source, count_at_target}
 use Rattle.gq_store.proofs.Reading.{clash, kept_column, kept_lists, sources_is, targets_is}
 use Rattle.gq_store.proofs.links.place_count.Goals as goal
