@@ -4,12 +4,12 @@ use Prim.Native.String.{String}
 use Rattle.std.proofs.Common.{◌≡◌, refl, ℕ, ◌<◌, true, false, Some, None, List, [], ◌∷◌, length, codes, IsTrue, IsPermutation, arith, lit<}
 use Rattle.std.proofs.lemmas.List.Elements.{All-from_recursion, All-nil}
 use Rattle.std.proofs.lemmas.List.Sorted.{IsPermutation-refl}
+use Rattle.gq_base.specs.declared.direction.Direction.TheVariants.{Forward, Backward}
 use Rattle.gq_plan.specs.Assignments.{Assignment, assignments, tuples, nodes_of, all_nodes, rels_of, all_rels, source, target}
 use Rattle.gq_plan.specs.Covers.{Covers, fits, fits_step, after, after_step, placed, placed_step, demands}
 use Rattle.gq_plan.specs.Meaning.{meaning, mean, step}
 use Rattle.gq_plan.specs.Soundness.{IsSound, EndsFit, path_rels, joined}
 use Rattle.gq_plan.specs.Plans.{Plan, Done, Then, Scan, Extend, NoLoop}
-use Rattle.gq_plan.specs.declared.plan.Way.TheVariants.{Forward, Backward}
 use Rattle.gq_plan.specs.declared.typed.PathPart.{PathPart}
 use Rattle.gq_plan.specs.declared.typed.Typed.{Typed}
 use Rattle.gq_syntax.specs.declared.Arrow.TheVariants as arrow

@@ -6,6 +6,7 @@ use Rattle.std.proofs.lemmas.Option.{slice_get_within}
 use Rattle.gq_base.specs.Plain.{Graph}
 use Rattle.gq_base.specs.declared.NodeId.{NodeId}
 use Rattle.gq_base.specs.declared.RelId.{RelId}
+use Rattle.gq_base.specs.declared.direction.Direction.{Direction}
 use Rattle.gq_plan.specs.Allowed.{at_same}
 use Rattle.gq_plan.specs.Covers.{after, after_step, fits, fits_step, is_joined, is_new, goes}
 use Rattle.gq_plan.specs.Known as known
@@ -13,7 +14,6 @@ use Rattle.gq_plan.specs.Known.{Known, none}
 use Rattle.gq_plan.specs.Meaning.{Partial, nothing, with_node, with_rel, with_all, look, far, nodes_for, arrive, agree, holds, keep_if, mean, step}
 use Rattle.gq_plan.specs.Soundness.{has_number}
 use Rattle.gq_plan.specs.Plans.{Plan, Done, Then, Step, Scan, Extend, Close, Join, Keep, Differ, NoLoop}
-use Rattle.gq_plan.specs.declared.plan.Way.{Way}
 use Rattle.gq_plan.specs.declared.typed.Typed.{Typed}
 use Rattle.gq_plan.proofs.Each.{each_of, each_map, each_flat_map, each_kept}
 use Rattle.gq_law_plans.proofs.Counting.{known_by, known_by_all, at_same_is}
@@ -101,7 +101,7 @@ module _ (g : Graph) (y : Typed) where
   arrives_made to None b new h = tt
   arrives_made to (Some n) b new h = ((owns_node to n b new h, refl), tt)
 
-  goes_low : (column : Bool) (x from to : ℕ) (way : Way) → holds (goes g.catalog column from to way) (slice_get y.rels x) ≡ true → x < length y.rels
+  goes_low : (column : Bool) (x from to : ℕ) (way : Direction) → holds (goes g.catalog column from to way) (slice_get y.rels x) ≡ true → x < length y.rels
   goes_low column x from to way h = let r = holds_some (goes g.catalog column from to way) (slice_get y.rels x) h in slice_get_within y.rels x r.0 r.1
 
   mutual

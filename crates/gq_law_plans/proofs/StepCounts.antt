@@ -9,6 +9,8 @@ use Rattle.gq_base.specs.Plain.{Graph}
 use Rattle.gq_base.specs.Valid.{is_valid}
 use Rattle.gq_base.specs.declared.NodeId.{NodeId}
 use Rattle.gq_base.specs.declared.RelId.{RelId}
+use Rattle.gq_base.specs.declared.direction.Direction.{Direction}
+use Rattle.gq_base.specs.declared.direction.Direction.TheVariants.{Forward, Backward}
 use Rattle.gq_plan.specs.Allowed.{at_same, leads}
 use Rattle.gq_plan.specs.Assignments.{Assignment, row_of, nodes_of, rels_of, source, target, source_in, target_in, is_node, is_rel}
 use Rattle.gq_plan.specs.Conditions.{passes, differs, no_loop}
@@ -18,8 +20,6 @@ use Rattle.gq_plan.specs.Soundness.{EndsFit, IsSound}
 use Rattle.gq_plan.specs.Plans.{Scan, Extend, Close, Keep, Differ, NoLoop}
 use Rattle.gq_plan.specs.declared.bound.NamedExpr.{NamedExpr}
 use Rattle.gq_plan.specs.declared.demand.Demand.TheVariants.{InTable, Joins, Passes, Differs, IsNoLoop}
-use Rattle.gq_plan.specs.declared.plan.Way.{Way}
-use Rattle.gq_plan.specs.declared.plan.Way.TheVariants.{Forward, Backward}
 use Rattle.gq_plan.specs.declared.typed.RelPair.{RelPair}
 use Rattle.gq_plan.specs.declared.typed.Typed.{Typed}
 use Rattle.gq_plan.specs.declared.typed.TypedRel.{TypedRel}
@@ -90,7 +90,7 @@ scan_bit false false = refl
 nodes_listed : (g : Graph) (y : Typed) (v k : ℕ) → slice_get y.nodes v ≡ Some k → nodes_for g y v ≡ nodes_of g k
 nodes_listed g y v k e = rw e refl
 
-rels_listed : (g : Graph) (y : Typed) (x : ℕ) (way : Way) (n : Option NodeId) (k : TypedRel) → slice_get y.rels x ≡ Some k
+rels_listed : (g : Graph) (y : Typed) (x : ℕ) (way : Direction) (n : Option NodeId) (k : TypedRel) → slice_get y.rels x ≡ Some k
     → rels_at g y x way n ≡ filter (λ r. at_same n (near g way r)) (rels_of g k.table)
 rels_listed g y x way n k e = rw e refl
 
@@ -98,14 +98,14 @@ pub all_at : {X : Type 0} (P : X → Type 0) (xs : List X) → All P xs → (i :
 all_at P xs h i x e = subst P (get_or_from_slice_get xs i x x e) (h i x (slice_get_within xs i x e))
 
 -- what fits, taken apart
-record Goes (y : Typed) (x from to : ℕ) (way : Way) : Type 0 where
+record Goes (y : Typed) (x from to : ℕ) (way : Direction) : Type 0 where
   rel : TypedRel
   is : slice_get y.rels x ≡ Some rel
   starts : from ≡ start_of way rel
   ends : to ≡ end_of way rel
 
 module _ (g : Graph) (y : Typed) (real : IsTrue (is_valid g)) (sound : IsSound g.catalog y) (t : Assignment) where
-  going : (column : Bool) (x from to : ℕ) (way : Way) → holds (goes g.catalog column from to way) (slice_get y.rels x) ≡ true → Goes y x from to way
+  going : (column : Bool) (x from to : ℕ) (way : Direction) → holds (goes g.catalog column from to way) (slice_get y.rels x) ≡ true → Goes y x from to way
   going column x from to way h =
       let r = holds_some (goes g.catalog column from to way) (slice_get y.rels x) h in
       let ends = and_parts (nat_eq from (start_of way r.0)) (nat_eq to (end_of way r.0)) (and_parts (nat_eq from (start_of way r.0) && nat_eq to (end_of way r.0)) _ r.2).0 in
@@ -164,10 +164,10 @@ module _ (g : Graph) (y : Typed) (real : IsTrue (is_valid g)) (sound : IsSound g
   -- ---- a relationship
 
   -- it stands between the nodes at the start and at the end of a way
-  abbrev between : ℕ → ℕ → Way → RelId → Bool
+  abbrev between : ℕ → ℕ → Direction → RelId → Bool
   between from to way r = at_same (slice_get t.nodes from) (near g way r) && at_same (slice_get t.nodes to) (far g way r)
 
-  between_joins : (k : TypedRel) (way : Way) (o : Option RelId) → passes_in g k.table (between (start_of way k) (end_of way k) way) o ≡ joins g k (slice_get t.nodes k.source) (slice_get t.nodes k.target) o
+  between_joins : (k : TypedRel) (way : Direction) (o : Option RelId) → passes_in g k.table (between (start_of way k) (end_of way k) way) o ≡ joins g k (slice_get t.nodes k.source) (slice_get t.nodes k.target) o
   between_joins k Forward None = refl
   between_joins k Forward (Some r) = refl
   between_joins k Backward None = refl
@@ -184,7 +184,7 @@ module _ (g : Graph) (y : Typed) (real : IsTrue (is_valid g)) (sound : IsSound g
   passes_and table test c (Some r) = sym (and_assoc (nat_eq r.table table && is_rel g r) (test r) c) ∙ and_comm (passes_in g table test (Some r)) c
 
   -- the relationships that a step goes by are those that the assignment demands
-  gone : (x from to : ℕ) (way : Way) (c : Bool) (k : Goes y x from to way)
+  gone : (x from to : ℕ) (way : Direction) (c : Bool) (k : Goes y x from to way)
       → hits (λ r. is_rel_at (slice_get t.rels x) r && (between from to way r && c)) (rels_of g k.rel.table) ≡ bit (c && met g y t (Joins x))
   gone x from to way c k =
       hits_rels_at g k.rel.table (λ r. between from to way r && c) (slice_get t.rels x)
@@ -203,7 +203,7 @@ module _ (g : Graph) (y : Typed) (real : IsTrue (is_valid g)) (sound : IsSound g
       ∙ and_from (nat_eq k k) (is_node g (record { table = k; row = row })) (eq-eqb k k refl) node
 
   -- the node to which it leads is of its variable's table
-  comes_out : (x from to : ℕ) (way : Way) → Goes y x from to way → met g y t (Joins x) ≡ true → met g y t (InTable to) ≡ true
+  comes_out : (x from to : ℕ) (way : Direction) → Goes y x from to way → met g y t (Joins x) ≡ true → met g y t (InTable to) ≡ true
   unfolding source target
   comes_out x from to way k h =
       ap (λ v. met g y t (InTable v)) k.ends
@@ -212,7 +212,7 @@ module _ (g : Graph) (y : Typed) (real : IsTrue (is_valid g)) (sound : IsSound g
       fit : EndsFit g.catalog y k.rel
       fit = all_at (EndsFit g.catalog y) y.rels sound.ends x k.rel k.is
 
-      go : (way : Way) (o : Option RelId) → joins g k.rel (slice_get t.nodes k.rel.source) (slice_get t.nodes k.rel.target) o ≡ true → met g y t (InTable (end_of way k.rel)) ≡ true
+      go : (way : Direction) (o : Option RelId) → joins g k.rel (slice_get t.nodes k.rel.source) (slice_get t.nodes k.rel.target) o ≡ true → met g y t (InTable (end_of way k.rel)) ≡ true
       go way None h = absurd (true≢false (sym h))
       go Forward (Some r) h =
           let parts = and_parts (nat_eq r.table k.rel.table && is_rel g r) (leads g (slice_get t.nodes k.rel.source) (slice_get t.nodes k.rel.target) r) h in
@@ -245,7 +245,7 @@ module _ (g : Graph) (y : Typed) (real : IsTrue (is_valid g)) (sound : IsSound g
       go true = refl
       go false = refl
 
-  pub extended : (a : Partial) (column : Bool) (x from to : ℕ) (way : Way) → fits_step g.catalog y (Extend column x from to way) (known_by a) ≡ true
+  pub extended : (a : Partial) (column : Bool) (x from to : ℕ) (way : Direction) → fits_step g.catalog y (Extend column x from to way) (known_by a) ≡ true
       → hits (λ e. extends e t) (step g y (Extend column x from to way) a) ≡ bit (extends a t && list_all (met g y t) (Joins x ∷ InTable to ∷ []))
   unfolding step fits_step
   extended a column x from to way fits =
@@ -269,7 +269,7 @@ module _ (g : Graph) (y : Typed) (real : IsTrue (is_valid g)) (sound : IsSound g
           ∙ extend_bit (at_same (look a.nodes from) (near g way r)) (at_same (slice_get t.nodes from) (near g way r)) (at_same (slice_get t.nodes to) (far g way r)) (is_rel_at (slice_get t.rels x) r) (extends a t)
           (λ e. ap (λ o. at_same o (near g way r)) (node_look a t e from known))
 
-  pub closed : (a : Partial) (column : Bool) (x from to : ℕ) (way : Way) → fits_step g.catalog y (Close column x from to way) (known_by a) ≡ true
+  pub closed : (a : Partial) (column : Bool) (x from to : ℕ) (way : Direction) → fits_step g.catalog y (Close column x from to way) (known_by a) ≡ true
       → hits (λ e. extends e t) (step g y (Close column x from to way) a) ≡ bit (extends a t && list_all (met g y t) (Joins x ∷ []))
   unfolding step fits_step
   closed a column x from to way fits =

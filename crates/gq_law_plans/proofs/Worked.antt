@@ -11,13 +11,13 @@ use Rattle.gq_base.specs.declared.Cell.TheVariants as cell
 use Rattle.gq_base.specs.declared.Kind.TheVariants as kind
 use Rattle.gq_base.specs.declared.Mult.TheVariants as mult
 use Rattle.gq_base.specs.declared.PlainRel.{PlainRel}
+use Rattle.gq_base.specs.declared.direction.Direction.TheVariants.{Forward}
 use Rattle.gq_plan.specs.Assignments.{Assignment, assignments, tuples, nodes_of, all_nodes, rels_of, all_rels, source, target}
 use Rattle.gq_plan.specs.Conditions.{allows}
 use Rattle.gq_plan.specs.Covers.{Covers, fits, fits_step, after, after_step, placed, placed_step, demands}
 use Rattle.gq_plan.specs.Meaning.{meaning, mean, step}
 use Rattle.gq_plan.specs.Soundness.{IsSound, EndsFit, path_rels, joined}
 use Rattle.gq_plan.specs.Plans.{Plan, Done, Then, Scan, Extend, Join, NoLoop}
-use Rattle.gq_plan.specs.declared.plan.Way.TheVariants.{Forward}
 use Rattle.gq_plan.specs.declared.typed.PathPart.{PathPart}
 use Rattle.gq_plan.specs.declared.typed.Typed.{Typed}
 use Rattle.gq_law_plans.proofs.Wholes.{plans_mean}

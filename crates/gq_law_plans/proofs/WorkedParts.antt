@@ -6,6 +6,7 @@ use Rattle.std.proofs.lemmas.List.Elements.{All-from_recursion, All-nil}
 use Rattle.std.proofs.lemmas.List.Sorted.{IsPermutation-refl}
 use Rattle.gq_base.specs.declared.CompareOp.TheVariants as compare
 use Rattle.gq_base.specs.declared.Literal.TheVariants as literal
+use Rattle.gq_base.specs.declared.direction.Direction.TheVariants.{Backward}
 use Rattle.gq_expr.specs.declared.Expr.TheVariants as expr
 use Rattle.gq_expr.proofs.Equations.{meaning_Compare, meaning_Literal, meaning_NodeProperty}
 use Rattle.gq_plan.specs.Assignments.{nodes_of, rels_of, source, target}
@@ -15,7 +16,6 @@ use Rattle.gq_plan.specs.Meaning.{mean, step, nothing}
 use Rattle.gq_plan.specs.Parts.{Part, component, given_parts, greedy_parts, part_assignments, part_demands, IsSide}
 use Rattle.gq_plan.specs.Soundness.{IsSound, IsPair, EndsFit, path_rels, joined}
 use Rattle.gq_plan.specs.Plans.{Plan, Done, Then, Scan, Extend, Differ, NoLoop}
-use Rattle.gq_plan.specs.declared.plan.Way.TheVariants.{Backward}
 use Rattle.gq_plan.specs.declared.bound.NamedExpr.{NamedExpr}
 use Rattle.gq_plan.specs.declared.demand.Demand.TheVariants.{InTable, Joins, Passes, Differs, IsNoLoop}
 use Rattle.gq_plan.specs.declared.typed.PathPart.{PathPart}

@@ -12,7 +12,7 @@ use Rattle.gq_order.proofs.Grown.{start_in, piece_connected, piece_binds, piece_
 use Rattle.gq_order.proofs.Marks.{component_is, with_component, begins, none_before}
 use Rattle.gq_order.proofs.PartSides.{AreJoined, good_side}
 use Rattle.gq_order.proofs.SidesOf.{sides_in, begun_sides, found_sides, side_sides}
-use Rattle.gq_order.specs.Given.{Draft, begun, with_step, with_side, rel_step, loop_steps, known_with, due, due_pairs, due_tests, pair_due, test_due, shared, blank, way_of, single_in}
+use Rattle.gq_order.specs.Given.{Draft, begun, with_step, with_side, rel_step, loop_steps, known_with, due, due_pairs, due_tests, pair_due, test_due, shared, blank, direction_of, single_in}
 use Rattle.gq_order.specs.Greedy.{at, components, numbers, piece}
 use Rattle.gq_order.specs.Orders.{read_by, with_turns, with_piece, with_pieces}
 use Rattle.gq_order.specs.steps.Orders.{known_then, IsFine}
@@ -67,7 +67,7 @@ module _ (catalog : Tables) (y : Typed) where
   step_keys : (k : Known) (x : ℕ) (r : TypedRel) → own_keys (rel_step catalog k x r) ≡ []
   step_keys k x r = go (k.nodes (right_of r))
     where
-      go : (b : Bool) → own_keys (cond b (Close (single_in (slice_get catalog.rels r.table) (way_of r)) x (left_of r) (right_of r) (way_of r)) (Extend (single_in (slice_get catalog.rels r.table) (way_of r)) x (left_of r) (right_of r) (way_of r))) ≡ []
+      go : (b : Bool) → own_keys (cond b (Close (single_in (slice_get catalog.rels r.table) (direction_of r)) x (left_of r) (right_of r) (direction_of r)) (Extend (single_in (slice_get catalog.rels r.table) (direction_of r)) x (left_of r) (right_of r) (direction_of r))) ≡ []
       go true = refl
       go false = refl
 

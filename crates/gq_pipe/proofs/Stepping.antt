@@ -10,6 +10,8 @@ use Rattle.gq_base.specs.Plain.{Graph}
 use Rattle.gq_base.specs.Valid.{row_count}
 use Rattle.gq_base.specs.declared.RelId.{RelId}
 use Rattle.gq_base.specs.declared.RelTable.{RelTable}
+use Rattle.gq_base.specs.declared.direction.Direction.{Direction}
+use Rattle.gq_base.specs.declared.direction.Direction.TheVariants.{Forward, Backward}
 use Rattle.gq_plan.specs.Allowed.{at_same}
 use Rattle.gq_plan.specs.Assignments.{nodes_of, rows_at}
 use Rattle.gq_plan.specs.Covers.{after_step, fits_step, goes, start_of, end_of}
@@ -18,12 +20,10 @@ use Rattle.gq_plan.specs.Known.{Known}
 use Rattle.gq_plan.specs.Meaning.{Partial, with_node, with_rel, look, far, rels_at, arrive, holds, keep_if}
 use Rattle.gq_plan.specs.Soundness.{EndsFit}
 use Rattle.gq_plan.specs.Plans.{Step, Scan, Extend, Close}
-use Rattle.gq_plan.specs.declared.plan.Way.{Way}
-use Rattle.gq_plan.specs.declared.plan.Way.TheVariants.{Forward, Backward}
 use Rattle.gq_plan.specs.declared.typed.Typed.{Typed}
 use Rattle.gq_plan.specs.declared.typed.TypedRel.{TypedRel}
 use Rattle.gq_store.specs.Neighbours.{near_rows, neighbours, numbers, end_rows, opposite}
-use Rattle.gq_pipe.specs.steps.Hops.{direction_of, IsHop}
+use Rattle.gq_pipe.specs.steps.Hops.{IsHop}
 use Rattle.gq_pipe.specs.steps.Levels.{Run, step_at, taken, known, before}
 use Rattle.gq_pipe.specs.steps.Moves.{IsRun, IsHeld, IsAlike, IsMade, IsMissed, IsPast}
 use Rattle.gq_pipe.specs.steps.Outcomes.{with_row, with_number}
@@ -47,7 +47,7 @@ all_at : {X : Type 0} (P : X → Type 0) (xs : List X) → All P xs → (i : ℕ
 all_at P xs h i x e = subst P (get_or_from_slice_get xs i x x e) (h i x (slice_get_within xs i x e))
 
 -- how a relationship variable is followed from a node variable that is bound to another one
-pub record Follows (c : Run) (x from to : ℕ) (way : Way) : Type 0 where
+pub record Follows (c : Run) (x from to : ℕ) (way : Direction) : Type 0 where
   pub found : TypedRel
   pub table : RelTable
   pub rel_is : slice_get c.typed.rels x ≡ Some found
@@ -57,7 +57,7 @@ pub record Follows (c : Run) (x from to : ℕ) (way : Way) : Type 0 where
   pub far : slice_get c.typed.nodes to ≡ Some (far_table way table)
 
 module _ (c : Run) (run : IsRun c) where
-  pub follows : (column : Bool) (x from to : ℕ) (way : Way) → holds (goes c.graph.catalog column from to way) (slice_get c.typed.rels x) ≡ true → Follows c x from to way
+  pub follows : (column : Bool) (x from to : ℕ) (way : Direction) → holds (goes c.graph.catalog column from to way) (slice_get c.typed.rels x) ≡ true → Follows c x from to way
   follows column x from to way h =
       let r = holds_some (goes c.graph.catalog column from to way) (slice_get c.typed.rels x) h in
       let both = and_parts (nat_eq from (start_of way r.0) && nat_eq to (end_of way r.0)) _ r.2 in
@@ -76,11 +76,11 @@ module _ (c : Run) (run : IsRun c) where
         far = ap (slice_get c.typed.nodes) (eqb-true to _ ends.1) ∙ end way r.0 k.0 source target;
       }
     where
-      start : (way : Way) (r : TypedRel) (k : RelTable) → slice_get c.typed.nodes r.source ≡ Some k.from → slice_get c.typed.nodes r.target ≡ Some k.to → slice_get c.typed.nodes (start_of way r) ≡ Some (near_table way k)
+      start : (way : Direction) (r : TypedRel) (k : RelTable) → slice_get c.typed.nodes r.source ≡ Some k.from → slice_get c.typed.nodes r.target ≡ Some k.to → slice_get c.typed.nodes (start_of way r) ≡ Some (near_table way k)
       start Forward r k s t = s
       start Backward r k s t = t
 
-      end : (way : Way) (r : TypedRel) (k : RelTable) → slice_get c.typed.nodes r.source ≡ Some k.from → slice_get c.typed.nodes r.target ≡ Some k.to → slice_get c.typed.nodes (end_of way r) ≡ Some (far_table way k)
+      end : (way : Direction) (r : TypedRel) (k : RelTable) → slice_get c.typed.nodes r.source ≡ Some k.from → slice_get c.typed.nodes r.target ≡ Some k.to → slice_get c.typed.nodes (end_of way r) ≡ Some (far_table way k)
       end Forward r k s t = t
       end Backward r k s t = s
 
@@ -220,56 +220,56 @@ module _ (c : Run) (run : IsRun c) (old : Assignment) (k : Known) (held : IsHeld
 
 -- ---- a relationship
 
-module _ (c : Run) (run : IsRun c) (x from to : ℕ) (way : Way) (f : Follows c x from to way) where
+module _ (c : Run) (run : IsRun c) (x from to : ℕ) (way : Direction) (f : Follows c x from to way) where
   abbrev pub table : ℕ
   table = rel_table c.typed x
 
-  pub near_rows_are : near_rows c.graph table (direction_of way) ≡ row_count c.graph.nodes (node_table c.typed from)
-  near_rows_are = ap (end_rows c.graph.nodes (direction_of way)) f.table_is ∙ go way f.table ∙ ap (row_count c.graph.nodes) (sym (get_or_from_slice_get c.typed.nodes from _ 0 f.near))
+  pub near_rows_are : near_rows c.graph table way ≡ row_count c.graph.nodes (node_table c.typed from)
+  near_rows_are = ap (end_rows c.graph.nodes way) f.table_is ∙ go way f.table ∙ ap (row_count c.graph.nodes) (sym (get_or_from_slice_get c.typed.nodes from _ 0 f.near))
     where
-      go : (way : Way) (k : RelTable) → end_rows c.graph.nodes (direction_of way) (Some k) ≡ row_count c.graph.nodes (near_table way k)
+      go : (way : Direction) (k : RelTable) → end_rows c.graph.nodes way (Some k) ≡ row_count c.graph.nodes (near_table way k)
       go Forward k = refl
       go Backward k = refl
 
-  far_rows_are : near_rows c.graph table (opposite (direction_of way)) ≡ row_count c.graph.nodes (node_table c.typed to)
-  far_rows_are = ap (end_rows c.graph.nodes (opposite (direction_of way))) f.table_is ∙ go way f.table ∙ ap (row_count c.graph.nodes) (sym (get_or_from_slice_get c.typed.nodes to _ 0 f.far))
+  far_rows_are : near_rows c.graph table (opposite way) ≡ row_count c.graph.nodes (node_table c.typed to)
+  far_rows_are = ap (end_rows c.graph.nodes (opposite way)) f.table_is ∙ go way f.table ∙ ap (row_count c.graph.nodes) (sym (get_or_from_slice_get c.typed.nodes to _ 0 f.far))
     where
-      go : (way : Way) (k : RelTable) → end_rows c.graph.nodes (opposite (direction_of way)) (Some k) ≡ row_count c.graph.nodes (far_table way k)
+      go : (way : Direction) (k : RelTable) → end_rows c.graph.nodes (opposite way) (Some k) ≡ row_count c.graph.nodes (far_table way k)
       go Forward k = refl
       go Backward k = refl
 
-  leads : (row place : ℕ) (h : Hop) → IsHop c.graph table (direction_of way) row place h → far c.graph way (rel table h.number) ≡ Some (record { table = node_table c.typed to; row = h.row })
+  leads : (row place : ℕ) (h : Hop) → IsHop c.graph table way row place h → far c.graph way (rel table h.number) ≡ Some (record { table = node_table c.typed to; row = h.row })
   leads row place h is =
       hop_leads c.graph table f.table f.table_is way row place h is
       ∙ ap (λ t. Some (record { table = t; row = h.row })) (sym (get_or_from_slice_get c.typed.nodes to _ 0 f.far))
 
   module _ (old : Assignment) (a : Partial) (looked : look a.nodes from ≡ Some (node_at c.typed old from)) where
     abbrev met : List ℕ
-    met = numbers c.graph table (direction_of way) (slice_index old.nodes from)
+    met = numbers c.graph table way (slice_index old.nodes from)
 
     met_is : rels_at c.graph c.typed x way (look a.nodes from) ≡ map (rel table) met
     met_is =
         let same : f.found.table ≡ table = sym (ap table_of f.rel_is) in
         ap (rels_at c.graph c.typed x way) looked
         ∙ rels_met c.graph c.typed x f.found f.table way (node_at c.typed old from) f.rel_is f.table_at (get_or_from_slice_get c.typed.nodes from _ 0 f.near)
-        ∙ ap (λ t. map (rel t) (numbers c.graph t (direction_of way) (slice_index old.nodes from))) same
+        ∙ ap (λ t. map (rel t) (numbers c.graph t way (slice_index old.nodes from))) same
 
     module _ (F : RelId → List Partial) where
       through : (n : ℕ) → drop n (map F (rels_at c.graph c.typed x way (look a.nodes from))) ≡ map F (map (rel table) (drop n met))
       through n = ap (λ l. drop n (map F l)) met_is ∙ drop_map F n (map (rel table) met) ∙ ap (map F) (drop_map (rel table) n met)
 
-      hop_here : (place : ℕ) (h : Hop) → IsHop c.graph table (direction_of way) (slice_index old.nodes from) place h
+      hop_here : (place : ℕ) (h : Hop) → IsHop c.graph table way (slice_index old.nodes from) place h
           → drop place (map F (rels_at c.graph c.typed x way (look a.nodes from))) ≡ F (rel table h.number) ∷ drop (place + 1) (map F (rels_at c.graph c.typed x way (look a.nodes from)))
       hop_here place h is =
-          through place ∙ ap (λ l. map F (map (rel table) l)) (hop_next c.graph table f.table f.table_is (direction_of way) (slice_index old.nodes from) place h is)
+          through place ∙ ap (λ l. map F (map (rel table) l)) (hop_next c.graph table f.table f.table_is way (slice_index old.nodes from) place h is)
           ∙ ap (λ l. F (rel table h.number) ∷ l) (sym (through (place + 1)))
 
-      hop_past : (place : ℕ) → length (neighbours c.graph table (direction_of way) (slice_index old.nodes from)) ≤ place → drop place (map F (rels_at c.graph c.typed x way (look a.nodes from))) ≡ []
-      hop_past place high = through place ∙ ap (λ l. map F (map (rel table) l)) (hop_none c.graph table f.table f.table_is (direction_of way) (slice_index old.nodes from) place high)
+      hop_past : (place : ℕ) → length (neighbours c.graph table way (slice_index old.nodes from)) ≤ place → drop place (map F (rels_at c.graph c.typed x way (look a.nodes from))) ≡ []
+      hop_past place high = through place ∙ ap (λ l. map F (map (rel table) l)) (hop_none c.graph table f.table f.table_is way (slice_index old.nodes from) place high)
 
     -- a relationship that binds a node variable
 
-    extend_here : (column : Bool) (place : ℕ) (h : Hop) → IsHop c.graph table (direction_of way) (slice_index old.nodes from) place h
+    extend_here : (column : Bool) (place : ℕ) (h : Hop) → IsHop c.graph table way (slice_index old.nodes from) place h
         → drop place (tries c.graph c.typed (Extend column x from to way) a)
         ≡ (with_node to (record { table = node_table c.typed to; row = h.row }) (with_rel x (rel table h.number) a) ∷ []) ∷ drop (place + 1) (tries c.graph c.typed (Extend column x from to way) a)
     unfolding tries
@@ -278,11 +278,11 @@ module _ (c : Run) (run : IsRun c) (x from to : ℕ) (way : Way) (f : Follows c 
         ∙ ap (λ o. arrive to o (with_rel x (rel table h.number) a) ∷ drop (place + 1) (map (λ r. arrive to (far c.graph way r) (with_rel x r a)) (rels_at c.graph c.typed x way (look a.nodes from))))
         (leads (slice_index old.nodes from) place h is)
 
-    pub extend_past : (column : Bool) (place : ℕ) → length (neighbours c.graph table (direction_of way) (slice_index old.nodes from)) ≤ place → drop place (tries c.graph c.typed (Extend column x from to way) a) ≡ []
+    pub extend_past : (column : Bool) (place : ℕ) → length (neighbours c.graph table way (slice_index old.nodes from)) ≤ place → drop place (tries c.graph c.typed (Extend column x from to way) a) ≡ []
     unfolding tries
     extend_past column place high = hop_past (λ r. arrive to (far c.graph way r) (with_rel x r a)) place high
 
-    pub extend_makes : (column : Bool) (k : Known) → IsHeld c old k → k.rels x ≡ false → k.nodes to ≡ false → (place : ℕ) (h : Hop) → IsHop c.graph table (direction_of way) (slice_index old.nodes from) place h
+    pub extend_makes : (column : Bool) (k : Known) → IsHeld c old k → k.rels x ≡ false → k.nodes to ≡ false → (place : ℕ) (h : Hop) → IsHop c.graph table way (slice_index old.nodes from) place h
         → Makes c (Extend column x from to way) k a place old (with_number x h.number (with_row to h.row old))
     unfolding after_step
     extend_makes column k held new_rel new_node place h is =
@@ -302,7 +302,7 @@ module _ (c : Run) (run : IsRun c) (x from to : ℕ) (way : Way) (f : Follows c 
     -- a relationship to a node that is bound
 
     module _ (there : look a.nodes to ≡ Some (node_at c.typed old to)) where
-      close_here : (column : Bool) (place : ℕ) (h : Hop) → IsHop c.graph table (direction_of way) (slice_index old.nodes from) place h
+      close_here : (column : Bool) (place : ℕ) (h : Hop) → IsHop c.graph table way (slice_index old.nodes from) place h
           → drop place (tries c.graph c.typed (Close column x from to way) a)
           ≡ keep_if (nat_eq (slice_index old.nodes to) h.row) (with_rel x (rel table h.number) a) ∷ drop (place + 1) (tries c.graph c.typed (Close column x from to way) a)
       unfolding tries
@@ -312,7 +312,7 @@ module _ (c : Run) (run : IsRun c) (x from to : ℕ) (way : Way) (f : Follows c 
           (ap₂ at_same there (leads (slice_index old.nodes from) place h is)
           ∙ ap (λ b. b && nat_eq (slice_index old.nodes to) h.row) (eq-eqb (node_table c.typed to) (node_table c.typed to) refl))
 
-      pub close_makes : (column : Bool) (k : Known) → IsHeld c old k → k.rels x ≡ false → (place : ℕ) (h : Hop) → IsHop c.graph table (direction_of way) (slice_index old.nodes from) place h
+      pub close_makes : (column : Bool) (k : Known) → IsHeld c old k → k.rels x ≡ false → (place : ℕ) (h : Hop) → IsHop c.graph table way (slice_index old.nodes from) place h
           → h.row ≡ slice_index old.nodes to → Makes c (Close column x from to way) k a place old (with_number x h.number old)
       unfolding after_step
       close_makes column k held new_rel place h is meets =
@@ -326,12 +326,12 @@ module _ (c : Run) (run : IsRun c) (x from to : ℕ) (way : Way) (f : Follows c 
                 (eq-eqb (slice_index old.nodes to) h.row (sym meets)) (sym (get_or-set_same old.rels x h.number 0 (omega arith)));
           }
 
-      pub close_misses : (column : Bool) (place : ℕ) (h : Hop) → IsHop c.graph table (direction_of way) (slice_index old.nodes from) place h → h.row ≢ slice_index old.nodes to
+      pub close_misses : (column : Bool) (place : ℕ) (h : Hop) → IsHop c.graph table way (slice_index old.nodes from) place h → h.row ≢ slice_index old.nodes to
           → drop place (tries c.graph c.typed (Close column x from to way) a) ≡ [] ∷ drop (place + 1) (tries c.graph c.typed (Close column x from to way) a)
       close_misses column place h is other =
           close_here column place h is
           ∙ ap (λ b. keep_if b (with_rel x (rel table h.number) a) ∷ drop (place + 1) (tries c.graph c.typed (Close column x from to way) a)) (ne_eqb (slice_index old.nodes to) h.row (λ e. other (sym e)))
 
-    pub close_past : (column : Bool) (place : ℕ) → length (neighbours c.graph table (direction_of way) (slice_index old.nodes from)) ≤ place → drop place (tries c.graph c.typed (Close column x from to way) a) ≡ []
+    pub close_past : (column : Bool) (place : ℕ) → length (neighbours c.graph table way (slice_index old.nodes from)) ≤ place → drop place (tries c.graph c.typed (Close column x from to way) a) ≡ []
     unfolding tries
     close_past column place high = hop_past (λ r. keep_if (at_same (look a.nodes to) (far c.graph way r)) (with_rel x r a)) place high

@@ -3,12 +3,12 @@ use Rattle.std.proofs.Common.{◌≡◌, ◌≢◌, ℕ, zero, suc, ◌<◌, Boo
 use Rattle.std.proofs.lemmas.Bool.{and_parts}
 use Rattle.std.proofs.lemmas.List.{length-map}
 use Rattle.std.proofs.lemmas.Option.{slice_get_within}
+use Rattle.gq_base.specs.declared.direction.Direction.{Direction}
 use Rattle.gq_plan.specs.Covers.{fits_step, goes}
 use Rattle.gq_plan.specs.Known.{Known}
 use Rattle.gq_plan.specs.Meaning.{Partial, look, holds}
 use Rattle.gq_plan.specs.Plans.{Step, Scan, Extend, Close, Keep, step_of}
 use Rattle.gq_plan.specs.declared.plan.Step as code
-use Rattle.gq_plan.specs.declared.plan.Way.{Way}
 use Rattle.gq_pipe.specs.steps.Levels.{Run, step_at, known, before}
 use Rattle.gq_pipe.specs.steps.Moves.{run_of, IsRun, IsHeld, IsTried}
 use Rattle.gq_pipe.specs.steps.Outcomes.{IsSized, IsScanned, CanFollow, IsExtended, IsClosed, tested}
@@ -69,10 +69,10 @@ module _ (c : Run) (run : IsRun c) (d : ℕ) (low : d < length c.steps) (old : A
   found : (v : ℕ) → k.nodes v ≡ true → look a.nodes v ≡ Some (node_at c.typed old v)
   found v known = (looks c run old d).nodes v ∙ ap (λ b. cond b (Some (node_at c.typed old v)) None) known
 
-  abbrev at : ℕ → ℕ → ℕ → Way → Follow
-  at x from to way = record { rel = x; from = from; to = to; way = way }
+  abbrev at : ℕ → ℕ → ℕ → Direction → Follow
+  at x from to way = record { rel = x; from = from; to = to; direction = way }
 
-  can : (x from to : ℕ) (way : Way) → Follows c x from to way → k.nodes from ≡ true → CanFollow c.graph c.typed old (at x from to way)
+  can : (x from to : ℕ) (way : Direction) → Follows c x from to way → k.nodes from ≡ true → CanFollow c.graph c.typed old (at x from to way)
   can x from to way f known = record {
     sized = sized;
     rel = slice_get_within c.typed.rels x _ f.rel_is;
@@ -84,7 +84,7 @@ module _ (c : Run) (run : IsRun c) (d : ℕ) (low : d < length c.steps) (old : A
 
   -- a step that binds a node variable
 
-  module _ (column : Bool) (x from to : ℕ) (way : Way) (is : step_at c d ≡ Extend column x from to way) where
+  module _ (column : Bool) (x from to : ℕ) (way : Direction) (is : step_at c d ≡ Extend column x from to way) where
     extend_goes : holds (goes c.graph.catalog column from to way) (slice_get c.typed.rels x) ≡ true
     unfolding fits_step
     extend_goes = (and_parts _ _ (fit (Extend column x from to way) is)).0
@@ -114,7 +114,7 @@ module _ (c : Run) (run : IsRun c) (d : ℕ) (low : d < length c.steps) (old : A
 
   -- a step between bound node variables
 
-  module _ (column : Bool) (x from to : ℕ) (way : Way) (is : step_at c d ≡ Close column x from to way) where
+  module _ (column : Bool) (x from to : ℕ) (way : Direction) (is : step_at c d ≡ Close column x from to way) where
     close_goes : holds (goes c.graph.catalog column from to way) (slice_get c.typed.rels x) ≡ true
     unfolding fits_step
     close_goes = (and_parts _ _ (fit (Close column x from to way) is)).0

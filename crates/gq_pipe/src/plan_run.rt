@@ -11,11 +11,11 @@ ghost use Rattle.gq_pipe.specs.steps.Outcomes.{IsClosed};
 ghost use Rattle.gq_pipe.specs.steps.Outcomes.{CanJoin, IsJoined, with_nodes, with_rels};
 ghost use Rattle.gq_pipe.specs.steps.Outcomes.{passes_at, differs_at, no_loop_at, tested};
 
-use crate::follow::{Hop, direction_of, hop_at};
-use gq_base::{List, Value};
+use crate::follow::{Hop, hop_at};
+use gq_base::{Direction, List, Value};
 use gq_expr::{Assigned, eval};
 use gq_join::Sealed;
-use gq_plan::{Assignment, Step, Typed, TypedRow, Way};
+use gq_plan::{Assignment, Step, Typed, TypedRow};
 use gq_store::Graph;
 
 /// A graph, a typed alternative, and the steps of a plan for it.
@@ -45,7 +45,7 @@ struct Follow {
     rel: u32,
     from: u32,
     to: u32,
-    way: Way,
+    direction: Direction,
 }
 
 impl PlanRun<'_> {
@@ -152,7 +152,7 @@ impl PlanRun<'_> {
     {
         let table = self.typed.rels.as_slice()[follow.rel as usize].table;
         let from = row.nodes.as_slice()[follow.from as usize];
-        hop_at(self.graph, table, direction_of(follow.way), from, place)
+        hop_at(self.graph, table, follow.direction, from, place)
     }
 
     // Whether a test is true.
@@ -268,8 +268,13 @@ fn tested(place: u32, passes: bool) -> Tried
     }
 }
 
-fn following(rel: u32, from: u32, to: u32, way: Way) -> Follow
-    ensures { result ≡ record { rel = rel; from = from; to = to; way = way } }
+fn following(rel: u32, from: u32, to: u32, direction: Direction) -> Follow
+    ensures { result ≡ record { rel = rel; from = from; to = to; direction = direction } }
 {
-    Follow { rel, from, to, way }
+    Follow {
+        rel,
+        from,
+        to,
+        direction,
+    }
 }

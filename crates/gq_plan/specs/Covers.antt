@@ -2,8 +2,9 @@
 use Rattle.std.specs.Prelude.{ℕ, nat_eq, nat_lt, Bool, true, false, not, ◌&&◌, ◌||◌, IsTrue, IsPermutation, List, [], ◌∷◌, ◌++◌, map, filter, length, slice_get}
 use Rattle.std.specs.List.{range_with_len, list_all}
 use Rattle.gq_base.specs.Catalogs.{Tables}
-use Rattle.gq_base.specs.Valid.{limits_sources, limits_targets}
-use Rattle.gq_base.specs.declared.Mult.{Mult}
+use Rattle.gq_base.specs.Valid.{is_single}
+use Rattle.gq_base.specs.declared.direction.Direction.{Direction}
+use Rattle.gq_base.specs.declared.direction.Direction.TheVariants.{Forward, Backward}
 use Rattle.gq_plan.specs.Meaning.{holds}
 use Rattle.gq_plan.specs.Known.{Known, none, with_node, with_rel, with_both, reads_bound}
 use Rattle.gq_plan.specs.Soundness.{has_number}
@@ -11,8 +12,6 @@ use Rattle.gq_plan.specs.Plans.{Plan, Done, Then, Step, Scan, Extend, Close, Joi
 use Rattle.gq_plan.specs.declared.bound.NamedExpr.{NamedExpr}
 use Rattle.gq_plan.specs.declared.demand.Demand.{Demand}
 use Rattle.gq_plan.specs.declared.demand.Demand.TheVariants.{InTable, Joins, Passes, Differs, IsNoLoop}
-use Rattle.gq_plan.specs.declared.plan.Way.{Way}
-use Rattle.gq_plan.specs.declared.plan.Way.TheVariants.{Forward, Backward}
 use Rattle.gq_plan.specs.declared.typed.RelPair.{RelPair}
 use Rattle.gq_plan.specs.declared.typed.Typed.{Typed}
 use Rattle.gq_plan.specs.declared.typed.TypedRel.{TypedRel}
@@ -27,8 +26,8 @@ unfoldable mutual
 
   pub after_step : Step → Known → Known
   after_step (Scan v) k = with_node v k
-  after_step (Extend column x from to way) k = with_node to (with_rel x k)
-  after_step (Close column x from to way) k = with_rel x k
+  after_step (Extend column x from to direction) k = with_node to (with_rel x k)
+  after_step (Close column x from to direction) k = with_rel x k
   after_step (Join side keys) k = with_both (after side none) k
   after_step (Keep i) k = k
   after_step (Differ p) k = k
@@ -36,17 +35,12 @@ unfoldable mutual
 
 -- ---- what fits
 
--- a node has at most one relationship of such a table on the way
-abbrev pub is_single : Mult → Way → Bool
-is_single mult Forward = limits_sources mult
-is_single mult Backward = limits_targets mult
-
--- the node variable at which a relationship is met on the way, and the one to which it leads
-abbrev pub start_of : Way → TypedRel → ℕ
+-- the node variable from which a relationship is followed, and the one to which it leads
+abbrev pub start_of : Direction → TypedRel → ℕ
 start_of Forward r = r.source
 start_of Backward r = r.target
 
-abbrev pub end_of : Way → TypedRel → ℕ
+abbrev pub end_of : Direction → TypedRel → ℕ
 end_of Forward r = r.target
 end_of Backward r = r.source
 
@@ -58,10 +52,12 @@ agrees false b = not b
 abbrev pub is_new : Typed → Known → ℕ → Bool
 is_new y k v = nat_lt v (length y.nodes) && not (k.nodes v)
 
--- a relationship goes on the way from one node variable to another, by a column exactly where its table is single that way
-abbrev pub goes : Tables → Bool → ℕ → ℕ → Way → TypedRel → Bool
-goes catalog column from to way r =
-    (nat_eq from (start_of way r) && nat_eq to (end_of way r)) && holds (λ table. agrees column (is_single table.mult way)) (slice_get catalog.rels r.table)
+-- a relationship goes so from one node variable to another, by a column exactly where its table is
+-- single in the direction
+abbrev pub goes : Tables → Bool → ℕ → ℕ → Direction → TypedRel → Bool
+goes catalog column from to direction r =
+    (nat_eq from (start_of direction r) && nat_eq to (end_of direction r))
+    && holds (λ table. agrees column (is_single table.mult direction)) (slice_get catalog.rels r.table)
 
 -- all that a test reads is bound
 abbrev pub test_bound : Known → NamedExpr → Bool
@@ -83,11 +79,15 @@ is_joined y keys side k =
     && list_all (λ x. not (side.rels x && k.rels x)) (range_with_len 0 (length y.rels)))
 
 -- a relationship that is not bound yet leads from a bound node variable to a new one, or to a bound one
-abbrev pub fits_extend : Tables → Typed → Bool → ℕ → ℕ → ℕ → Way → Known → Bool
-fits_extend catalog y column x from to way k = holds (goes catalog column from to way) (slice_get y.rels x) && (not (k.rels x) && (k.nodes from && is_new y k to))
+abbrev pub fits_extend : Tables → Typed → Bool → ℕ → ℕ → ℕ → Direction → Known → Bool
+fits_extend catalog y column x from to direction k =
+    holds (goes catalog column from to direction) (slice_get y.rels x)
+    && (not (k.rels x) && (k.nodes from && is_new y k to))
 
-abbrev pub fits_close : Tables → Typed → Bool → ℕ → ℕ → ℕ → Way → Known → Bool
-fits_close catalog y column x from to way k = holds (goes catalog column from to way) (slice_get y.rels x) && (not (k.rels x) && (k.nodes from && k.nodes to))
+abbrev pub fits_close : Tables → Typed → Bool → ℕ → ℕ → ℕ → Direction → Known → Bool
+fits_close catalog y column x from to direction k =
+    holds (goes catalog column from to direction) (slice_get y.rels x)
+    && (not (k.rels x) && (k.nodes from && k.nodes to))
 
 module _ (catalog : Tables) (y : Typed) where
   unfoldable mutual
@@ -98,8 +98,8 @@ module _ (catalog : Tables) (y : Typed) where
 
     pub fits_step : Step → Known → Bool
     fits_step (Scan v) k = is_new y k v
-    fits_step (Extend column x from to way) k = fits_extend catalog y column x from to way k
-    fits_step (Close column x from to way) k = fits_close catalog y column x from to way k
+    fits_step (Extend column x from to direction) k = fits_extend catalog y column x from to direction k
+    fits_step (Close column x from to direction) k = fits_close catalog y column x from to direction k
     fits_step (Join side keys) k = fits side none && is_joined y keys (after side none) k
     fits_step (Keep i) k = holds (test_bound k) (slice_get y.tests i)
     fits_step (Differ p) k = holds (pair_bound k) (slice_get y.pairs p)
@@ -133,8 +133,8 @@ unfoldable mutual
 
   pub placed_step : Step → List Demand
   placed_step (Scan v) = InTable v ∷ []
-  placed_step (Extend column x from to way) = Joins x ∷ InTable to ∷ []
-  placed_step (Close column x from to way) = Joins x ∷ []
+  placed_step (Extend column x from to direction) = Joins x ∷ InTable to ∷ []
+  placed_step (Close column x from to direction) = Joins x ∷ []
   placed_step (Join side keys) = filter (λ d. not (is_key keys d)) (placed side)
   placed_step (Keep i) = Passes i ∷ []
   placed_step (Differ p) = Differs p ∷ []

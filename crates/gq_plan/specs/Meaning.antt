@@ -4,13 +4,13 @@ use Rattle.std.specs.List.{range_with_len, list_all}
 use Rattle.gq_base.specs.Plain.{Graph}
 use Rattle.gq_base.specs.declared.NodeId.{NodeId}
 use Rattle.gq_base.specs.declared.RelId.{RelId}
+use Rattle.gq_base.specs.declared.direction.Direction.{Direction}
+use Rattle.gq_base.specs.declared.direction.Direction.TheVariants.{Forward, Backward}
 use Rattle.gq_expr.specs.Reading as reading
 use Rattle.gq_plan.specs.Allowed.{at_same}
 use Rattle.gq_plan.specs.Assignments.{Assignment, nodes_of, rels_of, source, target}
 use Rattle.gq_plan.specs.Conditions.{passes, differs, no_loop}
 use Rattle.gq_plan.specs.Plans.{Plan, Done, Then, Step, Scan, Extend, Close, Join, Keep, Differ, NoLoop}
-use Rattle.gq_plan.specs.declared.plan.Way.{Way}
-use Rattle.gq_plan.specs.declared.plan.Way.TheVariants.{Forward, Backward}
 use Rattle.gq_plan.specs.declared.typed.Typed.{Typed}
 use Rattle.gq_plan.specs.declared.typed.TypedRel.{TypedRel}
 
@@ -40,12 +40,12 @@ look (b ∷ bs) v = if nat_eq b.0 v then Some b.1 else look bs v
 abbrev pub row : Partial → reading.Assignment
 row a = record { nodes = look a.nodes; rels = look a.rels }
 
--- the node at which a relationship is met on the way, and the node to which it leads there
-abbrev pub near : Graph → Way → RelId → Option NodeId
+-- the node from which a relationship is followed in a direction, and the node to which it leads
+abbrev pub near : Graph → Direction → RelId → Option NodeId
 near g Forward r = source g r
 near g Backward r = target g r
 
-abbrev pub far : Graph → Way → RelId → Option NodeId
+abbrev pub far : Graph → Direction → RelId → Option NodeId
 far g Forward r = target g r
 far g Backward r = source g r
 
@@ -65,8 +65,8 @@ nodes_for g y v = nodes_in g (slice_get y.nodes v)
 abbrev pub rels_for : Graph → Typed → ℕ → List RelId
 rels_for g y x = rels_in g (slice_get y.rels x)
 
-abbrev pub rels_at : Graph → Typed → ℕ → Way → Option NodeId → List RelId
-rels_at g y x way n = filter (λ r. at_same n (near g way r)) (rels_for g y x)
+abbrev pub rels_at : Graph → Typed → ℕ → Direction → Option NodeId → List RelId
+rels_at g y x direction n = filter (λ r. at_same n (near g direction r)) (rels_for g y x)
 
 -- a node variable is bound to a node, where there is one
 abbrev pub arrive : ℕ → Option NodeId → Partial → List Partial
@@ -96,8 +96,13 @@ module _ (g : Graph) (y : Typed) where
     -- what one step makes of it
     pub step : Step → Partial → List Partial
     step (Scan v) a = map (λ n. with_node v n a) (nodes_for g y v)
-    step (Extend column x from to way) a = flat_map (λ r. arrive to (far g way r) (with_rel x r a)) (rels_at g y x way (look a.nodes from))
-    step (Close column x from to way) a = map (λ r. with_rel x r a) (filter (λ r. at_same (look a.nodes to) (far g way r)) (rels_at g y x way (look a.nodes from)))
+    step (Extend column x from to direction) a =
+        flat_map (λ r. arrive to (far g direction r) (with_rel x r a))
+        (rels_at g y x direction (look a.nodes from))
+    step (Close column x from to direction) a =
+        map (λ r. with_rel x r a)
+        (filter (λ r. at_same (look a.nodes to) (far g direction r))
+        (rels_at g y x direction (look a.nodes from)))
     step (Join side keys) a = map (λ b. with_all b a) (filter (agree keys a) (mean side nothing))
     step (Keep i) a = keep_if (holds (passes g (row a)) (slice_get y.tests i)) a
     step (Differ p) a = keep_if (holds (differs (row a)) (slice_get y.pairs p)) a

@@ -1,9 +1,9 @@
 -- Plans as their meaning goes by them: a list of steps, in which column steps are list steps with a mark.
 use Rattle.std.specs.Prelude.{ℕ, Bool, true, false, List, [], ◌∷◌}
+use Rattle.gq_base.specs.declared.direction.Direction.{Direction}
 use Rattle.gq_plan.specs.declared.plan.Plan as code_plan
 use Rattle.gq_plan.specs.declared.plan.Step as code
 use Rattle.gq_plan.specs.declared.plan.Step.TheOpen as layer
-use Rattle.gq_plan.specs.declared.plan.Way.{Way}
 
 mutual
   pub data Plan : Type 0 where
@@ -12,8 +12,8 @@ mutual
 
   pub data Step : Type 0 where
     Scan : (node : ℕ) → Step
-    Extend : (column : Bool) (rel from to : ℕ) → Way → Step
-    Close : (column : Bool) (rel from to : ℕ) → Way → Step
+    Extend : (column : Bool) (rel from to : ℕ) → Direction → Step
+    Close : (column : Bool) (rel from to : ℕ) → Direction → Step
     Join : (side : Plan) (keys : List ℕ) → Step
     Keep : (test : ℕ) → Step
     Differ : (pair : ℕ) → Step
@@ -27,10 +27,10 @@ steps (s ∷ ss) = Then s (steps ss)
 -- a step, with the plain plan in the place of its side plan
 abbrev pub step_layer : layer.Step-F Step Plan → Step
 step_layer (layer.Scan v) = Scan v
-step_layer (layer.Extend x from to way) = Extend false x from to way
-step_layer (layer.ColumnExtend x from to way) = Extend true x from to way
-step_layer (layer.Close x from to way) = Close false x from to way
-step_layer (layer.ColumnClose x from to way) = Close true x from to way
+step_layer (layer.Extend x from to direction) = Extend false x from to direction
+step_layer (layer.ColumnExtend x from to direction) = Extend true x from to direction
+step_layer (layer.Close x from to direction) = Close false x from to direction
+step_layer (layer.ColumnClose x from to direction) = Close true x from to direction
 step_layer (layer.Join side keys) = Join side keys
 step_layer (layer.Keep i) = Keep i
 step_layer (layer.Differ p) = Differ p

@@ -13,27 +13,15 @@ ghost use Rattle.gq_plan.specs.Soundness.{IsSound, has_number, max_variables};
 ghost use Rattle.gq_plan.specs.Plans.{plan_of, step_of};
 
 use crate::known::Known;
-use crate::plan::{Plan, Step, Way};
+use crate::plan::{Plan, Step};
 use crate::typed::{Typed, TypedRel};
-use gq_base::{Catalog, Mult};
-
-/// Whether a node has at most one relationship of such a table on the way.
-pub fn is_single(mult: Mult, way: Way) -> bool
-    ensures { result ≡ fit.is_single mult way }
-{
-    match (mult, way) {
-        (Mult::OneOne, _) => true,
-        (Mult::ManyOne, Way::Forward) => true,
-        (Mult::OneMany, Way::Backward) => true,
-        _ => false,
-    }
-}
+use gq_base::{Catalog, Direction};
 
 /// Whether a plan fits a typed alternative by itself: each step names what the alternative has,
 /// uses variables that are bound where it stands and binds new ones; it leads from its
 /// relationship's source to its target, backward the other way round; it is a column step exactly
-/// where the relationship's type is single on that way; and a side plan fits by itself and shares
-/// with the plan that joins it the keys and nothing else. It takes no memory.
+/// where the relationship's type is single in that direction; and a side plan fits by itself and
+/// shares with the plan that joins it the keys and nothing else. It takes no memory.
 pub fn fits(plan: &Plan, typed: &Typed, catalog: &Catalog) -> bool
     requires { IsSound catalog.now typed.now }
     ensures { IsTrue result ↔ Fits catalog.now typed.now (plan_of plan.now) }
@@ -124,7 +112,7 @@ struct Follow {
     rel: u32,
     from: u32,
     to: u32,
-    direction: Way,
+    direction: Direction,
 }
 
 impl Follow {
@@ -166,7 +154,7 @@ impl Follow {
     }
 }
 
-fn following(column: bool, rel: u32, from: u32, to: u32, direction: Way) -> Follow
+fn following(column: bool, rel: u32, from: u32, to: u32, direction: Direction) -> Follow
     ensures { result
         ≡ record { column = column; rel = rel; from = from; to = to; direction = direction } }
 {
@@ -217,18 +205,22 @@ fn goes(follow: Follow, rel: &TypedRel, catalog: &Catalog) -> bool
         ≡ fit.goes catalog.now follow.column follow.from follow.to follow.direction rel.now }
 {
     let (start, end) = ends_of(rel, follow.direction);
-    let single = is_single(catalog.rel_table(rel.table).mult, follow.direction);
+    let single = catalog
+        .rel_table(rel.table)
+        .mult
+        .is_single(follow.direction);
     follow.from == start && follow.to == end && follow.column == single
 }
 
-/// The node variable at which a relationship is met on the way, and the one to which it goes.
-pub fn ends_of(rel: &TypedRel, way: Way) -> (u32, u32)
-    ensures start { result.0 ≡ start_of way rel.now }
-    ensures end { result.1 ≡ end_of way rel.now }
+/// The node variable from which a relationship is followed in a direction, and the one to which it
+/// leads.
+pub fn ends_of(rel: &TypedRel, direction: Direction) -> (u32, u32)
+    ensures start { result.0 ≡ start_of direction rel.now }
+    ensures end { result.1 ≡ end_of direction rel.now }
 {
-    match way {
-        Way::Forward => (rel.source, rel.target),
-        Way::Backward => (rel.target, rel.source),
+    match direction {
+        Direction::Forward => (rel.source, rel.target),
+        Direction::Backward => (rel.target, rel.source),
     }
 }
 

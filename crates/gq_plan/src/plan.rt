@@ -1,15 +1,6 @@
 //! Plans: the steps that find the assignments of a typed alternative.
 
-use gq_base::{Boxed, List};
-
-/// The way in which a relationship is followed.
-#[derive(Clone, Copy, Debug, PartialEq, Eq)]
-pub enum Way {
-    /// From its source to its target.
-    Forward,
-    /// From its target to its source.
-    Backward,
-}
+use gq_base::{Boxed, Direction, List};
 
 /// Steps, one after another.
 #[cycle(plan)]
@@ -32,28 +23,28 @@ pub enum Step {
         rel: u32,
         from: u32,
         to: u32,
-        direction: Way,
+        direction: Direction,
     },
     /// The same, where a node has at most one such relationship.
     ColumnExtend {
         rel: u32,
         from: u32,
         to: u32,
-        direction: Way,
+        direction: Direction,
     },
     /// Each relationship between two bound nodes.
     Close {
         rel: u32,
         from: u32,
         to: u32,
-        direction: Way,
+        direction: Direction,
     },
     /// The same, where a node has at most one such relationship.
     ColumnClose {
         rel: u32,
         from: u32,
         to: u32,
-        direction: Way,
+        direction: Direction,
     },
     /// Each assignment of another plan that has the same nodes at the keys.
     Join {

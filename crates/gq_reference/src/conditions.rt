@@ -2,7 +2,7 @@
 ghost use Rattle.std.specs.Prelude.{◌≡◌, nat_eq, option_map, IfOk};
 ghost use Rattle.std.specs.List.{list_all, list_any};
 ghost use Rattle.std.specs.Cmp.Lexicographic.{pointwise};
-ghost use Rattle.gq_base.specs.Values.{val, literal_val};
+ghost use Rattle.gq_base.specs.Values.{val};
 ghost use Rattle.gq_alternatives.specs.Matches as matching;
 ghost use Rattle.gq_alternatives.specs.Matches.{pairs_from};
 ghost use Rattle.gq_plan.specs.Allowed as allowed;
@@ -11,7 +11,7 @@ ghost use Rattle.gq_plan.specs.Assignments as assignments;
 use crate::chosen::Chosen;
 use crate::pairs::pairs_of;
 use crate::properties::{node_property, rel_property};
-use gq_base::{List, Literal, Memory, NodeId, RelId, Text, Value, equal3};
+use gq_base::{List, Memory, NodeId, RelId, Text, Value, equal3};
 use gq_plain::{Catalog, PlainGraph};
 use gq_plan::{RelPair, Variable};
 use gq_scopes::{MapEntry, NodePattern, Pattern, RelPattern};
@@ -205,7 +205,7 @@ fn entry_holds(graph: &PlainGraph, chosen: &Chosen<'_>, entry: &MapEntry<'_>) ->
     ensures { result ≡ matching.entry_holds graph.now chosen.now entry.now }
 {
     let value = value_of(graph, chosen, entry.variable, &entry.entry.key);
-    equal3(&value, &literal_value(&entry.entry.value)).unwrap_or(false)
+    equal3(&value, &entry.entry.value.value()).unwrap_or(false)
 }
 
 // A property of a variable, null where it is missing.
@@ -226,17 +226,6 @@ fn value_of<'g>(
             None => Value::Null,
             Some(rel) => rel_property(graph, rel, name),
         },
-    }
-}
-
-fn literal_value(literal: &Literal) -> Value<'_>
-    ensures { val result ≡ literal_val literal.now }
-{
-    match literal {
-        Literal::Null => Value::Null,
-        Literal::Flag(flag) => Value::Flag(*flag),
-        Literal::Int(value) => Value::Int(*value),
-        Literal::Str(text) => Value::Str(text.as_str()),
     }
 }
 

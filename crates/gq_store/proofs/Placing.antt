@@ -1,6 +1,6 @@
 -- The places of relationships, and the cells at them.
 use Rattle.std.proofs.Common.{◌≡◌, ℕ, ◌+◌, ◌<◌, List, [], length, get_or, ◌∷◌, Option, Some, None, true, false, refl, sym, ap, ◌∙◌, subst, arith}
-use Rattle.std.specs.Prelude.{All, IfSome, not}
+use Rattle.std.specs.Prelude.{All, IfSome}
 use Rattle.std.specs.List.{concat, range_with_len}
 use Rattle.std.proofs.lemmas.List.{get_or-map, get_or_default, length-map}
 use Rattle.std.proofs.lemmas.Option.{slice_get_within}
@@ -16,13 +16,13 @@ use Rattle.gq_base.specs.Valid.{is_valid}
 use Rattle.gq_edges.specs.Once.{Pair, pair_at}
 use Rattle.gq_store.specs.Cells.{rel_cell}
 use Rattle.gq_store.specs.Cells.{rel_fields}
-use Rattle.gq_store.specs.Neighbours.{is_listed, is_single, mult_at, near_ends, near_rows, rels_at}
+use Rattle.gq_store.specs.Neighbours.{allows_many, is_listed, mult_at, near_ends, near_rows, rels_at}
 use Rattle.gq_store.specs.Places.{by_source, first_number, number_at, number_in}
 use Rattle.gq_store.specs.RelColumns.{cell_numbered, numbers_by_place, place_count, place_count_in, rel_cells}
 use Rattle.gq_store.specs.steps.Kept.{IsStored}
 use Rattle.gq_store.specs.steps.Stored.{AreLinked, ArePlaces, IsLinked, side}
-use Rattle.gq_store.specs.declared.direction.Direction.{Direction}
-use Rattle.gq_store.specs.declared.direction.Direction.TheVariants.{Forward, Backward}
+use Rattle.gq_base.specs.declared.direction.Direction.{Direction}
+use Rattle.gq_base.specs.declared.direction.Direction.TheVariants.{Forward, Backward}
 use Rattle.gq_store.specs.declared.links.Links.{Links}
 use Rattle.gq_store.specs.declared.links.Places.{Places}
 use Rattle.gq_store.specs.declared.links.Places.TheVariants.{Sources, Targets}
@@ -36,14 +36,14 @@ use Rattle.gq_store.proofs.Reading.{in_pages, number_below, paged_below, row_wit
 use Rattle.gq_store.proofs.Validity.{ends_below, length-ends}
 
 module _ (g : Graph) (rel : ℕ) where
-  by_forward : (mult : Option Mult) → not (is_single mult Forward) ≡ false → place_count_in g rel mult ≡ near_rows g rel Forward
+  by_forward : (mult : Option Mult) → allows_many mult Forward ≡ false → place_count_in g rel mult ≡ near_rows g rel Forward
   by_forward None h = cc h
   by_forward (Some ManyMany) h = cc h
   by_forward (Some ManyOne) h = refl
   by_forward (Some OneMany) h = cc h
   by_forward (Some OneOne) h = refl
 
-  by_backward : (mult : Option Mult) → not (is_single mult Forward) ≡ true → not (is_single mult Backward) ≡ false → place_count_in g rel mult ≡ near_rows g rel Backward
+  by_backward : (mult : Option Mult) → allows_many mult Forward ≡ true → allows_many mult Backward ≡ false → place_count_in g rel mult ≡ near_rows g rel Backward
   by_backward None h k = cc k
   by_backward (Some ManyMany) h k = cc k
   by_backward (Some ManyOne) h k = cc h

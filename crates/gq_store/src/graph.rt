@@ -15,10 +15,9 @@ ghost use Rattle.gq_store.specs.Places.{by_source, first_number, number_at};
 ghost use Rattle.gq_store.specs.RelColumns.{rel_cells};
 ghost use Rattle.gq_store.specs.steps.Stored.{AreLinked, IsLinked, IsSide};
 
-use crate::direction::Direction;
 use crate::links::{Links, Places, Side, links_of, numbers_by_place};
 use crate::property::TableCells;
-use gq_base::{Catalog, Memory, NodeRows, RelRows, Value};
+use gq_base::{Catalog, Direction, Memory, NodeRows, RelRows, Value};
 use gq_column::Column;
 use gq_dict::Dict;
 use gq_plain::PlainGraph;

@@ -1,13 +1,12 @@
 //! When two expressions are the same.
 ghost use Rattle.std.specs.Prelude.{◌≡◌};
 ghost use Rattle.std.specs.Cmp.Lexicographic.{pointwise};
-ghost use Rattle.gq_base.specs.Values.{val, literal_val};
 ghost use Rattle.gq_expr.specs.declared.Expr.{out-Expr};
 ghost use Rattle.gq_trees.specs.MadeOf as made;
 ghost use Rattle.gq_trees.specs.MadeOf.{same_arith, same_compare, same_expr};
 
 use crate::operands::{operand, place_count};
-use gq_base::{ArithOp, CompareOp, Literal, Value, same as same_value};
+use gq_base::{ArithOp, CompareOp, Literal, same as same_value};
 use gq_expr::{ArithOperand, CompareOperand, ExprTester, Expr, Tester};
 
 /// Whether two expressions are the same.
@@ -150,18 +149,7 @@ fn same_literals(literals: &[Literal], others: &[Literal]) -> bool
 fn same_literal(literal: &Literal, other: &Literal) -> bool
     ensures { result ≡ made.same_literal literal.now other.now }
 {
-    same_value(&literal_value(literal), &literal_value(other))
-}
-
-fn literal_value<'l>(literal: &'l Literal) -> Value<'l>
-    ensures { val result ≡ literal_val literal.now }
-{
-    match literal {
-        Literal::Null => Value::Null,
-        Literal::Flag(flag) => Value::Flag(*flag),
-        Literal::Int(value) => Value::Int(*value),
-        Literal::Str(text) => Value::Str(text.as_str()),
-    }
+    same_value(&literal.value(), &other.value())
 }
 
 fn compare_rank(op: CompareOp) -> u32

@@ -6,12 +6,12 @@ use Rattle.std.specs.declared.option.Option.TheVariants.{Some}
 use Rattle.gq_adj.specs.Adjacent.{lists_of}
 use Rattle.gq_base.specs.Plain.{Graph}
 use Rattle.gq_base.specs.declared.Mult.TheVariants.{ManyMany}
+use Rattle.gq_base.specs.declared.direction.Direction.{Direction}
+use Rattle.gq_base.specs.declared.direction.Direction.TheVariants.{Forward, Backward}
 use Rattle.gq_edges.specs.Once.{AreOnce, IsPairOf, Pair, pair_at}
 use Rattle.gq_edges.specs.Order.{numbers_of, page_start_of}
 use Rattle.gq_edges.specs.steps.Order.{IsPlaceOf}
 use Rattle.gq_store.specs.Neighbours.{is_listed, mult_at, near_ends, near_rows, opposite}
-use Rattle.gq_store.specs.declared.direction.Direction.TheVariants.{Forward, Backward}
-use Rattle.gq_store.specs.declared.direction.Direction.{Direction}
 use Rattle.gq_store.specs.declared.links.Links.{Links}
 use Rattle.gq_store.specs.declared.links.Places.TheVariants.{Sources, Targets, Paged}
 use Rattle.gq_store.specs.declared.links.Places.{Places}
@@ -60,7 +60,9 @@ side Backward links = links.backward
 
 -- a table's relationships are kept
 pub record IsLinked (g : Graph) (rel : ℕ) (links : Links) : Type 0 where
-  pub sides : (way : Direction) → IsSide (is_listed g rel way) (near_rows g rel way) (near_ends g rel way) (near_ends g rel (opposite way)) (side way links)
+  pub sides : (direction : Direction) → IsSide
+      (is_listed g rel direction) (near_rows g rel direction)
+      (near_ends g rel direction) (near_ends g rel (opposite direction)) (side direction links)
   pub places : ArePlaces g rel links.backward links.places
 
 -- those of each table are

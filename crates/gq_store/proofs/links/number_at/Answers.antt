@@ -2,7 +2,7 @@ use Rattle.std.proofs.Common.{◌<◌, ℕ, List, Some, length, sym, ap, ◌∙�
 use Rattle.std.specs.Prelude.{slice_get}
 use Rattle.std.specs.List.{concat}
 use Rattle.std.proofs.lemmas.Option.{slice_get-get_or}
-use Rattle.gq_store.specs.declared.direction.Direction.TheVariants.{Forward, Backward}
+use Rattle.gq_base.specs.declared.direction.Direction.TheVariants.{Forward, Backward}
 use Rattle.gq_store.proofs.Placing.{count_in_pages, not_lists, source_told, target_told}
 use Rattle.gq_store.proofs.Reading.{number_in_pages, paged_is, sources_is, targets_is}
 use Rattle.gq_store.proofs.Validity.{length-ends}

@@ -1,5 +1,5 @@
 use Rattle.std.proofs.Common.{sym, ◌∙◌}
-use Rattle.gq_store.specs.declared.direction.Direction.TheVariants.{Forward, Backward}
+use Rattle.gq_base.specs.declared.direction.Direction.TheVariants.{Forward, Backward}
 use Rattle.gq_store.proofs.Placing.{column_length, count_at_source, count_at_target, not_lists}
 use Rattle.gq_store.proofs.Reading.{sources_is, targets_is}
 use Rattle.gq_store.proofs.links.place_count.Goals as goal
