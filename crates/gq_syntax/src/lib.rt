@@ -1,6 +1,6 @@
 //! The trees of statements, and the tokens that spell them: the statement that the tokens of a text
 //! spell, or where they go wrong, by the grammar both ways. The crate stands on the tokens of
-//! `gq_lexer`.
+//! `gq_lexer`, and reads them by the cursor and the repetitions of `gq_tokens`.
 #![tactic(auto)]
 
 mod descent;
