@@ -1,6 +1,6 @@
 //! The texts of numbers, strings and values.
 
-ghost use Rattle.std.specs.Prelude.{◌≡◌, ◌++◌, codes, decimal};
+ghost use Rattle.std.specs.Prelude.{◌≡◌, ◌++◌, decimal};
 ghost use Rattle.std.specs.Fmt.{signed_decimal};
 ghost use Rattle.gq_base.specs.Values.{val};
 ghost use Rattle.gq_base.specs.Values as vals;
@@ -99,15 +99,21 @@ fn key_of(graph: &Graph, node: NodeId) -> Value<'_>
     graph.node_value(node.table, 0, node.row)
 }
 
-// Puts the label of a node in its parenthesis.
-fn put_label<O: Sink>(batch: &mut Batch, out: &mut O, label: &str) -> Result<(), Failed>
+// Puts a word between two marks.
+fn put_between<O: Sink>(
+    batch: &mut Batch,
+    out: &mut O,
+    before: &str,
+    word: &str,
+    after: &str,
+) -> Result<(), Failed>
     ensures bytes { Puts (O.taken out.old) (O.taken out.new) batch.old batch.new
-        (codes "(" ++ label.now ++ codes " ") result }
+        (before.now ++ word.now ++ after.now) result }
     ensures cause { HasCause (O.faults out.old) (O.faults out.new) result }
 {
-    batch.put(out, b"(")?;
-    batch.put(out, label.as_bytes())?;
-    batch.put(out, b" ")
+    batch.put(out, before.as_bytes())?;
+    batch.put(out, word.as_bytes())?;
+    batch.put(out, after.as_bytes())
 }
 
 fn put_node<O: Sink>(
@@ -120,20 +126,9 @@ fn put_node<O: Sink>(
         (value_text graph.now (vals.node node)) result }
     ensures cause { HasCause (O.faults out.old) (O.faults out.new) result }
 {
-    put_label(batch, out, label_of(graph, node.table))?;
+    put_between(batch, out, "(", label_of(graph, node.table), " ")?;
     put_property(batch, out, key_of(graph, node))?;
     batch.put(out, b")")
-}
-
-// Puts the type of a relationship in its bracket.
-fn put_type<O: Sink>(batch: &mut Batch, out: &mut O, name: &str) -> Result<(), Failed>
-    ensures bytes { Puts (O.taken out.old) (O.taken out.new) batch.old batch.new
-        (codes "[" ++ name.now ++ codes " #") result }
-    ensures cause { HasCause (O.faults out.old) (O.faults out.new) result }
-{
-    batch.put(out, b"[")?;
-    batch.put(out, name.as_bytes())?;
-    batch.put(out, b" #")
 }
 
 fn put_rel<O: Sink>(batch: &mut Batch, out: &mut O, graph: &Graph, rel: RelId) -> Result<(), Failed>
@@ -141,7 +136,7 @@ fn put_rel<O: Sink>(batch: &mut Batch, out: &mut O, graph: &Graph, rel: RelId) -
         (value_text graph.now (vals.rel rel)) result }
     ensures cause { HasCause (O.faults out.old) (O.faults out.new) result }
 {
-    put_type(batch, out, type_of(graph, rel.table))?;
+    put_between(batch, out, "[", type_of(graph, rel.table), " #")?;
     put_count(batch, out, rel.row as usize)?;
     batch.put(out, b"]")
 }
