@@ -5,7 +5,7 @@ ghost use Rattle.gq_lexer.specs.Sources as sources;
 ghost use Rattle.gq_syntax.specs.steps.Spans.{IsWholeEntry};
 
 use gq_base::{Boxed, CompareOp, List, Memory, Text};
-use gq_expr::{Operand, Expr};
+use gq_expr::{Expr, Operand};
 use gq_plan::NamedExpr;
 use gq_scopes::{MapEntry, Variable, copy_literal, copy_text};
 use gq_trees::source_text;

@@ -10,7 +10,7 @@ ghost use Rattle.gq_expr.specs.Meaning.{meaning, logic_all, coalesce_all, compar
 ghost use Rattle.gq_expr.specs.Meaning.{arith_chain, test_chain};
 ghost use Rattle.gq_expr.specs.steps.Parts.{operand_with, tester_with};
 
-use crate::expr::{ArithOperand, CompareOperand, ExprTester, Expr, Fault, LogicOp, Tester};
+use crate::expr::{ArithOperand, CompareOperand, Expr, ExprTester, Fault, LogicOp, Tester};
 use crate::operators::{
     arith, compare, contains, ends, is_member, is_null, known, negate, plus, starts,
 };

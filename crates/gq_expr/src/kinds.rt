@@ -10,7 +10,7 @@ ghost use Rattle.gq_expr.specs.Kinds.{tester_faults};
 ghost use Rattle.gq_expr.specs.steps.Parts.{operand_with, tester_with};
 ghost use Rattle.gq_expr.specs.Safety.{KindsPromise};
 
-use crate::expr::{CompareOperand, ExprTester, Expr, Tester};
+use crate::expr::{CompareOperand, Expr, ExprTester, Tester};
 use gq_base::{Field, Kind, List, Literal, Text};
 
 /// The fields of a table.

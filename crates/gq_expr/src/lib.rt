@@ -10,6 +10,6 @@ mod operators;
 mod truth;
 
 pub use evaluate::{Assigned, Reads, eval};
-pub use expr::{Operand, ArithOperand, CompareOperand, ExprTester, Expr, Fault, LogicOp, Tester};
+pub use expr::{ArithOperand, CompareOperand, Expr, ExprTester, Fault, LogicOp, Operand, Tester};
 pub use gq_base::{ArithOp, CompareOp};
 pub use kinds::{FieldList, Kinds, can_fault, kinds_keep_their_promise};

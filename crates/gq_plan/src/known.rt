@@ -6,7 +6,7 @@ ghost use Rattle.gq_plan.specs.Known.{set_of, known_of, with_both, reads_bound};
 ghost use Rattle.gq_plan.specs.steps.Known.{tester_bound};
 ghost use Rattle.gq_plan.specs.Soundness.{max_variables};
 
-use gq_expr::{ArithOperand, CompareOperand, ExprTester, Expr, Tester};
+use gq_expr::{ArithOperand, CompareOperand, Expr, ExprTester, Tester};
 
 /// The most node variables, and the most relationships, of a query.
 pub const MAX_VARIABLES: usize = 24;

@@ -8,7 +8,7 @@ ghost use Rattle.gq_plan.specs.Reads.{same_read, with_read, with_reads};
 
 use crate::variable::Variable;
 use gq_base::{List, Memory, Text};
-use gq_expr::{ArithOperand, CompareOperand, ExprTester, Expr, Tester};
+use gq_expr::{ArithOperand, CompareOperand, Expr, ExprTester, Tester};
 use std::alloc::Global;
 use std::collections::BTreeSet;
 use std::marker::Model;

@@ -38,4 +38,3 @@ pub fn sample(alloc: Global, size: u32) -> Result<Graph, Memory>
     plain.set_rel_rows(1, rels::homes(alloc, size)?);
     Graph::build(alloc, plain)
 }
-

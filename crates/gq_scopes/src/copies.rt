@@ -3,7 +3,7 @@ ghost use Rattle.std.specs.Prelude.{◌≡◌, IfOk};
 
 use crate::copying::Copying;
 use gq_base::{Boxed, List, Literal, Memory, Text};
-use gq_expr::{Operand, ArithOperand, CompareOperand, ExprTester, Expr, Tester};
+use gq_expr::{ArithOperand, CompareOperand, Expr, ExprTester, Operand, Tester};
 use std::alloc::Global;
 
 /// A copy of a text.

@@ -29,7 +29,6 @@ impl<'t> Model for NamedVariable<'t> {
 
     ghost Value = { NamedVariable };
 
-
     ghost view = { λ n. record { name = n.name.now; variable = n.variable } };
 }
 
@@ -151,7 +150,6 @@ impl<'t> Model for MapEntry<'t> {
     ghost use Rattle.gq_scopes.specs.Patterns.{MapEntry};
 
     ghost Value = { MapEntry };
-
 
     ghost view = { λ e. record {
       variable = e.variable;

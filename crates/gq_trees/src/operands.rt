@@ -5,7 +5,7 @@ ghost use Rattle.gq_expr.specs.declared.Expr.{out-Expr};
 ghost use Rattle.gq_trees.specs.Operands as operands;
 ghost use Rattle.gq_trees.specs.Operands.{places, list_places, term_places, test_places};
 
-use gq_expr::{Operand, ExprTester, Expr, Tester};
+use gq_expr::{Expr, ExprTester, Operand, Tester};
 
 /// How many places an expression has for operands.
 pub fn place_count(expr: &Expr) -> usize

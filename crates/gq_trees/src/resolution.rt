@@ -5,7 +5,7 @@ ghost use Rattle.gq_trees.specs.steps.Trees.{term_with, tester_with};
 
 use crate::calls::{CallForm, call};
 use gq_base::{Boxed, List, Memory};
-use gq_expr::{Operand, ArithOperand, CompareOperand, ExprTester, Expr, Tester};
+use gq_expr::{ArithOperand, CompareOperand, Expr, ExprTester, Operand, Tester};
 use gq_scopes::{Copying, Scope, copy_literal, copy_literals};
 use gq_syntax::{ArithTerm, Ast, AstNode, AstTester, CompareTerm, Tester as Tested};
 use std::alloc::Global;

@@ -7,7 +7,7 @@ ghost use Rattle.gq_trees.specs.MadeOf.{same_arith, same_compare, same_expr};
 
 use crate::operands::{operand, place_count};
 use gq_base::{ArithOp, CompareOp, Literal, same as same_value};
-use gq_expr::{ArithOperand, CompareOperand, ExprTester, Expr, Tester};
+use gq_expr::{ArithOperand, CompareOperand, Expr, ExprTester, Tester};
 
 /// Whether two expressions are the same.
 #[tactic(auto, using(crate::proofs::Walks::sameness))]
