@@ -1,7 +1,6 @@
 -- What holds of each manifest, whatever its lines.
 use Rattle.std.proofs.Common.{◌≡◌, ◌≢◌, ℕ, ◌+◌, ◌<◌, ◌≤◌, Bool, true, false, List, [], ◌∷◌, ◌++◌}
 use Rattle.gq_base.proofs.ResultLaws.{then_ok}
-use Rattle.gq_base.specs.Results.{and_then}
 use Rattle.std.proofs.Common.{length, Some, None, Ok, Err, refl, subst, arith, length-append}
 use Rattle.std.specs.Prelude.{if◌then◌else◌, nat_le, is_some, All}
 use Rattle.std.specs.declared.option.Option.{Option}
