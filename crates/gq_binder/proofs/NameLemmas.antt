@@ -1,5 +1,5 @@
 -- The first refused names and calls of some expressions and then others.
-use Rattle.std.proofs.Common.{◌≡◌, ◌∙◌, ap, refl, sym, List, [], ◌∷◌, ◌++◌, Option, None, Some}
+use Rattle.std.proofs.Common.{◌≡◌, ◌∙◌, ap, refl, sym, List, [], ◌∷◌, ◌++◌, Option}
 use Rattle.gq_base.proofs.OptionLaws.{or_assoc, or_none}
 use Rattle.std.specs.Option.{option_or}
 use Rattle.gq_binder.specs.Columns.{Scoped}
