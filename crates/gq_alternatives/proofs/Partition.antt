@@ -6,13 +6,13 @@ use Rattle.std.specs.List.{range_with_len, AllByRecursion, list_all}
 use Rattle.std.specs.Option.{option_map}
 use Rattle.std.proofs.lemmas.Bool.{eqb-true, lt-ltb, and_parts, and_from}
 use Rattle.gq_base.specs.Catalogs.{Tables}
-use Rattle.gq_base.specs.Plain.{Graph}
+use Rattle.gq_base.specs.Plain.{Graph, rels_at}
 use Rattle.gq_base.specs.declared.NodeId.{NodeId}
 use Rattle.gq_base.specs.declared.PlainRel.{PlainRel}
 use Rattle.gq_base.specs.declared.RelId.{RelId}
 use Rattle.gq_base.specs.declared.RelTable.{RelTable}
 use Rattle.gq_plan.specs.Allowed.{at_same, leads, in_tables, rel_lies, rels_lie, lies_in}
-use Rattle.gq_plan.specs.Assignments.{Assignment, tuples, assignments, source, target, source_in, target_in, rels_at}
+use Rattle.gq_plan.specs.Assignments.{Assignment, tuples, assignments, source, target, source_in, target_in}
 use Rattle.gq_plan.specs.declared.NamedExpr.{NamedExpr}
 use Rattle.gq_plan.proofs.Bags.{parts_of_list}
 use Rattle.gq_plan.proofs.Counts.{bit, hits, total_map, total_flat_map, total_filter, total_same, hits_const_and, hits_range, cond_bit, cond_and}

@@ -1,6 +1,7 @@
 -- The matches of a query in a plain graph (openCypher 9, pattern matching and relationship uniqueness): a filtered
 -- product, with no plan and no order of joining.
 use Rattle.std.specs.Prelude.{ℕ, suc, nat_eq, Bool, true, false, not, ◌&&◌, ◌||◌, Option, Some, None, List, [], ◌∷◌, ◌++◌, filter, length, slice_get, if◌then◌else◌}
+use Rattle.gq_plan.specs.Conditions.{differ}
 use Rattle.gq_plan.specs.declared.variable.Variable.TheVariants.{Node as node, Rel as rel}
 use Rattle.gq_plan.specs.declared.variable.Variable.{Variable}
 use Rattle.std.specs.List.{list_all, list_any}
@@ -85,11 +86,6 @@ pairs_with clause first second (q ∷ qs) =
 abbrev pub pairs_from : ℕ → List RelPattern → List RelPair
 pairs_from first [] = []
 pairs_from first (p ∷ ps) = pairs_with p.clause first (suc first) ps ++ pairs_from (suc first) ps
-
-abbrev differ : Option RelId → Option RelId → Bool
-differ None r = false
-differ (Some q) None = false
-differ (Some q) (Some r) = not (same_rel q r)
 
 -- two relationship patterns have different relationships
 abbrev pub pair_holds : Assignment → RelPair → Bool

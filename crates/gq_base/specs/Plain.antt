@@ -23,7 +23,7 @@ cell_val (Some (cell.Int z)) = int z
 cell_val (Some (cell.Str s)) = str s
 cell_val (Some (cell.Flag b)) = flag b
 
-abbrev flat : Option (Option Cell) → Option Cell
+abbrev pub flat : Option (Option Cell) → Option Cell
 flat None = None
 flat (Some found) = found
 
@@ -40,3 +40,15 @@ property_of fields name row = cell_at row (find_field fields name)
 abbrev pub rows_of : Option (List (List (Option Cell))) → List (List (Option Cell))
 rows_of None = []
 rows_of (Some rows) = rows
+
+-- the items of a list, if there is one
+abbrev pub all_of : {A : Type 0} → Option (List A) → List A
+all_of None = []
+all_of (Some items) = items
+
+-- the rows of a node table, and the relationships of a relationship table, in load order
+abbrev pub rows_at : Graph → ℕ → List (List (Option Cell))
+rows_at g table = all_of (slice_get g.nodes table)
+
+abbrev pub rels_at : Graph → ℕ → List PlainRel
+rels_at g table = all_of (slice_get g.rels table)

@@ -5,8 +5,7 @@ use Rattle.std.specs.Option.{option_map, option_or}
 use Rattle.gq_alternatives.specs.Alternatives.{Choice, alternatives, pattern_alternatives}
 use Rattle.gq_base.specs.Catalogs.{Tables}
 use Rattle.gq_binder.proofs.Accepted.{IsNamed, known_expressions, columns_there, keys_there, conjuncts_there}
-use Rattle.gq_binder.proofs.ColumnNames.{columns_repeated, columns_counted, sorts_same, unknown_names, refused_calls}
-use Rattle.gq_binder.proofs.NameLemmas.{first_variable, first_function, first_arguments}
+use Rattle.gq_binder.proofs.NameLemmas.{first_variable, first_function, first_arguments, sorts_same}
 use Rattle.gq_binder.proofs.Patterns.{node_names_there}
 use Rattle.gq_binder.proofs.RefusalLemmas.{first_then, first_append, same_behind}
 use Rattle.gq_binder.proofs.SoundAlternatives.{each_none, is_bound, reads_listed}
@@ -15,7 +14,7 @@ use Rattle.gq_binder.specs.steps.Checks.{IsOfQuery}
 use Rattle.gq_binder.specs.Columns.{conditions, columns, entry_test, sort_scope}
 use Rattle.gq_binder.specs.steps.Names.{FirstNames, no_names, with_expressions}
 use Rattle.gq_binder.specs.steps.Parts.{known_conjuncts, parts_of, ambiguous_in, reads_in, checks_in, bound_in}
-use Rattle.gq_binder.specs.Refusals.{first_of_all, unknown_variable, variable_conflict, relationship_repeated, column_repeated, nothing_to_return, order_out_of_scope, ambiguous_order_name, function_unknown, argument_count, over_limit, max_columns, max_alternatives, too_many_patterns, all_reads, first_refusal}
+use Rattle.gq_binder.specs.Refusals.{first_of_all, unknown_variable, variable_conflict, relationship_repeated, column_repeated, nothing_to_return, order_out_of_scope, ambiguous_order_name, function_unknown, argument_count, over_limit, max_columns, max_alternatives, too_many_patterns, all_reads, first_refusal, checks_of, too_many_alternatives, expressions, first_in}
 use Rattle.gq_binder.specs.declared.parts.QueryParts.{QueryParts}
 use Rattle.gq_binder.specs.declared.refusal.BindRefusal.{BindRefusal}
 use Rattle.gq_binder.specs.declared.refusal.BindRefusal.TheVariants as refusal
@@ -23,9 +22,9 @@ use Rattle.gq_plan.specs.Reads.{Read, distinct}
 use Rattle.gq_plan.specs.Soundness.{max_reads}
 use Rattle.gq_scopes.specs.Patterns.{Name, Pattern, pattern_of}
 use Rattle.gq_trees.specs.Renames.{ambiguous_name}
-use Rattle.gq_trees.specs.Resolving.{functions, as_lists}
+use Rattle.gq_trees.specs.Resolving.{functions}
 use Rattle.gq_scopes.specs.Scopes.{scope_of}
-use Rattle.gq_trees.specs.Uses.{unknown_function, wrong_count}
+use Rattle.gq_trees.specs.Uses.{unknown_name, unknown_function, wrong_count}
 use Rattle.gq_syntax.specs.steps.Spans.{StandsIn}
 use Rattle.gq_syntax.specs.declared.Query.{Query}
 
@@ -76,49 +75,39 @@ module _ (query : Query) (text : List ℕ) where
       let named : IsNamed query text = named_by passed.0 passed.1.1.1.1.1.1.1.0 passed.1.1.1.1.1.1.1.1.0 in
       ap (λ reads. first_of_all (numbers reads)) (reads_listed query text (known_conjuncts text (conditions query)) (conjuncts_there query text named)))
 
-  -- the checks before that of alternatives
-  abbrev before_last : List (Option BindRefusal)
-  before_last =
-      unknown_variable text query
-      ∷ variable_conflict p
-      ∷ relationship_repeated p
-      ∷ column_repeated (columns as_lists text query)
-      ∷ nothing_to_return query p
-      ∷ order_out_of_scope text query
-      ∷ ambiguous_order_name text query
-      ∷ function_unknown text query
-      ∷ argument_count text query
-      ∷ too_many_patterns p
-      ∷ over_limit max_reads (length (distinct (all_reads query))) refusal.TooManyReads
-      ∷ over_limit max_columns (length (columns as_lists text query)) refusal.TooManyColumns ∷ []
+  -- the expressions that are gone through are those of the definition
+  same_expressions : known_expressions query text ≡ expressions text query
+  unfolding expressions
+  same_expressions = refl
 
-  same_checks : first_of_all (early ++ numbers (all_reads query)) ≡ first_of_all before_last
+  same_checks : first_of_all (early ++ numbers (all_reads query)) ≡ first_of_all (checks_of query text)
   same_checks =
-      let unknown : option_map refusal.UnknownVariable names.variable ≡ unknown_variable text query = ap (option_map refusal.UnknownVariable) (first_variable (known_expressions query text) ∙ unknown_names query text) in
-      let repeated : column_repeated (columns functions text query) ≡ column_repeated (columns as_lists text query) = columns_repeated query text in
-      let ambiguous : ambiguous_in query p ≡ ambiguous_order_name text query = ap (option_map refusal.AmbiguousOrderName) (sorts_same (λ _. ambiguous_name (scope_of p) query.items) (scope_of p) (sort_scope as_lists text query) (λ u. refl) query.order) in
-      let function : option_map refusal.UnknownFunction names.function ≡ function_unknown text query = ap (option_map refusal.UnknownFunction) (first_function (known_expressions query text) ∙ refused_calls query text unknown_function) in
-      let count : option_map refusal.ArgumentCount names.arguments ≡ argument_count text query = ap (option_map refusal.ArgumentCount) (first_arguments (known_expressions query text) ∙ refused_calls query text wrong_count) in
-      let columns_many : length (columns functions text query) ≡ length (columns as_lists text query) = columns_counted query text in
+      let unknown : option_map refusal.UnknownVariable names.variable ≡ unknown_variable text query =
+      ap (option_map refusal.UnknownVariable) (first_variable (known_expressions query text) ∙ ap (first_in unknown_name) same_expressions) in
+      let ambiguous : ambiguous_in query p ≡ ambiguous_order_name text query =
+      ap (option_map refusal.AmbiguousOrderName) (sorts_same (λ _. ambiguous_name (scope_of p) query.items) (scope_of p) (sort_scope functions text query) (λ u. refl) query.order) in
+      let function : option_map refusal.UnknownFunction names.function ≡ function_unknown text query =
+      ap (option_map refusal.UnknownFunction) (first_function (known_expressions query text) ∙ ap (first_in (λ _. unknown_function)) same_expressions) in
+      let count : option_map refusal.ArgumentCount names.arguments ≡ argument_count text query =
+      ap (option_map refusal.ArgumentCount) (first_arguments (known_expressions query text) ∙ ap (first_in (λ _. wrong_count)) same_expressions) in
       λ i.
       first_of_all
       (unknown i
       ∷ variable_conflict p
       ∷ relationship_repeated p
-      ∷ repeated i
+      ∷ column_repeated (columns functions text query)
       ∷ nothing_to_return query p
       ∷ order_out_of_scope text query
       ∷ ambiguous i
       ∷ function i
       ∷ count i
       ∷ too_many_patterns p
-      ∷ over_limit max_reads (length (distinct (all_reads query))) refusal.TooManyReads
-      ∷ over_limit max_columns (columns_many i) refusal.TooManyColumns ∷ [])
+      ∷ numbers (all_reads query))
 
   abbrev found : Option BindRefusal
   found = first_of_all (checks_in text query (parts_of text query))
 
-  checked : found ≡ first_of_all before_last
+  checked : found ≡ first_of_all (checks_of query text)
   unfolding parts_of
   checked = same_reads ∙ same_checks
 
@@ -134,13 +123,13 @@ module _ (query : Query) (text : List ℕ) where
 
   module _ (catalog : Tables) where
     abbrev last : Option BindRefusal
-    last = over_limit max_alternatives (length (alternatives query catalog)) refusal.TooManyAlternatives
+    last = too_many_alternatives query catalog
 
     refusal_is : first_refusal query text catalog ≡ option_or found last
     unfolding first_refusal
     refusal_is =
-        first_append before_last (last ∷ [])
-        ∙ ap (option_or (first_of_all before_last)) (first_then last [] ∙ or_none last)
+        first_append (checks_of query text) (last ∷ [])
+        ∙ ap (option_or (first_of_all (checks_of query text))) (first_then last [] ∙ or_none last)
         ∙ ap (λ o. option_or o last) (sym checked)
 
     answered : (e : BindRefusal) → (IsOfQuery e → first_refusal query text catalog ≡ Some e) → Answers query text catalog (Err e)

@@ -1,5 +1,6 @@
 -- A tree whose names and calls pass the checks stands for an expression.
 use Rattle.std.proofs.Common.{◌≡◌, ◌∙◌, sym, refl, ap, subst, ℕ, suc, List, [], ◌∷◌, ◌++◌, map, length, slice_get, Option, Some, None, Bool, true, false, not, ◌||◌, nat_eq, codes, arith}
+use Rattle.gq_syntax.specs.Operands.{in_tester}
 use Rattle.gq_base.proofs.OptionLaws.{or_first, or_second}
 use Rattle.std.specs.Prelude.{if◌then◌else◌, All}
 use Rattle.std.specs.Option.{option_map, option_or, option_and_then}
@@ -14,7 +15,7 @@ use Rattle.gq_expr.specs.declared.Tester.TheVariants as tester
 use Rattle.gq_scopes.specs.Patterns.{Name, find_name}
 use Rattle.gq_trees.specs.Resolving.{functions, resolved, resolve_step, all_some, over_known, bound_term, bound_tester, type_call, coalesce_call, is_function}
 use Rattle.gq_trees.specs.steps.Trees.{term_with}
-use Rattle.gq_trees.specs.Uses.{Use, bare, owner, call, uses, uses_step, all_uses, term_uses, tester_uses, first_name, refused_unless, is_some_function, takes, unknown_name, unknown_function, wrong_count}
+use Rattle.gq_trees.specs.Uses.{Use, bare, owner, call, uses, uses_step, all_uses, term_uses, first_name, refused_unless, is_some_function, takes, unknown_name, unknown_function, wrong_count}
 use Rattle.gq_scopes.specs.Scopes.{Scope, column_or, either_property, either_variable, expr_of, find_column, is_there, is_variable}
 use Rattle.gq_trees.proofs.Resolved.{tests_of}
 use Rattle.gq_trees.proofs.UseLemmas.{first_name_append}
@@ -152,7 +153,7 @@ module _ (s : Scope) (known : All IsKnownColumn s.columns) where
   abbrev tests : {A : Type 0} (f : Ast → A) → Part → List (Tested Part) → List (Tested A)
   tests {A} f q ts = tests_of (parts.map Ast A f (parts.map Part Ast (λ p. p.0) (ast.Test q ts)))
 
-  tests_are : (q : Part) (ts : List (Tested Part)) → first_name check (all_uses (map tester_uses (tests uses q ts))) ≡ None → IsKnown (all_some (map bound_tester (tests go q ts)))
+  tests_are : (q : Part) (ts : List (Tested Part)) → first_name check (all_uses (map in_tester (tests uses q ts))) ≡ None → IsKnown (all_some (map bound_tester (tests go q ts)))
   tests_are q [] h = tt
   tests_are q (tested.IsNull ∷ ts) h = both (Some tester.IsNull) (all_some (map bound_tester (tests go q ts))) tt (tests_are q ts h)
   tests_are q (tested.IsNotNull ∷ ts) h = both (Some tester.IsNotNull) (all_some (map bound_tester (tests go q ts))) tt (tests_are q ts h)

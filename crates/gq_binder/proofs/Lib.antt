@@ -1,6 +1,5 @@
 pub mod Accepted
 pub mod Checked
-pub mod ColumnNames
 pub mod Known
 pub mod MetLemmas
 pub mod NameLemmas

@@ -1,10 +1,11 @@
--- The first refused names and calls of some expressions and then others.
-use Rattle.std.proofs.Common.{◌≡◌, ◌∙◌, ap, refl, sym, List, [], ◌∷◌, ◌++◌, Option}
+-- The first refused names and calls of some expressions and then others, and in two scopes.
+use Rattle.std.proofs.Common.{◌≡◌, ◌∙◌, ap, ap₂, refl, sym, List, [], ◌∷◌, ◌++◌, Option}
+use Rattle.gq_syntax.specs.declared.Sort.{Sort}
 use Rattle.gq_base.proofs.OptionLaws.{or_assoc, or_none}
 use Rattle.std.specs.Option.{option_or}
 use Rattle.gq_binder.specs.Columns.{Scoped}
 use Rattle.gq_binder.specs.steps.Names.{FirstNames, no_names, with_expression, with_expressions}
-use Rattle.gq_binder.specs.Refusals.{first_in}
+use Rattle.gq_binder.specs.Refusals.{first_in, sorts_in}
 use Rattle.gq_scopes.specs.Patterns.{Name}
 use Rattle.gq_scopes.specs.Scopes.{Scope}
 use Rattle.gq_trees.specs.Uses.{Use, uses, first_name, unknown_name, unknown_function, wrong_count}
@@ -37,3 +38,13 @@ first_function es = found (λ names. names.function) (λ _. unknown_function) (�
 
 pub first_arguments : (es : List Scoped) → (with_expressions no_names es).arguments ≡ first_in (λ _. wrong_count) es
 first_arguments es = found (λ names. names.arguments) (λ _. wrong_count) (λ names e. refl) no_names es
+
+-- ---- a check that says the same of each name in two scopes
+
+first_same : (a b : Use → Option Name) → ((u : Use) → a u ≡ b u) → (us : List Use) → first_name a us ≡ first_name b us
+first_same a b e [] = refl
+first_same a b e (u ∷ us) = ap₂ option_or (e u) (first_same a b e us)
+
+pub sorts_same : (check : Scope → Use → Option Name) (s r : Scope) → ((u : Use) → check s u ≡ check r u) → (order : List Sort) → first_in check (sorts_in s order) ≡ first_in check (sorts_in r order)
+sorts_same check s r e [] = refl
+sorts_same check s r e (o ∷ os) = ap₂ option_or (first_same (check s) (check r) e (uses o.tree)) (sorts_same check s r e os)

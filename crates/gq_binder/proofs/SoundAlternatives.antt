@@ -33,14 +33,14 @@ use Rattle.gq_syntax.specs.declared.Clause.{Clause}
 use Rattle.gq_syntax.specs.declared.Query.{Query}
 use Rattle.gq_alternatives.proofs.Shapes.{each_left, each_right}
 use Rattle.gq_alternatives.proofs.ShapesOfPatterns.{Grows, grows_same, grows_then, clauses_grow, IsShaped, ends_of, pattern_shaped}
-use Rattle.gq_trees.proofs.ConditionReads.{alike_more, conjuncts_read}
+use Rattle.gq_trees.proofs.ConditionReads.{Alike, alike_more, conjuncts_read}
 use Rattle.gq_alternatives.proofs.SoundPatterns.{IsChoice, each_alternative, pattern_sound, typed_count}
 use Rattle.gq_trees.proofs.ReadEquations.{reads_Literal, reads_NodeProperty, reads_RelProperty, reads_Compare, AllAmong, some_among, properties_among, distinct_fewer}
-use Rattle.gq_trees.proofs.AlikeReads.{AllThere, Alike}
+use Rattle.gq_trees.proofs.ReadsThere.{AllThere}
 use Rattle.gq_alternatives.specs.Alternatives.{Choice, typed_rels, agrees, alternatives, typed_of}
 use Rattle.gq_trees.specs.Conjuncts.{conjunct_expr}
 use Rattle.gq_scopes.specs.Patterns.{Name, MapEntry, Pattern, no_pattern, pattern_of, with_paths, with_clauses}
-use Rattle.gq_trees.specs.Resolving.{Conjunct, functions, as_lists, all_some, resolved, split}
+use Rattle.gq_trees.specs.Resolving.{Conjunct, functions, all_some, resolved, split}
 use Rattle.gq_scopes.specs.Scopes.{Scope, scope_of}
 use Rattle.gq_scopes.specs.steps.Variables.{IsThere}
 use Rattle.gq_lexer.specs.Sources.{source_text}
@@ -49,7 +49,7 @@ use Rattle.gq_binder.proofs.Patterns.{names_counted}
 use Rattle.gq_binder.specs.Binding.{IsBound}
 use Rattle.gq_binder.specs.Columns.{Scoped, scoped_in, conditions_from, conditions, conjuncts, columns, property_of, entry_expr, entry_test, Resolves, HasAlternatives}
 use Rattle.gq_binder.specs.steps.Parts.{reads_in}
-use Rattle.gq_binder.specs.Refusals.{first_of_all, unknown_variable, variable_conflict, relationship_repeated, column_repeated, nothing_to_return, order_out_of_scope, ambiguous_order_name, function_unknown, argument_count, over_limit, max_columns, max_alternatives, too_many_patterns, all_reads, first_refusal}
+use Rattle.gq_binder.specs.Refusals.{first_of_all, unknown_variable, variable_conflict, relationship_repeated, column_repeated, nothing_to_return, order_out_of_scope, ambiguous_order_name, function_unknown, argument_count, over_limit, max_columns, max_alternatives, too_many_patterns, all_reads, first_refusal, checks_of, too_many_alternatives}
 use Rattle.gq_binder.specs.declared.refusal.BindRefusal.{BindRefusal}
 use Rattle.gq_binder.specs.declared.refusal.BindRefusal.TheVariants as refusal
 
@@ -77,22 +77,7 @@ accepted_small : (query : Query) (text : List ℕ) (catalog : Tables) → first_
 unfolding first_refusal
 accepted_small query text catalog accepted =
     let p : Pattern = pattern_of query.clauses in
-    let cs : List Column = columns as_lists text query in
-    let limits : List (Option BindRefusal) = over_limit max_columns (length cs) refusal.TooManyColumns ∷ over_limit max_alternatives (length (alternatives query catalog)) refusal.TooManyAlternatives ∷ [] in
-    let few_reads : Option BindRefusal = over_limit max_reads (length (distinct (all_reads query))) refusal.TooManyReads in
-    let checks =
-    each_none
-    (unknown_variable text query
-    ∷ variable_conflict p
-    ∷ relationship_repeated p
-    ∷ column_repeated cs
-    ∷ nothing_to_return query p
-    ∷ order_out_of_scope text query
-    ∷ ambiguous_order_name text query
-    ∷ function_unknown text query
-    ∷ argument_count text query
-    ∷ too_many_patterns p
-    ∷ few_reads ∷ limits) accepted in
+    let checks = each_none (checks_of query text ++ too_many_alternatives query catalog ∷ []) accepted in
     let patterns =
     each_none (over_limit max_variables (length p.nodes) refusal.TooManyPatterns ∷ over_limit max_variables (length p.rels) refusal.TooManyPatterns ∷ []) checks.1.1.1.1.1.1.1.1.1.0 in
     record {
@@ -134,7 +119,7 @@ query_within query = conditions_within 0 no_pattern query.clauses (with_clauses 
 -- ---- what conditions read
 
 abbrev listed : Scoped → Option Expr
-listed c = resolved as_lists c.scope c.tree
+listed c = resolved functions c.scope c.tree
 
 conditions_read : (final : Pattern) (cs : List Scoped) → AllByRecursion (λ c. IsWithin final c.scope) cs
     → Alike (length final.names) (length final.rels) (flat_map reads) (flat_map reads) (all_some (map (λ c. c.expr) (flat_map (λ c. (split functions c.scope c.tree).conjuncts) cs))) (all_some (map listed cs))
@@ -173,7 +158,7 @@ unnamed text (c ∷ cs) = ap (with_first c.expr) (unnamed text cs) ∙ go c.expr
     go (Some e) None = refl
     go (Some e) (Some es) = refl
 
--- the conjuncts of a bound query read what the conditions read with their calls as lists, all of variables that are there
+-- the conjuncts of a bound query read what the conditions read, all of variables that are there
 record ReadsConditions (query : Query) (es : List NamedExpr) : Type 0 where
   same : flat_map named_reads es ≡ flat_map (λ c. known_reads (listed c)) (conditions query)
   there : AllThere (length (pattern_of query.clauses).names) (length (pattern_of query.clauses).rels) (flat_map named_reads es)

@@ -19,7 +19,7 @@ use Rattle.gq_trees.specs.MadeOf.{column_exprs, is_made_of}
 use Rattle.gq_trees.specs.Renames.{ambiguous_name}
 use Rattle.gq_scopes.specs.Patterns.{Name, NamedVariable, Pattern, pattern_of, is_same_name}
 use Rattle.gq_trees.specs.Uses.{Use, uses, first_name, refused_unless, unknown_name, unknown_function, wrong_count}
-use Rattle.gq_trees.specs.Resolving.{as_lists, resolved}
+use Rattle.gq_trees.specs.Resolving.{as_lists, functions, resolved}
 use Rattle.gq_binder.specs.declared.refusal.BindRefusal.{BindRefusal}
 use Rattle.gq_binder.specs.declared.refusal.BindRefusal.TheVariants as refusal
 use Rattle.gq_scopes.specs.declared.Column.{Column}
@@ -39,7 +39,7 @@ abbrev pub sorts_in : Scope → List Sort → List Scoped
 sorts_in scope order = map (λ s. record { scope = scope; tree = s.tree }) order
 
 abbrev pub sort_trees : List ℕ → Query → List Scoped
-sort_trees text query = sorts_in (sort_scope as_lists text query) query.order
+sort_trees text query = sorts_in (sort_scope functions text query) query.order
 
 unfoldable pub expressions : List ℕ → Query → List Scoped
 expressions text query = conditions query ++ (items_in (scope_of (pattern_of query.clauses)) query.items ++ sort_trees text query)
@@ -109,7 +109,7 @@ out_of_scope_from item columns scope [] = None
 out_of_scope_from item columns scope (s ∷ ss) =
     if is_made columns (resolved as_lists scope s.tree) then out_of_scope_from (suc item) columns scope ss else Some (refusal.OrderOutOfScope item)
 
--- with DISTINCT, an item is not made of columns
+-- with DISTINCT, an item is not made of columns; its calls, which may yet be none, are compared as they are written
 abbrev pub order_out_of_scope : List ℕ → Query → Option BindRefusal
 order_out_of_scope text query =
     if query.distinct then out_of_scope_from 1 (column_exprs (columns as_lists text query)) (sort_scope as_lists text query) query.order else None
@@ -149,15 +149,14 @@ known_reads (Some e) = reads e
 unfoldable pub all_reads : Query → List Read
 all_reads query =
     map (λ e. property e.variable e.entry.key) (pattern_of query.clauses).entries
-    ++ properties (flat_map (λ c. known_reads (resolved as_lists c.scope c.tree)) (conditions query))
+    ++ properties (flat_map (λ c. known_reads (resolved functions c.scope c.tree)) (conditions query))
 
--- the first check that applies
-unfoldable pub first_refusal : Query → List ℕ → Tables → Option BindRefusal
-first_refusal query text catalog =
+-- the twelve checks that ask no catalogue, in their order
+abbrev pub checks_of : Query → List ℕ → List (Option BindRefusal)
+checks_of query text =
     let p : Pattern = pattern_of query.clauses in
-    let cs : List Column = columns as_lists text query in
-    first_of_all
-    (unknown_variable text query
+    let cs : List Column = columns functions text query in
+    unknown_variable text query
     ∷ variable_conflict p
     ∷ relationship_repeated p
     ∷ column_repeated cs
@@ -168,5 +167,14 @@ first_refusal query text catalog =
     ∷ argument_count text query
     ∷ too_many_patterns p
     ∷ over_limit max_reads (length (distinct (all_reads query))) refusal.TooManyReads
-    ∷ over_limit max_columns (length cs) refusal.TooManyColumns
-    ∷ over_limit max_alternatives (length (alternatives query catalog)) refusal.TooManyAlternatives ∷ [])
+    ∷ over_limit max_columns (length cs) refusal.TooManyColumns ∷ []
+
+-- how many alternatives there are is asked last
+abbrev pub too_many_alternatives : Query → Tables → Option BindRefusal
+too_many_alternatives query catalog =
+    over_limit max_alternatives (length (alternatives query catalog)) refusal.TooManyAlternatives
+
+-- the first check that applies
+unfoldable pub first_refusal : Query → List ℕ → Tables → Option BindRefusal
+first_refusal query text catalog =
+    first_of_all (checks_of query text ++ too_many_alternatives query catalog ∷ [])

@@ -2,14 +2,13 @@
 use Rattle.std.specs.Prelude.{List, map, length}
 use Rattle.std.specs.List.{range_with_len}
 use Rattle.gq_base.specs.Catalogs.{Tables}
-use Rattle.gq_base.specs.Plain.{Graph}
+use Rattle.gq_base.specs.Plain.{Graph, rels_at}
 use Rattle.gq_base.specs.Valid.{row_count}
 use Rattle.gq_order.specs.Given.{given_plan}
 use Rattle.gq_order.specs.Greedy.{greedy_plan}
 use Rattle.gq_order.specs.declared.stats.Stats.{Stats}
 use Rattle.gq_plan.specs.Plans.{Plan}
 use Rattle.gq_plan.specs.declared.typed.Typed.{Typed}
-use Rattle.gq_store.specs.Neighbours.{rels_at}
 use Rattle.gq_execute.specs.declared.settings.Order.{Order}
 use Rattle.gq_execute.specs.declared.settings.Order.TheVariants as order
 

@@ -60,11 +60,11 @@ literal_kinds (literal.Int z) = integer ∷ []
 literal_kinds (literal.Str t) = string ∷ []
 
 -- the kind of the field at a place, where there is one
-abbrev kind_of : Option Field → Option Kind
+abbrev pub kind_of : Option Field → Option Kind
 kind_of None = None
 kind_of (Some f) = Some f.kind
 
-abbrev kind_at : List Field → Option ℕ → Option Kind
+abbrev pub kind_at : List Field → Option ℕ → Option Kind
 kind_at fields None = None
 kind_at fields (Some place) = kind_of (slice_get fields place)
 

@@ -26,15 +26,15 @@ rel_val None = null
 rel_val (Some r) = rel r
 
 -- an item of an item of a list of lists, where both are there
-abbrev get_in : {A : Type 0} → Option (List A) → ℕ → Option A
+abbrev pub get_in : {A : Type 0} → Option (List A) → ℕ → Option A
 get_in None row = None
 get_in (Some rows) row = slice_get rows row
 
-abbrev node_cell : List ℕ → Option NodeTable → Option (List (Option Cell)) → Option Cell
+abbrev pub node_cell : List ℕ → Option NodeTable → Option (List (Option Cell)) → Option Cell
 node_cell name (Some table) (Some cells) = property_of table.fields name cells
 node_cell name table cells = None
 
-abbrev rel_cell : List ℕ → Option RelTable → Option PlainRel → Option Cell
+abbrev pub rel_cell : List ℕ → Option RelTable → Option PlainRel → Option Cell
 rel_cell name (Some table) (Some found) = property_of table.fields name found.cells
 rel_cell name table found = None
 

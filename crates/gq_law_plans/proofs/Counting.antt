@@ -5,11 +5,11 @@ use Rattle.std.specs.List.{range_with_len, list_all}
 use Rattle.std.proofs.Math.Bool.{and_assoc}
 use Rattle.std.proofs.lemmas.Bool.{eqb-true, and_parts}
 use Rattle.std.proofs.lemmas.List.Folds.{list_all-append}
-use Rattle.gq_base.specs.Plain.{Graph}
+use Rattle.gq_base.specs.Plain.{Graph, rels_at, rows_at}
 use Rattle.gq_base.specs.declared.NodeId.{NodeId}
 use Rattle.gq_base.specs.declared.RelId.{RelId}
 use Rattle.gq_plan.specs.Allowed.{at_same, leads}
-use Rattle.gq_plan.specs.Assignments.{Assignment, row_of, rows_at, rels_at, nodes_of, rels_of, same_rel, is_node, is_rel}
+use Rattle.gq_plan.specs.Assignments.{Assignment, row_of, nodes_of, rels_of, same_rel, is_node, is_rel}
 use Rattle.gq_plan.specs.Conditions.{passes, differs, no_loop}
 use Rattle.gq_plan.specs.Known as known
 use Rattle.gq_plan.specs.Known.{Known}

@@ -3,12 +3,12 @@ use Rattle.std.proofs.Common.{◌≡◌, ℕ, zero, suc, ◌<◌, Bool, true, na
 use Rattle.std.specs.List.{list_all}
 use Rattle.std.proofs.lemmas.Bool.{ltb-true, and_parts}
 use Rattle.gq_base.specs.Lists.{all_zip}
-use Rattle.gq_base.specs.Plain.{Graph}
+use Rattle.gq_base.specs.Plain.{Graph, rels_at, rows_at}
 use Rattle.gq_base.specs.Valid as valid
 use Rattle.gq_base.specs.declared.PlainRel.{PlainRel}
 use Rattle.gq_base.specs.declared.RelId.{RelId}
 use Rattle.gq_base.specs.declared.RelTable.{RelTable}
-use Rattle.gq_plan.specs.Assignments.{rows_at, rels_at, is_rel}
+use Rattle.gq_plan.specs.Assignments.{is_rel}
 use Rattle.gq_plan.proofs.Pieces.{some_at}
 
 pub zip_at : {A B : Type 0} (p : A → B → Bool) (xs : List A) (ys : List B) → all_zip p xs ys ≡ true → (i : ℕ) (y : B) → slice_get ys i ≡ Some y → (x : A) × (slice_get xs i ≡ Some x) × (p x y ≡ true)

@@ -7,7 +7,7 @@ use Rattle.std.proofs.lemmas.Bool.{eqb-true, and_parts}
 use Rattle.std.proofs.lemmas.List.Elements.{All-from_recursion, recursion_from_All}
 use Rattle.gq_base.specs.Catalogs.{find_field}
 use Rattle.gq_base.specs.Lists.{all_zip}
-use Rattle.gq_base.specs.Plain.{Graph, cell_val, cell_at, property_of}
+use Rattle.gq_base.specs.Plain.{Graph, cell_val, cell_at, property_of, flat}
 use Rattle.gq_base.specs.Valid as valid
 use Rattle.gq_base.specs.declared.Cell.{Cell}
 use Rattle.gq_base.specs.declared.Cell.TheVariants as cell
@@ -19,14 +19,14 @@ use Rattle.gq_base.specs.declared.NodeTable.{NodeTable}
 use Rattle.gq_base.specs.declared.PlainRel.{PlainRel}
 use Rattle.gq_base.specs.declared.RelId.{RelId}
 use Rattle.gq_base.specs.declared.RelTable.{RelTable}
-use Rattle.gq_expr.specs.Kinds.{kind_in, field_kind, can_fault}
+use Rattle.gq_expr.specs.Kinds.{kind_in, field_kind, can_fault, kind_of, kind_at}
 use Rattle.gq_expr.specs.Meaning as expr
-use Rattle.gq_expr.specs.Reading.{node_property, rel_property, property_at}
+use Rattle.gq_expr.specs.Reading.{node_property, rel_property, property_at, get_in, node_cell, rel_cell}
 use Rattle.gq_expr.specs.Safety.{IsOfKind, IsTruth}
 use Rattle.gq_expr.proofs.Promise.{kinds_promise}
 use Rattle.gq_plan.specs.Allowed.{in_tables, rel_lies, rels_lie}
 use Rattle.gq_plan.specs.Assignments.{Assignment, row_of}
-use Rattle.gq_plan.specs.Soundness.{kinds_of}
+use Rattle.gq_plan.specs.Soundness.{kinds_of, node_fields, rel_fields}
 use Rattle.gq_plan.specs.declared.typed.TypedRel.{TypedRel}
 use Rattle.gq_plan.proofs.Each.{each_then}
 use Rattle.gq_law_plans.specs.Safe.{LyingFitsKinds, TestsNeverFault}
@@ -47,19 +47,6 @@ of_kind kind.Flag (Some (cell.Int z)) h = absurd (true≢false (sym h))
 of_kind kind.Flag (Some (cell.Str s)) h = absurd (true≢false (sym h))
 of_kind kind.Flag (Some (cell.Flag b)) h = tt
 
--- the kind of the field at a place, and the cell there, as the look-up of a property has them
-abbrev kind_of : Option Field → Option Kind
-kind_of None = None
-kind_of (Some f) = Some f.kind
-
-abbrev kind_at : List Field → Option ℕ → Option Kind
-kind_at fields None = None
-kind_at fields (Some place) = kind_of (slice_get fields place)
-
-abbrev flat : Option (Option Cell) → Option Cell
-flat None = None
-flat (Some found) = found
-
 -- in a row that fits fields, each property has the kind of its field
 cell_held : (fields : List Field) (cells : List (Option Cell)) → valid.fits_fields fields cells ≡ true → (name : List ℕ)
     → IsOfKind (kind_in fields name) (cell_val (property_of fields name cells))
@@ -76,27 +63,6 @@ cell_held fields cells h name = at_place (find_field fields name)
             subst (λ q. IsOfKind (kind_of q) (cell_val c)) (sym f.1) (of_kind f.0.kind c f.2)
 
 -- ---- the properties of a graph's nodes and relationships
-
--- these too are as the look-up has them
-abbrev node_fields : Option NodeTable → List Field
-node_fields None = []
-node_fields (Some k) = k.fields
-
-abbrev rel_fields : Option RelTable → List Field
-rel_fields None = []
-rel_fields (Some k) = k.fields
-
-abbrev get_in : {A : Type 0} → Option (List A) → ℕ → Option A
-get_in None row = None
-get_in (Some rows) row = slice_get rows row
-
-abbrev node_cell : List ℕ → Option NodeTable → Option (List (Option Cell)) → Option Cell
-node_cell name (Some table) (Some cells) = property_of table.fields name cells
-node_cell name table cells = None
-
-abbrev rel_cell : List ℕ → Option RelTable → Option PlainRel → Option Cell
-rel_cell name (Some table) (Some found) = property_of table.fields name found.cells
-rel_cell name table found = None
 
 -- the rows of a valid graph are those of its tables
 nodes_zip : (g : Graph) → IsTrue (valid.is_valid g) → all_zip valid.are_nodes g.catalog.nodes g.nodes ≡ true

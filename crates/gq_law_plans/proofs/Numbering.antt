@@ -3,10 +3,10 @@ use Rattle.std.proofs.Common.{◌≡◌, ℕ, ◌<◌, Bool, true, false, ◌&&�
 use Rattle.std.specs.List.{range_with_len, list_all}
 use Rattle.std.proofs.lemmas.Bool.{ltb-true, lt-ltb}
 use Rattle.std.proofs.lemmas.Option.{slice_get_within}
-use Rattle.gq_base.specs.Plain.{Graph}
+use Rattle.gq_base.specs.Plain.{Graph, rels_at, rows_at}
 use Rattle.gq_base.specs.declared.NodeId.{NodeId}
 use Rattle.gq_base.specs.declared.RelId.{RelId}
-use Rattle.gq_plan.specs.Assignments.{Assignment, tuples, assignments, nodes_of, all_nodes, rels_of, all_rels, rows_at, rels_at, same_node, same_rel, is_node, is_rel}
+use Rattle.gq_plan.specs.Assignments.{Assignment, tuples, assignments, nodes_of, all_nodes, rels_of, all_rels, same_node, same_rel, is_node, is_rel}
 use Rattle.gq_plan.proofs.Counts.{bit, hits, total_map, total_flat_map, total_same, hits_const_and, hits_and_const, hits_range, cond_and}
 use Rattle.gq_plan.proofs.Products.{same_list, same_assignment}
 use Rattle.gq_law_plans.proofs.Counting.{cond_both, hits_nodes_of, hits_rels_of}

@@ -15,7 +15,7 @@ use Rattle.gq_plan.specs.Allowed.{at_same, leads}
 use Rattle.gq_plan.specs.Assignments.{Assignment, row_of, nodes_of, rels_of, source, target, source_in, target_in, is_node, is_rel}
 use Rattle.gq_plan.specs.Conditions.{passes, differs, no_loop}
 use Rattle.gq_plan.specs.Covers.{start_of, end_of, goes, fits_step, test_bound, pair_bound, loop_bound}
-use Rattle.gq_plan.specs.Meaning.{Partial, with_node, with_rel, look, row, near, far, nodes_for, rels_at, arrive, holds, keep_if, step}
+use Rattle.gq_plan.specs.Meaning.{Partial, with_node, with_rel, look, row, near, far, nodes_for, arrive, holds, keep_if, step, rels_from}
 use Rattle.gq_plan.specs.Soundness.{EndsFit, IsSound}
 use Rattle.gq_plan.specs.Plans.{Scan, Extend, Close, Keep, Differ, NoLoop}
 use Rattle.gq_plan.specs.declared.bound.NamedExpr.{NamedExpr}
@@ -91,7 +91,7 @@ nodes_listed : (g : Graph) (y : Typed) (v k : ℕ) → slice_get y.nodes v ≡ S
 nodes_listed g y v k e = rw e refl
 
 rels_listed : (g : Graph) (y : Typed) (x : ℕ) (way : Direction) (n : Option NodeId) (k : TypedRel) → slice_get y.rels x ≡ Some k
-    → rels_at g y x way n ≡ filter (λ r. at_same n (near g way r)) (rels_of g k.table)
+    → rels_from g y x way n ≡ filter (λ r. at_same n (near g way r)) (rels_of g k.table)
 rels_listed g y x way n k e = rw e refl
 
 pub all_at : {X : Type 0} (P : X → Type 0) (xs : List X) → All P xs → (i : ℕ) (x : X) → slice_get xs i ≡ Some x → P x
@@ -254,7 +254,7 @@ module _ (g : Graph) (y : Typed) (real : IsTrue (is_valid g)) (sound : IsSound g
       let known = and_parts (bound a.nodes from) _ (and_parts (not (bound a.rels x)) _ parts.1).1 in
       let rels = rels_of g k.rel.table in
       let leaves : RelId → Bool = λ r. at_same (look a.nodes from) (near g way r) in
-      total_flat_map (λ e. bit (extends e t)) (λ r. arrive to (far g way r) (with_rel x r a)) (rels_at g y x way (look a.nodes from))
+      total_flat_map (λ e. bit (extends e t)) (λ r. arrive to (far g way r) (with_rel x r a)) (rels_from g y x way (look a.nodes from))
       ∙ ap (total (λ r. hits (λ e. extends e t) (arrive to (far g way r) (with_rel x r a)))) (rels_listed g y x way (look a.nodes from) k.rel k.is)
       ∙ total_filter _ leaves rels
       ∙ total_same _ _ (each known.0) rels
@@ -279,7 +279,7 @@ module _ (g : Graph) (y : Typed) (real : IsTrue (is_valid g)) (sound : IsSound g
       let rels = rels_of g k.rel.table in
       let comes : RelId → Bool = λ r. at_same (look a.nodes to) (far g way r) in
       let leaves : RelId → Bool = λ r. at_same (look a.nodes from) (near g way r) in
-      total_map (λ e. bit (extends e t)) (λ r. with_rel x r a) (filter comes (rels_at g y x way (look a.nodes from)))
+      total_map (λ e. bit (extends e t)) (λ r. with_rel x r a) (filter comes (rels_from g y x way (look a.nodes from)))
       ∙ ap (λ l. total (λ r. bit (extends (with_rel x r a) t)) (filter comes l)) (rels_listed g y x way (look a.nodes from) k.rel k.is)
       ∙ total_filter _ comes (filter leaves rels)
       ∙ total_filter _ leaves rels

@@ -20,7 +20,7 @@ use Rattle.gq_pipe.specs.Levels.{given}
 use Rattle.gq_pipe.specs.steps.Outcomes.{set_all}
 use Rattle.gq_plan.specs.Rows.{node_table, node_at}
 use Rattle.gq_pipe.specs.steps.Tries.{tries}
-use Rattle.gq_pipe.proofs.Binding.{Looks, looks_given}
+use Rattle.gq_pipe.proofs.Binding.{Looks, looks_given, swap}
 
 -- ---- numbers that are written for several variables
 
@@ -88,13 +88,6 @@ filter_map p f (x ∷ xs) = go (p (f x)) (filter_map p f xs)
 map_map : {X Y Z : Type 0} (f : Y → Z) (h : X → Y) (xs : List X) → map f (map h xs) ≡ map (λ x. f (h x)) xs
 map_map f h [] = refl
 map_map f h (x ∷ xs) = ap (λ l. f (h x) ∷ l) (map_map f h xs)
-
-swap : (a b : ℕ) → nat_eq a b ≡ nat_eq b a
-swap a b = go (cases_eq a b)
-  where
-    go : (a ≡ b) ⊎ (a ≡ b → ⊥) → nat_eq a b ≡ nat_eq b a
-    go (inl e) = eq-eqb a b e ∙ sym (eq-eqb b a (sym e))
-    go (inr e) = ne_eqb a b e ∙ sym (ne_eqb b a (λ h. e (sym h)))
 
 module _ (g : Graph) (y : Typed) (side : Plan) (h : Held) (old : Assignment) (k : Known) (a : Partial) (l : Looks y old k a) where
   -- what a row of the build makes

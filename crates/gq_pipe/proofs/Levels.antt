@@ -4,7 +4,7 @@ use Rattle.std.proofs.lemmas.Grind.{flat_map-append}
 use Rattle.std.proofs.lemmas.List.{append-nil, drop_more, drop_all}
 use Rattle.gq_base.specs.Plain.{Graph}
 use Rattle.gq_plan.specs.Allowed.{at_same}
-use Rattle.gq_plan.specs.Meaning.{Partial, with_node, with_rel, look, far, nodes_for, rels_at, arrive, keep_if, mean, step, with_all, agree, nothing}
+use Rattle.gq_plan.specs.Meaning.{Partial, with_node, with_rel, look, far, nodes_for, arrive, keep_if, mean, step, with_all, agree, nothing, rels_from}
 use Rattle.gq_plan.specs.Plans.{Step, Scan, Extend, Close, Join, Keep, Differ, NoLoop, steps}
 use Rattle.gq_plan.specs.declared.typed.Typed.{Typed}
 use Rattle.gq_pipe.specs.steps.Levels.{Run, step_at, before, level, ahead}
@@ -34,10 +34,10 @@ module _ (g : Graph) (y : Typed) where
   all_tries : {B : Type 0} (f : Partial → List B) (s : Step) (a : Partial) → flat_map (flat_map f) (tries g y s a) ≡ flat_map f (step g y s a)
   unfolding tries step
   all_tries f (Scan v) a = through f (λ n. with_node v n a ∷ []) (nodes_for g y v) ∙ ap (flat_map f) (one_each (λ n. with_node v n a) (nodes_for g y v))
-  all_tries f (Extend column x from to way) a = through f (λ r. arrive to (far g way r) (with_rel x r a)) (rels_at g y x way (look a.nodes from))
+  all_tries f (Extend column x from to way) a = through f (λ r. arrive to (far g way r) (with_rel x r a)) (rels_from g y x way (look a.nodes from))
   all_tries f (Close column x from to way) a =
-      through f (λ r. keep_if (at_same (look a.nodes to) (far g way r)) (with_rel x r a)) (rels_at g y x way (look a.nodes from))
-      ∙ ap (flat_map f) (kept_each (λ r. at_same (look a.nodes to) (far g way r)) (λ r. with_rel x r a) (rels_at g y x way (look a.nodes from)))
+      through f (λ r. keep_if (at_same (look a.nodes to) (far g way r)) (with_rel x r a)) (rels_from g y x way (look a.nodes from))
+      ∙ ap (flat_map f) (kept_each (λ r. at_same (look a.nodes to) (far g way r)) (λ r. with_rel x r a) (rels_from g y x way (look a.nodes from)))
   all_tries f (Join side keys) a =
       through f (λ b. with_all b a ∷ []) (filter (agree keys a) (mean g y side nothing)) ∙ ap (flat_map f) (one_each (λ b. with_all b a) (filter (agree keys a) (mean g y side nothing)))
   all_tries f (Keep i) a = append-nil (flat_map f (step g y (Keep i) a))

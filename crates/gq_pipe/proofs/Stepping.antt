@@ -6,18 +6,18 @@ use Rattle.std.proofs.lemmas.Bool.{eqb-true, eq-eqb, ne_eqb, ltb-true, and_parts
 use Rattle.std.proofs.lemmas.List.{drop_more, drop_all, get_or-set_same, get_or-set_other, length-set}
 use Rattle.std.proofs.lemmas.List.FromFn.{length-range_with_len, get_or-range_with_len}
 use Rattle.std.proofs.lemmas.Option.{slice_get_within, get_or_from_slice_get}
-use Rattle.gq_base.specs.Plain.{Graph}
+use Rattle.gq_base.specs.Plain.{Graph, rows_at}
 use Rattle.gq_base.specs.Valid.{row_count}
 use Rattle.gq_base.specs.declared.RelId.{RelId}
 use Rattle.gq_base.specs.declared.RelTable.{RelTable}
 use Rattle.gq_base.specs.declared.direction.Direction.{Direction}
 use Rattle.gq_base.specs.declared.direction.Direction.TheVariants.{Forward, Backward}
 use Rattle.gq_plan.specs.Allowed.{at_same}
-use Rattle.gq_plan.specs.Assignments.{nodes_of, rows_at}
+use Rattle.gq_plan.specs.Assignments.{nodes_of}
 use Rattle.gq_plan.specs.Covers.{after_step, fits_step, goes, start_of, end_of}
 use Rattle.gq_plan.specs.Known as known_by
 use Rattle.gq_plan.specs.Known.{Known}
-use Rattle.gq_plan.specs.Meaning.{Partial, with_node, with_rel, look, far, rels_at, arrive, holds, keep_if}
+use Rattle.gq_plan.specs.Meaning.{Partial, with_node, with_rel, look, far, arrive, holds, keep_if, rels_from}
 use Rattle.gq_plan.specs.Soundness.{EndsFit}
 use Rattle.gq_plan.specs.Plans.{Step, Scan, Extend, Close}
 use Rattle.gq_plan.specs.declared.typed.Typed.{Typed}
@@ -247,24 +247,24 @@ module _ (c : Run) (run : IsRun c) (x from to : ℕ) (way : Direction) (f : Foll
     abbrev met : List ℕ
     met = numbers c.graph table way (slice_index old.nodes from)
 
-    met_is : rels_at c.graph c.typed x way (look a.nodes from) ≡ map (rel table) met
+    met_is : rels_from c.graph c.typed x way (look a.nodes from) ≡ map (rel table) met
     met_is =
         let same : f.found.table ≡ table = sym (ap table_of f.rel_is) in
-        ap (rels_at c.graph c.typed x way) looked
+        ap (rels_from c.graph c.typed x way) looked
         ∙ rels_met c.graph c.typed x f.found f.table way (node_at c.typed old from) f.rel_is f.table_at (get_or_from_slice_get c.typed.nodes from _ 0 f.near)
         ∙ ap (λ t. map (rel t) (numbers c.graph t way (slice_index old.nodes from))) same
 
     module _ (F : RelId → List Partial) where
-      through : (n : ℕ) → drop n (map F (rels_at c.graph c.typed x way (look a.nodes from))) ≡ map F (map (rel table) (drop n met))
+      through : (n : ℕ) → drop n (map F (rels_from c.graph c.typed x way (look a.nodes from))) ≡ map F (map (rel table) (drop n met))
       through n = ap (λ l. drop n (map F l)) met_is ∙ drop_map F n (map (rel table) met) ∙ ap (map F) (drop_map (rel table) n met)
 
       hop_here : (place : ℕ) (h : Hop) → IsHop c.graph table way (slice_index old.nodes from) place h
-          → drop place (map F (rels_at c.graph c.typed x way (look a.nodes from))) ≡ F (rel table h.number) ∷ drop (place + 1) (map F (rels_at c.graph c.typed x way (look a.nodes from)))
+          → drop place (map F (rels_from c.graph c.typed x way (look a.nodes from))) ≡ F (rel table h.number) ∷ drop (place + 1) (map F (rels_from c.graph c.typed x way (look a.nodes from)))
       hop_here place h is =
           through place ∙ ap (λ l. map F (map (rel table) l)) (hop_next c.graph table f.table f.table_is way (slice_index old.nodes from) place h is)
           ∙ ap (λ l. F (rel table h.number) ∷ l) (sym (through (place + 1)))
 
-      hop_past : (place : ℕ) → length (neighbours c.graph table way (slice_index old.nodes from)) ≤ place → drop place (map F (rels_at c.graph c.typed x way (look a.nodes from))) ≡ []
+      hop_past : (place : ℕ) → length (neighbours c.graph table way (slice_index old.nodes from)) ≤ place → drop place (map F (rels_from c.graph c.typed x way (look a.nodes from))) ≡ []
       hop_past place high = through place ∙ ap (λ l. map F (map (rel table) l)) (hop_none c.graph table f.table f.table_is way (slice_index old.nodes from) place high)
 
     -- a relationship that binds a node variable
@@ -275,7 +275,7 @@ module _ (c : Run) (run : IsRun c) (x from to : ℕ) (way : Direction) (f : Foll
     unfolding tries
     extend_here column place h is =
         hop_here (λ r. arrive to (far c.graph way r) (with_rel x r a)) place h is
-        ∙ ap (λ o. arrive to o (with_rel x (rel table h.number) a) ∷ drop (place + 1) (map (λ r. arrive to (far c.graph way r) (with_rel x r a)) (rels_at c.graph c.typed x way (look a.nodes from))))
+        ∙ ap (λ o. arrive to o (with_rel x (rel table h.number) a) ∷ drop (place + 1) (map (λ r. arrive to (far c.graph way r) (with_rel x r a)) (rels_from c.graph c.typed x way (look a.nodes from))))
         (leads (slice_index old.nodes from) place h is)
 
     pub extend_past : (column : Bool) (place : ℕ) → length (neighbours c.graph table way (slice_index old.nodes from)) ≤ place → drop place (tries c.graph c.typed (Extend column x from to way) a) ≡ []
@@ -308,7 +308,7 @@ module _ (c : Run) (run : IsRun c) (x from to : ℕ) (way : Direction) (f : Foll
       unfolding tries
       close_here column place h is =
           hop_here (λ r. keep_if (at_same (look a.nodes to) (far c.graph way r)) (with_rel x r a)) place h is
-          ∙ ap (λ b. keep_if b (with_rel x (rel table h.number) a) ∷ drop (place + 1) (map (λ r. keep_if (at_same (look a.nodes to) (far c.graph way r)) (with_rel x r a)) (rels_at c.graph c.typed x way (look a.nodes from))))
+          ∙ ap (λ b. keep_if b (with_rel x (rel table h.number) a) ∷ drop (place + 1) (map (λ r. keep_if (at_same (look a.nodes to) (far c.graph way r)) (with_rel x r a)) (rels_from c.graph c.typed x way (look a.nodes from))))
           (ap₂ at_same there (leads (slice_index old.nodes from) place h is)
           ∙ ap (λ b. b && nat_eq (slice_index old.nodes to) h.row) (eq-eqb (node_table c.typed to) (node_table c.typed to) refl))
 

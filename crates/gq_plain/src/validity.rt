@@ -5,12 +5,12 @@ ghost use Rattle.std.specs.List.{list_all};
 ghost use Rattle.gq_base.specs.Lists.{all_zip};
 ghost use Rattle.gq_base.specs.Rels.{rel_seen};
 ghost use Rattle.gq_base.specs.Valid.{are_fields, are_nodes, are_rels, fits_fields, is_of_kind};
-ghost use Rattle.gq_base.specs.Valid.{is_rel, is_valid, keeps_mult, limits_sources, limits_targets};
+ghost use Rattle.gq_base.specs.Valid.{is_rel, is_valid, keeps_mult};
 ghost use Rattle.gq_base.specs.Valid.{row_count};
 
 use crate::distinct::{End, have_distinct_names, have_distinct_rows, have_keys};
 use crate::{Catalog, Cell, Memory, NodeRows, RelRef, RelRows};
-use gq_base::{Field, Kind, Mult, NodeTable, RelTable};
+use gq_base::{Direction, Field, Kind, Mult, NodeTable, RelTable};
 use std::alloc::Global;
 
 /// How many node tables there may be, and how many relationship tables.
@@ -212,29 +212,15 @@ fn keeps_mult(
     requires targets { All (λ rel. rel.target < targets) rels.now }
     ensures { IfOk result (λ answer. answer ≡ keeps_mult mult rels.now) }
 {
-    if limits_sources(mult) {
+    if mult.is_single(Direction::Forward) {
         let sources_pass = have_distinct_rows(alloc, rels, End::Source, sources)?;
         if !sources_pass {
             return Ok(false);
         }
     }
-    if limits_targets(mult) {
+    if mult.is_single(Direction::Backward) {
         have_distinct_rows(alloc, rels, End::Target, targets)
     } else {
         Ok(true)
     }
-}
-
-// Whether a source has at most one relationship.
-fn limits_sources(mult: Mult) -> bool
-    ensures { result ≡ limits_sources mult }
-{
-    matches!(mult, Mult::ManyOne | Mult::OneOne)
-}
-
-// Whether a target has at most one relationship.
-fn limits_targets(mult: Mult) -> bool
-    ensures { result ≡ limits_targets mult }
-{
-    matches!(mult, Mult::OneMany | Mult::OneOne)
 }

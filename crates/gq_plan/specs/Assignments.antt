@@ -1,7 +1,7 @@
 -- The assignments of a plain graph: all choices of nodes and relationships for a number of variables.
 use Rattle.std.specs.Prelude.{ℕ, zero, suc, nat_eq, Bool, ◌&&◌, Option, Some, None, List, [], ◌∷◌, map, flat_map, length, slice_get, nat_lt}
 use Rattle.std.specs.List.{range_with_len}
-use Rattle.gq_base.specs.Plain.{Graph}
+use Rattle.gq_base.specs.Plain.{Graph, rels_at, rows_at}
 use Rattle.gq_base.specs.declared.Cell.{Cell}
 use Rattle.gq_base.specs.declared.NodeId.{NodeId}
 use Rattle.gq_base.specs.declared.PlainRel.{PlainRel}
@@ -17,17 +17,6 @@ pub record Assignment : Type 0 where
 -- the same, as expressions read it
 abbrev pub row_of : Assignment → reading.Assignment
 row_of t = record { nodes = slice_get t.nodes; rels = slice_get t.rels }
-
-abbrev listed : {X : Type 0} → Option (List X) → List X
-listed None = []
-listed (Some xs) = xs
-
--- the rows of a node table, and the relationships of a relationship table
-abbrev pub rows_at : Graph → ℕ → List (List (Option Cell))
-rows_at g table = listed (slice_get g.nodes table)
-
-abbrev pub rels_at : Graph → ℕ → List PlainRel
-rels_at g table = listed (slice_get g.rels table)
 
 -- the nodes of a table, in row order, and those of all tables
 unfoldable pub nodes_of : Graph → ℕ → List NodeId

@@ -22,7 +22,7 @@ is_true outcome = false
 abbrev pub passes : Graph → reading.Assignment → NamedExpr → Bool
 passes g row test = is_true (meaning g row test.expr)
 
-abbrev differ : Option RelId → Option RelId → Bool
+abbrev pub differ : Option RelId → Option RelId → Bool
 differ None r = false
 differ (Some q) None = false
 differ (Some q) (Some r) = not (same_rel q r)

@@ -65,8 +65,8 @@ nodes_for g y v = nodes_in g (slice_get y.nodes v)
 abbrev pub rels_for : Graph → Typed → ℕ → List RelId
 rels_for g y x = rels_in g (slice_get y.rels x)
 
-abbrev pub rels_at : Graph → Typed → ℕ → Direction → Option NodeId → List RelId
-rels_at g y x direction n = filter (λ r. at_same n (near g direction r)) (rels_for g y x)
+abbrev pub rels_from : Graph → Typed → ℕ → Direction → Option NodeId → List RelId
+rels_from g y x direction n = filter (λ r. at_same n (near g direction r)) (rels_for g y x)
 
 -- a node variable is bound to a node, where there is one
 abbrev pub arrive : ℕ → Option NodeId → Partial → List Partial
@@ -98,11 +98,11 @@ module _ (g : Graph) (y : Typed) where
     step (Scan v) a = map (λ n. with_node v n a) (nodes_for g y v)
     step (Extend column x from to direction) a =
         flat_map (λ r. arrive to (far g direction r) (with_rel x r a))
-        (rels_at g y x direction (look a.nodes from))
+        (rels_from g y x direction (look a.nodes from))
     step (Close column x from to direction) a =
         map (λ r. with_rel x r a)
         (filter (λ r. at_same (look a.nodes to) (far g direction r))
-        (rels_at g y x direction (look a.nodes from)))
+        (rels_from g y x direction (look a.nodes from)))
     step (Join side keys) a = map (λ b. with_all b a) (filter (agree keys a) (mean side nothing))
     step (Keep i) a = keep_if (holds (passes g (row a)) (slice_get y.tests i)) a
     step (Differ p) a = keep_if (holds (differs (row a)) (slice_get y.pairs p)) a

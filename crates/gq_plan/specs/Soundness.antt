@@ -64,11 +64,11 @@ abbrev pub HasVariable : Typed → Variable → Type 0
 HasVariable y (node n) = n < length y.nodes
 HasVariable y (rel n) = n < length y.rels
 
-abbrev node_fields : Option NodeTable → List Field
+abbrev pub node_fields : Option NodeTable → List Field
 node_fields None = []
 node_fields (Some k) = k.fields
 
-abbrev rel_fields : Option RelTable → List Field
+abbrev pub rel_fields : Option RelTable → List Field
 rel_fields None = []
 rel_fields (Some k) = k.fields
 

@@ -6,7 +6,7 @@ use Rattle.std.proofs.lemmas.Bool.{cases_lt}
 use Rattle.std.proofs.lemmas.List.{map-append, take_more, get_or_append_left, get_or-append-add, length_push, get_or-map, length-map, length-set}
 use Rattle.std.proofs.Math.ListN.{set}
 use Rattle.std.proofs.lemmas.Option.{slice_get-get_or}
-use Rattle.gq_base.specs.Plain.{Graph, cell_at, rows_of}
+use Rattle.gq_base.specs.Plain.{Graph, cell_at, rows_of, rels_at, all_of}
 use Rattle.gq_base.proofs.ListLaws.{two}
 use Rattle.gq_base.specs.Valid.{fits_fields, is_cell_of, is_of_kind, is_rel, is_valid, row_count}
 use Rattle.gq_base.specs.declared.cell.PlainRel.{PlainRel}
@@ -14,7 +14,6 @@ use Rattle.gq_base.specs.declared.catalog.Field.{Field}
 use Rattle.gq_base.specs.declared.cell.Cell.{Cell}
 use Rattle.gq_store.specs.Cells.{node_cell, node_fields, node_fields_of, rel_cell_in, rel_fields, rel_fields_of}
 use Rattle.gq_store.specs.Columns.{column_of, node_cells}
-use Rattle.gq_store.specs.Neighbours.{all_of, rels_at}
 use Rattle.gq_store.specs.steps.Kept.{AreNodesKept, AreRelsKept, AreTableCells}
 use Rattle.gq_store.specs.RelColumns.{cell_numbered, numbers_by_place, rel_cells}
 use Rattle.gq_store.specs.declared.property.TableCells.{TableCells}

@@ -8,7 +8,7 @@ use Rattle.std.specs.Option.{option_map}
 use Rattle.std.proofs.lemmas.List.FromFn.{get_or-range_with_len, length-range_with_len}
 use Rattle.gq_adj.specs.Adjacent.{Adjacency}
 use Rattle.gq_base.specs.Catalogs.{Tables}
-use Rattle.gq_base.specs.Plain.{Graph}
+use Rattle.gq_base.specs.Plain.{Graph, rels_at}
 use Rattle.gq_base.specs.declared.Cell.{Cell}
 use Rattle.gq_base.specs.declared.Mult.{Mult}
 use Rattle.gq_base.specs.declared.Mult.TheVariants.{ManyMany, ManyOne, OneMany, OneOne}
@@ -16,7 +16,7 @@ use Rattle.gq_base.specs.Valid.{is_valid}
 use Rattle.gq_edges.specs.Once.{Pair, pair_at}
 use Rattle.gq_store.specs.Cells.{rel_cell}
 use Rattle.gq_store.specs.Cells.{rel_fields}
-use Rattle.gq_store.specs.Neighbours.{allows_many, is_listed, mult_at, near_ends, near_rows, rels_at}
+use Rattle.gq_store.specs.Neighbours.{allows_many, is_listed, mult_at, near_ends, near_rows}
 use Rattle.gq_store.specs.Places.{by_source, first_number, number_at, number_in}
 use Rattle.gq_store.specs.RelColumns.{cell_numbered, numbers_by_place, place_count, place_count_in, rel_cells}
 use Rattle.gq_store.specs.steps.Kept.{IsStored}

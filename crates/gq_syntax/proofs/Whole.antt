@@ -1,6 +1,7 @@
 -- The parts of a statement that a text spells begin and end between characters of the text, and its numbers are less
 -- than 2^63.
 use Rattle.std.proofs.Common.{◌≡◌, ℕ, zero, suc, ◌^◌, ◌<◌, Bool, true, false, List, [], ◌∷◌, ◌++◌, ◌⊎◌, inl, inr, length, map, flat_map, Option, Some, None, All, IfSome, sym, subst, arith, codes}
+use Rattle.gq_syntax.specs.Operands.{in_tester}
 use Rattle.std.proofs.Math.IntN.{neg_ℤ, pos}
 use Rattle.std.specs.Str.{IsCharBoundary, IsUtf8}
 use Rattle.std.proofs.lemmas.List.Elements.{All-append, All-cons, All-head, All-nil, All-same, All-tail}
@@ -19,7 +20,7 @@ use Rattle.gq_lexer.proofs.Boundaries.{lexed_utf8, lexed_whole, whole_of}
 use Rattle.gq_syntax.specs.Grammar as g
 use Rattle.gq_syntax.specs.Outcomes.{SpelledText}
 use Rattle.gq_tokens.specs.Relations.{Enclosed, Fork, Into, Listed, Many, Maybe, Must, Nest, Nothing, Pure, Spanned, Then, last_end, span_of}
-use Rattle.gq_syntax.specs.Spans.{IsWholeTree, SpelledQuery, operand_spans, spans_of, tester_spans}
+use Rattle.gq_syntax.specs.Spans.{IsWholeTree, SpelledQuery, operand_spans, spans_of}
 use Rattle.gq_syntax.specs.steps.Spans.{IsWholeClause, IsWholeEntry, IsWholeHop, IsWholePath, StandsIn}
 use Rattle.gq_syntax.specs.Trees.{Node, chain_made, clause, columns, detail_of, entry, hop, item, made, no_detail, node_part, path, query, rel_part, sort, tail_made, term, tree_of}
 use Rattle.gq_tokens.specs.Words.{Name, addition, big, called, comparison, direction, multiplication, name, number, number_of, plain, sign_is, test_word, tip, word_is}
@@ -201,7 +202,7 @@ module _ (text : List ℕ) (utf8 : IsUtf8 text) where
   tests_of (e.Test t ts) = ts
   tests_of node = []
 
-  tests_whole : (t : Ast) (ts : List (Tester Ast)) → All TesterTree ts → All (IsWhole text) (flat_map tester_spans (tests_of (parts.map Ast (List Span) spans_of (e.Test t ts))))
+  tests_whole : (t : Ast) (ts : List (Tester Ast)) → All TesterTree ts → All (IsWhole text) (flat_map in_tester (tests_of (parts.map Ast (List Span) spans_of (e.Test t ts))))
   tests_whole t [] h = none
   tests_whole t (tester.IsNull ∷ ts) h = tests_whole t ts (All-tail TesterTree tester.IsNull ts h)
   tests_whole t (tester.IsNotNull ∷ ts) h = tests_whole t ts (All-tail TesterTree tester.IsNotNull ts h)

@@ -1,4 +1,5 @@
 pub mod Grammar
+pub mod Operands
 pub mod Outcomes
 pub mod Refusals
 pub mod Spans

@@ -1,23 +1,14 @@
 -- Where the parts of a query stand in its text.
 use Rattle.std.specs.Prelude.{ℕ, List, [], ◌∷◌, ◌++◌, ◌⊎◌, flat_map, All}
+use Rattle.gq_syntax.specs.Operands.{in_tester}
 use Rattle.gq_lexer.specs.Sources.{IsWhole}
 use Rattle.gq_lexer.specs.declared.token.Span.{Span}
 use Rattle.gq_syntax.specs.Outcomes.{SpelledText}
 use Rattle.gq_syntax.specs.declared.expression.Ast.{Ast, fold-Ast}
 use Rattle.gq_syntax.specs.declared.expression.AstNode.{AstNode}
 use Rattle.gq_syntax.specs.declared.expression.AstNode.TheVariants as e
-use Rattle.gq_syntax.specs.declared.expression.Tester.{Tester}
-use Rattle.gq_syntax.specs.declared.expression.Tester.TheVariants as tester
 use Rattle.gq_syntax.specs.declared.statement.Query.{Query}
 use Rattle.gq_syntax.specs.declared.statement.Statement.TheVariants as statement
-
-abbrev pub tester_spans : Tester (List Span) → List Span
-tester_spans tester.IsNull = []
-tester_spans tester.IsNotNull = []
-tester_spans (tester.Member ls) = []
-tester_spans (tester.Starts spans) = spans
-tester_spans (tester.Ends spans) = spans
-tester_spans (tester.Contains spans) = spans
 
 -- the spans of the operands of one level of an expression
 abbrev pub operand_spans : AstNode (List Span) → List Span
@@ -33,7 +24,7 @@ operand_spans (e.Or all) = flat_map (λ spans. spans) all
 operand_spans (e.Xor all) = flat_map (λ spans. spans) all
 operand_spans (e.And all) = flat_map (λ spans. spans) all
 operand_spans (e.Compare spans terms) = spans ++ flat_map (λ t. t.tree) terms
-operand_spans (e.Test spans tests) = spans ++ flat_map tester_spans tests
+operand_spans (e.Test spans tests) = spans ++ flat_map in_tester tests
 operand_spans (e.Sum spans terms) = spans ++ flat_map (λ t. t.tree) terms
 operand_spans (e.Product spans terms) = spans ++ flat_map (λ t. t.tree) terms
 

@@ -4,7 +4,7 @@ ghost use Rattle.std.specs.Bool.{OnTrue};
 ghost use Rattle.gq_base.specs.Valid.{limits_sources, limits_targets};
 ghost use Rattle.gq_tables.specs.steps.Sides.{is_barred, unmarked, with_mark};
 
-use gq_base::{Memory, Mult, PlainRel};
+use gq_base::{Direction, Memory, Mult, PlainRel};
 use std::alloc::Global;
 use std::marker::Model;
 
@@ -46,8 +46,8 @@ impl Sides {
             sides.targets ≡ unmarked (limits_targets mult) targets) }
     {
         Ok(Sides {
-            sources: Side::new(alloc, limits_sources(mult), sources)?,
-            targets: Side::new(alloc, limits_targets(mult), targets)?,
+            sources: Side::new(alloc, mult.is_single(Direction::Forward), sources)?,
+            targets: Side::new(alloc, mult.is_single(Direction::Backward), targets)?,
         })
     }
 
@@ -101,23 +101,5 @@ impl Side {
         if self.is_single {
             self.marks[row as usize] = true;
         }
-    }
-}
-
-fn limits_sources(mult: Mult) -> bool
-    ensures { result ≡ limits_sources mult }
-{
-    match mult {
-        Mult::ManyOne | Mult::OneOne => true,
-        Mult::ManyMany | Mult::OneMany => false,
-    }
-}
-
-fn limits_targets(mult: Mult) -> bool
-    ensures { result ≡ limits_targets mult }
-{
-    match mult {
-        Mult::OneMany | Mult::OneOne => true,
-        Mult::ManyMany | Mult::ManyOne => false,
     }
 }

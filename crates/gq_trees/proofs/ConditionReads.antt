@@ -1,11 +1,9 @@
 -- The conjuncts of a condition together read what the condition reads, and only what its scope has.
-use Rattle.std.proofs.Common.{◌≡◌, ℕ, ◌<◌, ◌≤◌, Option, Some, None, List, [], ◌∷◌, ◌++◌, map, flat_map, length, refl, sym, ap, ap₂, ◌∙◌, subst, arith, append-nil}
+use Rattle.std.proofs.Common.{◌≡◌, ℕ, ◌≤◌, Option, Some, None, List, [], ◌∷◌, ◌++◌, map, flat_map, length, refl, sym, ap, ap₂, ◌∙◌, subst, append-nil}
 use Rattle.std.specs.Option.{option_map}
 use Rattle.std.proofs.lemmas.Grind.{flat_map-append}
 use Rattle.std.proofs.lemmas.List.{map-append}
-use Rattle.gq_base.proofs.ListFacts.{found_within}
 use Rattle.gq_base.specs.Lists.{with_first}
-use Rattle.gq_expr.specs.declared.Operand.{Operand}
 use Rattle.gq_expr.specs.declared.Expr.{Expr}
 use Rattle.gq_expr.specs.declared.Expr.TheVariants as expr
 use Rattle.gq_plan.specs.Reads.{Read, reads}
@@ -14,18 +12,19 @@ use Rattle.gq_syntax.specs.declared.Ast.{Ast, Ast-F, roll-Ast, map-Ast, fold-rol
 use Rattle.gq_syntax.specs.declared.expression.Ast.TheShapes.{former-Ast-node as parts}
 use Rattle.gq_syntax.specs.declared.AstNode.{AstNode}
 use Rattle.gq_syntax.specs.declared.AstNode.TheVariants as ast
-use Rattle.gq_syntax.specs.declared.Term.{Term}
-use Rattle.gq_syntax.specs.declared.Tester.{Tester as Tested}
-use Rattle.gq_syntax.specs.declared.Tester.TheVariants as tested
-use Rattle.gq_trees.proofs.ReadEquations.{reads_Literal, reads_Node, reads_Rel, reads_NodeProperty, reads_RelProperty, reads_Negate, reads_Plus, reads_Not, reads_Or, reads_Xor, reads_And, term_reads, test_reads, reads_Compare, reads_Arith, reads_Test}
-use Rattle.gq_trees.proofs.AlikeReads.{AllThere, Alike, AllAlike, alike_map, alike_all, alike_over, alike_call}
-use Rattle.gq_expr.specs.declared.Tester.TheVariants as tester
-use Rattle.gq_trees.proofs.Resolved.{tests_of}
+use Rattle.gq_trees.proofs.ReadEquations.{reads_And}
+use Rattle.gq_trees.proofs.ReadsThere.{AllThere, AreThere, resolved_roll, tree_there}
 use Rattle.gq_trees.proofs.Splits.{split_whole}
-use Rattle.gq_scopes.specs.Patterns.{Name, is_called, find_name}
+use Rattle.gq_scopes.specs.Scopes.{Scope}
 use Rattle.gq_scopes.specs.steps.Variables.{IsThere}
-use Rattle.gq_trees.specs.Resolving.{Calls, Conjunct, Split, functions, as_lists, all_some, bound_term, bound_tester, resolve_step, resolved, split, split_node, split_step}
-use Rattle.gq_scopes.specs.Scopes.{Scope, bare, either_property, either_variable, variable}
+use Rattle.gq_trees.specs.Resolving.{Conjunct, Split, functions, all_some, resolve_step, resolved, split, split_node, split_step}
+
+-- where the first is there, so is the second, and both read the same; what the second reads is there
+abbrev pub Alike : {A B : Type 0} → ℕ → ℕ → (A → List Read) → (B → List Read) → Option A → Option B → Type 0
+Alike n m f g None None = Unit {0}
+Alike n m f g None (Some b) = AllThere n m (g b)
+Alike n m f g (Some a) None = ⊥
+Alike n m f g (Some a) (Some b) = (f a ≡ g b) × AllThere n m (g b)
 
 -- ---- one condition after another
 
@@ -92,124 +91,15 @@ module _ (n m : ℕ) where
       (sym (ap all_some (map-append (λ (c : Conjunct). c.expr) cs ds) ∙ all_some_append (exprs cs) (exprs ds)))
       (alike_joined (all_some (exprs cs)) (all_some (exprs ds)) p (all_some ps) h k)
 
-  -- ---- trees
+  -- ---- conjuncts
+
+  alike_self : (o : Option Expr) → AreThere n m reads o → Alike n m reads reads o o
+  alike_self None h = tt
+  alike_self (Some e) h = (refl, h)
 
   module _ (s : Scope) (no_columns : s.columns ≡ []) (nodes : length s.nodes ≤ n) (rels : length s.rels ≤ m) where
-    abbrev by_functions : Ast → Option Expr
-    by_functions t = resolved functions s t
-
-    abbrev by_lists : Ast → Option Expr
-    by_lists t = resolved as_lists s t
-
-    name_there : (names : List (Option Name)) (name : Name) (k v : ℕ) → length names ≤ k → find_name names name ≡ Some v → v < k
-    name_there names name k v h e = let low : v < length names = found_within (is_called name) names v e in omega arith
-
-    either_there : (o p : Option ℕ) → ((v : ℕ) → o ≡ Some v → v < n) → ((x : ℕ) → p ≡ Some x → x < m) → Alike n m reads reads (either_variable o p) (either_variable o p)
-    either_there None None h k = tt
-    either_there None (Some x) h k = (refl, subst (AllThere n m) (sym (reads_Rel x)) (k x refl, tt))
-    either_there (Some v) p h k = (refl, subst (AllThere n m) (sym (reads_Node v)) (h v refl, tt))
-
-    property_there : (o p : Option ℕ) (key : Name) → ((v : ℕ) → o ≡ Some v → v < n) → ((x : ℕ) → p ≡ Some x → x < m) → Alike n m reads reads (either_property o p key) (either_property o p key)
-    property_there None None key h k = tt
-    property_there None (Some x) key h k = (refl, subst (AllThere n m) (sym (reads_RelProperty x key)) (k x refl, tt))
-    property_there (Some v) p key h k = (refl, subst (AllThere n m) (sym (reads_NodeProperty v key)) (h v refl, tt))
-
-    -- a scope without columns has no column of a name
-    bare_is : (name : Name) → bare s name ≡ variable s name
-    bare_is name = ap (λ cs. bare (record s { columns = cs }) name) no_columns
-
-    abbrev Known : Ast → Type 0
-    Known t = Alike n m reads reads (resolved functions s t) (resolved as_lists s t)
-
-    abbrev Part : Type 0
-    Part = (t : Ast) × Known t
-
-    abbrev seen : (Ast → Option Expr) → AstNode Part → AstNode (Option Expr)
-    seen go y = parts.map Ast (Option Expr) go (parts.map Part Ast (λ q. q.0) y)
-
-    each_known : (qs : List Part) → AllAlike n m reads reads (map by_functions (map (λ q. q.0) qs)) (map by_lists (map (λ q. q.0) qs))
-    each_known [] = tt
-    each_known (q ∷ qs) = (q.1, each_known qs)
-
-    all_known : (qs : List Part) → Alike n m (flat_map reads) (flat_map reads) (all_some (map by_functions (map (λ q. q.0) qs))) (all_some (map by_lists (map (λ q. q.0) qs)))
-    all_known qs = alike_all n m reads reads (map by_functions (map (λ q. q.0) qs)) (map by_lists (map (λ q. q.0) qs)) (each_known qs)
-
-    abbrev term_map : {A B O : Type 0} → (A → B) → Term O A → Term O B
-    term_map f t = record { op = t.op; tree = f t.tree }
-
-    abbrev terms_by : {O : Type 0} → (Ast → Option Expr) → List (Term O Part) → List (Option (Operand O Expr))
-    terms_by go ts = map bound_term (map (term_map go) (map (term_map (λ q. q.0)) ts))
-
-    each_term : {O : Type 0} (ts : List (Term O Part)) → AllAlike n m term_reads term_reads (terms_by by_functions ts) (terms_by by_lists ts)
-    each_term [] = tt
-    each_term (t ∷ ts) =
-        (alike_map n m reads reads term_reads term_reads (λ e. record { op = t.op; expr = e }) (λ e. record { op = t.op; expr = e }) (λ e. refl) (λ e. refl) (by_functions t.tree.0) (by_lists t.tree.0) t.tree.1, each_term ts)
-
-    abbrev tests_by : (Ast → Option Expr) → Part → List (Tested Part) → List (Tested (Option Expr))
-    tests_by go q ts = tests_of (seen go (ast.Test q ts))
-
-    each_test : (q : Part) (ts : List (Tested Part)) → AllAlike n m test_reads test_reads (map bound_tester (tests_by by_functions q ts)) (map bound_tester (tests_by by_lists q ts))
-    each_test q [] = tt
-    each_test q (tested.IsNull ∷ ts) = ((refl, tt), each_test q ts)
-    each_test q (tested.IsNotNull ∷ ts) = ((refl, tt), each_test q ts)
-    each_test q (tested.Member ls ∷ ts) = ((refl, tt), each_test q ts)
-    each_test q (tested.Starts p ∷ ts) = (alike_map n m reads reads test_reads test_reads tester.Starts tester.Starts (λ e. refl) (λ e. refl) (by_functions p.0) (by_lists p.0) p.1, each_test q ts)
-    each_test q (tested.Ends p ∷ ts) = (alike_map n m reads reads test_reads test_reads tester.Ends tester.Ends (λ e. refl) (λ e. refl) (by_functions p.0) (by_lists p.0) p.1, each_test q ts)
-    each_test q (tested.Contains p ∷ ts) = (alike_map n m reads reads test_reads test_reads tester.Contains tester.Contains (λ e. refl) (λ e. refl) (by_functions p.0) (by_lists p.0) p.1, each_test q ts)
-
-    one_known : (make : Expr → Expr) → ((e : Expr) → reads (make e) ≡ reads e) → (q : Part) → Alike n m reads reads (option_map make (by_functions q.0)) (option_map make (by_lists q.0))
-    one_known make made q = alike_map n m reads reads reads reads make make made made (by_functions q.0) (by_lists q.0) q.1
-
-    list_known : (make : List Expr → Expr) → ((es : List Expr) → reads (make es) ≡ flat_map reads es) → (qs : List Part)
-        → Alike n m reads reads (option_map make (all_some (map by_functions (map (λ q. q.0) qs)))) (option_map make (all_some (map by_lists (map (λ q. q.0) qs))))
-    list_known make made qs =
-        alike_map n m (flat_map reads) (flat_map reads) reads reads make make made made (all_some (map by_functions (map (λ q. q.0) qs))) (all_some (map by_lists (map (λ q. q.0) qs))) (all_known qs)
-
-    level : (y : AstNode Part) → Alike n m reads reads (resolve_step functions s (seen by_functions y)) (resolve_step as_lists s (seen by_lists y))
-    level (ast.Literal l) = (refl, subst (AllThere n m) (sym (reads_Literal l)) tt)
-    level (ast.Variable name) =
-        subst (λ o. Alike n m reads reads o o) (sym (bare_is name))
-        (either_there (find_name s.nodes name) (find_name s.rels name) (λ v e. name_there s.nodes name n v nodes e) (λ x e. name_there s.rels name m x rels e))
-    level (ast.Property name key) = property_there (find_name s.nodes name) (find_name s.rels name) key (λ v e. name_there s.nodes name n v nodes e) (λ x e. name_there s.rels name m x rels e)
-    level (ast.Call name qs) = alike_call n m name (all_some (map by_functions (map (λ q. q.0) qs))) (all_some (map by_lists (map (λ q. q.0) qs))) (all_known qs)
-    level (ast.Paren q) = q.1
-    level (ast.Negate q) = one_known expr.Negate reads_Negate q
-    level (ast.Plus q) = one_known expr.Plus reads_Plus q
-    level (ast.Not q) = one_known expr.Not reads_Not q
-    level (ast.Or qs) = list_known expr.Or reads_Or qs
-    level (ast.Xor qs) = list_known expr.Xor reads_Xor qs
-    level (ast.And qs) = list_known expr.And reads_And qs
-    level (ast.Compare q ts) =
-        alike_over n m term_reads expr.Compare reads_Compare (by_functions q.0) (by_lists q.0) (all_some (terms_by by_functions ts)) (all_some (terms_by by_lists ts)) q.1
-        (alike_all n m term_reads term_reads (terms_by by_functions ts) (terms_by by_lists ts) (each_term ts))
-    level (ast.Test q ts) =
-        alike_over n m test_reads expr.Test reads_Test (by_functions q.0) (by_lists q.0) (all_some (map bound_tester (tests_by by_functions q ts))) (all_some (map bound_tester (tests_by by_lists q ts))) q.1
-        (alike_all n m test_reads test_reads (map bound_tester (tests_by by_functions q ts)) (map bound_tester (tests_by by_lists q ts)) (each_test q ts))
-    level (ast.Sum q ts) =
-        alike_over n m term_reads expr.Arith reads_Arith (by_functions q.0) (by_lists q.0) (all_some (terms_by by_functions ts)) (all_some (terms_by by_lists ts)) q.1
-        (alike_all n m term_reads term_reads (terms_by by_functions ts) (terms_by by_lists ts) (each_term ts))
-    level (ast.Product q ts) =
-        alike_over n m term_reads expr.Arith reads_Arith (by_functions q.0) (by_lists q.0) (all_some (terms_by by_functions ts)) (all_some (terms_by by_lists ts)) q.1
-        (alike_all n m term_reads term_reads (terms_by by_functions ts) (terms_by by_lists ts) (each_term ts))
-
-    resolved_roll : (calls : Calls) (x : Ast-F Ast) → resolved calls s (roll-Ast x) ≡ resolve_step calls s (parts.map Ast (Option Expr) (resolved calls s) x.node)
-    unfolding resolved
-    resolved_roll calls = fold-roll-Ast (Option Expr) (λ a. resolve_step calls s a.node)
-
-    rolled : (y : Ast-F Part) → Known (roll-Ast (map-Ast Part Ast (λ q. q.0) y))
-    rolled y =
-        let x : Ast-F Ast = map-Ast Part Ast (λ q. q.0) y in
-        subst (λ o. Alike n m reads reads o (resolved as_lists s (roll-Ast x))) (sym (resolved_roll functions x))
-        (subst (λ o. Alike n m reads reads (resolve_step functions s (seen by_functions y.node)) o) (sym (resolved_roll as_lists x)) (level y.node))
-
-    -- a tree whose calls are functions reads what it reads with its calls as lists
-    pub tree_reads : (t : Ast) → Alike n m reads reads (resolved functions s t) (resolved as_lists s t)
-    tree_reads = ind-Ast Known (λ x y is. subst (λ z. Known (roll-Ast z)) is (rolled y))
-
-    -- ---- conjuncts
-
     abbrev Parted : Ast → Type 0
-    Parted t = Alike n m (flat_map reads) reads (all_some (map (λ c. c.expr) (split functions s t).conjuncts)) (resolved as_lists s t)
+    Parted t = Alike n m (flat_map reads) reads (all_some (map (λ c. c.expr) (split functions s t).conjuncts)) (resolved functions s t)
 
     abbrev Piece : Type 0
     Piece = (t : Ast) × Parted t
@@ -217,19 +107,19 @@ module _ (n m : ℕ) where
     abbrev split_by : AstNode Piece → AstNode Split
     split_by y = parts.map Ast Split (split functions s) (parts.map Piece Ast (λ q. q.0) y)
 
-    abbrev listed_by : AstNode Piece → AstNode (Option Expr)
-    listed_by y = parts.map Ast (Option Expr) (resolved as_lists s) (parts.map Piece Ast (λ q. q.0) y)
+    abbrev whole_by : AstNode Piece → AstNode (Option Expr)
+    whole_by y = parts.map Ast (Option Expr) (resolved functions s) (parts.map Piece Ast (λ q. q.0) y)
 
     members : (qs : List Piece) → Alike n m (flat_map reads) (flat_map reads) (all_some (map (λ c. c.expr) (flat_map (λ part. part.conjuncts) (map (split functions s) (map (λ q. q.0) qs)))))
-        (all_some (map (resolved as_lists s) (map (λ q. q.0) qs)))
+        (all_some (map (resolved functions s) (map (λ q. q.0) qs)))
     members [] = (refl, tt)
     members (q ∷ qs) =
-        alike_more (split functions s q.0).conjuncts (flat_map (λ part. part.conjuncts) (map (split functions s) (map (λ q. q.0) qs))) (resolved as_lists s q.0) (map (resolved as_lists s) (map (λ q. q.0) qs)) q.1 (members qs)
+        alike_more (split functions s q.0).conjuncts (flat_map (λ part. part.conjuncts) (map (split functions s) (map (λ q. q.0) qs))) (resolved functions s q.0) (map (resolved functions s) (map (λ q. q.0) qs)) q.1 (members qs)
 
-    pieces : (y : AstNode Piece) (whole : Conjunct) → Alike n m reads reads whole.expr (resolve_step as_lists s (listed_by y))
-        → Alike n m (flat_map reads) reads (all_some (map (λ c. c.expr) (split_node (split_by y) whole))) (resolve_step as_lists s (listed_by y))
+    pieces : (y : AstNode Piece) (whole : Conjunct) → Alike n m reads reads whole.expr (resolve_step functions s (whole_by y))
+        → Alike n m (flat_map reads) reads (all_some (map (λ c. c.expr) (split_node (split_by y) whole))) (resolve_step functions s (whole_by y))
     pieces (ast.And qs) whole h =
-        alike_right (all_some (map (λ c. c.expr) (flat_map (λ part. part.conjuncts) (map (split functions s) (map (λ q. q.0) qs))))) (all_some (map (resolved as_lists s) (map (λ q. q.0) qs))) expr.And reads_And (members qs)
+        alike_right (all_some (map (λ c. c.expr) (flat_map (λ part. part.conjuncts) (map (split functions s) (map (λ q. q.0) qs))))) (all_some (map (resolved functions s) (map (λ q. q.0) qs))) expr.And reads_And (members qs)
     pieces (ast.Paren q) whole h = q.1
     pieces (ast.Literal l) whole h = alike_single whole.expr _ h
     pieces (ast.Variable name) whole h = alike_single whole.expr _ h
@@ -254,11 +144,11 @@ module _ (n m : ℕ) where
         let x : Ast-F Ast = map-Ast Piece Ast (λ q. q.0) y in
         let whole : Conjunct = record { span = y.span; expr = (split_step functions s (split_by y.node) y.span).expr } in
         let same : resolved functions s (roll-Ast x) ≡ whole.expr = sym (split_whole functions s (roll-Ast x)) ∙ ap (λ part. part.expr) (split_roll x) in
-        let known : Alike n m reads reads whole.expr (resolve_step as_lists s (listed_by y.node)) =
-        subst (λ o. Alike n m reads reads whole.expr o) (resolved_roll as_lists x) (subst (λ o. Alike n m reads reads o (resolved as_lists s (roll-Ast x))) same (tree_reads (roll-Ast x))) in
-        subst (λ part. Alike n m (flat_map reads) reads (all_some (map (λ c. c.expr) part.conjuncts)) (resolved as_lists s (roll-Ast x))) (sym (split_roll x))
-        (subst (λ o. Alike n m (flat_map reads) reads (all_some (map (λ c. c.expr) (split_node (split_by y.node) whole))) o) (sym (resolved_roll as_lists x)) (pieces y.node whole known))
+        let known : Alike n m reads reads whole.expr (resolve_step functions s (whole_by y.node)) =
+        subst (λ o. Alike n m reads reads whole.expr o) (resolved_roll n m s no_columns nodes rels x) (subst (λ o. Alike n m reads reads o (resolved functions s (roll-Ast x))) same (alike_self (resolved functions s (roll-Ast x)) (tree_there n m s no_columns nodes rels (roll-Ast x)))) in
+        subst (λ part. Alike n m (flat_map reads) reads (all_some (map (λ c. c.expr) part.conjuncts)) (resolved functions s (roll-Ast x))) (sym (split_roll x))
+        (subst (λ o. Alike n m (flat_map reads) reads (all_some (map (λ c. c.expr) (split_node (split_by y.node) whole))) o) (sym (resolved_roll n m s no_columns nodes rels x)) (pieces y.node whole known))
 
-    -- the conjuncts of a condition together read what the condition reads with its calls as lists
-    pub conjuncts_read : (t : Ast) → Alike n m (flat_map reads) reads (all_some (map (λ c. c.expr) (split functions s t).conjuncts)) (resolved as_lists s t)
+    -- the conjuncts of a condition together read what the condition reads
+    pub conjuncts_read : (t : Ast) → Alike n m (flat_map reads) reads (all_some (map (λ c. c.expr) (split functions s t).conjuncts)) (resolved functions s t)
     conjuncts_read = ind-Ast Parted (λ x y is. subst (λ z. Parted (roll-Ast z)) is (parted y))

@@ -1,6 +1,6 @@
-pub mod AlikeReads
 pub mod ConditionReads
 pub mod ReadEquations
+pub mod ReadsThere
 pub mod RenameLemmas
 pub mod Resolved
 pub mod SliceLemmas

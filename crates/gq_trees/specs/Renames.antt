@@ -7,7 +7,7 @@ use Rattle.gq_syntax.specs.declared.Ast.{Ast}
 use Rattle.gq_syntax.specs.declared.Item.{Item}
 use Rattle.gq_trees.specs.MadeOf.{same_expr}
 use Rattle.gq_scopes.specs.Patterns.{Name}
-use Rattle.gq_trees.specs.Resolving.{as_lists, resolved}
+use Rattle.gq_trees.specs.Resolving.{functions, resolved}
 use Rattle.gq_scopes.specs.Scopes.{Scope, is_variable, variable}
 use Rattle.gq_trees.specs.Uses.{Use, bare, owner, call, refused_unless}
 
@@ -18,7 +18,7 @@ same_known (Some d) (Some e) = same_expr d e
 
 -- a name is a variable, and a tree does not stand for it
 abbrev pub gives_away : Scope → Ast → Name → Bool
-gives_away s tree name = is_variable s name && not (same_known (resolved as_lists s tree) (variable s name))
+gives_away s tree name = is_variable s name && not (same_known (resolved functions s tree) (variable s name))
 
 abbrev pub renamed_as : Scope → Ast → Option Name → List Name
 renamed_as s tree None = []

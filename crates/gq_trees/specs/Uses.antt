@@ -1,12 +1,11 @@
 -- The names and calls of an expression, in text order, and the first that a check refuses.
 use Rattle.std.specs.Prelude.{ℕ, nat_eq, Bool, true, false, not, ◌||◌, Option, Some, None, List, [], ◌∷◌, ◌++◌, map, flat_map, length, codes, if◌then◌else◌}
+use Rattle.gq_syntax.specs.Operands.{in_tester}
 use Rattle.std.specs.Option.{option_or}
 use Rattle.gq_syntax.specs.declared.Ast.{Ast, fold-Ast}
 use Rattle.gq_syntax.specs.declared.AstNode.{AstNode}
 use Rattle.gq_syntax.specs.declared.AstNode.TheVariants as ast
 use Rattle.gq_syntax.specs.declared.Term.{Term}
-use Rattle.gq_syntax.specs.declared.Tester.{Tester}
-use Rattle.gq_syntax.specs.declared.Tester.TheVariants as tester
 use Rattle.gq_scopes.specs.Patterns.{Name}
 use Rattle.gq_trees.specs.Resolving.{is_function}
 use Rattle.gq_scopes.specs.Scopes.{Scope, is_known, is_variable}
@@ -16,14 +15,6 @@ pub data Use : Type 0 where
   bare : Name → Use
   owner : Name → Use
   call : Name → ℕ → Use
-
-abbrev pub tester_uses : Tester (List Use) → List Use
-tester_uses tester.IsNull = []
-tester_uses tester.IsNotNull = []
-tester_uses (tester.Member ls) = []
-tester_uses (tester.Starts us) = us
-tester_uses (tester.Ends us) = us
-tester_uses (tester.Contains us) = us
 
 abbrev pub term_uses : {O : Type 0} → Term O (List Use) → List Use
 term_uses t = t.tree
@@ -45,7 +36,7 @@ uses_step (ast.Or uss) = all_uses uss
 uses_step (ast.Xor uss) = all_uses uss
 uses_step (ast.And uss) = all_uses uss
 uses_step (ast.Compare us ts) = us ++ all_uses (map term_uses ts)
-uses_step (ast.Test us ts) = us ++ all_uses (map tester_uses ts)
+uses_step (ast.Test us ts) = us ++ all_uses (map in_tester ts)
 uses_step (ast.Sum us ts) = us ++ all_uses (map term_uses ts)
 uses_step (ast.Product us ts) = us ++ all_uses (map term_uses ts)
 

@@ -77,7 +77,7 @@ fn is_given_away(alloc: Global, scope: &Scope<'_>, name: &Text, tree: &Ast) -> R
     let Some(variable) = scope.variable(name) else {
         return Ok(false);
     };
-    match resolve(alloc, CallForm::Lists, scope, tree)? {
+    match resolve(alloc, CallForm::Functions, scope, tree)? {
         None => Ok(true),
         Some(expr) => Ok(!same(&expr, &variable)),
     }

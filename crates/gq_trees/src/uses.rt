@@ -1,10 +1,11 @@
 //! The names and calls of an expression, and the first that a check refuses.
 ghost use Rattle.std.specs.Prelude.{◌≡◌, true, false, map};
+ghost use Rattle.gq_syntax.specs.Operands.{in_tester};
 ghost use Rattle.std.specs.Option.{option_copied};
 ghost use Rattle.gq_trees.specs.Checks.{check_of};
 ghost use Rattle.gq_trees.specs.steps.Trees.{term_with, tester_with};
 ghost use Rattle.gq_trees.specs.Uses as uses;
-ghost use Rattle.gq_trees.specs.Uses.{first_name, term_uses, tester_uses, bare, owner};
+ghost use Rattle.gq_trees.specs.Uses.{first_name, term_uses, bare, owner};
 ghost use Rattle.gq_trees.specs.Uses.{refused_unless, takes, is_some_function};
 ghost use Rattle.gq_trees.specs.steps.Uses.{first_of};
 
@@ -118,7 +119,7 @@ fn first_of_testers<'t>(
     scope: &Scope<'_>,
     testers: &'t [AstTester],
 ) -> Option<&'t Text>
-    ensures { let uss = map tester_uses (map (tester_with uses.uses) testers.now) in
+    ensures { let uss = map in_tester (map (tester_with uses.uses) testers.now) in
         option_copied result ≡ first_of (check_of check.entry scope.now) uss }
 {
     for tester in testers {

@@ -2,13 +2,12 @@
 use Rattle.std.specs.Prelude.{ℕ, ◌≡◌, ◌<◌, true, List, length, slice_index_or}
 use Rattle.std.specs.declared.option.Option.{Option}
 use Rattle.gq_base.specs.Catalogs.{Tables}
-use Rattle.gq_base.specs.Plain.{Graph}
+use Rattle.gq_base.specs.Plain.{Graph, rels_at}
 use Rattle.gq_base.specs.Valid.{is_valid, row_count}
 use Rattle.gq_base.specs.declared.catalog.Field.{Field}
 use Rattle.gq_base.specs.declared.cell.Cell.{Cell}
 use Rattle.gq_store.specs.Cells.{node_fields, rel_fields}
 use Rattle.gq_store.specs.Columns.{node_cells}
-use Rattle.gq_store.specs.Neighbours.{rels_at}
 use Rattle.gq_store.specs.RelColumns.{rel_cells}
 use Rattle.gq_store.specs.steps.Stored.{AreLinked}
 use Rattle.gq_store.specs.declared.links.Links.{Links}

@@ -1,7 +1,7 @@
 use Rattle.std.proofs.Common.{◌≡◌, ℕ, ◌++◌, [], ◌∷◌, length, map, arith, sym, ap, ◌∙◌}
+use Rattle.gq_base.specs.Plain.{rels_at}
 use Rattle.std.specs.List.{range_with_len}
 use Rattle.std.proofs.lemmas.List.FromFn.{map-range_with_len_more}
-use Rattle.gq_store.specs.Neighbours.{rels_at}
 use Rattle.gq_execute.proofs.planning.rel_counts.Goals as goal
 
 pub tables-preserved : goal.tables-preserved

@@ -1,6 +1,6 @@
 use Rattle.std.proofs.Common.{◌≡◌, length, map}
+use Rattle.gq_base.specs.Plain.{rels_at}
 use Rattle.std.specs.List.{range_with_len}
-use Rattle.gq_store.specs.Neighbours.{rels_at}
 use Rattle.gq_execute.proofs.planning.rel_counts.Given as goal
 
 abbrev pub invariant-tables : goal.invariant-tables

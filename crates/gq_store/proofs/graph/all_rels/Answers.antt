@@ -1,12 +1,11 @@
 use Rattle.std.proofs.Common.{◌≡◌, ◌<◌, ℕ, List, Option, Some, length, sym, ap, subst, ◌∙◌, arith}
 use Rattle.std.specs.Prelude.{All, IfSome, slice_get}
 use Rattle.gq_base.specs.Catalogs.{Tables}
-use Rattle.gq_base.specs.Plain.{Graph}
+use Rattle.gq_base.specs.Plain.{Graph, all_of}
 use Rattle.gq_base.specs.declared.catalog.Field.{Field}
 use Rattle.gq_base.specs.declared.catalog.RelTable.{RelTable}
 use Rattle.gq_base.specs.declared.cell.PlainRel.{PlainRel}
 use Rattle.gq_store.specs.Cells.{rel_fields, rel_fields_of}
-use Rattle.gq_store.specs.Neighbours.{all_of}
 use Rattle.gq_store.specs.RelColumns.{numbers_by_place}
 use Rattle.gq_store.proofs.Keeping.{AreRest, rel_cells_are, rels_fit, rest_less, tables_more}
 use Rattle.gq_store.proofs.Placing.{numbers_within}

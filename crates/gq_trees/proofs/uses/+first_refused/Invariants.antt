@@ -1,7 +1,8 @@
 use Rattle.std.proofs.Common.{◌≡◌, drop, map}
+use Rattle.gq_syntax.specs.Operands.{in_tester}
 use Rattle.gq_trees.specs.Checks.{check_of}
 use Rattle.gq_trees.specs.steps.Trees.{term_with, tester_with}
-use Rattle.gq_trees.specs.Uses.{uses, term_uses, tester_uses}
+use Rattle.gq_trees.specs.Uses.{uses, term_uses}
 use Rattle.gq_trees.specs.steps.Uses.{first_of}
 use Rattle.gq_trees.proofs.uses.+first_refused.Given as goal
 
@@ -19,4 +20,4 @@ invariant-first_of_ariths-loop-term l =
 
 abbrev pub invariant-first_of_testers-loop-tester : goal.invariant-first_of_testers-loop-tester
 invariant-first_of_testers-loop-tester l =
-    first_of (check_of l.check l.scope) (map tester_uses (map (tester_with uses) (drop l.tester-index l.testers))) ≡ first_of (check_of l.check l.scope) (map tester_uses (map (tester_with uses) l.testers))
+    first_of (check_of l.check l.scope) (map in_tester (map (tester_with uses) (drop l.tester-index l.testers))) ≡ first_of (check_of l.check l.scope) (map in_tester (map (tester_with uses) l.testers))
