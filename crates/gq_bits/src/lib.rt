@@ -10,6 +10,3 @@ pub use vector_marks::Marks;
 
 /// How many places a vector has; a multiple of 64.
 pub const VECTOR: u32 = 1024;
-
-#[cfg(test)]
-mod tests;

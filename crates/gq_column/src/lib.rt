@@ -215,6 +215,3 @@ fn copy_rows(cells: &[i64], rows: &[u32], out: &mut [i64])
         out[place] = cells[*row as usize];
     }
 }
-
-#[cfg(test)]
-mod tests;

@@ -146,6 +146,3 @@ fn borrowed<'a>(alloc: Global, texts: &'a [Text]) -> Result<Vec<&'a str>, Memory
     }
     Ok(all)
 }
-
-#[cfg(test)]
-mod tests;

@@ -8,6 +8,3 @@ mod singles;
 
 pub use paged::Pages;
 pub use singles::{Single, SingleRefusal};
-
-#[cfg(test)]
-mod tests;

@@ -21,6 +21,3 @@ pub use outside::{Failed, Files, Sink, Source};
 pub use reading::{ReadFile, ReadStop, read_chosen, read_input};
 pub use real::{RealFiles, RealSink, RealSource};
 pub use writing::write_all;
-
-#[cfg(test)]
-mod tests;

@@ -21,6 +21,3 @@ fn part_of<T>(items: &[T], index: usize) -> &[T]
     let count = (items.len() - low).min(64);
     &items[low..low + count]
 }
-
-#[cfg(test)]
-mod tests;

@@ -12,6 +12,3 @@ mod tables;
 pub use limits::Limits;
 pub use loading::load;
 pub use refusal::{LoadRefusal, LoadStop};
-
-#[cfg(test)]
-mod tests;

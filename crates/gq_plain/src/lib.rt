@@ -202,6 +202,3 @@ fn empty_rels(alloc: Global, count: u32) -> Result<Vec<RelRows>, Memory>
     }
     Ok(tables)
 }
-
-#[cfg(test)]
-mod tests;

@@ -159,6 +159,3 @@ fn map_cells<F: Fn(i64) -> i64>(from: &[i64], to: &mut [i64], f: F)
         to[place] = f(*cell);
     }
 }
-
-#[cfg(test)]
-mod tests;

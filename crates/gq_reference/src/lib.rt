@@ -10,6 +10,3 @@ mod pairs;
 mod properties;
 
 pub use listing::{Match, matches};
-
-#[cfg(test)]
-mod tests;

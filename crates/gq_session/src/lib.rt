@@ -10,6 +10,3 @@ mod scan;
 pub use answering::{Answerer, Tone};
 pub use run::{PieceStop, Stop, session, take_piece};
 pub use scan::{Fed, Scan, State};
-
-#[cfg(test)]
-mod tests;

@@ -1,6 +1,6 @@
 //! Each allocating call on its happy path, the order of values, Kleene's tables, and plain names.
 
-use crate::{
+use gq_base::{
     Boxed, Bytes, Catalog, Cell, Direction, Field, Kind, List, Literal, Mult, NodeId, NodeTable,
     RelId, RelTable, Row, Text, Value, and3, key_of, not3, or3, order_of, read_name, xor3,
 };

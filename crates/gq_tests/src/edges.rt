@@ -1,6 +1,6 @@
 //! Places of a small graph and of two pages, and single columns with and without a second pair.
 
-use crate::{Pages, Single, SingleRefusal};
+use gq_edges::{Pages, Single, SingleRefusal};
 use std::test::Fail;
 
 #[test]

@@ -1,11 +1,11 @@
 //! Small pieces, failing calls, limits and room, and the adapters over readers, writers and devices.
 
-use crate::{
+use gq_base::{Bytes, List, Text};
+use gq_io::{
     Batch, Failed, Files, MemoryFiles, MemorySink, MemorySource, ReadFile, ReadStop, RealFiles,
     RealSink, RealSource, Sink, Source, SureFiles, SureSink, SureSource, read_chosen, read_input,
     write_all,
 };
-use gq_base::{Bytes, List, Text};
 use std::test::Fail;
 
 // No call has this number.

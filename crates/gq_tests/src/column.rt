@@ -1,7 +1,7 @@
 //! Cells of a column with nulls and of one without, read one by one and gathered.
 
-use crate::Column;
 use gq_bits::Marks;
+use gq_column::Column;
 use std::test::Fail;
 
 #[test]

@@ -1,6 +1,6 @@
 //! Ranks at word ends, and marks against places that were worked by hand.
 
-use crate::{BitList, Marks, VECTOR};
+use gq_bits::{BitList, Marks, VECTOR};
 use std::test::Fail;
 
 #[test]

@@ -1,88 +1,33 @@
 //! A graph of two people and one acquaintance, how it grows, and what makes it invalid. Answers are worked out by hand.
 ghost use Rattle.std.specs.Prelude.{◌≡◌, length, IfOk};
 
-use crate::{Catalog, Cell, NodeRows, PlainGraph, PlainRel, RelRows, Row};
-use gq_base::{Field, Kind, List, Mult, NodeTable, RelTable, Text};
+use crate::graph::{fields, node, rel};
+use gq_base::{
+    Catalog, Field, Kind, List, Mult, NodeRows, NodeTable, RelRows, RelTable, Row, Text,
+};
+use gq_plain::PlainGraph;
 use std::alloc::Global;
-use std::str::SplitWhitespace;
 use std::test::Fail;
-
-fn add_field(alloc: Global, fields: &mut List<Field>, name: &str, kind: Kind) -> Result<(), Fail> {
-    fields.push(Field {
-        name: Text::new(alloc, name)?,
-        kind,
-    })?;
-    Ok(())
-}
 
 // A person has a number and a name, and an acquaintance a year.
 fn tables(alloc: Global, mult: Mult) -> Result<Catalog, Fail>
     ensures { IfOk result (λ c. (length c.nodes ≡ 1) × (length c.rels ≡ 1)) }
 {
     let mut catalog = Catalog::new(alloc);
-    let mut fields = List::new(alloc);
-    add_field(alloc, &mut fields, "id", Kind::Int)?;
-    add_field(alloc, &mut fields, "name", Kind::Str)?;
     catalog.add_node(NodeTable {
         label: Text::new(alloc, "Person")?,
         file: Text::new(alloc, "person.csv")?,
-        fields,
+        fields: fields(alloc, "id:int name:string")?,
     })?;
-    let mut fields = List::new(alloc);
-    add_field(alloc, &mut fields, "since", Kind::Int)?;
     catalog.add_rel(RelTable {
         name: Text::new(alloc, "KNOWS")?,
         from: 0,
         to: 0,
         mult,
         file: Text::new(alloc, "knows.csv")?,
-        fields,
+        fields: fields(alloc, "since:int")?,
     })?;
     Ok(catalog)
-}
-
-// The cells that words spell: `-` for null, `yes` and `no`, a number, or else a text.
-fn cells(alloc: Global, words: SplitWhitespace<'_>) -> Result<Row, Fail> {
-    let mut row = Row::new(alloc);
-    for word in words {
-        row.push(cell(alloc, word)?)?;
-    }
-    Ok(row)
-}
-
-fn cell(alloc: Global, word: &str) -> Result<Option<Cell>, Fail> {
-    match word {
-        "-" => Ok(None),
-        "yes" => Ok(Some(Cell::Flag(true))),
-        "no" => Ok(Some(Cell::Flag(false))),
-        _ => match word.parse::<i64>() {
-            Ok(number) => Ok(Some(Cell::Int(number))),
-            Err(_) => Ok(Some(Cell::Str(Text::new(alloc, word)?))),
-        },
-    }
-}
-
-fn node(alloc: Global, text: &str) -> Result<Row, Fail> {
-    cells(alloc, text.split_whitespace())
-}
-
-// The rows of both ends, and then the cells.
-fn rel(alloc: Global, text: &str) -> Result<PlainRel, Fail> {
-    let mut words = text.split_whitespace();
-    let source = end(words.next())?;
-    let target = end(words.next())?;
-    Ok(PlainRel {
-        source,
-        target,
-        cells: cells(alloc, words)?,
-    })
-}
-
-fn end(word: Option<&str>) -> Result<u32, Fail> {
-    match word.unwrap_or("").parse::<u32>() {
-        Ok(row) => Ok(row),
-        Err(_) => Err(Fail::from("an end is no number")),
-    }
 }
 
 fn people(alloc: Global, mult: Mult) -> Result<PlainGraph, Fail>
@@ -182,10 +127,15 @@ fn an_acquaintance_fits_and_keeps_the_multiplicity(rt: HostRuntime) -> Result<()
 fn numbered(alloc: Global, count: usize, last: &str) -> Result<List<Field>, Fail> {
     let mut fields = List::new(alloc);
     for number in 1..count {
-        let name = format!(in alloc; "f{number}")?;
-        add_field(alloc, &mut fields, name.as_str(), Kind::Int)?;
+        fields.push(Field {
+            name: Text::from_string(format!(in alloc; "f{number}")?),
+            kind: Kind::Int,
+        })?;
     }
-    add_field(alloc, &mut fields, last, Kind::Int)?;
+    fields.push(Field {
+        name: Text::new(alloc, last)?,
+        kind: Kind::Int,
+    })?;
     Ok(fields)
 }
 

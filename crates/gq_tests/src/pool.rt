@@ -1,6 +1,6 @@
 //! Slots of a small pool that are taken, written, copied and given back.
 
-use crate::VectorPool;
+use gq_pool::VectorPool;
 use std::test::Fail;
 
 #[test]

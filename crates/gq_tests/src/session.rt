@@ -3,9 +3,9 @@
 ghost use Rattle.std.specs.Prelude.{◌≡◌, ◌++◌, ◌∷◌, [], refl};
 ghost use Rattle.gq_session.specs.declared.answering.Tone.TheVariants.{Good};
 
-use crate::{Answerer, Stop, Tone, session};
 use gq_base::{Bytes, List};
 use gq_io::{Failed, MemorySink, MemorySource, Sink, write_all};
+use gq_session::{Answerer, Stop, Tone, session};
 use std::test::Fail;
 
 // The longest input.

@@ -3,8 +3,8 @@
 ghost use Rattle.std.specs.Prelude.{◌≡◌, ℕ, ◌≤◌, false};
 ghost use Rattle.gq_bits.specs.Places.{is_marked};
 
-use crate::{LaneOp, keep_columns, keep_const, keep_equal_id, keep_other_id, keep_range};
 use gq_bits::{Marks, VECTOR};
+use gq_lanes::{LaneOp, keep_columns, keep_const, keep_equal_id, keep_other_id, keep_range};
 
 const LENGTHS: [u32; 7] = [0, 1, 63, 64, 65, VECTOR - 1, VECTOR];
 

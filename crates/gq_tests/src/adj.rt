@@ -1,6 +1,6 @@
 //! The lists of a small graph both ways, and lists with empty vertices at both ends.
 
-use crate::Lists;
+use gq_adj::Lists;
 use std::test::Fail;
 
 #[test]

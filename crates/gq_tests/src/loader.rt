@@ -3,9 +3,9 @@
 ghost use Rattle.std.specs.Prelude.{◌≡◌, true};
 ghost use Rattle.gq_loader.specs.Limits.{IsWithin};
 
-use crate::{Limits, LoadRefusal, LoadStop, load};
 use gq_base::{Bytes, List, Text};
 use gq_io::SureFiles;
+use gq_loader::{Limits, LoadRefusal, LoadStop, load};
 use gq_tables::TableRefusal;
 use std::alloc::Global;
 use std::test::Fail;
