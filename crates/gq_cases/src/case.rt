@@ -32,7 +32,7 @@ impl From<gq_base::Memory> for Stop {
 }
 
 /// A file that the program finds.
-#[derive(Clone, Drop)]
+#[derive(Drop)]
 pub struct CaseFile {
     pub name: String,
     pub bytes: Vec<u8>,
@@ -45,14 +45,11 @@ pub enum Place {
     File,
 }
 
-/// A title, and the line of its file where the case begins; what the program is given: its words, whether each order is to
-/// be named behind them, the files, of which the last of a name counts, the input, which calls fail, and how many bytes a
-/// read of the input gives and a write takes, where the case says it; and its output and status. A mixed output may have
-/// its lines between the first and the last in any order.
-#[derive(Clone, Drop)]
+/// What the program is given: its words, whether each order is to be named behind them, the files, of which the last of a
+/// name counts, the input, which calls fail, and how many bytes a read of the input gives and a write takes, where the case
+/// says it; and its output and status. A mixed output may have its lines between the first and the last in any order.
+#[derive(Drop)]
 pub struct Case {
-    pub title: String,
-    pub line: usize,
     pub words: Vec<String>,
     pub both_orders: bool,
     pub files: Vec<CaseFile>,
@@ -79,8 +76,6 @@ impl Case {
     /// A case without files, input and output.
     pub fn new(alloc: Global) -> Result<Case, Stop> {
         Ok(Case {
-            title: String::new(alloc),
-            line: 0,
             words: standard_words(alloc)?,
             both_orders: false,
             files: Vec::new(alloc),

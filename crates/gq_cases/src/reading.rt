@@ -1,4 +1,4 @@
-//! Reads a case file line by line, and tries each case where it ends.
+//! Reads a case file line by line, and tries each case where the next one begins.
 
 use crate::case::{Case, Place, Stop};
 use crate::taking::take_line;
@@ -34,11 +34,20 @@ fn shown(bytes: &[u8]) -> &str {
     str::from_utf8(bytes).unwrap_or("(no text)\n")
 }
 
-fn tell(rt: &HostRuntime, file: &str, case: &Case, got: &Got) -> Result<(), Stop> {
+// The file of a case, the line where it begins, and its title.
+#[derive(Clone, Copy)]
+struct Heading<'t> {
+    file: &'t str,
+    line: usize,
+    title: &'t str,
+}
+
+fn tell(rt: &HostRuntime, at: Heading<'_>, case: &Case, got: &Got) -> Result<(), Stop> {
     let printed = println!(rt;
-        "{file} line {}: {}\n{}wanted, with status {}:\n{}got, with status {}, in pieces of {}, in the order {}:\n{}",
-        case.line,
-        case.title,
+        "{} line {}: {}\n{}wanted, with status {}:\n{}got, with status {}, in pieces of {}, in the order {}:\n{}",
+        at.file,
+        at.line,
+        at.title,
         shown(case.input.as_slice()),
         case.wanted_status(),
         shown(case.output.as_slice()),
@@ -50,95 +59,104 @@ fn tell(rt: &HostRuntime, file: &str, case: &Case, got: &Got) -> Result<(), Stop
     printed.map_err(|_| Stop::Outside)
 }
 
-fn try_case(rt: &HostRuntime, file: &str, case: &Case, tally: &mut Tally) -> Result<(), Stop> {
+fn try_case(rt: &HostRuntime, at: Heading<'_>, case: &Case, tally: &mut Tally) -> Result<(), Stop> {
     let got = difference(rt.alloc(), case)?;
     tally.count(got.is_none());
     match got {
         None => Ok(()),
-        Some(got) => tell(rt, file, case, &got),
+        Some(got) => tell(rt, at, case, &got),
     }
 }
 
-// A line of a case file, by its number from 1.
-#[derive(Clone, Copy)]
-struct Line<'t> {
-    file: &'t str,
-    number: usize,
-    text: &'t str,
-}
-
-// What is read of a case file: what holds for all its cases, and the case that has begun.
+// What is read of a case file: the lines before its first case, which hold for all of them, and the case that has begun,
+// with its lines. The line 0 is that of no case.
 #[derive(Drop)]
-struct Reader {
-    head: Case,
-    case: Option<Case>,
+struct Reader<'t> {
+    head: Vec<&'t str>,
+    own: Vec<&'t str>,
+    at: Heading<'t>,
 }
 
-impl Reader {
-    fn take(&mut self, rt: &HostRuntime, line: &str) -> Result<(), Stop> {
-        match &mut self.case {
-            Some(case) => take_line(rt, case, line),
-            None => take_line(rt, &mut self.head, line),
-        }
-    }
-
-    fn finish(&self, rt: &HostRuntime, file: &str, tally: &mut Tally) -> Result<(), Stop> {
-        match &self.case {
-            Some(case) => try_case(rt, file, case, tally),
-            None => Ok(()),
-        }
-    }
-
-    // Without a title of its own a case has that of the case before.
-    fn title(&self, rt: &HostRuntime, title: &str) -> Result<String, Stop> {
-        match &self.case {
-            Some(case) if title.is_empty() => Ok(case.title.clone()?),
-            _ => Ok(String::from_str(rt.alloc(), title)?),
-        }
-    }
-
-    fn begin(&mut self, rt: &HostRuntime, line: usize, title: &str) -> Result<(), Stop> {
-        let mut case = self.head.clone()?;
-        case.title = self.title(rt, title)?;
-        case.line = line;
-        case.place = Place::Input;
-        self.case = Some(case);
-        Ok(())
-    }
-}
-
-// Takes a line of the case file. A title ends the case before.
-fn take_any(
+// Takes lines, of which the first has this number. A line of no form is told.
+fn take_lines(
     rt: &HostRuntime,
-    reader: &mut Reader,
-    at: Line<'_>,
-    tally: &mut Tally,
+    file: &str,
+    case: &mut Case,
+    first: usize,
+    lines: &[&str],
 ) -> Result<(), Stop> {
-    if at.text.is_empty() || at.text.starts_with('#') {
-        return Ok(());
-    }
-    let (word, title) = at.text.split_once(' ').unwrap_or((at.text, ""));
-    if word != "case" {
-        return reader.take(rt, at.text);
-    }
-    reader.finish(rt, at.file, tally)?;
-    reader.begin(rt, at.number, title)
-}
-
-fn try_lines(rt: &HostRuntime, file: &str, text: &str, tally: &mut Tally) -> Result<(), Stop> {
-    let mut reader = Reader {
-        head: Case::new(rt.alloc())?,
-        case: None,
-    };
-    for (place, text) in text.lines().enumerate() {
-        let number = place.saturating_add(1);
-        let at = Line { file, number, text };
-        if let Err(stop) = take_any(rt, &mut reader, at, tally) {
+    for (place, line) in lines.iter().enumerate() {
+        if line.is_empty() || line.starts_with('#') {
+            continue;
+        }
+        if let Err(stop) = take_line(rt, case, line) {
+            let number = first.saturating_add(place);
             let _ = println!(rt; "{file} line {number}: {stop:?}");
             return Err(stop);
         }
     }
-    reader.finish(rt, file, tally)
+    Ok(())
+}
+
+impl<'t> Reader<'t> {
+    // Tries the case that has begun, where there is one.
+    fn finish(&self, rt: &HostRuntime, tally: &mut Tally) -> Result<(), Stop> {
+        let Heading { file, line, .. } = self.at;
+        if line == 0 {
+            return Ok(());
+        }
+        let mut case = Case::new(rt.alloc())?;
+        take_lines(rt, file, &mut case, 1, self.head.as_slice())?;
+        case.place = Place::Input;
+        take_lines(
+            rt,
+            file,
+            &mut case,
+            line.saturating_add(1),
+            self.own.as_slice(),
+        )?;
+        try_case(rt, self.at, &case, tally)
+    }
+
+    // Without a title of its own a case has that of the case before.
+    fn begin(&mut self, line: usize, title: &'t str) {
+        self.own.clear();
+        self.at.line = line;
+        if !title.is_empty() {
+            self.at.title = title;
+        }
+    }
+
+    fn push(&mut self, text: &'t str) -> Result<(), Stop> {
+        if self.at.line == 0 {
+            self.head.push(text)?;
+        } else {
+            self.own.push(text)?;
+        }
+        Ok(())
+    }
+}
+
+fn try_lines(rt: &HostRuntime, file: &str, text: &str, tally: &mut Tally) -> Result<(), Stop> {
+    let mut reader = Reader {
+        head: Vec::new(rt.alloc()),
+        own: Vec::new(rt.alloc()),
+        at: Heading {
+            file,
+            line: 0,
+            title: "",
+        },
+    };
+    for (place, text) in text.lines().enumerate() {
+        let (word, title) = text.split_once(' ').unwrap_or((text, ""));
+        if word == "case" {
+            reader.finish(rt, tally)?;
+            reader.begin(place.saturating_add(1), title);
+        } else {
+            reader.push(text)?;
+        }
+    }
+    reader.finish(rt, tally)
 }
 
 /// Tries the cases of a file that lies where the program runs, prints those that differ and how many agree, and counts
