@@ -53,7 +53,7 @@ fn tell(rt: &HostRuntime, at: Heading<'_>, case: &Case, got: &Got) -> Result<(),
         shown(case.output.as_slice()),
         got.status,
         got.piece,
-        got.order.as_str(),
+        got.order,
         shown(got.output.as_slice())
     );
     printed.map_err(|_| Stop::Outside)

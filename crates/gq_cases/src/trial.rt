@@ -25,7 +25,7 @@ pub struct Got {
     pub status: u8,
     pub output: Vec<u8>,
     pub piece: u32,
-    pub order: String,
+    pub order: &'static str,
 }
 
 // A case with the words that it is run with, and the order that they name last.
@@ -33,7 +33,7 @@ pub struct Got {
 struct Trial<'t> {
     case: &'t Case,
     words: &'t [String],
-    order: &'t str,
+    order: &'static str,
 }
 
 // The names and the bytes, the last file first, since the first of a name counts.
@@ -54,22 +54,34 @@ fn calls(alloc: Global, failing: &[u64]) -> Result<List<u64>, Stop> {
     Ok(List::from_vec(Vec::from_slice(alloc, failing)?))
 }
 
+fn input(alloc: Global, case: &Case, piece: u32) -> Result<MemorySource, Stop>
+    requires { 0 < piece }
+{
+    let failing = calls(alloc, case.failing_input.as_slice())?;
+    let bytes = Bytes::new(alloc, case.input.as_slice())?;
+    Ok(MemorySource::new(bytes, piece, failing))
+}
+
+fn output(alloc: Global, case: &Case, piece: u32) -> Result<MemorySink, Stop>
+    requires { 0 < piece }
+{
+    let failing = calls(alloc, case.failing_output.as_slice())?;
+    Ok(MemorySink::new(alloc, ROOM, piece, failing)?)
+}
+
 fn run_in_pieces(alloc: Global, trial: Trial<'_>, piece: u32) -> Result<Got, Stop>
     requires { 0 < piece }
 {
     let case = trial.case;
     let mut files = files(alloc, case.files.as_slice(), case.failing_files.as_slice())?;
-    let bytes = Bytes::new(alloc, case.input.as_slice())?;
-    let failing_input = calls(alloc, case.failing_input.as_slice())?;
-    let mut input = MemorySource::new(bytes, piece, failing_input);
-    let failing_output = calls(alloc, case.failing_output.as_slice())?;
-    let mut out = MemorySink::new(alloc, ROOM, piece, failing_output)?;
+    let mut input = input(alloc, case, piece)?;
+    let mut out = output(alloc, case, piece)?;
     let status = run(alloc, trial.words, &mut files, &mut input, &mut out);
     Ok(Got {
         status: status.code(),
         output: Vec::from_slice(alloc, out.taken())?,
         piece,
-        order: String::from_str(alloc, trial.order)?,
+        order: trial.order,
     })
 }
 

@@ -1,5 +1,5 @@
 //! The conjuncts of a condition.
-ghost use Rattle.std.specs.Prelude.{◌≡◌, ◌∷◌, [], map, All, IfOk};
+ghost use Rattle.std.specs.Prelude.{◌≡◌, ◌∷◌, ◌++◌, [], map, All, IfOk};
 ghost use Rattle.gq_trees.specs.Conjuncts.{conjunct_expr};
 ghost use Rattle.gq_trees.specs.steps.Conjuncts.{conjuncts_in, listed_behind, whole_conjunct};
 ghost use Rattle.gq_trees.specs.Resolving as resolving;
@@ -86,11 +86,17 @@ fn with_whole(
     ensures { IfOk result (λ cs. IsWhole text.now (out-Ast tree.now).span
         → cs ≡ listed_behind before text.now (whole_conjunct scope.now tree.now ∷ [])) }
 {
-    let Some(expr) = resolve(alloc, CallForm::Functions, scope, tree)? else {
-        return Ok(None);
-    };
     let name = source_text(alloc, text, tree.span)?;
+    match resolve(alloc, CallForm::Functions, scope, tree)? {
+        Some(expr) => Ok(Some(appended(before, NamedExpr { name, expr })?)),
+        None => Ok(None),
+    }
+}
+
+fn appended<T: Drop>(before: List<T>, item: T) -> Result<List<T>, Memory>
+    ensures { IfOk result (λ all. all ≡ before ++ item ∷ []) }
+{
     let mut all = before;
-    all.push(NamedExpr { name, expr })?;
-    Ok(Some(all))
+    all.push(item)?;
+    Ok(all)
 }

@@ -2,6 +2,7 @@
 ghost use Rattle.std.specs.Prelude.{◌≡◌};
 ghost use Rattle.std.specs.List.{list_any};
 ghost use Rattle.gq_expr.specs.declared.Expr.{out-Expr};
+ghost use Rattle.gq_expr.specs.declared.expr.Expr.TheVariants as variant;
 ghost use Rattle.gq_trees.specs.MadeOf as made;
 ghost use Rattle.gq_trees.specs.MadeOf.{same_expr, column_exprs};
 
@@ -38,10 +39,22 @@ fn is_made_alone(columns: &[Column], expr: &Expr) -> bool
 {
     match expr {
         Expr::Node(_) | Expr::Rel(_) => false,
-        Expr::NodeProperty(variable, _) => is_column(columns, &Expr::Node(*variable)),
-        Expr::RelProperty(variable, _) => is_column(columns, &Expr::Rel(*variable)),
+        Expr::NodeProperty(variable, _) => is_node_column(columns, *variable),
+        Expr::RelProperty(variable, _) => is_rel_column(columns, *variable),
         _ => true,
     }
+}
+
+fn is_node_column(columns: &[Column], variable: u32) -> bool
+    ensures { result ≡ list_any (same_expr (variant.Node variable)) (column_exprs columns.now) }
+{
+    is_column(columns, &Expr::Node(variable))
+}
+
+fn is_rel_column(columns: &[Column], variable: u32) -> bool
+    ensures { result ≡ list_any (same_expr (variant.Rel variable)) (column_exprs columns.now) }
+{
+    is_column(columns, &Expr::Rel(variable))
 }
 
 // Whether it is the expression of a column.

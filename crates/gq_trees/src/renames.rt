@@ -1,13 +1,16 @@
 //! The names of variables that AS gives to other columns.
-ghost use Rattle.std.specs.Prelude.{◌≡◌, ◌++◌, nat_eq, IfOk};
+ghost use Rattle.std.specs.Prelude.{◌≡◌, ◌++◌, nat_eq, not, IfOk, Some};
 ghost use Rattle.std.specs.List.{list_any};
 ghost use Rattle.std.specs.Cmp.Lexicographic.{pointwise};
 ghost use Rattle.gq_trees.specs.Renames.{renamed_names, renamed_as, gives_away, is_among};
+ghost use Rattle.gq_trees.specs.Renames.{same_known};
+ghost use Rattle.gq_trees.specs.Resolving.{functions, resolved};
 
 use crate::calls::CallForm;
 use crate::resolution::resolve;
 use crate::sameness::same;
 use gq_base::{List, Memory, Text};
+use gq_expr::Expr;
 use gq_scopes::Scope;
 use gq_syntax::{Ast, Item};
 use std::alloc::Global;
@@ -74,11 +77,26 @@ fn stands_in(names: &[&Text], name: &Text) -> bool
 fn is_given_away(alloc: Global, scope: &Scope<'_>, name: &Text, tree: &Ast) -> Result<bool, Memory>
     ensures { IfOk result (λ b. b ≡ gives_away scope.now tree.now name.now) }
 {
-    let Some(variable) = scope.variable(name) else {
-        return Ok(false);
-    };
-    match resolve(alloc, CallForm::Functions, scope, tree)? {
-        None => Ok(true),
-        Some(expr) => Ok(!same(&expr, &variable)),
+    match scope.variable(name) {
+        Some(variable) => is_another(alloc, scope, tree, &variable),
+        None => Ok(false),
+    }
+}
+
+// Whether a tree does not stand for a variable.
+fn is_another(alloc: Global, scope: &Scope<'_>, tree: &Ast, variable: &Expr) -> Result<bool, Memory>
+    ensures { IfOk result (λ b.
+        b ≡ not (same_known (resolved functions scope.now tree.now) (Some variable.now))) }
+{
+    let found = resolve(alloc, CallForm::Functions, scope, tree)?;
+    Ok(!is_same(&found, variable))
+}
+
+fn is_same(found: &Option<Expr>, variable: &Expr) -> bool
+    ensures { result ≡ same_known found.now (Some variable.now) }
+{
+    match found {
+        Some(expr) => same(expr, variable),
+        None => false,
     }
 }

@@ -1,6 +1,8 @@
 //! From trees of expressions to bound expressions.
-ghost use Rattle.std.specs.Prelude.{◌≡◌, map, IfOk};
+ghost use Rattle.std.specs.Prelude.{◌≡◌, map, IfOk, Some};
+ghost use Rattle.gq_expr.specs.declared.expr.Expr.TheVariants as variant;
 ghost use Rattle.gq_trees.specs.Resolving.{resolved, all_some, bound_term, bound_tester, calls_of};
+ghost use Rattle.gq_trees.specs.Resolving.{over_known};
 ghost use Rattle.gq_trees.specs.steps.Trees.{term_with, tester_with};
 
 use crate::calls::{CallForm, call};
@@ -72,32 +74,19 @@ impl<'r, 's> Resolver<'r, 's> {
             AstNode::Or(all) => Ok(self.all(copying, all.as_slice())?.map(Expr::Or)),
             AstNode::Xor(all) => Ok(self.all(copying, all.as_slice())?.map(Expr::Xor)),
             AstNode::And(all) => Ok(self.all(copying, all.as_slice())?.map(Expr::And)),
-            AstNode::Compare(first, terms) => {
-                let Some(first) = self.boxed(copying, first.get())? else {
-                    return Ok(None);
-                };
-                let Some(terms) = self.compares(copying, terms.as_slice())? else {
-                    return Ok(None);
-                };
-                Ok(Some(Expr::Compare(first, terms)))
-            }
-            AstNode::Test(first, testers) => {
-                let Some(first) = self.boxed(copying, first.get())? else {
-                    return Ok(None);
-                };
-                let Some(testers) = self.testers(copying, testers.as_slice())? else {
-                    return Ok(None);
-                };
-                Ok(Some(Expr::Test(first, testers)))
-            }
+            AstNode::Compare(first, terms) => match self.boxed(copying, first.get())? {
+                Some(first) => Ok(compared(first, self.compares(copying, terms.as_slice())?)),
+                None => Ok(None),
+            },
+            AstNode::Test(first, testers) => match self.boxed(copying, first.get())? {
+                Some(first) => Ok(tested(first, self.testers(copying, testers.as_slice())?)),
+                None => Ok(None),
+            },
             AstNode::Sum(first, terms) | AstNode::Product(first, terms) => {
-                let Some(first) = self.boxed(copying, first.get())? else {
-                    return Ok(None);
-                };
-                let Some(terms) = self.ariths(copying, terms.as_slice())? else {
-                    return Ok(None);
-                };
-                Ok(Some(Expr::Arith(first, terms)))
+                match self.boxed(copying, first.get())? {
+                    Some(first) => Ok(reckoned(first, self.ariths(copying, terms.as_slice())?)),
+                    None => Ok(None),
+                }
             }
         }
     }
@@ -199,4 +188,23 @@ impl<'r, 's> Resolver<'r, 's> {
         }
         Ok(Some(all))
     }
+}
+
+// The three operators with operands behind the first one, where those are known.
+fn compared(first: Boxed<Expr>, terms: Option<List<CompareOperand>>) -> Option<Expr>
+    ensures { result ≡ over_known variant.Compare (Some first) terms }
+{
+    terms.map(|terms| Expr::Compare(first, terms))
+}
+
+fn tested(first: Boxed<Expr>, testers: Option<List<ExprTester>>) -> Option<Expr>
+    ensures { result ≡ over_known variant.Test (Some first) testers }
+{
+    testers.map(|testers| Expr::Test(first, testers))
+}
+
+fn reckoned(first: Boxed<Expr>, terms: Option<List<ArithOperand>>) -> Option<Expr>
+    ensures { result ≡ over_known variant.Arith (Some first) terms }
+{
+    terms.map(|terms| Expr::Arith(first, terms))
 }
