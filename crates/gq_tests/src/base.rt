@@ -11,22 +11,44 @@ fn text(rt: &HostRuntime, text: &str) -> Result<Text, Fail> {
     Text::new(rt.alloc(), text).map_err(|_| Fail::from("memory"))
 }
 
+// A list of one name.
+fn names(rt: &HostRuntime) -> Result<List<Text>, Fail> {
+    let mut names = List::new(rt.alloc());
+    names.push(text(rt, "b")?)?;
+    Ok(names)
+}
+
+fn is_one_name(names: &[Text]) -> bool {
+    names.len() == 1 && names.iter().all(|name| name.is("b"))
+}
+
 #[test]
-fn owners_hold_what_they_are_given(rt: HostRuntime) -> Result<(), Fail> {
-    let alloc = rt.alloc();
-    let mut names = List::new(alloc);
-    let pushed = names.push(text(&rt, "b")?);
-    assert!(rt; pushed.is_ok());
+fn a_list_holds_what_it_is_given(rt: HostRuntime) -> Result<(), Fail> {
+    let names = names(&rt)?.into_vec();
+    assert!(rt; is_one_name(names.as_slice()));
+    Ok(())
+}
+
+#[test]
+fn a_copy_equals_its_list(rt: HostRuntime) -> Result<(), Fail> {
+    let names = names(&rt)?;
     let copy = names.clone()?;
-    assert!(rt; copy == names);
-    let items = names.into_vec();
-    assert_eq!(rt; items.len(), 1);
-    assert!(rt; items.iter().all(|item| item.is("b")));
-    let Ok(boxed) = Boxed::new(alloc, 7u8) else {
+    assert!(rt; copy == names && is_one_name(copy.as_slice()));
+    Ok(())
+}
+
+#[test]
+fn a_box_holds_what_it_is_given(rt: HostRuntime) -> Result<(), Fail> {
+    let Ok(boxed) = Boxed::new(rt.alloc(), 7u8) else {
         return Err(Fail::from("memory"));
     };
     assert_eq!(rt; boxed.into_inner(), 7);
-    let Ok(bytes) = Bytes::new(alloc, b"ab") else {
+    Ok(())
+}
+
+#[test]
+fn bytes_hold_what_they_are_given(rt: HostRuntime) -> Result<(), Fail> {
+    let Ok(bytes) = Bytes::new(rt.alloc(), b"ab") else {
         return Err(Fail::from("memory"));
     };
     assert_eq!(rt; bytes.as_slice(), b"ab".as_slice());

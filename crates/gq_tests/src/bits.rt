@@ -38,16 +38,27 @@ fn marks_are_found_in_order(rt: HostRuntime) {
     }
     marks.set(64, false);
     assert_eq!(rt; marks.count(), 2);
+}
+
+#[test]
+fn the_first_marks_are_counted(rt: HostRuntime) {
     for count in [0, 1, 63, 64, 65, VECTOR - 1, VECTOR] {
         assert_eq!(rt; Marks::first(count).count(), count);
     }
-    let mut high = Marks::first(70);
-    high.and_not(&Marks::first(60));
-    assert_eq!(rt; high.count(), 10);
-    high.and(&Marks::first(64));
-    assert_eq!(rt; high.count(), 4);
-    assert_eq!(rt; high.word(0), 0xF000_0000_0000_0000);
-    high.keep_word(0, 1 << 61);
-    assert!(rt; high.get(61));
-    assert_eq!(rt; high.count(), 1);
+}
+
+// The marks from 60 to 63.
+fn four_marks() -> Marks {
+    let mut marks = Marks::first(70);
+    marks.and_not(&Marks::first(60));
+    marks.and(&Marks::first(64));
+    marks
+}
+
+#[test]
+fn marks_are_taken_away(rt: HostRuntime) {
+    let mut marks = four_marks();
+    assert_eq!(rt; (marks.count(), marks.word(0)), (4, 0xF000_0000_0000_0000));
+    marks.keep_word(0, 1 << 61);
+    assert!(rt; marks.get(61) && marks.count() == 1);
 }

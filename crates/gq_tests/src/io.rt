@@ -131,12 +131,24 @@ fn chooses_surely(rt: HostRuntime) -> Result<(), Fail> {
     let names = List::from_vec(vec![in alloc; Text::new(alloc, "a")?]?);
     let contents = List::from_vec(vec![in alloc; Bytes::new(alloc, b"one")?]?);
     let mut files = SureFiles::new(names, contents);
-    let mut into = [0; 2];
-    assert_eq!(rt; files.read(&mut into), Ok(0));
-    assert_eq!(rt; files.select("a"), Ok(true));
-    assert_eq!(rt; files.read(&mut into), Ok(2));
-    assert_eq!(rt; into, *b"on");
+    assert_eq!(rt; chosen(&mut files), (Ok(0), Ok(true), Ok(2), *b"on"));
     Ok(())
+}
+
+// What is read before a file is chosen, whether it is there, how much of it is read at once, and the bytes.
+type Chosen = (
+    Result<usize, Failed>,
+    Result<bool, Failed>,
+    Result<usize, Failed>,
+    [u8; 2],
+);
+
+fn chosen(files: &mut SureFiles) -> Chosen {
+    let mut into = [0; 2];
+    let before = files.read(&mut into);
+    let found = files.select("a");
+    let count = files.read(&mut into);
+    (before, found, count, into)
 }
 
 #[test]
@@ -152,19 +164,26 @@ fn reads_and_writes_through_std(rt: HostRuntime) -> Result<(), Fail> {
     Ok(())
 }
 
-// A name that is not there, a directory, which opens and cannot be read, and two devices.
+// A name that is not there, a directory, which opens and cannot be read, and two devices: whether each is there, and how
+// much of it is read at once.
 #[test]
 fn opens_the_system_s_files(rt: HostRuntime) -> Result<(), Fail> {
     let mut files = RealFiles::new(&rt);
-    let mut into = [7; 2];
-    assert_eq!(rt; files.read(&mut into), Ok(0));
-    assert_eq!(rt; files.select("/no such name"), Ok(false));
-    assert_eq!(rt; files.select("/"), Ok(true));
-    assert_eq!(rt; files.read(&mut into), Err(Failed));
-    assert_eq!(rt; files.select("/dev/null"), Ok(true));
-    assert_eq!(rt; files.read(&mut into), Ok(0));
-    assert_eq!(rt; files.select("/dev/zero"), Ok(true));
-    assert_eq!(rt; files.read(&mut into), Ok(2));
-    assert_eq!(rt; into, [0, 0]);
+    assert!(rt; files.read(&mut [7; 2]) == Ok(0));
+    for (name, found, count) in [
+        ("/no such name", false, Ok(0)),
+        ("/", true, Err(Failed)),
+        ("/dev/null", true, Ok(0)),
+        ("/dev/zero", true, Ok(2)),
+    ] {
+        assert!(rt; is_read(&mut files, name, found, count), "{name}");
+    }
     Ok(())
+}
+
+fn is_read<F: Files>(files: &mut F, name: &str, found: bool, count: Result<usize, Failed>) -> bool {
+    let mut into = [7; 2];
+    files.select(name) == Ok(found)
+        && files.read(&mut into) == count
+        && (count != Ok(2) || into == [0, 0])
 }
