@@ -1,5 +1,7 @@
 //! Copies of bound expressions.
-ghost use Rattle.std.specs.Prelude.{◌≡◌, IfOk};
+ghost use Rattle.std.specs.Prelude.{◌≡◌, IfOk, Ok};
+ghost use Rattle.gq_base.specs.Results.{and_then};
+ghost use Rattle.gq_expr.specs.declared.expr.Expr.TheVariants as variant;
 
 use crate::copying::Copying;
 use gq_base::{Boxed, List, Literal, Memory, Text};
@@ -51,7 +53,7 @@ pub fn copy_part(alloc: Global, copying: &mut Copying, expr: &Expr) -> Result<Ex
 {
     copying.take_part(expr)?;
     match expr {
-        Expr::Literal(literal) => Ok(Expr::Literal(copy_literal(alloc, literal)?)),
+        Expr::Literal(literal) => copy_literal(alloc, literal).map(Expr::Literal),
         Expr::Node(variable) => Ok(Expr::Node(*variable)),
         Expr::Rel(variable) => Ok(Expr::Rel(*variable)),
         Expr::NodeProperty(variable, name) => {
@@ -60,26 +62,54 @@ pub fn copy_part(alloc: Global, copying: &mut Copying, expr: &Expr) -> Result<Ex
         Expr::RelProperty(variable, name) => {
             Ok(Expr::RelProperty(*variable, copy_text(alloc, name)?))
         }
-        Expr::TypeName(inner) => Ok(Expr::TypeName(copy_boxed(alloc, copying, inner.get())?)),
-        Expr::Coalesce(all) => Ok(Expr::Coalesce(copy_all(alloc, copying, all.as_slice())?)),
-        Expr::Negate(inner) => Ok(Expr::Negate(copy_boxed(alloc, copying, inner.get())?)),
-        Expr::Plus(inner) => Ok(Expr::Plus(copy_boxed(alloc, copying, inner.get())?)),
-        Expr::Not(inner) => Ok(Expr::Not(copy_boxed(alloc, copying, inner.get())?)),
-        Expr::Or(all) => Ok(Expr::Or(copy_all(alloc, copying, all.as_slice())?)),
-        Expr::Xor(all) => Ok(Expr::Xor(copy_all(alloc, copying, all.as_slice())?)),
-        Expr::And(all) => Ok(Expr::And(copy_all(alloc, copying, all.as_slice())?)),
-        Expr::Compare(first, terms) => Ok(Expr::Compare(
-            copy_boxed(alloc, copying, first.get())?,
-            copy_compares(alloc, copying, terms.as_slice())?,
-        )),
-        Expr::Test(first, testers) => Ok(Expr::Test(
-            copy_boxed(alloc, copying, first.get())?,
-            copy_testers(alloc, copying, testers.as_slice())?,
-        )),
-        Expr::Arith(first, terms) => Ok(Expr::Arith(
-            copy_boxed(alloc, copying, first.get())?,
-            copy_ariths(alloc, copying, terms.as_slice())?,
-        )),
+        Expr::TypeName(inner) => copy_boxed(alloc, copying, inner.get()).map(Expr::TypeName),
+        Expr::Coalesce(all) => copy_all(alloc, copying, all.as_slice()).map(Expr::Coalesce),
+        Expr::Negate(inner) => copy_boxed(alloc, copying, inner.get()).map(Expr::Negate),
+        Expr::Plus(inner) => copy_boxed(alloc, copying, inner.get()).map(Expr::Plus),
+        Expr::Not(inner) => copy_boxed(alloc, copying, inner.get()).map(Expr::Not),
+        Expr::Or(all) => copy_all(alloc, copying, all.as_slice()).map(Expr::Or),
+        Expr::Xor(all) => copy_all(alloc, copying, all.as_slice()).map(Expr::Xor),
+        Expr::And(all) => copy_all(alloc, copying, all.as_slice()).map(Expr::And),
+        Expr::Compare(first, terms) => {
+            let first = copy_boxed(alloc, copying, first.get())?;
+            compared(first, copy_compares(alloc, copying, terms.as_slice()))
+        }
+        Expr::Test(first, testers) => {
+            let first = copy_boxed(alloc, copying, first.get())?;
+            tested(first, copy_testers(alloc, copying, testers.as_slice()))
+        }
+        Expr::Arith(first, terms) => {
+            let first = copy_boxed(alloc, copying, first.get())?;
+            reckoned(first, copy_ariths(alloc, copying, terms.as_slice()))
+        }
+    }
+}
+
+// The three operators with operands behind the first one, where those are copied.
+fn compared(first: Boxed<Expr>, terms: Result<List<CompareOperand>, Memory>) -> Result<Expr, Memory>
+    ensures { result ≡ and_then terms (λ ts. Ok (variant.Compare first ts)) }
+{
+    match terms {
+        Ok(terms) => Ok(Expr::Compare(first, terms)),
+        Err(memory) => Err(memory),
+    }
+}
+
+fn tested(first: Boxed<Expr>, testers: Result<List<ExprTester>, Memory>) -> Result<Expr, Memory>
+    ensures { result ≡ and_then testers (λ ts. Ok (variant.Test first ts)) }
+{
+    match testers {
+        Ok(testers) => Ok(Expr::Test(first, testers)),
+        Err(memory) => Err(memory),
+    }
+}
+
+fn reckoned(first: Boxed<Expr>, terms: Result<List<ArithOperand>, Memory>) -> Result<Expr, Memory>
+    ensures { result ≡ and_then terms (λ ts. Ok (variant.Arith first ts)) }
+{
+    match terms {
+        Ok(terms) => Ok(Expr::Arith(first, terms)),
+        Err(memory) => Err(memory),
     }
 }
 
