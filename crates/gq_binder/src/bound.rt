@@ -32,8 +32,8 @@ pub fn bind(
 {
     let parts = parts_of(alloc, text, query)?;
     check(alloc, text, query, &parts)?;
-    let choices = few_alternatives(alloc, catalog, &parts.pattern)?;
-    Ok(bound_of(alloc, catalog, query, parts, choices.as_slice())?)
+    let choices = few_alternatives(alloc, catalog, &parts)?;
+    Ok(bound_of(alloc, catalog, query, parts, choices)?)
 }
 
 /// Why a query, which a text spells, cannot be bound over a catalogue: the first check that
@@ -63,11 +63,11 @@ fn bound_of(
     catalog: &Catalog,
     query: &Query,
     parts: QueryParts<'_>,
-    choices: &[Choice],
+    choices: List<Choice>,
 ) -> Result<Bound, Memory>
-    ensures { IfOk result (λ b. b ≡ bound_in catalog.now query.now parts.entry choices.now) }
+    ensures { IfOk result (λ b. b ≡ bound_in catalog.now query.now parts.entry choices) }
 {
-    let mut bound = without_lists(alloc, catalog, query, &parts, choices)?;
+    let mut bound = without_lists(alloc, catalog, query, &parts, choices.as_slice())?;
     let QueryParts {
         columns,
         conjuncts,

@@ -168,19 +168,20 @@ fn too_many_columns(columns: &[Column]) -> Result<(), BindRefusal>
     }
 }
 
-/// The alternatives of patterns, unless there are too many.
+/// The alternatives of a query's patterns, unless there are too many.
 #[tactic(auto, using(crate::proofs::RefusalLemmas::within, crate::proofs::RefusalLemmas::beyond))]
 pub fn few_alternatives(
     alloc: Global,
     catalog: &Catalog,
-    pattern: &Pattern<'_>,
+    parts: &QueryParts<'_>,
 ) -> Result<List<Choice>, BindRefusal>
     ensures few { Checks (over_limit max_alternatives
-        (length (pattern_alternatives catalog.now pattern.now)) refusal.TooManyAlternatives)
+        (length (pattern_alternatives catalog.now parts.now.pattern)) refusal.TooManyAlternatives)
         result }
-    ensures choices { IfOk result (λ cs. cs ≡ pattern_alternatives catalog.now pattern.now) }
+    ensures choices { IfOk result (λ cs.
+        cs ≡ pattern_alternatives catalog.now parts.now.pattern) }
 {
-    match choices_of(alloc, catalog, pattern, MAX_ALTERNATIVES)? {
+    match choices_of(alloc, catalog, &parts.pattern, MAX_ALTERNATIVES)? {
         Some(choices) => Ok(choices),
         None => Err(BindRefusal::TooManyAlternatives),
     }

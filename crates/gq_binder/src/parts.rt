@@ -4,7 +4,7 @@ ghost use Rattle.gq_binder.specs.Columns.{columns_in, conditions_from, entry_tes
 ghost use Rattle.gq_binder.specs.steps.Names.{no_names, with_expressions};
 ghost use Rattle.gq_binder.specs.steps.Parts.{known_conjuncts, parts_of};
 ghost use Rattle.gq_binder.specs.Refusals.{items_in, sorts_in};
-ghost use Rattle.gq_scopes.specs.Patterns.{no_pattern, pattern_of};
+ghost use Rattle.gq_scopes.specs.Patterns.{no_pattern, pattern_of, with_clauses};
 ghost use Rattle.gq_trees.specs.Resolving.{functions};
 ghost use Rattle.gq_scopes.specs.Scopes.{scope_of};
 ghost use Rattle.gq_syntax.specs.Spans.{IsWholeTree};
@@ -96,8 +96,7 @@ struct Conditions<'q> {
     conjuncts: List<NamedExpr>,
 }
 
-// Each condition sees the variables of its clause and of earlier ones.
-#[tactic(auto, using(crate::proofs::NameLemmas::with_expressions_append, crate::proofs::PartLemmas::known_conjuncts_append), unfolding(gq_scopes::specs::Patterns::pattern_of))]
+#[tactic(auto, unfolding(gq_scopes::specs::Patterns::pattern_of))]
 fn conditions_of<'q>(
     alloc: Global,
     text: &[u8],
@@ -113,24 +112,46 @@ fn conditions_of<'q>(
     let mut pattern = Pattern::new(alloc);
     let mut names = FirstNames::new();
     let mut conjuncts = List::new(alloc);
-    let mut number = 0;
-    for clause in clauses {
-        pattern.push_paths(alloc, number, clause.paths.as_slice())?;
-        read_condition(
-            alloc,
-            text,
-            &pattern,
-            &clause.filter,
-            &mut names,
-            &mut conjuncts,
-        )?;
-        number = next(number)?;
-    }
+    read_clauses(
+        alloc,
+        text,
+        clauses,
+        &mut pattern,
+        &mut names,
+        &mut conjuncts,
+    )?;
     Ok(Conditions {
         pattern,
         names,
         conjuncts,
     })
+}
+
+// Reads clauses behind those that were read. Each condition sees the variables of its clause and of
+// earlier ones.
+#[tactic(auto, using(crate::proofs::NameLemmas::with_expressions_append, crate::proofs::PartLemmas::known_conjuncts_append))]
+fn read_clauses<'q>(
+    alloc: Global,
+    text: &[u8],
+    clauses: &'q [Clause],
+    pattern: &mut Pattern<'q>,
+    names: &mut FirstNames<'q>,
+    conjuncts: &mut List<NamedExpr>,
+) -> Result<(), Memory>
+    requires { All (IsWholeClause text.now) clauses.now }
+    ensures pattern { OnOk result (pattern.new ≡ with_clauses 0 clauses.now pattern.old) }
+    ensures names { OnOk result (names.new
+        ≡ with_expressions names.old (conditions_from 0 pattern.old clauses.now)) }
+    ensures conjuncts { OnOk result (conjuncts.new ≡ conjuncts.old
+        ++ known_conjuncts text.now (conditions_from 0 pattern.old clauses.now)) }
+{
+    let mut number = 0;
+    for clause in clauses {
+        pattern.push_paths(alloc, number, clause.paths.as_slice())?;
+        read_condition(alloc, text, pattern, &clause.filter, names, conjuncts)?;
+        number = next(number)?;
+    }
+    Ok(())
 }
 
 // Reads the condition of a clause. One that stands for no expression has no conjuncts: a check

@@ -1,4 +1,3 @@
-use Rattle.std.proofs.Common.{◌∙◌}
 use Rattle.std.proofs.lemmas.Result.{err_from_is_err_and}
 use Rattle.gq_syntax.proofs.Whole.{spelled_stands}
 use Rattle.gq_binder.proofs.Checked.{refused_early, refused_last, accepted}
@@ -23,5 +22,5 @@ returns-in_err-choices c =
 pub returns : goal.returns
 returns c =
     rw c.in_ok-bound_of.ensures
-    (accepted c.args.query.now c.args.text.now c.args.catalog.now c.in_ok-parts.parts c.in_ok-parts.ensures c.in_ok-check.ensures c.as_slice.result.now
-    (spelled_stands c.args.text.now c.args.query.now c.requires) c.in_ok-choices.ensures.few (c.as_slice.ensures ∙ c.in_ok-choices.ensures.choices))
+    (accepted c.args.query.now c.args.text.now c.args.catalog.now c.in_ok-parts.parts c.in_ok-parts.ensures c.in_ok-check.ensures c.in_ok-choices.choices
+    (spelled_stands c.args.text.now c.args.query.now c.requires) c.in_ok-choices.ensures.few c.in_ok-choices.ensures.choices)

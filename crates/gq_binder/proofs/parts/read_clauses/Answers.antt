@@ -1,7 +1,7 @@
 use Rattle.std.proofs.Common.{◌∙◌, ap}
 use Rattle.gq_binder.proofs.PartLemmas.{next_pattern, next_names, next_conjuncts}
 use Rattle.gq_scopes.specs.Patterns.{with_paths}
-use Rattle.gq_binder.proofs.parts.conditions_of.Goals as goal
+use Rattle.gq_binder.proofs.parts.read_clauses.Goals as goal
 
 pub loop-clause-preserved : goal.loop-clause-preserved
 loop-clause-preserved c =
