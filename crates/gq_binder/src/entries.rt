@@ -1,11 +1,13 @@
 //! What the maps of patterns ask, as tests.
-ghost use Rattle.std.specs.Prelude.{◌≡◌, ◌++◌, codes, map, All, IfOk};
+ghost use Rattle.std.specs.Prelude.{◌≡◌, ◌++◌, ◌∷◌, [], codes, map, All, IfOk};
+ghost use Rattle.gq_base.specs.declared.operator.CompareOp.TheVariants as compare;
+ghost use Rattle.gq_expr.specs.declared.expr.Expr.TheVariants as variant;
 ghost use Rattle.gq_binder.specs.Columns as columns;
 ghost use Rattle.gq_lexer.specs.Sources as sources;
 ghost use Rattle.gq_syntax.specs.steps.Spans.{IsWholeEntry};
 
-use gq_base::{Boxed, CompareOp, List, Memory, Text};
-use gq_expr::{Expr, Operand};
+use gq_base::{Boxed, CompareOp, List, Literal, Memory, Text};
+use gq_expr::{CompareOperand, Expr, Operand};
 use gq_plan::NamedExpr;
 use gq_scopes::{MapEntry, Variable, copy_literal, copy_text};
 use gq_trees::source_text;
@@ -57,14 +59,22 @@ fn entry_name(alloc: Global, text: &[u8], entry: &MapEntry<'_>) -> Result<Text, 
 fn entry_expr(alloc: Global, entry: &MapEntry<'_>) -> Result<Expr, Memory>
     ensures { IfOk result (λ e. e ≡ columns.entry_expr entry.now) }
 {
+    let terms = equal_to(alloc, copy_literal(alloc, &entry.entry.value)?)?;
     let property = property_of(alloc, entry.variable, &entry.entry.key)?;
-    let value = Expr::Literal(copy_literal(alloc, &entry.entry.value)?);
+    Ok(Expr::Compare(Boxed::new(alloc, property)?, terms))
+}
+
+// What an operand has to equal.
+fn equal_to(alloc: Global, literal: Literal) -> Result<List<CompareOperand>, Memory>
+    ensures { IfOk result (λ terms.
+        terms ≡ record { op = compare.Equal; expr = variant.Literal literal } ∷ []) }
+{
     let mut terms = List::new(alloc);
     terms.push(Operand {
         op: CompareOp::Equal,
-        expr: value,
+        expr: Expr::Literal(literal),
     })?;
-    Ok(Expr::Compare(Boxed::new(alloc, property)?, terms))
+    Ok(terms)
 }
 
 fn property_of(alloc: Global, variable: Variable, key: &Text) -> Result<Expr, Memory>
