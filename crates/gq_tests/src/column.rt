@@ -39,6 +39,11 @@ fn a_column_without_nulls_is_copied(rt: HostRuntime) -> Result<(), Fail> {
     column.gather_span(0, 3, &mut out, &mut known);
     assert_eq!(rt; out, [1, 2, 3]);
     assert_eq!(rt; known.count(), 3);
+    Ok(())
+}
+
+#[test]
+fn a_column_may_be_empty(rt: HostRuntime) -> Result<(), Fail> {
     let empty = Column::build(rt.alloc(), &[])?;
     assert_eq!(rt; empty.len(), 0);
     Ok(())
