@@ -28,17 +28,62 @@ pub fn typed(
     ensures { IfOk result (λ y.
         y ≡ typed_of catalog.now pattern.now entries.now conjuncts.now choice.now) }
 {
-    let readings = choice.readings.as_slice();
-    let tables = choice.tables.as_slice();
-    let rels = typed_rels(alloc, pattern.rels(), readings)?;
-    let kinds = kinds_for(alloc, catalog, tables, rels.as_slice())?;
+    let rels = typed_rels(alloc, pattern.rels(), choice.readings.as_slice())?;
+    let kinds = kinds_for(alloc, catalog, choice.tables.as_slice(), rels.as_slice())?;
+    let conditions = conditions_of(alloc, &kinds, entries, conjuncts)?;
+    typed_with(alloc, pattern, choice, rels, conditions)
+}
+
+// The tests of an alternative, and the numbers of its late conjuncts.
+#[derive(Drop)]
+struct Conditions {
+    tests: List<NamedExpr>,
+    late: List<u32>,
+}
+
+fn conditions_of(
+    alloc: Global,
+    kinds: &Kinds,
+    entries: &[NamedExpr],
+    conjuncts: &[NamedExpr],
+) -> Result<Conditions, Memory>
+    ensures tests { IfOk result (λ c. c.tests
+        ≡ entries.now ++ filter (λ e. not (can_fault kinds.now e.expr)) conjuncts.now) }
+    ensures late { IfOk result (λ c. c.late ≡ late_from kinds.now 0 conjuncts.now) }
+{
+    let late = late_of(alloc, kinds, conjuncts)?;
+    let tests = tests_of(alloc, kinds, entries, conjuncts)?;
+    Ok(Conditions { tests, late })
+}
+
+fn typed_with(
+    alloc: Global,
+    pattern: &Pattern<'_>,
+    choice: &Choice,
+    rels: List<TypedRel>,
+    conditions: Conditions,
+) -> Result<Typed, Memory>
+    ensures { let readings = choice.now.readings in
+        IfOk result (λ y. y ≡ record {
+          nodes = choice.now.tables;
+          rels = rels;
+          paths = pattern.now.paths;
+          tests = conditions.tests;
+          late = conditions.late;
+          pairs = filter (alternatives.one_table readings) (pairs_from 0 pattern.now.rels);
+        }) }
+{
+    let nodes = copy_numbers(alloc, choice.tables.as_slice())?;
+    let paths = copy_paths(alloc, pattern.paths())?;
+    let pairs = pairs_of(alloc, pattern.rels(), choice.readings.as_slice())?;
+    let Conditions { tests, late } = conditions;
     Ok(Typed {
-        nodes: copy_numbers(alloc, tables)?,
+        nodes,
         rels,
-        paths: copy_paths(alloc, pattern.paths())?,
-        tests: tests_of(alloc, &kinds, entries, conjuncts)?,
-        late: late_of(alloc, &kinds, conjuncts)?,
-        pairs: pairs_of(alloc, pattern.rels(), readings)?,
+        paths,
+        tests,
+        late,
+        pairs,
     })
 }
 
