@@ -1,7 +1,10 @@
 //! The catalogue: which tables a graph has, and the fields of each.
 ghost use Rattle.std.specs.Prelude.{◌≡◌, ◌+◌, ◌^◌, ◌<◌, [], ◌∷◌, ◌++◌, length, slice_get, Some};
-ghost use Rattle.std.specs.Prelude.{None, OnOk, OnErr, IfSome};
-ghost use Rattle.gq_base.specs.Catalogs.{find_label, find_type, with_node_fields, with_rel_fields};
+ghost use Rattle.std.specs.Prelude.{None, OnOk, OnErr, IfSome, nat_eq};
+ghost use Rattle.std.specs.List.{list_any};
+ghost use Rattle.std.specs.Cmp.Lexicographic.{pointwise};
+ghost use Rattle.gq_base.specs.Catalogs.{find_field, find_rel, find_word, has_label, is_rel_of};
+ghost use Rattle.gq_base.specs.Catalogs.{with_node_fields, with_rel_fields};
 ghost use Rattle.gq_base.specs.Valid.{is_single};
 
 use crate::direction::Direction;
@@ -50,15 +53,18 @@ pub struct Field {
     pub kind: Kind,
 }
 
-/// A table of nodes that have one label. Its first field is the key.
+/// A table of nodes that have the same labels. Its word is the labels as the manifest spells them,
+/// joined by colons, and its first field is the key.
 #[derive(Debug, Drop)]
 pub struct NodeTable {
-    pub label: Text,
+    pub word: Text,
+    pub labels: List<Text>,
     pub file: Text,
     pub fields: List<Field>,
 }
 
-/// A table of relationships of one type, from nodes of one table to nodes of one table.
+/// A table of relationships of one type, from nodes of one table to nodes of one table. A type may
+/// have several tables, no two of which join the same two tables in the same direction.
 #[derive(Debug, Drop)]
 pub struct RelTable {
     pub name: Text,
@@ -129,10 +135,10 @@ impl Catalog {
         &self.rels[table as usize]
     }
 
-    /// Adds a node table, whose label is new. After `Memory` the catalogue is as before.
+    /// Adds a node table, whose word is new. After `Memory` the catalogue is as before.
     pub fn add_node(&mut self, table: NodeTable) -> Result<(), Memory>
         requires fits { length self.old.nodes + 1 < 2 ^ 32 }
-        requires fresh { find_label self.old.nodes table.label ≡ None }
+        requires fresh { find_word self.old.nodes table.word ≡ None }
         ensures added { OnOk result (self.new.nodes ≡ self.old.nodes ++ table ∷ []) }
         ensures kept { OnErr result (self.new ≡ self.old) }
         ensures rels { self.new.rels ≡ self.old.rels }
@@ -143,11 +149,11 @@ impl Catalog {
         }
     }
 
-    /// Adds a relationship table, whose type is new and whose ends are there. After `Memory` the
-    /// catalogue is as before.
+    /// Adds a relationship table, whose ends are there, and whose type is new between them. After
+    /// `Memory` the catalogue is as before.
     pub fn add_rel(&mut self, table: RelTable) -> Result<(), Memory>
         requires fits { length self.old.rels + 1 < 2 ^ 32 }
-        requires fresh { find_type self.old.rels table.name ≡ None }
+        requires fresh { find_rel self.old.rels table.name table.from table.to ≡ None }
         requires from { table.from < length self.old.nodes }
         requires to { table.to < length self.old.nodes }
         ensures added { OnOk result (self.new.rels ≡ self.old.rels ++ table ∷ []) }
@@ -178,37 +184,65 @@ impl Catalog {
         self.rels[table as usize].fields = fields;
     }
 
-    /// The number of the node table with this label.
-    pub fn find_label(&self, name: &str) -> Option<u32>
-        ensures { result ≡ find_label self.now.nodes name.now }
+    /// The number of the node table with this word.
+    pub fn find_word(&self, word: &str) -> Option<u32>
+        ensures { result ≡ find_word self.now.nodes word.now }
     {
-        match place_of_label(self.nodes.as_slice(), name) {
+        match place_of_word(self.nodes.as_slice(), word) {
             Some(at) => Some(at as u32),
             None => None,
         }
     }
 
-    /// The number of the relationship table with this type.
-    pub fn find_type(&self, name: &str) -> Option<u32>
-        ensures { result ≡ find_type self.now.rels name.now }
+    /// Whether the nodes of this table have a label.
+    pub fn has_label(&self, table: u32, label: &str) -> bool
+        requires { table < length self.now.nodes }
+        ensures { result ≡ has_label (slice_get self.now.nodes table) label.now }
     {
-        match place_of_type(self.rels.as_slice(), name) {
+        is_labelled(&self.nodes[table as usize], label)
+    }
+
+    /// The number of the relationship table of this type between the node tables of these numbers.
+    pub fn find_rel(&self, name: &str, from: u32, to: u32) -> Option<u32>
+        ensures { result ≡ find_rel self.now.rels name.now from to }
+    {
+        match place_of_rel(self.rels.as_slice(), name, from, to) {
             Some(at) => Some(at as u32),
             None => None,
         }
     }
 }
 
-fn place_of_label(tables: &[NodeTable], name: &str) -> Option<usize>
-    ensures value { result ≡ find_label tables.now name.now }
-    ensures within { IfSome result (λ at. at < length tables.now) }
+fn is_labelled(table: &NodeTable, label: &str) -> bool
+    ensures { result ≡ list_any (λ l. pointwise nat_eq l label.now) table.now.labels }
 {
-    tables.iter().position(|t| t.label.is(name))
+    table.labels.as_slice().iter().any(|l| l.is(label))
 }
 
-fn place_of_type(tables: &[RelTable], name: &str) -> Option<usize>
-    ensures value { result ≡ find_type tables.now name.now }
+fn place_of_word(tables: &[NodeTable], word: &str) -> Option<usize>
+    ensures value { result ≡ find_word tables.now word.now }
     ensures within { IfSome result (λ at. at < length tables.now) }
 {
-    tables.iter().position(|t| t.name.is(name))
+    tables.iter().position(|t| t.word.is(word))
+}
+
+fn is_rel_of(table: &RelTable, name: &str, from: u32, to: u32) -> bool
+    ensures { result ≡ is_rel_of name.now from to table.now }
+{
+    table.from == from && table.to == to && table.name.is(name)
+}
+
+fn place_of_rel(tables: &[RelTable], name: &str, from: u32, to: u32) -> Option<usize>
+    ensures value { result ≡ find_rel tables.now name.now from to }
+    ensures within { IfSome result (λ at. at < length tables.now) }
+{
+    tables.iter().position(|t| is_rel_of(t, name, from, to))
+}
+
+/// The place of the first field of a name.
+pub fn find_field(fields: &[Field], name: &Text) -> Option<usize>
+    ensures value { result ≡ find_field fields.now name.now }
+    ensures within { IfSome result (λ place. place < length fields.now) }
+{
+    fields.iter().position(|field| field.name == *name)
 }

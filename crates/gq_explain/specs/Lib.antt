@@ -1,4 +1,3 @@
-pub mod Columns
 pub mod Pieces
 pub mod Plans
 pub mod Schema

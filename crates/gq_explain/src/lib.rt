@@ -2,13 +2,11 @@
 //! plans of `gq_plan`, the graph of `gq_store` and the writers of `gq_render`.
 #![tactic(auto)]
 
-mod filling;
 mod naming;
 mod pieces;
 mod plans;
 mod schema;
 mod steps;
 
-pub use filling::columns;
 pub use plans::write_plan;
 pub use schema::write_schema;

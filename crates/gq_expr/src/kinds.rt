@@ -1,17 +1,16 @@
 //! Which expressions may fault, as far as the kinds of the properties tell.
-ghost use Rattle.std.specs.Prelude.{◌≡◌, ◌<◌, ◌||◌, not, length, map, slice_get, false, IfSome};
+ghost use Rattle.std.specs.Prelude.{◌≡◌, ◌<◌, ◌||◌, not, length, map, slice_get, false, true, IfSome};
 ghost use Rattle.std.specs.List.{list_any};
-ghost use Rattle.gq_base.specs.Catalogs.{find_field};
 ghost use Rattle.gq_expr.specs.Kinds as rule;
 ghost use Rattle.gq_expr.specs.Kinds.{may, field_kind, kinds_at, literal_kinds};
 ghost use Rattle.gq_expr.specs.steps.Kinds.{summary_of, both};
 ghost use Rattle.gq_expr.specs.Kinds.{safe, all_of, truth, misfits, test_may, term_faults};
 ghost use Rattle.gq_expr.specs.Kinds.{tester_faults};
 ghost use Rattle.gq_expr.specs.steps.Parts.{operand_with, tester_with};
-ghost use Rattle.gq_expr.specs.Safety.{KindsPromise};
+ghost use Rattle.gq_expr.specs.Safety.{FaultsPromise, HasValue, KindsPromise};
 
 use crate::expr::{CompareOperand, Expr, ExprTester, Tester};
-use gq_base::{Field, Kind, List, Literal, Text};
+use gq_base::{Field, Kind, List, Literal, Text, find_field};
 
 /// The fields of a table.
 pub type FieldList = List<Field>;
@@ -43,6 +42,33 @@ pub fn can_fault(expr: &Expr, kinds: &Kinds) -> bool
 {
     misfits(summarize(expr, kinds))
 }
+
+/// Whether an expression may fault, as far as the kinds tell, whatever its value's kind is.
+pub fn may_fault(expr: &Expr, kinds: &Kinds) -> bool
+    ensures { result ≡ rule.may_fault (may kinds.now expr.now) }
+{
+    summarize(expr, kinds).faults
+}
+
+/// Whether an expression is a literal, a variable or a property. These have a value in every graph,
+/// under each assignment.
+#[tactic(auto, using(crate::proofs::Equations::equations))]
+pub fn is_sure(expr: &Expr) -> bool
+    ensures { result ≡ true → HasValue expr.now }
+{
+    match expr {
+        Expr::Literal(_) | Expr::Node(_) | Expr::Rel(_) => true,
+        Expr::NodeProperty(_, _) | Expr::RelProperty(_, _) => true,
+        _ => false,
+    }
+}
+
+/// A law for the crates above: an expression that may not fault has a value in every graph, under
+/// each assignment that fits the kinds. It does nothing.
+#[tactic(auto, using(crate::proofs::Promise::faults_promise))]
+pub fn kinds_keep_faults_out()
+    ensures { FaultsPromise }
+{}
 
 /// A law for the crates above: a condition that cannot fault is true, false or null in every graph,
 /// under each assignment that fits the kinds. It does nothing.
@@ -242,15 +268,8 @@ fn field_kind(tables: &[FieldList], variable: u32, name: &Text) -> Option<Kind>
 fn kind_in(fields: &[Field], name: &Text) -> Option<Kind>
     ensures { result ≡ rule.kind_in fields.now name.now }
 {
-    match place_of_field(fields, name) {
+    match find_field(fields, name) {
         None => None,
         Some(place) => Some(fields[place].kind),
     }
-}
-
-fn place_of_field(fields: &[Field], name: &Text) -> Option<usize>
-    ensures value { result ≡ find_field fields.now name.now }
-    ensures within { IfSome result (λ at. at < length fields.now) }
-{
-    fields.iter().position(|field| field.name == *name)
 }

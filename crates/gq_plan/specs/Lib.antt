@@ -1,5 +1,6 @@
 pub mod Allowed
 pub mod Assignments
+pub mod Columns
 pub mod Conditions
 pub mod Covers
 pub mod Flat
@@ -11,5 +12,6 @@ pub mod Parts
 pub mod Plans
 pub mod Reads
 pub mod Rows
+pub mod Shapes
 pub mod Soundness
 pub mod steps

@@ -1,11 +1,10 @@
 //! The properties of nodes and relationships of a plain graph.
 ghost use Rattle.std.specs.Prelude.{◌≡◌};
-ghost use Rattle.gq_base.specs.Catalogs.{find_field};
 ghost use Rattle.gq_base.specs.Plain.{cell_val, property_of};
 ghost use Rattle.gq_base.specs.Values.{val};
 ghost use Rattle.gq_expr.specs.Reading as reading;
 
-use gq_base::{Cell, Field, NodeId, RelId, Text, Value, cell_value};
+use gq_base::{Cell, Field, NodeId, RelId, Text, Value, cell_value, find_field};
 use gq_plain::PlainGraph;
 
 /// A property of a node, null where it is missing.
@@ -51,10 +50,4 @@ fn property_of<'g>(fields: &[Field], name: &Text, row: &'g [Option<Cell>]) -> Va
         None => Value::Null,
         Some(cell) => cell_value(cell),
     }
-}
-
-fn find_field(fields: &[Field], name: &Text) -> Option<usize>
-    ensures { result ≡ find_field fields.now name.now }
-{
-    fields.iter().position(|field| field.name == *name)
 }

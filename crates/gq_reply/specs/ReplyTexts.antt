@@ -5,7 +5,7 @@ use Rattle.gq_base.specs.Values.{Val}
 use Rattle.gq_execute.specs.Replies.{Reply, Rows, Faulted, TooManyRows}
 use Rattle.gq_execute.specs.Planned.{plans_in}
 use Rattle.gq_execute.specs.declared.settings.Order.{Order}
-use Rattle.gq_explain.specs.Columns.{columns_of}
+use Rattle.gq_plan.specs.Columns.{columns_of}
 use Rattle.gq_explain.specs.Plans.{plan_text}
 use Rattle.gq_expr.specs.declared.Fault.{Fault}
 use Rattle.gq_expr.specs.declared.Fault.TheVariants as fault

@@ -1,7 +1,7 @@
 //! The reply to a statement that asks for the plans of a query.
 
 ghost use Rattle.std.specs.Prelude.{◌≡◌, ◌<◌, All, IfOk, length};
-ghost use Rattle.gq_explain.specs.Columns.{columns_of};
+ghost use Rattle.gq_plan.specs.Columns.{columns_of};
 ghost use Rattle.gq_plan.specs.Soundness.{IsSound};
 ghost use Rattle.gq_plan.specs.Plans.{plan_of};
 ghost use Rattle.gq_reply.specs.Replies.{context_of};
@@ -13,9 +13,9 @@ use crate::replier::Replier;
 use crate::tone::toned;
 use gq_base::{List, Memory};
 use gq_execute::plans;
-use gq_explain::{columns, write_plan};
+use gq_explain::write_plan;
 use gq_io::{Failed, Sink, write_all};
-use gq_plan::{Bound, Plan, Typed};
+use gq_plan::{Bound, Plan, Typed, columns};
 use gq_session::Tone;
 use std::alloc::Global;
 

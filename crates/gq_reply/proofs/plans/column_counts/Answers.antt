@@ -1,7 +1,7 @@
 use Rattle.std.proofs.Common.{◌≡◌, ℕ, ◌+◌, ◌++◌, List, [], ◌∷◌, length, drop, min, refl, sym, ap, ◌∙◌, arith, append-nil, append_assoc, length-append, length-drop, get_or, ◌<◌}
 use Rattle.std.proofs.lemmas.Slice.Zip.{zip_end, zip_turn}
 use Rattle.std.proofs.lemmas.List.{drop_more}
-use Rattle.gq_explain.specs.Columns.{columns_of}
+use Rattle.gq_plan.specs.Columns.{columns_of}
 use Rattle.gq_plan.specs.Plans.{plan_of}
 use Rattle.gq_plan.specs.declared.Plan as code_plan
 use Rattle.gq_plan.specs.declared.typed.Typed.{Typed}
