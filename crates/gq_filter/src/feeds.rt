@@ -5,7 +5,7 @@ ghost use Rattle.gq_store.specs.Cells.{node_fields, rel_fields};
 ghost use Rattle.gq_filter.specs.Feeds.{IsNodeFeed, IsRelFeed, NodeLanesHold, RelLanesHold};
 
 use crate::source::{ColumnId, LaneSource};
-use gq_base::{Field, Text};
+use gq_base::{Text, find_field};
 use gq_column::Column;
 use gq_plan::Variable;
 use gq_store::Graph;
