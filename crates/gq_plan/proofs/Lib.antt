@@ -1,9 +1,12 @@
 pub mod Bags
 pub mod Binding
 pub mod BoundReads
+pub mod ColumnBounds
 pub mod Counts
 pub mod Demands
+pub mod DifferentReads
 pub mod Each
+pub mod FewLemmas
 pub mod FirstSteps
 pub mod Flats
 pub mod NameLemmas

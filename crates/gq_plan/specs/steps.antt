@@ -1,3 +1,4 @@
+pub mod FewReads
 pub mod Known
 pub mod Reads
 pub mod Rows

@@ -1,13 +1,14 @@
 //! Bound queries: what a query asks once its names are resolved, the typed alternatives that answer
 //! it, and the plans that find the assignments of an alternative. It says what these mean, and
 //! tells whether a plan fits an alternative and covers it. The crate stands on the expressions of
-//! `gq_expr`.
+//! `gq_expr`, and on the vectors of `arrayvec`.
 #![tactic(auto)]
 
 mod assignment;
 mod bound;
 mod covering;
 mod demand;
+mod few_reads;
 mod filling;
 mod fitting;
 mod joins;
