@@ -53,7 +53,7 @@ def _columns(leading: list[str], wide: list[Field], notes: list[str]) -> list[Fi
         taken.add(name.lower())
         columns.append(Field(name, field.kind))
         if name != field.name:
-            notes.append(f"the property {field.name} is the column {name}, since GraphFrames have a {field.name} of their own")
+            notes.append(f"the property {field.name} is the column {name}")
     return columns
 
 
