@@ -72,7 +72,7 @@ def _find_ends(wanted: list[Relationship], graph: Graph, captions: dict[str, str
         one = by_number.get(number)
         if one is not None:
             ends = Node(source.word, _key(row[0], source)), Node(target.word, _key(row[1], target))
-            drawn.edges[one] = *ends, f"{table.type} {row[shown]}".rstrip() if shown else table.type
+            drawn.edges[one] = *ends, table.type if shown is None else row[shown]
             for end in ends:
                 drawn.nodes.setdefault(end, "")
 
@@ -99,7 +99,7 @@ def draw_rows(drawn: Picture, graph: Graph) -> str:
         "digraph rows {",
         '  graph [fontname="sans-serif", overlap=false, splines=true];',
         '  node [fontname="sans-serif", fontsize=11, style=filled, shape=box, margin="0.08,0.04"];',
-        '  edge [fontname="sans-serif", fontsize=9, color="#666666"];',
+        '  edge [fontname="sans-serif", fontsize=9, color="#666666", len=1.4];',
     ]
     for node, caption in drawn.nodes.items():
         colour = colours.get(node.word, "#eeeeee")
