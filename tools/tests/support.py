@@ -2,15 +2,20 @@
 
 from __future__ import annotations
 
+import contextlib
+import importlib
 import importlib.util
+import io
 import os
 import shutil
 import subprocess
 import tempfile
 import unittest
 from pathlib import Path
+from unittest import mock
 
 from graphq_tools.manifest import read_manifest
+from graphq_tools.outcome import run
 
 TOP = Path(__file__).resolve().parent.parent.parent
 TOOLS = TOP / "tools"
@@ -47,12 +52,8 @@ def knows_several_labels() -> bool:
 
 def listing(manifest: str | Path, cwd: Path = TOP) -> str:
     """Every row of every table of a graph, as the program tells them."""
-    here = os.getcwd()
-    os.chdir(cwd)
-    try:
+    with contextlib.chdir(cwd):
         graph = read_manifest(str(manifest))
-    finally:
-        os.chdir(here)
     statements = []
     for node in sorted(graph.nodes, key=lambda table: table.word):
         columns = ", ".join(f"n.{field.name}" for field in node.fields)
@@ -87,18 +88,30 @@ class ToolTest(unittest.TestCase):
         return path
 
     def tool(self, name: str, *words: str | Path, text: str = "", cwd: Path | None = None) -> tuple[int, str, str]:
-        """The status of a tool, its output and what it says on standard error, which never is a traceback."""
+        """The status of a tool, its output and what it says on standard error. It runs in this process, which is soon."""
+        main = importlib.import_module(f"graphq_tools.{name.removeprefix('graphq-')}_main").main
+        streams = [io.TextIOWrapper(io.BytesIO(), encoding="utf-8", write_through=True) for _ in range(2)]
+        with (
+            contextlib.chdir(cwd or self.folder),
+            contextlib.redirect_stdout(streams[0]),
+            contextlib.redirect_stderr(streams[1]),
+            mock.patch("sys.argv", [name, *map(str, words)]),
+            mock.patch("sys.stdin", io.StringIO(text)),
+        ):
+            try:
+                status = run(name, main)
+            except SystemExit as end:
+                # So argparse ends.
+                status = int(end.code or 0)
+        output, errors = (stream.buffer.getvalue().decode() for stream in streams)  # type: ignore[attr-defined]
+        return status, output, errors
+
+    def call(self, name: str, *words: str | Path, text: str = "") -> tuple[int, str, str]:
+        """The same by the executable, as a user calls it."""
         done = subprocess.run(
-            [TOOLS / name, *map(str, words)],
-            input=text.encode(),
-            capture_output=True,
-            cwd=cwd or self.folder,
-            env={**os.environ, "GRAPHQ": PROGRAM},
-            check=False,
+            [TOOLS / name, *map(str, words)], input=text.encode(), capture_output=True, cwd=self.folder, check=False
         )
-        errors = done.stderr.decode()
-        self.assertNotIn("Traceback", errors)
-        return done.returncode, done.stdout.decode(), errors
+        return done.returncode, done.stdout.decode(), done.stderr.decode()
 
     def done(self, name: str, *words: str | Path, text: str = "", cwd: Path | None = None) -> str:
         """The output of a tool that ends with 0."""
