@@ -1,10 +1,10 @@
 """graphq: each measure is a whole run, a new process in the graph's folder, and a query's time is what it adds to a load."""
 import os
 import re
+import resource
 import signal
 import statistics
 import subprocess
-import threading
 
 MOST_COPIES = 1000  # of a statement in one run
 ROWS = "16777216"   # the greatest number of rows that graphq keeps
@@ -21,16 +21,14 @@ def run_here(limit, entry, out, command, folder):
     """A run without the small program `once`: the peak is at least that of this process."""
     with open(entry, "rb") as source, open(out, "wb") as sink:
         child = subprocess.Popen(command, cwd=folder, stdin=source, stdout=sink, stderr=subprocess.DEVNULL)
-        alarm = threading.Timer(limit, child.kill)
-        alarm.start()
+        resource.prlimit(child.pid, resource.RLIMIT_CPU, (limit, limit + 1))
         _, status, use = os.wait4(child.pid, 0)
-        late = not alarm.is_alive()
-        alarm.cancel()
-        child.returncode = os.waitstatus_to_exitcode(status)
+    child.returncode = os.waitstatus_to_exitcode(status)
+    seconds = use.ru_utime + use.ru_stime
     end = f"status {child.returncode}" if child.returncode >= 0 else f"signal {-child.returncode}"
-    if late and child.returncode == -signal.SIGKILL:
+    if -child.returncode in (signal.SIGXCPU, signal.SIGKILL) and seconds >= limit:
         end = "timeout"
-    return Run(use.ru_utime + use.ru_stime, use.ru_maxrss / 1024, end)
+    return Run(seconds, use.ru_maxrss / 1024, end)
 
 
 class Graphq:
@@ -49,7 +47,7 @@ class Graphq:
         with open(entry, "w", encoding="utf8") as file:
             file.write(text)
         if not self.once:
-            return run_here(self.limit + 1, entry, out, self.command, self.folder)
+            return run_here(int(self.limit) + 1, entry, out, self.command, self.folder)
         told = subprocess.run([self.once, str(int(self.limit) + 1), entry, out, *self.command], cwd=self.folder,
                               stdout=subprocess.PIPE, text=True, check=True).stdout
         seconds, peak, end = told.rstrip("\n").split(" ", 2)
@@ -76,9 +74,14 @@ class Graphq:
         return statistics.median(self.empty)
 
     def copies(self, text):
-        """How many copies of a statement let a run stand out from the load."""
+        """How many copies of a statement let a run stand out from the load, as far as they end in time."""
         count, base = 1, self.load()
-        while count < MOST_COPIES and self.run(text * count).seconds - base < max(0.2, 0.5 * base):
+        while count < MOST_COPIES:
+            run = self.run(text * count)
+            if run.end != "status 0":
+                return max(1, count // 4)
+            if run.seconds - base >= max(0.2, 0.5 * base):
+                return count
             count = min(MOST_COPIES, 4 * count)
         return count
 

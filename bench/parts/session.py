@@ -7,7 +7,8 @@ import time
 
 from .schemas import SCHEMAS
 
-LOADING = 3000  # seconds that a load may take
+LOADING = 3000  # processor seconds that a load may take
+WAITING = 30    # how many times as long an answer may take on a busy machine
 
 
 class Stopped(Exception):
@@ -22,19 +23,20 @@ class Session:
         self.child = subprocess.Popen(command, stdin=subprocess.PIPE, stdout=subprocess.PIPE, stderr=subprocess.STDOUT)
 
     def ask(self, text, last, limit=None):
-        """Sends `text`, reads up to the line `last`, and gives the lines before it."""
+        """Sends `text`, reads up to the line `last`, and gives the lines before it. `limit` is in processor seconds."""
         self.child.stdin.write(text.encode())
         self.child.stdin.flush()
-        end, lines = time.monotonic() + (limit or self.limit), []
+        limit = limit or self.limit
+        begun, end, lines = self.seconds(), time.monotonic() + WAITING * limit, []
         while True:
             while b"\n" in self.rest:
                 line, self.rest = self.rest.split(b"\n", 1)
                 if line.decode(errors="replace") == last:
                     return lines
                 lines.append(line.decode(errors="replace"))
-            left = end - time.monotonic()
-            if left <= 0 or not select.select([self.child.stdout], [], [], left)[0]:
-                raise Stopped("timeout")
+            while not select.select([self.child.stdout], [], [], 1)[0]:
+                if self.seconds() - begun > limit or time.monotonic() > end:
+                    raise Stopped("timeout")
             more = os.read(self.child.stdout.fileno(), 65536)
             if not more:
                 raise Stopped(" / ".join(lines[-3:]) or "it ended")
