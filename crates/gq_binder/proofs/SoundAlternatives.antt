@@ -79,11 +79,11 @@ accepted_small query text catalog accepted =
     let p : Pattern = pattern_of query.clauses in
     let checks = each_none (checks_of query text ++ too_many_alternatives query catalog ∷ []) accepted in
     let patterns =
-    each_none (over_limit max_variables (length p.nodes) refusal.TooManyPatterns ∷ over_limit max_variables (length p.rels) refusal.TooManyPatterns ∷ []) checks.1.1.1.1.1.1.1.1.1.0 in
+    each_none (over_limit max_variables (length p.nodes) refusal.TooManyPatterns ∷ over_limit max_variables (length p.rels) refusal.TooManyPatterns ∷ []) checks.1.1.1.1.1.1.1.1.1.1.0 in
     record {
       nodes = within_limit max_variables (length p.nodes) refusal.TooManyPatterns patterns.0;
       rels = within_limit max_variables (length p.rels) refusal.TooManyPatterns patterns.1.0;
-      reads = within_limit max_reads (length (distinct (all_reads query))) refusal.TooManyReads checks.1.1.1.1.1.1.1.1.1.1.0;
+      reads = within_limit max_reads (length (distinct (all_reads query))) refusal.TooManyReads checks.1.1.1.1.1.1.1.1.1.1.1.0;
     }
 
 -- ---- conditions stand in scopes of patterns so far
