@@ -8,6 +8,7 @@ import gzip
 import io
 import os
 import sys
+import zlib
 from collections.abc import Iterator
 from pathlib import Path
 from typing import IO, Any
@@ -48,11 +49,21 @@ def _bar(path: Path, size: int) -> Any | None:
 
 
 @contextlib.contextmanager
+def _decompressing(path: Path) -> Iterator[None]:
+    """What goes wrong inside with gzip is the file's fault, and not the system's."""
+    try:
+        yield
+    except (gzip.BadGzipFile, EOFError, zlib.error) as error:
+        raise BadRow(path, 1, f"it is not what gzip writes: {error}") from error
+
+
+@contextlib.contextmanager
 def open_bytes(path: str | os.PathLike[str]) -> Iterator[IO[bytes]]:
     """Opens a file for reading, through gzip where its name ends with `.gz`."""
     place = Path(path)
     with contextlib.ExitStack() as stack:
         stack.enter_context(reading(place))
+        stack.enter_context(_decompressing(place))
         raw: Any = stack.enter_context(open(place, "rb", buffering=0))
         bar = _bar(place, os.fstat(raw.fileno()).st_size)
         if bar is not None:
@@ -82,8 +93,6 @@ def open_text(path: str | os.PathLike[str]) -> Iterator[IO[str]]:
             yield io.TextIOWrapper(stream, encoding="utf-8-sig", newline="")
     except UnicodeDecodeError as error:
         raise BadRow(path, _bad_line(path), "it is not UTF-8") from error
-    except (gzip.BadGzipFile, EOFError) as error:
-        raise BadRow(path, 1, f"it is not what gzip writes: {error}") from error
 
 
 def records(

@@ -12,7 +12,7 @@ from .csvfile import records
 from .intake import Intake
 from .kinds import as_integer
 from .kuzu_script import Copy, NodeTable, RelTable, read_script
-from .outcome import BadRow, Refusal
+from .outcome import BadRow, Refusal, at_line
 from .spool import Property
 
 _FAMILIES = {
@@ -171,7 +171,7 @@ def _fill_nodes(script: _Script, known: _Known, copy: Copy) -> None:
             builder.add_node(known.table, known.declared.name, text, places, _cells(taken, record))
             known.rows += 1
         except (ValueError, Refusal) as error:
-            raise BadRow(path, line, str(error)) from error
+            raise at_line(path, line, error) from error
 
 
 def _fill_rels(script: _Script, known: _KnownRels, copy: Copy) -> None:
@@ -192,7 +192,7 @@ def _fill_rels(script: _Script, known: _KnownRels, copy: Copy) -> None:
                 ends.append(key)
             table.add(ends[0], ends[1], places, _cells(taken, record[2:]))
         except (ValueError, Refusal) as error:
-            raise BadRow(path, line, str(error)) from error
+            raise at_line(path, line, error) from error
 
 
 def _places(
@@ -220,7 +220,5 @@ def read_kuzu(file: str, intake: Intake) -> None:
                     script.declare_rels(statement)
                 case Copy():
                     script.copy(statement)
-        except BadRow:
-            raise
         except (ValueError, Refusal) as error:
-            raise BadRow(path, statement.line, str(error)) from error
+            raise at_line(path, statement.line, error) from error

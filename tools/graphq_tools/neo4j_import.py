@@ -10,7 +10,7 @@ from .builder import Nodes, Rels
 from .csvfile import records
 from .intake import Intake
 from .kinds import as_integer
-from .outcome import BadRow, Refusal
+from .outcome import BadRow, Refusal, at_line
 from .spool import Property
 
 _FIELD = re.compile(r"(?P<name>[^:]*)(?::(?P<kind>[A-Za-z_]+(?:\[\])?)(?:\((?P<space>[^)]*)\))?(?:\{(?P<more>.*)\})?)?\Z")
@@ -116,7 +116,7 @@ def _rows(source: Source, form: Form, intake: Intake) -> Iterator[tuple[str, int
                 try:
                     header = read_header(record, intake)
                 except (ValueError, Refusal) as error:
-                    raise BadRow(file, line, str(error)) from error
+                    raise at_line(file, line, error) from error
             elif len(record) != header.width:
                 raise BadRow(file, line, f"it has {len(record)} fields, and the header has {header.width}")
             else:
@@ -158,7 +158,7 @@ def read_nodes(source: Source, form: Form, intake: Intake) -> None:
             key = as_integer(record[place]) if table.key_kind == "int" and record[place] else record[place]
             intake.builder.add_node(table, space, key, places, cells(header, record))
         except (ValueError, Refusal) as error:
-            raise BadRow(file, line, str(error)) from error
+            raise at_line(file, line, error) from error
 
 
 def _key_kind(form: Form) -> str | None:
@@ -186,7 +186,7 @@ def read_relationships(source: Source, form: Form, intake: Intake) -> None:
             table, places = tables[at]
             table.add(from_key, to_key, places, cells(header, record))
         except (ValueError, Refusal) as error:
-            raise BadRow(file, line, str(error)) from error
+            raise at_line(file, line, error) from error
 
 
 def _key(text: str, form: Form) -> str:

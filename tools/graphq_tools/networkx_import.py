@@ -18,7 +18,7 @@ from .outcome import BadRow, Refusal, package
 from .spool import Property
 
 FORMS = (".graphml", ".gexf", ".gml", ".json")
-_LINE = re.compile(r"line (\d+)")
+_LINE = re.compile(r"(?:line |\()(\d+)")
 
 
 def _form(path: Path) -> str:

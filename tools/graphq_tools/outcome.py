@@ -38,6 +38,13 @@ class BadRow(Refusal):
         super().__init__(f"{os.fspath(file)} line {line}: {why}")
 
 
+def at_line(file: str | os.PathLike[str], line: int, error: ValueError | Refusal) -> Refusal:
+    """The refusal of a line for what is wrong with it; what has a place or another status already stays as it is."""
+    if isinstance(error, Refusal) and (isinstance(error, BadRow) or error.status != Status.BAD_GRAPH):
+        return error
+    return BadRow(file, line, str(error))
+
+
 @contextlib.contextmanager
 def writing(path: str | os.PathLike[str]) -> Iterator[None]:
     """What goes wrong inside with the system is a failure to write `path`."""

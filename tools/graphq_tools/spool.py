@@ -10,7 +10,7 @@ from pathlib import Path
 
 from .kinds import Treatment
 from .model import MOST_FIELDS, MOST_FILE_BYTES, Field
-from .outcome import Refusal, writing
+from .outcome import Refusal, Status, writing
 
 
 @dataclass(frozen=True)
@@ -88,7 +88,10 @@ class Spool:
             ordered[place] = cell
         if self._unfilled:
             self._unfilled = {place for place in self._unfilled if not ordered[place]}
-        self._write([*leading, *ordered])
+        try:
+            self._write([*leading, *ordered])
+        except OSError as error:
+            raise Refusal(f"{self._path}: {error.strerror}", Status.CANNOT_WRITE) from error
         self.rows += 1
         return ordered
 

@@ -33,8 +33,8 @@ module _ (graph : Graph) (here there : Settings) (one other : Form) where
 
   module _ (statement : List ℕ) where
     -- two trees that one statement spells are one
-    same_tree : (s s' : Statement) → SpelledText statement s → SpelledText statement s' → s ≡ s'
-    same_tree s s' spelled spelled' = elim ((comes_statement statement (Ok s) spelled s').1 spelled') [
+    same_tree : (s s' : Statement) → SpelledText statement [] s → SpelledText statement [] s' → s ≡ s'
+    same_tree s s' spelled spelled' = elim ((comes_statement statement [] (Ok s) spelled s').1 spelled') [
       | inl e ↦ cc e
       | inr e ↦ cc e
     ]
@@ -43,13 +43,13 @@ module _ (graph : Graph) (here there : Settings) (one other : Form) where
     Refused text = IsWrong statement text ⊎ IsUnbound graph statement text ⊎ IsNotBuilt graph statement text ⊎ IsStopped second statement text
 
     -- a statement that is bound, is built and asks no query is not refused
-    module _ (form : Statement) (spelled : SpelledText statement form) (bound : bind_refusal form statement graph.catalog ≡ None)
+    module _ (form : Statement) (spelled : SpelledText statement [] form) (bound : bind_refusal form statement graph.catalog ≡ None)
         (built : ¬ (IsUnbuilt graph statement form)) (no : (query : Query) → ¬ (tree.Query query ≡ form)) where
-      no_query : (query : Query) → SpelledText statement (tree.Query query) → ⊥
+      no_query : (query : Query) → SpelledText statement [] (tree.Query query) → ⊥
       no_query query asked = no query (same_tree (tree.Query query) form asked spelled)
 
       no_refusal : (text : List ℕ) → Refused text → ⊥
-      no_refusal text (inl wrong) = elim ((comes_statement statement (Err wrong.why) wrong.cause form).1 spelled) [
+      no_refusal text (inl wrong) = elim ((comes_statement statement [] (Err wrong.why) wrong.cause form).1 spelled) [
         | inl e ↦ cc e
         | inr e ↦ (let memory : wrong.why ≡ refusal.Memory = cc e in let none : None ≡ Some text = ap refusal_text (sym memory) ∙ wrong.is in cc none)
       ]
