@@ -20,7 +20,9 @@ class RoundTrip(ToolTest):
         self.done("graphq-export", form, "--manifest", manifest, "--out", self.folder / "there", "--quiet", cwd=cwd)
         words = FORMS[form]
         if form == "neo4j":
-            words = [*words, *sorted(f"there/{path.name}" for path in (self.folder / "there").glob("*.csv"))]
+            # By their stems, so that the second table of a type stands behind its first: near.csv, near-2.csv.
+            files = sorted((self.folder / "there").glob("*.csv"), key=lambda path: path.stem)
+            words = [*words, *(f"there/{path.name}" for path in files)]
         self.done("graphq-import", *words, "--out", "back", "--quiet")
 
 
