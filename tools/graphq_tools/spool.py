@@ -87,7 +87,7 @@ class Spool:
         for place, cell in zip(places, cells, strict=True):
             ordered[place] = cell
         if self._unfilled:
-            self._unfilled = {place for place in self._unfilled if not ordered[place]}
+            self._unfilled -= {place for place in self._unfilled if ordered[place]}
         try:
             self._write([*leading, *ordered])
         except OSError as error:
