@@ -9,7 +9,10 @@ from pathlib import Path
 if __package__ in (None, ""):
     sys.path[0] = str(Path(__file__).resolve().parent.parent)
 
-from graphq_tools.outcome import run
+if sys.version_info < (3, 11):
+    sys.exit(f"graphq-{sys.argv[1]}: Python 3.11 or later is wanted, and this is {sys.version.split()[0]}")
+
+from graphq_tools.outcome import run  # noqa: E402
 
 if __name__ == "__main__":
     tool = sys.argv.pop(1)

@@ -5,7 +5,7 @@ Memory grows with the number of keys: rows go to files as they come.
 
 from __future__ import annotations
 
-from collections.abc import Sequence
+from collections.abc import Mapping, Sequence
 from pathlib import Path
 
 from .kinds import is_canonical
@@ -78,21 +78,29 @@ class Rels:
         self.source = source
         self.target = target
         self.spool = spool
-        self.declared = "many_many"
+        self._declared = "many_many"
+        self._one_source = False
+        self._one_target = False
         # The ends seen so far, and None from the first that comes again.
         self._sources: set[str] | None = set()
         self._targets: set[str] | None = set()
+
+    def declare(self, word: str) -> None:
+        """Sets the multiplicity that the rows have to keep."""
+        self._declared, self._one_source, self._one_target = word, single_source(word), single_target(word)
 
     def add(self, source: str, target: str, places: Sequence[int], cells: Sequence[str]) -> None:
         """Adds a relationship between two keys."""
         if self.spool.rows == MOST_RELATIONSHIPS:
             raise ValueError(f"{self.type} has more than the {MOST_RELATIONSHIPS:,} rows that a table has at most")
-        self._sources = _still_single(self._sources, source)
-        if self._sources is None and single_source(self.declared):
-            raise ValueError(f"{self.type} is {self.declared}, and there is a relationship from {source} already")
-        self._targets = _still_single(self._targets, target)
-        if self._targets is None and single_target(self.declared):
-            raise ValueError(f"{self.type} is {self.declared}, and there is a relationship to {target} already")
+        if self._sources is not None:
+            self._sources = _still_single(self._sources, source)
+        if self._one_source and self._sources is None:
+            raise ValueError(f"{self.type} is {self._declared}, and there is a relationship from {source} already")
+        if self._targets is not None:
+            self._targets = _still_single(self._targets, target)
+        if self._one_target and self._targets is None:
+            raise ValueError(f"{self.type} is {self._declared}, and there is a relationship to {target} already")
         self.spool.add((source, target), places, cells)
 
     def finish(self, folder: Path, name: str, shared: set[int], notes: list[str]) -> RelTable:
@@ -104,9 +112,9 @@ class Rels:
         return RelTable(self.type, self.source.word, self.target.word, many, name, fields)
 
 
-def _still_single(seen: set[str] | None, key: str) -> set[str] | None:
+def _still_single(seen: set[str], key: str) -> set[str] | None:
     """The keys seen with one more, or None where one came twice."""
-    if seen is None or key in seen:
+    if key in seen:
         return None
     seen.add(key)
     return seen
@@ -167,6 +175,10 @@ class Builder:
         """Where the values of a part of the input, a file or a declared table, stand in the rows of a table."""
         self._tables_of_part.setdefault(part, set()).add(id(table))
         return table.spool.place(properties, part)
+
+    def keys(self, space: str) -> Mapping[str, Nodes]:
+        """The keys of an id space, as they come to be known, with their tables."""
+        return self._spaces.setdefault(space, {})
 
     def add_node(self, table: Nodes, space: str, key: str, places: Sequence[int], cells: Sequence[str]) -> None:
         """Adds a node, whose key is the only one of its text in its space and in its table."""

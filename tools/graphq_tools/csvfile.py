@@ -9,7 +9,7 @@ import io
 import os
 import sys
 import zlib
-from collections.abc import Iterator
+from collections.abc import Callable, Iterable, Iterator
 from pathlib import Path
 from typing import IO, Any
 
@@ -93,6 +93,20 @@ def open_text(path: str | os.PathLike[str]) -> Iterator[IO[str]]:
             yield io.TextIOWrapper(stream, encoding="utf-8-sig", newline="")
     except UnicodeDecodeError as error:
         raise BadRow(path, _bad_line(path), "it is not UTF-8") from error
+
+
+def row_writer(stream: IO[str]) -> Callable[[Iterable[str]], object]:
+    """What writes a row as a line of CSV that ends with LF.
+
+    A field is quoted where it holds a character of the line's end as the writer knows it: so that is CR LF, since a CR
+    alone would end a record for most readers, and what is written loses its CR again.
+    """
+
+    class _Lines:
+        def write(self, line: str) -> None:
+            stream.write(line[:-2] + "\n")
+
+    return csv.writer(_Lines(), lineterminator="\r\n").writerow
 
 
 def records(

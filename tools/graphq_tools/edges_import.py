@@ -2,10 +2,8 @@
 
 from __future__ import annotations
 
-from .builder import Builder, Nodes
 from .csvfile import open_text
 from .intake import Intake
-from .kinds import as_integer, is_canonical
 from .outcome import BadRow, Refusal, Status
 from .spool import Property
 
@@ -23,12 +21,6 @@ def columns(word: str, intake: Intake) -> list[Property | None]:
     return read
 
 
-def _node(builder: Builder, table: Nodes, known: set[str], key: str) -> None:
-    if key not in known:
-        known.add(key)
-        builder.add_node(table, "", key, (), ())
-
-
 def read_edges(file: str, extra: str, intake: Intake) -> None:
     """Takes in a file of edges. The nodes are those that an edge names."""
     properties = columns(extra, intake)
@@ -38,7 +30,7 @@ def read_edges(file: str, extra: str, intake: Intake) -> None:
     taken = [(place + 2, one) for place, one in enumerate(properties) if one]
     places = builder.place(rels, [one for _, one in taken], intake.part())
     width = 2 + len(properties)
-    known: set[str] = set()
+    known = builder.keys("")
     with open_text(file) as stream:
         for line, text in enumerate(stream, 1):
             if text.startswith("#") or not (fields := text.split()):
@@ -47,9 +39,10 @@ def read_edges(file: str, extra: str, intake: Intake) -> None:
                 if len(fields) != width:
                     more = "" if width > 2 else ": name what stands behind the ids, as in --columns weight:int"
                     raise ValueError(f"it has {len(fields)} columns, and {width} are wanted{more}")
-                source, target = map(_key, fields[:2])
-                _node(builder, table, known, source)
-                _node(builder, table, known, target)
+                source, target = _key(fields[0]), _key(fields[1])
+                for end in (source, target):
+                    if end not in known:
+                        builder.add_node(table, "", end, (), ())
                 rels.add(source, target, places, [one.treatment.convert(fields[place]) for place, one in taken])
             except ValueError as error:
                 raise BadRow(file, line, str(error)) from error
@@ -59,6 +52,6 @@ def read_edges(file: str, extra: str, intake: Intake) -> None:
 
 def _key(text: str) -> str:
     """An id; `007` is the integer 7, as it is in every file of the collection."""
-    if is_canonical(text):
-        return text
-    return as_integer(text) if text.isdecimal() and text.isascii() else text
+    if text[0] == "0" and text.isdecimal() and text.isascii():
+        return text.lstrip("0") or "0"
+    return text

@@ -94,7 +94,7 @@ class _Script:
                 if end not in self.nodes:
                     raise ValueError(f"there is no table {end} of nodes above")
             table = self.intake.builder.rels(name, self.nodes[source].table, self.nodes[target].table)
-            table.declared = declared.multiplicity.lower()
+            table.declare(declared.multiplicity.lower())
             self.intake.builder.place(table, [one for one in properties.values() if one], part)
             tables[source, target] = table
         self.rels[declared.name] = _KnownRels(declared, tables, properties, part)

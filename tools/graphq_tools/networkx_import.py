@@ -18,6 +18,8 @@ from .outcome import BadRow, Refusal, package
 from .spool import Property
 
 FORMS = (".graphml", ".gexf", ".gml", ".json")
+# What the readers of networkx raise for files that are well-formed and something else than they should be.
+_OF_THE_READERS = (ValueError, TypeError, AttributeError, LookupError, ArithmeticError, RecursionError)
 _LINE = re.compile(r"(?:line |\()(\d+)")
 
 
@@ -63,7 +65,7 @@ def _load(path: Path) -> Any:
             raise BadRow(path, error.lineno, error.msg) from error
         except KeyError as error:
             raise Refusal(f"{path}: {error} is missing") from error
-        except (networkx.NetworkXException, ValueError, TypeError, AttributeError) as error:
+        except (networkx.NetworkXException, *_OF_THE_READERS) as error:
             found = _LINE.search(str(error))
             raise BadRow(path, int(found[1]), str(error)) if found else Refusal(f"{path}: {error}") from error
 

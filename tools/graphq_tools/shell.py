@@ -112,7 +112,8 @@ class Shell:
         for statement in statements:
             if not is_blank(statement):
                 self._answer(statement)
-        return "" if is_blank(rest) else rest
+        # At a keyboard a statement begins anew; elsewhere the places in it count as they do for graphq.
+        return "" if self.at_keyboard and is_blank(rest) else rest
 
     def _answer(self, statement: str) -> None:
         """Answers one statement. Ctrl-C ends it: the program is stopped, and loads the graph again for the next one."""
@@ -201,7 +202,7 @@ class Shell:
             self._refuse(f".read {name}: {error}", [])
             return
         rest = self._answer_all(text)
-        if rest:
+        if not is_blank(rest):
             self._answer(rest)
 
 

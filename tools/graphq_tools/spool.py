@@ -7,7 +7,9 @@ import shutil
 from collections.abc import Iterable, Sequence
 from dataclasses import dataclass, field
 from pathlib import Path
+from typing import IO
 
+from .csvfile import row_writer
 from .kinds import Treatment
 from .model import MOST_FIELDS, MOST_FILE_BYTES, Field
 from .outcome import Refusal, Status, writing
@@ -59,7 +61,7 @@ class Spool:
         self._path = path
         with writing(path):
             self._stream = open(path, "w", encoding="utf-8", newline="")
-        self._write = csv.writer(self._stream, lineterminator="\n").writerow
+        self._write = row_writer(self._stream)
 
     def place(self, properties: Iterable[Property], part: int) -> list[int]:
         """Where in a row the values of a part of the input stand that has these properties; new columns are made."""
@@ -87,7 +89,7 @@ class Spool:
         for place, cell in zip(places, cells, strict=True):
             ordered[place] = cell
         if self._unfilled:
-            self._unfilled = {place for place in self._unfilled if not ordered[place]}
+            self._unfilled -= {place for place in self._unfilled if ordered[place]}
         try:
             self._write([*leading, *ordered])
         except OSError as error:
@@ -109,7 +111,7 @@ class Spool:
         fields = [Field(self.columns[place].name, self.columns[place].final_kind()) for place in kept]
         with writing(target), open(target, "w", encoding="utf-8", newline="") as stream:
             self._stream.close()
-            csv.writer(stream, lineterminator="\n").writerow([*header, *map(str, fields)])
+            row_writer(stream)([*header, *map(str, fields)])
             with open(self._path, encoding="utf-8", newline="") as spooled:
                 if self._even and not dropped:
                     shutil.copyfileobj(spooled, stream, 1 << 20)
@@ -121,11 +123,11 @@ class Spool:
             raise Refusal(f"{target.name}: it would have {size:,} bytes, and graphq takes {MOST_FILE_BYTES:,}")
         return fields
 
-    def _rewrite(self, spooled: Iterable[str], stream: object, dropped: set[int]) -> None:
+    def _rewrite(self, spooled: Iterable[str], stream: IO[str], dropped: set[int]) -> None:
         """Copies the rows: short ones get their last cells, and the dropped cells go."""
         width = self._leading + len(self.columns)
         kept = [place for place in range(width) if place not in dropped]
-        write = csv.writer(stream, lineterminator="\n").writerow  # type: ignore[arg-type]
+        write = row_writer(stream)
         for row in csv.reader(spooled):
             row += [""] * (width - len(row))
             write([row[place] for place in kept])

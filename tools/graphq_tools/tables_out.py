@@ -2,10 +2,10 @@
 
 from __future__ import annotations
 
-import csv
 from collections.abc import Iterable, Sequence
 from pathlib import Path
 
+from .csvfile import row_writer
 from .model import Field
 from .outcome import writing
 
@@ -14,7 +14,7 @@ def write_csv(path: Path, header: Sequence[str] | None, rows: Iterable[Sequence[
     """Writes a file; null is an empty field without quotes. Gives whether a field has a line end in it."""
     broken = False
     with writing(path), open(path, "w", encoding="utf-8", newline="") as stream:
-        write = csv.writer(stream, lineterminator="\n").writerow
+        write = row_writer(stream)
         if header is not None:
             write(header)
         for row in rows:

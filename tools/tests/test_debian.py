@@ -4,7 +4,7 @@ from __future__ import annotations
 
 import subprocess
 
-from .support import TOP, ToolTest, ask
+from .support import TOOLS, TOP, ToolTest, ask
 
 DEBIAN = TOP / "examples/debian"
 LISTS = """\
@@ -37,7 +37,7 @@ Depends: v | nowhere
 class Make(ToolTest):
     def make(self, *words: str) -> int:
         self.write("lists", LISTS)
-        command = [DEBIAN / "make", "--out", "g", "--lists", "lists", *words]
+        command = [TOOLS / "python", DEBIAN / "make", "--out", "g", "--lists", "lists", *words]
         return subprocess.run(command, cwd=self.folder, capture_output=True, check=False).returncode
 
     def text(self, name: str) -> list[str]:
@@ -85,7 +85,7 @@ class Make(ToolTest):
 
 class Extract(ToolTest):
     def test_answers_are_those_of_sqlite3(self) -> None:
-        done = subprocess.run([DEBIAN / "answers"], capture_output=True, check=False)
+        done = subprocess.run([TOOLS / "python", DEBIAN / "answers"], capture_output=True, check=False)
         self.assertEqual((done.returncode, done.stderr), (0, b""))
 
     def test_graphq_answers_the_same(self) -> None:

@@ -20,6 +20,20 @@ QUESTIONS = TOP / "examples/metro/questions"
 SQL = TOP / "tools/tests/metro"
 
 
+def question_of_the_page() -> str:
+    """The question as docs/beyond-one-machine.md has it in SQL."""
+    lines = (TOP / "docs/beyond-one-machine.md").read_text().splitlines()
+    begin = next(number for number, line in enumerate(lines) if line.startswith("    SELECT "))
+    end = next(number for number in range(begin, len(lines)) if lines[number].endswith(";"))
+    return "\n".join(lines[begin : end + 1])
+
+
+def answer_of_the_page() -> list[str]:
+    """Its answer, as it stands beside the question of the metro, with a bar between the values."""
+    lines = (QUESTIONS / "04-changes.expected").read_text().splitlines()[1:-1]
+    return [line.replace("'", "").replace("\t", "|") for line in lines]
+
+
 def shown(value: object) -> str | int | None:
     """A value in the form that both sides have: SQL has no booleans, nodes or relationships of its own."""
     if isinstance(value, bool):
@@ -52,6 +66,10 @@ class Sqlite(ToolTest):
                 else:
                     assert isinstance(reply, Rows)
                     self.assertEqual([tuple(shown(value_of(cell)) for cell in row) for row in reply.rows], rows)
+
+    def test_question_of_the_page(self) -> None:
+        rows = self.database.execute(question_of_the_page()).fetchall()
+        self.assertEqual(["|".join(row) for row in rows], answer_of_the_page())
 
     def test_constraints(self) -> None:
         """HOUSES is one_many: a line has one depot at most. A key is unique, and a relationship has its ends."""
@@ -138,6 +156,7 @@ class Postgresql(ToolTest):
                 """SELECT "Text", text_2, "on" FROM "Order" ORDER BY id;""",
                 """SELECT sum(minutes), count(*) FROM "TRACK";""",
                 """SELECT name FROM "Station" WHERE zone = 4 ORDER BY name COLLATE "C";""",
+                question_of_the_page(),
             ):
                 done = subprocess.run(psql, input=text.encode(), capture_output=True, cwd="/", check=False)
                 self.assertEqual(done.stderr.decode(), "")
@@ -148,3 +167,4 @@ class Postgresql(ToolTest):
         self.assertEqual(answers[2], f"x\\y\nz\t|{-(2**63)}|t\n|7|\n")
         self.assertEqual(answers[3], f"{total}|44\n")
         self.assertEqual(answers[4].splitlines(), ["Airport", "Beach", "Lakeside", "Land's End", "Village"])
+        self.assertEqual(answers[5].splitlines(), answer_of_the_page())

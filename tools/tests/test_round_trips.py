@@ -53,11 +53,12 @@ class RoundTrips(RoundTrip):
                 self.setUp()
                 text = 'k:string,t:string,n:int,b:bool\n"a ""b"", \'c\'"," x\\\\y\nz ",-5,false\n 1 ,007,,\n'
                 self.write("n.csv", text)
-                self.write("r.csv", 'from,to,w:string\n 1 ,"a ""b"", \'c\'","\r\n"\n')
+                self.write("r.csv", 'from,to,w:string,v:string\n 1 ,"a ""b"", \'c\'","\r\n","x\ry"\n')
                 self.write("g.manifest", "node N n.csv\nrel R N N one_one r.csv\n")
                 self.there_and_back(form, "g.manifest", self.folder)
                 before = listing("g.manifest", self.folder)
                 self.assertIn("' 1 '\t'007'\tnull\tnull", before)
+                self.assertIn("'\\r\\n'\t'x\\ry'", before)
                 self.assertEqual(listing("back/back.manifest", self.folder), before)
 
 

@@ -130,7 +130,7 @@ class Piped(ToolTest):
                 "(3 rows)",
                 "  RETURN p",
                 "  ^",
-                "error: Syntax at byte 18",
+                "error: Syntax at byte 19",
                 "p,p.name,p.age",
                 "(Person 2),Bob,",
             ],
