@@ -276,7 +276,11 @@ module _ (catalog : Tables) (y : Typed) (w : Places) (flat : ℕ → Bool) where
       elim (or_cases (nat_eq x z) (all.rels x) e) [ inl same ↦ inr (let p : w.rels x ≡ i = ap w.rels (eqb-true x z same) ∙ b.1 in omega arith) | inr old ↦ inl old ]
   new_rel_upto i (Close false z from to way) all m b at x e = absurd (true≢false m)
   new_rel_upto i (Close true z from to way) all m b at x e =
-      elim (or_cases (nat_eq x z) (all.rels x) e) [ inl same ↦ inr (let p : w.rels x ≡ w.nodes from = ap w.rels (eqb-true x z same) ∙ b in omega arith) | inr old ↦ inl old ]
+      elim (or_cases (nat_eq x z) (all.rels x) e) [ inl same ↦ inr (low same b) | inr old ↦ inl old ]
+    where
+      low : nat_eq x z ≡ true → (w.rels z ≡ w.nodes from) ⊎ (w.rels z ≡ i) → w.rels x ≤ i
+      low same (inl p) = (let q : w.rels x ≡ w.nodes from = ap w.rels (eqb-true x z same) ∙ p in omega arith)
+      low same (inr p) = (let q : w.rels x ≡ i = ap w.rels (eqb-true x z same) ∙ p in omega arith)
   new_rel_upto i (Join side keys) all m b at x e = absurd (true≢false m)
   new_rel_upto i (Keep n) all m b at x e = inl e
   new_rel_upto i (Differ p) all m b at x e = inl e
@@ -333,13 +337,12 @@ module _ (catalog : Tables) (y : Typed) (w : Places) (flat : ℕ → Bool) where
         node_less = sees.node_less;
         rel_less = λ z e. or_right (nat_eq z x) (all.rels z) (sees.rel_less z e);
         node_seen = sees.node_seen;
-        rel_seen = λ z e f. (let old_seen = sees.rel_seen z in
-            let source_seen = sees.node_seen from bound_from in
-            elim (or_cases (nat_eq z x) (all.rels z) e) [
-              | inl same ↦ absurd (true≢false (sym (source_seen (subst (FlatBeside i) (ap w.rels (eqb-true z x same) ∙ b) f)) ∙ is))
-              | inr old ↦ old_seen old f
-            ]);
+        rel_seen = λ z e f. (let old_seen = sees.rel_seen z in elim (or_cases (nat_eq z x) (all.rels z) e) [ inl same ↦ absurd (neither z same f b) | inr old ↦ old_seen old f ]);
       }
+        where
+          neither : (z : ℕ) → nat_eq z x ≡ true → FlatBeside i (w.rels z) → (w.rels x ≡ w.nodes from) ⊎ (w.rels x ≡ i) → ⊥
+          neither z same f (inl p) = true≢false (sym (sees.node_seen from bound_from (subst (FlatBeside i) (ap w.rels (eqb-true z x same) ∙ p) f)) ∙ is)
+          neither z same f (inr p) = f.1 (ap w.rels (eqb-true z x same) ∙ p)
   single_sees i (Join side keys) all k m b fit sees = absurd (true≢false m)
   single_sees i (Keep n) all k m b fit sees = sees
   single_sees i (Differ p) all k m b fit sees = sees
