@@ -142,17 +142,24 @@ pub fn difference(alloc: Global, case: &Case) -> Result<Option<Got>, Stop> {
 
 fn sorted_lines<'t>(alloc: Global, text: &'t str) -> Result<Vec<&'t str>, Stop> {
     let mut lines = Vec::new(alloc);
-    for line in text.lines() {
+    for line in text.split('\n') {
         lines.push(line)?;
     }
     lines.sort()?;
     Ok(lines)
 }
 
-// Whether two texts have the same first line, the same last line, and the same lines in any order.
+// The first line of a text and its last one, with their ends.
+fn first_and_last(text: &str) -> (Option<&str>, Option<&str>) {
+    (
+        text.split_inclusive('\n').next(),
+        text.split_inclusive('\n').last(),
+    )
+}
+
+// Whether two texts have the same first line, the same last line, and the same lines in any order, all with their ends.
 fn same_mixed(alloc: Global, one: &str, other: &str) -> Result<bool, Stop> {
-    let ends = one.lines().next() == other.lines().next()
-        && one.lines().last() == other.lines().last();
+    let ends = first_and_last(one) == first_and_last(other);
     Ok(ends && sorted_lines(alloc, one)?.as_slice() == sorted_lines(alloc, other)?.as_slice())
 }
 
