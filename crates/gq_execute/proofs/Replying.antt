@@ -18,7 +18,7 @@ use Rattle.gq_execute.specs.Replies.{Question, all_outcomes, outcomes_in, has_tu
 use Rattle.gq_execute.specs.steps.Answering.{AreParted, Reached}
 use Rattle.gq_rows.proofs.Listings.{looked_front, rows_append, kept_grows, kept_few, full_enough, full_looked, open_few, few_rows}
 use Rattle.gq_rows.specs.Answers.{row_in}
-use Rattle.gq_law_answers.proofs.Reordered.{permuted_flat_map}
+use Rattle.gq_law_plans.proofs.Reordered.{permuted_flat_map}
 use Rattle.std.proofs.lemmas.List.Sorted.{length_permutation}
 
 pub rows_bag : (xs ys : List (Result Row Fault)) → IsPermutation xs ys → length (rows_in xs) ≡ length (rows_in ys)

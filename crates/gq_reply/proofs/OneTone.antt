@@ -66,8 +66,8 @@ module _ (graph : Graph) (settings : Settings) (one other : Form) (statement : L
   second = record { graph = graph; settings = settings; form = other }
 
   -- two trees that one statement spells are one
-  same_tree : (s s' : Statement) → SpelledText statement s → SpelledText statement s' → s ≡ s'
-  same_tree s s' spelled spelled' = elim ((comes_statement statement (Ok s) spelled s').1 spelled') [
+  same_tree : (s s' : Statement) → SpelledText statement [] s → SpelledText statement [] s' → s ≡ s'
+  same_tree s s' spelled spelled' = elim ((comes_statement statement [] (Ok s) spelled s').1 spelled') [
     | inl e ↦ cc e
     | inr e ↦ cc e
   ]
@@ -76,10 +76,10 @@ module _ (graph : Graph) (settings : Settings) (one other : Form) (statement : L
   Unanswered text = IsWrong statement text ⊎ IsUnbound graph statement text ⊎ IsNotBuilt graph statement text ⊎ IsStopped second statement text
 
   -- a statement that is bound and built is refused for its outcomes alone
-  module _ (form : Statement) (spelled : SpelledText statement form) (bound : bind_refusal form statement graph.catalog ≡ None)
+  module _ (form : Statement) (spelled : SpelledText statement [] form) (bound : bind_refusal form statement graph.catalog ≡ None)
       (built : ¬ (IsUnbuilt graph statement form)) where
     is_stopped : (text : List ℕ) → Unanswered text → IsStopped second statement text
-    is_stopped text (inl wrong) = elim ((comes_statement statement (Err wrong.why) wrong.cause form).1 spelled) [
+    is_stopped text (inl wrong) = elim ((comes_statement statement [] (Err wrong.why) wrong.cause form).1 spelled) [
       | inl e ↦ cc e
       | inr e ↦ (let memory : wrong.why ≡ refusal.Memory = cc e in let none : None ≡ Some text = ap refusal_text (sym memory) ∙ wrong.is in cc none)
     ]
@@ -92,7 +92,7 @@ module _ (graph : Graph) (settings : Settings) (one other : Form) (statement : L
 
     -- and where it asks no query it is not refused
     module _ (no : (query : Query) → ¬ (tree.Query query ≡ form)) where
-      not_asked : (query : Query) → SpelledText statement (tree.Query query) → ⊥
+      not_asked : (query : Query) → SpelledText statement [] (tree.Query query) → ⊥
       not_asked query asked = no query (same_tree (tree.Query query) form asked spelled)
 
       no_stop : (text : List ℕ) → IsStopped second statement text → ⊥
@@ -104,7 +104,7 @@ module _ (graph : Graph) (settings : Settings) (one other : Form) (statement : L
 
   -- two replies to the query of one statement are replies to one question
   module _ (q : Query) (b : Bound) (asked : IsAsked graph statement q b) where
-    same_query : (q' : Query) → SpelledText statement (tree.Query q') → q' ≡ q
+    same_query : (q' : Query) → SpelledText statement [] (tree.Query q') → q' ≡ q
     same_query q' spelled = let e = same_tree (tree.Query q') (tree.Query q) spelled asked.spelled in cc e
 
     same_question : (q' : Query) (b' : Bound) (reply : Reply) → IsAsked graph statement q' b' → IsPermitted (question second q' b') reply

@@ -19,6 +19,7 @@ pub fn write_bind_refusal<O: Sink>(out: &mut O, refusal: &BindRefusal) -> Result
     ensures cause { HasCause (O.faults out.old) (O.faults out.new) result }
 {
     match refusal {
+        BindRefusal::NotBuilt => alone(out, "error: NotBuilt"),
         BindRefusal::UnknownVariable { name } => named(out, "error: UnknownVariable ", name),
         BindRefusal::VariableConflict { name } => named(out, "error: VariableConflict ", name),
         BindRefusal::RelationshipRepeated { name } => {

@@ -12,7 +12,7 @@ use Rattle.gq_syntax.specs.declared.Ast.{Ast, Ast-F, roll-Ast, map-Ast, fold-rol
 use Rattle.gq_syntax.specs.declared.expression.Ast.TheShapes.{former-Ast-node as parts}
 use Rattle.gq_syntax.specs.declared.AstNode.{AstNode}
 use Rattle.gq_syntax.specs.declared.AstNode.TheVariants as ast
-use Rattle.gq_trees.proofs.ReadEquations.{reads_And}
+use Rattle.gq_plan.proofs.ReadEquations.{reads_And}
 use Rattle.gq_trees.proofs.ReadsThere.{AllThere, AreThere, resolved_roll, tree_there}
 use Rattle.gq_trees.proofs.Splits.{split_whole}
 use Rattle.gq_scopes.specs.Scopes.{Scope}
@@ -125,6 +125,7 @@ module _ (n m : ℕ) where
     pieces (ast.Variable name) whole h = alike_single whole.expr _ h
     pieces (ast.Property name key) whole h = alike_single whole.expr _ h
     pieces (ast.Call name qs) whole h = alike_single whole.expr _ h
+    pieces (ast.Exists path) whole h = alike_single whole.expr _ h
     pieces (ast.Negate q) whole h = alike_single whole.expr _ h
     pieces (ast.Plus q) whole h = alike_single whole.expr _ h
     pieces (ast.Not q) whole h = alike_single whole.expr _ h

@@ -20,7 +20,7 @@ use Rattle.gq_syntax.specs.declared.AstNode.TheVariants as ast
 use Rattle.gq_syntax.specs.declared.Term.{Term}
 use Rattle.gq_syntax.specs.declared.Tester.{Tester as Tested}
 use Rattle.gq_syntax.specs.declared.Tester.TheVariants as tested
-use Rattle.gq_trees.proofs.ReadEquations.{reads_Literal, reads_Node, reads_Rel, reads_NodeProperty, reads_RelProperty, reads_TypeName, reads_Coalesce, reads_Negate, reads_Plus, reads_Not, reads_Or, reads_Xor, reads_And, term_reads, test_reads, reads_Compare, reads_Arith, reads_Test}
+use Rattle.gq_plan.proofs.ReadEquations.{reads_Literal, reads_Node, reads_Rel, reads_NodeProperty, reads_RelProperty, reads_TypeName, reads_Coalesce, reads_Negate, reads_Plus, reads_Not, reads_Or, reads_Xor, reads_And, term_reads, test_reads, reads_Compare, reads_Arith, reads_Test}
 use Rattle.gq_trees.proofs.Resolved.{tests_of}
 use Rattle.gq_trees.specs.Resolving.{functions, is_function, type_call, coalesce_call, all_some, over_known, bound_term, bound_tester, resolve_step, resolved}
 
@@ -166,6 +166,7 @@ module _ (n m : ℕ) where
         (either_there (find_name s.nodes name) (find_name s.rels name) (λ v e. name_there s.nodes name n v nodes e) (λ x e. name_there s.rels name m x rels e))
     level (ast.Property name key) = property_there (find_name s.nodes name) (find_name s.rels name) key (λ v e. name_there s.nodes name n v nodes e) (λ x e. name_there s.rels name m x rels e)
     level (ast.Call name qs) = there_call name (all_some (map known (map (λ q. q.0) qs))) (all_known qs)
+    level (ast.Exists path) = tt
     level (ast.Paren q) = q.1
     level (ast.Negate q) = one_known expr.Negate reads_Negate q
     level (ast.Plus q) = one_known expr.Plus reads_Plus q

@@ -1,5 +1,5 @@
 use Rattle.std.proofs.Common.{Err, ap, refl}
-use Rattle.gq_reply.proofs.Replying.{replied, wrong_depth, wrong_lex}
+use Rattle.gq_reply.proofs.Replying.{replied, wrong_depth, wrong_lex, wrong_unknown}
 use Rattle.gq_session.specs.declared.answering.Tone.TheVariants as tone
 use Rattle.gq_reply.proofs.replier.Replier.reply.Goals as goal
 
@@ -16,6 +16,10 @@ returns-in-Err-Depth g c =
 
 pub reply_to_syntax-requires-clause-cause : goal.reply_to_syntax-requires-clause-cause
 reply_to_syntax-requires-clause-cause g c = (c.in-Err-Syntax.ensures.syntax _).0 (ap Err c.in-Err-Syntax.field-0-is)
+
+pub returns-in-Err-UnknownParameter : goal.returns-in-Err-UnknownParameter
+returns-in-Err-UnknownParameter g c =
+    replied _ tone.Refused _ (wrong_unknown _ _ _ ((c.in-Err-UnknownParameter.ensures.unknown _).0 (ap Err c.in-Err-UnknownParameter.field-0-is))) _ _ c.write_refusal.ensures.bytes c.write_refusal.ensures.cause _ c.toned-in-Err-UnknownParameter.ensures
 
 pub returns-in-Err-Memory : goal.returns-in-Err-Memory
 returns-in-Err-Memory g c = replied _ tone.Memory _ refl _ _ c.write_all.ensures.bytes c.write_all.ensures.cause _ c.toned-in-Err-Memory.ensures
