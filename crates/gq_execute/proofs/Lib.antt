@@ -1,5 +1,6 @@
 pub mod Draining
 pub mod Going
+pub mod OneReply
 pub mod Parting
 pub mod Replying
 pub mod Turning
