@@ -49,7 +49,8 @@ pub fn tone_of(refusal: &BindRefusal) -> Tone
     }
 }
 
-fn named<O: Sink>(out: &mut O, front: &str, name: &Text) -> Result<(), Failed>
+/// Writes a refusal's line that ends in a name. After `Failed` the sink took some front of that line.
+pub(crate) fn named<O: Sink>(out: &mut O, front: &str, name: &Text) -> Result<(), Failed>
     ensures bytes { Writes (O.taken out.old) (O.taken out.new)
         (refusal_line front.now name.now []) result }
     ensures cause { HasCause (O.faults out.old) (O.faults out.new) result }

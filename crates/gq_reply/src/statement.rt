@@ -11,7 +11,7 @@ ghost use Rattle.gq_session.specs.Sessions.{span_of};
 ghost use Rattle.gq_syntax.specs.Outcomes.{SpelledText, SyntaxAt};
 ghost use Rattle.gq_syntax.specs.declared.statement.Statement.TheVariants as tree;
 
-use crate::bind_line::{tone_of, write_bind_refusal};
+use crate::bind_line::{named, tone_of, write_bind_refusal};
 use crate::blank::is_blank;
 use crate::replier::Replier;
 use crate::tone::toned;
@@ -144,10 +144,9 @@ impl Replier<'_> {
                 toned(write_at(out, "error: Depth at byte ", at), Tone::Refused)
             }
             Err(SyntaxRefusal::Syntax { at }) => self.reply_to_syntax(out, statement, at),
-            Err(SyntaxRefusal::UnknownParameter { name }) => toned(
-                write_refusal(out, "error: UnknownParameter ", name.as_str(), &[]),
-                Tone::Refused,
-            ),
+            Err(SyntaxRefusal::UnknownParameter { name }) => {
+                toned(named(out, "error: UnknownParameter ", &name), Tone::Refused)
+            }
             Err(SyntaxRefusal::Memory) => toned(write_all(out, b"error: Memory\n"), Tone::Memory),
         }
     }
