@@ -24,3 +24,8 @@ pub mod Agreeing
 pub mod Standings
 pub mod Reading
 pub mod Chosen
+pub mod Homing
+pub mod Piecing
+pub mod Products
+pub mod Chunking
+pub mod Chunked
