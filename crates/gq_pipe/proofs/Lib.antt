@@ -29,3 +29,4 @@ pub mod Piecing
 pub mod Products
 pub mod Chunking
 pub mod Chunked
+pub mod Holding
