@@ -143,25 +143,25 @@ checked_steps [] rest = refl
 checked_steps (c ∷ cs) rest = ap (Then c) (checked_steps cs rest)
 
 module _ (y : Typed) (u : Places) (flat : ℕ → Bool) (ms : List (ℕ × Step)) (each : AreAt y u flat ms) where
-  abbrev Placed : ℕ → List Group → Type 0
-  Placed i gs = InOrder y u i gs × FlatsOf y u flat gs
+  abbrev Placed : ℕ → ℕ → List Group → Type 0
+  Placed n i gs = InOrder y u i gs × FlatsOf y u flat gs × (length gs ≡ suc n)
 
   pub cut_order : (n a : ℕ) (s : Step) (ks : List Step) → ((g : ℕ) → a + 1 ≤ g → g < a + 1 + n → Begins (of g ms)) → IsAt y u flat a s → NoGroups ks → AllByRecursion (IsAt y u flat a) ks
-      → Placed a (cut_from s ks (steps (between (a + 1) n ms)))
+      → Placed n a (cut_from s ks (steps (between (a + 1) n ms)))
   cut_order zero a s ks first at small ats =
       let checks = checks_at y u flat a ks small ats in
-      ((at.binds, checks.0, tt), (at.asks, checks.1, tt))
+      ((at.binds, checks.0, tt), (at.asks, checks.1, tt), refl)
   cut_order (suc n) a s ks first at small ats = go (of (a + 1) ms) (first (a + 1) (omega arith) (omega arith)) (of_at y u flat (a + 1) ms each) (λ t cs. cut_order n (a + 1) t cs (λ g low high. first g (omega arith) (omega arith)))
     where
       go : (l : List Step) → Begins l → AllByRecursion (IsAt y u flat (a + 1)) l
-          → ((t : Step) (cs : List Step) → IsAt y u flat (a + 1) t → NoGroups cs → AllByRecursion (IsAt y u flat (a + 1)) cs → Placed (a + 1) (cut_from t cs (steps (between (a + 1 + 1) n ms))))
-          → Placed a (cut_from s ks (steps (l ++ between (a + 1 + 1) n ms)))
+          → ((t : Step) (cs : List Step) → IsAt y u flat (a + 1) t → NoGroups cs → AllByRecursion (IsAt y u flat (a + 1)) cs → Placed n (a + 1) (cut_from t cs (steps (between (a + 1 + 1) n ms))))
+          → Placed (suc n) a (cut_from s ks (steps (l ++ between (a + 1 + 1) n ms)))
       go [] begins l_at rec = absurd begins
       go (t ∷ cs) begins l_at rec =
           let checks = checks_at y u flat a ks small ats in
           let more = rec t cs l_at.0 begins.1 l_at.1 in
-          subst (Placed a) (sym (cut_here s ks t (steps (cs ++ between (a + 1 + 1) n ms)) begins.0 ∙ ap (λ gs. record { binds = s; checks = ks } ∷ gs) (cut_along t [] cs (between (a + 1 + 1) n ms) begins.1)))
-          ((at.binds, checks.0, more.0), (at.asks, checks.1, more.1))
+          subst (Placed (suc n) a) (sym (cut_here s ks t (steps (cs ++ between (a + 1 + 1) n ms)) begins.0 ∙ ap (λ gs. record { binds = s; checks = ks } ∷ gs) (cut_along t [] cs (between (a + 1 + 1) n ms) begins.1)))
+          ((at.binds, checks.0, more.0), (at.asks, checks.1, more.1), ap suc more.2)
 
 -- ---- steps by their numbers
 
