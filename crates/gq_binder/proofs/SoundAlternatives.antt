@@ -35,7 +35,8 @@ use Rattle.gq_alternatives.proofs.Shapes.{each_left, each_right}
 use Rattle.gq_alternatives.proofs.ShapesOfPatterns.{Grows, grows_same, grows_then, clauses_grow, IsShaped, ends_of, pattern_shaped}
 use Rattle.gq_trees.proofs.ConditionReads.{Alike, alike_more, conjuncts_read}
 use Rattle.gq_alternatives.proofs.SoundPatterns.{IsChoice, each_alternative, pattern_sound, typed_count}
-use Rattle.gq_trees.proofs.ReadEquations.{reads_Literal, reads_NodeProperty, reads_RelProperty, reads_Compare, AllAmong, some_among, properties_among, distinct_fewer}
+use Rattle.gq_plan.proofs.DifferentReads.{AllAmong, some_among, properties_among, distinct_fewer}
+use Rattle.gq_plan.proofs.ReadEquations.{reads_Literal, reads_NodeProperty, reads_RelProperty, reads_Compare}
 use Rattle.gq_trees.proofs.ReadsThere.{AllThere}
 use Rattle.gq_alternatives.specs.Alternatives.{Choice, typed_rels, agrees, alternatives, typed_of}
 use Rattle.gq_trees.specs.Conjuncts.{conjunct_expr}

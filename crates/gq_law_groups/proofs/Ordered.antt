@@ -4,6 +4,7 @@ use Rattle.std.specs.List.{AllByRecursion, list_all, range_with_len}
 use Rattle.std.proofs.lemmas.Bool.{eqb-true, eq-eqb, and_parts, and_from, or_cases, or_left, or_right, lt-ltb, cases_lt}
 use Rattle.gq_base.specs.Catalogs.{Tables}
 use Rattle.gq_plan.specs.Covers.{after, after_step, fits, fits_step, goes, is_new, is_joined, test_bound, pair_bound, loop_bound}
+use Rattle.gq_plan.specs.Known as known
 use Rattle.gq_plan.specs.Known.{Known, none, is_bound}
 use Rattle.gq_plan.specs.Meaning.{holds}
 use Rattle.gq_plan.specs.Plans.{Plan, Step, Scan, Extend, Close, Join, Keep, Differ, NoLoop}
@@ -16,7 +17,7 @@ use Rattle.gq_plan.specs.declared.typed.TypedRel.{TypedRel}
 use Rattle.gq_plan.specs.declared.variable.Variable.TheVariants.{Node as node, Rel as rel}
 use Rattle.gq_plan.specs.declared.variable.Variable.{Variable}
 use Rattle.gq_law_groups.specs.Groups.{Group, makes_group}
-use Rattle.gq_law_groups.specs.Layout.{after_all, ArePlaced, known_with, AreFlatEnough}
+use Rattle.gq_law_groups.specs.Layout.{after_all, single, singles, ArePlaced, known_with, AreFlatEnough}
 use Rattle.gq_law_groups.specs.Order.{NoGroups, AreCut, BindsAt, StandsAt, AllAt, InOrder, Flats, FlatsOf}
 use Rattle.gq_plan.specs.Shapes.{Places, group_of, tested, flat_by, last_of}
 use Rattle.gq_law_groups.proofs.Cutting.{no_join}
@@ -36,7 +37,7 @@ still_new false true h e = absurd (true≢false (sym (h refl)))
 
 module _ (catalog : Tables) (y : Typed) (w : Places) where
   -- what a step reads stands in groups that are seen
-  abbrev Reads : (ℕ → Type 0) → Step → Type 0
+  abbrev pub Reads : (ℕ → Type 0) → Step → Type 0
   Reads seen (Scan v) = Unit {0}
   Reads seen (Extend column x from to direction) = seen (w.nodes from)
   Reads seen (Close column x from to direction) = seen (w.nodes from) × seen (w.nodes to)
@@ -169,7 +170,7 @@ FlatAt flat j = flat j ≡ true
 abbrev SeenIn : (ℕ → Bool) → ℕ → ℕ → Type 0
 SeenIn flat i j = (j ≡ i) ⊎ (flat j ≡ true)
 
-low_from : (m : ℕ) (js : List ℕ) → last_of js ≤ m → AllByRecursion (λ j. j ≤ m) js
+pub low_from : (m : ℕ) (js : List ℕ) → last_of js ≤ m → AllByRecursion (λ j. j ≤ m) js
 low_from m [] h = tt
 low_from m (j ∷ js) h = (omega arith, low_from m js (omega arith))
 
@@ -186,7 +187,7 @@ all_seen flat i m e (j ∷ js) low h = go (nat_lt j m) refl h (all_seen flat i m
         same (inl less) = absurd (true≢false (sym (lt-ltb j m less) ∙ is))
         same (inr high) = (let l : j ≤ m = low.0 in omega arith)
 
-unmapped : {X : Type 0} (P : ℕ → Type 0) (f : X → ℕ) (xs : List X) → AllByRecursion P (map f xs) → AllByRecursion (λ x. P (f x)) xs
+pub unmapped : {X : Type 0} (P : ℕ → Type 0) (f : X → ℕ) (xs : List X) → AllByRecursion P (map f xs) → AllByRecursion (λ x. P (f x)) xs
 unmapped P f [] h = tt
 unmapped P f (x ∷ xs) h = (h.0, unmapped P f xs h.1)
 
@@ -256,58 +257,121 @@ module _ (catalog : Tables) (y : Typed) (w : Places) (flat : ℕ → Bool) where
   new_at i (Differ p) all b fit v e = inl e
   new_at i (NoLoop x) all b fit v e = inl e
 
-  new_rel_at : (i : ℕ) (s : Step) (all : Known) → BindsAt y w i s → (x : ℕ) → (after_step s all).rels x ≡ true → (all.rels x ≡ true) ⊎ (w.rels x ≡ i)
+  new_rel_at : (i : ℕ) (s : Step) (all : Known) → makes_group s ≡ true → BindsAt y w i s → (x : ℕ) → (after_step s all).rels x ≡ true → (all.rels x ≡ true) ⊎ (w.rels x ≡ i)
   unfolding after_step
-  new_rel_at i (Scan u) all b x e = inl e
-  new_rel_at i (Extend column z from to way) all b x e = elim (or_cases (nat_eq x z) (all.rels x) e) [ inl same ↦ inr (ap w.rels (eqb-true x z same) ∙ b.1) | inr old ↦ inl old ]
-  new_rel_at i (Close column z from to way) all b x e = elim (or_cases (nat_eq x z) (all.rels x) e) [ inl same ↦ inr (ap w.rels (eqb-true x z same) ∙ b) | inr old ↦ inl old ]
-  new_rel_at i (Join side keys) all b x e = elim (or_cases ((after side none).rels x) (all.rels x) e) [ inl own ↦ inr (b.1 x own) | inr old ↦ inl old ]
-  new_rel_at i (Keep n) all b x e = inl e
-  new_rel_at i (Differ p) all b x e = inl e
-  new_rel_at i (NoLoop z) all b x e = inl e
+  new_rel_at i (Scan u) all m b x e = inl e
+  new_rel_at i (Extend column z from to way) all m b x e = elim (or_cases (nat_eq x z) (all.rels x) e) [ inl same ↦ inr (ap w.rels (eqb-true x z same) ∙ b.1) | inr old ↦ inl old ]
+  new_rel_at i (Close false z from to way) all m b x e = elim (or_cases (nat_eq x z) (all.rels x) e) [ inl same ↦ inr (ap w.rels (eqb-true x z same) ∙ b) | inr old ↦ inl old ]
+  new_rel_at i (Close true z from to way) all m b x e = absurd (true≢false (sym m))
+  new_rel_at i (Join side keys) all m b x e = elim (or_cases ((after side none).rels x) (all.rels x) e) [ inl own ↦ inr (b.1 x own) | inr old ↦ inl old ]
+  new_rel_at i (Keep n) all m b x e = inl e
+  new_rel_at i (Differ p) all m b x e = inl e
+  new_rel_at i (NoLoop z) all m b x e = inl e
+
+  -- what a check binds stands in its group, or in an earlier one
+  new_rel_upto : (i : ℕ) (s : Step) (all : Known) → makes_group s ≡ false → BindsAt y w i s → StandsAt y w i s → (x : ℕ) → (after_step s all).rels x ≡ true → (all.rels x ≡ true) ⊎ (w.rels x ≤ i)
+  unfolding after_step
+  new_rel_upto i (Scan u) all m b at x e = inl e
+  new_rel_upto i (Extend column z from to way) all m b at x e =
+      elim (or_cases (nat_eq x z) (all.rels x) e) [ inl same ↦ inr (let p : w.rels x ≡ i = ap w.rels (eqb-true x z same) ∙ b.1 in omega arith) | inr old ↦ inl old ]
+  new_rel_upto i (Close false z from to way) all m b at x e = absurd (true≢false m)
+  new_rel_upto i (Close true z from to way) all m b at x e =
+      elim (or_cases (nat_eq x z) (all.rels x) e) [ inl same ↦ inr (low same b) | inr old ↦ inl old ]
+    where
+      low : nat_eq x z ≡ true → (w.rels z ≡ w.nodes from) ⊎ (w.rels z ≡ i) → w.rels x ≤ i
+      low same (inl p) = (let q : w.rels x ≡ w.nodes from = ap w.rels (eqb-true x z same) ∙ p in omega arith)
+      low same (inr p) = (let q : w.rels x ≡ i = ap w.rels (eqb-true x z same) ∙ p in omega arith)
+  new_rel_upto i (Join side keys) all m b at x e = absurd (true≢false m)
+  new_rel_upto i (Keep n) all m b at x e = inl e
+  new_rel_upto i (Differ p) all m b at x e = inl e
+  new_rel_upto i (NoLoop z) all m b at x e = inl e
 
   -- what is known before a group stands in groups before it
   pub record IsBefore (i : ℕ) (all : Known) : Type 0 where
     pub nodes : (v : ℕ) → all.nodes v ≡ true → w.nodes v < i
     pub rels : (x : ℕ) → all.rels x ≡ true → w.rels x < i
 
-  -- what is known in a group was known before it or stands in it
+  -- what is known in a group was known before it, or stands in it or in an earlier one
   pub record IsIn (i : ℕ) (old all : Known) : Type 0 where
     pub nodes : (v : ℕ) → all.nodes v ≡ true → (old.nodes v ≡ true) ⊎ (w.nodes v ≡ i)
-    pub rels : (x : ℕ) → all.rels x ≡ true → (old.rels x ≡ true) ⊎ (w.rels x ≡ i)
-    pub node_stays : (v : ℕ) → old.nodes v ≡ true → all.nodes v ≡ true
-    pub rel_stays : (x : ℕ) → old.rels x ≡ true → all.rels x ≡ true
+    pub rels : (x : ℕ) → all.rels x ≡ true → (old.rels x ≡ true) ⊎ (w.rels x ≤ i)
 
-  in_step : (i : ℕ) (s : Step) (old all : Known) → BindsAt y w i s → fits_step catalog y s all ≡ true → IsIn i old all → IsIn i old (after_step s all)
-  in_step i s old all b fit h = record {
+  in_step : (i : ℕ) (s : Step) (old all : Known) → makes_group s ≡ false → BindsAt y w i s → StandsAt y w i s → fits_step catalog y s all ≡ true → IsIn i old all → IsIn i old (after_step s all)
+  in_step i s old all m b at fit h = record {
     nodes = λ v e. (let hv = h.nodes v in elim (new_at i s all b fit v e) [ inl a ↦ hv a | inr q ↦ inr q ]);
-    rels = λ x e. (let hx = h.rels x in elim (new_rel_at i s all b x e) [ inl a ↦ hx a | inr q ↦ inr q ]);
-    node_stays = λ v e. known_node s all v (h.node_stays v e);
-    rel_stays = λ x e. known_rel s all x (h.rel_stays x e);
+    rels = λ x e. (let hx = h.rels x in elim (new_rel_upto i s all m b at x e) [ inl a ↦ hx a | inr q ↦ inr q ]);
   }
+
+  -- ---- what is known of a group that is not flat: what its column closes bind from flat groups alone
+
+  abbrev FlatBeside : ℕ → ℕ → Type 0
+  FlatBeside i j = (flat j ≡ true) × (j ≡ i → ⊥)
+
+  single_sees : (i : ℕ) (s : Step) (all k : Known) → makes_group s ≡ false → BindsAt y w i s → fits_step catalog y s all ≡ true → Sees w all k (FlatBeside i) → Sees w (after_step s all) (single s k) (FlatBeside i)
+  unfolding after_step fits_step
+  single_sees i (Scan u) all k m b fit sees = absurd (true≢false m)
+  single_sees i (Extend false x from to way) all k m b fit sees = absurd (true≢false m)
+  single_sees i (Extend true x from to way) all k m b fit sees = record {
+    node_less = λ v e. or_right (nat_eq v to) (all.nodes v) (sees.node_less v e);
+    rel_less = λ z e. or_right (nat_eq z x) (all.rels z) (sees.rel_less z e);
+    node_seen = λ v e f. (let old_seen = sees.node_seen v in elim (or_cases (nat_eq v to) (all.nodes v) e) [ inl same ↦ absurd (f.1 (ap w.nodes (eqb-true v to same) ∙ b.0)) | inr old ↦ old_seen old f ]);
+    rel_seen = λ z e f. (let old_seen = sees.rel_seen z in elim (or_cases (nat_eq z x) (all.rels z) e) [ inl same ↦ absurd (f.1 (ap w.rels (eqb-true z x same) ∙ b.1)) | inr old ↦ old_seen old f ]);
+  }
+  single_sees i (Close false x from to way) all k m b fit sees = absurd (true≢false m)
+  single_sees i (Close true x from to way) all k m b fit sees = go (k.nodes from) refl
+    where
+      bound_from : all.nodes from ≡ true
+      bound_from =
+          (and_parts (all.nodes from) (all.nodes to)
+          (and_parts (not (all.rels x)) (all.nodes from && all.nodes to)
+          (and_parts (holds (goes catalog true from to way) (slice_get y.rels x)) (not (all.rels x) && (all.nodes from && all.nodes to)) fit).1).1).0
+
+      go : (c : Bool) → k.nodes from ≡ c → Sees w (after_step (Close true x from to way) all) (cond c (known.with_rel x k) k) (FlatBeside i)
+      go true is = record {
+        node_less = sees.node_less;
+        rel_less = λ z e. or_map (nat_eq z x) (k.rels z) (all.rels z) (sees.rel_less z) e;
+        node_seen = sees.node_seen;
+        rel_seen = λ z e f. or_map (nat_eq z x) (all.rels z) (k.rels z) (λ old. sees.rel_seen z old f) e;
+      }
+      go false is = record {
+        node_less = sees.node_less;
+        rel_less = λ z e. or_right (nat_eq z x) (all.rels z) (sees.rel_less z e);
+        node_seen = sees.node_seen;
+        rel_seen = λ z e f. (let old_seen = sees.rel_seen z in elim (or_cases (nat_eq z x) (all.rels z) e) [ inl same ↦ absurd (neither z same f b) | inr old ↦ old_seen old f ]);
+      }
+        where
+          neither : (z : ℕ) → nat_eq z x ≡ true → FlatBeside i (w.rels z) → (w.rels x ≡ w.nodes from) ⊎ (w.rels x ≡ i) → ⊥
+          neither z same f (inl p) = true≢false (sym (sees.node_seen from bound_from (subst (FlatBeside i) (ap w.rels (eqb-true z x same) ∙ p) f)) ∙ is)
+          neither z same f (inr p) = f.1 (ap w.rels (eqb-true z x same) ∙ p)
+  single_sees i (Join side keys) all k m b fit sees = absurd (true≢false m)
+  single_sees i (Keep n) all k m b fit sees = sees
+  single_sees i (Differ p) all k m b fit sees = sees
+  single_sees i (NoLoop x) all k m b fit sees = sees
 
   -- the steps that are placed at a group
 
-  checks_enough : (i : ℕ) (ks : List Step) (p : Plan) (old all k : Known) → NoGroups ks → AllAt y w i ks → Flats y w flat ks → fits catalog y (Rattle.gq_law_groups.specs.Groups.checked ks p) all ≡ true → Sees w all k (SeenIn flat i) → IsIn i old all
-      → ArePlaced catalog y ks k × Sees w (after_all ks all) (after_all ks k) (SeenIn flat i) × IsIn i old (after_all ks all) × (fits catalog y p (after_all ks all) ≡ true)
+  checks_enough : (i : ℕ) (ks : List Step) (p : Plan) (old all k few : Known) → NoGroups ks → AllAt y w i ks → Flats y w flat ks → fits catalog y (Rattle.gq_law_groups.specs.Groups.checked ks p) all ≡ true
+      → Sees w all k (SeenIn flat i) → Sees w all few (FlatBeside i) → IsIn i old all
+      → ArePlaced catalog y ks k × Sees w (after_all ks all) (after_all ks k) (SeenIn flat i) × Sees w (after_all ks all) (singles ks few) (FlatBeside i) × IsIn i old (after_all ks all)
+      × (fits catalog y p (after_all ks all) ≡ true)
   unfolding fits
-  checks_enough i [] p old all k small at asks fit sees inside = (tt, sees, inside, fit)
-  checks_enough i (s ∷ ks) p old all k small at asks fit sees inside =
+  checks_enough i [] p old all k few small at asks fit sees beside inside = (tt, sees, beside, inside, fit)
+  checks_enough i (s ∷ ks) p old all k few small at asks fit sees beside inside =
       let parts = and_parts (fits_step catalog y s all) (fits catalog y (Rattle.gq_law_groups.specs.Groups.checked ks p) (after_step s all)) fit in
       let here = fits_seen catalog y w all k (SeenIn flat i) sees s (checks_read i s small.0 at.1 asks.0) parts.0 in
-      let rest = checks_enough i ks p old (after_step s all) (after_step s k) small.1 at.2 asks.1 parts.1
-      (sees_step w s all k (SeenIn flat i) (SeenIn flat i) sees (λ v e m. m) (λ x e m. m)) (in_step i s old all at.0 parts.0 inside) in
-      ((no_join s small.0, here, rest.0), rest.1, rest.2, rest.3)
+      let rest = checks_enough i ks p old (after_step s all) (after_step s k) (single s few) small.1 at.2 asks.1 parts.1
+      (sees_step w s all k (SeenIn flat i) (SeenIn flat i) sees (λ v e m. m) (λ x e m. m)) (single_sees i s all few small.0 at.0 parts.0 beside) (in_step i s old all small.0 at.0 at.1 parts.0 inside) in
+      ((no_join s small.0, here, rest.0), rest.1, rest.2, rest.3, rest.4)
 
-  sees_next : (i : ℕ) (b : Group) (old all k end : Known) → IsBefore i old → Sees w old k (FlatAt flat) → Sees w all end (SeenIn flat i) → IsIn i old all → (f : Bool) → flat i ≡ f
+  sees_next : (i : ℕ) (b : Group) (all k end : Known) → Sees w all end (SeenIn flat i) → Sees w all (singles b.checks k) (FlatBeside i) → (f : Bool) → flat i ≡ f
       → end ≡ after_all b.checks (after_step b.binds k) → Sees w all (known_with f b k) (FlatAt flat)
-  sees_next i b old all k end before sees own inside true is e =
+  sees_next i b all k end own beside true is e =
       subst (λ z. Sees w all z (FlatAt flat)) e (record { node_less = own.node_less; rel_less = own.rel_less; node_seen = λ v a m. own.node_seen v a (inr m); rel_seen = λ x a m. own.rel_seen x a (inr m) })
-  sees_next i b old all k end before sees own inside false is e = record {
-    node_less = λ v h. inside.node_stays v (sees.node_less v h);
-    rel_less = λ x h. inside.rel_stays x (sees.rel_less x h);
-    node_seen = λ v a m. (let seen = sees.node_seen v in elim (inside.nodes v a) [ inl o ↦ seen o m | inr q ↦ absurd (true≢false (sym m ∙ ap flat q ∙ is)) ]);
-    rel_seen = λ x a m. (let seen = sees.rel_seen x in elim (inside.rels x a) [ inl o ↦ seen o m | inr q ↦ absurd (true≢false (sym m ∙ ap flat q ∙ is)) ]);
+  sees_next i b all k end own beside false is e = record {
+    node_less = beside.node_less;
+    rel_less = beside.rel_less;
+    node_seen = λ v a m. beside.node_seen v a (m, λ q. true≢false (sym m ∙ ap flat q ∙ is));
+    rel_seen = λ x a m. beside.rel_seen x a (m, λ q. true≢false (sym m ∙ ap flat q ∙ is));
   }
 
   pub groups_enough : (gs : List Group) (i : ℕ) (all k : Known) → AreCut gs → InOrder y w i gs → FlatsOf y w flat gs → fits catalog y (Rattle.gq_law_groups.specs.Groups.plan_of gs) all ≡ true → Sees w all k (FlatAt flat) → IsBefore i all
@@ -319,13 +383,22 @@ module _ (catalog : Tables) (y : Typed) (w : Places) (flat : ℕ → Bool) where
       let here = fits_seen catalog y w all k (FlatAt flat) sees b.binds (binds_read b.binds cut.0 asks.0) parts.0 in
       let first : Sees w (after_step b.binds all) (after_step b.binds k) (SeenIn flat i) =
       sees_step w b.binds all k (FlatAt flat) (SeenIn flat i) sees (λ v e m. flat_of (w.nodes v) (before.nodes v e) m) (λ x e m. flat_of (w.rels x) (before.rels x e) m) in
-      let inside : IsIn i all (after_step b.binds all) = in_step i b.binds all all order.0 parts.0 (record { nodes = λ v e. inl e; rels = λ x e. inl e; node_stays = λ v e. e; rel_stays = λ x e. e }) in
-      let on = checks_enough i b.checks (Rattle.gq_law_groups.specs.Groups.plan_of gs) all (after_step b.binds all) (after_step b.binds k) cut.1 order.1 asks.1 parts.1 first inside in (
+      let inside : IsIn i all (after_step b.binds all) = record {
+        nodes = λ v e. new_at i b.binds all order.0 parts.0 v e;
+        rels = λ x e. elim (new_rel_at i b.binds all cut.0 order.0 x e) [ inl o ↦ inl o | inr q ↦ inr (omega arith) ];
+      } in
+      let beside : Sees w (after_step b.binds all) k (FlatBeside i) = record {
+        node_less = λ v e. known_node b.binds all v (sees.node_less v e);
+        rel_less = λ x e. known_rel b.binds all x (sees.rel_less x e);
+        node_seen = λ v e f. (let seen = sees.node_seen v in elim (new_at i b.binds all order.0 parts.0 v e) [ inl o ↦ seen o f.0 | inr q ↦ absurd (f.1 q) ]);
+        rel_seen = λ x e f. (let seen = sees.rel_seen x in elim (new_rel_at i b.binds all cut.0 order.0 x e) [ inl o ↦ seen o f.0 | inr q ↦ absurd (f.1 q) ]);
+      } in
+      let on = checks_enough i b.checks (Rattle.gq_law_groups.specs.Groups.plan_of gs) all (after_step b.binds all) (after_step b.binds k) k cut.1 order.1 asks.1 parts.1 first beside inside in (
         here,
         on.0,
-        groups_enough gs (i + 1) (after_all b.checks (after_step b.binds all)) (known_with (flat i) b k) cut.2 order.2 asks.2 on.3
-            (sees_next i b all (after_all b.checks (after_step b.binds all)) k (after_all b.checks (after_step b.binds k)) before sees on.1 on.2 (flat i) refl refl)
-            (record { nodes = λ v e. (let old = before.nodes v in elim (on.2.nodes v e) [ inl o ↦ (let l = old o in omega arith) | inr q ↦ omega arith ]); rels = λ x e. (let old = before.rels x in elim (on.2.rels x e) [ inl o ↦ (let l = old o in omega arith) | inr q ↦ omega arith ]) }),
+        groups_enough gs (i + 1) (after_all b.checks (after_step b.binds all)) (known_with (flat i) b k) cut.2 order.2 asks.2 on.4
+            (sees_next i b (after_all b.checks (after_step b.binds all)) k (after_all b.checks (after_step b.binds k)) on.1 on.2 (flat i) refl refl)
+            (record { nodes = λ v e. (let old = before.nodes v in elim (on.3.nodes v e) [ inl o ↦ (let l = old o in omega arith) | inr q ↦ omega arith ]); rels = λ x e. (let old = before.rels x in elim (on.3.rels x e) [ inl o ↦ (let l = old o in omega arith) | inr q ↦ omega arith ]) }),
       )
     where
       flat_of : (j : ℕ) → j < i → SeenIn flat i j → flat j ≡ true

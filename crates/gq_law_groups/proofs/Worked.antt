@@ -13,12 +13,13 @@ use Rattle.gq_plan.specs.Known.{none}
 use Rattle.gq_plan.specs.Reads.{reads}
 use Rattle.gq_plan.specs.Meaning.{Partial, nothing, mean, step}
 use Rattle.gq_plan.specs.Plans.{Plan, Done, Then, Scan, Extend, Join, Differ}
+use Rattle.gq_plan.specs.declared.shaping.Form.TheVariants as form
 use Rattle.gq_plan.specs.declared.typed.Typed.{Typed}
 use Rattle.gq_walks.specs.Layouts.{keys}
 use Rattle.gq_law_groups.specs.Groups.{Group, plan_of}
 use Rattle.gq_law_groups.specs.Layout.{layout_of, size_from, keeps_from, AreFlatEnough}
 use Rattle.gq_law_groups.specs.Order.{InOrder}
-use Rattle.gq_plan.specs.Shapes.{places, shape, shape_from, all_flat, places_after, place_step, is_flat_group, Span, Listed, Matches}
+use Rattle.gq_plan.specs.Shapes.{places, shape, shape_from, all_flat, places_after, place_step, is_flat_group}
 
 abbrev link : ℕ → ℕ → PlainRel
 link from to = record { source = from; target = to; cells = [] }
@@ -55,7 +56,7 @@ fork_groups =
     ∷ record { binds = Extend false 0 0 1 Backward; checks = [] }
     ∷ record { binds = Extend false 1 1 2 Forward; checks = Differ 0 ∷ [] } ∷ []
 
-fork_shape : shape fork (plan_of fork_groups) ≡ record { form = Span; flat = true } ∷ record { form = Listed; flat = true } ∷ record { form = Listed; flat = false } ∷ []
+fork_shape : shape fork (plan_of fork_groups) ≡ record { form = form.Span; flat = true } ∷ record { form = form.List; flat = true } ∷ record { form = form.List; flat = false } ∷ []
 unfolding shape_from all_flat places_after place_step after after_step
 fork_shape = refl
 
@@ -89,11 +90,11 @@ meet_groups =
     ∷ record { binds = Extend false 0 0 1 Forward; checks = [] }
     ∷ record { binds = Join side (1 ∷ []); checks = Differ 0 ∷ [] } ∷ []
 
-meet_shape : shape meet (plan_of meet_groups) ≡ record { form = Span; flat = true } ∷ record { form = Listed; flat = true } ∷ record { form = Matches; flat = false } ∷ []
+meet_shape : shape meet (plan_of meet_groups) ≡ record { form = form.Span; flat = true } ∷ record { form = form.List; flat = true } ∷ record { form = form.Matches; flat = false } ∷ []
 unfolding shape_from all_flat places_after place_step after after_step
 meet_shape = refl
 
-side_shape : shape meet side ≡ record { form = Span; flat = true } ∷ record { form = Listed; flat = false } ∷ []
+side_shape : shape meet side ≡ record { form = form.Span; flat = true } ∷ record { form = form.List; flat = false } ∷ []
 unfolding shape_from all_flat places_after place_step after after_step
 side_shape = refl
 

@@ -248,7 +248,7 @@ module _ (c : Run) (ss : List GroupSteps) (row : Assignment) (pre : List ℕ) (s
         bound_next : AreAlike (known_with (flat_in ss (length pre)) (group_in c.steps at.s) at.set) (with_group c.graph c.typed (rows_in c) (flat_in ss) (length pre) (group_in c.steps at.s) at.bound n) (before c new at.s.end)
         bound_next =
             subst (AreAlike (known_with (flat_in ss (length pre)) (group_in c.steps at.s) at.set) (with_group c.graph c.typed (rows_in c) (flat_in ss) (length pre) (group_in c.steps at.s) at.bound n)) place_is
-            (next_group c.graph c.typed (rows_in c) (group_in c.steps at.s) at.set at.bound (before c row at.s.first) m at.fit at.placed alike j in_list (sym keeps_row ∙ is_kept) (flat_in ss (length pre)) n number_is)
+            (next_group c.graph c.typed (rows_in c) (group_in c.steps at.s) at.set at.bound (before c row at.s.first) m at.fit at.placed alike j in_list (sym keeps_row ∙ is_kept) st.runs.valid (flat_in ss (length pre)) n number_is)
 
         at_end : IsAtStep c new at.s.end (known_with (flat_in ss (0 + length pre)) (group_in c.steps at.s) at.set) (with_group c.graph c.typed (rows_in c) (flat_in ss) (0 + length pre) (group_in c.steps at.s) at.bound n)
         at_end =

@@ -2,7 +2,6 @@
 use Rattle.std.specs.Prelude.{ℕ, zero, suc, nat_eq, Bool, ◌&&◌, Option, Some, None, List, [], ◌∷◌, map, flat_map, length, slice_get, nat_lt}
 use Rattle.std.specs.List.{range_with_len}
 use Rattle.gq_base.specs.Plain.{Graph, rels_at, rows_at}
-use Rattle.gq_base.specs.declared.Cell.{Cell}
 use Rattle.gq_base.specs.declared.NodeId.{NodeId}
 use Rattle.gq_base.specs.declared.PlainRel.{PlainRel}
 use Rattle.gq_base.specs.declared.RelId.{RelId}

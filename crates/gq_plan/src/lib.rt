@@ -1,19 +1,23 @@
 //! Bound queries: what a query asks once its names are resolved, the typed alternatives that answer
 //! it, and the plans that find the assignments of an alternative. It says what these mean, and
-//! tells whether a plan fits an alternative and covers it. The crate stands on the expressions of
-//! `gq_expr`.
+//! tells whether a plan fits an alternative and covers it, which groups it has and how many columns
+//! its pipeline fills. The crate stands on the expressions of `gq_expr`, and on the vectors of
+//! `arrayvec`.
 #![tactic(auto)]
 
 mod assignment;
 mod bound;
 mod covering;
 mod demand;
+mod few_reads;
 mod filling;
 mod fitting;
 mod joins;
 mod known;
+mod places;
 mod plan;
 mod reads;
+mod shaping;
 mod typed;
 mod variable;
 
@@ -27,5 +31,6 @@ pub use joins::is_flat;
 pub use known::{Known, VariableSet};
 pub use plan::{Plan, Step};
 pub use reads::PropertyReads;
+pub use shaping::{Form, GroupShape, shape};
 pub use typed::{PathPart, RelPair, Typed, TypedRel};
 pub use variable::Variable;

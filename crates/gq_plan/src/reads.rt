@@ -199,7 +199,7 @@ fn is_read(read: &PropertyRead<'_>, variable: Variable, name: &Text) -> bool
     is_variable(read.variable, variable) && read.name.is(name.as_str())
 }
 
-fn is_variable(own: Variable, variable: Variable) -> bool
+pub(crate) fn is_variable(own: Variable, variable: Variable) -> bool
     ensures { result ≡ reads.same_variable own variable }
 {
     match (own, variable) {

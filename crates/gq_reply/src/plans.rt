@@ -1,7 +1,8 @@
 //! The reply to a statement that asks for the plans of a query.
 
 ghost use Rattle.std.specs.Prelude.{◌≡◌, ◌<◌, All, IfOk, length};
-ghost use Rattle.gq_plan.specs.Columns.{columns_of};
+ghost use Rattle.std.specs.List.{AllZip};
+ghost use Rattle.gq_plan.specs.Columns.{FitsSound};
 ghost use Rattle.gq_plan.specs.Soundness.{IsSound};
 ghost use Rattle.gq_plan.specs.Plans.{plan_of};
 ghost use Rattle.gq_reply.specs.Replies.{context_of};
@@ -19,22 +20,14 @@ use gq_plan::{Bound, Plan, Typed, columns};
 use gq_session::Tone;
 use std::alloc::Global;
 
-fn column_count(alloc: Global, plan: &Plan, typed: &Typed) -> Result<u32, Memory>
-    ensures { IfOk result (λ count. count ≡ columns_of typed.now (plan_of plan.now)) }
-{
-    match u32::try_from(columns(alloc, plan, typed)?) {
-        Ok(count) => Ok(count),
-        Err(_) => Err(Memory),
-    }
-}
-
 // How many columns the pipeline of each plan fills.
 fn column_counts(alloc: Global, alternatives: &[Typed], plans: &[Plan]) -> Result<List<u32>, Memory>
+    requires { AllZip (λ y p. FitsSound y (plan_of p)) alternatives.now plans.now }
     ensures { IfOk result (λ counts. counts ≡ columns_each alternatives.now plans.now) }
 {
     let mut counts = List::new(alloc);
     for (typed, plan) in alternatives.iter().zip(plans) {
-        counts.push(column_count(alloc, plan, typed)?)?;
+        counts.push(columns(plan, typed))?;
     }
     Ok(counts)
 }
