@@ -37,7 +37,7 @@ still_new false true h e = absurd (true≢false (sym (h refl)))
 
 module _ (catalog : Tables) (y : Typed) (w : Places) where
   -- what a step reads stands in groups that are seen
-  abbrev Reads : (ℕ → Type 0) → Step → Type 0
+  abbrev pub Reads : (ℕ → Type 0) → Step → Type 0
   Reads seen (Scan v) = Unit {0}
   Reads seen (Extend column x from to direction) = seen (w.nodes from)
   Reads seen (Close column x from to direction) = seen (w.nodes from) × seen (w.nodes to)
@@ -170,7 +170,7 @@ FlatAt flat j = flat j ≡ true
 abbrev SeenIn : (ℕ → Bool) → ℕ → ℕ → Type 0
 SeenIn flat i j = (j ≡ i) ⊎ (flat j ≡ true)
 
-low_from : (m : ℕ) (js : List ℕ) → last_of js ≤ m → AllByRecursion (λ j. j ≤ m) js
+pub low_from : (m : ℕ) (js : List ℕ) → last_of js ≤ m → AllByRecursion (λ j. j ≤ m) js
 low_from m [] h = tt
 low_from m (j ∷ js) h = (omega arith, low_from m js (omega arith))
 
@@ -187,7 +187,7 @@ all_seen flat i m e (j ∷ js) low h = go (nat_lt j m) refl h (all_seen flat i m
         same (inl less) = absurd (true≢false (sym (lt-ltb j m less) ∙ is))
         same (inr high) = (let l : j ≤ m = low.0 in omega arith)
 
-unmapped : {X : Type 0} (P : ℕ → Type 0) (f : X → ℕ) (xs : List X) → AllByRecursion P (map f xs) → AllByRecursion (λ x. P (f x)) xs
+pub unmapped : {X : Type 0} (P : ℕ → Type 0) (f : X → ℕ) (xs : List X) → AllByRecursion P (map f xs) → AllByRecursion (λ x. P (f x)) xs
 unmapped P f [] h = tt
 unmapped P f (x ∷ xs) h = (h.0, unmapped P f xs h.1)
 

@@ -15,7 +15,7 @@ use Rattle.gq_law_groups.proofs.Cutting.{are_groups}
 use Rattle.gq_law_groups.proofs.Moved.{groups_mean_plan}
 use Rattle.gq_law_groups.proofs.Ordered.{groups_enough}
 
-in_first : (js ks : List ℕ) (j : ℕ) → has_number js j ≡ true → has_number (js ++ ks) j ≡ true
+pub in_first : (js ks : List ℕ) (j : ℕ) → has_number js j ≡ true → has_number (js ++ ks) j ≡ true
 in_first [] ks j h = (let e : false ≡ true = h in cc)
 in_first (n ∷ js) ks j h = elim_or (nat_eq j n) (has_number js j) (has_number (js ++ ks) j) h (in_first js ks j)
   where
@@ -23,7 +23,7 @@ in_first (n ∷ js) ks j h = elim_or (nat_eq j n) (has_number js j) (has_number 
     elim_or true b c h f = refl
     elim_or false b c h f = f h
 
-in_second : (js ks : List ℕ) (j : ℕ) → has_number ks j ≡ true → has_number (js ++ ks) j ≡ true
+pub in_second : (js ks : List ℕ) (j : ℕ) → has_number ks j ≡ true → has_number (js ++ ks) j ≡ true
 in_second [] ks j h = h
 in_second (n ∷ js) ks j h = or_right (nat_eq j n) (has_number (js ++ ks) j) (in_second js ks j h)
 

@@ -1,29 +1,26 @@
 -- A try of a step on rows and load numbers that have what the step binds leaves them as they are.
-use Rattle.std.proofs.Common.{◌≡◌, ◌≢◌, ◌⊎◌, inl, inr, ℕ, zero, suc, ◌+◌, ◌^◌, ◌<◌, ◌≤◌, Bool, true, false, Option, Some, None, List, length, get_or, slice_get, refl, sym, ap, ◌∙◌, subst, arith, true≢false}
+use Rattle.std.proofs.Common.{◌≡◌, ◌⊎◌, inl, inr, ℕ, ◌+◌, ◌^◌, ◌<◌, ◌≤◌, Bool, length, refl, sym, ap, ◌∙◌, arith}
 use Rattle.std.specs.Prelude.{slice_index, slice_set}
-use Rattle.std.proofs.lemmas.Bool.{and_parts, cases_eq, cases_lt}
+use Rattle.std.proofs.lemmas.Bool.{cases_eq, cases_lt}
 use Rattle.std.proofs.lemmas.List.{set-get_or}
 use Rattle.std.proofs.lemmas.Option.{slice_get-get_or, slice_get_within}
 use Rattle.gq_base.specs.Valid.{row_count}
 use Rattle.gq_base.specs.declared.direction.Direction.{Direction}
-use Rattle.gq_plan.specs.Covers.{fits_step, goes}
-use Rattle.gq_plan.specs.Meaning.{holds}
-use Rattle.gq_plan.specs.Plans.{Step, Scan, Extend, Close, Join, Keep, Differ, NoLoop}
+use Rattle.gq_plan.specs.Plans.{Scan, Extend, Close, Keep, Differ, NoLoop}
 use Rattle.gq_plan.specs.Rows.{node_table, rel_table}
 use Rattle.gq_plan.specs.declared.assignment.Assignment.{Assignment}
 use Rattle.gq_store.proofs.Reading.{neighbours_below}
-use Rattle.gq_store.specs.Neighbours.{neighbours, numbers, near_rows, opposite}
+use Rattle.gq_store.specs.Neighbours.{neighbours, numbers}
 use Rattle.gq_pipe.specs.steps.Hops.{IsHop}
 use Rattle.gq_pipe.specs.steps.Levels.{Run, step_at, known}
 use Rattle.gq_pipe.specs.steps.Moves.{IsRun, IsHeld, IsTried}
 use Rattle.gq_pipe.specs.steps.Outcomes.{with_row, with_number}
-use Rattle.gq_pipe.specs.declared.follow.Hop.{Hop}
 use Rattle.gq_pipe.specs.declared.plan_run.Tried.{Tried}
 use Rattle.gq_pipe.specs.declared.plan_run.Tried.TheVariants.{Past, Missed, Made}
 use Rattle.gq_pipe.proofs.Following.{as_many}
 use Rattle.gq_pipe.proofs.Stepping.{Follows, follows}
 use Rattle.gq_pipe.proofs.Testing.{keep_tried, differ_tried, no_loop_tried}
-use Rattle.gq_pipe.proofs.Tried.{fit, scan_tried, extend_tried, extend_goes, close_tried, close_goes}
+use Rattle.gq_pipe.proofs.Tried.{scan_tried, extend_tried, extend_goes, close_tried, close_goes}
 
 -- what is written there already
 row_again : (a : Assignment) (v r : ℕ) → slice_index a.nodes v ≡ r → a ≡ with_row v r a

@@ -1,5 +1,5 @@
 -- The rows and load numbers at one selected position of each group of a chunk are those of the walk of these positions.
-use Rattle.std.proofs.Common.{◌≡◌, ◌≢◌, ◌⊎◌, inl, inr, ℕ, zero, suc, ◌+◌, ◌-◌, ◌*◌, ◌^◌, ◌<◌, ◌≤◌, Bool, true, false, ◌&&◌, not, Option, Some, None, List, [], ◌∷◌, ◌++◌, map, length, take, drop, get_or, slice_get, refl, sym, ap, ◌∙◌, subst, arith, true≢false, zero-add}
+use Rattle.std.proofs.Common.{◌≡◌, ◌⊎◌, inl, inr, ℕ, zero, suc, ◌+◌, ◌-◌, ◌^◌, ◌<◌, ◌≤◌, Bool, true, false, not, List, [], ◌∷◌, length, drop, refl, sym, ap, ◌∙◌, subst, arith, true≢false, zero-add}
 use Rattle.std.specs.Prelude.{slice_index, slice_index_or}
 use Rattle.std.specs.List.{range_with_len}
 use Rattle.std.proofs.lemmas.Bool.{and_parts, cases_eq}
@@ -9,18 +9,17 @@ use Rattle.std.proofs.lemmas.Option.{slice_get_within}
 use Rattle.gq_base.specs.Catalogs.{Tables}
 use Rattle.gq_base.specs.declared.direction.Direction.{Direction}
 use Rattle.gq_base.specs.declared.direction.Direction.TheVariants.{Forward, Backward}
-use Rattle.gq_group.specs.Chunks.{assignment_at, node_at, rel_at, edge_at, node_in, edge_in, group_of, first_in}
+use Rattle.gq_group.specs.Chunks.{assignment_at, node_at, rel_at, node_in, edge_in, group_of, first_in}
 use Rattle.gq_group.specs.Edges.{way as way_of, number_of}
 use Rattle.gq_group.specs.Groups.{AreSelected}
 use Rattle.gq_group.specs.declared.chunk.Chunk.{Chunk}
-use Rattle.gq_group.specs.declared.edge.EdgeAt.TheVariants as edge
 use Rattle.gq_group.specs.declared.home.NodeHome.TheVariants as node
 use Rattle.gq_group.specs.declared.home.RelHome.TheVariants as rel
 use Rattle.gq_plan.specs.Covers.{fits_step}
 use Rattle.gq_plan.specs.Known.{Known}
-use Rattle.gq_plan.specs.Meaning.{Partial, nothing}
+use Rattle.gq_plan.specs.Meaning.{nothing}
 use Rattle.gq_plan.specs.Plans.{Step, Scan, Extend, Close, Join, Keep, Differ, NoLoop, steps}
-use Rattle.gq_plan.specs.Rows.{node_table, rel_table}
+use Rattle.gq_plan.specs.Rows.{rel_table}
 use Rattle.gq_plan.specs.declared.assignment.Assignment.{Assignment}
 use Rattle.gq_plan.specs.declared.typed.Typed.{Typed}
 use Rattle.gq_store.specs.Neighbours.{neighbours, numbers}
@@ -29,8 +28,9 @@ use Rattle.gq_walks.specs.Running.{Runs, cursor_at, keys_of, prefix}
 use Rattle.gq_walks.specs.declared.walker.Cursor.{Cursor}
 use Rattle.gq_walks.proofs.Runs.{length-keys}
 use Rattle.gq_pipe.specs.Levels.{given}
+use Rattle.gq_pipe.specs.Plain.{is_plain}
 use Rattle.gq_pipe.specs.steps.Chunks.{AreStanding, list_of}
-use Rattle.gq_pipe.specs.steps.Homes.{AreHomes, InGroup, IsHoused, is_forward, node_home, rel_home}
+use Rattle.gq_pipe.specs.steps.Homes.{AreHomes, IsHoused, is_forward, node_home, rel_home}
 use Rattle.gq_pipe.specs.steps.Keeps.{IsRange, IsTriedAt}
 use Rattle.gq_pipe.specs.steps.Levels.{Run, step_at, known, before}
 use Rattle.gq_pipe.specs.steps.Lists.{no_group, group_at, group_in, groups_in, rows_in, layout_in, Tiles, Stands}
@@ -46,9 +46,9 @@ use Rattle.gq_pipe.proofs.Reading.{place_at, IsHere, here, item_is, first_is}
 use Rattle.gq_pipe.proofs.Resting.{stands_first}
 use Rattle.gq_pipe.proofs.Standings.{Met, both_stand, same_row, stands_part, prefix_more, tile_at, IsWithin}
 use Rattle.gq_pipe.proofs.Stepping.{Follows, follows}
-use Rattle.gq_pipe.proofs.Tried.{scan_low, scan_count, extend_goes, extend_parts, extend_count, close_goes, close_parts, close_count}
+use Rattle.gq_pipe.proofs.Tried.{scan_low, scan_count, extend_goes, extend_parts, close_goes}
 
-way_is : (w : Direction) → way_of (is_forward w) ≡ w
+pub way_is : (w : Direction) → way_of (is_forward w) ≡ w
 way_is Forward = refl
 way_is Backward = refl
 
@@ -60,12 +60,6 @@ extend_reads catalog y k column x from to w fit = (and_parts (k.nodes from) _ (a
 close_reads : (catalog : Tables) (y : Typed) (k : Known) (column : Bool) (x from to : ℕ) (w : Direction) → fits_step catalog y (Close column x from to w) k ≡ true → k.nodes from ≡ true
 unfolding fits_step
 close_reads catalog y k column x from to w fit = (and_parts (k.nodes from) _ (and_parts (not (k.rels x)) _ (and_parts _ _ fit).1).1).0
-
--- a step that no column of a pool and no build serves
-abbrev pub is_plain : Step → Bool
-is_plain (Extend column x from to w) = not column
-is_plain (Join side keys) = false
-is_plain s = true
 
 module _ (c : Run) (ss : List GroupSteps) (row : Assignment) (cs : List Cursor) (ms : List (List Bool)) (ch : Chunk) (ps : List ℕ) (runs : Runs (layout_in c ss) [] cs ms) (many : length cs ≡ length ss)
     (groups : AreStanding c ss row cs ms ch.groups.now (length ss)) (sel : AreSelected ch.groups.now ps)

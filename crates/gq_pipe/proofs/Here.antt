@@ -116,9 +116,10 @@ module _ (c : Run) (flat : ℕ → Bool) (row : Assignment) where
         size = r.size;
         keeps = r.keeps;
         stays = λ new moved. (moved_step c row new d r.s.first k a (omega (arith, at, before_end, later)) moved h.0, r.stays new moved);
-        next = λ new n moved at_next.
-            (moved_step c row new d r.s.first k a (omega (arith, at, before_end, later)) moved h.0,
-            r.next new n moved (subst (λ j. IsAtStep c new r.s.end (known_with (flat j) (group_in c.steps r.s) r.set) (with_group c.graph c.typed (rows_in c) flat j (group_in c.steps r.s) r.bound n)) same at_next));
+        next = λ new n moved at_next. (
+          moved_step c row new d r.s.first k a (omega (arith, at, before_end, later)) moved h.0,
+          r.next new n moved (subst (λ j. IsAtStep c new r.s.end (known_with (flat j) (group_in c.steps r.s) r.set) (with_group c.graph c.typed (rows_in c) flat j (group_in c.steps r.s) r.bound n)) same at_next),
+        );
       }
 
 -- ---- the steps that are placed at a group make at most one assignment each
@@ -254,8 +255,8 @@ module _ (c : Run) (ss : List GroupSteps) (row : Assignment) (pre : List ℕ) (s
             let same : length pre ≡ 0 + length pre = omega arith in
             subst (λ i. IsAtStep c new at.s.end (known_with (flat_in ss i) (group_in c.steps at.s) at.set) (with_group c.graph c.typed (rows_in c) (flat_in ss) i (group_in c.steps at.s) at.bound n)) same
             (record {
-                held = here_made.held;
-                bound = from_alike (known_with (flat_in ss (length pre)) (group_in c.steps at.s) at.set) (with_group c.graph c.typed (rows_in c) (flat_in ss) (length pre) (group_in c.steps at.s) at.bound n) (before c new at.s.end) bound_next;
+              held = here_made.held;
+              bound = from_alike (known_with (flat_in ss (length pre)) (group_in c.steps at.s) at.set) (with_group c.graph c.typed (rows_in c) (flat_in ss) (length pre) (group_in c.steps at.s) at.bound n) (before c new at.s.end) bound_next;
             })
 
         -- where it is kept, the group stands at its number

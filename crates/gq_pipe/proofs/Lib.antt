@@ -24,3 +24,9 @@ pub mod Agreeing
 pub mod Standings
 pub mod Reading
 pub mod Chosen
+pub mod Homing
+pub mod Piecing
+pub mod Products
+pub mod Chunking
+pub mod Chunked
+pub mod Holding

@@ -1,40 +1,23 @@
 -- What is read of a chunk at one selected position of each group is what the walk of these positions binds.
-use Rattle.std.proofs.Common.{◌≡◌, ◌≢◌, ◌⊎◌, inl, inr, ℕ, zero, suc, ◌+◌, ◌-◌, ◌*◌, ◌/◌, ◌%◌, ◌^◌, ◌<◌, ◌≤◌, min, Bool, true, false, cond, ◌&&◌, nat_eq, Option, Some, None, List, [], ◌∷◌, ◌++◌, map, length, take, drop, get_or, slice_get, refl, sym, ap, ◌∙◌, subst, arith, true≢false}
-use Rattle.std.specs.Prelude.{slice_index, slice_index_or, ◌==◌, All}
-use Rattle.std.specs.List.{range_with_len}
-use Rattle.std.proofs.lemmas.Bool.{and_parts, cases_eq, eqb-true}
-use Rattle.std.proofs.lemmas.List.{get_or_default, get_or-take, get_or-drop, set-get_or, length-map, take_more}
-use Rattle.std.proofs.lemmas.List.FromFn.{get_or-map-range_with_len, get_or-range_with_len, length-range_with_len}
-use Rattle.std.proofs.lemmas.Option.{slice_get-get_or, get_or_from_slice_get, slice_get_within}
-use Rattle.gq_base.specs.Valid.{row_count}
-use Rattle.gq_base.specs.declared.direction.Direction.{Direction}
-use Rattle.gq_base.specs.declared.direction.Direction.TheVariants.{Forward, Backward}
+use Rattle.std.proofs.Common.{◌≡◌, ℕ, zero, suc, ◌+◌, ◌*◌, ◌/◌, ◌%◌, ◌^◌, ◌<◌, Bool, true, false, Some, List, [], ◌∷◌, length, drop, slice_get, sym, ap, ◌∙◌, subst, arith, true≢false}
+use Rattle.std.specs.Prelude.{slice_index, slice_index_or}
+use Rattle.std.proofs.lemmas.Bool.{and_parts, eqb-true}
+use Rattle.std.proofs.lemmas.List.{get_or-take, get_or-drop}
 use Rattle.gq_bits.specs.Places.{is_marked}
-use Rattle.gq_group.specs.Chunks.{assignment_at, node_at, rel_at, edge_at, node_in, edge_in, items_in, first_in, group_of}
-use Rattle.gq_group.specs.Edges.{way, number_of}
+use Rattle.gq_group.specs.Chunks.{items_in, first_in, group_of}
 use Rattle.gq_group.specs.Groups.{AreSelected, is_selected, is_current}
-use Rattle.gq_group.specs.Pieces.{first_of, items_of}
 use Rattle.gq_group.specs.declared.chunk.Chunk.{Chunk}
-use Rattle.gq_group.specs.declared.edge.EdgeAt.TheVariants as edge
 use Rattle.gq_group.specs.declared.group.Group.{Group}
-use Rattle.gq_group.specs.declared.home.NodeHome.TheVariants as node
-use Rattle.gq_group.specs.declared.home.RelHome.TheVariants as rel
-use Rattle.gq_plan.specs.Covers.{fits_step}
-use Rattle.gq_plan.specs.Known.{Known}
-use Rattle.gq_plan.specs.Plans.{Step, Scan, Extend, Close, Join, Keep, Differ, NoLoop}
-use Rattle.gq_plan.specs.Rows.{node_table, rel_table}
 use Rattle.gq_plan.specs.declared.assignment.Assignment.{Assignment}
-use Rattle.gq_store.specs.Neighbours.{neighbours, numbers, near_rows, opposite}
-use Rattle.gq_walks.specs.Layouts.{Layout, IsPlace, piece_of, number_of as layout_number}
-use Rattle.gq_walks.specs.Running.{IsGroup, Runs, cursor_at, keys_of, prefix}
+use Rattle.gq_walks.specs.Layouts.{Layout, IsPlace, piece_of}
+use Rattle.gq_walks.specs.Running.{IsGroup, Runs, cursor_at, prefix}
 use Rattle.gq_walks.specs.declared.walker.Cursor.{Cursor}
 use Rattle.gq_walks.proofs.Runs.{flat-place, piece-place}
-use Rattle.gq_pipe.specs.steps.Chunks.{AreStanding, HasGroup, IsGroupAt, marked_at, current_at, list_of, part}
-use Rattle.gq_pipe.specs.steps.Homes.{AreHoused, InGroup, IsHoused, is_forward, node_home, rel_home}
-use Rattle.gq_pipe.specs.steps.Levels.{Run, step_at, known, before}
-use Rattle.gq_pipe.specs.steps.Lists.{group_at, flat_in, layout_in, Stands}
+use Rattle.gq_pipe.specs.steps.Chunks.{AreStanding, HasGroup, IsGroupAt, marked_at, list_of}
+use Rattle.gq_pipe.specs.steps.Levels.{Run, step_at}
+use Rattle.gq_pipe.specs.steps.Lists.{group_at, flat_in, layout_in}
 use Rattle.gq_pipe.specs.declared.places.GroupSteps.{GroupSteps}
-use Rattle.gq_pipe.proofs.Standings.{group_runs, stands_part}
+use Rattle.gq_pipe.proofs.Standings.{group_runs}
 
 -- ---- the position of a group in its whole list
 

@@ -1,18 +1,18 @@
 -- Groups that stand at their numbers: each of them, and what is known alike of two assignments with which they stand.
-use Rattle.std.proofs.Common.{◌≡◌, ℕ, zero, suc, ◌+◌, ◌<◌, ◌≤◌, Bool, true, false, cond, Option, Some, None, List, [], ◌∷◌, ◌++◌, length, take, drop, get_or, refl, sym, ap, ◌∙◌, subst, arith}
+use Rattle.std.proofs.Common.{◌≡◌, ℕ, zero, suc, ◌+◌, ◌<◌, ◌≤◌, Bool, true, cond, Some, None, List, [], ◌∷◌, ◌++◌, length, take, drop, refl, sym, ap, ◌∙◌, subst, arith}
 use Rattle.std.specs.Prelude.{slice_index, slice_index_or}
-use Rattle.std.proofs.lemmas.List.{append_assoc, append-nil, take_more, map_push, take-append-drop, length-map}
+use Rattle.std.proofs.lemmas.List.{append_assoc, append-nil, take_more, map_push, take-append-drop}
 use Rattle.gq_base.specs.declared.NodeId.{NodeId}
 use Rattle.gq_plan.specs.Covers.{fits_step}
 use Rattle.gq_plan.specs.Known.{Known, none}
-use Rattle.gq_plan.specs.Meaning.{Partial, nothing, look}
+use Rattle.gq_plan.specs.Meaning.{Partial, nothing}
 use Rattle.gq_plan.specs.Rows.{node_at}
 use Rattle.gq_plan.specs.declared.assignment.Assignment.{Assignment}
 use Rattle.gq_law_groups.specs.Layout.{with_group, known_with, AreFlatEnough}
 use Rattle.gq_walks.specs.Layouts.{Layout}
 use Rattle.gq_walks.specs.Running.{cursor_at, keys_of, prefix, IsGroup, Runs}
 use Rattle.gq_walks.specs.declared.walker.Cursor.{Cursor}
-use Rattle.gq_pipe.specs.steps.Levels.{Run, step_at, known, before}
+use Rattle.gq_pipe.specs.steps.Levels.{Run, step_at, known}
 use Rattle.gq_pipe.specs.steps.Lists.{group_at, group_in, groups_in, flat_in, rows_in, Tiles, IsAtStep, Chain, Stands}
 use Rattle.gq_pipe.specs.steps.Moves.{IsRun}
 use Rattle.gq_pipe.specs.declared.places.GroupSteps.{GroupSteps}

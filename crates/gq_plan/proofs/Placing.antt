@@ -51,7 +51,7 @@ module _ (catalog : Tables) (y : Typed) where
     pub nodes : (v : ℕ) → k.nodes v ≡ true → v < length y.nodes
     pub rels : (x : ℕ) → k.rels x ≡ true → x < length y.rels
 
-  none_low : IsLow none
+  pub none_low : IsLow none
   none_low = record { nodes = λ v e. absurd (true≢false (sym e)); rels = λ x e. absurd (true≢false (sym e)) }
 
   -- with one more of them
@@ -89,7 +89,7 @@ module _ (catalog : Tables) (y : Typed) where
   mutual
     unfolding after after_step fits fits_step
 
-    after_low : (p : Plan) (k : Known) → fits catalog y p k ≡ true → IsLow k → IsLow (after p k)
+    pub after_low : (p : Plan) (k : Known) → fits catalog y p k ≡ true → IsLow k → IsLow (after p k)
     after_low Done k h low = low
     after_low (Then s p) k h low =
         let parts = and_parts (fits_step catalog y s k) (fits catalog y p (after_step s k)) h in

@@ -1,5 +1,5 @@
 -- The groups of the chunk that stands: the piece of each group's whole list, and the marks of its positions.
-use Rattle.std.specs.Prelude.{◌≡◌, ◌<◌, ◌*◌, ◌/◌, ◌%◌, ◌==◌, ℕ, Bool, true, false, Option, Some, None, List, [], length, take, drop, slice_get, slice_index, slice_index_or}
+use Rattle.std.specs.Prelude.{◌≡◌, ◌<◌, ◌≤◌, ◌*◌, ◌^◌, ◌%◌, ◌==◌, ℕ, Bool, true, false, Option, Some, None, List, [], length, take, drop, slice_get, slice_index, slice_index_or}
 use Rattle.std.specs.List.{range_with_len}
 use Rattle.gq_base.specs.Valid.{row_count}
 use Rattle.gq_bits.specs.Places.{is_marked}
@@ -7,14 +7,16 @@ use Rattle.gq_group.specs.Pieces.{first_of, items_of}
 use Rattle.gq_group.specs.declared.group.Group.{Group}
 use Rattle.gq_group.specs.declared.piece.Piece.{Piece}
 use Rattle.gq_join.specs.Kept.{Held, matches_of}
-use Rattle.gq_plan.specs.Plans.{Step, Scan, Extend, Close, Join, Keep, Differ, NoLoop}
+use Rattle.gq_plan.specs.Plans.{Step, Scan, Extend, Close, Join}
 use Rattle.gq_plan.specs.Rows.{node_table, rel_table}
 use Rattle.gq_plan.specs.declared.assignment.Assignment.{Assignment}
 use Rattle.gq_store.specs.Neighbours.{neighbours}
 use Rattle.gq_walks.specs.Layouts.{piece_of}
 use Rattle.gq_walks.specs.Running.{cursor_at}
 use Rattle.gq_walks.specs.declared.walker.Cursor.{Cursor}
-use Rattle.gq_pipe.specs.steps.Levels.{Run, step_at}
+use Rattle.gq_law_groups.specs.Groups.{makes_group}
+use Rattle.gq_pipe.specs.steps.Levels.{Run, step_at, known}
+use Rattle.gq_pipe.specs.steps.Moves.{IsRun, IsHeld}
 use Rattle.gq_pipe.specs.steps.Lists.{group_at}
 use Rattle.gq_pipe.specs.declared.places.GroupSteps.{GroupSteps}
 
@@ -62,3 +64,12 @@ pub record HasGroup (c : Run) (row : Assignment) (s : GroupSteps) (cursor : Curs
 -- the groups before one stand at the numbers of their cursors
 abbrev pub AreStanding : Run → List GroupSteps → Assignment → List Cursor → List (List Bool) → List Group → ℕ → Type 0
 AreStanding c ss row cursors marks gs n = (i : ℕ) → i < n → HasGroup c row (group_at ss i) (cursor_at cursors i) (slice_index_or marks i []) gs i
+
+-- a group has a piece at the number of its cursor
+pub record CanStand (c : Run) (row : Assignment) (s : GroupSteps) (cursor : Cursor) : Type 0 where
+  pub run : IsRun c
+  pub low : s.first < length c.steps
+  pub makes : makes_group (step_at c s.first) ≡ true
+  pub held : IsHeld c row (known c s.first)
+  pub inside : 1024 * piece_of s.flat cursor.key ≤ length (list_of c s.first row (step_at c s.first))
+  pub few : length (list_of c s.first row (step_at c s.first)) < 2 ^ 32

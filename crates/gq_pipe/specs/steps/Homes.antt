@@ -7,7 +7,7 @@ use Rattle.gq_group.specs.declared.home.NodeHome.{NodeHome}
 use Rattle.gq_group.specs.declared.home.NodeHome.TheVariants as node
 use Rattle.gq_group.specs.declared.home.RelHome.{RelHome}
 use Rattle.gq_group.specs.declared.home.RelHome.TheVariants as rel
-use Rattle.gq_plan.specs.Plans.{Step, Scan, Extend, Close, Join, Keep, Differ, NoLoop}
+use Rattle.gq_plan.specs.Plans.{Step, Scan, Extend, Close}
 use Rattle.gq_pipe.specs.steps.Levels.{Run, step_at, known}
 use Rattle.gq_pipe.specs.steps.Lists.{group_at}
 use Rattle.gq_pipe.specs.declared.places.GroupSteps.{GroupSteps}
@@ -63,3 +63,10 @@ pub record AreHomes (c : Run) (ss : List GroupSteps) (i d : ℕ) (h : Homes) : T
 pub record AreHoused (c : Run) (ss : List GroupSteps) (i d : ℕ) (h : Homes) : Type 0 where
   pub homes : AreHomes c ss i d h
   pub here : (e : ℕ) → (group_at ss i).first ≤ e → e < d → IsHoused h i (step_at c e)
+
+-- what a step binds are variables that have homes
+abbrev pub CanHouse : Homes → Step → Type 0
+CanHouse h (Scan v) = v < length h.nodes
+CanHouse h (Extend column x from to way) = (x < length h.rels) × (to < length h.nodes)
+CanHouse h (Close column x from to way) = x < length h.rels
+CanHouse h s = Unit {0}
