@@ -1,3 +1,4 @@
+pub mod Covering
 pub mod Draining
 pub mod Going
 pub mod OneReply

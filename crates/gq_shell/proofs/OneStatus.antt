@@ -260,11 +260,11 @@ module _ (words : List (List ℕ)) (files : Names) (input : List ℕ) where
   one_by s s' (answered t text is o) (too_long is' o') = absurd (o.told.2.0 o'.told.2)
   one_by s s' (answered t text is o) (answered t' text' is' o') = two_ends s s' t t' text text' is is' o o'
   one_by s s' (answered t text is o) (sampled t' text' is' o') = absurd (no_input _ o'.read o'.given o'.size o'.from o)
-  one_by s s' (sampled t text is o) (misused is' m) = absurd (not_misused words o.read m o.given)
-  one_by s s' (sampled t text is o) (unloaded text is' n) = absurd (not_unloaded text n _ o)
-  one_by s s' (sampled t text is o) (too_long is' o') = absurd (no_input _ o.read o.given o.size o.from o')
-  one_by s s' (sampled t text is o) (answered t' text is' o') = absurd (no_input _ o.read o.given o.size o.from o')
-  one_by s s' (sampled t text is o) (sampled t' text' is' o') = two_quizzes s s' t t' text text' is is' o o'
+  one_by s s' (sampled t replies is o) (misused is' m) = absurd (not_misused words o.read m o.given)
+  one_by s s' (sampled t replies is o) (unloaded text is' n) = absurd (not_unloaded text n _ o)
+  one_by s s' (sampled t replies is o) (too_long is' o') = absurd (no_input _ o.read o.given o.size o.from o')
+  one_by s s' (sampled t replies is o) (answered t' text is' o') = absurd (no_input _ o.read o.given o.size o.from o')
+  one_by s s' (sampled t replies is o) (sampled t' text' is' o') = two_quizzes s s' t t' replies text' is is' o o'
 
   pub one_status : (s s' : Status) (t t' : List ℕ) → Permits words (Some files) (Some input) s t → Permits words (Some files) (Some input) s' t' → Only s s'
   one_status s s' t t' p q = one_by s s' (sort s t p) (sort s' t' q)

@@ -39,7 +39,7 @@ others k = range_with_len (k + 2) (6 - (k + 1))
 
 -- numbers, and those behind them
 parts : (a b m n k : ℕ) → a + m ≡ b → m + n ≡ k → range_with_len a m ++ range_with_len b n ≡ range_with_len a k
-parts a b zero n k e f = ap₂ range_with_len (omega (arith, e)) f
+parts a b zero n k e f = ap₂ range_with_len (omega (arith, e)) (omega (arith, f))
 parts a b (suc m) n zero e f = absurd (omega (arith, f))
 parts a b (suc m) n (suc k) e f = ap (λ l. a ∷ l) (parts (a + 1) b m n k (omega (arith, e)) (omega (arith, f)))
 
