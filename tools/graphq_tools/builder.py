@@ -87,7 +87,7 @@ class Rels:
 
     def declare(self, word: str) -> None:
         """Sets the multiplicity that the rows have to keep."""
-        self._declared, self._one_source, self._one_target = word, single_source(word), single_target(word)
+        self._declared, self._one_source, self._one_target = (word, single_source(word), single_target(word))
 
     def add(self, source: str, target: str, places: Sequence[int], cells: Sequence[str]) -> None:
         """Adds a relationship between two keys."""
@@ -224,7 +224,7 @@ class Builder:
             relation = rels.finish(self._folder, names.take(rels.type), shared, self.notes)
             summaries.append(relation.summary(rels.spool.rows))
             graph.rels.append(relation)
-        for one in [*graph.nodes, *graph.rels]:
+        for one in graph.tables():
             total += (self._folder / one.file).stat().st_size
             one.file = f"{prefix}/{one.file}"
         if total > MOST_BYTES:
@@ -234,7 +234,7 @@ class Builder:
         return graph, summaries
 
     def _manifest(self, graph: Graph) -> None:
-        text = "".join(f"{one.line()}\n" for one in [*graph.nodes, *graph.rels])
+        text = "".join(f"{one.line()}\n" for one in graph.tables())
         if len(text.encode()) > MOST_MANIFEST_BYTES:
             raise Refusal("the manifest would be too long", Status.BAD_GRAPH)
         path = self._folder / f"{self.name}.manifest"

@@ -82,7 +82,9 @@ def parser() -> argparse.ArgumentParser:
     edges.add_argument("file", metavar="FILE")
     edges.add_argument("--columns", default="", metavar="NAME:KIND,..", help="what stands behind the two ids of a line")
     graph = forms.add_parser("networkx", parents=[common], help="GraphML, GEXF, GML or node-link JSON")
-    graph.add_argument("file", metavar="FILE", help="its name ends with .graphml, .gexf, .gml or .json, and perhaps .gz")
+    graph.add_argument(
+        "file", metavar="FILE", help="its name ends with .graphml, .gexf, .gml or .json, and perhaps .gz"
+    )
     graph.add_argument("--labels-from", default="labels", metavar="NAME", help="the attribute with the labels (labels)")
     graph.add_argument("--type-from", default="type", metavar="NAME", help="the attribute with the type (type)")
     return top

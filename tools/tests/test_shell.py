@@ -17,7 +17,7 @@ from graphq_tools.replies import Node, Other, Relationship, Rows, read_reply, va
 from graphq_tools.statements import is_blank, split
 from graphq_tools.text_table import aligned, caret
 
-from .support import METRO, PEOPLE, PROGRAM, TOOLS, TOP, ToolTest, ask, needs_module
+from .support import METRO, PEOPLE, TOOLS, TOP, ToolTest, ask, needs_module
 
 
 class Statements(unittest.TestCase):
@@ -25,7 +25,7 @@ class Statements(unittest.TestCase):
         for text, wanted in {
             "a;b": (["a"], "b"),
             "a ';' b; c": (["a ';' b"], " c"),
-            "a \";\\\";\" b;": (['a ";\\";" b'], ""),
+            'a ";\\";" b;': (['a ";\\";" b'], ""),
             "`;`;x // ;\n y;": (["`;`", "x // ;\n y"], ""),
             "a /* ; */;": (["a /* ; */"], ""),
             "a ' ;": ([], "a ' ;"),
@@ -91,7 +91,12 @@ class Completion(unittest.TestCase):
     NAMES = Names(["Station", "Line"], ["TRACK", "STOPS_AT"], ["name", "zone"])
 
     def test_schema(self) -> None:
-        lines = ["node A:B 3 id:int x:string", "node B 1 id:int", "rel R A:B B many_one 4 y:bool", "rel R B B one_one 0"]
+        lines = [
+            "node A:B 3 id:int x:string",
+            "node B 1 id:int",
+            "rel R A:B B many_one 4 y:bool",
+            "rel R B B one_one 0",
+        ]
         self.assertEqual(read_schema(lines), Names(["A", "B"], ["R"], ["id", "x", "y"]))
 
     def test_places(self) -> None:
@@ -116,7 +121,10 @@ class Completion(unittest.TestCase):
 
 class Piped(ToolTest):
     def test_tables_carets_and_status(self) -> None:
-        text = "MATCH (p:Person)\nRETURN p.name AS n, p.age ORDER BY p.id;\nMATCH (p:Person\n  RETURN p;\n.mode csv\nMATCH (p {id: 2}) RETURN p, p.name, p.age"
+        text = (
+            "MATCH (p:Person)\nRETURN p.name AS n, p.age ORDER BY p.id;\nMATCH (p:Person\n  RETURN p;\n"
+            ".mode csv\nMATCH (p {id: 2}) RETURN p, p.name, p.age"
+        )
         status, output, _ = self.tool("graphq-shell", "--manifest", TOP / PEOPLE, text=text, cwd=TOP)
         self.assertEqual(status, 1)
         self.assertEqual(
@@ -156,7 +164,12 @@ class Piped(ToolTest):
         self.write("s.cypher", "MATCH (p {id: 1}) RETURN p.name;")
         text = f".read {self.folder}/s.cypher\n.nothing\n.mode loud\n.quit\n:schema;\n"
         status, output, _ = self.tool("graphq-shell", "--manifest", PEOPLE, "--mode", "csv", text=text, cwd=TOP)
-        wanted = ["p.name", "Ann", ".nothing: there is no such command; .help has them", ".mode is one of table, plain, csv"]
+        wanted = [
+            "p.name",
+            "Ann",
+            ".nothing: there is no such command; .help has them",
+            ".mode is one of table, plain, csv",
+        ]
         self.assertEqual((status, output.splitlines()), (1, wanted))
 
 
