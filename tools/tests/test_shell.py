@@ -176,10 +176,10 @@ class Piped(ToolTest):
 class Terminal:
     """A shell at a pseudo-terminal."""
 
-    def __init__(self, test: ToolTest, *words: str) -> None:
+    def __init__(self, test: ToolTest, *words: str, more: dict[str, str] | None = None) -> None:
         # Nobody here answers where the cursor stands, which prompt_toolkit would ask.
         own = {"TERM": "xterm", "PROMPT_TOOLKIT_NO_CPR": "1", "PAGER": "cat", "XDG_STATE_HOME": str(test.folder)}
-        environment = {**os.environ, **own}
+        environment = {**os.environ, **own, **(more or {})}
         self._end, other = pty.openpty()
         termios.tcsetwinsize(other, (40, 160))
         self._seen = ""
@@ -225,7 +225,9 @@ class AtTerminal(ToolTest):
         terminal = Terminal(self, "--manifest", METRO)
         terminal.until("4 labels and 5 types")
         terminal.until("graphq>")
-        terminal.type("MATCH (s:Station {code: 'CEN'})\r")
+        terminal.type("MATCH (s:Stat\t")
+        terminal.until("Station")
+        terminal.type(" {code: 'CEN'})\r")
         terminal.until("...>")
         terminal.type("RETURN s.name;\r")
         terminal.until("'Central'")
@@ -260,3 +262,27 @@ class AtTerminal(ToolTest):
         terminal.until("graphq>")
         terminal.type(".quit\r")
         self.assertEqual(terminal.process.wait(20), 0)
+
+
+class ByReadline(ToolTest):
+    def test_completion_history_and_stop(self) -> None:
+        """Without prompt_toolkit a line is edited by readline."""
+        self.write("without/prompt_toolkit.py", "raise ImportError\n")
+        more = {"PYTHONPATH": str(self.folder / "without"), "TERM": "dumb"}
+        terminal = Terminal(self, "--manifest", METRO, more=more)
+        terminal.until("graphq>")
+        terminal.type("MATCH (s:Stat\t")
+        terminal.until("Station")
+        terminal.type(" {code: 'CEN'}) RETURN s.name;\r")
+        terminal.until("'Central'")
+        terminal.until("graphq>")
+        terminal.type("MATCH (s '\r")
+        terminal.until("...>")
+        terminal.type("\x03")
+        terminal.until("graphq>")
+        terminal.type("MATCH (s:Station {code: 'CAS'}) RETURN s.name;\r")
+        terminal.until("'Castle'")
+        terminal.until("graphq>")
+        terminal.type("\x04")
+        self.assertEqual(terminal.process.wait(20), 0)
+        self.assertIn("RETURN s.name;", (self.folder / "graphq/history").read_text())
