@@ -221,7 +221,7 @@ class Builder:
             summaries.append(table.summary(nodes.spool.rows))
             graph.nodes.append(table)
         for rels in self._rels.values():
-            relation = rels.finish(self._folder, names.take(rels.type), shared, self.notes)
+            relation = rels.finish(self._folder, names.take(self._stem(rels)), shared, self.notes)
             summaries.append(relation.summary(rels.spool.rows))
             graph.rels.append(relation)
         for one in graph.tables():
@@ -232,6 +232,11 @@ class Builder:
         self.name = Path(prefix).resolve().name or self.name
         self._manifest(graph)
         return graph, summaries
+
+    def _stem(self, rels: Rels) -> str:
+        """The name of a table's file: its type, with its place where the type has several tables."""
+        same = [one for one in self._rels.values() if one.type == rels.type]
+        return rels.type if len(same) == 1 else f"{rels.type}_{same.index(rels) + 1}"
 
     def _manifest(self, graph: Graph) -> None:
         text = "".join(f"{one.line()}\n" for one in graph.tables())

@@ -63,7 +63,15 @@ def parser() -> argparse.ArgumentParser:
     )
     forms = top.add_subparsers(dest="form", required=True, metavar="FORM")
     common = _common()
-    neo4j = forms.add_parser("neo4j", parents=[common], help="CSV files with the headers of neo4j-admin")
+
+    def add(form: str, about: str) -> argparse.ArgumentParser:
+        """A form, with the examples that are about it."""
+        lines = [line for line in _EXAMPLES.splitlines() if line.startswith(f"  graphq-import {form} ")]
+        style = argparse.RawDescriptionHelpFormatter
+        epilog = "\n".join(["examples:", *lines])
+        return forms.add_parser(form, parents=[common], help=about, epilog=epilog, formatter_class=style)
+
+    neo4j = add("neo4j", "CSV files with the headers of neo4j-admin")
     neo4j.add_argument("files", nargs="*", metavar="FILE[,FILE..]", help="files of nodes or relationships; one header")
     neo4j.add_argument("--nodes", action="append", default=[], metavar="[LABEL[:LABEL]=]FILE[,FILE..]")
     neo4j.add_argument("--relationships", action="append", default=[], metavar="[TYPE=]FILE[,FILE..]")
@@ -76,12 +84,12 @@ def parser() -> argparse.ArgumentParser:
         default="actual",
         help="ids as texts or integers; actual: a table's ids are integers where all of them read as such (actual)",
     )
-    kuzu = forms.add_parser("kuzu", parents=[common], help="a script of Kùzu with its CSV files")
+    kuzu = add("kuzu", "a script of Kùzu with its CSV files")
     kuzu.add_argument("script", metavar="SCRIPT")
-    edges = forms.add_parser("edges", parents=[common], help="an edge list as SNAP has them")
+    edges = add("edges", "an edge list as SNAP has them")
     edges.add_argument("file", metavar="FILE")
     edges.add_argument("--columns", default="", metavar="NAME:KIND,..", help="what stands behind the two ids of a line")
-    graph = forms.add_parser("networkx", parents=[common], help="GraphML, GEXF, GML or node-link JSON")
+    graph = add("networkx", "GraphML, GEXF, GML or node-link JSON")
     graph.add_argument(
         "file", metavar="FILE", help="its name ends with .graphml, .gexf, .gml or .json, and perhaps .gz"
     )

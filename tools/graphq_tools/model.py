@@ -94,6 +94,11 @@ class Graph:
         """The tables of a type of relationships."""
         return [table for table in self.rels if table.type == type_name]
 
+    def name_of(self, table: RelTable) -> str:
+        """The type of a table, with its place among the tables of the type where there are several, from 1."""
+        tables = self.tables_of(table.type)
+        return table.type if len(tables) == 1 else f"{table.type}_{tables.index(table) + 1}"
+
     def types(self) -> list[str]:
         """The types of relationships, each once, in the order of their first tables."""
         return list(dict.fromkeys(table.type for table in self.rels))

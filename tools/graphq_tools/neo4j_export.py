@@ -46,7 +46,7 @@ def export_neo4j(graph: Graph, folder: Path) -> list[str]:
         broken |= write_csv(folder / file, _node_header(node), _node_rows(node))
         words.append(f"--nodes={file}")
     for rel in graph.rels:
-        file = names.take(rel.type)
+        file = names.take(graph.name_of(rel))
         rows = ([*row, rel.type] for row in rel_rows(rel, graph))
         broken |= write_csv(folder / file, _rel_header(rel), rows)
         words.append(f"--relationships={file}")

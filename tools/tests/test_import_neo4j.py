@@ -87,8 +87,8 @@ class Neo4jImport(ToolTest):
             ],
         )
         self.assertEqual((self.folder / "g/person-student.csv").read_text(), "id:int,school:string\n7,MIT\n8,Yale\n")
-        self.assertEqual((self.folder / "g/knows.csv").read_text(), "from,to\n7,1\n8,1\n")
-        self.assertEqual((self.folder / "g/knows-2.csv").read_text(), "from,to\n1,7\n")
+        self.assertEqual((self.folder / "g/knows_1.csv").read_text(), "from,to\n7,1\n8,1\n")
+        self.assertEqual((self.folder / "g/knows_2.csv").read_text(), "from,to\n1,7\n")
 
     @unittest.skipUnless(knows_several_labels(), "the program takes one label for a table")
     def test_several_labels_are_asked(self) -> None:
