@@ -146,6 +146,11 @@ class Builder:
         self._spools += 1
         return Spool(self._folder / f".rows-{self._spools}", leading)
 
+    def close(self) -> None:
+        """Closes the files of rows; where the graph is finished, they are closed already."""
+        for table in [*self._nodes.values(), *self._rels.values()]:
+            table.spool.close()
+
     def nodes(self, labels: Sequence[str]) -> Nodes:
         """The table for a set of labels."""
         distinct = tuple(dict.fromkeys(labels))

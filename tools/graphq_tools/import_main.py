@@ -3,6 +3,7 @@
 from __future__ import annotations
 
 import argparse
+import contextlib
 from collections.abc import Sequence
 
 from . import edges_import, kuzu_import, neo4j_import, networkx_import
@@ -140,13 +141,13 @@ def main(arguments: Sequence[str]) -> int:
     words = parser().parse_args(arguments)
     scale = parse_scale(words.scale)
     choices = Choices(words.decimals, scale, words.dates == "integer", set(words.drop), set(words.text))
-    with new_folder(words.out) as folder:
-        into = intake(Builder(folder), choices, words)
+    with new_folder(words.out) as folder, contextlib.closing(Builder(folder)) as builder:
+        into = intake(builder, choices, words)
         _read(words, into)
-        _, summaries = into.builder.finish(words.out)
+        _, summaries = builder.finish(words.out)
     if not words.quiet:
         for line in [*summaries, *into.notes()]:
             print(line)
         name = words.out.rstrip("/")
-        print(f"ask it: graphq --manifest {name}/{into.builder.name}.manifest")
+        print(f"ask it: graphq --manifest {name}/{builder.name}.manifest")
     return int(Status.DONE)
