@@ -87,7 +87,7 @@ class Rels:
 
     def declare(self, word: str) -> None:
         """Sets the multiplicity that the rows have to keep."""
-        self._declared, self._one_source, self._one_target = word, single_source(word), single_target(word)
+        self._declared, self._one_source, self._one_target = (word, single_source(word), single_target(word))
 
     def add(self, source: str, target: str, places: Sequence[int], cells: Sequence[str]) -> None:
         """Adds a relationship between two keys."""
@@ -145,6 +145,11 @@ class Builder:
     def _spool(self, leading: int) -> Spool:
         self._spools += 1
         return Spool(self._folder / f".rows-{self._spools}", leading)
+
+    def close(self) -> None:
+        """Closes the files of rows; where the graph is finished, they are closed already."""
+        for table in [*self._nodes.values(), *self._rels.values()]:
+            table.spool.close()
 
     def nodes(self, labels: Sequence[str]) -> Nodes:
         """The table for a set of labels."""
@@ -221,10 +226,10 @@ class Builder:
             summaries.append(table.summary(nodes.spool.rows))
             graph.nodes.append(table)
         for rels in self._rels.values():
-            relation = rels.finish(self._folder, names.take(rels.type), shared, self.notes)
+            relation = rels.finish(self._folder, names.take(self._stem(rels)), shared, self.notes)
             summaries.append(relation.summary(rels.spool.rows))
             graph.rels.append(relation)
-        for one in [*graph.nodes, *graph.rels]:
+        for one in graph.tables():
             total += (self._folder / one.file).stat().st_size
             one.file = f"{prefix}/{one.file}"
         if total > MOST_BYTES:
@@ -233,8 +238,13 @@ class Builder:
         self._manifest(graph)
         return graph, summaries
 
+    def _stem(self, rels: Rels) -> str:
+        """The name of a table's file: its type, with its place where the type has several tables."""
+        same = [one for one in self._rels.values() if one.type == rels.type]
+        return rels.type if len(same) == 1 else f"{rels.type}_{same.index(rels) + 1}"
+
     def _manifest(self, graph: Graph) -> None:
-        text = "".join(f"{one.line()}\n" for one in [*graph.nodes, *graph.rels])
+        text = "".join(f"{one.line()}\n" for one in graph.tables())
         if len(text.encode()) > MOST_MANIFEST_BYTES:
             raise Refusal("the manifest would be too long", Status.BAD_GRAPH)
         path = self._folder / f"{self.name}.manifest"

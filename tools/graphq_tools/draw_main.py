@@ -38,7 +38,9 @@ def parser() -> argparse.ArgumentParser:
         epilog=_EXAMPLES,
         formatter_class=argparse.RawDescriptionHelpFormatter,
     )
-    top.add_argument("query", nargs="?", metavar="QUERY", help="a query, or :plan and a query; else it is read from input")
+    top.add_argument(
+        "query", nargs="?", metavar="QUERY", help="a query, or :plan and a query; else it is read from input"
+    )
     top.add_argument("--manifest", required=True, metavar="PATH", help="the graph")
     top.add_argument("--out", metavar="FILE", help="the picture; without it, standard output")
     top.add_argument(

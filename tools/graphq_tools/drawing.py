@@ -86,9 +86,9 @@ def _find_captions(table: NodeTable, captions: dict[str, str], drawn: Picture) -
         drawn.nodes[node] = str(node.key)
     if asked and mine:
         for row in node_rows(table):
-            node = mine.get(_key(row[0], table))
-            if node is not None and row[asked[0]]:
-                drawn.nodes[node] = row[asked[0]]
+            found = mine.get(_key(row[0], table))
+            if found is not None and row[asked[0]]:
+                drawn.nodes[found] = row[asked[0]]
 
 
 def draw_rows(drawn: Picture, graph: Graph) -> str:

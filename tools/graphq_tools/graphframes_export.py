@@ -46,7 +46,7 @@ if __name__ == "__main__":
 
 
 def _columns(leading: list[str], wide: list[Field], notes: list[str]) -> list[Field]:
-    """The leading columns and the properties, where a property gives way to a leading one and to one of another case."""
+    """The leading columns and the properties: a property gives way to a leading one and to one of another case."""
     columns, taken = [Field(name, "string") for name in leading], {name.lower() for name in leading}
     for field in wide:
         name = unused(field.name, taken)

@@ -3,6 +3,7 @@
 from __future__ import annotations
 
 import argparse
+import contextlib
 from collections.abc import Sequence
 
 from . import edges_import, kuzu_import, neo4j_import, networkx_import
@@ -63,7 +64,15 @@ def parser() -> argparse.ArgumentParser:
     )
     forms = top.add_subparsers(dest="form", required=True, metavar="FORM")
     common = _common()
-    neo4j = forms.add_parser("neo4j", parents=[common], help="CSV files with the headers of neo4j-admin")
+
+    def add(form: str, about: str) -> argparse.ArgumentParser:
+        """A form, with the examples that are about it."""
+        lines = [line for line in _EXAMPLES.splitlines() if line.startswith(f"  graphq-import {form} ")]
+        style = argparse.RawDescriptionHelpFormatter
+        epilog = "\n".join(["examples:", *lines])
+        return forms.add_parser(form, parents=[common], help=about, epilog=epilog, formatter_class=style)
+
+    neo4j = add("neo4j", "CSV files with the headers of neo4j-admin")
     neo4j.add_argument("files", nargs="*", metavar="FILE[,FILE..]", help="files of nodes or relationships; one header")
     neo4j.add_argument("--nodes", action="append", default=[], metavar="[LABEL[:LABEL]=]FILE[,FILE..]")
     neo4j.add_argument("--relationships", action="append", default=[], metavar="[TYPE=]FILE[,FILE..]")
@@ -76,13 +85,15 @@ def parser() -> argparse.ArgumentParser:
         default="actual",
         help="ids as texts or integers; actual: a table's ids are integers where all of them read as such (actual)",
     )
-    kuzu = forms.add_parser("kuzu", parents=[common], help="a script of Kùzu with its CSV files")
+    kuzu = add("kuzu", "a script of Kùzu with its CSV files")
     kuzu.add_argument("script", metavar="SCRIPT")
-    edges = forms.add_parser("edges", parents=[common], help="an edge list as SNAP has them")
+    edges = add("edges", "an edge list as SNAP has them")
     edges.add_argument("file", metavar="FILE")
     edges.add_argument("--columns", default="", metavar="NAME:KIND,..", help="what stands behind the two ids of a line")
-    graph = forms.add_parser("networkx", parents=[common], help="GraphML, GEXF, GML or node-link JSON")
-    graph.add_argument("file", metavar="FILE", help="its name ends with .graphml, .gexf, .gml or .json, and perhaps .gz")
+    graph = add("networkx", "GraphML, GEXF, GML or node-link JSON")
+    graph.add_argument(
+        "file", metavar="FILE", help="its name ends with .graphml, .gexf, .gml or .json, and perhaps .gz"
+    )
     graph.add_argument("--labels-from", default="labels", metavar="NAME", help="the attribute with the labels (labels)")
     graph.add_argument("--type-from", default="type", metavar="NAME", help="the attribute with the type (type)")
     return top
@@ -130,13 +141,13 @@ def main(arguments: Sequence[str]) -> int:
     words = parser().parse_args(arguments)
     scale = parse_scale(words.scale)
     choices = Choices(words.decimals, scale, words.dates == "integer", set(words.drop), set(words.text))
-    with new_folder(words.out) as folder:
-        into = intake(Builder(folder), choices, words)
+    with new_folder(words.out) as folder, contextlib.closing(Builder(folder)) as builder:
+        into = intake(builder, choices, words)
         _read(words, into)
-        _, summaries = into.builder.finish(words.out)
+        _, summaries = builder.finish(words.out)
     if not words.quiet:
         for line in [*summaries, *into.notes()]:
             print(line)
         name = words.out.rstrip("/")
-        print(f"ask it: graphq --manifest {name}/{into.builder.name}.manifest")
+        print(f"ask it: graphq --manifest {name}/{builder.name}.manifest")
     return int(Status.DONE)

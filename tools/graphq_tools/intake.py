@@ -65,5 +65,5 @@ def intake(builder: Builder, choices: Choices, words: argparse.Namespace) -> Int
     for option, name in (("--label", words.label), ("--type", words.type)):
         if not is_plain(name):
             raise Refusal(f"{option} {name}: it is letters, digits and _", Status.BAD_WORDS)
-    names = [Names(what, renamed) for what in ("the label", "the type", "the property")]
-    return Intake(builder, choices, *names, words.label, words.type)
+    labels, types, properties = (Names(what, renamed) for what in ("the label", "the type", "the property"))
+    return Intake(builder, choices, labels, types, properties, words.label, words.type)

@@ -46,7 +46,7 @@ def export_kuzu(graph: Graph, folder: Path) -> list[str]:
         pairs = [f"FROM {_quoted(table.source)} TO {_quoted(table.target)}" for table in tables]
         makes.append(f"CREATE REL TABLE {_quoted(name)}({', '.join([*pairs, *_columns(wide), _loosest(tables)])});")
         for table in tables:
-            file = names.take(name)
+            file = names.take(graph.name_of(table))
             rows = spread(rel_rows(table, graph), 2, table.fields, wide)
             broken = write_csv(folder / file, ["from", "to", *(field.name for field in wide)], rows)
             pair = [f"from='{table.source}'", f"to='{table.target}'"] if len(tables) > 1 else []

@@ -148,7 +148,9 @@ def _skip_default(reader: _Reader) -> None:
     """Goes past `DEFAULT` and its value: a value that a file leaves out is null there all the same."""
     if reader.take("DEFAULT"):
         depth = 0
-        while reader.more() and (depth or not (reader.is_next(",") or reader.is_next(")") or reader.is_next("PRIMARY"))):
+        while reader.more() and (
+            depth or not (reader.is_next(",") or reader.is_next(")") or reader.is_next("PRIMARY"))
+        ):
             token = reader.next()
             depth += (token.text in "([{") - (token.text in ")]}") if token.form == "sign" else 0
 

@@ -43,7 +43,8 @@ def _node(words: list[str]) -> NodeTable:
 
 
 def _rel(words: list[str], graph: Graph) -> RelTable:
-    table = RelTable(*words[1:6])
+    type_name, source, target, multiplicity, file = words[1:]
+    table = RelTable(type_name, source, target, multiplicity, file)
     known = [node.word for node in graph.nodes]
     for end in (table.source, table.target):
         if end not in known:

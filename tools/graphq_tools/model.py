@@ -56,7 +56,7 @@ class NodeTable:
 
 @dataclass
 class RelTable:
-    """A table of relationships of one type, from nodes of one table to nodes of one table, both named by their words."""
+    """A table of relationships of one type, from nodes of one table to those of one table, both named by words."""
 
     type: str
     source: str
@@ -82,6 +82,10 @@ class Graph:
     nodes: list[NodeTable] = field(default_factory=list)
     rels: list[RelTable] = field(default_factory=list)
 
+    def tables(self) -> list[NodeTable | RelTable]:
+        """All tables, those of nodes first."""
+        return [*self.nodes, *self.rels]
+
     def node(self, word: str) -> NodeTable:
         """The table of nodes with this word; it has to be there."""
         return next(table for table in self.nodes if table.word == word)
@@ -90,13 +94,18 @@ class Graph:
         """The tables of a type of relationships."""
         return [table for table in self.rels if table.type == type_name]
 
+    def name_of(self, table: RelTable) -> str:
+        """The type of a table, with its place among the tables of the type where there are several, from 1."""
+        tables = self.tables_of(table.type)
+        return table.type if len(tables) == 1 else f"{table.type}_{tables.index(table) + 1}"
+
     def types(self) -> list[str]:
         """The types of relationships, each once, in the order of their first tables."""
         return list(dict.fromkeys(table.type for table in self.rels))
 
 
 def multiplicity(single_source: bool, single_target: bool) -> str:
-    """The manifest's word: `many_one` where each source has at most one relationship, `one_many` where each target has."""
+    """The manifest's word: `many_one` where each source has one relationship at most, `one_many` where a target has."""
     return ("one" if single_target else "many") + "_" + ("one" if single_source else "many")
 
 

@@ -46,14 +46,14 @@ def export_neo4j(graph: Graph, folder: Path) -> list[str]:
         broken |= write_csv(folder / file, _node_header(node), _node_rows(node))
         words.append(f"--nodes={file}")
     for rel in graph.rels:
-        file = names.take(rel.type)
+        file = names.take(graph.name_of(rel))
         rows = ([*row, rel.type] for row in rel_rows(rel, graph))
         broken |= write_csv(folder / file, _rel_header(rel), rows)
         words.append(f"--relationships={file}")
     if broken:
         words.append("--multiline-fields=true")
     command = " \\\n    ".join(["neo4j-admin database import full", *words, '"${1:-neo4j}"'])
-    write_text(folder / "import.sh", f'#!/bin/sh\n# Run it in this folder; its word is the database.\n{command}\n')
+    write_text(folder / "import.sh", f"#!/bin/sh\n# Run it in this folder; its word is the database.\n{command}\n")
     (folder / "import.sh").chmod(0o755)
     labels = [label for node in graph.nodes for label in node.labels]
     alone = [node for node in graph.nodes if len(node.labels) == 1 and labels.count(node.word) == 1]

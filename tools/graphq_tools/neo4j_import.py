@@ -13,7 +13,9 @@ from .kinds import as_integer
 from .outcome import BadRow, Refusal, at_line
 from .spool import Property
 
-_FIELD = re.compile(r"(?P<name>[^:]*)(?::(?P<kind>[A-Za-z_]+(?:\[\])?)(?:\((?P<space>[^)]*)\))?(?:\{(?P<more>.*)\})?)?\Z")
+_FIELD = re.compile(
+    r"(?P<name>[^:]*)(?::(?P<kind>[A-Za-z_]+(?:\[\])?)(?:\((?P<space>[^)]*)\))?(?:\{(?P<more>.*)\})?)?\Z"
+)
 
 _FAMILIES = {
     "int": "int",

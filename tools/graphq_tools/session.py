@@ -21,7 +21,9 @@ def found_program(asked: str | None) -> str:
     """
     program = asked or os.environ.get("GRAPHQ") or _of_these_sources()
     if program is None:
-        raise Refusal("graphq is not built yet: call ./graphq once, or name a program by --program", Status.NOT_INSTALLED)
+        raise Refusal(
+            "graphq is not built yet: call ./graphq once, or name a program by --program", Status.NOT_INSTALLED
+        )
     if not os.access(program, os.X_OK):
         raise Refusal(f"{program}: there is no such program; --program names another", Status.NOT_INSTALLED)
     return program

@@ -127,7 +127,9 @@ class Shell:
             self.session.stop()
             if not self.at_keyboard:
                 raise
-            print(f"stopped behind {_seconds(time.monotonic() - begin)}; the graph is loaded again for the next statement")
+            print(
+                f"stopped behind {_seconds(time.monotonic() - begin)}; the graph is loaded again for the next statement"
+            )
             return
         except Ended as ended:
             self._refuse(str(ended), ended.lines)
@@ -215,13 +217,15 @@ def _as_csv(reply: Rows) -> list[str]:
 
     class _Lines(list[str]):
         def write(self, text: str) -> None:
-            self.append(text.removesuffix("\n"))
+            self.append(text.removesuffix("\r\n"))
 
     lines = _Lines()
-    writer = csv.writer(lines, lineterminator="\n")
+    writer = csv.writer(lines, lineterminator="\r\n")
     writer.writerow(reply.columns)
     for row in reply.rows:
-        writer.writerow("" if cell == "null" else unescaped(cell[1:-1]) if cell.startswith("'") else cell for cell in row)
+        writer.writerow(
+            "" if cell == "null" else unescaped(cell[1:-1]) if cell.startswith("'") else cell for cell in row
+        )
     return lines
 
 

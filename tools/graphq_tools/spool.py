@@ -132,6 +132,6 @@ class Spool:
             row += [""] * (width - len(row))
             write([row[place] for place in kept])
 
-    def discard(self) -> None:
-        """Closes the file without making a table of it."""
+    def close(self) -> None:
+        """Closes the file of the rows."""
         self._stream.close()

@@ -119,9 +119,7 @@ def export_sql(graph: Graph, folder: Path, dialect: str) -> list[str]:
             script.table(name, script.columns(name, [key], node.fields[1:]), node_rows(node))
             nodes[node.word] = name, node.key.name
         for rel in graph.rels:
-            tables = graph.tables_of(rel.type)
-            place = "" if len(tables) == 1 else f"_{tables.index(rel) + 1}"
-            name = script.take(rel.type + place)
+            name = script.take(graph.name_of(rel))
             leading = [Column("number", "int", " NOT NULL PRIMARY KEY")]
             for end, word in (("source", rel.source), ("target", rel.target)):
                 of, key_name = nodes[word]

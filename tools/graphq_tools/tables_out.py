@@ -38,7 +38,9 @@ def union(tables: Iterable[Sequence[Field]]) -> list[Field]:
     return [Field(name, kind) for name, kind in kinds.items()]
 
 
-def spread(rows: Iterable[Sequence[str]], leading: int, fields: Sequence[Field], wide: Sequence[Field]) -> Iterable[list[str]]:
+def spread(
+    rows: Iterable[Sequence[str]], leading: int, fields: Sequence[Field], wide: Sequence[Field]
+) -> Iterable[list[str]]:
     """Rows over some fields as rows over more of them; the leading cells stay."""
     place = {field.name: leading + number for number, field in enumerate(fields)}
     order = [place.get(field.name) for field in wide]

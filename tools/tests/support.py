@@ -88,7 +88,7 @@ class ToolTest(unittest.TestCase):
         return path
 
     def tool(self, name: str, *words: str | Path, text: str = "", cwd: Path | None = None) -> tuple[int, str, str]:
-        """The status of a tool, its output and what it says on standard error. It runs in this process, which is soon."""
+        """The status of a tool, its output and what it says on standard error. It runs in this process."""
         main = importlib.import_module(f"graphq_tools.{name.removeprefix('graphq-')}_main").main
         streams = [io.TextIOWrapper(io.BytesIO(), encoding="utf-8", write_through=True) for _ in range(2)]
         with (

@@ -61,20 +61,33 @@ class Make(ToolTest):
         )
         self.assertEqual(
             self.text("depends.csv"),
-            ["a,b,true,>= 1.0~,", "a,c,false,,1", "a,d,false,,1", "a,v,false,,1", "a,b,false,,", "b,v,false,,1", "b,nowhere,false,,1"],
+            [
+                "a,b,true,>= 1.0~,",
+                "a,c,false,,1",
+                "a,d,false,,1",
+                "a,v,false,,1",
+                "a,b,false,,",
+                "b,v,false,,1",
+                "b,nowhere,false,,1",
+            ],
         )
         self.assertEqual(self.text("built_from.csv"), ["a,s", "b,b"])
         self.assertEqual(self.text("maintained_by.csv"), ['a,"Doe, Jo"', "b,Jo"])
         self.assertEqual(self.text("provides.csv"), ["a,v", "a,w"])
         query = "MATCH (p)-[d:DEPENDS {pre: true}]->(q)-[:SUGGESTS]->(p) RETURN p, d.version;"
-        self.assertEqual(ask("g/g.manifest", query, self.folder), (0, "p\td.version\n(Package 'a')\t'>= 1.0~'\nrows 1\n"))
+        self.assertEqual(
+            ask("g/g.manifest", query, self.folder), (0, "p\td.version\n(Package 'a')\t'>= 1.0~'\nrows 1\n")
+        )
 
     def test_section(self) -> None:
         """Section y has b, which names a, v and nowhere; c, d, e and w are out, and so is what leads to them."""
         self.assertEqual(self.make("--section", "y"), 0)
         names = [line.split(",")[0] for line in self.text("package.csv")]
         self.assertEqual(names, ["a", "b", "nowhere", "v"])
-        self.assertEqual(self.text("depends.csv"), ["a,b,true,>= 1.0~,", "a,v,false,,1", "a,b,false,,", "b,v,false,,1", "b,nowhere,false,,1"])
+        self.assertEqual(
+            self.text("depends.csv"),
+            ["a,b,true,>= 1.0~,", "a,v,false,,1", "a,b,false,,", "b,v,false,,1", "b,nowhere,false,,1"],
+        )
 
     def test_statuses(self) -> None:
         self.assertEqual(self.make("--section", "none"), 3)

@@ -30,7 +30,9 @@ class Executables(ToolTest):
     def test_refusal(self) -> None:
         self.write("n.csv", "id:ID\na\na\n")
         status, output, errors = self.call("graphq-import", "neo4j", "n.csv", "--out", "g")
-        self.assertEqual((status, output, errors), (3, "", "graphq-import: n.csv line 3: the id 'a' is there already\n"))
+        self.assertEqual(
+            (status, output, errors), (3, "", "graphq-import: n.csv line 3: the id 'a' is there already\n")
+        )
 
     def test_output_that_is_full(self) -> None:
         """No traceback where nobody can be told."""
@@ -48,6 +50,8 @@ class Executables(ToolTest):
     def test_program_behind_the_option(self) -> None:
         words = ("--manifest", TOP / METRO, "--dot", "--program", PROGRAM, ":plan MATCH (c:Company) RETURN c")
         environment = {name: value for name, value in os.environ.items() if name != "GRAPHQ"}
-        done = subprocess.run([TOOLS / "graphq-draw", *words], cwd=TOP, env=environment, capture_output=True, check=False)
+        done = subprocess.run(
+            [TOOLS / "graphq-draw", *words], cwd=TOP, env=environment, capture_output=True, check=False
+        )
         self.assertEqual((done.returncode, done.stderr), (0, b""))
         self.assertIn(b'label="scan c:Company"', done.stdout)

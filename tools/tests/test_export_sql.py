@@ -98,7 +98,11 @@ class Awkward(ToolTest):
         notes = self.done("graphq-export", "sqlite", "--manifest", "g.manifest", "--out", "sql")
         self.assertEqual(
             notes.splitlines()[1:],
-            ["Order.text is the column text_2", "GROUP.source is the column source_2", "GROUP.number is the column number_2"],
+            [
+                "Order.text is the column text_2",
+                "GROUP.source is the column source_2",
+                "GROUP.number is the column number_2",
+            ],
         )
         database = sqlite3.connect(":memory:")
         self.addCleanup(database.close)

@@ -21,12 +21,17 @@ class EdgesImport(ToolTest):
         self.folder.joinpath("e.txt.gz").write_bytes(gzip.compress(b"a b 0.25 -1\na c 1.5 2\n"))
         words = ("--columns", "weight:decimal,sign:int", "--scale", "weight=2")
         output = self.done("graphq-import", "edges", "e.txt.gz", "--out", "g", *words)
-        self.assertEqual(output.splitlines()[:2], ["node Node 3 id:string", "rel LINK Node Node one_many 2 weight:int sign:int"])
-        self.assertEqual((self.folder / "g/link.csv").read_text(), "from,to,weight:int,sign:int\na,b,25,-1\na,c,150,2\n")
+        self.assertEqual(
+            output.splitlines()[:2], ["node Node 3 id:string", "rel LINK Node Node one_many 2 weight:int sign:int"]
+        )
+        self.assertEqual(
+            (self.folder / "g/link.csv").read_text(), "from,to,weight:int,sign:int\na,b,25,-1\na,c,150,2\n"
+        )
 
     def test_a_third_column_without_a_name(self) -> None:
         self.write("e.txt", "# a\n1 2\n1 3 9\n")
-        line = "e.txt line 3: it has 3 columns, and 2 are wanted: name what stands behind the ids, as in --columns weight:int"
+        hint = "name what stands behind the ids, as in --columns weight:int"
+        line = f"e.txt line 3: it has 3 columns, and 2 are wanted: {hint}"
         self.refused(3, line, "graphq-import", "edges", "e.txt", "--out", "g")
 
     def test_no_integer(self) -> None:

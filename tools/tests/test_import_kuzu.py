@@ -62,7 +62,10 @@ class KuzuImport(ToolTest):
         for name, text in (("a", "p\nq\n"), ("b", "z\n"), ("aa", "0,1,5\n"), ("ab", "1,z,\n")):
             self.write(f"k/{name}.csv", text)
         output = self.done("graphq-import", "kuzu", "k/schema.cypher", "--out", "g").splitlines()
-        self.assertEqual(output[:4], ["node A 2 id:int x:string", "node B 1 k:string", "rel R A A one_one 1 w:int", "rel R A B one_one 1"])
+        self.assertEqual(
+            output[:4],
+            ["node A 2 id:int x:string", "node B 1 k:string", "rel R A A one_one 1 w:int", "rel R A B one_one 1"],
+        )
         self.assertEqual((self.folder / "g/a.csv").read_text(), "id:int,x:string\n0,p\n1,q\n")
 
     def refuse(self, line: str) -> None:
@@ -88,7 +91,9 @@ class KuzuImport(ToolTest):
     def test_too_many_digits(self) -> None:
         self.write("k/user.csv", "Adam,1,1.755\n")
         status, _, errors = self.tool("graphq-import", "kuzu", "k/schema.cypher", "--out", "g", "--decimals", "2")
-        self.assertEqual((status, errors), (3, "graphq-import: k/user.csv line 1: 1.755 has more than 2 digits behind the point\n"))
+        self.assertEqual(
+            (status, errors), (3, "graphq-import: k/user.csv line 1: 1.755 has more than 2 digits behind the point\n")
+        )
 
     def script(self, text: str, line: str) -> None:
         self.write("k/schema.cypher", text)
@@ -100,11 +105,14 @@ class KuzuImport(ToolTest):
         self.script("CREATE NODE TABLE A(k STRING PRIMARY KEY);\nMATCH (a) RETURN a;\n", f"line 2: {why}")
 
     def test_list_type(self) -> None:
-        why = "tags is of the kind STRING[], which graphq cannot hold: take its text by --text tags, or leave it out by --drop tags"
+        ways = "take its text by --text tags, or leave it out by --drop tags"
+        why = f"tags is of the kind STRING[], which graphq cannot hold: {ways}"
         self.script("\n\nCREATE NODE TABLE A(k STRING PRIMARY KEY, tags STRING[]);", f"line 3: {why}")
 
     def test_no_file(self) -> None:
-        self.script("CREATE NODE TABLE A(k STRING PRIMARY KEY);\nCOPY A FROM 'none.csv';", "line 2: there is no file none.csv")
+        self.script(
+            "CREATE NODE TABLE A(k STRING PRIMARY KEY);\nCOPY A FROM 'none.csv';", "line 2: there is no file none.csv"
+        )
 
     def test_no_key(self) -> None:
         self.script("CREATE NODE TABLE A(k STRING);", "line 1: the table A has no PRIMARY KEY among its columns")

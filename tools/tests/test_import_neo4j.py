@@ -14,7 +14,9 @@ personId:ID(Person),name,age:int,born:date,:LABEL
 3,"Cy ""the 3rd"", esq.",25,2000-05-06,Person
 """
 CITIES = "code:ID(City)|pop:long|big:boolean|note:IGNORE\nX|1000|true|a\nY||false|b\n"
-KNOWS = ":START_ID(Person),:END_ID(Person),since:int,:TYPE\n1,2,2010,KNOWS\n1,3,,KNOWS\n1,2,2012,KNOWS\n2,1,2010,LIKES\n"
+KNOWS = (
+    ":START_ID(Person),:END_ID(Person),since:int,:TYPE\n1,2,2010,KNOWS\n1,3,,KNOWS\n1,2,2012,KNOWS\n2,1,2010,LIKES\n"
+)
 
 
 class Neo4jImport(ToolTest):
@@ -51,7 +53,7 @@ class Neo4jImport(ToolTest):
         self.write("one.csv", "a|Ann\n")
         self.folder.joinpath("two.csv.gz").write_bytes(gzip.compress(b"b|Bob\n"))
         self.write("rels.csv", ":START_ID|:END_ID\na|b\n")
-        nodes, rels = "--nodes=Person=header.csv,one.csv,two.csv.gz", "--relationships=KNOWS=rels.csv"
+        nodes, rels = ("--nodes=Person=header.csv,one.csv,two.csv.gz", "--relationships=KNOWS=rels.csv")
         output = self.done("graphq-import", "neo4j", nodes, rels, "--delimiter", "|", "--out", "g")
         lines = output.splitlines()
         self.assertEqual(lines[:2], ["node Person 2 id:string name:string", "rel KNOWS Person Person one_one 1"])
@@ -70,7 +72,9 @@ class Neo4jImport(ToolTest):
 
     def test_one_table_for_each_set_of_labels(self) -> None:
         """Labels in any order are one set; a property that a table never has is left out of it; ends tell the pair."""
-        self.write("n.csv", "id:ID,age:int,school,:LABEL\n1,30,,Person\n7,,MIT,Person;Student\n8,,Yale,Student;Person\n")
+        self.write(
+            "n.csv", "id:ID,age:int,school,:LABEL\n1,30,,Person\n7,,MIT,Person;Student\n8,,Yale,Student;Person\n"
+        )
         self.write("r.csv", ":START_ID,:END_ID,:TYPE\n7,1,KNOWS\n8,1,KNOWS\n1,7,KNOWS\n")
         output = self.done("graphq-import", "neo4j", "n.csv", "r.csv", "--out", "g")
         self.assertEqual(
@@ -83,8 +87,8 @@ class Neo4jImport(ToolTest):
             ],
         )
         self.assertEqual((self.folder / "g/person-student.csv").read_text(), "id:int,school:string\n7,MIT\n8,Yale\n")
-        self.assertEqual((self.folder / "g/knows.csv").read_text(), "from,to\n7,1\n8,1\n")
-        self.assertEqual((self.folder / "g/knows-2.csv").read_text(), "from,to\n1,7\n")
+        self.assertEqual((self.folder / "g/knows_1.csv").read_text(), "from,to\n7,1\n8,1\n")
+        self.assertEqual((self.folder / "g/knows_2.csv").read_text(), "from,to\n1,7\n")
 
     @unittest.skipUnless(knows_several_labels(), "the program takes one label for a table")
     def test_several_labels_are_asked(self) -> None:
@@ -123,7 +127,9 @@ class Neo4jRefusals(ToolTest):
         self.check("id:ID,age:int\na,3\nb,3x\n", "n.csv line 3: '3x' is no integer")
 
     def test_large_integer(self) -> None:
-        self.check("id:ID,n:long\na,9223372036854775808\n", "n.csv line 2: 9223372036854775808 has more than 64 signed bits")
+        self.check(
+            "id:ID,n:long\na,9223372036854775808\n", "n.csv line 2: 9223372036854775808 has more than 64 signed bits"
+        )
 
     def test_line_of_a_record_behind_line_ends(self) -> None:
         self.check('id:ID,t,ok:boolean\na,"x\ny",true\nb,,maybe\n', "n.csv line 4: 'maybe' is neither true nor false")
@@ -151,7 +157,9 @@ class Neo4jRefusals(ToolTest):
         self.check("id:ID\na\n", "r.csv line 2: no node has the id 'b'", ":START_ID,:END_ID\na,b\n")
 
     def test_no_such_node_in_a_space(self) -> None:
-        self.check("id:ID(P)\na\n", "r.csv line 2: no node has the id 'a' in the id space Q", ":START_ID(P),:END_ID(Q)\na,a\n")
+        self.check(
+            "id:ID(P)\na\n", "r.csv line 2: no node has the id 'a' in the id space Q", ":START_ID(P),:END_ID(Q)\na,a\n"
+        )
 
     def test_not_utf_8(self) -> None:
         self.write("n.csv", b"id:ID\na\n\xff\n")
@@ -162,7 +170,9 @@ class Neo4jRefusals(ToolTest):
 
     def test_too_many_properties(self) -> None:
         header = ",".join(f"p{number}" for number in range(65))
-        self.check(f"id:ID,{header}\na{',' * 65}\n", "n.csv line 2: p64 is the property behind the 64 that a table has at most")
+        self.check(
+            f"id:ID,{header}\na{',' * 65}\n", "n.csv line 2: p64 is the property behind the 64 that a table has at most"
+        )
 
     def test_too_many_sets_of_labels(self) -> None:
         rows = "".join(f"{number},L{number}\n" for number in range(65))

@@ -80,11 +80,15 @@ class NetworkxImport(ToolTest):
         self.assertEqual(output[0].split()[:4], ["node", "Node", "2", "id:int"])
         self.assertEqual(set(output[0].split()[4:]), {"label:string", "Modularity_Class:int"})
         self.assertTrue(output[1].startswith("rel LINK Node Node one_one 1"), output[1])
-        self.assertIn("the graph is undirected: each edge is one relationship, so ask with --, and not with -->", output)
+        self.assertIn(
+            "the graph is undirected: each edge is one relationship, so ask with --, and not with -->", output
+        )
 
     def test_gml_with_one_label_for_two_nodes(self) -> None:
         output = self.run_import("g.gml", GML, "--label", "Thing", "--type", "TO")
-        self.assertEqual(output[:2], ["node Thing 2 id:int label:string size:int", "rel TO Thing Thing one_one 2 value:int"])
+        self.assertEqual(
+            output[:2], ["node Thing 2 id:int label:string size:int", "rel TO Thing Thing one_one 2 value:int"]
+        )
 
     def test_node_link_json(self) -> None:
         output = self.run_import("g.json", NODE_LINK)
@@ -107,7 +111,7 @@ class NetworkxImport(ToolTest):
         self.refused(3, line, "graphq-import", "networkx", name, "--out", "g", *words)
 
     def test_bad_xml(self) -> None:
-        text = GRAPHML.replace("</node>\n    <node id=\"2\">", "\n    <node id=\"2\">")
+        text = GRAPHML.replace('</node>\n    <node id="2">', '\n    <node id="2">')
         self.refuse("g.graphml", text, "g.graphml line 14: mismatched tag: line 14, column 4")
 
     def test_bad_json(self) -> None:
@@ -124,7 +128,8 @@ class NetworkxImport(ToolTest):
 
     def test_list(self) -> None:
         text = NODE_LINK.replace('"n": 1', '"n": [1, 2]')
-        line = "the property 'n' is a list, which graphq cannot hold: take its text by --text n, or leave it out by --drop n"
+        ways = "take its text by --text n, or leave it out by --drop n"
+        line = f"the property 'n' is a list, which graphq cannot hold: {ways}"
         self.refuse("g.json", text, line)
         self.done("graphq-import", "networkx", "g.json", "--out", "g", "--text", "n")
         self.assertIn('"[1, 2]"', (self.folder / "g/person-admin.csv").read_text())

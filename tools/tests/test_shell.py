@@ -17,7 +17,7 @@ from graphq_tools.replies import Node, Other, Relationship, Rows, read_reply, va
 from graphq_tools.statements import is_blank, split
 from graphq_tools.text_table import aligned, caret
 
-from .support import METRO, PEOPLE, PROGRAM, TOOLS, TOP, ToolTest, ask, needs_module
+from .support import METRO, PEOPLE, TOOLS, TOP, ToolTest, ask, needs_module
 
 
 class Statements(unittest.TestCase):
@@ -25,7 +25,7 @@ class Statements(unittest.TestCase):
         for text, wanted in {
             "a;b": (["a"], "b"),
             "a ';' b; c": (["a ';' b"], " c"),
-            "a \";\\\";\" b;": (['a ";\\";" b'], ""),
+            'a ";\\";" b;': (['a ";\\";" b'], ""),
             "`;`;x // ;\n y;": (["`;`", "x // ;\n y"], ""),
             "a /* ; */;": (["a /* ; */"], ""),
             "a ' ;": ([], "a ' ;"),
@@ -91,7 +91,12 @@ class Completion(unittest.TestCase):
     NAMES = Names(["Station", "Line"], ["TRACK", "STOPS_AT"], ["name", "zone"])
 
     def test_schema(self) -> None:
-        lines = ["node A:B 3 id:int x:string", "node B 1 id:int", "rel R A:B B many_one 4 y:bool", "rel R B B one_one 0"]
+        lines = [
+            "node A:B 3 id:int x:string",
+            "node B 1 id:int",
+            "rel R A:B B many_one 4 y:bool",
+            "rel R B B one_one 0",
+        ]
         self.assertEqual(read_schema(lines), Names(["A", "B"], ["R"], ["id", "x", "y"]))
 
     def test_places(self) -> None:
@@ -116,7 +121,10 @@ class Completion(unittest.TestCase):
 
 class Piped(ToolTest):
     def test_tables_carets_and_status(self) -> None:
-        text = "MATCH (p:Person)\nRETURN p.name AS n, p.age ORDER BY p.id;\nMATCH (p:Person\n  RETURN p;\n.mode csv\nMATCH (p {id: 2}) RETURN p, p.name, p.age"
+        text = (
+            "MATCH (p:Person)\nRETURN p.name AS n, p.age ORDER BY p.id;\nMATCH (p:Person\n  RETURN p;\n"
+            ".mode csv\nMATCH (p {id: 2}) RETURN p, p.name, p.age"
+        )
         status, output, _ = self.tool("graphq-shell", "--manifest", TOP / PEOPLE, text=text, cwd=TOP)
         self.assertEqual(status, 1)
         self.assertEqual(
@@ -156,17 +164,22 @@ class Piped(ToolTest):
         self.write("s.cypher", "MATCH (p {id: 1}) RETURN p.name;")
         text = f".read {self.folder}/s.cypher\n.nothing\n.mode loud\n.quit\n:schema;\n"
         status, output, _ = self.tool("graphq-shell", "--manifest", PEOPLE, "--mode", "csv", text=text, cwd=TOP)
-        wanted = ["p.name", "Ann", ".nothing: there is no such command; .help has them", ".mode is one of table, plain, csv"]
+        wanted = [
+            "p.name",
+            "Ann",
+            ".nothing: there is no such command; .help has them",
+            ".mode is one of table, plain, csv",
+        ]
         self.assertEqual((status, output.splitlines()), (1, wanted))
 
 
 class Terminal:
     """A shell at a pseudo-terminal."""
 
-    def __init__(self, test: ToolTest, *words: str) -> None:
+    def __init__(self, test: ToolTest, *words: str, more: dict[str, str] | None = None) -> None:
         # Nobody here answers where the cursor stands, which prompt_toolkit would ask.
         own = {"TERM": "xterm", "PROMPT_TOOLKIT_NO_CPR": "1", "PAGER": "cat", "XDG_STATE_HOME": str(test.folder)}
-        environment = {**os.environ, **own}
+        environment = {**os.environ, **own, **(more or {})}
         self._end, other = pty.openpty()
         termios.tcsetwinsize(other, (40, 160))
         self._seen = ""
@@ -212,7 +225,9 @@ class AtTerminal(ToolTest):
         terminal = Terminal(self, "--manifest", METRO)
         terminal.until("4 labels and 5 types")
         terminal.until("graphq>")
-        terminal.type("MATCH (s:Station {code: 'CEN'})\r")
+        terminal.type("MATCH (s:Stat\t")
+        terminal.until("Station")
+        terminal.type(" {code: 'CEN'})\r")
         terminal.until("...>")
         terminal.type("RETURN s.name;\r")
         terminal.until("'Central'")
@@ -247,3 +262,27 @@ class AtTerminal(ToolTest):
         terminal.until("graphq>")
         terminal.type(".quit\r")
         self.assertEqual(terminal.process.wait(20), 0)
+
+
+class ByReadline(ToolTest):
+    def test_completion_history_and_stop(self) -> None:
+        """Without prompt_toolkit a line is edited by readline."""
+        self.write("without/prompt_toolkit.py", "raise ImportError\n")
+        more = {"PYTHONPATH": str(self.folder / "without"), "TERM": "dumb"}
+        terminal = Terminal(self, "--manifest", METRO, more=more)
+        terminal.until("graphq>")
+        terminal.type("MATCH (s:Stat\t")
+        terminal.until("Station")
+        terminal.type(" {code: 'CEN'}) RETURN s.name;\r")
+        terminal.until("'Central'")
+        terminal.until("graphq>")
+        terminal.type("MATCH (s '\r")
+        terminal.until("...>")
+        terminal.type("\x03")
+        terminal.until("graphq>")
+        terminal.type("MATCH (s:Station {code: 'CAS'}) RETURN s.name;\r")
+        terminal.until("'Castle'")
+        terminal.until("graphq>")
+        terminal.type("\x04")
+        self.assertEqual(terminal.process.wait(20), 0)
+        self.assertIn("RETURN s.name;", (self.folder / "graphq/history").read_text())
