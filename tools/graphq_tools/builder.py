@@ -50,7 +50,7 @@ class Nodes:
         """The first column that repeats a key without a name in every row."""
         if self.key_name is not None or not self.spool.rows:
             return None
-        usable = [place for place in sorted(self.twins or ()) if self.spool.columns[place].final_kind() != "bool"]
+        usable = [place for place in sorted(self.twins or ()) if self.spool.columns[place].kind != "bool"]
         return usable[0] if usable else None
 
     def finish(self, folder: Path, name: str, shared: set[int], notes: list[str]) -> NodeTable:
@@ -60,7 +60,7 @@ class Nodes:
         kind = self.key_kind or ("int" if self.canonical else "string")
         twin = self._twin()
         if twin is not None:
-            key = Field(columns[twin].name, columns[twin].final_kind() if self.key_kind is None else kind)
+            key = Field(columns[twin].name, columns[twin].kind if self.key_kind is None else kind)
             dropped.add(twin + 1)
         else:
             taken = {column.name.lower() for column in columns}
@@ -125,8 +125,7 @@ def _tell(table: str, spool: Spool, dropped: set[int], notes: list[str]) -> None
         if place in dropped:
             notes.append(f"{table}.{column.name}: left out, since no row of this table has a value")
         else:
-            mixed = [" and ".join(sorted(column.seen)) + ", as its text"] if len(column.seen) > 1 else []
-            notes.extend(f"{table}.{column.name}: {note}" for note in column.notes + mixed)
+            notes.extend(f"{table}.{column.name}: {note}" for note in column.notes)
 
 
 class Builder:
@@ -148,8 +147,10 @@ class Builder:
 
     def close(self) -> None:
         """Closes the files of rows; where the graph is finished, they are closed already."""
-        for table in [*self._nodes.values(), *self._rels.values()]:
-            table.spool.close()
+        for nodes in self._nodes.values():
+            nodes.spool.close()
+        for rels in self._rels.values():
+            rels.spool.close()
 
     def nodes(self, labels: Sequence[str]) -> Nodes:
         """The table for a set of labels."""

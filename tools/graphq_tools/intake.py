@@ -25,6 +25,7 @@ class Intake:
     type: str = "LINK"
     parts: int = 0
     told: list[str] = field(default_factory=list)
+    met: set[str] = field(default_factory=set)
 
     def part(self) -> int:
         """The number of the next part of the input."""
@@ -34,6 +35,7 @@ class Intake:
     def property(self, name: str, family: str, origin: str) -> Property | None:
         """What becomes of a property, or None where it is left out. See `kinds.treatment`."""
         plain = self.properties.plain(name)
+        self.met.add(plain)
         done = treatment(plain, family, origin, self.choices)
         if done is None:
             note = f"{plain}: left out, as asked"
@@ -45,7 +47,11 @@ class Intake:
     def notes(self) -> list[str]:
         """What was done with names and properties, a sentence each."""
         changes = [change for names in (self.labels, self.types, self.properties) for change in names.changes()]
-        return list(dict.fromkeys([*changes, *self.told, *self.builder.notes]))
+        asked = {*self.choices.scaled, *self.choices.dropped, *self.choices.as_text}
+        unknown = [
+            f"{name}: there is no such property to scale, drop or take the text of" for name in sorted(asked - self.met)
+        ]
+        return list(dict.fromkeys([*changes, *self.told, *self.builder.notes, *unknown]))
 
 
 def renames(words: list[str]) -> dict[str, str]:

@@ -34,12 +34,13 @@ class Choices:
 class Treatment:
     """What is done with the values of a property: the kind that they get, the way there, and a note on it or none.
 
-    The kind is `int`, `string` or `bool`, or `any` where the values are to tell it.
+    The kind is `int`, `string` or `bool`. The unit tells what an integer counts, where it is not what stood there.
     """
 
     kind: str
     convert: Convert
     note: str | None = None
+    unit: str | None = None
 
 
 def fits(value: int) -> bool:
@@ -123,21 +124,22 @@ def _decimal(name: str, origin: str, choices: Choices) -> Treatment:
     digits = choices.scaled.get(name, choices.decimals)
     if digits is None:
         return Treatment("string", as_is, f"{origin}, as its text")
-    return Treatment("int", scaled_by(digits), f"{origin}, as an integer: times {10**digits}")
+    unit = f"times {10**digits}"
+    return Treatment("int", scaled_by(digits), f"{origin}, as an integer: {unit}", unit)
 
 
 def _time(origin: str, choices: Choices) -> Treatment:
     if not choices.dates_as_integers:
         return Treatment("string", as_is, f"{origin}, as its text")
-    if origin == "date":
-        return Treatment("int", as_days, "date, as an integer: days since 1970-01-01")
-    return Treatment("int", as_microseconds, f"{origin}, as an integer: microseconds since 1970-01-01T00:00:00Z")
+    is_day = origin.lower() == "date"
+    unit = "days since 1970-01-01" if is_day else "microseconds since 1970-01-01T00:00:00Z"
+    return Treatment("int", as_days if is_day else as_microseconds, f"{origin}, as an integer: {unit}", unit)
 
 
 def treatment(name: str, family: str, origin: str, choices: Choices) -> Treatment | None:
     """What to do with a property of this name, or None where it is to be left out.
 
-    `family` is one of `int`, `bool`, `string`, `any`, `decimal`, `moment`, `text` (what keeps its text alone) and
+    `family` is one of `int`, `bool`, `string`, `decimal`, `moment`, `text` (what keeps its text alone) and
     `other` (what graphq cannot hold); `origin` is what the other system calls the kind.
     """
     if name in choices.dropped:
@@ -145,16 +147,14 @@ def treatment(name: str, family: str, origin: str, choices: Choices) -> Treatmen
     if name in choices.as_text:
         return Treatment("string", as_is, None if family == "string" else f"{origin}, as its text, as asked")
     match family:
+        case "int" if name in choices.scaled:
+            return _decimal(name, origin, choices)
         case "int":
             return Treatment("int", as_integer)
         case "bool":
             return Treatment("bool", as_boolean)
         case "string":
             return Treatment("string", as_is)
-        case "any" if name in choices.scaled:
-            return _decimal(name, origin, choices)
-        case "any":
-            return Treatment("any", as_is)
         case "decimal":
             return _decimal(name, origin, choices)
         case "moment":

@@ -21,12 +21,16 @@ class Lines(Protocol):
         """
 
 
-def history_file() -> Path:
-    """The file with what was typed before."""
+def history_file() -> str | None:
+    """The file with what was typed before, or None where none can be written."""
     state = os.environ.get("XDG_STATE_HOME") or str(Path.home() / ".local" / "state")
     path = Path(state) / "graphq" / "history"
-    path.parent.mkdir(parents=True, exist_ok=True)
-    return path
+    try:
+        path.parent.mkdir(parents=True, exist_ok=True)
+        path.open("a").close()
+    except OSError:
+        return None
+    return str(path)
 
 
 class PipedLines:
@@ -45,7 +49,7 @@ class PromptLines:
     def __init__(self, names: Callable[[], Names]) -> None:
         from prompt_toolkit import PromptSession
         from prompt_toolkit.completion import Completer, Completion
-        from prompt_toolkit.history import FileHistory
+        from prompt_toolkit.history import FileHistory, InMemoryHistory
 
         lines = self
 
@@ -56,7 +60,8 @@ class PromptLines:
                     yield Completion(text, start_position=-length)
 
         self._before = ""
-        history = FileHistory(str(history_file()))
+        file = history_file()
+        history = FileHistory(file) if file else InMemoryHistory()
         self._session: Any = PromptSession(history=history, completer=_Completer(), complete_while_typing=False)
 
     def read(self, prompt: str, before: str) -> str:
@@ -73,13 +78,9 @@ class ReadlineLines:
 
         self._before = ""
         self._found: list[str] = []
-        file = str(history_file())
-        try:
+        if file := history_file():
             readline.read_history_file(file)
-        except OSError:
-            # There is no history yet.
-            pass
-        atexit.register(readline.write_history_file, file)
+            atexit.register(readline.write_history_file, file)
         readline.set_completer_delims(" \t\n()[]{},;:.|")
         readline.parse_and_bind("tab: complete")
 

@@ -99,7 +99,7 @@ def read_header(record: list[str], intake: Intake) -> Header:
             header.label = place
         elif kind == "TYPE":
             header.type = place
-        elif kind != "IGNORE" and (name or kind == "string"):
+        elif kind != "IGNORE":
             one = intake.property(name, _family(kind), kind)
             if one is not None and (one.name in {known.name for known in header.properties}):
                 raise ValueError(f"there are two fields {one.name}")

@@ -25,22 +25,19 @@ class Property:
 
 @dataclass
 class Column:
-    """A property of a table: the kind that was declared, or `any`, and what its values were so far."""
+    """A property of a table: its kind, and which parts of the input have it."""
 
     name: str
     kind: str
+    unit: str | None
     notes: list[str] = field(default_factory=list)
     parts: set[int] = field(default_factory=set)
-    seen: set[str] = field(default_factory=set)
-
-    def final_kind(self) -> str:
-        """The kind that holds all values."""
-        if self.kind != "any":
-            return self.kind
-        return next(iter(self.seen)) if len(self.seen) == 1 else "string"
 
     def meet(self, other: Treatment) -> None:
-        """Takes in that another file declares the property too."""
+        """Takes in that another file declares the property too. Integers of two units cannot stand in one column."""
+        if self.unit != other.unit:
+            units = f"{self.unit or self.kind} in one file, and {other.unit or other.kind} in another"
+            raise ValueError(f"{self.name} would have values of two units: {units}")
         if self.kind != other.kind:
             self.notes.append(f"{self.kind} in one file and {other.kind} in another, as its text")
             self.kind = "string"
@@ -74,7 +71,7 @@ class Spool:
                 raise ValueError(f"{one.name} is the property behind the {MOST_FIELDS} that a table has at most")
             place = len(self.columns)
             notes = [one.treatment.note] if one.treatment.note else []
-            self.columns.append(Column(one.name, one.treatment.kind, notes))
+            self.columns.append(Column(one.name, one.treatment.kind, one.treatment.unit, notes))
             self._places[one.name] = place
             self._unfilled.add(place)
             self._even = self._even and self.rows == 0
@@ -108,7 +105,7 @@ class Spool:
         `dropped` counts the cells of a row from its front, the leading ones too. Gives the fields of the properties.
         """
         kept = [place for place in range(len(self.columns)) if place + self._leading not in dropped]
-        fields = [Field(self.columns[place].name, self.columns[place].final_kind()) for place in kept]
+        fields = [Field(self.columns[place].name, self.columns[place].kind) for place in kept]
         with writing(target), open(target, "w", encoding="utf-8", newline="") as stream:
             self._stream.close()
             row_writer(stream)([*header, *map(str, fields)])

@@ -131,7 +131,9 @@ def postgresql() -> Iterator[list[str]]:
             [programs / "initdb", "-D", data, "-A", "trust", "--no-sync"],
             [programs / "pg_ctl", "-D", data, "-o", start, "-l", root / "log", "-w", "start"],
         ):
-            subprocess.run([*as_user, *map(str, command)], capture_output=True, check=True)
+            done = subprocess.run([*as_user, *map(str, command)], capture_output=True, check=False)
+            if done.returncode:
+                raise unittest.SkipTest("the server of the package postgresql does not start here")
         try:
             yield [*as_user, "psql", "-h", folder, "-qAt", "-v", "ON_ERROR_STOP=1"]
         finally:

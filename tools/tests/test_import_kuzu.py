@@ -45,6 +45,12 @@ class KuzuImport(ToolTest):
         text = "a\ta.height\tc.founded\n(User 'Adam')\t175\t'1857-01-01'\n(User 'Karissa')\t160\t'1857-01-01'\nrows 2\n"
         self.assertEqual(ask("g/g.manifest", query, self.folder), (0, text))
 
+    def test_dates_as_integers(self) -> None:
+        """From 1857-01-01 to 1970-01-01 there are 113 years, 27 of them leap years: 41,272 days."""
+        self.done("graphq-import", "kuzu", "k/schema.cypher", "--out", "g", "--dates", "integer")
+        text = (self.folder / "g/city.csv").read_text()
+        self.assertEqual(text, "id:int,name:string,founded:int\n10,Waterloo,-41272\n20,Kitchener,\n")
+
     def test_strictest_multiplicity(self) -> None:
         """The data of LivesIn keep one_one where each city has one user."""
         self.write("k/lives.csv", "Adam,10\nZhang,20\n")

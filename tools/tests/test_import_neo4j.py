@@ -4,6 +4,7 @@ from __future__ import annotations
 
 import gzip
 import unittest
+from unittest import mock
 
 from .support import ToolTest, ask, knows_several_labels
 
@@ -113,6 +114,26 @@ class Neo4jImport(ToolTest):
         self.assertIn("the property 'full name' is called full_name", output)
         self.assertIn("the label 'My Label' is called My_Label", output)
 
+    def test_kinds_of_two_files(self) -> None:
+        """What is an integer in one file and a text in another is a text."""
+        self.write("a.csv", "id:ID,x:int\na,1\n")
+        self.write("b.csv", "id:ID,x:string\nb,y\n")
+        output = self.done("graphq-import", "neo4j", "--nodes", "N=a.csv", "--nodes", "N=b.csv", "--out", "g")
+        self.assertEqual(output.splitlines()[0], "node N 2 id:string x:string")
+        self.assertIn("N.x: int in one file and string in another, as its text", output)
+
+    def test_option_for_no_property(self) -> None:
+        self.write("a.csv", "id:ID,x:double\na,1.5\n")
+        output = self.done("graphq-import", "neo4j", "a.csv", "--out", "g", "--scale", "y=2")
+        self.assertIn("y: there is no such property to scale, drop or take the text of", output.splitlines())
+
+    def test_rename_and_drop(self) -> None:
+        self.write("a.csv", "id:ID,a b,a-b,tags:int[]\nk,1,2,3\n")
+        words = ("--rename", "a-b=c", "--drop", "tags", "--out", "g")
+        output = self.done("graphq-import", "neo4j", "--nodes", "N=a.csv", *words).splitlines()
+        self.assertEqual(output[0], "node N 1 id:string a_b:string c:string")
+        self.assertIn("tags: left out, as asked", output)
+
 
 class Neo4jRefusals(ToolTest):
     """Each refusal names the file and the line."""
@@ -133,6 +154,31 @@ class Neo4jRefusals(ToolTest):
 
     def test_line_of_a_record_behind_line_ends(self) -> None:
         self.check('id:ID,t,ok:boolean\na,"x\ny",true\nb,,maybe\n', "n.csv line 4: 'maybe' is neither true nor false")
+
+    def test_two_units(self) -> None:
+        """12.5 in hundredths and the integer 7 cannot stand in one column; --scale scales both."""
+        self.write("a.csv", "id:ID,x:double\na,12.5\n")
+        self.write("b.csv", "id:ID,x:int\nb,7\n")
+        files = ("--nodes", "N=a.csv", "--nodes", "N=b.csv", "--out", "g")
+        why = "x would have values of two units: times 100 in one file, and int in another"
+        self.refused(3, f"b.csv line 2: {why}", "graphq-import", "neo4j", *files, "--decimals", "2")
+        status, _, _ = self.tool("graphq-import", "neo4j", *files, "--scale", "x=2")
+        self.assertEqual((status, (self.folder / "g/n.csv").read_text()), (0, "id:string,x:int\na,1250\nb,700\n"))
+
+    def test_two_names_that_become_one(self) -> None:
+        why = "the property 'a-b' and 'a b' would both be called a_b: rename one, as in --rename 'a-b=a_b_2'"
+        self.check("id:ID,a b,a-b\nk,1,2\n", f"n.csv line 1: {why}")
+
+    def test_property_without_a_name(self) -> None:
+        why = "the property '' gives no name: rename it, as in --rename '=name'"
+        self.check("id:ID,:int\nk,1\n", f"n.csv line 1: {why}")
+
+    def test_file_that_is_too_long(self) -> None:
+        """Its header has 16 bytes, and each row 11."""
+        self.write("n.csv", "id:ID,x\n1,abcdefgh\n2,abcdefgh\n")
+        with mock.patch("graphq_tools.spool.MOST_FILE_BYTES", 37):
+            line = "n.csv: it would have 38 bytes, and graphq takes 37"
+            self.refused(3, line, "graphq-import", "neo4j", "--nodes", "N=n.csv", "--out", "g")
 
     def test_id_repeated(self) -> None:
         self.check("id:ID\na\na\n", "n.csv line 3: the id 'a' is there already")

@@ -180,7 +180,10 @@ class Terminal:
         # Nobody here answers where the cursor stands, which prompt_toolkit would ask.
         own = {"TERM": "xterm", "PROMPT_TOOLKIT_NO_CPR": "1", "PAGER": "cat", "XDG_STATE_HOME": str(test.folder)}
         environment = {**os.environ, **own, **(more or {})}
-        self._end, other = pty.openpty()
+        try:
+            self._end, other = pty.openpty()
+        except OSError as error:
+            raise unittest.SkipTest("this machine has no pseudo-terminals") from error
         termios.tcsetwinsize(other, (40, 160))
         self._seen = ""
         self.process = subprocess.Popen(
@@ -265,6 +268,18 @@ class AtTerminal(ToolTest):
 
 
 class ByReadline(ToolTest):
+    def test_no_place_for_a_history(self) -> None:
+        for without in (True, False):
+            with self.subTest(without=without):
+                self.write("without/prompt_toolkit.py", "raise ImportError\n")
+                more = {"XDG_STATE_HOME": "/dev/null", "TERM": "dumb"}
+                more |= {"PYTHONPATH": str(self.folder / "without")} if without else {}
+                terminal = Terminal(self, "--manifest", PEOPLE, more=more)
+                terminal.until("graphq>")
+                time.sleep(0.5)
+                terminal.type("MATCH (p:Person {id: 2}) RETURN p.name;\r")
+                terminal.until("'Bob'")
+
     def test_completion_history_and_stop(self) -> None:
         """Without prompt_toolkit a line is edited by readline."""
         self.write("without/prompt_toolkit.py", "raise ImportError\n")
