@@ -4,6 +4,7 @@ pub mod Grouped
 pub mod Homes
 pub mod Inserting
 pub mod Loops
+pub mod Numbers
 pub mod Running
 pub mod Sorting
 pub mod Standing

@@ -98,7 +98,10 @@ impl Places {
         requires { self.old.count + 1 < 2 ^ 64 }
         ensures number { result ≡ self.old.count }
         ensures next { self.new ≡ record {
-            count = self.old.count + 1; nodes = self.old.nodes; rels = self.old.rels } }
+          count = self.old.count + 1;
+          nodes = self.old.nodes;
+          rels = self.old.rels;
+        } }
     {
         let group = self.count;
         self.count += 1;

@@ -1,4 +1,4 @@
-use Rattle.std.proofs.Common.{◌≡◌, ◌∙◌, ◌+◌, ◌++◌, ◌<◌, ap, ap₂, sym, ℕ, List, map, drop, get_or, length, append_assoc, append-nil, arith}
+use Rattle.std.proofs.Common.{◌≡◌, ◌∙◌, ◌+◌, ◌++◌, ◌<◌, ap, sym, ℕ, List, map, drop, get_or, length, append_assoc, append-nil, arith}
 use Rattle.std.proofs.lemmas.List.{drop_all}
 use Rattle.gq_plan.proofs.FirstSteps.{first_of_rest}
 use Rattle.gq_plan.proofs.StepEquations.{plan_is}

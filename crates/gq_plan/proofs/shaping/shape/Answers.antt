@@ -51,7 +51,7 @@ returns c =
     let y = c.args.typed.now in
     let flat = has_number c.as_slice-flat.result.now in
     let all : c.as_slice-flat.result.now ≡ all_flat y (places (plan_of c.args.plan.now)) (plan_of c.args.plan.now) = c.as_slice-flat.ensures ∙ c.in_ok-flat.ensures
-        ∙ ap (λ w. all_flat y w (plan_of c.args.plan.now)) (c.place_variables-places.ensures ∙ after_same (plan_of c.args.plan.now) nowhere) in
+    ∙ ap (λ w. all_flat y w (plan_of c.args.plan.now)) (c.place_variables-places.ensures ∙ after_same (plan_of c.args.plan.now) nowhere) in
     let rest = ap (λ ss. shape_from flat (length c.loop-step.shapes) (steps (map step_of ss))) (drop_all c.loop-step.step-index items (omega arith)) in
     sym (append-nil c.loop-step.shapes) ∙ ap (λ gs. c.loop-step.shapes ++ gs) (sym rest) ∙ c.loop-step.invariant.shapes
     ∙ ap (λ ss. shape_from flat 0 (steps (map step_of ss))) c.loop-step.invariant.items
