@@ -1,5 +1,5 @@
 -- One slot more, or one less, is held.
-use Rattle.std.proofs.Common.{◌≡◌, ◌≢◌, ℕ, zero, suc, Bool, true, false, List, [], ◌∷◌, ◌++◌, get_or, sym, ◌∙◌, ap, subst, true≢false}
+use Rattle.std.proofs.Common.{◌≡◌, ◌≢◌, ℕ, zero, suc, Bool, true, false, List, [], ◌∷◌, ◌++◌, get_or, sym, ◌∙◌, ap, true≢false}
 use Rattle.std.specs.List.{AllByRecursion}
 use Rattle.gq_pool.specs.Pool.{Pool, IsOut, IsFree}
 use Rattle.gq_pipe.specs.Serving.{AreApart, Holds}

@@ -30,3 +30,4 @@ pub mod Products
 pub mod Chunking
 pub mod Chunked
 pub mod Holding
+pub mod Flags

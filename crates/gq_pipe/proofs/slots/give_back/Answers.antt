@@ -1,4 +1,4 @@
-use Rattle.std.proofs.Common.{◌≡◌, ◌∙◌, ◌+◌, length, sym, ap, subst, arith}
+use Rattle.std.proofs.Common.{length, ap, subst, arith}
 use Rattle.std.proofs.lemmas.List.{length_push}
 use Rattle.gq_pipe.specs.Serving.{Holds}
 use Rattle.gq_pipe.proofs.Holding.{holds_less, holds_last}
