@@ -8,3 +8,4 @@ pub mod Numbers
 pub mod Running
 pub mod Sorting
 pub mod Standing
+pub mod Worked

@@ -165,9 +165,10 @@ impl Places {
     }
 }
 
-/// In which group each variable of a plan stands that fits a sound alternative: in the one that its
-/// step makes, or in the group of a column step's source. Where `late` is true, the relationship of a
-/// column close stands in the later group of its ends instead, where the close is tested.
+/// In which group each variable of a plan stands that fits a sound alternative: in the one that
+/// its step makes, or in the group of a column step's source. Where `late` is true, the
+/// relationship of a column close stands in the later group of its ends instead, where the close is
+/// tested.
 pub fn place_variables(plan: &Plan, typed: &Typed, late: bool) -> Places
     requires { FitsSound typed.now (plan_of plan.now) }
     ensures { places_of result ≡ at_after late (plan_of plan.now) shapes.nowhere }

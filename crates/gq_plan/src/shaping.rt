@@ -32,8 +32,8 @@ pub enum Form {
 #[derive(Clone, Copy, Debug, PartialEq, Eq)]
 pub struct GroupShape {
     pub form: Form,
-    /// Whether the group stands at one position at a time: a later step reads it to make a group, or
-    /// tests it together with a later group.
+    /// Whether the group stands at one position at a time: a later step reads it to make a group,
+    /// or tests it together with a later group.
     pub flat: bool,
 }
 
