@@ -1,3 +1,4 @@
+pub mod Begins
 pub mod Draining
 pub mod Going
 pub mod Parting
