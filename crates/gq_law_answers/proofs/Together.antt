@@ -27,7 +27,7 @@ use Rattle.gq_syntax.specs.declared.Query.{Query}
 use Rattle.gq_law_answers.specs.Answered.{allowed, meanings, lying, passing, outcomes_of, outcomes_in, LateDecide}
 use Rattle.gq_plan.specs.Outcomes.{Row, outcome, outcome_by, outcomes, late_conjuncts, late_outcomes}
 use Rattle.gq_law_answers.proofs.Alone.{allows_passing, allows_outcomes}
-use Rattle.gq_law_answers.proofs.Reordered.{permuted_flat_map}
+use Rattle.gq_law_plans.proofs.Reordered.{permuted_flat_map}
 use Rattle.gq_law_answers.proofs.Matched.{AreAlternatives, has_tables, flat_map_same_on}
 use Rattle.gq_law_answers.proofs.LateOutcomes.{late_outcome}
 use Rattle.gq_law_plans.specs.Safe.{IsMade}

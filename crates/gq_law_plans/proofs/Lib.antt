@@ -1,15 +1,16 @@
 mod Choices
-mod Counting
-mod Covering
+pub mod Counting
+pub mod Covering
 mod Demanded
 mod Ends
 pub mod Fields
-mod Filled
-mod Lookups
+pub mod Filled
+pub mod Lookups
 pub mod Made
 mod Numbering
-mod Owning
-mod PlanCounts
+pub mod Owning
+pub mod PlanCounts
+pub mod Reordered
 pub mod Sides
 mod StepCounts
 pub mod Wholes

@@ -2,27 +2,35 @@
 use Rattle.std.proofs.Common.{◌≡◌, ◌≢◌, ℕ, zero, suc, ◌<◌, Bool, true, false, cond, Some, None, List, [], ◌∷◌, map, length, get_or, slice_get, refl, sym, ap, ◌∙◌, subst, arith}
 use Rattle.std.proofs.lemmas.Bool.{and_parts}
 use Rattle.std.proofs.lemmas.List.{length-map}
+use Rattle.std.specs.Prelude.{slice_index}
+use Rattle.std.specs.List.{range_with_len}
+use Rattle.std.proofs.lemmas.List.FromFn.{length-range_with_len}
 use Rattle.std.proofs.lemmas.Option.{slice_get_within}
+use Rattle.gq_base.specs.Valid.{row_count}
+use Rattle.gq_plan.specs.Allowed.{at_same}
+use Rattle.gq_store.specs.Neighbours.{neighbours, numbers}
+use Rattle.gq_pipe.specs.steps.Tries.{tries}
+use Rattle.gq_pipe.proofs.Following.{rel, as_many}
 use Rattle.gq_base.specs.declared.direction.Direction.{Direction}
 use Rattle.gq_plan.specs.Covers.{fits_step, goes}
 use Rattle.gq_plan.specs.Known.{Known}
-use Rattle.gq_plan.specs.Meaning.{Partial, look, holds}
+use Rattle.gq_plan.specs.Meaning.{Partial, look, holds, far, arrive, with_rel, keep_if, rels_from}
 use Rattle.gq_plan.specs.Plans.{Step, Scan, Extend, Close, Keep, step_of}
 use Rattle.gq_plan.specs.declared.plan.Step as code
 use Rattle.gq_pipe.specs.steps.Levels.{Run, step_at, known, before}
 use Rattle.gq_pipe.specs.steps.Moves.{run_of, IsRun, IsHeld, IsTried}
 use Rattle.gq_pipe.specs.steps.Outcomes.{IsSized, IsScanned, CanFollow, IsExtended, IsClosed, tested}
-use Rattle.gq_plan.specs.Rows.{node_at}
+use Rattle.gq_plan.specs.Rows.{node_at, node_table, rel_table}
 use Rattle.gq_plan.specs.declared.assignment.Assignment.{Assignment}
 use Rattle.gq_pipe.specs.declared.plan_run.PlanRun.{PlanRun}
 use Rattle.gq_pipe.specs.declared.plan_run.Follow.{Follow}
 use Rattle.gq_pipe.specs.declared.plan_run.Tried.{Tried}
 use Rattle.gq_pipe.specs.declared.plan_run.Tried.TheVariants.{Past, Missed, Made}
 use Rattle.gq_pipe.proofs.Binding.{looks, fits_at}
-use Rattle.gq_pipe.proofs.Stepping.{not_true, Makes, is_made, is_missed, is_past, scan_parts, scan_makes, scan_makes_none, Follows, follows, near_rows_are, extend_makes, extend_past, close_makes, close_misses, close_past}
+use Rattle.gq_pipe.proofs.Stepping.{not_true, Makes, is_made, is_missed, is_past, scan_parts, scan_makes, scan_makes_none, Follows, follows, near_rows_are, scans, lists, met_is, extend_makes, extend_past, close_makes, close_misses, close_past}
 
 -- the step at a depth of a run, by its step of the program
-get_mapped : (ss : List code.Step) (d : ℕ) (x : code.Step) → d < length ss → get_or (map step_of ss) d (Keep 0) ≡ step_of (get_or ss d x)
+pub get_mapped : (ss : List code.Step) (d : ℕ) (x : code.Step) → d < length ss → get_or (map step_of ss) d (Keep 0) ≡ step_of (get_or ss d x)
 get_mapped [] d x low = absurd (omega arith)
 get_mapped (s ∷ ss) zero x low = refl
 get_mapped (s ∷ ss) (suc d) x low = get_mapped ss d x (omega arith)
@@ -46,7 +54,7 @@ module _ (c : Run) (run : IsRun c) (d : ℕ) (low : d < length c.steps) (old : A
   abbrev a : Partial
   a = before c old d
 
-  fit : (s : Step) → step_at c d ≡ s → fits_step c.graph.catalog c.typed s k ≡ true
+  pub fit : (s : Step) → step_at c d ≡ s → fits_step c.graph.catalog c.typed s k ≡ true
   fit s is = ap (λ t. fits_step c.graph.catalog c.typed t k) (sym is) ∙ fits_at c run d low
 
   pub sized : IsSized c.typed old
@@ -64,9 +72,23 @@ module _ (c : Run) (run : IsRun c) (d : ℕ) (low : d < length c.steps) (old : A
       is_made c d (Scan v) is place old new
       (subst (λ row. Makes c (Scan v) k a place old row) (sym h.0) (scan_makes c run old k held a v place (fit (Scan v) is) h.1)) h.2
 
+  pub scan_count : (v : ℕ) → step_at c d ≡ Scan v → length (tries c.graph c.typed (step_at c d) a) ≡ row_count c.graph.nodes (node_table c.typed v)
+  scan_count v is =
+      ap (λ s. length (tries c.graph c.typed s a)) is
+      ∙ ap length (scans c.graph c.typed v (scan_low v is) a)
+      ∙ length-map (range_with_len 0 (row_count c.graph.nodes (node_table c.typed v))) (lists c.graph c.typed v (scan_low v is) a)
+      ∙ length-range_with_len 0 (row_count c.graph.nodes (node_table c.typed v))
+
   -- ---- relationships
 
-  found : (v : ℕ) → k.nodes v ≡ true → look a.nodes v ≡ Some (node_at c.typed old v)
+  rels_count : (x from to : ℕ) (way : Direction) (f : Follows c x from to way) → look a.nodes from ≡ Some (node_at c.typed old from)
+      → length (rels_from c.graph c.typed x way (look a.nodes from)) ≡ length (neighbours c.graph (rel_table c.typed x) way (slice_index old.nodes from))
+  rels_count x from to way f looked =
+      ap length (met_is c run x from to way f old a looked)
+      ∙ length-map (numbers c.graph (rel_table c.typed x) way (slice_index old.nodes from)) (rel (rel_table c.typed x))
+      ∙ as_many c.graph (rel_table c.typed x) f.table f.table_is way (slice_index old.nodes from)
+
+  pub found : (v : ℕ) → k.nodes v ≡ true → look a.nodes v ≡ Some (node_at c.typed old v)
   found v known = (looks c run old d).nodes v ∙ ap (λ b. cond b (Some (node_at c.typed old v)) None) known
 
   abbrev at : ℕ → ℕ → ℕ → Direction → Follow
@@ -85,11 +107,11 @@ module _ (c : Run) (run : IsRun c) (d : ℕ) (low : d < length c.steps) (old : A
   -- a step that binds a node variable
 
   module _ (column : Bool) (x from to : ℕ) (way : Direction) (is : step_at c d ≡ Extend column x from to way) where
-    extend_goes : holds (goes c.graph.catalog column from to way) (slice_get c.typed.rels x) ≡ true
+    pub extend_goes : holds (goes c.graph.catalog column from to way) (slice_get c.typed.rels x) ≡ true
     unfolding fits_step
     extend_goes = (and_parts _ _ (fit (Extend column x from to way) is)).0
 
-    extend_parts : (k.rels x ≡ false) × (k.nodes from ≡ true) × (k.nodes to ≡ false)
+    pub extend_parts : (k.rels x ≡ false) × (k.nodes from ≡ true) × (k.nodes to ≡ false)
     unfolding fits_step
     extend_parts =
         let more = and_parts _ _ (and_parts _ _ (fit (Extend column x from to way) is)).1 in
@@ -101,6 +123,13 @@ module _ (c : Run) (run : IsRun c) (d : ℕ) (low : d < length c.steps) (old : A
 
     pub extend_can : CanFollow c.graph c.typed old (at x from to way)
     extend_can = can x from to way extends extend_parts.1
+
+    pub extend_count : length (tries c.graph c.typed (step_at c d) a) ≡ length (neighbours c.graph (rel_table c.typed x) way (slice_index old.nodes from))
+    unfolding tries
+    extend_count =
+        ap (λ s. length (tries c.graph c.typed s a)) is
+        ∙ length-map (rels_from c.graph c.typed x way (look a.nodes from)) (λ r. arrive to (far c.graph way r) (with_rel x r a))
+        ∙ rels_count x from to way extends (found from extend_parts.1)
 
     pub extend_tried : (place : ℕ) (new : Assignment) (told : Tried) → IsExtended c.graph c.typed (at x from to way) place old new told → IsTried c d place old new told
     extend_tried place new Past h =
@@ -115,11 +144,11 @@ module _ (c : Run) (run : IsRun c) (d : ℕ) (low : d < length c.steps) (old : A
   -- a step between bound node variables
 
   module _ (column : Bool) (x from to : ℕ) (way : Direction) (is : step_at c d ≡ Close column x from to way) where
-    close_goes : holds (goes c.graph.catalog column from to way) (slice_get c.typed.rels x) ≡ true
+    pub close_goes : holds (goes c.graph.catalog column from to way) (slice_get c.typed.rels x) ≡ true
     unfolding fits_step
     close_goes = (and_parts _ _ (fit (Close column x from to way) is)).0
 
-    close_parts : (k.rels x ≡ false) × (k.nodes from ≡ true) × (k.nodes to ≡ true)
+    pub close_parts : (k.rels x ≡ false) × (k.nodes from ≡ true) × (k.nodes to ≡ true)
     unfolding fits_step
     close_parts =
         let more = and_parts _ _ (and_parts _ _ (fit (Close column x from to way) is)).1 in
@@ -131,6 +160,13 @@ module _ (c : Run) (run : IsRun c) (d : ℕ) (low : d < length c.steps) (old : A
 
     pub close_can : CanFollow c.graph c.typed old (at x from to way)
     close_can = can x from to way closes close_parts.1
+
+    pub close_count : length (tries c.graph c.typed (step_at c d) a) ≡ length (neighbours c.graph (rel_table c.typed x) way (slice_index old.nodes from))
+    unfolding tries
+    close_count =
+        ap (λ s. length (tries c.graph c.typed s a)) is
+        ∙ length-map (rels_from c.graph c.typed x way (look a.nodes from)) (λ r. keep_if (at_same (look a.nodes to) (far c.graph way r)) (with_rel x r a))
+        ∙ rels_count x from to way closes (found from close_parts.1)
 
     pub close_tried : (place : ℕ) (new : Assignment) (told : Tried) → IsClosed c.graph c.typed (at x from to way) place old new told → IsTried c d place old new told
     close_tried place new Past h =

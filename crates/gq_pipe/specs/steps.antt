@@ -1,8 +1,15 @@
+pub mod Before
 pub mod Built
+pub mod Chunks
+pub mod Cuts
+pub mod Homes
 pub mod Hops
 pub mod Inner
+pub mod Keeps
 pub mod Levels
 pub mod Limits
+pub mod Lists
 pub mod Moves
 pub mod Outcomes
+pub mod Search
 pub mod Tries

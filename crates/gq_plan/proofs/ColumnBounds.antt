@@ -90,7 +90,7 @@ module _ (x : ℕ) (k : ℕ → Bool) (new : k x ≡ false) where
 
 -- ---- what a side plan binds
 
-eqb_sym : (m n : ℕ) → nat_eq m n ≡ nat_eq n m
+pub eqb_sym : (m n : ℕ) → nat_eq m n ≡ nat_eq n m
 eqb_sym m n = go (nat_eq m n) (nat_eq n m) refl refl
   where
     go : (a b : Bool) → nat_eq m n ≡ a → nat_eq n m ≡ b → a ≡ b
@@ -106,7 +106,7 @@ or_none false = refl
 mutual
   unfolding after after_step binds step_binds
 
-  binds_is : (v : ℕ) (p : Plan) (k : Known) → (after p k).nodes v ≡ (binds v p || k.nodes v)
+  pub binds_is : (v : ℕ) (p : Plan) (k : Known) → (after p k).nodes v ≡ (binds v p || k.nodes v)
   binds_is v Done k = refl
   binds_is v (Then s p) k = binds_is v p (after_step s k) ∙ ap (λ b. binds v p || b) (step_binds_is v s k) ∙ swap (step_binds v s) (binds v p) (k.nodes v)
     where
@@ -115,7 +115,7 @@ mutual
       swap true false c = refl
       swap false b c = refl
 
-  step_binds_is : (v : ℕ) (s : Step) (k : Known) → (after_step s k).nodes v ≡ (step_binds v s || k.nodes v)
+  pub step_binds_is : (v : ℕ) (s : Step) (k : Known) → (after_step s k).nodes v ≡ (step_binds v s || k.nodes v)
   step_binds_is v (Scan n) k = ap (λ b. b || k.nodes v) (eqb_sym v n)
   step_binds_is v (Extend column x from to way) k = ap (λ b. b || k.nodes v) (eqb_sym v to)
   step_binds_is v (Close column x from to way) k = refl

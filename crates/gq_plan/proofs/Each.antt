@@ -1,5 +1,5 @@
 -- A property of each item of a list, by recursion on the list.
-use Rattle.std.proofs.Common.{◌≡◌, ℕ, zero, suc, ◌+◌, ◌<◌, ◌≤◌, Bool, true, false, cond, List, [], ◌∷◌, ◌++◌, map, filter, flat_map, refl, arith}
+use Rattle.std.proofs.Common.{◌≡◌, ℕ, zero, suc, ◌+◌, ◌<◌, ◌≤◌, Bool, true, false, cond, List, [], ◌∷◌, ◌++◌, map, filter, flat_map, get_or, length, refl, subst, sym, arith}
 use Rattle.std.specs.List.{AllByRecursion, range_with_len}
 
 pub each_of : {A : Type 0} (P : A → Type 0) → ((x : A) → P x) → (xs : List A) → AllByRecursion P xs
@@ -30,6 +30,12 @@ each_kept {A} P p (x ∷ xs) h = go (p x) refl (each_kept P p xs h.1)
     go : (b : Bool) → p x ≡ b → AllByRecursion (λ x. P x × (p x ≡ true)) (filter p xs) → AllByRecursion (λ x. P x × (p x ≡ true)) (cond b (x ∷ filter p xs) (filter p xs))
     go true e more = ((h.0, e), more)
     go false e more = more
+
+-- a property of each item is one of the item at a place
+pub each_at : {A : Type 0} (P : A → Type 0) (xs : List A) (i : ℕ) (x : A) → AllByRecursion P xs → i < length xs → x ≡ get_or xs i x → P x
+each_at P [] i x h l is = absurd (omega arith)
+each_at P (a ∷ xs) zero x h l is = subst P (sym is) h.0
+each_at P (a ∷ xs) (suc i) x h l is = each_at P xs i x h.1 (omega arith) is
 
 -- the numbers of a range are below its end
 pub each_below : (a n m : ℕ) → a + n ≤ m → AllByRecursion (λ k. k < m) (range_with_len a n)

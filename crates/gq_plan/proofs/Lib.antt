@@ -9,10 +9,13 @@ pub mod Each
 pub mod FewLemmas
 pub mod FirstSteps
 pub mod Flats
+pub mod GroupReads
 pub mod NameLemmas
 pub mod Permuted
 pub mod Pieces
+pub mod Placing
 pub mod Products
+pub mod ReadEquations
 pub mod ReadLemmas
 pub mod Rows
 pub mod StepEquations

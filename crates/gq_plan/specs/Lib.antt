@@ -1,4 +1,5 @@
 pub mod Allowed
+pub mod Arranged
 pub mod Assignments
 pub mod Columns
 pub mod Conditions

@@ -1,7 +1,8 @@
 //! Bound queries: what a query asks once its names are resolved, the typed alternatives that answer
 //! it, and the plans that find the assignments of an alternative. It says what these mean, and
-//! tells whether a plan fits an alternative and covers it. The crate stands on the expressions of
-//! `gq_expr`, and on the vectors of `arrayvec`.
+//! tells whether a plan fits an alternative and covers it, which groups it has and how many columns
+//! its pipeline fills. The crate stands on the expressions of `gq_expr`, and on the vectors of
+//! `arrayvec`.
 #![tactic(auto)]
 
 mod assignment;
@@ -13,8 +14,10 @@ mod filling;
 mod fitting;
 mod joins;
 mod known;
+mod places;
 mod plan;
 mod reads;
+mod shaping;
 mod typed;
 mod variable;
 
@@ -26,7 +29,9 @@ pub use filling::columns;
 pub use fitting::{bound_after, fits};
 pub use joins::is_flat;
 pub use known::{Known, VariableSet};
+pub use places::{Places, VariableGroups, place_variables};
 pub use plan::{Plan, Step};
 pub use reads::PropertyReads;
+pub use shaping::{Form, GroupShape, flat_groups, form_of, has_group, last_of, shape, tested};
 pub use typed::{PathPart, RelPair, Typed, TypedRel};
 pub use variable::Variable;

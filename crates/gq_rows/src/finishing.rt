@@ -132,6 +132,7 @@ impl<'g> RowTable<'g> {
             typed: _,
             limit: _,
             form: _,
+            sure: _,
             rows,
             pushed,
             choice: _,

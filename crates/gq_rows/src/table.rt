@@ -8,6 +8,7 @@ ghost use Rattle.gq_rows.specs.steps.Keeping.{HasForm};
 ghost use Rattle.gq_rows.specs.Tables.{IsSameQuery, Pushes, PushesRow, StandsFor, StandsForSome};
 ghost use Rattle.gq_rows.specs.Tables.{is_full_table, outcome_read};
 
+use crate::bar::are_sure;
 use crate::held::{Form, Rows};
 use crate::judging::Question;
 use crate::refusal::{More, RowRefusal};
@@ -32,6 +33,8 @@ pub struct RowTable<'g> {
     pub(crate) typed: Option<&'g Typed>,
     pub(crate) limit: u32,
     pub(crate) form: Form,
+    // Each column and each key is sure to have a value.
+    pub(crate) sure: bool,
     pub(crate) rows: Rows<'g>,
     // The chunks with a row that were pushed, and the positions of the last one.
     pub(crate) pushed: u64,
@@ -90,6 +93,7 @@ impl<'g> RowTable<'g> {
             typed: None,
             limit,
             form: form_of(bound),
+            sure: are_sure(bound),
             rows: Rows {
                 columns: Vec::new(alloc),
                 keys: Vec::new(alloc),
@@ -215,6 +219,7 @@ impl<'g> RowTable<'g> {
             bound: self.bound,
             typed,
             limit: self.limit,
+            sure: self.sure,
         };
         match self.form {
             Form::All => self.rows.push_all(&question, row),

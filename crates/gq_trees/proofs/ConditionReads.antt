@@ -12,7 +12,7 @@ use Rattle.gq_syntax.specs.declared.Ast.{Ast, Ast-F, roll-Ast, map-Ast, fold-rol
 use Rattle.gq_syntax.specs.declared.expression.Ast.TheShapes.{former-Ast-node as parts}
 use Rattle.gq_syntax.specs.declared.AstNode.{AstNode}
 use Rattle.gq_syntax.specs.declared.AstNode.TheVariants as ast
-use Rattle.gq_trees.proofs.ReadEquations.{reads_And}
+use Rattle.gq_plan.proofs.ReadEquations.{reads_And}
 use Rattle.gq_trees.proofs.ReadsThere.{AllThere, AreThere, resolved_roll, tree_there}
 use Rattle.gq_trees.proofs.Splits.{split_whole}
 use Rattle.gq_scopes.specs.Scopes.{Scope}

@@ -1,5 +1,4 @@
 pub mod ConditionReads
-pub mod ReadEquations
 pub mod ReadsThere
 pub mod RenameLemmas
 pub mod Resolved

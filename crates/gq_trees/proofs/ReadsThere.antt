@@ -20,7 +20,7 @@ use Rattle.gq_syntax.specs.declared.AstNode.TheVariants as ast
 use Rattle.gq_syntax.specs.declared.Term.{Term}
 use Rattle.gq_syntax.specs.declared.Tester.{Tester as Tested}
 use Rattle.gq_syntax.specs.declared.Tester.TheVariants as tested
-use Rattle.gq_trees.proofs.ReadEquations.{reads_Literal, reads_Node, reads_Rel, reads_NodeProperty, reads_RelProperty, reads_TypeName, reads_Coalesce, reads_Negate, reads_Plus, reads_Not, reads_Or, reads_Xor, reads_And, term_reads, test_reads, reads_Compare, reads_Arith, reads_Test}
+use Rattle.gq_plan.proofs.ReadEquations.{reads_Literal, reads_Node, reads_Rel, reads_NodeProperty, reads_RelProperty, reads_TypeName, reads_Coalesce, reads_Negate, reads_Plus, reads_Not, reads_Or, reads_Xor, reads_And, term_reads, test_reads, reads_Compare, reads_Arith, reads_Test}
 use Rattle.gq_trees.proofs.Resolved.{tests_of}
 use Rattle.gq_trees.specs.Resolving.{functions, is_function, type_call, coalesce_call, all_some, over_known, bound_term, bound_tester, resolve_step, resolved}
 

@@ -16,11 +16,11 @@ pub write_plan-requires-clause-columns : goal.write_plan-requires-clause-columns
 write_plan-requires-clause-columns g c =
     let counts : c.in-Ok-column_counts.counts ≡ columns_each c.args.bound.now.alternatives c.in-Ok.plans =
     c.in-Ok-column_counts.ensures ∙ ap (λ ys. columns_each ys c.as_slice.result.now) c.as_slice-alternatives.ensures ∙ ap (λ ps. columns_each c.args.bound.now.alternatives ps) c.as_slice.ensures in
-    ap length counts ∙ columns_long _ _ (as_many (context_of c.args.self.now) c.args.bound.now _ c.in-Ok.ensures)
+    ap length counts ∙ columns_long _ _ (as_many (context_of c.args.self.now) c.args.bound.now _ c.in-Ok.ensures.plans)
 
 pub returns : goal.returns
 returns g c =
     let counts : c.in-Ok-column_counts.counts ≡ columns_each c.args.bound.now.alternatives c.in-Ok.plans =
     c.in-Ok-column_counts.ensures ∙ ap (λ ys. columns_each ys c.as_slice.result.now) c.as_slice-alternatives.ensures ∙ ap (λ ps. columns_each c.args.bound.now.alternatives ps) c.as_slice.ensures in
-    replied _ tone.Good _ (record { plans = c.in-Ok.plans; are = c.in-Ok.ensures; is = ap (plan_text c.args.bound.now c.args.self.now.graph.now.catalog c.in-Ok.plans) counts })
+    replied _ tone.Good _ (record { plans = c.in-Ok.plans; are = c.in-Ok.ensures.plans; covers = c.in-Ok.ensures.covers; is = ap (plan_text c.args.bound.now c.args.self.now.graph.now.catalog c.in-Ok.plans) counts })
     _ _ c.write_plan.ensures.bytes c.write_plan.ensures.cause _ c.toned-2.ensures

@@ -1,0 +1,9 @@
+pub mod Arranged
+pub mod Between
+pub mod Grouped
+pub mod Homes
+pub mod Inserting
+pub mod Loops
+pub mod Running
+pub mod Sorting
+pub mod Standing

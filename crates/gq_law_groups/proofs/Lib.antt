@@ -1,0 +1,12 @@
+pub mod Bridge
+pub mod Moved
+pub mod Alike
+pub mod Following
+pub mod Worked
+pub mod Single
+pub mod Cutting
+pub mod Ordered
+pub mod Shaped
+pub mod Swapped
+pub mod Standing
+pub mod Enough

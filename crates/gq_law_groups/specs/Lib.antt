@@ -1,0 +1,4 @@
+pub mod Groups
+pub mod Layout
+pub mod Order
+pub mod Law

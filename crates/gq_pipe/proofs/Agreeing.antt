@@ -1,0 +1,107 @@
+-- A try of a step on rows and load numbers that have what the step binds leaves them as they are.
+use Rattle.std.proofs.Common.{◌≡◌, ◌⊎◌, inl, inr, ℕ, ◌+◌, ◌^◌, ◌<◌, ◌≤◌, Bool, length, refl, sym, ap, ◌∙◌, arith}
+use Rattle.std.specs.Prelude.{slice_index, slice_set}
+use Rattle.std.proofs.lemmas.Bool.{cases_eq, cases_lt}
+use Rattle.std.proofs.lemmas.List.{set-get_or}
+use Rattle.std.proofs.lemmas.Option.{slice_get-get_or, slice_get_within}
+use Rattle.gq_base.specs.Valid.{row_count}
+use Rattle.gq_base.specs.declared.direction.Direction.{Direction}
+use Rattle.gq_plan.specs.Plans.{Scan, Extend, Close, Keep, Differ, NoLoop}
+use Rattle.gq_plan.specs.Rows.{node_table, rel_table}
+use Rattle.gq_plan.specs.declared.assignment.Assignment.{Assignment}
+use Rattle.gq_store.proofs.Reading.{neighbours_below}
+use Rattle.gq_store.specs.Neighbours.{neighbours, numbers}
+use Rattle.gq_pipe.specs.steps.Hops.{IsHop}
+use Rattle.gq_pipe.specs.steps.Levels.{Run, step_at, known}
+use Rattle.gq_pipe.specs.steps.Moves.{IsRun, IsHeld, IsTried}
+use Rattle.gq_pipe.specs.steps.Outcomes.{with_row, with_number}
+use Rattle.gq_pipe.specs.declared.plan_run.Tried.{Tried}
+use Rattle.gq_pipe.specs.declared.plan_run.Tried.TheVariants.{Past, Missed, Made}
+use Rattle.gq_pipe.proofs.Following.{as_many}
+use Rattle.gq_pipe.proofs.Stepping.{Follows, follows}
+use Rattle.gq_pipe.proofs.Testing.{keep_tried, differ_tried, no_loop_tried}
+use Rattle.gq_pipe.proofs.Tried.{scan_tried, extend_tried, extend_goes, close_tried, close_goes}
+
+-- what is written there already
+row_again : (a : Assignment) (v r : ℕ) → slice_index a.nodes v ≡ r → a ≡ with_row v r a
+row_again a v r e = ap (λ l. record { nodes = l; rels = a.rels }) (sym (ap (slice_set a.nodes v) (sym e) ∙ set-get_or a.nodes v 0))
+
+number_again : (a : Assignment) (x n : ℕ) → slice_index a.rels x ≡ n → a ≡ with_number x n a
+number_again a x n e = ap (λ l. record { nodes = a.nodes; rels = l }) (sym (ap (slice_set a.rels x) (sym e) ∙ set-get_or a.rels x 0))
+
+-- the relationship that is followed at a place
+module _ (c : Run) (run : IsRun c) (x from to : ℕ) (way : Direction) (f : Follows c x from to way) (row place : ℕ) (low : place < length (neighbours c.graph (rel_table c.typed x) way row)) (few : place + 1 < 2 ^ 32) where
+  abbrev table : ℕ
+  table = rel_table c.typed x
+
+  pub hop_there : IsHop c.graph table way row place (record { number = slice_index (numbers c.graph table way row) place; row = slice_index (neighbours c.graph table way row) place })
+  hop_there =
+      let within : table < length c.graph.catalog.rels = slice_get_within c.graph.catalog.rels table f.table f.table_is in
+      record {
+        number = slice_get-get_or (numbers c.graph table way row) place 0 (omega (arith, low, as_many c.graph table f.table f.table_is way row));
+        leads = slice_get-get_or (neighbours c.graph table way row) place 0 low;
+        inside = neighbours_below c.graph table row way run.valid within place 0 low;
+        few = few;
+      }
+
+-- a try that leaves rows and load numbers as they are
+pub record TriesItself (c : Run) (d place : ℕ) (row : Assignment) : Type 0 where
+  pub told : Tried
+  pub tried : IsTried c d place row row told
+
+module _ (c : Run) (run : IsRun c) (d : ℕ) (low : d < length c.steps) (row : Assignment) (held : IsHeld c row (known c d)) where
+  pub scan_itself : (v place : ℕ) → step_at c d ≡ Scan v → place < row_count c.graph.nodes (node_table c.typed v) → place + 1 < 2 ^ 32 → slice_index row.nodes v ≡ place → TriesItself c d place row
+  scan_itself v place is inside few here = record { told = Made; tried = scan_tried c run d low row held v place row Made is (row_again row v place here, inside, few) }
+
+  module _ (column : Bool) (x from to : ℕ) (way : Direction) (place : ℕ) (few : place + 1 < 2 ^ 32) where
+    abbrev near : ℕ
+    near = slice_index row.nodes from
+
+    abbrev table_of : ℕ
+    table_of = rel_table c.typed x
+
+    pub extend_itself : step_at c d ≡ Extend column x from to way
+        → (place < length (neighbours c.graph (rel_table c.typed x) way (slice_index row.nodes from)) → slice_index row.nodes to ≡ slice_index (neighbours c.graph (rel_table c.typed x) way (slice_index row.nodes from)) place)
+        → (place < length (neighbours c.graph (rel_table c.typed x) way (slice_index row.nodes from)) → slice_index row.rels x ≡ slice_index (numbers c.graph (rel_table c.typed x) way (slice_index row.nodes from)) place)
+        → TriesItself c d place row
+    extend_itself is node_is rel_is = go (cases_lt place (length (neighbours c.graph table_of way near)))
+      where
+        f : Follows c x from to way
+        f = follows c run column x from to way (extend_goes c run d low row held column x from to way is)
+
+        go : (place < length (neighbours c.graph table_of way near)) ⊎ (length (neighbours c.graph table_of way near) ≤ place) → TriesItself c d place row
+        go (inl inside) =
+            let h = hop_there c run x from to way f near place inside few in
+            let same : row ≡ with_number x (slice_index (numbers c.graph table_of way near) place) (with_row to (slice_index (neighbours c.graph table_of way near) place) row) =
+            row_again row to _ (node_is inside) ∙ ap (λ l. record { nodes = slice_set row.nodes to (slice_index (neighbours c.graph table_of way near) place); rels = l }) (ap (λ (a : Assignment). a.rels) (number_again row x _ (rel_is inside))) in
+            record { told = Made; tried = extend_tried c run d low row held column x from to way is place row Made (_, h, same) }
+        go (inr past) = record { told = Past; tried = extend_tried c run d low row held column x from to way is place row Past (refl, past) }
+
+    pub close_itself : step_at c d ≡ Close column x from to way
+        → (place < length (neighbours c.graph (rel_table c.typed x) way (slice_index row.nodes from)) → slice_index row.rels x ≡ slice_index (numbers c.graph (rel_table c.typed x) way (slice_index row.nodes from)) place)
+        → TriesItself c d place row
+    close_itself is rel_is = go (cases_lt place (length (neighbours c.graph table_of way near)))
+      where
+        f : Follows c x from to way
+        f = follows c run column x from to way (close_goes c run d low row held column x from to way is)
+
+        meets : (place < length (neighbours c.graph table_of way near)) → (slice_index (neighbours c.graph table_of way near) place ≡ slice_index row.nodes to) ⊎ (slice_index (neighbours c.graph table_of way near) place ≡ slice_index row.nodes to → ⊥) → TriesItself c d place row
+        meets inside (inl same) =
+            let h = hop_there c run x from to way f near place inside few in
+            record { told = Made; tried = close_tried c run d low row held column x from to way is place row Made (_, h, same, number_again row x _ (rel_is inside)) }
+        meets inside (inr other) =
+            let h = hop_there c run x from to way f near place inside few in
+            record { told = Missed; tried = close_tried c run d low row held column x from to way is place row Missed (_, h, other, refl) }
+
+        go : (place < length (neighbours c.graph table_of way near)) ⊎ (length (neighbours c.graph table_of way near) ≤ place) → TriesItself c d place row
+        go (inl inside) = meets inside (cases_eq (slice_index (neighbours c.graph table_of way near) place) (slice_index row.nodes to))
+        go (inr past) = record { told = Past; tried = close_tried c run d low row held column x from to way is place row Past (refl, past) }
+
+  pub keep_itself : (i : ℕ) → step_at c d ≡ Keep i → (place : ℕ) → TriesItself c d place row
+  keep_itself i is place = record { told = _; tried = keep_tried c run d low row held i is place }
+
+  pub differ_itself : (p : ℕ) → step_at c d ≡ Differ p → (place : ℕ) → TriesItself c d place row
+  differ_itself p is place = record { told = _; tried = differ_tried c run d low row held p is place }
+
+  pub no_loop_itself : (x : ℕ) → step_at c d ≡ NoLoop x → (place : ℕ) → TriesItself c d place row
+  no_loop_itself x is place = record { told = _; tried = no_loop_tried c run d low row held x is place }

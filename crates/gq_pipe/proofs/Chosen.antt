@@ -1,0 +1,303 @@
+-- The rows and load numbers at one selected position of each group of a chunk are those of the walk of these positions.
+use Rattle.std.proofs.Common.{◌≡◌, ◌⊎◌, inl, inr, ℕ, zero, suc, ◌+◌, ◌-◌, ◌^◌, ◌<◌, ◌≤◌, Bool, true, false, not, List, [], ◌∷◌, length, drop, refl, sym, ap, ◌∙◌, subst, arith, true≢false, zero-add}
+use Rattle.std.specs.Prelude.{slice_index, slice_index_or}
+use Rattle.std.specs.List.{range_with_len}
+use Rattle.std.proofs.lemmas.Bool.{and_parts, cases_eq}
+use Rattle.std.proofs.lemmas.List.{get_or_default, length-map, drop_more, drop_all}
+use Rattle.std.proofs.lemmas.List.FromFn.{get_or-map-range_with_len, get_or-range_with_len, length-range_with_len}
+use Rattle.std.proofs.lemmas.Option.{slice_get_within}
+use Rattle.gq_base.specs.Catalogs.{Tables}
+use Rattle.gq_base.specs.declared.direction.Direction.{Direction}
+use Rattle.gq_base.specs.declared.direction.Direction.TheVariants.{Forward, Backward}
+use Rattle.gq_group.specs.Chunks.{assignment_at, node_at, rel_at, node_in, edge_in, group_of, first_in}
+use Rattle.gq_group.specs.Edges.{way as way_of, number_of}
+use Rattle.gq_group.specs.Groups.{AreSelected}
+use Rattle.gq_group.specs.declared.chunk.Chunk.{Chunk}
+use Rattle.gq_group.specs.declared.home.NodeHome.TheVariants as node
+use Rattle.gq_group.specs.declared.home.RelHome.TheVariants as rel
+use Rattle.gq_plan.specs.Covers.{fits_step}
+use Rattle.gq_plan.specs.Known.{Known}
+use Rattle.gq_plan.specs.Meaning.{nothing}
+use Rattle.gq_plan.specs.Plans.{Step, Scan, Extend, Close, Join, Keep, Differ, NoLoop, steps}
+use Rattle.gq_plan.specs.Rows.{rel_table}
+use Rattle.gq_plan.specs.declared.assignment.Assignment.{Assignment}
+use Rattle.gq_plan.specs.declared.typed.Typed.{Typed}
+use Rattle.gq_store.specs.Neighbours.{neighbours, numbers}
+use Rattle.gq_law_groups.specs.Groups.{makes_group, decode, place}
+use Rattle.gq_walks.specs.Running.{Runs, cursor_at, keys_of, prefix}
+use Rattle.gq_walks.specs.declared.walker.Cursor.{Cursor}
+use Rattle.gq_walks.proofs.Runs.{length-keys}
+use Rattle.gq_pipe.specs.Levels.{given}
+use Rattle.gq_pipe.specs.Plain.{is_plain}
+use Rattle.gq_pipe.specs.steps.Chunks.{AreStanding, list_of}
+use Rattle.gq_pipe.specs.steps.Homes.{AreHomes, IsHoused, is_forward, node_home, rel_home}
+use Rattle.gq_pipe.specs.steps.Keeps.{IsRange, IsTriedAt}
+use Rattle.gq_pipe.specs.steps.Levels.{Run, step_at, known, before}
+use Rattle.gq_pipe.specs.steps.Lists.{no_group, group_at, group_in, groups_in, rows_in, layout_in, Tiles, Stands}
+use Rattle.gq_pipe.specs.steps.Moves.{IsRun, IsHeld, IsTried}
+use Rattle.gq_pipe.specs.declared.places.GroupSteps.{GroupSteps}
+use Rattle.gq_pipe.specs.declared.plan_run.Tried.{Tried}
+use Rattle.gq_pipe.specs.declared.plan_run.Tried.TheVariants.{Past, Missed, Made}
+use Rattle.gq_pipe.proofs.Agreeing.{TriesItself, scan_itself, extend_itself, close_itself, keep_itself, differ_itself, no_loop_itself}
+use Rattle.gq_pipe.proofs.Binding.{given_all}
+use Rattle.gq_pipe.proofs.Going.{IsGoing, begins, ends, tried_made, tried_missed, tried_past}
+use Rattle.gq_pipe.proofs.Here.{group_range, group_held, group_makes, group_size, group_told, group_next, group_place, group_others}
+use Rattle.gq_pipe.proofs.Reading.{place_at, IsHere, here, item_is, first_is}
+use Rattle.gq_pipe.proofs.Resting.{stands_first}
+use Rattle.gq_pipe.proofs.Standings.{Met, both_stand, same_row, stands_part, prefix_more, tile_at, IsWithin}
+use Rattle.gq_pipe.proofs.Stepping.{Follows, follows}
+use Rattle.gq_pipe.proofs.Tried.{scan_low, scan_count, extend_goes, extend_parts, close_goes}
+
+pub way_is : (w : Direction) → way_of (is_forward w) ≡ w
+way_is Forward = refl
+way_is Backward = refl
+
+-- what a step reads is known where it fits
+extend_reads : (catalog : Tables) (y : Typed) (k : Known) (column : Bool) (x from to : ℕ) (w : Direction) → fits_step catalog y (Extend column x from to w) k ≡ true → k.nodes from ≡ true
+unfolding fits_step
+extend_reads catalog y k column x from to w fit = (and_parts (k.nodes from) _ (and_parts (not (k.rels x)) _ (and_parts _ _ fit).1).1).0
+
+close_reads : (catalog : Tables) (y : Typed) (k : Known) (column : Bool) (x from to : ℕ) (w : Direction) → fits_step catalog y (Close column x from to w) k ≡ true → k.nodes from ≡ true
+unfolding fits_step
+close_reads catalog y k column x from to w fit = (and_parts (k.nodes from) _ (and_parts (not (k.rels x)) _ (and_parts _ _ fit).1).1).0
+
+module _ (c : Run) (ss : List GroupSteps) (row : Assignment) (cs : List Cursor) (ms : List (List Bool)) (ch : Chunk) (ps : List ℕ) (runs : Runs (layout_in c ss) [] cs ms) (many : length cs ≡ length ss)
+    (groups : AreStanding c ss row cs ms ch.groups.now (length ss)) (sel : AreSelected ch.groups.now ps)
+    (st : Stands c ss row (keys_of cs)) (homes : AreHomes c ss (length ss) (length c.steps) ch.homes.now) (plain : (d : ℕ) → d < length c.steps → is_plain (step_at c d) ≡ true) where
+  -- the rows and load numbers there
+  abbrev pub read : Assignment
+  read = assignment_at c.graph c.typed ch ps
+
+  pub node_read : (v : ℕ) → v < length c.typed.nodes → slice_index read.nodes v ≡ node_at ch ps v
+  node_read v low = get_or-map-range_with_len (node_at ch ps) 0 (length c.typed.nodes) v v 0 low (zero-add v)
+
+  pub rel_read : (x : ℕ) → x < length c.typed.rels → slice_index read.rels x ≡ rel_at c.graph c.typed ch ps x
+  rel_read x low = get_or-map-range_with_len (rel_at c.graph c.typed ch ps) 0 (length c.typed.rels) x x 0 low (zero-add x)
+
+  -- where the groups before one stand at their numbers
+  module _ (i : ℕ) (low : i < length ss) (at : Stands c ss read (prefix cs i)) where
+    abbrev s : GroupSteps
+    s = group_at ss i
+
+    abbrev pre : List ℕ
+    pre = prefix cs i
+
+    abbrev j : ℕ
+    j = place_at c ss row cs ms ch ps runs many groups sel i
+
+    found : s ≡ slice_index_or ss i s
+    found = get_or_default ss i no_group s low
+
+    long : length pre ≡ i
+    long = length-keys cs i (omega (arith, low, many))
+
+    within : IsWithin c s
+    within = tile_at c 0 ss at.grouped.tiles i low
+
+    first_low : s.first < length c.steps
+    first_low = let some = within.some in let inside = within.inside in omega (arith, some, inside)
+
+    spot : IsHere c ss row cs ms ch ps runs many groups sel i
+    spot = here c ss row cs ms ch ps runs many groups sel i low
+
+    held : IsHeld c read (known c s.first)
+    held = group_held c ss read i low s found pre long at
+
+    range : IsRange c s
+    range = group_range c ss read i low s found pre long at
+
+    met : Met c row read s
+    met = subst (λ n. Met c row read (group_at ss n)) long (both_stand c ss row read pre (omega (arith, low, long)) (stands_part c ss row cs i st) at)
+
+    house : (e : ℕ) → s.first ≤ e → e < s.end → IsHoused ch.homes.now i (step_at c e)
+    house e above below = (homes.done i e low (record { low = above; high = below })).1
+
+    few : j + 1 < 2 ^ 32
+    few = let inside = spot.place.inside in let most = spot.few in omega (arith, inside, most)
+
+    inside_of : (n : ℕ) → length (Rattle.gq_pipe.specs.steps.Tries.tries c.graph c.typed (step_at c s.first) (before c read s.first)) ≡ n → j < n
+    inside_of n e = let inside = spot.place.inside in omega (arith, inside, group_size c ss read i low s found pre long at, e)
+
+    -- the load number of a relationship of the group's list
+    listed_number : (x from : ℕ) (w : Direction) → rel_home ch.homes.now x ≡ rel.Listed i from (is_forward w) → x < length c.typed.rels → from < length c.typed.nodes
+        → slice_index read.rels x ≡ slice_index (numbers c.graph (rel_table c.typed x) w (slice_index read.nodes from)) j
+    listed_number x from w home x_low from_low =
+        rel_read x x_low
+        ∙ ap (λ h. number_of c.graph (rel_table c.typed x) (edge_in ch ps h)) home
+        ∙ ap (λ d. slice_index (numbers c.graph (rel_table c.typed x) d (node_at ch ps from)) (first_in (group_of ch i) + slice_index ps i)) (way_is w)
+        ∙ ap (λ n. slice_index (numbers c.graph (rel_table c.typed x) w n) (first_in (group_of ch i) + slice_index ps i)) (sym (node_read from from_low))
+        ∙ ap (λ f. slice_index (numbers c.graph (rel_table c.typed x) w (slice_index read.nodes from)) (f + slice_index ps i)) (first_is c ss row cs ms ch ps runs many groups sel i low)
+
+    -- that of the one relationship of a column
+    single_number : (x from : ℕ) (w : Direction) → rel_home ch.homes.now x ≡ rel.Single from (is_forward w) → x < length c.typed.rels → from < length c.typed.nodes
+        → slice_index read.rels x ≡ slice_index (numbers c.graph (rel_table c.typed x) w (slice_index read.nodes from)) 0
+    single_number x from w home x_low from_low =
+        rel_read x x_low
+        ∙ ap (λ h. number_of c.graph (rel_table c.typed x) (edge_in ch ps h)) home
+        ∙ ap (λ d. slice_index (numbers c.graph (rel_table c.typed x) d (node_at ch ps from)) 0) (way_is w)
+        ∙ ap (λ n. slice_index (numbers c.graph (rel_table c.typed x) w n) 0) (sym (node_read from from_low))
+
+    -- the item of the group
+    item_there : (v : ℕ) → node_home ch.homes.now v ≡ node.Item i → v < length c.typed.nodes → slice_index read.nodes v ≡ slice_index (list_of c s.first row (step_at c s.first)) j
+    item_there v home v_low = node_read v v_low ∙ ap (node_in ch ps) home ∙ item_is c ss row cs ms ch ps runs many groups sel i low
+
+    -- the first step
+    first_itself : TriesItself c s.first j read
+    first_itself = go (step_at c s.first) refl (house s.first (omega arith) within.some) (plain s.first first_low) (group_makes c ss read i low s found pre long at) met.fit
+      where
+        run : IsRun c
+        run = at.runs
+
+        go : (t : Step) → step_at c s.first ≡ t → IsHoused ch.homes.now i (step_at c s.first) → is_plain (step_at c s.first) ≡ true → makes_group (step_at c s.first) ≡ true → fits_step c.graph.catalog c.typed (step_at c s.first) met.set ≡ true → TriesItself c s.first j read
+        go (Scan v) is home simple makes fit =
+            let v_low : v < length c.typed.nodes = scan_low c run s.first first_low read held v is in
+            let inside = inside_of _ (scan_count c run s.first first_low read held v is) in
+            scan_itself c run s.first first_low read held v j is inside few
+            (item_there v (subst (IsHoused ch.homes.now i) is home) v_low
+            ∙ ap (λ t. slice_index (list_of c s.first row t) j) is
+            ∙ get_or-range_with_len 0 _ j 0 inside ∙ zero-add j)
+        go (Extend true x from to w) is home simple makes fit = absurd (true≢false (sym simple ∙ ap is_plain is))
+        go (Extend false x from to w) is home simple makes fit =
+            let f : Follows c x from to w = follows c run false x from to w (extend_goes c run s.first first_low read held false x from to w is) in
+            let x_low : x < length c.typed.rels = slice_get_within c.typed.rels x _ f.rel_is in
+            let from_low : from < length c.typed.nodes = slice_get_within c.typed.nodes from _ f.near in
+            let to_low : to < length c.typed.nodes = slice_get_within c.typed.nodes to _ f.far in
+            let set : met.set.nodes from ≡ true = extend_reads c.graph.catalog c.typed met.set false x from to w (subst (λ t. fits_step c.graph.catalog c.typed t met.set ≡ true) is fit) in
+            let bound = (extend_parts c run s.first first_low read held false x from to w is).1 in
+            let near : slice_index row.nodes from ≡ slice_index read.nodes from = same_row c run row read s met from set bound in
+            let both = subst (IsHoused ch.homes.now i) is home in
+            extend_itself c run s.first first_low read held false x from to w j few is
+            (λ inside. item_there to both.0 to_low ∙ ap (λ t. slice_index (list_of c s.first row t) j) is
+            ∙ ap (λ n. slice_index (neighbours c.graph (rel_table c.typed x) w n) j) near)
+            (λ inside. listed_number x from w both.1 x_low from_low)
+        go (Close true x from to w) is home simple makes fit = absurd (true≢false (sym makes ∙ ap makes_group is))
+        go (Close false x from to w) is home simple makes fit =
+            let f : Follows c x from to w = follows c run false x from to w (close_goes c run s.first first_low read held false x from to w is) in
+            let x_low : x < length c.typed.rels = slice_get_within c.typed.rels x _ f.rel_is in
+            let from_low : from < length c.typed.nodes = slice_get_within c.typed.nodes from _ f.near in
+            close_itself c run s.first first_low read held false x from to w j few is
+            (λ inside. listed_number x from w (subst (IsHoused ch.homes.now i) is home) x_low from_low)
+        go (Join side keys) is home simple makes fit = absurd (true≢false (sym simple ∙ ap is_plain is))
+        go (Keep k) is home simple makes fit = absurd (true≢false (sym makes ∙ ap makes_group is))
+        go (Differ p) is home simple makes fit = absurd (true≢false (sym makes ∙ ap makes_group is))
+        go (NoLoop x) is home simple makes fit = absurd (true≢false (sym makes ∙ ap makes_group is))
+
+    -- the steps behind it
+    module _ (d : ℕ) (above : s.first < d) (below : d < s.end) (have : IsHeld c read (known c d)) where
+      step_low : d < length c.steps
+      step_low = let inside = within.inside in omega (arith, inside, below)
+
+      next_itself : TriesItself c d 0 read
+      next_itself = go (step_at c d) refl (house d (omega (arith, above)) below) (plain d step_low) (group_others c ss read i low s found pre long at d above below)
+        where
+          run : IsRun c
+          run = at.runs
+
+          go : (t : Step) → step_at c d ≡ t → IsHoused ch.homes.now i (step_at c d) → is_plain (step_at c d) ≡ true → makes_group (step_at c d) ≡ false → TriesItself c d 0 read
+          go (Scan v) is home simple none = absurd (true≢false (ap makes_group (sym is) ∙ none))
+          go (Extend true x from to w) is home simple none = absurd (true≢false (sym simple ∙ ap is_plain is))
+          go (Extend false x from to w) is home simple none = absurd (true≢false (ap makes_group (sym is) ∙ none))
+          go (Close true x from to w) is home simple none =
+              let f : Follows c x from to w = follows c run true x from to w (close_goes c run d step_low read have true x from to w is) in
+              close_itself c run d step_low read have true x from to w 0 (omega arith) is
+              (λ inside. single_number x from w (subst (IsHoused ch.homes.now i) is home) (slice_get_within c.typed.rels x _ f.rel_is) (slice_get_within c.typed.nodes from _ f.near))
+          go (Close false x from to w) is home simple none = absurd (true≢false (ap makes_group (sym is) ∙ none))
+          go (Join side keys) is home simple none = absurd (true≢false (ap makes_group (sym is) ∙ none))
+          go (Keep k) is home simple none = keep_itself c run d step_low read have k is 0
+          go (Differ p) is home simple none = differ_itself c run d step_low read have p is 0
+          go (NoLoop x) is home simple none = no_loop_itself c run d step_low read have x is 0
+
+    -- the place is kept, so each step makes something
+    kept_all : IsTriedAt c s j read false read → ⊥
+    kept_all t = true≢false (sym (group_told c ss read i low s found pre long at j spot.place.inside false read t ∙ spot.place.kept))
+
+    pub record AllMade (d : ℕ) : Type 0 where
+      pub tried : IsTriedAt c s j read true read
+      pub first_made : d ≤ s.first → IsTried c s.first j read read Made
+      pub others_made : (e : ℕ) → s.first < e → d ≤ e → e < s.end → IsTried c e 0 read read Made
+
+    all_made : (n d : ℕ) → d + n ≡ s.end → IsGoing c s j read d read → AllMade d
+    all_made zero d at_end g = record {
+      tried = ends c s range j read read d g (omega (arith, at_end));
+      first_made = λ h. absurd (let some = within.some in omega (arith, h, at_end, some));
+      others_made = λ e h up low. absurd (omega (arith, up, low, at_end));
+    }
+    all_made (suc n) d at_end g = by (λ h. all_made n (suc d) (omega (arith, at_end)) h) (cases_eq d s.first)
+      where
+        below : d < s.end
+        below = omega (arith, at_end)
+
+        first_case : (IsGoing c s j read (suc d) read → AllMade (suc d)) → d ≡ s.first → (t : Tried) → IsTried c s.first j read read t → AllMade d
+        first_case on e Past t = absurd (kept_all (tried_past c s range j read d j read read g below (λ h. refl) (λ h. absurd (h e)) (inl e) (subst (λ n. IsTried c n j read read Past) (sym e) t)))
+        first_case on e Missed t = absurd (kept_all (tried_missed c s range j read d j read read g below (λ h. refl) (λ h. absurd (h e)) (inl e) (subst (λ n. IsTried c n j read read Missed) (sym e) t)))
+        first_case on e Made t =
+            let more = on (tried_made c s range j read d j read read g below (λ h. refl) (λ h. absurd (h e)) (inl e) (subst (λ n. IsTried c n j read read Made) (sym e) t)) in
+            record {
+              tried = more.tried;
+              first_made = λ h. t;
+              others_made = λ o above up low. more.others_made o above (omega (arith, above, e)) low;
+            }
+
+        next_case : (IsGoing c s j read (suc d) read → AllMade (suc d)) → (d ≡ s.first → ⊥) → (t : Tried) → IsTried c d 0 read read t → AllMade d
+        next_case on far Past t = absurd (kept_all (tried_past c s range j read d 0 read read g below (λ h. absurd (far h)) (λ h. refl) (inr far) t))
+        next_case on far Missed t = absurd (kept_all (tried_missed c s range j read d 0 read read g below (λ h. absurd (far h)) (λ h. refl) (inr far) t))
+        next_case on far Made t =
+            let above : s.first < d = (let up = g.low in omega (arith, up, far)) in
+            let more = on (tried_made c s range j read d 0 read read g below (λ h. absurd (far h)) (λ h. refl) (inr far) t) in
+            record {
+              tried = more.tried;
+              first_made = λ h. absurd (omega (arith, h, above));
+              others_made = λ o up_first up low. either o (cases_eq o d) up_first up low more;
+            }
+          where
+            either : (o : ℕ) → (o ≡ d) ⊎ (o ≡ d → ⊥) → s.first < o → d ≤ o → o < s.end → AllMade (suc d) → IsTried c o 0 read read Made
+            either o (inl e) up_first up low more = subst (λ n. IsTried c n 0 read read Made) (sym e) t
+            either o (inr e) up_first up low more = more.others_made o up_first (omega (arith, up, e)) low
+
+        by : (IsGoing c s j read (suc d) read → AllMade (suc d)) → (d ≡ s.first) ⊎ (d ≡ s.first → ⊥) → AllMade d
+        by on (inl e) = first_case on e first_itself.told first_itself.tried
+        by on (inr far) =
+            let it : TriesItself c d 0 read = next_itself d (let up = g.low in omega (arith, up, far)) below g.held in
+            next_case on far it.told it.tried
+
+    pub made : AllMade s.first
+    made = all_made (s.end - s.first) s.first (let some = within.some in omega (arith, some)) (begins c s range j read held)
+
+    -- so the group stands too
+    pub stands_next : Stands c ss read (prefix cs (i + 1))
+    stands_next =
+        subst (Stands c ss read) (sym (prefix_more cs i (omega (arith, low, many))))
+        (group_next c ss read i low s found pre long at j spot.place.inside true read made.tried (cursor_at cs i).key spot.place.kept spot.place.number_is)
+
+    pub place_is : place c.graph c.typed (rows_in c) (group_in c.steps s) (before c read s.first) j ≡ before c read s.end
+    place_is = group_place c ss read i low s found pre long at j spot.place.inside true read made.tried (cursor_at cs i).key spot.place.kept spot.place.number_is
+
+  -- all groups stand
+  pub all_stand : (i : ℕ) → i ≤ length ss → Stands c ss read (prefix cs i)
+  all_stand zero low = stands_first c ss read st.runs st.grouped (length-map (range_with_len 0 (length c.typed.nodes)) (node_at ch ps) ∙ length-range_with_len 0 (length c.typed.nodes)) (length-map (range_with_len 0 (length c.typed.rels)) (rel_at c.graph c.typed ch ps) ∙ length-range_with_len 0 (length c.typed.rels))
+  all_stand (suc i) low =
+      let next : i + 1 ≡ suc i = omega arith in
+      subst (λ n. Stands c ss read (prefix cs n)) next (stands_next i (omega (arith, low)) (all_stand i (omega (arith, low))))
+
+  module _ (walk : List ℕ) (long_walk : length walk ≡ length ss) (each : (i : ℕ) → i < length ss → slice_index walk i ≡ place_at c ss row cs ms ch ps runs many groups sel i) where
+    decode_from : (n i d : ℕ) → i + n ≡ length ss → Tiles c d (drop i ss) → decode c.graph c.typed (rows_in c) (groups_in c (drop i ss)) (before c read d) (drop i walk) ≡ before c read (length c.steps)
+    decode_from zero i d at_end tiles =
+        let none : drop i ss ≡ [] = drop_all i ss (omega (arith, at_end)) in
+        ap (λ l. decode c.graph c.typed (rows_in c) (groups_in c l) (before c read d) (drop i walk)) none
+        ∙ ap (before c read) (subst (Tiles c d) none tiles)
+    decode_from (suc n) i d at_end tiles =
+        let low : i < length ss = omega (arith, at_end) in
+        let more : drop i ss ≡ group_at ss i ∷ drop (i + 1) ss = drop_more ss i no_group low in
+        let walked : drop i walk ≡ slice_index walk i ∷ drop (i + 1) walk = drop_more walk i 0 (omega (arith, low, long_walk)) in
+        let tiled = subst (Tiles c d) more tiles in
+        ap (λ l. decode c.graph c.typed (rows_in c) (groups_in c l) (before c read d) (drop i walk)) more
+        ∙ ap (decode c.graph c.typed (rows_in c) (groups_in c (group_at ss i ∷ drop (i + 1) ss)) (before c read d)) walked
+        ∙ ap (λ j. decode c.graph c.typed (rows_in c) (groups_in c (drop (i + 1) ss)) (place c.graph c.typed (rows_in c) (group_in c.steps (group_at ss i)) (before c read d) j) (drop (i + 1) walk)) (each i low)
+        ∙ ap (λ n. decode c.graph c.typed (rows_in c) (groups_in c (drop (i + 1) ss)) (place c.graph c.typed (rows_in c) (group_in c.steps (group_at ss i)) (before c read n) (place_at c ss row cs ms ch ps runs many groups sel i)) (drop (i + 1) walk)) (sym tiled.0)
+        ∙ ap (λ a. decode c.graph c.typed (rows_in c) (groups_in c (drop (i + 1) ss)) a (drop (i + 1) walk)) (place_is i low (all_stand i (omega (arith, low))))
+        ∙ decode_from n (i + 1) (group_at ss i).end (omega (arith, at_end)) tiled.3
+
+    -- what the plan binds at these positions is what the walk binds
+    pub reads_walk : given c.typed read (steps c.steps) nothing ≡ decode c.graph c.typed (rows_in c) (groups_in c ss) nothing walk
+    unfolding before
+    reads_walk = given_all c read ∙ sym (decode_from (length ss) 0 0 (zero-add (length ss)) st.grouped.tiles)

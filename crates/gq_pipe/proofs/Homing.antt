@@ -1,0 +1,275 @@
+-- One more step puts what it binds into its group, and changes the home of no other variable.
+use Rattle.std.proofs.Common.{◌≡◌, ◌≢◌, ◌⊎◌, inl, inr, ℕ, zero, suc, ◌+◌, ◌<◌, ◌≤◌, Bool, true, false, ◌||◌, nat_eq, List, [], ◌∷◌, length, refl, sym, ap, ◌∙◌, subst, arith, true≢false}
+use Rattle.std.proofs.lemmas.Bool.{and_parts, cases_eq, eq-eqb, ltb-true, or_left}
+use Rattle.std.proofs.lemmas.List.{get_or-set_same, get_or-set_other, length-set}
+use Rattle.std.proofs.lemmas.Option.{slice_get_within}
+use Rattle.gq_group.specs.declared.home.Homes.{Homes}
+use Rattle.gq_group.specs.declared.home.NodeHome.{NodeHome}
+use Rattle.gq_group.specs.declared.home.NodeHome.TheVariants as node
+use Rattle.gq_group.specs.declared.home.RelHome.{RelHome}
+use Rattle.gq_group.specs.declared.home.RelHome.TheVariants as rel
+use Rattle.gq_plan.specs.Covers.{after_step, fits_step}
+use Rattle.gq_plan.specs.Known.{Known}
+use Rattle.gq_plan.specs.Plans.{Step, Scan, Extend, Close, Join, Keep, Differ, NoLoop}
+use Rattle.gq_pipe.specs.steps.Homes.{AreHomes, AreHoused, CanHouse, InGroup, IsHoused, housed, is_forward, node_home, rel_home, with_node_home, with_rel_home}
+use Rattle.gq_pipe.specs.steps.Levels.{Run, step_at, known}
+use Rattle.gq_pipe.specs.steps.Lists.{group_at, Tiles}
+use Rattle.gq_pipe.specs.steps.Moves.{IsRun}
+use Rattle.gq_pipe.specs.declared.places.GroupSteps.{GroupSteps}
+use Rattle.gq_pipe.proofs.Binding.{fits_at}
+use Rattle.gq_pipe.proofs.Going.{later_node, later_rel}
+use Rattle.gq_pipe.proofs.Stepping.{Follows, follows, not_true}
+
+-- ---- one variable
+
+node_set : (h : Homes) (v : ℕ) (o : NodeHome) → v < length h.nodes → node_home (with_node_home v o h) v ≡ o
+node_set h v o low = get_or-set_same h.nodes v o node.Nowhere low
+
+node_other : (h : Homes) (v w : ℕ) (o : NodeHome) → w ≢ v → node_home (with_node_home v o h) w ≡ node_home h w
+node_other h v w o other = get_or-set_other h.nodes v w o node.Nowhere other
+
+rel_set : (h : Homes) (x : ℕ) (o : RelHome) → x < length h.rels → rel_home (with_rel_home x o h) x ≡ o
+rel_set h x o low = get_or-set_same h.rels x o rel.Nowhere low
+
+rel_other : (h : Homes) (x w : ℕ) (o : RelHome) → w ≢ x → rel_home (with_rel_home x o h) w ≡ rel_home h w
+rel_other h x w o other = get_or-set_other h.rels x w o rel.Nowhere other
+
+differs : (known : ℕ → Bool) (v w : ℕ) → known w ≡ true → known v ≡ false → w ≢ v
+differs known v w has spare same = true≢false (sym has ∙ ap known same ∙ spare)
+
+-- homes that have what is known alike
+pub record Keeps (k : Known) (old new : Homes) : Type 0 where
+  pub nodes : (v : ℕ) → k.nodes v ≡ true → node_home new v ≡ node_home old v
+  pub rels : (x : ℕ) → k.rels x ≡ true → rel_home new x ≡ rel_home old x
+
+-- what a step binds is known behind it, so it stays where it lives
+stays_housed : (k : Known) (old new : Homes) (i : ℕ) (s : Step) (b : Known) → ((v : ℕ) → (after_step s b).nodes v ≡ true → k.nodes v ≡ true) → ((x : ℕ) → (after_step s b).rels x ≡ true → k.rels x ≡ true)
+    → Keeps k old new → IsHoused old i s → IsHoused new i s
+unfolding after_step
+stays_housed k old new i (Scan v) b nodes rels keep h = keep.nodes v (nodes v (or_left (nat_eq v v) (b.nodes v) (eq-eqb v v refl))) ∙ h
+stays_housed k old new i (Extend true x from to way) b nodes rels keep h = keep.rels x (rels x (or_left (nat_eq x x) (b.rels x) (eq-eqb x x refl))) ∙ h
+stays_housed k old new i (Extend false x from to way) b nodes rels keep h =
+    (keep.nodes to (nodes to (or_left (nat_eq to to) (b.nodes to) (eq-eqb to to refl))) ∙ h.0, keep.rels x (rels x (or_left (nat_eq x x) (b.rels x) (eq-eqb x x refl))) ∙ h.1)
+stays_housed k old new i (Close true x from to way) b nodes rels keep h = keep.rels x (rels x (or_left (nat_eq x x) (b.rels x) (eq-eqb x x refl))) ∙ h
+stays_housed k old new i (Close false x from to way) b nodes rels keep h = keep.rels x (rels x (or_left (nat_eq x x) (b.rels x) (eq-eqb x x refl))) ∙ h
+stays_housed k old new i (Join side keys) b nodes rels keep h = tt
+stays_housed k old new i (Keep t) b nodes rels keep h = tt
+stays_housed k old new i (Differ p) b nodes rels keep h = tt
+stays_housed k old new i (NoLoop x) b nodes rels keep h = tt
+
+-- ---- one step
+
+pub record Added (c : Run) (i : ℕ) (s : Step) (k : Known) (old new : Homes) : Type 0 where
+  pub node_count : length new.nodes ≡ length old.nodes
+  pub rel_count : length new.rels ≡ length old.rels
+  pub keeps : Keeps k old new
+  pub is : IsHoused new i s
+  pub free_nodes : (v : ℕ) → (after_step s k).nodes v ≡ false → node_home new v ≡ node_home old v
+  pub free_rels : (x : ℕ) → (after_step s k).rels x ≡ false → rel_home new x ≡ rel_home old x
+
+not_left : (a b : Bool) → (a || b) ≡ false → a ≡ false
+not_left true b e = absurd (true≢false e)
+not_left false b e = refl
+
+not_same : (v w : ℕ) (b : Bool) → (nat_eq v w || b) ≡ false → v ≢ w
+not_same v w b e same = true≢false (sym (eq-eqb v w same) ∙ not_left (nat_eq v w) b e)
+
+module _ (c : Run) (run : IsRun c) (h : Homes) (nodes : length h.nodes ≡ length c.typed.nodes) (rels : length h.rels ≡ length c.typed.rels) (k : Known) where
+  -- the variables that a step binds are variables of the alternative
+  pub can_house : (s : Step) → fits_step c.graph.catalog c.typed s k ≡ true → CanHouse h s
+  unfolding fits_step
+  can_house (Scan v) fit = let low : v < length c.typed.nodes = ltb-true v (length c.typed.nodes) (and_parts _ _ fit).0 in omega (arith, low, nodes)
+  can_house (Extend column x from to way) fit =
+      let f : Follows c x from to way = follows c run column x from to way (and_parts _ _ fit).0 in
+      let x_low : x < length c.typed.rels = slice_get_within c.typed.rels x _ f.rel_is in
+      let to_low : to < length c.typed.nodes = slice_get_within c.typed.nodes to _ f.far in
+      (omega (arith, x_low, rels), omega (arith, to_low, nodes))
+  can_house (Close column x from to way) fit =
+      let f : Follows c x from to way = follows c run column x from to way (and_parts _ _ fit).0 in
+      let x_low : x < length c.typed.rels = slice_get_within c.typed.rels x _ f.rel_is in
+      omega (arith, x_low, rels)
+  can_house (Join side keys) fit = tt
+  can_house (Keep t) fit = tt
+  can_house (Differ p) fit = tt
+  can_house (NoLoop x) fit = tt
+
+  only_rel : (i x : ℕ) (o : RelHome) (s : Step) (new : Homes) → new ≡ with_rel_home x o h → x < length h.rels → k.rels x ≡ false
+      → ((v : ℕ) → (after_step s k).rels v ≡ false → v ≢ x) → (rel_home new x ≡ o → IsHoused new i s) → Added c i s k h new
+  only_rel i x o s new is low spare others house = record {
+    node_count = ap (λ (h : Homes). length h.nodes) is;
+    rel_count = ap (λ (h : Homes). length h.rels) is ∙ length-set h.rels x o;
+    keeps = record {
+      nodes = λ v e. ap (λ (h : Homes). node_home h v) is;
+      rels = λ w e. ap (λ (h : Homes). rel_home h w) is ∙ rel_other h x w o (differs k.rels x w e spare);
+    };
+    is = house (ap (λ (h : Homes). rel_home h x) is ∙ rel_set h x o low);
+    free_nodes = λ v e. ap (λ (h : Homes). node_home h v) is;
+    free_rels = λ w e. ap (λ (h : Homes). rel_home h w) is ∙ rel_other h x w o (others w e);
+  }
+
+  nothing_new : (i : ℕ) (s : Step) → IsHoused h i s → Added c i s k h h
+  nothing_new i s house = record {
+    node_count = refl;
+    rel_count = refl;
+    keeps = record { nodes = λ v e. refl; rels = λ x e. refl };
+    is = house;
+    free_nodes = λ v e. refl;
+    free_rels = λ x e. refl;
+  }
+
+  pub added : (i : ℕ) (s : Step) → fits_step c.graph.catalog c.typed s k ≡ true → Added c i s k h (housed i s h)
+  unfolding fits_step after_step
+  added i (Scan v) fit =
+      let parts = and_parts _ _ fit in
+      let low = can_house (Scan v) fit in
+      record {
+        node_count = length-set h.nodes v (node.Item i);
+        rel_count = refl;
+        keeps = record { nodes = λ w e. node_other h v w (node.Item i) (differs k.nodes v w e (not_true _ parts.1)); rels = λ x e. refl };
+        is = node_set h v (node.Item i) low;
+        free_nodes = λ w e. node_other h v w (node.Item i) (not_same w v (k.nodes w) e);
+        free_rels = λ x e. refl;
+      }
+  added i (Extend false x from to way) fit =
+      let more = and_parts _ _ (and_parts _ _ fit).1 in
+      let fresh = and_parts _ _ (and_parts _ _ more.1).1 in
+      let low = can_house (Extend false x from to way) fit in
+      let o : RelHome = rel.Listed i from (is_forward way) in
+      record {
+        node_count = length-set h.nodes to (node.Item i);
+        rel_count = length-set h.rels x o;
+        keeps = record {
+          nodes = λ w e. node_other h to w (node.Item i) (differs k.nodes to w e (not_true _ fresh.1));
+          rels = λ w e. rel_other h x w o (differs k.rels x w e (not_true _ more.0));
+        };
+        is = (node_set h to (node.Item i) low.1, rel_set h x o low.0);
+        free_nodes = λ w e. node_other h to w (node.Item i) (not_same w to (k.nodes w) e);
+        free_rels = λ w e. rel_other h x w o (not_same w x (k.rels w) e);
+      }
+  added i (Extend true x from to way) fit =
+      only_rel i x (rel.Single from (is_forward way)) (Extend true x from to way) _ refl (can_house (Extend true x from to way) fit).0 (not_true _ (and_parts _ _ (and_parts _ _ fit).1).0) (λ w e. not_same w x (k.rels w) e) (λ e. e)
+  added i (Close false x from to way) fit =
+      only_rel i x (rel.Listed i from (is_forward way)) (Close false x from to way) _ refl (can_house (Close false x from to way) fit) (not_true _ (and_parts _ _ (and_parts _ _ fit).1).0) (λ w e. not_same w x (k.rels w) e) (λ e. e)
+  added i (Close true x from to way) fit =
+      only_rel i x (rel.Single from (is_forward way)) (Close true x from to way) _ refl (can_house (Close true x from to way) fit) (not_true _ (and_parts _ _ (and_parts _ _ fit).1).0) (λ w e. not_same w x (k.rels w) e) (λ e. e)
+  added i (Join side keys) fit = nothing_new i (Join side keys) tt
+  added i (Keep t) fit = nothing_new i (Keep t) tt
+  added i (Differ p) fit = nothing_new i (Differ p) tt
+  added i (NoLoop x) fit = nothing_new i (NoLoop x) tt
+
+less_node : (s : Step) (k : Known) (v : ℕ) → (after_step s k).nodes v ≡ false → k.nodes v ≡ false
+less_node s k v e = go (k.nodes v) refl
+  where
+    go : (b : Bool) → k.nodes v ≡ b → k.nodes v ≡ false
+    go true is = absurd (true≢false (sym (Rattle.gq_pipe.proofs.Binding.step_keeps_node s k v is) ∙ e))
+    go false is = is
+
+less_rel : (s : Step) (k : Known) (x : ℕ) → (after_step s k).rels x ≡ false → k.rels x ≡ false
+less_rel s k x e = go (k.rels x) refl
+  where
+    go : (b : Bool) → k.rels x ≡ b → k.rels x ≡ false
+    go true is = absurd (true≢false (sym (Rattle.gq_pipe.proofs.Binding.step_keeps_rel s k x is) ∙ e))
+    go false is = is
+
+-- ---- the steps of a group
+
+module _ (c : Run) (run : IsRun c) (ss : List GroupSteps) (i : ℕ) where
+  pub housed_first : (h : Homes) → AreHomes c ss i (group_at ss i).first h → AreHoused c ss i (group_at ss i).first h
+  housed_first h homes = record { homes = homes; here = λ e low high. absurd (omega (arith, low, high)) }
+
+  pub housed_more : (d : ℕ) (h : Homes) → d < length c.steps → AreHoused c ss i d h → AreHoused c ss i (d + 1) (housed i (step_at c d) h)
+  unfolding known
+  housed_more d h low old =
+      let a : Added c i (step_at c d) (known c d) h (housed i (step_at c d) h) = added c run h old.homes.node_count old.homes.rel_count (known c d) i (step_at c d) (fits_at c run d low) in
+      let next : suc d ≡ d + 1 = omega arith in
+      subst (λ n. AreHoused c ss i n (housed i (step_at c d) h)) next
+      (record {
+        homes = record {
+          node_count = a.node_count ∙ old.homes.node_count;
+          rel_count = a.rel_count ∙ old.homes.rel_count;
+          done = λ j e less there. (let o = old.homes.done j e less there in let before_it = o.0 in (omega (arith, before_it), still e o.0 j a.keeps o.1));
+          free_nodes = λ v e. a.free_nodes v e ∙ old.homes.free_nodes v (less_node (step_at c d) (known c d) v e);
+          free_rels = λ x e. a.free_rels x e ∙ old.homes.free_rels x (less_rel (step_at c d) (known c d) x e);
+        };
+        here = λ e from below. at e from below a (cases_eq e d);
+      })
+    where
+      still : (e : ℕ) → e < d → (j : ℕ) → Keeps (known c d) h (housed i (step_at c d) h) → IsHoused h j (step_at c e) → IsHoused (housed i (step_at c d) h) j (step_at c e)
+      still e less j keep is =
+          stays_housed (known c d) h (housed i (step_at c d) h) j (step_at c e) (known c e)
+          (λ v has. later_node c (suc e) d v (omega (arith, less)) has) (λ x has. later_rel c (suc e) d x (omega (arith, less)) has) keep is
+
+      at : (e : ℕ) → (group_at ss i).first ≤ e → e < suc d → Added c i (step_at c d) (known c d) h (housed i (step_at c d) h) → (e ≡ d) ⊎ (e ≡ d → ⊥) → IsHoused (housed i (step_at c d) h) i (step_at c e)
+      at e from below a (inl same) = subst (λ n. IsHoused (housed i (step_at c d) h) i (step_at c n)) (sym same) a.is
+      at e from below a (inr other) = still e (omega (arith, below, other)) i a.keeps (old.here e from (omega (arith, below, other)))
+
+  -- the group is done
+  pub housed_group : (h : Homes) → AreHoused c ss i (group_at ss i).end h → AreHomes c ss (i + 1) (group_at ss i).end h
+  housed_group h old = record {
+    node_count = old.homes.node_count;
+    rel_count = old.homes.rel_count;
+    done = λ j e less there. by j e less there (cases_eq j i);
+    free_nodes = old.homes.free_nodes;
+    free_rels = old.homes.free_rels;
+  }
+    where
+      by : (j e : ℕ) → j < i + 1 → InGroup ss j e → (j ≡ i) ⊎ (j ≡ i → ⊥) → (e < (group_at ss i).end) × IsHoused h j (step_at c e)
+      by j e less there (inl same) =
+          let here : InGroup ss i e = subst (λ n. InGroup ss n e) same there in
+          subst (λ n. (e < (group_at ss i).end) × IsHoused h n (step_at c e)) (sym same) (here.high, old.here e here.low here.high)
+      by j e less there (inr other) = old.homes.done j e (omega (arith, less, other)) there
+
+-- before the first group nothing has a home
+pub homes_none : (c : Run) (ss : List GroupSteps) (h : Homes) → length h.nodes ≡ length c.typed.nodes → length h.rels ≡ length c.typed.rels → ((v : ℕ) → node_home h v ≡ node.Nowhere) → ((x : ℕ) → rel_home h x ≡ rel.Nowhere) → AreHomes c ss 0 0 h
+homes_none c ss h nodes rels no_node no_rel = record {
+  node_count = nodes;
+  rel_count = rels;
+  done = λ j e less there. absurd (omega (arith, less));
+  free_nodes = λ v e. no_node v;
+  free_rels = λ x e. no_rel x;
+}
+
+-- where the groups are tiles, each begins where the one before it ends
+pub tile_next : (c : Run) (d : ℕ) (ss : List GroupSteps) → Tiles c d ss → (i : ℕ) → i + 1 < length ss → (group_at ss (i + 1)).first ≡ (group_at ss i).end
+tile_next c d [] h i low = absurd (omega (arith, low))
+tile_next c d (s ∷ []) h zero low = absurd (omega (arith, low))
+tile_next c d (s ∷ t ∷ ss) h zero low = h.3.0
+tile_next c d (s ∷ ss) h (suc i) low = let e : suc i + 1 ≡ suc (i + 1) = omega arith in ap (λ n. (group_at (s ∷ ss) n).first) e ∙ tile_next c s.end ss h.3 i (omega (arith, low))
+
+pub tile_first : (c : Run) (d : ℕ) (ss : List GroupSteps) → Tiles c d ss → 0 < length ss → (group_at ss 0).first ≡ d
+tile_first c d [] h low = absurd (omega (arith, low))
+tile_first c d (s ∷ ss) h low = h.0
+
+pub tile_last : (c : Run) (d : ℕ) (ss : List GroupSteps) → Tiles c d ss → (i : ℕ) → i + 1 ≡ length ss → (group_at ss i).end ≡ length c.steps
+tile_last c d [] h i e = absurd (omega (arith, e))
+tile_last c d (s ∷ []) h zero e = h.3
+tile_last c d (s ∷ t ∷ ss) h zero e = absurd (omega (arith, e))
+tile_last c d (s ∷ ss) h (suc i) e = tile_last c s.end ss h.3 i (omega (arith, e))
+
+-- the next group begins behind the steps whose variables have homes
+pub record Starts (c : Run) (ss : List GroupSteps) (i : ℕ) (h : Homes) : Type 0 where
+  pub d : ℕ
+  pub first : i < length ss → (group_at ss i).first ≡ d
+  pub last : i ≡ length ss → d ≡ length c.steps
+  pub homes : AreHomes c ss i d h
+
+pub starts_none : (c : Run) (ss : List GroupSteps) (h : Homes) → Tiles c 0 ss → length h.nodes ≡ length c.typed.nodes → length h.rels ≡ length c.typed.rels → ((v : ℕ) → node_home h v ≡ node.Nowhere) → ((x : ℕ) → rel_home h x ≡ rel.Nowhere) → Starts c ss 0 h
+starts_none c ss h tiles nodes rels no_node no_rel = record { d = 0; first = λ low. tile_first c 0 ss tiles low; last = λ e. empty ss tiles e; homes = homes_none c ss h nodes rels no_node no_rel }
+  where
+    empty : (ss : List GroupSteps) → Tiles c 0 ss → 0 ≡ length ss → 0 ≡ length c.steps
+    empty [] t e = t
+    empty (s ∷ ss) t e = absurd (omega (arith, e))
+
+pub starts_here : (c : Run) (ss : List GroupSteps) (i : ℕ) (h : Homes) → i < length ss → Starts c ss i h → AreHomes c ss i (group_at ss i).first h
+starts_here c ss i h low s = subst (λ n. AreHomes c ss i n h) (sym (s.first low)) s.homes
+
+pub starts_next : (c : Run) (run : IsRun c) (ss : List GroupSteps) (i : ℕ) (h : Homes) → Tiles c 0 ss → i < length ss → AreHoused c ss i (group_at ss i).end h → Starts c ss (i + 1) h
+starts_next c run ss i h tiles low old = record {
+  d = (group_at ss i).end;
+  first = λ next. tile_next c 0 ss tiles i next;
+  last = λ e. tile_last c 0 ss tiles i e;
+  homes = housed_group c run ss i h old;
+}
+
+pub starts_all : (c : Run) (ss : List GroupSteps) (i : ℕ) (h : Homes) → i ≡ length ss → Starts c ss i h → AreHomes c ss (length ss) (length c.steps) h
+starts_all c ss i h e s = subst (λ n. AreHomes c ss n (length c.steps) h) e (subst (λ n. AreHomes c ss i n h) (s.last e) s.homes)

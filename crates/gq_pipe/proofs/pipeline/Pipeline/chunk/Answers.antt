@@ -1,0 +1,32 @@
+use Rattle.std.proofs.Common.{◌≡◌, ◌∙◌, true, map, sym, subst}
+use Rattle.gq_group.specs.Chunks.{IsChunkOf, chunk_meaning}
+use Rattle.gq_plan.specs.Meaning.{nothing, whole}
+use Rattle.gq_plan.specs.Rows.{assigned}
+use Rattle.gq_pipe.specs.Bound.{binds_all}
+use Rattle.gq_pipe.specs.Levels.{given}
+use Rattle.gq_pipe.specs.Plain.{ArePlain}
+use Rattle.gq_pipe.specs.Progress.{plan_in}
+use Rattle.gq_pipe.specs.Rest.{Rest}
+use Rattle.gq_pipe.proofs.Chunked.{chunk_is, binds_is, whole_is}
+use Rattle.gq_pipe.proofs.pipeline.Pipeline.chunk.Goals as goal
+
+pub returns-clause-chunk : goal.returns-clause-chunk
+returns-clause-chunk c =
+    subst (λ (r : Rest). IsChunkOf r.source.graph r.source.typed c.chunk_of.result) c.self.view_is
+    (chunk_is c.self.inside c.self.invariant
+    (subst (λ (r : Rest). r.standing ≡ true) (sym c.self.view_is) c.requires.standing) (subst (λ (r : Rest). ArePlain r.source) (sym c.self.view_is) c.requires.plain)
+    c.chunk_of.result (c.chunk_of.ensures.groups ∙ c.as_slice.ensures.value) c.chunk_of.ensures.homes)
+
+pub returns-clause-binds : goal.returns-clause-binds
+returns-clause-binds c =
+    subst (λ (r : Rest). map (λ row. given r.source.typed row (plan_in r.source) nothing) (chunk_meaning r.source.graph r.source.typed c.chunk_of.result) ≡ r.chunk) c.self.view_is
+    (binds_is c.self.inside c.self.invariant
+    (subst (λ (r : Rest). r.standing ≡ true) (sym c.self.view_is) c.requires.standing) (subst (λ (r : Rest). ArePlain r.source) (sym c.self.view_is) c.requires.plain)
+    c.chunk_of.result (c.chunk_of.ensures.groups ∙ c.as_slice.ensures.value) c.chunk_of.ensures.homes)
+
+pub returns-clause-whole : goal.returns-clause-whole
+returns-clause-whole c =
+    subst (λ (r : Rest). binds_all r.source.typed (plan_in r.source) ≡ true → map (assigned r.source.typed) (chunk_meaning r.source.graph r.source.typed c.chunk_of.result) ≡ map (whole r.source.typed) r.chunk) c.self.view_is
+    (whole_is c.self.inside c.self.invariant
+    (subst (λ (r : Rest). r.standing ≡ true) (sym c.self.view_is) c.requires.standing) (subst (λ (r : Rest). ArePlain r.source) (sym c.self.view_is) c.requires.plain)
+    c.chunk_of.result (c.chunk_of.ensures.groups ∙ c.as_slice.ensures.value) c.chunk_of.ensures.homes)

@@ -1,0 +1,75 @@
+-- The groups of the chunk that stands: the piece of each group's whole list, and the marks of its positions.
+use Rattle.std.specs.Prelude.{◌≡◌, ◌<◌, ◌≤◌, ◌*◌, ◌^◌, ◌%◌, ◌==◌, ℕ, Bool, true, false, Option, Some, None, List, [], length, take, drop, slice_get, slice_index, slice_index_or}
+use Rattle.std.specs.List.{range_with_len}
+use Rattle.gq_base.specs.Valid.{row_count}
+use Rattle.gq_bits.specs.Places.{is_marked}
+use Rattle.gq_group.specs.Pieces.{first_of, items_of}
+use Rattle.gq_group.specs.declared.group.Group.{Group}
+use Rattle.gq_group.specs.declared.piece.Piece.{Piece}
+use Rattle.gq_join.specs.Kept.{Held, matches_of}
+use Rattle.gq_plan.specs.Plans.{Step, Scan, Extend, Close, Join}
+use Rattle.gq_plan.specs.Rows.{node_table, rel_table}
+use Rattle.gq_plan.specs.declared.assignment.Assignment.{Assignment}
+use Rattle.gq_store.specs.Neighbours.{neighbours}
+use Rattle.gq_walks.specs.Layouts.{piece_of}
+use Rattle.gq_walks.specs.Running.{cursor_at}
+use Rattle.gq_walks.specs.declared.walker.Cursor.{Cursor}
+use Rattle.gq_law_groups.specs.Groups.{makes_group}
+use Rattle.gq_pipe.specs.steps.Levels.{Run, step_at, known}
+use Rattle.gq_pipe.specs.steps.Moves.{IsRun, IsHeld}
+use Rattle.gq_pipe.specs.steps.Lists.{group_at}
+use Rattle.gq_pipe.specs.declared.places.GroupSteps.{GroupSteps}
+
+abbrev pub matches_in : Option Held → Assignment → List ℕ
+matches_in None row = []
+matches_in (Some h) row = matches_of h row
+
+-- the whole list of a step that makes a group, as rows and load numbers have what it reads
+abbrev pub list_of : Run → ℕ → Assignment → Step → List ℕ
+list_of c d row (Scan v) = range_with_len 0 (row_count c.graph.nodes (node_table c.typed v))
+list_of c d row (Extend column x from to way) = neighbours c.graph (rel_table c.typed x) way (slice_index row.nodes from)
+list_of c d row (Close column x from to way) = neighbours c.graph (rel_table c.typed x) way (slice_index row.nodes from)
+list_of c d row (Join side keys) = matches_in (slice_index_or c.builds d None) row
+list_of c d row s = []
+
+-- the part of a list that begins at a place, up to 1,024 items
+abbrev pub part : List ℕ → ℕ → List ℕ
+part list first = take 1024 (drop first list)
+
+-- that part of the list of the step at a depth
+pub record IsPieceOf (c : Run) (d : ℕ) (row : Assignment) (first : ℕ) (p : Piece) : Type 0 where
+  pub first_is : first_of p ≡ first
+  pub items_are : items_of p ≡ part (list_of c d row (step_at c d)) first
+
+-- a flat group has its current position marked alone, another group the places that its steps keep
+abbrev pub marked_at : Bool → ℕ → List Bool → ℕ → Bool
+marked_at true key marks p = p == key % 1024
+marked_at false key marks p = is_marked marks p
+
+abbrev pub current_at : Bool → ℕ → Option ℕ
+current_at true key = Some (key % 1024)
+current_at false key = None
+
+-- a group stands at a number
+pub record IsGroupAt (c : Run) (row : Assignment) (s : GroupSteps) (cursor : Cursor) (m : List Bool) (g : Group) : Type 0 where
+  pub piece : IsPieceOf c s.first row (1024 * piece_of s.flat cursor.key) g.piece
+  pub marks : (p : ℕ) → is_marked g.marks p ≡ marked_at s.flat cursor.key m p
+  pub current : g.current ≡ current_at s.flat cursor.key
+
+pub record HasGroup (c : Run) (row : Assignment) (s : GroupSteps) (cursor : Cursor) (marks : List Bool) (gs : List Group) (i : ℕ) : Type 0 where
+  pub group : Group
+  pub there : slice_get gs i ≡ Some group
+  pub is : IsGroupAt c row s cursor marks group
+
+-- the groups before one stand at the numbers of their cursors
+abbrev pub AreStanding : Run → List GroupSteps → Assignment → List Cursor → List (List Bool) → List Group → ℕ → Type 0
+AreStanding c ss row cursors marks gs n = (i : ℕ) → i < n → HasGroup c row (group_at ss i) (cursor_at cursors i) (slice_index_or marks i []) gs i
+
+-- a group has a piece at the number of its cursor
+pub record CanStand (c : Run) (row : Assignment) (s : GroupSteps) (cursor : Cursor) : Type 0 where
+  pub run : IsRun c
+  pub low : s.first < length c.steps
+  pub makes : makes_group (step_at c s.first) ≡ true
+  pub held : IsHeld c row (known c s.first)
+  pub inside : 1024 * piece_of s.flat cursor.key ≤ length (list_of c s.first row (step_at c s.first))
+  pub few : length (list_of c s.first row (step_at c s.first)) < 2 ^ 32

@@ -1,0 +1,102 @@
+//! Pieces of the whole lists of groups.
+ghost use Rattle.std.specs.Prelude.{◌≡◌, ◌+◌, ◌-◌, ◌<◌, ◌≤◌, min, true, length, slice_index};
+ghost use Rattle.gq_law_groups.specs.Groups.{makes_group};
+ghost use Rattle.gq_pipe.specs.steps.Chunks.{IsPieceOf, list_of, part};
+ghost use Rattle.gq_pipe.specs.steps.Levels.{known, step_at};
+ghost use Rattle.gq_pipe.specs.steps.Moves.{run_of, IsRun, IsHeld};
+ghost use Rattle.gq_pipe.specs.steps.Outcomes.{CanList};
+ghost use Rattle.gq_plan.specs.Rows.{rel_table};
+ghost use Rattle.gq_store.specs.Neighbours.{neighbours};
+
+use crate::plan_run::{Follow, PlanRun, build_at, following};
+use gq_bits::VECTOR;
+use gq_group::Piece;
+use gq_plan::{Assignment, Step};
+
+impl<'g> PlanRun<'g> {
+    /// The piece of the list of the step at a depth that begins at a place, if the step makes a
+    /// group.
+    pub(crate) fn piece(&self, depth: usize, first: u32, row: &Assignment) -> Piece<'g>
+        requires run { IsRun (run_of self.now) }
+        requires depth { depth < length self.now.steps.now }
+        requires makes { makes_group (step_at (run_of self.now) depth) ≡ true }
+        requires held { IsHeld (run_of self.now) row.now (known (run_of self.now) depth) }
+        requires first { let c = run_of self.now in
+            first ≤ length (list_of c depth row.now (step_at c depth)) }
+        ensures { IsPieceOf (run_of self.now) depth row.now first result }
+    {
+        match &self.steps[depth] {
+            Step::Scan { node } => Piece::Span {
+                low: first,
+                high: end_of(first, self.row_count(*node)),
+            },
+            Step::Extend {
+                rel,
+                from,
+                to,
+                direction,
+            } => Piece::List {
+                ids: part(
+                    self.list(following(*rel, *from, *to, *direction), row),
+                    first,
+                ),
+                first,
+            },
+            Step::Close {
+                rel,
+                from,
+                to,
+                direction,
+            } => Piece::List {
+                ids: part(
+                    self.list(following(*rel, *from, *to, *direction), row),
+                    first,
+                ),
+                first,
+            },
+            Step::Join { .. } => match build_at(self.builds, depth) {
+                Some(build) => Piece::Matches {
+                    rows: part(build.matches_of(row), first),
+                    first,
+                },
+                None => unreachable!(),
+            },
+            Step::ColumnExtend { .. } | Step::ColumnClose { .. } => unreachable!(),
+            Step::Keep { .. } | Step::Differ { .. } | Step::NoLoop { .. } => unreachable!(),
+        }
+    }
+
+    // The rows to which the relationships lead that are followed.
+    fn list(&self, follow: Follow, row: &Assignment) -> &'g [u32]
+        requires { CanList self.now.graph.now self.now.typed.now row.now follow }
+        ensures value { result.now ≡ neighbours self.now.graph.now
+            (rel_table self.now.typed.now follow.rel) follow.direction
+            (slice_index row.now.nodes follow.from) }
+    {
+        let table = self.typed.rels.as_slice()[follow.rel as usize].table;
+        let from = row.nodes.as_slice()[follow.from as usize];
+        self.graph.list(table, follow.direction, from)
+    }
+}
+
+// Where the piece ends that begins at a place of so many.
+fn end_of(first: u32, count: u32) -> u32
+    requires { first ≤ count }
+    ensures { result ≡ first + min 1024 (count - first) }
+{
+    let rest = count - first;
+    if rest < VECTOR { count } else { first + VECTOR }
+}
+
+// The piece of a list that begins at a place.
+fn part(list: &[u32], first: u32) -> &[u32]
+    requires { first ≤ length list.now }
+    ensures { result.now ≡ part list.now first }
+{
+    let rest = &list[first as usize..];
+    if rest.len() < VECTOR as usize {
+        rest
+    } else {
+        &rest[..VECTOR as usize]
+    }
+}

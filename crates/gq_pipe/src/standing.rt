@@ -1,0 +1,111 @@
+//! The groups of the chunk that stands.
+ghost use Rattle.std.specs.Prelude.{◌≡◌, ℕ, length, []};
+ghost use Rattle.gq_bits.specs.Places.{is_marked};
+ghost use Rattle.gq_pipe.specs.steps.Chunks.{AreStanding, CanStand, IsGroupAt, marked_at};
+ghost use Rattle.gq_pipe.specs.steps.Lists.{layout_in, Stands};
+ghost use Rattle.gq_pipe.specs.steps.Moves.{run_of};
+ghost use Rattle.gq_walks.specs.Running.{Runs, keys_of};
+
+use crate::lists::Lists;
+use crate::places::GroupSteps;
+use crate::plan_run::PlanRun;
+use gq_bits::{Marks, VECTOR};
+use gq_group::{Group, KeptRels};
+use gq_plan::Assignment;
+use gq_walks::{Cursor, State, Walker};
+
+/// Puts each group at the number at which the walker stands, if it stands.
+pub(crate) fn stand_groups<'g>(lists: &Lists<'g>, walker: &Walker, groups: &mut Vec<Group<'g>>)
+    requires stands { walker.now.state ≡ State.Standing → Stands (run_of lists.now.plan_run)
+        lists.now.groups.items lists.now.row (keys_of walker.now.cursors.items) }
+    requires runs { walker.now.state ≡ State.Standing →
+        Runs (layout_in (run_of lists.now.plan_run) lists.now.groups.items) []
+        walker.now.cursors.items walker.now.marks.items }
+    requires cursors { length walker.now.cursors.items ≡ length lists.now.groups.items }
+    requires marks { length walker.now.marks.items ≡ length lists.now.groups.items }
+    requires groups { length groups.old.items ≡ length lists.now.groups.items }
+    ensures count { length groups.new.items ≡ length groups.old.items }
+    ensures standing { walker.now.state ≡ State.Standing → AreStanding
+        (run_of lists.now.plan_run) lists.now.groups.items lists.now.row
+        walker.now.cursors.items walker.now.marks.items groups.new.items
+        (length lists.now.groups.items) }
+{
+    match walker.state {
+        State::Standing => put_groups(lists, walker, groups),
+        State::Fresh => {}
+        State::Done => {}
+    }
+}
+
+// Puts each group at the number of its cursor.
+fn put_groups<'g>(lists: &Lists<'g>, walker: &Walker, groups: &mut Vec<Group<'g>>)
+    requires stands { Stands (run_of lists.now.plan_run) lists.now.groups.items lists.now.row
+        (keys_of walker.now.cursors.items) }
+    requires runs { Runs (layout_in (run_of lists.now.plan_run) lists.now.groups.items) []
+        walker.now.cursors.items walker.now.marks.items }
+    requires cursors { length walker.now.cursors.items ≡ length lists.now.groups.items }
+    requires marks { length walker.now.marks.items ≡ length lists.now.groups.items }
+    requires groups { length groups.old.items ≡ length lists.now.groups.items }
+    ensures count { length groups.new.items ≡ length groups.old.items }
+    ensures standing { AreStanding (run_of lists.now.plan_run) lists.now.groups.items lists.now.row
+        walker.now.cursors.items walker.now.marks.items groups.new.items
+        (length lists.now.groups.items) }
+{
+    for depth in 0..groups.len() {
+        groups[depth] = standing_group(
+            &lists.plan_run,
+            lists.groups[depth],
+            &lists.row,
+            walker.cursors[depth],
+            &walker.marks[depth],
+        );
+    }
+}
+
+// The group that stands at the number of its cursor.
+fn standing_group<'g>(
+    plan_run: &PlanRun<'g>,
+    group: GroupSteps,
+    row: &Assignment,
+    cursor: Cursor,
+    marks: &Marks,
+) -> Group<'g>
+    requires stands { CanStand (run_of plan_run.now) row.now group cursor }
+    requires marks { length marks.now ≡ 1024 }
+    ensures { IsGroupAt (run_of plan_run.now) row.now group cursor marks.now result }
+{
+    let number = if group.flat {
+        cursor.key / VECTOR
+    } else {
+        cursor.key
+    };
+    let piece = plan_run.piece(group.first, VECTOR * number, row);
+    let current = if group.flat {
+        Some(cursor.key % VECTOR)
+    } else {
+        None
+    };
+    Group {
+        piece,
+        marks: marks_at(group.flat, cursor.key, marks),
+        current,
+        columns: 0,
+        kept: KeptRels::none(),
+    }
+}
+
+// The marks of a group: in a flat one its current position alone is marked.
+fn marks_at(flat: bool, key: u32, marks: &Marks) -> Marks
+    requires { length marks.now ≡ 1024 }
+    ensures { (p : ℕ) → is_marked result p ≡ marked_at flat key marks.now p }
+{
+    if flat {
+        let mut only = Marks::none();
+        only.set(key % VECTOR, true);
+        only
+    } else {
+        let mut all = Marks::first(VECTOR);
+        all.and(marks);
+        all
+    }
+}

@@ -1,0 +1,208 @@
+//! In which group of a plan each variable stands.
+
+ghost use Rattle.std.specs.Prelude.{◌≡◌, ◌+◌, ◌^◌, ◌<◌, ◌≤◌, ◌&&◌, nat_lt, not};
+ghost use Rattle.gq_plan.specs.Arranged.{at_after, at_step, close_group};
+ghost use Rattle.gq_plan.specs.Columns.{FitsSound, binds};
+ghost use Rattle.gq_plan.specs.Plans.{plan_of, step_of};
+ghost use Rattle.gq_plan.specs.Shapes as shapes;
+ghost use Rattle.gq_plan.specs.Shapes.{put, put_all};
+ghost use Rattle.gq_plan.specs.Soundness.{has_number, max_variables};
+ghost use Rattle.gq_plan.specs.steps.Places.{IsNamed, binds_rel, groups_of, places_of};
+ghost use Rattle.gq_plan.specs.steps.Places.{step_binds_rel};
+
+use crate::filling::{binds, has_number};
+use crate::known::MAX_VARIABLES;
+use crate::plan::{Plan, Step};
+use crate::typed::Typed;
+
+/// The group of each variable of one kind; 0 where it stands in none.
+#[derive(Clone, Copy)]
+pub struct VariableGroups {
+    groups: [usize; MAX_VARIABLES],
+}
+
+impl VariableGroups {
+    fn nowhere() -> VariableGroups
+        ensures { groups_of result ≡ (λ v. 0) }
+    {
+        VariableGroups {
+            groups: [0; MAX_VARIABLES],
+        }
+    }
+
+    /// The group of a variable.
+    pub fn of(self, variable: u32) -> usize
+        ensures { result ≡ groups_of self variable }
+    {
+        match self.groups.get(variable as usize) {
+            Some(group) => *group,
+            None => 0,
+        }
+    }
+
+    fn put(&mut self, variable: u32, group: usize)
+        requires { variable < max_variables }
+        ensures { groups_of self.new ≡ put variable group (groups_of self.old) }
+    {
+        self.groups[variable as usize] = group;
+    }
+
+    // Puts the nodes that a side plan brings, its keys left out.
+    fn put_nodes(&mut self, side: &Plan, keys: &[u32], group: usize)
+        ensures { groups_of self.new ≡ put_all (λ v. nat_lt v max_variables
+            && (binds v (plan_of side.now) && not (has_number keys.now v)))
+            group (groups_of self.old) }
+    {
+        for at in 0..MAX_VARIABLES {
+            if binds(side, at) && !has_number(keys, at) {
+                self.groups[at] = group;
+            }
+        }
+    }
+
+    // Puts the relationships that a side plan brings.
+    fn put_rels(&mut self, side: &Plan, group: usize)
+        ensures { groups_of self.new ≡ put_all (λ x. nat_lt x max_variables
+            && binds_rel x (plan_of side.now)) group (groups_of self.old) }
+    {
+        for at in 0..MAX_VARIABLES {
+            if binds_rel(side, at) {
+                self.groups[at] = group;
+            }
+        }
+    }
+}
+
+/// How many groups there are, and in which one each variable stands.
+#[derive(Clone, Copy)]
+pub struct Places {
+    pub count: usize,
+    pub nodes: VariableGroups,
+    pub rels: VariableGroups,
+}
+
+impl Places {
+    // No groups.
+    fn nowhere() -> Places
+        ensures { places_of result ≡ shapes.nowhere }
+    {
+        Places {
+            count: 0,
+            nodes: VariableGroups::nowhere(),
+            rels: VariableGroups::nowhere(),
+        }
+    }
+
+    // Begins a group, and answers its number.
+    fn begin(&mut self) -> usize
+        requires { self.old.count + 1 < 2 ^ 64 }
+        ensures number { result ≡ self.old.count }
+        ensures next { self.new ≡ record {
+            count = self.old.count + 1; nodes = self.old.nodes; rels = self.old.rels } }
+    {
+        let group = self.count;
+        self.count += 1;
+        group
+    }
+
+    // The group of the relationship of a column close.
+    fn close_group(self, late: bool, from: u32, to: u32) -> usize
+        ensures { result ≡ close_group late (places_of self) from to }
+    {
+        let source = self.nodes.of(from);
+        if late {
+            source.max(self.nodes.of(to))
+        } else {
+            source
+        }
+    }
+
+    // Takes a step: a scan, a list extend, a list close and a join make a group, and a column step
+    // adds what it binds to the group of its source.
+    #[tactic(auto, using(crate::proofs::StepEquations::equations), unfolding(crate::specs::Shapes::place_step))]
+    fn place(&mut self, step: &Step, late: bool)
+        requires room { self.old.count + 1 < 2 ^ 64 }
+        requires named { IsNamed (step_of step.now) }
+        ensures few { self.new.count ≤ self.old.count + 1 }
+        ensures placed { places_of self.new
+            ≡ at_step late (step_of step.now) (places_of self.old) }
+    {
+        match step {
+            Step::Scan { node } => {
+                let group = self.begin();
+                self.nodes.put(*node, group);
+            }
+            Step::Extend { rel, to, .. } => {
+                let group = self.begin();
+                self.rels.put(*rel, group);
+                self.nodes.put(*to, group);
+            }
+            Step::ColumnExtend { rel, from, to, .. } => {
+                let group = self.nodes.of(*from);
+                self.rels.put(*rel, group);
+                self.nodes.put(*to, group);
+            }
+            Step::Close { rel, .. } => {
+                let group = self.begin();
+                self.rels.put(*rel, group);
+            }
+            Step::ColumnClose { rel, from, to, .. } => {
+                let group = self.close_group(late, *from, *to);
+                self.rels.put(*rel, group);
+            }
+            Step::Join { side, keys } => {
+                let group = self.begin();
+                self.nodes.put_nodes(side.get(), keys.as_slice(), group);
+                self.rels.put_rels(side.get(), group);
+            }
+            Step::Keep { .. } => {}
+            Step::Differ { .. } => {}
+            Step::NoLoop { .. } => {}
+        }
+    }
+}
+
+/// In which group each variable of a plan stands that fits a sound alternative: in the one that its
+/// step makes, or in the group of a column step's source. Where `late` is true, the relationship of a
+/// column close stands in the later group of its ends instead, where the close is tested.
+pub fn place_variables(plan: &Plan, typed: &Typed, late: bool) -> Places
+    requires { FitsSound typed.now (plan_of plan.now) }
+    ensures { places_of result ≡ at_after late (plan_of plan.now) shapes.nowhere }
+{
+    let mut places = Places::nowhere();
+    for step in plan.steps.as_slice() {
+        places.place(step, late);
+    }
+    places
+}
+
+// Whether a plan binds a relationship variable.
+#[cycle(binds_rel)]
+fn binds_rel(plan: &Plan, rel: usize) -> bool
+    ensures { result ≡ binds_rel rel (plan_of plan.now) }
+{
+    for step in plan.steps.as_slice() {
+        if step_binds_rel(step, rel) {
+            return true;
+        }
+    }
+    false
+}
+
+#[cycle(binds_rel)]
+#[tactic(auto, using(crate::proofs::StepEquations::equations), unfolding(crate::specs::steps::Places::step_binds_rel))]
+fn step_binds_rel(step: &Step, rel: usize) -> bool
+    ensures { result ≡ step_binds_rel rel (step_of step.now) }
+{
+    match step {
+        Step::Extend { rel: own, .. } => *own as usize == rel,
+        Step::ColumnExtend { rel: own, .. } => *own as usize == rel,
+        Step::Close { rel: own, .. } => *own as usize == rel,
+        Step::ColumnClose { rel: own, .. } => *own as usize == rel,
+        Step::Join { side, .. } => binds_rel(side.get(), rel),
+        Step::Scan { .. } => false,
+        Step::Keep { .. } => false,
+        Step::Differ { .. } => false,
+        Step::NoLoop { .. } => false,
+    }
+}
