@@ -5,6 +5,7 @@ use Rattle.gq_binder.specs.Binding.{IsBound}
 use Rattle.gq_plan.specs.declared.Bound.{Bound}
 use Rattle.gq_syntax.specs.declared.Query.{Query}
 use Rattle.gq_base.specs.Plain.{Graph}
+use Rattle.gq_execute.specs.declared.found.Answer.{Answer}
 use Rattle.gq_execute.specs.Replies.{Question, Rows, Faulted, TooManyRows, IsPermitted}
 use Rattle.gq_execute.specs.declared.refusal.AnswerRefusal.{AnswerRefusal}
 use Rattle.gq_execute.specs.declared.refusal.AnswerRefusal.TheVariants as refusal
@@ -27,3 +28,8 @@ abbrev pub RepliesToEach : Graph → Bound → Settings → Result (List (List V
 RepliesToEach g bound settings result =
     (query : Query) (text : List ℕ) → IsBound query text g.catalog bound
     → Replies (question g query bound settings) result
+
+-- the lines of an answer
+abbrev pub lines_in : Result Answer AnswerRefusal → Result (List (List Val)) AnswerRefusal
+lines_in (Ok found) = Ok found.listing.lines
+lines_in (Err refused) = Err refused
