@@ -22,7 +22,10 @@ use Rattle.gq_pipe.specs.steps.Search.{has_chunk, rest_of, IsSearch}
 use Rattle.gq_pipe.specs.declared.places.GroupSteps.{GroupSteps}
 use Rattle.gq_pipe.specs.declared.pipeline.Pipeline.TheInside.{Inside}
 use Rattle.gq_pipe.proofs.Chunking.{is_chunk_of, chunk_binds, chunk_whole}
+use Rattle.gq_pipe.specs.Shown.{AreShown}
+use Rattle.gq_pipe.specs.steps.Cuts.{groups_of}
 use Rattle.gq_pipe.proofs.Resting.{stands_now}
+use Rattle.gq_pipe.proofs.Showing.{shown_plan}
 
 is_standing : (s : State) → has_chunk s ≡ true → s ≡ Standing
 is_standing Fresh h = absurd (true≢false (sym h))
@@ -63,3 +66,6 @@ module _ (p : Inside) (inv : IsSearch p) (now : (rest_of p).standing ≡ true) (
   pub whole_is : binds_all (rest_of p).source.typed (plan_in (rest_of p).source) ≡ true
       → map (assigned (rest_of p).source.typed) (chunk_meaning (rest_of p).source.graph (rest_of p).source.typed ch) ≡ map (whole (rest_of p).source.typed) (rest_of p).chunk
   whole_is = chunk_whole c ss p.lists.row p.walker.cursors.items p.walker.marks.items ch st runs inv.sound.groups inv.sound.marks count groups homes plain
+
+  pub shape_is : AreShown (rest_of p).source.graph (rest_of p).source.typed (groups_of (plan_in (rest_of p).source)) (rest_of p).flats ch.groups.now
+  shape_is = shown_plan c ss p.lists.row p.walker.cursors.items p.walker.marks.items ch.groups.now st.grouped count groups

@@ -31,3 +31,4 @@ pub mod Chunking
 pub mod Chunked
 pub mod Holding
 pub mod Flags
+pub mod Showing

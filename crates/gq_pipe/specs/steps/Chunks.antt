@@ -17,6 +17,7 @@ use Rattle.gq_walks.specs.declared.walker.Cursor.{Cursor}
 use Rattle.gq_law_groups.specs.Groups.{makes_group}
 use Rattle.gq_pipe.specs.steps.Levels.{Run, step_at, known}
 use Rattle.gq_pipe.specs.steps.Moves.{IsRun, IsHeld}
+use Rattle.gq_pipe.specs.Shown.{HasForm}
 use Rattle.gq_pipe.specs.steps.Lists.{group_at}
 use Rattle.gq_pipe.specs.declared.places.GroupSteps.{GroupSteps}
 
@@ -38,6 +39,7 @@ part list first = take 1024 (drop first list)
 
 -- that part of the list of the step at a depth
 pub record IsPieceOf (c : Run) (d : ℕ) (row : Assignment) (first : ℕ) (p : Piece) : Type 0 where
+  pub form : HasForm (step_at c d) p
   pub first_is : first_of p ≡ first
   pub items_are : items_of p ≡ part (list_of c d row (step_at c d)) first
 

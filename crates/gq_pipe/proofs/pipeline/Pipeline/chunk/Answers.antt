@@ -7,7 +7,9 @@ use Rattle.gq_pipe.specs.Levels.{given}
 use Rattle.gq_pipe.specs.Plain.{ArePlain}
 use Rattle.gq_pipe.specs.Progress.{plan_in}
 use Rattle.gq_pipe.specs.Rest.{Rest}
-use Rattle.gq_pipe.proofs.Chunked.{chunk_is, binds_is, whole_is}
+use Rattle.gq_pipe.specs.Shown.{AreShown}
+use Rattle.gq_pipe.specs.steps.Cuts.{groups_of}
+use Rattle.gq_pipe.proofs.Chunked.{chunk_is, binds_is, shape_is, whole_is}
 use Rattle.gq_pipe.proofs.pipeline.Pipeline.chunk.Goals as goal
 
 pub returns-clause-chunk : goal.returns-clause-chunk
@@ -28,5 +30,12 @@ pub returns-clause-whole : goal.returns-clause-whole
 returns-clause-whole c =
     subst (λ (r : Rest). binds_all r.source.typed (plan_in r.source) ≡ true → map (assigned r.source.typed) (chunk_meaning r.source.graph r.source.typed c.chunk_of.result) ≡ map (whole r.source.typed) r.chunk) c.self.view_is
     (whole_is c.self.inside c.self.invariant
+    (subst (λ (r : Rest). r.standing ≡ true) (sym c.self.view_is) c.requires.standing) (subst (λ (r : Rest). ArePlain r.source) (sym c.self.view_is) c.requires.plain)
+    c.chunk_of.result (c.chunk_of.ensures.groups ∙ c.as_slice.ensures.value) c.chunk_of.ensures.homes)
+
+pub returns-clause-shape : goal.returns-clause-shape
+returns-clause-shape c =
+    subst (λ (r : Rest). AreShown r.source.graph r.source.typed (groups_of (plan_in r.source)) r.flats c.chunk_of.result.groups.now) c.self.view_is
+    (shape_is c.self.inside c.self.invariant
     (subst (λ (r : Rest). r.standing ≡ true) (sym c.self.view_is) c.requires.standing) (subst (λ (r : Rest). ArePlain r.source) (sym c.self.view_is) c.requires.plain)
     c.chunk_of.result (c.chunk_of.ensures.groups ∙ c.as_slice.ensures.value) c.chunk_of.ensures.homes)

@@ -12,6 +12,8 @@ use Rattle.gq_plan.specs.Rows.{rel_table}
 use Rattle.gq_store.specs.Neighbours.{neighbours}
 use Rattle.gq_join.specs.Kept.{Held}
 use Rattle.gq_pipe.specs.steps.Chunks.{list_of, matches_in, part}
+use Rattle.gq_group.specs.declared.piece.Piece.TheVariants as piece
+use Rattle.gq_pipe.specs.Shown.{HasForm}
 use Rattle.gq_pipe.specs.steps.Levels.{step_at}
 use Rattle.gq_pipe.specs.steps.Moves.{run_of, IsRun}
 use Rattle.gq_pipe.specs.steps.Outcomes.{CanList}
@@ -64,6 +66,7 @@ end_of-requires c =
 
 pub returns-in-Scan : goal.returns-in-Scan
 returns-in-Scan c = record {
+  form = subst (λ t. HasForm t (piece.Span c.args.first c.end_of.result)) (sym (step_is c.args.self.now c.args.depth c.requires.depth _ (code.Scan c.in-Scan.node) (Scan c.in-Scan.node) c.in-Scan.is (scan_is c.in-Scan.node))) tt;
   first_is = refl;
   items_are = part_range c.row_count.result c.args.first c.end_of.result
       (let inside = subst (λ t. c.args.first ≤ length (list_of (run_of c.args.self.now) c.args.depth c.args.row.now t)) (step_is c.args.self.now c.args.depth c.requires.depth _ (code.Scan c.in-Scan.node) (Scan c.in-Scan.node) c.in-Scan.is (scan_is c.in-Scan.node)) c.requires.first in
@@ -90,6 +93,7 @@ part-requires c =
 
 pub returns-in-Extend : goal.returns-in-Extend
 returns-in-Extend c = record {
+  form = subst (λ t. HasForm t (piece.List c.part.result c.args.first)) (sym (step_is c.args.self.now c.args.depth c.requires.depth _ (code.Extend c.in-Extend.rel c.in-Extend.from c.in-Extend.to c.in-Extend.direction) (Extend false c.in-Extend.rel c.in-Extend.from c.in-Extend.to c.in-Extend.direction) c.in-Extend.is (extend_is c.in-Extend.rel c.in-Extend.from c.in-Extend.to c.in-Extend.direction))) tt;
   first_is = refl;
   items_are = c.part.ensures
       ∙ ap (λ l. part l c.args.first) (c.list.ensures.value ∙ ap (λ (f : Follow). neighbours c.args.self.now.graph.now (rel_table c.args.self.now.typed.now f.rel) f.direction (slice_index c.args.row.now.nodes f.from)) c.following.ensures
@@ -113,6 +117,7 @@ part-requires-in-Close c =
 
 pub returns-in-Close : goal.returns-in-Close
 returns-in-Close c = record {
+  form = subst (λ t. HasForm t (piece.List c.part-in-Close.result c.args.first)) (sym (step_is c.args.self.now c.args.depth c.requires.depth _ (code.Close c.in-Close.rel c.in-Close.from c.in-Close.to c.in-Close.direction) (Close false c.in-Close.rel c.in-Close.from c.in-Close.to c.in-Close.direction) c.in-Close.is (close_is c.in-Close.rel c.in-Close.from c.in-Close.to c.in-Close.direction))) tt;
   first_is = refl;
   items_are = c.part-in-Close.ensures
       ∙ ap (λ l. part l c.args.first) (c.list-in-Close.ensures.value ∙ ap (λ (f : Follow). neighbours c.args.self.now.graph.now (rel_table c.args.self.now.typed.now f.rel) f.direction (slice_index c.args.row.now.nodes f.from)) c.following-in-Close.ensures
@@ -138,6 +143,7 @@ part-requires-in-Some c =
 
 pub returns-in-Some : goal.returns-in-Some
 returns-in-Some c = record {
+  form = subst (λ t. HasForm t (piece.Matches c.part-in-Some.result c.args.first)) (sym (join_step c.args.self.now c.args.depth c.requires.depth c.in-Join.side c.in-Join.keys _ c.in-Join.is)) tt;
   first_is = refl;
   items_are = c.part-in-Some.ensures
       ∙ ap (λ l. part l c.args.first) (c.matches_of.ensures.value ∙ ap (λ o. matches_in o c.args.row.now) c.in-Some.ensures
