@@ -34,7 +34,7 @@ same_bound query text catalog b c x y =
     let skip : b.skip ≡ c.skip = x.resolves.skip ∙ sym y.resolves.skip in
     let limit : b.limit ≡ c.limit = x.resolves.limit ∙ sym y.resolves.limit in
     let e : ◌≡◌ {A = Bound} (record { node_names = b.node_names; rel_names = b.rel_names; columns = b.columns; conjuncts = b.conjuncts; keys = b.keys; distinct = b.distinct; skip = b.skip; limit = b.limit; alternatives = b.alternatives })
-        (record { node_names = c.node_names; rel_names = c.rel_names; columns = c.columns; conjuncts = c.conjuncts; keys = c.keys; distinct = c.distinct; skip = c.skip; limit = c.limit; alternatives = c.alternatives }) = cc (nodes, rels, columns, conjuncts, keys, distinct, skip, limit, alternatives) in
+    (record { node_names = c.node_names; rel_names = c.rel_names; columns = c.columns; conjuncts = c.conjuncts; keys = c.keys; distinct = c.distinct; skip = c.skip; limit = c.limit; alternatives = c.alternatives }) = cc (nodes, rels, columns, conjuncts, keys, distinct, skip, limit, alternatives) in
     e
 
 -- where there is an item, there is one of it

@@ -1,12 +1,11 @@
 -- What the parts of a load do to the files, one after the other.
-use Rattle.std.proofs.Common.{◌≡◌, ◌≢◌, ℕ, ◌≤◌, List, [], None, Err, true, false, subst, ◌∙◌, arith, inl, inr}
-use Rattle.std.specs.Prelude.{◌⊎◌, IfSome}
-use Rattle.std.specs.declared.option.Option.{Option}
+use Rattle.std.proofs.Common.{◌≡◌, ◌≢◌, ℕ, ◌≤◌, List, Err, true, subst, ◌∙◌, arith, inl, inr}
+use Rattle.std.specs.Prelude.{◌⊎◌}
 use Rattle.std.specs.declared.result.Result.{Result}
 use Rattle.std.specs.Io.KnownBytes.{Consumes}
 use Rattle.std.proofs.lemmas.Option.{IfSome_then}
 use Rattle.gq_io.specs.Causes.{Rose}
-use Rattle.gq_io.specs.Outside.{Names, Selects}
+use Rattle.gq_io.specs.Outside.{Selects}
 use Rattle.gq_io.specs.Reading.{FailsByFault, ReadsWithin}
 use Rattle.gq_io.specs.declared.reading.ReadFile.{ReadFile}
 use Rattle.gq_io.specs.declared.reading.ReadStop.{ReadStop}

@@ -81,9 +81,11 @@ module _ (c : Context) where
   some_answers : (n k : ℕ) → 1 ≤ n → n + k ≤ 7 → (t : Tone) × (text : List ℕ) × Replies (IsNumbered c) (map question_of (range_with_len n k)) t text
   some_answers n zero least most = (tone.Good, [], (refl, refl))
   some_answers n (suc k) least most =
-      let (u, more, rest) = some_answers (n + 1) k (omega arith) (omega (arith, most)) in
-      (worse tone.Memory u, (label_text n ++ memory_line) ++ more,
-      (tone.Memory, u, label_text n ++ memory_line, more, is_numbered n least (omega (arith, most)) tone.Memory memory_line refl, rest, refl, refl))
+      let (u, more, rest) = some_answers (n + 1) k (omega arith) (omega (arith, most)) in (
+        worse tone.Memory u,
+        (label_text n ++ memory_line) ++ more,
+        (tone.Memory, u, label_text n ++ memory_line, more, is_numbered n least (omega (arith, most)) tone.Memory memory_line refl, rest, refl, refl),
+      )
 
   -- another question was answered
   pub next : (k number : ℕ) → 1 + k ≡ number → (t u : Tone) (a b d : Option (List ℕ)) → Wrote (IsNumbered c) (first k) t a b

@@ -110,11 +110,14 @@ module _ (words : List (List ℕ)) (o : Outside) where
     module _ (path : List ℕ) (from : IsPath path read.source) where
       exit_line : (answer : Status) (e : LoadRefusal) → IfSome o.held (λ files. Refuses (load_of path files standard) (load_line e)) → o.unread ≡ o.left
           → Told (load_line e) status.NotLoaded (out_of o) answer → Runs words o answer
-      exit_line answer e refused same (inl (is, moved)) = rw is (unread status.NotLoaded same (record {
-        text = load_line e;
-        permitted = record { read = read; given = given; path = path; from = from; told = refused };
-        moved = moved;
-      }, refl))
+      exit_line answer e refused same (inl (is, moved)) = rw is (unread status.NotLoaded same (
+        record {
+          text = load_line e;
+          permitted = record { read = read; given = given; path = path; from = from; told = refused };
+          moved = moved;
+        },
+        refl,
+      ))
       exit_line answer e refused same (inr (is, front, rose)) =
           broken_line answer status.NotLoaded (load_line e) (record { read = read; given = given; path = path; from = from; told = refused }) is front rose same
 

@@ -1,4 +1,4 @@
-use Rattle.std.proofs.Common.{[], sym, ◌∙◌}
+use Rattle.std.proofs.Common.{sym}
 use Rattle.gq_reply.specs.Replies.{context_of}
 use Rattle.gq_shell.proofs.Quizzing.{asked_text, later_cause, numbered, unnumbered}
 use Rattle.gq_shell.proofs.sample.ask.Goals as goal
