@@ -1,4 +1,3 @@
-pub mod Begins
 pub mod Covering
 pub mod Draining
 pub mod Going

@@ -2,5 +2,4 @@ pub mod Answering
 pub mod Planned
 pub mod Refusals
 pub mod Replies
-pub mod Spending
 pub mod steps
