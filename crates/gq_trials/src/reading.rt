@@ -49,7 +49,7 @@ struct Heading<'t> {
 
 fn tell(rt: &HostRuntime, at: Heading<'_>, case: &Case, got: &Got) -> Result<(), Stop> {
     let printed = println!(rt;
-        "{} line {}: {}\n{}wanted, with status {}:\n{}got, with status {}, in pieces of {}, in the order {}:\n{}",
+        "{} line {}: {}\n{}wanted, with status {}:\n{}got, with status {}, in pieces of {}, in the order {}, with the number {}:\n{}",
         at.file,
         at.line,
         at.title,
@@ -59,6 +59,7 @@ fn tell(rt: &HostRuntime, at: Heading<'_>, case: &Case, got: &Got) -> Result<(),
         got.status,
         got.piece,
         got.order,
+        got.number,
         shown(got.output.as_slice())
     );
     printed.map_err(|_| Stop::Outside)
