@@ -32,3 +32,4 @@ pub mod Chunked
 pub mod Holding
 pub mod Flags
 pub mod Showing
+pub mod Columns
