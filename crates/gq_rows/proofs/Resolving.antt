@@ -1,6 +1,7 @@
 -- Properties that are read by their places.
-use Rattle.std.proofs.Common.{◌≡◌, ◌∙◌, ℕ, ◌<◌, List, length, map, Option, Some, None, Ok, refl, sym, ap, arith}
+use Rattle.std.proofs.Common.{◌≡◌, ◌∙◌, ℕ, suc, ◌-◌, ◌<◌, ◌≤◌, List, [], ◌∷◌, length, map, take, drop, get_or, Option, Some, None, Ok, refl, sym, ap, subst, arith}
 use Rattle.std.specs.Prelude.{slice_get}
+use Rattle.std.specs.List.{All}
 use Rattle.gq_base.specs.Catalogs.{find_field}
 use Rattle.gq_base.specs.Plain.{Graph, all_of, cell_at, cell_val, rows_of}
 use Rattle.gq_base.specs.declared.catalog.NodeTable.{NodeTable}
@@ -13,11 +14,12 @@ use Rattle.gq_expr.specs.Reading as reading
 use Rattle.gq_expr.specs.Reading.{get_in, node_property, property_at, rel_property}
 use Rattle.gq_expr.specs.declared.expr.Expr.TheVariants.{NodeProperty, RelProperty}
 use Rattle.gq_store.specs.Cells.{cell_in, node_cell, node_fields_of, rel_cell, rel_cell_in, rel_fields_of}
+use Rattle.std.proofs.lemmas.List.{length-map, take_all}
 use Rattle.std.proofs.lemmas.Simd.{map-map}
 use Rattle.gq_plan.specs.Outcomes.{key_meanings, meanings_of}
 use Rattle.gq_plan.specs.declared.bound.NamedExpr.{NamedExpr}
 use Rattle.gq_plan.specs.declared.bound.SortExpr.{SortExpr}
-use Rattle.gq_rows.specs.steps.Resolving.{AreResolved, ReadsNode, ReadsRel, meanings_by}
+use Rattle.gq_rows.specs.steps.Resolving.{AreResolved, IsResolved, ReadsNode, ReadsRel, meanings_by}
 use Rattle.gq_rows.specs.declared.resolved.Resolved.{Resolved}
 use Rattle.gq_rows.specs.declared.resolved.Property.{Property}
 
@@ -80,3 +82,33 @@ slice_of_columns g here cs slice rs is h = ap (meanings_by g here) is ∙ column
 pub slice_of_keys : (g : Graph) (here : reading.Assignment) (ks : List SortExpr) (slice rs : List Resolved) → slice ≡ rs → AreResolved g (map (λ (k : SortExpr). k.expr) ks) rs
     → meanings_by g here slice ≡ key_meanings g here ks
 slice_of_keys g here ks slice rs is h = ap (meanings_by g here) is ∙ keys_mean g here ks rs h
+
+-- ---- the keys one by one
+
+tail_all : {X : Type 0} (P : X → Type 0) (x : X) (xs : List X) → All P (x ∷ xs) → All P xs
+tail_all P x xs h = λ i d lt. h (suc i) d (omega (arith, lt))
+
+module _ (g : Graph) where
+  pub some_key : (sorts : List SortExpr) (rs : List Resolved) → AreResolved g (map (λ (k : SortExpr). k.expr) sorts) rs → length rs ≡ length sorts
+  some_key sorts rs h = sym (length-map rs (λ (r : Resolved). r.expr.now)) ∙ ap length h.exprs ∙ length-map sorts (λ (k : SortExpr). k.expr)
+
+  pub next_keys : (sorts : List SortExpr) (rs : List Resolved) → 1 ≤ length sorts → AreResolved g (map (λ (k : SortExpr). k.expr) sorts) rs
+      → AreResolved g (map (λ (k : SortExpr). k.expr) (take (length sorts - 1) (drop 1 sorts))) (take (length rs - 1) (drop 1 rs))
+  next_keys [] rs some h = absurd (omega (arith, some))
+  next_keys (s ∷ ss) [] some h = absurd (let e = some_key (s ∷ ss) [] h in omega (arith, e))
+  next_keys (s ∷ ss) (r ∷ rs) some h =
+      let sorts : take (length (s ∷ ss) - 1) ss ≡ ss = take_all (length (s ∷ ss) - 1) ss (omega arith) in
+      let keys : take (length (r ∷ rs) - 1) rs ≡ rs = take_all (length (r ∷ rs) - 1) rs (omega arith) in
+      record {
+        exprs = ap (map (λ (q : Resolved). q.expr.now)) keys ∙ ap (drop 1) h.exprs ∙ ap (map (λ (k : SortExpr). k.expr)) (sym sorts);
+        readers = subst (All (IsResolved g)) (sym keys) (tail_all (IsResolved g) r rs h.readers);
+      }
+
+  pub first_key : (sorts : List SortExpr) (rs : List Resolved) (sort : SortExpr) (key : Resolved) → 1 ≤ length sorts → sort ≡ get_or sorts 0 sort → key ≡ get_or rs 0 key
+      → AreResolved g (map (λ (k : SortExpr). k.expr) sorts) rs → IsResolved g key × (key.expr.now ≡ sort.expr)
+  first_key [] rs sort key some is at h = absurd (omega (arith, some))
+  first_key (s ∷ ss) [] sort key some is at h = absurd (let e = some_key (s ∷ ss) [] h in omega (arith, e))
+  first_key (s ∷ ss) (r ∷ rs) sort key some is at h = (
+    subst (IsResolved g) (sym at) (h.readers 0 r (omega arith)),
+    ap (λ (q : Resolved). q.expr.now) at ∙ ap (λ l. get_or l 0 s.expr) h.exprs ∙ ap (λ (k : SortExpr). k.expr) (sym is),
+  )
