@@ -134,7 +134,7 @@ impl<'g> RowTable<'g> {
             unreachable!()
         };
         let mut reading = mem::replace(&mut self.reading, Reading::new(self.alloc));
-        let Ok(()) = reading.resolve(self.bound, typed, graph) else {
+        let Ok(()) = reading.resolve(self.bound, None, graph) else {
             return Err(RowRefusal::Memory);
         };
         let answer = self.push(&TypedRow { typed, row }, &reading, typed, graph);
@@ -174,7 +174,7 @@ impl<'g> RowTable<'g> {
             return Ok(More::Go);
         }
         let mut reading = mem::replace(&mut self.reading, Reading::new(self.alloc));
-        let Ok(()) = reading.resolve(self.bound, typed, graph) else {
+        let Ok(()) = reading.resolve(self.bound, Some(typed), graph) else {
             return Err(RowRefusal::Memory);
         };
         let answer = self.push_choices(&mut choice, chunk, &reading, typed, graph);
