@@ -8,10 +8,12 @@ ghost use Rattle.gq_plan.specs.declared.bound.NamedExpr.{NamedExpr};
 ghost use Rattle.gq_plan.specs.declared.bound.SortExpr.{SortExpr};
 ghost use Rattle.gq_rows.specs.Answers.{keys_order};
 ghost use Rattle.gq_rows.specs.steps.Judged.{AreSure, AreValues, HasSureColumn, HasSureKey};
+ghost use Rattle.gq_rows.specs.steps.Resolving.{AreResolved};
 
+use crate::resolved::Resolved;
 use crate::sorting::{direct, split_first};
 use gq_base::Value;
-use gq_expr::{Assigned, eval, is_sure};
+use gq_expr::{Assigned, is_sure};
 use gq_plan::{Bound, NamedExpr, SortExpr};
 use gq_store::Graph;
 use std::cmp::Ordering;
@@ -44,25 +46,30 @@ fn are_sure_keys(keys: &[SortExpr]) -> bool
 /// How the keys of the bar compare with those of an assignment's row, which is known where none of
 /// them faults. The first that differs decides, and those behind it are not evaluated.
 #[tactic(auto, using(crate::proofs::SureRows::first_decides, crate::proofs::SureRows::level_goes_on))]
-pub(crate) fn rank_of_bar<R: Assigned>(
+pub(crate) fn rank_of_bar<'g, R: Assigned>(
     sorts: &[SortExpr],
+    keys: &[Resolved<'g>],
     bar: &[Value<'_>],
-    graph: &Graph,
+    graph: &'g Graph,
     row: &R,
 ) -> Ordering
-    ensures { (keys : List Val)
-        → AreValues keys (key_meanings graph.now (R.assignment row.now) sorts.now)
-        → result ≡ keys_order sorts.now (map val bar.now) keys }
+    requires { AreResolved graph.now (map (λ sort. sort.expr) sorts.now) keys.now }
+    ensures { (values : List Val)
+        → AreValues values (key_meanings graph.now (R.assignment row.now) sorts.now)
+        → result ≡ keys_order sorts.now (map val bar.now) values }
 {
     match sorts {
         [] => Ordering::Equal,
         [sort, sorts @ ..] => {
-            let Ok(key) = eval(&sort.expr, graph, row) else {
+            let [key, keys @ ..] = keys else {
+                unreachable!()
+            };
+            let Ok(value) = key.value(graph, row) else {
                 return Ordering::Greater;
             };
             let (first, bar) = split_first(bar);
-            match direct(sort.down, &first, &key) {
-                Ordering::Equal => rank_of_bar(sorts, bar, graph, row),
+            match direct(sort.down, &first, &value) {
+                Ordering::Equal => rank_of_bar(sorts, keys, bar, graph, row),
                 other => other,
             }
         }

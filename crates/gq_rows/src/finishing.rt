@@ -136,6 +136,7 @@ impl<'g> RowTable<'g> {
             rows,
             pushed,
             choice: _,
+            reading: _,
         } = self;
         match listing_of(alloc, bound, rows) {
             Ok(lines) => Ok(Listing {

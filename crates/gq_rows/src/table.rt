@@ -5,6 +5,7 @@ ghost use Rattle.gq_group.specs.Chunks.{IsChunkOf};
 ghost use Rattle.gq_group.specs.Groups.{choices};
 ghost use Rattle.gq_rows.specs.Chunks.{IsChunkIn, PushesAll, PushesChunk, chunk_outcomes, counted};
 ghost use Rattle.gq_rows.specs.steps.Keeping.{HasForm};
+ghost use Rattle.gq_rows.specs.steps.Resolving.{IsReading};
 ghost use Rattle.gq_rows.specs.Tables.{IsSameQuery, Pushes, PushesRow, StandsFor, StandsForSome};
 ghost use Rattle.gq_rows.specs.Tables.{is_full_table, outcome_read};
 
@@ -12,6 +13,7 @@ use crate::bar::are_sure;
 use crate::held::{Form, Rows};
 use crate::judging::Question;
 use crate::refusal::{More, RowRefusal};
+use crate::resolved::Reading;
 use gq_expr::Assigned;
 use gq_group::{Choice, Chunk, ChunkRow};
 use gq_plan::{Assignment, Bound, Typed, TypedRow};
@@ -36,9 +38,11 @@ pub struct RowTable<'g> {
     // Each column and each key is sure to have a value.
     pub(crate) sure: bool,
     pub(crate) rows: Rows<'g>,
-    // The chunks with a row that were pushed, and the positions of the last one.
+    // The chunks with a row that were pushed, the positions of the last one, and the columns and
+    // the keys as they were evaluated for it.
     pub(crate) pushed: u64,
     pub(crate) choice: Choice,
+    pub(crate) reading: Reading<'g>,
 }
 
 impl<'g> Model for RowTable<'g> {
@@ -103,6 +107,7 @@ impl<'g> RowTable<'g> {
             },
             pushed: 0,
             choice: Choice::new(alloc),
+            reading: Reading::new(alloc),
         }
     }
 
@@ -128,7 +133,13 @@ impl<'g> RowTable<'g> {
         let Some(typed) = self.typed else {
             unreachable!()
         };
-        self.push(&TypedRow { typed, row }, typed, graph)
+        let mut reading = mem::replace(&mut self.reading, Reading::new(self.alloc));
+        let Ok(()) = reading.resolve(self.bound, None, graph) else {
+            return Err(RowRefusal::Memory);
+        };
+        let answer = self.push(&TypedRow { typed, row }, &reading, typed, graph);
+        self.reading = reading;
+        answer
     }
 
     /// Takes the assignments of a chunk of the alternative that was started, by ascending
@@ -162,8 +173,13 @@ impl<'g> RowTable<'g> {
             self.choice = choice;
             return Ok(More::Go);
         }
-        let answer = self.push_choices(&mut choice, chunk, typed, graph);
+        let mut reading = mem::replace(&mut self.reading, Reading::new(self.alloc));
+        let Ok(()) = reading.resolve(self.bound, Some(typed), graph) else {
+            return Err(RowRefusal::Memory);
+        };
+        let answer = self.push_choices(&mut choice, chunk, &reading, typed, graph);
         self.choice = choice;
+        self.reading = reading;
         self.pushed = self.pushed.saturating_add(1);
         answer
     }
@@ -173,10 +189,12 @@ impl<'g> RowTable<'g> {
         &mut self,
         choice: &mut Choice,
         chunk: &Chunk<'_, '_>,
+        reading: &Reading<'g>,
         typed: &'g Typed,
         graph: &'g Graph,
     ) -> Result<More, RowRefusal>
         requires chunk { IsChunkOf graph.now typed.now chunk.now }
+        requires reading { IsReading graph.now self.old.bound reading.now }
         requires stands { StandsForSome self.old }
         requires room { is_full_table self.old ≡ false }
         requires begins { Begins chunk.now.groups.now true choice.old }
@@ -189,7 +207,7 @@ impl<'g> RowTable<'g> {
         let mut found = true;
         'choices: while found {
             let row = ChunkRow::new(graph, typed, chunk, choice.positions());
-            match self.push(&row, typed, graph) {
+            match self.push(&row, reading, typed, graph) {
                 Ok(More::Go) => {}
                 Ok(More::Enough) => return Ok(More::Enough),
                 Err(refusal) => return Err(refusal),
@@ -203,9 +221,11 @@ impl<'g> RowTable<'g> {
     fn push<R: Assigned>(
         &mut self,
         row: &R,
+        reading: &Reading<'g>,
         typed: &'g Typed,
         graph: &'g Graph,
     ) -> Result<More, RowRefusal>
+        requires reading { IsReading graph.now self.old.bound reading.now }
         requires stands { StandsForSome self.old }
         requires room { is_full_table self.old ≡ false }
         ensures pushes { let here = R.assignment row.now in
@@ -220,6 +240,7 @@ impl<'g> RowTable<'g> {
             typed,
             limit: self.limit,
             sure: self.sure,
+            reading,
         };
         match self.form {
             Form::All => self.rows.push_all(&question, row),
