@@ -205,10 +205,10 @@ module _ (c : Run) (ss : List GroupSteps) (row : Assignment) (cs : List Cursor) 
         within = within;
         out = out_at ch.pool.now ch.slots.now n cols.held within;
         rows = λ p on.
-          (let below = is.marked p on in
-          let short = is.piece.few in
-          let cell = cols.cells n p (let all = length-filled c row ch.groups.now ch.homes.now fs (length fs) in omega (arith, inside, all)) (omega (arith, below, short)) in
-          (_, cell.is, cell.few));
+            (let below = is.marked p on in
+            let short = is.piece.few in
+            let cell = cols.cells n p (let all = length-filled c row ch.groups.now ch.homes.now fs (length fs) in omega (arith, inside, all)) (omega (arith, below, short)) in
+            (_, cell.is, cell.few));
       })
 
   node_houses : (v : ℕ) → IsNodeHome ch (node_home ch.homes.now v)

@@ -1,16 +1,19 @@
 -- One more step puts what it binds into its group, and changes the home of no other variable.
-use Rattle.std.proofs.Common.{◌≡◌, ◌≢◌, ◌⊎◌, inl, inr, ℕ, zero, suc, ◌+◌, ◌<◌, ◌≤◌, Bool, true, false, ◌||◌, nat_eq, List, [], ◌∷◌, ◌++◌, length, refl, sym, ap, ◌∙◌, subst, arith, true≢false}
+use Rattle.std.proofs.Common.{◌≡◌, ◌≢◌, ◌⊎◌, inl, inr, ℕ, zero, suc, ◌+◌, ◌<◌, ◌≤◌, Bool, true, false, ◌||◌, nat_eq, List, [], ◌∷◌, ◌++◌, length, take, refl, sym, ap, ◌∙◌, subst, arith, true≢false}
 use Rattle.std.proofs.lemmas.Bool.{and_parts, cases_eq, cases_lt, eq-eqb, ltb-true, or_left}
-use Rattle.std.proofs.lemmas.List.{get_or-set_same, get_or-set_other, get_or_append_left, get_or_push, length_push, length-set}
+use Rattle.std.proofs.lemmas.List.{get_or-set_same, get_or-set_other, get_or_append_left, get_or_push, length_push, length-set, take_all, take_more}
+use Rattle.std.specs.List.{sum_by}
+use Rattle.std.proofs.lemmas.List.Sums.{sum_by-append, sum_by-cons}
 use Rattle.std.proofs.lemmas.Option.{slice_get_within}
 use Rattle.gq_group.specs.declared.home.Homes.{Homes}
 use Rattle.gq_group.specs.declared.home.NodeHome.{NodeHome}
 use Rattle.gq_group.specs.declared.home.NodeHome.TheVariants as node
 use Rattle.gq_group.specs.declared.home.RelHome.{RelHome}
 use Rattle.gq_group.specs.declared.home.RelHome.TheVariants as rel
+use Rattle.gq_plan.specs.Columns.{columns_of, own_columns, steps_of}
 use Rattle.gq_plan.specs.Covers.{after_step, fits_step}
 use Rattle.gq_plan.specs.Known.{Known}
-use Rattle.gq_plan.specs.Plans.{Step, Scan, Extend, Close, Join, Keep, Differ, NoLoop}
+use Rattle.gq_plan.specs.Plans.{Plan, Step, Scan, Extend, Close, Join, Keep, Differ, NoLoop, steps}
 use Rattle.gq_pipe.specs.steps.Homes.{AreHomes, AreHoused, CanFill, CanHouse, HasColumn, InGroup, IsFilling, IsHoused, filling_at, filling_of, housed, is_forward, no_filling, node_home, rel_home, with_column, with_filling, with_node_home, with_rel_home}
 use Rattle.gq_pipe.specs.steps.Levels.{Run, step_at, known}
 use Rattle.gq_pipe.specs.steps.Lists.{group_at, Tiles}
@@ -297,6 +300,31 @@ less_rel s k x e = go (k.rels x) refl
 -- ---- the steps of a group
 
 module _ (c : Run) (run : IsRun c) (ss : List GroupSteps) (i : ℕ) where
+  -- a step has at least as many columns of its own
+  own : (s : Step) (fs : List Filling) → length (with_filling i s fs) ≤ length fs + own_columns c.typed s
+  own (Scan v) fs = omega arith
+  own (Extend true x from to way) fs = let one = length_push fs (filling_of i x from way) in omega (arith, one)
+  own (Extend false x from to way) fs = omega arith
+  own (Close column x from to way) fs = omega arith
+  own (Join side keys) fs = omega arith
+  own (Keep t) fs = omega arith
+  own (Differ p) fs = omega arith
+  own (NoLoop x) fs = omega arith
+
+  few_more : (d : ℕ) (fs : List Filling) → d < length c.steps → length fs ≤ sum_by (own_columns c.typed) (take d c.steps) → length (with_filling i (step_at c d) fs) ≤ sum_by (own_columns c.typed) (take (suc d) c.steps)
+  few_more d fs low few =
+      let next : suc d ≡ d + 1 = omega arith in
+      let more : sum_by (own_columns c.typed) (take (suc d) c.steps) ≡ sum_by (own_columns c.typed) (take d c.steps) + own_columns c.typed (step_at c d) =
+      ap (λ n. sum_by (own_columns c.typed) (take n c.steps)) next ∙ ap (sum_by (own_columns c.typed)) (take_more c.steps d (Keep 0) low) ∙ sum_push (take d c.steps) (step_at c d) in
+      let here = own (step_at c d) fs in
+      omega (arith, few, more, here)
+    where
+      sum_push : (ss : List Step) (s : Step) → sum_by (own_columns c.typed) (ss ++ s ∷ []) ≡ sum_by (own_columns c.typed) ss + own_columns c.typed s
+      sum_push ss s = sum_by-append (own_columns c.typed) ss (s ∷ []) ∙ ap (λ n. sum_by (own_columns c.typed) ss + n) (sum_by-one s)
+        where
+          sum_by-one : (s : Step) → sum_by (own_columns c.typed) (s ∷ []) ≡ own_columns c.typed s
+          sum_by-one s = let one = sum_by-cons (own_columns c.typed) s [] in omega (arith, one)
+
   pub housed_first : (fs : List Filling) (h : Homes) → AreHomes c ss i (group_at ss i).first fs h → AreHoused c ss i (group_at ss i).first fs h
   housed_first fs h homes = record { homes = homes; here = λ e low high. absurd (omega (arith, low, high)) }
 
@@ -316,6 +344,7 @@ module _ (c : Run) (run : IsRun c) (ss : List GroupSteps) (i : ℕ) where
           free_nodes = λ v e. a.free_nodes v e ∙ old.homes.free_nodes v (less_node (step_at c d) (known c d) v e);
           free_rels = λ x e. a.free_rels x e ∙ old.homes.free_rels x (less_rel (step_at c d) (known c d) x e);
           columns = λ v j m e. still_column more v j m (a.columns v j m e);
+          few = few_more d fs low old.homes.few;
           fillings = fillings_more c run h old.homes.node_count old.homes.rel_count (known c d) fs i (length ss) number (step_at c d) (fits_at c run d low) old.homes.columns old.homes.fillings a;
         };
         here = λ e from below. at e from below a (cases_eq e d);
@@ -345,6 +374,7 @@ module _ (c : Run) (run : IsRun c) (ss : List GroupSteps) (i : ℕ) where
     free_nodes = old.homes.free_nodes;
     free_rels = old.homes.free_rels;
     columns = old.homes.columns;
+    few = old.homes.few;
     fillings = old.homes.fillings;
   }
     where
@@ -363,6 +393,7 @@ homes_none c ss h nodes rels no_node no_rel = record {
   free_nodes = λ v e. no_node v;
   free_rels = λ x e. no_rel x;
   columns = λ v j m e. absurd (cc (sym (no_node v) ∙ e));
+  few = omega arith;
   fillings = λ m low. absurd (omega (arith, low));
 }
 
@@ -410,3 +441,15 @@ starts_next c run ss i fs h tiles low old = record {
 
 pub starts_all : (c : Run) (ss : List GroupSteps) (i : ℕ) (fs : List Filling) (h : Homes) → i ≡ length ss → Starts c ss i fs h → AreHomes c ss (length ss) (length c.steps) fs h
 starts_all c ss i fs h e s = subst (λ n. AreHomes c ss n (length c.steps) fs h) e (subst (λ n. AreHomes c ss i n fs h) (s.last e) s.homes)
+
+-- there are at most as many columns as the plan has
+steps_back : (ss : List Step) → steps_of (steps ss) ≡ ss
+steps_back [] = refl
+steps_back (s ∷ ss) = ap (λ l. s ∷ l) (steps_back ss)
+
+pub columns_fit : (c : Run) (ss : List GroupSteps) (n : ℕ) (fs : List Filling) (h : Homes) (p : Plan) (held : ℕ) → p ≡ steps c.steps → held ≡ columns_of c.typed p → AreHomes c ss n (length c.steps) fs h → length fs ≤ held
+columns_fit c ss n fs h p held same count homes =
+    let few = homes.few in
+    let whole : sum_by (own_columns c.typed) (take (length c.steps) c.steps) ≡ sum_by (own_columns c.typed) (steps_of p) =
+    ap (sum_by (own_columns c.typed)) (take_all (length c.steps) c.steps (omega arith) ∙ sym (steps_back c.steps) ∙ ap steps_of (sym same)) in
+    omega (arith, few, whole, count)

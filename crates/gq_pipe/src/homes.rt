@@ -42,7 +42,7 @@ pub(crate) fn find_homes(
     requires few { length groups.now < 2 ^ 32 }
     ensures { let c = run_of plan_run.now in
         IfOk result (λ h. AreHomes c groups.now (length groups.now) (length c.steps)
-            h.fillings.items h.homes) }
+        h.fillings.items h.homes) }
 {
     let nodes = vec![in alloc; NodeHome::Nowhere; plan_run.typed.nodes.len()]?;
     let rels = vec![in alloc; RelHome::Nowhere; plan_run.typed.rels.len()]?;

@@ -1,5 +1,6 @@
 -- Where the variables that the steps of a plan bind live in the groups of its chunks.
-use Rattle.std.specs.Prelude.{◌≡◌, ◌<◌, ◌≤◌, ℕ, Bool, true, false, List, [], ◌∷◌, ◌++◌, length, slice_index_or, slice_set}
+use Rattle.std.specs.Prelude.{◌≡◌, ◌<◌, ◌≤◌, ℕ, Bool, true, false, List, [], ◌∷◌, ◌++◌, length, take, slice_index_or, slice_set}
+use Rattle.std.specs.List.{sum_by}
 use Rattle.gq_base.specs.Valid.{row_count}
 use Rattle.gq_base.specs.declared.direction.Direction.{Direction}
 use Rattle.gq_base.specs.declared.direction.Direction.TheVariants.{Forward, Backward}
@@ -8,6 +9,7 @@ use Rattle.gq_group.specs.declared.home.NodeHome.{NodeHome}
 use Rattle.gq_group.specs.declared.home.NodeHome.TheVariants as node
 use Rattle.gq_group.specs.declared.home.RelHome.{RelHome}
 use Rattle.gq_group.specs.declared.home.RelHome.TheVariants as rel
+use Rattle.gq_plan.specs.Columns.{own_columns}
 use Rattle.gq_plan.specs.Known.{Known}
 use Rattle.gq_plan.specs.Plans.{Step, Scan, Extend, Close}
 use Rattle.gq_plan.specs.Rows.{node_table, rel_table}
@@ -105,6 +107,7 @@ pub record AreHomes (c : Run) (ss : List GroupSteps) (i d : ℕ) (fs : List Fill
   pub free_nodes : (v : ℕ) → (known c d).nodes v ≡ false → node_home h v ≡ node.Nowhere
   pub free_rels : (x : ℕ) → (known c d).rels x ≡ false → rel_home h x ≡ rel.Nowhere
   pub columns : (v j m : ℕ) → node_home h v ≡ node.Column j m → m < length fs
+  pub few : length fs ≤ sum_by (own_columns c.typed) (take d c.steps)
   pub fillings : (m : ℕ) → m < length fs → IsFilling c (length ss) (known c d) h m (filling_at fs m)
 
 -- so has what the first steps of a group bind

@@ -11,5 +11,5 @@ invariant-loop-position l =
     Holds l.pool l.slots × (l.pool.out ≡ l.initial.pool.out)
     × HasCells l.pool l.slots (filled (run_of l.lists.plan_run) l.lists.row l.groups l.housing.homes l.housing.fillings.items l.number)
     × ((k : ℕ) → k < l.position
-      → HasCell l.pool (slice_index l.slots l.number) k
-        (cell_of (run_of l.lists.plan_run) l.lists.row l.groups l.housing.homes (filled (run_of l.lists.plan_run) l.lists.row l.groups l.housing.homes l.housing.fillings.items l.number) (filling_at l.housing.fillings.items l.number) k))
+    → HasCell l.pool (slice_index l.slots l.number) k
+    (cell_of (run_of l.lists.plan_run) l.lists.row l.groups l.housing.homes (filled (run_of l.lists.plan_run) l.lists.row l.groups l.housing.homes l.housing.fillings.items l.number) (filling_at l.housing.fillings.items l.number) k))
