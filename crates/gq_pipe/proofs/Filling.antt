@@ -23,7 +23,7 @@ use Rattle.gq_pool.specs.Pool as pool
 use Rattle.gq_pool.specs.Pool.{Pool, IsOut, cells_of}
 use Rattle.gq_pipe.specs.Serving.{AreApart, HasCell, HasCells, Holds, Serves}
 use Rattle.gq_pipe.specs.steps.Cells.{HasRow, cell_of, column_of, filled, led, near_in, near_seen}
-use Rattle.gq_pipe.specs.steps.Homes.{IsFilling, filling_at, node_home}
+use Rattle.gq_pipe.specs.steps.Homes.{filling_at}
 use Rattle.gq_pipe.specs.steps.Levels.{Run}
 use Rattle.gq_pipe.specs.steps.Search.{cells_in, cells_when, has_chunk, rest_of}
 use Rattle.gq_pipe.specs.declared.homes.Filling.{Filling}

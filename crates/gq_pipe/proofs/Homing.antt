@@ -14,7 +14,7 @@ use Rattle.gq_plan.specs.Columns.{columns_of, own_columns, steps_of}
 use Rattle.gq_plan.specs.Covers.{after_step, fits_step}
 use Rattle.gq_plan.specs.Known.{Known}
 use Rattle.gq_plan.specs.Plans.{Plan, Step, Scan, Extend, Close, Join, Keep, Differ, NoLoop, steps}
-use Rattle.gq_pipe.specs.steps.Homes.{AreHomes, AreHoused, CanFill, CanHouse, HasColumn, InGroup, IsFilling, IsHoused, filling_at, filling_of, housed, is_forward, no_filling, node_home, rel_home, with_column, with_filling, with_node_home, with_rel_home}
+use Rattle.gq_pipe.specs.steps.Homes.{AreHomes, AreHoused, CanHouse, InGroup, IsFilling, IsHoused, filling_at, filling_of, housed, is_forward, no_filling, node_home, rel_home, with_filling, with_node_home, with_rel_home}
 use Rattle.gq_pipe.specs.steps.Levels.{Run, step_at, known}
 use Rattle.gq_pipe.specs.steps.Lists.{group_at, Tiles}
 use Rattle.gq_pipe.specs.steps.Moves.{IsRun}

@@ -1,5 +1,5 @@
 -- What the columns of a chunk that stands are filled from.
-use Rattle.std.proofs.Common.{◌≡◌, ◌∙◌, ℕ, ◌<◌, List, map, length, sym, subst}
+use Rattle.std.proofs.Common.{◌≡◌, ◌∙◌, ℕ, ◌<◌, length, sym, subst}
 use Rattle.std.proofs.lemmas.List.{length-map}
 use Rattle.gq_plan.specs.Soundness.{IsSound}
 use Rattle.gq_walks.specs.Running.{keys_of}

@@ -1,5 +1,5 @@
 -- The cells of the columns of the chunk that stands: each has a row for each position of its group.
-use Rattle.std.specs.Prelude.{◌≡◌, ◌<◌, ◌^◌, ℕ, zero, suc, pos, nat_eq, nat_lt, if◌then◌else◌, Bool, List, [], ◌∷◌, ◌++◌, map, length, slice_get, slice_index, slice_index_or}
+use Rattle.std.specs.Prelude.{◌<◌, ℕ, zero, suc, nat_eq, nat_lt, if◌then◌else◌, List, [], ◌∷◌, ◌++◌, map, length, slice_get, slice_index, slice_index_or}
 use Rattle.std.specs.List.{range_with_len}
 use Rattle.gq_base.specs.Valid.{row_count}
 use Rattle.gq_group.specs.Chunks.{IsRow, items_in, row_in}

@@ -1,7 +1,6 @@
-use Rattle.std.proofs.Common.{◌≡◌, ◌∙◌, ◌+◌, ◌<◌, ◌≤◌, ℕ, length, sym, ap, subst, arith}
+use Rattle.std.proofs.Common.{◌≡◌, ◌∙◌, ◌+◌, ◌<◌, ℕ, sym, ap, subst, arith}
 use Rattle.std.specs.Prelude.{slice_index}
 use Rattle.std.proofs.lemmas.List.{get_or_default}
-use Rattle.gq_group.specs.declared.home.NodeHome.TheVariants as node
 use Rattle.gq_pipe.specs.Serving.{HasCell}
 use Rattle.gq_pipe.specs.steps.Cells.{cell_of, filled, led}
 use Rattle.gq_pipe.specs.steps.Homes.{filling_at, no_filling, node_home}

@@ -1,4 +1,4 @@
-use Rattle.std.proofs.Common.{◌≡◌, ◌<◌, ℕ, length}
+use Rattle.std.proofs.Common.{◌≡◌, ◌<◌, ℕ}
 use Rattle.std.specs.Prelude.{slice_index}
 use Rattle.gq_pipe.specs.Serving.{HasCell, HasCells, Holds}
 use Rattle.gq_pipe.specs.steps.Cells.{cell_of, filled}

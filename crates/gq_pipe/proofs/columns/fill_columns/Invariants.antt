@@ -1,4 +1,4 @@
-use Rattle.std.proofs.Common.{◌≡◌, ◌≤◌, length}
+use Rattle.std.proofs.Common.{◌≡◌}
 use Rattle.gq_pipe.specs.Serving.{HasCells, Holds}
 use Rattle.gq_pipe.specs.steps.Cells.{filled}
 use Rattle.gq_pipe.specs.steps.Moves.{run_of}
