@@ -119,7 +119,7 @@ module _ (c : Run) (run : IsRun c) (d : ℕ) (low : d < length c.steps) (row : A
 
   -- what a build keeps in a row that matches
   module _ (side : Plan) (keys : List ℕ) (is : step_at c d ≡ Join side keys) where
-    abbrev joined : Held
+    abbrev pub joined : Held
     joined = h c run d low row held side keys is
 
     pub join_itself : (place i : ℕ) → place + 1 < 2 ^ 32 → slice_get (matches_of joined row) place ≡ Some i → AllByRecursion (λ v. slice_index row.nodes v ≡ node_in joined v i) joined.nodes

@@ -1,11 +1,11 @@
 -- The rows and load numbers at one selected position of each group of a chunk are those of the walk of these positions.
-use Rattle.std.proofs.Common.{◌≡◌, ◌⊎◌, inl, inr, ℕ, zero, suc, ◌+◌, ◌-◌, ◌^◌, ◌<◌, ◌≤◌, Bool, true, false, not, List, [], ◌∷◌, length, drop, refl, sym, ap, ◌∙◌, subst, arith, true≢false, zero-add}
-use Rattle.std.specs.Prelude.{slice_index, slice_index_or, nat_eq, if◌then◌else◌}
-use Rattle.std.specs.List.{range_with_len}
+use Rattle.std.proofs.Common.{◌≡◌, ◌⊎◌, inl, inr, ℕ, zero, suc, ◌+◌, ◌-◌, ◌^◌, ◌<◌, ◌≤◌, Bool, true, false, not, ◌&&◌, Some, None, List, [], ◌∷◌, length, drop, refl, sym, ap, ap₂, ◌∙◌, subst, arith, true≢false, zero-add}
+use Rattle.std.specs.Prelude.{slice_get, slice_index, slice_index_or, nat_eq, if◌then◌else◌}
+use Rattle.std.specs.List.{list_all, range_with_len}
 use Rattle.std.proofs.lemmas.Bool.{and_parts, cases_eq, eq-eqb, ne_eqb}
 use Rattle.std.proofs.lemmas.List.{get_or_default, length-map, drop_more, drop_all}
 use Rattle.std.proofs.lemmas.List.FromFn.{get_or-map-range_with_len, get_or-range_with_len, length-range_with_len}
-use Rattle.std.proofs.lemmas.Option.{slice_get_within}
+use Rattle.std.proofs.lemmas.Option.{slice_get-get_or, slice_get_within}
 use Rattle.gq_base.specs.Catalogs.{Tables}
 use Rattle.gq_base.specs.declared.direction.Direction.{Direction}
 use Rattle.gq_base.specs.declared.direction.Direction.TheVariants.{Forward, Backward}
@@ -17,10 +17,11 @@ use Rattle.gq_group.specs.declared.chunk.Chunk.{Chunk}
 use Rattle.gq_group.specs.declared.home.NodeHome.{NodeHome}
 use Rattle.gq_group.specs.declared.home.NodeHome.TheVariants as node
 use Rattle.gq_group.specs.declared.home.RelHome.TheVariants as rel
-use Rattle.gq_plan.specs.Covers.{fits_step}
-use Rattle.gq_plan.specs.Known.{Known}
+use Rattle.gq_join.specs.Kept.{matches, matches_of, values_of}
+use Rattle.gq_plan.specs.Covers.{after, fits_step}
+use Rattle.gq_plan.specs.Known.{Known, none}
 use Rattle.gq_plan.specs.Meaning.{nothing}
-use Rattle.gq_plan.specs.Plans.{Step, Scan, Extend, Close, Join, Keep, Differ, NoLoop, steps}
+use Rattle.gq_plan.specs.Plans.{Plan, Step, Scan, Extend, Close, Join, Keep, Differ, NoLoop, steps}
 use Rattle.gq_plan.specs.Rows.{node_table, rel_table}
 use Rattle.gq_plan.specs.declared.assignment.Assignment.{Assignment}
 use Rattle.gq_plan.specs.declared.typed.Typed.{Typed}
@@ -29,9 +30,10 @@ use Rattle.gq_law_groups.specs.Groups.{makes_group, decode, place}
 use Rattle.gq_walks.specs.Running.{Runs, cursor_at, keys_of, prefix}
 use Rattle.gq_walks.specs.declared.walker.Cursor.{Cursor}
 use Rattle.gq_walks.proofs.Runs.{length-keys}
+use Rattle.gq_pipe.specs.Built.{HasBuild}
 use Rattle.gq_pipe.specs.Levels.{given}
 use Rattle.gq_pipe.specs.Plain.{is_plain}
-use Rattle.gq_pipe.specs.steps.Chunks.{AreStanding, list_of}
+use Rattle.gq_pipe.specs.steps.Chunks.{AreStanding, list_of, matches_in}
 use Rattle.gq_pipe.specs.steps.Cells.{cell_of, filled, led, near_in}
 use Rattle.gq_pipe.specs.steps.Homes.{AreHomes, HasColumn, IsFilling, IsHoused, filling_at, filling_of, is_forward, node_home, rel_home}
 use Rattle.gq_pipe.specs.steps.Keeps.{IsRange, IsTriedAt}
@@ -42,11 +44,12 @@ use Rattle.gq_pipe.specs.declared.homes.Filling.{Filling}
 use Rattle.gq_pipe.specs.declared.places.GroupSteps.{GroupSteps}
 use Rattle.gq_pipe.specs.declared.plan_run.Tried.{Tried}
 use Rattle.gq_pipe.specs.declared.plan_run.Tried.TheVariants.{Past, Missed, Made}
-use Rattle.gq_pipe.proofs.Agreeing.{TriesItself, scan_itself, extend_itself, close_itself, keep_itself, differ_itself, no_loop_itself}
-use Rattle.gq_pipe.proofs.Binding.{given_all}
+use Rattle.gq_pipe.proofs.Agreeing.{TriesItself, joined, scan_itself, extend_itself, close_itself, keep_itself, differ_itself, no_loop_itself}
+use Rattle.gq_pipe.proofs.Binding.{fits_at, given_all}
 use Rattle.gq_pipe.proofs.Filling.{AreCells, cell_is, led_within, length-filled}
 use Rattle.gq_pipe.proofs.Going.{IsGoing, begins, ends, tried_made, tried_missed, tried_past}
 use Rattle.gq_pipe.proofs.Here.{group_range, group_held, group_makes, group_size, group_told, group_next, group_place, group_others}
+use Rattle.gq_pipe.proofs.Joined.{build, join_count}
 use Rattle.gq_pipe.proofs.Reading.{place_at, IsHere, here, item_is, first_is, position_small}
 use Rattle.gq_pipe.proofs.Resting.{stands_first}
 use Rattle.gq_pipe.proofs.Sources.{IsIn, fits_there, set_before, known_before}
@@ -66,6 +69,19 @@ extend_reads catalog y k column x from to w fit = (and_parts (k.nodes from) _ (a
 close_reads : (catalog : Tables) (y : Typed) (k : Known) (column : Bool) (x from to : ℕ) (w : Direction) → fits_step catalog y (Close column x from to w) k ≡ true → k.nodes from ≡ true
 unfolding fits_step
 close_reads catalog y k column x from to w fit = (and_parts (k.nodes from) _ (and_parts (not (k.rels x)) _ (and_parts _ _ fit).1).1).0
+
+-- numbers that agree at keys which are known twice
+same_values : (a k m : ℕ → Bool) (vs xs ys : List ℕ) → list_all (λ v. a v && k v) vs ≡ true → list_all (λ v. a v && m v) vs ≡ true → ((v : ℕ) → k v ≡ true → m v ≡ true → slice_index xs v ≡ slice_index ys v) → values_of vs xs ≡ values_of vs ys
+same_values a k m [] xs ys h e same = refl
+same_values a k m (v ∷ vs) xs ys h e same =
+    let hs = and_parts (a v && k v) (list_all (λ v. a v && k v) vs) h in
+    let es = and_parts (a v && m v) (list_all (λ v. a v && m v) vs) e in
+    ap₂ (λ (x : ℕ) (l : List ℕ). x ∷ l) (same v (and_parts (a v) (k v) hs.0).1 (and_parts (a v) (m v) es.0).1) (same_values a k m vs xs ys hs.1 es.1 same)
+
+-- the keys of a join are known where it fits
+join_reads : (catalog : Tables) (y : Typed) (k : Known) (side : Plan) (keys : List ℕ) → fits_step catalog y (Join side keys) k ≡ true → list_all (λ v. (after side none).nodes v && k.nodes v) keys ≡ true
+unfolding fits_step
+join_reads catalog y k side keys fit = (and_parts _ _ (and_parts _ _ fit).1).0
 
 module _ (c : Run) (ss : List GroupSteps) (row : Assignment) (cs : List Cursor) (ms : List (List Bool)) (ch : Chunk) (ps : List ℕ) (runs : Runs (layout_in c ss) [] cs ms) (many : length cs ≡ length ss)
     (groups : AreStanding c ss row cs ms ch.groups.now (length ss)) (sel : AreSelected ch.groups.now ps)
@@ -208,6 +224,24 @@ module _ (c : Run) (ss : List GroupSteps) (row : Assignment) (cs : List Cursor) 
         ∙ ap (λ f. cell_of c row ch.groups.now ch.homes.now (filled c row ch.groups.now ch.homes.now fs b.column) f (slice_index ps i)) b.filling
         ∙ ap (led c (filling_of i x from w)) (source_there from b.column from_low b.inside mine.before near)
         ∙ led_within c (filling_of i x from w) (slice_index read.nodes from) within_rows
+
+    -- the row of the build that a join matches there is the item of the group
+    match_there : (side : Plan) (keys : List ℕ) (is : step_at c s.first ≡ Join side keys)
+        → slice_get (matches_of (joined c at.runs s.first first_low read held side keys is) read) j ≡ Some (slice_index (items_in (group_of ch i)) (slice_index ps i))
+    match_there side keys is =
+        let run : IsRun c = at.runs in
+        let b : HasBuild c.graph c.typed side keys (slice_index_or c.builds s.first None) = build c run s.first first_low read held side keys is in
+        let reads = join_reads c.graph.catalog c.typed met.set side keys (subst (λ t. fits_step c.graph.catalog c.typed t met.set ≡ true) is met.fit) in
+        let knows = join_reads c.graph.catalog c.typed (known c s.first) side keys (subst (λ t. fits_step c.graph.catalog c.typed t (known c s.first) ≡ true) is (fits_at c run s.first first_low)) in
+        let values : values_of b.build.keys row.nodes ≡ values_of b.build.keys read.nodes =
+        ap (λ ks. values_of ks row.nodes) b.is.key_list
+        ∙ same_values (after side none).nodes met.set.nodes (known c s.first).nodes keys row.nodes read.nodes reads knows (λ v set bound. same_row c run row read s met v set bound)
+        ∙ ap (λ ks. values_of ks read.nodes) (sym b.is.key_list) in
+        let list : list_of c s.first row (step_at c s.first) ≡ matches_of b.build read =
+        ap (list_of c s.first row) is ∙ ap (λ o. matches_in o row) b.there ∙ ap (matches b.build) values in
+        let inside : j < length (matches_of b.build read) = inside_of _ (join_count c run s.first first_low read held side keys is) in
+        slice_get-get_or (matches_of b.build read) j 0 inside
+        ∙ ap (λ n. Some n) (sym (item_is c ss row cs ms ch ps runs many groups sel i low ∙ ap (λ l. slice_index l j) list))
 
     -- the first step
     first_itself : TriesItself c s.first j read
