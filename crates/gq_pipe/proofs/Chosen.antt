@@ -1,5 +1,5 @@
 -- The rows and load numbers at one selected position of each group of a chunk are those of the walk of these positions.
-use Rattle.std.proofs.Common.{◌≡◌, ◌⊎◌, inl, inr, ℕ, zero, suc, ◌+◌, ◌-◌, ◌^◌, ◌<◌, ◌≤◌, Bool, true, false, not, ◌&&◌, Some, None, List, [], ◌∷◌, length, drop, refl, sym, ap, ap₂, ◌∙◌, subst, arith, true≢false, zero-add}
+use Rattle.std.proofs.Common.{◌≡◌, ◌⊎◌, inl, inr, ℕ, zero, suc, ◌+◌, ◌-◌, ◌*◌, ◌^◌, ◌<◌, ◌≤◌, Bool, true, false, not, ◌&&◌, Some, None, List, [], ◌∷◌, length, drop, refl, sym, ap, ap₂, ◌∙◌, subst, arith, true≢false, zero-add}
 use Rattle.std.specs.Prelude.{slice_get, slice_index, slice_index_or, nat_eq, if◌then◌else◌}
 use Rattle.std.specs.List.{list_all, range_with_len}
 use Rattle.std.proofs.lemmas.Bool.{and_parts, cases_eq, eq-eqb, ne_eqb}
@@ -10,14 +10,15 @@ use Rattle.gq_base.specs.Catalogs.{Tables}
 use Rattle.gq_base.specs.declared.direction.Direction.{Direction}
 use Rattle.gq_base.specs.declared.direction.Direction.TheVariants.{Forward, Backward}
 use Rattle.gq_base.specs.Valid.{row_count}
-use Rattle.gq_group.specs.Chunks.{assignment_at, cell_at, items_in, node_at, rel_at, node_in, edge_in, group_of, first_in, row_in}
+use Rattle.gq_group.specs.Pieces.{items_of}
+use Rattle.gq_group.specs.Chunks.{assignment_at, cell_at, items_in, kept_in, node_at, rel_at, node_in, edge_in, group_of, first_in, row_in}
 use Rattle.gq_group.specs.Edges.{way as way_of, number_of}
 use Rattle.gq_group.specs.Groups.{AreSelected}
 use Rattle.gq_group.specs.declared.chunk.Chunk.{Chunk}
 use Rattle.gq_group.specs.declared.home.NodeHome.{NodeHome}
 use Rattle.gq_group.specs.declared.home.NodeHome.TheVariants as node
 use Rattle.gq_group.specs.declared.home.RelHome.TheVariants as rel
-use Rattle.gq_join.specs.Kept.{matches, matches_of, values_of}
+use Rattle.gq_join.specs.Kept.{matches, matches_of, place_of, rel_in, values_of}
 use Rattle.gq_plan.specs.Covers.{after, fits_step}
 use Rattle.gq_plan.specs.Known.{Known, none}
 use Rattle.gq_plan.specs.Meaning.{nothing}
@@ -33,7 +34,7 @@ use Rattle.gq_walks.proofs.Runs.{length-keys}
 use Rattle.gq_pipe.specs.Built.{HasBuild}
 use Rattle.gq_pipe.specs.Levels.{given}
 use Rattle.gq_pipe.specs.Plain.{is_plain}
-use Rattle.gq_pipe.specs.steps.Chunks.{AreStanding, list_of, matches_in}
+use Rattle.gq_pipe.specs.steps.Chunks.{AreStanding, HasKept, KeepsOf, list_of, matches_in}
 use Rattle.gq_pipe.specs.steps.Cells.{cell_of, filled, led, near_in}
 use Rattle.gq_pipe.specs.steps.Homes.{AreHomes, HasColumn, IsFilling, IsHoused, filling_at, filling_of, is_forward, node_home, rel_home}
 use Rattle.gq_pipe.specs.steps.Keeps.{IsRange, IsTriedAt}
@@ -242,6 +243,23 @@ module _ (c : Run) (ss : List GroupSteps) (row : Assignment) (cs : List Cursor) 
         let inside : j < length (matches_of b.build read) = inside_of _ (join_count c run s.first first_low read held side keys is) in
         slice_get-get_or (matches_of b.build read) j 0 inside
         ∙ ap (λ n. Some n) (sym (item_is c ss row cs ms ch ps runs many groups sel i low ∙ ap (λ l. slice_index l j) list))
+
+    -- the load number of a relationship that the build of the group keeps
+    kept_number : (side : Plan) (keys : List ℕ) (is : step_at c s.first ≡ Join side keys) (x : ℕ) → x < length c.typed.rels → place_of (joined c at.runs s.first first_low read held side keys is).rels x < length (joined c at.runs s.first first_low read held side keys is).rels
+        → slice_index (items_in (group_of ch i)) (slice_index ps i) < length (joined c at.runs s.first first_low read held side keys is).rows
+        → rel_home ch.homes.now x ≡ rel.Kept i (place_of (joined c at.runs s.first first_low read held side keys is).rels x)
+        → slice_index read.rels x ≡ rel_in (joined c at.runs s.first first_low read held side keys is) x (slice_index (items_in (group_of ch i)) (slice_index ps i))
+    kept_number side keys is x x_low kept_there row_low home =
+        let b : HasBuild c.graph c.typed side keys (slice_index_or c.builds s.first None) = build c at.runs s.first first_low read held side keys is in
+        let n : ℕ = place_of b.build.rels x in
+        let k : HasKept b.build spot.group.kept = subst (λ o. KeepsOf o spot.group.kept) b.there spot.is.kept in
+        let item : slice_index (items_in (group_of ch i)) (slice_index ps i) ≡ slice_index (items_of spot.group.piece) (slice_index ps i) = ap (λ o. slice_index (items_in o) (slice_index ps i)) spot.there in
+        rel_read x x_low
+        ∙ ap (λ h. number_of c.graph (rel_table c.typed x) (edge_in ch ps h)) home
+        ∙ ap (λ o. kept_in o n (slice_index ps i)) spot.there
+        ∙ ap (λ r. slice_index spot.group.kept.numbers.now (r * spot.group.kept.width + n)) (sym item)
+        ∙ ap (λ w. slice_index spot.group.kept.numbers.now (slice_index (items_in (group_of ch i)) (slice_index ps i) * w + n)) k.width
+        ∙ k.each (slice_index (items_in (group_of ch i)) (slice_index ps i)) n row_low kept_there
 
     -- the first step
     first_itself : TriesItself c s.first j read
