@@ -3,12 +3,15 @@
 
     rt ci --anew & bench/gate.py $!
 
-looks once a second at the processes that the run starts, until it ends, and prints the table of docs/gate.md."""
+looks once a second at the processes that the run starts, until it ends, and prints the table of docs/gate.md; and behind it
+what all of it is in the unit by which machines and hours compare, the seconds of the proof of one crate in the same run."""
 import collections
 import os
 import re
 import sys
 import time
+
+UNIT = "gq_adj"
 
 
 def running(parent):
@@ -55,7 +58,12 @@ def main():
     print("| crate | proof | tests | edits |\n|---|---|---|---|")
     for crate in sorted({crate for crate, _ in table}):
         print(f"| `{crate}` | " + " | ".join(f"{table[crate, c]:,.0f}" if table[crate, c] else "" for c in columns) + " |")
-    print("| all | " + " | ".join(f"{sum(table[p] for p in table if p[1] == c):,.0f}" for c in columns) + " |")
+    sums = [sum(table[place] for place in table if place[1] == column) for column in columns]
+    print("| all | " + " | ".join(f"{total:,.0f}" for total in sums) + " |")
+    unit = table[UNIT, "proof"]
+    if unit > 0:
+        print(f"\nIn units of {unit:,.0f} seconds, the proof of `{UNIT}`: all {sum(sums) / unit:,.0f}, which is "
+              + ", ".join(f"{column} {total / unit:,.0f}" for column, total in zip(columns, sums)) + ".")
 
 
 main()

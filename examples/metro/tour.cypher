@@ -27,5 +27,9 @@ WHERE l.name < m.name AND a.name < b.name
 RETURN a.name, b.name, l.name, m.name
 ORDER BY a.name, b.name, l.name, m.name;
 
+// A park has two labels, and is found as a sight too; the type NEAR leads from two tables.
+MATCH (x:Sight)-[n:NEAR]->(s) RETURN x, x.name, n, s.name ORDER BY n.minutes;
+MATCH (x:Park:Sight) RETURN x.name, x.hectares ORDER BY x.hectares DESC;
+
 // The end of the input ends the last statement.
 MATCH (s)-[t:TRACK]-(s) RETURN s, t.line

@@ -34,8 +34,8 @@ abbrev g : Graph
 g = record {
   catalog = record {
     nodes =
-        record { label = codes "Person"; file = []; fields = record { name = codes "id"; kind = kind.Int } ∷ record { name = codes "name"; kind = kind.Str } ∷ record { name = codes "age"; kind = kind.Int } ∷ [] }
-        ∷ record { label = codes "City"; file = []; fields = record { name = codes "code"; kind = kind.Str } ∷ record { name = codes "pop"; kind = kind.Int } ∷ [] } ∷ [];
+        record { word = codes "Person"; labels = codes "Person" ∷ []; file = []; fields = record { name = codes "id"; kind = kind.Int } ∷ record { name = codes "name"; kind = kind.Str } ∷ record { name = codes "age"; kind = kind.Int } ∷ [] }
+        ∷ record { word = codes "City"; labels = codes "City" ∷ []; file = []; fields = record { name = codes "code"; kind = kind.Str } ∷ record { name = codes "pop"; kind = kind.Int } ∷ [] } ∷ [];
     rels =
         record { name = codes "KNOWS"; from = 0; to = 0; mult = mult.ManyMany; file = []; fields = record { name = codes "since"; kind = kind.Int } ∷ [] }
         ∷ record { name = codes "LIVES_IN"; from = 0; to = 1; mult = mult.ManyOne; file = []; fields = [] } ∷ [];
@@ -50,17 +50,17 @@ g = record {
 
 -- the patterns `(a)` and `(a:L)`
 abbrev node : String → NodePart
-node name = record { name = Some (codes name); label = None; map = []; at = 0 }
+node name = record { name = Some (codes name); labels = []; map = []; at = 0 }
 
 abbrev labelled : String → String → NodePart
-labelled name label = record { name = Some (codes name); label = Some (codes label); map = []; at = 0 }
+labelled name label = record { name = Some (codes name); labels = codes label ∷ []; map = []; at = 0 }
 
 -- `[:T]`, and `[]` of any type
 abbrev typed : String → Arrow → RelPart
-typed kind way = record { name = None; kinds = codes kind ∷ []; map = []; arrow = way; at = 0 }
+typed kind way = record { name = None; kinds = codes kind ∷ []; map = []; arrow = way; trail = None; at = 0 }
 
 abbrev untyped : Arrow → RelPart
-untyped way = record { name = None; kinds = []; map = []; arrow = way; at = 0 }
+untyped way = record { name = None; kinds = []; map = []; arrow = way; trail = None; at = 0 }
 
 abbrev hop : RelPart → NodePart → Hop
 hop rel node = record { rel = rel; node = node }
@@ -134,11 +134,11 @@ unfolding pattern_matches pattern_of assignments tuples nodes_of all_nodes rels_
 to_cities = refl
 
 -- (p {age: 30}), and (p {age: null}), which no null equals
-aged : map rows (pattern_matches g (pattern_of (clause (path (record { name = None; label = None; map = record { key = codes "age"; value = literal.Int (pos 30); value_span = record { start = 0; end = 0 } } ∷ []; at = 0 }) [] ∷ []) ∷ []))) ≡ (0 ∷ []) ∷ []
+aged : map rows (pattern_matches g (pattern_of (clause (path (record { name = None; labels = []; map = record { key = codes "age"; value = literal.Int (pos 30); value_span = record { start = 0; end = 0 } } ∷ []; at = 0 }) [] ∷ []) ∷ []))) ≡ (0 ∷ []) ∷ []
 unfolding pattern_matches pattern_of assignments tuples nodes_of all_nodes rels_of all_rels source target
 aged = refl
 
-ageless : pattern_matches g (pattern_of (clause (path (record { name = None; label = None; map = record { key = codes "age"; value = literal.Null; value_span = record { start = 0; end = 0 } } ∷ []; at = 0 }) [] ∷ []) ∷ [])) ≡ []
+ageless : pattern_matches g (pattern_of (clause (path (record { name = None; labels = []; map = record { key = codes "age"; value = literal.Null; value_span = record { start = 0; end = 0 } } ∷ []; at = 0 }) [] ∷ []) ∷ [])) ≡ []
 unfolding pattern_matches pattern_of assignments tuples nodes_of all_nodes rels_of all_rels source target
 ageless = refl
 
@@ -162,12 +162,12 @@ unfolding pattern_alternatives choices pattern_of tuples
 three_nodes = refl
 
 -- what the variables of (a)-[]->()-[r]->(a) are called
-called : (pattern_of (clause (path (node "a") (hop (untyped arrow.Right) (record { name = None; label = None; map = []; at = 0 }) ∷ hop (record { name = Some (codes "r"); kinds = []; map = []; arrow = arrow.Right; at = 0 }) (node "a") ∷ []) ∷ []) ∷ [])).node_names
+called : (pattern_of (clause (path (node "a") (hop (untyped arrow.Right) (record { name = None; labels = []; map = []; at = 0 }) ∷ hop (record { name = Some (codes "r"); kinds = []; map = []; arrow = arrow.Right; trail = None; at = 0 }) (node "a") ∷ []) ∷ []) ∷ [])).node_names
     ≡ codes "a" ∷ (codes "#" ++ decimal 2) ∷ []
 unfolding pattern_of
 called = refl
 
-called_rels : (pattern_of (clause (path (node "a") (hop (untyped arrow.Right) (record { name = None; label = None; map = []; at = 0 }) ∷ hop (record { name = Some (codes "r"); kinds = []; map = []; arrow = arrow.Right; at = 0 }) (node "a") ∷ []) ∷ []) ∷ [])).rel_names
+called_rels : (pattern_of (clause (path (node "a") (hop (untyped arrow.Right) (record { name = None; labels = []; map = []; at = 0 }) ∷ hop (record { name = Some (codes "r"); kinds = []; map = []; arrow = arrow.Right; trail = None; at = 0 }) (node "a") ∷ []) ∷ []) ∷ [])).rel_names
     ≡ (codes "#" ++ decimal 1) ∷ codes "r" ∷ []
 unfolding pattern_of
 called_rels = refl

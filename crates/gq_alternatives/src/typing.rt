@@ -10,15 +10,17 @@ use crate::kinds::kinds_for;
 use gq_base::{Catalog, List, Memory};
 use gq_expr::{Kinds, can_fault};
 use gq_plan::{NamedExpr, PathPart, RelPair, Typed, TypedRel};
-use gq_scopes::{Pattern, RelPattern, copy, copy_text, next};
+use gq_scopes::{Copying, Pattern, RelPattern, copy_part, copy_text, next};
 use gq_syntax::Arrow;
 use std::alloc::Global;
 
 /// An alternative of patterns with its tests, late conjuncts and pairs: the entries of the
 /// patterns' maps and the conjuncts that cannot fault are its tests, the other conjuncts are late.
+/// Its tests are copied out of what may still be copied; `Memory` where that is too little.
 #[tactic(auto, unfolding(crate::specs::Alternatives::typed_of))]
 pub fn typed(
     alloc: Global,
+    copying: &mut Copying,
     catalog: &Catalog,
     pattern: &Pattern<'_>,
     entries: &[NamedExpr],
@@ -30,7 +32,7 @@ pub fn typed(
 {
     let rels = typed_rels(alloc, pattern.rels(), choice.readings.as_slice())?;
     let kinds = kinds_for(alloc, catalog, choice.tables.as_slice(), rels.as_slice())?;
-    let conditions = conditions_of(alloc, &kinds, entries, conjuncts)?;
+    let conditions = conditions_of(alloc, copying, &kinds, entries, conjuncts)?;
     typed_with(alloc, pattern, choice, rels, conditions)
 }
 
@@ -43,6 +45,7 @@ struct Conditions {
 
 fn conditions_of(
     alloc: Global,
+    copying: &mut Copying,
     kinds: &Kinds,
     entries: &[NamedExpr],
     conjuncts: &[NamedExpr],
@@ -52,7 +55,7 @@ fn conditions_of(
     ensures late { IfOk result (λ c. c.late ≡ late_from kinds.now 0 conjuncts.now) }
 {
     let late = late_of(alloc, kinds, conjuncts)?;
-    let tests = tests_of(alloc, kinds, entries, conjuncts)?;
+    let tests = tests_of(alloc, copying, kinds, entries, conjuncts)?;
     Ok(Conditions { tests, late })
 }
 
@@ -170,21 +173,26 @@ fn copy_paths(alloc: Global, paths: &[PathPart]) -> Result<List<PathPart>, Memor
     Ok(copies)
 }
 
-fn copy_named(alloc: Global, named: &NamedExpr) -> Result<NamedExpr, Memory>
+fn copy_named(alloc: Global, copying: &mut Copying, named: &NamedExpr) -> Result<NamedExpr, Memory>
     ensures { IfOk result (λ n. n ≡ named.now) }
 {
+    copying.take_name(&named.name)?;
     Ok(NamedExpr {
         name: copy_text(alloc, &named.name)?,
-        expr: copy(alloc, &named.expr)?,
+        expr: copy_part(alloc, copying, &named.expr)?,
     })
 }
 
-fn copy_all_named(alloc: Global, all: &[NamedExpr]) -> Result<List<NamedExpr>, Memory>
+fn copy_all_named(
+    alloc: Global,
+    copying: &mut Copying,
+    all: &[NamedExpr],
+) -> Result<List<NamedExpr>, Memory>
     ensures { IfOk result (λ ns. ns ≡ all.now) }
 {
     let mut copies = List::new(alloc);
     for named in all {
-        let copied = copy_named(alloc, named)?;
+        let copied = copy_named(alloc, copying, named)?;
         copies.push(copied)?;
     }
     Ok(copies)
@@ -193,6 +201,7 @@ fn copy_all_named(alloc: Global, all: &[NamedExpr]) -> Result<List<NamedExpr>, M
 // The map entries, and then the conjuncts that cannot fault.
 fn tests_of(
     alloc: Global,
+    copying: &mut Copying,
     kinds: &Kinds,
     entries: &[NamedExpr],
     conjuncts: &[NamedExpr],
@@ -200,10 +209,10 @@ fn tests_of(
     ensures { IfOk result (λ ts.
         ts ≡ entries.now ++ filter (λ e. not (can_fault kinds.now e.expr)) conjuncts.now) }
 {
-    let mut tests = copy_all_named(alloc, entries)?;
+    let mut tests = copy_all_named(alloc, copying, entries)?;
     for conjunct in conjuncts {
         if !can_fault(&conjunct.expr, kinds) {
-            let copied = copy_named(alloc, conjunct)?;
+            let copied = copy_named(alloc, copying, conjunct)?;
             tests.push(copied)?;
         }
     }

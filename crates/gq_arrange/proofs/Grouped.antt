@@ -1,10 +1,9 @@
 -- The steps of a plan stand in its groups by its places, also where column closes count as the later of their ends.
-use Rattle.std.proofs.Common.{◌≡◌, ◌∙◌, ◌<◌, ◌≤◌, ◌+◌, ap, ap₂, sym, refl, ℕ, zero, suc, Bool, true, false, not, cond, ◌&&◌, Option, Some, None, List, [], ◌∷◌, ◌++◌, append_assoc, append-nil, length, length-append, slice_get, nat_eq, map, flat_map, subst, arith, true≢false}
-use Rattle.std.specs.List.{AllByRecursion, list_all, range_with_len}
+use Rattle.std.proofs.Common.{◌≡◌, ◌∙◌, ◌<◌, ◌≤◌, ◌+◌, ap, ap₂, sym, refl, ℕ, zero, suc, Bool, true, false, not, cond, ◌&&◌, Option, Some, List, [], ◌∷◌, ◌++◌, append_assoc, append-nil, length, length-append, slice_get, nat_eq, flat_map, subst, arith}
+use Rattle.std.specs.List.{AllByRecursion}
 use Rattle.std.specs.Option.{option_to_list}
 use Rattle.std.proofs.lemmas.Bool.{and_parts, eqb-true}
 use Rattle.gq_base.specs.Catalogs.{Tables}
-use Rattle.gq_base.specs.declared.direction.Direction.{Direction}
 use Rattle.gq_law_groups.specs.Groups.{Group, makes_group, checked, cut_from}
 use Rattle.gq_law_groups.specs.Order.{NoGroups, BindsAt, StandsAt, AllAt, InOrder, Flats, FlatsOf}
 use Rattle.gq_law_groups.proofs.Shaped.{in_first, in_second}
@@ -13,7 +12,7 @@ use Rattle.gq_plan.specs.Columns.{steps_of}
 use Rattle.gq_plan.specs.Covers.{after, after_step, fits, fits_step}
 use Rattle.gq_plan.specs.Known.{Known, none}
 use Rattle.gq_plan.specs.Plans.{Plan, Done, Then, Step, Scan, Extend, Close, Join, Keep, Differ, NoLoop, steps}
-use Rattle.gq_plan.specs.Shapes.{Places, nowhere, put, put_all, place_step, places_after, form_of, next_group, tested, last_of, flat_by, all_flat}
+use Rattle.gq_plan.specs.Shapes.{Places, put, put_all, place_step, form_of, next_group, tested, last_of, flat_by, all_flat}
 use Rattle.gq_plan.specs.Soundness.{has_number}
 use Rattle.gq_plan.specs.declared.typed.Typed.{Typed}
 use Rattle.gq_arrange.proofs.Between.{of, between}
@@ -22,23 +21,6 @@ use Rattle.gq_arrange.proofs.Running.{marks, count_next}
 use Rattle.gq_arrange.proofs.Sorting.{Begins}
 
 -- ---- the places of a plan, and those in which column closes count as the later of their ends
-
-step_same : (s : Step) (q : Places) → at_step false s q ≡ place_step s q
-unfolding place_step
-step_same (Scan v) q = refl
-step_same (Extend true x from to way) q = refl
-step_same (Extend false x from to way) q = refl
-step_same (Close true x from to way) q = refl
-step_same (Close false x from to way) q = refl
-step_same (Join side keys) q = refl
-step_same (Keep i) q = refl
-step_same (Differ d) q = refl
-step_same (NoLoop x) q = refl
-
-pub after_same : (p : Plan) (q : Places) → at_after false p q ≡ places_after p q
-unfolding at_after places_after
-after_same Done q = refl
-after_same (Then s p) q = after_same p (at_step false s q) ∙ ap (places_after p) (step_same s q)
 
 -- nodes stand in the same groups
 pub record HaveSame (a b : Places) : Type 0 where

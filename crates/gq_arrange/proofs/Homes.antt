@@ -1,22 +1,19 @@
 -- The group of each step of a plan that fits: what the step binds stands in it, and what a test reads stands in no later one.
-use Rattle.std.proofs.Common.{◌≡◌, ◌∙◌, ◌<◌, ◌≤◌, ◌+◌, ◌⊎◌, inl, inr, ap, ap₂, sym, refl, ℕ, Bool, true, false, not, cond, ◌&&◌, ◌||◌, Option, Some, None, List, [], ◌∷◌, map, length, slice_get, nat_eq, nat_lt, subst, arith, true≢false}
+use Rattle.std.proofs.Common.{◌≡◌, ◌∙◌, ◌<◌, ◌≤◌, ◌⊎◌, inl, inr, ap, ap₂, sym, refl, ℕ, Bool, true, false, not, cond, ◌&&◌, ◌||◌, Option, Some, None, List, [], ◌∷◌, map, slice_get, nat_eq, subst, arith, true≢false}
 use Rattle.std.specs.List.{AllByRecursion, list_all}
-use Rattle.std.proofs.Math.Bool.{or-false}
-use Rattle.std.proofs.lemmas.Bool.{and_parts, eqb-true, eq-eqb, not-true, or_cases, or_left}
+use Rattle.std.proofs.lemmas.Bool.{and_parts, eq-eqb, or_left}
 use Rattle.gq_base.specs.Catalogs.{Tables}
-use Rattle.gq_base.specs.declared.direction.Direction.{Direction}
 use Rattle.gq_law_groups.specs.Groups.{makes_group}
 use Rattle.gq_law_groups.specs.Order.{BindsAt, StandsAt}
-use Rattle.gq_law_groups.proofs.Following.{known_node, known_rel}
 use Rattle.gq_law_groups.proofs.Ordered.{Reads, low_from, unmapped}
 use Rattle.gq_law_groups.proofs.Swapped.{own, adds}
 use Rattle.gq_plan.specs.Arranged.{close_group, at_step, at_after, home}
 use Rattle.gq_plan.specs.Covers.{after, after_step, fits, fits_step, test_bound, pair_bound, loop_bound}
 use Rattle.gq_plan.specs.Known.{Known, none, is_bound}
 use Rattle.gq_plan.specs.Meaning.{holds}
-use Rattle.gq_plan.specs.Plans.{Plan, Done, Then, Step, Scan, Extend, Close, Join, Keep, Differ, NoLoop}
+use Rattle.gq_plan.specs.Plans.{Plan, Then, Step, Scan, Extend, Close, Join, Keep, Differ, NoLoop}
 use Rattle.gq_plan.specs.Reads.{Read, reads}
-use Rattle.gq_plan.specs.Shapes.{Places, put, put_all, place_step, group_of, test_groups, pair_groups, end_groups, tested, last_of}
+use Rattle.gq_plan.specs.Shapes.{Places, place_step, group_of, test_groups, pair_groups, end_groups, tested, last_of}
 use Rattle.gq_plan.specs.Soundness.{has_number}
 use Rattle.gq_plan.specs.declared.bound.NamedExpr.{NamedExpr}
 use Rattle.gq_plan.specs.declared.typed.RelPair.{RelPair}

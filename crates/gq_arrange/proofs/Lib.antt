@@ -1,8 +1,11 @@
+pub mod Arranged
 pub mod Between
-pub mod Inserting
-pub mod Standing
-pub mod Homes
-pub mod Sorting
-pub mod Running
 pub mod Grouped
-pub mod Arranging
+pub mod Homes
+pub mod Inserting
+pub mod Loops
+pub mod Numbers
+pub mod Running
+pub mod Sorting
+pub mod Standing
+pub mod Worked

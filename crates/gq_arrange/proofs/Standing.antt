@@ -1,30 +1,20 @@
 -- In which group each variable of a plan that fits stands: as the step puts it that binds it, and in no later group than its number.
-use Rattle.std.proofs.Common.{◌≡◌, ◌∙◌, ◌<◌, ◌≤◌, ◌+◌, ◌⊎◌, inl, inr, ap, sym, refl, ℕ, Bool, true, false, not, cond, ◌&&◌, ◌||◌, Option, Some, None, List, [], ◌∷◌, map, length, slice_get, nat_eq, nat_lt, subst, arith, true≢false}
-use Rattle.std.specs.List.{AllByRecursion, list_all, range_with_len}
-use Rattle.std.proofs.Math.Bool.{or-false}
+use Rattle.std.proofs.Common.{◌≡◌, ◌∙◌, ◌<◌, ◌≤◌, ◌+◌, inl, inr, ap, sym, refl, ℕ, Bool, true, false, not, cond, ◌&&◌, ◌||◌, List, [], ◌∷◌, length, slice_get, nat_eq, nat_lt, arith, true≢false}
+use Rattle.std.specs.List.{list_all, range_with_len}
 use Rattle.std.proofs.lemmas.Bool.{and_parts, eqb-true, eq-eqb, not-true, or_cases}
 use Rattle.gq_base.specs.Catalogs.{Tables}
 use Rattle.gq_base.specs.declared.direction.Direction.{Direction}
-use Rattle.gq_law_groups.specs.Groups.{makes_group}
 use Rattle.gq_law_groups.proofs.Following.{known_node, known_rel}
-use Rattle.gq_law_groups.proofs.Ordered.{Reads, low_from, unmapped}
-use Rattle.gq_law_groups.proofs.Swapped.{own}
 use Rattle.gq_plan.proofs.Permuted.{range_all}
 use Rattle.gq_plan.proofs.Placing.{none_low, after_low}
-use Rattle.gq_plan.specs.Arranged.{close_group, at_step, at_after, home}
-use Rattle.gq_plan.specs.Covers.{after, after_step, fits, fits_step, goes, is_new, is_joined, test_bound, pair_bound, loop_bound}
-use Rattle.gq_plan.specs.Known.{Known, none, is_bound}
+use Rattle.gq_plan.specs.Arranged.{close_group, at_step, at_after}
+use Rattle.gq_plan.specs.Covers.{after, after_step, fits, fits_step, goes, is_new, is_joined}
+use Rattle.gq_plan.specs.Known.{Known, none}
 use Rattle.gq_plan.specs.Meaning.{holds}
 use Rattle.gq_plan.specs.Plans.{Plan, Done, Then, Step, Scan, Extend, Close, Join, Keep, Differ, NoLoop}
-use Rattle.gq_plan.specs.Reads.{Read, reads}
-use Rattle.gq_plan.specs.Shapes.{Places, put, put_all, place_step, group_of, test_groups, pair_groups, end_groups, tested, last_of}
+use Rattle.gq_plan.specs.Shapes.{Places, put, place_step}
 use Rattle.gq_plan.specs.Soundness.{has_number}
-use Rattle.gq_plan.specs.declared.bound.NamedExpr.{NamedExpr}
-use Rattle.gq_plan.specs.declared.typed.RelPair.{RelPair}
 use Rattle.gq_plan.specs.declared.typed.Typed.{Typed}
-use Rattle.gq_plan.specs.declared.typed.TypedRel.{TypedRel}
-use Rattle.gq_plan.specs.declared.variable.Variable.TheVariants.{Node as node, Rel as rel}
-use Rattle.gq_plan.specs.declared.variable.Variable.{Variable}
 
 -- what is known is not what is new
 put_kept : (has : ℕ → Bool) (u v g : ℕ) (old : ℕ → ℕ) → has u ≡ false → has v ≡ true → put u g old v ≡ old v

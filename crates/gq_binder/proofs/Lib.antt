@@ -3,6 +3,7 @@ pub mod Checked
 pub mod Known
 pub mod MetLemmas
 pub mod NameLemmas
+pub mod OneBound
 pub mod PartLemmas
 pub mod Patterns
 pub mod ReadingLemmas

@@ -45,12 +45,11 @@ use Rattle.gq_trees.specs.Resolving.{Conjunct, functions, all_some, resolved, sp
 use Rattle.gq_scopes.specs.Scopes.{Scope, scope_of}
 use Rattle.gq_scopes.specs.steps.Variables.{IsThere}
 use Rattle.gq_lexer.specs.Sources.{source_text}
-use Rattle.gq_scopes.specs.declared.Column.{Column}
 use Rattle.gq_binder.proofs.Patterns.{names_counted}
 use Rattle.gq_binder.specs.Binding.{IsBound}
-use Rattle.gq_binder.specs.Columns.{Scoped, scoped_in, conditions_from, conditions, conjuncts, columns, property_of, entry_expr, entry_test, Resolves, HasAlternatives}
+use Rattle.gq_binder.specs.Columns.{Scoped, scoped_in, conditions_from, conditions, conjuncts, property_of, entry_expr, entry_test, Resolves, HasAlternatives}
 use Rattle.gq_binder.specs.steps.Parts.{reads_in}
-use Rattle.gq_binder.specs.Refusals.{first_of_all, unknown_variable, variable_conflict, relationship_repeated, column_repeated, nothing_to_return, order_out_of_scope, ambiguous_order_name, function_unknown, argument_count, over_limit, max_columns, max_alternatives, too_many_patterns, all_reads, first_refusal, checks_of, too_many_alternatives}
+use Rattle.gq_binder.specs.Refusals.{first_of_all, over_limit, all_reads, first_refusal, checks_of, too_many_alternatives}
 use Rattle.gq_binder.specs.declared.refusal.BindRefusal.{BindRefusal}
 use Rattle.gq_binder.specs.declared.refusal.BindRefusal.TheVariants as refusal
 
@@ -80,11 +79,11 @@ accepted_small query text catalog accepted =
     let p : Pattern = pattern_of query.clauses in
     let checks = each_none (checks_of query text ++ too_many_alternatives query catalog ∷ []) accepted in
     let patterns =
-    each_none (over_limit max_variables (length p.nodes) refusal.TooManyPatterns ∷ over_limit max_variables (length p.rels) refusal.TooManyPatterns ∷ []) checks.1.1.1.1.1.1.1.1.1.0 in
+    each_none (over_limit max_variables (length p.nodes) refusal.TooManyPatterns ∷ over_limit max_variables (length p.rels) refusal.TooManyPatterns ∷ []) checks.1.1.1.1.1.1.1.1.1.1.0 in
     record {
       nodes = within_limit max_variables (length p.nodes) refusal.TooManyPatterns patterns.0;
       rels = within_limit max_variables (length p.rels) refusal.TooManyPatterns patterns.1.0;
-      reads = within_limit max_reads (length (distinct (all_reads query))) refusal.TooManyReads checks.1.1.1.1.1.1.1.1.1.1.0;
+      reads = within_limit max_reads (length (distinct (all_reads query))) refusal.TooManyReads checks.1.1.1.1.1.1.1.1.1.1.1.0;
     }
 
 -- ---- conditions stand in scopes of patterns so far

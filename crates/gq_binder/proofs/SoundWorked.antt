@@ -21,7 +21,7 @@ use Rattle.gq_lexer.specs.Sources.{source_text}
 -- persons who know persons
 abbrev catalog : Tables
 catalog = record {
-  nodes = record { label = codes "Person"; file = []; fields = record { name = codes "age"; kind = kind.Int } ∷ [] } ∷ [];
+  nodes = record { word = codes "Person"; labels = codes "Person" ∷ []; file = []; fields = record { name = codes "age"; kind = kind.Int } ∷ [] } ∷ [];
   rels = record { name = codes "KNOWS"; from = 0; to = 0; mult = mult.ManyMany; file = []; fields = [] } ∷ [];
 }
 
@@ -36,15 +36,16 @@ query = record {
       record {
         paths =
             record {
-              first = record { name = Some (codes "a"); label = None; map = record { key = codes "age"; value = literal.Int (pos 30); value_span = record { start = 0; end = 2 } } ∷ []; at = 0 };
+              first = record { name = Some (codes "a"); labels = []; map = record { key = codes "age"; value = literal.Int (pos 30); value_span = record { start = 0; end = 2 } } ∷ []; at = 0 };
               hops =
                   record {
-                    rel = record { name = Some (codes "r"); kinds = []; map = []; arrow = arrow.Left; at = 0 };
-                    node = record { name = Some (codes "b"); label = None; map = []; at = 0 };
+                    rel = record { name = Some (codes "r"); kinds = []; map = []; arrow = arrow.Left; trail = None; at = 0 };
+                    node = record { name = Some (codes "b"); labels = []; map = []; at = 0 };
                   } ∷ [];
             } ∷ [];
         filter = None;
       } ∷ [];
+  optionals = [];
   star = true;
   items = [];
   distinct = false;

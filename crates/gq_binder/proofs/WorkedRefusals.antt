@@ -8,17 +8,18 @@ use Rattle.gq_syntax.specs.declared.NodePart.{NodePart}
 use Rattle.gq_syntax.specs.declared.Query.{Query}
 use Rattle.gq_syntax.specs.declared.RelPart.{RelPart}
 use Rattle.gq_scopes.specs.Patterns.{pattern_of}
-use Rattle.gq_binder.specs.Refusals.{variable_conflict, relationship_repeated, column_repeated, nothing_to_return, too_many_patterns}
+use Rattle.gq_binder.specs.Refusals.{not_built, variable_conflict, relationship_repeated, column_repeated, nothing_to_return, too_many_patterns}
+use Rattle.gq_binder.specs.declared.refusal.BindRefusal.{BindRefusal}
 use Rattle.gq_binder.specs.declared.refusal.BindRefusal.TheVariants as refusal
 
 abbrev node : String → NodePart
-node name = record { name = Some (codes name); label = None; map = []; at = 0 }
+node name = record { name = Some (codes name); labels = []; map = []; at = 0 }
 
 abbrev unnamed : NodePart
-unnamed = record { name = None; label = None; map = []; at = 0 }
+unnamed = record { name = None; labels = []; map = []; at = 0 }
 
 abbrev rel : Option (List ℕ) → RelPart
-rel name = record { name = name; kinds = []; map = []; arrow = arrow.Right; at = 0 }
+rel name = record { name = name; kinds = []; map = []; arrow = arrow.Right; trail = None; at = 0 }
 
 abbrev hop : RelPart → NodePart → Hop
 hop r n = record { rel = r; node = n }
@@ -28,7 +29,23 @@ one_path first hops = record { paths = record { first = first; hops = hops } ∷
 
 -- RETURN *
 abbrev star : List Clause → Query
-star clauses = record { clauses = clauses; star = true; items = []; distinct = false; order = []; skip = None; limit = None }
+star clauses = record { clauses = clauses; optionals = []; star = true; items = []; distinct = false; order = []; skip = None; limit = None }
+
+abbrev built : Query → Option BindRefusal
+built query = not_built query (pattern_of query.clauses) false
+
+-- ()-[]->() alone, ()-[:KNOWS*2]->(), and () with OPTIONAL MATCH (b) behind it
+all_built : built (star (one_path unnamed (hop (rel None) unnamed ∷ []))) ≡ None
+unfolding pattern_of
+all_built = refl
+
+trail : built (star (one_path unnamed (hop (record { name = None; kinds = codes "KNOWS" ∷ []; map = []; arrow = arrow.Right; trail = Some (record { low = 2; high = 2 }); at = 0 }) unnamed ∷ []))) ≡ Some refusal.NotBuilt
+unfolding pattern_of
+trail = refl
+
+optional : built (record (star (one_path unnamed [])) { optionals = one_path (node "b") [] }) ≡ Some refusal.NotBuilt
+unfolding pattern_of
+optional = refl
 
 -- (a)-[a]->(b)
 conflict : variable_conflict (pattern_of (one_path (node "a") (hop (rel (Some (codes "a"))) (node "b") ∷ []))) ≡ Some (refusal.VariableConflict (codes "a"))

@@ -1,12 +1,13 @@
--- Why a query cannot be bound: the first of thirteen checks that applies, with its first place in the text (this
--- project's profile).
-use Rattle.std.specs.Prelude.{ℕ, suc, nat_eq, nat_lt, Bool, true, false, not, ◌&&◌, Option, Some, None, List, [], ◌∷◌, ◌++◌, map, flat_map, length, if◌then◌else◌}
+-- Why a query cannot be bound: it has a form that is not built yet, or else the first of thirteen checks that applies,
+-- with its first place in the text (this project's profile).
+use Rattle.std.specs.Prelude.{ℕ, suc, nat_eq, nat_lt, Bool, true, false, not, is_some, ◌&&◌, ◌||◌, Option, Some, None, List, [], ◌∷◌, ◌++◌, map, flat_map, length, if◌then◌else◌}
 use Rattle.gq_plan.specs.declared.variable.Variable.TheVariants.{Node as node, Rel as rel}
 use Rattle.gq_plan.specs.declared.variable.Variable.{Variable}
 use Rattle.std.specs.List.{list_any}
 use Rattle.std.specs.Option.{option_map, option_or}
 use Rattle.std.specs.Cmp.Lexicographic.{pointwise}
 use Rattle.gq_base.specs.Catalogs.{Tables}
+use Rattle.gq_base.specs.Lists.{is_empty}
 use Rattle.gq_expr.specs.declared.Expr.{Expr}
 use Rattle.gq_plan.specs.Reads.{Read, property, reads, properties, distinct}
 use Rattle.gq_plan.specs.Soundness.{max_variables, max_reads}
@@ -18,7 +19,7 @@ use Rattle.gq_binder.specs.Columns.{Scoped, conditions, columns, sort_scope}
 use Rattle.gq_trees.specs.MadeOf.{column_exprs, is_made_of}
 use Rattle.gq_trees.specs.Renames.{ambiguous_name}
 use Rattle.gq_scopes.specs.Patterns.{Name, NamedVariable, Pattern, pattern_of, is_same_name}
-use Rattle.gq_trees.specs.Uses.{Use, uses, first_name, refused_unless, unknown_name, unknown_function, wrong_count}
+use Rattle.gq_trees.specs.Uses.{Use, uses, has_exists, first_name, refused_unless, unknown_name, unknown_function, wrong_count}
 use Rattle.gq_trees.specs.Resolving.{as_lists, functions, resolved}
 use Rattle.gq_binder.specs.declared.refusal.BindRefusal.{BindRefusal}
 use Rattle.gq_binder.specs.declared.refusal.BindRefusal.TheVariants as refusal
@@ -43,6 +44,22 @@ sort_trees text query = sorts_in (sort_scope functions text query) query.order
 
 unfoldable pub expressions : List ℕ → Query → List Scoped
 expressions text query = conditions query ++ (items_in (scope_of (pattern_of query.clauses)) query.items ++ sort_trees text query)
+
+-- ---- forms that are not built yet
+
+abbrev pub has_trail : Pattern → Bool
+has_trail p = list_any (λ r. is_some r.part.trail) p.rels
+
+abbrev pub exists_in : List Scoped → Bool
+exists_in es = list_any (λ e. has_exists e.tree) es
+
+-- a query with these patterns, and with an EXISTS or none, has a form that is spelled and has no bound form yet: a clause
+-- behind OPTIONAL, a trail, or an EXISTS
+abbrev pub has_form_to_come : Query → Pattern → Bool → Bool
+has_form_to_come query p exists = not (is_empty query.optionals) || (has_trail p || exists)
+
+abbrev pub not_built : Query → Pattern → Bool → Option BindRefusal
+not_built query p exists = if has_form_to_come query p exists then Some refusal.NotBuilt else None
 
 -- ---- names
 
@@ -151,12 +168,13 @@ all_reads query =
     map (λ e. property e.variable e.entry.key) (pattern_of query.clauses).entries
     ++ properties (flat_map (λ c. known_reads (resolved functions c.scope c.tree)) (conditions query))
 
--- the twelve checks that ask no catalogue, in their order
+-- whether all its forms are built, and the twelve checks that ask no catalogue, in their order
 abbrev pub checks_of : Query → List ℕ → List (Option BindRefusal)
 checks_of query text =
     let p : Pattern = pattern_of query.clauses in
     let cs : List Column = columns functions text query in
-    unknown_variable text query
+    not_built query p (exists_in (expressions text query))
+    ∷ unknown_variable text query
     ∷ variable_conflict p
     ∷ relationship_repeated p
     ∷ column_repeated cs

@@ -130,6 +130,10 @@ fn known_keys(alloc: Global, scope: &Scope<'_>, order: &[Sort]) -> Result<List<S
     Ok(keys)
 }
 
+// Each alternative has its own copies of its tests: so many parts of expressions and bytes of texts in them, for all
+// alternatives of one query. With 512 alternatives it is 8,192 for each.
+const MOST_TESTS: usize = 4_194_304;
+
 fn all_typed(
     alloc: Global,
     catalog: &Catalog,
@@ -141,9 +145,18 @@ fn all_typed(
     ensures { IfOk result (λ ys.
         ys ≡ map (typed_of catalog.now pattern.now entries.now conjuncts.now) choices.now) }
 {
+    let mut copying = Copying::of(MOST_TESTS);
     let mut all = List::new(alloc);
     for choice in choices {
-        let alternative = typed(alloc, catalog, pattern, entries, conjuncts, choice)?;
+        let alternative = typed(
+            alloc,
+            &mut copying,
+            catalog,
+            pattern,
+            entries,
+            conjuncts,
+            choice,
+        )?;
         all.push(alternative)?;
     }
     Ok(all)

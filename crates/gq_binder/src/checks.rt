@@ -1,5 +1,5 @@
-//! The checks of a query in their order, and those of its patterns, columns and numbers.
-ghost use Rattle.std.specs.Prelude.{◌≡◌, ◌++◌, [], All, IfOk, OnOk, length};
+//! The checks of a query in their order, and those of its forms, patterns, columns and numbers.
+ghost use Rattle.std.specs.Prelude.{◌≡◌, ◌++◌, [], All, IfOk, OnOk, is_some, length};
 ghost use Rattle.std.specs.Option.{option_map};
 ghost use Rattle.gq_alternatives.specs.Alternatives.{pattern_alternatives};
 ghost use Rattle.gq_binder.specs.steps.Checks.{Checks};
@@ -19,7 +19,7 @@ use crate::refusal::BindRefusal;
 use gq_alternatives::{Choice, choices_of};
 use gq_base::{Catalog, List, Memory};
 use gq_plan::{NamedExpr, PropertyReads};
-use gq_scopes::{Column, NamedVariable, Names, Pattern, Variable, copy_text};
+use gq_scopes::{Column, NamedVariable, Names, Pattern, RelPattern, Variable, copy_text};
 use gq_syntax::Query;
 use std::alloc::Global;
 
@@ -44,6 +44,7 @@ pub fn check(
 {
     let pattern = &parts.pattern;
     let columns = parts.columns.as_slice();
+    not_built(query, parts)?;
     parts.names.unknown_variable(alloc)?;
     variable_conflict(alloc, pattern.named())?;
     relationship_repeated(alloc, pattern.named())?;
@@ -56,6 +57,38 @@ pub fn check(
     too_many_patterns(pattern)?;
     too_many_reads(alloc, parts.tests.as_slice(), parts.conjuncts.as_slice())?;
     too_many_columns(columns)
+}
+
+/// The query has a form that is not built yet.
+fn not_built(query: &Query, parts: &QueryParts<'_>) -> Result<(), BindRefusal>
+    ensures { Checks
+        (refusals.not_built query.now parts.now.pattern parts.now.names.exists) result }
+{
+    if has_form_to_come(query, parts) {
+        Err(BindRefusal::NotBuilt)
+    } else {
+        Ok(())
+    }
+}
+
+// Whether a query has a clause behind OPTIONAL, a trail, or an EXISTS.
+fn has_form_to_come(query: &Query, parts: &QueryParts<'_>) -> bool
+    ensures { result
+        ≡ refusals.has_form_to_come query.now parts.now.pattern parts.now.names.exists }
+{
+    !query.optionals.as_slice().is_empty() || has_trail(&parts.pattern) || parts.names.has_exists()
+}
+
+fn has_trail(pattern: &Pattern<'_>) -> bool
+    ensures { result ≡ refusals.has_trail pattern.now }
+{
+    pattern.rels().iter().any(|rel| is_trail(rel))
+}
+
+fn is_trail(rel: &RelPattern<'_>) -> bool
+    ensures { result ≡ is_some rel.now.part.trail }
+{
+    rel.part.trail.is_some()
 }
 
 /// One name is a node variable and a relationship variable.

@@ -1,4 +1,4 @@
-//! The first names and calls of a query's expressions that the checks of names refuse.
+//! The first names and calls of a query's expressions that the checks of names refuse, and whether one has an EXISTS.
 ghost use Rattle.std.specs.Prelude.{◌≡◌};
 ghost use Rattle.std.specs.Option.{option_copied, option_map, option_or};
 ghost use Rattle.gq_binder.specs.steps.Checks.{Checks};
@@ -12,17 +12,19 @@ use crate::refusal::BindRefusal;
 use gq_base::Text;
 use gq_scopes::{Scope, copy_text};
 use gq_syntax::{Ast, Item, Sort};
-use gq_trees::{Check, first_refused};
+use gq_trees::{Check, first_refused, has_exists};
 use std::alloc::Global;
 use std::marker::Model;
 
 /// Of the expressions that were read, the first name that its scope does not have, the first call
-/// that names no function, and the first call with a wrong number of arguments.
+/// that names no function, the first call with a wrong number of arguments, and whether one has an
+/// EXISTS.
 #[derive(Drop)]
 pub struct FirstNames<'q> {
     variable: Option<&'q Text>,
     function: Option<&'q Text>,
     arguments: Option<&'q Text>,
+    exists: bool,
 }
 
 impl<'q> Model for FirstNames<'q> {
@@ -35,6 +37,7 @@ impl<'q> Model for FirstNames<'q> {
       variable = option_copied n.variable;
       function = option_copied n.function;
       arguments = option_copied n.arguments;
+      exists = n.exists;
     } };
 }
 
@@ -47,6 +50,7 @@ impl<'q> FirstNames<'q> {
             variable: None,
             function: None,
             arguments: None,
+            exists: false,
         }
     }
 
@@ -58,6 +62,7 @@ impl<'q> FirstNames<'q> {
         self.variable = or_first(self.variable, Check::UnknownName, scope, tree);
         self.function = or_first(self.function, Check::UnknownFunction, scope, tree);
         self.arguments = or_first(self.arguments, Check::WrongCount, scope, tree);
+        self.exists = self.exists || has_exists(tree);
     }
 
     /// Reads the expressions of items.
@@ -76,6 +81,13 @@ impl<'q> FirstNames<'q> {
         for sort in order {
             self.read(scope, &sort.tree);
         }
+    }
+
+    /// Whether an expression has an EXISTS.
+    pub fn has_exists(&self) -> bool
+        ensures { result ≡ self.now.exists }
+    {
+        self.exists
     }
 
     /// An expression names what its scope does not have.

@@ -8,6 +8,8 @@ use gq_base::{Memory, Text};
 /// text.
 #[derive(Debug, Drop)]
 pub enum BindRefusal {
+    /// The query has a form that can be written and not yet bound: a clause behind OPTIONAL, a trail, or an EXISTS.
+    NotBuilt,
     /// An expression names what its scope does not have.
     UnknownVariable { name: Text },
     /// One name is a node variable and a relationship variable.

@@ -18,7 +18,7 @@ use Rattle.gq_execute.specs.declared.settings.Order.{Order}
 
 module _ (g : Graph) (order : Order) (y : Typed) (old new : Table) (p : Plan) (covers : Covers g.catalog y p) (light : has_large_part g order old.most y ≡ false) where
   abbrev started : Table
-  started = record { bound = old.bound; most = old.most; alternative = Some y; held = old.held }
+  started = record { bound = old.bound; most = old.most; alternative = Some y; held = old.held; pushed = old.pushed }
 
   abbrev os : List (Result Row Fault)
   os = late_outcomes g old.bound y (meaning g y p)

@@ -9,6 +9,7 @@ use Rattle.gq_execute.specs.Replies.{Question, Rows, Faulted, TooManyRows, IsPer
 use Rattle.gq_execute.specs.declared.refusal.AnswerRefusal.{AnswerRefusal}
 use Rattle.gq_execute.specs.declared.refusal.AnswerRefusal.TheVariants as refusal
 use Rattle.gq_execute.specs.declared.settings.Settings.{Settings}
+use Rattle.gq_rows.specs.declared.Listing.{Listing}
 
 -- a query over a graph, under some settings
 abbrev pub question : Graph → Query → Bound → Settings → Question
@@ -27,3 +28,8 @@ abbrev pub RepliesToEach : Graph → Bound → Settings → Result (List (List V
 RepliesToEach g bound settings result =
     (query : Query) (text : List ℕ) → IsBound query text g.catalog bound
     → Replies (question g query bound settings) result
+
+-- the lines of an answer
+abbrev pub lines_in : Result Listing AnswerRefusal → Result (List (List Val)) AnswerRefusal
+lines_in (Ok listing) = Ok listing.lines
+lines_in (Err refused) = Err refused

@@ -1,7 +1,7 @@
 //! Answers a query alternative by alternative: the plan of each one runs, and what it makes goes
 //! into one table of rows.
 ghost use Rattle.std.specs.Prelude.{◌≡◌, ◌<◌, false, length, All, OnOk};
-ghost use Rattle.gq_execute.specs.Answering.{RepliesToEach};
+ghost use Rattle.gq_execute.specs.Answering.{RepliesToEach, lines_in};
 ghost use Rattle.gq_execute.specs.steps.Answering.{Drains, Fills, IsFresh};
 ghost use Rattle.gq_execute.specs.steps.Taking.{IsRunOf, TakesAll, owed_outcomes};
 ghost use Rattle.gq_plan.specs.Soundness.{IsSound};
@@ -114,7 +114,7 @@ pub fn answer<'g>(
 ) -> Result<Listing<'g>, AnswerRefusal>
     requires sound { All (IsSound graph.now.catalog) bound.now.alternatives }
     requires begins { All (λ y. 0 < length y.nodes) bound.now.alternatives }
-    ensures permitted { RepliesToEach graph.now bound.now settings.now result }
+    ensures permitted { RepliesToEach graph.now bound.now settings.now (lines_in result) }
 {
     let _ = graph.catalog();
     let mut table = RowTable::new(alloc, bound, settings.rows);

@@ -75,7 +75,7 @@ pub(crate) fn plan_for(
 }
 
 /// The plan of each alternative of a bound query, in this order and by the sizes of the graph's
-/// tables. After `Memory` there is none.
+/// tables; each covers its alternative. After `Memory` there is none.
 pub fn plans(
     alloc: Global,
     graph: &Graph,
@@ -84,8 +84,10 @@ pub fn plans(
 ) -> Result<List<Plan>, Memory>
     requires sound { All (IsSound graph.now.catalog) bound.now.alternatives }
     requires begins { All (λ y. 0 < length y.nodes) bound.now.alternatives }
-    ensures { IfOk result (λ plans.
+    ensures plans { IfOk result (λ plans.
         map plan_of plans ≡ plans_in order graph.now bound.now.alternatives) }
+    ensures covers { IfOk result (λ plans.
+        AllZip (Covers graph.now.catalog) bound.now.alternatives (map plan_of plans)) }
 {
     let stats = stats_of(alloc, graph)?;
     let mut plans = List::new(alloc);

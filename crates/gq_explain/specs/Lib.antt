@@ -1,3 +1,4 @@
+pub mod Costs
 pub mod Pieces
 pub mod Plans
 pub mod Schema

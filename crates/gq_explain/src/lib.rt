@@ -2,11 +2,13 @@
 //! plans of `gq_plan`, the graph of `gq_store` and the writers of `gq_render`.
 #![tactic(auto)]
 
+mod costs;
 mod naming;
 mod pieces;
 mod plans;
 mod schema;
 mod steps;
 
+pub use costs::write_costs;
 pub use plans::write_plan;
 pub use schema::write_schema;

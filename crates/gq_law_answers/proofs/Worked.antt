@@ -23,16 +23,17 @@ use Rattle.gq_law_answers.proofs.Matched.{AreAlternatives, plans_answer}
 use Rattle.gq_law_plans.proofs.Worked.{g, valid, below}
 
 abbrev node : String → NodePart
-node name = record { name = Some (codes name); label = None; map = []; at = 0 }
+node name = record { name = Some (codes name); labels = []; map = []; at = 0 }
 
 -- MATCH (a)-[:KNOWS]-(b) RETURN *
 abbrev query : Query
 query = record {
   clauses =
       record {
-        paths = record { first = node "a"; hops = record { rel = record { name = None; kinds = codes "KNOWS" ∷ []; map = []; arrow = arrow.Either; at = 0 }; node = node "b" } ∷ [] } ∷ [];
+        paths = record { first = node "a"; hops = record { rel = record { name = None; kinds = codes "KNOWS" ∷ []; map = []; arrow = arrow.Either; trail = None; at = 0 }; node = node "b" } ∷ [] } ∷ [];
         filter = None;
       } ∷ [];
+  optionals = [];
   star = true;
   items = [];
   distinct = false;

@@ -42,7 +42,7 @@ fields = record { name = codes "id"; kind = kind.Int } ∷ record { name = codes
 abbrev g : Graph
 g = record {
   catalog = record {
-    nodes = record { label = codes "Person"; file = []; fields = record { name = codes "id"; kind = kind.Int } ∷ record { name = codes "age"; kind = kind.Int } ∷ [] } ∷ [];
+    nodes = record { word = codes "Person"; labels = codes "Person" ∷ []; file = []; fields = record { name = codes "id"; kind = kind.Int } ∷ record { name = codes "age"; kind = kind.Int } ∷ [] } ∷ [];
     rels = record { name = codes "KNOWS"; from = 0; to = 0; mult = mult.ManyMany; file = []; fields = [] } ∷ [];
   };
   nodes =
@@ -66,11 +66,12 @@ query = record {
       record {
         paths =
             record {
-              first = record { name = Some (codes "a"); label = None; map = record { key = codes "age"; value = literal.Int (pos 30); value_span = record { start = 0; end = 2 } } ∷ []; at = 0 };
-              hops = record { rel = record { name = None; kinds = []; map = []; arrow = arrow.Right; at = 0 }; node = record { name = Some (codes "b"); label = None; map = []; at = 0 } } ∷ [];
+              first = record { name = Some (codes "a"); labels = []; map = record { key = codes "age"; value = literal.Int (pos 30); value_span = record { start = 0; end = 2 } } ∷ []; at = 0 };
+              hops = record { rel = record { name = None; kinds = []; map = []; arrow = arrow.Right; trail = None; at = 0 }; node = record { name = Some (codes "b"); labels = []; map = []; at = 0 } } ∷ [];
             } ∷ [];
         filter = None;
       } ∷ [];
+  optionals = [];
   star = false;
   items = [];
   distinct = false;

@@ -1,18 +1,17 @@
 -- What the parts of a load do to the files, one after the other.
-use Rattle.std.proofs.Common.{◌≡◌, ◌≢◌, ℕ, ◌≤◌, List, [], None, Err, true, false, subst, ◌∙◌, arith}
-use Rattle.std.specs.Prelude.{IfSome}
-use Rattle.std.specs.declared.option.Option.{Option}
+use Rattle.std.proofs.Common.{◌≡◌, ◌≢◌, ℕ, ◌≤◌, List, Err, true, subst, ◌∙◌, arith, inl, inr}
+use Rattle.std.specs.Prelude.{◌⊎◌}
 use Rattle.std.specs.declared.result.Result.{Result}
 use Rattle.std.specs.Io.KnownBytes.{Consumes}
 use Rattle.std.proofs.lemmas.Option.{IfSome_then}
 use Rattle.gq_io.specs.Causes.{Rose}
-use Rattle.gq_io.specs.Outside.{Names, Selects}
+use Rattle.gq_io.specs.Outside.{Selects}
 use Rattle.gq_io.specs.Reading.{FailsByFault, ReadsWithin}
 use Rattle.gq_io.specs.declared.reading.ReadFile.{ReadFile}
 use Rattle.gq_io.specs.declared.reading.ReadStop.{ReadStop}
 use Rattle.gq_io.specs.declared.reading.ReadStop.TheVariants as read_stop
 use Rattle.gq_io.proofs.Counts.{Rose-later}
-use Rattle.gq_loader.specs.Effects.{ReadsFew}
+use Rattle.gq_loader.specs.Effects.{MayMiss, ReadsFew}
 use Rattle.gq_loader.specs.steps.Effects.{Reads, Told}
 use Rattle.gq_loader.specs.declared.refusal.LoadRefusal.TheVariants as refusal
 use Rattle.gq_loader.specs.declared.refusal.LoadStop.{LoadStop}
@@ -32,27 +31,17 @@ choice_failed most old new r held faults rose misses other = record {
   few = λ none. absurd (none rose);
 }
 
-none_eaten : (held : Option Names) (name : List ℕ) (left : Option (List ℕ))
-    → IfSome held (λ files. files name ≡ None)
-    → IfSome held (λ files. Consumes (files name) left [])
-none_eaten held name left is = IfSome_then held is (λ files e. rw e tt)
-
 -- there is no file of this name
-pub not_there : {T : Type 0} (most : ℕ) (name : List ℕ) (old new : Told) (r : Result T LoadStop)
+pub not_there : {T : Type 0} (most : ℕ) (old new : Told) (r : Result T LoadStop)
     → new.held ≡ old.held
     → old.faults ≤ new.faults → old.misses ≤ new.misses → Rose old.misses new.misses
-    → Selects old.held name new.left false → ((n : List ℕ) → r ≢ Err (stop.ReadFault n))
+    → ((n : List ℕ) → r ≢ Err (stop.ReadFault n)) → MayMiss r
     → Reads most old new r
-not_there most name old new r held faults misses rose chosen other = record {
+not_there most old new r held faults misses rose other miss = record {
   held = held;
   faults = record { later = faults; failed = λ n e. absurd (other n e) };
   misses = record { later = misses; missed = λ n e. rose };
-  few = λ none. record {
-    name = name;
-    eaten = [];
-    few = omega arith;
-    took = none_eaten old.held name new.left chosen.0;
-  };
+  few = λ none. inr miss;
 }
 
 -- a file was chosen and read
@@ -72,13 +61,14 @@ file_read most name old mid new read r held faults misses chosen
         failed = λ n e. Rose-later _ _ _ faults (fails.failed (only n e));
       };
       misses = record { later = omega arith; missed = λ n e. absurd (other n e) };
-      few = λ none. record {
+      few = λ none. inl (record {
         name = name;
+        there = IfSome_then old.held chosen (λ files is. is.0);
         eaten = within.eaten;
         few = within.few;
         took = IfSome_then old.held chosen
             (λ files is. subst (λ l. Consumes l new.left within.eaten) is.1 within.took);
-      };
+      });
     }
 
 -- ---- one part after another
@@ -96,7 +86,7 @@ then_reads most a b c q r p s = record {
     later = omega (arith, p.misses.later, s.misses.later);
     missed = λ n e. Rose-later _ _ _ p.misses.later (s.misses.missed n e);
   };
-  few = λ none. subst (λ h. ReadsFew h c.left most) p.held
+  few = λ none. subst (λ h. ReadsFew h c.left most ⊎ MayMiss r) p.held
       (s.few (λ rose. none (Rose-later _ _ _ p.faults.later rose)));
 }
 
@@ -106,12 +96,15 @@ pub then_answers : {S T : Type 0} (most : ℕ) (a b : Told) (q : Result S LoadSt
     → ((n : List ℕ) → r ≡ Err (stop.ReadFault n) → q ≡ Err (stop.ReadFault n))
     → ((n : List ℕ) → r ≡ Err (stop.Refused (refusal.NoFile n))
     → q ≡ Err (stop.Refused (refusal.NoFile n)))
-    → Reads most a b r
-then_answers most a b q r p fault miss = record {
+    → (MayMiss q → MayMiss r) → Reads most a b r
+then_answers most a b q r p fault miss missing = record {
   held = p.held;
   faults = record { later = p.faults.later; failed = λ n e. p.faults.failed n (fault n e) };
   misses = record { later = p.misses.later; missed = λ n e. p.misses.missed n (miss n e) };
-  few = p.few;
+  few = λ none. elim (p.few none) [
+    | inl k ↦ inl k
+    | inr m ↦ inr (missing m)
+  ];
 }
 
 -- a part that reads less than it might
@@ -121,10 +114,14 @@ reads_less some most a b r less p = record {
   held = p.held;
   faults = p.faults;
   misses = p.misses;
-  few = λ none. let k = p.few none in record {
-    name = k.name;
-    eaten = k.eaten;
-    few = omega (arith, k.few);
-    took = k.took;
-  };
+  few = λ none. elim (p.few none) [
+    | inl k ↦ inl (record {
+      name = k.name;
+      there = k.there;
+      eaten = k.eaten;
+      few = omega (arith, k.few);
+      took = k.took;
+    })
+    | inr m ↦ inr m
+  ];
 }

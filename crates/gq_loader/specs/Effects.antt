@@ -1,5 +1,5 @@
 -- What a load does to the files that it reads (this project's profile).
-use Rattle.std.specs.Prelude.{◌≡◌, ℕ, ◌+◌, ◌≤◌, List, length, IfSome, Err}
+use Rattle.std.specs.Prelude.{◌≡◌, ℕ, ◌+◌, ◌≤◌, List, length, IfSome, IsSome, Err}
 use Rattle.std.specs.declared.option.Option.{Option}
 use Rattle.std.specs.declared.result.Result.{Result}
 use Rattle.std.specs.Io.KnownBytes.{Consumes}
@@ -19,10 +19,16 @@ pub record ByMiss {T : Type 0} (before now : ℕ) (result : Result T LoadStop) :
   pub later : before ≤ now
   pub missed : (name : List ℕ) → result ≡ Err (stop.Refused (refusal.NoFile name)) → Rose before now
 
--- of the file that was chosen last at most one byte more than so many was read; where it is not
--- there, there is nothing to read
+-- of a file that is there, which was chosen last, at most one byte more than so many was read
 pub record ReadsFew (held : Option Names) (left : Option (List ℕ)) (most : ℕ) : Type 0 where
   pub name : List ℕ
+  pub there : IfSome held (λ files. IsSome (files name))
   pub eaten : List ℕ
   pub few : length eaten ≤ most + 1
   pub took : IfSome held (λ files. Consumes (files name) left eaten)
+
+-- the answer is one that may come where the file that was chosen last is not there
+abbrev pub MayMiss : {T : Type 0} → Result T LoadStop → Type 0
+MayMiss (Err (stop.Refused (refusal.NoFile name))) = Unit {0}
+MayMiss (Err stop.Memory) = Unit {0}
+MayMiss result = ⊥

@@ -12,7 +12,8 @@ use Rattle.gq_plan.specs.Covers.{after, after_step, fits, fits_step, goes, is_jo
 use Rattle.gq_plan.specs.Known.{Known, none}
 use Rattle.gq_plan.specs.Meaning.{holds}
 use Rattle.gq_plan.specs.Plans.{Plan, Done, Then, Step, Scan, Extend, Close, Join, Keep, Differ, NoLoop, steps, step_of}
-use Rattle.gq_plan.specs.Shapes.{put_all}
+use Rattle.gq_plan.specs.Arranged.{at_step, at_after}
+use Rattle.gq_plan.specs.Shapes.{Places, put_all, place_step, places_after}
 use Rattle.gq_plan.specs.Soundness.{has_number, max_variables}
 use Rattle.gq_plan.specs.declared.plan.Step as code
 use Rattle.gq_plan.specs.declared.typed.Typed.{Typed}
@@ -176,3 +177,22 @@ joined_rels new old before side taken group at room s g o h =
     ∙ ap (λ (q : Plan). put_all (λ x. nat_lt x max_variables && binds_rel x q) at before) s
     ∙ ap₂ (λ (n : ℕ) (f : ℕ → ℕ). put_all (λ x. nat_lt x max_variables && binds_rel x side) n f) g o
     ∙ ap (λ own. put_all own group old) (brings_rels side room)
+
+-- ---- the places of a plan
+
+step_same : (s : Step) (q : Places) → at_step false s q ≡ place_step s q
+unfolding place_step
+step_same (Scan v) q = refl
+step_same (Extend true x from to way) q = refl
+step_same (Extend false x from to way) q = refl
+step_same (Close true x from to way) q = refl
+step_same (Close false x from to way) q = refl
+step_same (Join side keys) q = refl
+step_same (Keep i) q = refl
+step_same (Differ d) q = refl
+step_same (NoLoop x) q = refl
+
+pub after_same : (p : Plan) (q : Places) → at_after false p q ≡ places_after p q
+unfolding at_after places_after
+after_same Done q = refl
+after_same (Then s p) q = after_same p (at_step false s q) ∙ ap (places_after p) (step_same s q)

@@ -1,6 +1,7 @@
 //! In which group of a plan each variable stands.
 
 ghost use Rattle.std.specs.Prelude.{◌≡◌, ◌+◌, ◌^◌, ◌<◌, ◌≤◌, ◌&&◌, nat_lt, not};
+ghost use Rattle.gq_plan.specs.Arranged.{at_after, at_step, close_group};
 ghost use Rattle.gq_plan.specs.Columns.{FitsSound, binds};
 ghost use Rattle.gq_plan.specs.Plans.{plan_of, step_of};
 ghost use Rattle.gq_plan.specs.Shapes as shapes;
@@ -14,9 +15,9 @@ use crate::known::MAX_VARIABLES;
 use crate::plan::{Plan, Step};
 use crate::typed::Typed;
 
-// The group of each variable of one kind; 0 where it stands in none.
+/// The group of each variable of one kind; 0 where it stands in none.
 #[derive(Clone, Copy)]
-pub(crate) struct VariableGroups {
+pub struct VariableGroups {
     groups: [usize; MAX_VARIABLES],
 }
 
@@ -29,7 +30,8 @@ impl VariableGroups {
         }
     }
 
-    pub(crate) fn of(self, variable: u32) -> usize
+    /// The group of a variable.
+    pub fn of(self, variable: u32) -> usize
         ensures { result ≡ groups_of self variable }
     {
         match self.groups.get(variable as usize) {
@@ -73,15 +75,15 @@ impl VariableGroups {
 
 /// How many groups there are, and in which one each variable stands.
 #[derive(Clone, Copy)]
-pub(crate) struct Places {
+pub struct Places {
     pub count: usize,
     pub nodes: VariableGroups,
     pub rels: VariableGroups,
 }
 
 impl Places {
-    /// No groups.
-    pub(crate) fn nowhere() -> Places
+    // No groups.
+    fn nowhere() -> Places
         ensures { places_of result ≡ shapes.nowhere }
     {
         Places {
@@ -95,21 +97,38 @@ impl Places {
     fn begin(&mut self) -> usize
         requires { self.old.count + 1 < 2 ^ 64 }
         ensures number { result ≡ self.old.count }
-        ensures next { self.new ≡ record { count = self.old.count + 1; nodes = self.old.nodes; rels = self.old.rels } }
+        ensures next { self.new ≡ record {
+          count = self.old.count + 1;
+          nodes = self.old.nodes;
+          rels = self.old.rels;
+        } }
     {
         let group = self.count;
         self.count += 1;
         group
     }
 
-    /// Takes a step: a scan, a list extend, a list close and a join make a group, and a column step
-    /// adds what it binds to the group of its source.
+    // The group of the relationship of a column close.
+    fn close_group(self, late: bool, from: u32, to: u32) -> usize
+        ensures { result ≡ close_group late (places_of self) from to }
+    {
+        let source = self.nodes.of(from);
+        if late {
+            source.max(self.nodes.of(to))
+        } else {
+            source
+        }
+    }
+
+    // Takes a step: a scan, a list extend, a list close and a join make a group, and a column step
+    // adds what it binds to the group of its source.
     #[tactic(auto, using(crate::proofs::StepEquations::equations), unfolding(crate::specs::Shapes::place_step))]
-    fn place(&mut self, step: &Step)
+    fn place(&mut self, step: &Step, late: bool)
         requires room { self.old.count + 1 < 2 ^ 64 }
         requires named { IsNamed (step_of step.now) }
         ensures few { self.new.count ≤ self.old.count + 1 }
-        ensures placed { places_of self.new ≡ shapes.place_step (step_of step.now) (places_of self.old) }
+        ensures placed { places_of self.new
+            ≡ at_step late (step_of step.now) (places_of self.old) }
     {
         match step {
             Step::Scan { node } => {
@@ -130,8 +149,8 @@ impl Places {
                 let group = self.begin();
                 self.rels.put(*rel, group);
             }
-            Step::ColumnClose { rel, from, .. } => {
-                let group = self.nodes.of(*from);
+            Step::ColumnClose { rel, from, to, .. } => {
+                let group = self.close_group(late, *from, *to);
                 self.rels.put(*rel, group);
             }
             Step::Join { side, keys } => {
@@ -146,14 +165,17 @@ impl Places {
     }
 }
 
-/// The groups of a plan's variables.
-pub(crate) fn place_variables(plan: &Plan, typed: &Typed) -> Places
+/// In which group each variable of a plan stands that fits a sound alternative: in the one that
+/// its step makes, or in the group of a column step's source. Where `late` is true, the
+/// relationship of a column close stands in the later group of its ends instead, where the close is
+/// tested.
+pub fn place_variables(plan: &Plan, typed: &Typed, late: bool) -> Places
     requires { FitsSound typed.now (plan_of plan.now) }
-    ensures { places_of result ≡ shapes.places (plan_of plan.now) }
+    ensures { places_of result ≡ at_after late (plan_of plan.now) shapes.nowhere }
 {
     let mut places = Places::nowhere();
     for step in plan.steps.as_slice() {
-        places.place(step);
+        places.place(step, late);
     }
     places
 }

@@ -32,8 +32,8 @@ pub enum Form {
 #[derive(Clone, Copy, Debug, PartialEq, Eq)]
 pub struct GroupShape {
     pub form: Form,
-    /// Whether the group stands at one position at a time: a later step reads it to make a group, or
-    /// tests it together with a later group.
+    /// Whether the group stands at one position at a time: a later step reads it to make a group,
+    /// or tests it together with a later group.
     pub flat: bool,
 }
 
@@ -43,7 +43,8 @@ pub fn shape(alloc: Global, plan: &Plan, typed: &Typed) -> Result<List<GroupShap
     requires { FitsSound typed.now (plan_of plan.now) }
     ensures { IfOk result (λ all. all ≡ plan_groups.shape typed.now (plan_of plan.now)) }
 {
-    let flat = flat_groups(alloc, plan, typed)?;
+    let places = place_variables(plan, typed, false);
+    let flat = flat_groups(alloc, plan, typed, places)?;
     let flat = flat.as_slice();
     let mut shapes = List::new(alloc);
     for step in plan.steps.as_slice() {
@@ -67,8 +68,9 @@ fn push_shape(shapes: &mut List<GroupShape>, step: &Step, flat: &[usize]) -> Res
     }
 }
 
+/// The form of the group that a step makes, if it makes one.
 #[tactic(auto, using(crate::proofs::StepEquations::equations))]
-fn form_of(step: &Step) -> Option<Form>
+pub fn form_of(step: &Step) -> Option<Form>
     ensures { result ≡ plan_groups.form_of (step_of step.now) }
 {
     match step {
@@ -84,19 +86,24 @@ fn form_of(step: &Step) -> Option<Form>
     }
 }
 
-fn has_group(groups: &[usize], group: usize) -> bool
+/// Whether a group stands among others.
+pub fn has_group(groups: &[usize], group: usize) -> bool
     ensures { result ≡ soundness.has_number groups.now group }
 {
     groups.iter().any(|own| *own == group)
 }
 
-// The groups that are flat, some of them more than once.
-fn flat_groups(alloc: Global, plan: &Plan, typed: &Typed) -> Result<List<usize>, Memory>
-    requires { FitsSound typed.now (plan_of plan.now) }
+/// The groups that are flat because of a plan's steps, by the groups of its variables. A group may
+/// stand more than once. After `Memory` there is none.
+pub fn flat_groups(
+    alloc: Global,
+    plan: &Plan,
+    typed: &Typed,
+    places: Places,
+) -> Result<List<usize>, Memory>
     ensures { IfOk result (λ groups. groups
-        ≡ all_flat typed.now (plan_groups.places (plan_of plan.now)) (plan_of plan.now)) }
+        ≡ all_flat typed.now (places_of places) (plan_of plan.now)) }
 {
-    let places = place_variables(plan, typed);
     let mut groups = List::new(alloc);
     for step in plan.steps.as_slice() {
         let own = flat_by(alloc, step, typed, places)?;
@@ -124,15 +131,39 @@ fn flat_by(alloc: Global, step: &Step, typed: &Typed, places: Places) -> Result<
         Step::Extend { from, .. } => one(alloc, places.nodes.of(*from)),
         Step::Close { from, to, .. } => two(alloc, places.nodes.of(*from), places.nodes.of(*to)),
         Step::Join { keys, .. } => node_groups(alloc, keys.as_slice(), places),
-        Step::Keep { test } => earlier(alloc, test_groups(alloc, *test, typed, places)?),
-        Step::Differ { pair } => earlier(alloc, pair_groups(alloc, *pair, typed, places)?),
-        Step::NoLoop { rel } => earlier(alloc, loop_groups(alloc, *rel, typed, places)?),
-        Step::ColumnClose { from, to, .. } => {
-            let tested = two(alloc, places.nodes.of(*from), places.nodes.of(*to))?;
-            earlier(alloc, tested)
-        }
+        Step::Keep { .. } => earlier(alloc, tested(alloc, step, typed, places)?),
+        Step::Differ { .. } => earlier(alloc, tested(alloc, step, typed, places)?),
+        Step::NoLoop { .. } => earlier(alloc, tested(alloc, step, typed, places)?),
+        Step::ColumnClose { .. } => earlier(alloc, tested(alloc, step, typed, places)?),
         Step::Scan { .. } => Ok(List::new(alloc)),
         Step::ColumnExtend { .. } => Ok(List::new(alloc)),
+    }
+}
+
+/// The groups that a step tests together, by the groups of the variables: those of all that a test
+/// reads, and those of the ends of a column close. After `Memory` there is none.
+#[tactic(auto, using(crate::proofs::StepEquations::equations))]
+pub fn tested(
+    alloc: Global,
+    step: &Step,
+    typed: &Typed,
+    places: Places,
+) -> Result<List<usize>, Memory>
+    ensures { IfOk result (λ groups. groups
+        ≡ plan_groups.tested typed.now (places_of places) (step_of step.now)) }
+{
+    match step {
+        Step::Keep { test } => test_groups(alloc, *test, typed, places),
+        Step::Differ { pair } => pair_groups(alloc, *pair, typed, places),
+        Step::NoLoop { rel } => loop_groups(alloc, *rel, typed, places),
+        Step::ColumnClose { from, to, .. } => {
+            two(alloc, places.nodes.of(*from), places.nodes.of(*to))
+        }
+        Step::Scan { .. } => Ok(List::new(alloc)),
+        Step::Extend { .. } => Ok(List::new(alloc)),
+        Step::ColumnExtend { .. } => Ok(List::new(alloc)),
+        Step::Close { .. } => Ok(List::new(alloc)),
+        Step::Join { .. } => Ok(List::new(alloc)),
     }
 }
 
@@ -179,7 +210,8 @@ fn earlier(alloc: Global, tested: List<usize>) -> Result<List<usize>, Memory>
     Ok(groups)
 }
 
-fn last_of(groups: &[usize]) -> usize
+/// The latest of some groups; 0 where there is none.
+pub fn last_of(groups: &[usize]) -> usize
     ensures { result ≡ plan_groups.last_of groups.now }
 {
     let mut last = 0;

@@ -159,7 +159,7 @@ fn put_rows<O: Sink>(
     listing: &Listing<'_>,
 ) -> Result<(), Failed>
     ensures bytes { Puts (O.taken out.old) (O.taken out.new) batch.old batch.new
-        (flat_map (row_text graph.now) listing.now) result }
+        (flat_map (row_text graph.now) listing.now.lines) result }
     ensures cause { HasCause (O.faults out.old) (O.faults out.new) result }
 {
     for row in 0..listing.len() {
@@ -176,7 +176,7 @@ fn put_listing<O: Sink>(
     listing: &Listing<'_>,
 ) -> Result<(), Failed>
     ensures bytes { Puts (O.taken out.old) (O.taken out.new) batch.old batch.new
-        (listing_text (column_names bound.now) graph.now listing.now) result }
+        (listing_text (column_names bound.now) graph.now listing.now.lines) result }
     ensures cause { HasCause (O.faults out.old) (O.faults out.new) result }
 {
     put_header(batch, out, bound.columns.as_slice())?;
@@ -195,7 +195,7 @@ pub fn write_listing<O: Sink>(
     listing: &Listing<'_>,
 ) -> Result<(), Failed>
     ensures bytes { Writes (O.taken out.old) (O.taken out.new)
-        (listing_text (column_names bound.now) graph.now listing.now) result }
+        (listing_text (column_names bound.now) graph.now listing.now.lines) result }
     ensures cause { HasCause (O.faults out.old) (O.faults out.new) result }
 {
     let mut batch = Batch::new();
@@ -211,9 +211,9 @@ pub fn write_row<O: Sink>(
     listing: &Listing<'_>,
     row: usize,
 ) -> Result<(), Failed>
-    requires { row < length listing.now }
+    requires { row < length listing.now.lines }
     ensures bytes { Writes (O.taken out.old) (O.taken out.new)
-        (row_text graph.now (slice_index_or listing.now row [])) result }
+        (row_text graph.now (slice_index_or listing.now.lines row [])) result }
     ensures cause { HasCause (O.faults out.old) (O.faults out.new) result }
 {
     let mut batch = Batch::new();
@@ -229,7 +229,7 @@ fn put_end_rows<O: Sink>(
     listing: &Listing<'_>,
 ) -> Result<(), Failed>
     ensures bytes { Puts (O.taken out.old) (O.taken out.new) batch.old batch.new
-        (end_rows_text graph.now listing.now) result }
+        (end_rows_text graph.now listing.now.lines) result }
     ensures cause { HasCause (O.faults out.old) (O.faults out.new) result }
 {
     let count = listing.len();
@@ -247,7 +247,7 @@ fn put_ends<O: Sink>(
     listing: &Listing<'_>,
 ) -> Result<(), Failed>
     ensures bytes { Puts (O.taken out.old) (O.taken out.new) batch.old batch.new
-        (ends_text graph.now listing.now) result }
+        (ends_text graph.now listing.now.lines) result }
     ensures cause { HasCause (O.faults out.old) (O.faults out.new) result }
 {
     put_end_rows(batch, out, graph, listing)?;
@@ -259,7 +259,7 @@ fn put_ends<O: Sink>(
 /// writes `rows 0` alone. It takes no memory. After `Failed` the sink took some front of that text.
 pub fn write_ends<O: Sink>(out: &mut O, graph: &Graph, listing: &Listing<'_>) -> Result<(), Failed>
     ensures bytes { Writes (O.taken out.old) (O.taken out.new)
-        (ends_text graph.now listing.now) result }
+        (ends_text graph.now listing.now.lines) result }
     ensures cause { HasCause (O.faults out.old) (O.faults out.new) result }
 {
     let mut batch = Batch::new();

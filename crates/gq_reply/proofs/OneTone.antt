@@ -1,12 +1,20 @@
--- A statement's replies have one tone, but for want of memory and for a query that may have rows or a fault.
-use Rattle.std.proofs.Common.{◌≡◌, ℕ, List, [], ◌∷◌, Some, None, Ok, Err, suc, refl, sym, ap, ap₂, ◌∙◌, subst, inl, inr}
-use Rattle.std.specs.Prelude.{◌⊎◌, slice_get}
+-- A statement's replies have one tone, but for want of memory and for a query of which not all outcomes are looked at.
+use Rattle.std.proofs.Common.{◌≡◌, ℕ, ◌+◌, Bool, true, false, List, [], ◌∷◌, Some, None, Ok, Err, suc, refl, sym, ap, ap₂, ◌∙◌, subst, inl, inr}
+use Rattle.std.specs.Prelude.{◌⊎◌, ◌||◌, not, Option, IsSome, option_map, slice_get, if◌then◌else◌}
+use Rattle.gq_base.specs.Lists.{is_empty}
 use Rattle.gq_base.specs.Plain.{Graph}
+use Rattle.gq_base.specs.Values.{Val}
+use Rattle.gq_binder.proofs.OneBound.{same_bound, unordered}
+use Rattle.gq_binder.specs.Binding.{IsBound}
+use Rattle.gq_binder.specs.Columns.{Resolves}
+use Rattle.gq_execute.proofs.OneReply.{not_too_many, some_looked}
+use Rattle.gq_execute.specs.Replies.{Reply, Rows, Faulted, TooManyRows, IsPermitted}
 use Rattle.gq_execute.specs.declared.settings.Settings.{Settings}
 use Rattle.gq_plan.specs.declared.Bound.{Bound}
 use Rattle.gq_reply.specs.Bindings.{bind_refusal}
-use Rattle.gq_reply.specs.Replies.{Context, IsAnswered, IsAsked, IsNotBuilt, IsRefused, IsReply, IsStopped, IsUnbound, IsUnbuilt, IsWrong, refusal_text}
+use Rattle.gq_reply.specs.Replies.{Context, IsAnswered, IsAsked, IsNotBuilt, IsRefused, IsReply, IsStopped, IsUnbound, IsUnbuilt, IsWrong, RepliesWith, question, refusal_text}
 use Rattle.gq_reply.specs.declared.replier.Form.{Form}
+use Rattle.gq_rows.specs.Answers.{cut_of, most_listed}
 use Rattle.gq_session.specs.Replies.{Replies}
 use Rattle.gq_session.specs.Tones.{worse}
 use Rattle.gq_session.specs.declared.answering.Tone.{Tone}
@@ -18,74 +26,134 @@ use Rattle.gq_syntax.specs.declared.statement.Query.{Query}
 use Rattle.gq_syntax.specs.declared.statement.Statement.{Statement}
 use Rattle.gq_syntax.specs.declared.statement.Statement.TheVariants as tree
 
--- the statement asks a query that is answered
+-- ---- a query of which not all outcomes are looked at
+
+pub record IsCut (query : Query) : Type 0 where
+  pub limited : IsSome query.limit
+  pub all_lines : query.distinct ≡ false
+  pub unordered : query.order ≡ []
+
+limited_by : (skip : ℕ) (limit : Option ℕ) → IsSome (option_map (λ n. skip + n) limit) → IsSome limit
+limited_by skip None h = h
+limited_by skip (Some n) h = refl
+
+is_cut : (query : Query) (text : List ℕ) (bound : Bound) → Resolves query text bound → IsSome (cut_of bound) → IsCut query
+is_cut query text bound r h = by bound.distinct (is_empty bound.keys) refl refl h
+  where
+    by : (d e : Bool) → bound.distinct ≡ d → is_empty bound.keys ≡ e → IsSome (if d || not e then None else most_listed bound) → IsCut query
+    by true e same none k = cc k
+    by false false same none k = cc k
+    by false true same none k = record {
+      limited = subst IsSome r.limit (limited_by bound.skip bound.limit k);
+      all_lines = sym r.distinct ∙ same;
+      unordered = unordered query text bound r none;
+    }
+
+-- the statement asks such a query
 pub record AsksOne (graph : Graph) (statement : List ℕ) : Type 0 where
   pub query : Query
   pub bound : Bound
   pub asked : IsAsked graph statement query bound
+  pub cut : IsCut query
 
-module _ (graph : Graph) (here there : Settings) (one other : Form) where
+-- ---- one statement
+
+module _ (graph : Graph) (settings : Settings) (one other : Form) (statement : List ℕ) where
   abbrev first : Context
-  first = record { graph = graph; settings = here; form = one }
+  first = record { graph = graph; settings = settings; form = one }
 
   abbrev second : Context
-  second = record { graph = graph; settings = there; form = other }
+  second = record { graph = graph; settings = settings; form = other }
 
-  module _ (statement : List ℕ) where
-    -- two trees that one statement spells are one
-    same_tree : (s s' : Statement) → SpelledText statement s → SpelledText statement s' → s ≡ s'
-    same_tree s s' spelled spelled' = elim ((comes_statement statement (Ok s) spelled s').1 spelled') [
+  -- two trees that one statement spells are one
+  same_tree : (s s' : Statement) → SpelledText statement [] s → SpelledText statement [] s' → s ≡ s'
+  same_tree s s' spelled spelled' = elim ((comes_statement statement [] (Ok s) spelled s').1 spelled') [
+    | inl e ↦ cc e
+    | inr e ↦ cc e
+  ]
+
+  abbrev Unanswered : List ℕ → Type 0
+  Unanswered text = IsWrong statement text ⊎ IsUnbound graph statement text ⊎ IsNotBuilt graph statement text ⊎ IsStopped second statement text
+
+  -- a statement that is bound and built is refused for its outcomes alone
+  module _ (form : Statement) (spelled : SpelledText statement [] form) (bound : bind_refusal form statement graph.catalog ≡ None)
+      (built : ¬ (IsUnbuilt graph statement form)) where
+    is_stopped : (text : List ℕ) → Unanswered text → IsStopped second statement text
+    is_stopped text (inl wrong) = elim ((comes_statement statement [] (Err wrong.why) wrong.cause form).1 spelled) [
       | inl e ↦ cc e
-      | inr e ↦ cc e
+      | inr e ↦ (let memory : wrong.why ≡ refusal.Memory = cc e in let none : None ≡ Some text = ap refusal_text (sym memory) ∙ wrong.is in cc none)
     ]
+    is_stopped text (inr (inl unbound)) =
+        let same : unbound.tree ≡ form = same_tree unbound.tree form unbound.spelled spelled in
+        let clash : None ≡ Some unbound.why = sym bound ∙ ap (λ t. bind_refusal t statement graph.catalog) (sym same) ∙ unbound.refused in cc clash
+    is_stopped text (inr (inr (inl unbuilt))) =
+        absurd (built (subst (λ t. IsUnbuilt graph statement t) (same_tree unbuilt.tree form unbuilt.spelled spelled) unbuilt.other))
+    is_stopped text (inr (inr (inr stopped))) = stopped
 
-    abbrev Refused : List ℕ → Type 0
-    Refused text = IsWrong statement text ⊎ IsUnbound graph statement text ⊎ IsNotBuilt graph statement text ⊎ IsStopped second statement text
+    -- and where it asks no query it is not refused
+    module _ (no : (query : Query) → ¬ (tree.Query query ≡ form)) where
+      not_asked : (query : Query) → SpelledText statement [] (tree.Query query) → ⊥
+      not_asked query asked = no query (same_tree (tree.Query query) form asked spelled)
 
-    -- a statement that is bound, is built and asks no query is not refused
-    module _ (form : Statement) (spelled : SpelledText statement form) (bound : bind_refusal form statement graph.catalog ≡ None)
-        (built : ¬ (IsUnbuilt graph statement form)) (no : (query : Query) → ¬ (tree.Query query ≡ form)) where
-      no_query : (query : Query) → SpelledText statement (tree.Query query) → ⊥
-      no_query query asked = no query (same_tree (tree.Query query) form asked spelled)
+      no_stop : (text : List ℕ) → IsStopped second statement text → ⊥
+      no_stop text (inl (fault, replies)) = not_asked replies.query replies.asked.spelled
+      no_stop text (inr replies) = not_asked replies.query replies.asked.spelled
 
-      no_refusal : (text : List ℕ) → Refused text → ⊥
-      no_refusal text (inl wrong) = elim ((comes_statement statement (Err wrong.why) wrong.cause form).1 spelled) [
-        | inl e ↦ cc e
-        | inr e ↦ (let memory : wrong.why ≡ refusal.Memory = cc e in let none : None ≡ Some text = ap refusal_text (sym memory) ∙ wrong.is in cc none)
-      ]
-      no_refusal text (inr (inl unbound)) =
-          let same : unbound.tree ≡ form = same_tree unbound.tree form unbound.spelled spelled in
-          let clash : None ≡ Some unbound.why = sym bound ∙ ap (λ t. bind_refusal t statement graph.catalog) (sym same) ∙ unbound.refused in cc clash
-      no_refusal text (inr (inr (inl unbuilt))) =
-          built (subst (λ t. IsUnbuilt graph statement t) (same_tree unbuilt.tree form unbuilt.spelled spelled) unbuilt.other)
-      no_refusal text (inr (inr (inr (inl (fault, replies))))) = no_query replies.query replies.asked.spelled
-      no_refusal text (inr (inr (inr (inr replies)))) = no_query replies.query replies.asked.spelled
+      no_refusal : (text : List ℕ) → Unanswered text → ⊥
+      no_refusal text refused = no_stop text (is_stopped text refused)
 
-    -- a statement that was answered and is refused asks a query that is answered
-    both_replies : (text text' : List ℕ) → IsAnswered first statement text → IsRefused second statement text' → AsksOne graph statement
-    both_replies text text' (inl blank) refused = absurd (refused.written blank.0)
-    both_replies text text' (inr (inl (spelled, is))) refused =
-        absurd (no_refusal tree.Schema spelled refl (λ unbuilt. unbuilt) (λ query same. cc same) text' refused.why)
-    both_replies text text' (inr (inr (inl shows))) refused =
-        absurd (no_refusal (tree.Plan shows.query) shows.spelled shows.binds.accepted (λ unbuilt. unbuilt) (λ query same. cc same) text' refused.why)
-    both_replies text text' (inr (inr (inr (lines, replies)))) refused = record { query = replies.query; bound = replies.bound; asked = replies.asked }
+  -- two replies to the query of one statement are replies to one question
+  module _ (q : Query) (b : Bound) (asked : IsAsked graph statement q b) where
+    same_query : (q' : Query) → SpelledText statement [] (tree.Query q') → q' ≡ q
+    same_query q' spelled = let e = same_tree (tree.Query q') (tree.Query q) spelled asked.spelled in cc e
 
--- the tones of replies agree, or memory ended at one of them, or a statement asks a query that is answered
+    same_question : (q' : Query) (b' : Bound) (reply : Reply) → IsAsked graph statement q' b' → IsPermitted (question second q' b') reply
+        → IsPermitted (question first q b) reply
+    same_question q' b' reply asked' permitted =
+        let query : q' ≡ q = same_query q' asked'.spelled in
+        let binds : IsBound q statement graph.catalog b' = subst (λ k. IsBound k statement graph.catalog b') query asked'.binds in
+        let bound : b' ≡ b = same_bound q statement graph.catalog b' b binds asked.binds in
+        subst (λ k. IsPermitted (question first q k) reply) bound (subst (λ k. IsPermitted (question first k b') reply) query permitted)
+
+  -- rows were answered, and there is none
+  both_stopped : (lines : List (List Val)) (text text' : List ℕ) (rows : RepliesWith first statement (Rows lines) text) → IsStopped second statement text' → AsksOne graph statement
+  both_stopped lines text text' rows (inl (fault, faulted)) =
+      let cut = some_looked (question first rows.query rows.bound) lines rows.permitted fault
+      (same_question rows.query rows.bound rows.asked faulted.query faulted.bound (Faulted fault) faulted.asked faulted.permitted) in
+      record { query = rows.query; bound = rows.bound; asked = rows.asked; cut = is_cut rows.query statement rows.bound rows.asked.binds.resolves cut }
+  both_stopped lines text text' rows (inr many) =
+      absurd (not_too_many (question first rows.query rows.bound) lines rows.permitted
+      (same_question rows.query rows.bound rows.asked many.query many.bound TooManyRows many.asked many.permitted))
+
+  -- a statement that was answered and is refused asks a query of which not all outcomes are looked at
+  both_replies : (text text' : List ℕ) → IsAnswered first statement text → IsRefused second statement text' → AsksOne graph statement
+  both_replies text text' (inl blank) refused = absurd (refused.written blank.0)
+  both_replies text text' (inr (inl (spelled, is))) refused =
+      absurd (no_refusal tree.Schema spelled refl (λ unbuilt. unbuilt) (λ query same. cc same) text' refused.why)
+  both_replies text text' (inr (inr (inl shows))) refused =
+      absurd (no_refusal (tree.Plan shows.query) shows.spelled shows.binds.accepted (λ unbuilt. unbuilt) (λ query same. cc same) text' refused.why)
+  both_replies text text' (inr (inr (inr (lines, replies)))) refused =
+      both_stopped lines text text' replies
+      (is_stopped (tree.Query replies.query) replies.asked.spelled replies.asked.binds.accepted (λ unbuilt. unbuilt) text' refused.why)
+
+-- the tones of replies agree, or memory ended at one of them, or a statement asks such a query
 abbrev pub Agree : Type 0 → Tone → Tone → Type 0
 Agree Asks t u = (t ≡ u) ⊎ (t ≡ tone.Memory) ⊎ (u ≡ tone.Memory) ⊎ Asks
 
-one_tone : (graph : Graph) (here there : Settings) (one other : Form) (statement : List ℕ) (t u : Tone) (x y : List ℕ)
-    → IsReply (record { graph = graph; settings = here; form = one }) statement t x → IsReply (record { graph = graph; settings = there; form = other }) statement u y
+one_tone : (graph : Graph) (settings : Settings) (one other : Form) (statement : List ℕ) (t u : Tone) (x y : List ℕ)
+    → IsReply (record { graph = graph; settings = settings; form = one }) statement t x → IsReply (record { graph = graph; settings = settings; form = other }) statement u y
     → Agree (AsksOne graph statement) t u
-one_tone graph here there one other statement tone.Good tone.Good x y p q = inl refl
-one_tone graph here there one other statement tone.Good tone.Refused x y p q = inr (inr (inr (both_replies graph here there one other statement x y p q)))
-one_tone graph here there one other statement tone.Refused tone.Good x y p q = inr (inr (inr (both_replies graph there here other one statement y x q p)))
-one_tone graph here there one other statement tone.Refused tone.Refused x y p q = inl refl
-one_tone graph here there one other statement tone.Memory u x y p q = inr (inl refl)
-one_tone graph here there one other statement tone.Good tone.Memory x y p q = inr (inr (inl refl))
-one_tone graph here there one other statement tone.Refused tone.Memory x y p q = inr (inr (inl refl))
+one_tone graph settings one other statement tone.Good tone.Good x y p q = inl refl
+one_tone graph settings one other statement tone.Good tone.Refused x y p q = inr (inr (inr (both_replies graph settings one other statement x y p q)))
+one_tone graph settings one other statement tone.Refused tone.Good x y p q = inr (inr (inr (both_replies graph settings other one statement y x q p)))
+one_tone graph settings one other statement tone.Refused tone.Refused x y p q = inl refl
+one_tone graph settings one other statement tone.Memory u x y p q = inr (inl refl)
+one_tone graph settings one other statement tone.Good tone.Memory x y p q = inr (inr (inl refl))
+one_tone graph settings one other statement tone.Refused tone.Memory x y p q = inr (inr (inl refl))
 
--- some statement asks a query that is answered
+-- ---- statements
+
+-- some statement asks such a query
 pub record AsksSome (graph : Graph) (statements : List (List ℕ)) : Type 0 where
   pub place : ℕ
   pub statement : List ℕ
@@ -100,13 +168,13 @@ worse_memory tone.Good = refl
 worse_memory tone.Refused = refl
 worse_memory tone.Memory = refl
 
-module _ (graph : Graph) (here there : Settings) (one other : Form) where
+module _ (graph : Graph) (settings : Settings) (one other : Form) where
   pub tones_agree : (ss : List (List ℕ)) (t u : Tone) (x y : List ℕ)
-      → Replies (IsReply (record { graph = graph; settings = here; form = one })) ss t x
-      → Replies (IsReply (record { graph = graph; settings = there; form = other })) ss u y → Agree (AsksSome graph ss) t u
+      → Replies (IsReply (record { graph = graph; settings = settings; form = one })) ss t x
+      → Replies (IsReply (record { graph = graph; settings = settings; form = other })) ss u y → Agree (AsksSome graph ss) t u
   tones_agree [] t u x y p q = inl (p.0 ∙ sym q.0)
   tones_agree (s ∷ ss) t u x y (a, v, reply, more, is, rest, worst, whole) (b, w, reply', more', is', rest', worst', whole') =
-      elim (one_tone graph here there one other s a b reply reply' is is') [
+      elim (one_tone graph settings one other s a b reply reply' is is') [
         | inl same ↦ elim (tones_agree ss v w more more' rest rest') [
           | inl equal ↦ inl (worst ∙ ap₂ worse same equal ∙ sym worst')
           | inr (inl memory) ↦ inr (inl (worst ∙ ap (λ z. worse a z) memory ∙ worse_memory a))

@@ -3,6 +3,7 @@ use Rattle.std.proofs.Common.{◌≡◌, ℕ, List, [], ◌∷◌, length, map, 
 use Rattle.std.proofs.lemmas.List.{length-map}
 use Rattle.std.specs.Prelude.{◌<◌, All, ◌++◌, codes, decimal, Result}
 use Rattle.gq_base.specs.Catalogs.{Tables}
+use Rattle.gq_base.specs.declared.literal.Literal.{Literal}
 use Rattle.gq_binder.specs.Binding.{Answers, IsBound}
 use Rattle.gq_binder.specs.Refusals.{first_refusal}
 use Rattle.gq_binder.specs.declared.refusal.BindRefusal.{BindRefusal}
@@ -29,7 +30,7 @@ use Rattle.gq_session.specs.Sessions.{Span}
 use Rattle.gq_session.specs.declared.answering.Tone.{Tone}
 use Rattle.gq_session.specs.declared.answering.Tone.TheVariants as tone
 use Rattle.gq_syntax.specs.Grammar.{Clauses, SpelledStatement}
-use Rattle.gq_syntax.specs.Outcomes.{Cause, DepthAt, SpelledText, SyntaxAt, TooDeep}
+use Rattle.gq_syntax.specs.Outcomes.{Cause, DepthAt, SpelledText, SyntaxAt, TooDeep, UnknownIn}
 use Rattle.gq_syntax.specs.declared.refusal.SyntaxRefusal.{SyntaxRefusal}
 use Rattle.gq_syntax.specs.declared.refusal.SyntaxRefusal.TheVariants as refusal
 use Rattle.gq_syntax.specs.declared.statement.Clause.{Clause}
@@ -61,21 +62,27 @@ rest_empty : (xs ys : List Token) → xs ++ ys ≡ [] → ys ≡ []
 rest_empty [] ys e = e
 rest_empty (x ∷ xs) ys e = cc
 
-no_clauses : (depth : ℕ) (ts : List Token) (cs : List Clause) → ts ≡ [] → Clauses depth ts cs → ⊥
-no_clauses depth ts cs none (inl (t, s, r, e, takes, h)) = let clash : ◌≡◌ {A = List Token} [] (t ∷ r) = sym none ∙ e in cc
-no_clauses depth ts cs none (inr h) = absurd h
+no_clauses : (values : List ℕ → Literal) (depth : ℕ) (ts : List Token) (cs : List Clause) → ts ≡ [] → Clauses values depth ts cs → ⊥
+no_clauses values depth ts cs none (inl (t, s, r, e, takes, h)) = let clash : ◌≡◌ {A = List Token} [] (t ∷ r) = sym none ∙ e in cc
+no_clauses values depth ts cs none (inr h) = absurd h
 
 -- no statement is spelled by no tokens
-nothing_spells : (depth : ℕ) (s : Statement) → SpelledStatement depth [] s → ⊥
-nothing_spells depth s (inl (t, colon, r, e, takes, h)) = let clash : ◌≡◌ {A = List Token} [] (t ∷ r) = e in cc
-nothing_spells depth s (inr (a, b, query, e, (c, d, clauses, split, spelled, more), made)) =
-    no_clauses depth c clauses (front_empty c d (sym split ∙ front_empty a b (sym e))) spelled
+nothing_spells : (values : List ℕ → Literal) (depth : ℕ) (s : Statement) → SpelledStatement values depth [] s → ⊥
+nothing_spells values depth s (inl (t, colon, r, e, takes, h)) = let clash : ◌≡◌ {A = List Token} [] (t ∷ r) = e in cc
+nothing_spells values depth s (inr (a, b, query, e, (c, d, clauses, split, spelled, more), made)) =
+    no_clauses values depth c clauses (front_empty c d (sym split ∙ front_empty a b (sym e))) spelled
 
-not_blank : (statement : List ℕ) (s : Statement) → SpelledText statement s → ¬ (IsBlank statement)
-not_blank statement s (tokens, lexes, spelled) blank =
+spelled_not_blank : (statement : List ℕ) (values : List ℕ → Literal) (tokens : List Token) (s : Statement) → lexed statement ≡ Ok tokens → SpelledStatement values 64 tokens s → ¬ (IsBlank statement)
+spelled_not_blank statement values tokens s lexes spelled blank =
     let e : ◌≡◌ {A = Lexed} (Ok tokens) (Ok []) = sym lexes ∙ blank in
     let none : tokens ≡ [] = cc in
-    nothing_spells 64 s (subst (λ ts. SpelledStatement 64 ts s) none spelled)
+    nothing_spells values 64 s (subst (λ ts. SpelledStatement values 64 ts s) none spelled)
+
+not_blank : (statement : List ℕ) (s : Statement) → SpelledText statement [] s → ¬ (IsBlank statement)
+not_blank statement s text = spelled_not_blank statement _ text.tokens s text.lexes text.spelled
+
+unknown_not_blank : (statement name : List ℕ) → UnknownIn statement [] name → ¬ (IsBlank statement)
+unknown_not_blank statement name unknown = spelled_not_blank statement unknown.values unknown.tokens unknown.s unknown.lexes unknown.spelled
 
 lex_not_blank : (statement : List ℕ) (at : ℕ) → lexed statement ≡ Err at → ¬ (IsBlank statement)
 lex_not_blank statement at fails blank = let e : ◌≡◌ {A = Lexed} (Err at) (Ok []) = sym fails ∙ blank in cc
@@ -93,7 +100,7 @@ pub at_byte : (front : List ℕ) (at : ℕ) → refusal_line front [] (record { 
 at_byte front at = ap line (ap (λ f. f ++ (decimal at ++ [])) (append-nil front) ∙ ap (λ n. front ++ n) (append-nil (decimal at)))
 
 -- the line of a statement that the grammar refuses
-wrong : (c : Context) (statement text : List ℕ) (why : SyntaxRefusal) → ¬ (IsBlank statement) → Cause statement (Err why) → refusal_text why ≡ Some text → IsRefused c statement text
+wrong : (c : Context) (statement text : List ℕ) (why : SyntaxRefusal) → ¬ (IsBlank statement) → Cause statement [] (Err why) → refusal_text why ≡ Some text → IsRefused c statement text
 wrong c statement text why written cause is = record { written = written; why = inl (record { why = why; cause = cause; is = is }) }
 
 module _ (c : Context) (statement : List ℕ) where
@@ -106,8 +113,11 @@ module _ (c : Context) (statement : List ℕ) where
   pub wrong_depth : (at : ℕ) → DepthAt statement at → IsReply c statement tone.Refused (line (codes "error: Depth at byte " ++ decimal at))
   wrong_depth at cause = wrong c statement _ (refusal.Depth at) (depth_not_blank statement at cause) cause refl
 
+  pub wrong_unknown : (name : List ℕ) → UnknownIn statement [] name → IsReply c statement tone.Refused (refusal_line (codes "error: UnknownParameter ") name [])
+  wrong_unknown name cause = wrong c statement _ (refusal.UnknownParameter name) (unknown_not_blank statement name cause) cause refl
+
   -- what becomes of a statement that its tokens spell
-  module _ (form : Statement) (spelled : SpelledText statement form) where
+  module _ (form : Statement) (spelled : SpelledText statement [] form) where
     pub unbound_line : (why : BindRefusal) → bind_refusal form statement c.graph.catalog ≡ Some why → IsReply c statement tone.Refused (bind_line why)
     unbound_line why refused = record {
       written = not_blank statement form spelled;
@@ -124,6 +134,7 @@ module _ (c : Context) (statement : List ℕ) where
     pub unbound : (query : Query) → bind_refusal form statement c.graph.catalog ≡ first_refusal query statement c.graph.catalog → (e : BindRefusal) → Answers query statement c.graph.catalog (Err e)
         → IsReply c statement (bind_tone e) (bind_line e)
     unbound query of bind.Memory refused = refl
+    unbound query of bind.NotBuilt refused = unbound_line bind.NotBuilt (of ∙ refused)
     unbound query of (bind.UnknownVariable name) refused = unbound_line (bind.UnknownVariable name) (of ∙ refused)
     unbound query of (bind.VariableConflict name) refused = unbound_line (bind.VariableConflict name) (of ∙ refused)
     unbound query of (bind.RelationshipRepeated name) refused = unbound_line (bind.RelationshipRepeated name) (of ∙ refused)
@@ -141,7 +152,7 @@ module _ (c : Context) (statement : List ℕ) where
 -- ---- queries
 
 module _ (c : Context) (statement : List ℕ) (query : Query) (bound : Bound) where
-  stopped : SpelledText statement (tree.Query query) → (text : List ℕ) → IsStopped c statement text → IsRefused c statement text
+  stopped : SpelledText statement [] (tree.Query query) → (text : List ℕ) → IsStopped c statement text → IsRefused c statement text
   stopped spelled text h = record { written = not_blank statement (tree.Query query) spelled; why = inr (inr (inr h)) }
 
   module _ (asked : IsAsked c.graph statement query bound) where
@@ -156,7 +167,7 @@ module _ (c : Context) (statement : List ℕ) (query : Query) (bound : Bound) wh
     may_reply tone.Memory text is = is
 
   -- the plans of the query that a statement spells reply to it
-  pub may_show : SpelledText statement (tree.Plan query) → IsBound query statement c.graph.catalog bound → (t : Tone) (text : List ℕ) → MayShow c bound t text → IsReply c statement t text
+  pub may_show : SpelledText statement [] (tree.Plan query) → IsBound query statement c.graph.catalog bound → (t : Tone) (text : List ℕ) → MayShow c bound t text → IsReply c statement t text
   may_show spelled binds tone.Good text is = inr (inr (inl (record { query = query; bound = bound; spelled = spelled; binds = binds; is = is })))
   may_show spelled binds tone.Refused text is = absurd is
   may_show spelled binds tone.Memory text is = is

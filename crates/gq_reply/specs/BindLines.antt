@@ -9,6 +9,7 @@ at_item item = record { before = codes " "; number = item }
 
 -- the line that names a refusal, and the name or the item that it is about
 abbrev pub bind_line : BindRefusal → List ℕ
+bind_line refusal.NotBuilt = refusal_line (codes "error: NotBuilt") [] []
 bind_line (refusal.UnknownVariable name) = refusal_line (codes "error: UnknownVariable ") name []
 bind_line (refusal.VariableConflict name) = refusal_line (codes "error: VariableConflict ") name []
 bind_line (refusal.RelationshipRepeated name) = refusal_line (codes "error: RelationshipRepeated ") name []

@@ -13,6 +13,7 @@ query_of (statement.Query query) = Some query
 query_of (statement.Plan query) = Some query
 query_of (statement.Profile query) = Some query
 query_of statement.Schema = None
+query_of (statement.Param name value) = None
 
 abbrev refusal_of_query : Option Query → List ℕ → Tables → Option BindRefusal
 refusal_of_query (Some query) text catalog = first_refusal query text catalog

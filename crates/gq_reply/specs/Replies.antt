@@ -14,7 +14,7 @@ use Rattle.gq_explain.specs.Schema.{schema_text}
 use Rattle.gq_expr.specs.declared.Fault.{Fault}
 use Rattle.gq_lexer.specs.Tokens.{lexed}
 use Rattle.gq_plan.specs.declared.Bound.{Bound}
-use Rattle.gq_render.specs.Texts.{line}
+use Rattle.gq_render.specs.Texts.{line, refusal_line}
 use Rattle.gq_reply.specs.BindLines.{bind_line}
 use Rattle.gq_reply.specs.Bindings.{bind_refusal}
 use Rattle.gq_reply.specs.ReplyTexts.{IsPlanText, reply_text}
@@ -44,7 +44,7 @@ IsBlank statement = lexed statement ≡ Ok []
 
 -- a query that is answered: a statement's tokens spell it, and it is bound over the graph
 pub record IsAsked (graph : Graph) (statement : List ℕ) (query : Query) (bound : Bound) : Type 0 where
-  pub spelled : SpelledText statement (tree.Query query)
+  pub spelled : SpelledText statement [] (tree.Query query)
   pub binds : IsBound query statement graph.catalog bound
 
 -- what is asked then: the rows over the graph, in the order and with the most rows of the settings
@@ -64,7 +64,7 @@ pub record RepliesWith (c : Context) (statement : List ℕ) (reply : Reply) (tex
 pub record ShowsPlans (c : Context) (statement text : List ℕ) : Type 0 where
   pub query : Query
   pub bound : Bound
-  pub spelled : SpelledText statement (tree.Plan query)
+  pub spelled : SpelledText statement [] (tree.Plan query)
   pub binds : IsBound query statement c.graph.catalog bound
   pub is : IsPlanText c.settings.order c.graph bound text
 
@@ -73,43 +73,45 @@ pub record ShowsPlans (c : Context) (statement text : List ℕ) : Type 0 where
 abbrev pub IsAnswered : Context → List ℕ → List ℕ → Type 0
 IsAnswered c statement text =
     (IsBlank statement × (text ≡ []))
-    ⊎ (SpelledText statement tree.Schema × (text ≡ schema_text c.graph))
+    ⊎ (SpelledText statement [] tree.Schema × (text ≡ schema_text c.graph))
     ⊎ ShowsPlans c statement text
     ⊎ ((lines : List (List Val)) × RepliesWith c statement (Rows lines) text)
 
 -- the line of a statement that is no text, has no tokens, or is spelled by no statement within the allowed nesting, with the
--- place where it goes wrong
+-- place where it goes wrong; or of one with a name behind a `$` that is no parameter
 abbrev pub refusal_text : SyntaxRefusal → Option (List ℕ)
 refusal_text (refusal.Lex at) = Some (line (codes "error: Lex at byte " ++ decimal at))
 refusal_text (refusal.Syntax at) = Some (line (codes "error: Syntax at byte " ++ decimal at))
 refusal_text (refusal.Depth at) = Some (line (codes "error: Depth at byte " ++ decimal at))
+refusal_text (refusal.UnknownParameter name) = Some (refusal_line (codes "error: UnknownParameter ") name [])
 refusal_text refusal.Memory = None
 
--- the statement is wrong, by the grammar, and this line says where
+-- the statement is wrong, by the grammar, and this line says where, or it names no parameter, and this line says which
 pub record IsWrong (statement text : List ℕ) : Type 0 where
   pub why : SyntaxRefusal
-  pub cause : Cause statement (Err why)
+  pub cause : Cause statement [] (Err why)
   pub is : refusal_text why ≡ Some text
 
 -- the statement is right, but its query cannot be bound over the graph, and this line says why
 pub record IsUnbound (graph : Graph) (statement text : List ℕ) : Type 0 where
   pub tree : Statement
-  pub spelled : SpelledText statement tree
+  pub spelled : SpelledText statement [] tree
   pub why : BindRefusal
   pub refused : bind_refusal tree statement graph.catalog ≡ Some why
   pub is : text ≡ bind_line why
 
--- what is not built yet: the profile of a query, which `:profile` asks for
+-- what is not built yet: the profile of a query, which `:profile` asks for, and a parameter that `:param` sets
 abbrev pub IsUnbuilt : Graph → List ℕ → Statement → Type 0
 IsUnbuilt graph text (tree.Query query) = ⊥
 IsUnbuilt graph text tree.Schema = ⊥
 IsUnbuilt graph text (tree.Plan query) = ⊥
 IsUnbuilt graph text (tree.Profile query) = first_refusal query text graph.catalog ≡ None
+IsUnbuilt graph text (tree.Param name value) = Unit {0}
 
 -- the statement is right and its query, if it has one, is bound, but it is not built
 pub record IsNotBuilt (graph : Graph) (statement text : List ℕ) : Type 0 where
   pub tree : Statement
-  pub spelled : SpelledText statement tree
+  pub spelled : SpelledText statement [] tree
   pub other : IsUnbuilt graph statement tree
   pub is : text ≡ line (codes "error: NotBuilt")
 

@@ -1,5 +1,6 @@
 -- The text of a reply to a query, and of its plans (this project's profile).
 use Rattle.std.specs.Prelude.{◌≡◌, ℕ, List, [], ◌∷◌, map, codes}
+use Rattle.std.specs.List.{AllZip}
 use Rattle.gq_base.specs.Plain.{Graph}
 use Rattle.gq_base.specs.Values.{Val}
 use Rattle.gq_execute.specs.Replies.{Reply, Rows, Faulted, TooManyRows}
@@ -9,6 +10,7 @@ use Rattle.gq_plan.specs.Columns.{columns_of}
 use Rattle.gq_explain.specs.Plans.{plan_text}
 use Rattle.gq_expr.specs.declared.Fault.{Fault}
 use Rattle.gq_expr.specs.declared.Fault.TheVariants as fault
+use Rattle.gq_plan.specs.Covers.{Covers}
 use Rattle.gq_plan.specs.Plans.{plan_of}
 use Rattle.gq_plan.specs.declared.Bound.{Bound}
 use Rattle.gq_plan.specs.declared.Plan as code_plan
@@ -44,8 +46,9 @@ columns_each [] ps = []
 columns_each (y ∷ ys) [] = []
 columns_each (y ∷ ys) (p ∷ ps) = columns_of y (plan_of p) ∷ columns_each ys ps
 
--- the text of a query's plans in an order, by the sizes of the graph's tables
+-- the text of a query's plans in an order, by the sizes of the graph's tables; each covers its alternative
 pub record IsPlanText (order : Order) (graph : Graph) (bound : Bound) (text : List ℕ) : Type 0 where
   pub plans : List code_plan.Plan
   pub are : map plan_of plans ≡ plans_in order graph bound.alternatives
+  pub covers : AllZip (Covers graph.catalog) bound.alternatives (map plan_of plans)
   pub is : text ≡ plan_text bound graph.catalog plans (columns_each bound.alternatives plans)

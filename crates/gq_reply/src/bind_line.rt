@@ -19,6 +19,7 @@ pub fn write_bind_refusal<O: Sink>(out: &mut O, refusal: &BindRefusal) -> Result
     ensures cause { HasCause (O.faults out.old) (O.faults out.new) result }
 {
     match refusal {
+        BindRefusal::NotBuilt => alone(out, "error: NotBuilt"),
         BindRefusal::UnknownVariable { name } => named(out, "error: UnknownVariable ", name),
         BindRefusal::VariableConflict { name } => named(out, "error: VariableConflict ", name),
         BindRefusal::RelationshipRepeated { name } => {
@@ -48,7 +49,8 @@ pub fn tone_of(refusal: &BindRefusal) -> Tone
     }
 }
 
-fn named<O: Sink>(out: &mut O, front: &str, name: &Text) -> Result<(), Failed>
+/// Writes a refusal's line that ends in a name. After `Failed` the sink took some front of that line.
+pub(crate) fn named<O: Sink>(out: &mut O, front: &str, name: &Text) -> Result<(), Failed>
     ensures bytes { Writes (O.taken out.old) (O.taken out.new)
         (refusal_line front.now name.now []) result }
     ensures cause { HasCause (O.faults out.old) (O.faults out.new) result }

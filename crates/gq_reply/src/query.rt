@@ -51,7 +51,7 @@ impl Replier<'_> {
         listing: &Listing<'_>,
     ) -> Result<(), Failed>
         ensures bytes { Writes (O.taken out.old) (O.taken out.new)
-            (rows_text self.now.form self.now.graph.now bound.now listing.now) result }
+            (rows_text self.now.form self.now.graph.now bound.now listing.now.lines) result }
         ensures cause { HasCause (O.faults out.old) (O.faults out.new) result }
     {
         match self.form {

@@ -1,6 +1,6 @@
 //! The reply to a statement.
 
-ghost use Rattle.std.specs.Prelude.{◌≤◌, ◌++◌, length, decimal};
+ghost use Rattle.std.specs.Prelude.{◌≤◌, ◌++◌, [], length, decimal};
 ghost use Rattle.gq_io.specs.Causes.{HasCause};
 ghost use Rattle.gq_io.specs.Outside.{Writes};
 ghost use Rattle.gq_render.specs.Texts.{line};
@@ -11,7 +11,7 @@ ghost use Rattle.gq_session.specs.Sessions.{span_of};
 ghost use Rattle.gq_syntax.specs.Outcomes.{SpelledText, SyntaxAt};
 ghost use Rattle.gq_syntax.specs.declared.statement.Statement.TheVariants as tree;
 
-use crate::bind_line::{tone_of, write_bind_refusal};
+use crate::bind_line::{named, tone_of, write_bind_refusal};
 use crate::blank::is_blank;
 use crate::replier::Replier;
 use crate::tone::toned;
@@ -21,7 +21,7 @@ use gq_explain::write_schema;
 use gq_io::{Failed, Sink, write_all};
 use gq_render::{Place, write_refusal};
 use gq_session::Tone;
-use gq_syntax::{Query, Statement, SyntaxRefusal, parse};
+use gq_syntax::{Params, Query, Statement, SyntaxRefusal, parse};
 
 // Writes a line that ends in the number of a byte.
 fn write_at<O: Sink>(out: &mut O, front: &str, at: u32) -> Result<(), Failed>
@@ -44,7 +44,7 @@ impl Replier<'_> {
         statement: &[u8],
         query: &Query,
     ) -> Result<Tone, Failed>
-        requires { SpelledText statement.now (tree.Query query.now) }
+        requires { SpelledText statement.now [] (tree.Query query.now) }
         ensures { Replied (IsReply (context_of self.now) statement.now)
             (span_of O.taken O.faults out.old out.new) result }
     {
@@ -61,7 +61,7 @@ impl Replier<'_> {
         statement: &[u8],
         query: &Query,
     ) -> Result<Tone, Failed>
-        requires { SpelledText statement.now (tree.Plan query.now) }
+        requires { SpelledText statement.now [] (tree.Plan query.now) }
         ensures { Replied (IsReply (context_of self.now) statement.now)
             (span_of O.taken O.faults out.old out.new) result }
     {
@@ -79,7 +79,7 @@ impl Replier<'_> {
         statement: &[u8],
         query: &Query,
     ) -> Result<Tone, Failed>
-        requires { SpelledText statement.now (tree.Profile query.now) }
+        requires { SpelledText statement.now [] (tree.Profile query.now) }
         ensures { Replied (IsReply (context_of self.now) statement.now)
             (span_of O.taken O.faults out.old out.new) result }
     {
@@ -97,7 +97,7 @@ impl Replier<'_> {
         statement: &[u8],
         tree: &Statement,
     ) -> Result<Tone, Failed>
-        requires { SpelledText statement.now tree.now }
+        requires { SpelledText statement.now [] tree.now }
         ensures { Replied (IsReply (context_of self.now) statement.now)
             (span_of O.taken O.faults out.old out.new) result }
     {
@@ -106,6 +106,7 @@ impl Replier<'_> {
             Statement::Plan(query) => self.reply_to_planned(out, statement, query),
             Statement::Profile(query) => self.reply_to_unbuilt(out, statement, query),
             Statement::Schema => toned(write_schema(out, self.graph), Tone::Good),
+            Statement::Param(_, _) => toned(write_all(out, b"error: NotBuilt\n"), Tone::Refused),
         }
     }
 
@@ -134,7 +135,7 @@ impl Replier<'_> {
         ensures { Replied (IsReply (context_of self.now) statement.now)
             (span_of O.taken O.faults out.old out.new) result }
     {
-        match parse(self.alloc, statement) {
+        match parse(self.alloc, statement, &Params::new(self.alloc)) {
             Ok(tree) => self.reply_to_tree(out, statement, &tree),
             Err(SyntaxRefusal::Lex { at }) => {
                 toned(write_at(out, "error: Lex at byte ", at), Tone::Refused)
@@ -143,6 +144,9 @@ impl Replier<'_> {
                 toned(write_at(out, "error: Depth at byte ", at), Tone::Refused)
             }
             Err(SyntaxRefusal::Syntax { at }) => self.reply_to_syntax(out, statement, at),
+            Err(SyntaxRefusal::UnknownParameter { name }) => {
+                toned(named(out, "error: UnknownParameter ", &name), Tone::Refused)
+            }
             Err(SyntaxRefusal::Memory) => toned(write_all(out, b"error: Memory\n"), Tone::Memory),
         }
     }

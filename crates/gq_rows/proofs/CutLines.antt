@@ -1,5 +1,5 @@
 -- Lines that are cut from a list of values, and those that a listing has.
-use Rattle.std.proofs.Common.{◌≡◌, ℕ, ◌+◌, ◌-◌, ◌*◌, ◌<◌, ◌≤◌, zero, suc, min, List, [], ◌∷◌, length, map, take, drop, get_or, Option, Some, None, refl, sym, ap, ap₂, ◌∙◌, arith, length-append, length-take}
+use Rattle.std.proofs.Common.{◌≡◌, ℕ, ◌+◌, ◌-◌, ◌*◌, ◌<◌, ◌≤◌, zero, suc, min, List, [], ◌∷◌, length, map, take, drop, get_or, Option, Some, None, refl, sym, subst, ap, ap₂, ◌∙◌, arith, length-append, length-take}
 use Rattle.std.specs.Prelude.{flat_map, slice_get, option_map}
 use Rattle.std.specs.List.{All, take-map}
 use Rattle.std.proofs.Math.Nat.{mul-le-mul_right}
@@ -14,7 +14,7 @@ use Rattle.gq_rows.specs.Answers.{at_most, columns_of, first_of, most_listed, wi
 use Rattle.gq_rows.specs.steps.Keeping.{HoldsOf}
 use Rattle.gq_rows.specs.steps.Lines.{HasLines, cut_lines, lines_of}
 use Rattle.gq_rows.specs.declared.held.Rows.{Rows}
-use Rattle.gq_rows.specs.declared.listing.Listing.TheInside.{Inside}
+use Rattle.gq_rows.specs.declared.listing.Lines.TheInside.{Inside}
 use Rattle.gq_rows.proofs.Tops.{cut-window}
 
 -- ---- lines
@@ -102,10 +102,14 @@ module _ (l : Inside) (has : HasLines l) where
   pub line_at : (row : ℕ) → row < length (lines_of l) → slice_get (lines_of l) row ≡ Some (map val (take l.width (drop ((l.skip + row) * l.width) l.values.items)))
   line_at row lt = slice_get-get_or (lines_of l) row [] lt ∙ ap Some (line_get row [] lt)
 
-  pub lines_width : All (λ line. length line ≡ l.width) (lines_of l)
+  lines_width : All (λ line. length line ≡ l.width) (lines_of l)
   lines_width k d lt =
       let i = l.skip + k in
       let below : i < l.end = omega (arith, lt, lines_len l) in
       let vs = drop (i * l.width) l.values.items in
       ap length (line_get k d lt) ∙ length-map (take l.width vs) val
       ∙ omega (arith, length-take l.width vs, length-drop (i * l.width) l.values.items, line_within i below)
+
+-- each line has so many values as the lines are wide
+pub wide_lines : (w : ℕ) (l : Inside) → HasLines l → l.width ≡ w → All (λ line. length line ≡ w) (lines_of l)
+wide_lines w l has is = subst (λ n. All (λ line. length line ≡ n) (lines_of l)) is (lines_width l has)

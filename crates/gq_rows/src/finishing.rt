@@ -1,5 +1,5 @@
 //! The lines that a table of rows answers.
-ghost use Rattle.std.specs.Prelude.{◌≡◌, List, IfOk};
+ghost use Rattle.std.specs.Prelude.{◌≡◌, All, IfOk, List, length};
 ghost use Rattle.gq_plan.specs.Outcomes.{Row};
 ghost use Rattle.gq_rows.specs.Answers.{at_most, columns_of, most_listed, window};
 ghost use Rattle.gq_rows.specs.steps.Keeping.{HoldsOf, held_of};
@@ -8,7 +8,7 @@ ghost use Rattle.gq_rows.specs.steps.Sorting.{ListsRows};
 ghost use Rattle.gq_rows.specs.Tables.{AnswersListings, Holds, StandsForSome};
 
 use crate::held::Rows;
-use crate::listing::Listing;
+use crate::listing::{Lines, Listing};
 use crate::sorting::sorted;
 use crate::table::RowTable;
 use gq_base::Memory;
@@ -73,10 +73,11 @@ fn end_of(bound: &Bound, count: usize) -> usize
 }
 
 // The first rows dropped, and at most so many kept.
-fn window_of<'g>(bound: &Bound, rows: Rows<'g>) -> Listing<'g>
+fn window_of<'g>(bound: &Bound, rows: Rows<'g>) -> Lines<'g>
     requires { (list : List Row) × HoldsOf bound.now list rows }
-    ensures { (list : List Row) → HoldsOf bound.now list rows.entry
+    ensures window { (list : List Row) → HoldsOf bound.now list rows.entry
         → result ≡ columns_of (window bound.now list) }
+    ensures wide { All (λ line. length line ≡ length bound.now.columns) result }
 {
     let Rows {
         columns,
@@ -85,7 +86,7 @@ fn window_of<'g>(bound: &Bound, rows: Rows<'g>) -> Listing<'g>
         seen: _,
         bar: _,
     } = rows;
-    Listing {
+    Lines {
         values: columns,
         width: bound.columns.len(),
         skip: bound.skip as usize,
@@ -94,18 +95,22 @@ fn window_of<'g>(bound: &Bound, rows: Rows<'g>) -> Listing<'g>
 }
 
 // The window of an arrangement of rows.
-fn arranged_window<'g>(alloc: Global, bound: &Bound, rows: Rows<'g>) -> Result<Listing<'g>, Memory>
+fn arranged_window<'g>(alloc: Global, bound: &Bound, rows: Rows<'g>) -> Result<Lines<'g>, Memory>
     requires { (list : List Row) × HoldsOf bound.now list rows }
-    ensures { IfOk result (IsWindowOf bound.now rows.entry) }
+    ensures window { IfOk result (IsWindowOf bound.now rows.entry) }
+    ensures wide { IfOk result (λ lines.
+        All (λ line. length line ≡ length bound.now.columns) lines) }
 {
     let all = arranged(alloc, bound, rows)?;
     Ok(window_of(bound, all))
 }
 
 // The lines of the rows that are held.
-fn listing_of<'g>(alloc: Global, bound: &Bound, rows: Rows<'g>) -> Result<Listing<'g>, Memory>
+fn listing_of<'g>(alloc: Global, bound: &Bound, rows: Rows<'g>) -> Result<Lines<'g>, Memory>
     requires { (list : List Row) × Holds bound.now list (held_of rows) }
-    ensures { IfOk result (ListsRows bound.now rows.entry) }
+    ensures lists { IfOk result (ListsRows bound.now rows.entry) }
+    ensures wide { IfOk result (λ lines.
+        All (λ line. length line ≡ length bound.now.columns) lines) }
 {
     let all = chosen_rows(alloc, bound, rows)?;
     arranged_window(alloc, bound, all)
@@ -116,7 +121,10 @@ impl<'g> RowTable<'g> {
     /// refused an assignment stands for none.
     pub fn finish(self) -> Result<Listing<'g>, Memory>
         requires { StandsForSome self }
-        ensures { IfOk result (AnswersListings self.entry) }
+        ensures lines { IfOk result (λ l. AnswersListings self.entry l.lines) }
+        ensures columns { IfOk result (λ l. l.columns ≡ length self.entry.bound.columns) }
+        ensures wide { IfOk result (λ l. All (λ line. length line ≡ l.columns) l.lines) }
+        ensures pushed { IfOk result (λ l. l.pushed ≡ self.entry.pushed) }
     {
         let RowTable {
             alloc,
@@ -124,8 +132,19 @@ impl<'g> RowTable<'g> {
             typed: _,
             limit: _,
             form: _,
+            sure: _,
             rows,
+            pushed,
+            choice: _,
+            reading: _,
         } = self;
-        listing_of(alloc, bound, rows)
+        match listing_of(alloc, bound, rows) {
+            Ok(lines) => Ok(Listing {
+                lines,
+                columns: bound.columns.len(),
+                pushed,
+            }),
+            Err(memory) => Err(memory),
+        }
     }
 }

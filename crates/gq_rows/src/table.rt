@@ -1,17 +1,27 @@
 //! The table that takes the rows of a query.
-ghost use Rattle.std.specs.Prelude.{◌≡◌, [], None, Some, IsSome, false};
+ghost use Rattle.std.specs.Prelude.{◌≡◌, [], None, Some, IsSome, OnOk, false, true};
+ghost use Rattle.gq_group.specs.Choices.{Begins};
+ghost use Rattle.gq_group.specs.Chunks.{IsChunkOf};
+ghost use Rattle.gq_group.specs.Groups.{choices};
+ghost use Rattle.gq_rows.specs.Chunks.{IsChunkIn, PushesAll, PushesChunk, chunk_outcomes, counted};
 ghost use Rattle.gq_rows.specs.steps.Keeping.{HasForm};
-ghost use Rattle.gq_rows.specs.Tables.{IsSameQuery, PushesRow, StandsFor, StandsForSome};
-ghost use Rattle.gq_rows.specs.Tables.{is_full_table};
+ghost use Rattle.gq_rows.specs.steps.Resolving.{IsReading};
+ghost use Rattle.gq_rows.specs.Tables.{IsSameQuery, Pushes, PushesRow, StandsFor, StandsForSome};
+ghost use Rattle.gq_rows.specs.Tables.{is_full_table, outcome_read};
 
+use crate::bar::are_sure;
 use crate::held::{Form, Rows};
 use crate::judging::Question;
 use crate::refusal::{More, RowRefusal};
-use gq_plan::{Assignment, Bound, Typed};
+use crate::resolved::Reading;
+use gq_expr::Assigned;
+use gq_group::{Choice, Chunk, ChunkRow};
+use gq_plan::{Assignment, Bound, Typed, TypedRow};
 use gq_store::Graph;
 use indexmap::IndexSet;
 use std::alloc::Global;
 use std::marker::Model;
+use std::mem;
 
 /// The rows of a query as far as they may be answered. It takes the assignments of one alternative
 /// after another, and stands for the listing of their outcomes.
@@ -25,7 +35,14 @@ pub struct RowTable<'g> {
     pub(crate) typed: Option<&'g Typed>,
     pub(crate) limit: u32,
     pub(crate) form: Form,
+    // Each column and each key is sure to have a value.
+    pub(crate) sure: bool,
     pub(crate) rows: Rows<'g>,
+    // The chunks with a row that were pushed, the positions of the last one, and the columns and
+    // the keys as they were evaluated for it.
+    pub(crate) pushed: u64,
+    pub(crate) choice: Choice,
+    pub(crate) reading: Reading<'g>,
 }
 
 impl<'g> Model for RowTable<'g> {
@@ -72,6 +89,7 @@ impl<'g> RowTable<'g> {
         ensures bound { result.bound ≡ bound.now }
         ensures most { result.most ≡ limit }
         ensures alternative { result.alternative ≡ None }
+        ensures pushed { result.pushed ≡ 0 }
     {
         RowTable {
             alloc,
@@ -79,6 +97,7 @@ impl<'g> RowTable<'g> {
             typed: None,
             limit,
             form: form_of(bound),
+            sure: are_sure(bound),
             rows: Rows {
                 columns: Vec::new(alloc),
                 keys: Vec::new(alloc),
@@ -86,6 +105,9 @@ impl<'g> RowTable<'g> {
                 seen: IndexSet::new(alloc),
                 bar: None,
             },
+            pushed: 0,
+            choice: Choice::new(alloc),
+            reading: Reading::new(alloc),
         }
     }
 
@@ -111,11 +133,114 @@ impl<'g> RowTable<'g> {
         let Some(typed) = self.typed else {
             unreachable!()
         };
+        let mut reading = mem::replace(&mut self.reading, Reading::new(self.alloc));
+        let Ok(()) = reading.resolve(self.bound, None, graph) else {
+            return Err(RowRefusal::Memory);
+        };
+        let answer = self.push(&TypedRow { typed, row }, &reading, typed, graph);
+        self.reading = reading;
+        answer
+    }
+
+    /// Takes the assignments of a chunk of the alternative that was started, by ascending
+    /// positions, the first group's deciding first, until all were taken or the table has enough.
+    /// After a refusal the table may only be dropped.
+    ///
+    /// It refuses with the fault of an outcome that is looked at, or where the kept rows would be
+    /// more than the limit.
+    pub fn push_chunk(
+        &mut self,
+        chunk: &Chunk<'_, '_>,
+        graph: &'g Graph,
+    ) -> Result<More, RowRefusal>
+        requires started { IsSome self.old.alternative }
+        requires chunk { IsChunkIn graph.now self.old.alternative chunk.now }
+        requires stands { StandsForSome self.old }
+        requires room { is_full_table self.old ≡ false }
+        ensures pushes { PushesChunk graph.now chunk.now self.old self.new result }
+        ensures query { OnOk result (IsSameQuery self.old self.new) }
+        ensures counted { let all = choices chunk.now.groups.now in
+            OnOk result (self.new.pushed ≡ counted self.old.pushed all) }
+    {
+        let Some(typed) = self.typed else {
+            unreachable!()
+        };
+        let mut choice = mem::replace(&mut self.choice, Choice::new(self.alloc));
+        let Ok(found) = choice.first(chunk.groups) else {
+            return Err(RowRefusal::Memory);
+        };
+        if !found {
+            self.choice = choice;
+            return Ok(More::Go);
+        }
+        let mut reading = mem::replace(&mut self.reading, Reading::new(self.alloc));
+        let Ok(()) = reading.resolve(self.bound, Some(typed), graph) else {
+            return Err(RowRefusal::Memory);
+        };
+        let answer = self.push_choices(&mut choice, chunk, &reading, typed, graph);
+        self.choice = choice;
+        self.reading = reading;
+        self.pushed = self.pushed.saturating_add(1);
+        answer
+    }
+
+    // Takes the assignments of the choices from the one that stands on.
+    fn push_choices(
+        &mut self,
+        choice: &mut Choice,
+        chunk: &Chunk<'_, '_>,
+        reading: &Reading<'g>,
+        typed: &'g Typed,
+        graph: &'g Graph,
+    ) -> Result<More, RowRefusal>
+        requires chunk { IsChunkOf graph.now typed.now chunk.now }
+        requires reading { IsReading graph.now self.old.bound reading.now }
+        requires stands { StandsForSome self.old }
+        requires room { is_full_table self.old ≡ false }
+        requires begins { Begins chunk.now.groups.now true choice.old }
+        ensures pushes { let y = Some typed.now in
+            let os = chunk_outcomes graph.now self.old.bound y chunk.now in
+            PushesAll os self.old self.new result }
+        ensures query { OnOk result (IsSameQuery self.old self.new) }
+        ensures pushed { OnOk result (self.new.pushed ≡ self.old.pushed) }
+    {
+        let mut found = true;
+        'choices: while found {
+            let row = ChunkRow::new(graph, typed, chunk, choice.positions());
+            match self.push(&row, reading, typed, graph) {
+                Ok(More::Go) => {}
+                Ok(More::Enough) => return Ok(More::Enough),
+                Err(refusal) => return Err(refusal),
+            }
+            found = choice.next(chunk.groups);
+        }
+        Ok(More::Go)
+    }
+
+    // Takes what expressions read of an assignment of an alternative.
+    fn push<R: Assigned>(
+        &mut self,
+        row: &R,
+        reading: &Reading<'g>,
+        typed: &'g Typed,
+        graph: &'g Graph,
+    ) -> Result<More, RowRefusal>
+        requires reading { IsReading graph.now self.old.bound reading.now }
+        requires stands { StandsForSome self.old }
+        requires room { is_full_table self.old ≡ false }
+        ensures pushes { let here = R.assignment row.now in
+            Pushes (outcome_read graph.now self.old.bound typed.now here)
+            self.old self.new result }
+        ensures query { IsSameQuery self.old self.new }
+        ensures pushed { self.new.pushed ≡ self.old.pushed }
+    {
         let question = Question {
             graph,
             bound: self.bound,
             typed,
             limit: self.limit,
+            sure: self.sure,
+            reading,
         };
         match self.form {
             Form::All => self.rows.push_all(&question, row),

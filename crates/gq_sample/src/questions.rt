@@ -1,13 +1,13 @@
 //! The questions that are asked of the sample graph.
-ghost use Rattle.std.specs.Prelude.{◌≡◌, ◌≤◌};
-ghost use Rattle.gq_sample.specs.Questions.{question_text};
+ghost use Rattle.std.specs.Prelude.{◌≡◌, ◌-◌, ◌≤◌, Some, slice_get};
+ghost use Rattle.gq_sample.specs.Questions.{questions};
 
 /// The question of this number, from 1 to 6, as the text of a query without a `;`: a filter, a pattern of one
 /// relationship, one over two tables, a pattern of two relationships, two paths that meet, and distinct values.
 pub fn question(number: u32) -> &'static str
     requires least { 1 ≤ number }
     requires most { number ≤ 6 }
-    ensures { result.now ≡ question_text number }
+    ensures { slice_get questions (number - 1) ≡ Some result.now }
 {
     match number {
         1 => "MATCH (p:Person) WHERE p.age > 10 RETURN p.id ORDER BY p.id",

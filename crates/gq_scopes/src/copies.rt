@@ -39,13 +39,6 @@ pub fn copy_literals(alloc: Global, literals: &[Literal]) -> Result<List<Literal
     Ok(copies)
 }
 
-/// A copy of an expression, for one that is copied once.
-pub fn copy(alloc: Global, expr: &Expr) -> Result<Expr, Memory>
-    ensures { IfOk result (λ e. e ≡ expr.now) }
-{
-    copy_part(alloc, &mut Copying::new(), expr)
-}
-
 /// A copy of an expression, out of what may still be copied.
 #[cycle(copy_part)]
 pub fn copy_part(alloc: Global, copying: &mut Copying, expr: &Expr) -> Result<Expr, Memory>

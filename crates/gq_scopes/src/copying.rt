@@ -1,12 +1,12 @@
 //! How much one statement may copy.
 ghost use Rattle.std.specs.Prelude.{◌≡◌, ◌+◌, ◌<◌, ◌≤◌, OnOk};
 
-use gq_base::{Literal, Memory};
+use gq_base::{Literal, Memory, Text};
 use gq_expr::Expr;
 use std::marker::Model;
 
-/// The parts of expressions, and the bytes of texts in them, that one statement may copy. A statement has at most 65,536
-/// bytes, so it needs many more only where ORDER BY names a long column very often.
+/// The parts of expressions, and the bytes of texts in them, that the sort items of one statement may copy. A statement
+/// has at most 65,536 bytes, so it needs many more only where ORDER BY names a long column very often.
 const MOST_PARTS: usize = 1_048_576;
 
 /// How much may still be copied: parts of expressions and bytes of the texts in them. Where a copy needs more, it
@@ -25,7 +25,14 @@ impl Model for Copying {
 }
 
 impl Copying {
-    /// All that one statement may copy.
+    /// So many parts and bytes.
+    pub fn of(parts: usize) -> Copying
+        ensures { result ≡ parts }
+    {
+        Copying { left: parts }
+    }
+
+    /// All that the sort items of one statement may copy.
     pub fn new() -> Copying
         ensures { result ≡ 1048576 }
     {
@@ -43,6 +50,13 @@ impl Copying {
             Expr::RelProperty(_, name) => self.take(name.as_str().len()),
             _ => Ok(()),
         }
+    }
+
+    /// Takes the bytes of a name.
+    pub fn take_name(&mut self, name: &Text) -> Result<(), Memory>
+        ensures { OnOk result (self.new ≤ self.old) }
+    {
+        self.take(name.as_str().len())
     }
 
     /// Takes literals: one part for each, and the bytes of its text.

@@ -9,7 +9,7 @@ mod naming;
 mod patterns;
 mod scope;
 
-pub use copies::{copy, copy_literal, copy_literals, copy_text};
+pub use copies::{copy_literal, copy_literals, copy_part, copy_text};
 pub use copying::Copying;
 pub use counts::{next, number};
 pub use gq_plan::Variable;

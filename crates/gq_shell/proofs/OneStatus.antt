@@ -1,28 +1,34 @@
--- For given words, files and input one status alone may be answered, but where memory may end and for queries that may have
--- rows or a fault.
-use Rattle.std.proofs.Common.{◌≡◌, ℕ, List, Some, None, Ok, codes, refl, sym, ap, ◌∙◌, subst, inl, inr}
+-- For given words, files and input one status alone may be answered, but where memory may end and for queries of which not
+-- all outcomes are looked at.
+use Rattle.std.proofs.Common.{◌≡◌, ℕ, List, [], ◌∷◌, ◌++◌, Some, None, Ok, codes, refl, sym, ap, ap₂, ◌∙◌, subst, inl, inr}
 use Rattle.std.specs.Prelude.{◌⊎◌, Option, Result}
 use Rattle.std.specs.Io.KnownBytes.{Appends}
 use Rattle.clap.specs.Words.{Row, Text, first_of}
 use Rattle.gq_base.specs.Plain.{Graph}
+use Rattle.gq_execute.specs.declared.settings.Settings.{Settings}
 use Rattle.gq_io.specs.Causes.{Rose}
 use Rattle.gq_io.specs.Outside.{Names}
 use Rattle.gq_loader.specs.Limits.{standard}
 use Rattle.gq_loader.specs.Loads.{load_of}
 use Rattle.gq_loader.specs.declared.refusal.LoadRefusal.{LoadRefusal}
-use Rattle.gq_reply.proofs.OneTone.{tones_agree}
+use Rattle.gq_reply.proofs.OneTone.{Agree, AsksSome, tones_agree}
 use Rattle.gq_reply.specs.Replies.{Context, IsReply}
-use Rattle.gq_reply.specs.declared.replier.Form.TheVariants.{Full}
+use Rattle.gq_reply.specs.declared.replier.Form.TheVariants.{Full, Short}
+use Rattle.gq_sample.specs.Questions.{questions}
+use Rattle.gq_sample.specs.Sample.{sample_graph}
 use Rattle.gq_session.specs.Replies.{Replies}
 use Rattle.gq_session.specs.Whole as session
 use Rattle.gq_session.specs.declared.answering.Tone.{Tone}
 use Rattle.gq_session.specs.declared.answering.Tone.TheVariants as tone
-use Rattle.gq_shell.specs.Claim.{AreOpen, AsksQuery, IsNotLoaded, IsPath, IsToTheEnd, IsWhole, OnSample, Outside, Over, Permits, Refuses, Runs, Whole, full, long, most, settings_of}
+use Rattle.gq_shell.specs.Claim.{AreOpen, AsksOpenQuery, IsNotLoaded, IsPath, IsToTheEnd, IsWhole, OnSample, Outside, Over, Permits, Refuses, Runs, Whole, full, long, most, order_of, settings_of, short}
+use Rattle.gq_shell.specs.Questions.{IsNumbered}
 use Rattle.gq_shell.specs.steps.Statuses.{status_of}
 use Rattle.gq_shell.specs.declared.status.Status.{Status}
 use Rattle.gq_shell.specs.declared.status.Status.TheVariants as status
-use Rattle.gq_words.specs.Meaning.{IsSource, Means}
+use Rattle.gq_words.specs.Meaning.{IsOrder, IsRows, IsSource, Means}
 use Rattle.gq_words.specs.Reading.{IsMisused, IsRead}
+use Rattle.gq_words.specs.declared.meaning.Order as word
+use Rattle.gq_words.specs.declared.meaning.Order.TheVariants as order_word
 use Rattle.gq_words.specs.declared.meaning.Source.{Source}
 use Rattle.gq_words.specs.declared.meaning.Source.TheVariants as source
 use Rattle.gq_words.specs.declared.meaning.Words.{Words}
@@ -54,9 +60,61 @@ no_samples found r r' size p m m' from here =
     no_sample (first_of (codes "manifest") found) (first_of (codes "sample") found) r.source size p m.source
     (subst (λ s. IsSource (first_of (codes "manifest") found) (first_of (codes "sample") found) s) from m'.source) here
 
+-- one size of the sample, one order and one number of rows
+same_size : (m s : Option Text) (size other : ℕ) → IsSource m s (source.Sample size) → IsSource m s (source.Sample other) → size ≡ other
+same_size (Some path) None size other x y = absurd x
+same_size (Some path) (Some text) size other x y = absurd x
+same_size None None size other x y = absurd x
+same_size None (Some text) size other x y = x.value ∙ sym y.value
+
+same_sizes : (found : List Row) (r r' : Words) (size other : ℕ) → Means found r → Means found r' → r.source ≡ source.Sample size → r'.source ≡ source.Sample other → size ≡ other
+same_sizes found r r' size other m m' from from' =
+    same_size (first_of (codes "manifest") found) (first_of (codes "sample") found) size other
+    (subst (λ x. IsSource (first_of (codes "manifest") found) (first_of (codes "sample") found) x) from m.source)
+    (subst (λ x. IsSource (first_of (codes "manifest") found) (first_of (codes "sample") found) x) from' m'.source)
+
+same_order : (o : Option Text) (x y : word.Order) → IsOrder o x → IsOrder o y → x ≡ y
+same_order None x y is is' = is ∙ sym is'
+same_order (Some name) order_word.Given order_word.Given is is' = refl
+same_order (Some name) order_word.Given order_word.Greedy is is' = let no : codes "given" ≡ codes "greedy" = sym is ∙ is' in absurd (cc no)
+same_order (Some name) order_word.Greedy order_word.Given is is' = let no : codes "greedy" ≡ codes "given" = sym is ∙ is' in absurd (cc no)
+same_order (Some name) order_word.Greedy order_word.Greedy is is' = refl
+
+same_rows : (o : Option Text) (x y : ℕ) → IsRows o x → IsRows o y → x ≡ y
+same_rows None x y is is' = is ∙ sym is'
+same_rows (Some text) x y is is' = is.value ∙ sym is'.value
+
+same_settings : (found : List Row) (r r' : Words) → Means found r → Means found r' → settings_of r ≡ settings_of r'
+same_settings found r r' m m' =
+    ap₂ (λ o n. settings_with o n) (same_order (first_of (codes "order") found) r.order r'.order m.order m'.order) (same_rows (first_of (codes "rows") found) r.rows r'.rows m.rows m'.rows)
+  where
+    settings_with : word.Order → ℕ → Settings
+    settings_with o n = record { order = order_of o; rows = n }
+
 not_misused : (words : List (List ℕ)) (read : Words) → IsMisused words → IsRead words read → ⊥
 not_misused words read (inl some) is = some is.taken
 not_misused words read (inr none) is = none read is.means
+
+-- ---- the questions of the sample, without the lines of their numbers
+
+unnumbered : (c : Context) (ss : List (List ℕ)) (t : Tone) (text : List ℕ) → Replies (IsNumbered c) ss t text → (replies : List ℕ) × Replies (IsReply c) ss t replies
+unnumbered c [] t text is = ([], (is.0, refl))
+unnumbered c (s ∷ ss) t text (u, v, reply, more, is, rest, worst, whole) =
+    let (others, replied) = unnumbered c ss v more rest in
+    (is.reply ++ others, (u, v, is.reply, others, is.replies, replied, worst, refl))
+
+opened : (c : Context) (ss : List (List ℕ)) → AsksSome c.graph ss → AsksOpenQuery c ss
+opened c ss asks = record {
+  place = asks.place;
+  statement = asks.statement;
+  at = asks.at;
+  query = asks.asks.query;
+  bound = asks.asks.bound;
+  asked = asks.asks.asked;
+  limited = asks.asks.cut.limited;
+  all_lines = asks.asks.cut.all_lines;
+  unordered = asks.asks.cut.unordered;
+}
 
 -- ---- what each status says
 
@@ -84,24 +142,24 @@ module _ (words : List (List ℕ)) (files : Names) (input : List ℕ) where
     unloaded : (text : List ℕ) → s ≡ status.NotLoaded → IsNotLoaded words (Some files) text → Sort s
     too_long : s ≡ status.TooLong → OnInput (λ c text. session.IsTooLong long most text) → Sort s
     answered : (t : Tone) (text : List ℕ) → s ≡ status_of (Ok t) → OnInput (λ c text'. (¬ session.IsTooLong long most text') × Replies (IsReply c) (session.statements text') t text) → Sort s
-    sampled : (t : Tone) → s ≡ status_of (Ok t) → OnSample words (λ c. Unit {0}) → Sort s
+    sampled : (t : Tone) (text : List ℕ) → s ≡ status_of (Ok t) → OnSample words (λ c. Replies (IsNumbered c) questions t text) → Sort s
 
   narrow : (Says Less : Context → List ℕ → Type 0) → ((c : Context) (text : List ℕ) → Says c text → Less c text) → OnInput Says → OnInput Less
   narrow Says Less go over = record { read = over.read; given = over.given; path = over.path; from = over.from; told = (over.told.0, over.told.1, go _ _ over.told.2) }
 
-  on_sample : (Says : Context → Type 0) → OnSample words Says → OnSample words (λ c. Unit {0})
-  on_sample Says sample = record { read = sample.read; given = sample.given; size = sample.size; from = sample.from; says = tt }
+  replaced : (Says Less : Context → Type 0) → ((c : Context) → Says c → Less c) → OnSample words Says → OnSample words Less
+  replaced Says Less go sample = record { read = sample.read; given = sample.given; size = sample.size; from = sample.from; says = go _ sample.says }
 
   sort : (s : Status) (text : List ℕ) → Permits words (Some files) (Some input) s text → Sort s
   sort status.Usage text p = misused refl p.0
   sort status.NotLoaded text p = unloaded text refl p
   sort status.TooLong text p = too_long refl (narrow _ _ (λ c text' says. says.0) p)
   sort status.Ended text (inl over) = answered tone.Good text refl over
-  sort status.Ended text (inr sample) = sampled tone.Good refl (on_sample _ sample)
+  sort status.Ended text (inr sample) = sampled tone.Good text refl sample
   sort status.Refused text (inl over) = answered tone.Refused text refl over
-  sort status.Refused text (inr sample) = sampled tone.Refused refl (on_sample _ sample)
+  sort status.Refused text (inr sample) = sampled tone.Refused text refl sample
   sort status.Memory text (inl over) = answered tone.Memory text refl over
-  sort status.Memory text (inr sample) = sampled tone.Memory refl (on_sample _ sample)
+  sort status.Memory text (inr sample) = sampled tone.Memory text refl sample
   sort status.ReadFault text p = absurd p
   sort status.WriteFault text p = absurd p
 
@@ -112,6 +170,21 @@ module _ (words : List (List ℕ)) (files : Names) (input : List ℕ) where
 
   abbrev Only : Status → Status → Type 0
   Only s s' = (s ≡ s') ⊎ AreOpen words files input s s'
+
+  abbrev Why : Status → Status → Type 0
+  Why s s' = (s ≡ status.Memory) ⊎ (s' ≡ status.Memory) ⊎ OnSample words (λ c. AsksOpenQuery c questions)
+      ⊎ OnInput (λ c i. AsksOpenQuery c (session.statements i))
+
+  -- two ends, by how their tones agree
+  module _ (s s' : Status) (t t' : Tone) (is : s ≡ status_of (Ok t)) (is' : s' ≡ status_of (Ok t')) where
+    open_by : Why s s' → Only s s'
+    open_by why = inr (record { first = to_the_end s t is; second = to_the_end s' t' is'; why = why })
+
+    ends_by : (Asks : Type 0) → (Asks → Why s s') → Agree Asks t t' → Only s s'
+    ends_by Asks why (inl agree) = inl (is ∙ ap (λ u. status_of (Ok u)) agree ∙ sym is')
+    ends_by Asks why (inr (inl memory)) = open_by (inl (is ∙ ap (λ u. status_of (Ok u)) memory))
+    ends_by Asks why (inr (inr (inl memory))) = open_by (inr (inl (is' ∙ ap (λ u. status_of (Ok u)) memory)))
+    ends_by Asks why (inr (inr (inr asks))) = open_by (why asks)
 
   -- two ends of one session
   module _ (s s' : Status) (t t' : Tone) (text text' : List ℕ) (is : s ≡ status_of (Ok t)) (is' : s' ≡ status_of (Ok t'))
@@ -126,52 +199,72 @@ module _ (words : List (List ℕ)) (files : Names) (input : List ℕ) where
     same : other.told.0 ≡ graph
     same = let both : ◌≡◌ {A = Result Graph LoadRefusal} (Ok other.told.0) (Ok graph) = sym other.told.1 ∙ loads in cc both
 
+    settings : settings_of other.read ≡ settings_of one.read
+    settings = same_settings _ other.read one.read other.given.means one.given.means
+
+    replied : Replies (IsReply (full graph (settings_of one.read))) (session.statements input) t' text'
+    replied = subst (λ k. Replies (IsReply (full graph k)) (session.statements input) t' text') settings
+        (subst (λ g. Replies (IsReply (full g (settings_of other.read))) (session.statements input) t' text') same other.told.2.1)
+
     two_ends : Only s s'
     two_ends =
-        let there = subst (λ g. Replies (IsReply (full g (settings_of other.read))) (session.statements input) t' text') same other.told.2.1 in
-        elim (tones_agree graph (settings_of one.read) (settings_of other.read) Full Full (session.statements input) t t' text text' one.told.2.1 there) [
-          | inl agree ↦ inl (is ∙ ap (λ u. status_of (Ok u)) agree ∙ sym is')
-          | inr (inl memory) ↦ inr (record { first = to_the_end s t is; second = to_the_end s' t' is'; why = inl (is ∙ ap (λ u. status_of (Ok u)) memory) })
-          | inr (inr (inl memory)) ↦ inr (record { first = to_the_end s t is; second = to_the_end s' t' is'; why = inr (inl (is' ∙ ap (λ u. status_of (Ok u)) memory)) })
-          | inr (inr (inr asks)) ↦ inr (record {
-            first = to_the_end s t is;
-            second = to_the_end s' t' is';
-            why = inr (inr (inr (narrow _ AsksQuery (λ c i says. says) (record {
-              read = one.read;
-              given = one.given;
-              path = one.path;
-              from = one.from;
-              told = (graph, one.told.1, record { place = asks.place; statement = asks.statement; at = asks.at; query = asks.asks.query; bound = asks.asks.bound; asked = asks.asks.asked });
-            }))));
-          })
-        ]
+        ends_by s s' t t' is is' (AsksSome graph (session.statements input))
+        (λ asks. inr (inr (inr (record {
+          read = one.read;
+          given = one.given;
+          path = one.path;
+          from = one.from;
+          told = (graph, one.told.1, opened (full graph (settings_of one.read)) (session.statements input) asks);
+        }))))
+        (tones_agree graph (settings_of one.read) Full Full (session.statements input) t t' text text' one.told.2.1 replied)
+
+  -- two ends of the questions
+  module _ (s s' : Status) (t t' : Tone) (text text' : List ℕ) (is : s ≡ status_of (Ok t)) (is' : s' ≡ status_of (Ok t'))
+      (one : OnSample words (λ c. Replies (IsNumbered c) questions t text)) (other : OnSample words (λ c. Replies (IsNumbered c) questions t' text')) where
+    there : short other.size (settings_of other.read) ≡ short one.size (settings_of one.read)
+    there = ap₂ short (same_sizes _ other.read one.read other.size one.size other.given.means one.given.means other.from one.from)
+        (same_settings _ other.read one.read other.given.means one.given.means)
+
+    two_quizzes : Only s s'
+    two_quizzes =
+        let (first, replied) = unnumbered (short one.size (settings_of one.read)) questions t text one.says in
+        let (second, otherwise) = unnumbered (short one.size (settings_of one.read)) questions t' text' (subst (λ c. Replies (IsNumbered c) questions t' text') there other.says) in
+        ends_by s s' t t' is is' (AsksSome (sample_graph one.size) questions)
+        (λ asks. inr (inr (inl (record {
+          read = one.read;
+          given = one.given;
+          size = one.size;
+          from = one.from;
+          says = opened (short one.size (settings_of one.read)) questions asks;
+        }))))
+        (tones_agree (sample_graph one.size) (settings_of one.read) Short Short questions t t' first second replied otherwise)
 
   one_by : (s s' : Status) → Sort s → Sort s' → Only s s'
   one_by s s' (misused is m) (misused is' m') = inl (is ∙ sym is')
   one_by s s' (misused is m) (unloaded text is' n) = absurd (not_misused words n.read m n.given)
   one_by s s' (misused is m) (too_long is' o) = absurd (not_misused words o.read m o.given)
   one_by s s' (misused is m) (answered t text is' o) = absurd (not_misused words o.read m o.given)
-  one_by s s' (misused is m) (sampled t is' o) = absurd (not_misused words o.read m o.given)
+  one_by s s' (misused is m) (sampled t text' is' o) = absurd (not_misused words o.read m o.given)
   one_by s s' (unloaded text is n) (misused is' m) = absurd (not_misused words n.read m n.given)
   one_by s s' (unloaded text is n) (unloaded text' is' n') = inl (is ∙ sym is')
   one_by s s' (unloaded text is n) (too_long is' o) = absurd (no_load _ text n o)
   one_by s s' (unloaded text is n) (answered t text' is' o) = absurd (no_load _ text n o)
-  one_by s s' (unloaded text is n) (sampled t is' o) = absurd (not_unloaded text n _ o)
+  one_by s s' (unloaded text is n) (sampled t text' is' o) = absurd (not_unloaded text n _ o)
   one_by s s' (too_long is o) (misused is' m) = absurd (not_misused words o.read m o.given)
   one_by s s' (too_long is o) (unloaded text is' n) = absurd (no_load _ text n o)
   one_by s s' (too_long is o) (too_long is' o') = inl (is ∙ sym is')
   one_by s s' (too_long is o) (answered t text is' o') = absurd (o'.told.2.0 o.told.2)
-  one_by s s' (too_long is o) (sampled t is' o') = absurd (no_input _ o'.read o'.given o'.size o'.from o)
+  one_by s s' (too_long is o) (sampled t text' is' o') = absurd (no_input _ o'.read o'.given o'.size o'.from o)
   one_by s s' (answered t text is o) (misused is' m) = absurd (not_misused words o.read m o.given)
   one_by s s' (answered t text is o) (unloaded text' is' n) = absurd (no_load _ text' n o)
   one_by s s' (answered t text is o) (too_long is' o') = absurd (o.told.2.0 o'.told.2)
   one_by s s' (answered t text is o) (answered t' text' is' o') = two_ends s s' t t' text text' is is' o o'
-  one_by s s' (answered t text is o) (sampled t' is' o') = absurd (no_input _ o'.read o'.given o'.size o'.from o)
-  one_by s s' (sampled t is o) (misused is' m) = absurd (not_misused words o.read m o.given)
-  one_by s s' (sampled t is o) (unloaded text is' n) = absurd (not_unloaded text n _ o)
-  one_by s s' (sampled t is o) (too_long is' o') = absurd (no_input _ o.read o.given o.size o.from o')
-  one_by s s' (sampled t is o) (answered t' text is' o') = absurd (no_input _ o.read o.given o.size o.from o')
-  one_by s s' (sampled t is o) (sampled t' is' o') = inr (record { first = to_the_end s t is; second = to_the_end s' t' is'; why = inr (inr (inl o)) })
+  one_by s s' (answered t text is o) (sampled t' text' is' o') = absurd (no_input _ o'.read o'.given o'.size o'.from o)
+  one_by s s' (sampled t replies is o) (misused is' m) = absurd (not_misused words o.read m o.given)
+  one_by s s' (sampled t replies is o) (unloaded text is' n) = absurd (not_unloaded text n _ o)
+  one_by s s' (sampled t replies is o) (too_long is' o') = absurd (no_input _ o.read o.given o.size o.from o')
+  one_by s s' (sampled t replies is o) (answered t' text is' o') = absurd (no_input _ o.read o.given o.size o.from o')
+  one_by s s' (sampled t replies is o) (sampled t' text' is' o') = two_quizzes s s' t t' replies text' is is' o o'
 
   pub one_status : (s s' : Status) (t t' : List ℕ) → Permits words (Some files) (Some input) s t → Permits words (Some files) (Some input) s' t' → Only s s'
   one_status s s' t t' p q = one_by s s' (sort s t p) (sort s' t' q)
@@ -190,14 +283,14 @@ module _ (words : List (List ℕ)) (outside : Outside) (files : Names) (input : 
   }
 
 pub whole : (words : List (List ℕ)) (outside : Outside) (answer : Status) → Runs words outside answer → Whole words outside answer
-whole words outside status.Usage run files input held left no_files no_input no_out = inr (is_whole words outside files input held left status.Usage run.ends.text run.ends.permitted run.ends.moved)
-whole words outside status.NotLoaded run files input held left no_files no_input no_out = inr (is_whole words outside files input held left status.NotLoaded run.ends.text run.ends.permitted run.ends.moved)
+whole words outside status.Usage run files input held left no_files no_input no_out = inr (is_whole words outside files input held left status.Usage run.ends.0.text run.ends.0.permitted run.ends.0.moved)
+whole words outside status.NotLoaded run files input held left no_files no_input no_out = inr (is_whole words outside files input held left status.NotLoaded run.ends.0.text run.ends.0.permitted run.ends.0.moved)
 whole words outside status.TooLong run files input held left no_files no_input no_out = inr (is_whole words outside files input held left status.TooLong run.ends.text run.ends.permitted run.ends.moved)
-whole words outside status.Refused run files input held left no_files no_input no_out = inr (is_whole words outside files input held left status.Refused run.ends.text run.ends.permitted run.ends.moved)
-whole words outside status.Ended run files input held left no_files no_input no_out = inr (is_whole words outside files input held left status.Ended run.ends.text run.ends.permitted run.ends.moved)
+whole words outside status.Refused run files input held left no_files no_input no_out = inr (is_whole words outside files input held left status.Refused run.ends.0.text run.ends.0.permitted run.ends.0.moved)
+whole words outside status.Ended run files input held left no_files no_input no_out = inr (is_whole words outside files input held left status.Ended run.ends.0.text run.ends.0.permitted run.ends.0.moved)
 whole words outside status.Memory run files input held left no_files no_input no_out = elim run.ends [
-  | inl kept ↦ inl (refl, kept)
-  | inr wrote ↦ inr (is_whole words outside files input held left status.Memory wrote.text wrote.permitted wrote.moved)
+  | inl kept ↦ inl (refl, kept.0)
+  | inr (wrote, eaten) ↦ inr (is_whole words outside files input held left status.Memory wrote.text wrote.permitted wrote.moved)
 ]
 whole words outside status.ReadFault run files input held left no_files no_input no_out = elim run.ends [
   | inl load ↦ absurd (no_files load.1)

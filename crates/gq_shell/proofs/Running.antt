@@ -1,7 +1,7 @@
 -- From the parts of a run to the whole run.
 use Rattle.std.proofs.Common.{◌≡◌, ℕ, ◌≤◌, List, [], codes, Some, None, refl, sym, ◌∙◌, subst, arith, inl, inr}
 use Rattle.std.specs.Prelude.{Option, IfSome, Result, Ok, Err}
-use Rattle.std.specs.Io.KnownBytes.{Appends, Keeps}
+use Rattle.std.specs.Io.KnownBytes.{Appends, IsAtEnd, Keeps}
 use Rattle.std.specs.Borrow.{Bor}
 use Rattle.clap.specs.Words.{Row, Text, first_of}
 use Rattle.gq_base.specs.Plain.{Graph}
@@ -18,6 +18,7 @@ use Rattle.gq_loader.specs.declared.refusal.LoadRefusal.{LoadRefusal}
 use Rattle.gq_loader.specs.declared.refusal.LoadStop.{LoadStop}
 use Rattle.gq_loader.specs.declared.refusal.LoadStop.TheVariants as load
 use Rattle.gq_reply.specs.Replies.{Context, IsReply}
+use Rattle.gq_sample.specs.Questions.{questions}
 use Rattle.gq_session.specs.Replies as replies
 use Rattle.gq_session.specs.Sessions.{Session, Span}
 use Rattle.gq_session.specs.Whole as session
@@ -25,9 +26,9 @@ use Rattle.gq_session.specs.declared.answering.Tone.{Tone}
 use Rattle.gq_session.specs.declared.answering.Tone.TheVariants as tone
 use Rattle.gq_session.specs.declared.run.Stop.{Stop}
 use Rattle.gq_session.specs.declared.run.Stop.TheVariants as stop
-use Rattle.gq_shell.specs.Claim.{Ends, IsPath, Outside, Over, Permits, Refuses, Runs, WroteFront, full, long, most, settings_of, short, usage_text}
+use Rattle.gq_shell.specs.Claim.{EatsAll, Ends, IsPath, Outside, Over, Permits, Refuses, Runs, WroteFront, full, long, most, settings_of, short, usage_text}
 use Rattle.gq_shell.specs.LoadLines.{load_line}
-use Rattle.gq_shell.specs.Questions.{IsNumbered, questions}
+use Rattle.gq_shell.specs.Questions.{IsNumbered}
 use Rattle.gq_shell.specs.steps.Statuses.{status_of}
 use Rattle.gq_shell.specs.steps.Steps.{EndsLoad, Quizzed, Served, Told, told}
 use Rattle.gq_shell.specs.declared.status.Status.{Status}
@@ -89,12 +90,12 @@ served graph settings n input out result answer size is read whole = inr (record
 
 module _ (words : List (List ℕ)) (o : Outside) where
   -- a run that read no input
-  unread : (answer : Status) → o.unread ≡ o.left → Ends words o answer → Runs words o answer
+  unread : (answer : Status) → o.unread ≡ o.left → Ends words o [] answer → Runs words o answer
   unread answer same ends = record { eaten = []; ate = rw same (Consumes-none o.left); few = grind arith; ends = ends }
 
   -- there was not enough memory, and nothing was written
   pub exit_memory : (answer : Status) → answer ≡ status.Memory → o.unread ≡ o.left → Keeps o.taken o.took → Runs words o answer
-  exit_memory answer is same kept = rw is (unread status.Memory same (inl kept))
+  exit_memory answer is same kept = rw is (unread status.Memory same (inl (kept, refl)))
 
   broken_line : (answer s : Status) (text : List ℕ) → Permits words o.held o.left s text → answer ≡ status.WriteFault → AppendsFront o.taken o.took text → Rose o.out_faults.before o.out_faults.now
       → o.unread ≡ o.left → Runs words o answer
@@ -102,18 +103,21 @@ module _ (words : List (List ℕ)) (o : Outside) where
       rw is (unread status.WriteFault same (record { answer = s; text = text; permitted = permitted; moved = front }, rose))
 
   pub exit_misused : (answer : Status) → IsMisused words → o.unread ≡ o.left → Told usage_text status.Usage (out_of o) answer → Runs words o answer
-  exit_misused answer misused same (inl (is, moved)) = rw is (unread status.Usage same (record { text = usage_text; permitted = (misused, refl); moved = moved }))
+  exit_misused answer misused same (inl (is, moved)) = rw is (unread status.Usage same (record { text = usage_text; permitted = (misused, refl); moved = moved }, refl))
   exit_misused answer misused same (inr (is, front, rose)) = broken_line answer status.Usage usage_text (misused, refl) is front rose same
 
   module _ (read : Words) (given : IsRead words read) where
     module _ (path : List ℕ) (from : IsPath path read.source) where
       exit_line : (answer : Status) (e : LoadRefusal) → IfSome o.held (λ files. Refuses (load_of path files standard) (load_line e)) → o.unread ≡ o.left
           → Told (load_line e) status.NotLoaded (out_of o) answer → Runs words o answer
-      exit_line answer e refused same (inl (is, moved)) = rw is (unread status.NotLoaded same (record {
-        text = load_line e;
-        permitted = record { read = read; given = given; path = path; from = from; told = refused };
-        moved = moved;
-      }))
+      exit_line answer e refused same (inl (is, moved)) = rw is (unread status.NotLoaded same (
+        record {
+          text = load_line e;
+          permitted = record { read = read; given = given; path = path; from = from; told = refused };
+          moved = moved;
+        },
+        refl,
+      ))
       exit_line answer e refused same (inr (is, front, rose)) =
           broken_line answer status.NotLoaded (load_line e) (record { read = read; given = given; path = path; from = from; told = refused }) is front rose same
 
@@ -125,7 +129,7 @@ module _ (words : List (List ℕ)) (o : Outside) where
           let meant : IfSome o.held (λ files. load_of path files standard ≡ Err e) = rw is at loads in
           exit_line answer e (refuses o.held path e meant) same ends
       exit_refused answer graph (load.ReadFault name) is loads fault same (kept, ends) =
-          rw ends (unread status.ReadFault same (inl (kept, fault.failed name is)))
+          rw ends (unread status.ReadFault same (inl ((kept, refl), fault.failed name is)))
       exit_refused answer graph load.Memory is loads fault same (kept, ends) =
           exit_memory answer ends same kept
 
@@ -137,7 +141,7 @@ module _ (words : List (List ℕ)) (o : Outside) where
         over : (held : Option Names) (left : Option (List ℕ)) (Says : Context → List ℕ → Type 0) → IfSome held (λ files. load_of path files standard ≡ Ok graph)
             → ((text : List ℕ) → left ≡ Some text → Says here text) → Over words held left Says
         over None left Says is says = record { read = read; given = given; path = path; from = from; told = tt }
-        over (Some files) None Says is says = record { read = read; given = given; path = path; from = from; told = tt }
+        over (Some files) None Says is says = record { read = read; given = given; path = path; from = from; told = (graph, is, tt) }
         over (Some files) (Some input) Says is says = record { read = read; given = given; path = path; from = from; told = (graph, is, says input refl) }
 
         abbrev May : Result Tone Stop → List ℕ → List ℕ → Type 0
@@ -158,10 +162,14 @@ module _ (words : List (List ℕ)) (o : Outside) where
             let w = whole input is in
             (w.replies, of_told input is (May result w.replies) w.permitted, w.moved)
 
-        finished : (t : Tone) → Written (Ok t) → Ends words o (status_of (Ok t))
-        finished tone.Good (text, may, moved) = record { text = text; permitted = inl (over o.held o.left _ loads may); moved = moved }
-        finished tone.Refused (text, may, moved) = record { text = text; permitted = inl (over o.held o.left _ loads may); moved = moved }
-        finished tone.Memory (text, may, moved) = inr (record { text = text; permitted = inl (over o.held o.left _ loads may); moved = moved })
+        -- the input was read to its end
+        eaten_all : (eaten : List ℕ) → IsAtEnd o.unread → EatsAll words o eaten
+        eaten_all eaten end = inl (over o.held o.left (λ c input. Unit {0}) loads (λ input told. tt), end)
+
+        finished : (eaten : List ℕ) → IsAtEnd o.unread → (t : Tone) → Written (Ok t) → Ends words o eaten (status_of (Ok t))
+        finished eaten end tone.Good (text, may, moved) = (record { text = text; permitted = inl (over o.held o.left _ loads may); moved = moved }, eaten_all eaten end)
+        finished eaten end tone.Refused (text, may, moved) = (record { text = text; permitted = inl (over o.held o.left _ loads may); moved = moved }, eaten_all eaten end)
+        finished eaten end tone.Memory (text, may, moved) = inr (record { text = text; permitted = inl (over o.held o.left _ loads may); moved = moved }, eaten_all eaten end)
 
         -- a front of what a session over the input permits
         front_of : (input : List ℕ) → o.left ≡ Some input → (result : Result Tone Stop) (text : List ℕ) → May result text input → AppendsFront o.taken o.took text
@@ -195,15 +203,15 @@ module _ (words : List (List ℕ)) (o : Outside) where
           | inr end ↦ front_untold is end.1.text end.1.moved
         ]
 
-        not_read : Had (Err stop.Read) → HadWhole (Err stop.Read) → Ends words o status.ReadFault
-        not_read read whole = inr (over o.held o.left _ loads (λ input told. (whole input told).0), read.ends.2)
+        not_read : (eaten : List ℕ) → Had (Err stop.Read) → HadWhole (Err stop.Read) → Ends words o eaten status.ReadFault
+        not_read eaten read whole = inr (over o.held o.left _ loads (λ input told. (whole input told).0), read.ends.2)
 
-        ended : (result : Result Tone Stop) → Had result → HadWhole result → Ends words o (status_of result)
-        ended (Ok t) read whole = finished t (written (Ok t) o.left refl read.ends.2.text read.ends.2.moved whole)
+        ended : (result : Result Tone Stop) (read : Had result) → HadWhole result → Ends words o read.eaten (status_of result)
+        ended (Ok t) read whole = finished read.eaten read.ends.1 t (written (Ok t) o.left refl read.ends.2.text read.ends.2.moved whole)
         ended (Err stop.TooLong) read whole =
             let (text, may, moved) = written (Err stop.TooLong) o.left refl read.ends.2.text read.ends.2.moved whole in
             record { text = text; permitted = over o.held o.left _ loads may; moved = moved }
-        ended (Err stop.Read) read whole = not_read read whole
+        ended (Err stop.Read) read whole = not_read read.eaten read whole
         ended (Err stop.Write) read whole = (broke o.left refl read whole, read.ends.1)
 
         pub exit_served : (answer : Status) → Served graph (settings_of read) (input_of o) (out_of o) answer → Runs words o answer
@@ -216,10 +224,14 @@ module _ (words : List (List ℕ)) (o : Outside) where
         })
 
     module _ (size : ℕ) (from : read.source ≡ source.Sample size) where
-      shown : (t : Tone) → replies.Wrote (IsNumbered (short size (settings_of read))) questions t o.taken o.took → Ends words o (status_of (Ok t))
-      shown tone.Good w = record { text = w.text; permitted = inr (record { read = read; given = given; size = size; from = from; says = w.replies }); moved = w.moved }
-      shown tone.Refused w = record { text = w.text; permitted = inr (record { read = read; given = given; size = size; from = from; says = w.replies }); moved = w.moved }
-      shown tone.Memory w = inr (record { text = w.text; permitted = inr (record { read = read; given = given; size = size; from = from; says = w.replies }); moved = w.moved })
+      -- nothing of the input was eaten
+      eaten_none : EatsAll words o []
+      eaten_none = inr (record { read = read; given = given; size = size; from = from; says = tt }, refl)
+
+      shown : (t : Tone) → replies.Wrote (IsNumbered (short size (settings_of read))) questions t o.taken o.took → Ends words o [] (status_of (Ok t))
+      shown tone.Good w = (record { text = w.text; permitted = inr (record { read = read; given = given; size = size; from = from; says = w.replies }); moved = w.moved }, eaten_none)
+      shown tone.Refused w = (record { text = w.text; permitted = inr (record { read = read; given = given; size = size; from = from; says = w.replies }); moved = w.moved }, eaten_none)
+      shown tone.Memory w = inr (record { text = w.text; permitted = inr (record { read = read; given = given; size = size; from = from; says = w.replies }); moved = w.moved }, eaten_none)
 
       part_shown : (t : Tone) (text : List ℕ) → replies.Replies (IsNumbered (short size (settings_of read))) questions t text → AppendsFront o.taken o.took text
           → WroteFront words o.held o.left o.taken o.took

@@ -2,8 +2,8 @@
 -- It rests on `IsRead` and `IsMisused` (what the words say), `load_of` (which graph the files give) and `load_line` (how a
 -- refused load is spelled), `sample_graph` and `questions` (the sample), `statements` (how an input is cut), `IsTooLong`
 -- (which inputs are refused), and `IsReply` (which replies a statement may have, and what each is like).
-use Rattle.std.specs.Prelude.{◌≡◌, ◌⊎◌, ℕ, ◌+◌, ◌≤◌, List, length, codes, Option, Some, Result, Ok, Err, IfSome, slice_get}
-use Rattle.std.specs.Io.KnownBytes.{Appends, Consumes, Keeps}
+use Rattle.std.specs.Prelude.{◌≡◌, ◌⊎◌, ℕ, ◌+◌, ◌≤◌, false, List, [], length, codes, Option, Some, Result, Ok, Err, IfSome, IsSome, slice_get}
+use Rattle.std.specs.Io.KnownBytes.{Appends, Consumes, IsAtEnd, Keeps}
 use Rattle.gq_base.specs.Plain.{Graph}
 use Rattle.gq_execute.specs.declared.settings.Order.{Order}
 use Rattle.gq_execute.specs.declared.settings.Order.TheVariants as order
@@ -17,6 +17,7 @@ use Rattle.gq_plan.specs.declared.Bound.{Bound}
 use Rattle.gq_render.specs.Texts.{line}
 use Rattle.gq_reply.specs.Replies.{Context, IsAsked, IsReply}
 use Rattle.gq_reply.specs.declared.replier.Form.TheVariants.{Full, Short}
+use Rattle.gq_sample.specs.Questions.{questions}
 use Rattle.gq_sample.specs.Sample.{sample_graph}
 use Rattle.gq_session.specs.Replies.{Replies}
 use Rattle.gq_session.specs.Whole as session
@@ -24,7 +25,7 @@ use Rattle.gq_session.specs.declared.answering.Tone.{Tone}
 use Rattle.gq_session.specs.declared.answering.Tone.TheVariants as tone
 use Rattle.gq_session.specs.declared.run.Stop.TheVariants as stop
 use Rattle.gq_shell.specs.LoadLines.{load_line}
-use Rattle.gq_shell.specs.Questions.{IsNumbered, questions}
+use Rattle.gq_shell.specs.Questions.{IsNumbered}
 use Rattle.gq_shell.specs.declared.status.Status.{Status}
 use Rattle.gq_shell.specs.declared.status.Status.TheVariants as status
 use Rattle.gq_syntax.specs.declared.statement.Query.{Query}
@@ -48,7 +49,7 @@ most = 1073741824
 abbrev pub usage_text : List ℕ
 usage_text = line (codes "usage: graphq (--manifest PATH | --sample N) [--order given|greedy] [--rows N]")
 
-abbrev order_of : word.Order → Order
+abbrev pub order_of : word.Order → Order
 order_of order_word.Given = order.Given
 order_of order_word.Greedy = order.Greedy
 
@@ -81,14 +82,14 @@ pub record IsNotLoaded (words : List (List ℕ)) (held : Option Names) (text : L
   pub from : IsPath path read.source
   pub told : IfSome held (λ files. Refuses (load_of path files standard) text)
 
--- the words name a manifest, the files give a graph, and the input is read over it; each where it is told
+-- the words name a manifest, the files give a graph where they are told, and the input is read over it where it is told
 pub record Over (words : List (List ℕ)) (held : Option Names) (left : Option (List ℕ)) (Says : Context → List ℕ → Type 0) : Type 0 where
   pub read : Words
   pub given : IsRead words read
   pub path : List ℕ
   pub from : IsPath path read.source
-  pub told : IfSome held (λ files. IfSome left (λ input.
-      (graph : Graph) × (load_of path files standard ≡ Ok graph) × Says (full graph (settings_of read)) input))
+  pub told : IfSome held (λ files. (graph : Graph) × (load_of path files standard ≡ Ok graph)
+      × IfSome left (λ input. Says (full graph (settings_of read)) input))
 
 -- the words ask for the sample graph
 pub record OnSample (words : List (List ℕ)) (Says : Context → Type 0) : Type 0 where
@@ -160,26 +161,41 @@ outside_of held files_faults files files' left input_faults input input' taken o
   out_faults = record { before = out_faults out; now = out_faults out' };
 }
 
--- a read failed: in loading, and nothing was written; or in the session, and the statements that had ended were answered
-abbrev pub FailedToRead : List (List ℕ) → Outside → Type 0
-FailedToRead words o =
-    (Keeps o.taken o.took × Rose o.files_faults.before o.files_faults.now)
+-- nothing was written, and nothing of the input was eaten
+abbrev pub DidNothing : Outside → List ℕ → Type 0
+DidNothing o eaten = Keeps o.taken o.took × (eaten ≡ [])
+
+-- how much of the input was eaten where all was answered: all of it over the graph of a manifest, nothing over the sample
+abbrev pub EatsAll : List (List ℕ) → Outside → List ℕ → Type 0
+EatsAll words o eaten =
+    (Over words o.held o.left (λ c input. Unit {0}) × IsAtEnd o.unread)
+    ⊎ (OnSample words (λ c. Unit {0}) × (eaten ≡ []))
+
+-- a read failed: in loading, and nothing was done; or in the session, and the statements that had ended were answered
+abbrev pub FailedToRead : List (List ℕ) → Outside → List ℕ → Type 0
+FailedToRead words o eaten =
+    (DidNothing o eaten × Rose o.files_faults.before o.files_faults.now)
     ⊎ (Over words o.held o.left (λ c input. session.SoFar (IsReply c) long most input o.taken o.took)
     × Rose o.input_faults.before o.input_faults.now)
 
--- how a run ended: with a whole answer, with a fault by its cause, or for want of memory before the first statement
-abbrev pub Ends : List (List ℕ) → Outside → Status → Type 0
-Ends words o status.ReadFault = FailedToRead words o
-Ends words o status.WriteFault = WroteFront words o.held o.left o.taken o.took × Rose o.out_faults.before o.out_faults.now
-Ends words o status.Memory = Keeps o.taken o.took ⊎ Wrote words o.held o.left status.Memory o.taken o.took
-Ends words o answer = Wrote words o.held o.left answer o.taken o.took
+-- how a run ended that ate this much of the input: with a whole answer, with a fault by its cause, or for want of memory
+-- before the first statement
+abbrev pub Ends : List (List ℕ) → Outside → List ℕ → Status → Type 0
+Ends words o eaten status.ReadFault = FailedToRead words o eaten
+Ends words o eaten status.WriteFault = WroteFront words o.held o.left o.taken o.took × Rose o.out_faults.before o.out_faults.now
+Ends words o eaten status.Memory = DidNothing o eaten ⊎ (Wrote words o.held o.left status.Memory o.taken o.took × EatsAll words o eaten)
+Ends words o eaten status.Ended = Wrote words o.held o.left status.Ended o.taken o.took × EatsAll words o eaten
+Ends words o eaten status.Refused = Wrote words o.held o.left status.Refused o.taken o.took × EatsAll words o eaten
+Ends words o eaten status.Usage = Wrote words o.held o.left status.Usage o.taken o.took × (eaten ≡ [])
+Ends words o eaten status.NotLoaded = Wrote words o.held o.left status.NotLoaded o.taken o.took × (eaten ≡ [])
+Ends words o eaten status.TooLong = Wrote words o.held o.left status.TooLong o.taken o.took
 
 -- the run: how it ended, and how much of the input it ate
 pub record Runs (words : List (List ℕ)) (outside : Outside) (answer : Status) : Type 0 where
   pub eaten : List ℕ
   pub ate : Consumes outside.left outside.unread eaten
   pub few : length eaten ≤ most + 1
-  pub ends : Ends words outside answer
+  pub ends : Ends words outside eaten answer
 
 -- ---- the same in short, where all is told and nothing fails
 
@@ -190,22 +206,27 @@ IsToTheEnd status.Refused = Unit {0}
 IsToTheEnd status.Memory = Unit {0}
 IsToTheEnd s = ⊥
 
--- a statement of the input asks a query that is answered. Which of its outcomes are looked at is open where it has LIMIT
--- and neither DISTINCT nor ORDER BY, so both its rows and a fault may be permitted then
-pub record AsksQuery (c : Context) (input : List ℕ) : Type 0 where
+-- one of these statements asks a query that is answered and has LIMIT, but neither DISTINCT nor ORDER BY. Which of its
+-- outcomes are looked at is open, so both rows and a fault may be permitted
+pub record AsksOpenQuery (c : Context) (statements : List (List ℕ)) : Type 0 where
   pub place : ℕ
   pub statement : List ℕ
-  pub at : slice_get (session.statements input) place ≡ Some statement
+  pub at : slice_get statements place ≡ Some statement
   pub query : Query
   pub bound : Bound
   pub asked : IsAsked c.graph statement query bound
+  pub limited : IsSome query.limit
+  pub all_lines : query.distinct ≡ false
+  pub unordered : query.order ≡ []
 
--- two statuses may be permitted at once: all statements are answered, and memory may end at one of them, or one asks a query
+-- two statuses may be permitted at once: all statements or questions are answered, and memory may end at one of them, or
+-- one of them asks such a query
 pub record AreOpen (words : List (List ℕ)) (files : Names) (input : List ℕ) (one other : Status) : Type 0 where
   pub first : IsToTheEnd one
   pub second : IsToTheEnd other
-  pub why : (one ≡ status.Memory) ⊎ (other ≡ status.Memory) ⊎ OnSample words (λ c. Unit {0})
-      ⊎ Over words (Some files) (Some input) AsksQuery
+  pub why : (one ≡ status.Memory) ⊎ (other ≡ status.Memory)
+      ⊎ OnSample words (λ c. AsksOpenQuery c questions)
+      ⊎ Over words (Some files) (Some input) (λ c text. AsksOpenQuery c (session.statements text))
 
 -- a permitted text was written whole, and no other status is permitted
 pub record IsWhole (words : List (List ℕ)) (files : Names) (input : List ℕ) (answer : Status) (old new : Option (List ℕ)) : Type 0 where

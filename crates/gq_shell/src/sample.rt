@@ -5,10 +5,9 @@ ghost use Rattle.gq_io.specs.Causes.{HasCause};
 ghost use Rattle.gq_io.specs.Outside.{Writes};
 ghost use Rattle.gq_reply.specs.Replies.{context_of};
 ghost use Rattle.gq_reply.specs.steps.Steps.{Replied};
-ghost use Rattle.gq_sample.specs.Questions.{question_text};
 ghost use Rattle.gq_session.specs.Sessions.{span_of};
 ghost use Rattle.gq_shell.specs.Questions.{IsNumbered, label_text};
-ghost use Rattle.gq_shell.specs.steps.Steps.{Asked, Quizzed};
+ghost use Rattle.gq_shell.specs.steps.Steps.{Asked, Quizzed, question_of};
 
 use crate::session::status_of;
 use crate::status::Status;
@@ -33,7 +32,7 @@ fn write_label<O: Sink>(out: &mut O, number: u32) -> Result<(), Failed>
 fn ask<O: Sink>(replier: &Replier<'_>, number: u32, out: &mut O) -> Result<Tone, Failed>
     requires least { 1 ≤ number }
     requires most { number ≤ 6 }
-    ensures { Replied (IsNumbered (context_of replier.now) (question_text number))
+    ensures { Replied (IsNumbered (context_of replier.now) (question_of number))
         (span_of O.taken O.faults out.old out.new) result }
 {
     match write_label(out, number) {

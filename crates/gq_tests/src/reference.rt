@@ -5,7 +5,7 @@ use gq_base::{Mult, NodeId, RelId};
 use gq_plain::PlainGraph;
 use gq_reference::{Match, matches};
 use gq_scopes::Pattern;
-use gq_syntax::{Query, Statement, parse};
+use gq_syntax::{Params, Query, Statement, parse};
 use std::alloc::Global;
 use std::test::Fail;
 
@@ -53,7 +53,7 @@ fn queried(alloc: Global, text: &str) -> Result<Query, Fail> {
     if text.len() > 65536 {
         return Err(Fail::from("too long"));
     }
-    match parse(alloc, text) {
+    match parse(alloc, text, &Params::new(alloc)) {
         Ok(Statement::Query(query)) => Ok(query),
         _ => Err(Fail::from("no query")),
     }

@@ -125,6 +125,7 @@ module _ (n m : ℕ) where
     pieces (ast.Variable name) whole h = alike_single whole.expr _ h
     pieces (ast.Property name key) whole h = alike_single whole.expr _ h
     pieces (ast.Call name qs) whole h = alike_single whole.expr _ h
+    pieces (ast.Exists path) whole h = alike_single whole.expr _ h
     pieces (ast.Negate q) whole h = alike_single whole.expr _ h
     pieces (ast.Plus q) whole h = alike_single whole.expr _ h
     pieces (ast.Not q) whole h = alike_single whole.expr _ h

@@ -22,6 +22,7 @@ answered go (ast.Literal l) = ast.Literal l
 answered go (ast.Variable name) = ast.Variable name
 answered go (ast.Property name key) = ast.Property name key
 answered go (ast.Call name ts) = ast.Call name (map go ts)
+answered go (ast.Exists path) = ast.Exists path
 answered go (ast.Paren t) = ast.Paren (go t)
 answered go (ast.Negate t) = ast.Negate (go t)
 answered go (ast.Plus t) = ast.Plus (go t)

@@ -9,7 +9,7 @@ use Rattle.gq_trees.specs.MadeOf.{same_expr}
 use Rattle.gq_scopes.specs.Patterns.{Name}
 use Rattle.gq_trees.specs.Resolving.{functions, resolved}
 use Rattle.gq_scopes.specs.Scopes.{Scope, is_variable, variable}
-use Rattle.gq_trees.specs.Uses.{Use, bare, owner, call, refused_unless}
+use Rattle.gq_trees.specs.Uses.{Use, bare, owner, call, exists, refused_unless}
 
 abbrev pub same_known : Option Expr → Option Expr → Bool
 same_known None e = false
@@ -36,6 +36,7 @@ abbrev pub renamed_name : List Name → Use → Option Name
 renamed_name names (bare name) = refused_unless (not (is_among names name)) name
 renamed_name names (owner name) = refused_unless (not (is_among names name)) name
 renamed_name names (call name arguments) = None
+renamed_name names exists = None
 
 -- a name in ORDER BY, by itself or with a property, is a variable, and AS gives it to another column
 abbrev pub ambiguous_name : Scope → List Item → Use → Option Name

@@ -83,6 +83,7 @@ resolve_step calls s (ast.Literal l) = Some (expr.Literal l)
 resolve_step calls s (ast.Variable name) = bare s name
 resolve_step calls s (ast.Property name key) = property s name key
 resolve_step calls s (ast.Call name es) = option_and_then (calls name) (all_some es)
+resolve_step calls s (ast.Exists path) = None
 resolve_step calls s (ast.Paren e) = e
 resolve_step calls s (ast.Negate e) = option_map expr.Negate e
 resolve_step calls s (ast.Plus e) = option_map expr.Plus e
@@ -95,7 +96,8 @@ resolve_step calls s (ast.Test e ts) = over expr.Test e (map bound_tester ts)
 resolve_step calls s (ast.Sum e ts) = over expr.Arith e (map bound_term ts)
 resolve_step calls s (ast.Product e ts) = over expr.Arith e (map bound_term ts)
 
--- the expression that a tree stands for; none where it names what the scope does not have, or a call is none
+-- the expression that a tree stands for; none where it names what the scope does not have, a call is none, or it has an
+-- EXISTS, which stands for no expression
 unfoldable pub resolved : Calls → Scope → Ast → Option Expr
 resolved calls s = fold-Ast (Option Expr) (λ a. resolve_step calls s a.node)
 

@@ -1,6 +1,7 @@
--- The names and calls of an expression, in text order, and the first that a check refuses.
+-- The names, calls and EXISTS of an expression, in text order, and the first name that a check refuses.
 use Rattle.std.specs.Prelude.{ℕ, nat_eq, Bool, true, false, not, ◌||◌, Option, Some, None, List, [], ◌∷◌, ◌++◌, map, flat_map, length, codes, if◌then◌else◌}
 use Rattle.gq_syntax.specs.Operands.{in_tester}
+use Rattle.std.specs.List.{list_any}
 use Rattle.std.specs.Option.{option_or}
 use Rattle.gq_syntax.specs.declared.Ast.{Ast, fold-Ast}
 use Rattle.gq_syntax.specs.declared.AstNode.{AstNode}
@@ -10,11 +11,12 @@ use Rattle.gq_scopes.specs.Patterns.{Name}
 use Rattle.gq_trees.specs.Resolving.{is_function}
 use Rattle.gq_scopes.specs.Scopes.{Scope, is_known, is_variable}
 
--- a name by itself, a name with a property, or a call with a number of arguments
+-- a name by itself, a name with a property, a call with a number of arguments, or an EXISTS
 pub data Use : Type 0 where
   bare : Name → Use
   owner : Name → Use
   call : Name → ℕ → Use
+  exists : Use
 
 abbrev pub term_uses : {O : Type 0} → Term O (List Use) → List Use
 term_uses t = t.tree
@@ -28,6 +30,7 @@ uses_step (ast.Literal l) = []
 uses_step (ast.Variable name) = bare name ∷ []
 uses_step (ast.Property name key) = owner name ∷ []
 uses_step (ast.Call name uss) = call name (length uss) ∷ all_uses uss
+uses_step (ast.Exists path) = exists ∷ []
 uses_step (ast.Paren us) = us
 uses_step (ast.Negate us) = us
 uses_step (ast.Plus us) = us
@@ -40,9 +43,17 @@ uses_step (ast.Test us ts) = us ++ all_uses (map in_tester ts)
 uses_step (ast.Sum us ts) = us ++ all_uses (map term_uses ts)
 uses_step (ast.Product us ts) = us ++ all_uses (map term_uses ts)
 
--- the names and calls of a tree, in text order
+-- the names, calls and EXISTS of a tree, in text order
 unfoldable pub uses : Ast → List Use
 uses = fold-Ast (List Use) (λ a. uses_step a.node)
+
+abbrev pub is_exists : Use → Bool
+is_exists exists = true
+is_exists u = false
+
+-- a tree has an EXISTS
+abbrev pub has_exists : Ast → Bool
+has_exists tree = list_any is_exists (uses tree)
 
 -- the first name that a check refuses
 abbrev pub first_name : (Use → Option Name) → List Use → Option Name
@@ -58,6 +69,7 @@ abbrev pub unknown_name : Scope → Use → Option Name
 unknown_name s (bare name) = refused_unless (is_known s name) name
 unknown_name s (owner name) = refused_unless (is_variable s name) name
 unknown_name s (call name arguments) = None
+unknown_name s exists = None
 
 abbrev pub is_some_function : Name → Bool
 is_some_function name = is_function name (codes "type") || is_function name (codes "coalesce")

@@ -1,10 +1,12 @@
 //! What the trees of a query's expressions stand for: bound expressions, the conjuncts of a
-//! condition, the first name or call that a check refuses; and whether two expressions are the same.
+//! condition, the first name or call that a check refuses; whether one has an EXISTS; and whether two
+//! expressions are the same.
 //! The crate stands on the trees of `gq_syntax` and the names of `gq_scopes`.
 #![tactic(auto)]
 
 mod calls;
 mod conjuncts;
+mod exists;
 mod made;
 mod operands;
 mod renames;
@@ -15,6 +17,7 @@ mod uses;
 
 pub use calls::CallForm;
 pub use conjuncts::conjuncts_of;
+pub use exists::has_exists;
 pub use made::is_made_of;
 pub use renames::Renamed;
 pub use resolution::{resolve, resolve_part};

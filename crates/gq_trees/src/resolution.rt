@@ -12,7 +12,8 @@ use gq_scopes::{Copying, Scope, copy_literal, copy_literals};
 use gq_syntax::{ArithTerm, Ast, AstNode, AstTester, CompareTerm, Tester as Tested};
 use std::alloc::Global;
 
-/// The expression that a tree stands for, or `None` where it names what the scope does not have, or a call is none.
+/// The expression that a tree stands for, or `None` where it names what the scope does not have, a call is none, or it
+/// has an EXISTS.
 pub fn resolve(
     alloc: Global,
     calls: CallForm,
@@ -67,6 +68,7 @@ impl<'r, 's> Resolver<'r, 's> {
                 Some(all) => call(self.alloc, self.calls, name, all),
                 None => Ok(None),
             },
+            AstNode::Exists(_) => Ok(None),
             AstNode::Paren(inner) => self.part(copying, inner.get()),
             AstNode::Negate(inner) => Ok(self.boxed(copying, inner.get())?.map(Expr::Negate)),
             AstNode::Plus(inner) => Ok(self.boxed(copying, inner.get())?.map(Expr::Plus)),

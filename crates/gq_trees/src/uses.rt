@@ -35,7 +35,7 @@ pub fn first_refused<'t>(check: Check<'_>, scope: &Scope<'_>, tree: &'t Ast) -> 
         ≡ first_name (check_of check.entry scope.now) (uses.uses tree.now) }
 {
     match &tree.node {
-        AstNode::Literal(_) => None,
+        AstNode::Literal(_) | AstNode::Exists(_) => None,
         AstNode::Variable(name) => refused_name(check, scope, name, true),
         AstNode::Property(name, _) => refused_name(check, scope, name, false),
         AstNode::Call(name, all) => match refused_call(check, scope, name, all.len()) {

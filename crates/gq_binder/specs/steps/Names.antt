@@ -1,21 +1,22 @@
--- The first names and calls that the checks of names refuse among expressions.
-use Rattle.std.specs.Prelude.{Option, None, List, [], ◌∷◌}
+-- The first names and calls that the checks of names refuse among expressions, and whether one has an EXISTS.
+use Rattle.std.specs.Prelude.{Bool, false, ◌||◌, Option, None, List, [], ◌∷◌}
 use Rattle.std.specs.Option.{option_or}
 use Rattle.gq_binder.specs.Columns.{Scoped}
 use Rattle.gq_trees.specs.Checks.{check_of}
 use Rattle.gq_scopes.specs.Patterns.{Name}
-use Rattle.gq_trees.specs.Uses.{first_name, uses}
+use Rattle.gq_trees.specs.Uses.{first_name, has_exists, uses}
 use Rattle.gq_trees.specs.declared.Check.TheVariants as check
 
--- the first name that its scope does not have, the first call that names no function, and the first call with a wrong
--- number of arguments
+-- the first name that its scope does not have, the first call that names no function, the first call with a wrong number
+-- of arguments, and whether there is an EXISTS
 pub record FirstNames : Type 0 where
   pub variable : Option Name
   pub function : Option Name
   pub arguments : Option Name
+  pub exists : Bool
 
 abbrev pub no_names : FirstNames
-no_names = record { variable = None; function = None; arguments = None }
+no_names = record { variable = None; function = None; arguments = None; exists = false }
 
 -- with one more expression
 abbrev pub with_expression : FirstNames → Scoped → FirstNames
@@ -23,6 +24,7 @@ with_expression names e = record {
   variable = option_or names.variable (first_name (check_of check.UnknownName e.scope) (uses e.tree));
   function = option_or names.function (first_name (check_of check.UnknownFunction e.scope) (uses e.tree));
   arguments = option_or names.arguments (first_name (check_of check.WrongCount e.scope) (uses e.tree));
+  exists = names.exists || has_exists e.tree;
 }
 
 abbrev pub with_expressions : FirstNames → List Scoped → FirstNames

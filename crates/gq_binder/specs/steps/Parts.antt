@@ -10,7 +10,7 @@ use Rattle.gq_syntax.specs.declared.Query.{Query}
 use Rattle.gq_alternatives.specs.Alternatives.{Choice, typed_of}
 use Rattle.gq_binder.specs.Columns.{Scoped, conditions, columns, columns_in, column_expr, entry_test, sort_expr, sort_scope}
 use Rattle.gq_binder.specs.steps.Names.{no_names, with_expressions}
-use Rattle.gq_binder.specs.Refusals.{items_in, sorts_in, first_in, variable_conflict, relationship_repeated, column_repeated, nothing_to_return, out_of_scope_from, too_many_patterns, over_limit, max_columns}
+use Rattle.gq_binder.specs.Refusals.{items_in, sorts_in, first_in, not_built, variable_conflict, relationship_repeated, column_repeated, nothing_to_return, out_of_scope_from, too_many_patterns, over_limit, max_columns}
 use Rattle.gq_binder.specs.declared.parts.QueryParts.{QueryParts}
 use Rattle.gq_binder.specs.declared.refusal.BindRefusal.{BindRefusal}
 use Rattle.gq_binder.specs.declared.refusal.BindRefusal.TheVariants as refusal
@@ -60,7 +60,8 @@ reads_in es = flat_map (λ e. properties_of e.expr) es
 -- what each check but the last finds, in their order
 abbrev pub checks_in : List ℕ → Query → QueryParts → List (Option BindRefusal)
 checks_in text query parts =
-    option_map refusal.UnknownVariable parts.names.variable
+    not_built query parts.pattern parts.names.exists
+    ∷ option_map refusal.UnknownVariable parts.names.variable
     ∷ variable_conflict parts.pattern
     ∷ relationship_repeated parts.pattern
     ∷ column_repeated parts.columns

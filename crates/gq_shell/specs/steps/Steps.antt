@@ -1,5 +1,5 @@
 -- How a part of a run ends, for the contracts of its helpers.
-use Rattle.std.specs.Prelude.{◌≡◌, ◌⊎◌, ℕ, ◌≤◌, List, Result, Ok, Err}
+use Rattle.std.specs.Prelude.{◌≡◌, ◌⊎◌, ℕ, ◌-◌, ◌≤◌, List, [], get_or, Result, Ok, Err}
 use Rattle.std.specs.Io.KnownBytes.{Appends, Keeps}
 use Rattle.gq_base.specs.Plain.{Graph}
 use Rattle.gq_execute.specs.declared.settings.Settings.{Settings}
@@ -9,6 +9,7 @@ use Rattle.gq_io.specs.declared.Failed.{Failed}
 use Rattle.gq_loader.specs.declared.LoadStop.{LoadStop}
 use Rattle.gq_loader.specs.declared.LoadStop.TheVariants as load
 use Rattle.gq_reply.specs.Replies.{Context, IsReply}
+use Rattle.gq_sample.specs.Questions.{questions}
 use Rattle.gq_session.specs.Replies.{Wrote, WroteFront}
 use Rattle.gq_session.specs.Sessions.{Session, Span}
 use Rattle.gq_session.specs.Whole as session
@@ -16,7 +17,7 @@ use Rattle.gq_session.specs.declared.answering.Tone.{Tone}
 use Rattle.gq_session.specs.declared.run.Stop.{Stop}
 use Rattle.gq_shell.specs.Claim.{full, long, most, short}
 use Rattle.gq_shell.specs.LoadLines.{load_line}
-use Rattle.gq_shell.specs.Questions.{IsNumbered, questions}
+use Rattle.gq_shell.specs.Questions.{IsNumbered}
 use Rattle.gq_shell.specs.steps.Statuses.{status_of}
 use Rattle.gq_shell.specs.declared.status.Status.{Status}
 use Rattle.gq_shell.specs.declared.status.Status.TheVariants as status
@@ -51,6 +52,10 @@ abbrev pub Served : Graph → Settings → Span → Span → Status → Type 0
 Served graph settings input out answer =
     ((answer ≡ status.Memory) × (input.new ≡ input.old) × Keeps out.old out.new)
     ⊎ IsServed graph settings input out answer
+
+-- the question of a number from 1 to 6
+abbrev pub question_of : ℕ → List ℕ
+question_of number = get_or questions (number - 1) []
 
 -- the questions were answered, or a front of their answers was written and the sink failed
 abbrev pub Asked : Context → Span → Result Tone Failed → Type 0

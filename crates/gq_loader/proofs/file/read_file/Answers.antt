@@ -16,7 +16,7 @@ pub returns-in_err-new-2-clause-reads : goal.returns-in_err-new-2-clause-reads
 returns-in_err-new-2-clause-reads g c =
     let p = err_from_is_err_and c.from_residual-in_err-new-2.result c.from_residual-in_err-new-2.ensures.1 in
     let s = rw c.if-not-found.true at c.in-Ok.ensures in
-    not_there _ c.args.name.now _ _ _ s.held s.cause.later s.miss.later s.miss.missed s.chosen (λ n e. cc (p.1, p.2))
+    not_there _ _ _ _ s.held s.cause.later s.miss.later s.miss.missed (λ n e. cc (p.1, p.2)) (rw (p.1, p.2) tt)
 
 pub returns-in_err-new-in-Ok-TooLong-clause-reads : goal.returns-in_err-new-in-Ok-TooLong-clause-reads
 returns-in_err-new-in-Ok-TooLong-clause-reads g c =

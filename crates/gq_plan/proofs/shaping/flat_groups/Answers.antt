@@ -1,4 +1,4 @@
-use Rattle.std.proofs.Common.{◌≡◌, ◌∙◌, ◌+◌, ◌++◌, ◌<◌, ap, ap₂, sym, ℕ, List, map, drop, get_or, length, append_assoc, append-nil, arith}
+use Rattle.std.proofs.Common.{◌≡◌, ◌∙◌, ◌+◌, ◌++◌, ◌<◌, ap, sym, ℕ, List, map, drop, get_or, length, append_assoc, append-nil, arith}
 use Rattle.std.proofs.lemmas.List.{drop_all}
 use Rattle.gq_plan.proofs.FirstSteps.{first_of_rest}
 use Rattle.gq_plan.proofs.StepEquations.{plan_is}
@@ -19,7 +19,7 @@ pub loop-step-preserved : goal.loop-step-preserved
 loop-step-preserved c =
     let items = c.as_slice-step-items.result.now in
     let y = c.args.typed.now in
-    let p = places_of c.place_variables-places.result in
+    let p = places_of c.args.places in
     let rest = all_flat y p (steps (map step_of (drop (c.loop-step.step-index + 1) items))) in
     record {
       items = c.loop-step.invariant.items;
@@ -34,8 +34,8 @@ unfolding all_flat
 returns c =
     let items = c.as_slice-step-items.result.now in
     let y = c.args.typed.now in
-    let p = places_of c.place_variables-places.result in
+    let p = places_of c.args.places in
     let rest = ap (λ ss. all_flat y p (steps (map step_of ss))) (drop_all c.loop-step.step-index items (omega arith)) in
     sym (append-nil c.loop-step.groups) ∙ ap (λ gs. c.loop-step.groups ++ gs) (sym rest) ∙ c.loop-step.invariant.groups
     ∙ ap (λ ss. all_flat y p (steps (map step_of ss))) c.loop-step.invariant.items
-    ∙ ap₂ (λ q r. all_flat y q r) c.place_variables-places.ensures (sym (plan_is c.args.plan.now))
+    ∙ ap (all_flat y p) (sym (plan_is c.args.plan.now))

@@ -27,10 +27,10 @@ begins g (r ∷ rows) first one =
 
 pub returns-in_err-put_row-clause-bytes : goal.returns-in_err-put_row-clause-bytes
 returns-in_err-put_row-clause-bytes g c =
-    let (more, is) = begins c.args.graph.now c.args.listing.now _ c.line.ensures in
+    let (more, is) = begins c.args.graph.now c.args.listing.now.lines _ c.line.ensures in
     first_broke _ _ _ _ _ _ _ more _ _ _ _ c.put_row.ensures.bytes c.in_err-put_row.was c.from_residual.ensures.1 is
 
 pub returns-clause-bytes : goal.returns-clause-bytes
 returns-clause-bytes g c =
     puts_then _ _ _ _ _ _ _ _ _ _ c.in_ok-put_row.ensures.bytes c.put_row-2.ensures.bytes
-    (two c.args.graph.now c.args.listing.now _ _ (length c.args.listing.now - 1) (omega (arith, c.if-count-eq0.false, c.len-count.ensures)) c.line.ensures (rw c.len-count.ensures at c.line-2.ensures))
+    (two c.args.graph.now c.args.listing.now.lines _ _ (length c.args.listing.now.lines - 1) (omega (arith, c.if-count-eq0.false, c.len-count.ensures)) c.line.ensures (rw c.len-count.ensures at c.line-2.ensures))

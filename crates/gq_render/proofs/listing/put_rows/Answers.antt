@@ -14,12 +14,12 @@ next g lines row values h is = flat_map_next (row_text g) lines row [] values h 
 
 pub returns-in_err-put_row-clause-bytes : goal.returns-in_err-put_row-clause-bytes
 returns-in_err-put_row-clause-bytes g c =
-    let rest = flat_map (row_text c.args.graph.now) (drop (c.loop-row.row + 1) c.args.listing.now) in
+    let rest = flat_map (row_text c.args.graph.now) (drop (c.loop-row.row + 1) c.args.listing.now.lines) in
     next_broke _ _ _ _ _ _ _ _ _ _ rest _ _ _ _ c.loop-row.invariant.0 c.put_row.ensures.bytes c.in_err-put_row.was c.from_residual.ensures.1
-    (ap (λ l. l ++ rest) (next c.args.graph.now c.args.listing.now c.loop-row.row _ (omega arith) c.line.ensures) ∙ flat_map_split (row_text c.args.graph.now) c.args.listing.now (c.loop-row.row + 1))
+    (ap (λ l. l ++ rest) (next c.args.graph.now c.args.listing.now.lines c.loop-row.row _ (omega arith) c.line.ensures) ∙ flat_map_split (row_text c.args.graph.now) c.args.listing.now.lines (c.loop-row.row + 1))
 
 pub loop-row-preserved : goal.loop-row-preserved
 loop-row-preserved g c = (
-  put_then _ _ _ _ _ _ _ _ _ c.loop-row.invariant.0 c.in_ok-put_row.ensures.bytes (next c.args.graph.now c.args.listing.now c.loop-row.row _ (omega arith) c.line.ensures),
+  put_then _ _ _ _ _ _ _ _ _ c.loop-row.invariant.0 c.in_ok-put_row.ensures.bytes (next c.args.graph.now c.args.listing.now.lines c.loop-row.row _ (omega arith) c.line.ensures),
   omega (arith, c.loop-row.invariant.1, c.in_ok-put_row.ensures.cause.later),
 )

@@ -5,5 +5,5 @@ use Rattle.gq_render.proofs.listing.put_rows.Given as goal
 
 abbrev pub invariant-loop-row : goal.invariant-loop-row
 invariant-loop-row g l =
-    Put (g.O.Sink.taken l.initial.out) (g.O.Sink.taken l.out) l.initial.batch l.batch (flat_map (row_text l.graph) (take l.row l.listing))
+    Put (g.O.Sink.taken l.initial.out) (g.O.Sink.taken l.out) l.initial.batch l.batch (flat_map (row_text l.graph) (take l.row l.listing.lines))
     × (g.O.Sink.faults l.initial.out ≤ g.O.Sink.faults l.out)

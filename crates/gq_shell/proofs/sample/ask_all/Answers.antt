@@ -1,13 +1,13 @@
 use Rattle.std.proofs.Common.{◌-◌, arith}
 use Rattle.gq_io.proofs.Counts.{Rose-later}
 use Rattle.gq_reply.specs.Replies.{context_of}
-use Rattle.gq_shell.proofs.Quizzing.{all_questions, broke, next_number, others}
+use Rattle.gq_shell.proofs.Quizzing.{broke, next_number}
 use Rattle.gq_shell.proofs.sample.ask_all.Goals as goal
 
 pub returns-in-Err : goal.returns-in-Err
 returns-in-Err g c = (
-  broke (context_of c.args.replier.now) (c.loop-number.number - 1) c.loop-number.number (omega (arith, c.loop-number.invariant.0)) (others (c.loop-number.number - 1))
-      (all_questions (c.loop-number.number - 1) (omega (arith, c.loop-number.invariant.0, c.loop-number-test.true))) c.loop-number.worst _ _ _ c.loop-number.invariant.2 c.in-Err.ensures.bytes,
+  broke (context_of c.args.replier.now) (c.loop-number.number - 1) c.loop-number.number (omega (arith, c.loop-number.invariant.0))
+      (omega (arith, c.loop-number.invariant.0, c.loop-number-test.true)) c.loop-number.worst _ _ _ c.loop-number.invariant.2 c.in-Err.ensures.bytes,
   Rose-later _ _ _ c.loop-number.invariant.3 c.in-Err.ensures.cause.failed,
 )
 

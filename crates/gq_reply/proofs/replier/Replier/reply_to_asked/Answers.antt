@@ -1,11 +1,11 @@
-use Rattle.std.proofs.Common.{Err, inl, refl, subst}
+use Rattle.std.proofs.Common.{[], Err, inl, refl, subst}
 use Rattle.gq_binder.specs.Binding.{Answers}
 use Rattle.gq_reply.proofs.Replying.{begun, may_reply, replied, replied_as, unbound}
 use Rattle.gq_syntax.specs.declared.statement.Statement.TheVariants as tree
 use Rattle.gq_reply.proofs.replier.Replier.reply_to_asked.Goals as goal
 
 pub bind-requires : goal.bind-requires
-bind-requires g c = inl c.requires
+bind-requires g c = ([], inl c.requires)
 
 pub reply_to_query-requires-clause-begins : goal.reply_to_query-requires-clause-begins
 reply_to_query-requires-clause-begins g c = begun _ _ _ _ (rw c.catalog.ensures.value at c.in-Ok.ensures)

@@ -1,11 +1,11 @@
-use Rattle.std.proofs.Common.{Err, inl, inr, refl, subst}
+use Rattle.std.proofs.Common.{[], Err, inl, inr, refl, subst}
 use Rattle.gq_binder.specs.Binding.{Answers}
 use Rattle.gq_reply.proofs.Replying.{begun, may_show, replied, replied_as, unbound}
 use Rattle.gq_syntax.specs.declared.statement.Statement.TheVariants as tree
 use Rattle.gq_reply.proofs.replier.Replier.reply_to_planned.Goals as goal
 
 pub bind-requires : goal.bind-requires
-bind-requires g c = inr (inl c.requires)
+bind-requires g c = ([], inr (inl c.requires))
 
 pub reply_to_plan-requires-clause-begins : goal.reply_to_plan-requires-clause-begins
 reply_to_plan-requires-clause-begins g c = begun _ _ _ _ (rw c.catalog.ensures.value at c.in-Ok.ensures)

@@ -5,7 +5,7 @@ use Rattle.gq_reply.proofs.replier.Replier.reply_to_query.Goals as goal
 
 pub returns-in-Ok : goal.returns-in-Ok
 returns-in-Ok g c = λ query statement is.
-    replied _ tone.Good _ (c.in-Ok.listing, c.in-Ok.ensures.permitted query statement is, refl) _ _ c.write_rows.ensures.bytes c.write_rows.ensures.cause _ c.toned.ensures
+    replied _ tone.Good _ (c.in-Ok.listing.lines, c.in-Ok.ensures.permitted query statement is, refl) _ _ c.write_rows.ensures.bytes c.write_rows.ensures.cause _ c.toned.ensures
 
 pub returns-in-Err-Fault : goal.returns-in-Err-Fault
 returns-in-Err-Fault g c = λ query statement is.

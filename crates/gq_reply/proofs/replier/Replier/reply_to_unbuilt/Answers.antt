@@ -1,8 +1,11 @@
-use Rattle.std.proofs.Common.{refl, sym}
+use Rattle.std.proofs.Common.{[], inr, refl, sym}
 use Rattle.gq_reply.proofs.Replying.{replied, unbound_line, unbuilt_line}
 use Rattle.gq_syntax.specs.declared.statement.Statement.TheVariants as tree
 use Rattle.gq_session.specs.declared.answering.Tone.TheVariants as tone
 use Rattle.gq_reply.proofs.replier.Replier.reply_to_unbuilt.Goals as goal
+
+pub refusal_of-requires : goal.refusal_of-requires
+refusal_of-requires g c = ([], inr (inr c.requires))
 
 pub returns-in-Ok-None : goal.returns-in-Ok-None
 returns-in-Ok-None g c =

@@ -8,5 +8,7 @@ use Rattle.gq_rows.proofs.table.RowTable.finish.Goals as goal
 pub listing_of-requires : goal.listing_of-requires
 listing_of-requires c = let s = subst StandsForSome (sym c.self.view_is) c.requires in (s.1.rows, s.1.holds)
 
-pub returns : goal.returns
-returns c = subst (λ t. IfOk c.listing_of.result (AnswersListings t)) c.self.view_is (finished (table_of c.self.inside) c.listing_of.result c.listing_of.ensures)
+pub returns-in-Ok-clause-lines : goal.returns-in-Ok-clause-lines
+returns-in-Ok-clause-lines c =
+    let all = finished (table_of c.self.inside) c.listing_of.result c.listing_of.ensures.lists in
+    subst (λ t. AnswersListings t c.in-Ok.lines) c.self.view_is (subst (λ r. IfOk r (AnswersListings (table_of c.self.inside))) c.in-Ok.is all)

@@ -1,0 +1,53 @@
+-- A query that stands in a text is bound in one way over a catalogue.
+use Rattle.std.proofs.Common.{◌≡◌, ℕ, true, Option, Some, None, List, [], ◌∷◌, length, map, refl, sym, ap, ◌∙◌, arith, eqb-true}
+use Rattle.gq_base.specs.Catalogs.{Tables}
+use Rattle.gq_base.specs.Lists.{is_empty, with_first}
+use Rattle.gq_plan.specs.declared.Bound.{Bound}
+use Rattle.gq_plan.specs.declared.NamedExpr.{NamedExpr}
+use Rattle.gq_plan.specs.declared.Typed.{Typed}
+use Rattle.gq_alternatives.specs.Alternatives.{alternatives, typed_of}
+use Rattle.gq_binder.specs.Binding.{IsBound}
+use Rattle.gq_binder.specs.Columns.{Resolves, entry_test, sort_expr, sort_scope}
+use Rattle.gq_scopes.specs.Patterns.{Pattern, pattern_of}
+use Rattle.gq_syntax.specs.declared.Query.{Query}
+use Rattle.gq_trees.specs.Resolving.{all_some, functions}
+
+one_some : {A : Type 0} (x y : A) → Some x ≡ Some y → x ≡ y
+one_some x y e = cc e
+
+-- the alternatives of a query with these conjuncts
+abbrev typed_with : Query → List ℕ → Tables → List NamedExpr → List Typed
+typed_with query text catalog conjuncts =
+    let p : Pattern = pattern_of query.clauses in
+    map (typed_of catalog p (map (entry_test text) p.entries) conjuncts) (alternatives query catalog)
+
+pub same_bound : (query : Query) (text : List ℕ) (catalog : Tables) (b c : Bound) → IsBound query text catalog b → IsBound query text catalog c → b ≡ c
+same_bound query text catalog b c x y =
+    let conjuncts : b.conjuncts ≡ c.conjuncts = one_some _ _ (sym x.resolves.conjuncts ∙ y.resolves.conjuncts) in
+    let alternatives : b.alternatives ≡ c.alternatives =
+    x.alternatives ∙ ap (typed_with query text catalog) conjuncts ∙ sym y.alternatives in
+    let columns : b.columns ≡ c.columns = one_some _ _ (sym x.resolves.columns ∙ y.resolves.columns) in
+    let keys : b.keys ≡ c.keys = one_some _ _ (sym x.resolves.keys ∙ y.resolves.keys) in
+    let nodes : b.node_names ≡ c.node_names = x.resolves.node_names ∙ sym y.resolves.node_names in
+    let rels : b.rel_names ≡ c.rel_names = x.resolves.rel_names ∙ sym y.resolves.rel_names in
+    let distinct : b.distinct ≡ c.distinct = x.resolves.distinct ∙ sym y.resolves.distinct in
+    let skip : b.skip ≡ c.skip = x.resolves.skip ∙ sym y.resolves.skip in
+    let limit : b.limit ≡ c.limit = x.resolves.limit ∙ sym y.resolves.limit in
+    let e : ◌≡◌ {A = Bound} (record { node_names = b.node_names; rel_names = b.rel_names; columns = b.columns; conjuncts = b.conjuncts; keys = b.keys; distinct = b.distinct; skip = b.skip; limit = b.limit; alternatives = b.alternatives })
+    (record { node_names = c.node_names; rel_names = c.rel_names; columns = c.columns; conjuncts = c.conjuncts; keys = c.keys; distinct = c.distinct; skip = c.skip; limit = c.limit; alternatives = c.alternatives }) = cc (nodes, rels, columns, conjuncts, keys, distinct, skip, limit, alternatives) in
+    e
+
+-- where there is an item, there is one of it
+none_of : {A B : Type 0} (f : A → Option B) (xs : List A) (ys : List B) → all_some (map f xs) ≡ Some ys → is_empty ys ≡ true → xs ≡ []
+none_of {B = B} f [] ys is none = refl
+none_of {B = B} f (x ∷ xs) [] is none = absurd (some (f x) (all_some (map f xs)) is)
+  where
+    some : (o : Option B) (os : Option (List B)) → with_first o os ≡ Some [] → ⊥
+    some None os e = cc e
+    some (Some y) None e = cc e
+    some (Some y) (Some ys) e = cc e
+none_of {B = B} f (x ∷ xs) (y ∷ ys) is none = absurd (omega (arith, eqb-true (length (y ∷ ys)) 0 none))
+
+-- a bound query without keys is one of a query without ORDER BY
+pub unordered : (query : Query) (text : List ℕ) (bound : Bound) → Resolves query text bound → is_empty bound.keys ≡ true → query.order ≡ []
+unordered query text bound r none = none_of (sort_expr (sort_scope functions text query)) query.order bound.keys r.keys none

@@ -1,0 +1,90 @@
+//! The columns of a graph from which lanes are filled.
+ghost use Rattle.std.specs.Prelude.{◌≡◌, ◌<◌, length, IfSome, IfNone, None};
+ghost use Rattle.gq_base.specs.Catalogs.{find_field};
+ghost use Rattle.gq_store.specs.Cells.{node_fields, rel_fields};
+ghost use Rattle.gq_filter.specs.Feeds.{IsNodeFeed, IsRelFeed, NodeLanesHold, RelLanesHold};
+
+use crate::source::{ColumnId, LaneSource};
+use gq_base::{Text, find_field};
+use gq_column::Column;
+use gq_plan::Variable;
+use gq_store::Graph;
+
+/// A source of a lane, and the column that has its cells.
+#[derive(Clone, Copy)]
+pub struct Feed<'g> {
+    pub source: LaneSource<'g>,
+    pub column: &'g Column,
+}
+
+/// A property of a node variable of a node table, where the table has it: its cells stand by row.
+pub fn node_feed<'g>(
+    graph: &'g Graph,
+    variable: u32,
+    table: u32,
+    name: &'g Text,
+) -> Option<Feed<'g>>
+    requires { table < length graph.now.catalog.nodes }
+    ensures some { IfSome result (IsNodeFeed graph.now variable table name.now) }
+    ensures none { IfNone result
+        (find_field (node_fields graph.now table) name.now ≡ None) }
+{
+    let fields = graph.catalog().node_table(table).fields.as_slice();
+    let place = find_field(fields, name)?;
+    let kind = fields[place].kind;
+    let property = place as u32;
+    Some(Feed {
+        source: LaneSource {
+            variable: Variable::Node(variable),
+            name,
+            kind,
+            dict: graph.node_dict(table, property),
+            column: ColumnId {
+                of_rels: false,
+                table,
+                property,
+            },
+        },
+        column: graph.node_column(table, property),
+    })
+}
+
+/// A property of a relationship variable of a relationship table, where the table has it: its cells
+/// stand by place.
+pub fn rel_feed<'g>(graph: &'g Graph, variable: u32, rel: u32, name: &'g Text) -> Option<Feed<'g>>
+    requires { rel < length graph.now.catalog.rels }
+    ensures some { IfSome result (IsRelFeed graph.now variable rel name.now) }
+    ensures none { IfNone result (find_field (rel_fields graph.now rel) name.now ≡ None) }
+{
+    let fields = graph.catalog().rel_table(rel).fields.as_slice();
+    let place = find_field(fields, name)?;
+    let kind = fields[place].kind;
+    let property = place as u32;
+    Some(Feed {
+        source: LaneSource {
+            variable: Variable::Rel(variable),
+            name,
+            kind,
+            dict: graph.rel_dict(rel, property),
+            column: ColumnId {
+                of_rels: true,
+                table: rel,
+                property,
+            },
+        },
+        column: graph.rel_column(rel, property),
+    })
+}
+
+/// A law for the crates above: a lane that was gathered from the column of a feed holds the values
+/// that its source has in the rows whose nodes were gathered. It does nothing.
+#[tactic(auto, using(crate::proofs::Feeding::node_lanes))]
+pub fn node_lanes_hold()
+    ensures { NodeLanesHold }
+{}
+
+/// The same law of relationships by their places.
+#[tactic(auto, using(crate::proofs::Feeding::rel_lanes))]
+pub fn rel_lanes_hold()
+    ensures { RelLanesHold }
+{}

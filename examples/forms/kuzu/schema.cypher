@@ -1,0 +1,8 @@
+CREATE NODE TABLE Reader(name STRING, since INT64, PRIMARY KEY(name));
+CREATE NODE TABLE Book(number INT64, title STRING, year INT64, PRIMARY KEY(number));
+CREATE REL TABLE BORROWED(FROM Reader TO Book, day DATE, MANY_MANY);
+CREATE REL TABLE FOLLOWS(FROM Reader TO Reader, MANY_MANY);
+COPY Reader FROM 'reader.csv';
+COPY Book FROM 'book.csv';
+COPY BORROWED FROM 'borrowed.csv';
+COPY FOLLOWS FROM 'follows.csv';

@@ -1,0 +1,95 @@
+"""How a tool ends: its exit statuses, which are those of graphq, and what it says where it refuses."""
+
+from __future__ import annotations
+
+import contextlib
+import enum
+import os
+import sys
+from collections.abc import Callable, Iterator, Sequence
+
+
+class Status(enum.IntEnum):
+    """Exit statuses. 0 to 7 mean what they mean of graphq, see docs/language.md; 69 is a missing program or package."""
+
+    DONE = 0
+    REPLY_REFUSED = 1
+    BAD_WORDS = 2
+    BAD_GRAPH = 3
+    CANNOT_READ = 4
+    CANNOT_WRITE = 5
+    NO_MEMORY = 6
+    TOO_LONG = 7
+    NOT_INSTALLED = 69
+
+
+class Refusal(Exception):
+    """What a tool does not take, with the status that it ends with."""
+
+    def __init__(self, why: str, status: Status = Status.BAD_GRAPH) -> None:
+        super().__init__(why)
+        self.status = status
+
+
+class BadRow(Refusal):
+    """A file of the input holds what cannot be taken, at a line, counted from 1."""
+
+    def __init__(self, file: str | os.PathLike[str], line: int, why: str) -> None:
+        super().__init__(f"{os.fspath(file)} line {line}: {why}")
+
+
+def at_line(file: str | os.PathLike[str], line: int, error: ValueError | Refusal) -> Refusal:
+    """The refusal of a line for what is wrong with it; what has a place or another status already stays as it is."""
+    if isinstance(error, Refusal) and (isinstance(error, BadRow) or error.status != Status.BAD_GRAPH):
+        return error
+    return BadRow(file, line, str(error))
+
+
+@contextlib.contextmanager
+def writing(path: str | os.PathLike[str]) -> Iterator[None]:
+    """What goes wrong inside with the system is a failure to write `path`."""
+    try:
+        yield
+    except OSError as error:
+        raise Refusal(f"{os.fspath(path)}: {error.strerror or error}", Status.CANNOT_WRITE) from error
+
+
+@contextlib.contextmanager
+def reading(path: str | os.PathLike[str]) -> Iterator[None]:
+    """What goes wrong inside with the system is a failure to read `path`; a file that is not there is a bad graph."""
+    try:
+        yield
+    except FileNotFoundError as error:
+        raise Refusal(f"{os.fspath(path)}: there is no file of this name") from error
+    except OSError as error:
+        raise Refusal(f"{os.fspath(path)}: {error.strerror or error}", Status.CANNOT_READ) from error
+
+
+def package(module: str, name: str) -> Refusal:
+    """The refusal for want of a Python module, with the Debian package that brings it."""
+    why = f"the Python module {module} is missing: tools/setup installs {name}"
+    return Refusal(why, Status.NOT_INSTALLED)
+
+
+def run(tool: str, main: Callable[[Sequence[str]], int]) -> int:
+    """Runs a tool on the words of the command line; a refusal is one line on standard error, and never a traceback."""
+    try:
+        status = main(sys.argv[1:])
+        sys.stdout.flush()
+        return int(status)
+    except Refusal as refusal:
+        print(f"{tool}: {refusal}", file=sys.stderr)
+        return int(refusal.status)
+    except BrokenPipeError:
+        # Whoever read the output has gone: the interpreter is not to complain once more at its end.
+        os.dup2(os.open(os.devnull, os.O_WRONLY), sys.stdout.fileno())
+        return int(Status.CANNOT_WRITE)
+    except OSError as error:
+        print(f"{tool}: {error}", file=sys.stderr)
+        return int(Status.CANNOT_WRITE)
+    except MemoryError:
+        print(f"{tool}: there is not enough memory", file=sys.stderr)
+        return int(Status.NO_MEMORY)
+    except KeyboardInterrupt:
+        print(f"{tool}: stopped", file=sys.stderr)
+        return 130

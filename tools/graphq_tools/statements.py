@@ -1,0 +1,49 @@
+"""Cuts what is typed into statements, as graphq cuts its input: at each `;` in no string, quoted name or comment."""
+
+from __future__ import annotations
+
+import re
+
+MOST_BYTES = 65_536
+
+# The next thing that may end a statement or hide its end: `;`, or what begins a string, a quoted name or a comment.
+_NEXT = re.compile(r"""[;'"`]|//|/\*""")
+_ENDS = {
+    "'": re.compile(r"(?:[^'\\]|\\.)*'", re.DOTALL),
+    '"': re.compile(r'(?:[^"\\]|\\.)*"', re.DOTALL),
+    "`": re.compile(r"[^`]*`"),
+    "//": re.compile(r"[^\n\r]*[\n\r]"),
+    "/*": re.compile(r".*?\*/", re.DOTALL),
+}
+
+
+def split(text: str) -> tuple[list[str], str]:
+    """The statements that end in a text, without their `;`, and what stands behind the last one."""
+    statements, begin, at = [], 0, 0
+    while found := _NEXT.search(text, at):
+        if found[0] == ";":
+            statements.append(text[begin : found.start()])
+            begin = at = found.end()
+            continue
+        end = _ENDS[found[0]].match(text, found.end())
+        if end is None:
+            break
+        at = end.end()
+    return statements, text[begin:]
+
+
+def is_blank(text: str) -> bool:
+    """Whether a text is white space and comments alone."""
+    at = 0
+    while at < len(text):
+        if text[at].isspace():
+            at += 1
+            continue
+        mark = text[at : at + 2]
+        if mark not in ("//", "/*"):
+            return False
+        end = _ENDS[mark].match(text, at + 2)
+        if end is None:
+            return True
+        at = end.end()
+    return True

@@ -1,0 +1,1 @@
+SELECT name FROM Station WHERE zone = 4 ORDER BY name;

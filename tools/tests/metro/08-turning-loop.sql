@@ -1,0 +1,1 @@
+SELECT '(Station ''' || source || ''')', '[TRACK #' || number || ']', line FROM TRACK WHERE source = target;

@@ -1,0 +1,100 @@
+"""Pictures of rows and plans."""
+
+from __future__ import annotations
+
+import re
+import xml.etree.ElementTree as ElementTree
+
+from graphq_tools.drawing import read_plan
+
+from .support import METRO, PEOPLE, TOP, ToolTest, needs_program
+
+SVG = "{http://www.w3.org/2000/svg}"
+
+
+class Draw(ToolTest):
+    def dot(self, query: str, *words: str) -> str:
+        return self.done("graphq-draw", "--manifest", PEOPLE, "--dot", *words, query, cwd=TOP)
+
+    def test_rows(self) -> None:
+        """Ann, 1, knows Bob, 2, by the relationships 0 and 4; the ends of r are drawn though no column has them."""
+        query = "MATCH (a {id: 1})-[r:KNOWS]->(b {id: 2}) RETURN r ORDER BY r"
+        text = self.dot(query, "--caption", "Person=name", "--caption", "KNOWS=since")
+        drawn = [re.sub(r", fillcolor=.*", "", line.strip()) for line in text.splitlines()]
+        self.assertEqual(
+            [line for line in drawn if re.match(r"n\d", line)],
+            [
+                'n0 [label="Ann", tooltip="(Person 1)"',
+                'n1 [label="Bob", tooltip="(Person 2)"',
+                'n0 -> n1 [label="2010", tooltip="[KNOWS #0]"];',
+                'n0 -> n1 [label="2012", tooltip="[KNOWS #4]"];',
+            ],
+        )
+
+    def test_nodes_of_two_tables(self) -> None:
+        text = self.dot("MATCH (p)-[r:LIVES_IN]->(c) RETURN p, r, c ORDER BY p")
+        self.assertEqual(len(re.findall(r"^  n\d+ \[", text, re.MULTILINE)), 3)
+        self.assertEqual(len(re.findall(r"^  n\d+ -> n\d+", text, re.MULTILINE)), 2)
+        self.assertIn('label="X", tooltip="(City \'X\')"', text)
+
+    def test_plan_with_a_join(self) -> None:
+        lines = [
+            "alternative 1",
+            "scan a:Person",
+            "join on b",
+            "  scan c:Person",
+            "  join",
+            "    scan d:City",
+            "  differ #1 #2",
+            "keep a.id = 1",
+            "alternatives 1",
+        ]
+        (steps,) = read_plan(lines)
+        self.assertEqual([step.text for step in steps], ["scan a:Person", "join on b", "keep a.id = 1"])
+        self.assertEqual([step.text for step in steps[1].part], ["scan c:Person", "join", "differ #1 #2"])
+        self.assertEqual([step.text for step in steps[1].part[1].part], ["scan d:City"])
+
+    def test_plan(self) -> None:
+        text = self.dot(":plan MATCH (a)-[:KNOWS]->(b), (c)-[:KNOWS]->(b) RETURN a.id, c.id;", "--order", "given")
+        edges = re.findall(r"s(\d) -> s(\d)( \[style=dashed\])?;", text)
+        dashed = " [style=dashed]"
+        self.assertEqual(edges, [("1", "2", ""), ("2", "3", ""), ("4", "5", ""), ("5", "3", dashed), ("3", "6", "")])
+
+    @needs_program("dot", "graphviz")
+    def test_svg(self) -> None:
+        query = "MATCH (a:Station)-[t:TRACK {line: 'Ring'}]->(b) RETURN a, t, b"
+        words = ("--manifest", METRO, "--caption", "Station=name", "--out", self.folder / "ring.svg")
+        self.done("graphq-draw", *words, query, cwd=TOP)
+        groups = ElementTree.parse(self.folder / "ring.svg").getroot().iter(f"{SVG}g")
+        classes = [group.get("class") for group in groups]
+        with (TOP / "examples/metro/track.csv").open() as stream:
+            tracks = [line.split(",") for line in stream if line.split(",")[2] == "Ring"]
+        self.assertEqual(classes.count("edge"), len(tracks))
+        self.assertEqual(classes.count("node"), len({end for track in tracks for end in track[:2]}))
+
+    def test_caption_that_means_something_to_graphviz(self) -> None:
+        self.write("n.csv", 'id:int,t:string\n1,"a""b\\N &amp; c\nd"\n')
+        self.write("g.manifest", "node N n.csv\n")
+        words = ("--manifest", "g.manifest", "--caption", "N=t", "--dot")
+        text = self.done("graphq-draw", *words, "MATCH (n) RETURN n")
+        self.assertIn('label="a\\"b\\\\N &amp;amp; c\\nd"', text)
+
+    def refuse(self, status: int, line: str, query: str) -> None:
+        ended, _, errors = self.tool("graphq-draw", "--manifest", PEOPLE, "--dot", query, cwd=TOP)
+        self.assertEqual((ended, errors), (status, f"graphq-draw: {line}\n"))
+
+    def test_refused_query(self) -> None:
+        self.refuse(1, "error: UnknownVariable m", "MATCH (n) RETURN m")
+
+    def test_nothing_to_draw(self) -> None:
+        self.refuse(1, "no column of the reply has a node or a relationship", "MATCH (n) RETURN 1")
+
+    def test_no_plan(self) -> None:
+        self.refuse(1, "this reply has neither rows nor a plan", ":schema")
+
+    def test_two_queries(self) -> None:
+        self.refuse(2, "one query is drawn, and there are 2", "MATCH (n) RETURN n; MATCH (m) RETURN m;")
+
+    def test_no_manifest(self) -> None:
+        ended, _, errors = self.tool("graphq-draw", "--manifest", "none", "--dot", "MATCH (n) RETURN n")
+        self.assertEqual((ended, errors), (3, "graphq-draw: load: NoFile none\n"))

@@ -1,0 +1,104 @@
+"""The files that are exported for Kùzu, neo4j-admin and GraphFrames, and the graphs that are refused."""
+
+from __future__ import annotations
+
+from .support import PEOPLE, TOP, ToolTest
+from .test_round_trips import several
+
+
+class Exports(ToolTest):
+    def text(self, name: str) -> str:
+        return (self.folder / "there" / name).read_text()
+
+    def people(self, form: str) -> None:
+        self.done("graphq-export", form, "--manifest", PEOPLE, "--out", self.folder / "there", cwd=TOP)
+
+    def test_kuzu(self) -> None:
+        self.people("kuzu")
+        self.assertEqual(
+            self.text("schema.cypher").splitlines(),
+            [
+                "CREATE NODE TABLE `Person`(`id` INT64, `name` STRING, `age` INT64, PRIMARY KEY(`id`));",
+                "CREATE NODE TABLE `City`(`code` STRING, `pop` INT64, PRIMARY KEY(`code`));",
+                "CREATE REL TABLE `KNOWS`(FROM `Person` TO `Person`, `since` INT64, MANY_MANY);",
+                "CREATE REL TABLE `LIVES_IN`(FROM `Person` TO `City`, MANY_ONE);",
+                "COPY `Person` FROM 'person.csv' (HEADER=true, ESCAPE='\"');",
+                "COPY `City` FROM 'city.csv' (HEADER=true, ESCAPE='\"');",
+                "COPY `KNOWS` FROM 'knows.csv' (HEADER=true, ESCAPE='\"');",
+                "COPY `LIVES_IN` FROM 'lives_in.csv' (HEADER=true, ESCAPE='\"');",
+            ],
+        )
+        self.assertEqual(self.text("person.csv"), "id,name,age\n1,Ann,30\n2,Bob,\n3,Cy,25\n")
+
+    def test_neo4j(self) -> None:
+        self.people("neo4j")
+        header = ":ID(Person),id:long,name:string,age:long,:LABEL\n"
+        self.assertEqual(self.text("person.csv"), f"{header}1,1,Ann,30,Person\n2,2,Bob,,Person\n3,3,Cy,25,Person\n")
+        self.assertEqual(self.text("city.csv"), "code:ID(City),pop:long,:LABEL\nX,100,City\nY,,City\n")
+        self.assertEqual(
+            self.text("lives_in.csv"), ":START_ID(Person),:END_ID(City),:TYPE\n1,X,LIVES_IN\n3,X,LIVES_IN\n"
+        )
+        files = ["--nodes=person.csv", "--nodes=city.csv", "--relationships=knows.csv", "--relationships=lives_in.csv"]
+        for file in files:
+            self.assertIn(file, self.text("import.sh"))
+
+    def test_labels_for_neo4j(self) -> None:
+        several(self)
+        self.done("graphq-export", "neo4j", "--manifest", "g.manifest", "--out", "there")
+        header = ":ID(Person:Student),id:long,school:string,:LABEL\n"
+        self.assertEqual(self.text("person-student.csv"), f"{header}7,7,MIT,Person;Student\n")
+        self.assertEqual(self.text("knows_2.csv").splitlines()[1], "7,1,well,KNOWS")
+        self.assertEqual(self.text("constraints.cypher"), "")
+
+    def test_graphframes(self) -> None:
+        """The two tables share no property but id, which gives way to the id of the vertex."""
+        several(self)
+        self.done("graphq-export", "graphframes", "--manifest", "g.manifest", "--out", "there")
+        vertices = [
+            "id,labels,id_2,name,school",
+            "Person/1,Person,1,Ann,",
+            "Person/2,Person,2,Bob,",
+            "Person:Student/7,Person:Student,7,,MIT",
+        ]
+        edges = [
+            "src,dst,relationship,since,how",
+            "Person/1,Person/2,KNOWS,2010,",
+            "Person/1,Person/1,KNOWS,2011,",
+            "Person/2,Person/1,KNOWS,2012,",
+            "Person:Student/7,Person/1,KNOWS,,well",
+        ]
+        self.assertEqual(self.text("vertices.csv").splitlines(), vertices)
+        self.assertEqual(self.text("edges.csv").splitlines(), edges)
+        script = self.text("load.py")
+        compile(script, "load.py", "exec")
+        self.assertIn('    StructField("id_2", LongType()),\n    StructField("name", StringType()),\n', script)
+
+
+class Refusals(ToolTest):
+    def refuse(self, line: str, manifest: str, rows: str = "id:int\n1\n") -> None:
+        self.write("g.manifest", manifest)
+        self.write("n.csv", rows)
+        self.refused(3, line, "graphq-export", "sqlite", "--manifest", "g.manifest", "--out", "g")
+
+    def test_line(self) -> None:
+        why = "it is neither `node LABELS FILE` nor `rel TYPE FROM TO MULTIPLICITY FILE`"
+        self.refuse(f"g.manifest line 3: {why}", "# a\n\nnode N\n")
+
+    def test_unknown_end(self) -> None:
+        self.refuse("g.manifest line 2: no line above has the nodes M", "node N n.csv\nrel R N M many_one n.csv\n")
+
+    def test_label_twice(self) -> None:
+        self.refuse("g.manifest line 1: N:N is not one to 8 labels joined by colons", "node N:N n.csv\n")
+
+    def test_header(self) -> None:
+        why = "'id:float' is no field NAME:KIND with a KIND of int, string, bool"
+        self.refuse(f"n.csv line 1: {why}", "node N n.csv\n", "id:float\n1\n")
+
+    def test_field(self) -> None:
+        self.refuse("n.csv line 3: '1x' is no int", "node N n.csv\n", "id:int\n1\n1x\n")
+
+    def test_field_count(self) -> None:
+        self.refuse("n.csv line 2: it has 2 fields, and the header has 1", "node N n.csv\n", "id:int\n1,2\n")
+
+    def test_no_file(self) -> None:
+        self.refuse("x.csv: there is no file of this name", "node N x.csv\n")
