@@ -1,12 +1,14 @@
 -- A try of a step on rows and load numbers that have what the step binds leaves them as they are.
-use Rattle.std.proofs.Common.{◌≡◌, ◌⊎◌, inl, inr, ℕ, ◌+◌, ◌^◌, ◌<◌, ◌≤◌, Bool, length, refl, sym, ap, ◌∙◌, arith}
-use Rattle.std.specs.Prelude.{slice_index, slice_set}
+use Rattle.std.proofs.Common.{◌≡◌, ◌⊎◌, inl, inr, ℕ, ◌+◌, ◌^◌, ◌<◌, ◌≤◌, Bool, Some, List, [], ◌∷◌, length, refl, sym, ap, ap₂, ◌∙◌, arith}
+use Rattle.std.specs.Prelude.{slice_get, slice_index, slice_set}
+use Rattle.std.specs.List.{AllByRecursion}
 use Rattle.std.proofs.lemmas.Bool.{cases_eq, cases_lt}
 use Rattle.std.proofs.lemmas.List.{set-get_or}
 use Rattle.std.proofs.lemmas.Option.{slice_get-get_or, slice_get_within}
 use Rattle.gq_base.specs.Valid.{row_count}
 use Rattle.gq_base.specs.declared.direction.Direction.{Direction}
-use Rattle.gq_plan.specs.Plans.{Scan, Extend, Close, Keep, Differ, NoLoop}
+use Rattle.gq_join.specs.Kept.{Held, matches_of, node_in, rel_in}
+use Rattle.gq_plan.specs.Plans.{Plan, Scan, Extend, Close, Join, Keep, Differ, NoLoop}
 use Rattle.gq_plan.specs.Rows.{node_table, rel_table}
 use Rattle.gq_plan.specs.declared.assignment.Assignment.{Assignment}
 use Rattle.gq_store.proofs.Reading.{neighbours_below}
@@ -14,10 +16,11 @@ use Rattle.gq_store.specs.Neighbours.{neighbours, numbers}
 use Rattle.gq_pipe.specs.steps.Hops.{IsHop}
 use Rattle.gq_pipe.specs.steps.Levels.{Run, step_at, known}
 use Rattle.gq_pipe.specs.steps.Moves.{IsRun, IsHeld, IsTried}
-use Rattle.gq_pipe.specs.steps.Outcomes.{with_row, with_number}
+use Rattle.gq_pipe.specs.steps.Outcomes.{set_all, with_kept, with_row, with_number}
 use Rattle.gq_pipe.specs.declared.plan_run.Tried.{Tried}
 use Rattle.gq_pipe.specs.declared.plan_run.Tried.TheVariants.{Past, Missed, Made}
 use Rattle.gq_pipe.proofs.Following.{as_many}
+use Rattle.gq_pipe.proofs.Joined.{h, join_tried}
 use Rattle.gq_pipe.proofs.Stepping.{Follows, follows}
 use Rattle.gq_pipe.proofs.Testing.{keep_tried, differ_tried, no_loop_tried}
 use Rattle.gq_pipe.proofs.Tried.{scan_tried, extend_tried, extend_goes, close_tried, close_goes}
@@ -28,6 +31,14 @@ row_again a v r e = ap (λ l. record { nodes = l; rels = a.rels }) (sym (ap (sli
 
 number_again : (a : Assignment) (x n : ℕ) → slice_index a.rels x ≡ n → a ≡ with_number x n a
 number_again a x n e = ap (λ l. record { nodes = a.nodes; rels = l }) (sym (ap (slice_set a.rels x) (sym e) ∙ set-get_or a.rels x 0))
+
+set_all_again : (vs : List ℕ) (f : ℕ → ℕ) (xs : List ℕ) → AllByRecursion (λ v. slice_index xs v ≡ f v) vs → set_all vs f xs ≡ xs
+set_all_again [] f xs h = refl
+set_all_again (v ∷ vs) f xs h = ap (set_all vs f) (ap (slice_set xs v) (sym h.0) ∙ set-get_or xs v 0) ∙ set_all_again vs f xs h.1
+
+kept_again : (h : Held) (i : ℕ) (a : Assignment) → AllByRecursion (λ v. slice_index a.nodes v ≡ node_in h v i) h.nodes → AllByRecursion (λ x. slice_index a.rels x ≡ rel_in h x i) h.rels → a ≡ with_kept h i a
+kept_again h i a nodes rels =
+    sym (ap₂ (λ (ns rs : List ℕ). record { nodes = ns; rels = rs }) (set_all_again h.nodes (λ v. node_in h v i) a.nodes nodes) (set_all_again h.rels (λ x. rel_in h x i) a.rels rels))
 
 -- the relationship that is followed at a place
 module _ (c : Run) (run : IsRun c) (x from to : ℕ) (way : Direction) (f : Follows c x from to way) (row place : ℕ) (low : place < length (neighbours c.graph (rel_table c.typed x) way row)) (few : place + 1 < 2 ^ 32) where
@@ -105,3 +116,15 @@ module _ (c : Run) (run : IsRun c) (d : ℕ) (low : d < length c.steps) (row : A
 
   pub no_loop_itself : (x : ℕ) → step_at c d ≡ NoLoop x → (place : ℕ) → TriesItself c d place row
   no_loop_itself x is place = record { told = _; tried = no_loop_tried c run d low row held x is place }
+
+  -- what a build keeps in a row that matches
+  module _ (side : Plan) (keys : List ℕ) (is : step_at c d ≡ Join side keys) where
+    abbrev pub joined : Held
+    joined = h c run d low row held side keys is
+
+    pub join_itself : (place i : ℕ) → place + 1 < 2 ^ 32 → slice_get (matches_of joined row) place ≡ Some i → AllByRecursion (λ v. slice_index row.nodes v ≡ node_in joined v i) joined.nodes
+        → AllByRecursion (λ x. slice_index row.rels x ≡ rel_in joined x i) joined.rels → TriesItself c d place row
+    join_itself place i few match nodes rels = record {
+      told = Made;
+      tried = join_tried c run d low row held side keys is place row Made (record { row = i; is = match; written = kept_again joined i row nodes rels; few = few });
+    }

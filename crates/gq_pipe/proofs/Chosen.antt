@@ -1,25 +1,29 @@
 -- The rows and load numbers at one selected position of each group of a chunk are those of the walk of these positions.
-use Rattle.std.proofs.Common.{◌≡◌, ◌⊎◌, inl, inr, ℕ, zero, suc, ◌+◌, ◌-◌, ◌^◌, ◌<◌, ◌≤◌, Bool, true, false, not, List, [], ◌∷◌, length, drop, refl, sym, ap, ◌∙◌, subst, arith, true≢false, zero-add}
-use Rattle.std.specs.Prelude.{slice_index, slice_index_or}
-use Rattle.std.specs.List.{range_with_len}
-use Rattle.std.proofs.lemmas.Bool.{and_parts, cases_eq}
+use Rattle.std.proofs.Common.{◌≡◌, ◌⊎◌, inl, inr, ℕ, zero, suc, ◌+◌, ◌-◌, ◌*◌, ◌^◌, ◌<◌, ◌≤◌, Bool, true, false, not, ◌&&◌, Some, None, List, [], ◌∷◌, length, drop, refl, sym, ap, ap₂, ◌∙◌, subst, arith, true≢false, zero-add}
+use Rattle.std.specs.Prelude.{slice_get, slice_index, slice_index_or, nat_eq, if◌then◌else◌}
+use Rattle.std.specs.List.{list_all, range_with_len}
+use Rattle.std.proofs.lemmas.Bool.{and_parts, cases_eq, eq-eqb, ne_eqb}
 use Rattle.std.proofs.lemmas.List.{get_or_default, length-map, drop_more, drop_all}
 use Rattle.std.proofs.lemmas.List.FromFn.{get_or-map-range_with_len, get_or-range_with_len, length-range_with_len}
-use Rattle.std.proofs.lemmas.Option.{slice_get_within}
+use Rattle.std.proofs.lemmas.Option.{slice_get-get_or, slice_get_within}
 use Rattle.gq_base.specs.Catalogs.{Tables}
 use Rattle.gq_base.specs.declared.direction.Direction.{Direction}
 use Rattle.gq_base.specs.declared.direction.Direction.TheVariants.{Forward, Backward}
-use Rattle.gq_group.specs.Chunks.{assignment_at, node_at, rel_at, node_in, edge_in, group_of, first_in}
+use Rattle.gq_base.specs.Valid.{row_count}
+use Rattle.gq_group.specs.Pieces.{items_of}
+use Rattle.gq_group.specs.Chunks.{assignment_at, cell_at, items_in, kept_in, node_at, rel_at, node_in, edge_in, group_of, first_in, row_in}
 use Rattle.gq_group.specs.Edges.{way as way_of, number_of}
 use Rattle.gq_group.specs.Groups.{AreSelected}
 use Rattle.gq_group.specs.declared.chunk.Chunk.{Chunk}
+use Rattle.gq_group.specs.declared.home.NodeHome.{NodeHome}
 use Rattle.gq_group.specs.declared.home.NodeHome.TheVariants as node
 use Rattle.gq_group.specs.declared.home.RelHome.TheVariants as rel
-use Rattle.gq_plan.specs.Covers.{fits_step}
-use Rattle.gq_plan.specs.Known.{Known}
+use Rattle.gq_join.specs.Kept.{matches, matches_of, place_of, rel_in, values_of}
+use Rattle.gq_plan.specs.Covers.{after, fits_step}
+use Rattle.gq_plan.specs.Known.{Known, none}
 use Rattle.gq_plan.specs.Meaning.{nothing}
-use Rattle.gq_plan.specs.Plans.{Step, Scan, Extend, Close, Join, Keep, Differ, NoLoop, steps}
-use Rattle.gq_plan.specs.Rows.{rel_table}
+use Rattle.gq_plan.specs.Plans.{Plan, Step, Scan, Extend, Close, Join, Keep, Differ, NoLoop, steps}
+use Rattle.gq_plan.specs.Rows.{node_table, rel_table}
 use Rattle.gq_plan.specs.declared.assignment.Assignment.{Assignment}
 use Rattle.gq_plan.specs.declared.typed.Typed.{Typed}
 use Rattle.gq_store.specs.Neighbours.{neighbours, numbers}
@@ -27,23 +31,29 @@ use Rattle.gq_law_groups.specs.Groups.{makes_group, decode, place}
 use Rattle.gq_walks.specs.Running.{Runs, cursor_at, keys_of, prefix}
 use Rattle.gq_walks.specs.declared.walker.Cursor.{Cursor}
 use Rattle.gq_walks.proofs.Runs.{length-keys}
+use Rattle.gq_pipe.specs.Built.{HasBuild}
 use Rattle.gq_pipe.specs.Levels.{given}
 use Rattle.gq_pipe.specs.Plain.{is_plain}
-use Rattle.gq_pipe.specs.steps.Chunks.{AreStanding, list_of}
-use Rattle.gq_pipe.specs.steps.Homes.{AreHomes, IsHoused, is_forward, node_home, rel_home}
+use Rattle.gq_pipe.specs.steps.Chunks.{AreStanding, HasKept, KeepsOf, list_of, matches_in}
+use Rattle.gq_pipe.specs.steps.Cells.{cell_of, filled, led, near_in}
+use Rattle.gq_pipe.specs.steps.Homes.{AreHomes, HasColumn, IsFilling, IsHoused, filling_at, filling_of, is_forward, node_home, rel_home}
 use Rattle.gq_pipe.specs.steps.Keeps.{IsRange, IsTriedAt}
 use Rattle.gq_pipe.specs.steps.Levels.{Run, step_at, known, before}
 use Rattle.gq_pipe.specs.steps.Lists.{no_group, group_at, group_in, groups_in, rows_in, layout_in, Tiles, Stands}
 use Rattle.gq_pipe.specs.steps.Moves.{IsRun, IsHeld, IsTried}
+use Rattle.gq_pipe.specs.declared.homes.Filling.{Filling}
 use Rattle.gq_pipe.specs.declared.places.GroupSteps.{GroupSteps}
 use Rattle.gq_pipe.specs.declared.plan_run.Tried.{Tried}
 use Rattle.gq_pipe.specs.declared.plan_run.Tried.TheVariants.{Past, Missed, Made}
-use Rattle.gq_pipe.proofs.Agreeing.{TriesItself, scan_itself, extend_itself, close_itself, keep_itself, differ_itself, no_loop_itself}
-use Rattle.gq_pipe.proofs.Binding.{given_all}
+use Rattle.gq_pipe.proofs.Agreeing.{TriesItself, joined, scan_itself, extend_itself, close_itself, keep_itself, differ_itself, no_loop_itself}
+use Rattle.gq_pipe.proofs.Binding.{fits_at, given_all}
+use Rattle.gq_pipe.proofs.Filling.{AreCells, cell_is, led_within, length-filled}
 use Rattle.gq_pipe.proofs.Going.{IsGoing, begins, ends, tried_made, tried_missed, tried_past}
 use Rattle.gq_pipe.proofs.Here.{group_range, group_held, group_makes, group_size, group_told, group_next, group_place, group_others}
-use Rattle.gq_pipe.proofs.Reading.{place_at, IsHere, here, item_is, first_is}
+use Rattle.gq_pipe.proofs.Joined.{build, join_count}
+use Rattle.gq_pipe.proofs.Reading.{place_at, IsHere, here, item_is, first_is, position_small}
 use Rattle.gq_pipe.proofs.Resting.{stands_first}
+use Rattle.gq_pipe.proofs.Sources.{IsIn, fits_there, set_before, known_before}
 use Rattle.gq_pipe.proofs.Standings.{Met, both_stand, same_row, stands_part, prefix_more, tile_at, IsWithin}
 use Rattle.gq_pipe.proofs.Stepping.{Follows, follows}
 use Rattle.gq_pipe.proofs.Tried.{scan_low, scan_count, extend_goes, extend_parts, close_goes}
@@ -61,9 +71,22 @@ close_reads : (catalog : Tables) (y : Typed) (k : Known) (column : Bool) (x from
 unfolding fits_step
 close_reads catalog y k column x from to w fit = (and_parts (k.nodes from) _ (and_parts (not (k.rels x)) _ (and_parts _ _ fit).1).1).0
 
+-- numbers that agree at keys which are known twice
+same_values : (a k m : ℕ → Bool) (vs xs ys : List ℕ) → list_all (λ v. a v && k v) vs ≡ true → list_all (λ v. a v && m v) vs ≡ true → ((v : ℕ) → k v ≡ true → m v ≡ true → slice_index xs v ≡ slice_index ys v) → values_of vs xs ≡ values_of vs ys
+same_values a k m [] xs ys h e same = refl
+same_values a k m (v ∷ vs) xs ys h e same =
+    let hs = and_parts (a v && k v) (list_all (λ v. a v && k v) vs) h in
+    let es = and_parts (a v && m v) (list_all (λ v. a v && m v) vs) e in
+    ap₂ (λ (x : ℕ) (l : List ℕ). x ∷ l) (same v (and_parts (a v) (k v) hs.0).1 (and_parts (a v) (m v) es.0).1) (same_values a k m vs xs ys hs.1 es.1 same)
+
+-- the keys of a join are known where it fits
+join_reads : (catalog : Tables) (y : Typed) (k : Known) (side : Plan) (keys : List ℕ) → fits_step catalog y (Join side keys) k ≡ true → list_all (λ v. (after side none).nodes v && k.nodes v) keys ≡ true
+unfolding fits_step
+join_reads catalog y k side keys fit = (and_parts _ _ (and_parts _ _ fit).1).0
+
 module _ (c : Run) (ss : List GroupSteps) (row : Assignment) (cs : List Cursor) (ms : List (List Bool)) (ch : Chunk) (ps : List ℕ) (runs : Runs (layout_in c ss) [] cs ms) (many : length cs ≡ length ss)
     (groups : AreStanding c ss row cs ms ch.groups.now (length ss)) (sel : AreSelected ch.groups.now ps)
-    (st : Stands c ss row (keys_of cs)) (homes : AreHomes c ss (length ss) (length c.steps) ch.homes.now) (plain : (d : ℕ) → d < length c.steps → is_plain (step_at c d) ≡ true) where
+    (st : Stands c ss row (keys_of cs)) (fs : List Filling) (homes : AreHomes c ss (length ss) (length c.steps) fs ch.homes.now) (cols : AreCells c row fs ch) (plain : (d : ℕ) → d < length c.steps → is_plain (step_at c d) ≡ true) where
   -- the rows and load numbers there
   abbrev pub read : Assignment
   read = assignment_at c.graph c.typed ch ps
@@ -109,7 +132,7 @@ module _ (c : Run) (ss : List GroupSteps) (row : Assignment) (cs : List Cursor) 
     met : Met c row read s
     met = subst (λ n. Met c row read (group_at ss n)) long (both_stand c ss row read pre (omega (arith, low, long)) (stands_part c ss row cs i st) at)
 
-    house : (e : ℕ) → s.first ≤ e → e < s.end → IsHoused ch.homes.now i (step_at c e)
+    house : (e : ℕ) → s.first ≤ e → e < s.end → IsHoused fs ch.homes.now i (step_at c e)
     house e above below = (homes.done i e low (record { low = above; high = below })).1
 
     few : j + 1 < 2 ^ 32
@@ -141,6 +164,103 @@ module _ (c : Run) (ss : List GroupSteps) (row : Assignment) (cs : List Cursor) 
     item_there : (v : ℕ) → node_home ch.homes.now v ≡ node.Item i → v < length c.typed.nodes → slice_index read.nodes v ≡ slice_index (list_of c s.first row (step_at c s.first)) j
     item_there v home v_low = node_read v v_low ∙ ap (node_in ch ps) home ∙ item_is c ss row cs ms ch ps runs many groups sel i low
 
+    -- the position is in the piece
+    p_small : slice_index ps i < 1024
+    p_small = position_small c ss row cs ms ch ps runs many groups sel i low
+
+    cell_there : (n : ℕ) → n < length fs → row_in (cell_at ch n (slice_index ps i)) ≡ cell_of c row ch.groups.now ch.homes.now (filled c row ch.groups.now ch.homes.now fs n) (filling_at fs n) (slice_index ps i)
+    cell_there n inside =
+        ap row_in (cols.cells n (slice_index ps i) (omega (arith, inside, length-filled c row ch.groups.now ch.homes.now fs (length fs))) p_small).is
+        ∙ cell_is c row ch.groups.now ch.homes.now fs (length fs) n (slice_index ps i) inside p_small
+
+    -- the source of a column, as the column reads it
+    source_there : (from n : ℕ) → from < length c.typed.nodes → n < length fs → ((j m : ℕ) → node_home ch.homes.now from ≡ node.Column j m → m < n) → IsIn ch.homes.now i from ⊎ (slice_index row.nodes from ≡ slice_index read.nodes from)
+        → near_in row ch.groups.now (filled c row ch.groups.now ch.homes.now fs n) i from (slice_index ps i) (node_home ch.homes.now from) ≡ slice_index read.nodes from
+    unfolding IsIn
+    source_there from n from_low n_low before (inl (inl item)) =
+        ap (near_in row ch.groups.now (filled c row ch.groups.now ch.homes.now fs n) i from (slice_index ps i)) item
+        ∙ ap (λ b. if b then slice_index (items_in (group_of ch i)) (slice_index ps i) else slice_index row.nodes from) (eq-eqb i i refl)
+        ∙ sym (node_read from from_low ∙ ap (node_in ch ps) item)
+    source_there from n from_low n_low before (inl (inr column)) =
+        let m : ℕ = column.0 in
+        let less : m < n = before i m column.1 in
+        ap (near_in row ch.groups.now (filled c row ch.groups.now ch.homes.now fs n) i from (slice_index ps i)) column.1
+        ∙ ap (λ b. if b then slice_index (slice_index_or (filled c row ch.groups.now ch.homes.now fs n) m []) (slice_index ps i) else slice_index row.nodes from) (eq-eqb i i refl)
+        ∙ cell_is c row ch.groups.now ch.homes.now fs n m (slice_index ps i) less p_small
+        ∙ sym (cell_there m (omega (arith, less, n_low)))
+        ∙ sym (node_read from from_low ∙ ap (node_in ch ps) column.1)
+    source_there from n from_low n_low before (inr same) = by (node_home ch.homes.now from) refl
+      where
+        by : (o : NodeHome) → node_home ch.homes.now from ≡ o → near_in row ch.groups.now (filled c row ch.groups.now ch.homes.now fs n) i from (slice_index ps i) o ≡ slice_index read.nodes from
+        by node.Nowhere is = same
+        by (node.Item j) is = if_item (cases_eq j i)
+          where
+            if_item : (j ≡ i) ⊎ (j ≡ i → ⊥) → (if nat_eq j i then slice_index (items_in (group_of ch j)) (slice_index ps i) else slice_index row.nodes from) ≡ slice_index read.nodes from
+            if_item (inl e) =
+                ap (λ b. if b then slice_index (items_in (group_of ch j)) (slice_index ps i) else slice_index row.nodes from) (eq-eqb j i e)
+                ∙ ap (λ k. slice_index (items_in (group_of ch j)) (slice_index ps k)) (sym e)
+                ∙ sym (node_read from from_low ∙ ap (node_in ch ps) is)
+            if_item (inr other) =
+                ap (λ b. if b then slice_index (items_in (group_of ch j)) (slice_index ps i) else slice_index row.nodes from) (ne_eqb j i other) ∙ same
+        by (node.Column j m) is = if_column (cases_eq j i)
+          where
+            if_column : (j ≡ i) ⊎ (j ≡ i → ⊥) → (if nat_eq j i then slice_index (slice_index_or (filled c row ch.groups.now ch.homes.now fs n) m []) (slice_index ps i) else slice_index row.nodes from) ≡ slice_index read.nodes from
+            if_column (inl e) =
+                let less : m < n = before j m is in
+                ap (λ b. if b then slice_index (slice_index_or (filled c row ch.groups.now ch.homes.now fs n) m []) (slice_index ps i) else slice_index row.nodes from) (eq-eqb j i e)
+                ∙ cell_is c row ch.groups.now ch.homes.now fs n m (slice_index ps i) less p_small
+                ∙ sym (cell_there m (omega (arith, less, n_low)))
+                ∙ ap (λ k. row_in (cell_at ch m (slice_index ps k))) (sym e)
+                ∙ sym (node_read from from_low ∙ ap (node_in ch ps) is)
+            if_column (inr other) =
+                ap (λ b. if b then slice_index (slice_index_or (filled c row ch.groups.now ch.homes.now fs n) m []) (slice_index ps i) else slice_index row.nodes from) (ne_eqb j i other) ∙ same
+
+    -- what a column extension binds
+    column_there : (x from to : ℕ) (w : Direction) (b : HasColumn fs ch.homes.now i x from to w) → from < length c.typed.nodes → to < length c.typed.nodes → slice_index read.nodes from < row_count c.graph.nodes (node_table c.typed from)
+        → IsIn ch.homes.now i from ⊎ (slice_index row.nodes from ≡ slice_index read.nodes from) → slice_index read.nodes to ≡ slice_index (neighbours c.graph (rel_table c.typed x) w (slice_index read.nodes from)) 0
+    column_there x from to w b from_low to_low within_rows near =
+        let filling : IsFilling c (length ss) (known c (length c.steps)) ch.homes.now b.column (filling_at fs b.column) = homes.fillings b.column b.inside in
+        let mine : IsFilling c (length ss) (known c (length c.steps)) ch.homes.now b.column (filling_of i x from w) = subst (IsFilling c (length ss) (known c (length c.steps)) ch.homes.now b.column) b.filling filling in
+        node_read to to_low ∙ ap (node_in ch ps) b.node_is ∙ cell_there b.column b.inside
+        ∙ ap (λ f. cell_of c row ch.groups.now ch.homes.now (filled c row ch.groups.now ch.homes.now fs b.column) f (slice_index ps i)) b.filling
+        ∙ ap (led c (filling_of i x from w)) (source_there from b.column from_low b.inside mine.before near)
+        ∙ led_within c (filling_of i x from w) (slice_index read.nodes from) within_rows
+
+    -- the row of the build that a join matches there is the item of the group
+    match_there : (side : Plan) (keys : List ℕ) (is : step_at c s.first ≡ Join side keys)
+        → slice_get (matches_of (joined c at.runs s.first first_low read held side keys is) read) j ≡ Some (slice_index (items_in (group_of ch i)) (slice_index ps i))
+    match_there side keys is =
+        let run : IsRun c = at.runs in
+        let b : HasBuild c.graph c.typed side keys (slice_index_or c.builds s.first None) = build c run s.first first_low read held side keys is in
+        let reads = join_reads c.graph.catalog c.typed met.set side keys (subst (λ t. fits_step c.graph.catalog c.typed t met.set ≡ true) is met.fit) in
+        let knows = join_reads c.graph.catalog c.typed (known c s.first) side keys (subst (λ t. fits_step c.graph.catalog c.typed t (known c s.first) ≡ true) is (fits_at c run s.first first_low)) in
+        let values : values_of b.build.keys row.nodes ≡ values_of b.build.keys read.nodes =
+        ap (λ ks. values_of ks row.nodes) b.is.key_list
+        ∙ same_values (after side none).nodes met.set.nodes (known c s.first).nodes keys row.nodes read.nodes reads knows (λ v set bound. same_row c run row read s met v set bound)
+        ∙ ap (λ ks. values_of ks read.nodes) (sym b.is.key_list) in
+        let list : list_of c s.first row (step_at c s.first) ≡ matches_of b.build read =
+        ap (list_of c s.first row) is ∙ ap (λ o. matches_in o row) b.there ∙ ap (matches b.build) values in
+        let inside : j < length (matches_of b.build read) = inside_of _ (join_count c run s.first first_low read held side keys is) in
+        slice_get-get_or (matches_of b.build read) j 0 inside
+        ∙ ap (λ n. Some n) (sym (item_is c ss row cs ms ch ps runs many groups sel i low ∙ ap (λ l. slice_index l j) list))
+
+    -- the load number of a relationship that the build of the group keeps
+    kept_number : (side : Plan) (keys : List ℕ) (is : step_at c s.first ≡ Join side keys) (x : ℕ) → x < length c.typed.rels → place_of (joined c at.runs s.first first_low read held side keys is).rels x < length (joined c at.runs s.first first_low read held side keys is).rels
+        → slice_index (items_in (group_of ch i)) (slice_index ps i) < length (joined c at.runs s.first first_low read held side keys is).rows
+        → rel_home ch.homes.now x ≡ rel.Kept i (place_of (joined c at.runs s.first first_low read held side keys is).rels x)
+        → slice_index read.rels x ≡ rel_in (joined c at.runs s.first first_low read held side keys is) x (slice_index (items_in (group_of ch i)) (slice_index ps i))
+    kept_number side keys is x x_low kept_there row_low home =
+        let b : HasBuild c.graph c.typed side keys (slice_index_or c.builds s.first None) = build c at.runs s.first first_low read held side keys is in
+        let n : ℕ = place_of b.build.rels x in
+        let k : HasKept b.build spot.group.kept = subst (λ o. KeepsOf o spot.group.kept) b.there spot.is.kept in
+        let item : slice_index (items_in (group_of ch i)) (slice_index ps i) ≡ slice_index (items_of spot.group.piece) (slice_index ps i) = ap (λ o. slice_index (items_in o) (slice_index ps i)) spot.there in
+        rel_read x x_low
+        ∙ ap (λ h. number_of c.graph (rel_table c.typed x) (edge_in ch ps h)) home
+        ∙ ap (λ o. kept_in o n (slice_index ps i)) spot.there
+        ∙ ap (λ r. slice_index spot.group.kept.numbers.now (r * spot.group.kept.width + n)) (sym item)
+        ∙ ap (λ w. slice_index spot.group.kept.numbers.now (slice_index (items_in (group_of ch i)) (slice_index ps i) * w + n)) k.width
+        ∙ k.each (slice_index (items_in (group_of ch i)) (slice_index ps i)) n row_low kept_there
+
     -- the first step
     first_itself : TriesItself c s.first j read
     first_itself = go (step_at c s.first) refl (house s.first (omega arith) within.some) (plain s.first first_low) (group_makes c ss read i low s found pre long at) met.fit
@@ -148,15 +268,15 @@ module _ (c : Run) (ss : List GroupSteps) (row : Assignment) (cs : List Cursor) 
         run : IsRun c
         run = at.runs
 
-        go : (t : Step) → step_at c s.first ≡ t → IsHoused ch.homes.now i (step_at c s.first) → is_plain (step_at c s.first) ≡ true → makes_group (step_at c s.first) ≡ true → fits_step c.graph.catalog c.typed (step_at c s.first) met.set ≡ true → TriesItself c s.first j read
+        go : (t : Step) → step_at c s.first ≡ t → IsHoused fs ch.homes.now i (step_at c s.first) → is_plain (step_at c s.first) ≡ true → makes_group (step_at c s.first) ≡ true → fits_step c.graph.catalog c.typed (step_at c s.first) met.set ≡ true → TriesItself c s.first j read
         go (Scan v) is home simple makes fit =
             let v_low : v < length c.typed.nodes = scan_low c run s.first first_low read held v is in
             let inside = inside_of _ (scan_count c run s.first first_low read held v is) in
             scan_itself c run s.first first_low read held v j is inside few
-            (item_there v (subst (IsHoused ch.homes.now i) is home) v_low
+            (item_there v (subst (IsHoused fs ch.homes.now i) is home) v_low
             ∙ ap (λ t. slice_index (list_of c s.first row t) j) is
             ∙ get_or-range_with_len 0 _ j 0 inside ∙ zero-add j)
-        go (Extend true x from to w) is home simple makes fit = absurd (true≢false (sym simple ∙ ap is_plain is))
+        go (Extend true x from to w) is home simple makes fit = absurd (true≢false (sym makes ∙ ap makes_group is))
         go (Extend false x from to w) is home simple makes fit =
             let f : Follows c x from to w = follows c run false x from to w (extend_goes c run s.first first_low read held false x from to w is) in
             let x_low : x < length c.typed.rels = slice_get_within c.typed.rels x _ f.rel_is in
@@ -165,7 +285,7 @@ module _ (c : Run) (ss : List GroupSteps) (row : Assignment) (cs : List Cursor) 
             let set : met.set.nodes from ≡ true = extend_reads c.graph.catalog c.typed met.set false x from to w (subst (λ t. fits_step c.graph.catalog c.typed t met.set ≡ true) is fit) in
             let bound = (extend_parts c run s.first first_low read held false x from to w is).1 in
             let near : slice_index row.nodes from ≡ slice_index read.nodes from = same_row c run row read s met from set bound in
-            let both = subst (IsHoused ch.homes.now i) is home in
+            let both = subst (IsHoused fs ch.homes.now i) is home in
             extend_itself c run s.first first_low read held false x from to w j few is
             (λ inside. item_there to both.0 to_low ∙ ap (λ t. slice_index (list_of c s.first row t) j) is
             ∙ ap (λ n. slice_index (neighbours c.graph (rel_table c.typed x) w n) j) near)
@@ -176,7 +296,7 @@ module _ (c : Run) (ss : List GroupSteps) (row : Assignment) (cs : List Cursor) 
             let x_low : x < length c.typed.rels = slice_get_within c.typed.rels x _ f.rel_is in
             let from_low : from < length c.typed.nodes = slice_get_within c.typed.nodes from _ f.near in
             close_itself c run s.first first_low read held false x from to w j few is
-            (λ inside. listed_number x from w (subst (IsHoused ch.homes.now i) is home) x_low from_low)
+            (λ inside. listed_number x from w (subst (IsHoused fs ch.homes.now i) is home) x_low from_low)
         go (Join side keys) is home simple makes fit = absurd (true≢false (sym simple ∙ ap is_plain is))
         go (Keep k) is home simple makes fit = absurd (true≢false (sym makes ∙ ap makes_group is))
         go (Differ p) is home simple makes fit = absurd (true≢false (sym makes ∙ ap makes_group is))
@@ -187,20 +307,39 @@ module _ (c : Run) (ss : List GroupSteps) (row : Assignment) (cs : List Cursor) 
       step_low : d < length c.steps
       step_low = let inside = within.inside in omega (arith, inside, below)
 
+      -- what a column extension reads lives in the group, or stands
+      reads_near : (x from to : ℕ) (w : Direction) → step_at c d ≡ Extend true x from to w → IsIn ch.homes.now i from ⊎ (slice_index row.nodes from ≡ slice_index read.nodes from)
+      reads_near x from to w is =
+          let there : Known = Rattle.gq_pipe.proofs.Sources.there c fs ch.homes.now i s within.inside house plain d above below met.set met.placed in
+          let fit : fits_step c.graph.catalog c.typed (step_at c d) there ≡ true = fits_there c fs ch.homes.now i s within.inside house plain d above below met.set met.placed in
+          let set : there.nodes from ≡ true = extend_reads c.graph.catalog c.typed there true x from to w (subst (λ t. fits_step c.graph.catalog c.typed t there ≡ true) is fit) in
+          let bound = (extend_parts c at.runs d step_low read have true x from to w is).1 in
+          go (set_before c fs ch.homes.now i s within.inside house plain d above below met.set met.placed from set) (known_before c fs ch.homes.now i s within.inside house plain d from (omega (arith, above)) (omega (arith, below)) bound)
+        where
+          go : (met.set.nodes from ≡ true) ⊎ IsIn ch.homes.now i from → ((known c s.first).nodes from ≡ true) ⊎ IsIn ch.homes.now i from → IsIn ch.homes.now i from ⊎ (slice_index row.nodes from ≡ slice_index read.nodes from)
+          go (inr here) k = inl here
+          go (inl set) (inr here) = inl here
+          go (inl set) (inl bound) = inr (same_row c at.runs row read s met from set bound)
+
       next_itself : TriesItself c d 0 read
       next_itself = go (step_at c d) refl (house d (omega (arith, above)) below) (plain d step_low) (group_others c ss read i low s found pre long at d above below)
         where
           run : IsRun c
           run = at.runs
 
-          go : (t : Step) → step_at c d ≡ t → IsHoused ch.homes.now i (step_at c d) → is_plain (step_at c d) ≡ true → makes_group (step_at c d) ≡ false → TriesItself c d 0 read
+          go : (t : Step) → step_at c d ≡ t → IsHoused fs ch.homes.now i (step_at c d) → is_plain (step_at c d) ≡ true → makes_group (step_at c d) ≡ false → TriesItself c d 0 read
           go (Scan v) is home simple none = absurd (true≢false (ap makes_group (sym is) ∙ none))
-          go (Extend true x from to w) is home simple none = absurd (true≢false (sym simple ∙ ap is_plain is))
+          go (Extend true x from to w) is home simple none =
+              let f : Follows c x from to w = follows c run true x from to w (extend_goes c run d step_low read have true x from to w is) in
+              let b : HasColumn fs ch.homes.now i x from to w = subst (IsHoused fs ch.homes.now i) is home in
+              extend_itself c run d step_low read have true x from to w 0 (omega arith) is
+              (λ inside. column_there x from to w b (slice_get_within c.typed.nodes from _ f.near) (slice_get_within c.typed.nodes to _ f.far) (have.rows from (extend_parts c run d step_low read have true x from to w is).1) (reads_near x from to w is))
+              (λ inside. single_number x from w b.edge_is (slice_get_within c.typed.rels x _ f.rel_is) (slice_get_within c.typed.nodes from _ f.near))
           go (Extend false x from to w) is home simple none = absurd (true≢false (ap makes_group (sym is) ∙ none))
           go (Close true x from to w) is home simple none =
               let f : Follows c x from to w = follows c run true x from to w (close_goes c run d step_low read have true x from to w is) in
               close_itself c run d step_low read have true x from to w 0 (omega arith) is
-              (λ inside. single_number x from w (subst (IsHoused ch.homes.now i) is home) (slice_get_within c.typed.rels x _ f.rel_is) (slice_get_within c.typed.nodes from _ f.near))
+              (λ inside. single_number x from w (subst (IsHoused fs ch.homes.now i) is home) (slice_get_within c.typed.rels x _ f.rel_is) (slice_get_within c.typed.nodes from _ f.near))
           go (Close false x from to w) is home simple none = absurd (true≢false (ap makes_group (sym is) ∙ none))
           go (Join side keys) is home simple none = absurd (true≢false (ap makes_group (sym is) ∙ none))
           go (Keep k) is home simple none = keep_itself c run d step_low read have k is 0

@@ -7,7 +7,7 @@ use Rattle.std.proofs.lemmas.List.{get_or_default, length-map}
 use Rattle.std.proofs.lemmas.List.FromFn.{length-range_with_len}
 use Rattle.std.proofs.lemmas.Option.{get_or_from_slice_get}
 use Rattle.gq_bits.specs.Places.{is_marked}
-use Rattle.gq_group.specs.Chunks.{IsChunk, IsChunkOf, IsNodeHome, IsRelHome, HasEdges, assignment_at, node_at, edge_at, edge_in, chunk_meaning, group_of, first_in}
+use Rattle.gq_group.specs.Chunks.{IsChunk, IsChunkOf, IsColumnIn, IsNodeHome, IsRelHome, HasEdges, assignment_at, node_at, edge_at, edge_in, chunk_meaning, group_of, first_in}
 use Rattle.gq_group.specs.Edges.{IsEdge, HasEdge}
 use Rattle.gq_group.specs.Groups as group
 use Rattle.gq_group.specs.Groups.{AreSelected, IsGroup, IsPosition}
@@ -32,11 +32,13 @@ use Rattle.gq_pipe.specs.steps.Chunks.{AreStanding, IsGroupAt, marked_at, curren
 use Rattle.gq_pipe.specs.steps.Homes.{AreHomes, InGroup, IsHoused, is_forward, node_home, rel_home}
 use Rattle.gq_pipe.specs.steps.Levels.{Run, step_at, known, before}
 use Rattle.gq_pipe.specs.steps.Lists.{group_at, groups_in, rows_in, layout_in, Tiles, Stands}
+use Rattle.gq_pipe.specs.declared.homes.Filling.{Filling}
 use Rattle.gq_pipe.specs.declared.places.GroupSteps.{GroupSteps}
 use Rattle.gq_pipe.proofs.Assigned.{whole_assigned}
 use Rattle.gq_pipe.proofs.Binding.{after_all, given_all, looks}
 use Rattle.gq_pipe.specs.Plain.{is_plain}
 use Rattle.gq_pipe.proofs.Chosen.{way_is, reads_walk, node_read, all_stand, AllMade, made}
+use Rattle.gq_pipe.proofs.Filling.{AreCells, length-filled, out_at}
 use Rattle.gq_pipe.proofs.Piecing.{group_here, list_size, list_few, flat_here, piece_inside}
 use Rattle.gq_pipe.proofs.Products.{first_at, shift, shift_long, shift_at, chunk_walks, all_selected, same_on, as_many, items_long, h}
 use Rattle.gq_pipe.proofs.Reading.{place_at, first_is}
@@ -58,7 +60,7 @@ map_map f h (x ∷ xs) = ap (λ l. f (h x) ∷ l) (map_map f h xs)
 
 module _ (c : Run) (ss : List GroupSteps) (row : Assignment) (cs : List Cursor) (ms : List (List Bool)) (ch : Chunk) (st : Stands c ss row (keys_of cs)) (runs : Runs (layout_in c ss) [] cs ms) (many : length cs ≡ length ss)
     (marks : length ms ≡ length ss) (count : length ch.groups.now ≡ length ss) (groups : AreStanding c ss row cs ms ch.groups.now (length ss))
-    (homes : AreHomes c ss (length ss) (length c.steps) ch.homes.now) (plain : (d : ℕ) → d < length c.steps → is_plain (step_at c d) ≡ true) where
+    (fs : List Filling) (homes : AreHomes c ss (length ss) (length c.steps) fs ch.homes.now) (cols : AreCells c row fs ch) (plain : (d : ℕ) → d < length c.steps → is_plain (step_at c d) ≡ true) where
   abbrev read_at : List ℕ → Assignment
   read_at ps = assignment_at c.graph c.typed ch ps
 
@@ -68,7 +70,7 @@ module _ (c : Run) (ss : List GroupSteps) (row : Assignment) (cs : List Cursor) 
   one_choice : (ps : List ℕ) → AreSelected ch.groups.now ps → given c.typed (read_at ps) (steps c.steps) nothing ≡ decode c.graph c.typed (rows_in c) (groups_in c ss) nothing (shift firsts 0 ps)
   one_choice ps sel =
       let long : length ps ≡ length ss = as_many ch.groups.now ps sel ∙ count in
-      reads_walk c ss row cs ms ch ps runs many groups sel st homes plain (shift firsts 0 ps) (shift_long firsts 0 ps ∙ long)
+      reads_walk c ss row cs ms ch ps runs many groups sel st fs homes cols plain (shift firsts 0 ps) (shift_long firsts 0 ps ∙ long)
       (λ i low. shift_at firsts 0 ps i (omega (arith, low, long)) ∙ ap (λ n. firsts n + slice_index ps i) (zero-add i))
 
   -- what the plan binds at the choices of the chunk is what its walks bind
@@ -181,7 +183,7 @@ module _ (c : Run) (ss : List GroupSteps) (row : Assignment) (cs : List Cursor) 
       go false is more = (d, omega arith, is, h)
 
   -- what a step binds lives in its group
-  house_of : (e : ℕ) → e < length c.steps → (i : ℕ) × (i < length ss) × InGroup ss i e × IsHoused ch.homes.now i (step_at c e)
+  house_of : (e : ℕ) → e < length c.steps → (i : ℕ) × (i < length ss) × InGroup ss i e × IsHoused fs ch.homes.now i (step_at c e)
   house_of e low = let t = tile_of ss 0 e st.grouped.tiles (omega arith) low in (t.0, t.1, t.2, (homes.done t.0 e t.1 t.2).1)
 
   right_true : (a b : Bool) → (a || b) ≡ true → b ≡ false → a ≡ true
@@ -191,15 +193,35 @@ module _ (c : Run) (ss : List GroupSteps) (row : Assignment) (cs : List Cursor) 
   same_var : (v w : ℕ) (k : Bool) → (nat_eq v w || k) ≡ true → k ≡ false → w ≡ v
   same_var v w k h e = sym (eqb-true v w (right_true (nat_eq v w) k h e))
 
+  -- a column has a row at each marked position
+  column_in : (i n : ℕ) → i < length ss → n < length fs → IsColumnIn ch (group_of ch i) n
+  column_in i n low inside =
+      let g : Group = (h c ss row cs ms ch.groups.now st runs many marks count groups i low).group in
+      let is : IsGroup g = is_group i low in
+      let room = cols.room in
+      let within : n < length ch.slots.now = omega (arith, inside, room) in
+      subst (λ o. IsColumnIn ch o n) (sym (h c ss row cs ms ch.groups.now st runs many marks count groups i low).there)
+      (record {
+        within = within;
+        out = out_at ch.pool.now ch.slots.now n cols.held within;
+        rows = λ p on.
+            (let below = is.marked p on in
+            let short = is.piece.few in
+            let cell = cols.cells n p (let all = length-filled c row ch.groups.now ch.homes.now fs (length fs) in omega (arith, inside, all)) (omega (arith, below, short)) in
+            (_, cell.is, cell.few));
+      })
+
   node_houses : (v : ℕ) → IsNodeHome ch (node_home ch.homes.now v)
   unfolding after_step
   node_houses v = go ((known c (length c.steps)).nodes v) refl
     where
-      bound : (e i : ℕ) → e < length c.steps → i < length ss → (s : Step) → step_at c e ≡ s → IsHoused ch.homes.now i s → (known c e).nodes v ≡ false → (after_step s (known c e)).nodes v ≡ true → IsNodeHome ch (node_home ch.homes.now v)
+      bound : (e i : ℕ) → e < length c.steps → i < length ss → (s : Step) → step_at c e ≡ s → IsHoused fs ch.homes.now i s → (known c e).nodes v ≡ false → (after_step s (known c e)).nodes v ≡ true → IsNodeHome ch (node_home ch.homes.now v)
       bound e i low inside (Scan w) is house free now =
           let home : node_home ch.homes.now v ≡ node.Item i = ap (node_home ch.homes.now) (sym (same_var v w ((known c e).nodes v) now free)) ∙ house in
           subst (IsNodeHome ch) (sym home) (omega (arith, inside, count))
-      bound e i low inside (Extend true x from to w) is house free now = absurd (true≢false (sym (plain e low) ∙ ap is_plain is))
+      bound e i low inside (Extend true x from to w) is house free now =
+          let home : node_home ch.homes.now v ≡ node.Column i house.column = ap (node_home ch.homes.now) (sym (same_var v to ((known c e).nodes v) now free)) ∙ house.node_is in
+          subst (IsNodeHome ch) (sym home) (column_in i house.column inside house.inside)
       bound e i low inside (Extend false x from to w) is house free now =
           let home : node_home ch.homes.now v ≡ node.Item i = ap (node_home ch.homes.now) (sym (same_var v to ((known c e).nodes v) now free)) ∙ house.0 in
           subst (IsNodeHome ch) (sym home) (omega (arith, inside, count))
@@ -223,7 +245,7 @@ module _ (c : Run) (ss : List GroupSteps) (row : Assignment) (cs : List Cursor) 
     low : step < length c.steps
     inside : group < length ss
     there : InGroup ss group step
-    house : IsHoused ch.homes.now group (step_at c step)
+    house : IsHoused fs ch.homes.now group (step_at c step)
     free : (known c step).rels x ≡ false
     now : (after_step (step_at c step) (known c step)).rels x ≡ true
 
@@ -237,9 +259,11 @@ module _ (c : Run) (ss : List GroupSteps) (row : Assignment) (cs : List Cursor) 
   unfolding after_step
   rel_houses x = go ((known c (length c.steps)).rels x) refl
     where
-      bound : (e i : ℕ) → e < length c.steps → i < length ss → (s : Step) → step_at c e ≡ s → IsHoused ch.homes.now i s → (known c e).rels x ≡ false → (after_step s (known c e)).rels x ≡ true → IsRelHome ch (rel_home ch.homes.now x)
+      bound : (e i : ℕ) → e < length c.steps → i < length ss → (s : Step) → step_at c e ≡ s → IsHoused fs ch.homes.now i s → (known c e).rels x ≡ false → (after_step s (known c e)).rels x ≡ true → IsRelHome ch (rel_home ch.homes.now x)
       bound e i low inside (Scan w) is house free now = absurd (true≢false (sym now ∙ free))
-      bound e i low inside (Extend true z from to w) is house free now = absurd (true≢false (sym (plain e low) ∙ ap is_plain is))
+      bound e i low inside (Extend true z from to w) is house free now =
+          let home : rel_home ch.homes.now x ≡ rel.Single from (is_forward w) = ap (rel_home ch.homes.now) (sym (same_var x z ((known c e).rels x) now free)) ∙ house.edge_is in
+          subst (IsRelHome ch) (sym home) tt
       bound e i low inside (Extend false z from to w) is house free now =
           let home : rel_home ch.homes.now x ≡ rel.Listed i from (is_forward w) = ap (rel_home ch.homes.now) (sym (same_var x z ((known c e).rels x) now free)) ∙ house.1 in
           subst (IsRelHome ch) (sym home) (omega (arith, inside, count))
@@ -274,7 +298,7 @@ module _ (c : Run) (ss : List GroupSteps) (row : Assignment) (cs : List Cursor) 
     held_at : (e : ℕ) → e ≤ length c.steps → IsHeld c a (known c e)
     held_at e low =
         less_held c e (length c.steps) a low
-        (all_held c ss a (prefix cs (length ss)) (length-keys cs (length ss) (omega (arith, many))) (all_stand c ss row cs ms ch ps runs many groups sel st homes plain (length ss) (omega arith)))
+        (all_held c ss a (prefix cs (length ss)) (length-keys cs (length ss) (omega (arith, many))) (all_stand c ss row cs ms ch ps runs many groups sel st fs homes cols plain (length ss) (omega arith)))
 
     some_left : {X : Type 0} (xs : List X) (n : ℕ) (x : X) (rest : List X) → drop n xs ≡ x ∷ rest → n < length xs
     some_left [] zero x rest e = absurd (cc e)
@@ -286,7 +310,7 @@ module _ (c : Run) (ss : List GroupSteps) (row : Assignment) (cs : List Cursor) 
     listed_edge : (x from to : ℕ) (w : Direction) (i : ℕ) → i < length ss → rel_home ch.homes.now x ≡ rel.Listed i from (is_forward w) → CanFollow c.graph c.typed a (record { rel = x; from = from; to = to; direction = w })
         → place_at c ss row cs ms ch ps runs many groups sel i < length (neighbours c.graph (rel_table c.typed x) w (slice_index a.nodes from)) → IsEdge c.graph (rel_table c.typed x) (edge_at ch ps x)
     listed_edge x from to w i low home can inside =
-        let read : slice_index a.nodes from ≡ node_at ch ps from = node_read c ss row cs ms ch ps runs many groups sel st homes plain from can.from in
+        let read : slice_index a.nodes from ≡ node_at ch ps from = node_read c ss row cs ms ch ps runs many groups sel st fs homes cols plain from can.from in
         subst (λ h. IsEdge c.graph (rel_table c.typed x) (edge_in ch ps h)) (sym home)
         (subst (λ d. HasEdge c.graph (rel_table c.typed x) d (node_at ch ps from) (first_in (group_of ch i) + slice_index ps i)) (sym (way_is w))
         (subst (λ n. HasEdge c.graph (rel_table c.typed x) w n (first_in (group_of ch i) + slice_index ps i)) read
@@ -296,7 +320,7 @@ module _ (c : Run) (ss : List GroupSteps) (row : Assignment) (cs : List Cursor) 
     single_edge : (x from to : ℕ) (w : Direction) → rel_home ch.homes.now x ≡ rel.Single from (is_forward w) → CanFollow c.graph c.typed a (record { rel = x; from = from; to = to; direction = w })
         → 0 < length (neighbours c.graph (rel_table c.typed x) w (slice_index a.nodes from)) → IsEdge c.graph (rel_table c.typed x) (edge_at ch ps x)
     single_edge x from to w home can inside =
-        let read : slice_index a.nodes from ≡ node_at ch ps from = node_read c ss row cs ms ch ps runs many groups sel st homes plain from can.from in
+        let read : slice_index a.nodes from ≡ node_at ch ps from = node_read c ss row cs ms ch ps runs many groups sel st fs homes cols plain from can.from in
         subst (λ h. IsEdge c.graph (rel_table c.typed x) (edge_in ch ps h)) (sym home)
         (subst (λ d. HasEdge c.graph (rel_table c.typed x) d (node_at ch ps from) 0) (sym (way_is w))
         (subst (λ n. HasEdge c.graph (rel_table c.typed x) w n 0) read
@@ -306,8 +330,8 @@ module _ (c : Run) (ss : List GroupSteps) (row : Assignment) (cs : List Cursor) 
     unfolding after_step
     edge_of x = go ((known c (length c.steps)).rels x) refl
       where
-        module_made : (i : ℕ) (low : i < length ss) → AllMade c ss row cs ms ch ps runs many groups sel st homes plain i low (all_stand c ss row cs ms ch ps runs many groups sel st homes plain i (omega (arith, low))) (group_at ss i).first
-        module_made i low = made c ss row cs ms ch ps runs many groups sel st homes plain i low (all_stand c ss row cs ms ch ps runs many groups sel st homes plain i (omega (arith, low)))
+        module_made : (i : ℕ) (low : i < length ss) → AllMade c ss row cs ms ch ps runs many groups sel st fs homes cols plain i low (all_stand c ss row cs ms ch ps runs many groups sel st fs homes cols plain i (omega (arith, low))) (group_at ss i).first
+        module_made i low = made c ss row cs ms ch ps runs many groups sel st fs homes cols plain i low (all_stand c ss row cs ms ch ps runs many groups sel st fs homes cols plain i (omega (arith, low)))
 
         -- a step that makes a group is its first one
         is_first : (i e : ℕ) (low : i < length ss) → InGroup ss i e → makes_group (step_at c e) ≡ true → e ≡ (group_at ss i).first
@@ -319,9 +343,25 @@ module _ (c : Run) (ss : List GroupSteps) (row : Assignment) (cs : List Cursor) 
                 let above = there.low in
                 absurd (true≢false (sym makes ∙ group_others c ss row i low (group_at ss i) (get_or_default ss i Rattle.gq_pipe.specs.steps.Lists.no_group (group_at ss i) low) (prefix cs i) (length-keys cs i (omega (arith, low, many))) (stands_part c ss row cs i st) e (omega (arith, above, other)) there.high))
 
-        bound : (e i : ℕ) → e < length c.steps → (low : i < length ss) → InGroup ss i e → (s : Step) → step_at c e ≡ s → IsHoused ch.homes.now i s → (known c e).rels x ≡ false → (after_step s (known c e)).rels x ≡ true → IsEdge c.graph (rel_table c.typed x) (edge_at ch ps x)
+        -- one that makes none stands behind it
+        behind : (i e : ℕ) → i < length ss → InGroup ss i e → makes_group (step_at c e) ≡ false → (group_at ss i).first < e
+        behind i e low there none = by (cases_eq e (group_at ss i).first)
+          where
+            by : (e ≡ (group_at ss i).first) ⊎ (e ≡ (group_at ss i).first → ⊥) → (group_at ss i).first < e
+            by (inl first) = absurd (true≢false (sym (group_makes c ss row i low (group_at ss i) (get_or_default ss i Rattle.gq_pipe.specs.steps.Lists.no_group (group_at ss i) low) (prefix cs i) (length-keys cs i (omega (arith, low, many))) (stands_part c ss row cs i st)) ∙ ap (λ n. makes_group (step_at c n)) (sym first) ∙ none))
+            by (inr other) = let above = there.low in omega (arith, above, other)
+
+        bound : (e i : ℕ) → e < length c.steps → (low : i < length ss) → InGroup ss i e → (s : Step) → step_at c e ≡ s → IsHoused fs ch.homes.now i s → (known c e).rels x ≡ false → (after_step s (known c e)).rels x ≡ true → IsEdge c.graph (rel_table c.typed x) (edge_at ch ps x)
         bound e i e_low low there (Scan w) is house free now = absurd (true≢false (sym now ∙ free))
-        bound e i e_low low there (Extend true z from to w) is house free now = absurd (true≢false (sym (plain e e_low) ∙ ap is_plain is))
+        bound e i e_low low there (Extend true z from to w) is house free now =
+            let same : z ≡ x = same_var x z ((known c e).rels x) now free in
+            let above : (group_at ss i).first < e = behind i e low there (ap makes_group is) in
+            let up = there.low in
+            let t : IsMade c e 0 a a = (module_made i low).others_made e above up there.high in
+            let inside = some_left (tries c.graph c.typed (step_at c e) (before c a e)) 0 _ _ t.made in
+            let most = extend_count c st.runs e e_low a (held_at e (omega (arith, e_low))) true z from to w is in
+            subst (λ n. IsEdge c.graph (rel_table c.typed n) (edge_at ch ps n)) same
+            (single_edge z from to w house.edge_is (extend_can c st.runs e e_low a (held_at e (omega (arith, e_low))) true z from to w is) (omega (arith, inside, most)))
         bound e i e_low low there (Extend false z from to w) is house free now =
             let same : z ≡ x = same_var x z ((known c e).rels x) now free in
             let first : e ≡ (group_at ss i).first = is_first i e low there (ap makes_group is) in
@@ -340,17 +380,13 @@ module _ (c : Run) (ss : List GroupSteps) (row : Assignment) (cs : List Cursor) 
             (listed_edge z from to w i low house (close_can c st.runs e e_low a (held_at e (omega (arith, e_low))) false z from to w is) (omega (arith, inside, most)))
         bound e i e_low low there (Close true z from to w) is house free now =
             let same : z ≡ x = same_var x z ((known c e).rels x) now free in
-            let above : (group_at ss i).first < e = later (cases_eq e (group_at ss i).first) is in
+            let above : (group_at ss i).first < e = behind i e low there (ap makes_group is) in
             let up = there.low in
             let t : IsMade c e 0 a a = (module_made i low).others_made e above up there.high in
             let inside = some_left (tries c.graph c.typed (step_at c e) (before c a e)) 0 _ _ t.made in
             let most = close_count c st.runs e e_low a (held_at e (omega (arith, e_low))) true z from to w is in
             subst (λ n. IsEdge c.graph (rel_table c.typed n) (edge_at ch ps n)) same
             (single_edge z from to w house (close_can c st.runs e e_low a (held_at e (omega (arith, e_low))) true z from to w is) (omega (arith, inside, most)))
-          where
-            later : (e ≡ (group_at ss i).first) ⊎ (e ≡ (group_at ss i).first → ⊥) → step_at c e ≡ Close true z from to w → (group_at ss i).first < e
-            later (inl first) is = absurd (true≢false (sym (group_makes c ss row i low (group_at ss i) (get_or_default ss i Rattle.gq_pipe.specs.steps.Lists.no_group (group_at ss i) low) (prefix cs i) (length-keys cs i (omega (arith, low, many))) (stands_part c ss row cs i st)) ∙ ap (λ n. makes_group (step_at c n)) (sym first) ∙ ap makes_group is))
-            later (inr other) is = let above = there.low in omega (arith, above, other)
         bound e i e_low low there (Join side keys) is house free now = absurd (true≢false (sym (plain e e_low) ∙ ap is_plain is))
         bound e i e_low low there (Keep t) is house free now = absurd (true≢false (sym now ∙ free))
         bound e i e_low low there (Differ p) is house free now = absurd (true≢false (sym now ∙ free))

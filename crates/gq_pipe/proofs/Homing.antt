@@ -1,24 +1,28 @@
 -- One more step puts what it binds into its group, and changes the home of no other variable.
-use Rattle.std.proofs.Common.{◌≡◌, ◌≢◌, ◌⊎◌, inl, inr, ℕ, zero, suc, ◌+◌, ◌<◌, ◌≤◌, Bool, true, false, ◌||◌, nat_eq, List, [], ◌∷◌, length, refl, sym, ap, ◌∙◌, subst, arith, true≢false}
-use Rattle.std.proofs.lemmas.Bool.{and_parts, cases_eq, eq-eqb, ltb-true, or_left}
-use Rattle.std.proofs.lemmas.List.{get_or-set_same, get_or-set_other, length-set}
+use Rattle.std.proofs.Common.{◌≡◌, ◌≢◌, ◌⊎◌, inl, inr, ℕ, zero, suc, ◌+◌, ◌<◌, ◌≤◌, Bool, true, false, ◌||◌, nat_eq, List, [], ◌∷◌, ◌++◌, length, take, refl, sym, ap, ◌∙◌, subst, arith, true≢false}
+use Rattle.std.proofs.lemmas.Bool.{and_parts, cases_eq, cases_lt, eq-eqb, ltb-true, or_left}
+use Rattle.std.proofs.lemmas.List.{get_or-set_same, get_or-set_other, get_or_append_left, get_or_push, length_push, length-set, take_all, take_more}
+use Rattle.std.specs.List.{sum_by}
+use Rattle.std.proofs.lemmas.List.Sums.{sum_by-append, sum_by-cons}
 use Rattle.std.proofs.lemmas.Option.{slice_get_within}
 use Rattle.gq_group.specs.declared.home.Homes.{Homes}
 use Rattle.gq_group.specs.declared.home.NodeHome.{NodeHome}
 use Rattle.gq_group.specs.declared.home.NodeHome.TheVariants as node
 use Rattle.gq_group.specs.declared.home.RelHome.{RelHome}
 use Rattle.gq_group.specs.declared.home.RelHome.TheVariants as rel
+use Rattle.gq_plan.specs.Columns.{columns_of, own_columns, steps_of}
 use Rattle.gq_plan.specs.Covers.{after_step, fits_step}
 use Rattle.gq_plan.specs.Known.{Known}
-use Rattle.gq_plan.specs.Plans.{Step, Scan, Extend, Close, Join, Keep, Differ, NoLoop}
-use Rattle.gq_pipe.specs.steps.Homes.{AreHomes, AreHoused, CanHouse, InGroup, IsHoused, housed, is_forward, node_home, rel_home, with_node_home, with_rel_home}
+use Rattle.gq_plan.specs.Plans.{Plan, Step, Scan, Extend, Close, Join, Keep, Differ, NoLoop, steps}
+use Rattle.gq_pipe.specs.steps.Homes.{AreHomes, AreHoused, CanHouse, InGroup, IsFilling, IsHoused, filling_at, filling_of, housed, is_forward, no_filling, node_home, rel_home, with_filling, with_node_home, with_rel_home}
 use Rattle.gq_pipe.specs.steps.Levels.{Run, step_at, known}
 use Rattle.gq_pipe.specs.steps.Lists.{group_at, Tiles}
 use Rattle.gq_pipe.specs.steps.Moves.{IsRun}
+use Rattle.gq_pipe.specs.declared.homes.Filling.{Filling}
 use Rattle.gq_pipe.specs.declared.places.GroupSteps.{GroupSteps}
-use Rattle.gq_pipe.proofs.Binding.{fits_at}
+use Rattle.gq_pipe.proofs.Binding.{fits_at, step_keeps_node}
 use Rattle.gq_pipe.proofs.Going.{later_node, later_rel}
-use Rattle.gq_pipe.proofs.Stepping.{Follows, follows, not_true}
+use Rattle.gq_pipe.proofs.Stepping.{Follows, follows, near_rows_are, not_true}
 
 -- ---- one variable
 
@@ -42,30 +46,68 @@ pub record Keeps (k : Known) (old new : Homes) : Type 0 where
   pub nodes : (v : ℕ) → k.nodes v ≡ true → node_home new v ≡ node_home old v
   pub rels : (x : ℕ) → k.rels x ≡ true → rel_home new x ≡ rel_home old x
 
+-- columns with more behind them
+pub record Longer (old new : List Filling) : Type 0 where
+  pub low : (m : ℕ) → m < length old → m < length new
+  pub same : (m : ℕ) → m < length old → filling_at new m ≡ filling_at old m
+
+pub longer : (i : ℕ) (s : Step) (fs : List Filling) → Longer fs (with_filling i s fs)
+longer i (Scan v) fs = record { low = λ m h. h; same = λ m h. refl }
+longer i (Extend true x from to way) fs =
+    record { low = λ m h. omega (arith, h, length_push fs (filling_of i x from way)); same = λ m h. get_or_append_left fs (filling_of i x from way ∷ []) no_filling m h }
+longer i (Extend false x from to way) fs = record { low = λ m h. h; same = λ m h. refl }
+longer i (Close column x from to way) fs = record { low = λ m h. h; same = λ m h. refl }
+longer i (Join side keys) fs = record { low = λ m h. h; same = λ m h. refl }
+longer i (Keep t) fs = record { low = λ m h. h; same = λ m h. refl }
+longer i (Differ p) fs = record { low = λ m h. h; same = λ m h. refl }
+longer i (NoLoop x) fs = record { low = λ m h. h; same = λ m h. refl }
+
 -- what a step binds is known behind it, so it stays where it lives
-stays_housed : (k : Known) (old new : Homes) (i : ℕ) (s : Step) (b : Known) → ((v : ℕ) → (after_step s b).nodes v ≡ true → k.nodes v ≡ true) → ((x : ℕ) → (after_step s b).rels x ≡ true → k.rels x ≡ true)
-    → Keeps k old new → IsHoused old i s → IsHoused new i s
+stays_housed : (k : Known) (fs more : List Filling) (old new : Homes) (i : ℕ) (s : Step) (b : Known) → ((v : ℕ) → (after_step s b).nodes v ≡ true → k.nodes v ≡ true) → ((x : ℕ) → (after_step s b).rels x ≡ true → k.rels x ≡ true)
+    → Longer fs more → Keeps k old new → IsHoused fs old i s → IsHoused more new i s
 unfolding after_step
-stays_housed k old new i (Scan v) b nodes rels keep h = keep.nodes v (nodes v (or_left (nat_eq v v) (b.nodes v) (eq-eqb v v refl))) ∙ h
-stays_housed k old new i (Extend true x from to way) b nodes rels keep h = keep.rels x (rels x (or_left (nat_eq x x) (b.rels x) (eq-eqb x x refl))) ∙ h
-stays_housed k old new i (Extend false x from to way) b nodes rels keep h =
+stays_housed k fs more old new i (Scan v) b nodes rels long keep h = keep.nodes v (nodes v (or_left (nat_eq v v) (b.nodes v) (eq-eqb v v refl))) ∙ h
+stays_housed k fs more old new i (Extend true x from to way) b nodes rels long keep h = record {
+  column = h.column;
+  inside = long.low h.column h.inside;
+  filling = long.same h.column h.inside ∙ h.filling;
+  node_is = keep.nodes to (nodes to (or_left (nat_eq to to) (b.nodes to) (eq-eqb to to refl))) ∙ h.node_is;
+  edge_is = keep.rels x (rels x (or_left (nat_eq x x) (b.rels x) (eq-eqb x x refl))) ∙ h.edge_is;
+}
+stays_housed k fs more old new i (Extend false x from to way) b nodes rels long keep h =
     (keep.nodes to (nodes to (or_left (nat_eq to to) (b.nodes to) (eq-eqb to to refl))) ∙ h.0, keep.rels x (rels x (or_left (nat_eq x x) (b.rels x) (eq-eqb x x refl))) ∙ h.1)
-stays_housed k old new i (Close true x from to way) b nodes rels keep h = keep.rels x (rels x (or_left (nat_eq x x) (b.rels x) (eq-eqb x x refl))) ∙ h
-stays_housed k old new i (Close false x from to way) b nodes rels keep h = keep.rels x (rels x (or_left (nat_eq x x) (b.rels x) (eq-eqb x x refl))) ∙ h
-stays_housed k old new i (Join side keys) b nodes rels keep h = tt
-stays_housed k old new i (Keep t) b nodes rels keep h = tt
-stays_housed k old new i (Differ p) b nodes rels keep h = tt
-stays_housed k old new i (NoLoop x) b nodes rels keep h = tt
+stays_housed k fs more old new i (Close true x from to way) b nodes rels long keep h = keep.rels x (rels x (or_left (nat_eq x x) (b.rels x) (eq-eqb x x refl))) ∙ h
+stays_housed k fs more old new i (Close false x from to way) b nodes rels long keep h = keep.rels x (rels x (or_left (nat_eq x x) (b.rels x) (eq-eqb x x refl))) ∙ h
+stays_housed k fs more old new i (Join side keys) b nodes rels long keep h = tt
+stays_housed k fs more old new i (Keep t) b nodes rels long keep h = tt
+stays_housed k fs more old new i (Differ p) b nodes rels long keep h = tt
+stays_housed k fs more old new i (NoLoop x) b nodes rels long keep h = tt
+
+-- a variable that lives in a column lived there, or lives there now
+column_set : (h : Homes) (v w : ℕ) (o : NodeHome) (j m : ℕ) → v < length h.nodes → node_home (with_node_home v o h) w ≡ node.Column j m → (node_home h w ≡ node.Column j m) ⊎ (o ≡ node.Column j m)
+column_set h v w o j m low e = go (cases_eq w v)
+  where
+    go : (w ≡ v) ⊎ (w ≡ v → ⊥) → (node_home h w ≡ node.Column j m) ⊎ (o ≡ node.Column j m)
+    go (inl same) = inr (sym (node_set h v o low) ∙ ap (node_home (with_node_home v o h)) (sym same) ∙ e)
+    go (inr other) = inl (sym (node_other h v w o other) ∙ e)
+
+column_kept : (h : Homes) (v w i j m : ℕ) → v < length h.nodes → node_home (with_node_home v (node.Item i) h) w ≡ node.Column j m → node_home h w ≡ node.Column j m
+column_kept h v w i j m low e = go (column_set h v w (node.Item i) j m low e)
+  where
+    go : (node_home h w ≡ node.Column j m) ⊎ (node.Item i ≡ node.Column j m) → node_home h w ≡ node.Column j m
+    go (inl is) = is
+    go (inr new) = absurd (cc new)
 
 -- ---- one step
 
-pub record Added (c : Run) (i : ℕ) (s : Step) (k : Known) (old new : Homes) : Type 0 where
+pub record Added (c : Run) (i : ℕ) (s : Step) (k : Known) (fs : List Filling) (old new : Homes) : Type 0 where
   pub node_count : length new.nodes ≡ length old.nodes
   pub rel_count : length new.rels ≡ length old.rels
   pub keeps : Keeps k old new
-  pub is : IsHoused new i s
+  pub is : IsHoused (with_filling i s fs) new i s
   pub free_nodes : (v : ℕ) → (after_step s k).nodes v ≡ false → node_home new v ≡ node_home old v
   pub free_rels : (x : ℕ) → (after_step s k).rels x ≡ false → rel_home new x ≡ rel_home old x
+  pub columns : (v j m : ℕ) → node_home new v ≡ node.Column j m → (node_home old v ≡ node.Column j m) ⊎ (m < length (with_filling i s fs))
 
 not_left : (a b : Bool) → (a || b) ≡ false → a ≡ false
 not_left true b e = absurd (true≢false e)
@@ -74,7 +116,7 @@ not_left false b e = refl
 not_same : (v w : ℕ) (b : Bool) → (nat_eq v w || b) ≡ false → v ≢ w
 not_same v w b e same = true≢false (sym (eq-eqb v w same) ∙ not_left (nat_eq v w) b e)
 
-module _ (c : Run) (run : IsRun c) (h : Homes) (nodes : length h.nodes ≡ length c.typed.nodes) (rels : length h.rels ≡ length c.typed.rels) (k : Known) where
+module _ (c : Run) (run : IsRun c) (h : Homes) (nodes : length h.nodes ≡ length c.typed.nodes) (rels : length h.rels ≡ length c.typed.rels) (k : Known) (fs : List Filling) where
   -- the variables that a step binds are variables of the alternative
   pub can_house : (s : Step) → fits_step c.graph.catalog c.typed s k ≡ true → CanHouse h s
   unfolding fits_step
@@ -94,7 +136,7 @@ module _ (c : Run) (run : IsRun c) (h : Homes) (nodes : length h.nodes ≡ lengt
   can_house (NoLoop x) fit = tt
 
   only_rel : (i x : ℕ) (o : RelHome) (s : Step) (new : Homes) → new ≡ with_rel_home x o h → x < length h.rels → k.rels x ≡ false
-      → ((v : ℕ) → (after_step s k).rels v ≡ false → v ≢ x) → (rel_home new x ≡ o → IsHoused new i s) → Added c i s k h new
+      → ((v : ℕ) → (after_step s k).rels v ≡ false → v ≢ x) → (rel_home new x ≡ o → IsHoused (with_filling i s fs) new i s) → Added c i s k fs h new
   only_rel i x o s new is low spare others house = record {
     node_count = ap (λ (h : Homes). length h.nodes) is;
     rel_count = ap (λ (h : Homes). length h.rels) is ∙ length-set h.rels x o;
@@ -105,9 +147,10 @@ module _ (c : Run) (run : IsRun c) (h : Homes) (nodes : length h.nodes ≡ lengt
     is = house (ap (λ (h : Homes). rel_home h x) is ∙ rel_set h x o low);
     free_nodes = λ v e. ap (λ (h : Homes). node_home h v) is;
     free_rels = λ w e. ap (λ (h : Homes). rel_home h w) is ∙ rel_other h x w o (others w e);
+    columns = λ v j m e. inl (ap (λ (h : Homes). node_home h v) (sym is) ∙ e);
   }
 
-  nothing_new : (i : ℕ) (s : Step) → IsHoused h i s → Added c i s k h h
+  nothing_new : (i : ℕ) (s : Step) → IsHoused (with_filling i s fs) h i s → Added c i s k fs h h
   nothing_new i s house = record {
     node_count = refl;
     rel_count = refl;
@@ -115,9 +158,10 @@ module _ (c : Run) (run : IsRun c) (h : Homes) (nodes : length h.nodes ≡ lengt
     is = house;
     free_nodes = λ v e. refl;
     free_rels = λ x e. refl;
+    columns = λ v j m e. inl e;
   }
 
-  pub added : (i : ℕ) (s : Step) → fits_step c.graph.catalog c.typed s k ≡ true → Added c i s k h (housed i s h)
+  pub added : (i : ℕ) (s : Step) → fits_step c.graph.catalog c.typed s k ≡ true → Added c i s k fs h (housed i (length fs) s h)
   unfolding fits_step after_step
   added i (Scan v) fit =
       let parts = and_parts _ _ fit in
@@ -129,6 +173,7 @@ module _ (c : Run) (run : IsRun c) (h : Homes) (nodes : length h.nodes ≡ lengt
         is = node_set h v (node.Item i) low;
         free_nodes = λ w e. node_other h v w (node.Item i) (not_same w v (k.nodes w) e);
         free_rels = λ x e. refl;
+        columns = λ w j m e. inl (column_kept h v w i j m low e);
       }
   added i (Extend false x from to way) fit =
       let more = and_parts _ _ (and_parts _ _ fit).1 in
@@ -145,9 +190,38 @@ module _ (c : Run) (run : IsRun c) (h : Homes) (nodes : length h.nodes ≡ lengt
         is = (node_set h to (node.Item i) low.1, rel_set h x o low.0);
         free_nodes = λ w e. node_other h to w (node.Item i) (not_same w to (k.nodes w) e);
         free_rels = λ w e. rel_other h x w o (not_same w x (k.rels w) e);
+        columns = λ w j m e. inl (column_kept h to w i j m low.1 e);
       }
   added i (Extend true x from to way) fit =
-      only_rel i x (rel.Single from (is_forward way)) (Extend true x from to way) _ refl (can_house (Extend true x from to way) fit).0 (not_true _ (and_parts _ _ (and_parts _ _ fit).1).0) (λ w e. not_same w x (k.rels w) e) (λ e. e)
+      let more = and_parts _ _ (and_parts _ _ fit).1 in
+      let fresh = and_parts _ _ (and_parts _ _ more.1).1 in
+      let low = can_house (Extend true x from to way) fit in
+      let o : RelHome = rel.Single from (is_forward way) in
+      let n : NodeHome = node.Column i (length fs) in
+      let f : Filling = filling_of i x from way in
+      let longer_by : length (fs ++ f ∷ []) ≡ length fs + 1 = length_push fs f in
+      record {
+        node_count = length-set h.nodes to n;
+        rel_count = length-set h.rels x o;
+        keeps = record {
+          nodes = λ w e. node_other h to w n (differs k.nodes to w e (not_true _ fresh.1));
+          rels = λ w e. rel_other h x w o (differs k.rels x w e (not_true _ more.0));
+        };
+        is = record {
+          column = length fs;
+          inside = omega (arith, longer_by);
+          filling = get_or_push fs f no_filling (length fs) refl;
+          node_is = node_set h to n low.1;
+          edge_is = rel_set h x o low.0;
+        };
+        free_nodes = λ w e. node_other h to w n (not_same w to (k.nodes w) e);
+        free_rels = λ w e. rel_other h x w o (not_same w x (k.rels w) e);
+        columns = λ w j m e. told j m (column_set h to w n j m low.1 e) longer_by;
+      }
+    where
+      told : (j m : ℕ) → {A : Type 0} → A ⊎ (node.Column i (length fs) ≡ node.Column j m) → length (fs ++ filling_of i x from way ∷ []) ≡ length fs + 1 → A ⊎ (m < length (fs ++ filling_of i x from way ∷ []))
+      told j m (inl is) more = inl is
+      told j m (inr is) more = let same : length fs ≡ m = cc is in inr (omega (arith, same, more))
   added i (Close false x from to way) fit =
       only_rel i x (rel.Listed i from (is_forward way)) (Close false x from to way) _ refl (can_house (Close false x from to way) fit) (not_true _ (and_parts _ _ (and_parts _ _ fit).1).0) (λ w e. not_same w x (k.rels w) e) (λ e. e)
   added i (Close true x from to way) fit =
@@ -156,6 +230,58 @@ module _ (c : Run) (run : IsRun c) (h : Homes) (nodes : length h.nodes ≡ lengt
   added i (Keep t) fit = nothing_new i (Keep t) tt
   added i (Differ p) fit = nothing_new i (Differ p) tt
   added i (NoLoop x) fit = nothing_new i (NoLoop x) tt
+
+  -- the columns of before, and that of the step
+  still_filling : (groups : ℕ) (next : Known) (new : Homes) (m : ℕ) (f : Filling) → ((v : ℕ) → k.nodes v ≡ true → next.nodes v ≡ true) → Keeps k h new → IsFilling c groups k h m f → IsFilling c groups next new m f
+  still_filling groups next new m f on keep is = record {
+    group = is.group;
+    fill = is.fill;
+    source = on f.from is.source;
+    before = λ j q e. is.before j q (sym (keep.nodes f.from is.source) ∙ e);
+  }
+
+  new_filling : (i groups m : ℕ) → i < groups → (s : Step) → fits_step c.graph.catalog c.typed s k ≡ true → ((v j q : ℕ) → node_home h v ≡ node.Column j q → q < length fs)
+      → Keeps k h (housed i (length fs) s h) → length fs ≤ m → m < length (with_filling i s fs) → IsFilling c groups (after_step s k) (housed i (length fs) s h) m (filling_at (with_filling i s fs) m)
+  unfolding fits_step after_step
+  new_filling i groups m low (Scan v) fit columns keep above inside = absurd (omega (arith, above, inside))
+  new_filling i groups m low (Extend true x from to way) fit columns keep above inside =
+      let f : Follows c x from to way = follows c run true x from to way (and_parts _ _ fit).0 in
+      let more = and_parts _ _ (and_parts _ _ fit).1 in
+      let near : k.nodes from ≡ true = (and_parts _ _ more.1).0 in
+      let is : Filling = filling_of i x from way in
+      let here : length fs ≡ m = (let most = length_push fs is in omega (arith, above, inside, most)) in
+      subst (IsFilling c groups (after_step (Extend true x from to way) k) (housed i (length fs) (Extend true x from to way) h) m) (sym (get_or_push fs is no_filling m here))
+      (record {
+        group = low;
+        fill = record {
+          rel = slice_get_within c.typed.rels x _ f.rel_is;
+          from = slice_get_within c.typed.nodes from _ f.near;
+          table = slice_get_within c.graph.catalog.rels _ _ f.table_is;
+          rows = near_rows_are c run x from to way f;
+        };
+        source = step_keeps_node (Extend true x from to way) k from near;
+        before = λ j q e. (let below = columns from j q (sym (keep.nodes from near) ∙ e) in omega (arith, below, here));
+      })
+  new_filling i groups m low (Extend false x from to way) fit columns keep above inside = absurd (omega (arith, above, inside))
+  new_filling i groups m low (Close column x from to way) fit columns keep above inside = absurd (omega (arith, above, inside))
+  new_filling i groups m low (Join side keys) fit columns keep above inside = absurd (omega (arith, above, inside))
+  new_filling i groups m low (Keep t) fit columns keep above inside = absurd (omega (arith, above, inside))
+  new_filling i groups m low (Differ p) fit columns keep above inside = absurd (omega (arith, above, inside))
+  new_filling i groups m low (NoLoop x) fit columns keep above inside = absurd (omega (arith, above, inside))
+
+  pub fillings_more : (i groups : ℕ) → i < groups → (s : Step) → fits_step c.graph.catalog c.typed s k ≡ true → ((v j m : ℕ) → node_home h v ≡ node.Column j m → m < length fs)
+      → ((m : ℕ) → m < length fs → IsFilling c groups k h m (filling_at fs m)) → Added c i s k fs h (housed i (length fs) s h)
+      → (m : ℕ) → m < length (with_filling i s fs) → IsFilling c groups (after_step s k) (housed i (length fs) s h) m (filling_at (with_filling i s fs) m)
+  fillings_more i groups low s fit columns old a m inside = go (cases_lt m (length fs))
+    where
+      on : (v : ℕ) → k.nodes v ≡ true → (after_step s k).nodes v ≡ true
+      on v = step_keeps_node s k v
+
+      go : (m < length fs) ⊎ (length fs ≤ m) → IsFilling c groups (after_step s k) (housed i (length fs) s h) m (filling_at (with_filling i s fs) m)
+      go (inl below) =
+          subst (IsFilling c groups (after_step s k) (housed i (length fs) s h) m) (sym ((longer i s fs).same m below))
+          (still_filling groups (after_step s k) (housed i (length fs) s h) m (filling_at fs m) on a.keeps (old m below))
+      go (inr above) = new_filling i groups m low s fit columns a.keeps above inside
 
 less_node : (s : Step) (k : Known) (v : ℕ) → (after_step s k).nodes v ≡ false → k.nodes v ≡ false
 less_node s k v e = go (k.nodes v) refl
@@ -174,15 +300,42 @@ less_rel s k x e = go (k.rels x) refl
 -- ---- the steps of a group
 
 module _ (c : Run) (run : IsRun c) (ss : List GroupSteps) (i : ℕ) where
-  pub housed_first : (h : Homes) → AreHomes c ss i (group_at ss i).first h → AreHoused c ss i (group_at ss i).first h
-  housed_first h homes = record { homes = homes; here = λ e low high. absurd (omega (arith, low, high)) }
+  -- a step has at least as many columns of its own
+  own : (s : Step) (fs : List Filling) → length (with_filling i s fs) ≤ length fs + own_columns c.typed s
+  own (Scan v) fs = omega arith
+  own (Extend true x from to way) fs = let one = length_push fs (filling_of i x from way) in omega (arith, one)
+  own (Extend false x from to way) fs = omega arith
+  own (Close column x from to way) fs = omega arith
+  own (Join side keys) fs = omega arith
+  own (Keep t) fs = omega arith
+  own (Differ p) fs = omega arith
+  own (NoLoop x) fs = omega arith
 
-  pub housed_more : (d : ℕ) (h : Homes) → d < length c.steps → AreHoused c ss i d h → AreHoused c ss i (d + 1) (housed i (step_at c d) h)
-  unfolding known
-  housed_more d h low old =
-      let a : Added c i (step_at c d) (known c d) h (housed i (step_at c d) h) = added c run h old.homes.node_count old.homes.rel_count (known c d) i (step_at c d) (fits_at c run d low) in
+  few_more : (d : ℕ) (fs : List Filling) → d < length c.steps → length fs ≤ sum_by (own_columns c.typed) (take d c.steps) → length (with_filling i (step_at c d) fs) ≤ sum_by (own_columns c.typed) (take (suc d) c.steps)
+  few_more d fs low few =
       let next : suc d ≡ d + 1 = omega arith in
-      subst (λ n. AreHoused c ss i n (housed i (step_at c d) h)) next
+      let more : sum_by (own_columns c.typed) (take (suc d) c.steps) ≡ sum_by (own_columns c.typed) (take d c.steps) + own_columns c.typed (step_at c d) =
+      ap (λ n. sum_by (own_columns c.typed) (take n c.steps)) next ∙ ap (sum_by (own_columns c.typed)) (take_more c.steps d (Keep 0) low) ∙ sum_push (take d c.steps) (step_at c d) in
+      let here = own (step_at c d) fs in
+      omega (arith, few, more, here)
+    where
+      sum_push : (ss : List Step) (s : Step) → sum_by (own_columns c.typed) (ss ++ s ∷ []) ≡ sum_by (own_columns c.typed) ss + own_columns c.typed s
+      sum_push ss s = sum_by-append (own_columns c.typed) ss (s ∷ []) ∙ ap (λ n. sum_by (own_columns c.typed) ss + n) (sum_by-one s)
+        where
+          sum_by-one : (s : Step) → sum_by (own_columns c.typed) (s ∷ []) ≡ own_columns c.typed s
+          sum_by-one s = let one = sum_by-cons (own_columns c.typed) s [] in omega (arith, one)
+
+  pub housed_first : (fs : List Filling) (h : Homes) → AreHomes c ss i (group_at ss i).first fs h → AreHoused c ss i (group_at ss i).first fs h
+  housed_first fs h homes = record { homes = homes; here = λ e low high. absurd (omega (arith, low, high)) }
+
+  pub housed_more : (d : ℕ) (fs : List Filling) (h : Homes) → i < length ss → d < length c.steps → AreHoused c ss i d fs h
+      → AreHoused c ss i (d + 1) (with_filling i (step_at c d) fs) (housed i (length fs) (step_at c d) h)
+  unfolding known
+  housed_more d fs h number low old =
+      let a : Added c i (step_at c d) (known c d) fs h (housed i (length fs) (step_at c d) h) = added c run h old.homes.node_count old.homes.rel_count (known c d) fs i (step_at c d) (fits_at c run d low) in
+      let next : suc d ≡ d + 1 = omega arith in
+      let more : Longer fs (with_filling i (step_at c d) fs) = longer i (step_at c d) fs in
+      subst (λ n. AreHoused c ss i n (with_filling i (step_at c d) fs) (housed i (length fs) (step_at c d) h)) next
       (record {
         homes = record {
           node_count = a.node_count ∙ old.homes.node_count;
@@ -190,43 +343,58 @@ module _ (c : Run) (run : IsRun c) (ss : List GroupSteps) (i : ℕ) where
           done = λ j e less there. (let o = old.homes.done j e less there in let before_it = o.0 in (omega (arith, before_it), still e o.0 j a.keeps o.1));
           free_nodes = λ v e. a.free_nodes v e ∙ old.homes.free_nodes v (less_node (step_at c d) (known c d) v e);
           free_rels = λ x e. a.free_rels x e ∙ old.homes.free_rels x (less_rel (step_at c d) (known c d) x e);
+          columns = λ v j m e. still_column more v j m (a.columns v j m e);
+          few = few_more d fs low old.homes.few;
+          fillings = fillings_more c run h old.homes.node_count old.homes.rel_count (known c d) fs i (length ss) number (step_at c d) (fits_at c run d low) old.homes.columns old.homes.fillings a;
         };
         here = λ e from below. at e from below a (cases_eq e d);
       })
     where
-      still : (e : ℕ) → e < d → (j : ℕ) → Keeps (known c d) h (housed i (step_at c d) h) → IsHoused h j (step_at c e) → IsHoused (housed i (step_at c d) h) j (step_at c e)
-      still e less j keep is =
-          stays_housed (known c d) h (housed i (step_at c d) h) j (step_at c e) (known c e)
-          (λ v has. later_node c (suc e) d v (omega (arith, less)) has) (λ x has. later_rel c (suc e) d x (omega (arith, less)) has) keep is
+      still_column : Longer fs (with_filling i (step_at c d) fs) → (v j m : ℕ) → (node_home h v ≡ node.Column j m) ⊎ (m < length (with_filling i (step_at c d) fs)) → m < length (with_filling i (step_at c d) fs)
+      still_column more v j m (inl is) = more.low m (old.homes.columns v j m is)
+      still_column more v j m (inr is) = is
 
-      at : (e : ℕ) → (group_at ss i).first ≤ e → e < suc d → Added c i (step_at c d) (known c d) h (housed i (step_at c d) h) → (e ≡ d) ⊎ (e ≡ d → ⊥) → IsHoused (housed i (step_at c d) h) i (step_at c e)
-      at e from below a (inl same) = subst (λ n. IsHoused (housed i (step_at c d) h) i (step_at c n)) (sym same) a.is
+      still : (e : ℕ) → e < d → (j : ℕ) → Keeps (known c d) h (housed i (length fs) (step_at c d) h) → IsHoused fs h j (step_at c e)
+          → IsHoused (with_filling i (step_at c d) fs) (housed i (length fs) (step_at c d) h) j (step_at c e)
+      still e less j keep is =
+          stays_housed (known c d) fs (with_filling i (step_at c d) fs) h (housed i (length fs) (step_at c d) h) j (step_at c e) (known c e)
+          (λ v has. later_node c (suc e) d v (omega (arith, less)) has) (λ x has. later_rel c (suc e) d x (omega (arith, less)) has) (longer i (step_at c d) fs) keep is
+
+      at : (e : ℕ) → (group_at ss i).first ≤ e → e < suc d → Added c i (step_at c d) (known c d) fs h (housed i (length fs) (step_at c d) h) → (e ≡ d) ⊎ (e ≡ d → ⊥)
+          → IsHoused (with_filling i (step_at c d) fs) (housed i (length fs) (step_at c d) h) i (step_at c e)
+      at e from below a (inl same) = subst (λ n. IsHoused (with_filling i (step_at c d) fs) (housed i (length fs) (step_at c d) h) i (step_at c n)) (sym same) a.is
       at e from below a (inr other) = still e (omega (arith, below, other)) i a.keeps (old.here e from (omega (arith, below, other)))
 
   -- the group is done
-  pub housed_group : (h : Homes) → AreHoused c ss i (group_at ss i).end h → AreHomes c ss (i + 1) (group_at ss i).end h
-  housed_group h old = record {
+  pub housed_group : (fs : List Filling) (h : Homes) → AreHoused c ss i (group_at ss i).end fs h → AreHomes c ss (i + 1) (group_at ss i).end fs h
+  housed_group fs h old = record {
     node_count = old.homes.node_count;
     rel_count = old.homes.rel_count;
     done = λ j e less there. by j e less there (cases_eq j i);
     free_nodes = old.homes.free_nodes;
     free_rels = old.homes.free_rels;
+    columns = old.homes.columns;
+    few = old.homes.few;
+    fillings = old.homes.fillings;
   }
     where
-      by : (j e : ℕ) → j < i + 1 → InGroup ss j e → (j ≡ i) ⊎ (j ≡ i → ⊥) → (e < (group_at ss i).end) × IsHoused h j (step_at c e)
+      by : (j e : ℕ) → j < i + 1 → InGroup ss j e → (j ≡ i) ⊎ (j ≡ i → ⊥) → (e < (group_at ss i).end) × IsHoused fs h j (step_at c e)
       by j e less there (inl same) =
           let here : InGroup ss i e = subst (λ n. InGroup ss n e) same there in
-          subst (λ n. (e < (group_at ss i).end) × IsHoused h n (step_at c e)) (sym same) (here.high, old.here e here.low here.high)
+          subst (λ n. (e < (group_at ss i).end) × IsHoused fs h n (step_at c e)) (sym same) (here.high, old.here e here.low here.high)
       by j e less there (inr other) = old.homes.done j e (omega (arith, less, other)) there
 
 -- before the first group nothing has a home
-pub homes_none : (c : Run) (ss : List GroupSteps) (h : Homes) → length h.nodes ≡ length c.typed.nodes → length h.rels ≡ length c.typed.rels → ((v : ℕ) → node_home h v ≡ node.Nowhere) → ((x : ℕ) → rel_home h x ≡ rel.Nowhere) → AreHomes c ss 0 0 h
+pub homes_none : (c : Run) (ss : List GroupSteps) (h : Homes) → length h.nodes ≡ length c.typed.nodes → length h.rels ≡ length c.typed.rels → ((v : ℕ) → node_home h v ≡ node.Nowhere) → ((x : ℕ) → rel_home h x ≡ rel.Nowhere) → AreHomes c ss 0 0 [] h
 homes_none c ss h nodes rels no_node no_rel = record {
   node_count = nodes;
   rel_count = rels;
   done = λ j e less there. absurd (omega (arith, less));
   free_nodes = λ v e. no_node v;
   free_rels = λ x e. no_rel x;
+  columns = λ v j m e. absurd (cc (sym (no_node v) ∙ e));
+  few = omega arith;
+  fillings = λ m low. absurd (omega (arith, low));
 }
 
 -- where the groups are tiles, each begins where the one before it ends
@@ -247,29 +415,41 @@ tile_last c d (s ∷ t ∷ ss) h zero e = absurd (omega (arith, e))
 tile_last c d (s ∷ ss) h (suc i) e = tile_last c s.end ss h.3 i (omega (arith, e))
 
 -- the next group begins behind the steps whose variables have homes
-pub record Starts (c : Run) (ss : List GroupSteps) (i : ℕ) (h : Homes) : Type 0 where
+pub record Starts (c : Run) (ss : List GroupSteps) (i : ℕ) (fs : List Filling) (h : Homes) : Type 0 where
   pub d : ℕ
   pub first : i < length ss → (group_at ss i).first ≡ d
   pub last : i ≡ length ss → d ≡ length c.steps
-  pub homes : AreHomes c ss i d h
+  pub homes : AreHomes c ss i d fs h
 
-pub starts_none : (c : Run) (ss : List GroupSteps) (h : Homes) → Tiles c 0 ss → length h.nodes ≡ length c.typed.nodes → length h.rels ≡ length c.typed.rels → ((v : ℕ) → node_home h v ≡ node.Nowhere) → ((x : ℕ) → rel_home h x ≡ rel.Nowhere) → Starts c ss 0 h
+pub starts_none : (c : Run) (ss : List GroupSteps) (h : Homes) → Tiles c 0 ss → length h.nodes ≡ length c.typed.nodes → length h.rels ≡ length c.typed.rels → ((v : ℕ) → node_home h v ≡ node.Nowhere) → ((x : ℕ) → rel_home h x ≡ rel.Nowhere) → Starts c ss 0 [] h
 starts_none c ss h tiles nodes rels no_node no_rel = record { d = 0; first = λ low. tile_first c 0 ss tiles low; last = λ e. empty ss tiles e; homes = homes_none c ss h nodes rels no_node no_rel }
   where
     empty : (ss : List GroupSteps) → Tiles c 0 ss → 0 ≡ length ss → 0 ≡ length c.steps
     empty [] t e = t
     empty (s ∷ ss) t e = absurd (omega (arith, e))
 
-pub starts_here : (c : Run) (ss : List GroupSteps) (i : ℕ) (h : Homes) → i < length ss → Starts c ss i h → AreHomes c ss i (group_at ss i).first h
-starts_here c ss i h low s = subst (λ n. AreHomes c ss i n h) (sym (s.first low)) s.homes
+pub starts_here : (c : Run) (ss : List GroupSteps) (i : ℕ) (fs : List Filling) (h : Homes) → i < length ss → Starts c ss i fs h → AreHomes c ss i (group_at ss i).first fs h
+starts_here c ss i fs h low s = subst (λ n. AreHomes c ss i n fs h) (sym (s.first low)) s.homes
 
-pub starts_next : (c : Run) (run : IsRun c) (ss : List GroupSteps) (i : ℕ) (h : Homes) → Tiles c 0 ss → i < length ss → AreHoused c ss i (group_at ss i).end h → Starts c ss (i + 1) h
-starts_next c run ss i h tiles low old = record {
+pub starts_next : (c : Run) (run : IsRun c) (ss : List GroupSteps) (i : ℕ) (fs : List Filling) (h : Homes) → Tiles c 0 ss → i < length ss → AreHoused c ss i (group_at ss i).end fs h → Starts c ss (i + 1) fs h
+starts_next c run ss i fs h tiles low old = record {
   d = (group_at ss i).end;
   first = λ next. tile_next c 0 ss tiles i next;
   last = λ e. tile_last c 0 ss tiles i e;
-  homes = housed_group c run ss i h old;
+  homes = housed_group c run ss i fs h old;
 }
 
-pub starts_all : (c : Run) (ss : List GroupSteps) (i : ℕ) (h : Homes) → i ≡ length ss → Starts c ss i h → AreHomes c ss (length ss) (length c.steps) h
-starts_all c ss i h e s = subst (λ n. AreHomes c ss n (length c.steps) h) e (subst (λ n. AreHomes c ss i n h) (s.last e) s.homes)
+pub starts_all : (c : Run) (ss : List GroupSteps) (i : ℕ) (fs : List Filling) (h : Homes) → i ≡ length ss → Starts c ss i fs h → AreHomes c ss (length ss) (length c.steps) fs h
+starts_all c ss i fs h e s = subst (λ n. AreHomes c ss n (length c.steps) fs h) e (subst (λ n. AreHomes c ss i n fs h) (s.last e) s.homes)
+
+-- there are at most as many columns as the plan has
+steps_back : (ss : List Step) → steps_of (steps ss) ≡ ss
+steps_back [] = refl
+steps_back (s ∷ ss) = ap (λ l. s ∷ l) (steps_back ss)
+
+pub columns_fit : (c : Run) (ss : List GroupSteps) (n : ℕ) (fs : List Filling) (h : Homes) (p : Plan) (held : ℕ) → p ≡ steps c.steps → held ≡ columns_of c.typed p → AreHomes c ss n (length c.steps) fs h → length fs ≤ held
+columns_fit c ss n fs h p held same count homes =
+    let few = homes.few in
+    let whole : sum_by (own_columns c.typed) (take (length c.steps) c.steps) ≡ sum_by (own_columns c.typed) (steps_of p) =
+    ap (sum_by (own_columns c.typed)) (take_all (length c.steps) c.steps (omega arith) ∙ sym (steps_back c.steps) ∙ ap steps_of (sym same)) in
+    omega (arith, few, whole, count)

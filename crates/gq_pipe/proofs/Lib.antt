@@ -22,6 +22,8 @@ pub mod Cutting
 pub mod Resting
 pub mod Agreeing
 pub mod Standings
+pub mod Sources
+pub mod Served
 pub mod Reading
 pub mod Chosen
 pub mod Homing
@@ -30,6 +32,6 @@ pub mod Products
 pub mod Chunking
 pub mod Chunked
 pub mod Holding
+pub mod Filling
 pub mod Flags
 pub mod Showing
-pub mod Columns

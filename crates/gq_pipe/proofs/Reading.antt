@@ -69,16 +69,9 @@ module _ (c : Run) (ss : List GroupSteps) (row : Assignment) (cs : List Cursor) 
         few = omega (arith, few, size);
       }
 
-  -- the item at it
-  pub item_is : (i : ℕ) → i < length ss → slice_index (items_in (group_of ch i)) (slice_index ps i) ≡ slice_index (list_of c (group_at ss i).first row (step_at c (group_at ss i).first)) (place_at i)
-  item_is i low =
-      let h : IsHere i = here i low in
-      let list : List ℕ = list_of c (group_at ss i).first row (step_at c (group_at ss i).first) in
-      let first : ℕ = 1024 * piece_of (group_at ss i).flat (cursor_at cs i).key in
-      ap (λ o. slice_index (items_in o) (slice_index ps i)) h.there
-      ∙ ap (λ l. slice_index l (slice_index ps i)) h.is.piece.items_are
-      ∙ get_or-take 1024 (drop first list) (slice_index ps i) 0 (small i low)
-      ∙ get_or-drop first list (slice_index ps i) 0
+  -- a position is in the piece
+  pub position_small : (i : ℕ) → i < length ss → slice_index ps i < 1024
+  position_small i low = small i low
     where
       short : (flat : Bool) (key : ℕ) (m : List Bool) (p : ℕ) → length m ≡ 1024 → marked_at flat key m p ≡ true → p < 1024
       short true key m p long on = let same : p ≡ key % 1024 = eqb-true p (key % 1024) on in omega (arith, same)
@@ -97,6 +90,17 @@ module _ (c : Run) (ss : List GroupSteps) (row : Assignment) (cs : List Cursor) 
           let r : IsGroup (layout_in c ss) (prefix cs i) (cursor_at cs i) (slice_index_or ms i []) = group_runs (layout_in c ss) cs ms runs i inside in
           let on : is_marked g.marks (slice_index ps i) ≡ true = (and_parts (is_current g.current (slice_index ps i)) (is_marked g.marks (slice_index ps i)) (selected_here ch.groups.now ps i g sel h.there)).1 in
           short (group_at ss i).flat (cursor_at cs i).key (slice_index_or ms i []) (slice_index ps i) r.marked.len (sym (h.is.marks (slice_index ps i)) ∙ on)
+
+  -- the item at it
+  pub item_is : (i : ℕ) → i < length ss → slice_index (items_in (group_of ch i)) (slice_index ps i) ≡ slice_index (list_of c (group_at ss i).first row (step_at c (group_at ss i).first)) (place_at i)
+  item_is i low =
+      let h : IsHere i = here i low in
+      let list : List ℕ = list_of c (group_at ss i).first row (step_at c (group_at ss i).first) in
+      let first : ℕ = 1024 * piece_of (group_at ss i).flat (cursor_at cs i).key in
+      ap (λ o. slice_index (items_in o) (slice_index ps i)) h.there
+      ∙ ap (λ l. slice_index l (slice_index ps i)) h.is.piece.items_are
+      ∙ get_or-take 1024 (drop first list) (slice_index ps i) 0 (position_small i low)
+      ∙ get_or-drop first list (slice_index ps i) 0
 
   pub first_is : (i : ℕ) → i < length ss → first_in (group_of ch i) ≡ 1024 * piece_of (group_at ss i).flat (cursor_at cs i).key
   first_is i low = let h : IsHere i = here i low in ap first_in h.there ∙ h.is.piece.first_is

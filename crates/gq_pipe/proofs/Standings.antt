@@ -3,12 +3,12 @@ use Rattle.std.proofs.Common.{◌≡◌, ℕ, zero, suc, ◌+◌, ◌<◌, ◌�
 use Rattle.std.specs.Prelude.{slice_index, slice_index_or}
 use Rattle.std.proofs.lemmas.List.{append_assoc, append-nil, take_more, map_push, take-append-drop}
 use Rattle.gq_base.specs.declared.NodeId.{NodeId}
-use Rattle.gq_plan.specs.Covers.{fits_step}
+use Rattle.gq_plan.specs.Covers.{after_step, fits_step}
 use Rattle.gq_plan.specs.Known.{Known, none}
 use Rattle.gq_plan.specs.Meaning.{Partial, nothing}
 use Rattle.gq_plan.specs.Rows.{node_at}
 use Rattle.gq_plan.specs.declared.assignment.Assignment.{Assignment}
-use Rattle.gq_law_groups.specs.Layout.{with_group, known_with, AreFlatEnough}
+use Rattle.gq_law_groups.specs.Layout.{with_group, known_with, AreFlatEnough, ArePlaced}
 use Rattle.gq_walks.specs.Layouts.{Layout}
 use Rattle.gq_walks.specs.Running.{cursor_at, keys_of, prefix, IsGroup, Runs}
 use Rattle.gq_walks.specs.declared.walker.Cursor.{Cursor}
@@ -69,6 +69,7 @@ pub record Met (c : Run) (one two : Assignment) (s : GroupSteps) : Type 0 where
   pub set : Known
   pub bound : Partial
   pub fit : fits_step c.graph.catalog c.typed (step_at c s.first) set ≡ true
+  pub placed : ArePlaced c.graph.catalog c.typed (group_in c.steps s).checks (after_step (step_at c s.first) set)
   pub old : IsAtStep c one s.first set bound
   pub new : IsAtStep c two s.first set bound
 
@@ -82,6 +83,7 @@ meet c flat one two (s ∷ ss) i d k a [] tiles enough low h e =
       set = k;
       bound = a;
       fit = enough.0;
+      placed = enough.1;
       old = subst (λ n. IsAtStep c one n k a) (sym at) h;
       new = subst (λ n. IsAtStep c two n k a) (sym at) e;
     }

@@ -1,7 +1,7 @@
 -- When a pool serves a pipeline.
-use Rattle.std.specs.Prelude.{◌≢◌, ℕ, List, [], ◌∷◌}
+use Rattle.std.specs.Prelude.{◌≡◌, ◌≢◌, ◌<◌, ◌^◌, ℕ, pos, List, [], ◌∷◌, length, slice_index, slice_index_or}
 use Rattle.std.specs.List.{AllByRecursion}
-use Rattle.gq_pool.specs.Pool.{Pool, IsOut}
+use Rattle.gq_pool.specs.Pool.{Pool, IsOut, cell_at}
 use Rattle.gq_pipe.specs.Rest.{Rest}
 
 -- no slot stands twice among others
@@ -14,6 +14,16 @@ pub record Holds (p : Pool) (slots : List ℕ) : Type 0 where
   pub out : AllByRecursion (IsOut p) slots
   pub apart : AreApart slots
 
--- the pipeline's slots are out in the pool
-abbrev pub Serves : Rest → Pool → Type 0
-Serves r p = Holds p r.slots
+-- a slot has a row in a cell
+pub record HasCell (p : Pool) (slot place row : ℕ) : Type 0 where
+  pub is : cell_at p slot place ≡ pos row
+  pub few : row < 2 ^ 32
+
+-- the first slots have these rows in their cells
+abbrev pub HasCells : Pool → List ℕ → List (List ℕ) → Type 0
+HasCells p slots cells = (m k : ℕ) → m < length cells → k < 1024 → HasCell p (slice_index slots m) k (slice_index (slice_index_or cells m []) k)
+
+-- the pipeline's slots are out in the pool, and have the cells of the chunk that stands
+pub record Serves (r : Rest) (p : Pool) : Type 0 where
+  pub held : Holds p r.slots
+  pub cells : HasCells p r.slots r.cells

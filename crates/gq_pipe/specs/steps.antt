@@ -1,5 +1,6 @@
 pub mod Before
 pub mod Built
+pub mod Cells
 pub mod Chunks
 pub mod Cuts
 pub mod Homes

@@ -1,7 +1,8 @@
 //! Pieces of the whole lists of groups.
-ghost use Rattle.std.specs.Prelude.{◌≡◌, ◌+◌, ◌-◌, ◌<◌, ◌≤◌, min, true, length, slice_index};
+ghost use Rattle.std.specs.Prelude.{◌≡◌, ◌+◌, ◌-◌, ◌<◌, ◌≤◌, min, true, None, length, slice_index};
+ghost use Rattle.std.specs.Prelude.{slice_index_or};
 ghost use Rattle.gq_law_groups.specs.Groups.{makes_group};
-ghost use Rattle.gq_pipe.specs.steps.Chunks.{IsPieceOf, list_of, part};
+ghost use Rattle.gq_pipe.specs.steps.Chunks.{IsPieceOf, KeepsOf, list_of, part};
 ghost use Rattle.gq_pipe.specs.steps.Levels.{known, step_at};
 ghost use Rattle.gq_pipe.specs.steps.Moves.{run_of, IsRun, IsHeld};
 ghost use Rattle.gq_pipe.specs.steps.Outcomes.{CanList};
@@ -10,7 +11,7 @@ ghost use Rattle.gq_store.specs.Neighbours.{neighbours};
 
 use crate::plan_run::{Follow, PlanRun, build_at, following};
 use gq_bits::VECTOR;
-use gq_group::Piece;
+use gq_group::{KeptRels, Piece};
 use gq_plan::{Assignment, Step};
 
 impl<'g> PlanRun<'g> {
@@ -63,6 +64,18 @@ impl<'g> PlanRun<'g> {
             },
             Step::ColumnExtend { .. } | Step::ColumnClose { .. } => unreachable!(),
             Step::Keep { .. } | Step::Differ { .. } | Step::NoLoop { .. } => unreachable!(),
+        }
+    }
+
+    /// What the build of the step at a depth keeps of relationships, if the step has one.
+    pub(crate) fn kept(&self, depth: usize) -> KeptRels<'g>
+        requires run { IsRun (run_of self.now) }
+        requires depth { depth < length self.now.steps.now }
+        ensures { KeepsOf (slice_index_or self.now.builds.now depth None) result }
+    {
+        match build_at(self.builds, depth) {
+            Some(build) => build.kept_rels(),
+            None => KeptRels::none(),
         }
     }
 

@@ -10,7 +10,7 @@ use crate::lists::Lists;
 use crate::places::GroupSteps;
 use crate::plan_run::PlanRun;
 use gq_bits::{Marks, VECTOR};
-use gq_group::{Group, KeptRels};
+use gq_group::Group;
 use gq_plan::Assignment;
 use gq_walks::{Cursor, State, Walker};
 
@@ -90,7 +90,7 @@ fn standing_group<'g>(
         marks: marks_at(group.flat, cursor.key, marks),
         current,
         columns: 0,
-        kept: KeptRels::none(),
+        kept: plan_run.kept(group.first),
     }
 }
 

@@ -1,12 +1,13 @@
 -- The groups of the chunk that stands: the piece of each group's whole list, and the marks of its positions.
-use Rattle.std.specs.Prelude.{◌≡◌, ◌<◌, ◌≤◌, ◌*◌, ◌^◌, ◌%◌, ◌==◌, ℕ, Bool, true, false, Option, Some, None, List, [], length, take, drop, slice_get, slice_index, slice_index_or}
+use Rattle.std.specs.Prelude.{◌≡◌, ◌<◌, ◌≤◌, ◌+◌, ◌*◌, ◌^◌, ◌%◌, ◌==◌, ℕ, Bool, true, false, Option, Some, None, List, [], length, take, drop, slice_get, slice_index, slice_index_or}
 use Rattle.std.specs.List.{range_with_len}
 use Rattle.gq_base.specs.Valid.{row_count}
 use Rattle.gq_bits.specs.Places.{is_marked}
 use Rattle.gq_group.specs.Pieces.{first_of, items_of}
 use Rattle.gq_group.specs.declared.group.Group.{Group}
 use Rattle.gq_group.specs.declared.piece.Piece.{Piece}
-use Rattle.gq_join.specs.Kept.{Held, matches_of}
+use Rattle.gq_group.specs.declared.piece.KeptRels.{KeptRels}
+use Rattle.gq_join.specs.Kept.{Held, matches_of, row_at}
 use Rattle.gq_plan.specs.Plans.{Step, Scan, Extend, Close, Join}
 use Rattle.gq_plan.specs.Rows.{node_table, rel_table}
 use Rattle.gq_plan.specs.declared.assignment.Assignment.{Assignment}
@@ -52,11 +53,23 @@ abbrev pub current_at : Bool → ℕ → Option ℕ
 current_at true key = Some (key % 1024)
 current_at false key = None
 
+-- the load numbers of the relationships that a build keeps, row by row
+pub record HasKept (h : Held) (k : KeptRels) : Type 0 where
+  pub width : k.width ≡ length h.rels
+  pub narrow : k.width < 2 ^ 32
+  pub each : (i j : ℕ) → i < length h.rows → j < length h.rels → slice_index k.numbers.now (i * length h.rels + j) ≡ slice_index (row_at h i).rels j
+  pub inside : (i j : ℕ) → i < length h.rows → j < length h.rels → i * length h.rels + j < length k.numbers.now
+
+abbrev pub KeepsOf : Option Held → KeptRels → Type 0
+KeepsOf None k = Unit {0}
+KeepsOf (Some h) k = HasKept h k
+
 -- a group stands at a number
 pub record IsGroupAt (c : Run) (row : Assignment) (s : GroupSteps) (cursor : Cursor) (m : List Bool) (g : Group) : Type 0 where
   pub piece : IsPieceOf c s.first row (1024 * piece_of s.flat cursor.key) g.piece
   pub marks : (p : ℕ) → is_marked g.marks p ≡ marked_at s.flat cursor.key m p
   pub current : g.current ≡ current_at s.flat cursor.key
+  pub kept : KeepsOf (slice_index_or c.builds s.first None) g.kept
 
 pub record HasGroup (c : Run) (row : Assignment) (s : GroupSteps) (cursor : Cursor) (marks : List Bool) (gs : List Group) (i : ℕ) : Type 0 where
   pub group : Group

@@ -3,7 +3,7 @@ use Rattle.std.specs.Prelude.{slice_index_or}
 use Rattle.std.proofs.lemmas.List.{length-map}
 use Rattle.gq_plan.specs.Plans.{step_of}
 use Rattle.gq_plan.specs.declared.plan.Step as code
-use Rattle.gq_pipe.specs.steps.Homes.{AreHoused, CanHouse, housed}
+use Rattle.gq_pipe.specs.steps.Homes.{AreHoused, CanHouse, housed, with_filling}
 use Rattle.gq_pipe.specs.steps.Levels.{step_at, known}
 use Rattle.gq_pipe.specs.steps.Moves.{run_of}
 use Rattle.gq_pipe.specs.declared.plan_run.PlanRun.{PlanRun}
@@ -24,7 +24,7 @@ loop-step-init c =
       omega arith,
       omega (arith, some),
       omega (arith, inside, length-map c.args.plan_run.now.steps.now step_of),
-      housed_first (run_of c.args.plan_run.now) c.requires.run c.args.groups.now c.args.number c.args.homes.now c.requires.homes,
+      housed_first (run_of c.args.plan_run.now) c.requires.run c.args.groups.now c.args.number c.args.housing.now.fillings.items c.args.housing.now.homes c.requires.homes,
     )
 
 pub house-requires : goal.house-requires
@@ -35,8 +35,8 @@ house-requires c =
     let below = c.loop-step-test.true in
     let inside = c.loop-step.invariant.2 in
     let low : d < length c.args.plan_run.now.steps.now = omega (arith, below, inside) in
-    subst (CanHouse c.loop-step.homes) (step_there c.args.plan_run.now d c.index-plan_run-step.result low)
-    (can_house c' c.requires.run c.loop-step.homes old.homes.node_count old.homes.rel_count (known c' d) (step_at c' d)
+    subst (CanHouse c.loop-step.housing.homes) (step_there c.args.plan_run.now d c.index-plan_run-step.result low)
+    (can_house c' c.requires.run c.loop-step.housing.homes old.homes.node_count old.homes.rel_count (known c' d) c.loop-step.housing.fillings.items (step_at c' d)
     (fits_at c' c.requires.run d (omega (arith, low, length-map c.args.plan_run.now.steps.now step_of))))
 
 pub loop-step-preserved : goal.loop-step-preserved
@@ -47,17 +47,22 @@ loop-step-preserved c =
     let below = c.loop-step-test.true in
     let inside = c.loop-step.invariant.2 in
     let low : d < length c.args.plan_run.now.steps.now = omega (arith, below, inside) in
-    let same : housed c.args.number (step_at c' d) c.loop-step.homes ≡ c.house.new.homes =
-    ap (λ s. housed c.args.number s c.loop-step.homes) (step_there c.args.plan_run.now d c.index-plan_run-step.result low) ∙ sym c.house.ensures in (
+    let fs = c.loop-step.housing.fillings.items in
+    let there = step_there c.args.plan_run.now d c.index-plan_run-step.result low in
+    let same : housed c.args.number (length fs) (step_at c' d) c.loop-step.housing.homes ≡ c.house.new.housing.homes =
+    ap (λ s. housed c.args.number (length fs) s c.loop-step.housing.homes) there ∙ sym c.in_ok-house.ensures.homes in
+    let more : with_filling c.args.number (step_at c' d) fs ≡ c.house.new.housing.fillings.items =
+    ap (λ s. with_filling c.args.number s fs) there ∙ sym c.in_ok-house.ensures.fillings in (
       omega (arith, above),
       omega (arith, below),
       inside,
-      subst (AreHoused c' c.args.groups.now c.args.number (d + 1)) same
-          (housed_more c' c.requires.run c.args.groups.now c.args.number d c.loop-step.homes (omega (arith, low, length-map c.args.plan_run.now.steps.now step_of)) c.loop-step.invariant.3),
+      subst (λ h. AreHoused c' c.args.groups.now c.args.number (d + 1) c.house.new.housing.fillings.items h) same
+          (subst (λ fs. AreHoused c' c.args.groups.now c.args.number (d + 1) fs (housed c.args.number (length c.loop-step.housing.fillings.items) (step_at c' d) c.loop-step.housing.homes)) more
+          (housed_more c' c.requires.run c.args.groups.now c.args.number d fs c.loop-step.housing.homes c.requires.number (omega (arith, low, length-map c.args.plan_run.now.steps.now step_of)) c.loop-step.invariant.3)),
     )
 
 pub returns : goal.returns
 returns c =
     let high = c.loop-step.invariant.1 in
     let over = c.loop-step-test.false in
-    subst (λ n. AreHoused (run_of c.args.plan_run.now) c.args.groups.now c.args.number n c.loop-step.homes) (omega (arith, high, over)) c.loop-step.invariant.3
+    subst (λ n. AreHoused (run_of c.args.plan_run.now) c.args.groups.now c.args.number n c.loop-step.housing.fillings.items c.loop-step.housing.homes) (omega (arith, high, over)) c.loop-step.invariant.3

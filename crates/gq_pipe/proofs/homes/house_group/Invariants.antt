@@ -6,7 +6,7 @@ use Rattle.gq_pipe.proofs.homes.house_group.Given as goal
 abbrev pub invariant-loop-step : goal.invariant-loop-step
 invariant-loop-step l =
     (l.group.first ≤ l.step) × (l.step ≤ l.group.end) × (l.group.end ≤ length l.plan_run.steps.now)
-    × AreHoused (run_of l.plan_run) l.groups l.number l.step l.homes
+    × AreHoused (run_of l.plan_run) l.groups l.number l.step l.housing.fillings.items l.housing.homes
 
 abbrev pub decreases-loop-step : goal.decreases-loop-step
 decreases-loop-step l = l.group.end - l.step

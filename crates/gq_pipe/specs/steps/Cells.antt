@@ -1,0 +1,53 @@
+-- The cells of the columns of the chunk that stands: each has a row for each position of its group.
+use Rattle.std.specs.Prelude.{◌<◌, ℕ, zero, suc, nat_eq, nat_lt, if◌then◌else◌, List, [], ◌∷◌, ◌++◌, map, length, slice_get, slice_index, slice_index_or}
+use Rattle.std.specs.List.{range_with_len}
+use Rattle.gq_base.specs.Valid.{row_count}
+use Rattle.gq_group.specs.Chunks.{IsRow, items_in, row_in}
+use Rattle.gq_group.specs.declared.group.Group.{Group}
+use Rattle.gq_group.specs.declared.home.Homes.{Homes}
+use Rattle.gq_group.specs.declared.home.NodeHome.{NodeHome}
+use Rattle.gq_group.specs.declared.home.NodeHome.TheVariants as node
+use Rattle.gq_plan.specs.Rows.{node_table, rel_table}
+use Rattle.gq_plan.specs.declared.assignment.Assignment.{Assignment}
+use Rattle.gq_pool.specs.Pool as pool
+use Rattle.gq_pool.specs.Pool.{Pool, IsOut}
+use Rattle.gq_store.specs.Neighbours.{neighbours}
+use Rattle.gq_pipe.specs.steps.Homes.{filling_at, node_home}
+use Rattle.gq_pipe.specs.steps.Levels.{Run}
+use Rattle.gq_pipe.specs.declared.homes.Filling.{Filling}
+
+-- the row to which the single relationship of a row leads
+abbrev pub led : Run → Filling → ℕ → ℕ
+led c f near =
+    if nat_lt near (row_count c.graph.nodes (node_table c.typed f.from))
+    then slice_index (neighbours c.graph (rel_table c.typed f.rel) f.direction near) 0 else 0
+
+-- the row that a node variable has at a position of a group: an item, a cell of an earlier column, or the one that stands
+abbrev pub near_in : Assignment → List Group → List (List ℕ) → ℕ → ℕ → ℕ → NodeHome → ℕ
+near_in row gs done i v p node.Nowhere = slice_index row.nodes v
+near_in row gs done i v p (node.Item j) = if nat_eq j i then slice_index (items_in (slice_get gs j)) p else slice_index row.nodes v
+near_in row gs done i v p (node.Column j m) = if nat_eq j i then slice_index (slice_index_or done m []) p else slice_index row.nodes v
+
+module _ (c : Run) (row : Assignment) (gs : List Group) (h : Homes) where
+  abbrev pub cell_of : List (List ℕ) → Filling → ℕ → ℕ
+  cell_of done f p = led c f (near_in row gs done f.group f.from p (node_home h f.from))
+
+  abbrev pub column_of : List (List ℕ) → Filling → List ℕ
+  column_of done f = map (cell_of done f) (range_with_len 0 1024)
+
+  -- the first columns
+  unfoldable pub filled : List Filling → ℕ → List (List ℕ)
+  filled fs zero = []
+  filled fs (suc n) = filled fs n ++ column_of (filled fs n) (filling_at fs n) ∷ []
+
+-- the same as it is read from the pool
+abbrev pub near_seen : Assignment → List Group → Pool → List ℕ → ℕ → ℕ → ℕ → NodeHome → ℕ
+near_seen row gs q slots i v p node.Nowhere = slice_index row.nodes v
+near_seen row gs q slots i v p (node.Item j) = if nat_eq j i then slice_index (items_in (slice_get gs j)) p else slice_index row.nodes v
+near_seen row gs q slots i v p (node.Column j m) = if nat_eq j i then row_in (pool.cell_at q (slice_index slots m) p) else slice_index row.nodes v
+
+-- a cell of a column that can be read
+pub record HasRow (q : Pool) (slots : List ℕ) (m p : ℕ) : Type 0 where
+  pub inside : m < length slots
+  pub out : IsOut q (slice_index slots m)
+  pub row : IsRow (pool.cell_at q (slice_index slots m) p)
