@@ -226,7 +226,7 @@ class AtTerminal(ToolTest):
     def test_answer_stop_and_go_on(self) -> None:
         """Six patterns over 35 stations have 1,838,265,625 matches, which keep the program busy until Ctrl-C."""
         terminal = Terminal(self, "--manifest", METRO)
-        terminal.until("4 labels and 5 types")
+        terminal.until("6 labels and 6 types")
         terminal.until("graphq>")
         terminal.type("MATCH (s:Stat\t")
         terminal.until("Station")
