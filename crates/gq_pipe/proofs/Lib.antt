@@ -25,6 +25,8 @@ pub mod Standings
 pub mod Sources
 pub mod Served
 pub mod Reading
+pub mod Rebinding
+pub mod InOrder
 pub mod Chosen
 pub mod Homing
 pub mod Piecing

@@ -18,7 +18,7 @@ use Rattle.gq_plan.specs.Meaning.{Partial, look, holds, far, arrive, with_rel, k
 use Rattle.gq_plan.specs.Plans.{Step, Scan, Extend, Close, Keep, step_of}
 use Rattle.gq_plan.specs.declared.plan.Step as code
 use Rattle.gq_pipe.specs.steps.Levels.{Run, step_at, known, before}
-use Rattle.gq_pipe.specs.steps.Moves.{run_of, IsRun, IsHeld, IsTried}
+use Rattle.gq_pipe.specs.steps.Moves.{run_of, IsRun, IsHeld, IsTried, steps_in}
 use Rattle.gq_pipe.specs.steps.Outcomes.{IsSized, IsScanned, CanFollow, IsExtended, IsClosed, tested}
 use Rattle.gq_plan.specs.Rows.{node_at, node_table, rel_table}
 use Rattle.gq_plan.specs.declared.assignment.Assignment.{Assignment}
@@ -35,9 +35,9 @@ get_mapped [] d x low = absurd (omega arith)
 get_mapped (s ∷ ss) zero x low = refl
 get_mapped (s ∷ ss) (suc d) x low = get_mapped ss d x (omega arith)
 
-module _ (k : PlanRun) (d : ℕ) (low : d < length k.steps.now) where
-  pub step_is : (x s : code.Step) (t : Step) → get_or k.steps.now d x ≡ s → step_of s ≡ t → step_at (run_of k) d ≡ t
-  step_is x s t is e = get_mapped k.steps.now d x low ∙ ap step_of is ∙ e
+module _ (k : PlanRun) (d : ℕ) (low : d < length (steps_in k)) where
+  pub step_is : (x s : code.Step) (t : Step) → get_or (steps_in k) d x ≡ s → step_of s ≡ t → step_at (run_of k) d ≡ t
+  step_is x s t is e = get_mapped (steps_in k) d x low ∙ ap step_of is ∙ e
 
   pub low_step : d < length (run_of k).steps
   low_step = rw length-map low

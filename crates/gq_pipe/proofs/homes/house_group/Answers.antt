@@ -5,7 +5,7 @@ use Rattle.gq_plan.specs.Plans.{step_of}
 use Rattle.gq_plan.specs.declared.plan.Step as code
 use Rattle.gq_pipe.specs.steps.Homes.{AreHoused, CanHouse, housed, with_filling}
 use Rattle.gq_pipe.specs.steps.Levels.{step_at, known}
-use Rattle.gq_pipe.specs.steps.Moves.{run_of}
+use Rattle.gq_pipe.specs.steps.Moves.{run_of, steps_in}
 use Rattle.gq_pipe.specs.declared.plan_run.PlanRun.{PlanRun}
 use Rattle.gq_pipe.proofs.Binding.{fits_at}
 use Rattle.gq_pipe.proofs.Homing.{can_house, housed_first, housed_more}
@@ -13,8 +13,8 @@ use Rattle.gq_pipe.proofs.Standings.{tile_at}
 use Rattle.gq_pipe.proofs.Tried.{get_mapped}
 use Rattle.gq_pipe.proofs.homes.house_group.Goals as goal
 
-step_there : (k : PlanRun) (d : _) (x : code.Step) → d < length k.steps.now → step_at (run_of k) d ≡ step_of (slice_index_or k.steps.now d x)
-step_there k d x low = get_mapped k.steps.now d x low
+step_there : (k : PlanRun) (d : _) (x : code.Step) → d < length (steps_in k) → step_at (run_of k) d ≡ step_of (slice_index_or (steps_in k) d x)
+step_there k d x low = get_mapped (steps_in k) d x low
 
 pub loop-step-init : goal.loop-step-init
 loop-step-init c =
@@ -23,7 +23,7 @@ loop-step-init c =
     let inside = w.inside in (
       omega arith,
       omega (arith, some),
-      omega (arith, inside, length-map c.args.plan_run.now.steps.now step_of),
+      omega (arith, inside, length-map (steps_in c.args.plan_run.now) step_of),
       housed_first (run_of c.args.plan_run.now) c.requires.run c.args.groups.now c.args.number c.args.housing.now.fillings.items c.args.housing.now.homes c.requires.homes,
     )
 
@@ -34,10 +34,10 @@ house-requires c =
     let old = c.loop-step.invariant.3 in
     let below = c.loop-step-test.true in
     let inside = c.loop-step.invariant.2 in
-    let low : d < length c.args.plan_run.now.steps.now = omega (arith, below, inside) in
+    let low : d < length (steps_in c.args.plan_run.now) = omega (arith, below, inside) in
     subst (CanHouse c.loop-step.housing.homes) (step_there c.args.plan_run.now d c.index-plan_run-step.result low)
     (can_house c' c.requires.run c.loop-step.housing.homes old.homes.node_count old.homes.rel_count (known c' d) c.loop-step.housing.fillings.items (step_at c' d)
-    (fits_at c' c.requires.run d (omega (arith, low, length-map c.args.plan_run.now.steps.now step_of))))
+    (fits_at c' c.requires.run d (omega (arith, low, length-map (steps_in c.args.plan_run.now) step_of))))
 
 pub loop-step-preserved : goal.loop-step-preserved
 loop-step-preserved c =
@@ -46,7 +46,7 @@ loop-step-preserved c =
     let above = c.loop-step.invariant.0 in
     let below = c.loop-step-test.true in
     let inside = c.loop-step.invariant.2 in
-    let low : d < length c.args.plan_run.now.steps.now = omega (arith, below, inside) in
+    let low : d < length (steps_in c.args.plan_run.now) = omega (arith, below, inside) in
     let fs = c.loop-step.housing.fillings.items in
     let there = step_there c.args.plan_run.now d c.index-plan_run-step.result low in
     let same : housed c.args.number (length fs) (step_at c' d) c.loop-step.housing.homes ≡ c.house.new.housing.homes =
@@ -58,7 +58,7 @@ loop-step-preserved c =
       inside,
       subst (λ h. AreHoused c' c.args.groups.now c.args.number (d + 1) c.house.new.housing.fillings.items h) same
           (subst (λ fs. AreHoused c' c.args.groups.now c.args.number (d + 1) fs (housed c.args.number (length c.loop-step.housing.fillings.items) (step_at c' d) c.loop-step.housing.homes)) more
-          (housed_more c' c.requires.run c.args.groups.now c.args.number d fs c.loop-step.housing.homes c.requires.number (omega (arith, low, length-map c.args.plan_run.now.steps.now step_of)) c.loop-step.invariant.3)),
+          (housed_more c' c.requires.run c.args.groups.now c.args.number d fs c.loop-step.housing.homes c.requires.number (omega (arith, low, length-map (steps_in c.args.plan_run.now) step_of)) c.loop-step.invariant.3)),
     )
 
 pub returns : goal.returns

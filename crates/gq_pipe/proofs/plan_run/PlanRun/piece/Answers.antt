@@ -15,7 +15,7 @@ use Rattle.gq_pipe.specs.steps.Chunks.{list_of, matches_in, part}
 use Rattle.gq_group.specs.declared.piece.Piece.TheVariants as piece
 use Rattle.gq_pipe.specs.Shown.{HasForm}
 use Rattle.gq_pipe.specs.steps.Levels.{step_at}
-use Rattle.gq_pipe.specs.steps.Moves.{run_of, IsRun}
+use Rattle.gq_pipe.specs.steps.Moves.{run_of, IsRun, steps_in, builds_in}
 use Rattle.gq_pipe.specs.steps.Outcomes.{CanList}
 use Rattle.gq_pipe.specs.declared.plan_run.Follow.{Follow}
 use Rattle.gq_pipe.specs.declared.plan_run.PlanRun.{PlanRun}
@@ -24,13 +24,13 @@ use Rattle.gq_pipe.proofs.Piecing.{listed_is}
 use Rattle.gq_pipe.proofs.Tried.{step_is, low_step, scan_low, extend_can, extend_goes, close_can, close_goes}
 use Rattle.gq_pipe.proofs.plan_run.PlanRun.piece.Goals as goal
 
-join_step : (k : PlanRun) (d : ℕ) → d < length k.steps.now → (side : code_plan.Plan) (keys : List ℕ) (x : code.Step) → slice_index_or k.steps.now d x ≡ code.Join side keys → step_at (run_of k) d ≡ Join (plan_of side) keys
+join_step : (k : PlanRun) (d : ℕ) → d < length (steps_in k) → (side : code_plan.Plan) (keys : List ℕ) (x : code.Step) → slice_index_or (steps_in k) d x ≡ code.Join side keys → step_at (run_of k) d ≡ Join (plan_of side) keys
 join_step k d low side keys x is = step_is k d low x (code.Join side keys) (Join (plan_of side) keys) is (join_is side keys)
 
-build_low : (k : PlanRun) → IsRun (run_of k) → (d : ℕ) → d < length k.steps.now → d < length k.builds.now
-build_low k run d low = let many = builds_many k.graph.now k.typed.now (run_of k).steps k.builds.now run.builds in let same : length (run_of k).steps ≡ length k.steps.now = rw length-map refl in omega (arith, low, many, same)
+build_low : (k : PlanRun) → IsRun (run_of k) → (d : ℕ) → d < length (steps_in k) → d < length (builds_in k)
+build_low k run d low = let many = builds_many k.graph.now k.typed.now (run_of k).steps (builds_in k) run.builds in let same : length (run_of k).steps ≡ length (steps_in k) = rw length-map refl in omega (arith, low, many, same)
 
-no_group : (k : PlanRun) (d : ℕ) → d < length k.steps.now → makes_group (step_at (run_of k) d) ≡ true → (x s : code.Step) (t : Step) → slice_index_or k.steps.now d x ≡ s → step_of s ≡ t → makes_group t ≡ false → ⊥
+no_group : (k : PlanRun) (d : ℕ) → d < length (steps_in k) → makes_group (step_at (run_of k) d) ≡ true → (x s : code.Step) (t : Step) → slice_index_or (steps_in k) d x ≡ s → step_of s ≡ t → makes_group t ≡ false → ⊥
 no_group k d low makes x s t is same none = true≢false (sym makes ∙ ap makes_group (step_is k d low x s t is same) ∙ none)
 
 -- a part of a range
@@ -157,7 +157,7 @@ unreachable-requires c =
 
 pub unreachable-requires-in-ColumnExtend : goal.unreachable-requires-in-ColumnExtend
 unreachable-requires-in-ColumnExtend c =
-    let not_one : (s : code.Step) (t : Step) → slice_index_or c.args.self.now.steps.now c.args.depth c.index-self-depth.result ≡ s → step_of s ≡ t → makes_group t ≡ false → ⊥ = no_group c.args.self.now c.args.depth c.requires.depth c.requires.makes c.index-self-depth.result in
+    let not_one : (s : code.Step) (t : Step) → slice_index_or (steps_in c.args.self.now) c.args.depth c.index-self-depth.result ≡ s → step_of s ≡ t → makes_group t ≡ false → ⊥ = no_group c.args.self.now c.args.depth c.requires.depth c.requires.makes c.index-self-depth.result in
     elim c.in-ColumnExtend.is [
       | inl e ↦ not_one (code.ColumnExtend e.0 e.1 e.2 e.3) (Extend true e.0 e.1 e.2 e.3) e.4 (column_extend_is e.0 e.1 e.2 e.3) refl
       | inr e ↦ not_one (code.ColumnClose e.0 e.1 e.2 e.3) (Close true e.0 e.1 e.2 e.3) e.4 (column_close_is e.0 e.1 e.2 e.3) refl
@@ -165,7 +165,7 @@ unreachable-requires-in-ColumnExtend c =
 
 pub unreachable-requires-in-Keep : goal.unreachable-requires-in-Keep
 unreachable-requires-in-Keep c =
-    let not_one : (s : code.Step) (t : Step) → slice_index_or c.args.self.now.steps.now c.args.depth c.index-self-depth.result ≡ s → step_of s ≡ t → makes_group t ≡ false → ⊥ = no_group c.args.self.now c.args.depth c.requires.depth c.requires.makes c.index-self-depth.result in
+    let not_one : (s : code.Step) (t : Step) → slice_index_or (steps_in c.args.self.now) c.args.depth c.index-self-depth.result ≡ s → step_of s ≡ t → makes_group t ≡ false → ⊥ = no_group c.args.self.now c.args.depth c.requires.depth c.requires.makes c.index-self-depth.result in
     elim c.in-Keep.is [
       | inl e ↦ not_one (code.Keep e.0) (Keep e.0) e.1 (keep_is e.0) refl
       | inr f ↦ elim f [ inl e ↦ not_one (code.Differ e.0) (Differ e.0) e.1 (differ_is e.0) refl | inr e ↦ not_one (code.NoLoop e.0) (NoLoop e.0) e.1 (no_loop_is e.0) refl ]
