@@ -1,10 +1,12 @@
 -- A plan's steps, and its builds, in an order that has each of them.
-use Rattle.std.proofs.Common.{◌≡◌, ◌∙◌, ℕ, zero, suc, ◌+◌, ◌<◌, Bool, true, false, ◌||◌, Option, Some, None, List, [], ◌∷◌, ◌++◌, map, length, flat_map, get_or, slice_get, refl, sym, ap, subst, arith}
+use Rattle.std.proofs.Common.{Bor, ◌≡◌, ◌∙◌, take, ℕ, zero, suc, ◌+◌, ◌<◌, Bool, true, false, ◌||◌, Option, Some, None, List, [], ◌∷◌, ◌++◌, map, length, flat_map, get_or, slice_get, refl, sym, ap, subst, arith}
 use Rattle.std.specs.Prelude.{slice_index_or, IsPermutation}
 use Rattle.std.specs.List.{AllByRecursion, list_any, range_with_len, sum_by}
 use Rattle.std.specs.Option.{option_to_list}
 use Rattle.std.proofs.Math.Bool.{or-false}
-use Rattle.std.proofs.lemmas.List.{append_assoc, length-append}
+use Rattle.std.proofs.lemmas.Grind.{flat_map-append}
+use Rattle.std.proofs.lemmas.List.{append_assoc, length-append, length-map, take_more}
+use Rattle.std.proofs.lemmas.Option.{slice_get-get_or}
 use Rattle.std.proofs.lemmas.List.Sorted.{list_any-IsPermutation, sum_by-IsPermutation}
 use Rattle.gq_base.specs.Catalogs.{Tables}
 use Rattle.gq_base.specs.Plain.{Graph}
@@ -14,9 +16,15 @@ use Rattle.gq_plan.proofs.Binding.{is_table, is_joins, plan_binds, plan_joins}
 use Rattle.gq_plan.specs.Arranged.{at_numbers}
 use Rattle.gq_plan.specs.Covers.{Fits, after, placed}
 use Rattle.gq_plan.specs.Known.{Known, none}
-use Rattle.gq_plan.specs.Plans.{Plan, Step, steps}
+use Rattle.gq_plan.proofs.Each.{each_append}
+use Rattle.gq_plan.specs.Plans.{Plan, Step, Keep, steps, step_of}
+use Rattle.gq_plan.specs.declared.plan.Step as code
 use Rattle.gq_plan.specs.declared.typed.Typed.{Typed}
 use Rattle.gq_pipe.specs.Built.{AreBuilds, FitsBuild}
+use Rattle.gq_pipe.specs.Plain.{is_plain}
+use Rattle.gq_pipe.specs.steps.Cuts.{step_in}
+use Rattle.gq_pipe.specs.steps.Moves.{referred}
+use Rattle.gq_pipe.proofs.Tried.{get_mapped}
 
 module _ (g : Graph) (y : Typed) where
   -- the step and the build of a number
@@ -73,3 +81,42 @@ all_steps ss = steps_from [] ss
 pub ordered_sum : (f : Step → ℕ) (ss : List Step) (ns : List ℕ) → IsPermutation ns (range_with_len 0 (length ss)) → sum_by f (at_numbers ss ns) ≡ sum_by f ss
 ordered_sum f ss ns same =
     sym (sum_by-IsPermutation f _ _ (permuted_flat_map (λ n. option_to_list (slice_get ss n)) ns (range_with_len 0 (length ss)) same)) ∙ ap (sum_by f) (all_steps ss)
+
+-- ---- a step more
+
+referred_more : (rs : List (Bor code.Step)) (r : Bor code.Step) → map step_of (referred (rs ++ r ∷ [])) ≡ map step_of (referred rs) ++ step_of r.now ∷ []
+referred_more [] r = refl
+referred_more (s ∷ rs) r = ap (λ l. step_of s.now ∷ l) (referred_more rs r)
+
+pub steps_more : (ss : List code.Step) (ns : List ℕ) (k : ℕ) (rs : List (Bor code.Step)) (r : Bor code.Step) → k < length ns → get_or ns k 0 < length ss → r.now ≡ get_or ss (get_or ns k 0) r.now
+    → map step_of (referred rs) ≡ at_numbers (map step_of ss) (take k ns) → map step_of (referred (rs ++ r ∷ [])) ≡ at_numbers (map step_of ss) (take (k + 1) ns)
+steps_more ss ns k rs r low inside is so_far =
+    let there : slice_get (map step_of ss) (get_or ns k 0) ≡ Some (step_of r.now) =
+    slice_get-get_or (map step_of ss) (get_or ns k 0) (Keep 0) (omega (arith, inside, length-map ss step_of)) ∙ ap Some (get_mapped ss (get_or ns k 0) r.now inside ∙ ap step_of (sym is)) in
+    referred_more rs r ∙ ap (λ l. l ++ step_of r.now ∷ []) so_far
+    ∙ ap (λ (o : Option Step). at_numbers (map step_of ss) (take k ns) ++ (option_to_list o ++ [])) (sym there)
+    ∙ sym (flat_map-append (λ n. option_to_list (slice_get (map step_of ss) n)) (take k ns) (get_or ns k 0 ∷ []))
+    ∙ ap (at_numbers (map step_of ss)) (sym (take_more ns k 0 low))
+
+-- ---- plans whose steps need no build
+
+plain_at : (ss : List Step) (n : ℕ) → AllByRecursion (λ s. is_plain s ≡ true) ss → AllByRecursion (λ s. is_plain s ≡ true) (option_to_list (slice_get ss n))
+plain_at [] n h = tt
+plain_at (s ∷ ss) zero h = (h.0, tt)
+plain_at (s ∷ ss) (suc n) h = plain_at ss n h.1
+
+plain_ordered : (ss : List Step) (ns : List ℕ) → AllByRecursion (λ s. is_plain s ≡ true) ss → AllByRecursion (λ s. is_plain s ≡ true) (at_numbers ss ns)
+plain_ordered ss [] h = tt
+plain_ordered ss (n ∷ ns) h = each_append (λ s. is_plain s ≡ true) (option_to_list (slice_get ss n)) (at_numbers ss ns) (plain_at ss n h) (plain_ordered ss ns h)
+
+all_plain : (ss : List Step) → ((d : ℕ) → d < length ss → is_plain (step_in ss d) ≡ true) → AllByRecursion (λ s. is_plain s ≡ true) ss
+all_plain [] h = tt
+all_plain (s ∷ ss) h = (h 0 (omega arith), all_plain ss (λ d low. h (suc d) (omega (arith, low))))
+
+each_plain : (ss : List Step) → AllByRecursion (λ s. is_plain s ≡ true) ss → (d : ℕ) → d < length ss → is_plain (step_in ss d) ≡ true
+each_plain [] h d low = absurd (omega arith)
+each_plain (s ∷ ss) h zero low = h.0
+each_plain (s ∷ ss) h (suc d) low = each_plain ss h.1 d (omega arith)
+
+pub still_plain : (ss : List Step) (ns : List ℕ) → ((d : ℕ) → d < length ss → is_plain (step_in ss d) ≡ true) → (d : ℕ) → d < length (at_numbers ss ns) → is_plain (step_in (at_numbers ss ns) d) ≡ true
+still_plain ss ns h = each_plain (at_numbers ss ns) (plain_ordered ss ns (all_plain ss h))

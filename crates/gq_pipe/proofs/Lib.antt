@@ -27,6 +27,7 @@ pub mod Served
 pub mod Reading
 pub mod Rebinding
 pub mod InOrder
+pub mod Starting
 pub mod Chosen
 pub mod Homing
 pub mod Piecing

@@ -111,12 +111,11 @@ module _ (g : Graph) (y : Typed) (valid : is_valid g ≡ true) (sound : IsSound 
   -- nodes of a node variable's table
   nodes_tabled : (v : ℕ) → AllByRecursion (λ n. n.table ≡ node_table y v) (nodes_for g y v)
   unfolding nodes_of
-  nodes_tabled v = go (slice_get y.nodes v) refl
-    where
-      go : (o : Option ℕ) → slice_get y.nodes v ≡ o → AllByRecursion (λ (n : NodeId). n.table ≡ node_table y v) (Rattle.gq_plan.specs.Meaning.nodes_in g o)
-      go None is = tt
-      go (Some t) is =
-          each_map (λ r. Unit {0}) (λ (n : NodeId). n.table ≡ node_table y v) (λ r. record { table = t; row = r }) (λ r _. sym (get_or_from_slice_get y.nodes v t 0 is)) _ (each_of _ (λ r. tt) _)
+  nodes_tabled v = elim (slice_get y.nodes v) as (λ o. slice_get y.nodes v ≡ o → AllByRecursion (λ (n : NodeId). n.table ≡ node_table y v) (nodes_for g y v)) [
+    | None ↦ λ is. rw is tt
+    | Some t ↦ λ is. rw is
+          (each_map (λ r. Unit {0}) (λ (n : NodeId). n.table ≡ node_table y v) (λ r. record { table = t; row = r }) (λ r _. sym (get_or_from_slice_get y.nodes v t 0 is)) _ (each_of _ (λ r. tt) _))
+  ] refl
 
   -- relationships of a relationship variable's table, each of which leads to a node of the far table
   abbrev IsLed : Direction → ℕ → ℕ → RelId → Type 0

@@ -78,7 +78,7 @@ fn house_group(
     let group = groups[number];
     let mut step = group.first;
     while step < group.end {
-        house(plan_run.steps[step], number as u32, housing)?;
+        house(plan_run.step(step), number as u32, housing)?;
         step += 1;
     }
     Ok(())

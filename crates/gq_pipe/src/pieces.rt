@@ -26,7 +26,7 @@ impl<'g> PlanRun<'g> {
             first ≤ length (list_of c depth row.now (step_at c depth)) }
         ensures { IsPieceOf (run_of self.now) depth row.now first result }
     {
-        match self.steps[depth] {
+        match self.step(depth) {
             Step::Scan { node } => Piece::Span {
                 low: first,
                 high: end_of(first, self.row_count(*node)),

@@ -13,8 +13,8 @@ use Rattle.gq_pipe.proofs.Standings.{tile_at}
 use Rattle.gq_pipe.proofs.Tried.{get_mapped}
 use Rattle.gq_pipe.proofs.homes.house_group.Goals as goal
 
-step_there : (k : PlanRun) (d : _) (x : code.Step) → d < length (steps_in k) → step_at (run_of k) d ≡ step_of (slice_index_or (steps_in k) d x)
-step_there k d x low = get_mapped (steps_in k) d x low
+step_there : (k : PlanRun) (d : _) (x : code.Step) → d < length (steps_in k) → slice_index_or (steps_in k) d x ≡ x → step_at (run_of k) d ≡ step_of x
+step_there k d x low is = get_mapped (steps_in k) d x low ∙ ap step_of is
 
 pub loop-step-init : goal.loop-step-init
 loop-step-init c =
@@ -35,7 +35,7 @@ house-requires c =
     let below = c.loop-step-test.true in
     let inside = c.loop-step.invariant.2 in
     let low : d < length (steps_in c.args.plan_run.now) = omega (arith, below, inside) in
-    subst (CanHouse c.loop-step.housing.homes) (step_there c.args.plan_run.now d c.index-plan_run-step.result low)
+    subst (CanHouse c.loop-step.housing.homes) (step_there c.args.plan_run.now d c.step.result.now low c.step.ensures)
     (can_house c' c.requires.run c.loop-step.housing.homes old.homes.node_count old.homes.rel_count (known c' d) c.loop-step.housing.fillings.items (step_at c' d)
     (fits_at c' c.requires.run d (omega (arith, low, length-map (steps_in c.args.plan_run.now) step_of))))
 
@@ -48,7 +48,7 @@ loop-step-preserved c =
     let inside = c.loop-step.invariant.2 in
     let low : d < length (steps_in c.args.plan_run.now) = omega (arith, below, inside) in
     let fs = c.loop-step.housing.fillings.items in
-    let there = step_there c.args.plan_run.now d c.index-plan_run-step.result low in
+    let there = step_there c.args.plan_run.now d c.step.result.now low c.step.ensures in
     let same : housed c.args.number (length fs) (step_at c' d) c.loop-step.housing.homes ≡ c.house.new.housing.homes =
     ap (λ s. housed c.args.number (length fs) s c.loop-step.housing.homes) there ∙ sym c.in_ok-house.ensures.homes in
     let more : with_filling c.args.number (step_at c' d) fs ≡ c.house.new.housing.fillings.items =

@@ -1,5 +1,6 @@
 use Rattle.std.proofs.Common.{◌≡◌, ◌∙◌, true, map, sym, subst}
 use Rattle.gq_group.specs.Chunks.{IsChunkOf, chunk_meaning}
+use Rattle.gq_plan.specs.Arranged.{arranged}
 use Rattle.gq_plan.specs.Meaning.{nothing, whole}
 use Rattle.gq_plan.specs.Rows.{assigned}
 use Rattle.gq_pipe.specs.Bound.{binds_all}
@@ -39,7 +40,7 @@ returns-clause-whole c =
 
 pub returns-clause-shape : goal.returns-clause-shape
 returns-clause-shape c =
-    subst (λ (r : Rest). AreShown r.source.graph r.source.typed (groups_of (plan_in r.source)) r.flats c.chunk_of.result.groups.now) c.self.view_is
+    subst (λ (r : Rest). AreShown r.source.graph r.source.typed (groups_of (arranged r.source.typed (plan_in r.source))) r.flats c.chunk_of.result.groups.now) c.self.view_is
     (shape_is c.self.inside c.self.invariant
     (subst (λ (r : Rest). r.standing ≡ true) (sym c.self.view_is) c.requires.standing) (subst (λ (r : Rest). ArePlain r.source) (sym c.self.view_is) c.requires.plain)
     c.chunk_of.result (c.chunk_of.ensures.groups ∙ c.as_slice-groups.ensures.value) c.chunk_of.ensures.homes (c.chunk_of.ensures.slots ∙ c.as_slice.ensures.value)
