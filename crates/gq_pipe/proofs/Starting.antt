@@ -58,7 +58,7 @@ map_self f (x ∷ xs) h = ap₂ ◌∷◌ h.0 (map_self f xs h.1)
 
 -- a list is its items, one after another
 pub all_got : {X : Type 0} (d : X) (xs : List X) → map (λ i. get_or xs i d) (range_with_len 0 (length xs)) ≡ xs
-all_got d xs = from xs 0 (λ i. get_or xs i d) (λ i low. let e : 0 + i ≡ i = omega arith in ap (λ j. get_or xs j d) e)
+all_got {X = X} d xs = from xs 0 (λ i. get_or xs i d) (λ i low. let e : 0 + i ≡ i = omega arith in ap (λ j. get_or xs j d) e)
   where
     from : (ys : List X) (a : ℕ) (f : ℕ → X) → ((i : ℕ) → i < length ys → f (a + i) ≡ get_or ys i d) → map f (range_with_len a (length ys)) ≡ ys
     from [] a f h = refl
