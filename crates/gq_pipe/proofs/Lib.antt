@@ -30,5 +30,6 @@ pub mod Products
 pub mod Chunking
 pub mod Chunked
 pub mod Holding
+pub mod Filling
 pub mod Flags
 pub mod Showing

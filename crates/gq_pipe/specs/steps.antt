@@ -2,6 +2,7 @@ pub mod Before
 pub mod Built
 pub mod Chunks
 pub mod Cuts
+pub mod Filled
 pub mod Homes
 pub mod Hops
 pub mod Inner
