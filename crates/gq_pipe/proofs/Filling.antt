@@ -90,9 +90,11 @@ module _ (y : Typed) (side : Plan) (old mid : Growing) (owed left : List Partial
     refused (TooManyRows l) h =
         let long : length (map reads came.rows ++ left) ≡ length owed = length_permutation _ _ came.bag in
         let parted : length (chunk ++ after) ≡ length left = length_permutation _ _ next in
-        let some : length more ≡ length chunk = sym (length-map more reads) ∙ ap length binds in
-        (h.0 ∙ same_limit, (let past : mid.limit < length mid.rows + length more = h.1 in
-            omega (arith, past, same_limit, many_rows, some, long, parted, length-append chunk after, length-append (map reads came.rows) left, length-map came.rows reads)))
+        let some : length more ≡ length chunk = sym (length-map more reads) ∙ ap length binds in (
+          h.0 ∙ same_limit,
+          (let past : mid.limit < length mid.rows + length more = h.1 in
+              omega (arith, past, same_limit, many_rows, some, long, parted, length-append chunk after, length-append (map reads came.rows) left, length-map came.rows reads)),
+        )
     refused Memory h = tt
 
   -- nothing is owed any more

@@ -136,6 +136,7 @@ module _ (g : Graph) (valid : is_valid g ≡ true) where
 
     mutual
       unfolding mean
+
       -- what a plan makes of an assignment whose nodes are rows of their tables
       pub mean_stores : (p : Plan) (a : Partial) → Stores g a → AllByRecursion (Stores g) (mean g y p a)
       mean_stores Done a h = (h, tt)
