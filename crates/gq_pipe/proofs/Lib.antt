@@ -35,3 +35,4 @@ pub mod Holding
 pub mod Filling
 pub mod Flags
 pub mod Showing
+pub mod Columns
