@@ -10,9 +10,11 @@ pub mod Making
 pub mod Moving
 pub mod Going
 pub mod Pushing
+pub mod Sealing
 pub mod Searching
 pub mod Stepping
 pub mod Testing
+pub mod Stored
 pub mod Tried
 pub mod Weights
 pub mod Whole
@@ -33,5 +35,6 @@ pub mod Chunking
 pub mod Chunked
 pub mod Holding
 pub mod Filling
+pub mod Loading
 pub mod Flags
 pub mod Showing

@@ -2,6 +2,7 @@
 use Rattle.std.specs.Prelude.{ℕ, Bool, List, [], length}
 use Rattle.gq_base.specs.Plain.{Graph}
 use Rattle.gq_law_groups.specs.Layout.{layout_of}
+use Rattle.gq_plan.specs.Arranged.{arranged, arranged_flat}
 use Rattle.gq_plan.specs.Meaning.{mean, nothing}
 use Rattle.gq_plan.specs.Plans.{Plan}
 use Rattle.gq_plan.specs.declared.typed.Typed.{Typed}
@@ -11,3 +12,7 @@ use Rattle.gq_pipe.specs.steps.Cuts.{groups_of}
 -- where these of its groups are flat
 abbrev pub keys_with : Graph → Typed → (ℕ → Bool) → Plan → List (List ℕ)
 keys_with g y flat p = keys (layout_of g y (λ side. mean g y side nothing) flat (groups_of p)) (length (groups_of p)) []
+
+-- where the flat groups are those of its order by groups
+abbrev pub plan_keys : Graph → Typed → Plan → List (List ℕ)
+plan_keys g y p = keys_with g y (arranged_flat y p) (arranged y p)

@@ -3,6 +3,7 @@ pub mod Built
 pub mod Cells
 pub mod Chunks
 pub mod Cuts
+pub mod Filled
 pub mod Homes
 pub mod Hops
 pub mod Inner
