@@ -6,7 +6,6 @@ pub mod Cuts
 pub mod Filled
 pub mod Homes
 pub mod Hops
-pub mod Inner
 pub mod Keeps
 pub mod Levels
 pub mod Limits
