@@ -38,7 +38,7 @@ use Rattle.gq_pipe.specs.steps.Chunks.{AreStanding, HasKept, KeepsOf, list_of, m
 use Rattle.gq_pipe.specs.steps.Cells.{cell_of, filled, led, near_in}
 use Rattle.gq_pipe.specs.steps.Homes.{AreHomes, HasColumn, IsFilling, IsHoused, filling_at, filling_of, is_forward, node_home, rel_home}
 use Rattle.gq_pipe.specs.steps.Keeps.{IsRange, IsTriedAt}
-use Rattle.gq_pipe.specs.steps.Levels.{Run, step_at, known, before}
+use Rattle.gq_pipe.specs.steps.Levels.{Run, step_at, built_at, known, before}
 use Rattle.gq_pipe.specs.steps.Lists.{no_group, group_at, group_in, groups_in, rows_in, layout_in, Tiles, Stands}
 use Rattle.gq_pipe.specs.steps.Moves.{IsRun, IsHeld, IsTried}
 use Rattle.gq_pipe.specs.declared.homes.Filling.{Filling}
@@ -138,7 +138,7 @@ module _ (c : Run) (ss : List GroupSteps) (row : Assignment) (cs : List Cursor) 
     few : j + 1 < 2 ^ 32
     few = let inside = spot.place.inside in let most = spot.few in omega (arith, inside, most)
 
-    inside_of : (n : ℕ) → length (Rattle.gq_pipe.specs.steps.Tries.tries c.graph c.typed (step_at c s.first) (before c read s.first)) ≡ n → j < n
+    inside_of : (n : ℕ) → length (Rattle.gq_pipe.specs.steps.Tries.tries c.graph c.typed (built_at c s.first) (step_at c s.first) (before c read s.first)) ≡ n → j < n
     inside_of n e = let inside = spot.place.inside in omega (arith, inside, group_size c ss read i low s found pre long at, e)
 
     -- the load number of a relationship of the group's list
@@ -408,7 +408,7 @@ module _ (c : Run) (ss : List GroupSteps) (row : Assignment) (cs : List Cursor) 
         subst (Stands c ss read) (sym (prefix_more cs i (omega (arith, low, many))))
         (group_next c ss read i low s found pre long at j spot.place.inside true read made.tried (cursor_at cs i).key spot.place.kept spot.place.number_is)
 
-    pub place_is : place c.graph c.typed (rows_in c) (group_in c.steps s) (before c read s.first) j ≡ before c read s.end
+    pub place_is : place c.graph c.typed (built_at c s.first) (group_in c.steps s) (before c read s.first) j ≡ before c read s.end
     place_is = group_place c ss read i low s found pre long at j spot.place.inside true read made.tried (cursor_at cs i).key spot.place.kept spot.place.number_is
 
   -- all groups stand
@@ -419,24 +419,24 @@ module _ (c : Run) (ss : List GroupSteps) (row : Assignment) (cs : List Cursor) 
       subst (λ n. Stands c ss read (prefix cs n)) next (stands_next i (omega (arith, low)) (all_stand i (omega (arith, low))))
 
   module _ (walk : List ℕ) (long_walk : length walk ≡ length ss) (each : (i : ℕ) → i < length ss → slice_index walk i ≡ place_at c ss row cs ms ch ps runs many groups sel i) where
-    decode_from : (n i d : ℕ) → i + n ≡ length ss → Tiles c d (drop i ss) → decode c.graph c.typed (rows_in c) (groups_in c (drop i ss)) (before c read d) (drop i walk) ≡ before c read (length c.steps)
+    decode_from : (n i d : ℕ) → i + n ≡ length ss → Tiles c d (drop i ss) → decode c.graph c.typed (rows_in c ss) i (groups_in c (drop i ss)) (before c read d) (drop i walk) ≡ before c read (length c.steps)
     decode_from zero i d at_end tiles =
         let none : drop i ss ≡ [] = drop_all i ss (omega (arith, at_end)) in
-        ap (λ l. decode c.graph c.typed (rows_in c) (groups_in c l) (before c read d) (drop i walk)) none
+        ap (λ l. decode c.graph c.typed (rows_in c ss) i (groups_in c l) (before c read d) (drop i walk)) none
         ∙ ap (before c read) (subst (Tiles c d) none tiles)
     decode_from (suc n) i d at_end tiles =
         let low : i < length ss = omega (arith, at_end) in
         let more : drop i ss ≡ group_at ss i ∷ drop (i + 1) ss = drop_more ss i no_group low in
         let walked : drop i walk ≡ slice_index walk i ∷ drop (i + 1) walk = drop_more walk i 0 (omega (arith, low, long_walk)) in
         let tiled = subst (Tiles c d) more tiles in
-        ap (λ l. decode c.graph c.typed (rows_in c) (groups_in c l) (before c read d) (drop i walk)) more
-        ∙ ap (decode c.graph c.typed (rows_in c) (groups_in c (group_at ss i ∷ drop (i + 1) ss)) (before c read d)) walked
-        ∙ ap (λ j. decode c.graph c.typed (rows_in c) (groups_in c (drop (i + 1) ss)) (place c.graph c.typed (rows_in c) (group_in c.steps (group_at ss i)) (before c read d) j) (drop (i + 1) walk)) (each i low)
-        ∙ ap (λ n. decode c.graph c.typed (rows_in c) (groups_in c (drop (i + 1) ss)) (place c.graph c.typed (rows_in c) (group_in c.steps (group_at ss i)) (before c read n) (place_at c ss row cs ms ch ps runs many groups sel i)) (drop (i + 1) walk)) (sym tiled.0)
-        ∙ ap (λ a. decode c.graph c.typed (rows_in c) (groups_in c (drop (i + 1) ss)) a (drop (i + 1) walk)) (place_is i low (all_stand i (omega (arith, low))))
+        ap (λ l. decode c.graph c.typed (rows_in c ss) i (groups_in c l) (before c read d) (drop i walk)) more
+        ∙ ap (decode c.graph c.typed (rows_in c ss) i (groups_in c (group_at ss i ∷ drop (i + 1) ss)) (before c read d)) walked
+        ∙ ap (λ j. decode c.graph c.typed (rows_in c ss) (i + 1) (groups_in c (drop (i + 1) ss)) (place c.graph c.typed (rows_in c ss i) (group_in c.steps (group_at ss i)) (before c read d) j) (drop (i + 1) walk)) (each i low)
+        ∙ ap (λ n. decode c.graph c.typed (rows_in c ss) (i + 1) (groups_in c (drop (i + 1) ss)) (place c.graph c.typed (rows_in c ss i) (group_in c.steps (group_at ss i)) (before c read n) (place_at c ss row cs ms ch ps runs many groups sel i)) (drop (i + 1) walk)) (sym tiled.0)
+        ∙ ap (λ a. decode c.graph c.typed (rows_in c ss) (i + 1) (groups_in c (drop (i + 1) ss)) a (drop (i + 1) walk)) (place_is i low (all_stand i (omega (arith, low))))
         ∙ decode_from n (i + 1) (group_at ss i).end (omega (arith, at_end)) tiled.3
 
     -- what the plan binds at these positions is what the walk binds
-    pub reads_walk : given c.typed read (steps c.steps) nothing ≡ decode c.graph c.typed (rows_in c) (groups_in c ss) nothing walk
+    pub reads_walk : given c.typed read (steps c.steps) nothing ≡ decode c.graph c.typed (rows_in c ss) 0 (groups_in c ss) nothing walk
     unfolding before
     reads_walk = given_all c read ∙ sym (decode_from (length ss) 0 0 (zero-add (length ss)) st.grouped.tiles)

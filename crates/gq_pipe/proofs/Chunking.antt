@@ -30,7 +30,7 @@ use Rattle.gq_pipe.specs.Bound.{binds_all, all_bound}
 use Rattle.gq_pipe.specs.Levels.{given}
 use Rattle.gq_pipe.specs.steps.Chunks.{AreStanding, IsGroupAt, marked_at, current_at}
 use Rattle.gq_pipe.specs.steps.Homes.{AreHomes, InGroup, IsHoused, is_forward, node_home, rel_home}
-use Rattle.gq_pipe.specs.steps.Levels.{Run, step_at, known, before}
+use Rattle.gq_pipe.specs.steps.Levels.{Run, step_at, built_at, known, before}
 use Rattle.gq_pipe.specs.steps.Lists.{group_at, groups_in, rows_in, layout_in, Tiles, Stands}
 use Rattle.gq_pipe.specs.declared.homes.Filling.{Filling}
 use Rattle.gq_pipe.specs.declared.places.GroupSteps.{GroupSteps}
@@ -67,22 +67,22 @@ module _ (c : Run) (ss : List GroupSteps) (row : Assignment) (cs : List Cursor) 
   abbrev firsts : ℕ → ℕ
   firsts = first_at c ss row cs ms ch.groups.now st runs many marks count groups
 
-  one_choice : (ps : List ℕ) → AreSelected ch.groups.now ps → given c.typed (read_at ps) (steps c.steps) nothing ≡ decode c.graph c.typed (rows_in c) (groups_in c ss) nothing (shift firsts 0 ps)
+  one_choice : (ps : List ℕ) → AreSelected ch.groups.now ps → given c.typed (read_at ps) (steps c.steps) nothing ≡ decode c.graph c.typed (rows_in c ss) 0 (groups_in c ss) nothing (shift firsts 0 ps)
   one_choice ps sel =
       let long : length ps ≡ length ss = as_many ch.groups.now ps sel ∙ count in
       reads_walk c ss row cs ms ch ps runs many groups sel st fs homes cols plain (shift firsts 0 ps) (shift_long firsts 0 ps ∙ long)
       (λ i low. shift_at firsts 0 ps i (omega (arith, low, long)) ∙ ap (λ n. firsts n + slice_index ps i) (zero-add i))
 
   -- what the plan binds at the choices of the chunk is what its walks bind
-  pub chunk_binds : map (λ row. given c.typed row (steps c.steps) nothing) (chunk_meaning c.graph c.typed ch) ≡ map (decode c.graph c.typed (rows_in c) (groups_in c ss) nothing) (walk.choices (layout_in c ss) [] cs ms)
+  pub chunk_binds : map (λ row. given c.typed row (steps c.steps) nothing) (chunk_meaning c.graph c.typed ch) ≡ map (decode c.graph c.typed (rows_in c ss) 0 (groups_in c ss) nothing) (walk.choices (layout_in c ss) [] cs ms)
   chunk_binds =
       map_map (λ row. given c.typed row (steps c.steps) nothing) read_at (group.choices ch.groups.now)
-      ∙ same_on (AreSelected ch.groups.now) (λ ps. given c.typed (read_at ps) (steps c.steps) nothing) (λ ps. decode c.graph c.typed (rows_in c) (groups_in c ss) nothing (shift firsts 0 ps)) (group.choices ch.groups.now) one_choice (all_selected ch.groups.now)
-      ∙ sym (map_map (decode c.graph c.typed (rows_in c) (groups_in c ss) nothing) (shift firsts 0) (group.choices ch.groups.now))
-      ∙ ap (map (decode c.graph c.typed (rows_in c) (groups_in c ss) nothing)) (sym (chunk_walks c ss row cs ms ch.groups.now st runs many marks count groups))
+      ∙ same_on (AreSelected ch.groups.now) (λ ps. given c.typed (read_at ps) (steps c.steps) nothing) (λ ps. decode c.graph c.typed (rows_in c ss) 0 (groups_in c ss) nothing (shift firsts 0 ps)) (group.choices ch.groups.now) one_choice (all_selected ch.groups.now)
+      ∙ sym (map_map (decode c.graph c.typed (rows_in c ss) 0 (groups_in c ss) nothing) (shift firsts 0) (group.choices ch.groups.now))
+      ∙ ap (map (decode c.graph c.typed (rows_in c ss) 0 (groups_in c ss) nothing)) (sym (chunk_walks c ss row cs ms ch.groups.now st runs many marks count groups))
 
   -- where the plan binds all variables, they are the whole assignments
-  pub chunk_whole : binds_all c.typed (steps c.steps) ≡ true → map (assigned c.typed) (chunk_meaning c.graph c.typed ch) ≡ map (whole c.typed) (map (decode c.graph c.typed (rows_in c) (groups_in c ss) nothing) (walk.choices (layout_in c ss) [] cs ms))
+  pub chunk_whole : binds_all c.typed (steps c.steps) ≡ true → map (assigned c.typed) (chunk_meaning c.graph c.typed ch) ≡ map (whole c.typed) (map (decode c.graph c.typed (rows_in c ss) 0 (groups_in c ss) nothing) (walk.choices (layout_in c ss) [] cs ms))
   chunk_whole all =
       map_map (assigned c.typed) read_at (group.choices ch.groups.now)
       ∙ same_on (AreSelected ch.groups.now) (λ ps. assigned c.typed (read_at ps)) (λ ps. whole c.typed (given c.typed (read_at ps) (steps c.steps) nothing)) (group.choices ch.groups.now) one (all_selected ch.groups.now)
@@ -358,7 +358,7 @@ module _ (c : Run) (ss : List GroupSteps) (row : Assignment) (cs : List Cursor) 
             let above : (group_at ss i).first < e = behind i e low there (ap makes_group is) in
             let up = there.low in
             let t : IsMade c e 0 a a = (module_made i low).others_made e above up there.high in
-            let inside = some_left (tries c.graph c.typed (step_at c e) (before c a e)) 0 _ _ t.made in
+            let inside = some_left (tries c.graph c.typed (built_at c e) (step_at c e) (before c a e)) 0 _ _ t.made in
             let most = extend_count c st.runs e e_low a (held_at e (omega (arith, e_low))) true z from to w is in
             subst (λ n. IsEdge c.graph (rel_table c.typed n) (edge_at ch ps n)) same
             (single_edge z from to w house.edge_is (extend_can c st.runs e e_low a (held_at e (omega (arith, e_low))) true z from to w is) (omega (arith, inside, most)))
@@ -366,7 +366,7 @@ module _ (c : Run) (ss : List GroupSteps) (row : Assignment) (cs : List Cursor) 
             let same : z ≡ x = same_var x z ((known c e).rels x) now free in
             let first : e ≡ (group_at ss i).first = is_first i e low there (ap makes_group is) in
             let t : IsMade c e (place_at c ss row cs ms ch ps runs many groups sel i) a a = subst (λ n. IsMade c n (place_at c ss row cs ms ch ps runs many groups sel i) a a) (sym first) ((module_made i low).first_made (omega arith)) in
-            let inside = some_left (tries c.graph c.typed (step_at c e) (before c a e)) (place_at c ss row cs ms ch ps runs many groups sel i) _ _ t.made in
+            let inside = some_left (tries c.graph c.typed (built_at c e) (step_at c e) (before c a e)) (place_at c ss row cs ms ch ps runs many groups sel i) _ _ t.made in
             let most = extend_count c st.runs e e_low a (held_at e (omega (arith, e_low))) false z from to w is in
             subst (λ n. IsEdge c.graph (rel_table c.typed n) (edge_at ch ps n)) same
             (listed_edge z from to w i low house.1 (extend_can c st.runs e e_low a (held_at e (omega (arith, e_low))) false z from to w is) (omega (arith, inside, most)))
@@ -374,7 +374,7 @@ module _ (c : Run) (ss : List GroupSteps) (row : Assignment) (cs : List Cursor) 
             let same : z ≡ x = same_var x z ((known c e).rels x) now free in
             let first : e ≡ (group_at ss i).first = is_first i e low there (ap makes_group is) in
             let t : IsMade c e (place_at c ss row cs ms ch ps runs many groups sel i) a a = subst (λ n. IsMade c n (place_at c ss row cs ms ch ps runs many groups sel i) a a) (sym first) ((module_made i low).first_made (omega arith)) in
-            let inside = some_left (tries c.graph c.typed (step_at c e) (before c a e)) (place_at c ss row cs ms ch ps runs many groups sel i) _ _ t.made in
+            let inside = some_left (tries c.graph c.typed (built_at c e) (step_at c e) (before c a e)) (place_at c ss row cs ms ch ps runs many groups sel i) _ _ t.made in
             let most = close_count c st.runs e e_low a (held_at e (omega (arith, e_low))) false z from to w is in
             subst (λ n. IsEdge c.graph (rel_table c.typed n) (edge_at ch ps n)) same
             (listed_edge z from to w i low house (close_can c st.runs e e_low a (held_at e (omega (arith, e_low))) false z from to w is) (omega (arith, inside, most)))
@@ -383,7 +383,7 @@ module _ (c : Run) (ss : List GroupSteps) (row : Assignment) (cs : List Cursor) 
             let above : (group_at ss i).first < e = behind i e low there (ap makes_group is) in
             let up = there.low in
             let t : IsMade c e 0 a a = (module_made i low).others_made e above up there.high in
-            let inside = some_left (tries c.graph c.typed (step_at c e) (before c a e)) 0 _ _ t.made in
+            let inside = some_left (tries c.graph c.typed (built_at c e) (step_at c e) (before c a e)) 0 _ _ t.made in
             let most = close_count c st.runs e e_low a (held_at e (omega (arith, e_low))) true z from to w is in
             subst (λ n. IsEdge c.graph (rel_table c.typed n) (edge_at ch ps n)) same
             (single_edge z from to w house (close_can c st.runs e e_low a (held_at e (omega (arith, e_low))) true z from to w is) (omega (arith, inside, most)))

@@ -1,4 +1,3 @@
-pub mod Advancing
 pub mod Assigned
 pub mod Binding
 pub mod Following
@@ -7,14 +6,14 @@ pub mod Joining
 pub mod Keeping
 pub mod Levels
 pub mod Making
-pub mod Moving
 pub mod Going
 pub mod Pushing
-pub mod Searching
+pub mod Sealing
 pub mod Stepping
 pub mod Testing
+pub mod Stored
 pub mod Tried
-pub mod Weights
+pub mod Unjoined
 pub mod Whole
 pub mod Here
 pub mod Sifting
@@ -36,5 +35,6 @@ pub mod Chunking
 pub mod Chunked
 pub mod Holding
 pub mod Filling
+pub mod Loading
 pub mod Flags
 pub mod Showing

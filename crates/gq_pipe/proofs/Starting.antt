@@ -22,6 +22,7 @@ use Rattle.gq_plan.specs.Arranged.{arranged, arranged_flat, at_numbers, flags_of
 use Rattle.gq_plan.specs.Assignments as plain
 use Rattle.gq_plan.specs.Columns.{columns_of, own_columns, steps_of}
 use Rattle.gq_plan.specs.Covers.{Fits}
+use Rattle.gq_plan.specs.Flat.{is_flat}
 use Rattle.gq_plan.specs.Known.{none}
 use Rattle.gq_plan.specs.Meaning.{Partial, mean, nothing}
 use Rattle.gq_plan.specs.Plans.{Plan, Step, plan_of, steps, step_of}
@@ -32,7 +33,7 @@ use Rattle.gq_plan.specs.declared.plan.Plan as code_plan
 use Rattle.gq_plan.specs.declared.typed.Typed.{Typed}
 use Rattle.gq_walks.specs.Layouts.{keys, walks}
 use Rattle.gq_pipe.specs.Built.{AreBuilds}
-use Rattle.gq_pipe.specs.Keys.{keys_with, plan_keys}
+use Rattle.gq_pipe.specs.Keys.{keys_with, no_rows, plan_keys}
 use Rattle.gq_pipe.specs.Levels.{given}
 use Rattle.gq_pipe.specs.steps.Cuts.{begins, flag, groups_of, IsCutTo}
 use Rattle.gq_pipe.specs.steps.Given.{RunsPlan, bound_by, given_plan, numbers_of}
@@ -44,7 +45,7 @@ use Rattle.gq_pipe.specs.declared.homes.Filling.{Filling}
 use Rattle.gq_pipe.specs.declared.places.GroupSteps.{GroupSteps}
 use Rattle.gq_pipe.specs.declared.plan_run.PlanRun.{PlanRun}
 use Rattle.gq_pipe.proofs.Flags.{flags_keys}
-use Rattle.gq_pipe.proofs.InOrder.{builds_ordered, ordered_sum, same_bound}
+use Rattle.gq_pipe.proofs.InOrder.{builds_ordered, ordered_sum, same_bound, still_flat}
 use Rattle.gq_pipe.proofs.Rebinding.{bound_self}
 use Rattle.gq_pipe.proofs.Resting.{flats_are, grouped, keys_are, owed_mean, some_group}
 
@@ -150,14 +151,14 @@ module _ (k : PlanRun) (p : code_plan.Plan) (os : List (Option Held)) (order : L
     some_run = some_group c run flat ss cut begins_run enough_run
 
     -- what is owed, as the plan binds it
-    pub owed_given : IsPermutation (map (λ w. bound_by y (given_plan k) (decode g y (rows_in c) (groups_in c ss) nothing w)) (walks (layout_in c ss) (length ss) [])) (mean g y (plan_of p) nothing)
+    pub owed_given : IsPermutation (map (λ w. bound_by y (given_plan k) (decode g y (rows_in c ss) 0 (groups_in c ss) nothing w)) (walks (layout_in c ss) (length ss) [])) (mean g y (plan_of p) nothing)
     owed_given =
         let all = mean g y (plan_of p) nothing in
         let own = mean g y (steps c.steps) nothing in
         let there : bound_by y (given_plan k) ≡ bound_by y (plan_of p) = ap (bound_by y) (sym plan_same) in
         let asked : Rattle.gq_plan.specs.Assignments.Assignment → Partial = λ t. given y (numbers_of t) (plan_of p) nothing in
-        subst (λ (f : Partial → Partial). IsPermutation (map (λ w. f (decode g y (rows_in c) (groups_in c ss) nothing w)) (walks (layout_in c ss) (length ss) [])) all) (sym there)
-        (subst (λ es. IsPermutation es all) (map_map (bound_by y (plan_of p)) (decode g y (rows_in c) (groups_in c ss) nothing) (walks (layout_in c ss) (length ss) []))
+        subst (λ (f : Partial → Partial). IsPermutation (map (λ w. f (decode g y (rows_in c ss) 0 (groups_in c ss) nothing w)) (walks (layout_in c ss) (length ss) [])) all) (sym there)
+        (subst (λ es. IsPermutation es all) (map_map (bound_by y (plan_of p)) (decode g y (rows_in c ss) 0 (groups_in c ss) nothing) (walks (layout_in c ss) (length ss) []))
         (IsPermutation-trans _ _ _ (IsPermutation-map (bound_by y (plan_of p)) _ _ (owed_mean c run flat ss cut begins_run enough_run))
         (subst (λ es. IsPermutation es all) (map_map asked (read_all y) own)
         (subst (IsPermutation (map asked (map (read_all y) own))) (map_map asked (read_all y) all ∙ map_self (bound_by y (plan_of p)) all (bound_self g y (plan_of p) s.valid s.sound s.fits))
@@ -169,10 +170,11 @@ module _ (k : PlanRun) (p : code_plan.Plan) (os : List (Option Held)) (order : L
         let many : length flat ≡ (places (plan_of p)).count = ap length s.flat_is ∙ length-map-range_with_len (arranged_flat y (plan_of p)) 0 (places (plan_of p)).count in
         ap (λ f. slice_index_or f j false) s.flat_is ∙ get_or-map-range_with_len (arranged_flat y (plan_of p)) 0 (places (plan_of p)).count j j false (omega (arith, low, many, many_groups)) (omega arith)
 
-    pub keys_given : keys (layout_in c ss) (length ss) [] ≡ plan_keys g y (plan_of p)
-    keys_given =
-        keys_are c run flat ss cut begins_run enough_run
-        ∙ flags_keys g y (λ side. mean g y side nothing) (flag flat) (arranged_flat y (plan_of p)) (groups_of (steps c.steps)) told
+    -- without joins the keys are those of the plan
+    pub keys_given : is_flat (plan_of p) ≡ true → keys (layout_in c ss) (length ss) [] ≡ plan_keys g y (plan_of p)
+    keys_given unjoined =
+        keys_are c run flat ss cut begins_run enough_run (ap is_flat runs_are ∙ still_flat (plan_of p) order unjoined)
+        ∙ flags_keys g y no_rows (flag flat) (arranged_flat y (plan_of p)) (groups_of (steps c.steps)) told
         ∙ ap (keys_with g y (arranged_flat y (plan_of p))) runs_arranged
 
     pub flats_given : map (λ (t : GroupSteps). t.flat) ss ≡ flags_of y (plan_of p)
