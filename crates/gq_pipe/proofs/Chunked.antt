@@ -11,7 +11,6 @@ use Rattle.gq_walks.specs.declared.walker.State.{State}
 use Rattle.gq_walks.specs.declared.walker.State.TheVariants.{Fresh, Standing, Done}
 use Rattle.gq_pipe.specs.Bound.{binds_all}
 use Rattle.gq_pipe.specs.Levels.{given}
-use Rattle.gq_pipe.specs.Plain.{ArePlain}
 use Rattle.gq_pipe.specs.Progress.{plan_in}
 use Rattle.gq_pipe.specs.steps.Chunks.{AreStanding}
 use Rattle.gq_pipe.specs.steps.Homes.{AreHomes}
@@ -35,7 +34,7 @@ is_standing Fresh h = absurd (true≢false (sym h))
 is_standing Standing h = refl
 is_standing Done h = absurd (true≢false (sym h))
 
-module _ (p : Inside) (inv : IsSearch p) (now : (rest_of p).standing ≡ true) (plain : ArePlain (rest_of p).source) (ch : Chunk) (gs : ch.groups.now ≡ p.groups.items) (hs : ch.homes.now ≡ p.housing.homes)
+module _ (p : Inside) (inv : IsSearch p) (now : (rest_of p).standing ≡ true) (ch : Chunk) (gs : ch.groups.now ≡ p.groups.items) (hs : ch.homes.now ≡ p.housing.homes)
     (slots : ch.slots.now ≡ p.slots.items) (serves : Serves (rest_of p) ch.pool.now) where
   abbrev c : Run
   c = run_of p.lists.plan_run
@@ -72,14 +71,14 @@ module _ (p : Inside) (inv : IsSearch p) (now : (rest_of p).standing ≡ true) (
   }
 
   pub chunk_is : IsChunkOf (rest_of p).source.graph (rest_of p).source.typed ch
-  chunk_is = is_chunk_of c ss p.lists.row p.walker.cursors.items p.walker.marks.items ch st runs inv.sound.groups inv.sound.marks count groups p.housing.fillings.items homes cols plain inv.chunk.few
+  chunk_is = is_chunk_of c ss p.lists.row p.walker.cursors.items p.walker.marks.items ch st runs inv.sound.groups inv.sound.marks count groups p.housing.fillings.items homes cols inv.chunk.few
 
   pub binds_is : map (λ row. given (rest_of p).source.typed row (plan_in (rest_of p).source) nothing) (chunk_meaning (rest_of p).source.graph (rest_of p).source.typed ch) ≡ (rest_of p).chunk
-  binds_is = chunk_binds c ss p.lists.row p.walker.cursors.items p.walker.marks.items ch st runs inv.sound.groups inv.sound.marks count groups p.housing.fillings.items homes cols plain
+  binds_is = chunk_binds c ss p.lists.row p.walker.cursors.items p.walker.marks.items ch st runs inv.sound.groups inv.sound.marks count groups p.housing.fillings.items homes cols
 
   pub whole_is : binds_all (rest_of p).source.typed (plan_in (rest_of p).source) ≡ true
       → map (assigned (rest_of p).source.typed) (chunk_meaning (rest_of p).source.graph (rest_of p).source.typed ch) ≡ map (whole (rest_of p).source.typed) (rest_of p).chunk
-  whole_is = chunk_whole c ss p.lists.row p.walker.cursors.items p.walker.marks.items ch st runs inv.sound.groups inv.sound.marks count groups p.housing.fillings.items homes cols plain
+  whole_is = chunk_whole c ss p.lists.row p.walker.cursors.items p.walker.marks.items ch st runs inv.sound.groups inv.sound.marks count groups p.housing.fillings.items homes cols
 
   pub shape_is : AreShown (rest_of p).source.graph (rest_of p).source.typed (groups_of (plan_in (rest_of p).source)) (rest_of p).flats ch.groups.now
-  shape_is = shown_plan c ss p.lists.row p.walker.cursors.items p.walker.marks.items ch.groups.now st.grouped count groups
+  shape_is = shown_plan c ss p.lists.row p.walker.cursors.items p.walker.marks.items ch.groups.now st.runs st.grouped count groups

@@ -1,12 +1,15 @@
 pub mod Advancing
 pub mod Assigned
 pub mod Binding
+pub mod Brings
+pub mod Brought
 pub mod Following
 pub mod Joined
 pub mod Joining
 pub mod Keeping
 pub mod Levels
 pub mod Making
+pub mod Matched
 pub mod Moving
 pub mod Going
 pub mod Pushing
