@@ -50,7 +50,7 @@ use Rattle.gq_pipe.proofs.Piecing.{group_here, list_size, list_few, flat_here, p
 use Rattle.gq_pipe.proofs.Products.{first_at, shift, shift_long, shift_at, chunk_walks, all_selected, same_on, as_many, items_long, h}
 use Rattle.gq_pipe.proofs.Reading.{place_at, first_is}
 use Rattle.gq_pipe.proofs.Going.{less_held}
-use Rattle.gq_pipe.proofs.Here.{group_others, group_makes}
+use Rattle.gq_pipe.proofs.Here.{group_makes}
 use Rattle.gq_pipe.proofs.Standings.{all_held, stands_part}
 use Rattle.gq_pipe.proofs.Tried.{extend_can, extend_count, close_can, close_count}
 use Rattle.gq_pipe.specs.steps.Moves.{IsHeld, IsMade}

@@ -1,8 +1,8 @@
 -- One more step puts what it binds into its group, and changes the home of no other variable.
-use Rattle.std.proofs.Common.{◌≡◌, ◌≢◌, ◌⊎◌, inl, inr, ℕ, zero, suc, ◌+◌, ◌-◌, ◌<◌, ◌≤◌, Bool, true, false, ◌||◌, nat_eq, Option, None, List, [], ◌∷◌, ◌++◌, map, filter, length, take, refl, sym, ap, ◌∙◌, subst, arith, true≢false}
+use Rattle.std.proofs.Common.{◌≡◌, ◌≢◌, ◌⊎◌, inl, inr, ℕ, zero, suc, ◌+◌, ◌-◌, ◌<◌, ◌≤◌, Bool, true, false, ◌||◌, nat_eq, Option, List, [], ◌∷◌, ◌++◌, filter, length, take, refl, sym, ap, ◌∙◌, subst, arith, true≢false}
 use Rattle.std.specs.Prelude.{All}
 use Rattle.std.proofs.lemmas.Bool.{and_parts, cases_eq, cases_lt, eq-eqb, ltb-true, or_left}
-use Rattle.std.proofs.lemmas.List.{get_or-set_same, get_or-set_other, get_or_append_left, get_or-append_right, get_or_push, get_or-map, get_or_past, length_push, length-append, length-map, length-set, take_all, take_more}
+use Rattle.std.proofs.lemmas.List.{get_or-set_same, get_or-set_other, get_or_append_left, get_or_push, length_push, length-append, length-set, take_all, take_more}
 use Rattle.std.specs.List.{range_with_len, sum_by}
 use Rattle.std.proofs.lemmas.List.Sums.{sum_by-append, sum_by-cons}
 use Rattle.std.proofs.lemmas.Option.{slice_get_within}
@@ -20,7 +20,7 @@ use Rattle.gq_plan.specs.Known.{Known, none}
 use Rattle.gq_plan.specs.Plans.{Plan, Step, Scan, Extend, Close, Join, Keep, Differ, NoLoop, steps}
 use Rattle.gq_pipe.specs.Built.{FitsBuild}
 use Rattle.gq_pipe.specs.steps.Cells.{build_in}
-use Rattle.gq_pipe.specs.steps.Homes.{AreHomes, AreHoused, CanHouse, CanHouseBuild, HasKeptColumn, HasMatch, InGroup, IsFilling, IsHoused, brought_by, filling_at, filling_of, fillings_of, housed, is_forward, kept_of, no_filling, node_home, rel_home, with_build, with_filling, with_node_home, with_rel_home}
+use Rattle.gq_pipe.specs.steps.Homes.{AreHomes, AreHoused, CanHouse, CanHouseBuild, HasKeptColumn, InGroup, IsFilling, IsHoused, brought_by, filling_at, filling_of, fillings_of, housed, is_forward, no_filling, node_home, rel_home, with_filling, with_node_home, with_rel_home}
 use Rattle.gq_pipe.specs.steps.Levels.{Run, step_at, known}
 use Rattle.gq_pipe.specs.steps.Lists.{group_at, group_in, groups_in, Tiles}
 use Rattle.gq_pipe.specs.steps.Moves.{IsRun}
@@ -28,7 +28,7 @@ use Rattle.gq_pipe.specs.declared.homes.Filling.{Filling}
 use Rattle.gq_pipe.specs.declared.homes.Filling.TheVariants.{Led, Kept}
 use Rattle.gq_pipe.specs.declared.places.GroupSteps.{GroupSteps}
 use Rattle.gq_pipe.proofs.Binding.{fits_at, step_keeps_node}
-use Rattle.gq_pipe.proofs.Brings.{Brings, brings, shared_key, side_low, unshared_rel}
+use Rattle.gq_pipe.proofs.Brings.{Brings, brings, shared_key, unshared_rel}
 use Rattle.gq_pipe.proofs.Going.{later_node, later_rel}
 use Rattle.gq_pipe.proofs.Here.{none_at}
 use Rattle.gq_pipe.proofs.Joined.{build_at, kept_low}
