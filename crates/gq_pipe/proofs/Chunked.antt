@@ -2,18 +2,16 @@
 use Rattle.std.proofs.Common.{◌≡◌, ℕ, ◌<◌, ◌≤◌, Bool, true, false, List, [], ◌∷◌, map, length, refl, sym, ap, ap₂, ◌∙◌, subst, true≢false}
 use Rattle.std.proofs.lemmas.List.{length-map}
 use Rattle.std.proofs.lemmas.List.FromFn.{length-map-range_with_len}
-use Rattle.gq_arrange.proofs.Loops.{steps_back}
 use Rattle.gq_group.specs.Chunks.{IsChunkOf, assignment_at, chunk_meaning}
 use Rattle.gq_group.specs.Groups as group
 use Rattle.gq_group.specs.declared.chunk.Chunk.{Chunk}
 use Rattle.gq_group.specs.declared.group.Group.{Group}
 use Rattle.gq_group.specs.declared.home.Homes.{Homes}
-use Rattle.gq_plan.specs.Arranged.{arranged, at_numbers, order_of}
-use Rattle.gq_plan.specs.Columns.{steps_of}
+use Rattle.gq_plan.specs.Arranged.{arranged}
 use Rattle.gq_plan.specs.Covers.{after}
 use Rattle.gq_plan.specs.Known.{none}
 use Rattle.gq_plan.specs.Meaning.{nothing, whole}
-use Rattle.gq_plan.specs.Plans.{Step, steps, step_of}
+use Rattle.gq_plan.specs.Plans.{steps}
 use Rattle.gq_plan.specs.Rows.{assigned}
 use Rattle.gq_plan.specs.declared.assignment.Assignment.{Assignment}
 use Rattle.gq_walks.specs.Running.{Runs, chunk_of, keys_of}
@@ -22,12 +20,11 @@ use Rattle.gq_walks.specs.declared.walker.State.{State}
 use Rattle.gq_walks.specs.declared.walker.State.TheVariants.{Fresh, Standing, Done}
 use Rattle.gq_pipe.specs.Bound.{binds_all}
 use Rattle.gq_pipe.specs.Levels.{given}
-use Rattle.gq_pipe.specs.Plain.{ArePlain, is_plain}
 use Rattle.gq_pipe.specs.Progress.{plan_in}
 use Rattle.gq_pipe.specs.steps.Chunks.{AreStanding}
 use Rattle.gq_pipe.specs.steps.Homes.{AreHomes}
 use Rattle.gq_pipe.specs.steps.Given.{bound_by, given_plan}
-use Rattle.gq_pipe.specs.steps.Levels.{Run, step_at}
+use Rattle.gq_pipe.specs.steps.Levels.{Run}
 use Rattle.gq_pipe.specs.steps.Lists.{layout_in, Stands}
 use Rattle.gq_pipe.specs.steps.Moves.{run_of, IsHeld}
 use Rattle.gq_pipe.specs.steps.Search.{has_chunk, layout_of_lists, machine_of, rest_of, walked, IsSearch}
@@ -36,14 +33,13 @@ use Rattle.gq_pipe.specs.declared.pipeline.Pipeline.TheInside.{Inside}
 use Rattle.gq_pipe.proofs.Assigned.{whole_assigned}
 use Rattle.gq_pipe.proofs.Binding.{after_all, looks_given}
 use Rattle.gq_pipe.proofs.Chunking.{is_chunk_of, chunk_binds}
-use Rattle.gq_pipe.proofs.InOrder.{still_plain}
 use Rattle.gq_pipe.proofs.Rebinding.{bound_given}
 use Rattle.gq_pipe.proofs.Standings.{all_held}
 use Rattle.gq_pipe.specs.Serving.{HasCells, Holds, Serves}
 use Rattle.gq_pipe.specs.Shown.{AreShown}
 use Rattle.gq_pipe.specs.steps.Cells.{filled}
 use Rattle.gq_pipe.proofs.Filling.{AreCells, served_cells}
-use Rattle.gq_pipe.specs.steps.Cuts.{groups_of, step_in}
+use Rattle.gq_pipe.specs.steps.Cuts.{groups_of}
 use Rattle.gq_pipe.proofs.Resting.{stands_now}
 use Rattle.gq_pipe.proofs.Showing.{shown_plan}
 
@@ -60,16 +56,10 @@ map_map : {X Y Z : Type 0} (f : Y → Z) (h : X → Y) (xs : List X) → map f (
 map_map f h [] = refl
 map_map f h (x ∷ xs) = ap (λ l. f (h x) ∷ l) (map_map f h xs)
 
-same_steps : (ss us : List Step) → steps ss ≡ steps us → ss ≡ us
-same_steps ss us e = sym (steps_back ss) ∙ ap steps_of e ∙ steps_back us
-
-module _ (p : Inside) (inv : IsSearch p) (now : (rest_of p).standing ≡ true) (plain : ArePlain (rest_of p).source) (ch : Chunk) (gs : ch.groups.now ≡ p.groups.items) (hs : ch.homes.now ≡ p.housing.homes)
+module _ (p : Inside) (inv : IsSearch p) (now : (rest_of p).standing ≡ true) (ch : Chunk) (gs : ch.groups.now ≡ p.groups.items) (hs : ch.homes.now ≡ p.housing.homes)
     (slots : ch.slots.now ≡ p.slots.items) (serves : Serves (rest_of p) ch.pool.now) where
   abbrev c : Run
   c = run_of p.lists.plan_run
-
-  abbrev ts : List Step
-  ts = map step_of p.lists.plan_run.plan.now
 
   abbrev ss : List GroupSteps
   ss = p.lists.groups.items
@@ -105,13 +95,8 @@ module _ (p : Inside) (inv : IsSearch p) (now : (rest_of p).standing ≡ true) (
   order : steps c.steps ≡ arranged c.typed (given_plan p.lists.plan_run)
   order = inv.plan.order
 
-  -- the steps that run need no build either
-  plain_run : (d : ℕ) → d < length c.steps → is_plain (step_at c d) ≡ true
-  plain_run = subst (λ (ss : List Step). (d : ℕ) → d < length ss → is_plain (step_in ss d) ≡ true) (same_steps (at_numbers ts (order_of c.typed (given_plan p.lists.plan_run))) c.steps (sym (order ∙ ap (λ us. steps (at_numbers us (order_of c.typed (given_plan p.lists.plan_run)))) (steps_back ts))))
-      (still_plain ts (order_of c.typed (given_plan p.lists.plan_run)) plain)
-
   pub chunk_is : IsChunkOf (rest_of p).source.graph (rest_of p).source.typed ch
-  chunk_is = is_chunk_of c ss p.lists.row p.walker.cursors.items p.walker.marks.items ch st runs inv.sound.groups inv.sound.marks count groups p.housing.fillings.items homes cols plain_run inv.chunk.few
+  chunk_is = is_chunk_of c ss p.lists.row p.walker.cursors.items p.walker.marks.items ch st runs inv.sound.groups inv.sound.marks count groups p.housing.fillings.items homes cols inv.chunk.few
 
   -- ---- as the plan binds it
 
@@ -126,7 +111,7 @@ module _ (p : Inside) (inv : IsSearch p) (now : (rest_of p).standing ≡ true) (
       sym (same_map (λ row. bound_by c.typed (given_plan p.lists.plan_run) (given c.typed row (steps c.steps) nothing)) (λ row. given c.typed row (given_plan p.lists.plan_run) nothing) one_bound (chunk_meaning c.graph c.typed ch))
       ∙ sym (map_map (bound_by c.typed (given_plan p.lists.plan_run)) (λ row. given c.typed row (steps c.steps) nothing) (chunk_meaning c.graph c.typed ch))
       ∙ ap (map (bound_by c.typed (given_plan p.lists.plan_run)))
-      (chunk_binds c ss p.lists.row p.walker.cursors.items p.walker.marks.items ch st runs inv.sound.groups inv.sound.marks count groups p.housing.fillings.items homes cols plain_run)
+      (chunk_binds c ss p.lists.row p.walker.cursors.items p.walker.marks.items ch st runs inv.sound.groups inv.sound.marks count groups p.housing.fillings.items homes cols)
       ∙ map_map (bound_by c.typed (given_plan p.lists.plan_run)) (walked p.lists) (chunk_of (layout_of_lists p.lists) (machine_of p.walker))
 
   pub whole_is : binds_all (rest_of p).source.typed (plan_in (rest_of p).source) ≡ true
@@ -147,4 +132,4 @@ module _ (p : Inside) (inv : IsSearch p) (now : (rest_of p).standing ≡ true) (
   pub shape_is : AreShown (rest_of p).source.graph (rest_of p).source.typed (groups_of (arranged (rest_of p).source.typed (plan_in (rest_of p).source))) (rest_of p).flats ch.groups.now
   shape_is =
       subst (λ q. AreShown c.graph c.typed (groups_of q) (rest_of p).flats ch.groups.now) order
-      (shown_plan c ss p.lists.row p.walker.cursors.items p.walker.marks.items ch.groups.now st.grouped count groups)
+      (shown_plan c ss p.lists.row p.walker.cursors.items p.walker.marks.items ch.groups.now st.runs st.grouped count groups)

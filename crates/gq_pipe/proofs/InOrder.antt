@@ -23,8 +23,6 @@ use Rattle.gq_plan.specs.Plans.{Plan, Done, Then, Step, Keep, steps, step_of}
 use Rattle.gq_plan.specs.declared.plan.Step as code
 use Rattle.gq_plan.specs.declared.typed.Typed.{Typed}
 use Rattle.gq_pipe.specs.Built.{AreBuilds, FitsBuild}
-use Rattle.gq_pipe.specs.Plain.{is_plain}
-use Rattle.gq_pipe.specs.steps.Cuts.{step_in}
 use Rattle.gq_pipe.specs.steps.Moves.{referred}
 use Rattle.gq_pipe.proofs.Tried.{get_mapped}
 
@@ -127,15 +125,3 @@ joins_none (s ∷ ss) h = ap (λ b. cond b false (is_flat (steps ss))) h.0 ∙ j
 
 pub still_flat : (p : Plan) (ns : List ℕ) → is_flat p ≡ true → is_flat (in_order p ns) ≡ true
 still_flat p ns h = joins_none (at_numbers (steps_of p) ns) (all_kept (λ s. is_join s ≡ false) (steps_of p) ns (no_joins p h))
-
-all_plain : (ss : List Step) → ((d : ℕ) → d < length ss → is_plain (step_in ss d) ≡ true) → AllByRecursion (λ s. is_plain s ≡ true) ss
-all_plain [] h = tt
-all_plain (s ∷ ss) h = (h 0 (omega arith), all_plain ss (λ d low. h (suc d) (omega (arith, low))))
-
-each_plain : (ss : List Step) → AllByRecursion (λ s. is_plain s ≡ true) ss → (d : ℕ) → d < length ss → is_plain (step_in ss d) ≡ true
-each_plain [] h d low = absurd (omega arith)
-each_plain (s ∷ ss) h zero low = h.0
-each_plain (s ∷ ss) h (suc d) low = each_plain ss h.1 d (omega arith)
-
-pub still_plain : (ss : List Step) (ns : List ℕ) → ((d : ℕ) → d < length ss → is_plain (step_in ss d) ≡ true) → (d : ℕ) → d < length (at_numbers ss ns) → is_plain (step_in (at_numbers ss ns) d) ≡ true
-still_plain ss ns h = each_plain (at_numbers ss ns) (all_kept (λ s. is_plain s ≡ true) ss ns (all_plain ss h))

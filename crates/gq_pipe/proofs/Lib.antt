@@ -1,11 +1,14 @@
 pub mod Assigned
 pub mod Binding
+pub mod Brings
+pub mod Brought
 pub mod Following
 pub mod Joined
 pub mod Joining
 pub mod Keeping
 pub mod Levels
 pub mod Making
+pub mod Matched
 pub mod Going
 pub mod Pushing
 pub mod Sealing
