@@ -7,8 +7,8 @@ ghost use Rattle.gq_plan.specs.Soundness as soundness;
 ghost use Rattle.gq_group.specs.declared.home.NodeHome.TheVariants.{Column};
 ghost use Rattle.gq_group.specs.declared.home.RelHome.TheVariants.{Kept};
 ghost use Rattle.gq_pipe.specs.steps.Homes.{AreHomes, AreHoused, CanHouse, CanHouseBuild};
-ghost use Rattle.gq_pipe.specs.steps.Homes.{brought_by, filling_of, fillings_of, housed, is_forward};
-ghost use Rattle.gq_pipe.specs.steps.Homes.{kept_of, not_in};
+ghost use Rattle.gq_pipe.specs.steps.Homes.{brought_by, filling_of, fillings_of, housed};
+ghost use Rattle.gq_pipe.specs.steps.Homes.{is_forward, kept_of, not_in};
 ghost use Rattle.gq_pipe.specs.steps.Homes.{set_numbered, with_build, with_filling};
 ghost use Rattle.gq_pipe.specs.steps.Homes.{with_node_home};
 ghost use Rattle.gq_pipe.specs.steps.Lists.{Tiles, group_at, groups_in};
@@ -135,8 +135,9 @@ fn house(
     requires { CanHouse (option_copied build) housing.old.homes (step_of step.now) }
     ensures homes { OnOk result (housing.new.homes ≡ housed (option_copied build.entry) spot.group
         (length housing.old.fillings.items) (step_of step.now) housing.old.homes) }
-    ensures fillings { OnOk result (housing.new.fillings.items ≡ with_filling (option_copied build.entry)
-        spot.group spot.depth (step_of step.now) housing.old.fillings.items) }
+    ensures fillings { OnOk result (housing.new.fillings.items ≡
+        with_filling (option_copied build.entry) spot.group spot.depth (step_of step.now)
+        housing.old.fillings.items) }
 {
     let group = spot.group;
     let nodes = &mut housing.homes.nodes;
