@@ -117,10 +117,10 @@ module _ (c : Run) (k : Known) (side : Plan) (keys : List ℕ) (fit : fits_step 
       let zero_left : 0 + r.place ≡ r.place = omega arith in
       r.home
       ∙ ap (rel.Kept i)
-          (zero_left
-          ∙ sym (place_is (after side none).rels 0 (length c.typed.rels) r.place (subst (λ l. r.place < length l) all r.low))
-          ∙ ap (place_of (filter (after side none).rels (range_with_len 0 (length c.typed.rels)))) (ap (λ l. get_or l r.place 0) (sym all) ∙ r.is)
-          ∙ ap (λ n. place_of (filter (after side none).rels (range_with_len 0 n)) x) (sym many))
+      (zero_left
+      ∙ sym (place_is (after side none).rels 0 (length c.typed.rels) r.place (subst (λ l. r.place < length l) all r.low))
+      ∙ ap (place_of (filter (after side none).rels (range_with_len 0 (length c.typed.rels)))) (ap (λ l. get_or l r.place 0) (sym all) ∙ r.is)
+      ∙ ap (λ n. place_of (filter (after side none).rels (range_with_len 0 n)) x) (sym many))
 
   brings_some : Brings c.typed side keys i d fs h (Some b)
   brings_some = record {

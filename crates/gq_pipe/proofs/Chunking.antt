@@ -311,9 +311,11 @@ module _ (c : Run) (ss : List GroupSteps) (row : Assignment) (cs : List Cursor) 
           let b : HasBuild c.graph c.typed side keys (slice_index_or c.builds e None) = build_of c st.runs e low side keys is in
           let home : rel_home ch.homes.now x ≡ rel.Kept i (place_of b.build.rels x) =
           house.rels x own ∙ ap (λ n. rel.Kept i (place_of (filter (after side none).rels (range_with_len 0 n)) x)) homes.rel_count ∙ ap (λ l. rel.Kept i (place_of l x)) (sym b.is.rels) in
-          subst (IsRelHome ch) (sym home)
-          ((let many = count in omega (arith, inside, many)), kept_in_group i inside side keys b.build (place_of b.build.rels x) (subst (λ d. step_at c d ≡ Join side keys) first is) (subst (λ d. slice_index_or c.builds d None ≡ Some b.build) first b.there)
-          (keeps_rel c st.runs e low side keys is b.build b.is x own))
+          subst (IsRelHome ch) (sym home) (
+            (let many = count in omega (arith, inside, many)),
+            kept_in_group i inside side keys b.build (place_of b.build.rels x) (subst (λ d. step_at c d ≡ Join side keys) first is) (subst (λ d. slice_index_or c.builds d None ≡ Some b.build) first b.there)
+                (keeps_rel c st.runs e low side keys is b.build b.is x own),
+          )
       bound e i low inside there (Keep t) is house free now = absurd (true≢false (sym now ∙ free))
       bound e i low inside there (Differ p) is house free now = absurd (true≢false (sym now ∙ free))
       bound e i low inside there (NoLoop z) is house free now = absurd (true≢false (sym now ∙ free))

@@ -157,9 +157,10 @@ module _ (c : Run) (run : IsRun c) (h : Homes) (nodes : length h.nodes ≡ lengt
       let x_low : x < length c.typed.rels = slice_get_within c.typed.rels x _ f.rel_is in
       omega (arith, x_low, rels)
   can_house (Join side keys) fit built =
-      subst (λ o. CanHouseBuild o h) (sym built.there)
-      (subst (λ (l : List ℕ). All (λ v. v < length h.nodes) l) (sym built.is.nodes) (rw nodes (kept_low (after side none).nodes (length c.typed.nodes))),
-      subst (λ (l : List ℕ). All (λ x. x < length h.rels) l) (sym built.is.rels) (rw rels (kept_low (after side none).rels (length c.typed.rels))))
+      subst (λ o. CanHouseBuild o h) (sym built.there) (
+        subst (λ (l : List ℕ). All (λ v. v < length h.nodes) l) (sym built.is.nodes) (rw nodes (kept_low (after side none).nodes (length c.typed.nodes))),
+        subst (λ (l : List ℕ). All (λ x. x < length h.rels) l) (sym built.is.rels) (rw rels (kept_low (after side none).rels (length c.typed.rels))),
+      )
   can_house (Keep t) fit built = tt
   can_house (Differ p) fit built = tt
   can_house (NoLoop x) fit built = tt

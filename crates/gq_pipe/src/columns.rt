@@ -7,7 +7,8 @@ ghost use Rattle.gq_plan.specs.Rows.{rel_table};
 ghost use Rattle.gq_plan.specs.Soundness.{IsSound};
 ghost use Rattle.gq_pool.specs.Pool.{IsOut, cell_at, cells_of};
 ghost use Rattle.gq_pipe.specs.Serving.{HasCell, HasCells, Holds};
-ghost use Rattle.gq_pipe.specs.steps.Cells.{CanKeep, HasMatches, HasRow, cell_seen, filled};
+ghost use Rattle.gq_pipe.specs.steps.Cells.{CanFillAt, CanKeep, HasMatches, HasRow};
+ghost use Rattle.gq_pipe.specs.steps.Cells.{cell_seen, filled};
 ghost use Rattle.gq_pipe.specs.steps.Cells.{kept_row, led, near_seen};
 ghost use Rattle.gq_pipe.specs.steps.Homes.{CanFill, IsFilling, filling_at, node_home};
 ghost use Rattle.gq_pipe.specs.steps.Levels.{known};
@@ -100,9 +101,8 @@ fn cell(
     requires run { IsRun (run_of lists.now.plan_run) }
     requires row { length lists.now.row.nodes ≡ length lists.now.plan_run.typed.now.nodes }
     requires groups { length groups.now ≡ length lists.now.groups.items }
-    requires filling { (number : ℕ) × (let c = run_of lists.now.plan_run in
-        IsFilling c lists.now.groups.items (known c (length c.steps)) housing.now.homes number
-        filling) × ((m : ℕ) → m < number → HasRow pool.now slots.now m position) }
+    requires filling { CanFillAt (run_of lists.now.plan_run) lists.now.groups.items
+        housing.now.homes pool.now slots.now filling position }
     requires matches { HasMatches (run_of lists.now.plan_run) groups.now filling }
     requires position { position < VECTOR }
     ensures { result ≡ cell_seen (run_of lists.now.plan_run) lists.now.row groups.now

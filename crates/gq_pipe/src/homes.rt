@@ -7,8 +7,8 @@ ghost use Rattle.gq_plan.specs.Soundness as soundness;
 ghost use Rattle.gq_group.specs.declared.home.NodeHome.TheVariants.{Column};
 ghost use Rattle.gq_group.specs.declared.home.RelHome.TheVariants.{Kept};
 ghost use Rattle.gq_pipe.specs.steps.Homes.{AreHomes, AreHoused, CanHouse, CanHouseBuild};
-ghost use Rattle.gq_pipe.specs.steps.Homes.{brought_by, filling_of, fillings_of, housed, is_forward};
-ghost use Rattle.gq_pipe.specs.steps.Homes.{kept_of, not_in};
+ghost use Rattle.gq_pipe.specs.steps.Homes.{brought_by, filling_of, fillings_of, housed};
+ghost use Rattle.gq_pipe.specs.steps.Homes.{is_forward, kept_of, not_in};
 ghost use Rattle.gq_pipe.specs.steps.Homes.{set_numbered, with_build, with_filling};
 ghost use Rattle.gq_pipe.specs.steps.Homes.{with_node_home};
 ghost use Rattle.gq_pipe.specs.steps.Lists.{Tiles, group_at, groups_in};
@@ -135,38 +135,37 @@ fn house(
     requires { CanHouse (option_copied build) housing.old.homes (step_of step.now) }
     ensures homes { OnOk result (housing.new.homes ≡ housed (option_copied build.entry) spot.group
         (length housing.old.fillings.items) (step_of step.now) housing.old.homes) }
-    ensures fillings { OnOk result (housing.new.fillings.items ≡ with_filling (option_copied build.entry)
-        spot.group spot.depth (step_of step.now) housing.old.fillings.items) }
+    ensures fillings { OnOk result (housing.new.fillings.items ≡
+        with_filling (option_copied build.entry) spot.group spot.depth (step_of step.now)
+        housing.old.fillings.items) }
 {
-    let homes = &mut housing.homes;
     let group = spot.group;
+    let nodes = &mut housing.homes.nodes;
+    let rels = &mut housing.homes.rels;
     match step {
-        Step::Scan { node } => homes.nodes.set(*node as usize, NodeHome::Item { group }),
+        Step::Scan { node } => nodes.set(*node as usize, NodeHome::Item { group }),
         Step::Extend {
             rel,
             from,
             to,
             direction,
         } => {
-            homes.nodes.set(*to as usize, NodeHome::Item { group });
-            let edge = listed(group, *from, *direction);
-            homes.rels.set(*rel as usize, edge);
+            nodes.set(*to as usize, NodeHome::Item { group });
+            rels.set(*rel as usize, listed(group, *from, *direction));
         }
         Step::Close {
             rel,
             from,
             to: _,
             direction,
-        } => homes
-            .rels
-            .set(*rel as usize, listed(group, *from, *direction)),
+        } => rels.set(*rel as usize, listed(group, *from, *direction)),
         Step::ColumnExtend {
             rel,
             from,
             to,
             direction,
         } => {
-            homes.rels.set(*rel as usize, single(*from, *direction));
+            rels.set(*rel as usize, single(*from, *direction));
             return add_column(led(group, *rel, *from, *direction), group, *to, housing);
         }
         Step::ColumnClose {
@@ -174,7 +173,7 @@ fn house(
             from,
             to: _,
             direction,
-        } => homes.rels.set(*rel as usize, single(*from, *direction)),
+        } => rels.set(*rel as usize, single(*from, *direction)),
         Step::Join { side: _, keys } => return house_build(build, keys.as_slice(), spot, housing),
         Step::Keep { .. } | Step::Differ { .. } | Step::NoLoop { .. } => {}
     }
@@ -223,9 +222,9 @@ fn house_nodes(
 ) -> Result<(), Memory>
     requires { All (λ v. v < length housing.old.homes.nodes) build.now.nodes }
     ensures homes { OnOk result (housing.new.homes ≡ record {
-        nodes = set_numbered (Column spot.group) (length housing.old.fillings.items)
-            (not_in keys.now build.now.nodes) housing.old.homes.nodes;
-        rels = housing.old.homes.rels;
+      nodes = set_numbered (Column spot.group) (length housing.old.fillings.items)
+          (not_in keys.now build.now.nodes) housing.old.homes.nodes;
+      rels = housing.old.homes.rels;
     }) }
     ensures fillings { OnOk result (housing.new.fillings.items ≡ housing.old.fillings.items
         ++ fillings_of spot.group spot.depth (not_in keys.now build.now.nodes)) }
@@ -239,12 +238,7 @@ fn house_nodes(
 }
 
 // Puts a node variable into a column more of a group.
-fn add_column(
-    filling: Filling,
-    group: u32,
-    node: u32,
-    housing: &mut Housing,
-) -> Result<(), Memory>
+fn add_column(filling: Filling, group: u32, node: u32, housing: &mut Housing) -> Result<(), Memory>
     requires { node < length housing.old.homes.nodes }
     ensures homes { OnOk result (housing.new.homes ≡ with_node_home node
         (Column group (length housing.old.fillings.items)) housing.old.homes) }

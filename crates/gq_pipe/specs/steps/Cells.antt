@@ -13,11 +13,12 @@ use Rattle.gq_plan.specs.declared.assignment.Assignment.{Assignment}
 use Rattle.gq_pool.specs.Pool as pool
 use Rattle.gq_pool.specs.Pool.{Pool, IsOut}
 use Rattle.gq_store.specs.Neighbours.{neighbours}
-use Rattle.gq_pipe.specs.steps.Homes.{filling_at, node_home}
-use Rattle.gq_pipe.specs.steps.Levels.{Run}
+use Rattle.gq_pipe.specs.steps.Homes.{IsFilling, filling_at, node_home}
+use Rattle.gq_pipe.specs.steps.Levels.{Run, known}
 use Rattle.gq_pipe.specs.declared.homes.Filling.{Filling}
 use Rattle.gq_pipe.specs.declared.homes.Filling.TheVariants.{Led, Kept}
 use Rattle.gq_pipe.specs.declared.homes.Leading.{Leading}
+use Rattle.gq_pipe.specs.declared.places.GroupSteps.{GroupSteps}
 
 -- the row to which the single relationship of a row leads
 abbrev pub led : Run → Leading → ℕ → ℕ
@@ -70,6 +71,12 @@ pub record HasRow (q : Pool) (slots : List ℕ) (m p : ℕ) : Type 0 where
 abbrev pub cell_seen : Run → Assignment → List Group → Homes → Pool → List ℕ → Filling → ℕ → ℕ
 cell_seen c row gs h q slots (Led f) p = led c f (near_seen row gs q slots f.group f.from p (node_home h f.from))
 cell_seen c row gs h q slots (Kept f) p = kept_row (build_in c f.depth) (item_in gs f.group p) f.node
+
+-- a column that can be filled at a position, since the earlier ones can be read there
+pub record CanFillAt (c : Run) (ss : List GroupSteps) (h : Homes) (q : Pool) (slots : List ℕ) (f : Filling) (p : ℕ) : Type 0 where
+  pub number : ℕ
+  pub filling : IsFilling c ss (known c (length c.steps)) h number f
+  pub earlier : (m : ℕ) → m < number → HasRow q slots m p
 
 -- a build keeps a node variable, and has a row
 abbrev pub CanKeep : Option Held → Option ℕ → ℕ → Type 0

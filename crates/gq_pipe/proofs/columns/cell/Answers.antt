@@ -13,15 +13,15 @@ pub near_row-near-requires-clause-columns : goal.near_row-near-requires-clause-c
 near_row-near-requires-clause-columns c = λ j m home.
     let r = c.requires.filling in
     let c' = run_of c.args.lists.now.plan_run in
-    let is = subst (IsFilling c' c.args.lists.now.groups.items (known c' (length c'.steps)) c.args.housing.now.homes r.0) c.in-Led.is r.1 in
-    r.2 m (is.before j m home)
+    let is = subst (IsFilling c' c.args.lists.now.groups.items (known c' (length c'.steps)) c.args.housing.now.homes r.number) c.in-Led.is r.filling in
+    r.earlier m (is.before j m home)
 
 pub build_at-build-requires : goal.build_at-build-requires
 build_at-build-requires c =
     let r = c.requires.filling in
     let k = c.args.lists.now.plan_run in
     let c' = run_of k in
-    let is = subst (IsFilling c' c.args.lists.now.groups.items (known c' (length c'.steps)) c.args.housing.now.homes r.0) c.in-Kept.is r.1 in
+    let is = subst (IsFilling c' c.args.lists.now.groups.items (known c' (length c'.steps)) c.args.housing.now.homes r.number) c.in-Kept.is r.filling in
     let low = is.low in
     let many = builds_many k.graph.now k.typed.now c'.steps (builds_in k) c.requires.run.builds in
     omega (arith, low, many)
@@ -31,7 +31,7 @@ kept_row-requires c =
     let r = c.requires.filling in
     let c' = run_of c.args.lists.now.plan_run in
     let f = c.in-Kept.keeping in
-    let is = subst (IsFilling c' c.args.lists.now.groups.items (known c' (length c'.steps)) c.args.housing.now.homes r.0) c.in-Kept.is r.1 in
+    let is = subst (IsFilling c' c.args.lists.now.groups.items (known c' (length c'.steps)) c.args.housing.now.homes r.number) c.in-Kept.is r.filling in
     let inside = is.group in
     let many = c.requires.groups in
     let item : c.item_of-item.result ≡ item_in c.args.groups.now f.group c.args.position =
@@ -44,7 +44,7 @@ returns-in-Kept c =
     let r = c.requires.filling in
     let c' = run_of c.args.lists.now.plan_run in
     let f = c.in-Kept.keeping in
-    let is = subst (IsFilling c' c.args.lists.now.groups.items (known c' (length c'.steps)) c.args.housing.now.homes r.0) c.in-Kept.is r.1 in
+    let is = subst (IsFilling c' c.args.lists.now.groups.items (known c' (length c'.steps)) c.args.housing.now.homes r.number) c.in-Kept.is r.filling in
     let inside = is.group in
     let many = c.requires.groups in
     let item : c.item_of-item.result ≡ item_in c.args.groups.now f.group c.args.position =

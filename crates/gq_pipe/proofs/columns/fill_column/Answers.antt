@@ -15,11 +15,12 @@ cell-row-requires-clause-filling c =
     let h = c.args.housing.now.homes in
     let room = c.requires.room in
     let c' : Run = run_of c.args.lists.now.plan_run in
-    let is : filling_at fs c.args.number ≡ c.index-filling.result.now = get_or_default fs c.args.number no_filling c.index-filling.result.now c.requires.number ∙ sym c.index-filling.ensures in (
-      c.args.number,
-      subst (IsFilling c' c.args.lists.now.groups.items (known c' (length c'.steps)) h c.args.number) is c.requires.filling,
-      row_there c' c.args.lists.now.row c.args.groups.now h fs c.loop-position.pool c.args.slots.now c.args.number c.loop-position.position c.loop-position.invariant.0 c.loop-position.invariant.2 (omega (arith, room)) c.loop-position-test.true,
-    )
+    let is : filling_at fs c.args.number ≡ c.index-filling.result.now = get_or_default fs c.args.number no_filling c.index-filling.result.now c.requires.number ∙ sym c.index-filling.ensures in
+    record {
+      number = c.args.number;
+      filling = subst (IsFilling c' c.args.lists.now.groups.items (known c' (length c'.steps)) h c.args.number) is c.requires.filling;
+      earlier = row_there c' c.args.lists.now.row c.args.groups.now h fs c.loop-position.pool c.args.slots.now c.args.number c.loop-position.position c.loop-position.invariant.0 c.loop-position.invariant.2 (omega (arith, room)) c.loop-position-test.true;
+    }
 
 pub cell-row-requires-clause-matches : goal.cell-row-requires-clause-matches
 cell-row-requires-clause-matches c =
