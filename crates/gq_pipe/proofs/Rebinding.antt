@@ -114,7 +114,7 @@ module _ (g : Graph) (y : Typed) (valid : is_valid g ≡ true) (sound : IsSound 
   nodes_tabled v = elim (slice_get y.nodes v) as (λ o. slice_get y.nodes v ≡ o → AllByRecursion (λ (n : NodeId). n.table ≡ node_table y v) (nodes_for g y v)) [
     | None ↦ λ is. rw is tt
     | Some t ↦ λ is. rw is
-          (each_map (λ r. Unit {0}) (λ (n : NodeId). n.table ≡ node_table y v) (λ r. record { table = t; row = r }) (λ r _. sym (get_or_from_slice_get y.nodes v t 0 is)) _ (each_of _ (λ r. tt) _))
+        (each_map (λ r. Unit {0}) (λ (n : NodeId). n.table ≡ node_table y v) (λ r. record { table = t; row = r }) (λ r _. sym (get_or_from_slice_get y.nodes v t 0 is)) _ (each_of _ (λ r. tt) _))
   ] refl
 
   -- relationships of a relationship variable's table, each of which leads to a node of the far table
@@ -127,8 +127,11 @@ module _ (g : Graph) (y : Typed) (valid : is_valid g ≡ true) (sound : IsSound 
       let f : Follows no_steps x from to way = follows no_steps empty_run column x from to way fit in
       rw f.rel_is
       (each_map (λ n. n < length (rels_at g f.found.table)) (IsLed way x to) (rel f.found.table)
-      (λ n low. (sym (ap table_of f.rel_is), λ m leads. (let there : Some m ≡ Some _ = sym leads ∙ far_is g f.found.table f.table f.table_at way n low in
-      let same : m.table ≡ far_table way f.table = ap (λ o. (unwrap_or o m).table) there in same ∙ sym (get_or_from_slice_get y.nodes to (far_table way f.table) 0 f.far))))
+      (λ n low. (
+        sym (ap table_of f.rel_is),
+        λ m leads. (let there : Some m ≡ Some _ = sym leads ∙ far_is g f.found.table f.table f.table_at way n low in
+            let same : m.table ≡ far_table way f.table = ap (λ o. (unwrap_or o m).table) there in same ∙ sym (get_or_from_slice_get y.nodes to (far_table way f.table) 0 f.far)),
+      ))
       (range_with_len 0 (length (rels_at g f.found.table))) (each_below 0 (length (rels_at g f.found.table)) (length (rels_at g f.found.table)) (omega arith)))
 
   met_led : (column : Bool) (x from to : ℕ) (way : Direction) (o : Option NodeId) → holds (goes g.catalog column from to way) (slice_get y.rels x) ≡ true → AllByRecursion (IsLed way x to) (rels_from g y x way o)
