@@ -1,6 +1,6 @@
 //! Rows of values, each once.
 ghost use Rattle.std.specs.Prelude.{◌≡◌, ◌++◌, [], List, flat_map, length, map, slice_index_or};
-ghost use Rattle.std.specs.Prelude.{IfOk, OnOk, replicate};
+ghost use Rattle.std.specs.Prelude.{IfOk, OnOk, nat_eq, replicate};
 ghost use Rattle.gq_base.specs.Values.{Val, val};
 ghost use Rattle.gq_classes.specs.Rows.{AreWide, Inserts};
 ghost use Rattle.gq_classes.specs.steps.Levels.{CanLead, Fits, Leads, empty_row, keys_of, rows_from};
@@ -43,6 +43,20 @@ impl<'g> Classes<'g> {
             texts: IndexSet::new(alloc),
             count: 0,
         }
+    }
+
+    /// How many rows there are.
+    pub fn len(&self) -> usize
+        ensures { result ≡ length self.now }
+    {
+        self.count
+    }
+
+    /// Whether there are no rows.
+    pub fn is_empty(&self) -> bool
+        ensures { result ≡ nat_eq (length self.now) 0 }
+    {
+        self.len() == 0
     }
 
     /// Adds a row, unless there is one with the same values, and tells whether it was added.
