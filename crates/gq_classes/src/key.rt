@@ -1,5 +1,5 @@
 //! A value behind a front of values, told so that it takes few bytes.
-ghost use Rattle.std.specs.Prelude.{◌≡◌, IfOk};
+ghost use Rattle.std.specs.Prelude.{◌≡◌, IfOk, true};
 ghost use Rattle.gq_base.specs.Values.{val};
 ghost use Rattle.gq_classes.specs.steps.Levels.{Grows, IsKeyOf, IsTextOf, front_of, key_val};
 ghost use Rattle.gq_classes.specs.steps.Levels.{texts_of};
@@ -64,6 +64,29 @@ impl Key {
         }
     }
 
+    /// Whether it is a value behind a front.
+    pub(crate) fn is<'g>(&self, front: u32, value: Value<'g>, texts: &IndexSet<&'g str>) -> bool
+        ensures front { result ≡ true → front_of self.now ≡ front }
+        ensures value { result ≡ true → key_val (texts_of texts.now) self.now ≡ val value.entry }
+    {
+        if self.front() != front {
+            return false;
+        }
+        match (*self, value) {
+            (Key::Null { .. }, Value::Null) => true,
+            (Key::Flag { flag, .. }, Value::Flag(other)) => flag == other,
+            (Key::Int { int, .. }, Value::Int(other)) => int == other,
+            (Key::Text { number, .. }, Value::Str(text)) => is_text(number, text, texts),
+            (Key::Node { table, row, .. }, Value::Node(node)) => {
+                table == node.table && row == node.row
+            }
+            (Key::Rel { table, row, .. }, Value::Rel(rel)) => {
+                table == rel.table && row == rel.row
+            }
+            _ => false,
+        }
+    }
+
     /// The value.
     pub(crate) fn value<'g>(&self, texts: &IndexSet<&'g str>) -> Value<'g>
         ensures { val result ≡ key_val (texts_of texts.now) self.now }
@@ -79,6 +102,16 @@ impl Key {
             Key::Node { table, row, .. } => Value::Node(NodeId { table, row }),
             Key::Rel { table, row, .. } => Value::Rel(RelId { table, row }),
         }
+    }
+}
+
+// Whether a text has this number among the texts.
+fn is_text<'g>(number: u32, text: &'g str, texts: &IndexSet<&'g str>) -> bool
+    ensures { result ≡ true → IsTextOf (texts_of texts.now) text.now number }
+{
+    match texts.get_index(number as usize) {
+        None => false,
+        Some(other) => text == *other,
     }
 }
 

@@ -34,7 +34,7 @@ impl Level {
     {
         match self.keys.get_index(self.last as usize) {
             None => false,
-            Some(key) => key.front() == front && key.value(texts) == value,
+            Some(key) => key.is(front, value, texts),
         }
     }
 
