@@ -12,8 +12,8 @@ use crate::listing::{Lines, Listing};
 use crate::sorting::sorted;
 use crate::table::RowTable;
 use gq_base::Memory;
+use gq_classes::Classes;
 use gq_plan::Bound;
-use indexmap::IndexSet;
 use std::alloc::Global;
 
 // The first rows of the classes, one row after another.
@@ -28,14 +28,12 @@ fn first_rows<'g>(alloc: Global, rows: Rows<'g>) -> Result<Rows<'g>, Memory>
         bar: _,
     } = rows;
     let mut columns = Vec::new(alloc);
-    'classes: for class in seen.as_slice() {
-        columns.extend_from_slice(class.as_slice())?;
-    }
+    seen.append_to(&mut columns)?;
     Ok(Rows {
         columns,
         keys,
         count,
-        seen: IndexSet::new(alloc),
+        seen: Classes::new(alloc),
         bar: None,
     })
 }

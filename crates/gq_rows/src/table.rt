@@ -14,11 +14,11 @@ use crate::held::{Form, Rows};
 use crate::judging::Question;
 use crate::refusal::{More, RowRefusal};
 use crate::resolved::Reading;
+use gq_classes::Classes;
 use gq_expr::Assigned;
 use gq_group::{Choice, Chunk, ChunkRow};
 use gq_plan::{Assignment, Bound, Typed, TypedRow};
 use gq_store::Graph;
-use indexmap::IndexSet;
 use std::alloc::Global;
 use std::marker::Model;
 use std::mem;
@@ -102,7 +102,7 @@ impl<'g> RowTable<'g> {
                 columns: Vec::new(alloc),
                 keys: Vec::new(alloc),
                 count: 0,
-                seen: IndexSet::new(alloc),
+                seen: Classes::new(alloc),
                 bar: None,
             },
             pushed: 0,
@@ -246,7 +246,7 @@ impl<'g> RowTable<'g> {
             Form::All => self.rows.push_all(&question, row),
             Form::First(n) => self.rows.push_first(n, &question, row),
             Form::Top(n) => self.rows.push_top(self.alloc, n, &question, row),
-            Form::Classes => self.rows.push_class(self.alloc, &question, row),
+            Form::Classes => self.rows.push_class(&question, row),
         }
     }
 

@@ -1,0 +1,7 @@
+mod Growing
+mod Inserting
+mod Keys
+mod Leading
+mod Once
+mod Paths
+mod Reading
