@@ -21,7 +21,7 @@ use Rattle.gq_law_groups.proofs.Standing.{as_long, same_passes, next_group}
 use Rattle.gq_pipe.specs.steps.Keeps.{made_at, makes_one, IsSifted, IsRange, IsPlaceMade, IsTriedAt}
 use Rattle.gq_pipe.specs.steps.Levels.{Run, step_at, built_at, built_of, known, before}
 use Rattle.gq_pipe.specs.steps.Lists.{no_group, group_at, group_in, groups_in, flat_in, rows_in, layout_in, Tiles, AreBound, IsAtStep, Chain, Stands, IsUntested}
-use Rattle.gq_pipe.specs.steps.Moves.{run_of, IsRun, IsHeld, IsAlike}
+use Rattle.gq_pipe.specs.steps.Moves.{run_of, IsRun, IsHeld, IsAlike, steps_in}
 use Rattle.gq_pipe.specs.steps.Tries.{tries}
 use Rattle.gq_join.specs.Kept.{Held}
 use Rattle.gq_pipe.specs.Built.{FitsBuild}
@@ -372,12 +372,12 @@ module _ (c : Run) (ss : List GroupSteps) (row : Assignment) (depth : ℕ) (insi
     pub group_next : (n : ℕ) → (layout_in c ss).keeps pre j ≡ true → number_of ((layout_in c ss).flat pre) j ≡ n → Stands c ss new (pre ++ n ∷ [])
     group_next n = next c ss row pre st low j there told new tried_here n
 
-pub group_low : (p : PlanRun) (ss : List GroupSteps) (row : Assignment) (depth : ℕ) (inside : depth < length ss) (x : GroupSteps) (found : x ≡ slice_index_or ss depth x) (pre : List ℕ) (long : length pre ≡ depth) (st : Stands (run_of p) ss row pre) → x.first < length p.steps.now
+pub group_low : (p : PlanRun) (ss : List GroupSteps) (row : Assignment) (depth : ℕ) (inside : depth < length ss) (x : GroupSteps) (found : x ≡ slice_index_or ss depth x) (pre : List ℕ) (long : length pre ≡ depth) (st : Stands (run_of p) ss row pre) → x.first < length (steps_in p)
 group_low p ss row depth inside x found pre long st =
     let r : IsRange (run_of p) x = group_range (run_of p) ss row depth inside x found pre long st in
     let some = r.some in
     let within = r.inside in
-    let same : length (run_of p).steps ≡ length p.steps.now = rw length-map refl in
+    let same : length (run_of p).steps ≡ length (steps_in p) = rw length-map refl in
     omega (arith, some, within, same)
 
 -- ---- groups of one step
@@ -388,6 +388,6 @@ untested c s short all e =
     let none : s.end - (s.first + 1) ≡ 0 = omega (arith, short) in
     rw (all e, none) refl
 
-pub untested_step : (p : PlanRun) (s : GroupSteps) (low : s.first < length p.steps.now) (x : code.Step) (t : code.Step) (u : Step) → s.end ≤ s.first + 1 → slice_index_or p.steps.now s.first x ≡ t → step_of t ≡ u
+pub untested_step : (p : PlanRun) (s : GroupSteps) (low : s.first < length (steps_in p)) (x : code.Step) (t : code.Step) (u : Step) → s.end ≤ s.first + 1 → slice_index_or (steps_in p) s.first x ≡ t → step_of t ≡ u
     → ((e : Partial) → own (run_of p).graph (run_of p).typed u e ≡ true) → IsUntested (run_of p) s
 untested_step p s low x t u short is same all = untested (run_of p) s short (λ e. ap (λ v. own (run_of p).graph (run_of p).typed v e) (step_is p s.first low x t u is same) ∙ all e)

@@ -1,11 +1,14 @@
 pub mod Assigned
 pub mod Binding
+pub mod Brings
+pub mod Brought
 pub mod Following
 pub mod Joined
 pub mod Joining
 pub mod Keeping
 pub mod Levels
 pub mod Making
+pub mod Matched
 pub mod Going
 pub mod Pushing
 pub mod Sealing
@@ -24,6 +27,9 @@ pub mod Standings
 pub mod Sources
 pub mod Served
 pub mod Reading
+pub mod Rebinding
+pub mod InOrder
+pub mod Starting
 pub mod Chosen
 pub mod Homing
 pub mod Piecing

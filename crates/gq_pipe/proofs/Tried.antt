@@ -1,7 +1,7 @@
 -- What a try of a step of each kind makes is what is said of the step at its depth.
-use Rattle.std.proofs.Common.{◌≡◌, ◌≢◌, ℕ, zero, suc, ◌<◌, Bool, true, false, cond, Some, None, List, [], ◌∷◌, map, length, get_or, slice_get, refl, sym, ap, ◌∙◌, subst, arith}
+use Rattle.std.proofs.Common.{Bor, ◌≡◌, ◌≢◌, ℕ, zero, suc, ◌<◌, Bool, true, false, cond, Some, None, List, [], ◌∷◌, map, length, get_or, slice_get, refl, sym, ap, ◌∙◌, subst, arith}
 use Rattle.std.proofs.lemmas.Bool.{and_parts}
-use Rattle.std.proofs.lemmas.List.{length-map}
+use Rattle.std.proofs.lemmas.List.{get_or-map, length-map}
 use Rattle.std.specs.Prelude.{slice_index}
 use Rattle.std.specs.List.{range_with_len}
 use Rattle.std.proofs.lemmas.List.FromFn.{length-range_with_len}
@@ -18,7 +18,7 @@ use Rattle.gq_plan.specs.Meaning.{Partial, look, holds, far, arrive, with_rel, k
 use Rattle.gq_plan.specs.Plans.{Step, Scan, Extend, Close, Keep, step_of}
 use Rattle.gq_plan.specs.declared.plan.Step as code
 use Rattle.gq_pipe.specs.steps.Levels.{Run, step_at, built_at, known, before}
-use Rattle.gq_pipe.specs.steps.Moves.{run_of, IsRun, IsHeld, IsTried}
+use Rattle.gq_pipe.specs.steps.Moves.{referred, run_of, steps_in, IsRun, IsHeld, IsTried}
 use Rattle.gq_pipe.specs.steps.Outcomes.{IsSized, IsScanned, CanFollow, IsExtended, IsClosed, tested}
 use Rattle.gq_plan.specs.Rows.{node_at, node_table, rel_table}
 use Rattle.gq_plan.specs.declared.assignment.Assignment.{Assignment}
@@ -35,9 +35,16 @@ get_mapped [] d x low = absurd (omega arith)
 get_mapped (s ∷ ss) zero x low = refl
 get_mapped (s ∷ ss) (suc d) x low = get_mapped ss d x (omega arith)
 
-module _ (k : PlanRun) (d : ℕ) (low : d < length k.steps.now) where
-  pub step_is : (x s : code.Step) (t : Step) → get_or k.steps.now d x ≡ s → step_of s ≡ t → step_at (run_of k) d ≡ t
-  step_is x s t is e = get_mapped k.steps.now d x low ∙ ap step_of is ∙ e
+-- the step that is referred to at a depth
+pub step_read : (rs : List (Bor code.Step)) (d : ℕ) (r : Bor code.Step) → r ≡ get_or rs d r → d < length rs → get_or (referred rs) d r.now ≡ r.now
+step_read rs d r is low = get_or-map (λ (s : Bor code.Step). s.now) rs d r r.now low ∙ ap (λ (s : Bor code.Step). s.now) (sym is)
+
+pub step_below : (k : PlanRun) (d n : ℕ) → n ≡ length k.steps.items → d < n → d < length (run_of k).steps
+step_below k d n is low = omega (arith, low, is, length-map (steps_in k) step_of, length-map k.steps.items (λ (s : Bor code.Step). s.now))
+
+module _ (k : PlanRun) (d : ℕ) (low : d < length (steps_in k)) where
+  pub step_is : (x s : code.Step) (t : Step) → get_or (steps_in k) d x ≡ s → step_of s ≡ t → step_at (run_of k) d ≡ t
+  step_is x s t is e = get_mapped (steps_in k) d x low ∙ ap step_of is ∙ e
 
   pub low_step : d < length (run_of k).steps
   low_step = rw length-map low

@@ -4,6 +4,7 @@ pub mod Cells
 pub mod Chunks
 pub mod Cuts
 pub mod Filled
+pub mod Given
 pub mod Homes
 pub mod Hops
 pub mod Keeps

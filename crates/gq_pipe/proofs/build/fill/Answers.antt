@@ -1,4 +1,4 @@
-use Rattle.std.proofs.Common.{◌≡◌, ◌∙◌, ap, sym, subst, true, length, map}
+use Rattle.std.proofs.Common.{◌≡◌, ◌∙◌, ap, map}
 use Rattle.gq_group.specs.Chunks.{chunk_meaning}
 use Rattle.gq_join.specs.Kept.{Growing}
 use Rattle.gq_plan.specs.Meaning.{nothing}
@@ -50,6 +50,3 @@ returns-in-Err-clause-refused c =
     let after = c.advance.new.self in
     refused y (plan_in c.args.pipeline.now.source) c.args.build.now c.chunks.build c.args.pipeline.now.owed c.chunks.pipeline.owed c.chunks.invariant.came after.chunk after.owed all
     (c.advance.ensures.bag c.chunks-test.true) (chunk_binds (goal.at.returns-in-Err-clause-refused c).After-chunk-chunk) c.in-Err.refusal c.in-Err.ensures.refused
-
-pub chunk-chunk-requires-clause-plain : goal.chunk-chunk-requires-clause-plain
-chunk-chunk-requires-clause-plain c = ?
