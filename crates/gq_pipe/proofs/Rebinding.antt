@@ -8,6 +8,7 @@ use Rattle.std.proofs.lemmas.List.FromFn.{get_or-map-range_with_len, length-map-
 use Rattle.std.proofs.lemmas.List.{get_or-map}
 use Rattle.std.proofs.lemmas.Option.{get_or_from_slice_get}
 use Rattle.gq_base.specs.Plain.{Graph, rels_at}
+use Rattle.gq_filter.specs.RowTests.{conditions_of}
 use Rattle.gq_base.specs.Valid.{is_valid}
 use Rattle.gq_base.specs.declared.NodeId.{NodeId}
 use Rattle.gq_base.specs.declared.RelId.{RelId}
@@ -94,11 +95,11 @@ pub record AreTabled (y : Typed) (a : Partial) : Type 0 where
 
 module _ (g : Graph) (y : Typed) (valid : is_valid g ≡ true) (sound : IsSound g.catalog y) where
   abbrev no_steps : Run
-  no_steps = record { graph = g; typed = y; steps = []; builds = [] }
+  no_steps = record { graph = g; typed = y; steps = []; builds = []; tests = conditions_of g y }
 
   empty_run : IsRun no_steps
   unfolding fits
-  empty_run = record { valid = valid; sound = sound; fits = refl; builds = tt }
+  empty_run = record { valid = valid; sound = sound; fits = refl; builds = tt; tests = refl }
 
   tabled_node : (v : ℕ) (n : NodeId) (a : Partial) → n.table ≡ node_table y v → AreTabled y a → AreTabled y (with_node v n a)
   tabled_node v n a is h = record { nodes = (is, h.nodes); rels = h.rels }

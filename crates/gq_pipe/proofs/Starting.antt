@@ -10,6 +10,7 @@ use Rattle.gq_arrange.proofs.Loops.{steps_back}
 use Rattle.gq_arrange.specs.Law.{IsArranged}
 use Rattle.gq_base.specs.Plain.{Graph}
 use Rattle.gq_base.specs.Valid.{is_valid}
+use Rattle.gq_filter.specs.RowTests.{conditions_of}
 use Rattle.gq_group.specs.declared.home.Homes.{Homes}
 use Rattle.gq_join.specs.Kept.{Held}
 use Rattle.gq_law_groups.proofs.Moved.{same_plans}
@@ -78,6 +79,7 @@ pub record IsStarted (k : PlanRun) (p : code_plan.Plan) (os : List (Option Held)
   pub arranged : IsArranged k.graph.now.catalog k.typed.now (plan_of p) order flat
   pub steps_are : map step_of (steps_in k) ≡ at_numbers (map step_of p.steps) order
   pub builds_are : builds_in k ≡ map (λ n. slice_index_or os n None) order
+  pub tests_are : k.tests.items ≡ conditions_of k.graph.now k.typed.now
 
 module _ (k : PlanRun) (p : code_plan.Plan) (os : List (Option Held)) (order : List ℕ) (flat : List Bool) (s : IsStarted k p os order flat) where
   abbrev c : Run
@@ -114,6 +116,7 @@ module _ (k : PlanRun) (p : code_plan.Plan) (os : List (Option Held)) (order : L
         (subst (λ ss. AreBuilds g y (steps ss) (map (λ n. slice_index_or os n None) order)) (sym s.steps_are)
         (builds_ordered g y (map step_of p.steps) os order (subst (λ q. AreBuilds g y q os) (plan_is p) s.builds)
         (subst (λ n. AllByRecursion (λ m. m < n) order) (sym (length-map p.steps step_of)) (recursion_from_All (λ n. n < length p.steps) order s.within))));
+    tests = s.tests_are;
   }
 
   pub runs_plan : RunsPlan k

@@ -1,0 +1,135 @@
+//! Conditions that are decided row by row: by the columns of what they read where lanes can decide
+//! them, and else by evaluating them.
+ghost use Rattle.std.specs.Prelude.{◌≡◌, ◌≤◌, IfOk, length, map};
+ghost use Rattle.gq_filter.specs.RowTests.{condition_over, conditions_of, is_true_of};
+ghost use Rattle.gq_filter.specs.steps.RowCells.{AreFeedsIn, DecidesRows};
+ghost use Rattle.gq_plan.specs.Soundness.{IsSound};
+
+use crate::cells::holds_at;
+use crate::conditions::compile;
+use crate::feeds::Feed;
+use crate::filters::is_true;
+use crate::lane_test::LaneTest;
+use crate::row_cells::RowCells;
+use crate::row_feeds::add_feeds;
+use gq_base::Memory;
+use gq_plan::{Assignment, NamedExpr, Typed, TypedRow};
+use gq_store::Graph;
+use std::alloc::Global;
+use std::marker::Model;
+
+/// A condition over the rows of an alternative over a graph. It is seen as these three.
+#[derive(Drop)]
+pub struct RowTest<'g> {
+    graph: &'g Graph,
+    typed: &'g Typed,
+    condition: &'g NamedExpr,
+    // What decides it, if lanes can, and the feeds of the lanes.
+    test: Option<LaneTest>,
+    feeds: Vec<Feed<'g>>,
+}
+
+impl<'g> Model for RowTest<'g> {
+    ghost use Rattle.std.specs.Coded.{codes};
+    ghost use Rattle.gq_expr.specs.contracts.expr.Expr as expr;
+    ghost use Rattle.gq_filter.specs.RowTests.{RowCondition};
+    ghost use Rattle.gq_filter.specs.steps.RowCells.{DecidesRows};
+
+    ghost Value = { RowCondition };
+
+    ghost coded = { Prim.hlevel (codes, expr.the_row.coded) };
+
+    ghost view = { λ t. record {
+      graph = t.graph.now;
+      typed = t.typed.now;
+      condition = t.condition.now;
+    } };
+
+    ghost invariant = { λ t.
+        DecidesRows t.graph.now t.typed.now t.condition.now t.feeds.items t.test };
+}
+
+impl<'g> RowTest<'g> {
+    /// The test of a condition.
+    pub fn new(
+        alloc: Global,
+        graph: &'g Graph,
+        typed: &'g Typed,
+        condition: &'g NamedExpr,
+    ) -> Result<RowTest<'g>, Memory>
+        requires { IsSound graph.now.catalog typed.now }
+        ensures { let asked = condition_over graph.now typed.now condition.now in
+            IfOk result (λ test. test ≡ asked) }
+    {
+        let mut feeds = Vec::new(alloc);
+        add_feeds(&mut feeds, graph, typed, &condition.expr)?;
+        let test = test_of(alloc, graph, typed, condition, feeds.as_slice())?;
+        Ok(RowTest {
+            graph,
+            typed,
+            condition,
+            test,
+            feeds,
+        })
+    }
+
+    /// Whether the condition is true of rows and load numbers. It takes no memory.
+    pub fn passes(&self, row: &Assignment) -> bool
+        ensures { result ≡ is_true_of self.now row.now }
+    {
+        match &self.test {
+            Some(test) => {
+                let cells = RowCells {
+                    feeds: self.feeds.as_slice(),
+                    row,
+                };
+                holds_at(test, &cells)
+            }
+            None => {
+                let typed_row = TypedRow {
+                    typed: self.typed,
+                    row,
+                };
+                is_true(self.condition, self.graph, &typed_row)
+            }
+        }
+    }
+}
+
+// The test of lanes with these feeds that decides a condition, where they can.
+fn test_of(
+    alloc: Global,
+    graph: &Graph,
+    typed: &Typed,
+    condition: &NamedExpr,
+    feeds: &[Feed<'_>],
+) -> Result<Option<LaneTest>, Memory>
+    requires { AreFeedsIn graph.now typed.now feeds.now }
+    ensures { IfOk result (DecidesRows graph.now typed.now condition.now feeds.now) }
+{
+    if feeds.len() > u32::MAX as usize {
+        return Ok(None);
+    }
+    let mut sources = Vec::with_capacity(alloc, feeds.len())?;
+    for feed in feeds {
+        sources.push(feed.source)?;
+    }
+    let test = compile(alloc, &condition.expr, sources.as_slice())?;
+    Ok(test)
+}
+
+/// The tests of an alternative, in their order.
+pub fn row_tests<'g>(
+    alloc: Global,
+    graph: &'g Graph,
+    typed: &'g Typed,
+) -> Result<Vec<RowTest<'g>>, Memory>
+    requires { IsSound graph.now.catalog typed.now }
+    ensures { IfOk result (λ tests. tests.items ≡ conditions_of graph.now typed.now) }
+{
+    let mut tests = Vec::with_capacity(alloc, typed.tests.len())?;
+    for condition in typed.tests.as_slice() {
+        tests.push(RowTest::new(alloc, graph, typed, condition)?)?;
+    }
+    Ok(tests)
+}
