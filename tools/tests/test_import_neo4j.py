@@ -187,7 +187,8 @@ class Neo4jRefusals(ToolTest):
         self.check("id:ID,x\n,1\n", "n.csv line 2: the id is empty")
 
     def test_no_id(self) -> None:
-        self.check("x,y\n1,2\n", "n.csv line 2: the header has no field :ID")
+        self.check("x,y\n1,2\n", "n.csv line 1: the header has no field :ID")
+        self.check("x,y\n", "n.csv line 1: the header has no field :ID")
 
     def test_field_count(self) -> None:
         self.check("id:ID,x\na\n", "n.csv line 2: it has 1 fields, and the header has 2")
@@ -241,6 +242,39 @@ class Neo4jRefusals(ToolTest):
         self.assertEqual((status, errors), (5, "graphq-import: --out g: it is there already and not empty\n"))
 
     def test_words(self) -> None:
-        for words in ([], ["neo4j"], ["neo4j", "--out", "g", "--delimiter", "ab"], ["neo4j", "--out", "a b"]):
+        for words in (
+            [],
+            ["neo4j"],
+            ["neo4j", "--out", "g", "--delimiter", "ab"],
+            ["neo4j", "--out", "a b"],
+            ["neo4j", "--out", "a\udcff"],
+            ["neo4j", "--out", "g", ","],
+            ["neo4j", "--out", "g", "--nodes", "A="],
+            ["neo4j", "--out", "g", "--relationships", ""],
+        ):
             with self.subTest(words=words):
                 self.assertEqual(self.tool("graphq-import", *words)[0], 2)
+
+    def test_decimals_beyond_reason(self) -> None:
+        """Neither an exponent without end nor digits that a rounding would lose are taken for another number."""
+        long = "0." + "0" * 40 + "1"
+        for text, why in {
+            "1e999999999": "1e999999999 with 2 digits behind the point has more than 64 signed bits",
+            "9" * 5000: f"{'9' * 40} with 2 digits behind the point has more than 64 signed bits",
+            f"1{long[1:]}": f"1.{'0' * 38} has more than 2 digits behind the point",
+            "1e-999999999": "1e-999999999 has more than 2 digits behind the point",
+            "sNaN": "'sNaN' is no finite number",
+        }.items():
+            with self.subTest(text=text[:20]):
+                self.write("n.csv", f"id:ID,x:double\na,{text}\n")
+                words = ("n.csv", "--out", "g", "--decimals", "2")
+                self.refused(3, f"n.csv line 2: {why}", "graphq-import", "neo4j", *words)
+
+    def test_line_end_in_an_id(self) -> None:
+        """A refusal is one line, whatever it quotes."""
+        self.check("id:ID\na\n", "r.csv line 2: no node has the id 'b\\n'", ':START_ID,:END_ID\na,"b\n"\n')
+
+    def test_label_that_is_longer_than_a_name_of_a_file(self) -> None:
+        self.write("n.csv", f"id:ID,:LABEL\na,{'L' * 300}\nb,{'L' * 301}\n")
+        self.done("graphq-import", "neo4j", "n.csv", "--out", "g")
+        self.assertEqual(ask("g/g.manifest", "MATCH (n) RETURN n.id ORDER BY n.id;", self.folder)[0], 0)
