@@ -90,6 +90,15 @@ class Refusals(ToolTest):
     def test_label_twice(self) -> None:
         self.refuse("g.manifest line 1: N:N is not one to 8 labels joined by colons", "node N:N n.csv\n")
 
+    def test_table_twice(self) -> None:
+        self.refuse("g.manifest line 2: a line above has the nodes N already", "node N n.csv\nnode N n.csv\n")
+        self.write("r.csv", "from,to\n")
+        lines = "rel R N N many_many r.csv\n" * 2
+        self.refuse("g.manifest line 3: a line above has R from N to N already", f"node N n.csv\n{lines}")
+
+    def test_field_twice(self) -> None:
+        self.refuse("n.csv line 1: there are two fields x", "node N n.csv\n", "id:int,x:int,x:bool\n")
+
     def test_header(self) -> None:
         why = "'id:float' is no field NAME:KIND with a KIND of int, string, bool"
         self.refuse(f"n.csv line 1: {why}", "node N n.csv\n", "id:float\n1\n")
