@@ -74,6 +74,19 @@ class Exports(ToolTest):
         self.assertIn('    StructField("id_2", LongType()),\n    StructField("name", StringType()),\n', script)
 
 
+class KuzuNames(ToolTest):
+    def test_type_that_is_called_like_a_table_of_nodes(self) -> None:
+        """In Kùzu a name is one table's."""
+        self.write("n.csv", "id:int\n1\n")
+        self.write("r.csv", "from,to\n1,1\n")
+        self.write("g.manifest", "node Part n.csv\nrel PART Part Part many_many r.csv\n")
+        notes = self.done("graphq-export", "kuzu", "--manifest", "g.manifest", "--out", "kuzu").splitlines()
+        self.assertEqual(notes[1], "a name is one table's in Kuzu: the type `PART` is called `PART_2`")
+        script = (self.folder / "kuzu/schema.cypher").read_text()
+        self.assertIn("CREATE REL TABLE `PART_2`(FROM `Part` TO `Part`, MANY_MANY);", script)
+        self.assertIn("COPY `PART_2` FROM ", script)
+
+
 class Refusals(ToolTest):
     def refuse(self, line: str, manifest: str, rows: str = "id:int\n1\n") -> None:
         self.write("g.manifest", manifest)

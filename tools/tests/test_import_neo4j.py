@@ -99,6 +99,18 @@ class Neo4jImport(ToolTest):
         text = ask("g/g.manifest", "MATCH (a:Student)-[r:KNOWS]->(b:Person) RETURN a, b;", self.folder)
         self.assertEqual(text, (0, "a\tb\n(Person:Student 7)\t(Person 1)\nrows 1\n"))
 
+    def test_key_and_property_that_differ_in_case(self) -> None:
+        """Names respect case, so a key keeps its name beside such a property, and loses it to one of the same name."""
+        self.write("n.csv", "id:ID,ID:int\na,1\n")
+        files = ("--nodes=N=n.csv", "--nodes=M=m.csv", "--nodes=M=l.csv")
+        output = self.done("graphq-import", "neo4j", *files[:1], "--out", "g").splitlines()
+        self.assertEqual(output[0], "node N 1 id:string ID:int")
+        self.write("m.csv", "id:ID(M),x\na,1\n")
+        self.write("l.csv", "k:ID(L),id:int\nb,1\n")
+        output = self.done("graphq-import", "neo4j", *files[1:], "--out", "h").splitlines()
+        self.assertEqual(output[0], "node M 2 id_2:string x:string id:int")
+        self.assertIn("M: the key is called id_2, since id is a property", output)
+
     def test_scaled_values(self) -> None:
         """-1.5 in hundredths is -150; 1970-01-11 is day 10; 01:00 at +01:00 on 1970-01-01 is the zero of time."""
         self.write("n.csv", "id:ID,price:double,day:date,at:datetime\na,-1.5,1970-01-11,1970-01-01T01:00:00+01:00\n")
