@@ -12,9 +12,10 @@ if __package__ in (None, ""):
 if sys.version_info < (3, 11):
     sys.exit(f"graphq-{sys.argv[1]}: Python 3.11 or later is wanted, and this is {sys.version.split()[0]}")
 
-from graphq_tools.outcome import run  # noqa: E402
+from graphq_tools.outcome import prepare_streams, run  # noqa: E402
 
 if __name__ == "__main__":
     tool = sys.argv.pop(1)
+    prepare_streams()
     main = importlib.import_module(f"graphq_tools.{tool}_main").main
     sys.exit(run(f"graphq-{tool}", main))

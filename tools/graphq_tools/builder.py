@@ -63,8 +63,10 @@ class Nodes:
             key = Field(columns[twin].name, columns[twin].kind if self.key_kind is None else kind)
             dropped.add(twin + 1)
         else:
-            taken = {column.name.lower() for column in columns}
-            key = Field(unused(self.key_name or "id", taken), kind)
+            wanted = self.key_name or "id"
+            key = Field(unused(wanted, {column.name for column in columns}, any_case=False), kind)
+            if key.name != wanted:
+                notes.append(f"{self.word}: the key is called {key.name}, since {wanted} is a property")
         fields = self.spool.finish(folder / name, [str(key)], dropped)
         _tell(self.word, self.spool, {place - 1 for place in dropped} - {twin}, notes)
         return NodeTable(self.labels, name, [key, *fields])

@@ -85,6 +85,11 @@ def _bad_line(path: str | os.PathLike[str]) -> int:
     return 1
 
 
+def not_utf8(path: str | os.PathLike[str]) -> BadRow:
+    """The refusal of a file that is not UTF-8, with its line."""
+    return BadRow(path, _bad_line(path), "it is not UTF-8")
+
+
 @contextlib.contextmanager
 def open_text(path: str | os.PathLike[str]) -> Iterator[IO[str]]:
     """Opens a file of UTF-8, without a byte order mark at its front, with its line ends as they are."""
@@ -92,7 +97,7 @@ def open_text(path: str | os.PathLike[str]) -> Iterator[IO[str]]:
         with open_bytes(path) as stream:
             yield io.TextIOWrapper(stream, encoding="utf-8-sig", newline="")
     except UnicodeDecodeError as error:
-        raise BadRow(path, _bad_line(path), "it is not UTF-8") from error
+        raise not_utf8(path) from error
 
 
 def row_writer(stream: IO[str]) -> Callable[[Iterable[str]], object]:

@@ -14,7 +14,7 @@ from .manifest import read_manifest
 from .outcome import Refusal, Status, writing
 from .replies import Lines, Refused, Rows, read_reply
 from .session import Ended, Session, found_program
-from .statements import split
+from .statements import in_bytes, split
 
 _EXAMPLES = """\
 examples:
@@ -101,7 +101,7 @@ def _rendered(dot: str, layout: str) -> bytes:
     program = shutil.which(layout)
     if program is None:
         raise Refusal("Graphviz is missing: tools/setup installs graphviz", Status.NOT_INSTALLED)
-    done = subprocess.run([program, "-Tsvg"], input=dot.encode(), capture_output=True, check=False)
+    done = subprocess.run([program, "-Tsvg"], input=in_bytes(dot), capture_output=True, check=False)
     if done.returncode:
         raise Refusal(f"{layout}: {done.stderr.decode(errors='replace').strip()}", Status.CANNOT_WRITE)
     return done.stdout
@@ -120,7 +120,7 @@ def main(arguments: Sequence[str]) -> int:
         dot = draw_plan(reply.lines)
     else:
         raise Refusal("this reply has neither rows nor a plan", Status.REPLY_REFUSED)
-    done = dot.encode() if words.dot else _rendered(dot, words.layout)
+    done = in_bytes(dot) if words.dot else _rendered(dot, words.layout)
     if words.out:
         with writing(words.out):
             Path(words.out).write_bytes(done)

@@ -16,6 +16,8 @@ Convert = Callable[[str], str]
 _INTEGER = re.compile(r"[+-]?[0-9]+\Z", re.ASCII)
 _CANONICAL = re.compile(r"(0|-?[1-9][0-9]*)\Z", re.ASCII)
 _FRACTION = re.compile(r"[.,]([0-9]+)")
+# Nothing is rounded in it.
+_EXACT = decimal.Context(prec=1_000_000, Emax=decimal.MAX_EMAX, Emin=decimal.MIN_EMIN)
 _EPOCH = datetime.datetime(1970, 1, 1, tzinfo=datetime.UTC)
 
 
@@ -81,15 +83,16 @@ def scaled_by(digits: int) -> Convert:
 
     def convert(text: str) -> str:
         try:
-            shifted = decimal.Decimal(text.strip()).scaleb(digits)
+            value = decimal.Decimal(text.strip())
         except decimal.InvalidOperation as error:
             raise ValueError(f"'{text}' is no decimal number") from error
-        if not shifted.is_finite():
+        if not value.is_finite():
             raise ValueError(f"'{text}' is no finite number")
+        shifted = value.scaleb(digits, _EXACT) if value.adjusted() < 20 else value
+        if shifted.adjusted() >= 20 or not fits(int(shifted)):
+            raise ValueError(f"{text[:40]} with {digits} digits behind the point has more than 64 signed bits")
         if shifted != shifted.to_integral_value():
-            raise ValueError(f"{text} has more than {digits} digits behind the point")
-        if not fits(int(shifted)):
-            raise ValueError(f"{text} with {digits} digits behind the point has more than 64 signed bits")
+            raise ValueError(f"{text[:40]} has more than {digits} digits behind the point")
         return str(int(shifted))
 
     return convert
@@ -172,7 +175,7 @@ def parse_scale(words: list[str]) -> dict[str, int]:
     scaled = {}
     for word in words:
         name, sign, digits = word.rpartition("=")
-        if not sign or not name or not digits.isdecimal() or int(digits) > 18:
+        if not sign or not name or not digits.isdecimal() or not digits.isascii() or int(digits) > 18:
             raise Refusal(f"--scale {word}: it is NAME=DIGITS, with 0 to 18 digits", Status.BAD_WORDS)
         scaled[name] = int(digits)
     return scaled

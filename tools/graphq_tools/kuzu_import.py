@@ -11,7 +11,7 @@ from .builder import Nodes, Rels
 from .csvfile import records
 from .intake import Intake
 from .kinds import as_integer
-from .kuzu_script import Copy, NodeTable, RelTable, read_script
+from .kuzu_script import Copy, NodeTable, RelTable, read_script, twice
 from .outcome import BadRow, Refusal, at_line
 from .spool import Property
 
@@ -73,7 +73,13 @@ class _Script:
     def properties(self, columns: list[tuple[str, str]]) -> dict[str, Property | None]:
         return {name: self.intake.property(name, _family(kind), kind) for name, kind in columns}
 
+    def new(self, name: str) -> None:
+        """Holds that no table has this name yet."""
+        if name in self.nodes or name in self.rels:
+            raise ValueError(f"there is a table {name} already")
+
     def declare_nodes(self, declared: NodeTable) -> None:
+        self.new(declared.name)
         labels = [self.intake.labels.plain(label) for label in declared.name.split(":")]
         table = self.intake.builder.nodes(labels)
         kinds = dict(declared.columns)
@@ -87,6 +93,7 @@ class _Script:
         self.nodes[declared.name] = _Known(declared, table, rest, part)
 
     def declare_rels(self, declared: RelTable) -> None:
+        self.new(declared.name)
         name = self.intake.types.plain(declared.name)
         properties, part, tables = self.properties(declared.columns), self.intake.part(), {}
         for source, target in declared.pairs:
@@ -100,6 +107,8 @@ class _Script:
         self.rels[declared.name] = _KnownRels(declared, tables, properties, part)
 
     def copy(self, copy: Copy) -> None:
+        if again := twice(copy.columns):
+            raise ValueError(f"COPY names the column {again} twice")
         if copy.table in self.nodes:
             _fill_nodes(self, self.nodes[copy.table], copy)
         elif copy.table in self.rels:

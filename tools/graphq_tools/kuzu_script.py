@@ -18,6 +18,9 @@ _TOKEN = re.compile(
     re.VERBOSE | re.DOTALL,
 )
 _ESCAPES = {"n": "\n", "t": "\t", "r": "\r"}
+# The options of COPY: what a character is, what a number, and what else; and those that change nothing here.
+CHARACTERS = ("DELIM", "DELIMITER", "SEP", "QUOTE", "ESCAPE")
+OPTIONS = (*CHARACTERS, "SKIP", "HEADER", "HEADERS", "FROM", "TO", "PARALLEL", "AUTO_DETECT", "SAMPLE_SIZE")
 MULTIPLICITIES = ("MANY_MANY", "MANY_ONE", "ONE_MANY", "ONE_ONE")
 
 
@@ -144,6 +147,11 @@ class _Reader:
         return text
 
 
+def twice(names: list[str]) -> str | None:
+    """The first name that stands twice among names."""
+    return next((name for place, name in enumerate(names) if name in names[:place]), None)
+
+
 def _skip_default(reader: _Reader) -> None:
     """Goes past `DEFAULT` and its value: a value that a file leaves out is null there all the same."""
     if reader.take("DEFAULT"):
@@ -173,6 +181,8 @@ def _node_table(reader: _Reader, line: int) -> NodeTable:
         if not reader.take(","):
             break
     reader.want(")")
+    if again := twice([column for column, _ in columns]):
+        raise reader.bad(f"the table {name} has the column {again} twice")
     if key not in [column for column, _ in columns]:
         raise reader.bad(f"the table {name} has no PRIMARY KEY among its columns")
     return NodeTable(name, columns, key, line)
@@ -195,6 +205,10 @@ def _rel_table(reader: _Reader, line: int) -> RelTable:
         if not reader.take(","):
             break
     reader.want(")")
+    if again := twice([column for column, _ in table.columns]):
+        raise reader.bad(f"the table {table.name} has the column {again} twice")
+    if len(set(table.pairs)) < len(table.pairs):
+        raise reader.bad(f"the table {table.name} has a pair of FROM and TO twice")
     if not table.pairs:
         raise reader.bad(f"the table {table.name} has no FROM and TO")
     return table
@@ -213,6 +227,22 @@ def _files(reader: _Reader) -> list[str]:
     return files
 
 
+def _option(reader: _Reader) -> tuple[str, str]:
+    """An option of COPY, and its value."""
+    option = reader.name().upper()
+    reader.take("=")
+    value = reader.next().text
+    if option not in OPTIONS:
+        raise reader.bad(f"COPY has the option {option}, and is taken with {', '.join(OPTIONS)} alone")
+    if option in CHARACTERS and (len(value) != 1 or value in "\r\n"):
+        raise reader.bad(f"{option} is one character, and not '{value}'")
+    if option == "SKIP" and not (value.isascii() and value.isdecimal() and len(value) < 10):
+        raise reader.bad(f"SKIP is a number of records, and not '{value}'")
+    if option in ("HEADER", "HEADERS") and value.lower() not in ("true", "false"):
+        raise reader.bad(f"{option} is true or false, and not '{value}'")
+    return option, value
+
+
 def _copy(reader: _Reader, line: int) -> Copy:
     copy = Copy(reader.name(), [], [], line)
     if reader.take("("):
@@ -224,9 +254,8 @@ def _copy(reader: _Reader, line: int) -> Copy:
     copy.files = _files(reader)
     if reader.take("("):
         while not reader.take(")"):
-            option = reader.name().upper()
-            reader.take("=")
-            copy.options[option] = reader.next().text
+            option, value = _option(reader)
+            copy.options[option] = value
             reader.take(",")
     return copy
 

@@ -21,6 +21,8 @@ def _fields(file: str, names: list[str]) -> list[Field]:
         name, _, kind = text.rpartition(":")
         if not is_plain(name) or kind not in _KINDS:
             raise BadRow(file, 1, f"'{text}' is no field NAME:KIND with a KIND of {', '.join(_KINDS)}")
+        if name in [field.name for field in fields]:
+            raise BadRow(file, 1, f"there are two fields {name}")
         fields.append(Field(name, kind))
     return fields
 
@@ -31,8 +33,10 @@ def _header(file: str) -> list[str]:
     raise BadRow(file, 1, "there is no header")
 
 
-def _node(words: list[str]) -> NodeTable:
+def _node(words: list[str], graph: Graph) -> NodeTable:
     labels = tuple(words[1].split(":"))
+    if words[1] in [node.word for node in graph.nodes]:
+        raise ValueError(f"a line above has the nodes {words[1]} already")
     if not all(map(is_plain, labels)) or len(labels) > MOST_LABELS or len(set(labels)) < len(labels):
         raise ValueError(f"{words[1]} is not one to {MOST_LABELS} labels joined by colons")
     table = NodeTable(labels, words[2])
@@ -49,6 +53,8 @@ def _rel(words: list[str], graph: Graph) -> RelTable:
     for end in (table.source, table.target):
         if end not in known:
             raise ValueError(f"no line above has the nodes {end}")
+    if (type_name, source, target) in [(rel.type, rel.source, rel.target) for rel in graph.rels]:
+        raise ValueError(f"a line above has {type_name} from {source} to {target} already")
     if table.multiplicity not in _MULTIPLICITIES:
         raise ValueError(f"{table.multiplicity} is none of {', '.join(_MULTIPLICITIES)}")
     header = _header(table.file)
@@ -70,7 +76,7 @@ def read_manifest(path: str) -> Graph:
         words = _BLANKS.split(text)
         try:
             if words[0] == "node" and len(words) == 3:
-                graph.nodes.append(_node(words))
+                graph.nodes.append(_node(words, graph))
             elif words[0] == "rel" and len(words) == 6:
                 graph.rels.append(_rel(words, graph))
             else:

@@ -62,11 +62,13 @@ class Names:
         return [f"{self._what} '{name}' is called {plain}" for name, plain in changed]
 
 
-def unused(name: str, taken: Container[str]) -> str:
-    """`name`, or with the least number behind it that makes it differ, whatever the case, from the names taken."""
-    if name.lower() not in taken:
-        return name
-    number = 2
-    while f"{name}_{number}".lower() in taken:
+def unused(name: str, taken: Container[str], any_case: bool = True) -> str:
+    """`name`, or with the least number behind it that makes it differ from the names taken.
+
+    Where `any_case` is said the names taken are in small letters, and have to differ whatever the case.
+    """
+    own, number = name, 1
+    while (own.lower() if any_case else own) in taken:
         number += 1
-    return f"{name}_{number}"
+        own = f"{name}_{number}"
+    return own

@@ -10,7 +10,7 @@ from .builder import Nodes, Rels
 from .csvfile import records
 from .intake import Intake
 from .kinds import as_integer
-from .outcome import BadRow, Refusal, at_line
+from .outcome import BadRow, Refusal, Status, at_line
 from .spool import Property
 
 _FIELD = re.compile(
@@ -109,14 +109,19 @@ def read_header(record: list[str], intake: Intake) -> Header:
     return header
 
 
-def _rows(source: Source, form: Form, intake: Intake) -> Iterator[tuple[str, int, Header, list[str]]]:
-    """The records of a source behind its header, each with its file and line."""
+def _rows(
+    source: Source, form: Form, intake: Intake, wanted: tuple[str, ...]
+) -> Iterator[tuple[str, int, Header, list[str]]]:
+    """The records of a source behind its header, which has the wanted special fields, each with its file and line."""
     header: Header | None = None
     for file in source.files:
         for line, record in records(file, form.delimiter, form.quote):
             if header is None:
                 try:
                     header = read_header(record, intake)
+                    for kind in wanted:
+                        if kind not in header.ids:
+                            raise ValueError(f"the header has no field :{kind}")
                 except (ValueError, Refusal) as error:
                     raise at_line(file, line, error) from error
             elif len(record) != header.width:
@@ -145,10 +150,8 @@ def read_nodes(source: Source, form: Form, intake: Intake) -> None:
     """Takes in the nodes of a source."""
     tables: dict[str, tuple[Nodes, list[int]]] = {}
     part = intake.part()
-    for file, line, header, record in _rows(source, form, intake):
+    for file, line, header, record in _rows(source, form, intake, ("ID",)):
         try:
-            if "ID" not in header.ids:
-                raise ValueError("the header has no field :ID")
             place, space = header.ids["ID"]
             written = record[header.label] if header.label is not None else ""
             if written not in tables:
@@ -171,10 +174,8 @@ def read_relationships(source: Source, form: Form, intake: Intake) -> None:
     """Takes in the relationships of a source. Their nodes have to be there."""
     tables: dict[tuple[str, int, int], tuple[Rels, list[int]]] = {}
     part = intake.part()
-    for file, line, header, record in _rows(source, form, intake):
+    for file, line, header, record in _rows(source, form, intake, ("START_ID", "END_ID")):
         try:
-            if "START_ID" not in header.ids or "END_ID" not in header.ids:
-                raise ValueError("the header has no field :START_ID, or none :END_ID")
             (start, start_space), (end, end_space) = header.ids["START_ID"], header.ids["END_ID"]
             from_key, to_key = _key(record[start], form), _key(record[end], form)
             from_table = intake.builder.ends(start_space, from_key)
@@ -199,6 +200,9 @@ def sources(words: list[str]) -> list[Source]:
     """Reads `[NAME[:NAME]=]FILE,FILE` words."""
     read = []
     for word in words:
-        names, sign, files = word.rpartition("=")
-        read.append(Source([file for file in files.split(",") if file], names.split(":") if sign else []))
+        names, sign, listed = word.rpartition("=")
+        files = [file for file in listed.split(",") if file]
+        if not files:
+            raise Refusal(f"neo4j: '{word}' names no file", Status.BAD_WORDS)
+        read.append(Source(files, names.split(":") if sign else []))
     return read

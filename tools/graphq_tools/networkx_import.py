@@ -6,26 +6,31 @@ import inspect
 import json
 import math
 import re
+from collections import Counter
 from pathlib import Path
 from typing import Any
 from xml.etree.ElementTree import ParseError
 
 from .builder import Nodes
-from .csvfile import open_bytes
+from .csvfile import not_utf8, open_bytes
 from .intake import Intake
 from .kinds import fits
-from .outcome import BadRow, Refusal, package
+from .outcome import BadRow, Refusal, one_line, package
 from .spool import Property
 
 FORMS = (".graphml", ".gexf", ".gml", ".json")
 # What the readers of networkx raise for files that are well-formed and something else than they should be.
 _OF_THE_READERS = (ValueError, TypeError, AttributeError, LookupError, ArithmeticError, RecursionError)
-_LINE = re.compile(r"(?:line |\()(\d+)")
+_LINE = re.compile(r"(?:line |\((?=\d+, ))(\d+)")
 
 
 def _form(path: Path) -> str:
     name = path.name.lower().removesuffix(".gz")
     return next((form for form in FORMS if name.endswith(form)), "")
+
+
+def _hashable(value: Any) -> Any:
+    return tuple(value) if isinstance(value, list) else value
 
 
 def _node_link(networkx: Any, data: Any) -> Any:
@@ -36,6 +41,13 @@ def _node_link(networkx: Any, data: Any) -> Any:
         data["links"] = data.pop("edges", None)
     if not isinstance(data["links"], list):
         raise ValueError("it is no node-link JSON: there is no list of links or edges")
+    if not all(isinstance(one, dict) and "id" in one for one in data["nodes"]):
+        raise ValueError("it is no node-link JSON: a node is no object with an id")
+    if not all(isinstance(one, dict) and "source" in one and "target" in one for one in data["links"]):
+        raise ValueError("it is no node-link JSON: a link is no object with a source and a target")
+    ids = [_hashable(one["id"]) for one in data["nodes"]]
+    if len(set(ids)) < len(ids):
+        raise ValueError(f"two nodes have the id {next(one for one, count in Counter(ids).items() if count > 1)!r}")
     read = networkx.node_link_graph
     return read(data, edges="links") if "edges" in inspect.signature(read).parameters else read(data)
 
@@ -58,16 +70,19 @@ def _load(path: Path) -> Any:
                     return networkx.read_gexf(stream)
                 case ".gml":
                     return networkx.parse_gml([line.decode("utf-8") for line in stream], label="id")
-            return _node_link(networkx, json.load(stream))
+            return _node_link(networkx, json.loads(stream.read().decode("utf-8-sig")))
         except ParseError as error:
             raise BadRow(path, error.position[0], str(error)) from error
         except json.JSONDecodeError as error:
             raise BadRow(path, error.lineno, error.msg) from error
+        except UnicodeDecodeError as error:
+            raise not_utf8(path) from error
         except KeyError as error:
-            raise Refusal(f"{path}: {error} is missing") from error
+            raise Refusal(f"{path}: the reader of networkx knows no {error}") from error
         except (networkx.NetworkXException, *_OF_THE_READERS) as error:
-            found = _LINE.search(str(error))
-            raise BadRow(path, int(found[1]), str(error)) if found else Refusal(f"{path}: {error}") from error
+            why = " ".join(str(error).split())
+            found = _LINE.search(why)
+            raise BadRow(path, int(found[1]), why) if found else Refusal(f"{path}: {why}") from error
 
 
 def text_of(value: Any) -> tuple[str, str]:
@@ -152,7 +167,7 @@ def _nodes(intake: Intake, path: Path, graph: Any, attribute: str) -> None:
             places = intake.builder.place(table, [attributes.properties[name] for name in names], part)
             intake.builder.add_node(table, "", _key(node), places, attributes.cells(names, row))
         except ValueError as error:
-            raise Refusal(f"{path}: node {node!r}: {error}") from error
+            raise Refusal(f"{path}: node {node!r}: {one_line(str(error))}") from error
 
 
 def _edges(intake: Intake, path: Path, graph: Any, attribute: str) -> None:
@@ -169,7 +184,7 @@ def _edges(intake: Intake, path: Path, graph: Any, attribute: str) -> None:
             places = intake.builder.place(table, [attributes.properties[one] for one in names], part)
             table.add(ends[0], ends[1], places, attributes.cells(names, row))
         except ValueError as error:
-            raise Refusal(f"{path}: edge {source!r} to {target!r}: {error}") from error
+            raise Refusal(f"{path}: edge {source!r} to {target!r}: {one_line(str(error))}") from error
 
 
 def _key(node: Any) -> str:

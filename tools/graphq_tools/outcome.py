@@ -4,6 +4,7 @@ from __future__ import annotations
 
 import contextlib
 import enum
+import io
 import os
 import sys
 from collections.abc import Callable, Iterator, Sequence
@@ -31,11 +32,16 @@ class Refusal(Exception):
         self.status = status
 
 
+def one_line(text: str) -> str:
+    """A text that may quote the input, with its tabs and line ends as they are typed."""
+    return text.translate({9: "\\t", 10: "\\n", 13: "\\r"})
+
+
 class BadRow(Refusal):
     """A file of the input holds what cannot be taken, at a line, counted from 1."""
 
     def __init__(self, file: str | os.PathLike[str], line: int, why: str) -> None:
-        super().__init__(f"{os.fspath(file)} line {line}: {why}")
+        super().__init__(f"{os.fspath(file)} line {line}: {one_line(why)}")
 
 
 def at_line(file: str | os.PathLike[str], line: int, error: ValueError | Refusal) -> Refusal:
@@ -71,6 +77,28 @@ def package(module: str, name: str) -> Refusal:
     return Refusal(why, Status.NOT_INSTALLED)
 
 
+def prepare_streams() -> None:
+    """Lets the standard streams carry bytes that are no UTF-8, whatever the locale: what is wrong with them, graphq says.
+
+    One that is closed is an input without bytes, or an output that takes none.
+    """
+    if sys.stdin is None:
+        sys.stdin = open(os.devnull)
+    if sys.stdout is None:
+        sys.stdout = open(os.open(os.devnull, os.O_RDONLY), "w")
+    if sys.stderr is None:
+        sys.stderr = open(os.devnull, "w")
+    for stream in (sys.stdin, sys.stdout, sys.stderr):
+        if isinstance(stream, io.TextIOWrapper):
+            stream.reconfigure(encoding="utf-8", errors="surrogateescape")
+
+
+def _drop_output() -> None:
+    """Lets go what could not be written: the interpreter is not to complain once more at its end."""
+    with contextlib.suppress(OSError):
+        os.dup2(os.open(os.devnull, os.O_WRONLY), sys.stdout.fileno())
+
+
 def run(tool: str, main: Callable[[Sequence[str]], int]) -> int:
     """Runs a tool on the words of the command line; a refusal is one line on standard error, and never a traceback."""
     try:
@@ -81,11 +109,12 @@ def run(tool: str, main: Callable[[Sequence[str]], int]) -> int:
         print(f"{tool}: {refusal}", file=sys.stderr)
         return int(refusal.status)
     except BrokenPipeError:
-        # Whoever read the output has gone: the interpreter is not to complain once more at its end.
-        os.dup2(os.open(os.devnull, os.O_WRONLY), sys.stdout.fileno())
+        # Whoever read the output has gone.
+        _drop_output()
         return int(Status.CANNOT_WRITE)
     except OSError as error:
         print(f"{tool}: {error}", file=sys.stderr)
+        _drop_output()
         return int(Status.CANNOT_WRITE)
     except MemoryError:
         print(f"{tool}: there is not enough memory", file=sys.stderr)

@@ -12,12 +12,18 @@ from pathlib import Path
 from .outcome import Refusal, Status, writing
 
 
+# So many characters have at most so many bytes as a name of a file has room for, with what comes behind.
+MOST_STEM = 50
+
+
 @contextlib.contextmanager
 def new_folder(place: str) -> Iterator[Path]:
     """Gives a folder to write into, which becomes `place` at the end. `place` has to be new, or an empty folder."""
     target = Path(place)
     if not place or any(character.isspace() for character in place):
         raise Refusal(f"--out '{place}': a manifest cannot name files in a folder with a blank", Status.BAD_WORDS)
+    if not place.isprintable() or any("\ud800" <= character <= "\udfff" for character in place):
+        raise Refusal(f"--out {place!a}: a manifest cannot name files in it", Status.BAD_WORDS)
     with writing(target):
         if target.exists() and (not target.is_dir() or any(target.iterdir())):
             raise Refusal(f"--out {place}: it is there already and not empty", Status.CANNOT_WRITE)
@@ -48,7 +54,7 @@ class FileNames:
 
     def take(self, stem: str, suffix: str = ".csv") -> str:
         """A new name made of `stem`, in small letters."""
-        base = "".join(character if character.isalnum() or character in "-_" else "-" for character in stem.lower())
+        base = "".join(character if character.isalnum() or character in "-_" else "-" for character in stem.lower()[:MOST_STEM])
         name, number = base, 2
         while name in self._taken:
             name, number = f"{base}-{number}", number + 1

@@ -10,6 +10,7 @@ from collections.abc import Sequence
 from pathlib import Path
 
 from .outcome import Refusal, Status
+from .statements import in_bytes, is_closed
 
 _TOP = Path(__file__).resolve().parent.parent.parent
 
@@ -70,11 +71,13 @@ class Session:
 
     def ask(self, statement: str) -> list[str]:
         """The lines of the reply to a statement, which has no `;`. Raises `Ended` where the program ends instead."""
+        if not is_closed(statement):
+            return self._ask_last(statement)
         self.start()
         process = self._process
         assert process is not None and process.stdout is not None
         last = f"error: UnknownVariable {self._name}\n".encode()
-        text = f"{statement};MATCH (a) RETURN {self._name};".encode()
+        text = in_bytes(f"{statement};MATCH (a) RETURN {self._name};")
         # The program may write before it has read all, so nobody is to wait here until it has.
         writer = threading.Thread(target=_write, args=(process, text), daemon=True)
         writer.start()
@@ -87,6 +90,17 @@ class Session:
         status = process.wait()
         self.stop()
         raise Ended(status, [one.decode("utf-8", "replace").removesuffix("\n") for one in lines])
+
+    def _ask_last(self, statement: str) -> list[str]:
+        """The reply to a statement that only the end of the input ends. The next one starts the program again."""
+        self.start()
+        process, self._process = self._process, None
+        assert process is not None
+        output, _ = process.communicate(in_bytes(statement))
+        lines = [line for line in output.decode("utf-8", "replace").split("\n") if line]
+        if process.returncode not in (Status.DONE, Status.REPLY_REFUSED):
+            raise Ended(process.returncode, lines)
+        return lines
 
     def stop(self) -> None:
         """Ends the program, in the middle of a statement too. The next statement starts it again."""

@@ -17,7 +17,7 @@ from .line_input import Lines, PipedLines
 from .outcome import Refusal, Status
 from .replies import Refused, Rows, read_reply, unescaped
 from .session import Ended, Session
-from .statements import MOST_BYTES, is_blank, split
+from .statements import MOST_BYTES, in_bytes, is_blank, split
 from .text_table import aligned, caret, width
 
 HELP = """\
@@ -117,7 +117,7 @@ class Shell:
 
     def _answer(self, statement: str) -> None:
         """Answers one statement. Ctrl-C ends it: the program is stopped, and loads the graph again for the next one."""
-        if len(statement.encode()) > MOST_BYTES:
+        if len(in_bytes(statement)) > MOST_BYTES:
             self._refuse(f"a statement has at most {MOST_BYTES:,} bytes", [])
             return
         begin = time.monotonic()

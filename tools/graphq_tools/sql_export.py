@@ -2,6 +2,7 @@
 
 from __future__ import annotations
 
+import re
 from collections.abc import Iterable, Iterator
 from dataclasses import dataclass
 from itertools import islice
@@ -15,6 +16,8 @@ from .outcome import Refusal, writing
 
 _TYPES = {"int": "BIGINT", "string": "TEXT", "bool": "BOOLEAN"}
 _ROWS_OF_AN_INSERT = 200
+# What sqlite3 loses of a text as it reads its script: a CR before a line end, and all behind a NUL.
+_LOST = re.compile("[\r\0]")
 _COPY_ESCAPES = str.maketrans({"\\": "\\\\", "\t": "\\t", "\n": "\\n", "\r": "\\r"})
 
 
@@ -39,7 +42,8 @@ def _literal(text: str, kind: str) -> str:
     if not text:
         return "NULL"
     if kind == "string":
-        return "'" + text.replace("'", "''") + "'"
+        inner = text.replace("'", "''")
+        return "'" + _LOST.sub(lambda found: f"' || char({ord(found[0])}) || '", inner) + "'"
     return text.upper() if kind == "bool" else text
 
 

@@ -17,6 +17,16 @@ _ENDS = {
 }
 
 
+def in_bytes(text: str) -> bytes:
+    """The bytes that a text stands for, also where they are no UTF-8."""
+    return text.encode("utf-8", "surrogateescape")
+
+
+def is_closed(statement: str) -> bool:
+    """Whether a `;` behind a statement would end it: no string, quoted name or comment in it is still open."""
+    return split(f"{statement};") == ([statement], "")
+
+
 def split(text: str) -> tuple[list[str], str]:
     """The statements that end in a text, without their `;`, and what stands behind the last one."""
     statements, begin, at = [], 0, 0
@@ -44,6 +54,6 @@ def is_blank(text: str) -> bool:
             return False
         end = _ENDS[mark].match(text, at + 2)
         if end is None:
-            return True
+            return mark == "//"
         at = end.end()
     return True

@@ -6,6 +6,8 @@ import re
 import unicodedata
 from collections.abc import Sequence
 
+from .statements import in_bytes
+
 try:
     from wcwidth import wcwidth as _width_of
 except ImportError:
@@ -52,7 +54,7 @@ def caret(statement: str, refusal: str) -> list[str]:
     match = _PLACE.match(refusal)
     if match is None:
         return []
-    before = statement.encode()[: int(match["byte"])].decode("utf-8", "ignore")
+    before = in_bytes(statement)[: int(match["byte"])].decode("utf-8", "ignore")
     begin = before.rfind("\n") + 1
     line = statement[begin:].split("\n", 1)[0].rstrip("\r")
     # A tab stays a tab, so that the caret stands under its place whatever a tab's width is.

@@ -86,6 +86,9 @@ class Draw(ToolTest):
     def test_refused_query(self) -> None:
         self.refuse(1, "error: UnknownVariable m", "MATCH (n) RETURN m")
 
+    def test_query_that_never_ends(self) -> None:
+        self.refuse(1, "error: Lex at byte 17", "MATCH (n) RETURN 'n")
+
     def test_nothing_to_draw(self) -> None:
         self.refuse(1, "no column of the reply has a node or a relationship", "MATCH (n) RETURN 1")
 

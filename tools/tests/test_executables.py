@@ -5,7 +5,7 @@ from __future__ import annotations
 import os
 import subprocess
 
-from .support import METRO, PROGRAM, TOOLS, TOP, ToolTest
+from .support import METRO, PEOPLE, PROGRAM, TOOLS, TOP, ToolTest
 
 NAMES = ("graphq-import", "graphq-export", "graphq-draw", "graphq-shell")
 
@@ -41,6 +41,19 @@ class Executables(ToolTest):
             command = [TOOLS / "graphq-import", "neo4j", "n.csv", "--out", "g"]
             done = subprocess.run(command, stdout=full, stderr=subprocess.PIPE, cwd=self.folder, check=False)
         self.assertEqual((done.returncode, done.stderr), (5, b"graphq-import: [Errno 28] No space left on device\n"))
+
+    def test_streams_that_are_closed(self) -> None:
+        shell = f"{TOOLS}/graphq-shell --manifest {PEOPLE}"
+        bad = b"graphq-shell: [Errno 9] Bad file descriptor\n"
+        for command, wanted in {
+            f"{shell} <&-": (0, b""),
+            f"echo 'MATCH (a:City) RETURN a;' | {shell} >&-": (5, bad),
+            f"{shell} <&- >&- 2>&-": (0, b""),
+            f"echo 'MATCH (a:City) RETURN a;' | {shell} | true": (0, b""),
+        }.items():
+            with self.subTest(command=command):
+                done = subprocess.run(["sh", "-c", command], cwd=TOP, capture_output=True, check=False)
+                self.assertEqual((done.returncode, done.stderr), wanted)
 
     def test_shell_by_a_pipe(self) -> None:
         status, output, errors = self.call("graphq-shell", "--manifest", "none", "--program", "/nowhere")

@@ -74,6 +74,19 @@ class Exports(ToolTest):
         self.assertIn('    StructField("id_2", LongType()),\n    StructField("name", StringType()),\n', script)
 
 
+class KuzuNames(ToolTest):
+    def test_type_that_is_called_like_a_table_of_nodes(self) -> None:
+        """In Kùzu a name is one table's."""
+        self.write("n.csv", "id:int\n1\n")
+        self.write("r.csv", "from,to\n1,1\n")
+        self.write("g.manifest", "node Part n.csv\nrel PART Part Part many_many r.csv\n")
+        notes = self.done("graphq-export", "kuzu", "--manifest", "g.manifest", "--out", "kuzu").splitlines()
+        self.assertEqual(notes[1], "a name is one table's in Kuzu: the type `PART` is called `PART_2`")
+        script = (self.folder / "kuzu/schema.cypher").read_text()
+        self.assertIn("CREATE REL TABLE `PART_2`(FROM `Part` TO `Part`, MANY_MANY);", script)
+        self.assertIn("COPY `PART_2` FROM ", script)
+
+
 class Refusals(ToolTest):
     def refuse(self, line: str, manifest: str, rows: str = "id:int\n1\n") -> None:
         self.write("g.manifest", manifest)
@@ -89,6 +102,15 @@ class Refusals(ToolTest):
 
     def test_label_twice(self) -> None:
         self.refuse("g.manifest line 1: N:N is not one to 8 labels joined by colons", "node N:N n.csv\n")
+
+    def test_table_twice(self) -> None:
+        self.refuse("g.manifest line 2: a line above has the nodes N already", "node N n.csv\nnode N n.csv\n")
+        self.write("r.csv", "from,to\n")
+        lines = "rel R N N many_many r.csv\n" * 2
+        self.refuse("g.manifest line 3: a line above has R from N to N already", f"node N n.csv\n{lines}")
+
+    def test_field_twice(self) -> None:
+        self.refuse("n.csv line 1: there are two fields x", "node N n.csv\n", "id:int,x:int,x:bool\n")
 
     def test_header(self) -> None:
         why = "'id:float' is no field NAME:KIND with a KIND of int, string, bool"

@@ -14,7 +14,7 @@ from pathlib import Path
 
 from graphq_tools.replies import Refused, Rows, read_reply, value_of
 
-from .support import METRO, TOP, ToolTest, ask
+from .support import METRO, TOP, ToolTest, ask, needs_program
 
 QUESTIONS = TOP / "examples/metro/questions"
 SQL = TOP / "tools/tests/metro"
@@ -110,6 +110,20 @@ class Awkward(ToolTest):
         rows = database.execute('SELECT * FROM "Order"').fetchall()
         self.assertEqual(rows, [("a'b", "x\\y\nz\t", -(2**63), 1), ("c", None, 7, None)])
         self.assertEqual(database.execute('SELECT * FROM "GROUP"').fetchall(), [(0, "a'b", "c", "s", 5)])
+
+    @needs_program("sqlite3", "sqlite3")
+    def test_texts_through_the_shell_of_sqlite(self) -> None:
+        texts = ["a\nb", "a\r\nb", "a\rb", "\r", "a\0b", "it's\r\n;\n.quit\n--", "\\", "\ufeff"]
+        quoted = [text.replace('"', '""') for text in texts]
+        self.write("n.csv", "".join(f'"{text}"\n' for text in ["t:string", *quoted]))
+        self.write("g.manifest", "node N n.csv\n")
+        self.done("graphq-export", "sqlite", "--manifest", "g.manifest", "--out", "sql")
+        script = (self.folder / "sql/graph.sql").read_bytes()
+        done = subprocess.run(["sqlite3", "g.db"], input=script, capture_output=True, cwd=self.folder, check=False)
+        self.assertEqual((done.returncode, done.stderr), (0, b""))
+        database = sqlite3.connect(self.folder / "g.db")
+        self.addCleanup(database.close)
+        self.assertEqual([row[0] for row in database.execute("SELECT t FROM N ORDER BY rowid")], texts)
 
     def test_postgresql_is_copied(self) -> None:
         self.done("graphq-export", "postgresql", "--manifest", "g.manifest", "--out", "sql")

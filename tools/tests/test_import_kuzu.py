@@ -123,5 +123,29 @@ class KuzuImport(ToolTest):
     def test_no_key(self) -> None:
         self.script("CREATE NODE TABLE A(k STRING);", "line 1: the table A has no PRIMARY KEY among its columns")
 
+    def test_options_of_copy(self) -> None:
+        table = "CREATE NODE TABLE A(k STRING PRIMARY KEY, x STRING);\n"
+        for option, why in {
+            "DELIM='ab'": "DELIM is one character, and not 'ab'",
+            "QUOTE=''": "QUOTE is one character, and not ''",
+            "SKIP=x": "SKIP is a number of records, and not 'x'",
+            "HEADER=maybe": "HEADER is true or false, and not 'maybe'",
+        }.items():
+            with self.subTest(option=option):
+                self.script(f"{table}COPY A FROM 'a.csv' ({option});", f"line 2: {why}")
+        self.write("k/schema.cypher", f"{table}COPY A FROM 'a.csv' (IGNORE_ERRORS=true);")
+        status, _, errors = self.tool("graphq-import", "kuzu", "k/schema.cypher", "--out", "g")
+        self.assertEqual(status, 3)
+        self.assertIn("k/schema.cypher line 2: COPY has the option IGNORE_ERRORS, and is taken with DELIM, ", errors)
+
+    def test_what_stands_twice(self) -> None:
+        table = "CREATE NODE TABLE A(k STRING PRIMARY KEY);"
+        self.script(f"{table}\n{table}", "line 2: there is a table A already")
+        self.script(f"{table}\nCREATE REL TABLE A(FROM A TO A);", "line 2: there is a table A already")
+        self.script("CREATE NODE TABLE A(k STRING PRIMARY KEY, k INT64);", "line 1: the table A has the column k twice")
+        pairs = "FROM A TO A, FROM A TO A"
+        self.script(f"{table}\nCREATE REL TABLE R({pairs});", "line 2: the table R has a pair of FROM and TO twice")
+        self.script(f"{table}\nCOPY A(k, k) FROM 'a.csv';", "line 2: COPY names the column k twice")
+
     def test_unknown_end(self) -> None:
         self.script("CREATE REL TABLE R(FROM A TO A);", "line 1: there is no table A of nodes above")

@@ -99,6 +99,18 @@ class Neo4jImport(ToolTest):
         text = ask("g/g.manifest", "MATCH (a:Student)-[r:KNOWS]->(b:Person) RETURN a, b;", self.folder)
         self.assertEqual(text, (0, "a\tb\n(Person:Student 7)\t(Person 1)\nrows 1\n"))
 
+    def test_key_and_property_that_differ_in_case(self) -> None:
+        """Names respect case, so a key keeps its name beside such a property, and loses it to one of the same name."""
+        self.write("n.csv", "id:ID,ID:int\na,1\n")
+        files = ("--nodes=N=n.csv", "--nodes=M=m.csv", "--nodes=M=l.csv")
+        output = self.done("graphq-import", "neo4j", *files[:1], "--out", "g").splitlines()
+        self.assertEqual(output[0], "node N 1 id:string ID:int")
+        self.write("m.csv", "id:ID(M),x\na,1\n")
+        self.write("l.csv", "k:ID(L),id:int\nb,1\n")
+        output = self.done("graphq-import", "neo4j", *files[1:], "--out", "h").splitlines()
+        self.assertEqual(output[0], "node M 2 id_2:string x:string id:int")
+        self.assertIn("M: the key is called id_2, since id is a property", output)
+
     def test_scaled_values(self) -> None:
         """-1.5 in hundredths is -150; 1970-01-11 is day 10; 01:00 at +01:00 on 1970-01-01 is the zero of time."""
         self.write("n.csv", "id:ID,price:double,day:date,at:datetime\na,-1.5,1970-01-11,1970-01-01T01:00:00+01:00\n")
@@ -187,7 +199,8 @@ class Neo4jRefusals(ToolTest):
         self.check("id:ID,x\n,1\n", "n.csv line 2: the id is empty")
 
     def test_no_id(self) -> None:
-        self.check("x,y\n1,2\n", "n.csv line 2: the header has no field :ID")
+        self.check("x,y\n1,2\n", "n.csv line 1: the header has no field :ID")
+        self.check("x,y\n", "n.csv line 1: the header has no field :ID")
 
     def test_field_count(self) -> None:
         self.check("id:ID,x\na\n", "n.csv line 2: it has 1 fields, and the header has 2")
@@ -241,6 +254,39 @@ class Neo4jRefusals(ToolTest):
         self.assertEqual((status, errors), (5, "graphq-import: --out g: it is there already and not empty\n"))
 
     def test_words(self) -> None:
-        for words in ([], ["neo4j"], ["neo4j", "--out", "g", "--delimiter", "ab"], ["neo4j", "--out", "a b"]):
+        for words in (
+            [],
+            ["neo4j"],
+            ["neo4j", "--out", "g", "--delimiter", "ab"],
+            ["neo4j", "--out", "a b"],
+            ["neo4j", "--out", "a\udcff"],
+            ["neo4j", "--out", "g", ","],
+            ["neo4j", "--out", "g", "--nodes", "A="],
+            ["neo4j", "--out", "g", "--relationships", ""],
+        ):
             with self.subTest(words=words):
                 self.assertEqual(self.tool("graphq-import", *words)[0], 2)
+
+    def test_decimals_beyond_reason(self) -> None:
+        """Neither an exponent without end nor digits that a rounding would lose are taken for another number."""
+        long = "0." + "0" * 40 + "1"
+        for text, why in {
+            "1e999999999": "1e999999999 with 2 digits behind the point has more than 64 signed bits",
+            "9" * 5000: f"{'9' * 40} with 2 digits behind the point has more than 64 signed bits",
+            f"1{long[1:]}": f"1.{'0' * 38} has more than 2 digits behind the point",
+            "1e-999999999": "1e-999999999 has more than 2 digits behind the point",
+            "sNaN": "'sNaN' is no finite number",
+        }.items():
+            with self.subTest(text=text[:20]):
+                self.write("n.csv", f"id:ID,x:double\na,{text}\n")
+                words = ("n.csv", "--out", "g", "--decimals", "2")
+                self.refused(3, f"n.csv line 2: {why}", "graphq-import", "neo4j", *words)
+
+    def test_line_end_in_an_id(self) -> None:
+        """A refusal is one line, whatever it quotes."""
+        self.check("id:ID\na\n", "r.csv line 2: no node has the id 'b\\n'", ':START_ID,:END_ID\na,"b\n"\n')
+
+    def test_label_that_is_longer_than_a_name_of_a_file(self) -> None:
+        self.write("n.csv", f"id:ID,:LABEL\na,{'L' * 300}\nb,{'L' * 301}\n")
+        self.done("graphq-import", "neo4j", "n.csv", "--out", "g")
+        self.assertEqual(ask("g/g.manifest", "MATCH (n) RETURN n.id ORDER BY n.id;", self.folder)[0], 0)

@@ -126,6 +126,30 @@ class NetworkxImport(ToolTest):
     def test_no_node_link(self) -> None:
         self.refuse("g.json", "[1]", "g.json: it is no node-link JSON: there is no list of nodes")
 
+    def test_json_of_another_form(self) -> None:
+        no = "g.json: it is no node-link JSON"
+        for text, line in {
+            '{"nodes": [1], "links": []}': f"{no}: a node is no object with an id",
+            '{"nodes": [{"id": 1}], "links": [{"source": 1}]}': f"{no}: a link is no object with a source and a target",
+            '{"nodes": [{"id": 1}, {"id": 1}], "links": []}': "g.json: two nodes have the id 1",
+        }.items():
+            with self.subTest(text=text):
+                self.refuse("g.json", text, line)
+
+    def test_not_utf_8(self) -> None:
+        for name in ("g.json", "g.gml"):
+            self.write(name, b"{\n\xff}")
+            self.refused(3, f"{name} line 2: it is not UTF-8", "graphq-import", "networkx", name, "--out", "g")
+
+    def test_edge_repeated_in_gml(self) -> None:
+        """The place that networkx names is that of an edge and not of a line."""
+        text = "graph [ node [ id 1 ] edge [ source 1 target 1 ] edge [ source 1 target 1 ] ]"
+        self.write("g.gml", text)
+        status, _, errors = self.tool("graphq-import", "networkx", "g.gml", "--out", "g")
+        self.assertEqual(status, 3)
+        self.assertTrue(errors.startswith("graphq-import: g.gml: edge #1 (1--1) is duplicated"), errors)
+        self.assertEqual(errors.count("\n"), 1)
+
     def test_list(self) -> None:
         text = NODE_LINK.replace('"n": 1', '"n": [1, 2]')
         ways = "take its text by --text n, or leave it out by --drop n"

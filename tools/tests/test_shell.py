@@ -46,7 +46,7 @@ class Statements(unittest.TestCase):
     def test_blank(self) -> None:
         for text in ("", " \n\t", "// a\n", "// a", "/* ; */ // b\n "):
             self.assertTrue(is_blank(text), text)
-        for text in ("a", "// a\nb", "/", "/* */ a"):
+        for text in ("a", "// a\nb", "/", "/* */ a", "/* open"):
             self.assertFalse(is_blank(text), text)
 
 
@@ -120,6 +120,25 @@ class Completion(unittest.TestCase):
 
 
 class Piped(ToolTest):
+    def test_what_never_ends(self) -> None:
+        """A string or a comment that is open at the end: graphq's refusal, and no waiting for more."""
+        for text, wanted in {"MATCH (a) RETURN 'x;": "Lex at byte 17", " /* open": "Lex at byte 1"}.items():
+            with self.subTest(text=text):
+                status, output, errors = self.tool("graphq-shell", "--manifest", PEOPLE, text=text, cwd=TOP)
+                self.assertEqual((status, output.splitlines()[-1], errors), (1, f"error: {wanted}", ""))
+
+    def test_bytes_that_are_no_text(self) -> None:
+        """What is no UTF-8 goes to graphq as it is, and the session goes on behind it."""
+        done = subprocess.run(
+            [TOOLS / "graphq-shell", "--manifest", PEOPLE, "--mode", "plain"],
+            input=b"MATCH (a) RETURN '\xff';MATCH (p {id: 2}) RETURN p.name;",
+            capture_output=True,
+            cwd=TOP,
+            check=False,
+        )
+        self.assertEqual((done.returncode, done.stderr), (1, b""))
+        self.assertEqual(done.stdout.splitlines()[2:], [b"error: Lex at byte 18", b"p.name", b"'Bob'", b"rows 1"])
+
     def test_tables_carets_and_status(self) -> None:
         text = (
             "MATCH (p:Person)\nRETURN p.name AS n, p.age ORDER BY p.id;\nMATCH (p:Person\n  RETURN p;\n"
@@ -293,6 +312,8 @@ class ByReadline(ToolTest):
         terminal.until("graphq>")
         terminal.type("MATCH (s '\r")
         terminal.until("...>")
+        # readline shows the prompt before it waits, and a Ctrl-C in between is seen with the next key.
+        time.sleep(0.5)
         terminal.type("\x03")
         terminal.until("graphq>")
         terminal.type("MATCH (s:Station {code: 'CAS'}) RETURN s.name;\r")

@@ -12,7 +12,9 @@ fn failure(status: Status) -> Option<&'static str> {
     match status {
         Status::ReadFault => Some("a file or the input could not be read"),
         Status::WriteFault => Some("the output could not be written"),
-        Status::Memory => Some("there was not enough memory"),
+        Status::Memory => {
+            Some("there was not enough memory, or a statement asks for unreasonable work")
+        }
         Status::TooLong => Some("a statement or the input is too long"),
         Status::Ended | Status::Refused | Status::Usage | Status::NotLoaded => None,
     }
