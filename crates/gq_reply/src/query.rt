@@ -1,9 +1,10 @@
 //! The reply to a query that is bound.
 
-ghost use Rattle.std.specs.Prelude.{◌<◌, All, length};
+ghost use Rattle.std.specs.Prelude.{◌≡◌, ◌≤◌, ◌<◌, All, length};
 ghost use Rattle.gq_io.specs.Causes.{HasCause};
 ghost use Rattle.gq_io.specs.Outside.{Writes};
 ghost use Rattle.gq_plan.specs.Soundness.{IsSound};
+ghost use Rattle.gq_pool.specs.Pool.{spare_of};
 ghost use Rattle.gq_reply.specs.Replies.{context_of};
 ghost use Rattle.gq_reply.specs.ReplyTexts.{fault_text, many_text, rows_text};
 ghost use Rattle.gq_reply.specs.steps.Steps.{Asks};
@@ -15,6 +16,7 @@ use gq_execute::{AnswerRefusal, answer};
 use gq_expr::Fault;
 use gq_io::{Failed, Sink, write_all};
 use gq_plan::Bound;
+use gq_pool::VectorPool;
 use gq_render::{Place, write_ends, write_listing, write_refusal};
 use gq_rows::Listing;
 use gq_session::Tone;
@@ -51,7 +53,7 @@ impl Replier<'_> {
         listing: &Listing<'_>,
     ) -> Result<(), Failed>
         ensures bytes { Writes (O.taken out.old) (O.taken out.new)
-            (rows_text self.now.form self.now.graph.now bound.now listing.now) result }
+            (rows_text self.now.form self.now.graph.now bound.now listing.now.lines) result }
         ensures cause { HasCause (O.faults out.old) (O.faults out.new) result }
     {
         match self.form {
@@ -61,14 +63,22 @@ impl Replier<'_> {
     }
 
     /// Replies to a query that is bound: with its rows, or with the line that says why there are none.
-    pub(crate) fn reply_to_query<O: Sink>(&self, out: &mut O, bound: &Bound) -> Result<Tone, Failed>
+    /// The pool has as many free slots afterwards.
+    pub(crate) fn reply_to_query<O: Sink>(
+        &self,
+        out: &mut O,
+        pool: &mut VectorPool,
+        bound: &Bound,
+    ) -> Result<Tone, Failed>
         requires sound { All (IsSound self.now.graph.now.catalog) bound.now.alternatives }
         requires begins { All (λ y. 0 < length y.nodes) bound.now.alternatives }
-        ensures { Asks (context_of self.now) bound.now
+        requires slots { 112 ≤ spare_of pool.old }
+        ensures asks { Asks (context_of self.now) bound.now
             (span_of O.taken O.faults out.old out.new) result }
+        ensures slots { spare_of pool.new ≡ spare_of pool.old }
     {
-        match answer(self.alloc, self.graph, bound, &self.settings) {
-            Ok(listing) => toned(self.write_rows(out, bound, &listing), Tone::Good),
+        match answer(self.alloc, self.graph, bound, pool, &self.settings) {
+            Ok(found) => toned(self.write_rows(out, bound, &found.listing), Tone::Good),
             Err(AnswerRefusal::Fault(fault)) => toned(write_fault(out, fault), Tone::Refused),
             Err(AnswerRefusal::TooManyRows { .. }) => {
                 toned(write_many(out, self.settings.rows), Tone::Refused)

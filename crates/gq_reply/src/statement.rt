@@ -3,6 +3,7 @@
 ghost use Rattle.std.specs.Prelude.{◌≤◌, ◌++◌, [], length, decimal};
 ghost use Rattle.gq_io.specs.Causes.{HasCause};
 ghost use Rattle.gq_io.specs.Outside.{Writes};
+ghost use Rattle.gq_pool.specs.Pool.{spare_of};
 ghost use Rattle.gq_render.specs.Texts.{line};
 ghost use Rattle.gq_reply.specs.BindLines.{bind_line};
 ghost use Rattle.gq_reply.specs.Replies.{IsReply, context_of};
@@ -19,6 +20,7 @@ use gq_base::Memory;
 use gq_binder::{bind, refusal_of};
 use gq_explain::write_schema;
 use gq_io::{Failed, Sink, write_all};
+use gq_pool::VectorPool;
 use gq_render::{Place, write_refusal};
 use gq_session::Tone;
 use gq_syntax::{Params, Query, Statement, SyntaxRefusal, parse};
@@ -41,15 +43,18 @@ impl Replier<'_> {
     fn reply_to_asked<O: Sink>(
         &self,
         out: &mut O,
+        pool: &mut VectorPool,
         statement: &[u8],
         query: &Query,
     ) -> Result<Tone, Failed>
-        requires { SpelledText statement.now [] (tree.Query query.now) }
-        ensures { Replied (IsReply (context_of self.now) statement.now)
+        requires spelled { SpelledText statement.now [] (tree.Query query.now) }
+        requires slots { 112 ≤ spare_of pool.old }
+        ensures replies { Replied (IsReply (context_of self.now) statement.now)
             (span_of O.taken O.faults out.old out.new) result }
+        ensures slots { spare_of pool.new ≡ spare_of pool.old }
     {
         match bind(self.alloc, query, statement, self.graph.catalog()) {
-            Ok(bound) => self.reply_to_query(out, &bound),
+            Ok(bound) => self.reply_to_query(out, pool, &bound),
             Err(refusal) => toned(write_bind_refusal(out, &refusal), tone_of(&refusal)),
         }
     }
@@ -94,15 +99,18 @@ impl Replier<'_> {
     fn reply_to_tree<O: Sink>(
         &self,
         out: &mut O,
+        pool: &mut VectorPool,
         statement: &[u8],
         tree: &Statement,
     ) -> Result<Tone, Failed>
-        requires { SpelledText statement.now [] tree.now }
-        ensures { Replied (IsReply (context_of self.now) statement.now)
+        requires spelled { SpelledText statement.now [] tree.now }
+        requires slots { 112 ≤ spare_of pool.old }
+        ensures replies { Replied (IsReply (context_of self.now) statement.now)
             (span_of O.taken O.faults out.old out.new) result }
+        ensures slots { spare_of pool.new ≡ spare_of pool.old }
     {
         match tree {
-            Statement::Query(query) => self.reply_to_asked(out, statement, query),
+            Statement::Query(query) => self.reply_to_asked(out, pool, statement, query),
             Statement::Plan(query) => self.reply_to_planned(out, statement, query),
             Statement::Profile(query) => self.reply_to_unbuilt(out, statement, query),
             Statement::Schema => toned(write_schema(out, self.graph), Tone::Good),
@@ -130,13 +138,20 @@ impl Replier<'_> {
     }
 
     /// Replies to a statement of at most 65,536 bytes.
-    pub(crate) fn reply<O: Sink>(&self, out: &mut O, statement: &[u8]) -> Result<Tone, Failed>
-        requires { length statement.now ≤ 65536 }
-        ensures { Replied (IsReply (context_of self.now) statement.now)
+    pub(crate) fn reply<O: Sink>(
+        &self,
+        out: &mut O,
+        pool: &mut VectorPool,
+        statement: &[u8],
+    ) -> Result<Tone, Failed>
+        requires fits { length statement.now ≤ 65536 }
+        requires slots { 112 ≤ spare_of pool.old }
+        ensures replies { Replied (IsReply (context_of self.now) statement.now)
             (span_of O.taken O.faults out.old out.new) result }
+        ensures slots { spare_of pool.new ≡ spare_of pool.old }
     {
         match parse(self.alloc, statement, &Params::new(self.alloc)) {
-            Ok(tree) => self.reply_to_tree(out, statement, &tree),
+            Ok(tree) => self.reply_to_tree(out, pool, statement, &tree),
             Err(SyntaxRefusal::Lex { at }) => {
                 toned(write_at(out, "error: Lex at byte ", at), Tone::Refused)
             }
