@@ -156,6 +156,10 @@ module _ (g : Graph) (old : Table) (begun : Rest) where
 
 -- ---- a chunk
 
+-- lists that are the same are one bag
+pub in_order : (ts us : List Assignment) → ts ≡ us → IsPermutation ts us
+in_order ts us same = subst (IsPermutation ts) same (IsPermutation-refl ts)
+
 -- it is one of the alternative that was started
 pub chunk_in : (g : Graph) (s : Source) (o : Option Typed) (c : Chunk) → s.graph ≡ g → o ≡ Some s.typed → IsChunkOf s.graph s.typed c → IsChunkIn g o c
 chunk_in g s o c graph started h = subst (λ p. IsChunkIn g p c) (sym started) (subst (λ k. IsChunkOf k s.typed c) graph h)

@@ -3,7 +3,7 @@ ghost use Rattle.std.specs.Prelude.{◌≡◌, ◌<◌, length, map, true, All, 
 ghost use Rattle.std.specs.List.{AllZip, list_all};
 ghost use Rattle.gq_execute.specs.Planned.{plan_in, plans_in, sizes};
 ghost use Rattle.gq_execute.specs.Replies.{parts_by};
-ghost use Rattle.gq_pipe.specs.Keys.{begins};
+ghost use Rattle.gq_pipe.specs.steps.Cuts.{begins};
 ghost use Rattle.gq_plan.specs.Covers.{Covers};
 ghost use Rattle.gq_plan.specs.Flat.{is_flat};
 ghost use Rattle.gq_plan.specs.Parts.{IsSide, sides};

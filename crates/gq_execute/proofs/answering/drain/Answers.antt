@@ -4,7 +4,7 @@ use Rattle.gq_pipe.specs.Bound.{binds_all}
 use Rattle.gq_pipe.specs.Progress.{Source, plan_in}
 use Rattle.gq_pipe.specs.Rest.{counted}
 use Rattle.gq_rows.specs.declared.refusal.More.TheVariants as more
-use Rattle.gq_execute.proofs.Draining.{all_taken, bag_here, chunk_in, counted_here, counted_more, counted_none, full_here, has_choice, less_owed, met, pushed_more, pushed_none, pushes_here, run_full, run_out}
+use Rattle.gq_execute.proofs.Draining.{all_taken, bag_here, chunk_in, counted_here, counted_more, counted_none, full_here, has_choice, in_order, less_owed, met, pushed_more, pushed_none, pushes_here, run_full, run_out}
 use Rattle.gq_execute.proofs.answering.drain.Goals as goal
 
 pub chunks-init : goal.chunks-init
@@ -20,9 +20,6 @@ chunks-init c = record {
   came = pushed_none _ _ _;
   counted = counted_none _ _ c.requires.fresh;
 }
-
-pub chunk-chunk-requires-clause-complete : goal.chunk-chunk-requires-clause-complete
-chunk-chunk-requires-clause-complete c = ap (λ (s : Source). binds_all s.typed (plan_in s)) c.advance.ensures.source ∙ c.chunks.invariant.run.complete
 
 pub push_chunk-requires-clause-chunk : goal.push_chunk-requires-clause-chunk
 push_chunk-requires-clause-chunk c =
@@ -41,7 +38,7 @@ chunks-preserved c =
     let source = c.advance.ensures.source in
     let bag = c.advance.ensures.bag c.chunks-test.true in
     let some = c.advance.ensures.some c.chunks-test.true in
-    let here = bag_here g begun.source.typed after.source chunk after.chunk (ap (λ (s : Source). s.graph) source ∙ i.run.graph) (ap (λ (s : Source). s.typed) (source ∙ i.source)) c.chunk-chunk.ensures.bag in
+    let here = bag_here g begun.source.typed after.source chunk after.chunk (ap (λ (s : Source). s.graph) source ∙ i.run.graph) (ap (λ (s : Source). s.typed) (source ∙ i.source)) (in_order _ _ (c.chunk-chunk.ensures.whole (ap (λ (s : Source). binds_all s.typed (plan_in s)) source ∙ i.run.complete))) in
     let pushes = pushes_here g old.bound begun.source.typed c.chunks.table c.push_chunk.new.self chunk (Ok more.Go) i.same.bound (i.run.alternative ∙ ap (λ (s : Source). Some s.typed) i.source)
     (rw c.in-Ok-Go.field-0-is at c.in-Ok-Go.ensures.pushes) in
     let query = c.in-Ok-Go.ensures.query in
@@ -79,7 +76,7 @@ returns-in-Ok-Enough c =
     let source = c.advance.ensures.source in
     let bag = c.advance.ensures.bag c.chunks-test.true in
     let some = c.advance.ensures.some c.chunks-test.true in
-    let here = bag_here g begun.source.typed after.source chunk after.chunk (ap (λ (s : Source). s.graph) source ∙ i.run.graph) (ap (λ (s : Source). s.typed) (source ∙ i.source)) c.chunk-chunk.ensures.bag in
+    let here = bag_here g begun.source.typed after.source chunk after.chunk (ap (λ (s : Source). s.graph) source ∙ i.run.graph) (ap (λ (s : Source). s.typed) (source ∙ i.source)) (in_order _ _ (c.chunk-chunk.ensures.whole (ap (λ (s : Source). binds_all s.typed (plan_in s)) source ∙ i.run.complete))) in
     let pushes = pushes_here g old.bound begun.source.typed c.chunks.table c.push_chunk.new.self chunk (Ok more.Enough) i.same.bound (i.run.alternative ∙ ap (λ (s : Source). Some s.typed) i.source)
     (rw c.in-Ok-Enough.field-0-is at c.in-Ok-Enough.ensures.pushes) in
     let query = c.in-Ok-Enough.ensures.query in
@@ -103,7 +100,7 @@ returns-in-Err c =
     let chunk = c.chunk-chunk.result in
     let source = c.advance.ensures.source in
     let bag = c.advance.ensures.bag c.chunks-test.true in
-    let here = bag_here g begun.source.typed after.source chunk after.chunk (ap (λ (s : Source). s.graph) source ∙ i.run.graph) (ap (λ (s : Source). s.typed) (source ∙ i.source)) c.chunk-chunk.ensures.bag in
+    let here = bag_here g begun.source.typed after.source chunk after.chunk (ap (λ (s : Source). s.graph) source ∙ i.run.graph) (ap (λ (s : Source). s.typed) (source ∙ i.source)) (in_order _ _ (c.chunk-chunk.ensures.whole (ap (λ (s : Source). binds_all s.typed (plan_in s)) source ∙ i.run.complete))) in
     let pushes = pushes_here g old.bound begun.source.typed c.chunks.table c.push_chunk.new.self chunk (Err c.in-Err.refusal) i.same.bound (i.run.alternative ∙ ap (λ (s : Source). Some s.typed) i.source)
     c.in-Err.ensures.pushes in
     record {
