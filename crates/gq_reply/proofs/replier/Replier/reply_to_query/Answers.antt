@@ -1,11 +1,14 @@
 use Rattle.std.proofs.Common.{inl, inr, refl}
-use Rattle.gq_reply.proofs.Replying.{replied}
+use Rattle.gq_reply.proofs.Replying.{answered, replied}
+use Rattle.gq_reply.specs.Replies.{context_of}
 use Rattle.gq_session.specs.declared.answering.Tone.TheVariants as tone
 use Rattle.gq_reply.proofs.replier.Replier.reply_to_query.Goals as goal
 
 pub returns-in-Ok-clause-asks : goal.returns-in-Ok-clause-asks
 returns-in-Ok-clause-asks g c = λ query statement is.
-    replied _ tone.Good _ (c.in-Ok.found.listing.lines, c.in-Ok.ensures.permitted query statement is, refl) _ _ c.write_rows.ensures.bytes c.write_rows.ensures.cause _ c.toned.ensures
+    let found = c.in-Ok.found in
+    let text = answered (context_of c.args.self.now) c.args.profiled query c.args.bound.now found.spent found.listing.pushed found.listing.lines (c.in-Ok.ensures.spends query statement is) in
+    replied _ tone.Good _ (found.listing.lines, c.in-Ok.ensures.permitted query statement is, text) _ _ c.write_answer.ensures.bytes c.write_answer.ensures.cause _ c.toned.ensures
 
 pub returns-in-Err-Fault-clause-asks : goal.returns-in-Err-Fault-clause-asks
 returns-in-Err-Fault-clause-asks g c = λ query statement is.
