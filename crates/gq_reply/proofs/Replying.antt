@@ -12,6 +12,7 @@ use Rattle.gq_base.specs.Values.{Val}
 use Rattle.gq_execute.specs.Planned.{plans_in}
 use Rattle.gq_execute.specs.Spending.{AreSpent}
 use Rattle.gq_execute.specs.Replies.{Reply, Rows, Faulted, TooManyRows, IsPermitted}
+use Rattle.gq_expr.specs.declared.Fault.{Fault}
 use Rattle.gq_io.specs.Causes.{HasCause}
 use Rattle.gq_io.proofs.Moved.{Appends-both, front_after, front_longer}
 use Rattle.gq_io.specs.Outside.{AppendsFront, Writes}

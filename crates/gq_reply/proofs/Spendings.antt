@@ -7,7 +7,10 @@ use Rattle.gq_reply.specs.ReplyTexts.{spent_line, spent_text}
 pub one_line : (a b c : List ℕ) (s t u : List ℕ) → ((a ++ s) ++ ((b ++ t) ++ ((c ++ u) ++ []))) ++ codes "\n" ≡ (a ++ s ++ b ++ t ++ c ++ u) ++ codes "\n"
 one_line a b c s t u =
     ap (λ l. l ++ codes "\n")
-    (append_assoc a s _ ∙ ap (λ l. a ++ (s ++ l)) (append_assoc b t _ ∙ ap (λ l. b ++ (t ++ l)) (append-nil (c ++ u))))
+    (ap (λ l. (a ++ s) ++ ((b ++ t) ++ l)) (append-nil (c ++ u))
+    ∙ sym (append_assoc (a ++ s) (b ++ t) (c ++ u))
+    ∙ ap (λ l. l ++ (c ++ u)) (sym (append_assoc (a ++ s) b t))
+    ∙ sym (append_assoc (((a ++ s) ++ b) ++ t) c u))
 
 -- a line more
 spent_more : (k : ℕ) (ss : List Spent) (i : ℕ) (d : Spent) → i < length ss → spent_text k (take i ss) ++ spent_line (k + i) (get_or ss i d) ≡ spent_text k (take (suc i) ss)

@@ -11,8 +11,8 @@ reply_to_asked-requires-clause-spelled g c = subst (λ t. SpelledText c.args.sta
 pub reply_to_planned-requires : goal.reply_to_planned-requires
 reply_to_planned-requires g c = subst (λ t. SpelledText c.args.statement.now [] t) c.in-Plan.is c.requires.spelled
 
-pub reply_to_asked-in-Profile-requires-clause-spelled : goal.reply_to_asked-in-Profile-requires-clause-spelled
-reply_to_asked-in-Profile-requires-clause-spelled g c = subst (λ t. SpelledText c.args.statement.now [] t) c.in-Profile.is c.requires.spelled
+pub reply_to_asked-requires-in-Profile-clause-spelled : goal.reply_to_asked-requires-in-Profile-clause-spelled
+reply_to_asked-requires-in-Profile-clause-spelled g c = subst (λ t. SpelledText c.args.statement.now [] t) c.in-Profile.is c.requires.spelled
 
 pub returns-in-Schema-clause-replies : goal.returns-in-Schema-clause-replies
 returns-in-Schema-clause-replies g c =
