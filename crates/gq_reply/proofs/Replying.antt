@@ -1,5 +1,5 @@
 -- How a reply that was written is one that its statement may have.
-use Rattle.std.proofs.Common.{◌≡◌, ℕ, Bool, true, false, not, Option, List, [], ◌∷◌, length, map, suc, Some, Ok, Err, refl, sym, ap, ◌∙◌, subst, append-nil, arith, inl, inr}
+use Rattle.std.proofs.Common.{◌≡◌, ℕ, Bool, true, false, Option, List, [], ◌∷◌, length, map, suc, Some, Ok, Err, refl, sym, ap, ◌∙◌, subst, append-nil, arith, inl, inr}
 use Rattle.std.proofs.lemmas.List.{length-map}
 use Rattle.std.specs.Prelude.{◌<◌, All, ◌++◌, codes, decimal, Result}
 use Rattle.gq_base.specs.Catalogs.{Tables}
@@ -223,20 +223,20 @@ answered c true query bound spent pushed lines spends = record { spent = spent; 
 answered c false query bound spent pushed lines spends = refl
 
 -- rows alone, where no profile is asked for
-pub rows_alone : (c : Context) (profiled : Bool) (bound : Bound) (spent : List Spent) (lines : List (List Val)) (a b : Option (List ℕ)) (r : Result (Unit {0}) Failed) → not profiled ≡ true
+pub rows_alone : (c : Context) (profiled : Bool) (bound : Bound) (spent : List Spent) (lines : List (List Val)) (a b : Option (List ℕ)) (r : Result (Unit {0}) Failed) → profiled ≡ false
     → Writes a b (rows_text c.form c.graph bound lines) r → Writes a b (answer_text c profiled bound spent lines) r
 rows_alone c true bound spent lines a b r e h = absurd (cc e)
 rows_alone c false bound spent lines a b r e h = h
 
 -- what the pipelines spent, and then rows, or a front of them
-pub profile_then : (c : Context) (profiled : Bool) (bound : Bound) (spent : List Spent) (lines : List (List Val)) (a b d : Option (List ℕ)) (r : Result (Unit {0}) Failed) → not profiled ≡ false
+pub profile_then : (c : Context) (profiled : Bool) (bound : Bound) (spent : List Spent) (lines : List (List Val)) (a b d : Option (List ℕ)) (r : Result (Unit {0}) Failed) → profiled ≡ true
     → Appends a b (spent_text 1 spent) → Writes b d (rows_text c.form c.graph bound lines) r → Writes a d (answer_text c profiled bound spent lines) r
 profile_then c true bound spent lines a b d (Ok done) e p q = Appends-both a b d (spent_text 1 spent) (rows_text c.form c.graph bound lines) p q
 profile_then c true bound spent lines a b d (Err failed) e p q = front_after a b d (spent_text 1 spent) (rows_text c.form c.graph bound lines) p q
 profile_then c false bound spent lines a b d r e p q = absurd (cc e)
 
 -- a front of what they spent
-pub profile_broke : (c : Context) (profiled : Bool) (bound : Bound) (spent : List Spent) (lines : List (List Val)) (a b : Option (List ℕ)) → not profiled ≡ false
+pub profile_broke : (c : Context) (profiled : Bool) (bound : Bound) (spent : List Spent) (lines : List (List Val)) (a b : Option (List ℕ)) → profiled ≡ true
     → AppendsFront a b (spent_text 1 spent) → AppendsFront a b (answer_text c profiled bound spent lines)
 profile_broke c true bound spent lines a b e p = front_longer a b (spent_text 1 spent) (rows_text c.form c.graph bound lines) p
 profile_broke c false bound spent lines a b e p = absurd (cc e)

@@ -21,3 +21,6 @@ pub returns-in-Err-UnknownParameter-clause-replies : goal.returns-in-Err-Unknown
 returns-in-Err-UnknownParameter-clause-replies g c =
     let cause = rw c.new.ensures at (c.in-Err-UnknownParameter.ensures.unknown c.in-Err-UnknownParameter.name).0 (ap Err c.in-Err-UnknownParameter.field-0-is) in
     replied _ tone.Refused _ (wrong_unknown _ _ _ cause) _ _ c.named.ensures.bytes c.named.ensures.cause _ c.toned-in-Err-UnknownParameter.ensures
+
+pub returns-clause-replies : goal.returns-clause-replies
+returns-clause-replies g c = replied _ tone.Memory _ refl _ _ c.write_all.ensures.bytes c.write_all.ensures.cause _ c.toned-in-Err-Memory.ensures
