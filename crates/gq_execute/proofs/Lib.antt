@@ -1,3 +1,4 @@
+pub mod Begins
 pub mod Covering
 pub mod Draining
 pub mod Going

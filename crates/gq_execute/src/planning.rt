@@ -1,8 +1,9 @@
 //! The plans of alternatives, in the order that the settings name.
-ghost use Rattle.std.specs.Prelude.{◌≡◌, ◌<◌, length, map, All, IfOk, IsTrue};
+ghost use Rattle.std.specs.Prelude.{◌≡◌, ◌<◌, length, map, true, All, IfOk, IsTrue};
 ghost use Rattle.std.specs.List.{AllZip, list_all};
 ghost use Rattle.gq_execute.specs.Planned.{plan_in, plans_in, sizes};
 ghost use Rattle.gq_execute.specs.Replies.{parts_by};
+ghost use Rattle.gq_pipe.specs.steps.Cuts.{begins};
 ghost use Rattle.gq_plan.specs.Covers.{Covers};
 ghost use Rattle.gq_plan.specs.Flat.{is_flat};
 ghost use Rattle.gq_plan.specs.Parts.{IsSide, sides};
@@ -64,6 +65,7 @@ pub(crate) fn plan_for(
     ensures parts { IfOk result (λ p.
         AllZip (IsSide graph.now.catalog typed.now)
         (parts_by order typed.now) (sides (plan_of p))) }
+    ensures begins { IfOk result (λ p. begins (plan_of p) ≡ true) }
     ensures alone { IfOk result (λ p. IsTrue (list_all is_flat (sides (plan_of p)))) }
     ensures plan { IfOk result (λ p.
         plan_of p ≡ plan_in order graph.now.catalog stats.now typed.now) }

@@ -1,5 +1,5 @@
 -- The text of a reply to a query, and of its plans (this project's profile).
-use Rattle.std.specs.Prelude.{◌≡◌, ℕ, List, [], ◌∷◌, map, codes}
+use Rattle.std.specs.Prelude.{◌≡◌, ℕ, List, [], ◌∷◌, map, codes, ◌+◌, ◌++◌, decimal}
 use Rattle.std.specs.List.{AllZip}
 use Rattle.gq_base.specs.Plain.{Graph}
 use Rattle.gq_base.specs.Values.{Val}
@@ -16,7 +16,8 @@ use Rattle.gq_plan.specs.declared.Bound.{Bound}
 use Rattle.gq_plan.specs.declared.Plan as code_plan
 use Rattle.gq_plan.specs.declared.typed.Typed.{Typed}
 use Rattle.gq_render.specs.Listings.{ends_text, listing_text}
-use Rattle.gq_render.specs.Texts.{refusal_line}
+use Rattle.gq_render.specs.Texts.{line, refusal_line}
+use Rattle.gq_pipe.specs.declared.pipeline.Spent.{Spent}
 use Rattle.gq_reply.specs.declared.replier.Form.{Form}
 use Rattle.gq_reply.specs.declared.replier.Form.TheVariants as form
 
@@ -39,6 +40,16 @@ abbrev pub reply_text : Form → ℕ → Graph → Bound → Reply → List ℕ
 reply_text f most graph bound (Rows lines) = rows_text f graph bound lines
 reply_text f most graph bound (Faulted why) = fault_text why
 reply_text f most graph bound TooManyRows = many_text most
+
+-- the line of a pipeline that ran: its number, how many chunks it handed out, and how many columns it held
+abbrev pub spent_line : ℕ → Spent → List ℕ
+spent_line number s =
+    line (codes "pipeline " ++ decimal number ++ codes " chunks " ++ decimal s.chunks ++ codes " columns " ++ decimal s.columns)
+
+-- the lines of pipelines, numbered from here on
+abbrev pub spent_text : ℕ → List Spent → List ℕ
+spent_text number [] = []
+spent_text number (s ∷ ss) = spent_line number s ++ spent_text (number + 1) ss
 
 -- how many columns the pipeline of each plan fills
 abbrev pub columns_each : List Typed → List code_plan.Plan → List ℕ
