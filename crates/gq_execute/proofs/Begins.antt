@@ -1,6 +1,6 @@
--- The plans of both orders begin with a scan.
+-- The plans of each order begin with a scan.
 use Rattle.std.proofs.Common.{◌≡◌, ◌∙◌, ◌<◌, ◌++◌, ℕ, Bool, true, false, cond, Option, Some, None, List, [], ◌∷◌, length, slice_get, refl, sym, ap, subst, inl, inr, true≢false}
-use Rattle.std.specs.Prelude.{◌⊎◌, IfOk, Result, Ok, Err}
+use Rattle.std.specs.Prelude.{◌⊎◌}
 use Rattle.std.proofs.lemmas.Bool.{lt-ltb}
 use Rattle.gq_base.specs.Catalogs.{Tables}
 use Rattle.gq_order.specs.Given.{Draft, begun, blank, given_plan, is_begun, with_path, with_paths, with_rels, with_side, with_step}
@@ -13,12 +13,12 @@ use Rattle.gq_pipe.specs.steps.Cuts.{begins}
 use Rattle.gq_plan.proofs.Binding.{covers_nodes}
 use Rattle.gq_plan.specs.Covers.{Covers, after}
 use Rattle.gq_plan.specs.Known.{Known}
-use Rattle.gq_plan.specs.Plans.{Plan, Step, plan_of, steps}
-use Rattle.gq_plan.specs.declared.plan.Plan as code_plan
+use Rattle.gq_plan.specs.Plans.{Plan, Step, steps}
 use Rattle.gq_plan.specs.declared.typed.PathPart.{PathPart}
 use Rattle.gq_plan.specs.declared.typed.Typed.{Typed}
 use Rattle.gq_plan.specs.declared.typed.TypedRel.{TypedRel}
-use Rattle.gq_execute.specs.Planned.{plan_in}
+use Rattle.gq_least.specs.Orders.{pieces_of}
+use Rattle.gq_execute.specs.Planned.{IsPlanIn}
 use Rattle.gq_execute.specs.declared.settings.Order.{Order}
 use Rattle.gq_execute.specs.declared.settings.Order.TheVariants as order
 
@@ -93,13 +93,8 @@ module _ (catalog : Tables) (y : Typed) where
   from_pieces [] some covers = absurd (not_empty some covers)
   from_pieces (p ∷ ps) some covers = pieces_begin (with_piece catalog y blank p) ps (piece_begins blank p (inl refl))
 
-  pub plan_begins : (by : Order) (stats : Stats) (p : Plan) → p ≡ plan_in by catalog stats y → 0 < length y.nodes → Covers catalog y p → begins p ≡ true
+  pub plan_begins : (by : Order) (stats : Stats) (p : Plan) (costs : List (Option ℕ)) → IsPlanIn by catalog stats y p costs → 0 < length y.nodes → Covers catalog y p → begins p ≡ true
   unfolding given_plan plan_by
-  plan_begins order.Given stats p is some covers = ap begins is ∙ from_paths y.paths some (subst (Covers catalog y) is covers)
-  plan_begins order.Greedy stats p is some covers = ap begins is ∙ from_pieces (greedy_order catalog y stats) some (subst (Covers catalog y) is covers)
-
--- the same of a plan that was made, if one was
-pub made_begins : {E : Type 0} (by : Order) (catalog : Tables) (y : Typed) (stats : Stats) (r : Result code_plan.Plan E) → 0 < length y.nodes → IfOk r (λ p. plan_of p ≡ plan_in by catalog stats y)
-    → IfOk r (λ p. Covers catalog y (plan_of p)) → IfOk r (λ p. begins (plan_of p) ≡ true)
-made_begins by catalog y stats (Ok p) some is covers = plan_begins catalog y by stats (plan_of p) is some covers
-made_begins by catalog y stats (Err e) some is covers = tt
+  plan_begins order.Given stats p costs is some covers = ap begins is.0 ∙ from_paths y.paths some (subst (Covers catalog y) is.0 covers)
+  plan_begins order.Greedy stats p costs is some covers = ap begins is.0 ∙ from_pieces (greedy_order catalog y stats) some (subst (Covers catalog y) is.0 covers)
+  plan_begins order.Least stats p costs is some covers = ap begins is.plan ∙ from_pieces (pieces_of y is.orders) some (subst (Covers catalog y) is.plan covers)

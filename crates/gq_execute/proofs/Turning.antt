@@ -24,7 +24,7 @@ use Rattle.gq_plan.specs.declared.Bound.{Bound}
 use Rattle.gq_plan.specs.declared.typed.Typed.{Typed}
 use Rattle.gq_rows.specs.Answers.{cut_of}
 use Rattle.gq_rows.specs.Tables.{Table, is_full, is_full_table}
-use Rattle.gq_execute.specs.Planned.{plan_in, sizes}
+use Rattle.gq_execute.specs.Planned.{IsPlanIn, sizes}
 use Rattle.gq_execute.specs.Spending.{IsTurn}
 use Rattle.gq_execute.specs.steps.Answering.{Drains, Runs}
 use Rattle.gq_execute.specs.Replies.{has_large_part}
@@ -139,12 +139,15 @@ module _ (g : Graph) (y : Typed) (p : Plan) (old new : Table) (begun now : Rest)
       run.pushed before h ∙ e
 
 -- the turn of an alternative, whose plan has side plans without joins
-pub turn_spent : (g : Graph) (b : Bound) (order : Order) (y : Typed) (p : Plan) (ss : List Spent) (own : Spent) → p ≡ plan_in order g.catalog (sizes g) y → Covers g.catalog y p
-    → list_all is_flat (sides p) ≡ true → AllZip (HasSpentAll g y) (runs_of p) ss → HasSpent g y p own → (cut_of b ≡ None → HasOneEach g y p own)
+pub turn_spent : (g : Graph) (b : Bound) (order : Order) (y : Typed) (p : Plan) (costs : List (Option ℕ)) (ss : List Spent) (own : Spent) → IsPlanIn order g.catalog (sizes g) y p costs
+    → Covers g.catalog y p → list_all is_flat (sides p) ≡ true → AllZip (HasSpentAll g y) (runs_of p) ss → HasSpent g y p own → (cut_of b ≡ None → HasOneEach g y p own)
     → IsTurn g b order y (record { sides = ss; own = own })
-turn_spent g b order y p ss own is covers alone spent own_is one_each = record {
-  covers = subst (Covers g.catalog y) is covers;
-  sides = subst (λ q. AllZip (HasSpentAll g y) (sides q) ss) is (subst (λ l. AllZip (HasSpentAll g y) l ss) (runs_sides p alone) spent);
-  own = subst (λ q. HasSpent g y q own) is own_is;
-  one_each = λ uncut. subst (λ q. HasOneEach g y q own) is (one_each uncut);
+turn_spent g b order y p costs ss own planned covers alone spent own_is one_each = record {
+  plan = p;
+  costs = costs;
+  planned = planned;
+  covers = covers;
+  sides = subst (λ l. AllZip (HasSpentAll g y) l ss) (runs_sides p alone) spent;
+  own = own_is;
+  one_each = one_each;
 }

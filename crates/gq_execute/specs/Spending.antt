@@ -13,7 +13,7 @@ use Rattle.gq_plan.specs.declared.Typed.{Typed}
 use Rattle.gq_rows.specs.Answers.{cut_of, rows_in}
 use Rattle.gq_syntax.specs.declared.Query.{Query}
 use Rattle.gq_execute.specs.Answering.{question}
-use Rattle.gq_execute.specs.Planned.{plan_in, sizes}
+use Rattle.gq_execute.specs.Planned.{IsPlanIn, sizes}
 use Rattle.gq_execute.specs.Replies.{Question, has_turn, outcomes_in}
 use Rattle.gq_execute.specs.declared.found.Answer.{Answer}
 use Rattle.gq_execute.specs.declared.refusal.AnswerRefusal.{AnswerRefusal}
@@ -43,10 +43,13 @@ own_chunks turns = sum_by (λ (t : Turn). t.own.chunks) turns
 -- the plan of an alternative, which covers it, and what its pipelines spent; its own hands out all where all outcomes are
 -- looked at
 pub record IsTurn (g : Graph) (b : Bound) (order : Order) (y : Typed) (t : Turn) : Type 0 where
-  pub covers : Covers g.catalog y (plan_in order g.catalog (sizes g) y)
-  pub sides : AllZip (HasSpentAll g y) (sides (plan_in order g.catalog (sizes g) y)) t.sides
-  pub own : HasSpent g y (plan_in order g.catalog (sizes g) y) t.own
-  pub one_each : cut_of b ≡ None → HasOneEach g y (plan_in order g.catalog (sizes g) y) t.own
+  pub plan : Plan
+  pub costs : List (Option ℕ)
+  pub planned : IsPlanIn order g.catalog (sizes g) y plan costs
+  pub covers : Covers g.catalog y plan
+  pub sides : AllZip (HasSpentAll g y) (sides plan) t.sides
+  pub own : HasSpent g y plan t.own
+  pub one_each : cut_of b ≡ None → HasOneEach g y plan t.own
 
 -- what all pipelines spent: those of the alternatives whose turn comes; the chunks with a row that were pushed are those of
 -- the alternatives' own pipelines

@@ -80,12 +80,13 @@ fn take_turn<'g>(
     ensures slots { spare_of pool.new ≡ spare_of pool.old }
 {
     let _ = graph.catalog();
-    let plan = plan_for(alloc, settings.order, graph, stats, typed)?;
-    let builds = match make_builds(alloc, graph, &plan, typed, pool, settings.rows) {
+    let planned = plan_for(alloc, settings.order, graph, stats, typed)?;
+    let plan = &planned.plan;
+    let builds = match make_builds(alloc, graph, plan, typed, pool, settings.rows) {
         Ok(builds) => builds,
         Err(refusal) => return Err(AnswerRefusal::from(refusal)),
     };
-    let mut pipeline = Pipeline::start(alloc, graph, &builds, &plan, typed, pool)?;
+    let mut pipeline = Pipeline::start(alloc, graph, &builds, plan, typed, pool)?;
     table.start_alternative(typed);
     let drained = drain(graph, &mut pipeline, pool, table);
     let own = pipeline.finish(pool);

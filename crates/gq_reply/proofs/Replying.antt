@@ -1,6 +1,8 @@
 -- How a reply that was written is one that its statement may have.
 use Rattle.std.proofs.Common.{◌≡◌, ℕ, Bool, true, false, Option, List, [], ◌∷◌, length, map, suc, Some, Ok, Err, refl, sym, ap, ◌∙◌, subst, append-nil, arith, inl, inr}
+use Rattle.std.specs.List.{AllZip}
 use Rattle.std.proofs.lemmas.List.{length-map}
+use Rattle.std.proofs.lemmas.Slice.Zip.{AllZip-long}
 use Rattle.std.specs.Prelude.{◌<◌, All, ◌++◌, codes, decimal, Result}
 use Rattle.gq_base.specs.Catalogs.{Tables}
 use Rattle.gq_base.specs.declared.literal.Literal.{Literal}
@@ -9,7 +11,6 @@ use Rattle.gq_binder.specs.Refusals.{first_refusal}
 use Rattle.gq_binder.specs.declared.refusal.BindRefusal.{BindRefusal}
 use Rattle.gq_binder.specs.declared.refusal.BindRefusal.TheVariants as bind
 use Rattle.gq_base.specs.Values.{Val}
-use Rattle.gq_execute.specs.Planned.{plans_in}
 use Rattle.gq_execute.specs.Spending.{AreSpent}
 use Rattle.gq_execute.specs.Replies.{Reply, Rows, Faulted, TooManyRows, IsPermitted}
 use Rattle.gq_expr.specs.declared.Fault.{Fault}
@@ -21,6 +22,7 @@ use Rattle.gq_pipe.specs.declared.pipeline.Spent.{Spent}
 use Rattle.gq_io.specs.declared.Failed.{Failed}
 use Rattle.gq_lexer.specs.Tokens.{Lexed, lexed}
 use Rattle.gq_lexer.specs.declared.token.Token.{Token}
+use Rattle.gq_plan.specs.Covers.{Covers}
 use Rattle.gq_plan.specs.Plans.{plan_of}
 use Rattle.gq_plan.specs.declared.Bound.{Bound}
 use Rattle.gq_plan.specs.declared.Plan as code_plan
@@ -191,8 +193,8 @@ module _ (c : Context) (statement : List ℕ) (query : Query) (bound : Bound) wh
 -- ---- plans
 
 -- there is a plan for each alternative
-pub as_many : (c : Context) (bound : Bound) (plans : List code_plan.Plan) → map plan_of plans ≡ plans_in c.settings.order c.graph bound.alternatives → length plans ≡ length bound.alternatives
-as_many c bound plans are = sym (length-map plans plan_of) ∙ ap length are ∙ length-map bound.alternatives _
+pub as_many : (catalog : Tables) (bound : Bound) (plans : List code_plan.Plan) → AllZip (Covers catalog) bound.alternatives (map plan_of plans) → length plans ≡ length bound.alternatives
+as_many catalog bound plans covers = sym (length-map plans plan_of) ∙ AllZip-long (Covers catalog) bound.alternatives (map plan_of plans) covers
 
 -- as many numbers of columns as alternatives
 pub columns_long : (ys : List Typed) (ps : List code_plan.Plan) → length ps ≡ length ys → length (columns_each ys ps) ≡ length ys
@@ -228,11 +230,15 @@ pub rows_alone : (c : Context) (profiled : Bool) (bound : Bound) (spent : List S
 rows_alone c true bound spent lines a b r e h = absurd (cc e)
 rows_alone c false bound spent lines a b r e h = h
 
+-- one text was written, and then another, or a front of it
+pub written_then : (x y : List ℕ) (a b d : Option (List ℕ)) (r : Result (Unit {0}) Failed) → Appends a b x → Writes b d y r → Writes a d (x ++ y) r
+written_then x y a b d (Ok done) p q = Appends-both a b d x y p q
+written_then x y a b d (Err failed) p q = front_after a b d x y p q
+
 -- what the pipelines spent, and then rows, or a front of them
 pub profile_then : (c : Context) (profiled : Bool) (bound : Bound) (spent : List Spent) (lines : List (List Val)) (a b d : Option (List ℕ)) (r : Result (Unit {0}) Failed) → profiled ≡ true
     → Appends a b (spent_text 1 spent) → Writes b d (rows_text c.form c.graph bound lines) r → Writes a d (answer_text c profiled bound spent lines) r
-profile_then c true bound spent lines a b d (Ok done) e p q = Appends-both a b d (spent_text 1 spent) (rows_text c.form c.graph bound lines) p q
-profile_then c true bound spent lines a b d (Err failed) e p q = front_after a b d (spent_text 1 spent) (rows_text c.form c.graph bound lines) p q
+profile_then c true bound spent lines a b d r e p q = written_then (spent_text 1 spent) (rows_text c.form c.graph bound lines) a b d r p q
 profile_then c false bound spent lines a b d r e p q = absurd (cc e)
 
 -- a front of what they spent
