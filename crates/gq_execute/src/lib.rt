@@ -12,6 +12,6 @@ mod settings;
 
 pub use answering::answer;
 pub use found::Answer;
-pub use planning::{Plans, plans};
+pub use planning::{QueryPlans, plans};
 pub use refusal::AnswerRefusal;
 pub use settings::{Order, Settings};

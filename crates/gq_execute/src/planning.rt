@@ -60,7 +60,7 @@ pub(crate) struct Planned {
 /// in the order of least cost, where it has at most 12 variables. In the other orders there are no
 /// costs.
 #[derive(Drop)]
-pub struct Plans {
+pub struct QueryPlans {
     pub plans: List<Plan>,
     pub costs: List<List<Option<u128>>>,
 }
@@ -140,7 +140,7 @@ pub(crate) fn plan_for(
 
 /// The plan of each alternative of a bound query, in this order and by the sizes of the graph's
 /// tables, with its costs; each covers its alternative. After `Memory` there is none.
-pub fn plans(alloc: Global, graph: &Graph, bound: &Bound, order: Order) -> Result<Plans, Memory>
+pub fn plans(alloc: Global, graph: &Graph, bound: &Bound, order: Order) -> Result<QueryPlans, Memory>
     requires sound { All (IsSound graph.now.catalog) bound.now.alternatives }
     requires begins { All (λ y. 0 < length y.nodes) bound.now.alternatives }
     ensures plans { IfOk result (λ made.
@@ -156,5 +156,5 @@ pub fn plans(alloc: Global, graph: &Graph, bound: &Bound, order: Order) -> Resul
         plans.push(planned.plan)?;
         costs.push(planned.costs)?;
     }
-    Ok(Plans { plans, costs })
+    Ok(QueryPlans { plans, costs })
 }

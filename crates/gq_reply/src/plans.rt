@@ -15,7 +15,7 @@ ghost use Rattle.gq_session.specs.Sessions.{span_of};
 use crate::replier::Replier;
 use crate::tone::toned;
 use gq_base::{List, Memory};
-use gq_execute::{Order, Plans, plans};
+use gq_execute::{Order, QueryPlans, plans};
 use gq_explain::{write_costs, write_plan};
 use gq_io::{Failed, Sink, write_all};
 use gq_plan::{Bound, Plan, Typed, columns};
@@ -56,7 +56,7 @@ impl Replier<'_> {
         &self,
         out: &mut O,
         bound: &Bound,
-        made: &Plans,
+        made: &QueryPlans,
         columns: &List<u32>,
     ) -> Result<(), Failed>
         requires plans { length made.now.plans ≡ length bound.now.alternatives }

@@ -16,7 +16,7 @@ alternatives-preserved c =
     let is = rw items at c.typed-item.is in
     let p = c.in_ok-planned.ensures in
     let made = c.in_ok-planned.planned in
-    let planned = subst (λ (s : Stats). IsPlanIn c.args.order g.catalog s c.typed.now (plan_of made.plan) made.costs) i.stats p.plan in
+    let planned = subst (λ (s : Stats). IsPlanIn c.args.order g.catalog s c.typed-item.result (plan_of made.plan) made.costs) i.stats p.plan in
     record {
       stats = i.stats;
       plans = planned_more c.args.order g ys _ _ _ _ _ _ _ _ i.plans low is c.in_ok-push.ensures.pushed c.in_ok-push-2.ensures.pushed planned;
