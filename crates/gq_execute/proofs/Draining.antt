@@ -1,5 +1,5 @@
 -- What a table has taken, and what a pipeline has spent, when the pipeline's chunks are drained into the table.
-use Rattle.std.proofs.Common.{◌≡◌, ◌≢◌, ◌∙◌, ◌+◌, ◌-◌, ◌^◌, ◌≤◌, ◌<◌, ℕ, ap, refl, sym, subst, true, false, Some, List, [], ◌∷◌, ◌++◌, append_assoc, append-nil, length, map, min, Result, Err, inl, inr, arith, suc, length-append}
+use Rattle.std.proofs.Common.{◌≡◌, ◌≢◌, ◌∙◌, ◌+◌, ◌-◌, ◌^◌, ◌<◌, ℕ, ap, refl, sym, subst, true, Some, List, [], ◌∷◌, ◌++◌, append_assoc, append-nil, length, map, min, Result, Err, inl, inr, arith, length-append}
 use Rattle.std.specs.Prelude.{Option, IsPermutation}
 use Rattle.std.proofs.lemmas.Grind.{flat_map-append}
 use Rattle.std.proofs.lemmas.List.{length-map, map-append}

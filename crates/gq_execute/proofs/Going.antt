@@ -19,9 +19,9 @@ use Rattle.gq_rows.specs.Tables.{StandsFor, StandsForSome, Table, is_full, is_fu
 use Rattle.gq_execute.specs.declared.settings.Order.{Order}
 use Rattle.gq_execute.specs.declared.settings.Settings.{Settings}
 use Rattle.gq_execute.specs.Answering.{Replies}
-use Rattle.gq_execute.specs.steps.Answering.{AreParted, Came, Drains, FillsWith, IsFresh, Reached, Runs, Spends, SpendsTurn}
+use Rattle.gq_execute.specs.steps.Answering.{AreParted, Came, Drains, IsFresh, Reached, Runs, Spends, SpendsTurn}
 use Rattle.gq_execute.specs.Replies.{Question, IsPermitted, Rows, TooManyRows, has_large_part, has_turn}
-use Rattle.gq_execute.specs.Spending.{AreSpent, IsTurn, Turn, own_chunks, spent_in, with_turns}
+use Rattle.gq_execute.specs.Spending.{AreSpent, IsTurn, Turn, own_chunks, with_turns}
 use Rattle.gq_rows.specs.Chunks.{Stands}
 use Rattle.gq_execute.specs.steps.Taking.{MeetsMany, Takes}
 use Rattle.gq_execute.specs.declared.refusal.AnswerRefusal.{AnswerRefusal}

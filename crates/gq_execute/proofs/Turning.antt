@@ -1,6 +1,6 @@
 -- The turn of an alternative: what its pipeline hands out is what its plan means, and so it goes into the table; and what its
 -- pipelines spend.
-use Rattle.std.proofs.Common.{◌≡◌, ◌∙◌, ◌+◌, ◌≤◌, ℕ, true, false, Some, None, List, [], ◌∷◌, ◌++◌, length, map, Result, Ok, Err, Bool, Option, ap, refl, sym, subst, arith, inl, inr, true≢false}
+use Rattle.std.proofs.Common.{◌≡◌, ◌∙◌, ◌+◌, ℕ, true, false, Some, None, List, [], ◌∷◌, ◌++◌, length, map, Result, Err, Option, ap, refl, sym, subst, arith, inl, inr, true≢false}
 use Rattle.std.specs.Prelude.{◌⊎◌, IsPermutation}
 use Rattle.std.specs.List.{AllZip, list_all}
 use Rattle.std.proofs.lemmas.Bool.{and_parts}
@@ -10,16 +10,15 @@ use Rattle.gq_base.specs.Plain.{Graph}
 use Rattle.gq_expr.specs.declared.Fault.{Fault}
 use Rattle.gq_pipe.specs.Keys.{plan_keys}
 use Rattle.gq_pipe.specs.Rest.{Rest}
-use Rattle.gq_pipe.specs.Spending.{HasOneEach, HasSpent, HasSpentAll, runs_of, step_runs, up_to_most}
+use Rattle.gq_pipe.specs.Spending.{HasOneEach, HasSpent, HasSpentAll, runs_of, up_to_most}
 use Rattle.gq_pipe.specs.declared.pipeline.Spent.{Spent}
-use Rattle.gq_plan.specs.Assignments.{Assignment}
 use Rattle.gq_plan.specs.Columns.{columns_of}
 use Rattle.gq_plan.specs.Covers.{Covers}
 use Rattle.gq_plan.specs.Flat.{is_flat}
 use Rattle.gq_plan.specs.Meaning.{meaning, whole}
 use Rattle.gq_plan.specs.Outcomes.{Row, late_outcomes}
 use Rattle.gq_plan.specs.Parts.{sides}
-use Rattle.gq_plan.specs.Plans.{Plan, Done, Then, Step, Scan, Extend, Close, Join, Keep, Differ, NoLoop}
+use Rattle.gq_plan.specs.Plans.{Plan, Done, Then, Scan, Extend, Close, Join, Keep, Differ, NoLoop}
 use Rattle.gq_plan.specs.declared.Bound.{Bound}
 use Rattle.gq_plan.specs.declared.typed.Typed.{Typed}
 use Rattle.gq_rows.specs.Answers.{cut_of}

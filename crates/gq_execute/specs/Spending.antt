@@ -1,5 +1,5 @@
 -- What the pipelines spend that answer a query (this project's profile).
-use Rattle.std.specs.Prelude.{◌≡◌, ℕ, ◌+◌, Option, Some, None, Result, Ok, Err, List, [], ◌∷◌, ◌++◌, flat_map, length, sum_by, if◌then◌else◌}
+use Rattle.std.specs.Prelude.{◌≡◌, ℕ, ◌+◌, Option, None, Result, Ok, Err, List, [], ◌∷◌, ◌++◌, flat_map, length, sum_by, if◌then◌else◌}
 use Rattle.std.specs.List.{AllZip}
 use Rattle.gq_base.specs.Plain.{Graph}
 use Rattle.gq_binder.specs.Binding.{IsBound}

@@ -140,7 +140,12 @@ pub(crate) fn plan_for(
 
 /// The plan of each alternative of a bound query, in this order and by the sizes of the graph's
 /// tables, with its costs; each covers its alternative. After `Memory` there is none.
-pub fn plans(alloc: Global, graph: &Graph, bound: &Bound, order: Order) -> Result<QueryPlans, Memory>
+pub fn plans(
+    alloc: Global,
+    graph: &Graph,
+    bound: &Bound,
+    order: Order,
+) -> Result<QueryPlans, Memory>
     requires sound { All (IsSound graph.now.catalog) bound.now.alternatives }
     requires begins { All (λ y. 0 < length y.nodes) bound.now.alternatives }
     ensures plans { IfOk result (λ made.

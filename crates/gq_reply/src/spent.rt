@@ -36,11 +36,7 @@ fn put_count<O: Sink>(batch: &mut Batch, out: &mut O, count: Count<'_>) -> Resul
     put_number(batch, out, count.count)
 }
 
-fn put_counts<O: Sink>(
-    batch: &mut Batch,
-    out: &mut O,
-    counts: &[Count<'_>],
-) -> Result<(), Failed>
+fn put_counts<O: Sink>(batch: &mut Batch, out: &mut O, counts: &[Count<'_>]) -> Result<(), Failed>
     ensures bytes { Puts (O.taken out.old) (O.taken out.new) batch.old batch.new
         (flat_map count_text counts.now) result }
     ensures cause { HasCause (O.faults out.old) (O.faults out.new) result }

@@ -57,13 +57,6 @@ pub(crate) fn serve<I: Source, O: Sink>(
         settings,
         form: Form::Full,
     };
-    let ended = session(
-        &replier,
-        &mut pool,
-        &mut statement,
-        MOST_INPUT,
-        input,
-        out,
-    );
+    let ended = session(&replier, &mut pool, &mut statement, MOST_INPUT, input, out);
     status_of(ended)
 }

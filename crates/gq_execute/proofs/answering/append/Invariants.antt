@@ -1,4 +1,4 @@
-use Rattle.std.proofs.Common.{◌≡◌, ◌++◌, take}
+use Rattle.std.proofs.Common.{◌≡◌, ◌++◌}
 use Rattle.gq_execute.proofs.answering.append.Given as goal
 
 abbrev pub invariant-loop-one : goal.invariant-loop-one
