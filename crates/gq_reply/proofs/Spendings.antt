@@ -1,5 +1,5 @@
 -- The lines of what pipelines spent, one after another.
-use Rattle.std.proofs.Common.{◌≡◌, ◌∙◌, ◌+◌, ◌<◌, ◌++◌, ℕ, zero, suc, List, [], ◌∷◌, codes, decimal, drop, flat_map, get_or, length, take, refl, sym, ap, append_assoc, append-nil, arith}
+use Rattle.std.proofs.Common.{◌≡◌, ◌∙◌, ◌+◌, ◌<◌, ◌++◌, ℕ, zero, suc, List, [], ◌∷◌, codes, drop, get_or, length, take, refl, sym, ap, append_assoc, append-nil, arith}
 use Rattle.gq_pipe.specs.declared.pipeline.Spent.{Spent}
 use Rattle.gq_reply.specs.ReplyTexts.{spent_line, spent_text}
 

@@ -1,4 +1,4 @@
-use Rattle.std.proofs.Common.{ap, ◌∙◌}
+use Rattle.std.proofs.Common.{ap}
 use Rattle.gq_render.proofs.Sequence.{written}
 use Rattle.gq_reply.specs.ReplyTexts.{spent_text}
 use Rattle.gq_reply.proofs.spent.write_spent.Goals as goal
