@@ -12,7 +12,8 @@ use Rattle.gq_execute.specs.Replies.{Reply, Rows, Faulted, TooManyRows, IsPermit
 use Rattle.gq_execute.specs.declared.settings.Settings.{Settings}
 use Rattle.gq_plan.specs.declared.Bound.{Bound}
 use Rattle.gq_reply.specs.Bindings.{bind_refusal}
-use Rattle.gq_reply.specs.Replies.{Context, IsAnswered, IsAsked, IsNotBuilt, IsRefused, IsReply, IsStopped, IsUnbound, IsUnbuilt, IsWrong, RepliesWith, question, refusal_text}
+use Rattle.gq_reply.proofs.Replying.{refusal_is}
+use Rattle.gq_reply.specs.Replies.{Context, asked_by, IsAnswered, IsAsked, IsNotBuilt, IsRefused, IsReply, IsStopped, IsUnbound, IsUnbuilt, IsWrong, RepliesWith, question, refusal_text}
 use Rattle.gq_reply.specs.declared.replier.Form.{Form}
 use Rattle.gq_rows.specs.Answers.{cut_of, most_listed}
 use Rattle.gq_session.specs.Replies.{Replies}
@@ -56,6 +57,22 @@ pub record AsksOne (graph : Graph) (statement : List ℕ) : Type 0 where
   pub asked : IsAsked graph statement query bound
   pub cut : IsCut query
 
+-- ---- what asks a query
+
+one_query : (p p' : Bool) (q q' : Query) → asked_by p q ≡ asked_by p' q' → q ≡ q'
+one_query false false q q' e = cc e
+one_query true true q q' e = cc e
+one_query false true q q' e = absurd (cc e)
+one_query true false q q' e = absurd (cc e)
+
+not_schema : (p : Bool) (q : Query) → asked_by p q ≡ tree.Schema → ⊥
+not_schema false q e = absurd (cc e)
+not_schema true q e = absurd (cc e)
+
+not_plan : (p : Bool) (q q' : Query) → asked_by p q ≡ tree.Plan q' → ⊥
+not_plan false q q' e = absurd (cc e)
+not_plan true q q' e = absurd (cc e)
+
 -- ---- one statement
 
 module _ (graph : Graph) (settings : Settings) (one other : Form) (statement : List ℕ) where
@@ -71,6 +88,10 @@ module _ (graph : Graph) (settings : Settings) (one other : Form) (statement : L
     | inl e ↦ cc e
     | inr e ↦ cc e
   ]
+
+  built : (profiled : Bool) (query : Query) → ¬ (IsUnbuilt graph statement (asked_by profiled query))
+  built false query unbuilt = unbuilt
+  built true query unbuilt = unbuilt
 
   abbrev Unanswered : List ℕ → Type 0
   Unanswered text = IsWrong statement text ⊎ IsUnbound graph statement text ⊎ IsNotBuilt graph statement text ⊎ IsStopped second statement text
@@ -91,26 +112,26 @@ module _ (graph : Graph) (settings : Settings) (one other : Form) (statement : L
     is_stopped text (inr (inr (inr stopped))) = stopped
 
     -- and where it asks no query it is not refused
-    module _ (no : (query : Query) → ¬ (tree.Query query ≡ form)) where
-      not_asked : (query : Query) → SpelledText statement [] (tree.Query query) → ⊥
-      not_asked query asked = no query (same_tree (tree.Query query) form asked spelled)
+    module _ (no : (profiled : Bool) (query : Query) → ¬ (asked_by profiled query ≡ form)) where
+      not_asked : (profiled : Bool) (query : Query) → SpelledText statement [] (asked_by profiled query) → ⊥
+      not_asked profiled query asked = no profiled query (same_tree (asked_by profiled query) form asked spelled)
 
       no_stop : (text : List ℕ) → IsStopped second statement text → ⊥
-      no_stop text (inl (fault, replies)) = not_asked replies.query replies.asked.spelled
-      no_stop text (inr replies) = not_asked replies.query replies.asked.spelled
+      no_stop text (inl (fault, replies)) = not_asked replies.asked.profiled replies.query replies.asked.spelled
+      no_stop text (inr replies) = not_asked replies.asked.profiled replies.query replies.asked.spelled
 
       no_refusal : (text : List ℕ) → Unanswered text → ⊥
       no_refusal text refused = no_stop text (is_stopped text refused)
 
   -- two replies to the query of one statement are replies to one question
   module _ (q : Query) (b : Bound) (asked : IsAsked graph statement q b) where
-    same_query : (q' : Query) → SpelledText statement [] (tree.Query q') → q' ≡ q
-    same_query q' spelled = let e = same_tree (tree.Query q') (tree.Query q) spelled asked.spelled in cc e
+    same_query : (profiled : Bool) (q' : Query) → SpelledText statement [] (asked_by profiled q') → q' ≡ q
+    same_query profiled q' spelled = one_query profiled asked.profiled q' q (same_tree (asked_by profiled q') (asked_by asked.profiled q) spelled asked.spelled)
 
     same_question : (q' : Query) (b' : Bound) (reply : Reply) → IsAsked graph statement q' b' → IsPermitted (question second q' b') reply
         → IsPermitted (question first q b) reply
     same_question q' b' reply asked' permitted =
-        let query : q' ≡ q = same_query q' asked'.spelled in
+        let query : q' ≡ q = same_query asked'.profiled q' asked'.spelled in
         let binds : IsBound q statement graph.catalog b' = subst (λ k. IsBound k statement graph.catalog b') query asked'.binds in
         let bound : b' ≡ b = same_bound q statement graph.catalog b' b binds asked.binds in
         subst (λ k. IsPermitted (question first q k) reply) bound (subst (λ k. IsPermitted (question first k b') reply) query permitted)
@@ -129,12 +150,13 @@ module _ (graph : Graph) (settings : Settings) (one other : Form) (statement : L
   both_replies : (text text' : List ℕ) → IsAnswered first statement text → IsRefused second statement text' → AsksOne graph statement
   both_replies text text' (inl blank) refused = absurd (refused.written blank.0)
   both_replies text text' (inr (inl (spelled, is))) refused =
-      absurd (no_refusal tree.Schema spelled refl (λ unbuilt. unbuilt) (λ query same. cc same) text' refused.why)
+      absurd (no_refusal tree.Schema spelled refl (λ unbuilt. unbuilt) (λ profiled query same. not_schema profiled query same) text' refused.why)
   both_replies text text' (inr (inr (inl shows))) refused =
-      absurd (no_refusal (tree.Plan shows.query) shows.spelled shows.binds.accepted (λ unbuilt. unbuilt) (λ query same. cc same) text' refused.why)
+      absurd (no_refusal (tree.Plan shows.query) shows.spelled shows.binds.accepted (λ unbuilt. unbuilt) (λ profiled query same. not_plan profiled query shows.query same) text' refused.why)
   both_replies text text' (inr (inr (inr (lines, replies)))) refused =
       both_stopped lines text text' replies
-      (is_stopped (tree.Query replies.query) replies.asked.spelled replies.asked.binds.accepted (λ unbuilt. unbuilt) text' refused.why)
+      (is_stopped (asked_by replies.asked.profiled replies.query) replies.asked.spelled (refusal_is replies.asked.profiled statement replies.query graph.catalog ∙ replies.asked.binds.accepted)
+      (built replies.asked.profiled replies.query) text' refused.why)
 
 -- the tones of replies agree, or memory ended at one of them, or a statement asks such a query
 abbrev pub Agree : Type 0 → Tone → Tone → Type 0

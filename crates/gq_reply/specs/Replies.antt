@@ -2,14 +2,15 @@
 -- It rests on `IsBound` (what a query stands for over the graph), `IsPermitted` (which rows, or which refusal, openCypher
 -- permits), `reply_text`, `schema_text` and `IsPlanText` (how a reply is spelled), `SpelledText` and `Cause` (the tree that a
 -- statement's tokens spell, or where they go wrong), and `bind_refusal` and `bind_line` (why a query cannot be bound).
-use Rattle.std.specs.Prelude.{◌≡◌, ◌⊎◌, ℕ, List, [], ◌++◌, codes, decimal, Option, Some, None, Ok, Err}
+use Rattle.std.specs.Prelude.{◌≡◌, ◌⊎◌, ℕ, List, [], ◌++◌, codes, decimal, Option, Some, None, Ok, Err, Bool, true, false}
 use Rattle.gq_base.specs.Plain.{Graph}
 use Rattle.gq_base.specs.Values.{Val}
 use Rattle.gq_binder.specs.Binding.{IsBound}
-use Rattle.gq_binder.specs.Refusals.{first_refusal}
 use Rattle.gq_binder.specs.declared.refusal.BindRefusal.{BindRefusal}
 use Rattle.gq_execute.specs.Replies.{Question, Reply, Rows, Faulted, TooManyRows, IsPermitted}
+use Rattle.gq_execute.specs.Spending.{AreSpent}
 use Rattle.gq_execute.specs.declared.settings.Settings.{Settings}
+use Rattle.gq_pipe.specs.declared.pipeline.Spent.{Spent}
 use Rattle.gq_explain.specs.Schema.{schema_text}
 use Rattle.gq_expr.specs.declared.Fault.{Fault}
 use Rattle.gq_lexer.specs.Tokens.{lexed}
@@ -17,7 +18,7 @@ use Rattle.gq_plan.specs.declared.Bound.{Bound}
 use Rattle.gq_render.specs.Texts.{line, refusal_line}
 use Rattle.gq_reply.specs.BindLines.{bind_line}
 use Rattle.gq_reply.specs.Bindings.{bind_refusal}
-use Rattle.gq_reply.specs.ReplyTexts.{IsPlanText, reply_text}
+use Rattle.gq_reply.specs.ReplyTexts.{IsPlanText, fault_text, many_text, reply_text, rows_text, spent_text}
 use Rattle.gq_reply.specs.declared.replier.Form.{Form}
 use Rattle.gq_reply.specs.declared.replier.Replier.{Replier}
 use Rattle.gq_session.specs.declared.answering.Tone.{Tone}
@@ -42,9 +43,15 @@ context_of r = record { graph = r.graph.now; settings = r.settings; form = r.for
 abbrev pub IsBlank : List ℕ → Type 0
 IsBlank statement = lexed statement ≡ Ok []
 
--- a query that is answered: a statement's tokens spell it, and it is bound over the graph
+-- a statement asks a query, or for its profile
+abbrev pub asked_by : Bool → Query → Statement
+asked_by false query = tree.Query query
+asked_by true query = tree.Profile query
+
+-- a query that is answered: a statement's tokens spell it, behind `:profile` or not, and it is bound over the graph
 pub record IsAsked (graph : Graph) (statement : List ℕ) (query : Query) (bound : Bound) : Type 0 where
-  pub spelled : SpelledText statement [] (tree.Query query)
+  pub profiled : Bool
+  pub spelled : SpelledText statement [] (asked_by profiled query)
   pub binds : IsBound query statement graph.catalog bound
 
 -- what is asked then: the rows over the graph, in the order and with the most rows of the settings
@@ -52,13 +59,27 @@ abbrev pub question : Context → Query → Bound → Question
 question c query bound =
     record { graph = c.graph; query = query; bound = bound; order = c.settings.order; most = c.settings.rows }
 
+-- the text of a profile: a line for each pipeline that ran, and the rows
+pub record IsProfile (c : Context) (query : Query) (bound : Bound) (lines : List (List Val)) (text : List ℕ) : Type 0 where
+  pub spent : List Spent
+  pub pushed : ℕ
+  pub spends : AreSpent (question c query bound) spent pushed
+  pub is : text ≡ spent_text 1 spent ++ rows_text c.form c.graph bound lines
+
+-- the text of a reply; a fault and too many rows stand alone behind `:profile` too
+abbrev pub IsText : Context → Bool → Query → Bound → Reply → List ℕ → Type 0
+IsText c true query bound (Rows lines) text = IsProfile c query bound lines text
+IsText c true query bound (Faulted why) text = text ≡ fault_text why
+IsText c true query bound TooManyRows text = text ≡ many_text c.settings.rows
+IsText c false query bound reply text = text ≡ reply_text c.form c.settings.rows c.graph bound reply
+
 -- a reply to such a query: one that openCypher permits over the graph, and its text
 pub record RepliesWith (c : Context) (statement : List ℕ) (reply : Reply) (text : List ℕ) : Type 0 where
   pub query : Query
   pub bound : Bound
   pub asked : IsAsked c.graph statement query bound
   pub permitted : IsPermitted (question c query bound) reply
-  pub is : text ≡ reply_text c.form c.settings.rows c.graph bound reply
+  pub is : IsText c asked.profiled query bound reply text
 
 -- the plans of a query: a statement asks for them, it is bound over the graph, and this is their text
 pub record ShowsPlans (c : Context) (statement text : List ℕ) : Type 0 where
@@ -69,7 +90,7 @@ pub record ShowsPlans (c : Context) (statement text : List ℕ) : Type 0 where
   pub is : IsPlanText c.settings.order c.graph bound text
 
 -- a statement's reply: none to white space and comments alone, the graph's tables to `:schema`, plans to `:plan`, rows to
--- a query
+-- a query, behind what its pipelines spent to `:profile`
 abbrev pub IsAnswered : Context → List ℕ → List ℕ → Type 0
 IsAnswered c statement text =
     (IsBlank statement × (text ≡ []))
@@ -100,12 +121,12 @@ pub record IsUnbound (graph : Graph) (statement text : List ℕ) : Type 0 where
   pub refused : bind_refusal tree statement graph.catalog ≡ Some why
   pub is : text ≡ bind_line why
 
--- what is not built yet: the profile of a query, which `:profile` asks for, and a parameter that `:param` sets
+-- what is not built yet: a parameter that `:param` sets
 abbrev pub IsUnbuilt : Graph → List ℕ → Statement → Type 0
 IsUnbuilt graph text (tree.Query query) = ⊥
 IsUnbuilt graph text tree.Schema = ⊥
 IsUnbuilt graph text (tree.Plan query) = ⊥
-IsUnbuilt graph text (tree.Profile query) = first_refusal query text graph.catalog ≡ None
+IsUnbuilt graph text (tree.Profile query) = ⊥
 IsUnbuilt graph text (tree.Param name value) = Unit {0}
 
 -- the statement is right and its query, if it has one, is bound, but it is not built

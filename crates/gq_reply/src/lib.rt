@@ -9,6 +9,7 @@ mod blank;
 mod plans;
 mod query;
 mod replier;
+mod spent;
 mod statement;
 mod tone;
 

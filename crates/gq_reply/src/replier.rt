@@ -1,11 +1,13 @@
 //! What answers statements over a graph.
 
-ghost use Rattle.std.specs.Prelude.{refl};
+ghost use Rattle.std.specs.Prelude.{◌≤◌, refl};
+ghost use Rattle.gq_pool.specs.Pool.{spare_of};
 ghost use Rattle.gq_reply.specs.Replies.{IsReply, context_of, memory_line};
 ghost use Rattle.gq_session.specs.declared.answering.Tone.TheVariants as tone;
 
 use gq_execute::Settings;
 use gq_io::{Failed, Sink};
+use gq_pool::VectorPool;
 use gq_session::{Answerer, Tone};
 use gq_store::Graph;
 use std::alloc::Global;
@@ -29,21 +31,21 @@ pub struct Replier<'g> {
 }
 
 impl Answerer for Replier<'_> {
-    type Workspace = ();
+    type Workspace = VectorPool;
 
     ghost answers = { λ r statement tone text. IsReply (context_of r) statement tone text };
 
-    ghost ready = { λ _. Unit {0} };
+    ghost ready = { λ pool. 112 ≤ spare_of pool };
 
     ghost longest = { 65536 };
 
     fn answer<O: Sink>(
         &self,
-        _workspace: &mut (),
+        workspace: &mut VectorPool,
         statement: &[u8],
         out: &mut O,
     ) -> Result<Tone, Failed> {
-        self.reply(out, statement)
+        self.reply(out, workspace, statement)
     }
 
     ghost has_reply = { λ _ statement. (tone.Memory, memory_line, refl) };

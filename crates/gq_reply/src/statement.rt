@@ -1,11 +1,12 @@
 //! The reply to a statement.
 
-ghost use Rattle.std.specs.Prelude.{◌≤◌, ◌++◌, [], length, decimal};
+ghost use Rattle.std.specs.Prelude.{◌≡◌, ◌≤◌, ◌++◌, [], length, decimal};
 ghost use Rattle.gq_io.specs.Causes.{HasCause};
 ghost use Rattle.gq_io.specs.Outside.{Writes};
+ghost use Rattle.gq_pool.specs.Pool.{spare_of};
 ghost use Rattle.gq_render.specs.Texts.{line};
 ghost use Rattle.gq_reply.specs.BindLines.{bind_line};
-ghost use Rattle.gq_reply.specs.Replies.{IsReply, context_of};
+ghost use Rattle.gq_reply.specs.Replies.{IsReply, asked_by, context_of};
 ghost use Rattle.gq_reply.specs.steps.Steps.{Replied};
 ghost use Rattle.gq_session.specs.Sessions.{span_of};
 ghost use Rattle.gq_syntax.specs.Outcomes.{SpelledText, SyntaxAt};
@@ -16,9 +17,10 @@ use crate::blank::is_blank;
 use crate::replier::Replier;
 use crate::tone::toned;
 use gq_base::Memory;
-use gq_binder::{bind, refusal_of};
+use gq_binder::bind;
 use gq_explain::write_schema;
 use gq_io::{Failed, Sink, write_all};
+use gq_pool::VectorPool;
 use gq_render::{Place, write_refusal};
 use gq_session::Tone;
 use gq_syntax::{Params, Query, Statement, SyntaxRefusal, parse};
@@ -37,19 +39,23 @@ fn write_at<O: Sink>(out: &mut O, front: &str, at: u32) -> Result<(), Failed>
 }
 
 impl Replier<'_> {
-    // Replies to the query that a statement's tokens spell.
+    // Replies to the query that a statement's tokens spell, behind `:profile` or not.
     fn reply_to_asked<O: Sink>(
         &self,
         out: &mut O,
+        pool: &mut VectorPool,
         statement: &[u8],
         query: &Query,
+        profiled: bool,
     ) -> Result<Tone, Failed>
-        requires { SpelledText statement.now [] (tree.Query query.now) }
-        ensures { Replied (IsReply (context_of self.now) statement.now)
+        requires spelled { SpelledText statement.now [] (asked_by profiled query.now) }
+        requires slots { 112 ≤ spare_of pool.old }
+        ensures replies { Replied (IsReply (context_of self.now) statement.now)
             (span_of O.taken O.faults out.old out.new) result }
+        ensures slots { spare_of pool.new ≡ spare_of pool.old }
     {
         match bind(self.alloc, query, statement, self.graph.catalog()) {
-            Ok(bound) => self.reply_to_query(out, &bound),
+            Ok(bound) => self.reply_to_query(out, pool, &bound, profiled),
             Err(refusal) => toned(write_bind_refusal(out, &refusal), tone_of(&refusal)),
         }
     }
@@ -71,40 +77,24 @@ impl Replier<'_> {
         }
     }
 
-    // Replies to a statement that asks for the profile of a query, which is not built, unless the
-    // query cannot be bound.
-    fn reply_to_unbuilt<O: Sink>(
-        &self,
-        out: &mut O,
-        statement: &[u8],
-        query: &Query,
-    ) -> Result<Tone, Failed>
-        requires { SpelledText statement.now [] (tree.Profile query.now) }
-        ensures { Replied (IsReply (context_of self.now) statement.now)
-            (span_of O.taken O.faults out.old out.new) result }
-    {
-        match refusal_of(self.alloc, query, statement, self.graph.catalog()) {
-            Ok(None) => toned(write_all(out, b"error: NotBuilt\n"), Tone::Refused),
-            Ok(Some(refusal)) => toned(write_bind_refusal(out, &refusal), Tone::Refused),
-            Err(Memory) => toned(write_all(out, b"error: Memory\n"), Tone::Memory),
-        }
-    }
-
     // Replies to a statement whose tokens spell this tree.
     fn reply_to_tree<O: Sink>(
         &self,
         out: &mut O,
+        pool: &mut VectorPool,
         statement: &[u8],
         tree: &Statement,
     ) -> Result<Tone, Failed>
-        requires { SpelledText statement.now [] tree.now }
-        ensures { Replied (IsReply (context_of self.now) statement.now)
+        requires spelled { SpelledText statement.now [] tree.now }
+        requires slots { 112 ≤ spare_of pool.old }
+        ensures replies { Replied (IsReply (context_of self.now) statement.now)
             (span_of O.taken O.faults out.old out.new) result }
+        ensures slots { spare_of pool.new ≡ spare_of pool.old }
     {
         match tree {
-            Statement::Query(query) => self.reply_to_asked(out, statement, query),
+            Statement::Query(query) => self.reply_to_asked(out, pool, statement, query, false),
             Statement::Plan(query) => self.reply_to_planned(out, statement, query),
-            Statement::Profile(query) => self.reply_to_unbuilt(out, statement, query),
+            Statement::Profile(query) => self.reply_to_asked(out, pool, statement, query, true),
             Statement::Schema => toned(write_schema(out, self.graph), Tone::Good),
             Statement::Param(_, _) => toned(write_all(out, b"error: NotBuilt\n"), Tone::Refused),
         }
@@ -130,13 +120,20 @@ impl Replier<'_> {
     }
 
     /// Replies to a statement of at most 65,536 bytes.
-    pub(crate) fn reply<O: Sink>(&self, out: &mut O, statement: &[u8]) -> Result<Tone, Failed>
-        requires { length statement.now ≤ 65536 }
-        ensures { Replied (IsReply (context_of self.now) statement.now)
+    pub(crate) fn reply<O: Sink>(
+        &self,
+        out: &mut O,
+        pool: &mut VectorPool,
+        statement: &[u8],
+    ) -> Result<Tone, Failed>
+        requires fits { length statement.now ≤ 65536 }
+        requires slots { 112 ≤ spare_of pool.old }
+        ensures replies { Replied (IsReply (context_of self.now) statement.now)
             (span_of O.taken O.faults out.old out.new) result }
+        ensures slots { spare_of pool.new ≡ spare_of pool.old }
     {
         match parse(self.alloc, statement, &Params::new(self.alloc)) {
-            Ok(tree) => self.reply_to_tree(out, statement, &tree),
+            Ok(tree) => self.reply_to_tree(out, pool, statement, &tree),
             Err(SyntaxRefusal::Lex { at }) => {
                 toned(write_at(out, "error: Lex at byte ", at), Tone::Refused)
             }

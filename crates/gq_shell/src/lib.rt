@@ -4,6 +4,7 @@
 #![tactic(auto)]
 
 mod load_line;
+mod pool;
 mod program;
 mod sample;
 mod session;

@@ -3,16 +3,19 @@
 ghost use Rattle.std.specs.Prelude.{◌≤◌};
 ghost use Rattle.gq_io.specs.Causes.{HasCause};
 ghost use Rattle.gq_io.specs.Outside.{Writes};
+ghost use Rattle.gq_pool.specs.Pool.{spare_of};
 ghost use Rattle.gq_reply.specs.Replies.{context_of};
 ghost use Rattle.gq_reply.specs.steps.Steps.{Replied};
 ghost use Rattle.gq_session.specs.Sessions.{span_of};
 ghost use Rattle.gq_shell.specs.Questions.{IsNumbered, label_text};
 ghost use Rattle.gq_shell.specs.steps.Steps.{Asked, Quizzed, question_of};
 
+use crate::pool::new_pool;
 use crate::session::status_of;
 use crate::status::Status;
 use gq_execute::Settings;
 use gq_io::{Failed, Sink};
+use gq_pool::VectorPool;
 use gq_render::{Place, write_refusal};
 use gq_reply::{Form, Replier};
 use gq_sample::{question, sample};
@@ -29,25 +32,37 @@ fn write_label<O: Sink>(out: &mut O, number: u32) -> Result<(), Failed>
 }
 
 // Answers the question of this number.
-fn ask<O: Sink>(replier: &Replier<'_>, number: u32, out: &mut O) -> Result<Tone, Failed>
+fn ask<O: Sink>(
+    replier: &Replier<'_>,
+    pool: &mut VectorPool,
+    number: u32,
+    out: &mut O,
+) -> Result<Tone, Failed>
     requires least { 1 ≤ number }
     requires most { number ≤ 6 }
-    ensures { Replied (IsNumbered (context_of replier.now) (question_of number))
+    requires slots { 112 ≤ spare_of pool.old }
+    ensures replies { Replied (IsNumbered (context_of replier.now) (question_of number))
         (span_of O.taken O.faults out.old out.new) result }
+    ensures slots { 112 ≤ spare_of pool.new }
 {
     match write_label(out, number) {
-        Ok(()) => replier.answer(&mut (), question(number).as_bytes(), out),
+        Ok(()) => replier.answer(pool, question(number).as_bytes(), out),
         Err(Failed) => Err(Failed),
     }
 }
 
 // Answers the six questions, and says what the worst of the answers is like.
-fn ask_all<O: Sink>(replier: &Replier<'_>, out: &mut O) -> Result<Tone, Failed>
+fn ask_all<O: Sink>(
+    replier: &Replier<'_>,
+    pool: &mut VectorPool,
+    out: &mut O,
+) -> Result<Tone, Failed>
+    requires { 112 ≤ spare_of pool.old }
     ensures { Asked (context_of replier.now) (span_of O.taken O.faults out.old out.new) result }
 {
     let mut worst = Tone::Good;
     for number in 1..7u32 {
-        match ask(replier, number, out) {
+        match ask(replier, pool, number, out) {
             Ok(tone) => worst = worst.worse(tone),
             Err(Failed) => return Err(Failed),
         }
@@ -69,13 +84,16 @@ pub(crate) fn show_sample<O: Sink>(
     let Ok(graph) = sample(alloc, size) else {
         return Status::Memory;
     };
+    let Ok(mut pool) = new_pool(alloc) else {
+        return Status::Memory;
+    };
     let replier = Replier {
         alloc,
         graph: &graph,
         settings,
         form: Form::Short,
     };
-    match ask_all(&replier, out) {
+    match ask_all(&replier, &mut pool, out) {
         Ok(tone) => status_of(Ok(tone)),
         Err(Failed) => status_of(Err(Stop::Write)),
     }

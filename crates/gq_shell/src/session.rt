@@ -5,6 +5,7 @@ ghost use Rattle.gq_session.specs.Sessions.{span_of};
 ghost use Rattle.gq_shell.specs.steps.Statuses.{status_of};
 ghost use Rattle.gq_shell.specs.steps.Steps.{Served};
 
+use crate::pool::new_pool;
 use crate::status::Status;
 use gq_execute::Settings;
 use gq_io::{Sink, Source};
@@ -47,20 +48,15 @@ pub(crate) fn serve<I: Source, O: Sink>(
     let Ok(mut statement) = vec![in alloc; 0u8; MOST_STATEMENT] else {
         return Status::Memory;
     };
+    let Ok(mut pool) = new_pool(alloc) else {
+        return Status::Memory;
+    };
     let replier = Replier {
         alloc,
         graph,
         settings,
         form: Form::Full,
     };
-    let mut workspace = ();
-    let ended = session(
-        &replier,
-        &mut workspace,
-        &mut statement,
-        MOST_INPUT,
-        input,
-        out,
-    );
+    let ended = session(&replier, &mut pool, &mut statement, MOST_INPUT, input, out);
     status_of(ended)
 }

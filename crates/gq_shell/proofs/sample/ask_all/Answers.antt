@@ -7,14 +7,15 @@ use Rattle.gq_shell.proofs.sample.ask_all.Goals as goal
 pub returns-in-Err : goal.returns-in-Err
 returns-in-Err g c = (
   broke (context_of c.args.replier.now) (c.loop-number.number - 1) c.loop-number.number (omega (arith, c.loop-number.invariant.0))
-      (omega (arith, c.loop-number.invariant.0, c.loop-number-test.true)) c.loop-number.worst _ _ _ c.loop-number.invariant.2 c.in-Err.ensures.bytes,
-  Rose-later _ _ _ c.loop-number.invariant.3 c.in-Err.ensures.cause.failed,
+      (omega (arith, c.loop-number.invariant.0, c.loop-number-test.true)) c.loop-number.worst _ _ _ c.loop-number.invariant.2 c.in-Err.ensures.replies.bytes,
+  Rose-later _ _ _ c.loop-number.invariant.3 c.in-Err.ensures.replies.cause.failed,
 )
 
 pub loop-number-preserved : goal.loop-number-preserved
 loop-number-preserved g c = (
   omega (arith, c.loop-number.invariant.0),
   omega (arith, c.loop-number-test.true),
-  rw c.worse-worst.ensures (next_number (context_of c.args.replier.now) c.loop-number.number c.loop-number.invariant.0 c.loop-number.worst c.in-Ok.tone _ _ _ c.loop-number.invariant.2 c.in-Ok.ensures.bytes),
-  omega (arith, c.loop-number.invariant.3, c.in-Ok.ensures.cause.later),
+  rw c.worse-worst.ensures (next_number (context_of c.args.replier.now) c.loop-number.number c.loop-number.invariant.0 c.loop-number.worst c.in-Ok.tone _ _ _ c.loop-number.invariant.2 c.in-Ok.ensures.replies.bytes),
+  omega (arith, c.loop-number.invariant.3, c.in-Ok.ensures.replies.cause.later),
+  c.in-Ok.ensures.slots,
 )
