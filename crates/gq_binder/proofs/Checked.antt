@@ -180,6 +180,7 @@ module _ (query : Query) (text : List ℕ) where
             rel_names = refl;
             columns = columns_there query text named;
             conjuncts = conjuncts_there query text named;
+            patterns = refl;
             keys = keys_there query text named;
             distinct = refl;
             skip = refl;

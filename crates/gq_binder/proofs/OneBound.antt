@@ -27,14 +27,15 @@ same_bound query text catalog b c x y =
     let alternatives : b.alternatives ≡ c.alternatives =
     x.alternatives ∙ ap (typed_with query text catalog) conjuncts ∙ sym y.alternatives in
     let columns : b.columns ≡ c.columns = one_some _ _ (sym x.resolves.columns ∙ y.resolves.columns) in
+    let patterns : b.patterns ≡ c.patterns = x.resolves.patterns ∙ sym y.resolves.patterns in
     let keys : b.keys ≡ c.keys = one_some _ _ (sym x.resolves.keys ∙ y.resolves.keys) in
     let nodes : b.node_names ≡ c.node_names = x.resolves.node_names ∙ sym y.resolves.node_names in
     let rels : b.rel_names ≡ c.rel_names = x.resolves.rel_names ∙ sym y.resolves.rel_names in
     let distinct : b.distinct ≡ c.distinct = x.resolves.distinct ∙ sym y.resolves.distinct in
     let skip : b.skip ≡ c.skip = x.resolves.skip ∙ sym y.resolves.skip in
     let limit : b.limit ≡ c.limit = x.resolves.limit ∙ sym y.resolves.limit in
-    let e : ◌≡◌ {A = Bound} (record { node_names = b.node_names; rel_names = b.rel_names; columns = b.columns; conjuncts = b.conjuncts; keys = b.keys; distinct = b.distinct; skip = b.skip; limit = b.limit; alternatives = b.alternatives })
-    (record { node_names = c.node_names; rel_names = c.rel_names; columns = c.columns; conjuncts = c.conjuncts; keys = c.keys; distinct = c.distinct; skip = c.skip; limit = c.limit; alternatives = c.alternatives }) = cc (nodes, rels, columns, conjuncts, keys, distinct, skip, limit, alternatives) in
+    let e : ◌≡◌ {A = Bound} (record { node_names = b.node_names; rel_names = b.rel_names; columns = b.columns; conjuncts = b.conjuncts; patterns = b.patterns; keys = b.keys; distinct = b.distinct; skip = b.skip; limit = b.limit; alternatives = b.alternatives })
+    (record { node_names = c.node_names; rel_names = c.rel_names; columns = c.columns; conjuncts = c.conjuncts; patterns = c.patterns; keys = c.keys; distinct = c.distinct; skip = c.skip; limit = c.limit; alternatives = c.alternatives }) = cc (nodes, rels, columns, conjuncts, patterns, keys, distinct, skip, limit, alternatives) in
     e
 
 -- where there is an item, there is one of it

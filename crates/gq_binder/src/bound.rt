@@ -103,6 +103,7 @@ fn without_lists(
         rel_names: copy_texts(alloc, pattern.rel_names())?,
         columns: List::new(alloc),
         conjuncts: List::new(alloc),
+        patterns: List::new(alloc),
         keys,
         distinct: query.distinct,
         skip: query.skip.unwrap_or(0),

@@ -42,7 +42,7 @@ module _ (g : Graph) (query : Query) (conjuncts : List NamedExpr) (ys : List Typ
   typed c = typed_of g.catalog p are.tests conjuncts c
 
   -- what holds of the alternatives that agree with the catalogue holds of all
-  each_typed : (P : Typed → Type 0) → ((c : Choice) → IsChoice g.catalog (length p.names) (length p.rels) c × (agrees g.catalog p c ≡ true) → P (typed c)) → AllByRecursion P ys
+  pub each_typed : (P : Typed → Type 0) → ((c : Choice) → IsChoice g.catalog (length p.names) (length p.rels) c × (agrees g.catalog p c ≡ true) → P (typed c)) → AllByRecursion P ys
   each_typed P h =
       subst (AllByRecursion P) (sym are.typed)
       (each_map (λ c. IsChoice g.catalog (length p.names) (length p.rels) c × (agrees g.catalog p c ≡ true)) P typed h (alternatives query g.catalog) (each_alternative g.catalog p))

@@ -102,6 +102,7 @@ bound = record {
   rel_names = codes "#1" ∷ [];
   columns = record { name = codes "a"; expr = expr.Node 0 } ∷ record { name = codes "b.age"; expr = age 1 } ∷ [];
   conjuncts = conditions;
+  patterns = [];
   keys = record { expr = age 1; down = false } ∷ [];
   distinct = false;
   skip = 0;

@@ -5,6 +5,8 @@ ghost use Rattle.gq_law_answers.specs.Answered.{BoundAllowsAnswers, BoundPlansMe
 ghost use Rattle.gq_law_answers.specs.Answered.{EachPlanMeansLateOutcomes, EachPlanMeansMatches};
 ghost use Rattle.gq_law_answers.specs.Answered.{EachPlanMeansOutcomes, LateOutcomes};
 ghost use Rattle.gq_law_answers.specs.Answered.{PlansMeanOutcomes};
+ghost use Rattle.gq_law_answers.specs.Made.{AlternativesPartRows, EachPlanMakesRows, ExistsIsKey};
+ghost use Rattle.gq_law_answers.specs.Made.{PathPlansMeanMatches, PlainLateRows, PlainRows};
 
 /// A law for the crates above: in a valid graph, what the alternatives of a bound query allow,
 /// without what their late conjuncts drop, are its matches for which all conjuncts are true, each
@@ -63,4 +65,44 @@ pub fn allowed_outcomes_are_of_matches()
 /// each alternative of a bound query, are those of its matches, each as often. It does nothing.
 pub fn plans_mean_outcomes()
     ensures { PlansMeanOutcomes }
+{}
+
+/// A law for the crates above: in a valid graph, whatever is made of the rows that conjuncts leave,
+/// a plan that covers an alternative of a bound query makes it of its own rows, by the late
+/// conjuncts alone, as it is made of the matches that lie in the alternative. It does nothing.
+pub fn each_plan_makes_rows()
+    ensures { EachPlanMakesRows }
+{}
+
+/// A law for the crates above: it is made of the matches that lie in the alternatives, alternative
+/// by alternative, as of all matches. It does nothing.
+pub fn alternatives_part_rows()
+    ensures { AlternativesPartRows }
+{}
+
+/// A law for the crates above: where each row that is left has its one outcome, what is made of the
+/// matches of a query are its outcomes, in their order. It does nothing.
+pub fn plain_rows_are_outcomes()
+    ensures { PlainRows }
+{}
+
+/// A law for the crates above: so what is made of the rows of an alternative, by its late
+/// conjuncts, are the late outcomes, in their order. It does nothing.
+pub fn plain_late_rows_are_outcomes()
+    ensures { PlainLateRows }
+{}
+
+/// A law for the crates above: in a valid graph, what covering plans make of the alternatives of a
+/// test are the matches of its path, each once. It does nothing.
+#[tactic(auto, using(crate::proofs::Keys::path_planned))]
+pub fn path_plans_mean_matches()
+    ensures { PathPlansMeanMatches }
+{}
+
+/// A law for the crates above: in a valid graph, the value of `exists(path)` under a row is whether
+/// the row's nodes at the shared variables are among the keys of what covering plans make of the
+/// test's alternatives. It does nothing.
+#[tactic(auto, using(crate::proofs::Keys::exists_is_key))]
+pub fn exists_is_key()
+    ensures { ExistsIsKey }
 {}

@@ -19,7 +19,7 @@ module _ {X : Type 0} (same : X → X → Bool) (same_is : (x z : X) → same x 
   abbrev pub Among : List X → List X → Type 0
   Among xs ys = AllByRecursion (λ x. list_any (same x) ys ≡ true) xs
 
-  abbrev IsUnique : List X → Type 0
+  abbrev pub IsUnique : List X → Type 0
   IsUnique [] = Unit {0}
   IsUnique (x ∷ xs) = AllByRecursion (λ z. same x z ≡ false) xs × IsUnique xs
 

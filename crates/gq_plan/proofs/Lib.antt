@@ -10,6 +10,8 @@ pub mod FewLemmas
 pub mod FirstSteps
 pub mod Flats
 pub mod GroupReads
+pub mod Keyed
+pub mod Marks
 pub mod NameLemmas
 pub mod Permuted
 pub mod Pieces

@@ -5,8 +5,10 @@ pub mod Columns
 pub mod Conditions
 pub mod Covers
 pub mod Flat
+pub mod Keys
 pub mod Known
 pub mod Law
+pub mod Marked
 pub mod Meaning
 pub mod Outcomes
 pub mod Parts

@@ -19,6 +19,20 @@ pub struct SortExpr {
     pub down: bool,
 }
 
+/// A conjunct that asks whether a path has a match, or whether it has none.
+#[derive(Drop)]
+pub struct ExistsPart {
+    /// It is called by its source text; its expression is the literal true.
+    pub text: NamedExpr,
+    /// Whether the path is to have a match; false under an odd number of NOTs.
+    pub wanted: bool,
+    /// The node variables of the query that the path names, in the order of their first appearance
+    /// there. They are the first node variables of the alternatives.
+    pub nodes: List<u32>,
+    /// The typed forms of the path alone; their tests are the entries of its maps.
+    pub alternatives: List<Typed>,
+}
+
 /// A query whose names are resolved. Node variables are numbered from 0 in the order of their first appearance, and
 /// relationship variables from 0 in text order.
 #[derive(Drop)]
@@ -30,8 +44,10 @@ pub struct Bound {
     pub rel_names: List<Text>,
     /// What the rows list. A column is called as AS says, else by its source text.
     pub columns: List<NamedExpr>,
-    /// What WHERE asks, all clauses together, in text order; each is called by its source text.
+    /// What WHERE asks of values, all clauses together, in text order; each is called by its source text.
     pub conjuncts: List<NamedExpr>,
+    /// What WHERE asks of paths, all clauses together, in text order.
+    pub patterns: List<ExistsPart>,
     /// What ORDER BY sorts by; none without it.
     pub keys: List<SortExpr>,
     pub distinct: bool,

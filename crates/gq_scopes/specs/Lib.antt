@@ -1,3 +1,4 @@
+pub mod PathPatterns
 pub mod Patterns
 pub mod Scopes
 pub mod steps

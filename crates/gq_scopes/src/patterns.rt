@@ -6,6 +6,7 @@ ghost use Rattle.gq_scopes.specs.Patterns as patterns;
 ghost use Rattle.gq_scopes.specs.Patterns.{pattern_of, with_clauses, with_paths, with_path};
 ghost use Rattle.gq_scopes.specs.Patterns.{with_hops, with_rel, with_part, with_node, node_new};
 ghost use Rattle.gq_scopes.specs.Patterns.{node_again, entries_of, naming, no_pattern, with_variable};
+ghost use Rattle.gq_scopes.specs.PathPatterns.{path_pattern, with_name, with_names};
 
 use crate::copies::copy_text;
 use crate::counts::{next, number};
@@ -357,6 +358,29 @@ impl<'t> Pattern<'t> {
         Ok(())
     }
 
+    // Appends a node variable of this name, unless there is one.
+    fn push_name(&mut self, alloc: Global, name: &Option<Text>) -> Result<(), Memory>
+        ensures { IfOk result (λ _. self.new ≡ with_name name.now self.old) }
+    {
+        let Some(name) = name else {
+            return Ok(());
+        };
+        if self.names.contains(name) {
+            return Ok(());
+        }
+        self.names.push_name(name)?;
+        self.node_names.push(copy_text(alloc, name)?)
+    }
+
+    fn push_names(&mut self, alloc: Global, hops: &[Hop]) -> Result<(), Memory>
+        ensures { IfOk result (λ _. self.new ≡ with_names hops.now self.old) }
+    {
+        for hop in hops {
+            self.push_name(alloc, &hop.node.name)?;
+        }
+        Ok(())
+    }
+
     fn push_clauses(&mut self, alloc: Global, clauses: &'t [Clause]) -> Result<(), Memory>
         ensures { IfOk result (λ _. self.new ≡ with_clauses 0 clauses.now self.old) }
     {
@@ -440,6 +464,19 @@ impl<'t> Pattern<'t> {
     {
         let mut pattern = Pattern::new(alloc);
         pattern.push_clauses(alloc, clauses)?;
+        Ok(pattern)
+    }
+
+    /// The pattern of a path by itself. Its first node variables are the names of the path's nodes,
+    /// in the order of their first appearance.
+    #[tactic(auto, unfolding(crate::specs::PathPatterns::path_pattern))]
+    pub fn of_path(alloc: Global, path: &'t Path) -> Result<Pattern<'t>, Memory>
+        ensures { IfOk result (λ p. p ≡ path_pattern path.now) }
+    {
+        let mut pattern = Pattern::new(alloc);
+        pattern.push_name(alloc, &path.first.name)?;
+        pattern.push_names(alloc, path.hops.as_slice())?;
+        pattern.push_path(alloc, 0, path)?;
         Ok(pattern)
     }
 }

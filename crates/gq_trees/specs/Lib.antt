@@ -2,6 +2,7 @@ pub mod Checks
 pub mod Conjuncts
 pub mod MadeOf
 pub mod Operands
+pub mod PathTests
 pub mod Renames
 pub mod Resolving
 pub mod Uses

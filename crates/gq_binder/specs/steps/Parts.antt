@@ -81,6 +81,7 @@ bound_in catalog query parts choices = record {
   rel_names = parts.pattern.rel_names;
   columns = filter_map column_expr parts.columns;
   conjuncts = parts.conjuncts;
+  patterns = [];
   keys = filter_map (sort_expr (record (scope_of parts.pattern) { columns = parts.columns })) query.order;
   distinct = query.distinct;
   skip = unwrap_or query.skip 0;
