@@ -132,8 +132,8 @@ fn known_keys(alloc: Global, scope: &Scope<'_>, order: &[Sort]) -> Result<List<S
 }
 
 // Each alternative has its own copies of its tests: so many parts of expressions and bytes of texts in them, for all
-// alternatives of one query. With 512 alternatives it is 8,192 for each.
-const MOST_TESTS: usize = 4_194_304;
+// alternatives of one query. With 512 alternatives it is 2,048 for each.
+const MOST_TESTS: usize = 1_048_576;
 
 fn all_typed(
     alloc: Global,
