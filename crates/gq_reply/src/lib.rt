@@ -6,10 +6,11 @@
 
 mod bind_line;
 mod blank;
+mod param;
 mod plans;
 mod query;
 mod replier;
 mod statement;
 mod tone;
 
-pub use replier::{Form, Replier};
+pub use replier::{Form, Replier, Workspace};

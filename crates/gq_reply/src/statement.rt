@@ -1,18 +1,22 @@
 //! The reply to a statement.
 
-ghost use Rattle.std.specs.Prelude.{◌≤◌, ◌++◌, [], length, decimal};
+ghost use Rattle.std.specs.Prelude.{◌≡◌, ◌≤◌, ◌++◌, List, length, decimal, true, IfOk};
 ghost use Rattle.gq_io.specs.Causes.{HasCause};
 ghost use Rattle.gq_io.specs.Outside.{Writes};
 ghost use Rattle.gq_render.specs.Texts.{line};
 ghost use Rattle.gq_reply.specs.BindLines.{bind_line};
-ghost use Rattle.gq_reply.specs.Replies.{IsReply, context_of};
+ghost use Rattle.gq_reply.specs.Replies.{AreBehind, IsReply, context_of};
 ghost use Rattle.gq_reply.specs.steps.Steps.{Replied};
 ghost use Rattle.gq_session.specs.Sessions.{span_of};
 ghost use Rattle.gq_syntax.specs.Outcomes.{SpelledText, SyntaxAt};
+ghost use Rattle.gq_syntax.specs.Spans.{SpelledQuery};
 ghost use Rattle.gq_syntax.specs.declared.statement.Statement.TheVariants as tree;
+ghost use Rattle.gq_tokens.specs.Parameters.{are_params};
+ghost use Rattle.gq_tokens.specs.declared.params.Param.{Param};
 
 use crate::bind_line::{named, tone_of, write_bind_refusal};
 use crate::blank::is_blank;
+use crate::param::reply_to_param;
 use crate::replier::Replier;
 use crate::tone::toned;
 use gq_base::Memory;
@@ -44,8 +48,9 @@ impl Replier<'_> {
         statement: &[u8],
         query: &Query,
     ) -> Result<Tone, Failed>
-        requires { SpelledText statement.now [] (tree.Query query.now) }
-        ensures { Replied (IsReply (context_of self.now) statement.now)
+        requires { SpelledQuery statement.now query.now }
+        ensures { (params : List Param) → SpelledText statement.now params (tree.Query query.now)
+            → Replied (IsReply (context_of self.now) params statement.now)
             (span_of O.taken O.faults out.old out.new) result }
     {
         match bind(self.alloc, query, statement, self.graph.catalog()) {
@@ -61,8 +66,9 @@ impl Replier<'_> {
         statement: &[u8],
         query: &Query,
     ) -> Result<Tone, Failed>
-        requires { SpelledText statement.now [] (tree.Plan query.now) }
-        ensures { Replied (IsReply (context_of self.now) statement.now)
+        requires { SpelledQuery statement.now query.now }
+        ensures { (params : List Param) → SpelledText statement.now params (tree.Plan query.now)
+            → Replied (IsReply (context_of self.now) params statement.now)
             (span_of O.taken O.faults out.old out.new) result }
     {
         match bind(self.alloc, query, statement, self.graph.catalog()) {
@@ -79,8 +85,9 @@ impl Replier<'_> {
         statement: &[u8],
         query: &Query,
     ) -> Result<Tone, Failed>
-        requires { SpelledText statement.now [] (tree.Profile query.now) }
-        ensures { Replied (IsReply (context_of self.now) statement.now)
+        requires { SpelledQuery statement.now query.now }
+        ensures { (params : List Param) → SpelledText statement.now params (tree.Profile query.now)
+            → Replied (IsReply (context_of self.now) params statement.now)
             (span_of O.taken O.faults out.old out.new) result }
     {
         match refusal_of(self.alloc, query, statement, self.graph.catalog()) {
@@ -94,19 +101,23 @@ impl Replier<'_> {
     fn reply_to_tree<O: Sink>(
         &self,
         out: &mut O,
+        params: &mut Params,
         statement: &[u8],
-        tree: &Statement,
+        tree: Statement,
     ) -> Result<Tone, Failed>
-        requires { SpelledText statement.now [] tree.now }
-        ensures { Replied (IsReply (context_of self.now) statement.now)
+        requires spelled { SpelledText statement.now params.old tree }
+        requires params { are_params params.old ≡ true }
+        ensures replies { Replied (IsReply (context_of self.now) params.old statement.now)
             (span_of O.taken O.faults out.old out.new) result }
+        ensures behind { IfOk result (λ t. AreBehind params.old statement.now t params.new) }
+        ensures params { are_params params.new ≡ true }
     {
         match tree {
-            Statement::Query(query) => self.reply_to_asked(out, statement, query),
-            Statement::Plan(query) => self.reply_to_planned(out, statement, query),
-            Statement::Profile(query) => self.reply_to_unbuilt(out, statement, query),
+            Statement::Query(query) => self.reply_to_asked(out, statement, &query),
+            Statement::Plan(query) => self.reply_to_planned(out, statement, &query),
+            Statement::Profile(query) => self.reply_to_unbuilt(out, statement, &query),
             Statement::Schema => toned(write_schema(out, self.graph), Tone::Good),
-            Statement::Param(_, _) => toned(write_all(out, b"error: NotBuilt\n"), Tone::Refused),
+            Statement::Param(name, value) => reply_to_param(out, params, name, value),
         }
     }
 
@@ -119,8 +130,11 @@ impl Replier<'_> {
     ) -> Result<Tone, Failed>
         requires fits { length statement.now ≤ 65536 }
         requires cause { SyntaxAt statement.now at }
-        ensures { Replied (IsReply (context_of self.now) statement.now)
+        ensures replies { (params : List Param)
+            → Replied (IsReply (context_of self.now) params statement.now)
             (span_of O.taken O.faults out.old out.new) result }
+        ensures blank { IfOk result (λ t. (params : List Param)
+            → AreBehind params statement.now t params) }
     {
         match is_blank(self.alloc, statement) {
             Ok(true) => Ok(Tone::Good),
@@ -129,14 +143,23 @@ impl Replier<'_> {
         }
     }
 
-    /// Replies to a statement of at most 65,536 bytes.
-    pub(crate) fn reply<O: Sink>(&self, out: &mut O, statement: &[u8]) -> Result<Tone, Failed>
-        requires { length statement.now ≤ 65536 }
-        ensures { Replied (IsReply (context_of self.now) statement.now)
+    /// Replies to a statement of at most 65,536 bytes, with these parameters, one of which it may
+    /// set.
+    pub(crate) fn reply<O: Sink>(
+        &self,
+        out: &mut O,
+        params: &mut Params,
+        statement: &[u8],
+    ) -> Result<Tone, Failed>
+        requires fits { length statement.now ≤ 65536 }
+        requires params { are_params params.old ≡ true }
+        ensures replies { Replied (IsReply (context_of self.now) params.old statement.now)
             (span_of O.taken O.faults out.old out.new) result }
+        ensures behind { IfOk result (λ t. AreBehind params.old statement.now t params.new) }
+        ensures params { are_params params.new ≡ true }
     {
-        match parse(self.alloc, statement, &Params::new(self.alloc)) {
-            Ok(tree) => self.reply_to_tree(out, statement, &tree),
+        match parse(self.alloc, statement, params) {
+            Ok(tree) => self.reply_to_tree(out, params, statement, tree),
             Err(SyntaxRefusal::Lex { at }) => {
                 toned(write_at(out, "error: Lex at byte ", at), Tone::Refused)
             }
