@@ -1,2 +1,3 @@
 pub mod OneTone
 pub mod Replying
+pub mod SetValue

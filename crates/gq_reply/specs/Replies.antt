@@ -22,7 +22,7 @@ use Rattle.gq_reply.specs.Bindings.{bind_refusal}
 use Rattle.gq_reply.specs.ReplyTexts.{IsPlanText, reply_text}
 use Rattle.gq_reply.specs.declared.replier.Form.{Form}
 use Rattle.gq_reply.specs.declared.replier.Replier.{Replier}
-use Rattle.gq_session.specs.Replies.{Rule}
+use Rattle.gq_session.specs.Replies.{Replies, Rule}
 use Rattle.gq_session.specs.declared.answering.Tone.{Tone}
 use Rattle.gq_session.specs.declared.answering.Tone.TheVariants as tone
 use Rattle.gq_syntax.specs.Outcomes.{Cause, SpelledText}
@@ -175,3 +175,8 @@ AreBehind params statement t behind = behind ≡ params
 -- one turn of a session: the reply to a statement, and the parameters behind it
 abbrev pub IsTurn : Context → Rule (List Param)
 IsTurn c params statement t text behind = IsReply c params statement t text × AreBehind params statement t behind
+
+-- the parameters that stand behind statements, from these on: those behind some replies to them, where memory ended at none
+abbrev pub StandBehind : Context → List Param → List (List ℕ) → List Param → Type 0
+StandBehind c params statements behind = (t : Tone) × (text : List ℕ)
+    × Replies (IsTurn c) params behind statements t text × (¬ (t ≡ tone.Memory))

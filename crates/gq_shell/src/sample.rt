@@ -1,22 +1,23 @@
 //! The answers to the questions that are asked of the sample graph.
 
-ghost use Rattle.std.specs.Prelude.{◌≤◌};
+ghost use Rattle.std.specs.Prelude.{◌≡◌, ◌≤◌, [], true};
 ghost use Rattle.gq_io.specs.Causes.{HasCause};
 ghost use Rattle.gq_io.specs.Outside.{Writes};
 ghost use Rattle.gq_reply.specs.Replies.{context_of};
-ghost use Rattle.gq_reply.specs.steps.Steps.{Replied};
 ghost use Rattle.gq_session.specs.Sessions.{span_of};
-ghost use Rattle.gq_shell.specs.Questions.{IsNumbered, label_text};
-ghost use Rattle.gq_shell.specs.steps.Steps.{Asked, Quizzed, question_of};
+ghost use Rattle.gq_shell.specs.Questions.{label_text};
+ghost use Rattle.gq_shell.specs.steps.Steps.{Asked, AskedOne, Quizzed};
+ghost use Rattle.gq_tokens.specs.Parameters.{are_params};
 
 use crate::session::status_of;
 use crate::status::Status;
 use gq_execute::Settings;
 use gq_io::{Failed, Sink};
 use gq_render::{Place, write_refusal};
-use gq_reply::{Form, Replier};
+use gq_reply::{Form, Replier, Workspace};
 use gq_sample::{question, sample};
 use gq_session::{Answerer, Stop, Tone};
+use gq_syntax::Params;
 use std::alloc::Global;
 
 // Writes the line that stands before the answer to a question.
@@ -29,25 +30,37 @@ fn write_label<O: Sink>(out: &mut O, number: u32) -> Result<(), Failed>
 }
 
 // Answers the question of this number.
-fn ask<O: Sink>(replier: &Replier<'_>, number: u32, out: &mut O) -> Result<Tone, Failed>
+fn ask<O: Sink>(
+    replier: &Replier<'_>,
+    workspace: &mut Workspace,
+    number: u32,
+    out: &mut O,
+) -> Result<Tone, Failed>
     requires least { 1 ≤ number }
     requires most { number ≤ 6 }
-    ensures { Replied (IsNumbered (context_of replier.now) (question_of number))
-        (span_of O.taken O.faults out.old out.new) result }
+    requires ready { are_params workspace.old.params ≡ true }
+    ensures replies { AskedOne (context_of replier.now) number workspace.old.params
+        workspace.new.params (span_of O.taken O.faults out.old out.new) result }
+    ensures ready { are_params workspace.new.params ≡ true }
 {
     match write_label(out, number) {
-        Ok(()) => replier.answer(&mut (), question(number).as_bytes(), out),
+        Ok(()) => replier.answer(workspace, question(number).as_bytes(), out),
         Err(Failed) => Err(Failed),
     }
 }
 
 // Answers the six questions, and says what the worst of the answers is like.
-fn ask_all<O: Sink>(replier: &Replier<'_>, out: &mut O) -> Result<Tone, Failed>
+fn ask_all<O: Sink>(
+    replier: &Replier<'_>,
+    workspace: &mut Workspace,
+    out: &mut O,
+) -> Result<Tone, Failed>
+    requires { workspace.old.params ≡ [] }
     ensures { Asked (context_of replier.now) (span_of O.taken O.faults out.old out.new) result }
 {
     let mut worst = Tone::Good;
     for number in 1..7u32 {
-        match ask(replier, number, out) {
+        match ask(replier, workspace, number, out) {
             Ok(tone) => worst = worst.worse(tone),
             Err(Failed) => return Err(Failed),
         }
@@ -75,7 +88,10 @@ pub(crate) fn show_sample<O: Sink>(
         settings,
         form: Form::Short,
     };
-    match ask_all(&replier, out) {
+    let mut workspace = Workspace {
+        params: Params::new(alloc),
+    };
+    match ask_all(&replier, &mut workspace, out) {
         Ok(tone) => status_of(Ok(tone)),
         Err(Failed) => status_of(Err(Stop::Write)),
     }

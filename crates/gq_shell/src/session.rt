@@ -8,9 +8,10 @@ ghost use Rattle.gq_shell.specs.steps.Steps.{Served};
 use crate::status::Status;
 use gq_execute::Settings;
 use gq_io::{Sink, Source};
-use gq_reply::{Form, Replier};
+use gq_reply::{Form, Replier, Workspace};
 use gq_session::{Stop, Tone, session};
 use gq_store::Graph;
+use gq_syntax::Params;
 use std::alloc::Global;
 
 /// The longest statement, in bytes.
@@ -53,7 +54,9 @@ pub(crate) fn serve<I: Source, O: Sink>(
         settings,
         form: Form::Full,
     };
-    let mut workspace = ();
+    let mut workspace = Workspace {
+        params: Params::new(alloc),
+    };
     let ended = session(
         &replier,
         &mut workspace,

@@ -1,4 +1,4 @@
-use Rattle.std.proofs.Common.{◌-◌, arith}
+use Rattle.std.proofs.Common.{◌-◌, [], arith}
 use Rattle.gq_io.proofs.Counts.{Rose-later}
 use Rattle.gq_reply.specs.Replies.{context_of}
 use Rattle.gq_shell.proofs.Quizzing.{broke, next_number}
@@ -6,15 +6,16 @@ use Rattle.gq_shell.proofs.sample.ask_all.Goals as goal
 
 pub returns-in-Err : goal.returns-in-Err
 returns-in-Err g c = (
-  broke (context_of c.args.replier.now) (c.loop-number.number - 1) c.loop-number.number (omega (arith, c.loop-number.invariant.0))
-      (omega (arith, c.loop-number.invariant.0, c.loop-number-test.true)) c.loop-number.worst _ _ _ c.loop-number.invariant.2 c.in-Err.ensures.bytes,
-  Rose-later _ _ _ c.loop-number.invariant.3 c.in-Err.ensures.cause.failed,
+  broke (context_of c.args.replier.now) [] _ (c.loop-number.number - 1) c.loop-number.number (omega (arith, c.loop-number.invariant.0))
+      (omega (arith, c.loop-number.invariant.0, c.loop-number-test.true)) c.loop-number.worst _ _ _ c.loop-number.invariant.2 c.in-Err.ensures.replies.bytes,
+  Rose-later _ _ _ c.loop-number.invariant.3 c.in-Err.ensures.replies.cause.failed,
 )
 
 pub loop-number-preserved : goal.loop-number-preserved
 loop-number-preserved g c = (
   omega (arith, c.loop-number.invariant.0),
   omega (arith, c.loop-number-test.true),
-  rw c.worse-worst.ensures (next_number (context_of c.args.replier.now) c.loop-number.number c.loop-number.invariant.0 c.loop-number.worst c.in-Ok.tone _ _ _ c.loop-number.invariant.2 c.in-Ok.ensures.bytes),
-  omega (arith, c.loop-number.invariant.3, c.in-Ok.ensures.cause.later),
+  rw c.worse-worst.ensures (next_number (context_of c.args.replier.now) [] _ _ c.loop-number.number c.loop-number.invariant.0 c.loop-number.worst c.in-Ok.tone _ _ _ c.loop-number.invariant.2 c.in-Ok.ensures.replies.bytes),
+  omega (arith, c.loop-number.invariant.3, c.in-Ok.ensures.replies.cause.later),
+  c.in-Ok.ensures.ready,
 )
