@@ -52,7 +52,7 @@ def parser() -> argparse.ArgumentParser:
     )
     top.add_argument("--layout", choices=("dot", "neato", "fdp", "sfdp", "circo", "twopi"), default="dot")
     top.add_argument("--dot", action="store_true", help="gives the picture in Graphviz's language, and not as SVG")
-    top.add_argument("--order", choices=("given", "greedy"), help="as graphq has it")
+    top.add_argument("--order", choices=("given", "greedy", "least"), help="as graphq has it")
     top.add_argument("--program", metavar="PATH", help="the program graphq")
     return top
 

@@ -142,9 +142,11 @@ def read_plan(lines: list[str]) -> list[list[Step]]:
     """The steps of each alternative of the reply to `:plan`."""
     alternatives: list[list[str]] = []
     for line in lines:
+        if re.match(r"alternatives [0-9]+\Z", line):
+            break
         if re.match(r"alternative [0-9]+\Z", line):
             alternatives.append([])
-        elif not re.match(r"alternatives [0-9]+\Z", line) and alternatives:
+        elif alternatives:
             alternatives[-1].append(line)
     return [read_steps(one) for one in alternatives]
 

@@ -3,7 +3,7 @@
 from __future__ import annotations
 
 import re
-from dataclasses import dataclass
+from dataclasses import dataclass, field
 
 _ESCAPE = re.compile(r"\\(.)")
 _ESCAPED = {"n": "\n", "r": "\r", "t": "\t"}
@@ -11,6 +11,7 @@ _INTEGER = re.compile(r"-?[0-9]+\Z", re.ASCII)
 _NODE = re.compile(r"\((?P<word>[^\s()]+) (?P<key>-?[0-9]+|'(?:[^'\\]|\\.)*')\)\Z", re.DOTALL)
 _RELATIONSHIP = re.compile(r"\[(?P<type>[^\s\[\]/]+)(?:/(?P<place>[0-9]+))? #(?P<number>[0-9]+)\]\Z")
 _ROWS = re.compile(r"rows [0-9]+\Z")
+_SPENT = re.compile(r"pipeline (?P<number>[0-9]+) chunks [0-9]+ columns [0-9]+\Z")
 
 
 @dataclass(frozen=True)
@@ -52,10 +53,11 @@ Value = None | bool | int | str | Node | Relationship | Other
 
 @dataclass(frozen=True)
 class Rows:
-    """The reply to a query: the names of its columns, and its rows as their texts."""
+    """The reply to a query: the names of its columns, and its rows as their texts; to `:profile` what was spent, too."""
 
     columns: list[str]
     rows: list[list[str]]
+    spent: list[str] = field(default_factory=list)
 
     def values(self) -> list[list[Value]]:
         """The rows as values."""
@@ -113,5 +115,17 @@ def read_reply(lines: list[str]) -> Reply:
     if len(lines) == 1 and lines[0].startswith("error: "):
         return Refused(lines[0])
     if len(lines) > 1 and _ROWS.match(lines[-1]):
-        return Rows([unescaped(name) for name in lines[0].split("\t")], [line.split("\t") for line in lines[1:-1]])
+        first = _spent_lines(lines[:-2])
+        header, rows = lines[first], lines[first + 1 : -1]
+        names = [unescaped(name) for name in header.split("\t")]
+        return Rows(names, [line.split("\t") for line in rows], lines[:first])
     return Lines(lines)
+
+
+def _spent_lines(lines: list[str]) -> int:
+    """How many lines in front are those of pipelines, numbered from 1."""
+    for at, line in enumerate(lines):
+        spent = _SPENT.match(line)
+        if not spent or int(spent["number"]) != at + 1:
+            return at
+    return len(lines)

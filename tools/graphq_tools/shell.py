@@ -23,6 +23,7 @@ from .text_table import aligned, caret, width
 HELP = """\
 A statement ends with ;  and may go over several lines. docs/language.md has the language.
   :schema;            the tables of the graph          :plan QUERY;        how a query is gone through
+  :profile QUERY;     its rows, behind what it took
   .schema             the same as :schema;             .read FILE          the statements of a file
   .mode table|plain|csv   how rows are shown           .timing on|off      the time of each answer
   .pager on|off       long answers through a pager     .quit               ends, as Ctrl-D does
@@ -151,10 +152,12 @@ class Shell:
     def _formatted(self, reply: Rows) -> list[str]:
         count = f"{len(reply.rows)} row{'' if len(reply.rows) == 1 else 's'}"
         if self.settings.mode == "table":
-            return [*aligned(reply.columns, reply.rows), f"({count})"]
-        if self.settings.mode == "csv":
-            return _as_csv(reply)
-        return ["\t".join(reply.columns), *("\t".join(row) for row in reply.rows), f"rows {len(reply.rows)}"]
+            shown = [*aligned(reply.columns, reply.rows), f"({count})"]
+        elif self.settings.mode == "csv":
+            shown = _as_csv(reply)
+        else:
+            shown = ["\t".join(reply.columns), *("\t".join(row) for row in reply.rows), f"rows {len(reply.rows)}"]
+        return [*reply.spent, *shown]
 
     def _show(self, lines: list[str]) -> None:
         """Prints lines, through a pager where they are more than the screen has."""

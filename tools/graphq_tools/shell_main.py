@@ -31,7 +31,7 @@ def parser() -> argparse.ArgumentParser:
         formatter_class=argparse.RawDescriptionHelpFormatter,
     )
     top.add_argument("--manifest", required=True, metavar="PATH", help="the graph")
-    top.add_argument("--order", choices=("given", "greedy"), help="as graphq has it")
+    top.add_argument("--order", choices=("given", "greedy", "least"), help="as graphq has it")
     top.add_argument("--rows", metavar="N", help="as graphq has it")
     top.add_argument("--mode", choices=MODES, help="how rows are shown (table)")
     top.add_argument("--program", metavar="PATH", help="the program graphq")

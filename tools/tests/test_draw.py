@@ -48,6 +48,7 @@ class Draw(ToolTest):
             "  differ #1 #2",
             "keep a.id = 1",
             "alternatives 1",
+            "cost 1 6 4",
         ]
         (steps,) = read_plan(lines)
         self.assertEqual([step.text for step in steps], ["scan a:Person", "join on b", "keep a.id = 1"])

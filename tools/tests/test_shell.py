@@ -70,6 +70,12 @@ class Replies(unittest.TestCase):
     def test_reply_without_rows(self) -> None:
         self.assertEqual(read_reply(["a\tb", "rows 0"]), Rows(["a", "b"], []))
 
+    def test_profile(self) -> None:
+        spent = ["pipeline 1 chunks 3 columns 0", "pipeline 2 chunks 4 columns 1"]
+        self.assertEqual(read_reply([*spent, "a\tb", "1\t2", "rows 1"]), Rows(["a", "b"], [["1", "2"]], spent))
+        self.assertEqual(read_reply([spent[0], "rows 0"]), Rows([spent[0]], []))
+        self.assertEqual(read_reply([spent[1], "1", "rows 1"]), Rows([spent[1]], [["1"]]))
+
 
 class Tables(unittest.TestCase):
     def test_aligned(self) -> None:

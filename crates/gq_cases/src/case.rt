@@ -51,7 +51,7 @@ pub enum Place {
 #[derive(Drop)]
 pub struct Case {
     pub words: Vec<String>,
-    pub both_orders: bool,
+    pub all_orders: bool,
     pub files: Vec<CaseFile>,
     pub input: Vec<u8>,
     pub place: Place,
@@ -77,7 +77,7 @@ impl Case {
     pub fn new(alloc: Global) -> Result<Case, Stop> {
         Ok(Case {
             words: standard_words(alloc)?,
-            both_orders: false,
+            all_orders: false,
             files: Vec::new(alloc),
             input: Vec::new(alloc),
             place: Place::Input,

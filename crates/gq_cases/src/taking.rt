@@ -66,7 +66,7 @@ fn take_word(rt: &HostRuntime, case: &mut Case, word: &str, rest: &str) -> Resul
         "input" if rest.is_empty() => case.place = Place::Input,
         "fails" => set_failing(case, rest)?,
         "pieces" => case.piece = Some(piece_of(rest)?),
-        "orders" if rest == "both" => case.both_orders = true,
+        "orders" if rest == "all" => case.all_orders = true,
         "status" => case.status = Some(status_of(rest)?),
         _ => return Err(Stop::Malformed),
     }

@@ -17,7 +17,7 @@ static PIECES: [u32; 5] = [1, 2, 7, 4_096, 65_536];
 // The length where some call fails, so that the number of the call tells where.
 static ONE_PIECE: [u32; 1] = [4_096];
 
-static ORDERS: [&str; 2] = ["given", "greedy"];
+static ORDERS: [&str; 3] = ["given", "greedy", "least"];
 
 /// What a run wrote and its exit status; and how it was run: in pieces of which length, and in which order.
 #[derive(Drop)]
@@ -132,7 +132,7 @@ fn differs_in_orders(alloc: Global, case: &Case) -> Result<Option<Got>, Stop> {
 
 /// Runs the program as a case says, in each way, and gives the first run that does not do what the case wants.
 pub fn difference(alloc: Global, case: &Case) -> Result<Option<Got>, Stop> {
-    if case.both_orders {
+    if case.all_orders {
         return differs_in_orders(alloc, case);
     }
     let words = case.words.as_slice();

@@ -1,6 +1,10 @@
 -- Each step of answering a query leads on, or to a reply that is permitted.
-use Rattle.std.proofs.Common.{◌≡◌, ℕ, zero, suc, ◌+◌, ◌<◌, ◌≤◌, get_or, Bool, true, false, Some, List, [], ◌∷◌, ◌++◌, length, take, drop, slice_get, Result, Err, inl, inr, refl, sym, ap, ◌∙◌, subst, arith, true≢false}
+use Rattle.std.proofs.Common.{◌≡◌, ℕ, zero, suc, ◌+◌, ◌<◌, ◌≤◌, get_or, Bool, true, false, Some, List, [], ◌∷◌, ◌++◌, length, take, drop, slice_get, Result, Err, inl, inr, refl, sym, ap, ap₂, ◌∙◌, append-nil, subst, arith, true≢false}
 use Rattle.std.specs.Prelude.{◌⊎◌}
+use Rattle.std.specs.List.{AllZip, fold}
+use Rattle.std.proofs.lemmas.Grind.{flat_map-append}
+use Rattle.gq_pipe.specs.Spending.{up_to_most}
+use Rattle.gq_pipe.specs.declared.pipeline.Spent.{Spent}
 use Rattle.std.proofs.lemmas.List.{take-append-drop}
 use Rattle.std.proofs.lemmas.List.Sorted.{IsPermutation-sym}
 use Rattle.gq_base.specs.Values.{Val}
@@ -15,12 +19,14 @@ use Rattle.gq_rows.specs.Tables.{StandsFor, StandsForSome, Table, is_full, is_fu
 use Rattle.gq_execute.specs.declared.settings.Order.{Order}
 use Rattle.gq_execute.specs.declared.settings.Settings.{Settings}
 use Rattle.gq_execute.specs.Answering.{Replies}
-use Rattle.gq_execute.specs.steps.Answering.{AreParted, Came, Drains, IsFresh, Reached, Runs}
-use Rattle.gq_execute.specs.Replies.{Question, IsPermitted, Rows, TooManyRows, has_large_part}
-use Rattle.gq_execute.specs.steps.Taking.{MeetsMany, Stands, Takes}
+use Rattle.gq_execute.specs.steps.Answering.{AreParted, Came, Drains, IsFresh, Reached, Runs, Spends, SpendsTurn}
+use Rattle.gq_execute.specs.Replies.{Question, IsPermitted, Rows, TooManyRows, has_large_part, has_turn}
+use Rattle.gq_execute.specs.Spending.{AreSpent, IsTurn, Turn, own_chunks, with_turns}
+use Rattle.gq_rows.specs.Chunks.{Stands}
+use Rattle.gq_execute.specs.steps.Taking.{MeetsMany, Takes}
 use Rattle.gq_execute.specs.declared.refusal.AnswerRefusal.{AnswerRefusal}
 use Rattle.gq_execute.specs.declared.refusal.AnswerRefusal.TheVariants as refusal
-use Rattle.gq_execute.proofs.Replying.{reached_start, reached_next, reached_more, fault_permitted, many_permitted, rows_permitted, heavy_permitted}
+use Rattle.gq_execute.proofs.Replying.{reached_start, reached_next, reached_more, fault_permitted, many_permitted, rows_permitted, heavy_permitted, rows_of, turn_comes, turned_all}
 
 -- what a table stands for, told of the question
 told : (a : Question) (t : Table) (os : List (Result Row Fault)) → t.bound ≡ a.bound → t.most ≡ a.most → StandsFor a.bound a.most os t.held → Stands os t
@@ -65,12 +71,18 @@ module _ (a : Question) (parted : AreParted a) (k : ℕ) (y : Typed) (old : Tabl
   reached : Reached a (take k a.bound.alternatives) came.pushed []
   reached = subst (Reached a (take k a.bound.alternatives) came.pushed) (nothing_left a (take k a.bound.alternatives) old came room) came.at
 
+  -- its turn comes, since there is room
+  has_come : has_turn (cut_of a.bound) (rows_of a (take k a.bound.alternatives)) ≡ true
+  has_come =
+      turn_comes a parted (take k a.bound.alternatives) (y ∷ later) came.pushed [] (split_at a.bound.alternatives k y here) reached old.held came.stands
+      (full_told a old false came.bound room) refl
+
   -- the alternative is begun: the outcomes of its plan are left
   started : (Meets : List (Result Row Fault) → Type 0) (run : Runs a.graph a.bound a.order old.most y Meets) → Reached a begun came.pushed (late_outcomes a.graph a.bound y (meaning a.graph y run.plan))
   started Meets run =
       let light : has_large_part a.graph a.order a.most y ≡ false = ap (λ m. has_large_part a.graph a.order m y) (sym came.most) ∙ run.light in
       subst (λ ys. Reached a ys came.pushed (late_outcomes a.graph a.bound y (meaning a.graph y run.plan))) (sym (take_at a.bound.alternatives k y here))
-      (reached_next a (take k a.bound.alternatives) came.pushed y _ (IsPermutation-sym _ _ (parted.each k y here run.plan run.covers)) light reached)
+      (reached_next a (take k a.bound.alternatives) came.pushed y _ (IsPermutation-sym _ _ (parted.each k y here run.plan run.covers)) light has_come reached)
 
   stood : Stands came.pushed old
   stood = told a old came.pushed came.bound came.most came.stands
@@ -84,7 +96,7 @@ module _ (a : Question) (parted : AreParted a) (k : ℕ) (y : Typed) (old : Tabl
       record {
         pushed = came.pushed ++ t.cut.pushed;
         left = t.cut.left;
-        at = reached_more a begun came.pushed _ t.cut.pushed t.cut.left t.cut.whole (started _ run);
+        at = reached_more a begun came.pushed _ t.cut.pushed t.cut.left t.cut.bag (started _ run);
         bound = bound;
         most = most;
         stands = asked a new _ bound most (t.stands came.pushed stood);
@@ -96,7 +108,7 @@ module _ (a : Question) (parted : AreParted a) (k : ℕ) (y : Typed) (old : Tabl
   turn_stopped new (refusal.Fault f) run =
       let t = run.meets in
       fault_permitted a parted begun later (came.pushed ++ t.cut.pushed) t.cut.left (sym (take-append-drop (suc k) a.bound.alternatives))
-      (reached_more a begun came.pushed _ t.cut.pushed t.cut.left t.cut.whole (started _ run)) f (rw (← came.bound) (t.seen came.pushed stood))
+      (reached_more a begun came.pushed _ t.cut.pushed t.cut.left t.cut.bag (started _ run)) f (rw (← came.bound) (t.seen came.pushed stood))
   turn_stopped new (refusal.TooManyRows most) (is, why) = (is ∙ came.most, many why)
     where
       many : (has_large_part a.graph a.order old.most y ≡ true) ⊎ Runs a.graph a.bound a.order old.most y (λ os. MeetsMany os old) → IsPermitted a TooManyRows
@@ -106,29 +118,44 @@ module _ (a : Question) (parted : AreParted a) (k : ℕ) (y : Typed) (old : Tabl
       many (inr run) =
           let t = run.meets in
           many_permitted a parted begun later (came.pushed ++ t.cut.pushed) t.cut.left (sym (take-append-drop (suc k) a.bound.alternatives))
-          (reached_more a begun came.pushed _ t.cut.pushed t.cut.left t.cut.whole (started _ run)) (rw (← came.bound, ← came.most) (t.many came.pushed stood))
+          (reached_more a begun came.pushed _ t.cut.pushed t.cut.left t.cut.bag (started _ run)) (rw (← came.bound, ← came.most) (t.many came.pushed stood))
   turn_stopped new refusal.Memory h = tt
 
 -- ---- the end
 
--- the table is finished, once it is full or all alternatives were begun
-pub finished : (a : Question) → AreParted a → (k : ℕ) (t : Table) (lines : List (List Val)) → Came a (take k a.bound.alternatives) t
-    → (is_full_table t ≡ true) ⊎ (length a.bound.alternatives ≤ k) → ((os : List (Result Row Fault)) → Stands os t → Answers t.bound os lines) → IsPermitted a (Rows lines)
-finished a parted k t lines came end answers =
-    rows_permitted a parted (take k a.bound.alternatives) (drop k a.bound.alternatives) came.pushed came.left (sym (take-append-drop k a.bound.alternatives)) came.at t.held lines came.stands (done end came.done)
-    (rw (← came.bound) (answers came.pushed (told a t came.pushed came.bound came.most came.stands)))
-  where
-    past : (ys : List Typed) (k : ℕ) → length ys ≤ k → drop k ys ≡ []
-    past [] zero h = refl
-    past [] (suc k) h = refl
-    past (z ∷ ys) zero h = absurd (omega arith)
-    past (z ∷ ys) (suc k) h = past ys k (omega arith)
+past : (ys : List Typed) (k : ℕ) → length ys ≤ k → drop k ys ≡ []
+past [] zero h = refl
+past [] (suc k) h = refl
+past (z ∷ ys) zero h = absurd (omega arith)
+past (z ∷ ys) (suc k) h = past ys k (omega arith)
 
-    done : (is_full_table t ≡ true) ⊎ (length a.bound.alternatives ≤ k) → (is_full_table t ≡ true) ⊎ (came.left ≡ [])
-        → (is_full (cut_of a.bound) t.held ≡ true) ⊎ ((came.left ≡ []) × (drop k a.bound.alternatives ≡ []))
-    done (inl full) left = inl (full_told a t true came.bound full)
-    done (inr all) (inl full) = inl (full_told a t true came.bound full)
-    done (inr all) (inr none) = inr (none, past a.bound.alternatives k all)
+-- the table is finished, once it is full or all alternatives were begun
+module _ (a : Question) (parted : AreParted a) (k : ℕ) (t : Table) (came : Came a (take k a.bound.alternatives) t) (end : (is_full_table t ≡ true) ⊎ (length a.bound.alternatives ≤ k)) where
+  done : (is_full_table t ≡ true) ⊎ (length a.bound.alternatives ≤ k) → (is_full_table t ≡ true) ⊎ (came.left ≡ [])
+      → (is_full (cut_of a.bound) t.held ≡ true) ⊎ ((came.left ≡ []) × (drop k a.bound.alternatives ≡ []))
+  done (inl full) left = inl (full_told a t true came.bound full)
+  done (inr all) (inl full) = inl (full_told a t true came.bound full)
+  done (inr all) (inr none) = inr (none, past a.bound.alternatives k all)
+
+  -- its lines are permitted
+  pub finished : (lines : List (List Val)) → ((os : List (Result Row Fault)) → Stands os t → Answers t.bound os lines) → IsPermitted a (Rows lines)
+  finished lines answers =
+      rows_permitted a parted (take k a.bound.alternatives) (drop k a.bound.alternatives) came.pushed came.left (sym (take-append-drop k a.bound.alternatives)) came.at t.held lines came.stands (done end came.done)
+      (rw (← came.bound) (answers came.pushed (told a t came.pushed came.bound came.most came.stands)))
+
+  -- and just the alternatives whose turn comes were begun
+  turns_taken : with_turns a 0 a.bound.alternatives ≡ take k a.bound.alternatives
+  turns_taken =
+      turned_all a parted (take k a.bound.alternatives) (drop k a.bound.alternatives) came.pushed came.left (sym (take-append-drop k a.bound.alternatives)) came.at t.held came.stands (done end came.done)
+
+  -- so what was spent in their turns is what all pipelines spent
+  pub spent_all : (spent : List Spent) (pushed : ℕ) → pushed ≡ t.pushed → Spends a.graph a.bound a.order (take k a.bound.alternatives) t spent → AreSpent a spent pushed
+  spent_all spent pushed same spends = record {
+    turns = spends.turns;
+    each = subst (λ ys. AllZip (IsTurn a.graph a.bound a.order) ys spends.turns) (sym turns_taken) spends.each;
+    all = spends.all;
+    chunks = same ∙ spends.chunks;
+  }
 
 -- an empty table stands for no outcomes
 pub fresh_stands : (b : Bound) (settings : Settings) (t : Table) → IsFresh b settings t → Stands [] t
@@ -158,3 +185,36 @@ pub turn_ended : (a : Question) → AreParted a → (k : ℕ) (y : Typed) (old n
     → (e : AnswerRefusal) → Drains a.graph old.bound a.order y old new (Err e) → Replies a (Err e)
 turn_ended a parted k y old new here came room e h =
     turn_stopped a parted k y old here came room new e (subst (λ b. Drains a.graph b a.order y old new (Err e)) came.bound h)
+
+-- ---- what was spent
+
+-- in no turn
+pub spends_none : (g : Graph) (b : Bound) (settings : Settings) (t : Table) → IsFresh b settings t → Spends g b settings.order [] t []
+spends_none g b settings t fresh = record { turns = []; each = tt; all = refl; chunks = fresh.pushed }
+
+zip_more : {X Y : Type 0} (R : X → Y → Type 0) (xs : List X) (ys : List Y) (x : X) (y : Y) → AllZip R xs ys → R x y → AllZip R (xs ++ x ∷ []) (ys ++ y ∷ [])
+zip_more R [] [] x y zip here = (here, tt)
+zip_more R [] (z ∷ ys) x y zip here = absurd zip
+zip_more R (z ∷ xs) [] x y zip here = absurd zip
+zip_more R (z ∷ xs) (w ∷ ys) x y zip here = (zip.0, zip_more R xs ys x y zip.1 here)
+
+chunks_more : (before : ℕ) (turns : List Turn) (t : Turn)
+    → fold (λ a (u : Turn). a + u.own.chunks) before (turns ++ t ∷ []) ≡ fold (λ a (u : Turn). a + u.own.chunks) before turns + t.own.chunks
+chunks_more before [] t = refl
+chunks_more before (u ∷ turns) t = chunks_more (before + u.own.chunks) turns t
+
+-- in one turn more
+pub spends_more : (g : Graph) (b : Bound) (order : Order) (ys : List Typed) (k : ℕ) (y : Typed) (old new : Table) (spent more : List Spent) → slice_get ys k ≡ Some y → old.bound ≡ b
+    → Spends g b order (take k ys) old spent → SpendsTurn g order y old new more → Spends g b order (take (k + 1) ys) new (spent ++ more)
+spends_more g b order ys k y old new spent more here same spends turn =
+    let next : suc k ≡ k + 1 = omega arith in
+    record {
+      turns = spends.turns ++ turn.turn ∷ [];
+      each =
+          subst (λ l. AllZip (IsTurn g b order) l (spends.turns ++ turn.turn ∷ [])) (sym (take_at ys k y here) ∙ ap (λ n. take n ys) next)
+          (zip_more (IsTurn g b order) (take k ys) spends.turns y turn.turn spends.each (subst (λ q. IsTurn g q order y turn.turn) same turn.is));
+      all =
+          ap₂ (λ l m. l ++ m) spends.all (turn.all ∙ sym (append-nil _))
+          ∙ sym (flat_map-append (λ (t : Turn). t.sides ++ t.own ∷ []) spends.turns (turn.turn ∷ []));
+      chunks = turn.chunks (own_chunks spends.turns) spends.chunks ∙ ap up_to_most (sym (chunks_more 0 spends.turns turn.turn));
+    }

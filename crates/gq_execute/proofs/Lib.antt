@@ -1,3 +1,5 @@
+pub mod Begins
+pub mod Costing
 pub mod Covering
 pub mod Draining
 pub mod Going

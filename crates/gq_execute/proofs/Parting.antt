@@ -72,6 +72,7 @@ module _ (g : Graph) (by : Order) (y : Typed) (most : ℕ) where
       → map (λ s. length (mean g y s nothing)) ss ≡ map (λ p. length (part_assignments g y p)) (parts_by o y)
   counts order.Given ss real sound are = given_counts g y real sound ss are
   counts order.Greedy ss real sound are = greedy_counts g y real sound ss are
+  counts order.Least ss real sound are = greedy_counts g y real sound ss are
 
   -- the side plans of a plan tell whether a part is too large, where each makes one part
   pub sides_tell : (p : Plan) → IsTrue (is_valid g) → IsSound g.catalog y → AllZip (IsSide g.catalog y) (parts_by by y) (sides p) → list_all is_flat (sides p) ≡ true

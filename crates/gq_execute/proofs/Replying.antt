@@ -1,5 +1,5 @@
 -- What is answered at each step of a query is a permitted reply.
-use Rattle.std.proofs.Common.{◌≡◌, ℕ, ◌+◌, ◌<◌, ◌≤◌, true, false, ◌&&◌, ◌||◌, Option, Some, None, List, [], ◌∷◌, ◌++◌, flat_map, length, Result, Err, refl, sym, ap, ap₂, ◌∙◌, subst, arith, add-zero, append_assoc, append-nil, length-append, inl, inr}
+use Rattle.std.proofs.Common.{◌≡◌, ℕ, ◌+◌, ◌<◌, ◌≤◌, Bool, true, false, cond, ◌&&◌, ◌||◌, Option, Some, None, List, [], ◌∷◌, ◌++◌, flat_map, length, Result, Err, refl, sym, ap, ap₂, ◌∙◌, subst, arith, add-zero, append_assoc, append-nil, length-append, inl, inr}
 use Rattle.std.proofs.lemmas.Bool.{or_from, and_right}
 use Rattle.std.proofs.Math.Bool.{or-true, or_assoc}
 use Rattle.std.specs.Prelude.{◌⊎◌, nat_lt}
@@ -7,7 +7,7 @@ use Rattle.std.specs.List.{Contains}
 use Rattle.std.specs.List.Sorted.{IsPermutation}
 use Rattle.std.proofs.lemmas.Bool.Decides.{nat_tests}
 use Rattle.std.proofs.lemmas.Grind.{flat_map-append}
-use Rattle.std.proofs.lemmas.List.Sorted.{IsPermutation-refl, IsPermutation-sym, IsPermutation-trans, IsPermutation-append, IsPermutation-append_left}
+use Rattle.std.proofs.lemmas.List.Sorted.{IsPermutation-refl, IsPermutation-sym, IsPermutation-trans, IsPermutation-append, IsPermutation-append_left, IsPermutation-append_right}
 use Rattle.gq_base.specs.Values.{Val}
 use Rattle.gq_expr.specs.declared.Fault.{Fault}
 use Rattle.gq_plan.specs.Outcomes.{Row}
@@ -15,6 +15,7 @@ use Rattle.gq_plan.specs.declared.Typed.{Typed}
 use Rattle.gq_rows.specs.Answers.{Answers, rows_in, cut_of, first_of, looked_at, kept}
 use Rattle.gq_rows.specs.Tables.{Held, StandsFor, is_full}
 use Rattle.gq_execute.specs.Replies.{Question, all_outcomes, outcomes_in, has_turn, has_large_part, some_heavy, Rows, Faulted, TooManyRows, IsPermitted}
+use Rattle.gq_execute.specs.Spending.{with_turns}
 use Rattle.gq_execute.specs.steps.Answering.{AreParted, Reached}
 use Rattle.gq_rows.proofs.Listings.{looked_front, rows_append, kept_grows, kept_few, full_enough, full_looked, open_few, few_rows}
 use Rattle.gq_rows.specs.Answers.{row_in}
@@ -28,7 +29,7 @@ rows_bag xs ys same = sym (length_permutation _ _ (permuted_flat_map row_in xs y
 
 module _ (a : Question) where
   -- the rows of alternatives, together
-  abbrev rows_of : List Typed → ℕ
+  abbrev pub rows_of : List Typed → ℕ
   rows_of ys = length (rows_in (flat_map (outcomes_in a) ys))
 
   rows_of_more : (y : Typed) (ys : List Typed) → rows_of (y ∷ ys) ≡ length (rows_in (outcomes_in a y)) + rows_of ys
@@ -61,15 +62,35 @@ module _ (a : Question) where
       less : (m n : ℕ) → m < n → nat_lt m n ≡ true
       less m n k = grind (arith, nat_tests, k)
 
+  -- ---- the alternatives whose turn comes
+
+  turns_append : (before : ℕ) (xs ys : List Typed) → with_turns a before (xs ++ ys) ≡ with_turns a before xs ++ with_turns a (before + rows_of xs) ys
+  turns_append before [] ys = ap (λ n. with_turns a n ys) (sym (add-zero before))
+  turns_append before (x ∷ xs) ys =
+      let r : ℕ = length (rows_in (outcomes_in a x)) in
+      let same : before + r + rows_of xs ≡ before + rows_of (x ∷ xs) = omega (arith, rows_of_more x xs) in
+      go (has_turn (cut_of a.bound) before) _ _ _ (turns_append (before + r) xs ys ∙ ap (λ n. with_turns a (before + r) xs ++ with_turns a n ys) same)
+    where
+      go : (turn : Bool) (all front back : List Typed) → all ≡ front ++ back → cond turn (x ∷ all) all ≡ cond turn (x ∷ front) front ++ back
+      go true all front back e = ap (λ l. x ∷ l) e
+      go false all front back e = e
+
+  -- none has behind as many rows as are looked at
+  no_turns : (n before : ℕ) (ys : List Typed) → cut_of a.bound ≡ Some n → n ≤ before → with_turns a before ys ≡ []
+  no_turns n before [] e h = refl
+  no_turns n before (y ∷ ys) e h =
+      let later : List Typed = with_turns a (before + length (rows_in (outcomes_in a y))) ys in
+      ap (λ turn. cond turn (y ∷ later) later) (no_turn n before e h) ∙ no_turns n (before + length (rows_in (outcomes_in a y))) ys e (omega (arith, h))
+
   -- ---- the steps
 
   pub reached_start : Reached a [] [] []
-  reached_start = record { as_a_bag = IsPermutation-refl []; light = refl }
+  reached_start = record { as_a_bag = IsPermutation-refl []; light = refl; turned = refl }
 
-  -- an alternative is begun: no part of it is too large, and these outcomes are left of it
+  -- an alternative is begun, since its turn comes: no part of it is too large, and these outcomes are left of it
   pub reached_next : (begun : List Typed) (pushed : List (Result Row Fault)) (y : Typed) (os : List (Result Row Fault)) → IsPermutation (outcomes_in a y) os
-      → has_large_part a.graph a.order a.most y ≡ false → Reached a begun pushed [] → Reached a (begun ++ y ∷ []) pushed os
-  reached_next begun pushed y os gives light at = record {
+      → has_large_part a.graph a.order a.most y ≡ false → has_turn (cut_of a.bound) (rows_of begun) ≡ true → Reached a begun pushed [] → Reached a (begun ++ y ∷ []) pushed os
+  reached_next begun pushed y os gives light turn at = record {
     as_a_bag =
         subst (λ l. IsPermutation l (pushed ++ os)) (sym (flat_map-append (outcomes_in a) begun (y ∷ [])))
         (IsPermutation-append _ _ _ _ (subst (IsPermutation (flat_map (outcomes_in a) begun)) (append-nil pushed) at.as_a_bag)
@@ -77,13 +98,20 @@ module _ (a : Question) where
     light =
         heavy_append 0 begun (y ∷ [])
         ∙ or_from _ _ at.light (or_from _ _ (and_right (has_turn (cut_of a.bound) (0 + rows_of begun)) (has_large_part a.graph a.order a.most y) light) refl);
+    turned =
+        let here : 0 + rows_of begun ≡ rows_of begun = omega arith in
+        turns_append 0 begun (y ∷ [])
+        ∙ ap₂ (λ l t. l ++ cond t (y ∷ []) []) at.turned (ap (has_turn (cut_of a.bound)) here ∙ turn);
   }
 
-  -- a front of what is left is pushed
-  pub reached_more : (begun : List Typed) (pushed os front left : List (Result Row Fault)) → os ≡ front ++ left → Reached a begun pushed os → Reached a begun (pushed ++ front) left
+  -- some of what is left is pushed
+  pub reached_more : (begun : List Typed) (pushed os front left : List (Result Row Fault)) → IsPermutation os (front ++ left) → Reached a begun pushed os → Reached a begun (pushed ++ front) left
   reached_more begun pushed os front left is at = record {
-    as_a_bag = subst (IsPermutation (flat_map (outcomes_in a) begun)) (ap (λ l. pushed ++ l) is ∙ sym (append_assoc pushed front left)) at.as_a_bag;
+    as_a_bag =
+        subst (IsPermutation (flat_map (outcomes_in a) begun)) (sym (append_assoc pushed front left))
+        (IsPermutation-trans _ _ _ at.as_a_bag (IsPermutation-append_right pushed os (front ++ left) is));
     light = at.light;
+    turned = at.turned;
   }
 
 -- ---- the replies
@@ -140,6 +168,18 @@ module _ (a : Question) (parted : AreParted a) (begun later : List Typed) (pushe
   light_all : (held : Held) → StandsFor a.bound a.most pushed held → (is_full (cut_of a.bound) held ≡ true) ⊎ ((left ≡ []) × (later ≡ [])) → some_heavy a 0 (begun ++ later) ≡ false
   light_all held stands (inl full) = light_by (cut_of a.bound) refl held stands full
   light_all held stands (inr none) = ap (λ l. some_heavy a 0 (begun ++ l)) none.1 ∙ ap (some_heavy a 0) (append-nil begun) ∙ at.light
+
+  -- nor does the turn of one behind come
+  turned_by : (cut : Option ℕ) → cut_of a.bound ≡ cut → (held : Held) → StandsFor a.bound a.most pushed held → is_full (cut_of a.bound) held ≡ true → with_turns a 0 (begun ++ later) ≡ begun
+  turned_by None e held stands full = absurd (let no : false ≡ true = sym (ap (λ c. is_full c held) e) ∙ full in cc)
+  turned_by (Some n) e held stands full =
+      turns_append a 0 begun later
+      ∙ ap₂ (λ l k. l ++ k) at.turned (no_turns a n (0 + rows_of a begun) later e (omega (arith, turns_end held stands full n e)))
+      ∙ append-nil begun
+
+  pub turned_all : (held : Held) → StandsFor a.bound a.most pushed held → (is_full (cut_of a.bound) held ≡ true) ⊎ ((left ≡ []) × (later ≡ [])) → with_turns a 0 a.bound.alternatives ≡ begun
+  turned_all held stands (inl full) = ap (with_turns a 0) are ∙ turned_by (cut_of a.bound) refl held stands full
+  turned_all held stands (inr none) = ap (with_turns a 0) are ∙ ap (λ l. with_turns a 0 (begun ++ l)) none.1 ∙ ap (with_turns a 0) (append-nil begun) ∙ at.turned
 
   none_behind : (left ≡ []) × (later ≡ []) → behind ≡ []
   none_behind none = ap₂ (λ l k. l ++ flat_map (outcomes_in a) k) none.0 none.1

@@ -1,20 +1,39 @@
--- The turn of an alternative: what its pipeline hands out is what its plan means, and so it goes into the table.
-use Rattle.std.proofs.Common.{◌≡◌, ◌∙◌, false, Some, List, Result, Ok, Err, ap, subst, inr}
+-- The turn of an alternative: what its pipeline hands out is what its plan means, and so it goes into the table; and what its
+-- pipelines spend.
+use Rattle.std.proofs.Common.{◌≡◌, ◌∙◌, ◌+◌, ℕ, true, false, Some, None, List, [], ◌∷◌, ◌++◌, length, map, Result, Err, Option, ap, refl, sym, subst, arith, inl, inr, true≢false}
+use Rattle.std.specs.Prelude.{◌⊎◌, IsPermutation}
+use Rattle.std.specs.List.{AllZip, list_all}
+use Rattle.std.proofs.lemmas.Bool.{and_parts}
+use Rattle.std.proofs.lemmas.List.{length-map}
+use Rattle.std.proofs.lemmas.List.Sorted.{IsPermutation-sym, IsPermutation-trans, length_permutation}
 use Rattle.gq_base.specs.Plain.{Graph}
 use Rattle.gq_expr.specs.declared.Fault.{Fault}
-use Rattle.gq_pipe.specs.Progress.{Progress}
+use Rattle.gq_pipe.specs.Keys.{plan_keys}
+use Rattle.gq_pipe.specs.Rest.{Rest}
+use Rattle.gq_pipe.specs.Spending.{HasOneEach, HasSpent, HasSpentAll, runs_of, up_to_most}
+use Rattle.gq_pipe.specs.declared.pipeline.Spent.{Spent}
+use Rattle.gq_plan.specs.Columns.{columns_of}
 use Rattle.gq_plan.specs.Covers.{Covers}
-use Rattle.gq_plan.specs.Meaning.{meaning}
+use Rattle.gq_plan.specs.Flat.{is_flat}
+use Rattle.gq_plan.specs.Meaning.{meaning, whole}
 use Rattle.gq_plan.specs.Outcomes.{Row, late_outcomes}
-use Rattle.gq_plan.specs.Plans.{Plan}
+use Rattle.gq_plan.specs.Parts.{sides}
+use Rattle.gq_plan.specs.Plans.{Plan, Done, Then, Scan, Extend, Close, Join, Keep, Differ, NoLoop}
+use Rattle.gq_plan.specs.declared.Bound.{Bound}
 use Rattle.gq_plan.specs.declared.typed.Typed.{Typed}
-use Rattle.gq_rows.specs.Tables.{Table}
-use Rattle.gq_execute.specs.steps.Answering.{Drains}
+use Rattle.gq_rows.specs.Answers.{cut_of}
+use Rattle.gq_rows.specs.Tables.{Table, is_full, is_full_table}
+use Rattle.gq_execute.specs.Planned.{IsPlanIn, sizes}
+use Rattle.gq_execute.specs.Spending.{IsTurn}
+use Rattle.gq_execute.specs.steps.Answering.{Drains, Runs}
 use Rattle.gq_execute.specs.Replies.{has_large_part}
-use Rattle.gq_execute.specs.steps.Taking.{TakesAll, owed_outcomes}
+use Rattle.gq_execute.specs.steps.Taking.{Cut, HasRun, MeetsFault, MeetsMany, Takes, TakesAll, owed_outcomes}
 use Rattle.gq_execute.specs.declared.refusal.AnswerRefusal.{AnswerRefusal}
 use Rattle.gq_execute.specs.declared.refusal.AnswerRefusal.TheVariants as refusal
 use Rattle.gq_execute.specs.declared.settings.Order.{Order}
+use Rattle.gq_execute.proofs.Draining.{outcomes_bag}
+
+-- ---- what goes into the table
 
 module _ (g : Graph) (order : Order) (y : Typed) (old new : Table) (p : Plan) (covers : Covers g.catalog y p) (light : has_large_part g order old.most y ≡ false) where
   abbrev started : Table
@@ -23,21 +42,111 @@ module _ (g : Graph) (order : Order) (y : Typed) (old new : Table) (p : Plan) (c
   abbrev os : List (Result Row Fault)
   os = late_outcomes g old.bound y (meaning g y p)
 
-  drained : (r : Result (Unit {0}) AnswerRefusal) → TakesAll os started new r → Drains g old.bound order y old new r
-  drained (Ok u) t = record {
-    plan = p;
-    covers = covers;
-    light = light;
-    meets = record { cut = t.cut; alike = record { bound = t.alike.bound; most = t.alike.most }; stands = t.stands; done = t.done };
-  }
-  drained (Err (refusal.Fault f)) t = record { plan = p; covers = covers; light = light; meets = record { cut = t.cut; seen = t.seen } }
-  drained (Err (refusal.TooManyRows most)) t = (t.0, inr (record { plan = p; covers = covers; light = light; meets = record { cut = t.1.cut; many = t.1.many } }))
-  drained (Err refusal.Memory) t = tt
+  -- what is taken of the same outcomes in another order
+  abbrev recut : (here : List (Result Row Fault)) → IsPermutation os here → Cut here → Cut os
+  recut here same cut = record { pushed = cut.pushed; left = cut.left; bag = IsPermutation-trans _ _ _ same cut.bag }
 
-  -- what a pipeline of this plan hands out went into the table
-  pub turned : (start : Table) (pipeline : Progress) (r : Result (Unit {0}) AnswerRefusal) → start ≡ started → pipeline.source.typed ≡ y → pipeline.owed ≡ meaning g y p
-      → TakesAll (owed_outcomes g start pipeline) start new r → Drains g old.bound order y old new r
-  turned start pipeline r is typed owed takes =
-      drained r
-      (subst (λ l. TakesAll l started new r) (ap (late_outcomes g old.bound pipeline.source.typed) owed ∙ ap (λ z. late_outcomes g old.bound z (meaning g y p)) typed)
-      (subst (λ t. TakesAll (owed_outcomes g t pipeline) t new r) is takes))
+  module _ (start : Table) (pipeline : Rest) (is : start ≡ started) (typed : pipeline.source.typed ≡ y) (owed : IsPermutation (map (whole y) pipeline.owed) (meaning g y p)) where
+    -- a pipeline of this plan owes these outcomes
+    owed_same : owed_outcomes g start pipeline ≡ late_outcomes g old.bound y (map (whole y) pipeline.owed)
+    owed_same = ap (λ (t : Table). owed_outcomes g t pipeline) is ∙ ap (λ z. late_outcomes g old.bound z (map (whole z) pipeline.owed)) typed
+
+    owed_bag : IsPermutation os (owed_outcomes g start pipeline)
+    owed_bag =
+        subst (IsPermutation os) (sym owed_same)
+        (outcomes_bag g old.bound y (meaning g y p) (map (whole y) pipeline.owed) (IsPermutation-sym _ _ owed))
+
+    -- what it hands out went into the table
+    pub turned : Takes (owed_outcomes g start pipeline) start new → Runs g old.bound order old.most y (λ os. Takes os old new)
+    turned takes =
+        let t = subst (λ (s : Table). Takes (owed_outcomes g start pipeline) s new) is takes in
+        record {
+          plan = p;
+          covers = covers;
+          light = light;
+          meets = record { cut = recut (owed_outcomes g start pipeline) owed_bag t.cut; alike = record { bound = t.alike.bound; most = t.alike.most }; stands = t.stands; done = t.done };
+        }
+
+    -- or it was stopped
+    pub turn_stops : (e : AnswerRefusal) → TakesAll (owed_outcomes g start pipeline) start new (Err e) → Drains g old.bound order y old new (Err e)
+    turn_stops (refusal.Fault f) takes =
+        let t = subst (λ (s : Table). MeetsFault (owed_outcomes g start pipeline) s f) is takes in
+        record { plan = p; covers = covers; light = light; meets = record { cut = recut (owed_outcomes g start pipeline) owed_bag t.cut; seen = t.seen } }
+    turn_stops (refusal.TooManyRows most) takes =
+        let t = subst (λ (s : Table). MeetsMany (owed_outcomes g start pipeline) s) is takes.1 in
+        (takes.0 ∙ ap (λ (s : Table). s.most) is, inr (record { plan = p; covers = covers; light = light; meets = record { cut = recut (owed_outcomes g start pipeline) owed_bag t.cut; many = t.many } }))
+    turn_stops refusal.Memory takes = tt
+
+-- ---- what is spent
+
+-- side plans without joins run one after another
+flat_runs : (p : Plan) → is_flat p ≡ true → runs_of p ≡ []
+unfolding runs_of
+flat_runs Done h = refl
+flat_runs (Then (Scan v) p) h = flat_runs p h
+flat_runs (Then (Extend column x from to way) p) h = flat_runs p h
+flat_runs (Then (Close column x from to way) p) h = flat_runs p h
+flat_runs (Then (Join side keys) p) h = absurd (true≢false (sym h))
+flat_runs (Then (Keep i) p) h = flat_runs p h
+flat_runs (Then (Differ i) p) h = flat_runs p h
+flat_runs (Then (NoLoop x) p) h = flat_runs p h
+
+runs_sides : (p : Plan) → list_all is_flat (sides p) ≡ true → runs_of p ≡ sides p
+unfolding runs_of sides
+runs_sides Done h = refl
+runs_sides (Then (Scan v) p) h = runs_sides p h
+runs_sides (Then (Extend column x from to way) p) h = runs_sides p h
+runs_sides (Then (Close column x from to way) p) h = runs_sides p h
+runs_sides (Then (Join side keys) p) h =
+    let parts = and_parts (is_flat side) (list_all is_flat (sides p)) h in
+    ap (λ l. (l ++ side ∷ []) ++ runs_of p) (flat_runs side parts.0) ∙ ap (λ l. side ∷ l) (runs_sides p parts.1)
+runs_sides (Then (Keep i) p) h = runs_sides p h
+runs_sides (Then (Differ i) p) h = runs_sides p h
+runs_sides (Then (NoLoop x) p) h = runs_sides p h
+
+nothing_owed : {X : Type 0} (xs : List X) → length xs ≡ 0 → xs ≡ []
+nothing_owed [] h = refl
+nothing_owed (x ∷ xs) h = absurd (omega (arith, h))
+
+module _ (g : Graph) (y : Typed) (p : Plan) (old new : Table) (begun now : Rest) (own : Spent) (owed : IsPermutation (map (whole y) begun.owed) (meaning g y p))
+    (keys : is_flat p ≡ true → begun.keys ≡ plan_keys g y p) (columns : begun.columns ≡ columns_of y p) (run : HasRun old new begun now) (same : now.columns ≡ begun.columns)
+    (has_chunks : own.chunks ≡ now.chunks) (has_columns : own.columns ≡ now.columns) where
+  counted : own.chunks ≡ up_to_most run.count
+  counted = has_chunks ∙ run.chunks
+
+  pub own_spent : HasSpent g y p own
+  own_spent = record {
+    columns = has_columns ∙ same ∙ columns;
+    most = omega (arith, counted, run.most, length_permutation _ _ owed, length-map begun.owed (whole y));
+    none = λ e.
+        let zero : run.count ≡ 0 = omega (arith, counted, e) in
+        nothing_owed (meaning g y p) (omega (arith, ap length (run.none zero), length_permutation _ _ owed, length-map begun.owed (whole y)));
+  }
+
+  -- all that is owed is handed out where the table never is full
+  pub own_keys : cut_of new.bound ≡ None → HasOneEach g y p own
+  own_keys uncut flat = go run.keys
+    where
+      go : (is_full_table new ≡ true) ⊎ (run.count ≡ length begun.keys) → own.chunks ≡ up_to_most (length (plan_keys g y p))
+      go (inl full) = absurd (true≢false (sym full ∙ ap (λ c. is_full c new.held) uncut))
+      go (inr all) = counted ∙ ap up_to_most (all ∙ ap length (keys flat))
+
+  -- the table counts its chunks
+  pub own_counted : (before : ℕ) → old.pushed ≡ up_to_most before → new.pushed ≡ up_to_most (before + own.chunks)
+  own_counted before h =
+      let e : up_to_most (before + run.count) ≡ up_to_most (before + own.chunks) = omega (arith, counted) in
+      run.pushed before h ∙ e
+
+-- the turn of an alternative, whose plan has side plans without joins
+pub turn_spent : (g : Graph) (b : Bound) (order : Order) (y : Typed) (p : Plan) (costs : List (Option ℕ)) (ss : List Spent) (own : Spent) → IsPlanIn order g.catalog (sizes g) y p costs
+    → Covers g.catalog y p → list_all is_flat (sides p) ≡ true → AllZip (HasSpentAll g y) (runs_of p) ss → HasSpent g y p own → (cut_of b ≡ None → HasOneEach g y p own)
+    → IsTurn g b order y (record { sides = ss; own = own })
+turn_spent g b order y p costs ss own planned covers alone spent own_is one_each = record {
+  plan = p;
+  costs = costs;
+  planned = planned;
+  covers = covers;
+  sides = subst (λ l. AllZip (HasSpentAll g y) l ss) (runs_sides p alone) spent;
+  own = own_is;
+  one_each = one_each;
+}

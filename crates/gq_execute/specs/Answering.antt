@@ -5,11 +5,11 @@ use Rattle.gq_binder.specs.Binding.{IsBound}
 use Rattle.gq_plan.specs.declared.Bound.{Bound}
 use Rattle.gq_syntax.specs.declared.Query.{Query}
 use Rattle.gq_base.specs.Plain.{Graph}
+use Rattle.gq_execute.specs.declared.found.Answer.{Answer}
 use Rattle.gq_execute.specs.Replies.{Question, Rows, Faulted, TooManyRows, IsPermitted}
 use Rattle.gq_execute.specs.declared.refusal.AnswerRefusal.{AnswerRefusal}
 use Rattle.gq_execute.specs.declared.refusal.AnswerRefusal.TheVariants as refusal
 use Rattle.gq_execute.specs.declared.settings.Settings.{Settings}
-use Rattle.gq_rows.specs.declared.Listing.{Listing}
 
 -- a query over a graph, under some settings
 abbrev pub question : Graph → Query → Bound → Settings → Question
@@ -30,6 +30,6 @@ RepliesToEach g bound settings result =
     → Replies (question g query bound settings) result
 
 -- the lines of an answer
-abbrev pub lines_in : Result Listing AnswerRefusal → Result (List (List Val)) AnswerRefusal
-lines_in (Ok listing) = Ok listing.lines
+abbrev pub lines_in : Result Answer AnswerRefusal → Result (List (List Val)) AnswerRefusal
+lines_in (Ok found) = Ok found.listing.lines
 lines_in (Err refused) = Err refused

@@ -2,4 +2,5 @@ pub mod Answering
 pub mod Planned
 pub mod Refusals
 pub mod Replies
+pub mod Spending
 pub mod steps

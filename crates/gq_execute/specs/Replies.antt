@@ -29,6 +29,7 @@ pub record Question : Type 0 where
 abbrev pub parts_by : Order → Typed → List Part
 parts_by order.Given y = given_parts y
 parts_by order.Greedy y = greedy_parts y
+parts_by order.Least y = greedy_parts y
 
 -- the outcomes of all matches, and those of the matches that lie in an alternative
 abbrev pub all_outcomes : Question → List (Result Row Fault)

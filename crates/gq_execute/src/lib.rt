@@ -5,11 +5,13 @@
 #![tactic(auto)]
 
 mod answering;
+mod found;
 mod planning;
 mod refusal;
 mod settings;
 
 pub use answering::answer;
-pub use planning::plans;
+pub use found::Answer;
+pub use planning::{QueryPlans, plans};
 pub use refusal::AnswerRefusal;
 pub use settings::{Order, Settings};

@@ -1,8 +1,9 @@
-//! The plans of alternatives, in the order that the settings name.
-ghost use Rattle.std.specs.Prelude.{◌≡◌, ◌<◌, length, map, All, IfOk, IsTrue};
+//! The plans of alternatives, in the order that the settings name, and what they cost.
+ghost use Rattle.std.specs.Prelude.{◌≡◌, ◌<◌, [], length, map, All, IfOk, IsTrue};
 ghost use Rattle.std.specs.List.{AllZip, list_all};
-ghost use Rattle.gq_execute.specs.Planned.{plan_in, plans_in, sizes};
+ghost use Rattle.gq_execute.specs.Planned.{ArePlansIn, IsPlanIn, sizes};
 ghost use Rattle.gq_execute.specs.Replies.{parts_by};
+ghost use Rattle.gq_execute.specs.steps.Costing.{last_cost};
 ghost use Rattle.gq_plan.specs.Covers.{Covers};
 ghost use Rattle.gq_plan.specs.Flat.{is_flat};
 ghost use Rattle.gq_plan.specs.Parts.{IsSide, sides};
@@ -11,6 +12,7 @@ ghost use Rattle.gq_plan.specs.Plans.{plan_of};
 
 use crate::settings::Order;
 use gq_base::{List, Memory};
+use gq_least::{Chosen, ComponentOrder, least};
 use gq_order::{Stats, given, greedy};
 use gq_plan::{Bound, Plan, Typed};
 use gq_store::Graph;
@@ -47,6 +49,67 @@ fn rel_counts(alloc: Global, graph: &Graph) -> Result<List<u64>, Memory>
     Ok(counts)
 }
 
+/// The plan of an alternative, and the cost of each of its components in the order of least cost.
+#[derive(Drop)]
+pub(crate) struct Planned {
+    pub(crate) plan: Plan,
+    pub(crate) costs: List<Option<u128>>,
+}
+
+/// The plan of each alternative of a query, and the costs of each of these plans: of each component
+/// in the order of least cost, where it has at most 12 variables. In the other orders there are no
+/// costs.
+#[derive(Drop)]
+pub struct QueryPlans {
+    pub plans: List<Plan>,
+    pub costs: List<List<Option<u128>>>,
+}
+
+// A plan of an order that states no costs.
+fn uncosted(alloc: Global, plan: Plan) -> Planned
+    ensures plan { result.plan ≡ plan }
+    ensures costs { result.costs ≡ [] }
+{
+    Planned {
+        plan,
+        costs: List::new(alloc),
+    }
+}
+
+// The last entry of a component's cost table, if it has one.
+fn cost_of(order: &ComponentOrder) -> Option<u128>
+    ensures { result ≡ last_cost order.now }
+{
+    match &order.table {
+        None => None,
+        Some(table) => match table.costs.as_slice() {
+            [.., last] => *last,
+            [] => None,
+        },
+    }
+}
+
+// The costs of a plan's components.
+fn costs_of(alloc: Global, orders: &[ComponentOrder]) -> Result<List<Option<u128>>, Memory>
+    ensures { IfOk result (λ costs. costs ≡ map last_cost orders.now) }
+{
+    let mut costs = List::new(alloc);
+    for order in orders {
+        costs.push(cost_of(order))?;
+    }
+    Ok(costs)
+}
+
+// The plan of least cost.
+fn costed(alloc: Global, chosen: Chosen) -> Result<Planned, Memory>
+    ensures plan { IfOk result (λ p. p.plan ≡ chosen.plan) }
+    ensures costs { IfOk result (λ p. p.costs ≡ map last_cost chosen.orders) }
+{
+    let Chosen { plan, orders } = chosen;
+    let costs = costs_of(alloc, orders.as_slice())?;
+    Ok(Planned { plan, costs })
+}
+
 /// The plan of an alternative in this order. It covers the alternative, and joins one side plan
 /// without joins for each part.
 pub(crate) fn plan_for(
@@ -55,44 +118,48 @@ pub(crate) fn plan_for(
     graph: &Graph,
     stats: &Stats,
     typed: &Typed,
-) -> Result<Plan, Memory>
+) -> Result<Planned, Memory>
     requires sound { IsSound graph.now.catalog typed.now }
     requires begins { 0 < length typed.now.nodes }
     requires nodes { length stats.now.nodes ≡ length graph.now.catalog.nodes }
     requires rels { length stats.now.rels ≡ length graph.now.catalog.rels }
-    ensures covers { IfOk result (λ p. Covers graph.now.catalog typed.now (plan_of p)) }
+    ensures covers { IfOk result (λ p. Covers graph.now.catalog typed.now (plan_of p.plan)) }
     ensures parts { IfOk result (λ p.
         AllZip (IsSide graph.now.catalog typed.now)
-        (parts_by order typed.now) (sides (plan_of p))) }
-    ensures alone { IfOk result (λ p. IsTrue (list_all is_flat (sides (plan_of p)))) }
+        (parts_by order typed.now) (sides (plan_of p.plan))) }
+    ensures alone { IfOk result (λ p. IsTrue (list_all is_flat (sides (plan_of p.plan)))) }
     ensures plan { IfOk result (λ p.
-        plan_of p ≡ plan_in order graph.now.catalog stats.now typed.now) }
+        IsPlanIn order graph.now.catalog stats.now typed.now (plan_of p.plan) p.costs) }
 {
     match order {
-        Order::Given => given(alloc, typed, graph.catalog()),
-        Order::Greedy => greedy(alloc, typed, graph.catalog(), stats),
+        Order::Given => Ok(uncosted(alloc, given(alloc, typed, graph.catalog())?)),
+        Order::Greedy => Ok(uncosted(alloc, greedy(alloc, typed, graph.catalog(), stats)?)),
+        Order::Least => costed(alloc, least(alloc, typed, graph.catalog(), stats)?),
     }
 }
 
 /// The plan of each alternative of a bound query, in this order and by the sizes of the graph's
-/// tables; each covers its alternative. After `Memory` there is none.
+/// tables, with its costs; each covers its alternative. After `Memory` there is none.
 pub fn plans(
     alloc: Global,
     graph: &Graph,
     bound: &Bound,
     order: Order,
-) -> Result<List<Plan>, Memory>
+) -> Result<QueryPlans, Memory>
     requires sound { All (IsSound graph.now.catalog) bound.now.alternatives }
     requires begins { All (λ y. 0 < length y.nodes) bound.now.alternatives }
-    ensures plans { IfOk result (λ plans.
-        map plan_of plans ≡ plans_in order graph.now bound.now.alternatives) }
-    ensures covers { IfOk result (λ plans.
-        AllZip (Covers graph.now.catalog) bound.now.alternatives (map plan_of plans)) }
+    ensures plans { IfOk result (λ made.
+        ArePlansIn order graph.now bound.now.alternatives (map plan_of made.plans) made.costs) }
+    ensures covers { IfOk result (λ made.
+        AllZip (Covers graph.now.catalog) bound.now.alternatives (map plan_of made.plans)) }
 {
     let stats = stats_of(alloc, graph)?;
     let mut plans = List::new(alloc);
+    let mut costs = List::new(alloc);
     'alternatives: for typed in bound.alternatives.as_slice() {
-        plans.push(plan_for(alloc, order, graph, &stats, typed)?)?;
+        let planned = plan_for(alloc, order, graph, &stats, typed)?;
+        plans.push(planned.plan)?;
+        costs.push(planned.costs)?;
     }
-    Ok(plans)
+    Ok(QueryPlans { plans, costs })
 }

@@ -8,6 +8,8 @@ pub enum Order {
     Given,
     /// One connected component after another, each by the sizes of the tables.
     Greedy,
+    /// The same components, each in an order of least cost, as estimated by the sizes of the tables.
+    Least,
 }
 
 /// What an answer depends on beside the graph and the query.

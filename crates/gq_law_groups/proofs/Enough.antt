@@ -1,23 +1,16 @@
 -- Which groups may be flat: all of them, and those of a plan's shape where its steps stand in the order of their groups.
-use Rattle.std.proofs.Common.{◌≡◌, ℕ, ◌+◌, ◌<◌, ◌≤◌, Bool, true, false, cond, List, [], ◌∷◌, ◌++◌, length, refl, sym, subst, arith, true≢false}
-use Rattle.std.specs.Prelude.{IsPermutation}
-use Rattle.std.specs.List.{AllByRecursion}
+use Rattle.std.proofs.Common.{◌≡◌, ℕ, ◌+◌, ◌<◌, ◌≤◌, Bool, true, List, [], ◌∷◌, length, sym, subst, arith, true≢false}
 use Rattle.std.proofs.lemmas.Bool.{and_parts}
-use Rattle.std.proofs.lemmas.List.Sorted.{IsPermutation-refl}
 use Rattle.gq_base.specs.Catalogs.{Tables}
-use Rattle.gq_base.specs.Plain.{Graph}
 use Rattle.gq_plan.specs.Covers.{after_step, fits, fits_step}
 use Rattle.gq_plan.specs.Known.{Known, none}
-use Rattle.gq_plan.specs.Meaning.{nothing, mean}
-use Rattle.gq_plan.specs.Parts.{own_sides, sides}
-use Rattle.gq_plan.specs.Plans.{Plan, Done, Then, Step}
+use Rattle.gq_plan.specs.Plans.{Then}
 use Rattle.gq_plan.specs.declared.typed.Typed.{Typed}
-use Rattle.gq_law_groups.specs.Groups.{Group, makes_group, cut_from}
+use Rattle.gq_law_groups.specs.Groups.{Group, cut_from}
 use Rattle.gq_law_groups.specs.Law.{FlatEnough, ShapedEnough}
 use Rattle.gq_law_groups.specs.Layout.{known_with, AreFlatEnough}
-use Rattle.gq_law_groups.specs.Order.{NoGroups, AreCut}
 use Rattle.gq_plan.specs.Shapes.{places, is_flat_group}
-use Rattle.gq_law_groups.proofs.Cutting.{cut_is, cut_groups}
+use Rattle.gq_law_groups.proofs.Cutting.{cut_is, cut_cut, cut_enough}
 use Rattle.gq_law_groups.proofs.Ordered.{groups_enough}
 use Rattle.gq_law_groups.proofs.Shaped.{groups_ask}
 
@@ -31,28 +24,12 @@ enough_same catalog y f h i (b ∷ gs) k same e = (
       (subst (λ t. AreFlatEnough catalog y f (i + 1) gs (known_with t b k)) (same i (omega arith) (omega arith)) e.2),
 )
 
-none_more : (ks : List Step) (t : Step) → NoGroups ks → makes_group t ≡ false → NoGroups (ks ++ t ∷ [])
-none_more [] t h e = (e, tt)
-none_more (k ∷ ks) t h e = (h.0, none_more ks t h.1 e)
-
-pub cut_cut : (s : Step) (ks : List Step) (p : Plan) → makes_group s ≡ true → NoGroups ks → AreCut (cut_from s ks p)
-cut_cut s ks Done made h = (made, h, tt)
-cut_cut s ks (Then t p) made h = go (makes_group t) refl (λ e. cut_cut t [] p e tt) (λ e. cut_cut s (ks ++ t ∷ []) p made (none_more ks t h e))
-  where
-    go : (b : Bool) → makes_group t ≡ b → (makes_group t ≡ true → AreCut (cut_from t [] p)) → (makes_group t ≡ false → AreCut (cut_from s (ks ++ t ∷ []) p)) → AreCut (cond b (record { binds = s; checks = ks } ∷ cut_from t [] p) (cut_from s (ks ++ t ∷ []) p))
-    go true e on off = (made, h, on e)
-    go false e on off = off e
-
-all_same : (g : Graph) (y : Typed) (ps : List Plan) → AllByRecursion (λ side. IsPermutation (mean g y side nothing) (mean g y side nothing)) ps
-all_same g y [] = tt
-all_same g y (p ∷ ps) = (IsPermutation-refl _, all_same g y ps)
-
 pub flat_enough : FlatEnough
 unfolding fits
 flat_enough g y s p flat real made fit all =
     let parts = and_parts (fits_step g.catalog y s none) (fits g.catalog y p (after_step s none)) fit in
     enough_same g.catalog y (λ j. true) flat 0 (cut_from s [] p) none (λ j low high. sym (all j (omega (arith, high))))
-    (cut_groups g y real (λ side. mean g y side nothing) s [] p 0 none made parts.0 tt parts.1 (all_same g y (own_sides s)) (all_same g y (sides p))).1
+    (cut_enough g y real s [] p 0 none made parts.0 tt parts.1)
 
 pub shaped_enough : ShapedEnough
 shaped_enough g y s p flat made fit order all =

@@ -1,9 +1,7 @@
 -- The shape of a plan has enough flat groups.
 use Rattle.std.proofs.Common.{◌≡◌, ℕ, Bool, true, false, ◌||◌, nat_eq, List, [], ◌∷◌, ◌++◌, refl, sym, true≢false}
 use Rattle.std.proofs.lemmas.Bool.{or_right}
-use Rattle.std.proofs.lemmas.List.Elements.{recursion_from_All}
 use Rattle.gq_plan.specs.Known.{none}
-use Rattle.gq_plan.specs.Parts.{sides}
 use Rattle.gq_plan.specs.Plans.{Plan, Step}
 use Rattle.gq_plan.specs.Soundness.{has_number}
 use Rattle.gq_plan.specs.declared.typed.Typed.{Typed}
@@ -46,7 +44,7 @@ module _ (y : Typed) (w : Places) (flat : ℕ → Bool) where
 pub ordered_groups_mean : OrderedGroupsMeanPlan
 ordered_groups_mean g y rows w flat gs p real sound fp fq same cut order asks have =
     groups_mean_plan g y rows flat gs p real sound fp fq same
-    (are_groups g y real rows gs none cut fq (recursion_from_All _ (sides (plan_of gs)) have))
+    (are_groups g y real rows 0 gs none cut fq have)
     (groups_enough g.catalog y w flat gs 0 none none cut order asks fq
     (record { node_less = λ v e. e; rel_less = λ x e. e; node_seen = λ v e m. e; rel_seen = λ x e m. e })
     (record { nodes = λ v e. absurd (true≢false (sym e)); rels = λ x e. absurd (true≢false (sym e)) }))

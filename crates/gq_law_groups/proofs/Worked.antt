@@ -60,8 +60,8 @@ fork_shape : shape fork (plan_of fork_groups) ≡ record { form = form.Span; fla
 unfolding shape_from all_flat places_after place_step after after_step
 fork_shape = refl
 
-abbrev no_builds : Plan → List Partial
-no_builds side = []
+abbrev no_builds : ℕ → List Partial
+no_builds i = []
 
 -- of person 1 nothing is left, since a relationship is not its own other one
 fork_keys : keys (layout_of g fork no_builds (is_flat_group fork (plan_of fork_groups)) fork_groups) 3 [] ≡ (1 ∷ 0 ∷ 0 ∷ []) ∷ (1 ∷ 1 ∷ 0 ∷ []) ∷ (2 ∷ 0 ∷ 0 ∷ []) ∷ []
@@ -98,8 +98,8 @@ side_shape : shape meet side ≡ record { form = form.Span; flat = true } ∷ re
 unfolding shape_from all_flat places_after place_step after after_step
 side_shape = refl
 
-abbrev builds : Plan → List Partial
-builds p = mean g meet p nothing
+abbrev builds : ℕ → List Partial
+builds i = mean g meet side nothing
 
 meet_keys : keys (layout_of g meet builds (is_flat_group meet (plan_of meet_groups)) meet_groups) 3 [] ≡ (0 ∷ 0 ∷ 0 ∷ []) ∷ (0 ∷ 1 ∷ 0 ∷ []) ∷ (0 ∷ 2 ∷ 0 ∷ []) ∷ (2 ∷ 0 ∷ 0 ∷ []) ∷ []
 unfolding all_flat places_after place_step after after_step mean step nodes_of rels_of source target size_from keeps_from

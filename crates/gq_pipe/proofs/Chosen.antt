@@ -1,9 +1,9 @@
 -- The rows and load numbers at one selected position of each group of a chunk are those of the walk of these positions.
-use Rattle.std.proofs.Common.{◌≡◌, ◌⊎◌, inl, inr, ℕ, zero, suc, ◌+◌, ◌-◌, ◌*◌, ◌^◌, ◌<◌, ◌≤◌, Bool, true, false, not, ◌&&◌, Some, None, List, [], ◌∷◌, length, drop, refl, sym, ap, ap₂, ◌∙◌, subst, arith, true≢false, zero-add}
+use Rattle.std.proofs.Common.{◌≡◌, ◌⊎◌, inl, inr, ℕ, zero, suc, ◌+◌, ◌-◌, ◌*◌, ◌^◌, ◌<◌, ◌≤◌, Bool, min, true, false, not, ◌&&◌, Some, None, List, [], ◌∷◌, filter, map, length, drop, refl, sym, ap, ap₂, ◌∙◌, subst, arith, true≢false, zero-add}
 use Rattle.std.specs.Prelude.{slice_get, slice_index, slice_index_or, nat_eq, if◌then◌else◌}
-use Rattle.std.specs.List.{list_all, range_with_len}
+use Rattle.std.specs.List.{list_all, range_with_len, AllByRecursion}
 use Rattle.std.proofs.lemmas.Bool.{and_parts, cases_eq, eq-eqb, ne_eqb}
-use Rattle.std.proofs.lemmas.List.{get_or_default, length-map, drop_more, drop_all}
+use Rattle.std.proofs.lemmas.List.{get_or_default, length-drop, length-map, length-take, drop_more, drop_all}
 use Rattle.std.proofs.lemmas.List.FromFn.{get_or-map-range_with_len, get_or-range_with_len, length-range_with_len}
 use Rattle.std.proofs.lemmas.Option.{slice_get-get_or, slice_get_within}
 use Rattle.gq_base.specs.Catalogs.{Tables}
@@ -18,39 +18,47 @@ use Rattle.gq_group.specs.declared.chunk.Chunk.{Chunk}
 use Rattle.gq_group.specs.declared.home.NodeHome.{NodeHome}
 use Rattle.gq_group.specs.declared.home.NodeHome.TheVariants as node
 use Rattle.gq_group.specs.declared.home.RelHome.TheVariants as rel
-use Rattle.gq_join.specs.Kept.{matches, matches_of, place_of, rel_in, values_of}
+use Rattle.gq_join.specs.Kept.{has_key, matches, matches_of, place_of, rel_in, values_of}
+use Rattle.gq_join.specs.Kept.{node_in as node_in_build}
 use Rattle.gq_plan.specs.Covers.{after, fits_step}
 use Rattle.gq_plan.specs.Known.{Known, none}
 use Rattle.gq_plan.specs.Meaning.{nothing}
 use Rattle.gq_plan.specs.Plans.{Plan, Step, Scan, Extend, Close, Join, Keep, Differ, NoLoop, steps}
 use Rattle.gq_plan.specs.Rows.{node_table, rel_table}
+use Rattle.gq_plan.specs.Soundness.{has_number}
 use Rattle.gq_plan.specs.declared.assignment.Assignment.{Assignment}
 use Rattle.gq_plan.specs.declared.typed.Typed.{Typed}
 use Rattle.gq_store.specs.Neighbours.{neighbours, numbers}
 use Rattle.gq_law_groups.specs.Groups.{makes_group, decode, place}
+use Rattle.gq_walks.specs.Layouts.{piece_of}
 use Rattle.gq_walks.specs.Running.{Runs, cursor_at, keys_of, prefix}
 use Rattle.gq_walks.specs.declared.walker.Cursor.{Cursor}
 use Rattle.gq_walks.proofs.Runs.{length-keys}
 use Rattle.gq_pipe.specs.Built.{HasBuild}
 use Rattle.gq_pipe.specs.Levels.{given}
-use Rattle.gq_pipe.specs.Plain.{is_plain}
-use Rattle.gq_pipe.specs.steps.Chunks.{AreStanding, HasKept, KeepsOf, list_of, matches_in}
-use Rattle.gq_pipe.specs.steps.Cells.{cell_of, filled, led, near_in}
-use Rattle.gq_pipe.specs.steps.Homes.{AreHomes, HasColumn, IsFilling, IsHoused, filling_at, filling_of, is_forward, node_home, rel_home}
+use Rattle.gq_pipe.specs.steps.Chunks.{AreStanding, HasKept, KeepsOf, list_of, matches_in, part}
+use Rattle.gq_pipe.specs.steps.Cells.{build_in, cell_of, filled, item_in, kept_row, led, near_in}
+use Rattle.gq_pipe.specs.steps.Homes.{AreHomes, HasColumn, HasKeptColumn, HasMatch, IsFilling, IsHoused, filling_at, filling_of, is_forward, kept_of, leading_of, node_home, rel_home}
 use Rattle.gq_pipe.specs.steps.Keeps.{IsRange, IsTriedAt}
-use Rattle.gq_pipe.specs.steps.Levels.{Run, step_at, known, before}
+use Rattle.gq_pipe.specs.steps.Levels.{Run, step_at, built_at, known, before}
 use Rattle.gq_pipe.specs.steps.Lists.{no_group, group_at, group_in, groups_in, rows_in, layout_in, Tiles, Stands}
 use Rattle.gq_pipe.specs.steps.Moves.{IsRun, IsHeld, IsTried}
 use Rattle.gq_pipe.specs.declared.homes.Filling.{Filling}
 use Rattle.gq_pipe.specs.declared.places.GroupSteps.{GroupSteps}
 use Rattle.gq_pipe.specs.declared.plan_run.Tried.{Tried}
 use Rattle.gq_pipe.specs.declared.plan_run.Tried.TheVariants.{Past, Missed, Made}
-use Rattle.gq_pipe.proofs.Agreeing.{TriesItself, joined, scan_itself, extend_itself, close_itself, keep_itself, differ_itself, no_loop_itself}
+use Rattle.gq_pipe.proofs.Agreeing.{TriesItself, joined, join_itself, scan_itself, extend_itself, close_itself, keep_itself, differ_itself, no_loop_itself}
 use Rattle.gq_pipe.proofs.Binding.{fits_at, given_all}
+use Rattle.gq_pipe.proofs.Brings.{side_low}
+use Rattle.gq_pipe.proofs.Brought.{each_passes}
 use Rattle.gq_pipe.proofs.Filling.{AreCells, cell_is, led_within, length-filled}
 use Rattle.gq_pipe.proofs.Going.{IsGoing, begins, ends, tried_made, tried_missed, tried_past}
 use Rattle.gq_pipe.proofs.Here.{group_range, group_held, group_makes, group_size, group_told, group_next, group_place, group_others}
-use Rattle.gq_pipe.proofs.Joined.{build, join_count}
+use Rattle.gq_pipe.proofs.Joined.{build, join_count, key_value, IsLow}
+use Rattle.gq_pipe.proofs.Joining.{has, has_kept}
+use Rattle.gq_pipe.proofs.Matched.{match_key, match_low}
+use Rattle.gq_pipe.proofs.Piecing.{list_size}
+use Rattle.gq_pipe.proofs.Pushing.{place_has}
 use Rattle.gq_pipe.proofs.Reading.{place_at, IsHere, here, item_is, first_is, position_small}
 use Rattle.gq_pipe.proofs.Resting.{stands_first}
 use Rattle.gq_pipe.proofs.Sources.{IsIn, fits_there, set_before, known_before}
@@ -86,7 +94,7 @@ join_reads catalog y k side keys fit = (and_parts _ _ (and_parts _ _ fit).1).0
 
 module _ (c : Run) (ss : List GroupSteps) (row : Assignment) (cs : List Cursor) (ms : List (List Bool)) (ch : Chunk) (ps : List ℕ) (runs : Runs (layout_in c ss) [] cs ms) (many : length cs ≡ length ss)
     (groups : AreStanding c ss row cs ms ch.groups.now (length ss)) (sel : AreSelected ch.groups.now ps)
-    (st : Stands c ss row (keys_of cs)) (fs : List Filling) (homes : AreHomes c ss (length ss) (length c.steps) fs ch.homes.now) (cols : AreCells c row fs ch) (plain : (d : ℕ) → d < length c.steps → is_plain (step_at c d) ≡ true) where
+    (st : Stands c ss row (keys_of cs)) (fs : List Filling) (homes : AreHomes c ss (length ss) (length c.steps) fs ch.homes.now) (cols : AreCells c row fs ch) where
   -- the rows and load numbers there
   abbrev pub read : Assignment
   read = assignment_at c.graph c.typed ch ps
@@ -135,10 +143,13 @@ module _ (c : Run) (ss : List GroupSteps) (row : Assignment) (cs : List Cursor) 
     house : (e : ℕ) → s.first ≤ e → e < s.end → IsHoused fs ch.homes.now i (step_at c e)
     house e above below = (homes.done i e low (record { low = above; high = below })).1
 
+    others : (e : ℕ) → s.first < e → e < s.end → makes_group (step_at c e) ≡ false
+    others e above below = group_others c ss read i low s found pre long at e above below
+
     few : j + 1 < 2 ^ 32
     few = let inside = spot.place.inside in let most = spot.few in omega (arith, inside, most)
 
-    inside_of : (n : ℕ) → length (Rattle.gq_pipe.specs.steps.Tries.tries c.graph c.typed (step_at c s.first) (before c read s.first)) ≡ n → j < n
+    inside_of : (n : ℕ) → length (Rattle.gq_pipe.specs.steps.Tries.tries c.graph c.typed (built_at c s.first) (step_at c s.first) (before c read s.first)) ≡ n → j < n
     inside_of n e = let inside = spot.place.inside in omega (arith, inside, group_size c ss read i low s found pre long at, e)
 
     -- the load number of a relationship of the group's list
@@ -219,12 +230,12 @@ module _ (c : Run) (ss : List GroupSteps) (row : Assignment) (cs : List Cursor) 
     column_there : (x from to : ℕ) (w : Direction) (b : HasColumn fs ch.homes.now i x from to w) → from < length c.typed.nodes → to < length c.typed.nodes → slice_index read.nodes from < row_count c.graph.nodes (node_table c.typed from)
         → IsIn ch.homes.now i from ⊎ (slice_index row.nodes from ≡ slice_index read.nodes from) → slice_index read.nodes to ≡ slice_index (neighbours c.graph (rel_table c.typed x) w (slice_index read.nodes from)) 0
     column_there x from to w b from_low to_low within_rows near =
-        let filling : IsFilling c (length ss) (known c (length c.steps)) ch.homes.now b.column (filling_at fs b.column) = homes.fillings b.column b.inside in
-        let mine : IsFilling c (length ss) (known c (length c.steps)) ch.homes.now b.column (filling_of i x from w) = subst (IsFilling c (length ss) (known c (length c.steps)) ch.homes.now b.column) b.filling filling in
+        let filling : IsFilling c ss (known c (length c.steps)) ch.homes.now b.column (filling_at fs b.column) = homes.fillings b.column b.inside in
+        let mine : IsFilling c ss (known c (length c.steps)) ch.homes.now b.column (filling_of i x from w) = subst (IsFilling c ss (known c (length c.steps)) ch.homes.now b.column) b.filling filling in
         node_read to to_low ∙ ap (node_in ch ps) b.node_is ∙ cell_there b.column b.inside
         ∙ ap (λ f. cell_of c row ch.groups.now ch.homes.now (filled c row ch.groups.now ch.homes.now fs b.column) f (slice_index ps i)) b.filling
-        ∙ ap (led c (filling_of i x from w)) (source_there from b.column from_low b.inside mine.before near)
-        ∙ led_within c (filling_of i x from w) (slice_index read.nodes from) within_rows
+        ∙ ap (led c (leading_of i x from w)) (source_there from b.column from_low b.inside mine.before near)
+        ∙ led_within c (leading_of i x from w) (slice_index read.nodes from) within_rows
 
     -- the row of the build that a join matches there is the item of the group
     match_there : (side : Plan) (keys : List ℕ) (is : step_at c s.first ≡ Join side keys)
@@ -261,23 +272,94 @@ module _ (c : Run) (ss : List GroupSteps) (row : Assignment) (cs : List Cursor) 
         ∙ ap (λ w. slice_index spot.group.kept.numbers.now (slice_index (items_in (group_of ch i)) (slice_index ps i) * w + n)) k.width
         ∙ k.each (slice_index (items_in (group_of ch i)) (slice_index ps i)) n row_low kept_there
 
+    -- the position is in the piece of the group
+    item_some : item_in ch.groups.now i (slice_index ps i) ≡ Some (slice_index (items_in (group_of ch i)) (slice_index ps i))
+    item_some =
+        let list : List ℕ = list_of c s.first row (step_at c s.first) in
+        let first : ℕ = 1024 * piece_of s.flat (cursor_at cs i).key in
+        let items : items_in (group_of ch i) ≡ part list first = ap items_in spot.there ∙ spot.is.piece.items_are in
+        let inside = spot.place.inside in
+        let size = list_size c ss row cs ms st runs many i low in
+        let behind : length (drop first list) ≡ length list - first = length-drop first list in
+        let most : length (part list first) ≡ min 1024 (length (drop first list)) = length-take 1024 (drop first list) in
+        let same = ap length items in
+        let small = p_small in
+        slice_get-get_or (items_in (group_of ch i)) (slice_index ps i) 0 (omega (arith, inside, size, behind, most, same, small))
+
+    -- what a join binds is what the row of its build has that is matched there
+    module _ (side : Plan) (keys : List ℕ) (is : step_at c s.first ≡ Join side keys) where
+      abbrev b : HasBuild c.graph c.typed side keys (slice_index_or c.builds s.first None)
+      b = build c at.runs s.first first_low read held side keys is
+
+      abbrev item : ℕ
+      item = slice_index (items_in (group_of ch i)) (slice_index ps i)
+
+      match : slice_get (matches_of (joined c at.runs s.first first_low read held side keys is) read) j ≡ Some item
+      match = match_there side keys is
+
+      row_low : item < length (joined c at.runs s.first first_low read held side keys is).rows
+      row_low = match_low (joined c at.runs s.first first_low read held side keys is) read j item match
+
+      has_match : HasMatch fs ch.homes.now i side keys
+      has_match = subst (IsHoused fs ch.homes.now i) is (house s.first (omega arith) within.some)
+
+      side_bound : IsLow c.typed (after side none)
+      side_bound = side_low c (known c s.first) side keys (subst (λ t. fits_step c.graph.catalog c.typed t (known c s.first) ≡ true) is (fits_at c at.runs s.first first_low))
+
+      brought_there : (v : ℕ) → v < length c.typed.nodes → HasKeptColumn fs ch.homes.now i v → slice_index read.nodes v ≡ node_in_build (joined c at.runs s.first first_low read held side keys is) v item
+      brought_there v v_low lives =
+          let filling : IsFilling c ss (known c (length c.steps)) ch.homes.now lives.column (filling_at fs lives.column) = homes.fillings lives.column lives.inside in
+          let mine : IsFilling c ss (known c (length c.steps)) ch.homes.now lives.column (kept_of i lives.depth v) = subst (IsFilling c ss (known c (length c.steps)) ch.homes.now lives.column) lives.filling filling in
+          node_read v v_low ∙ ap (node_in ch ps) lives.node_is ∙ cell_there lives.column lives.inside
+          ∙ ap (λ f. cell_of c row ch.groups.now ch.homes.now (filled c row ch.groups.now ch.homes.now fs lives.column) f (slice_index ps i)) lives.filling
+          ∙ ap (λ d. kept_row (build_in c d) (item_in ch.groups.now i (slice_index ps i)) v) mine.depth
+          ∙ ap₂ (λ o r. kept_row o r v) b.there item_some
+
+      node_kept : (v : ℕ) → (after side none).nodes v ≡ true → slice_index read.nodes v ≡ node_in_build (joined c at.runs s.first first_low read held side keys is) v item
+      node_kept v own = go (has_number keys v) refl
+        where
+          go : (t : Bool) → has_number keys v ≡ t → slice_index read.nodes v ≡ node_in_build (joined c at.runs s.first first_low read held side keys is) v item
+          go false other = brought_there v (side_bound.nodes v own) (has_match.nodes v own other)
+          go true key =
+              sym (key_value (joined c at.runs s.first first_low read held side keys is) read item keys v
+              (subst (λ ks. has_key (map (node_in_build (joined c at.runs s.first first_low read held side keys is)) ks) (map (slice_index read.nodes) ks) item ≡ true) b.is.key_list
+              (match_key (joined c at.runs s.first first_low read held side keys is) read j item match)) key)
+
+      rel_kept : (x : ℕ) → (after side none).rels x ≡ true → slice_index read.rels x ≡ rel_in (joined c at.runs s.first first_low read held side keys is) x item
+      rel_kept x own =
+          let x_low : x < length c.typed.rels = side_bound.rels x own in
+          let all : (joined c at.runs s.first first_low read held side keys is).rels ≡ filter (after side none).rels (range_with_len 0 (length c.typed.rels)) = b.is.rels in
+          let there : has (joined c at.runs s.first first_low read held side keys is).rels x ≡ true = ap (λ l. has l x) all ∙ has_kept (after side none).rels (length c.typed.rels) x x_low ∙ own in
+          kept_number side keys is x x_low (place_has (joined c at.runs s.first first_low read held side keys is).rels x there).0 row_low
+          (has_match.rels x own
+          ∙ ap (λ n. rel.Kept i (place_of (filter (after side none).rels (range_with_len 0 n)) x)) homes.rel_count
+          ∙ ap (λ l. rel.Kept i (place_of l x)) (sym all))
+
+      join_there : TriesItself c s.first j read
+      join_there =
+          join_itself c at.runs s.first first_low read held side keys is j item few match
+          (subst (AllByRecursion (λ v. slice_index read.nodes v ≡ node_in_build (joined c at.runs s.first first_low read held side keys is) v item)) (sym b.is.nodes)
+          (each_passes (λ v. slice_index read.nodes v ≡ node_in_build (joined c at.runs s.first first_low read held side keys is) v item) (after side none).nodes 0 (length c.typed.nodes) (λ v v_low own. node_kept v own)))
+          (subst (AllByRecursion (λ x. slice_index read.rels x ≡ rel_in (joined c at.runs s.first first_low read held side keys is) x item)) (sym b.is.rels)
+          (each_passes (λ x. slice_index read.rels x ≡ rel_in (joined c at.runs s.first first_low read held side keys is) x item) (after side none).rels 0 (length c.typed.rels) (λ x x_low own. rel_kept x own)))
+
     -- the first step
     first_itself : TriesItself c s.first j read
-    first_itself = go (step_at c s.first) refl (house s.first (omega arith) within.some) (plain s.first first_low) (group_makes c ss read i low s found pre long at) met.fit
+    first_itself = go (step_at c s.first) refl (house s.first (omega arith) within.some) (group_makes c ss read i low s found pre long at) met.fit
       where
         run : IsRun c
         run = at.runs
 
-        go : (t : Step) → step_at c s.first ≡ t → IsHoused fs ch.homes.now i (step_at c s.first) → is_plain (step_at c s.first) ≡ true → makes_group (step_at c s.first) ≡ true → fits_step c.graph.catalog c.typed (step_at c s.first) met.set ≡ true → TriesItself c s.first j read
-        go (Scan v) is home simple makes fit =
+        go : (t : Step) → step_at c s.first ≡ t → IsHoused fs ch.homes.now i (step_at c s.first) → makes_group (step_at c s.first) ≡ true → fits_step c.graph.catalog c.typed (step_at c s.first) met.set ≡ true → TriesItself c s.first j read
+        go (Scan v) is home makes fit =
             let v_low : v < length c.typed.nodes = scan_low c run s.first first_low read held v is in
             let inside = inside_of _ (scan_count c run s.first first_low read held v is) in
             scan_itself c run s.first first_low read held v j is inside few
             (item_there v (subst (IsHoused fs ch.homes.now i) is home) v_low
             ∙ ap (λ t. slice_index (list_of c s.first row t) j) is
             ∙ get_or-range_with_len 0 _ j 0 inside ∙ zero-add j)
-        go (Extend true x from to w) is home simple makes fit = absurd (true≢false (sym makes ∙ ap makes_group is))
-        go (Extend false x from to w) is home simple makes fit =
+        go (Extend true x from to w) is home makes fit = absurd (true≢false (sym makes ∙ ap makes_group is))
+        go (Extend false x from to w) is home makes fit =
             let f : Follows c x from to w = follows c run false x from to w (extend_goes c run s.first first_low read held false x from to w is) in
             let x_low : x < length c.typed.rels = slice_get_within c.typed.rels x _ f.rel_is in
             let from_low : from < length c.typed.nodes = slice_get_within c.typed.nodes from _ f.near in
@@ -290,17 +372,17 @@ module _ (c : Run) (ss : List GroupSteps) (row : Assignment) (cs : List Cursor) 
             (λ inside. item_there to both.0 to_low ∙ ap (λ t. slice_index (list_of c s.first row t) j) is
             ∙ ap (λ n. slice_index (neighbours c.graph (rel_table c.typed x) w n) j) near)
             (λ inside. listed_number x from w both.1 x_low from_low)
-        go (Close true x from to w) is home simple makes fit = absurd (true≢false (sym makes ∙ ap makes_group is))
-        go (Close false x from to w) is home simple makes fit =
+        go (Close true x from to w) is home makes fit = absurd (true≢false (sym makes ∙ ap makes_group is))
+        go (Close false x from to w) is home makes fit =
             let f : Follows c x from to w = follows c run false x from to w (close_goes c run s.first first_low read held false x from to w is) in
             let x_low : x < length c.typed.rels = slice_get_within c.typed.rels x _ f.rel_is in
             let from_low : from < length c.typed.nodes = slice_get_within c.typed.nodes from _ f.near in
             close_itself c run s.first first_low read held false x from to w j few is
             (λ inside. listed_number x from w (subst (IsHoused fs ch.homes.now i) is home) x_low from_low)
-        go (Join side keys) is home simple makes fit = absurd (true≢false (sym simple ∙ ap is_plain is))
-        go (Keep k) is home simple makes fit = absurd (true≢false (sym makes ∙ ap makes_group is))
-        go (Differ p) is home simple makes fit = absurd (true≢false (sym makes ∙ ap makes_group is))
-        go (NoLoop x) is home simple makes fit = absurd (true≢false (sym makes ∙ ap makes_group is))
+        go (Join side keys) is home makes fit = join_there side keys is
+        go (Keep k) is home makes fit = absurd (true≢false (sym makes ∙ ap makes_group is))
+        go (Differ p) is home makes fit = absurd (true≢false (sym makes ∙ ap makes_group is))
+        go (NoLoop x) is home makes fit = absurd (true≢false (sym makes ∙ ap makes_group is))
 
     -- the steps behind it
     module _ (d : ℕ) (above : s.first < d) (below : d < s.end) (have : IsHeld c read (known c d)) where
@@ -310,11 +392,11 @@ module _ (c : Run) (ss : List GroupSteps) (row : Assignment) (cs : List Cursor) 
       -- what a column extension reads lives in the group, or stands
       reads_near : (x from to : ℕ) (w : Direction) → step_at c d ≡ Extend true x from to w → IsIn ch.homes.now i from ⊎ (slice_index row.nodes from ≡ slice_index read.nodes from)
       reads_near x from to w is =
-          let there : Known = Rattle.gq_pipe.proofs.Sources.there c fs ch.homes.now i s within.inside house plain d above below met.set met.placed in
-          let fit : fits_step c.graph.catalog c.typed (step_at c d) there ≡ true = fits_there c fs ch.homes.now i s within.inside house plain d above below met.set met.placed in
+          let there : Known = Rattle.gq_pipe.proofs.Sources.there c at.runs fs ch.homes.now i s within.inside house others d above below met.set met.fit met.placed in
+          let fit : fits_step c.graph.catalog c.typed (step_at c d) there ≡ true = fits_there c at.runs fs ch.homes.now i s within.inside house others d above below met.set met.fit met.placed in
           let set : there.nodes from ≡ true = extend_reads c.graph.catalog c.typed there true x from to w (subst (λ t. fits_step c.graph.catalog c.typed t there ≡ true) is fit) in
           let bound = (extend_parts c at.runs d step_low read have true x from to w is).1 in
-          go (set_before c fs ch.homes.now i s within.inside house plain d above below met.set met.placed from set) (known_before c fs ch.homes.now i s within.inside house plain d from (omega (arith, above)) (omega (arith, below)) bound)
+          go (set_before c at.runs fs ch.homes.now i s within.inside house others d above below met.set met.fit met.placed from set) (known_before c at.runs fs ch.homes.now i s within.inside house others d from (omega (arith, above)) (omega (arith, below)) bound)
         where
           go : (met.set.nodes from ≡ true) ⊎ IsIn ch.homes.now i from → ((known c s.first).nodes from ≡ true) ⊎ IsIn ch.homes.now i from → IsIn ch.homes.now i from ⊎ (slice_index row.nodes from ≡ slice_index read.nodes from)
           go (inr here) k = inl here
@@ -322,29 +404,29 @@ module _ (c : Run) (ss : List GroupSteps) (row : Assignment) (cs : List Cursor) 
           go (inl set) (inl bound) = inr (same_row c at.runs row read s met from set bound)
 
       next_itself : TriesItself c d 0 read
-      next_itself = go (step_at c d) refl (house d (omega (arith, above)) below) (plain d step_low) (group_others c ss read i low s found pre long at d above below)
+      next_itself = go (step_at c d) refl (house d (omega (arith, above)) below) (group_others c ss read i low s found pre long at d above below)
         where
           run : IsRun c
           run = at.runs
 
-          go : (t : Step) → step_at c d ≡ t → IsHoused fs ch.homes.now i (step_at c d) → is_plain (step_at c d) ≡ true → makes_group (step_at c d) ≡ false → TriesItself c d 0 read
-          go (Scan v) is home simple none = absurd (true≢false (ap makes_group (sym is) ∙ none))
-          go (Extend true x from to w) is home simple none =
+          go : (t : Step) → step_at c d ≡ t → IsHoused fs ch.homes.now i (step_at c d) → makes_group (step_at c d) ≡ false → TriesItself c d 0 read
+          go (Scan v) is home none = absurd (true≢false (ap makes_group (sym is) ∙ none))
+          go (Extend true x from to w) is home none =
               let f : Follows c x from to w = follows c run true x from to w (extend_goes c run d step_low read have true x from to w is) in
               let b : HasColumn fs ch.homes.now i x from to w = subst (IsHoused fs ch.homes.now i) is home in
               extend_itself c run d step_low read have true x from to w 0 (omega arith) is
               (λ inside. column_there x from to w b (slice_get_within c.typed.nodes from _ f.near) (slice_get_within c.typed.nodes to _ f.far) (have.rows from (extend_parts c run d step_low read have true x from to w is).1) (reads_near x from to w is))
               (λ inside. single_number x from w b.edge_is (slice_get_within c.typed.rels x _ f.rel_is) (slice_get_within c.typed.nodes from _ f.near))
-          go (Extend false x from to w) is home simple none = absurd (true≢false (ap makes_group (sym is) ∙ none))
-          go (Close true x from to w) is home simple none =
+          go (Extend false x from to w) is home none = absurd (true≢false (ap makes_group (sym is) ∙ none))
+          go (Close true x from to w) is home none =
               let f : Follows c x from to w = follows c run true x from to w (close_goes c run d step_low read have true x from to w is) in
               close_itself c run d step_low read have true x from to w 0 (omega arith) is
               (λ inside. single_number x from w (subst (IsHoused fs ch.homes.now i) is home) (slice_get_within c.typed.rels x _ f.rel_is) (slice_get_within c.typed.nodes from _ f.near))
-          go (Close false x from to w) is home simple none = absurd (true≢false (ap makes_group (sym is) ∙ none))
-          go (Join side keys) is home simple none = absurd (true≢false (ap makes_group (sym is) ∙ none))
-          go (Keep k) is home simple none = keep_itself c run d step_low read have k is 0
-          go (Differ p) is home simple none = differ_itself c run d step_low read have p is 0
-          go (NoLoop x) is home simple none = no_loop_itself c run d step_low read have x is 0
+          go (Close false x from to w) is home none = absurd (true≢false (ap makes_group (sym is) ∙ none))
+          go (Join side keys) is home none = absurd (true≢false (ap makes_group (sym is) ∙ none))
+          go (Keep k) is home none = keep_itself c run d step_low read have k is 0
+          go (Differ p) is home none = differ_itself c run d step_low read have p is 0
+          go (NoLoop x) is home none = no_loop_itself c run d step_low read have x is 0
 
     -- the place is kept, so each step makes something
     kept_all : IsTriedAt c s j read false read → ⊥
@@ -408,7 +490,7 @@ module _ (c : Run) (ss : List GroupSteps) (row : Assignment) (cs : List Cursor) 
         subst (Stands c ss read) (sym (prefix_more cs i (omega (arith, low, many))))
         (group_next c ss read i low s found pre long at j spot.place.inside true read made.tried (cursor_at cs i).key spot.place.kept spot.place.number_is)
 
-    pub place_is : place c.graph c.typed (rows_in c) (group_in c.steps s) (before c read s.first) j ≡ before c read s.end
+    pub place_is : place c.graph c.typed (built_at c s.first) (group_in c.steps s) (before c read s.first) j ≡ before c read s.end
     place_is = group_place c ss read i low s found pre long at j spot.place.inside true read made.tried (cursor_at cs i).key spot.place.kept spot.place.number_is
 
   -- all groups stand
@@ -419,24 +501,24 @@ module _ (c : Run) (ss : List GroupSteps) (row : Assignment) (cs : List Cursor) 
       subst (λ n. Stands c ss read (prefix cs n)) next (stands_next i (omega (arith, low)) (all_stand i (omega (arith, low))))
 
   module _ (walk : List ℕ) (long_walk : length walk ≡ length ss) (each : (i : ℕ) → i < length ss → slice_index walk i ≡ place_at c ss row cs ms ch ps runs many groups sel i) where
-    decode_from : (n i d : ℕ) → i + n ≡ length ss → Tiles c d (drop i ss) → decode c.graph c.typed (rows_in c) (groups_in c (drop i ss)) (before c read d) (drop i walk) ≡ before c read (length c.steps)
+    decode_from : (n i d : ℕ) → i + n ≡ length ss → Tiles c d (drop i ss) → decode c.graph c.typed (rows_in c ss) i (groups_in c (drop i ss)) (before c read d) (drop i walk) ≡ before c read (length c.steps)
     decode_from zero i d at_end tiles =
         let none : drop i ss ≡ [] = drop_all i ss (omega (arith, at_end)) in
-        ap (λ l. decode c.graph c.typed (rows_in c) (groups_in c l) (before c read d) (drop i walk)) none
+        ap (λ l. decode c.graph c.typed (rows_in c ss) i (groups_in c l) (before c read d) (drop i walk)) none
         ∙ ap (before c read) (subst (Tiles c d) none tiles)
     decode_from (suc n) i d at_end tiles =
         let low : i < length ss = omega (arith, at_end) in
         let more : drop i ss ≡ group_at ss i ∷ drop (i + 1) ss = drop_more ss i no_group low in
         let walked : drop i walk ≡ slice_index walk i ∷ drop (i + 1) walk = drop_more walk i 0 (omega (arith, low, long_walk)) in
         let tiled = subst (Tiles c d) more tiles in
-        ap (λ l. decode c.graph c.typed (rows_in c) (groups_in c l) (before c read d) (drop i walk)) more
-        ∙ ap (decode c.graph c.typed (rows_in c) (groups_in c (group_at ss i ∷ drop (i + 1) ss)) (before c read d)) walked
-        ∙ ap (λ j. decode c.graph c.typed (rows_in c) (groups_in c (drop (i + 1) ss)) (place c.graph c.typed (rows_in c) (group_in c.steps (group_at ss i)) (before c read d) j) (drop (i + 1) walk)) (each i low)
-        ∙ ap (λ n. decode c.graph c.typed (rows_in c) (groups_in c (drop (i + 1) ss)) (place c.graph c.typed (rows_in c) (group_in c.steps (group_at ss i)) (before c read n) (place_at c ss row cs ms ch ps runs many groups sel i)) (drop (i + 1) walk)) (sym tiled.0)
-        ∙ ap (λ a. decode c.graph c.typed (rows_in c) (groups_in c (drop (i + 1) ss)) a (drop (i + 1) walk)) (place_is i low (all_stand i (omega (arith, low))))
+        ap (λ l. decode c.graph c.typed (rows_in c ss) i (groups_in c l) (before c read d) (drop i walk)) more
+        ∙ ap (decode c.graph c.typed (rows_in c ss) i (groups_in c (group_at ss i ∷ drop (i + 1) ss)) (before c read d)) walked
+        ∙ ap (λ j. decode c.graph c.typed (rows_in c ss) (i + 1) (groups_in c (drop (i + 1) ss)) (place c.graph c.typed (rows_in c ss i) (group_in c.steps (group_at ss i)) (before c read d) j) (drop (i + 1) walk)) (each i low)
+        ∙ ap (λ n. decode c.graph c.typed (rows_in c ss) (i + 1) (groups_in c (drop (i + 1) ss)) (place c.graph c.typed (rows_in c ss i) (group_in c.steps (group_at ss i)) (before c read n) (place_at c ss row cs ms ch ps runs many groups sel i)) (drop (i + 1) walk)) (sym tiled.0)
+        ∙ ap (λ a. decode c.graph c.typed (rows_in c ss) (i + 1) (groups_in c (drop (i + 1) ss)) a (drop (i + 1) walk)) (place_is i low (all_stand i (omega (arith, low))))
         ∙ decode_from n (i + 1) (group_at ss i).end (omega (arith, at_end)) tiled.3
 
     -- what the plan binds at these positions is what the walk binds
-    pub reads_walk : given c.typed read (steps c.steps) nothing ≡ decode c.graph c.typed (rows_in c) (groups_in c ss) nothing walk
+    pub reads_walk : given c.typed read (steps c.steps) nothing ≡ decode c.graph c.typed (rows_in c ss) 0 (groups_in c ss) nothing walk
     unfolding before
     reads_walk = given_all c read ∙ sym (decode_from (length ss) 0 0 (zero-add (length ss)) st.grouped.tiles)

@@ -1,27 +1,40 @@
 -- The chunk of a pipeline that stands.
-use Rattle.std.proofs.Common.{◌≡◌, ℕ, ◌<◌, ◌≤◌, Bool, true, false, List, map, length, refl, sym, ap, ◌∙◌, subst, true≢false}
-use Rattle.gq_group.specs.Chunks.{IsChunkOf, chunk_meaning}
+use Rattle.std.proofs.Common.{◌≡◌, ℕ, ◌<◌, ◌≤◌, Bool, true, false, List, [], ◌∷◌, map, length, refl, sym, ap, ap₂, ◌∙◌, subst, true≢false}
+use Rattle.std.proofs.lemmas.List.{length-map}
+use Rattle.std.proofs.lemmas.List.FromFn.{length-map-range_with_len}
+use Rattle.gq_group.specs.Chunks.{IsChunkOf, assignment_at, chunk_meaning}
+use Rattle.gq_group.specs.Groups as group
 use Rattle.gq_group.specs.declared.chunk.Chunk.{Chunk}
 use Rattle.gq_group.specs.declared.group.Group.{Group}
 use Rattle.gq_group.specs.declared.home.Homes.{Homes}
+use Rattle.gq_plan.specs.Arranged.{arranged}
+use Rattle.gq_plan.specs.Covers.{after}
+use Rattle.gq_plan.specs.Known.{none}
 use Rattle.gq_plan.specs.Meaning.{nothing, whole}
+use Rattle.gq_plan.specs.Plans.{steps}
 use Rattle.gq_plan.specs.Rows.{assigned}
-use Rattle.gq_walks.specs.Running.{Runs, keys_of}
+use Rattle.gq_plan.specs.declared.assignment.Assignment.{Assignment}
+use Rattle.gq_walks.specs.Running.{Runs, chunk_of, keys_of}
+use Rattle.gq_walks.specs.declared.walker.Cursor.{Cursor}
 use Rattle.gq_walks.specs.declared.walker.State.{State}
 use Rattle.gq_walks.specs.declared.walker.State.TheVariants.{Fresh, Standing, Done}
 use Rattle.gq_pipe.specs.Bound.{binds_all}
 use Rattle.gq_pipe.specs.Levels.{given}
-use Rattle.gq_pipe.specs.Plain.{ArePlain}
 use Rattle.gq_pipe.specs.Progress.{plan_in}
 use Rattle.gq_pipe.specs.steps.Chunks.{AreStanding}
 use Rattle.gq_pipe.specs.steps.Homes.{AreHomes}
+use Rattle.gq_pipe.specs.steps.Given.{bound_by, given_plan}
 use Rattle.gq_pipe.specs.steps.Levels.{Run}
 use Rattle.gq_pipe.specs.steps.Lists.{layout_in, Stands}
-use Rattle.gq_pipe.specs.steps.Moves.{run_of}
-use Rattle.gq_pipe.specs.steps.Search.{has_chunk, rest_of, IsSearch}
+use Rattle.gq_pipe.specs.steps.Moves.{run_of, IsHeld}
+use Rattle.gq_pipe.specs.steps.Search.{has_chunk, layout_of_lists, machine_of, rest_of, walked, IsSearch}
 use Rattle.gq_pipe.specs.declared.places.GroupSteps.{GroupSteps}
 use Rattle.gq_pipe.specs.declared.pipeline.Pipeline.TheInside.{Inside}
-use Rattle.gq_pipe.proofs.Chunking.{is_chunk_of, chunk_binds, chunk_whole}
+use Rattle.gq_pipe.proofs.Assigned.{whole_assigned}
+use Rattle.gq_pipe.proofs.Binding.{after_all, looks_given}
+use Rattle.gq_pipe.proofs.Chunking.{is_chunk_of, chunk_binds}
+use Rattle.gq_pipe.proofs.Rebinding.{bound_given}
+use Rattle.gq_pipe.proofs.Standings.{all_held}
 use Rattle.gq_pipe.specs.Serving.{HasCells, Holds, Serves}
 use Rattle.gq_pipe.specs.Shown.{AreShown}
 use Rattle.gq_pipe.specs.steps.Cells.{filled}
@@ -35,7 +48,15 @@ is_standing Fresh h = absurd (true≢false (sym h))
 is_standing Standing h = refl
 is_standing Done h = absurd (true≢false (sym h))
 
-module _ (p : Inside) (inv : IsSearch p) (now : (rest_of p).standing ≡ true) (plain : ArePlain (rest_of p).source) (ch : Chunk) (gs : ch.groups.now ≡ p.groups.items) (hs : ch.homes.now ≡ p.housing.homes)
+same_map : {X Y : Type 0} (f h : X → Y) → ((x : X) → f x ≡ h x) → (xs : List X) → map f xs ≡ map h xs
+same_map f h e [] = refl
+same_map f h e (x ∷ xs) = ap₂ ◌∷◌ (e x) (same_map f h e xs)
+
+map_map : {X Y Z : Type 0} (f : Y → Z) (h : X → Y) (xs : List X) → map f (map h xs) ≡ map (λ x. f (h x)) xs
+map_map f h [] = refl
+map_map f h (x ∷ xs) = ap (λ l. f (h x) ∷ l) (map_map f h xs)
+
+module _ (p : Inside) (inv : IsSearch p) (now : (rest_of p).standing ≡ true) (ch : Chunk) (gs : ch.groups.now ≡ p.groups.items) (hs : ch.homes.now ≡ p.housing.homes)
     (slots : ch.slots.now ≡ p.slots.items) (serves : Serves (rest_of p) ch.pool.now) where
   abbrev c : Run
   c = run_of p.lists.plan_run
@@ -71,15 +92,44 @@ module _ (p : Inside) (inv : IsSearch p) (now : (rest_of p).standing ≡ true) (
         (served_cells p ch.pool.now state_is serves)));
   }
 
+  order : steps c.steps ≡ arranged c.typed (given_plan p.lists.plan_run)
+  order = inv.plan.order
+
   pub chunk_is : IsChunkOf (rest_of p).source.graph (rest_of p).source.typed ch
-  chunk_is = is_chunk_of c ss p.lists.row p.walker.cursors.items p.walker.marks.items ch st runs inv.sound.groups inv.sound.marks count groups p.housing.fillings.items homes cols plain inv.chunk.few
+  chunk_is = is_chunk_of c ss p.lists.row p.walker.cursors.items p.walker.marks.items ch st runs inv.sound.groups inv.sound.marks count groups p.housing.fillings.items homes cols inv.chunk.few
+
+  -- ---- as the plan binds it
+
+  held : IsHeld c p.lists.row (after (steps c.steps) none)
+  held = subst (IsHeld c p.lists.row) (sym (after_all c)) (all_held c ss p.lists.row (keys_of p.walker.cursors.items) (length-map p.walker.cursors.items (λ (u : Cursor). u.key) ∙ inv.sound.groups) st)
+
+  one_bound : (row : Assignment) → bound_by c.typed (given_plan p.lists.plan_run) (given c.typed row (steps c.steps) nothing) ≡ given c.typed row (given_plan p.lists.plan_run) nothing
+  one_bound row = bound_given c.typed (given_plan p.lists.plan_run) (steps c.steps) row inv.plan.bound held.nodes held.rels
 
   pub binds_is : map (λ row. given (rest_of p).source.typed row (plan_in (rest_of p).source) nothing) (chunk_meaning (rest_of p).source.graph (rest_of p).source.typed ch) ≡ (rest_of p).chunk
-  binds_is = chunk_binds c ss p.lists.row p.walker.cursors.items p.walker.marks.items ch st runs inv.sound.groups inv.sound.marks count groups p.housing.fillings.items homes cols plain
+  binds_is =
+      sym (same_map (λ row. bound_by c.typed (given_plan p.lists.plan_run) (given c.typed row (steps c.steps) nothing)) (λ row. given c.typed row (given_plan p.lists.plan_run) nothing) one_bound (chunk_meaning c.graph c.typed ch))
+      ∙ sym (map_map (bound_by c.typed (given_plan p.lists.plan_run)) (λ row. given c.typed row (steps c.steps) nothing) (chunk_meaning c.graph c.typed ch))
+      ∙ ap (map (bound_by c.typed (given_plan p.lists.plan_run)))
+      (chunk_binds c ss p.lists.row p.walker.cursors.items p.walker.marks.items ch st runs inv.sound.groups inv.sound.marks count groups p.housing.fillings.items homes cols)
+      ∙ map_map (bound_by c.typed (given_plan p.lists.plan_run)) (walked p.lists) (chunk_of (layout_of_lists p.lists) (machine_of p.walker))
 
   pub whole_is : binds_all (rest_of p).source.typed (plan_in (rest_of p).source) ≡ true
       → map (assigned (rest_of p).source.typed) (chunk_meaning (rest_of p).source.graph (rest_of p).source.typed ch) ≡ map (whole (rest_of p).source.typed) (rest_of p).chunk
-  whole_is = chunk_whole c ss p.lists.row p.walker.cursors.items p.walker.marks.items ch st runs inv.sound.groups inv.sound.marks count groups p.housing.fillings.items homes cols plain
+  whole_is all =
+      map_map (assigned c.typed) (assignment_at c.graph c.typed ch) (group.choices ch.groups.now)
+      ∙ same_map (λ ps. assigned c.typed (assignment_at c.graph c.typed ch ps)) (λ ps. whole c.typed (given c.typed (assignment_at c.graph c.typed ch ps) (given_plan p.lists.plan_run) nothing)) one (group.choices ch.groups.now)
+      ∙ sym (map_map (λ row. whole c.typed (given c.typed row (given_plan p.lists.plan_run) nothing)) (assignment_at c.graph c.typed ch) (group.choices ch.groups.now))
+      ∙ sym (map_map (whole c.typed) (λ row. given c.typed row (given_plan p.lists.plan_run) nothing) (chunk_meaning c.graph c.typed ch))
+      ∙ ap (map (whole c.typed)) binds_is
+    where
+      one : (ps : List ℕ) → assigned c.typed (assignment_at c.graph c.typed ch ps) ≡ whole c.typed (given c.typed (assignment_at c.graph c.typed ch ps) (given_plan p.lists.plan_run) nothing)
+      one ps =
+          whole_assigned c.typed (assignment_at c.graph c.typed ch ps) (after (given_plan p.lists.plan_run) none) (given c.typed (assignment_at c.graph c.typed ch ps) (given_plan p.lists.plan_run) nothing)
+          (looks_given c.typed (assignment_at c.graph c.typed ch ps) (given_plan p.lists.plan_run) none nothing (record { nodes = λ v. refl; rels = λ x. refl }))
+          (length-map-range_with_len (Rattle.gq_group.specs.Chunks.node_at ch ps) 0 (length c.typed.nodes)) (length-map-range_with_len (Rattle.gq_group.specs.Chunks.rel_at c.graph c.typed ch ps) 0 (length c.typed.rels)) all
 
-  pub shape_is : AreShown (rest_of p).source.graph (rest_of p).source.typed (groups_of (plan_in (rest_of p).source)) (rest_of p).flats ch.groups.now
-  shape_is = shown_plan c ss p.lists.row p.walker.cursors.items p.walker.marks.items ch.groups.now st.grouped count groups
+  pub shape_is : AreShown (rest_of p).source.graph (rest_of p).source.typed (groups_of (arranged (rest_of p).source.typed (plan_in (rest_of p).source))) (rest_of p).flats ch.groups.now
+  shape_is =
+      subst (λ q. AreShown c.graph c.typed (groups_of q) (rest_of p).flats ch.groups.now) order
+      (shown_plan c ss p.lists.row p.walker.cursors.items p.walker.marks.items ch.groups.now st.runs st.grouped count groups)

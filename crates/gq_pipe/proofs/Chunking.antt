@@ -1,13 +1,14 @@
 -- The chunk that stands can be read, and means what its walks bind.
-use Rattle.std.proofs.Common.{◌≡◌, ◌⊎◌, inl, inr, ℕ, zero, suc, ◌+◌, ◌-◌, ◌*◌, ◌%◌, ◌^◌, ◌<◌, ◌≤◌, min, Bool, true, false, ◌||◌, nat_eq, List, [], ◌∷◌, map, length, drop, refl, sym, ap, ◌∙◌, subst, arith, true≢false, zero-add}
+use Rattle.std.proofs.Common.{◌≡◌, ◌⊎◌, inl, inr, ℕ, zero, suc, ◌+◌, ◌-◌, ◌*◌, ◌%◌, ◌^◌, ◌<◌, ◌≤◌, min, Bool, true, false, ◌||◌, nat_eq, None, Some, List, [], ◌∷◌, filter, map, length, drop, refl, sym, ap, ◌∙◌, subst, arith, true≢false, zero-add}
 use Rattle.std.specs.Prelude.{slice_index, slice_index_or, All}
-use Rattle.std.specs.List.{range_with_len}
+use Rattle.std.specs.List.{range_with_len, AllByRecursion}
 use Rattle.std.proofs.lemmas.Bool.{and_parts, cases_eq, cases_lt, eqb-true, ltb-true}
 use Rattle.std.proofs.lemmas.List.{get_or_default, length-map}
+use Rattle.std.proofs.lemmas.List.Elements.{All-from_recursion}
 use Rattle.std.proofs.lemmas.List.FromFn.{length-range_with_len}
 use Rattle.std.proofs.lemmas.Option.{get_or_from_slice_get}
 use Rattle.gq_bits.specs.Places.{is_marked}
-use Rattle.gq_group.specs.Chunks.{IsChunk, IsChunkOf, IsColumnIn, IsNodeHome, IsRelHome, HasEdges, assignment_at, node_at, edge_at, edge_in, chunk_meaning, group_of, first_in}
+use Rattle.gq_group.specs.Chunks.{IsChunk, IsChunkOf, IsColumnIn, IsKeptIn, IsNodeHome, IsRelHome, HasEdges, assignment_at, node_at, edge_at, edge_in, chunk_meaning, group_of, first_in}
 use Rattle.gq_group.specs.Edges.{IsEdge, HasEdge}
 use Rattle.gq_group.specs.Groups as group
 use Rattle.gq_group.specs.Groups.{AreSelected, IsGroup, IsPosition}
@@ -16,10 +17,13 @@ use Rattle.gq_group.specs.declared.chunk.Chunk.{Chunk}
 use Rattle.gq_group.specs.declared.group.Group.{Group}
 use Rattle.gq_group.specs.declared.home.NodeHome.TheVariants as node
 use Rattle.gq_group.specs.declared.home.RelHome.TheVariants as rel
-use Rattle.gq_plan.specs.Covers.{after_step}
+use Rattle.gq_join.specs.Kept.{Held, place_of}
+use Rattle.gq_plan.specs.Covers.{after, after_step, fits_step}
+use Rattle.gq_plan.specs.Known.{none}
 use Rattle.gq_plan.specs.Meaning.{nothing, whole}
-use Rattle.gq_plan.specs.Plans.{Step, Scan, Extend, Close, Join, Keep, Differ, NoLoop, steps}
+use Rattle.gq_plan.specs.Plans.{Plan, Step, Scan, Extend, Close, Join, Keep, Differ, NoLoop, steps}
 use Rattle.gq_plan.specs.Rows.{assigned, rel_table}
+use Rattle.gq_plan.specs.Soundness.{has_number}
 use Rattle.gq_plan.specs.declared.assignment.Assignment.{Assignment}
 use Rattle.gq_law_groups.specs.Groups.{decode}
 use Rattle.gq_walks.specs.Layouts.{piece_of}
@@ -27,23 +31,26 @@ use Rattle.gq_walks.specs.Running as walk
 use Rattle.gq_walks.specs.Running.{Runs, cursor_at, keys_of, prefix}
 use Rattle.gq_walks.specs.declared.walker.Cursor.{Cursor}
 use Rattle.gq_pipe.specs.Bound.{binds_all, all_bound}
+use Rattle.gq_pipe.specs.Built.{HasBuild}
 use Rattle.gq_pipe.specs.Levels.{given}
-use Rattle.gq_pipe.specs.steps.Chunks.{AreStanding, IsGroupAt, marked_at, current_at}
+use Rattle.gq_pipe.specs.steps.Chunks.{AreStanding, HasKept, IsGroupAt, KeepsOf, marked_at, current_at}
 use Rattle.gq_pipe.specs.steps.Homes.{AreHomes, InGroup, IsHoused, is_forward, node_home, rel_home}
-use Rattle.gq_pipe.specs.steps.Levels.{Run, step_at, known, before}
+use Rattle.gq_pipe.specs.steps.Levels.{Run, step_at, built_at, known, before}
 use Rattle.gq_pipe.specs.steps.Lists.{group_at, groups_in, rows_in, layout_in, Tiles, Stands}
 use Rattle.gq_pipe.specs.declared.homes.Filling.{Filling}
 use Rattle.gq_pipe.specs.declared.places.GroupSteps.{GroupSteps}
 use Rattle.gq_pipe.proofs.Assigned.{whole_assigned}
-use Rattle.gq_pipe.proofs.Binding.{after_all, given_all, looks}
-use Rattle.gq_pipe.specs.Plain.{is_plain}
+use Rattle.gq_pipe.proofs.Binding.{after_all, fits_at, given_all, looks}
+use Rattle.gq_pipe.proofs.Brings.{knows_keys}
 use Rattle.gq_pipe.proofs.Chosen.{way_is, reads_walk, node_read, all_stand, AllMade, made}
 use Rattle.gq_pipe.proofs.Filling.{AreCells, length-filled, out_at}
+use Rattle.gq_pipe.proofs.Homing.{makes_first}
+use Rattle.gq_pipe.proofs.Matched.{build_of, keeps_rel, piece_rows}
 use Rattle.gq_pipe.proofs.Piecing.{group_here, list_size, list_few, flat_here, piece_inside}
 use Rattle.gq_pipe.proofs.Products.{first_at, shift, shift_long, shift_at, chunk_walks, all_selected, same_on, as_many, items_long, h}
 use Rattle.gq_pipe.proofs.Reading.{place_at, first_is}
 use Rattle.gq_pipe.proofs.Going.{less_held}
-use Rattle.gq_pipe.proofs.Here.{group_others, group_makes}
+use Rattle.gq_pipe.proofs.Here.{group_makes}
 use Rattle.gq_pipe.proofs.Standings.{all_held, stands_part}
 use Rattle.gq_pipe.proofs.Tried.{extend_can, extend_count, close_can, close_count}
 use Rattle.gq_pipe.specs.steps.Moves.{IsHeld, IsMade}
@@ -60,29 +67,29 @@ map_map f h (x ∷ xs) = ap (λ l. f (h x) ∷ l) (map_map f h xs)
 
 module _ (c : Run) (ss : List GroupSteps) (row : Assignment) (cs : List Cursor) (ms : List (List Bool)) (ch : Chunk) (st : Stands c ss row (keys_of cs)) (runs : Runs (layout_in c ss) [] cs ms) (many : length cs ≡ length ss)
     (marks : length ms ≡ length ss) (count : length ch.groups.now ≡ length ss) (groups : AreStanding c ss row cs ms ch.groups.now (length ss))
-    (fs : List Filling) (homes : AreHomes c ss (length ss) (length c.steps) fs ch.homes.now) (cols : AreCells c row fs ch) (plain : (d : ℕ) → d < length c.steps → is_plain (step_at c d) ≡ true) where
+    (fs : List Filling) (homes : AreHomes c ss (length ss) (length c.steps) fs ch.homes.now) (cols : AreCells c row fs ch) where
   abbrev read_at : List ℕ → Assignment
   read_at ps = assignment_at c.graph c.typed ch ps
 
   abbrev firsts : ℕ → ℕ
   firsts = first_at c ss row cs ms ch.groups.now st runs many marks count groups
 
-  one_choice : (ps : List ℕ) → AreSelected ch.groups.now ps → given c.typed (read_at ps) (steps c.steps) nothing ≡ decode c.graph c.typed (rows_in c) (groups_in c ss) nothing (shift firsts 0 ps)
+  one_choice : (ps : List ℕ) → AreSelected ch.groups.now ps → given c.typed (read_at ps) (steps c.steps) nothing ≡ decode c.graph c.typed (rows_in c ss) 0 (groups_in c ss) nothing (shift firsts 0 ps)
   one_choice ps sel =
       let long : length ps ≡ length ss = as_many ch.groups.now ps sel ∙ count in
-      reads_walk c ss row cs ms ch ps runs many groups sel st fs homes cols plain (shift firsts 0 ps) (shift_long firsts 0 ps ∙ long)
+      reads_walk c ss row cs ms ch ps runs many groups sel st fs homes cols (shift firsts 0 ps) (shift_long firsts 0 ps ∙ long)
       (λ i low. shift_at firsts 0 ps i (omega (arith, low, long)) ∙ ap (λ n. firsts n + slice_index ps i) (zero-add i))
 
   -- what the plan binds at the choices of the chunk is what its walks bind
-  pub chunk_binds : map (λ row. given c.typed row (steps c.steps) nothing) (chunk_meaning c.graph c.typed ch) ≡ map (decode c.graph c.typed (rows_in c) (groups_in c ss) nothing) (walk.choices (layout_in c ss) [] cs ms)
+  pub chunk_binds : map (λ row. given c.typed row (steps c.steps) nothing) (chunk_meaning c.graph c.typed ch) ≡ map (decode c.graph c.typed (rows_in c ss) 0 (groups_in c ss) nothing) (walk.choices (layout_in c ss) [] cs ms)
   chunk_binds =
       map_map (λ row. given c.typed row (steps c.steps) nothing) read_at (group.choices ch.groups.now)
-      ∙ same_on (AreSelected ch.groups.now) (λ ps. given c.typed (read_at ps) (steps c.steps) nothing) (λ ps. decode c.graph c.typed (rows_in c) (groups_in c ss) nothing (shift firsts 0 ps)) (group.choices ch.groups.now) one_choice (all_selected ch.groups.now)
-      ∙ sym (map_map (decode c.graph c.typed (rows_in c) (groups_in c ss) nothing) (shift firsts 0) (group.choices ch.groups.now))
-      ∙ ap (map (decode c.graph c.typed (rows_in c) (groups_in c ss) nothing)) (sym (chunk_walks c ss row cs ms ch.groups.now st runs many marks count groups))
+      ∙ same_on (AreSelected ch.groups.now) (λ ps. given c.typed (read_at ps) (steps c.steps) nothing) (λ ps. decode c.graph c.typed (rows_in c ss) 0 (groups_in c ss) nothing (shift firsts 0 ps)) (group.choices ch.groups.now) one_choice (all_selected ch.groups.now)
+      ∙ sym (map_map (decode c.graph c.typed (rows_in c ss) 0 (groups_in c ss) nothing) (shift firsts 0) (group.choices ch.groups.now))
+      ∙ ap (map (decode c.graph c.typed (rows_in c ss) 0 (groups_in c ss) nothing)) (sym (chunk_walks c ss row cs ms ch.groups.now st runs many marks count groups))
 
   -- where the plan binds all variables, they are the whole assignments
-  pub chunk_whole : binds_all c.typed (steps c.steps) ≡ true → map (assigned c.typed) (chunk_meaning c.graph c.typed ch) ≡ map (whole c.typed) (map (decode c.graph c.typed (rows_in c) (groups_in c ss) nothing) (walk.choices (layout_in c ss) [] cs ms))
+  pub chunk_whole : binds_all c.typed (steps c.steps) ≡ true → map (assigned c.typed) (chunk_meaning c.graph c.typed ch) ≡ map (whole c.typed) (map (decode c.graph c.typed (rows_in c ss) 0 (groups_in c ss) nothing) (walk.choices (layout_in c ss) [] cs ms))
   chunk_whole all =
       map_map (assigned c.typed) read_at (group.choices ch.groups.now)
       ∙ same_on (AreSelected ch.groups.now) (λ ps. assigned c.typed (read_at ps)) (λ ps. whole c.typed (given c.typed (read_at ps) (steps c.steps) nothing)) (group.choices ch.groups.now) one (all_selected ch.groups.now)
@@ -226,7 +233,13 @@ module _ (c : Run) (ss : List GroupSteps) (row : Assignment) (cs : List Cursor) 
           let home : node_home ch.homes.now v ≡ node.Item i = ap (node_home ch.homes.now) (sym (same_var v to ((known c e).nodes v) now free)) ∙ house.0 in
           subst (IsNodeHome ch) (sym home) (omega (arith, inside, count))
       bound e i low inside (Close column x from to w) is house free now = absurd (true≢false (sym now ∙ free))
-      bound e i low inside (Join side keys) is house free now = absurd (true≢false (sym (plain e low) ∙ ap is_plain is))
+      bound e i low inside (Join side keys) is house free now = go (has_number keys v) refl
+        where
+          go : (b : Bool) → has_number keys v ≡ b → IsNodeHome ch (node_home ch.homes.now v)
+          go true key = absurd (true≢false (sym (knows_keys c.graph.catalog c.typed (Join side keys) (known c e) (subst (λ t. fits_step c.graph.catalog c.typed t (known c e) ≡ true) is (fits_at c st.runs e low)) v key) ∙ free))
+          go false other =
+              let has = house.nodes v (right_true ((after side none).nodes v) ((known c e).nodes v) now free) other in
+              subst (IsNodeHome ch) (sym has.node_is) (column_in i has.column inside has.inside)
       bound e i low inside (Keep t) is house free now = absurd (true≢false (sym now ∙ free))
       bound e i low inside (Differ p) is house free now = absurd (true≢false (sym now ∙ free))
       bound e i low inside (NoLoop x) is house free now = absurd (true≢false (sym now ∙ free))
@@ -255,32 +268,61 @@ module _ (c : Run) (ss : List GroupSteps) (row : Assignment) (cs : List Cursor) 
       let t = house_of r.0 r.1 in
       record { step = r.0; group = t.0; low = r.1; inside = t.1; there = t.2; house = t.3; free = r.2; now = r.3 }
 
+  -- a step that makes a group is its first one
+  is_first : (i e : ℕ) (low : i < length ss) → InGroup ss i e → makes_group (step_at c e) ≡ true → e ≡ (group_at ss i).first
+  is_first i e low there makes = makes_first c ss i e st.grouped.tiles st.grouped.cut low there.low there.high makes
+
+  -- a relationship that the build of a group keeps has a number at each marked position
+  kept_in_group : (i : ℕ) → i < length ss → (side : Plan) (keys : List ℕ) (b : Held) (place : ℕ) → step_at c (group_at ss i).first ≡ Join side keys → slice_index_or c.builds (group_at ss i).first None ≡ Some b → place < length b.rels → IsKeptIn (group_of ch i) place
+  kept_in_group i low side keys b place is there inside =
+      let g : Group = (h c ss row cs ms ch.groups.now st runs many marks count groups i low).group in
+      let at : IsGroupAt c row (group_at ss i) (cursor_at cs i) (slice_index_or ms i []) g = (h c ss row cs ms ch.groups.now st runs many marks count groups i low).is in
+      let k : HasKept b g.kept = subst (λ o. KeepsOf o g.kept) there at.kept in
+      let rows : AllByRecursion (λ r. r < length b.rows) (items_of g.piece) = piece_rows c (group_at ss i).first row side keys is b there g.piece _ at.piece in
+      subst (λ o. IsKeptIn o place) (sym (h c ss row cs ms ch.groups.now st runs many marks count groups i low).there)
+      (record {
+        narrow = k.narrow;
+        numbers = λ p on.
+            (let row_low : slice_index (items_of g.piece) p < length b.rows = All-from_recursion (λ r. r < length b.rows) (items_of g.piece) rows p 0 ((is_group i low).marked p on) in
+            subst (λ w. slice_index (items_of g.piece) p * w + place < length g.kept.numbers.now) (sym k.width) (k.inside (slice_index (items_of g.piece) p) place row_low inside));
+      })
+
   rel_houses : (x : ℕ) → IsRelHome ch (rel_home ch.homes.now x)
   unfolding after_step
   rel_houses x = go ((known c (length c.steps)).rels x) refl
     where
-      bound : (e i : ℕ) → e < length c.steps → i < length ss → (s : Step) → step_at c e ≡ s → IsHoused fs ch.homes.now i s → (known c e).rels x ≡ false → (after_step s (known c e)).rels x ≡ true → IsRelHome ch (rel_home ch.homes.now x)
-      bound e i low inside (Scan w) is house free now = absurd (true≢false (sym now ∙ free))
-      bound e i low inside (Extend true z from to w) is house free now =
+      bound : (e i : ℕ) → e < length c.steps → i < length ss → InGroup ss i e → (s : Step) → step_at c e ≡ s → IsHoused fs ch.homes.now i s → (known c e).rels x ≡ false → (after_step s (known c e)).rels x ≡ true → IsRelHome ch (rel_home ch.homes.now x)
+      bound e i low inside there (Scan w) is house free now = absurd (true≢false (sym now ∙ free))
+      bound e i low inside there (Extend true z from to w) is house free now =
           let home : rel_home ch.homes.now x ≡ rel.Single from (is_forward w) = ap (rel_home ch.homes.now) (sym (same_var x z ((known c e).rels x) now free)) ∙ house.edge_is in
           subst (IsRelHome ch) (sym home) tt
-      bound e i low inside (Extend false z from to w) is house free now =
+      bound e i low inside there (Extend false z from to w) is house free now =
           let home : rel_home ch.homes.now x ≡ rel.Listed i from (is_forward w) = ap (rel_home ch.homes.now) (sym (same_var x z ((known c e).rels x) now free)) ∙ house.1 in
           subst (IsRelHome ch) (sym home) (omega (arith, inside, count))
-      bound e i low inside (Close true z from to w) is house free now =
+      bound e i low inside there (Close true z from to w) is house free now =
           let home : rel_home ch.homes.now x ≡ rel.Single from (is_forward w) = ap (rel_home ch.homes.now) (sym (same_var x z ((known c e).rels x) now free)) ∙ house in
           subst (IsRelHome ch) (sym home) tt
-      bound e i low inside (Close false z from to w) is house free now =
+      bound e i low inside there (Close false z from to w) is house free now =
           let home : rel_home ch.homes.now x ≡ rel.Listed i from (is_forward w) = ap (rel_home ch.homes.now) (sym (same_var x z ((known c e).rels x) now free)) ∙ house in
           subst (IsRelHome ch) (sym home) (omega (arith, inside, count))
-      bound e i low inside (Join side keys) is house free now = absurd (true≢false (sym (plain e low) ∙ ap is_plain is))
-      bound e i low inside (Keep t) is house free now = absurd (true≢false (sym now ∙ free))
-      bound e i low inside (Differ p) is house free now = absurd (true≢false (sym now ∙ free))
-      bound e i low inside (NoLoop z) is house free now = absurd (true≢false (sym now ∙ free))
+      bound e i low inside there (Join side keys) is house free now =
+          let own : (after side none).rels x ≡ true = right_true ((after side none).rels x) ((known c e).rels x) now free in
+          let first : e ≡ (group_at ss i).first = is_first i e inside there (ap makes_group is) in
+          let b : HasBuild c.graph c.typed side keys (slice_index_or c.builds e None) = build_of c st.runs e low side keys is in
+          let home : rel_home ch.homes.now x ≡ rel.Kept i (place_of b.build.rels x) =
+          house.rels x own ∙ ap (λ n. rel.Kept i (place_of (filter (after side none).rels (range_with_len 0 n)) x)) homes.rel_count ∙ ap (λ l. rel.Kept i (place_of l x)) (sym b.is.rels) in
+          subst (IsRelHome ch) (sym home) (
+            (let many = count in omega (arith, inside, many)),
+            kept_in_group i inside side keys b.build (place_of b.build.rels x) (subst (λ d. step_at c d ≡ Join side keys) first is) (subst (λ d. slice_index_or c.builds d None ≡ Some b.build) first b.there)
+                (keeps_rel c st.runs e low side keys is b.build b.is x own),
+          )
+      bound e i low inside there (Keep t) is house free now = absurd (true≢false (sym now ∙ free))
+      bound e i low inside there (Differ p) is house free now = absurd (true≢false (sym now ∙ free))
+      bound e i low inside there (NoLoop z) is house free now = absurd (true≢false (sym now ∙ free))
 
       go : (b : Bool) → (known c (length c.steps)).rels x ≡ b → IsRelHome ch (rel_home ch.homes.now x)
       go false is = subst (IsRelHome ch) (sym (homes.free_rels x is)) tt
-      go true is = let r = rel_bound x is in bound r.step r.group r.low r.inside (step_at c r.step) refl r.house r.free r.now
+      go true is = let r = rel_bound x is in bound r.step r.group r.low r.inside r.there (step_at c r.step) refl r.house r.free r.now
 
   pub is_chunk : length ss < 2 ^ 32 → IsChunk ch
   is_chunk few = record {
@@ -298,7 +340,7 @@ module _ (c : Run) (ss : List GroupSteps) (row : Assignment) (cs : List Cursor) 
     held_at : (e : ℕ) → e ≤ length c.steps → IsHeld c a (known c e)
     held_at e low =
         less_held c e (length c.steps) a low
-        (all_held c ss a (prefix cs (length ss)) (length-keys cs (length ss) (omega (arith, many))) (all_stand c ss row cs ms ch ps runs many groups sel st fs homes cols plain (length ss) (omega arith)))
+        (all_held c ss a (prefix cs (length ss)) (length-keys cs (length ss) (omega (arith, many))) (all_stand c ss row cs ms ch ps runs many groups sel st fs homes cols (length ss) (omega arith)))
 
     some_left : {X : Type 0} (xs : List X) (n : ℕ) (x : X) (rest : List X) → drop n xs ≡ x ∷ rest → n < length xs
     some_left [] zero x rest e = absurd (cc e)
@@ -310,7 +352,7 @@ module _ (c : Run) (ss : List GroupSteps) (row : Assignment) (cs : List Cursor) 
     listed_edge : (x from to : ℕ) (w : Direction) (i : ℕ) → i < length ss → rel_home ch.homes.now x ≡ rel.Listed i from (is_forward w) → CanFollow c.graph c.typed a (record { rel = x; from = from; to = to; direction = w })
         → place_at c ss row cs ms ch ps runs many groups sel i < length (neighbours c.graph (rel_table c.typed x) w (slice_index a.nodes from)) → IsEdge c.graph (rel_table c.typed x) (edge_at ch ps x)
     listed_edge x from to w i low home can inside =
-        let read : slice_index a.nodes from ≡ node_at ch ps from = node_read c ss row cs ms ch ps runs many groups sel st fs homes cols plain from can.from in
+        let read : slice_index a.nodes from ≡ node_at ch ps from = node_read c ss row cs ms ch ps runs many groups sel st fs homes cols from can.from in
         subst (λ h. IsEdge c.graph (rel_table c.typed x) (edge_in ch ps h)) (sym home)
         (subst (λ d. HasEdge c.graph (rel_table c.typed x) d (node_at ch ps from) (first_in (group_of ch i) + slice_index ps i)) (sym (way_is w))
         (subst (λ n. HasEdge c.graph (rel_table c.typed x) w n (first_in (group_of ch i) + slice_index ps i)) read
@@ -320,7 +362,7 @@ module _ (c : Run) (ss : List GroupSteps) (row : Assignment) (cs : List Cursor) 
     single_edge : (x from to : ℕ) (w : Direction) → rel_home ch.homes.now x ≡ rel.Single from (is_forward w) → CanFollow c.graph c.typed a (record { rel = x; from = from; to = to; direction = w })
         → 0 < length (neighbours c.graph (rel_table c.typed x) w (slice_index a.nodes from)) → IsEdge c.graph (rel_table c.typed x) (edge_at ch ps x)
     single_edge x from to w home can inside =
-        let read : slice_index a.nodes from ≡ node_at ch ps from = node_read c ss row cs ms ch ps runs many groups sel st fs homes cols plain from can.from in
+        let read : slice_index a.nodes from ≡ node_at ch ps from = node_read c ss row cs ms ch ps runs many groups sel st fs homes cols from can.from in
         subst (λ h. IsEdge c.graph (rel_table c.typed x) (edge_in ch ps h)) (sym home)
         (subst (λ d. HasEdge c.graph (rel_table c.typed x) d (node_at ch ps from) 0) (sym (way_is w))
         (subst (λ n. HasEdge c.graph (rel_table c.typed x) w n 0) read
@@ -330,18 +372,8 @@ module _ (c : Run) (ss : List GroupSteps) (row : Assignment) (cs : List Cursor) 
     unfolding after_step
     edge_of x = go ((known c (length c.steps)).rels x) refl
       where
-        module_made : (i : ℕ) (low : i < length ss) → AllMade c ss row cs ms ch ps runs many groups sel st fs homes cols plain i low (all_stand c ss row cs ms ch ps runs many groups sel st fs homes cols plain i (omega (arith, low))) (group_at ss i).first
-        module_made i low = made c ss row cs ms ch ps runs many groups sel st fs homes cols plain i low (all_stand c ss row cs ms ch ps runs many groups sel st fs homes cols plain i (omega (arith, low)))
-
-        -- a step that makes a group is its first one
-        is_first : (i e : ℕ) (low : i < length ss) → InGroup ss i e → makes_group (step_at c e) ≡ true → e ≡ (group_at ss i).first
-        is_first i e low there makes = by (cases_eq e (group_at ss i).first)
-          where
-            by : (e ≡ (group_at ss i).first) ⊎ (e ≡ (group_at ss i).first → ⊥) → e ≡ (group_at ss i).first
-            by (inl is) = is
-            by (inr other) =
-                let above = there.low in
-                absurd (true≢false (sym makes ∙ group_others c ss row i low (group_at ss i) (get_or_default ss i Rattle.gq_pipe.specs.steps.Lists.no_group (group_at ss i) low) (prefix cs i) (length-keys cs i (omega (arith, low, many))) (stands_part c ss row cs i st) e (omega (arith, above, other)) there.high))
+        module_made : (i : ℕ) (low : i < length ss) → AllMade c ss row cs ms ch ps runs many groups sel st fs homes cols i low (all_stand c ss row cs ms ch ps runs many groups sel st fs homes cols i (omega (arith, low))) (group_at ss i).first
+        module_made i low = made c ss row cs ms ch ps runs many groups sel st fs homes cols i low (all_stand c ss row cs ms ch ps runs many groups sel st fs homes cols i (omega (arith, low)))
 
         -- one that makes none stands behind it
         behind : (i e : ℕ) → i < length ss → InGroup ss i e → makes_group (step_at c e) ≡ false → (group_at ss i).first < e
@@ -358,7 +390,7 @@ module _ (c : Run) (ss : List GroupSteps) (row : Assignment) (cs : List Cursor) 
             let above : (group_at ss i).first < e = behind i e low there (ap makes_group is) in
             let up = there.low in
             let t : IsMade c e 0 a a = (module_made i low).others_made e above up there.high in
-            let inside = some_left (tries c.graph c.typed (step_at c e) (before c a e)) 0 _ _ t.made in
+            let inside = some_left (tries c.graph c.typed (built_at c e) (step_at c e) (before c a e)) 0 _ _ t.made in
             let most = extend_count c st.runs e e_low a (held_at e (omega (arith, e_low))) true z from to w is in
             subst (λ n. IsEdge c.graph (rel_table c.typed n) (edge_at ch ps n)) same
             (single_edge z from to w house.edge_is (extend_can c st.runs e e_low a (held_at e (omega (arith, e_low))) true z from to w is) (omega (arith, inside, most)))
@@ -366,7 +398,7 @@ module _ (c : Run) (ss : List GroupSteps) (row : Assignment) (cs : List Cursor) 
             let same : z ≡ x = same_var x z ((known c e).rels x) now free in
             let first : e ≡ (group_at ss i).first = is_first i e low there (ap makes_group is) in
             let t : IsMade c e (place_at c ss row cs ms ch ps runs many groups sel i) a a = subst (λ n. IsMade c n (place_at c ss row cs ms ch ps runs many groups sel i) a a) (sym first) ((module_made i low).first_made (omega arith)) in
-            let inside = some_left (tries c.graph c.typed (step_at c e) (before c a e)) (place_at c ss row cs ms ch ps runs many groups sel i) _ _ t.made in
+            let inside = some_left (tries c.graph c.typed (built_at c e) (step_at c e) (before c a e)) (place_at c ss row cs ms ch ps runs many groups sel i) _ _ t.made in
             let most = extend_count c st.runs e e_low a (held_at e (omega (arith, e_low))) false z from to w is in
             subst (λ n. IsEdge c.graph (rel_table c.typed n) (edge_at ch ps n)) same
             (listed_edge z from to w i low house.1 (extend_can c st.runs e e_low a (held_at e (omega (arith, e_low))) false z from to w is) (omega (arith, inside, most)))
@@ -374,7 +406,7 @@ module _ (c : Run) (ss : List GroupSteps) (row : Assignment) (cs : List Cursor) 
             let same : z ≡ x = same_var x z ((known c e).rels x) now free in
             let first : e ≡ (group_at ss i).first = is_first i e low there (ap makes_group is) in
             let t : IsMade c e (place_at c ss row cs ms ch ps runs many groups sel i) a a = subst (λ n. IsMade c n (place_at c ss row cs ms ch ps runs many groups sel i) a a) (sym first) ((module_made i low).first_made (omega arith)) in
-            let inside = some_left (tries c.graph c.typed (step_at c e) (before c a e)) (place_at c ss row cs ms ch ps runs many groups sel i) _ _ t.made in
+            let inside = some_left (tries c.graph c.typed (built_at c e) (step_at c e) (before c a e)) (place_at c ss row cs ms ch ps runs many groups sel i) _ _ t.made in
             let most = close_count c st.runs e e_low a (held_at e (omega (arith, e_low))) false z from to w is in
             subst (λ n. IsEdge c.graph (rel_table c.typed n) (edge_at ch ps n)) same
             (listed_edge z from to w i low house (close_can c st.runs e e_low a (held_at e (omega (arith, e_low))) false z from to w is) (omega (arith, inside, most)))
@@ -383,11 +415,12 @@ module _ (c : Run) (ss : List GroupSteps) (row : Assignment) (cs : List Cursor) 
             let above : (group_at ss i).first < e = behind i e low there (ap makes_group is) in
             let up = there.low in
             let t : IsMade c e 0 a a = (module_made i low).others_made e above up there.high in
-            let inside = some_left (tries c.graph c.typed (step_at c e) (before c a e)) 0 _ _ t.made in
+            let inside = some_left (tries c.graph c.typed (built_at c e) (step_at c e) (before c a e)) 0 _ _ t.made in
             let most = close_count c st.runs e e_low a (held_at e (omega (arith, e_low))) true z from to w is in
             subst (λ n. IsEdge c.graph (rel_table c.typed n) (edge_at ch ps n)) same
             (single_edge z from to w house (close_can c st.runs e e_low a (held_at e (omega (arith, e_low))) true z from to w is) (omega (arith, inside, most)))
-        bound e i e_low low there (Join side keys) is house free now = absurd (true≢false (sym (plain e e_low) ∙ ap is_plain is))
+        bound e i e_low low there (Join side keys) is house free now =
+            subst (λ h. IsEdge c.graph (rel_table c.typed x) (edge_in ch ps h)) (sym (house.rels x (right_true ((after side none).rels x) ((known c e).rels x) now free))) tt
         bound e i e_low low there (Keep t) is house free now = absurd (true≢false (sym now ∙ free))
         bound e i e_low low there (Differ p) is house free now = absurd (true≢false (sym now ∙ free))
         bound e i e_low low there (NoLoop z) is house free now = absurd (true≢false (sym now ∙ free))

@@ -22,11 +22,15 @@ use Rattle.gq_plan.specs.declared.assignment.Assignment.{Assignment}
 use Rattle.gq_pool.specs.Pool as pool
 use Rattle.gq_pool.specs.Pool.{Pool, IsOut, cells_of}
 use Rattle.gq_pipe.specs.Serving.{AreApart, HasCell, HasCells, Holds, Serves}
-use Rattle.gq_pipe.specs.steps.Cells.{HasRow, cell_of, column_of, filled, led, near_in, near_seen}
-use Rattle.gq_pipe.specs.steps.Homes.{filling_at}
+use Rattle.gq_pipe.specs.steps.Cells.{HasRow, cell_of, cell_seen, column_of, filled, led, near_in, near_seen}
+use Rattle.gq_pipe.specs.steps.Homes.{IsFilling, filling_at, node_home}
 use Rattle.gq_pipe.specs.steps.Levels.{Run}
 use Rattle.gq_pipe.specs.steps.Search.{cells_in, cells_when, has_chunk, rest_of}
 use Rattle.gq_pipe.specs.declared.homes.Filling.{Filling}
+use Rattle.gq_pipe.specs.declared.homes.Filling.TheVariants.{Led, Kept}
+use Rattle.gq_pipe.specs.declared.homes.Leading.{Leading}
+use Rattle.gq_pipe.specs.declared.places.GroupSteps.{GroupSteps}
+use Rattle.gq_plan.specs.Known.{Known}
 use Rattle.gq_pipe.specs.declared.pipeline.Pipeline.TheInside.{Inside}
 use Rattle.gq_walks.specs.declared.walker.State.{State}
 use Rattle.gq_walks.specs.declared.walker.State.TheVariants.{Fresh, Standing, Done}
@@ -88,11 +92,11 @@ seen_item row gs q slots i v p j x o is same there =
 pub found_or : {X : Type 0} (xs : List X) (i : ℕ) (d : X) (o : Option X) → o ≡ slice_get xs i → unwrap_or o d ≡ slice_index_or xs i d
 found_or xs i d o e = ap (λ o. unwrap_or o d) e ∙ unwrap_or-slice_get xs i d
 
-pub led_within : (c : Run) (f : Filling) (near : ℕ) → near < row_count c.graph.nodes (node_table c.typed f.from) → led c f near ≡ slice_index (neighbours c.graph (rel_table c.typed f.rel) f.direction near) 0
+pub led_within : (c : Run) (f : Leading) (near : ℕ) → near < row_count c.graph.nodes (node_table c.typed f.from) → led c f near ≡ slice_index (neighbours c.graph (rel_table c.typed f.rel) f.direction near) 0
 led_within c f near low =
     ap (λ b. if b then slice_index (neighbours c.graph (rel_table c.typed f.rel) f.direction near) 0 else 0) (lt-ltb near (row_count c.graph.nodes (node_table c.typed f.from)) low)
 
-pub led_found : (c : Run) (f : Filling) (near table : ℕ) (o : Option ℕ) → near < row_count c.graph.nodes (node_table c.typed f.from) → table ≡ rel_table c.typed f.rel → o ≡ slice_get (neighbours c.graph table f.direction near) 0 → unwrap_or o 0 ≡ led c f near
+pub led_found : (c : Run) (f : Leading) (near table : ℕ) (o : Option ℕ) → near < row_count c.graph.nodes (node_table c.typed f.from) → table ≡ rel_table c.typed f.rel → o ≡ slice_get (neighbours c.graph table f.direction near) 0 → unwrap_or o 0 ≡ led c f near
 led_found c f near table o low same is =
     found_or (neighbours c.graph table f.direction near) 0 0 o is
     ∙ ap (λ t. slice_index (neighbours c.graph t f.direction near) 0) same
@@ -137,6 +141,12 @@ module _ (c : Run) (row : Assignment) (gs : List Group) (h : Homes) (fs : List F
       go : (b : Bool) → (if b then row_in (pool.cell_at q (slice_index slots m) p) else slice_index row.nodes v) ≡ (if b then slice_index (slice_index_or (filled c row gs h fs n) m []) p else slice_index row.nodes v)
       go true = ap row_in (has m p (let below = low j m refl in let many = length-filled n in omega (arith, below, many)) small).is
       go false = refl
+
+  -- so are the cells of one more column
+  pub seen_cell : (q : Pool) (slots : List ℕ) (n p : ℕ) (ss : List GroupSteps) (k : Known) (f : Filling) → HasCells q slots (filled c row gs h fs n) → p < 1024 → IsFilling c ss k h n f
+      → cell_seen c row gs h q slots f p ≡ cell_of c row gs h (filled c row gs h fs n) f p
+  seen_cell q slots n p ss k (Led f) has small is = ap (led c f) (seen_is q slots n f.group f.from p has small (node_home h f.from) is.before)
+  seen_cell q slots n p ss k (Kept f) has small is = refl
 
   pub row_there : (q : Pool) (slots : List ℕ) (n p : ℕ) → Holds q slots → HasCells q slots (filled c row gs h fs n) → n ≤ length slots → p < 1024 → (m : ℕ) → m < n → HasRow q slots m p
   row_there q slots n p held has room small m low =

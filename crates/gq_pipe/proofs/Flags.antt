@@ -6,7 +6,6 @@ use Rattle.gq_base.specs.Plain.{Graph}
 use Rattle.gq_law_groups.specs.Groups.{Group, place}
 use Rattle.gq_law_groups.specs.Layout.{layout_of, size_from, keeps_from, with_singles}
 use Rattle.gq_plan.specs.Meaning.{Partial, nothing}
-use Rattle.gq_plan.specs.Plans.{Plan}
 use Rattle.gq_plan.specs.declared.typed.Typed.{Typed}
 use Rattle.gq_walks.specs.Layouts.{Layout, keys, live, count, numbers_in, numbers_from, places_of, has_one}
 
@@ -27,22 +26,22 @@ module _ (l m : Layout) (most : ℕ) (flats : (pre : List ℕ) → length pre < 
           ap₂ (λ q ps. has_one (Rattle.std.specs.List.filter q ps)) (each (kept pre)) (ap₂ (λ f s. places_of f s k) flat (sizes pre)) in
           ap₂ (λ b ks. cond b ks []) lives more
 
-module _ (g : Graph) (y : Typed) (rows : Plan → List Partial) (f h : ℕ → Bool) where
+module _ (g : Graph) (y : Typed) (rows : ℕ → List Partial) (f h : ℕ → Bool) where
   size_same : (gs : List Group) (i : ℕ) (a : Partial) (pre : List ℕ) → ((j : ℕ) → i ≤ j → j < i + length gs → f j ≡ h j) → size_from g y rows f i gs a pre ≡ size_from g y rows h i gs a pre
   unfolding size_from
   size_same [] i a pre same = refl
   size_same (b ∷ gs) i a [] same = refl
   size_same (b ∷ gs) i a (k ∷ pre) same =
-      ap (λ t. size_from g y rows f (i + 1) gs (cond t (place g y rows b a k) (with_singles g y b.checks a)) pre) (same i (omega arith) (omega arith))
-      ∙ size_same gs (i + 1) (cond (h i) (place g y rows b a k) (with_singles g y b.checks a)) pre (λ j low high. same j (omega (arith, low)) (omega (arith, high)))
+      ap (λ t. size_from g y rows f (i + 1) gs (cond t (place g y (rows i) b a k) (with_singles g y b.checks a)) pre) (same i (omega arith) (omega arith))
+      ∙ size_same gs (i + 1) (cond (h i) (place g y (rows i) b a k) (with_singles g y b.checks a)) pre (λ j low high. same j (omega (arith, low)) (omega (arith, high)))
 
   keeps_same : (gs : List Group) (i : ℕ) (a : Partial) (pre : List ℕ) (j : ℕ) → ((j : ℕ) → i ≤ j → j < i + length gs → f j ≡ h j) → keeps_from g y rows f i gs a pre j ≡ keeps_from g y rows h i gs a pre j
   unfolding keeps_from
   keeps_same [] i a pre j same = refl
   keeps_same (b ∷ gs) i a [] j same = refl
   keeps_same (b ∷ gs) i a (k ∷ pre) j same =
-      ap (λ t. keeps_from g y rows f (i + 1) gs (cond t (place g y rows b a k) (with_singles g y b.checks a)) pre j) (same i (omega arith) (omega arith))
-      ∙ keeps_same gs (i + 1) (cond (h i) (place g y rows b a k) (with_singles g y b.checks a)) pre j (λ j low high. same j (omega (arith, low)) (omega (arith, high)))
+      ap (λ t. keeps_from g y rows f (i + 1) gs (cond t (place g y (rows i) b a k) (with_singles g y b.checks a)) pre j) (same i (omega arith) (omega arith))
+      ∙ keeps_same gs (i + 1) (cond (h i) (place g y (rows i) b a k) (with_singles g y b.checks a)) pre j (λ j low high. same j (omega (arith, low)) (omega (arith, high)))
 
   pub flags_keys : (gs : List Group) → ((j : ℕ) → j < length gs → f j ≡ h j) → keys (layout_of g y rows f gs) (length gs) [] ≡ keys (layout_of g y rows h gs) (length gs) []
   flags_keys gs same =

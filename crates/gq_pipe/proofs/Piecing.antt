@@ -20,7 +20,7 @@ use Rattle.gq_walks.specs.declared.walker.Cursor.{Cursor}
 use Rattle.gq_walks.proofs.Runs.{length-keys}
 use Rattle.gq_group.specs.declared.group.Group.{Group}
 use Rattle.gq_pipe.specs.steps.Chunks.{AreStanding, CanStand, HasGroup, IsGroupAt, list_of, matches_in}
-use Rattle.gq_pipe.specs.steps.Levels.{Run, step_at, known, before}
+use Rattle.gq_pipe.specs.steps.Levels.{Run, step_at, built_at, known, before}
 use Rattle.gq_pipe.specs.steps.Lists.{no_group, group_at, flat_in, layout_in, Stands}
 use Rattle.gq_pipe.specs.steps.Moves.{IsRun, IsHeld}
 use Rattle.gq_pipe.specs.steps.Tries.{tries}
@@ -40,10 +40,10 @@ listed_is c from to x way h =
     ap (λ o. allows_many (mult_of (slice_get c.graph.catalog.rels (table_of o))) way) r.1 ∙ ap (λ o. allows_many (mult_of o) way) t.1 ∙ t.2
 
 module _ (c : Run) (run : IsRun c) (d : ℕ) (low : d < length c.steps) (row : Assignment) (held : IsHeld c row (known c d)) where
-  pub list_long : makes_group (step_at c d) ≡ true → length (tries c.graph c.typed (step_at c d) (before c row d)) ≡ length (list_of c d row (step_at c d))
+  pub list_long : makes_group (step_at c d) ≡ true → length (tries c.graph c.typed (built_at c d) (step_at c d) (before c row d)) ≡ length (list_of c d row (step_at c d))
   list_long makes = go (step_at c d) refl makes
     where
-      go : (s : Step) → step_at c d ≡ s → makes_group (step_at c d) ≡ true → length (tries c.graph c.typed (step_at c d) (before c row d)) ≡ length (list_of c d row (step_at c d))
+      go : (s : Step) → step_at c d ≡ s → makes_group (step_at c d) ≡ true → length (tries c.graph c.typed (built_at c d) (step_at c d) (before c row d)) ≡ length (list_of c d row (step_at c d))
       go (Scan v) is h = scan_count c run d low row held v is ∙ sym (ap (λ s. length (list_of c d row s)) is ∙ length-range_with_len 0 _)
       go (Extend true x from to way) is h = absurd (true≢false (sym h ∙ ap makes_group is))
       go (Extend false x from to way) is h = extend_count c run d low row held false x from to way is ∙ sym (ap (λ s. length (list_of c d row s)) is)

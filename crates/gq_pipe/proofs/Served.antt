@@ -1,16 +1,26 @@
 -- What the columns of a chunk that stands are filled from.
-use Rattle.std.proofs.Common.{◌≡◌, ◌∙◌, ℕ, ◌<◌, length, sym, subst}
+use Rattle.std.proofs.Common.{◌≡◌, ◌∙◌, ℕ, ◌*◌, ◌<◌, Some, [], length, slice_get, sym, subst}
+use Rattle.std.specs.Prelude.{slice_index_or}
+use Rattle.std.specs.List.{AllByRecursion}
 use Rattle.std.proofs.lemmas.List.{length-map}
-use Rattle.gq_plan.specs.Soundness.{IsSound}
-use Rattle.gq_walks.specs.Running.{keys_of}
+use Rattle.gq_group.specs.Chunks.{items_in}
+use Rattle.gq_group.specs.Pieces.{items_of}
+use Rattle.gq_walks.specs.Layouts.{piece_of}
+use Rattle.gq_walks.specs.Running.{cursor_at, keys_of}
 use Rattle.gq_walks.specs.declared.walker.Cursor.{Cursor}
 use Rattle.gq_walks.specs.declared.walker.State.TheVariants.{Standing}
+use Rattle.gq_pipe.specs.Built.{HasBuild}
+use Rattle.gq_pipe.specs.steps.Cells.{CanKeep, HasMatches, build_in, item_in}
+use Rattle.gq_pipe.specs.steps.Chunks.{HasGroup, IsPieceOf}
 use Rattle.gq_pipe.specs.steps.Homes.{IsFilling, filling_at}
 use Rattle.gq_pipe.specs.steps.Levels.{Run, known}
-use Rattle.gq_pipe.specs.steps.Lists.{Stands}
-use Rattle.gq_pipe.specs.steps.Moves.{run_of}
+use Rattle.gq_pipe.specs.steps.Lists.{Stands, group_at}
+use Rattle.gq_pipe.specs.steps.Moves.{run_of, IsRun}
 use Rattle.gq_pipe.specs.steps.Search.{IsSearch}
+use Rattle.gq_pipe.specs.declared.homes.Filling.{Filling}
+use Rattle.gq_pipe.specs.declared.homes.Filling.TheVariants.{Led, Kept}
 use Rattle.gq_pipe.specs.declared.pipeline.Pipeline.TheInside.{Inside}
+use Rattle.gq_pipe.proofs.Matched.{build_of, keeps_node, piece_rows, row_kept}
 use Rattle.gq_pipe.proofs.Resting.{stands_now}
 use Rattle.gq_pipe.proofs.Standings.{all_held}
 
@@ -21,12 +31,30 @@ module _ (p : Inside) (inv : IsSearch p) (now : p.walker.state ≡ Standing) whe
   st : Stands c p.lists.groups.items p.lists.row (keys_of p.walker.cursors.items)
   st = stands_now p.walker.state p.walker.cursors.items (Stands c p.lists.groups.items p.lists.row) now inv.stands
 
-  pub sound_there : IsSound c.graph.catalog c.typed
-  sound_there = st.runs.sound
+  pub run_there : IsRun c
+  run_there = st.runs
 
   pub row_there : length p.lists.row.nodes ≡ length c.typed.nodes
   row_there =
       (all_held c p.lists.groups.items p.lists.row (keys_of p.walker.cursors.items) (length-map p.walker.cursors.items (λ (c : Cursor). c.key) ∙ inv.sound.groups) st).node_count
 
-  pub fillings_there : (m : ℕ) → m < length p.housing.fillings.items → IsFilling c (length p.groups.items) (known c (length c.steps)) p.housing.homes m (filling_at p.housing.fillings.items m)
-  fillings_there m low = subst (λ n. IsFilling c n (known c (length c.steps)) p.housing.homes m (filling_at p.housing.fillings.items m)) (sym inv.chunk.count) (inv.chunk.homes.fillings m low)
+  pub fillings_there : (m : ℕ) → m < length p.housing.fillings.items → IsFilling c p.lists.groups.items (known c (length c.steps)) p.housing.homes m (filling_at p.housing.fillings.items m)
+  fillings_there m low = inv.chunk.homes.fillings m low
+
+  -- where the piece of a group begins
+  abbrev first_of : ℕ → ℕ
+  first_of i = 1024 * piece_of (group_at p.lists.groups.items i).flat (cursor_at p.walker.cursors.items i).key
+
+  -- the rows of a group that a join makes are rows of its build
+  matches_of_filling : (m : ℕ) (f : Filling) → IsFilling c p.lists.groups.items (known c (length c.steps)) p.housing.homes m f → HasMatches c p.groups.items f
+  matches_of_filling m (Led f) is = tt
+  matches_of_filling m (Kept f) is = λ position.
+      (let stands : HasGroup c p.lists.row (group_at p.lists.groups.items f.group) (cursor_at p.walker.cursors.items f.group) (slice_index_or p.walker.marks.items f.group []) p.groups.items f.group = inv.chunk.standing now f.group is.group in
+      let build : HasBuild c.graph c.typed is.side is.keys (build_in c f.depth) = build_of c st.runs f.depth is.low is.side is.keys is.step in
+      let rows : AllByRecursion (λ r. r < length build.build.rows) (items_of stands.group.piece) = piece_rows c f.depth p.lists.row is.side is.keys is.step build.build build.there stands.group.piece (first_of f.group) (subst (λ d. IsPieceOf c d p.lists.row (first_of f.group) stands.group.piece) (sym is.depth) stands.is.piece) in
+      subst (λ o. CanKeep o (item_in p.groups.items f.group position) f.node) (sym build.there)
+      (subst (λ o. CanKeep (Some build.build) (slice_get (items_in o) position) f.node) (sym stands.there)
+      (row_kept build.build f.node (items_of stands.group.piece) position rows (keeps_node c st.runs f.depth is.low is.side is.keys is.step build.build build.is f.node is.bound))))
+
+  pub matches_there : (m : ℕ) → m < length p.housing.fillings.items → HasMatches c p.groups.items (filling_at p.housing.fillings.items m)
+  matches_there m low = matches_of_filling m (filling_at p.housing.fillings.items m) (fillings_there m low)

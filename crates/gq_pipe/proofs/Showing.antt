@@ -1,10 +1,11 @@
 -- The groups of the chunk that stands are those of the plan.
-use Rattle.std.proofs.Common.{◌≡◌, ◌∙◌, ℕ, suc, ◌+◌, ◌<◌, Bool, true, false, List, [], ◌∷◌, map, length, refl, sym, ap, subst, arith}
+use Rattle.std.proofs.Common.{◌≡◌, ◌∙◌, ℕ, suc, ◌+◌, ◌<◌, Bool, true, false, None, List, [], ◌∷◌, map, length, refl, sym, ap, subst, arith}
 use Rattle.std.specs.Prelude.{slice_index, slice_index_or}
 use Rattle.std.proofs.lemmas.List.{length-map, get_or-map}
 use Rattle.gq_group.specs.Pieces.{first_of, items_of}
 use Rattle.gq_group.specs.declared.group.Group as shown
 use Rattle.gq_group.specs.declared.piece.Piece.{Piece}
+use Rattle.gq_join.specs.Kept.{values_of}
 use Rattle.gq_law_groups.specs.Groups.{Group, plan_of}
 use Rattle.gq_law_groups.specs.Order.{AreCut}
 use Rattle.gq_plan.specs.Plans.{Step, Scan, Extend, Close, Join, Keep, Differ, NoLoop, steps}
@@ -12,13 +13,17 @@ use Rattle.gq_plan.specs.declared.assignment.Assignment.{Assignment}
 use Rattle.gq_walks.specs.Layouts.{piece_of}
 use Rattle.gq_walks.specs.Running.{cursor_at}
 use Rattle.gq_walks.specs.declared.walker.Cursor.{Cursor}
+use Rattle.gq_pipe.specs.Built.{HasBuild}
 use Rattle.gq_pipe.specs.Shown.{AreShown, HasForm, IsPartOf, IsShown, is_flat}
-use Rattle.gq_pipe.specs.steps.Chunks.{AreStanding, HasGroup, current_at, list_of, part}
+use Rattle.gq_pipe.specs.steps.Chunks.{AreStanding, HasGroup, current_at, list_of, matches_in, part}
 use Rattle.gq_pipe.specs.steps.Cuts.{groups_of, TilesTo}
 use Rattle.gq_pipe.specs.steps.Levels.{Run, step_at}
 use Rattle.gq_pipe.specs.steps.Lists.{no_group, group_at, group_in, groups_in, IsGrouped, Tiles}
+use Rattle.gq_pipe.specs.steps.Moves.{IsRun}
 use Rattle.gq_pipe.specs.declared.places.GroupSteps.{GroupSteps}
 use Rattle.gq_pipe.proofs.Cutting.{cut_same, tiles_plan}
+use Rattle.gq_pipe.proofs.Matched.{build_of}
+use Rattle.gq_pipe.proofs.Standings.{tile_at, IsWithin}
 
 tiles_to : (c : Run) (d : ℕ) (ss : List GroupSteps) → Tiles c d ss → TilesTo c.steps d ss (length c.steps)
 tiles_to c d [] h = h
@@ -31,20 +36,22 @@ groups_whole c ss g = go (groups_in c ss) g.cut (tiles_plan c.steps 0 ss (tiles_
     go [] h e = ap groups_of (sym e)
     go (b ∷ gs) h e = ap groups_of (sym e) ∙ cut_same b.binds [] b.checks gs h.1 h.2
 
-part_of : (c : Run) (d : ℕ) (row : Assignment) (p : Piece) (s : Step) → items_of p ≡ part (list_of c d row s) (first_of p) → IsPartOf c.graph c.typed s p
-part_of c d row p (Scan v) e = tt
-part_of c d row p (Extend column x from to way) e = (slice_index row.nodes from, e)
-part_of c d row p (Close column x from to way) e = (slice_index row.nodes from, e)
-part_of c d row p (Join side keys) e = tt
-part_of c d row p (Keep i) e = tt
-part_of c d row p (Differ q) e = tt
-part_of c d row p (NoLoop x) e = tt
+part_of : (c : Run) (run : IsRun c) (d : ℕ) → d < length c.steps → (row : Assignment) (p : Piece) (s : Step) → step_at c d ≡ s → items_of p ≡ part (list_of c d row s) (first_of p) → IsPartOf c.graph c.typed s p
+part_of c run d low row p (Scan v) is e = tt
+part_of c run d low row p (Extend column x from to way) is e = (slice_index row.nodes from, e)
+part_of c run d low row p (Close column x from to way) is e = (slice_index row.nodes from, e)
+part_of c run d low row p (Join side keys) is e =
+    let b : HasBuild c.graph c.typed side keys (slice_index_or c.builds d None) = build_of c run d low side keys is in
+    (b.build, b.is, (values_of b.build.keys row.nodes, e ∙ ap (λ o. part (matches_in o row) (first_of p)) b.there))
+part_of c run d low row p (Keep i) is e = tt
+part_of c run d low row p (Differ q) is e = tt
+part_of c run d low row p (NoLoop x) is e = tt
 
 flat_told : (f : Bool) (key : ℕ) → is_flat (current_at f key) ≡ f
 flat_told true key = refl
 flat_told false key = refl
 
-module _ (c : Run) (ss : List GroupSteps) (row : Assignment) (cs : List Cursor) (ms : List (List Bool)) (xs : List shown.Group) (grouped : IsGrouped c ss) (count : length xs ≡ length ss) (groups : AreStanding c ss row cs ms xs (length ss)) where
+module _ (c : Run) (ss : List GroupSteps) (row : Assignment) (cs : List Cursor) (ms : List (List Bool)) (xs : List shown.Group) (run : IsRun c) (grouped : IsGrouped c ss) (count : length xs ≡ length ss) (groups : AreStanding c ss row cs ms xs (length ss)) where
   shown_groups : AreShown c.graph c.typed (groups_in c ss) (map (λ (s : GroupSteps). s.flat) ss) xs
   shown_groups = record { count = count ∙ sym (length-map ss (group_in c.steps)); each = λ i below. one i (omega (arith, below, length-map ss (group_in c.steps))) }
     where
@@ -54,6 +61,10 @@ module _ (c : Run) (ss : List GroupSteps) (row : Assignment) (cs : List Cursor) 
           let step : (slice_index_or (groups_in c ss) i Rattle.gq_pipe.specs.Shown.no_group).binds ≡ step_at c (group_at ss i).first = ap (λ (b : Group). b.binds) (get_or-map (group_in c.steps) ss i no_group Rattle.gq_pipe.specs.Shown.no_group low) in
           let flat : slice_index_or (map (λ (s : GroupSteps). s.flat) ss) i false ≡ (group_at ss i).flat = get_or-map (λ (s : GroupSteps). s.flat) ss i no_group false low in
           let p = h.is.piece in
+          let within : IsWithin c (group_at ss i) = tile_at c 0 ss grouped.tiles i low in
+          let some = within.some in
+          let inside = within.inside in
+          let first_low : (group_at ss i).first < length c.steps = omega (arith, some, inside) in
           record {
             group = h.group;
             there = h.there;
@@ -63,7 +74,7 @@ module _ (c : Run) (ss : List GroupSteps) (row : Assignment) (cs : List Cursor) 
               number = piece_of (group_at ss i).flat (cursor_at cs i).key;
               cut = p.first_is;
               part = subst (λ s. IsPartOf c.graph c.typed s h.group.piece) (sym step)
-                  (part_of c (group_at ss i).first row h.group.piece (step_at c (group_at ss i).first) (p.items_are ∙ ap (part (list_of c (group_at ss i).first row (step_at c (group_at ss i).first))) (sym p.first_is)));
+                  (part_of c run (group_at ss i).first first_low row h.group.piece (step_at c (group_at ss i).first) refl (p.items_are ∙ ap (part (list_of c (group_at ss i).first row (step_at c (group_at ss i).first))) (sym p.first_is)));
             };
           }
 

@@ -6,17 +6,21 @@ use Rattle.std.proofs.lemmas.List.{get_or-take, get_or-drop, length-take, length
 use Rattle.gq_base.specs.Catalogs.{Tables}
 use Rattle.gq_group.specs.declared.home.Homes.{Homes}
 use Rattle.gq_group.specs.declared.home.NodeHome.TheVariants as node
+use Rattle.gq_law_groups.specs.Groups.{makes_group}
 use Rattle.gq_law_groups.specs.Layout.{ArePlaced, after_all}
-use Rattle.gq_plan.specs.Covers.{after_step, fits_step}
-use Rattle.gq_plan.specs.Known.{Known}
+use Rattle.gq_plan.specs.Covers.{after, after_step, fits_step}
+use Rattle.gq_plan.specs.Known.{Known, none}
 use Rattle.gq_plan.specs.Plans.{Step, Scan, Extend, Close, Join, Keep, Differ, NoLoop}
 use Rattle.gq_plan.specs.declared.typed.Typed.{Typed}
-use Rattle.gq_pipe.specs.Plain.{is_plain}
+use Rattle.gq_plan.specs.Soundness.{has_number}
 use Rattle.gq_pipe.specs.steps.Homes.{IsHoused, node_home}
 use Rattle.gq_pipe.specs.steps.Levels.{Run, step_at, known}
 use Rattle.gq_pipe.specs.steps.Lists.{group_in}
+use Rattle.gq_pipe.specs.steps.Moves.{IsRun}
 use Rattle.gq_pipe.specs.declared.homes.Filling.{Filling}
 use Rattle.gq_pipe.specs.declared.places.GroupSteps.{GroupSteps}
+use Rattle.gq_pipe.proofs.Binding.{fits_at}
+use Rattle.gq_pipe.proofs.Brings.{KnowsKeys, knows_keys, no_keys}
 
 -- a step behind the first of a group fits where what the steps before it bind is known
 placed_fits : (catalog : Tables) (y : Typed) (checks : List Step) (k : Known) (n : ℕ) → n < length checks → ArePlaced catalog y checks k → fits_step catalog y (slice_index_or checks n (Keep 0)) (after_all (take n checks) k) ≡ true
@@ -58,19 +62,23 @@ same_var v w k h e = sym (eqb-true v w (right_true (nat_eq v w) k h e))
 unfoldable pub IsIn : Homes → ℕ → ℕ → Type 0
 IsIn h i v = (node_home h v ≡ node.Item i) ⊎ ((m : ℕ) × (node_home h v ≡ node.Column i m))
 
-pub lives : (fs : List Filling) (h : Homes) (i : ℕ) (s : Step) (k : Known) (v : ℕ) → IsHoused fs h i s → is_plain s ≡ true → k.nodes v ≡ false → (after_step s k).nodes v ≡ true → IsIn h i v
+pub lives : (fs : List Filling) (h : Homes) (i : ℕ) (s : Step) (k : Known) (v : ℕ) → IsHoused fs h i s → KnowsKeys s k → k.nodes v ≡ false → (after_step s k).nodes v ≡ true → IsIn h i v
 unfolding after_step IsIn
-lives fs h i (Scan w) k v house simple free now = inl (ap (node_home h) (sym (same_var v w (k.nodes v) now free)) ∙ house)
-lives fs h i (Extend true x from to w) k v house simple free now = inr (house.column, ap (node_home h) (sym (same_var v to (k.nodes v) now free)) ∙ house.node_is)
-lives fs h i (Extend false x from to w) k v house simple free now = inl (ap (node_home h) (sym (same_var v to (k.nodes v) now free)) ∙ house.0)
-lives fs h i (Close column x from to w) k v house simple free now = absurd (true≢false (sym now ∙ free))
-lives fs h i (Join side keys) k v house simple free now = absurd (true≢false (sym simple))
-lives fs h i (Keep t) k v house simple free now = absurd (true≢false (sym now ∙ free))
-lives fs h i (Differ p) k v house simple free now = absurd (true≢false (sym now ∙ free))
-lives fs h i (NoLoop x) k v house simple free now = absurd (true≢false (sym now ∙ free))
+lives fs h i (Scan w) k v house keys_known free now = inl (ap (node_home h) (sym (same_var v w (k.nodes v) now free)) ∙ house)
+lives fs h i (Extend true x from to w) k v house keys_known free now = inr (house.column, ap (node_home h) (sym (same_var v to (k.nodes v) now free)) ∙ house.node_is)
+lives fs h i (Extend false x from to w) k v house keys_known free now = inl (ap (node_home h) (sym (same_var v to (k.nodes v) now free)) ∙ house.0)
+lives fs h i (Close column x from to w) k v house keys_known free now = absurd (true≢false (sym now ∙ free))
+lives fs h i (Join side keys) k v house keys_known free now = go (has_number keys v) refl
+  where
+    go : (b : Bool) → has_number keys v ≡ b → (node_home h v ≡ node.Item i) ⊎ ((m : ℕ) × (node_home h v ≡ node.Column i m))
+    go true key = absurd (true≢false (sym (keys_known v key) ∙ free))
+    go false other = let has = house.nodes v (right_true ((after side none).nodes v) (k.nodes v) now free) other in inr (has.column, has.node_is)
+lives fs h i (Keep t) k v house keys_known free now = absurd (true≢false (sym now ∙ free))
+lives fs h i (Differ p) k v house keys_known free now = absurd (true≢false (sym now ∙ free))
+lives fs h i (NoLoop x) k v house keys_known free now = absurd (true≢false (sym now ∙ free))
 
-module _ (c : Run) (fs : List Filling) (h : Homes) (i : ℕ) (s : GroupSteps) (inside : s.end ≤ length c.steps)
-    (house : (e : ℕ) → s.first ≤ e → e < s.end → IsHoused fs h i (step_at c e)) (plain : (e : ℕ) → e < length c.steps → is_plain (step_at c e) ≡ true) where
+module _ (c : Run) (run : IsRun c) (fs : List Filling) (h : Homes) (i : ℕ) (s : GroupSteps) (inside : s.end ≤ length c.steps)
+    (house : (e : ℕ) → s.first ≤ e → e < s.end → IsHoused fs h i (step_at c e)) (others : (e : ℕ) → s.first < e → e < s.end → makes_group (step_at c e) ≡ false) where
   check_at : (n : ℕ) → s.first + 1 + n < s.end → slice_index_or (group_in c.steps s).checks n (Keep 0) ≡ step_at c (s.first + 1 + n)
   check_at n low = get_or-take (s.end - (s.first + 1)) (drop (s.first + 1) c.steps) n (Keep 0) (omega (arith, low)) ∙ get_or-drop (s.first + 1) c.steps n (Keep 0)
 
@@ -81,7 +89,7 @@ module _ (c : Run) (fs : List Filling) (h : Homes) (i : ℕ) (s : GroupSteps) (i
       omega (arith, a, b, some, inside)
 
   -- at a step behind the first one
-  module _ (d : ℕ) (above : s.first < d) (below : d < s.end) (set : Known) (placed : ArePlaced c.graph.catalog c.typed (group_in c.steps s).checks (after_step (step_at c s.first) set)) where
+  module _ (d : ℕ) (above : s.first < d) (below : d < s.end) (set : Known) (fit : fits_step c.graph.catalog c.typed (step_at c s.first) set ≡ true) (placed : ArePlaced c.graph.catalog c.typed (group_in c.steps s).checks (after_step (step_at c s.first) set)) where
     abbrev checks : List Step
     checks = (group_in c.steps s).checks
 
@@ -103,7 +111,7 @@ module _ (c : Run) (fs : List Filling) (h : Homes) (i : ℕ) (s : GroupSteps) (i
       where
         first : (b : Bool) → set.nodes v ≡ b → (after_step (step_at c s.first) set).nodes v ≡ true → (set.nodes v ≡ true) ⊎ IsIn h i v
         first true known_there now = inl known_there
-        first false free now = inr (lives fs h i (step_at c s.first) set v (house s.first (omega arith) (omega (arith, above, below))) (plain s.first (omega (arith, above, below, inside))) free now)
+        first false free now = inr (lives fs h i (step_at c s.first) set v (house s.first (omega arith) (omega (arith, above, below))) (knows_keys c.graph.catalog c.typed (step_at c s.first) set fit) free now)
 
         go : ((after_step (step_at c s.first) set).nodes v ≡ true) ⊎ IsBound checks n v → (set.nodes v ≡ true) ⊎ IsIn h i v
         go (inl now) = first (set.nodes v) refl now
@@ -112,7 +120,7 @@ module _ (c : Run) (fs : List Filling) (h : Homes) (i : ℕ) (s : GroupSteps) (i
             let e : ℕ = s.first + 1 + b.place in
             let under : e < s.end = omega (arith, low, below, above) in
             let is_step : slice_index_or checks b.place (Keep 0) ≡ step_at c e = check_at b.place under in
-            inr (lives fs h i (step_at c e) b.before v (house e (omega arith) under) (plain e (omega (arith, under, inside))) b.free (subst (λ t. (after_step t b.before).nodes v ≡ true) is_step b.now))
+            inr (lives fs h i (step_at c e) b.before v (house e (omega arith) under) (no_keys (step_at c e) b.before (others e (omega arith) under)) b.free (subst (λ t. (after_step t b.before).nodes v ≡ true) is_step b.now))
 
   -- what is known at a step of the group was known before the group, or lives in it
   known_from : (m d v : ℕ) → s.first + m ≡ d → d ≤ s.end → (known c d).nodes v ≡ true → ((known c s.first).nodes v ≡ true) ⊎ IsIn h i v
@@ -123,7 +131,7 @@ module _ (c : Run) (fs : List Filling) (h : Homes) (i : ℕ) (s : GroupSteps) (i
     where
       go : (b : Bool) → (known c d).nodes v ≡ b → ((known c d).nodes v ≡ true → ((known c s.first).nodes v ≡ true) ⊎ IsIn h i v) → ((known c s.first).nodes v ≡ true) ⊎ IsIn h i v
       go true was rest = rest was
-      go false free rest = inr (lives fs h i (step_at c d) (known c d) v (house d (omega (arith, at)) (omega (arith, low))) (plain d (omega (arith, low, inside))) free is)
+      go false free rest = inr (lives fs h i (step_at c d) (known c d) v (house d (omega (arith, at)) (omega (arith, low))) (knows_keys c.graph.catalog c.typed (step_at c d) (known c d) (fits_at c run d (omega (arith, low, inside)))) free is)
 
   pub known_before : (d v : ℕ) → s.first ≤ d → d ≤ s.end → (known c d).nodes v ≡ true → ((known c s.first).nodes v ≡ true) ⊎ IsIn h i v
   known_before d v low high is = known_from (d - s.first) d v (omega (arith, low)) high is

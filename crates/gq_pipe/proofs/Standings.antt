@@ -40,15 +40,15 @@ prefix_more cs i low = ap keys_of (take_more cs i Rattle.gq_walks.specs.Running.
 
 -- ---- the first groups
 
-chain_part : (c : Run) (flat : ℕ → Bool) (row : Assignment) (i d : ℕ) (ss : List GroupSteps) (k : Known) (a : Partial) (pre more : List ℕ)
-    → Chain c flat row i d ss k a (pre ++ more) → Chain c flat row i d ss k a pre
+chain_part : (c : Run) (rows : ℕ → List Partial) (flat : ℕ → Bool) (row : Assignment) (i d : ℕ) (ss : List GroupSteps) (k : Known) (a : Partial) (pre more : List ℕ)
+    → Chain c rows flat row i d ss k a (pre ++ more) → Chain c rows flat row i d ss k a pre
 unfolding Chain
-chain_part c flat row i d ss k a [] [] h = h
-chain_part c flat row i d [] k a [] (n ∷ more) h = absurd h
-chain_part c flat row i d (s ∷ ss) k a [] (n ∷ more) h = h.0
-chain_part c flat row i d [] k a (m ∷ pre) more h = absurd h
-chain_part c flat row i d (s ∷ ss) k a (m ∷ pre) more h =
-    (h.0, chain_part c flat row (i + 1) s.end ss (known_with (flat i) (group_in c.steps s) k) (with_group c.graph c.typed (rows_in c) flat i (group_in c.steps s) a m) pre more h.1)
+chain_part c rows flat row i d ss k a [] [] h = h
+chain_part c rows flat row i d [] k a [] (n ∷ more) h = absurd h
+chain_part c rows flat row i d (s ∷ ss) k a [] (n ∷ more) h = h.0
+chain_part c rows flat row i d [] k a (m ∷ pre) more h = absurd h
+chain_part c rows flat row i d (s ∷ ss) k a (m ∷ pre) more h =
+    (h.0, chain_part c rows flat row (i + 1) s.end ss (known_with (flat i) (group_in c.steps s) k) (with_group c.graph c.typed rows flat i (group_in c.steps s) a m) pre more h.1)
 
 pub stands_part : (c : Run) (ss : List GroupSteps) (row : Assignment) (cs : List Cursor) (i : ℕ) → Stands c ss row (keys_of cs) → Stands c ss row (prefix cs i)
 stands_part c ss row cs i s =
@@ -56,7 +56,7 @@ stands_part c ss row cs i s =
     record {
       runs = s.runs;
       grouped = s.grouped;
-      chain = chain_part c (flat_in ss) row 0 0 ss none nothing (prefix cs i) (keys_of (drop i cs)) (subst (Chain c (flat_in ss) row 0 0 ss none nothing) all s.chain);
+      chain = chain_part c (rows_in c ss) (flat_in ss) row 0 0 ss none nothing (prefix cs i) (keys_of (drop i cs)) (subst (Chain c (rows_in c ss) (flat_in ss) row 0 0 ss none nothing) all s.chain);
     }
   where
     keys_both : (as' bs : List Cursor) → keys_of (as' ++ bs) ≡ keys_of as' ++ keys_of bs
@@ -73,11 +73,11 @@ pub record Met (c : Run) (one two : Assignment) (s : GroupSteps) : Type 0 where
   pub old : IsAtStep c one s.first set bound
   pub new : IsAtStep c two s.first set bound
 
-meet : (c : Run) (flat : ℕ → Bool) (one two : Assignment) (ss : List GroupSteps) (i d : ℕ) (k : Known) (a : Partial) (pre : List ℕ) → Tiles c d ss
-    → AreFlatEnough c.graph.catalog c.typed flat i (groups_in c ss) k → length pre < length ss → Chain c flat one i d ss k a pre → Chain c flat two i d ss k a pre → Met c one two (group_at ss (length pre))
+meet : (c : Run) (rows : ℕ → List Partial) (flat : ℕ → Bool) (one two : Assignment) (ss : List GroupSteps) (i d : ℕ) (k : Known) (a : Partial) (pre : List ℕ) → Tiles c d ss
+    → AreFlatEnough c.graph.catalog c.typed flat i (groups_in c ss) k → length pre < length ss → Chain c rows flat one i d ss k a pre → Chain c rows flat two i d ss k a pre → Met c one two (group_at ss (length pre))
 unfolding Chain
-meet c flat one two [] i d k a pre tiles enough low h e = absurd (omega (arith, low))
-meet c flat one two (s ∷ ss) i d k a [] tiles enough low h e =
+meet c rows flat one two [] i d k a pre tiles enough low h e = absurd (omega (arith, low))
+meet c rows flat one two (s ∷ ss) i d k a [] tiles enough low h e =
     let at : s.first ≡ d = tiles.0 in
     record {
       set = k;
@@ -87,11 +87,11 @@ meet c flat one two (s ∷ ss) i d k a [] tiles enough low h e =
       old = subst (λ n. IsAtStep c one n k a) (sym at) h;
       new = subst (λ n. IsAtStep c two n k a) (sym at) e;
     }
-meet c flat one two (s ∷ ss) i d k a (m ∷ pre) tiles enough low h e =
-    meet c flat one two ss (i + 1) s.end (known_with (flat i) (group_in c.steps s) k) (with_group c.graph c.typed (rows_in c) flat i (group_in c.steps s) a m) pre tiles.3 enough.2 (omega (arith, low)) h.1 e.1
+meet c rows flat one two (s ∷ ss) i d k a (m ∷ pre) tiles enough low h e =
+    meet c rows flat one two ss (i + 1) s.end (known_with (flat i) (group_in c.steps s) k) (with_group c.graph c.typed rows flat i (group_in c.steps s) a m) pre tiles.3 enough.2 (omega (arith, low)) h.1 e.1
 
 pub both_stand : (c : Run) (ss : List GroupSteps) (one two : Assignment) (pre : List ℕ) → length pre < length ss → Stands c ss one pre → Stands c ss two pre → Met c one two (group_at ss (length pre))
-both_stand c ss one two pre low h e = meet c (flat_in ss) one two ss 0 0 none nothing pre h.grouped.tiles h.grouped.enough low h.chain e.chain
+both_stand c ss one two pre low h e = meet c (rows_in c ss) (flat_in ss) one two ss 0 0 none nothing pre h.grouped.tiles h.grouped.enough low h.chain e.chain
 
 -- what the next group reads is the same
 module _ (c : Run) (run : IsRun c) (one two : Assignment) (s : GroupSteps) (m : Met c one two s) where
@@ -108,17 +108,17 @@ module _ (c : Run) (run : IsRun c) (one two : Assignment) (s : GroupSteps) (m : 
 
 -- ---- all groups
 
-last_of : (c : Run) (flat : ℕ → Bool) (row : Assignment) (ss : List GroupSteps) (i d : ℕ) (k : Known) (a : Partial) (pre : List ℕ) → Tiles c d ss → length pre ≡ length ss
-    → Chain c flat row i d ss k a pre → Rattle.gq_pipe.specs.steps.Moves.IsHeld c row (known c (length c.steps))
+last_of : (c : Run) (rows : ℕ → List Partial) (flat : ℕ → Bool) (row : Assignment) (ss : List GroupSteps) (i d : ℕ) (k : Known) (a : Partial) (pre : List ℕ) → Tiles c d ss → length pre ≡ length ss
+    → Chain c rows flat row i d ss k a pre → Rattle.gq_pipe.specs.steps.Moves.IsHeld c row (known c (length c.steps))
 unfolding Chain
-last_of c flat row [] i d k a [] tiles many h = subst (λ n. Rattle.gq_pipe.specs.steps.Moves.IsHeld c row (known c n)) tiles h.held
-last_of c flat row [] i d k a (m ∷ pre) tiles many h = absurd h
-last_of c flat row (s ∷ ss) i d k a [] tiles many h = absurd (omega (arith, many))
-last_of c flat row (s ∷ ss) i d k a (m ∷ pre) tiles many h =
-    last_of c flat row ss (i + 1) s.end (known_with (flat i) (group_in c.steps s) k) (with_group c.graph c.typed (rows_in c) flat i (group_in c.steps s) a m) pre tiles.3 (omega (arith, many)) h.1
+last_of c rows flat row [] i d k a [] tiles many h = subst (λ n. Rattle.gq_pipe.specs.steps.Moves.IsHeld c row (known c n)) tiles h.held
+last_of c rows flat row [] i d k a (m ∷ pre) tiles many h = absurd h
+last_of c rows flat row (s ∷ ss) i d k a [] tiles many h = absurd (omega (arith, many))
+last_of c rows flat row (s ∷ ss) i d k a (m ∷ pre) tiles many h =
+    last_of c rows flat row ss (i + 1) s.end (known_with (flat i) (group_in c.steps s) k) (with_group c.graph c.typed rows flat i (group_in c.steps s) a m) pre tiles.3 (omega (arith, many)) h.1
 
 pub all_held : (c : Run) (ss : List GroupSteps) (row : Assignment) (pre : List ℕ) → length pre ≡ length ss → Stands c ss row pre → Rattle.gq_pipe.specs.steps.Moves.IsHeld c row (known c (length c.steps))
-all_held c ss row pre many s = last_of c (flat_in ss) row ss 0 0 none nothing pre s.grouped.tiles many s.chain
+all_held c ss row pre many s = last_of c (rows_in c ss) (flat_in ss) row ss 0 0 none nothing pre s.grouped.tiles many s.chain
 
 -- a group's steps are steps of the plan, and lie before those of the next one
 pub record IsWithin (c : Run) (s : GroupSteps) : Type 0 where

@@ -1,7 +1,7 @@
 -- What a try of a step of each kind makes is what is said of the step at its depth.
-use Rattle.std.proofs.Common.{◌≡◌, ◌≢◌, ℕ, zero, suc, ◌<◌, Bool, true, false, cond, Some, None, List, [], ◌∷◌, map, length, get_or, slice_get, refl, sym, ap, ◌∙◌, subst, arith}
+use Rattle.std.proofs.Common.{Bor, ◌≡◌, ◌≢◌, ℕ, zero, suc, ◌<◌, Bool, true, false, cond, Some, None, List, [], ◌∷◌, map, length, get_or, slice_get, refl, sym, ap, ◌∙◌, subst, arith}
 use Rattle.std.proofs.lemmas.Bool.{and_parts}
-use Rattle.std.proofs.lemmas.List.{length-map}
+use Rattle.std.proofs.lemmas.List.{get_or-map, length-map}
 use Rattle.std.specs.Prelude.{slice_index}
 use Rattle.std.specs.List.{range_with_len}
 use Rattle.std.proofs.lemmas.List.FromFn.{length-range_with_len}
@@ -17,8 +17,8 @@ use Rattle.gq_plan.specs.Known.{Known}
 use Rattle.gq_plan.specs.Meaning.{Partial, look, holds, far, arrive, with_rel, keep_if, rels_from}
 use Rattle.gq_plan.specs.Plans.{Step, Scan, Extend, Close, Keep, step_of}
 use Rattle.gq_plan.specs.declared.plan.Step as code
-use Rattle.gq_pipe.specs.steps.Levels.{Run, step_at, known, before}
-use Rattle.gq_pipe.specs.steps.Moves.{run_of, IsRun, IsHeld, IsTried}
+use Rattle.gq_pipe.specs.steps.Levels.{Run, step_at, built_at, known, before}
+use Rattle.gq_pipe.specs.steps.Moves.{referred, run_of, steps_in, IsRun, IsHeld, IsTried}
 use Rattle.gq_pipe.specs.steps.Outcomes.{IsSized, IsScanned, CanFollow, IsExtended, IsClosed, tested}
 use Rattle.gq_plan.specs.Rows.{node_at, node_table, rel_table}
 use Rattle.gq_plan.specs.declared.assignment.Assignment.{Assignment}
@@ -35,9 +35,16 @@ get_mapped [] d x low = absurd (omega arith)
 get_mapped (s ∷ ss) zero x low = refl
 get_mapped (s ∷ ss) (suc d) x low = get_mapped ss d x (omega arith)
 
-module _ (k : PlanRun) (d : ℕ) (low : d < length k.steps.now) where
-  pub step_is : (x s : code.Step) (t : Step) → get_or k.steps.now d x ≡ s → step_of s ≡ t → step_at (run_of k) d ≡ t
-  step_is x s t is e = get_mapped k.steps.now d x low ∙ ap step_of is ∙ e
+-- the step that is referred to at a depth
+pub step_read : (rs : List (Bor code.Step)) (d : ℕ) (r : Bor code.Step) → r ≡ get_or rs d r → d < length rs → get_or (referred rs) d r.now ≡ r.now
+step_read rs d r is low = get_or-map (λ (s : Bor code.Step). s.now) rs d r r.now low ∙ ap (λ (s : Bor code.Step). s.now) (sym is)
+
+pub step_below : (k : PlanRun) (d n : ℕ) → n ≡ length k.steps.items → d < n → d < length (run_of k).steps
+step_below k d n is low = omega (arith, low, is, length-map (steps_in k) step_of, length-map k.steps.items (λ (s : Bor code.Step). s.now))
+
+module _ (k : PlanRun) (d : ℕ) (low : d < length (steps_in k)) where
+  pub step_is : (x s : code.Step) (t : Step) → get_or (steps_in k) d x ≡ s → step_of s ≡ t → step_at (run_of k) d ≡ t
+  step_is x s t is e = get_mapped (steps_in k) d x low ∙ ap step_of is ∙ e
 
   pub low_step : d < length (run_of k).steps
   low_step = rw length-map low
@@ -66,16 +73,16 @@ module _ (c : Run) (run : IsRun c) (d : ℕ) (low : d < length c.steps) (old : A
   scan_low v is = (scan_parts c run old k held a v 0 (fit (Scan v) is)).0
 
   pub scan_tried : (v place : ℕ) (new : Assignment) (told : Tried) → step_at c d ≡ Scan v → IsScanned c.graph c.typed v place old new told → IsTried c d place old new told
-  scan_tried v place new Past is h = is_past c d (Scan v) is place old new h.0 (scan_makes_none c run old k held a v place (fit (Scan v) is) h.1)
+  scan_tried v place new Past is h = is_past c d (Scan v) is place old new h.0 (scan_makes_none c run old k held a v place (fit (Scan v) is) (built_at c d) h.1)
   scan_tried v place new Missed is h = absurd h
   scan_tried v place new Made is h =
       is_made c d (Scan v) is place old new
-      (subst (λ row. Makes c (Scan v) k a place old row) (sym h.0) (scan_makes c run old k held a v place (fit (Scan v) is) h.1)) h.2
+      (subst (λ row. Makes c (built_at c d) (Scan v) k a place old row) (sym h.0) (scan_makes c run old k held a v place (fit (Scan v) is) (built_at c d) h.1)) h.2
 
-  pub scan_count : (v : ℕ) → step_at c d ≡ Scan v → length (tries c.graph c.typed (step_at c d) a) ≡ row_count c.graph.nodes (node_table c.typed v)
+  pub scan_count : (v : ℕ) → step_at c d ≡ Scan v → length (tries c.graph c.typed (built_at c d) (step_at c d) a) ≡ row_count c.graph.nodes (node_table c.typed v)
   scan_count v is =
-      ap (λ s. length (tries c.graph c.typed s a)) is
-      ∙ ap length (scans c.graph c.typed v (scan_low v is) a)
+      ap (λ s. length (tries c.graph c.typed (built_at c d) s a)) is
+      ∙ ap length (scans c.graph c.typed v (scan_low v is) a (built_at c d))
       ∙ length-map (range_with_len 0 (row_count c.graph.nodes (node_table c.typed v))) (lists c.graph c.typed v (scan_low v is) a)
       ∙ length-range_with_len 0 (row_count c.graph.nodes (node_table c.typed v))
 
@@ -124,22 +131,22 @@ module _ (c : Run) (run : IsRun c) (d : ℕ) (low : d < length c.steps) (old : A
     pub extend_can : CanFollow c.graph c.typed old (at x from to way)
     extend_can = can x from to way extends extend_parts.1
 
-    pub extend_count : length (tries c.graph c.typed (step_at c d) a) ≡ length (neighbours c.graph (rel_table c.typed x) way (slice_index old.nodes from))
+    pub extend_count : length (tries c.graph c.typed (built_at c d) (step_at c d) a) ≡ length (neighbours c.graph (rel_table c.typed x) way (slice_index old.nodes from))
     unfolding tries
     extend_count =
-        ap (λ s. length (tries c.graph c.typed s a)) is
+        ap (λ s. length (tries c.graph c.typed (built_at c d) s a)) is
         ∙ length-map (rels_from c.graph c.typed x way (look a.nodes from)) (λ r. arrive to (far c.graph way r) (with_rel x r a))
         ∙ rels_count x from to way extends (found from extend_parts.1)
 
     pub extend_tried : (place : ℕ) (new : Assignment) (told : Tried) → IsExtended c.graph c.typed (at x from to way) place old new told → IsTried c d place old new told
     extend_tried place new Past h =
         is_past c d (Extend column x from to way) is place old new h.0
-        (extend_past c run x from to way extends old a (found from extend_parts.1) column place h.1)
+        (extend_past c run x from to way extends old a (found from extend_parts.1) (built_at c d) column place h.1)
     extend_tried place new Missed h = absurd h
     extend_tried place new Made h =
         is_made c d (Extend column x from to way) is place old new
-        (subst (λ row. Makes c (Extend column x from to way) k a place old row) (sym h.2)
-        (extend_makes c run x from to way extends old a (found from extend_parts.1) column k held extend_parts.0 extend_parts.2 place h.0 h.1)) h.1.few
+        (subst (λ row. Makes c (built_at c d) (Extend column x from to way) k a place old row) (sym h.2)
+        (extend_makes c run x from to way extends old a (found from extend_parts.1) (built_at c d) column k held extend_parts.0 extend_parts.2 place h.0 h.1)) h.1.few
 
   -- a step between bound node variables
 
@@ -161,21 +168,21 @@ module _ (c : Run) (run : IsRun c) (d : ℕ) (low : d < length c.steps) (old : A
     pub close_can : CanFollow c.graph c.typed old (at x from to way)
     close_can = can x from to way closes close_parts.1
 
-    pub close_count : length (tries c.graph c.typed (step_at c d) a) ≡ length (neighbours c.graph (rel_table c.typed x) way (slice_index old.nodes from))
+    pub close_count : length (tries c.graph c.typed (built_at c d) (step_at c d) a) ≡ length (neighbours c.graph (rel_table c.typed x) way (slice_index old.nodes from))
     unfolding tries
     close_count =
-        ap (λ s. length (tries c.graph c.typed s a)) is
+        ap (λ s. length (tries c.graph c.typed (built_at c d) s a)) is
         ∙ length-map (rels_from c.graph c.typed x way (look a.nodes from)) (λ r. keep_if (at_same (look a.nodes to) (far c.graph way r)) (with_rel x r a))
         ∙ rels_count x from to way closes (found from close_parts.1)
 
     pub close_tried : (place : ℕ) (new : Assignment) (told : Tried) → IsClosed c.graph c.typed (at x from to way) place old new told → IsTried c d place old new told
     close_tried place new Past h =
         is_past c d (Close column x from to way) is place old new h.0
-        (close_past c run x from to way closes old a (found from close_parts.1) column place h.1)
+        (close_past c run x from to way closes old a (found from close_parts.1) (built_at c d) column place h.1)
     close_tried place new Missed h =
         is_missed c d (Close column x from to way) is place old new h.3
-        (close_misses c run x from to way closes old a (found from close_parts.1) (found to close_parts.2) column place h.0 h.1 h.2) h.1.few
+        (close_misses c run x from to way closes old a (found from close_parts.1) (found to close_parts.2) (built_at c d) column place h.0 h.1 h.2) h.1.few
     close_tried place new Made h =
         is_made c d (Close column x from to way) is place old new
-        (subst (λ row. Makes c (Close column x from to way) k a place old row) (sym h.3)
-        (close_makes c run x from to way closes old a (found from close_parts.1) (found to close_parts.2) column k held close_parts.0 place h.0 h.1 h.2)) h.1.few
+        (subst (λ row. Makes c (built_at c d) (Close column x from to way) k a place old row) (sym h.3)
+        (close_makes c run x from to way closes old a (found from close_parts.1) (found to close_parts.2) (built_at c d) column k held close_parts.0 place h.0 h.1 h.2)) h.1.few

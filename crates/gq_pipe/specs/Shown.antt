@@ -5,11 +5,13 @@ use Rattle.gq_group.specs.Pieces.{first_of, items_of}
 use Rattle.gq_group.specs.declared.group.Group as shown
 use Rattle.gq_group.specs.declared.piece.Piece.{Piece}
 use Rattle.gq_group.specs.declared.piece.Piece.TheVariants as piece
+use Rattle.gq_join.specs.Kept.{Held, matches}
 use Rattle.gq_law_groups.specs.Groups.{Group}
 use Rattle.gq_plan.specs.Plans.{Step, Scan, Extend, Close, Join, Keep}
 use Rattle.gq_plan.specs.Rows.{rel_table}
 use Rattle.gq_plan.specs.declared.typed.Typed.{Typed}
 use Rattle.gq_store.specs.Neighbours.{neighbours}
+use Rattle.gq_pipe.specs.Built.{IsBuildOf}
 
 abbrev pub no_group : Group
 no_group = record { binds = Keep 0; checks = [] }
@@ -26,10 +28,11 @@ abbrev pub is_flat : Option ℕ → Bool
 is_flat None = false
 is_flat (Some position) = true
 
--- neighbours are a part of the graph's own list of a vertex
+-- neighbours are a part of the graph's own list of a vertex, and rows of a build a part of those that a build of the side plan has for a key
 abbrev pub IsPartOf : Graph → Typed → Step → Piece → Type 0
 IsPartOf g y (Extend column x from to way) p = (row : ℕ) × (items_of p ≡ take 1024 (drop (first_of p) (neighbours g (rel_table y x) way row)))
 IsPartOf g y (Close column x from to way) p = (row : ℕ) × (items_of p ≡ take 1024 (drop (first_of p) (neighbours g (rel_table y x) way row)))
+IsPartOf g y (Join side keys) p = (build : Held) × IsBuildOf g y side keys build × ((key : List ℕ) × (items_of p ≡ take 1024 (drop (first_of p) (matches build key))))
 IsPartOf g y s p = Unit {0}
 
 pub record IsShown (g : Graph) (y : Typed) (s : Step) (flat : Bool) (x : shown.Group) : Type 0 where

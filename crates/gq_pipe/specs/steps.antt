@@ -3,9 +3,10 @@ pub mod Built
 pub mod Cells
 pub mod Chunks
 pub mod Cuts
+pub mod Filled
+pub mod Given
 pub mod Homes
 pub mod Hops
-pub mod Inner
 pub mod Keeps
 pub mod Levels
 pub mod Limits

@@ -1,26 +1,59 @@
 //! Where the variables that a plan binds live in the groups of its chunks.
-ghost use Rattle.std.specs.Prelude.{◌≡◌, ◌∷◌, ◌++◌, ◌<◌, ◌^◌, [], length, IfOk, OnOk};
+ghost use Rattle.std.specs.Prelude.{◌≡◌, ◌∷◌, ◌++◌, ◌<◌, ◌^◌, [], length, map, All, IfOk, OnOk};
+ghost use Rattle.std.specs.Option.{option_copied};
+ghost use Rattle.gq_law_groups.specs.Order.{AreCut};
 ghost use Rattle.gq_plan.specs.Plans.{step_of};
-ghost use Rattle.gq_pipe.specs.steps.Homes.{AreHomes, AreHoused, CanHouse, filling_of, housed};
-ghost use Rattle.gq_pipe.specs.steps.Homes.{is_forward, with_column, with_filling};
-ghost use Rattle.gq_pipe.specs.steps.Lists.{Tiles, group_at};
+ghost use Rattle.gq_plan.specs.Soundness as soundness;
+ghost use Rattle.gq_group.specs.declared.home.NodeHome.TheVariants.{Column};
+ghost use Rattle.gq_group.specs.declared.home.RelHome.TheVariants.{Kept};
+ghost use Rattle.gq_pipe.specs.steps.Homes.{AreHomes, AreHoused, CanHouse, CanHouseBuild};
+ghost use Rattle.gq_pipe.specs.steps.Homes.{brought_by, filling_of, fillings_of, housed};
+ghost use Rattle.gq_pipe.specs.steps.Homes.{is_forward, kept_of, not_in};
+ghost use Rattle.gq_pipe.specs.steps.Homes.{set_numbered, with_build, with_filling};
+ghost use Rattle.gq_pipe.specs.steps.Homes.{with_node_home};
+ghost use Rattle.gq_pipe.specs.steps.Lists.{Tiles, group_at, groups_in};
 ghost use Rattle.gq_pipe.specs.steps.Moves.{run_of, IsRun};
 
 use crate::places::GroupSteps;
 use crate::plan_run::PlanRun;
 use gq_base::{Direction, List, Memory};
 use gq_group::{Homes, NodeHome, RelHome};
+use gq_join::Sealed;
 use gq_plan::Step;
 use std::alloc::Global;
 
-/// A column of a group. It has the rows to which the single relationships of a relationship
-/// variable lead from the rows of a node variable.
+/// A column of a group.
 #[derive(Clone, Copy)]
-pub(crate) struct Filling {
+pub(crate) enum Filling {
+    /// It follows relationships.
+    Led(Leading),
+    /// It has nodes of a build.
+    Kept(Keeping),
+}
+
+/// The rows to which the single relationships of a relationship variable lead from the rows of a
+/// node variable.
+#[derive(Clone, Copy)]
+pub(crate) struct Leading {
     pub(crate) group: u32,
     pub(crate) rel: u32,
     pub(crate) from: u32,
     pub(crate) direction: Direction,
+}
+
+/// The rows that a node variable has in the rows of the build of the step at a depth.
+#[derive(Clone, Copy)]
+pub(crate) struct Keeping {
+    pub(crate) group: u32,
+    pub(crate) depth: usize,
+    pub(crate) node: u32,
+}
+
+// Where a step stands: in which group, and at which depth.
+#[derive(Clone, Copy)]
+struct Spot {
+    group: u32,
+    depth: usize,
 }
 
 /// Where the variables live, and the columns, by their numbers.
@@ -39,6 +72,7 @@ pub(crate) fn find_homes(
 ) -> Result<Housing, Memory>
     requires run { IsRun (run_of plan_run.now) }
     requires tiles { Tiles (run_of plan_run.now) 0 groups.now }
+    requires cut { AreCut (groups_in (run_of plan_run.now) groups.now) }
     requires few { length groups.now < 2 ^ 32 }
     ensures { let c = run_of plan_run.now in
         IfOk result (λ h. AreHomes c groups.now (length groups.now) (length c.steps)
@@ -68,6 +102,7 @@ fn house_group(
 ) -> Result<(), Memory>
     requires run { IsRun (run_of plan_run.now) }
     requires tiles { Tiles (run_of plan_run.now) 0 groups.now }
+    requires cut { AreCut (groups_in (run_of plan_run.now) groups.now) }
     requires few { length groups.now < 2 ^ 32 }
     requires number { number < length groups.now }
     requires homes { AreHomes (run_of plan_run.now) groups.now number
@@ -78,7 +113,12 @@ fn house_group(
     let group = groups[number];
     let mut step = group.first;
     while step < group.end {
-        house(&plan_run.steps[step], number as u32, housing)?;
+        let spot = Spot {
+            group: number as u32,
+            depth: step,
+        };
+        let build = plan_run.build_at(step);
+        house(plan_run.step(step), build, spot, housing)?;
         step += 1;
     }
     Ok(())
@@ -86,58 +126,122 @@ fn house_group(
 
 // Puts what a step of a group binds into the group.
 #[tactic(auto, using(gq_plan::proofs::StepEquations::equations))]
-fn house(step: &Step, group: u32, housing: &mut Housing) -> Result<(), Memory>
-    requires { CanHouse housing.old.homes (step_of step.now) }
-    ensures homes { OnOk result (housing.new.homes ≡
-        housed group (length housing.old.fillings.items) (step_of step.now) housing.old.homes) }
+fn house(
+    step: &Step,
+    build: Option<&Sealed>,
+    spot: Spot,
+    housing: &mut Housing,
+) -> Result<(), Memory>
+    requires { CanHouse (option_copied build) housing.old.homes (step_of step.now) }
+    ensures homes { OnOk result (housing.new.homes ≡ housed (option_copied build.entry) spot.group
+        (length housing.old.fillings.items) (step_of step.now) housing.old.homes) }
     ensures fillings { OnOk result (housing.new.fillings.items ≡
-        with_filling group (step_of step.now) housing.old.fillings.items) }
+        with_filling (option_copied build.entry) spot.group spot.depth (step_of step.now)
+        housing.old.fillings.items) }
 {
-    let homes = &mut housing.homes;
+    let group = spot.group;
+    let nodes = &mut housing.homes.nodes;
+    let rels = &mut housing.homes.rels;
     match step {
-        Step::Scan { node } => homes.nodes.set(*node as usize, NodeHome::Item { group }),
+        Step::Scan { node } => nodes.set(*node as usize, NodeHome::Item { group }),
         Step::Extend {
             rel,
             from,
             to,
             direction,
         } => {
-            homes.nodes.set(*to as usize, NodeHome::Item { group });
-            homes
-                .rels
-                .set(*rel as usize, listed(group, *from, *direction));
+            nodes.set(*to as usize, NodeHome::Item { group });
+            rels.set(*rel as usize, listed(group, *from, *direction));
         }
         Step::Close {
             rel,
             from,
             to: _,
             direction,
-        } => homes
-            .rels
-            .set(*rel as usize, listed(group, *from, *direction)),
+        } => rels.set(*rel as usize, listed(group, *from, *direction)),
         Step::ColumnExtend {
             rel,
             from,
             to,
             direction,
-        } => return house_column(new_filling(group, *rel, *from, *direction), *to, housing),
+        } => {
+            rels.set(*rel as usize, single(*from, *direction));
+            return add_column(led(group, *rel, *from, *direction), group, *to, housing);
+        }
         Step::ColumnClose {
             rel,
             from,
             to: _,
             direction,
-        } => homes.rels.set(*rel as usize, single(*from, *direction)),
-        Step::Keep { .. } | Step::Differ { .. } | Step::NoLoop { .. } | Step::Join { .. } => {}
+        } => rels.set(*rel as usize, single(*from, *direction)),
+        Step::Join { side: _, keys } => return house_build(build, keys.as_slice(), spot, housing),
+        Step::Keep { .. } | Step::Differ { .. } | Step::NoLoop { .. } => {}
     }
     Ok(())
 }
 
-// Puts what a column extension binds into a column more, of its group.
-fn house_column(filling: Filling, to: u32, housing: &mut Housing) -> Result<(), Memory>
-    requires rel { filling.rel < length housing.old.homes.rels }
-    requires node { to < length housing.old.homes.nodes }
-    ensures homes { OnOk result (housing.new.homes ≡
-        with_column filling to (length housing.old.fillings.items) housing.old.homes) }
+// Puts what a build keeps into the group of its join, if there is a build: node variables that are
+// no keys into columns, and relationships where each row of the build has them.
+fn house_build(
+    build: Option<&Sealed>,
+    keys: &[u32],
+    spot: Spot,
+    housing: &mut Housing,
+) -> Result<(), Memory>
+    requires { CanHouseBuild (option_copied build) housing.old.homes }
+    ensures homes { OnOk result (housing.new.homes ≡ with_build (option_copied build.entry) keys.now
+        spot.group (length housing.old.fillings.items) housing.old.homes) }
+    ensures fillings { OnOk result (housing.new.fillings.items ≡ housing.old.fillings.items
+        ++ fillings_of spot.group spot.depth (brought_by keys.now (option_copied build.entry))) }
+{
+    let Some(build) = build else {
+        return Ok(());
+    };
+    house_rels(build, spot.group, &mut housing.homes.rels);
+    house_nodes(build, keys, spot, housing)
+}
+
+// Puts the relationships that a build keeps where its rows have them.
+fn house_rels(build: &Sealed, group: u32, homes: &mut List<RelHome>)
+    requires { All (λ x. x < length homes.old) build.now.rels }
+    ensures { homes.new ≡ set_numbered (Kept group) 0 build.now.rels homes.old }
+{
+    let rels = build.rels();
+    for place in 0..build.kept_rels().width {
+        let rel = rels[place as usize];
+        homes.set(rel as usize, RelHome::Kept { group, place });
+    }
+}
+
+// Puts each node variable that a build keeps, and that is no key, into a column more.
+fn house_nodes(
+    build: &Sealed,
+    keys: &[u32],
+    spot: Spot,
+    housing: &mut Housing,
+) -> Result<(), Memory>
+    requires { All (λ v. v < length housing.old.homes.nodes) build.now.nodes }
+    ensures homes { OnOk result (housing.new.homes ≡ record {
+      nodes = set_numbered (Column spot.group) (length housing.old.fillings.items)
+          (not_in keys.now build.now.nodes) housing.old.homes.nodes;
+      rels = housing.old.homes.rels;
+    }) }
+    ensures fillings { OnOk result (housing.new.fillings.items ≡ housing.old.fillings.items
+        ++ fillings_of spot.group spot.depth (not_in keys.now build.now.nodes)) }
+{
+    for node in build.nodes() {
+        if !has_number(keys, *node) {
+            add_column(kept(spot, *node), spot.group, *node, housing)?;
+        }
+    }
+    Ok(())
+}
+
+// Puts a node variable into a column more of a group.
+fn add_column(filling: Filling, group: u32, node: u32, housing: &mut Housing) -> Result<(), Memory>
+    requires { node < length housing.old.homes.nodes }
+    ensures homes { OnOk result (housing.new.homes ≡ with_node_home node
+        (Column group (length housing.old.fillings.items)) housing.old.homes) }
     ensures fillings { OnOk result (housing.new.fillings.items ≡
         housing.old.fillings.items ++ filling ∷ []) }
 {
@@ -147,24 +251,38 @@ fn house_column(filling: Filling, to: u32, housing: &mut Housing) -> Result<(), 
     }
     housing.fillings.push(filling)?;
     let home = NodeHome::Column {
-        group: filling.group,
+        group,
         column: column as u32,
     };
-    housing.homes.nodes.set(to as usize, home);
-    let edge = single(filling.from, filling.direction);
-    housing.homes.rels.set(filling.rel as usize, edge);
+    housing.homes.nodes.set(node as usize, home);
     Ok(())
 }
 
-fn new_filling(group: u32, rel: u32, from: u32, direction: Direction) -> Filling
+fn has_number(numbers: &[u32], number: u32) -> bool
+    ensures { result ≡ soundness.has_number numbers.now number }
+{
+    numbers.iter().any(|own| *own == number)
+}
+
+fn led(group: u32, rel: u32, from: u32, direction: Direction) -> Filling
     ensures { result ≡ filling_of group rel from direction }
 {
-    Filling {
+    Filling::Led(Leading {
         group,
         rel,
         from,
         direction,
-    }
+    })
+}
+
+fn kept(spot: Spot, node: u32) -> Filling
+    ensures { result ≡ kept_of spot.group spot.depth node }
+{
+    Filling::Kept(Keeping {
+        group: spot.group,
+        depth: spot.depth,
+        node,
+    })
 }
 
 // A relationship of the group's list.

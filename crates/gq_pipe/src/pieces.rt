@@ -4,12 +4,12 @@ ghost use Rattle.std.specs.Prelude.{slice_index_or};
 ghost use Rattle.gq_law_groups.specs.Groups.{makes_group};
 ghost use Rattle.gq_pipe.specs.steps.Chunks.{IsPieceOf, KeepsOf, list_of, part};
 ghost use Rattle.gq_pipe.specs.steps.Levels.{known, step_at};
-ghost use Rattle.gq_pipe.specs.steps.Moves.{run_of, IsRun, IsHeld};
+ghost use Rattle.gq_pipe.specs.steps.Moves.{builds_in, run_of, steps_in, IsRun, IsHeld};
 ghost use Rattle.gq_pipe.specs.steps.Outcomes.{CanList};
 ghost use Rattle.gq_plan.specs.Rows.{rel_table};
 ghost use Rattle.gq_store.specs.Neighbours.{neighbours};
 
-use crate::plan_run::{Follow, PlanRun, build_at, following};
+use crate::plan_run::{Follow, PlanRun, following};
 use gq_bits::VECTOR;
 use gq_group::{KeptRels, Piece};
 use gq_plan::{Assignment, Step};
@@ -19,14 +19,14 @@ impl<'g> PlanRun<'g> {
     /// group.
     pub(crate) fn piece(&self, depth: usize, first: u32, row: &Assignment) -> Piece<'g>
         requires run { IsRun (run_of self.now) }
-        requires depth { depth < length self.now.steps.now }
+        requires depth { depth < length (steps_in self.now) }
         requires makes { makes_group (step_at (run_of self.now) depth) ≡ true }
         requires held { IsHeld (run_of self.now) row.now (known (run_of self.now) depth) }
         requires first { let c = run_of self.now in
             first ≤ length (list_of c depth row.now (step_at c depth)) }
         ensures { IsPieceOf (run_of self.now) depth row.now first result }
     {
-        match &self.steps[depth] {
+        match self.step(depth) {
             Step::Scan { node } => Piece::Span {
                 low: first,
                 high: end_of(first, self.row_count(*node)),
@@ -55,7 +55,7 @@ impl<'g> PlanRun<'g> {
                 ),
                 first,
             },
-            Step::Join { .. } => match build_at(self.builds, depth) {
+            Step::Join { .. } => match self.build_at(depth) {
                 Some(build) => Piece::Matches {
                     rows: part(build.matches_of(row), first),
                     first,
@@ -70,10 +70,10 @@ impl<'g> PlanRun<'g> {
     /// What the build of the step at a depth keeps of relationships, if the step has one.
     pub(crate) fn kept(&self, depth: usize) -> KeptRels<'g>
         requires run { IsRun (run_of self.now) }
-        requires depth { depth < length self.now.steps.now }
-        ensures { KeepsOf (slice_index_or self.now.builds.now depth None) result }
+        requires depth { depth < length (steps_in self.now) }
+        ensures { KeepsOf (slice_index_or (builds_in self.now) depth None) result }
     {
-        match build_at(self.builds, depth) {
+        match self.build_at(depth) {
             Some(build) => build.kept_rels(),
             None => KeptRels::none(),
         }

@@ -12,9 +12,9 @@ use Rattle.gq_execute.proofs.OneReply.{not_too_many, some_looked}
 use Rattle.gq_execute.specs.Replies.{Reply, Rows, Faulted, TooManyRows, IsPermitted}
 use Rattle.gq_execute.specs.declared.settings.Settings.{Settings}
 use Rattle.gq_plan.specs.declared.Bound.{Bound}
-use Rattle.gq_reply.proofs.Replying.{not_blank}
+use Rattle.gq_reply.proofs.Replying.{not_blank, refusal_is}
 use Rattle.gq_reply.specs.Bindings.{bind_refusal}
-use Rattle.gq_reply.specs.Replies.{AreBehind, Context, IsAnswered, IsAsked, IsNotBuilt, IsOverfull, IsRefused, IsReply, IsStopped, IsTurn, IsUnbound, IsUnbuilt, IsWrong, RepliesWith, Sets, StandBehind, params_behind, question, refusal_text}
+use Rattle.gq_reply.specs.Replies.{AreBehind, Context, IsAnswered, IsAsked, IsOverfull, IsRefused, IsReply, IsStopped, IsTurn, IsUnbound, IsWrong, RepliesWith, Sets, StandBehind, asked_by, params_behind, question, refusal_text}
 use Rattle.gq_reply.specs.declared.replier.Form.{Form}
 use Rattle.gq_rows.specs.Answers.{cut_of, most_listed}
 use Rattle.gq_session.specs.Replies.{Replies}
@@ -61,6 +61,26 @@ pub record AsksOne (graph : Graph) (params : List Param) (statement : List ℕ) 
   pub asked : IsAsked graph params statement query bound
   pub cut : IsCut query
 
+-- ---- what asks a query
+
+one_query : (p p' : Bool) (q q' : Query) → asked_by p q ≡ asked_by p' q' → q ≡ q'
+one_query false false q q' e = cc e
+one_query true true q q' e = cc e
+one_query false true q q' e = absurd (cc e)
+one_query true false q q' e = absurd (cc e)
+
+not_schema : (p : Bool) (q : Query) → asked_by p q ≡ tree.Schema → ⊥
+not_schema false q e = absurd (cc e)
+not_schema true q e = absurd (cc e)
+
+not_plan : (p : Bool) (q q' : Query) → asked_by p q ≡ tree.Plan q' → ⊥
+not_plan false q q' e = absurd (cc e)
+not_plan true q q' e = absurd (cc e)
+
+not_param : (p : Bool) (q : Query) (name : Name) (value : Literal) → asked_by p q ≡ tree.Param name value → ⊥
+not_param false q name value e = absurd (cc e)
+not_param true q name value e = absurd (cc e)
+
 -- ---- one statement
 
 -- two trees that one statement spells are one
@@ -85,11 +105,11 @@ module _ (graph : Graph) (settings : Settings) (one other : Form) (params : List
   has_room sets name value same full = let e : sets.name ≡ name = cc same in sets.room (subst (λ n. IsFull n params) (sym e) full)
 
   abbrev Unanswered : List ℕ → Type 0
-  Unanswered text = IsWrong params statement text ⊎ IsUnbound graph params statement text ⊎ IsNotBuilt graph params statement text ⊎ IsOverfull params statement text ⊎ IsStopped second params statement text
+  Unanswered text = IsWrong params statement text ⊎ IsUnbound graph params statement text ⊎ IsOverfull params statement text ⊎ IsStopped second params statement text
 
-  -- a statement that is bound and built is refused for its outcomes alone
+  -- a statement that is bound and has room for a parameter is refused for its outcomes alone
   module _ (form : Statement) (spelled : SpelledText statement params form) (bound : bind_refusal form statement graph.catalog ≡ None)
-      (built : ¬ (IsUnbuilt graph statement form)) (room : (name : Name) (value : Literal) → form ≡ tree.Param name value → ¬ (IsFull name params)) where
+      (room : (name : Name) (value : Literal) → form ≡ tree.Param name value → ¬ (IsFull name params)) where
     is_stopped : (text : List ℕ) → Unanswered text → IsStopped second params statement text
     is_stopped text (inl wrong) = elim ((comes_statement statement params (Err wrong.why) wrong.cause form).1 spelled) [
       | inl e ↦ cc e
@@ -98,33 +118,31 @@ module _ (graph : Graph) (settings : Settings) (one other : Form) (params : List
     is_stopped text (inr (inl unbound)) =
         let same : unbound.tree ≡ form = same_tree unbound.tree form unbound.spelled spelled in
         let clash : None ≡ Some unbound.why = sym bound ∙ ap (λ t. bind_refusal t statement graph.catalog) (sym same) ∙ unbound.refused in cc clash
-    is_stopped text (inr (inr (inl unbuilt))) =
-        absurd (built (subst (λ t. IsUnbuilt graph statement t) (same_tree unbuilt.tree form unbuilt.spelled spelled) unbuilt.other))
-    is_stopped text (inr (inr (inr (inl over)))) =
+    is_stopped text (inr (inr (inl over))) =
         absurd (room over.name over.value (same_tree form (tree.Param over.name over.value) spelled over.spelled) over.full)
-    is_stopped text (inr (inr (inr (inr stopped)))) = stopped
+    is_stopped text (inr (inr (inr stopped))) = stopped
 
     -- and where it asks no query it is not refused
-    module _ (no : (query : Query) → ¬ (tree.Query query ≡ form)) where
-      not_asked : (query : Query) → SpelledText statement params (tree.Query query) → ⊥
-      not_asked query asked = no query (same_tree (tree.Query query) form asked spelled)
+    module _ (no : (profiled : Bool) (query : Query) → ¬ (asked_by profiled query ≡ form)) where
+      not_asked : (profiled : Bool) (query : Query) → SpelledText statement params (asked_by profiled query) → ⊥
+      not_asked profiled query asked = no profiled query (same_tree (asked_by profiled query) form asked spelled)
 
       no_stop : (text : List ℕ) → IsStopped second params statement text → ⊥
-      no_stop text (inl (fault, replies)) = not_asked replies.query replies.asked.spelled
-      no_stop text (inr replies) = not_asked replies.query replies.asked.spelled
+      no_stop text (inl (fault, replies)) = not_asked replies.asked.profiled replies.query replies.asked.spelled
+      no_stop text (inr replies) = not_asked replies.asked.profiled replies.query replies.asked.spelled
 
       no_refusal : (text : List ℕ) → Unanswered text → ⊥
       no_refusal text refused = no_stop text (is_stopped text refused)
 
   -- two replies to the query of one statement are replies to one question
   module _ (q : Query) (b : Bound) (asked : IsAsked graph params statement q b) where
-    same_query : (q' : Query) → SpelledText statement params (tree.Query q') → q' ≡ q
-    same_query q' spelled = let e = same_tree (tree.Query q') (tree.Query q) spelled asked.spelled in cc e
+    same_query : (profiled : Bool) (q' : Query) → SpelledText statement params (asked_by profiled q') → q' ≡ q
+    same_query profiled q' spelled = one_query profiled asked.profiled q' q (same_tree (asked_by profiled q') (asked_by asked.profiled q) spelled asked.spelled)
 
     same_question : (q' : Query) (b' : Bound) (reply : Reply) → IsAsked graph params statement q' b' → IsPermitted (question second q' b') reply
         → IsPermitted (question first q b) reply
     same_question q' b' reply asked' permitted =
-        let query : q' ≡ q = same_query q' asked'.spelled in
+        let query : q' ≡ q = same_query asked'.profiled q' asked'.spelled in
         let binds : IsBound q statement graph.catalog b' = subst (λ k. IsBound k statement graph.catalog b') query asked'.binds in
         let bound : b' ≡ b = same_bound q statement graph.catalog b' b binds asked.binds in
         subst (λ k. IsPermitted (question first q k) reply) bound (subst (λ k. IsPermitted (question first k b') reply) query permitted)
@@ -143,14 +161,15 @@ module _ (graph : Graph) (settings : Settings) (one other : Form) (params : List
   both_replies : (text text' : List ℕ) → IsAnswered first params statement text → IsRefused second params statement text' → AsksOne graph params statement
   both_replies text text' (inl blank) refused = absurd (refused.written blank.0)
   both_replies text text' (inr (inl (spelled, is))) refused =
-      absurd (no_refusal tree.Schema spelled refl (λ unbuilt. unbuilt) (λ name value same. cc same) (λ query same. cc same) text' refused.why)
+      absurd (no_refusal tree.Schema spelled refl (λ name value same. cc same) (λ profiled query same. not_schema profiled query same) text' refused.why)
   both_replies text text' (inr (inr (inl sets))) refused =
-      absurd (no_refusal (tree.Param sets.name sets.value) sets.spelled refl (λ unbuilt. unbuilt) (has_room sets) (λ query same. cc same) text' refused.why)
+      absurd (no_refusal (tree.Param sets.name sets.value) sets.spelled refl (has_room sets) (λ profiled query same. not_param profiled query sets.name sets.value same) text' refused.why)
   both_replies text text' (inr (inr (inr (inl shows)))) refused =
-      absurd (no_refusal (tree.Plan shows.query) shows.spelled shows.binds.accepted (λ unbuilt. unbuilt) (λ name value same. cc same) (λ query same. cc same) text' refused.why)
+      absurd (no_refusal (tree.Plan shows.query) shows.spelled shows.binds.accepted (λ name value same. cc same) (λ profiled query same. not_plan profiled query shows.query same) text' refused.why)
   both_replies text text' (inr (inr (inr (inr (lines, replies))))) refused =
       both_stopped lines text text' replies
-      (is_stopped (tree.Query replies.query) replies.asked.spelled replies.asked.binds.accepted (λ unbuilt. unbuilt) (λ name value same. cc same) text' refused.why)
+      (is_stopped (asked_by replies.asked.profiled replies.query) replies.asked.spelled (refusal_is replies.asked.profiled statement replies.query graph.catalog ∙ replies.asked.binds.accepted)
+      (λ name value same full. not_param replies.asked.profiled replies.query name value same) text' refused.why)
 
 -- the parameters behind two replies of one tone are the same
 same_params : (params : List Param) (statement : List ℕ) (t : Tone) (behind behind' : List Param) → AreBehind params statement t behind → AreBehind params statement t behind' → behind ≡ behind'

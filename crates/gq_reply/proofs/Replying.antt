@@ -1,6 +1,8 @@
 -- How a reply that was written is one that its statement may have.
-use Rattle.std.proofs.Common.{◌≡◌, ℕ, List, [], ◌∷◌, length, map, suc, Some, Ok, Err, refl, sym, ap, ◌∙◌, subst, append-nil, arith, inl, inr}
+use Rattle.std.proofs.Common.{◌≡◌, ℕ, Bool, true, false, Option, List, [], ◌∷◌, length, map, suc, Some, Ok, Err, refl, sym, ap, ◌∙◌, subst, append-nil, arith, inl, inr}
+use Rattle.std.specs.List.{AllZip}
 use Rattle.std.proofs.lemmas.List.{length-map}
+use Rattle.std.proofs.lemmas.Slice.Zip.{AllZip-long}
 use Rattle.std.specs.Prelude.{◌<◌, All, ◌++◌, codes, decimal, IfOk, Result}
 use Rattle.gq_base.specs.Catalogs.{Tables}
 use Rattle.gq_base.specs.declared.literal.Literal.{Literal}
@@ -8,13 +10,19 @@ use Rattle.gq_binder.specs.Binding.{Answers, IsBound}
 use Rattle.gq_binder.specs.Refusals.{first_refusal}
 use Rattle.gq_binder.specs.declared.refusal.BindRefusal.{BindRefusal}
 use Rattle.gq_binder.specs.declared.refusal.BindRefusal.TheVariants as bind
-use Rattle.gq_execute.specs.Planned.{plans_in}
+use Rattle.gq_base.specs.Values.{Val}
+use Rattle.gq_execute.specs.Spending.{AreSpent}
 use Rattle.gq_execute.specs.Replies.{Reply, Rows, Faulted, TooManyRows, IsPermitted}
+use Rattle.gq_expr.specs.declared.Fault.{Fault}
 use Rattle.gq_io.specs.Causes.{HasCause}
-use Rattle.gq_io.specs.Outside.{Writes}
+use Rattle.gq_io.proofs.Moved.{Appends-both, front_after, front_longer}
+use Rattle.gq_io.specs.Outside.{AppendsFront, Writes}
+use Rattle.std.specs.Io.KnownBytes.{Appends}
+use Rattle.gq_pipe.specs.declared.pipeline.Spent.{Spent}
 use Rattle.gq_io.specs.declared.Failed.{Failed}
 use Rattle.gq_lexer.specs.Tokens.{Lexed, lexed}
 use Rattle.gq_lexer.specs.declared.token.Token.{Token}
+use Rattle.gq_plan.specs.Covers.{Covers}
 use Rattle.gq_plan.specs.Plans.{plan_of}
 use Rattle.gq_plan.specs.declared.Bound.{Bound}
 use Rattle.gq_plan.specs.declared.Plan as code_plan
@@ -23,14 +31,15 @@ use Rattle.gq_render.specs.Texts.{line, refusal_line}
 use Rattle.gq_reply.specs.BindLines.{bind_line}
 use Rattle.gq_reply.specs.steps.BindLines.{bind_tone}
 use Rattle.gq_reply.specs.Bindings.{bind_refusal}
-use Rattle.gq_reply.specs.Replies.{AreBehind, Context, IsAsked, IsBlank, IsRefused, IsReply, IsStopped, IsTurn, IsUnbuilt, RepliesWith, params_behind, question, refusal_text}
-use Rattle.gq_reply.specs.ReplyTexts.{columns_each, reply_text}
-use Rattle.gq_reply.specs.steps.Steps.{MayAsk, MaySet, MayShow, Replied, behind_set, toned}
+use Rattle.gq_reply.specs.Replies.{AreBehind, Context, IsAsked, IsBlank, IsRefused, IsReply, IsStopped, IsText, IsTurn, RepliesWith, asked_by, params_behind, question, refusal_text}
+use Rattle.gq_reply.specs.ReplyTexts.{columns_each, fault_text, many_text, rows_text, spent_text}
+use Rattle.gq_reply.specs.steps.Steps.{MayAsk, MaySet, MayShow, Replied, answer_text, behind_set, toned}
 use Rattle.gq_session.specs.Replies.{Answered}
 use Rattle.gq_session.specs.Sessions.{Span}
 use Rattle.gq_session.specs.declared.answering.Tone.{Tone}
 use Rattle.gq_session.specs.declared.answering.Tone.TheVariants as tone
 use Rattle.gq_syntax.specs.Grammar.{Clauses, SpelledStatement}
+use Rattle.gq_syntax.specs.Spans.{SpelledQuery}
 use Rattle.gq_syntax.specs.Outcomes.{Cause, DepthAt, SpelledText, SyntaxAt, TooDeep, UnknownIn}
 use Rattle.gq_syntax.specs.declared.refusal.SyntaxRefusal.{SyntaxRefusal}
 use Rattle.gq_syntax.specs.declared.refusal.SyntaxRefusal.TheVariants as refusal
@@ -129,12 +138,6 @@ module _ (c : Context) (params : List Param) (statement : List ℕ) where
       why = inr (inl (record { tree = form; spelled = spelled; why = why; refused = refused; is = refl }));
     }
 
-    pub unbuilt_line : IsUnbuilt c.graph statement form → IsReply c params statement tone.Refused (line (codes "error: NotBuilt"))
-    unbuilt_line other = record {
-      written = not_blank statement params form spelled;
-      why = inr (inr (inl (record { tree = form; spelled = spelled; other = other; is = refl })));
-    }
-
     -- a query that the binder does not accept
     pub unbound : (query : Query) → bind_refusal form statement c.graph.catalog ≡ first_refusal query statement c.graph.catalog → (e : BindRefusal) → Answers query statement c.graph.catalog (Err e)
         → IsReply c params statement (bind_tone e) (bind_line e)
@@ -157,18 +160,27 @@ module _ (c : Context) (params : List Param) (statement : List ℕ) where
 -- ---- queries
 
 module _ (c : Context) (params : List Param) (statement : List ℕ) (query : Query) (bound : Bound) where
-  stopped : SpelledText statement params (tree.Query query) → (text : List ℕ) → IsStopped c params statement text → IsRefused c params statement text
-  stopped spelled text h = record { written = not_blank statement params (tree.Query query) spelled; why = inr (inr (inr (inr h))) }
+  -- a fault and too many rows stand alone, behind `:profile` too
+  fault_alone : (profiled : Bool) (f : Fault) (text : List ℕ) → text ≡ fault_text f → IsText c profiled query bound (Faulted f) text
+  fault_alone true f text is = is
+  fault_alone false f text is = is
+
+  many_alone : (profiled : Bool) (text : List ℕ) → text ≡ many_text c.settings.rows → IsText c profiled query bound TooManyRows text
+  many_alone true text is = is
+  many_alone false text is = is
 
   module _ (asked : IsAsked c.graph params statement query bound) where
-    replies_with : (reply : Reply) (text : List ℕ) → IsPermitted (question c query bound) reply → text ≡ reply_text c.form c.settings.rows c.graph bound reply → RepliesWith c params statement reply text
+    replies_with : (reply : Reply) (text : List ℕ) → IsPermitted (question c query bound) reply → IsText c asked.profiled query bound reply text → RepliesWith c params statement reply text
     replies_with reply text permitted is = record { query = query; bound = bound; asked = asked; permitted = permitted; is = is }
 
-    -- the reply to the query that a statement spells replies to it
-    pub may_reply : (t : Tone) (text : List ℕ) → MayAsk c query bound t text → IsReply c params statement t text
+    stopped : (text : List ℕ) → IsStopped c params statement text → IsRefused c params statement text
+    stopped text h = record { written = not_blank statement params (asked_by asked.profiled query) asked.spelled; why = inr (inr (inr h)) }
+
+    -- the reply to the query that a statement asks, or whose profile it asks for, replies to it
+    pub may_reply : (t : Tone) (text : List ℕ) → MayAsk c asked.profiled query bound t text → IsReply c params statement t text
     may_reply tone.Good text (lines, permitted, is) = inr (inr (inr (inr (lines, replies_with (Rows lines) text permitted is))))
-    may_reply tone.Refused text (inl (f, permitted, is)) = stopped asked.spelled text (inl (f, replies_with (Faulted f) text permitted is))
-    may_reply tone.Refused text (inr (permitted, is)) = stopped asked.spelled text (inr (replies_with TooManyRows text permitted is))
+    may_reply tone.Refused text (inl (f, permitted, is)) = stopped text (inl (f, replies_with (Faulted f) text permitted (fault_alone asked.profiled f text is)))
+    may_reply tone.Refused text (inr (permitted, is)) = stopped text (inr (replies_with TooManyRows text permitted (many_alone asked.profiled text is)))
     may_reply tone.Memory text is = is
 
   -- the plans of the query that a statement spells reply to it
@@ -178,6 +190,11 @@ module _ (c : Context) (params : List Param) (statement : List ℕ) (query : Que
   may_show spelled binds tone.Memory text is = is
 
 -- ---- parameters
+
+-- a query leaves the parameters
+pub asked_behind : (profiled : Bool) (query : Query) (params : List Param) → params_behind (asked_by profiled query) params ≡ params
+asked_behind false query params = refl
+asked_behind true query params = refl
 
 module _ (params : List Param) (statement : List ℕ) where
   -- the parameters behind a statement that sets one
@@ -204,7 +221,7 @@ module _ (c : Context) (params : List Param) (statement : List ℕ) where
   may_set name value spelled tone.Good text (room, is) = inr (inr (inl (record { name = name; value = value; spelled = spelled; room = room; is = is })))
   may_set name value spelled tone.Refused text (full, is) = record {
     written = not_blank statement params (tree.Param name value) spelled;
-    why = inr (inr (inr (inl (record { name = name; value = value; spelled = spelled; full = full; is = is }))));
+    why = inr (inr (inl (record { name = name; value = value; spelled = spelled; full = full; is = is })));
   }
   may_set name value spelled tone.Memory text is = is
 
@@ -214,7 +231,7 @@ module _ (c : Context) (params : List Param) (statement : List ℕ) where
   some_behind tone.Good text (inr (inl (spelled, is))) = (params, inr (tree.Schema, spelled, refl))
   some_behind tone.Good text (inr (inr (inl sets))) = (with_value sets.name sets.value params, inr (tree.Param sets.name sets.value, sets.spelled, refl))
   some_behind tone.Good text (inr (inr (inr (inl shows)))) = (params, inr (tree.Plan shows.query, shows.spelled, refl))
-  some_behind tone.Good text (inr (inr (inr (inr (lines, replies))))) = (params, inr (tree.Query replies.query, replies.asked.spelled, refl))
+  some_behind tone.Good text (inr (inr (inr (inr (lines, replies))))) = (params, inr (asked_by replies.asked.profiled replies.query, replies.asked.spelled, sym (asked_behind replies.asked.profiled replies.query params)))
   some_behind tone.Refused text may = (params, refl)
   some_behind tone.Memory text may = (params, refl)
 
@@ -245,8 +262,8 @@ if_each P (Err e) all = tt
 -- ---- plans
 
 -- there is a plan for each alternative
-pub as_many : (c : Context) (bound : Bound) (plans : List code_plan.Plan) → map plan_of plans ≡ plans_in c.settings.order c.graph bound.alternatives → length plans ≡ length bound.alternatives
-as_many c bound plans are = sym (length-map plans plan_of) ∙ ap length are ∙ length-map bound.alternatives _
+pub as_many : (catalog : Tables) (bound : Bound) (plans : List code_plan.Plan) → AllZip (Covers catalog) bound.alternatives (map plan_of plans) → length plans ≡ length bound.alternatives
+as_many catalog bound plans covers = sym (length-map plans plan_of) ∙ AllZip-long (Covers catalog) bound.alternatives (map plan_of plans) covers
 
 -- as many numbers of columns as alternatives
 pub columns_long : (ys : List Typed) (ps : List code_plan.Plan) → length ps ≡ length ys → length (columns_each ys ps) ≡ length ys
@@ -257,3 +274,44 @@ columns_long (y ∷ ys) (p ∷ ps) same = let less : length ps ≡ length ys = o
 -- the alternatives of a bound query have node variables
 pub begun : (query : Query) (text : List ℕ) (catalog : Tables) (bound : Bound) → IsBound query text catalog bound → All (λ y. 0 < length y.nodes) bound.alternatives
 begun query text catalog bound is = λ k d lt. omega (arith, is.has_node, is.node_counts k d lt)
+
+-- ---- profiles
+
+-- a query is spelled, behind `:profile` or not
+pub spelled_query : (profiled : Bool) (params : List Param) (statement : List ℕ) (query : Query) → SpelledText statement params (asked_by profiled query) → SpelledQuery statement query
+spelled_query false params statement query spelled = (params, inl spelled)
+spelled_query true params statement query spelled = (params, inr (inr spelled))
+
+-- what the binder says of it is what it says of the statement
+pub refusal_is : (profiled : Bool) (statement : List ℕ) (query : Query) (catalog : Tables) → bind_refusal (asked_by profiled query) statement catalog ≡ first_refusal query statement catalog
+refusal_is false statement query catalog = refl
+refusal_is true statement query catalog = refl
+
+-- what was written of rows is their text, behind `:profile` with what the pipelines spent
+pub answered : (c : Context) (profiled : Bool) (query : Query) (bound : Bound) (spent : List Spent) (pushed : ℕ) (lines : List (List Val)) → AreSpent (question c query bound) spent pushed
+    → IsText c profiled query bound (Rows lines) (answer_text c profiled bound spent lines)
+answered c true query bound spent pushed lines spends = record { spent = spent; pushed = pushed; spends = spends; is = refl }
+answered c false query bound spent pushed lines spends = refl
+
+-- rows alone, where no profile is asked for
+pub rows_alone : (c : Context) (profiled : Bool) (bound : Bound) (spent : List Spent) (lines : List (List Val)) (a b : Option (List ℕ)) (r : Result (Unit {0}) Failed) → profiled ≡ false
+    → Writes a b (rows_text c.form c.graph bound lines) r → Writes a b (answer_text c profiled bound spent lines) r
+rows_alone c true bound spent lines a b r e h = absurd (cc e)
+rows_alone c false bound spent lines a b r e h = h
+
+-- one text was written, and then another, or a front of it
+pub written_then : (x y : List ℕ) (a b d : Option (List ℕ)) (r : Result (Unit {0}) Failed) → Appends a b x → Writes b d y r → Writes a d (x ++ y) r
+written_then x y a b d (Ok done) p q = Appends-both a b d x y p q
+written_then x y a b d (Err failed) p q = front_after a b d x y p q
+
+-- what the pipelines spent, and then rows, or a front of them
+pub profile_then : (c : Context) (profiled : Bool) (bound : Bound) (spent : List Spent) (lines : List (List Val)) (a b d : Option (List ℕ)) (r : Result (Unit {0}) Failed) → profiled ≡ true
+    → Appends a b (spent_text 1 spent) → Writes b d (rows_text c.form c.graph bound lines) r → Writes a d (answer_text c profiled bound spent lines) r
+profile_then c true bound spent lines a b d r e p q = written_then (spent_text 1 spent) (rows_text c.form c.graph bound lines) a b d r p q
+profile_then c false bound spent lines a b d r e p q = absurd (cc e)
+
+-- a front of what they spent
+pub profile_broke : (c : Context) (profiled : Bool) (bound : Bound) (spent : List Spent) (lines : List (List Val)) (a b : Option (List ℕ)) → profiled ≡ true
+    → AppendsFront a b (spent_text 1 spent) → AppendsFront a b (answer_text c profiled bound spent lines)
+profile_broke c true bound spent lines a b e p = front_longer a b (spent_text 1 spent) (rows_text c.form c.graph bound lines) p
+profile_broke c false bound spent lines a b e p = absurd (cc e)

@@ -3,15 +3,16 @@
 -- permits), `reply_text`, `schema_text` and `IsPlanText` (how a reply is spelled), `SpelledText` and `Cause` (the tree that a
 -- statement's tokens spell, or where they go wrong), `bind_refusal` and `bind_line` (why a query cannot be bound), and
 -- `with_value` and `IsFull` (parameters with one more, and that there is no room for it).
-use Rattle.std.specs.Prelude.{◌≡◌, ◌⊎◌, ℕ, List, [], ◌++◌, codes, decimal, Option, Some, None, Ok, Err}
+use Rattle.std.specs.Prelude.{◌≡◌, ◌⊎◌, ℕ, List, [], ◌++◌, codes, decimal, Option, Some, None, Ok, Err, Bool, true, false}
 use Rattle.gq_base.specs.Plain.{Graph}
 use Rattle.gq_base.specs.Values.{Val, literal_val}
 use Rattle.gq_base.specs.declared.literal.Literal.{Literal}
 use Rattle.gq_binder.specs.Binding.{IsBound}
-use Rattle.gq_binder.specs.Refusals.{first_refusal}
 use Rattle.gq_binder.specs.declared.refusal.BindRefusal.{BindRefusal}
 use Rattle.gq_execute.specs.Replies.{Question, Reply, Rows, Faulted, TooManyRows, IsPermitted}
+use Rattle.gq_execute.specs.Spending.{AreSpent}
 use Rattle.gq_execute.specs.declared.settings.Settings.{Settings}
+use Rattle.gq_pipe.specs.declared.pipeline.Spent.{Spent}
 use Rattle.gq_explain.specs.Schema.{schema_text}
 use Rattle.gq_expr.specs.declared.Fault.{Fault}
 use Rattle.gq_lexer.specs.Tokens.{lexed}
@@ -19,7 +20,7 @@ use Rattle.gq_plan.specs.declared.Bound.{Bound}
 use Rattle.gq_render.specs.Texts.{line, param_line, refusal_line}
 use Rattle.gq_reply.specs.BindLines.{bind_line}
 use Rattle.gq_reply.specs.Bindings.{bind_refusal}
-use Rattle.gq_reply.specs.ReplyTexts.{IsPlanText, reply_text}
+use Rattle.gq_reply.specs.ReplyTexts.{IsPlanText, fault_text, many_text, reply_text, rows_text, spent_text}
 use Rattle.gq_reply.specs.declared.replier.Form.{Form}
 use Rattle.gq_reply.specs.declared.replier.Replier.{Replier}
 use Rattle.gq_session.specs.Replies.{Replies, Rule}
@@ -48,9 +49,16 @@ context_of r = record { graph = r.graph.now; settings = r.settings; form = r.for
 abbrev pub IsBlank : List ℕ → Type 0
 IsBlank statement = lexed statement ≡ Ok []
 
--- a query that is answered: a statement's tokens spell it, with these parameters, and it is bound over the graph
+-- a statement asks a query, or for its profile
+abbrev pub asked_by : Bool → Query → Statement
+asked_by false query = tree.Query query
+asked_by true query = tree.Profile query
+
+-- a query that is answered: a statement's tokens spell it with these parameters, behind `:profile` or not, and it is bound
+-- over the graph
 pub record IsAsked (graph : Graph) (params : List Param) (statement : List ℕ) (query : Query) (bound : Bound) : Type 0 where
-  pub spelled : SpelledText statement params (tree.Query query)
+  pub profiled : Bool
+  pub spelled : SpelledText statement params (asked_by profiled query)
   pub binds : IsBound query statement graph.catalog bound
 
 -- what is asked then: the rows over the graph, in the order and with the most rows of the settings
@@ -58,13 +66,27 @@ abbrev pub question : Context → Query → Bound → Question
 question c query bound =
     record { graph = c.graph; query = query; bound = bound; order = c.settings.order; most = c.settings.rows }
 
+-- the text of a profile: a line for each pipeline that ran, and the rows
+pub record IsProfile (c : Context) (query : Query) (bound : Bound) (lines : List (List Val)) (text : List ℕ) : Type 0 where
+  pub spent : List Spent
+  pub pushed : ℕ
+  pub spends : AreSpent (question c query bound) spent pushed
+  pub is : text ≡ spent_text 1 spent ++ rows_text c.form c.graph bound lines
+
+-- the text of a reply; a fault and too many rows stand alone behind `:profile` too
+abbrev pub IsText : Context → Bool → Query → Bound → Reply → List ℕ → Type 0
+IsText c true query bound (Rows lines) text = IsProfile c query bound lines text
+IsText c true query bound (Faulted why) text = text ≡ fault_text why
+IsText c true query bound TooManyRows text = text ≡ many_text c.settings.rows
+IsText c false query bound reply text = text ≡ reply_text c.form c.settings.rows c.graph bound reply
+
 -- a reply to such a query: one that openCypher permits over the graph, and its text
 pub record RepliesWith (c : Context) (params : List Param) (statement : List ℕ) (reply : Reply) (text : List ℕ) : Type 0 where
   pub query : Query
   pub bound : Bound
   pub asked : IsAsked c.graph params statement query bound
   pub permitted : IsPermitted (question c query bound) reply
-  pub is : text ≡ reply_text c.form c.settings.rows c.graph bound reply
+  pub is : IsText c asked.profiled query bound reply text
 
 -- the plans of a query: a statement asks for them, it is bound over the graph, and this is their text
 pub record ShowsPlans (c : Context) (params : List Param) (statement text : List ℕ) : Type 0 where
@@ -83,7 +105,7 @@ pub record Sets (params : List Param) (statement text : List ℕ) : Type 0 where
   pub is : text ≡ param_line name (literal_val value)
 
 -- a statement's reply: none to white space and comments alone, the graph's tables to `:schema`, the name and the value to
--- `:param`, plans to `:plan`, rows to a query
+-- `:param`, plans to `:plan`, rows to a query, behind what its pipelines spent to `:profile`
 abbrev pub IsAnswered : Context → List Param → List ℕ → List ℕ → Type 0
 IsAnswered c params statement text =
     (IsBlank statement × (text ≡ []))
@@ -115,21 +137,6 @@ pub record IsUnbound (graph : Graph) (params : List Param) (statement text : Lis
   pub refused : bind_refusal tree statement graph.catalog ≡ Some why
   pub is : text ≡ bind_line why
 
--- what is not built yet: the profile of a query, which `:profile` asks for
-abbrev pub IsUnbuilt : Graph → List ℕ → Statement → Type 0
-IsUnbuilt graph text (tree.Query query) = ⊥
-IsUnbuilt graph text tree.Schema = ⊥
-IsUnbuilt graph text (tree.Plan query) = ⊥
-IsUnbuilt graph text (tree.Profile query) = first_refusal query text graph.catalog ≡ None
-IsUnbuilt graph text (tree.Param name value) = ⊥
-
--- the statement is right and its query, if it has one, is bound, but it is not built
-pub record IsNotBuilt (graph : Graph) (params : List Param) (statement text : List ℕ) : Type 0 where
-  pub tree : Statement
-  pub spelled : SpelledText statement params tree
-  pub other : IsUnbuilt graph statement tree
-  pub is : text ≡ line (codes "error: NotBuilt")
-
 -- the statement is right, but there is no room for the parameter that it sets, and this line says so
 pub record IsOverfull (params : List Param) (statement text : List ℕ) : Type 0 where
   pub name : Name
@@ -148,7 +155,7 @@ IsStopped c params statement text =
 pub record IsRefused (c : Context) (params : List Param) (statement text : List ℕ) : Type 0 where
   pub written : ¬ (IsBlank statement)
   pub why : IsWrong params statement text ⊎ IsUnbound c.graph params statement text
-      ⊎ IsNotBuilt c.graph params statement text ⊎ IsOverfull params statement text ⊎ IsStopped c params statement text
+      ⊎ IsOverfull params statement text ⊎ IsStopped c params statement text
 
 -- the line of a statement for which there was not enough memory
 abbrev pub memory_line : List ℕ

@@ -1,12 +1,15 @@
 -- The text of a reply to a query, and of its plans (this project's profile).
-use Rattle.std.specs.Prelude.{◌≡◌, ℕ, List, [], ◌∷◌, map, codes}
+use Rattle.std.specs.Prelude.{◌≡◌, ℕ, Option, List, [], ◌∷◌, map, codes, ◌+◌, ◌++◌, decimal}
 use Rattle.std.specs.List.{AllZip}
+use Rattle.gq_base.specs.Catalogs.{Tables}
 use Rattle.gq_base.specs.Plain.{Graph}
 use Rattle.gq_base.specs.Values.{Val}
 use Rattle.gq_execute.specs.Replies.{Reply, Rows, Faulted, TooManyRows}
-use Rattle.gq_execute.specs.Planned.{plans_in}
+use Rattle.gq_execute.specs.Planned.{ArePlansIn}
 use Rattle.gq_execute.specs.declared.settings.Order.{Order}
+use Rattle.gq_execute.specs.declared.settings.Order.TheVariants as order
 use Rattle.gq_plan.specs.Columns.{columns_of}
+use Rattle.gq_explain.specs.Costs.{costs_text}
 use Rattle.gq_explain.specs.Plans.{plan_text}
 use Rattle.gq_expr.specs.declared.Fault.{Fault}
 use Rattle.gq_expr.specs.declared.Fault.TheVariants as fault
@@ -16,7 +19,8 @@ use Rattle.gq_plan.specs.declared.Bound.{Bound}
 use Rattle.gq_plan.specs.declared.Plan as code_plan
 use Rattle.gq_plan.specs.declared.typed.Typed.{Typed}
 use Rattle.gq_render.specs.Listings.{ends_text, listing_text}
-use Rattle.gq_render.specs.Texts.{refusal_line}
+use Rattle.gq_render.specs.Texts.{line, refusal_line}
+use Rattle.gq_pipe.specs.declared.pipeline.Spent.{Spent}
 use Rattle.gq_reply.specs.declared.replier.Form.{Form}
 use Rattle.gq_reply.specs.declared.replier.Form.TheVariants as form
 
@@ -40,15 +44,36 @@ reply_text f most graph bound (Rows lines) = rows_text f graph bound lines
 reply_text f most graph bound (Faulted why) = fault_text why
 reply_text f most graph bound TooManyRows = many_text most
 
+-- the line of a pipeline that ran: its number, how many chunks it handed out, and how many columns it held
+abbrev pub spent_line : ℕ → Spent → List ℕ
+spent_line number s =
+    line (codes "pipeline " ++ decimal number ++ codes " chunks " ++ decimal s.chunks ++ codes " columns " ++ decimal s.columns)
+
+-- the lines of pipelines, numbered from here on
+abbrev pub spent_text : ℕ → List Spent → List ℕ
+spent_text number [] = []
+spent_text number (s ∷ ss) = spent_line number s ++ spent_text (number + 1) ss
+
 -- how many columns the pipeline of each plan fills
 abbrev pub columns_each : List Typed → List code_plan.Plan → List ℕ
 columns_each [] ps = []
 columns_each (y ∷ ys) [] = []
 columns_each (y ∷ ys) (p ∷ ps) = columns_of y (plan_of p) ∷ columns_each ys ps
 
+-- in the order of least cost a line for each plan, with the costs of its components
+abbrev pub costs_shown : Order → List (List (Option ℕ)) → List ℕ
+costs_shown order.Given costs = []
+costs_shown order.Greedy costs = []
+costs_shown order.Least costs = costs_text costs
+
+-- plans, and what they cost
+abbrev pub plans_text : Order → Bound → Tables → List code_plan.Plan → List ℕ → List (List (Option ℕ)) → List ℕ
+plans_text order bound catalog plans columns costs = plan_text bound catalog plans columns ++ costs_shown order costs
+
 -- the text of a query's plans in an order, by the sizes of the graph's tables; each covers its alternative
 pub record IsPlanText (order : Order) (graph : Graph) (bound : Bound) (text : List ℕ) : Type 0 where
   pub plans : List code_plan.Plan
-  pub are : map plan_of plans ≡ plans_in order graph bound.alternatives
+  pub costs : List (List (Option ℕ))
+  pub are : ArePlansIn order graph bound.alternatives (map plan_of plans) costs
   pub covers : AllZip (Covers graph.catalog) bound.alternatives (map plan_of plans)
-  pub is : text ≡ plan_text bound graph.catalog plans (columns_each bound.alternatives plans)
+  pub is : text ≡ plans_text order bound graph.catalog plans (columns_each bound.alternatives plans) costs

@@ -1,2 +1,3 @@
 pub mod BindLines
+pub mod Counts
 pub mod Steps

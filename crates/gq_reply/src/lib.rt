@@ -10,6 +10,7 @@ mod param;
 mod plans;
 mod query;
 mod replier;
+mod spent;
 mod statement;
 mod tone;
 

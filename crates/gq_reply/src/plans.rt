@@ -2,19 +2,21 @@
 
 ghost use Rattle.std.specs.Prelude.{◌≡◌, ◌<◌, All, IfOk, length};
 ghost use Rattle.std.specs.List.{AllZip};
+ghost use Rattle.gq_io.specs.Causes.{HasCause};
+ghost use Rattle.gq_io.specs.Outside.{Writes};
 ghost use Rattle.gq_plan.specs.Columns.{FitsSound};
 ghost use Rattle.gq_plan.specs.Soundness.{IsSound};
 ghost use Rattle.gq_plan.specs.Plans.{plan_of};
 ghost use Rattle.gq_reply.specs.Replies.{context_of};
-ghost use Rattle.gq_reply.specs.ReplyTexts.{columns_each};
+ghost use Rattle.gq_reply.specs.ReplyTexts.{columns_each, costs_shown, plans_text};
 ghost use Rattle.gq_reply.specs.steps.Steps.{MayShow, Replied};
 ghost use Rattle.gq_session.specs.Sessions.{span_of};
 
 use crate::replier::Replier;
 use crate::tone::toned;
 use gq_base::{List, Memory};
-use gq_execute::plans;
-use gq_explain::write_plan;
+use gq_execute::{Order, QueryPlans, plans};
+use gq_explain::{write_costs, write_plan};
 use gq_io::{Failed, Sink, write_all};
 use gq_plan::{Bound, Plan, Typed, columns};
 use gq_session::Tone;
@@ -32,7 +34,45 @@ fn column_counts(alloc: Global, alternatives: &[Typed], plans: &[Plan]) -> Resul
     Ok(counts)
 }
 
+// Writes what plans cost, in the order of least cost.
+fn write_shown<O: Sink>(
+    out: &mut O,
+    order: Order,
+    costs: &List<List<Option<u128>>>,
+) -> Result<(), Failed>
+    ensures bytes { Writes (O.taken out.old) (O.taken out.new) (costs_shown order costs.now) result }
+    ensures cause { HasCause (O.faults out.old) (O.faults out.new) result }
+{
+    match order {
+        Order::Given => Ok(()),
+        Order::Greedy => Ok(()),
+        Order::Least => write_costs(out, costs),
+    }
+}
+
 impl Replier<'_> {
+    // Writes the plans of a query, each with this number of columns, and what they cost.
+    fn write_plans<O: Sink>(
+        &self,
+        out: &mut O,
+        bound: &Bound,
+        made: &QueryPlans,
+        columns: &List<u32>,
+    ) -> Result<(), Failed>
+        requires plans { length made.now.plans ≡ length bound.now.alternatives }
+        requires columns { length columns.now ≡ length bound.now.alternatives }
+        ensures bytes { let tables = self.now.graph.now.catalog in
+            let order = self.now.settings.order in
+            Writes (O.taken out.old) (O.taken out.new)
+            (plans_text order bound.now tables made.now.plans columns.now made.now.costs) result }
+        ensures cause { HasCause (O.faults out.old) (O.faults out.new) result }
+    {
+        match write_plan(out, self.graph, bound, &made.plans, columns) {
+            Ok(()) => write_shown(out, self.settings.order, &made.costs),
+            Err(Failed) => Err(Failed),
+        }
+    }
+
     /// Replies to a statement that asks for the plans of a bound query: with their text. The query is not run.
     pub(crate) fn reply_to_plan<O: Sink>(&self, out: &mut O, bound: &Bound) -> Result<Tone, Failed>
         requires sound { All (IsSound self.now.graph.now.catalog) bound.now.alternatives }
@@ -40,16 +80,13 @@ impl Replier<'_> {
         ensures { Replied (MayShow (context_of self.now) bound.now)
             (span_of O.taken O.faults out.old out.new) result }
     {
-        let Ok(plans) = plans(self.alloc, self.graph, bound, self.settings.order) else {
+        let Ok(made) = plans(self.alloc, self.graph, bound, self.settings.order) else {
             return toned(write_all(out, b"error: Memory\n"), Tone::Memory);
         };
         let alternatives = bound.alternatives.as_slice();
-        let Ok(counts) = column_counts(self.alloc, alternatives, plans.as_slice()) else {
+        let Ok(counts) = column_counts(self.alloc, alternatives, made.plans.as_slice()) else {
             return toned(write_all(out, b"error: Memory\n"), Tone::Memory);
         };
-        toned(
-            write_plan(out, self.graph, bound, &plans, &counts),
-            Tone::Good,
-        )
+        toned(self.write_plans(out, bound, &made, &counts), Tone::Good)
     }
 }

@@ -1,6 +1,7 @@
 //! What answers statements over a graph.
 
-ghost use Rattle.std.specs.Prelude.{◌≡◌, List, refl, true};
+ghost use Rattle.std.specs.Prelude.{◌≡◌, ◌≤◌, List, refl, true};
+ghost use Rattle.gq_pool.specs.Pool.{spare_of};
 ghost use Rattle.gq_reply.specs.Replies.{IsTurn, context_of, memory_line};
 ghost use Rattle.gq_session.specs.declared.answering.Tone.TheVariants as tone;
 ghost use Rattle.gq_tokens.specs.Parameters.{are_params};
@@ -8,6 +9,7 @@ ghost use Rattle.gq_tokens.specs.declared.params.Param.{Param};
 
 use gq_execute::Settings;
 use gq_io::{Failed, Sink};
+use gq_pool::VectorPool;
 use gq_session::{Answerer, Tone};
 use gq_store::Graph;
 use gq_syntax::Params;
@@ -31,9 +33,11 @@ pub struct Replier<'g> {
     pub form: Form,
 }
 
-/// What a session keeps from one statement to the next.
+/// What a session keeps from one statement to the next: the pool that pipelines take their slots
+/// from, of which all are free again then, and the parameters.
 #[derive(Drop)]
 pub struct Workspace {
+    pub pool: VectorPool,
     pub params: Params,
 }
 
@@ -46,7 +50,7 @@ impl Answerer for Replier<'_> {
 
     ghost answers = { λ r. IsTurn (context_of r) };
 
-    ghost ready = { λ workspace. are_params workspace.params ≡ true };
+    ghost ready = { λ w. (112 ≤ spare_of w.pool) × (are_params w.params ≡ true) };
 
     ghost longest = { 65536 };
 
@@ -56,7 +60,7 @@ impl Answerer for Replier<'_> {
         statement: &[u8],
         out: &mut O,
     ) -> Result<Tone, Failed> {
-        self.reply(out, &mut workspace.params, statement)
+        self.reply(out, workspace, statement)
     }
 
     ghost has_reply = { λ _ params statement. (tone.Memory, memory_line, params, (refl, refl)) };

@@ -3,9 +3,10 @@
 ghost use Rattle.std.specs.Prelude.{◌≡◌, ◌≤◌, ◌++◌, List, length, decimal, true, IfOk};
 ghost use Rattle.gq_io.specs.Causes.{HasCause};
 ghost use Rattle.gq_io.specs.Outside.{Writes};
+ghost use Rattle.gq_pool.specs.Pool.{spare_of};
 ghost use Rattle.gq_render.specs.Texts.{line};
 ghost use Rattle.gq_reply.specs.BindLines.{bind_line};
-ghost use Rattle.gq_reply.specs.Replies.{AreBehind, IsReply, context_of};
+ghost use Rattle.gq_reply.specs.Replies.{AreBehind, IsReply, asked_by, context_of};
 ghost use Rattle.gq_reply.specs.steps.Steps.{Replied};
 ghost use Rattle.gq_session.specs.Sessions.{span_of};
 ghost use Rattle.gq_syntax.specs.Outcomes.{SpelledText, SyntaxAt};
@@ -17,15 +18,16 @@ ghost use Rattle.gq_tokens.specs.declared.params.Param.{Param};
 use crate::bind_line::{named, tone_of, write_bind_refusal};
 use crate::blank::is_blank;
 use crate::param::reply_to_param;
-use crate::replier::Replier;
+use crate::replier::{Replier, Workspace};
 use crate::tone::toned;
 use gq_base::Memory;
-use gq_binder::{bind, refusal_of};
+use gq_binder::bind;
 use gq_explain::write_schema;
 use gq_io::{Failed, Sink, write_all};
+use gq_pool::VectorPool;
 use gq_render::{Place, write_refusal};
 use gq_session::Tone;
-use gq_syntax::{Params, Query, Statement, SyntaxRefusal, parse};
+use gq_syntax::{Query, Statement, SyntaxRefusal, parse};
 
 // Writes a line that ends in the number of a byte.
 fn write_at<O: Sink>(out: &mut O, front: &str, at: u32) -> Result<(), Failed>
@@ -41,20 +43,25 @@ fn write_at<O: Sink>(out: &mut O, front: &str, at: u32) -> Result<(), Failed>
 }
 
 impl Replier<'_> {
-    // Replies to the query that a statement's tokens spell.
+    // Replies to the query that a statement's tokens spell, behind `:profile` or not.
     fn reply_to_asked<O: Sink>(
         &self,
         out: &mut O,
+        pool: &mut VectorPool,
         statement: &[u8],
         query: &Query,
+        profiled: bool,
     ) -> Result<Tone, Failed>
-        requires { SpelledQuery statement.now query.now }
-        ensures { (params : List Param) → SpelledText statement.now params (tree.Query query.now)
+        requires spelled { SpelledQuery statement.now query.now }
+        requires slots { 112 ≤ spare_of pool.old }
+        ensures replies { (params : List Param)
+            → SpelledText statement.now params (asked_by profiled query.now)
             → Replied (IsReply (context_of self.now) params statement.now)
             (span_of O.taken O.faults out.old out.new) result }
+        ensures slots { spare_of pool.new ≡ spare_of pool.old }
     {
         match bind(self.alloc, query, statement, self.graph.catalog()) {
-            Ok(bound) => self.reply_to_query(out, &bound),
+            Ok(bound) => self.reply_to_query(out, pool, &bound, profiled),
             Err(refusal) => toned(write_bind_refusal(out, &refusal), tone_of(&refusal)),
         }
     }
@@ -77,45 +84,29 @@ impl Replier<'_> {
         }
     }
 
-    // Replies to a statement that asks for the profile of a query, which is not built, unless the
-    // query cannot be bound.
-    fn reply_to_unbuilt<O: Sink>(
-        &self,
-        out: &mut O,
-        statement: &[u8],
-        query: &Query,
-    ) -> Result<Tone, Failed>
-        requires { SpelledQuery statement.now query.now }
-        ensures { (params : List Param) → SpelledText statement.now params (tree.Profile query.now)
-            → Replied (IsReply (context_of self.now) params statement.now)
-            (span_of O.taken O.faults out.old out.new) result }
-    {
-        match refusal_of(self.alloc, query, statement, self.graph.catalog()) {
-            Ok(None) => toned(write_all(out, b"error: NotBuilt\n"), Tone::Refused),
-            Ok(Some(refusal)) => toned(write_bind_refusal(out, &refusal), Tone::Refused),
-            Err(Memory) => toned(write_all(out, b"error: Memory\n"), Tone::Memory),
-        }
-    }
-
     // Replies to a statement whose tokens spell this tree.
     fn reply_to_tree<O: Sink>(
         &self,
         out: &mut O,
-        params: &mut Params,
+        workspace: &mut Workspace,
         statement: &[u8],
         tree: Statement,
     ) -> Result<Tone, Failed>
-        requires spelled { SpelledText statement.now params.old tree }
-        requires params { are_params params.old ≡ true }
-        ensures replies { Replied (IsReply (context_of self.now) params.old statement.now)
+        requires spelled { SpelledText statement.now workspace.old.params tree }
+        requires params { are_params workspace.old.params ≡ true }
+        requires slots { 112 ≤ spare_of workspace.old.pool }
+        ensures replies { Replied (IsReply (context_of self.now) workspace.old.params statement.now)
             (span_of O.taken O.faults out.old out.new) result }
-        ensures behind { IfOk result (λ t. AreBehind params.old statement.now t params.new) }
-        ensures params { are_params params.new ≡ true }
+        ensures behind { IfOk result (λ t. AreBehind workspace.old.params statement.now t
+            workspace.new.params) }
+        ensures params { are_params workspace.new.params ≡ true }
+        ensures slots { spare_of workspace.new.pool ≡ spare_of workspace.old.pool }
     {
+        let Workspace { pool, params } = workspace;
         match tree {
-            Statement::Query(query) => self.reply_to_asked(out, statement, &query),
+            Statement::Query(query) => self.reply_to_asked(out, pool, statement, &query, false),
             Statement::Plan(query) => self.reply_to_planned(out, statement, &query),
-            Statement::Profile(query) => self.reply_to_unbuilt(out, statement, &query),
+            Statement::Profile(query) => self.reply_to_asked(out, pool, statement, &query, true),
             Statement::Schema => toned(write_schema(out, self.graph), Tone::Good),
             Statement::Param(name, value) => reply_to_param(out, params, name, value),
         }
@@ -143,23 +134,26 @@ impl Replier<'_> {
         }
     }
 
-    /// Replies to a statement of at most 65,536 bytes, with these parameters, one of which it may
-    /// set.
+    /// Replies to a statement of at most 65,536 bytes, which may set one of the parameters. The pool
+    /// has as many free slots afterwards.
     pub(crate) fn reply<O: Sink>(
         &self,
         out: &mut O,
-        params: &mut Params,
+        workspace: &mut Workspace,
         statement: &[u8],
     ) -> Result<Tone, Failed>
         requires fits { length statement.now ≤ 65536 }
-        requires params { are_params params.old ≡ true }
-        ensures replies { Replied (IsReply (context_of self.now) params.old statement.now)
+        requires params { are_params workspace.old.params ≡ true }
+        requires slots { 112 ≤ spare_of workspace.old.pool }
+        ensures replies { Replied (IsReply (context_of self.now) workspace.old.params statement.now)
             (span_of O.taken O.faults out.old out.new) result }
-        ensures behind { IfOk result (λ t. AreBehind params.old statement.now t params.new) }
-        ensures params { are_params params.new ≡ true }
+        ensures behind { IfOk result (λ t. AreBehind workspace.old.params statement.now t
+            workspace.new.params) }
+        ensures params { are_params workspace.new.params ≡ true }
+        ensures slots { spare_of workspace.new.pool ≡ spare_of workspace.old.pool }
     {
-        match parse(self.alloc, statement, params) {
-            Ok(tree) => self.reply_to_tree(out, params, statement, tree),
+        match parse(self.alloc, statement, &workspace.params) {
+            Ok(tree) => self.reply_to_tree(out, workspace, statement, tree),
             Err(SyntaxRefusal::Lex { at }) => {
                 toned(write_at(out, "error: Lex at byte ", at), Tone::Refused)
             }

@@ -1,4 +1,5 @@
 pub mod OneStatus
+pub mod Pools
 pub mod Quizzing
 pub mod Running
 pub mod Sequence

@@ -80,6 +80,11 @@ same_order (Some name) order_word.Given order_word.Given is is' = refl
 same_order (Some name) order_word.Given order_word.Greedy is is' = let no : codes "given" ≡ codes "greedy" = sym is ∙ is' in absurd (cc no)
 same_order (Some name) order_word.Greedy order_word.Given is is' = let no : codes "greedy" ≡ codes "given" = sym is ∙ is' in absurd (cc no)
 same_order (Some name) order_word.Greedy order_word.Greedy is is' = refl
+same_order (Some name) order_word.Given order_word.Least is is' = let no : codes "given" ≡ codes "least" = sym is ∙ is' in absurd (cc no)
+same_order (Some name) order_word.Greedy order_word.Least is is' = let no : codes "greedy" ≡ codes "least" = sym is ∙ is' in absurd (cc no)
+same_order (Some name) order_word.Least order_word.Given is is' = let no : codes "least" ≡ codes "given" = sym is ∙ is' in absurd (cc no)
+same_order (Some name) order_word.Least order_word.Greedy is is' = let no : codes "least" ≡ codes "greedy" = sym is ∙ is' in absurd (cc no)
+same_order (Some name) order_word.Least order_word.Least is is' = refl
 
 same_rows : (o : Option Text) (x y : ℕ) → IsRows o x → IsRows o y → x ≡ y
 same_rows None x y is is' = is ∙ sym is'

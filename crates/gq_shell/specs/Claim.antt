@@ -48,11 +48,12 @@ most = 1073741824
 
 -- the line of words that are no use of the program
 abbrev pub usage_text : List ℕ
-usage_text = line (codes "usage: graphq (--manifest PATH | --sample N) [--order given|greedy] [--rows N]")
+usage_text = line (codes "usage: graphq (--manifest PATH | --sample N) [--order given|greedy|least] [--rows N]")
 
 abbrev pub order_of : word.Order → Order
 order_of order_word.Given = order.Given
 order_of order_word.Greedy = order.Greedy
+order_of order_word.Least = order.Least
 
 -- the order of plans and the most rows that the words say
 abbrev pub settings_of : Words → Settings

@@ -8,6 +8,7 @@ mod program;
 mod sample;
 mod session;
 mod status;
+mod workspace;
 
 pub use program::run;
 pub use status::Status;

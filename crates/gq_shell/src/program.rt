@@ -24,6 +24,7 @@ fn settings_of(words: &Words<'_>) -> Settings
     let order = match words.order {
         OrderWord::Given => Order::Given,
         OrderWord::Greedy => Order::Greedy,
+        OrderWord::Least => Order::Least,
     };
     Settings {
         order,
@@ -47,7 +48,7 @@ fn write_usage<O: Sink>(out: &mut O) -> Result<(), Failed>
 {
     write_all(
         out,
-        b"usage: graphq (--manifest PATH | --sample N) [--order given|greedy] [--rows N]\n",
+        b"usage: graphq (--manifest PATH | --sample N) [--order given|greedy|least] [--rows N]\n",
     )
 }
 

@@ -1,23 +1,22 @@
 //! The answers to the questions that are asked of the sample graph.
 
-ghost use Rattle.std.specs.Prelude.{◌≡◌, ◌≤◌, [], true};
+ghost use Rattle.std.specs.Prelude.{◌≡◌, ◌≤◌, []};
 ghost use Rattle.gq_io.specs.Causes.{HasCause};
 ghost use Rattle.gq_io.specs.Outside.{Writes};
 ghost use Rattle.gq_reply.specs.Replies.{context_of};
 ghost use Rattle.gq_session.specs.Sessions.{span_of};
 ghost use Rattle.gq_shell.specs.Questions.{label_text};
-ghost use Rattle.gq_shell.specs.steps.Steps.{Asked, AskedOne, Quizzed};
-ghost use Rattle.gq_tokens.specs.Parameters.{are_params};
+ghost use Rattle.gq_shell.specs.steps.Steps.{Asked, AskedOne, IsReady, Quizzed};
 
 use crate::session::status_of;
 use crate::status::Status;
+use crate::workspace::new_workspace;
 use gq_execute::Settings;
 use gq_io::{Failed, Sink};
 use gq_render::{Place, write_refusal};
 use gq_reply::{Form, Replier, Workspace};
 use gq_sample::{question, sample};
 use gq_session::{Answerer, Stop, Tone};
-use gq_syntax::Params;
 use std::alloc::Global;
 
 // Writes the line that stands before the answer to a question.
@@ -38,10 +37,10 @@ fn ask<O: Sink>(
 ) -> Result<Tone, Failed>
     requires least { 1 ≤ number }
     requires most { number ≤ 6 }
-    requires ready { are_params workspace.old.params ≡ true }
+    requires ready { IsReady workspace.old }
     ensures replies { AskedOne (context_of replier.now) number workspace.old.params
         workspace.new.params (span_of O.taken O.faults out.old out.new) result }
-    ensures ready { are_params workspace.new.params ≡ true }
+    ensures ready { IsReady workspace.new }
 {
     match write_label(out, number) {
         Ok(()) => replier.answer(workspace, question(number).as_bytes(), out),
@@ -55,7 +54,8 @@ fn ask_all<O: Sink>(
     workspace: &mut Workspace,
     out: &mut O,
 ) -> Result<Tone, Failed>
-    requires { workspace.old.params ≡ [] }
+    requires ready { IsReady workspace.old }
+    requires empty { workspace.old.params ≡ [] }
     ensures { Asked (context_of replier.now) (span_of O.taken O.faults out.old out.new) result }
 {
     let mut worst = Tone::Good;
@@ -82,14 +82,14 @@ pub(crate) fn show_sample<O: Sink>(
     let Ok(graph) = sample(alloc, size) else {
         return Status::Memory;
     };
+    let Ok(mut workspace) = new_workspace(alloc) else {
+        return Status::Memory;
+    };
     let replier = Replier {
         alloc,
         graph: &graph,
         settings,
         form: Form::Short,
-    };
-    let mut workspace = Workspace {
-        params: Params::new(alloc),
     };
     match ask_all(&replier, &mut workspace, out) {
         Ok(tone) => status_of(Ok(tone)),

@@ -6,12 +6,12 @@ ghost use Rattle.gq_shell.specs.steps.Statuses.{status_of};
 ghost use Rattle.gq_shell.specs.steps.Steps.{Served};
 
 use crate::status::Status;
+use crate::workspace::new_workspace;
 use gq_execute::Settings;
 use gq_io::{Sink, Source};
-use gq_reply::{Form, Replier, Workspace};
+use gq_reply::{Form, Replier};
 use gq_session::{Stop, Tone, session};
 use gq_store::Graph;
-use gq_syntax::Params;
 use std::alloc::Global;
 
 /// The longest statement, in bytes.
@@ -48,14 +48,14 @@ pub(crate) fn serve<I: Source, O: Sink>(
     let Ok(mut statement) = vec![in alloc; 0u8; MOST_STATEMENT] else {
         return Status::Memory;
     };
+    let Ok(mut workspace) = new_workspace(alloc) else {
+        return Status::Memory;
+    };
     let replier = Replier {
         alloc,
         graph,
         settings,
         form: Form::Full,
-    };
-    let mut workspace = Workspace {
-        params: Params::new(alloc),
     };
     let ended = session(
         &replier,

@@ -1,9 +1,12 @@
 -- How far a query is answered, alternative by alternative.
-use Rattle.std.specs.Prelude.{◌≡◌, ◌⊎◌, ◌≤◌, ℕ, length, take, true, false, Some, Result, Ok, Err, List, [], ◌++◌, flat_map, slice_get}
+use Rattle.std.specs.Prelude.{◌≡◌, ◌⊎◌, ◌≤◌, ◌+◌, ℕ, length, take, true, false, Some, Result, Ok, Err, List, [], ◌∷◌, ◌++◌, flat_map, slice_get}
+use Rattle.std.specs.List.{AllZip}
 use Rattle.std.specs.List.Sorted.{IsPermutation}
 use Rattle.gq_law_answers.specs.Answered.{MakesLateOutcomes}
 use Rattle.gq_binder.specs.Binding.{IsBound}
 use Rattle.gq_expr.specs.declared.Fault.{Fault}
+use Rattle.gq_pipe.specs.Spending.{up_to_most}
+use Rattle.gq_pipe.specs.declared.pipeline.Spent.{Spent}
 use Rattle.gq_plan.specs.Covers.{Covers}
 use Rattle.gq_plan.specs.Meaning.{meaning}
 use Rattle.gq_plan.specs.Outcomes.{Row, late_outcomes}
@@ -15,6 +18,7 @@ use Rattle.gq_syntax.specs.declared.Query.{Query}
 use Rattle.gq_base.specs.Plain.{Graph}
 use Rattle.gq_execute.specs.Answering.{question, RepliesToEach}
 use Rattle.gq_execute.specs.Replies.{Question, all_outcomes, outcomes_in, has_large_part, some_heavy}
+use Rattle.gq_execute.specs.Spending.{IsTurn, Turn, own_chunks, spent_in, with_turns}
 use Rattle.gq_execute.specs.steps.Taking.{MeetsFault, MeetsMany, Takes}
 use Rattle.gq_execute.specs.declared.refusal.AnswerRefusal.{AnswerRefusal}
 use Rattle.gq_execute.specs.declared.refusal.AnswerRefusal.TheVariants as refusal
@@ -28,10 +32,12 @@ pub record AreParted (a : Question) : Type 0 where
       → MakesLateOutcomes a.graph a.query a.bound y
   pub all : IsPermutation (flat_map (outcomes_in a) a.bound.alternatives) (all_outcomes a)
 
--- these alternatives were begun: the outcomes in them are those that were pushed and those that are left, and none is heavy
+-- these alternatives were begun, since their turn came: the outcomes in them are those that were pushed and those that are
+-- left, and none is heavy
 pub record Reached (a : Question) (begun : List Typed) (pushed left : List (Result Row Fault)) : Type 0 where
   pub as_a_bag : IsPermutation (flat_map (outcomes_in a) begun) (pushed ++ left)
   pub light : some_heavy a 0 begun ≡ false
+  pub turned : with_turns a 0 begun ≡ begun
 
 -- the table stands for what was pushed of them; all was pushed, or the table is full
 pub record Came (a : Question) (begun : List Typed) (table : Table) : Type 0 where
@@ -51,28 +57,46 @@ pub record Runs (g : Graph) (b : Bound) (order : Order) (most : ℕ) (y : Typed)
   pub meets : Meets (late_outcomes g b y (meaning g y plan))
 
 -- how the turn of an alternative ends: its outcomes went into the table, or one of them or a large part stopped it
-abbrev pub Drains : Graph → Bound → Order → Typed → Table → Table → Result (Unit {0}) AnswerRefusal → Type 0
+abbrev pub Drains : Graph → Bound → Order → Typed → Table → Table → Result (List Spent) AnswerRefusal → Type 0
 Drains g b order y old new (Ok _) = Runs g b order old.most y (λ os. Takes os old new)
 Drains g b order y old new (Err (refusal.Fault f)) = Runs g b order old.most y (λ os. MeetsFault os old f)
 Drains g b order y old new (Err (refusal.TooManyRows most)) =
     (most ≡ old.most) × ((has_large_part g order old.most y ≡ true) ⊎ Runs g b order old.most y (λ os. MeetsMany os old))
 Drains g b order y old new (Err refusal.Memory) = Unit {0}
 
+-- what was spent in the turn of an alternative, whose chunks the table counted
+pub record SpendsTurn (g : Graph) (order : Order) (y : Typed) (old new : Table) (spent : List Spent) : Type 0 where
+  pub turn : Turn
+  pub is : IsTurn g old.bound order y turn
+  pub all : spent ≡ turn.sides ++ turn.own ∷ []
+  pub chunks : (before : ℕ) → old.pushed ≡ up_to_most before → new.pushed ≡ up_to_most (before + turn.own.chunks)
+
+-- what was spent in the turns of these alternatives
+pub record Spends (g : Graph) (b : Bound) (order : Order) (ys : List Typed) (table : Table) (spent : List Spent) : Type 0 where
+  pub turns : List Turn
+  pub each : AllZip (IsTurn g b order) ys turns
+  pub all : spent ≡ spent_in turns
+  pub chunks : table.pushed ≡ up_to_most (own_chunks turns)
+
 -- an empty table for a query
 pub record IsFresh (b : Bound) (settings : Settings) (table : Table) : Type 0 where
   pub bound : table.bound ≡ b
   pub most : table.most ≡ settings.rows
   pub none : StandsFor b settings.rows [] table.held
+  pub pushed : table.pushed ≡ 0
 
--- the turns of these many alternatives were taken: of all, or of as many as filled the table
-pub record Filled (a : Question) (table : Table) : Type 0 where
-  pub turns : ℕ
+-- the turns of so many alternatives were taken: of all, or of as many as filled the table
+pub record Filled (a : Question) (turns : ℕ) (table : Table) : Type 0 where
   pub came : Came a (take turns a.bound.alternatives) table
   pub done : (is_full_table table ≡ true) ⊎ (length a.bound.alternatives ≤ turns)
 
--- how the turns end, for each query that is bound so
-abbrev pub Fills : Graph → Bound → Settings → Table → Result (Unit {0}) AnswerRefusal → Type 0
-Fills g bound settings table (Ok _) =
-    (query : Query) (text : List ℕ) → IsBound query text g.catalog bound
-    → Filled (question g query bound settings) table
+-- how the turns end, for each query that is bound so, and what was spent in them
+pub record FillsWith (g : Graph) (bound : Bound) (settings : Settings) (table : Table) (spent : List Spent) : Type 0 where
+  pub turns : ℕ
+  pub spends : Spends g bound settings.order (take turns bound.alternatives) table spent
+  pub filled : (query : Query) (text : List ℕ) → IsBound query text g.catalog bound
+      → Filled (question g query bound settings) turns table
+
+abbrev pub Fills : Graph → Bound → Settings → Table → Result (List Spent) AnswerRefusal → Type 0
+Fills g bound settings table (Ok spent) = FillsWith g bound settings table spent
 Fills g bound settings table (Err refused) = RepliesToEach g bound settings (Err refused)

@@ -1,32 +1,34 @@
--- What a table of rows takes of the outcomes that are pushed to it one after another, and where it stops.
-use Rattle.std.specs.Prelude.{◌≡◌, ◌⊎◌, ◌<◌, true, Some, Result, Ok, Err, List, [], ◌++◌}
+-- What a table of rows takes of the outcomes of the chunks that are pushed to it one after another, and where it stops.
+use Rattle.std.specs.Prelude.{◌≡◌, ◌⊎◌, ◌<◌, ◌≤◌, ◌+◌, ℕ, true, Some, Result, Ok, Err, List, [], ◌++◌, IsPermutation, length, map}
 use Rattle.std.specs.List.{Contains}
 use Rattle.gq_expr.specs.declared.Fault.{Fault}
 use Rattle.gq_plan.specs.Outcomes.{Row, late_outcomes}
 use Rattle.gq_base.specs.Plain.{Graph}
-use Rattle.gq_pipe.specs.Progress.{Progress}
+use Rattle.gq_pipe.specs.Bound.{binds_all}
+use Rattle.gq_pipe.specs.Progress.{plan_in}
+use Rattle.gq_pipe.specs.Rest.{Rest}
+use Rattle.gq_pipe.specs.Spending.{up_to_most}
 use Rattle.gq_plan.specs.Assignments.{Assignment}
+use Rattle.gq_plan.specs.Meaning.{whole}
+use Rattle.gq_plan.specs.declared.Typed.{Typed}
 use Rattle.gq_rows.specs.Answers.{kept, looked_at, rows_in}
-use Rattle.gq_rows.specs.Tables.{StandsFor, Table, is_full_table}
+use Rattle.gq_rows.specs.Chunks.{Stands}
+use Rattle.gq_rows.specs.Tables.{Table, is_full_table}
 use Rattle.gq_execute.specs.declared.refusal.AnswerRefusal.{AnswerRefusal}
 use Rattle.gq_execute.specs.declared.refusal.AnswerRefusal.TheVariants as refusal
 
--- a table stands for a listing of outcomes
-abbrev pub Stands : List (Result Row Fault) → Table → Type 0
-Stands outcomes table = StandsFor table.bound table.most outcomes table.held
-
--- a front of these outcomes, and what is behind it
+-- some of these outcomes in some order, and the others
 pub record Cut (os : List (Result Row Fault)) : Type 0 where
   pub pushed : List (Result Row Fault)
   pub left : List (Result Row Fault)
-  pub whole : os ≡ pushed ++ left
+  pub bag : IsPermutation os (pushed ++ left)
 
 -- the same query, and as many rows may be kept
 pub record IsAlike (old new : Table) : Type 0 where
   pub bound : new.bound ≡ old.bound
   pub most : new.most ≡ old.most
 
--- a front of the outcomes was taken: all of them, or as many as the table holds
+-- some of the outcomes were taken: all of them, or as many as the table holds
 pub record Takes (os : List (Result Row Fault)) (old new : Table) : Type 0 where
   pub cut : Cut os
   pub alike : IsAlike old new
@@ -52,21 +54,44 @@ TakesAll os old new (Err (refusal.Fault f)) = MeetsFault os old f
 TakesAll os old new (Err (refusal.TooManyRows most)) = (most ≡ old.most) × MeetsMany os old
 TakesAll os old new (Err refusal.Memory) = Unit {0}
 
--- ---- the pipeline of an alternative
-
--- a pipeline of a plan that binds all variables, over this graph, of the alternative that was started
-pub record IsRunOf (g : Graph) (table : Table) (pipeline : Progress) : Type 0 where
+-- a pipeline over this graph runs the alternative that was started, and its plan binds all variables
+pub record IsRunOf (g : Graph) (table : Table) (pipeline : Rest) : Type 0 where
   pub graph : pipeline.source.graph ≡ g
   pub alternative : table.alternative ≡ Some pipeline.source.typed
-  pub complete : pipeline.complete ≡ true
+  pub complete : binds_all pipeline.source.typed (plan_in pipeline.source) ≡ true
+
+-- the assignments that a pipeline of an alternative owes
+abbrev pub owed_by : Typed → Rest → List Assignment
+owed_by y pipeline = map (whole y) pipeline.owed
 
 -- the outcomes of what a pipeline owes
-abbrev pub owed_outcomes : Graph → Table → Progress → List (Result Row Fault)
-owed_outcomes g table pipeline = late_outcomes g table.bound pipeline.source.typed pipeline.owed
+abbrev pub owed_outcomes : Graph → Table → Rest → List (Result Row Fault)
+owed_outcomes g table pipeline =
+    let y = pipeline.source.typed in
+    late_outcomes g table.bound y (owed_by y pipeline)
 
 -- how far a pipeline has come: the outcomes of these assignments went into the table
-pub record Pushed (g : Graph) (old new : Table) (begun now : Progress) : Type 0 where
+pub record Pushed (g : Graph) (old new : Table) (begun now : Rest) : Type 0 where
   pub taken : List Assignment
-  pub whole : begun.owed ≡ taken ++ now.owed
+  pub bag : IsPermutation (owed_by begun.source.typed begun) (taken ++ owed_by begun.source.typed now)
   pub stands : (before : List (Result Row Fault)) → Stands before old
       → Stands (before ++ late_outcomes g old.bound begun.source.typed taken) new
+
+-- so many chunks were handed out, and the table counted as many: one for each key that was owed and is not any more, each
+-- with an assignment
+pub record Counted (old new : Table) (begun now : Rest) : Type 0 where
+  pub count : ℕ
+  pub chunks : now.chunks ≡ up_to_most count
+  pub pushed : (before : ℕ) → old.pushed ≡ up_to_most before → new.pushed ≡ up_to_most (before + count)
+  pub keys : length begun.keys ≡ count + length now.keys
+  pub most : count + length now.owed ≤ length begun.owed
+  pub none : count ≡ 0 → now.owed ≡ begun.owed
+
+-- so many chunks were handed out until nothing was owed or the table was full
+pub record HasRun (old new : Table) (begun now : Rest) : Type 0 where
+  pub count : ℕ
+  pub chunks : now.chunks ≡ up_to_most count
+  pub pushed : (before : ℕ) → old.pushed ≡ up_to_most before → new.pushed ≡ up_to_most (before + count)
+  pub keys : (is_full_table new ≡ true) ⊎ (count ≡ length begun.keys)
+  pub most : count ≤ length begun.owed
+  pub none : count ≡ 0 → begun.owed ≡ []

@@ -1,5 +1,5 @@
 -- The cells of the columns of the chunk that stands: each has a row for each position of its group.
-use Rattle.std.specs.Prelude.{◌<◌, ℕ, zero, suc, nat_eq, nat_lt, if◌then◌else◌, List, [], ◌∷◌, ◌++◌, map, length, slice_get, slice_index, slice_index_or}
+use Rattle.std.specs.Prelude.{◌<◌, ℕ, zero, suc, nat_eq, nat_lt, if◌then◌else◌, Option, Some, None, List, [], ◌∷◌, ◌++◌, map, length, slice_get, slice_index, slice_index_or}
 use Rattle.std.specs.List.{range_with_len}
 use Rattle.gq_base.specs.Valid.{row_count}
 use Rattle.gq_group.specs.Chunks.{IsRow, items_in, row_in}
@@ -7,17 +7,21 @@ use Rattle.gq_group.specs.declared.group.Group.{Group}
 use Rattle.gq_group.specs.declared.home.Homes.{Homes}
 use Rattle.gq_group.specs.declared.home.NodeHome.{NodeHome}
 use Rattle.gq_group.specs.declared.home.NodeHome.TheVariants as node
+use Rattle.gq_join.specs.Kept.{Held, node_in, place_of}
 use Rattle.gq_plan.specs.Rows.{node_table, rel_table}
 use Rattle.gq_plan.specs.declared.assignment.Assignment.{Assignment}
 use Rattle.gq_pool.specs.Pool as pool
 use Rattle.gq_pool.specs.Pool.{Pool, IsOut}
 use Rattle.gq_store.specs.Neighbours.{neighbours}
-use Rattle.gq_pipe.specs.steps.Homes.{filling_at, node_home}
-use Rattle.gq_pipe.specs.steps.Levels.{Run}
+use Rattle.gq_pipe.specs.steps.Homes.{IsFilling, filling_at, node_home}
+use Rattle.gq_pipe.specs.steps.Levels.{Run, known}
 use Rattle.gq_pipe.specs.declared.homes.Filling.{Filling}
+use Rattle.gq_pipe.specs.declared.homes.Filling.TheVariants.{Led, Kept}
+use Rattle.gq_pipe.specs.declared.homes.Leading.{Leading}
+use Rattle.gq_pipe.specs.declared.places.GroupSteps.{GroupSteps}
 
 -- the row to which the single relationship of a row leads
-abbrev pub led : Run → Filling → ℕ → ℕ
+abbrev pub led : Run → Leading → ℕ → ℕ
 led c f near =
     if nat_lt near (row_count c.graph.nodes (node_table c.typed f.from))
     then slice_index (neighbours c.graph (rel_table c.typed f.rel) f.direction near) 0 else 0
@@ -28,9 +32,21 @@ near_in row gs done i v p node.Nowhere = slice_index row.nodes v
 near_in row gs done i v p (node.Item j) = if nat_eq j i then slice_index (items_in (slice_get gs j)) p else slice_index row.nodes v
 near_in row gs done i v p (node.Column j m) = if nat_eq j i then slice_index (slice_index_or done m []) p else slice_index row.nodes v
 
+-- the row of a node variable in a row of a build, if there are both
+abbrev pub kept_row : Option Held → Option ℕ → ℕ → ℕ
+kept_row (Some b) (Some r) v = node_in b v r
+kept_row o i v = 0
+
+abbrev pub build_in : Run → ℕ → Option Held
+build_in c d = slice_index_or c.builds d None
+
+abbrev pub item_in : List Group → ℕ → ℕ → Option ℕ
+item_in gs i p = slice_get (items_in (slice_get gs i)) p
+
 module _ (c : Run) (row : Assignment) (gs : List Group) (h : Homes) where
   abbrev pub cell_of : List (List ℕ) → Filling → ℕ → ℕ
-  cell_of done f p = led c f (near_in row gs done f.group f.from p (node_home h f.from))
+  cell_of done (Led f) p = led c f (near_in row gs done f.group f.from p (node_home h f.from))
+  cell_of done (Kept f) p = kept_row (build_in c f.depth) (item_in gs f.group p) f.node
 
   abbrev pub column_of : List (List ℕ) → Filling → List ℕ
   column_of done f = map (cell_of done f) (range_with_len 0 1024)
@@ -51,3 +67,24 @@ pub record HasRow (q : Pool) (slots : List ℕ) (m p : ℕ) : Type 0 where
   pub inside : m < length slots
   pub out : IsOut q (slice_index slots m)
   pub row : IsRow (pool.cell_at q (slice_index slots m) p)
+
+abbrev pub cell_seen : Run → Assignment → List Group → Homes → Pool → List ℕ → Filling → ℕ → ℕ
+cell_seen c row gs h q slots (Led f) p = led c f (near_seen row gs q slots f.group f.from p (node_home h f.from))
+cell_seen c row gs h q slots (Kept f) p = kept_row (build_in c f.depth) (item_in gs f.group p) f.node
+
+-- a column that can be filled at a position, since the earlier ones can be read there
+pub record CanFillAt (c : Run) (ss : List GroupSteps) (h : Homes) (q : Pool) (slots : List ℕ) (f : Filling) (p : ℕ) : Type 0 where
+  pub number : ℕ
+  pub filling : IsFilling c ss (known c (length c.steps)) h number f
+  pub earlier : (m : ℕ) → m < number → HasRow q slots m p
+
+-- a build keeps a node variable, and has a row
+abbrev pub CanKeep : Option Held → Option ℕ → ℕ → Type 0
+CanKeep None i v = Unit {0}
+CanKeep (Some b) None v = Unit {0}
+CanKeep (Some b) (Some r) v = (r < length b.rows) × (place_of b.nodes v < length b.nodes)
+
+-- so at each position of the group of a column
+abbrev pub HasMatches : Run → List Group → Filling → Type 0
+HasMatches c gs (Led f) = Unit {0}
+HasMatches c gs (Kept f) = (p : ℕ) → CanKeep (build_in c f.depth) (item_in gs f.group p) f.node

@@ -1,6 +1,6 @@
 -- Where the variables that the steps of a plan bind live in the groups of its chunks.
-use Rattle.std.specs.Prelude.{◌≡◌, ◌<◌, ◌≤◌, ℕ, Bool, true, false, List, [], ◌∷◌, ◌++◌, length, take, slice_index_or, slice_set}
-use Rattle.std.specs.List.{sum_by}
+use Rattle.std.specs.Prelude.{◌≡◌, ◌<◌, ◌≤◌, ◌+◌, ℕ, Bool, true, false, not, All, Option, Some, None, List, [], ◌∷◌, ◌++◌, map, filter, length, take, slice_index_or, slice_set}
+use Rattle.std.specs.List.{range_with_len, sum_by}
 use Rattle.gq_base.specs.Valid.{row_count}
 use Rattle.gq_base.specs.declared.direction.Direction.{Direction}
 use Rattle.gq_base.specs.declared.direction.Direction.TheVariants.{Forward, Backward}
@@ -9,14 +9,20 @@ use Rattle.gq_group.specs.declared.home.NodeHome.{NodeHome}
 use Rattle.gq_group.specs.declared.home.NodeHome.TheVariants as node
 use Rattle.gq_group.specs.declared.home.RelHome.{RelHome}
 use Rattle.gq_group.specs.declared.home.RelHome.TheVariants as rel
+use Rattle.gq_join.specs.Kept.{Held, place_of}
 use Rattle.gq_plan.specs.Columns.{own_columns}
-use Rattle.gq_plan.specs.Known.{Known}
-use Rattle.gq_plan.specs.Plans.{Step, Scan, Extend, Close}
+use Rattle.gq_plan.specs.Covers.{after}
+use Rattle.gq_plan.specs.Known.{Known, none}
+use Rattle.gq_plan.specs.Plans.{Plan, Step, Scan, Extend, Close, Join}
+use Rattle.gq_plan.specs.Soundness.{has_number}
 use Rattle.gq_plan.specs.Rows.{node_table, rel_table}
 use Rattle.gq_store.specs.Neighbours.{near_rows}
 use Rattle.gq_pipe.specs.steps.Levels.{Run, step_at, known}
 use Rattle.gq_pipe.specs.steps.Lists.{group_at}
 use Rattle.gq_pipe.specs.declared.homes.Filling.{Filling}
+use Rattle.gq_pipe.specs.declared.homes.Filling.TheVariants.{Led, Kept}
+use Rattle.gq_pipe.specs.declared.homes.Keeping.{Keeping}
+use Rattle.gq_pipe.specs.declared.homes.Leading.{Leading}
 use Rattle.gq_pipe.specs.declared.places.GroupSteps.{GroupSteps}
 
 abbrev pub is_forward : Direction → Bool
@@ -35,9 +41,15 @@ with_node_home v o h = record { nodes = slice_set h.nodes v o; rels = h.rels }
 abbrev pub with_rel_home : ℕ → RelHome → Homes → Homes
 with_rel_home x o h = record { nodes = h.nodes; rels = slice_set h.rels x o }
 
--- a column of a group
+-- a column of a group that follows relationships, and one that has nodes of a build
+abbrev pub leading_of : ℕ → ℕ → ℕ → Direction → Leading
+leading_of i x from way = record { group = i; rel = x; from = from; direction = way }
+
 abbrev pub filling_of : ℕ → ℕ → ℕ → Direction → Filling
-filling_of i x from way = record { group = i; rel = x; from = from; direction = way }
+filling_of i x from way = Led (leading_of i x from way)
+
+abbrev pub kept_of : ℕ → ℕ → ℕ → Filling
+kept_of i d v = Kept (record { group = i; depth = d; node = v })
 
 abbrev pub no_filling : Filling
 no_filling = filling_of 0 0 0 Forward
@@ -46,22 +58,46 @@ abbrev pub filling_at : List Filling → ℕ → Filling
 filling_at fs column = slice_index_or fs column no_filling
 
 -- what a column extension binds lives in a column with this number
-abbrev pub with_column : Filling → ℕ → ℕ → Homes → Homes
+abbrev pub with_column : Leading → ℕ → ℕ → Homes → Homes
 with_column f to column h = with_rel_home f.rel (rel.Single f.from (is_forward f.direction)) (with_node_home to (node.Column f.group column) h)
 
--- a step of a group with this number puts there what it binds; a column more would have this number
-abbrev pub housed : ℕ → ℕ → Step → Homes → Homes
-housed i column (Scan v) h = with_node_home v (node.Item i) h
-housed i column (Extend false x from to way) h = with_rel_home x (rel.Listed i from (is_forward way)) (with_node_home to (node.Item i) h)
-housed i column (Extend true x from to way) h = with_column (filling_of i x from way) to column h
-housed i column (Close false x from to way) h = with_rel_home x (rel.Listed i from (is_forward way)) h
-housed i column (Close true x from to way) h = with_rel_home x (rel.Single from (is_forward way)) h
-housed i column s h = h
+-- the node variables of a build that are no keys
+abbrev pub not_in : List ℕ → List ℕ → List ℕ
+not_in keys vs = filter (λ v. not (has_number keys v)) vs
 
--- the columns with that of a step
-abbrev pub with_filling : ℕ → Step → List Filling → List Filling
-with_filling i (Extend true x from to way) fs = fs ++ filling_of i x from way ∷ []
-with_filling i s fs = fs
+abbrev pub brought_by : List ℕ → Option Held → List ℕ
+brought_by keys None = []
+brought_by keys (Some b) = not_in keys b.nodes
+
+-- variables have homes of their own, with numbers one after another
+abbrev pub set_numbered : {X : Type 0} → (ℕ → X) → ℕ → List ℕ → List X → List X
+set_numbered home n [] os = os
+set_numbered home n (v ∷ vs) os = set_numbered home (n + 1) vs (slice_set os v (home n))
+
+-- the node variables live in columns, from one with this number on, and each relationship variable at its place in the build
+abbrev pub with_build : Option Held → List ℕ → ℕ → ℕ → Homes → Homes
+with_build None keys i column h = h
+with_build (Some b) keys i column h = record { nodes = set_numbered (node.Column i) column (not_in keys b.nodes) h.nodes; rels = set_numbered (rel.Kept i) 0 b.rels h.rels }
+
+-- a step of a group with this number, with its build if it has one, puts there what it binds; a column more would have this number
+abbrev pub housed : Option Held → ℕ → ℕ → Step → Homes → Homes
+housed o i column (Scan v) h = with_node_home v (node.Item i) h
+housed o i column (Extend false x from to way) h = with_rel_home x (rel.Listed i from (is_forward way)) (with_node_home to (node.Item i) h)
+housed o i column (Extend true x from to way) h = with_column (leading_of i x from way) to column h
+housed o i column (Close false x from to way) h = with_rel_home x (rel.Listed i from (is_forward way)) h
+housed o i column (Close true x from to way) h = with_rel_home x (rel.Single from (is_forward way)) h
+housed o i column (Join side keys) h = with_build o keys i column h
+housed o i column s h = h
+
+-- the columns of these node variables, in the build of the step at a depth
+abbrev pub fillings_of : ℕ → ℕ → List ℕ → List Filling
+fillings_of i d vs = map (kept_of i d) vs
+
+-- the columns with those of a step at a depth
+abbrev pub with_filling : Option Held → ℕ → ℕ → Step → List Filling → List Filling
+with_filling o i d (Extend true x from to way) fs = fs ++ filling_of i x from way ∷ []
+with_filling o i d (Join side keys) fs = fs ++ fillings_of i d (brought_by keys o)
+with_filling o i d s fs = fs
 
 -- what a column extension binds lives in a column of its group
 pub record HasColumn (fs : List Filling) (h : Homes) (i x from to : ℕ) (way : Direction) : Type 0 where
@@ -71,6 +107,19 @@ pub record HasColumn (fs : List Filling) (h : Homes) (i x from to : ℕ) (way : 
   pub node_is : node_home h to ≡ node.Column i column
   pub edge_is : rel_home h x ≡ rel.Single from (is_forward way)
 
+-- a node variable that a join brings lives in a column of its group
+pub record HasKeptColumn (fs : List Filling) (h : Homes) (i v : ℕ) : Type 0 where
+  pub column : ℕ
+  pub depth : ℕ
+  pub inside : column < length fs
+  pub filling : filling_at fs column ≡ kept_of i depth v
+  pub node_is : node_home h v ≡ node.Column i column
+
+-- so do all that are no keys, and the relationships live where each row of the build has them
+pub record HasMatch (fs : List Filling) (h : Homes) (i : ℕ) (side : Plan) (keys : List ℕ) : Type 0 where
+  pub nodes : (v : ℕ) → (after side none).nodes v ≡ true → has_number keys v ≡ false → HasKeptColumn fs h i v
+  pub rels : (x : ℕ) → (after side none).rels x ≡ true → rel_home h x ≡ rel.Kept i (place_of (filter (after side none).rels (range_with_len 0 (length h.rels))) x)
+
 -- what a step binds has its home
 abbrev pub IsHoused : List Filling → Homes → ℕ → Step → Type 0
 IsHoused fs h i (Scan v) = node_home h v ≡ node.Item i
@@ -78,21 +127,36 @@ IsHoused fs h i (Extend false x from to way) = (node_home h to ≡ node.Item i) 
 IsHoused fs h i (Extend true x from to way) = HasColumn fs h i x from to way
 IsHoused fs h i (Close false x from to way) = rel_home h x ≡ rel.Listed i from (is_forward way)
 IsHoused fs h i (Close true x from to way) = rel_home h x ≡ rel.Single from (is_forward way)
+IsHoused fs h i (Join side keys) = HasMatch fs h i side keys
 IsHoused fs h i s = Unit {0}
 
 -- relationships are followed from the rows of a node variable
-pub record CanFill (c : Run) (f : Filling) : Type 0 where
+pub record CanFill (c : Run) (f : Leading) : Type 0 where
   pub rel : f.rel < length c.typed.rels
   pub from : f.from < length c.typed.nodes
   pub table : rel_table c.typed f.rel < length c.graph.catalog.rels
   pub rows : near_rows c.graph (rel_table c.typed f.rel) f.direction ≡ row_count c.graph.nodes (node_table c.typed f.from)
 
 -- a column of one of so many groups, whose source is known and lives in no later column
-pub record IsFilling (c : Run) (groups : ℕ) (k : Known) (h : Homes) (column : ℕ) (f : Filling) : Type 0 where
+pub record IsLeading (c : Run) (groups : ℕ) (k : Known) (h : Homes) (column : ℕ) (f : Leading) : Type 0 where
   pub group : f.group < groups
   pub fill : CanFill c f
   pub source : k.nodes f.from ≡ true
   pub before : (j m : ℕ) → node_home h f.from ≡ node.Column j m → m < column
+
+-- a column of a group that a join makes, with a node variable that the side plan binds
+pub record IsKeeping (c : Run) (ss : List GroupSteps) (f : Keeping) : Type 0 where
+  pub group : f.group < length ss
+  pub depth : f.depth ≡ (group_at ss f.group).first
+  pub low : f.depth < length c.steps
+  pub side : Plan
+  pub keys : List ℕ
+  pub step : step_at c f.depth ≡ Join side keys
+  pub bound : (after side none).nodes f.node ≡ true
+
+abbrev pub IsFilling : Run → List GroupSteps → Known → Homes → ℕ → Filling → Type 0
+IsFilling c ss k h column (Led f) = IsLeading c (length ss) k h column f
+IsFilling c ss k h column (Kept f) = IsKeeping c ss f
 
 -- a step stands in a group
 pub record InGroup (ss : List GroupSteps) (i d : ℕ) : Type 0 where
@@ -108,16 +172,22 @@ pub record AreHomes (c : Run) (ss : List GroupSteps) (i d : ℕ) (fs : List Fill
   pub free_rels : (x : ℕ) → (known c d).rels x ≡ false → rel_home h x ≡ rel.Nowhere
   pub columns : (v j m : ℕ) → node_home h v ≡ node.Column j m → m < length fs
   pub few : length fs ≤ sum_by (own_columns c.typed) (take d c.steps)
-  pub fillings : (m : ℕ) → m < length fs → IsFilling c (length ss) (known c d) h m (filling_at fs m)
+  pub fillings : (m : ℕ) → m < length fs → IsFilling c ss (known c d) h m (filling_at fs m)
 
 -- so has what the first steps of a group bind
 pub record AreHoused (c : Run) (ss : List GroupSteps) (i d : ℕ) (fs : List Filling) (h : Homes) : Type 0 where
   pub homes : AreHomes c ss i d fs h
   pub here : (e : ℕ) → (group_at ss i).first ≤ e → e < d → IsHoused fs h i (step_at c e)
 
--- what a step binds are variables that have homes
-abbrev pub CanHouse : Homes → Step → Type 0
-CanHouse h (Scan v) = v < length h.nodes
-CanHouse h (Extend column x from to way) = (x < length h.rels) × (to < length h.nodes)
-CanHouse h (Close column x from to way) = x < length h.rels
-CanHouse h s = Unit {0}
+-- what a build keeps are variables that have homes
+abbrev pub CanHouseBuild : Option Held → Homes → Type 0
+CanHouseBuild None h = Unit {0}
+CanHouseBuild (Some b) h = All (λ v. v < length h.nodes) b.nodes × All (λ x. x < length h.rels) b.rels
+
+-- so are those that a step binds
+abbrev pub CanHouse : Option Held → Homes → Step → Type 0
+CanHouse o h (Scan v) = v < length h.nodes
+CanHouse o h (Extend column x from to way) = (x < length h.rels) × (to < length h.nodes)
+CanHouse o h (Close column x from to way) = x < length h.rels
+CanHouse o h (Join side keys) = CanHouseBuild o h
+CanHouse o h s = Unit {0}

@@ -1,5 +1,5 @@
 -- How a reply is written, for the contracts of its parts.
-use Rattle.std.specs.Prelude.{◌≡◌, ◌⊎◌, ℕ, List, Result, Ok, Err, codes}
+use Rattle.std.specs.Prelude.{◌≡◌, ◌⊎◌, ℕ, List, Result, Ok, Err, Bool, true, false, ◌++◌, codes}
 use Rattle.std.specs.Io.KnownBytes.{Appends}
 use Rattle.std.specs.declared.option.Option.{Option}
 use Rattle.gq_base.specs.Values.{Val, literal_val}
@@ -11,8 +11,9 @@ use Rattle.gq_io.specs.Causes.{HasCause}
 use Rattle.gq_io.specs.Outside.{AppendsFront}
 use Rattle.gq_io.specs.declared.Failed.{Failed}
 use Rattle.gq_plan.specs.declared.Bound.{Bound}
-use Rattle.gq_reply.specs.Replies.{Context, memory_line, question}
-use Rattle.gq_reply.specs.ReplyTexts.{IsPlanText, reply_text}
+use Rattle.gq_pipe.specs.declared.pipeline.Spent.{Spent}
+use Rattle.gq_reply.specs.Replies.{Context, IsText, memory_line, question}
+use Rattle.gq_reply.specs.ReplyTexts.{IsPlanText, fault_text, many_text, rows_text, spent_text}
 use Rattle.gq_session.specs.Sessions.{Span}
 use Rattle.gq_session.specs.declared.answering.Tone.{Tone}
 use Rattle.gq_session.specs.declared.answering.Tone.TheVariants as tone
@@ -37,19 +38,25 @@ pub record Replied (May : Tone → List ℕ → Type 0) (out : Span) (result : R
   pub bytes : Written May out.old out.new result
   pub cause : HasCause out.before out.now result
 
--- the replies to a query that is bound: its rows, a line in their place, or the line for want of memory
-abbrev pub MayAsk : Context → Query → Bound → Tone → List ℕ → Type 0
-MayAsk c query bound tone.Good text = (lines : List (List Val)) × IsPermitted (question c query bound) (Rows lines)
-    × (text ≡ reply_text c.form c.settings.rows c.graph bound (Rows lines))
-MayAsk c query bound tone.Refused text =
-    ((f : Fault) × IsPermitted (question c query bound) (Faulted f) × (text ≡ reply_text c.form c.settings.rows c.graph bound (Faulted f)))
-    ⊎ (IsPermitted (question c query bound) TooManyRows × (text ≡ reply_text c.form c.settings.rows c.graph bound TooManyRows))
-MayAsk c query bound tone.Memory text = text ≡ memory_line
+-- the replies to a query that is bound, or to one whose profile is asked for: its rows, a line in their place, or the line for
+-- want of memory
+abbrev pub MayAsk : Context → Bool → Query → Bound → Tone → List ℕ → Type 0
+MayAsk c profiled query bound tone.Good text = (lines : List (List Val)) × IsPermitted (question c query bound) (Rows lines)
+    × IsText c profiled query bound (Rows lines) text
+MayAsk c profiled query bound tone.Refused text =
+    ((f : Fault) × IsPermitted (question c query bound) (Faulted f) × (text ≡ fault_text f))
+    ⊎ (IsPermitted (question c query bound) TooManyRows × (text ≡ many_text c.settings.rows))
+MayAsk c profiled query bound tone.Memory text = text ≡ memory_line
 
 -- the same for each query that is bound so
-abbrev pub Asks : Context → Bound → Span → Result Tone Failed → Type 0
-Asks c bound out result =
-    (query : Query) (statement : List ℕ) → IsBound query statement c.graph.catalog bound → Replied (MayAsk c query bound) out result
+abbrev pub Asks : Context → Bool → Bound → Span → Result Tone Failed → Type 0
+Asks c profiled bound out result =
+    (query : Query) (statement : List ℕ) → IsBound query statement c.graph.catalog bound → Replied (MayAsk c profiled query bound) out result
+
+-- what is written of rows: behind `:profile` first what the pipelines spent
+abbrev pub answer_text : Context → Bool → Bound → List Spent → List (List Val) → List ℕ
+answer_text c true bound spent lines = spent_text 1 spent ++ rows_text c.form c.graph bound lines
+answer_text c false bound spent lines = rows_text c.form c.graph bound lines
 
 -- the plans of a query that is bound, by their text
 abbrev pub MayShow : Context → Bound → Tone → List ℕ → Type 0

@@ -1,5 +1,5 @@
 -- How a part of a run ends, for the contracts of its helpers.
-use Rattle.std.specs.Prelude.{◌≡◌, ◌⊎◌, ℕ, ◌-◌, ◌≤◌, List, [], get_or, Result, Ok, Err}
+use Rattle.std.specs.Prelude.{◌≡◌, ◌⊎◌, ℕ, ◌-◌, ◌≤◌, List, [], get_or, true, Result, Ok, Err}
 use Rattle.std.specs.Io.KnownBytes.{Appends, Keeps}
 use Rattle.gq_base.specs.Plain.{Graph}
 use Rattle.gq_execute.specs.declared.settings.Settings.{Settings}
@@ -9,6 +9,8 @@ use Rattle.gq_io.specs.declared.Failed.{Failed}
 use Rattle.gq_loader.specs.declared.LoadStop.{LoadStop}
 use Rattle.gq_loader.specs.declared.LoadStop.TheVariants as load
 use Rattle.gq_reply.specs.Replies.{Context, IsTurn}
+use Rattle.gq_pool.specs.Pool.{spare_of}
+use Rattle.gq_reply.specs.declared.replier.Workspace.{Workspace}
 use Rattle.gq_sample.specs.Questions.{questions}
 use Rattle.gq_session.specs.Replies.{Answered, Wrote, WroteFront}
 use Rattle.gq_session.specs.Sessions.{Session, Span}
@@ -21,6 +23,7 @@ use Rattle.gq_shell.specs.Questions.{IsNumbered}
 use Rattle.gq_shell.specs.steps.Statuses.{status_of}
 use Rattle.gq_shell.specs.declared.status.Status.{Status}
 use Rattle.gq_shell.specs.declared.status.Status.TheVariants as status
+use Rattle.gq_tokens.specs.Parameters.{are_params}
 use Rattle.gq_tokens.specs.declared.params.Param.{Param}
 
 -- the status of a run that ended with a line
@@ -77,3 +80,7 @@ Quizzed size settings out answer =
 pub record AskedOne (c : Context) (number : ℕ) (before after : List Param) (out : Span) (result : Result Tone Failed) : Type 0 where
   pub bytes : Answered (IsNumbered c before (question_of number)) after out.old out.new result
   pub cause : HasCause out.before out.now result
+
+-- a session can go on with this workspace: a pipeline has room in its pool, and its parameters are few and distinct
+abbrev pub IsReady : Workspace → Type 0
+IsReady w = (112 ≤ spare_of w.pool) × (are_params w.params ≡ true)

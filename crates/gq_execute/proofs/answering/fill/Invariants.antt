@@ -1,16 +1,21 @@
 use Rattle.std.proofs.Common.{◌≡◌, List, ℕ, take}
 use Rattle.gq_binder.specs.Binding.{IsBound}
+use Rattle.gq_pool.specs.Pool.{spare_of}
 use Rattle.gq_execute.specs.Answering.{question}
-use Rattle.gq_execute.specs.steps.Answering.{Came}
+use Rattle.gq_execute.specs.Planned.{sizes}
+use Rattle.gq_execute.specs.steps.Answering.{Came, Spends}
 use Rattle.gq_rows.specs.Tables.{StandsForSome}
 use Rattle.gq_syntax.specs.declared.Query.{Query}
 use Rattle.gq_execute.proofs.answering.fill.Given as goal
 
 abbrev pub invariant-alternatives : goal.invariant-alternatives
 invariant-alternatives l = record {
+  stats : l.stats ≡ sizes l.graph;
   bound : l.table.bound ≡ l.bound;
   most : l.table.most ≡ l.settings.rows;
   some : StandsForSome l.table;
+  slots : spare_of l.pool ≡ spare_of l.initial.pool;
+  spends : Spends l.graph l.bound l.settings.order (take l.typed-index l.bound.alternatives) l.table l.spent;
   came : (query : Query) (text : List ℕ) → IsBound query text l.graph.catalog l.bound
       → Came (question l.graph query l.bound l.settings) (take l.typed-index l.bound.alternatives) l.table;
 }

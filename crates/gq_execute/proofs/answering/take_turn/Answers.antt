@@ -1,37 +1,99 @@
-use Rattle.std.proofs.Common.{◌∙◌, ap, sym, Some}
+use Rattle.std.proofs.Common.{◌∙◌, ◌++◌, ◌∷◌, [], ap, sym, subst, Some, arith, length}
+use Rattle.std.proofs.lemmas.List.FromFn.{length-map-range_with_len}
+use Rattle.gq_order.specs.declared.stats.Stats.{Stats}
+use Rattle.gq_pipe.specs.Bound.{binds_all}
 use Rattle.gq_pipe.specs.Limits.{sides_within}
-use Rattle.gq_pipe.specs.Progress.{Source}
+use Rattle.gq_pipe.specs.Progress.{Source, plan_in}
+use Rattle.gq_plan.proofs.ColumnBounds.{columns_bound}
+use Rattle.gq_plan.proofs.StepEquations.{plan_is}
 use Rattle.gq_plan.specs.Plans.{plan_of}
+use Rattle.gq_rows.specs.Answers.{cut_of}
 use Rattle.gq_rows.specs.Tables.{Table}
+use Rattle.gq_execute.specs.Planned.{IsPlanIn}
+use Rattle.gq_execute.proofs.Begins.{plan_begins}
 use Rattle.gq_execute.proofs.Parting.{sides_light, sides_refused}
 use Rattle.gq_pipe.proofs.Assigned.{covers_bind_all}
-use Rattle.gq_execute.proofs.Turning.{turned}
+use Rattle.gq_execute.proofs.Turning.{own_counted, own_keys, own_spent, turn_spent, turn_stops, turned}
 use Rattle.gq_execute.proofs.answering.take_turn.Goals as goal
+
+pub plan_for-requires-clause-nodes : goal.plan_for-requires-clause-nodes
+plan_for-requires-clause-nodes c = ap (λ (s : Stats). length s.nodes) c.requires.stats ∙ length-map-range_with_len _ 0 _
+
+pub plan_for-requires-clause-rels : goal.plan_for-requires-clause-rels
+plan_for-requires-clause-rels c = ap (λ (s : Stats). length s.rels) c.requires.stats ∙ length-map-range_with_len _ 0 _
+
+pub start-requires-clause-begins : goal.start-requires-clause-begins
+start-requires-clause-begins c =
+    let made = c.in_ok-planned.ensures in
+    plan_begins c.args.graph.now.catalog c.args.typed.now c.args.settings.now.order c.args.stats.now _ _ made.plan c.requires.begins made.covers
+
+pub start-requires-clause-room : goal.start-requires-clause-room
+start-requires-clause-room c =
+    let few = columns_bound c.args.graph.now.catalog c.args.typed.now (plan_of c.in_ok-planned.planned.plan) c.requires.sound c.in_ok-planned.ensures.covers.fits in
+    omega (arith, few, c.requires.slots, c.make_builds.ensures.pool)
 
 pub returns-in-Err : goal.returns-in-Err
 returns-in-Err c = record {
-  drains = rw c.from.ensures (sides_refused c.args.graph.now c.args.settings.now.order c.args.typed.now c.args.table.now.bound c.args.table.now c.args.table.now (plan_of c.in_ok-plan.plan)
-      c.catalog.ensures.valid c.requires.sound c.in_ok-plan.ensures.parts c.in_ok-plan.ensures.alone c.requires.most c.in-Err.refusal c.in-Err.ensures.refused);
+  drains = rw c.from.ensures (sides_refused c.args.graph.now c.args.settings.now.order c.args.typed.now c.args.table.now.bound c.args.table.now c.args.table.now (plan_of c.in_ok-planned.planned.plan)
+      c.catalog.ensures.valid c.requires.sound c.in_ok-planned.ensures.parts c.in_ok-planned.ensures.alone c.requires.most c.in-Err.refusal c.in-Err.ensures.refused);
+  spends = tt;
+  slots = c.make_builds.ensures.pool;
 }
 
-pub drain-requires-clause-run : goal.drain-requires-clause-run
-drain-requires-clause-run c =
+pub drain-drained-requires-clause-run : goal.drain-drained-requires-clause-run
+drain-drained-requires-clause-run c =
     let p = c.in_ok-pipeline.ensures in
     record {
       graph = ap (λ (s : Source). s.graph) p.source;
       alternative = ap (λ (t : Table). t.alternative) c.start_alternative.ensures ∙ ap (λ (s : Source). Some s.typed) (sym p.source);
-      complete = p.complete ∙ covers_bind_all _ _ _ c.in_ok-plan.ensures.covers;
+      complete = ap (λ (s : Source). binds_all s.typed (plan_in s)) p.source ∙ ap (binds_all c.args.typed.now) (sym (plan_is c.in_ok-planned.planned.plan)) ∙ covers_bind_all _ _ _ c.in_ok-planned.ensures.covers;
     }
 
-pub returns : goal.returns
-returns c =
+pub returns-in-Err-drained-clause-drains : goal.returns-in-Err-drained-clause-drains
+returns-in-Err-drained-clause-drains c =
     let p = c.in_ok-pipeline.ensures in
     let g = c.args.graph.now in
     let y = c.args.typed.now in
-    let plan = plan_of c.in_ok-plan.plan in
+    let plan = plan_of c.in_ok-planned.planned.plan in
     let few = ap (λ m. sides_within g y m plan) (sym c.requires.most) ∙ c.in-Ok.ensures.few in
-    let light = sides_light g c.args.settings.now.order y c.args.table.now.most plan c.catalog.ensures.valid c.requires.sound c.in_ok-plan.ensures.parts c.in_ok-plan.ensures.alone few in
+    let light = sides_light g c.args.settings.now.order y c.args.table.now.most plan c.catalog.ensures.valid c.requires.sound c.in_ok-planned.ensures.parts c.in_ok-planned.ensures.alone few in
+    turn_stops g c.args.settings.now.order y c.args.table.now c.drain-drained.new.table plan c.in_ok-planned.ensures.covers light c.start_alternative.new.self c.in_ok-pipeline.pipeline
+    c.start_alternative.ensures (ap (λ (s : Source). s.typed) p.source) p.meaning c.in-Err-drained.refusal c.in-Err-drained.ensures.takes
+
+pub returns-clause-drains : goal.returns-clause-drains
+returns-clause-drains c =
+    let p = c.in_ok-pipeline.ensures in
+    let g = c.args.graph.now in
+    let y = c.args.typed.now in
+    let plan = plan_of c.in_ok-planned.planned.plan in
+    let few = ap (λ m. sides_within g y m plan) (sym c.requires.most) ∙ c.in-Ok.ensures.few in
+    let light = sides_light g c.args.settings.now.order y c.args.table.now.most plan c.catalog.ensures.valid c.requires.sound c.in_ok-planned.ensures.parts c.in_ok-planned.ensures.alone few in
+    turned g c.args.settings.now.order y c.args.table.now c.drain-drained.new.table plan c.in_ok-planned.ensures.covers light c.start_alternative.new.self c.in_ok-pipeline.pipeline
+    c.start_alternative.ensures (ap (λ (s : Source). s.typed) p.source) p.meaning c.in-Ok-drained.ensures.takes
+
+pub returns-clause-spends : goal.returns-clause-spends
+returns-clause-spends c =
+    let p = c.in_ok-pipeline.ensures in
+    let g = c.args.graph.now in
+    let y = c.args.typed.now in
+    let order = c.args.settings.now.order in
+    let plan = plan_of c.in_ok-planned.planned.plan in
+    let costs = c.in_ok-planned.planned.costs in
+    let made = c.in_ok-planned.ensures in
+    let start = c.start_alternative.new.self in
+    let new = c.drain-drained.new.table in
+    let begun = c.in_ok-pipeline.pipeline in
+    let now = c.drain-drained.new.pipeline in
+    let own = c.finish-own.result in
+    let ends = c.in-Ok-drained.ensures in
+    let same_bound = ends.takes.alike.bound ∙ ap (λ (t : Table). t.bound) c.start_alternative.ensures in
     record {
-      drains = turned g c.args.settings.now.order y c.args.table.now c.drain.new.table plan c.in_ok-plan.ensures.covers light c.start_alternative.new.self c.in_ok-pipeline.pipeline c.drain.result
-          c.start_alternative.ensures (ap (λ (s : Source). s.typed) p.source) p.owed c.drain.ensures.takes;
+      turn = record { sides = c.in-Ok.builds.spent; own = own };
+      is = turn_spent g c.args.table.now.bound order y plan costs c.in-Ok.builds.spent own (subst (λ (s : Stats). IsPlanIn order g.catalog s y plan costs) c.requires.stats made.plan) made.covers made.alone c.in-Ok.ensures.spent
+          (own_spent g y plan start new begun now own p.meaning p.keys p.columns ends.ran c.drain-drained.ensures.columns c.finish-own.ensures.chunks c.finish-own.ensures.columns)
+          (λ uncut. own_keys g y plan start new begun now own p.meaning p.keys p.columns ends.ran c.drain-drained.ensures.columns c.finish-own.ensures.chunks c.finish-own.ensures.columns (ap cut_of same_bound ∙ uncut));
+      all = c.in_ok-push.ensures.pushed ∙ ap (λ l. l ++ own ∷ []) c.into_spent-spent.ensures;
+      chunks = λ before h.
+          own_counted g y plan start new begun now own p.meaning p.keys p.columns ends.ran c.drain-drained.ensures.columns c.finish-own.ensures.chunks c.finish-own.ensures.columns before
+          (ap (λ (t : Table). t.pushed) c.start_alternative.ensures ∙ h);
     }

@@ -1,18 +1,10 @@
-use Rattle.std.proofs.Common.{◌∙◌, ◌-◌, sym, ap, arith}
-use Rattle.std.specs.Prelude.{slice_index}
-use Rattle.std.specs.List.{range_with_len}
-use Rattle.std.proofs.lemmas.List.{get_or_past}
-use Rattle.std.proofs.lemmas.List.FromFn.{get_or-range_with_len, length-range_with_len}
+use Rattle.std.proofs.Common.{None, Some, ◌∙◌, sym}
 use Rattle.gq_group.specs.Pieces.{items_of}
+use Rattle.gq_pipe.proofs.Filling.{found_or}
 use Rattle.gq_pipe.proofs.columns.item_at.Goals as goal
 
-pub returns-then-position-saturating_sub : goal.returns-then-position-saturating_sub
-returns-then-position-saturating_sub c =
-    let low = c.if-position-saturating_sub.true in
-    sym (ap (λ p. slice_index (items_of p) c.args.position) c.in-Span.is ∙ get_or-range_with_len c.in-Span.low (c.in-Span.high - c.in-Span.low) c.args.position 0 (omega (arith, low, c.saturating_sub.ensures)))
+pub returns-in-None : goal.returns-in-None
+returns-in-None c = found_or (items_of c.args.piece) c.args.position 0 None (sym c.in-None.is ∙ c.item_of.ensures)
 
-pub returns-else-position-saturating_sub : goal.returns-else-position-saturating_sub
-returns-else-position-saturating_sub c =
-    let high = c.if-position-saturating_sub.false in
-    let many = length-range_with_len c.in-Span.low (c.in-Span.high - c.in-Span.low) in
-    sym (ap (λ p. slice_index (items_of p) c.args.position) c.in-Span.is ∙ get_or_past (range_with_len c.in-Span.low (c.in-Span.high - c.in-Span.low)) c.args.position 0 (omega (arith, high, many, c.saturating_sub.ensures)))
+pub returns-in-Some : goal.returns-in-Some
+returns-in-Some c = found_or (items_of c.args.piece) c.args.position 0 (Some c.in-Some.item) (sym c.in-Some.is ∙ c.item_of.ensures)

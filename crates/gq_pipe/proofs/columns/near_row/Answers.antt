@@ -22,11 +22,11 @@ row_at-requires-clause-row c =
     let slot : c.index-slots-column.result ≡ slice_index c.args.slots.now c.in-Column.column = c.index-slots-column.is ∙ get_or_default c.args.slots.now c.in-Column.column c.index-slots-column.result 0 here.inside in
     subst (λ s. IsRow (cell_at c.args.pool.now s c.args.position)) (sym slot) here.row
 
-pub returns-then-group-filling : goal.returns-then-group-filling
-returns-then-group-filling c =
+pub returns-then-group-leading : goal.returns-then-group-leading
+returns-then-group-leading c =
     let home = sym c.home_of.ensures ∙ c.in-Item.is in
-    let same : c.in-Item.group ≡ c.args.filling.group = c.if-group-filling.true in
+    let same : c.in-Item.group ≡ c.args.leading.group = c.if-group-leading.true in
     let low = c.requires.group in
     c.item_at.ensures
-    ∙ sym (seen_item c.args.row.now c.args.groups.now c.args.pool.now c.args.slots.now c.args.filling.group c.args.filling.from c.args.position c.in-Item.group _ _ home same
+    ∙ sym (seen_item c.args.row.now c.args.groups.now c.args.pool.now c.args.slots.now c.args.leading.group c.args.leading.from c.args.position c.in-Item.group _ _ home same
     (slice_get-get_or c.args.groups.now c.in-Item.group c.index-groups-group.result (omega (arith, low, same))))

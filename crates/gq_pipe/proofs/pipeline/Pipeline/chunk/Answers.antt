@@ -1,10 +1,10 @@
 use Rattle.std.proofs.Common.{◌≡◌, ◌∙◌, true, map, sym, subst}
 use Rattle.gq_group.specs.Chunks.{IsChunkOf, chunk_meaning}
+use Rattle.gq_plan.specs.Arranged.{arranged}
 use Rattle.gq_plan.specs.Meaning.{nothing, whole}
 use Rattle.gq_plan.specs.Rows.{assigned}
 use Rattle.gq_pipe.specs.Bound.{binds_all}
 use Rattle.gq_pipe.specs.Levels.{given}
-use Rattle.gq_pipe.specs.Plain.{ArePlain}
 use Rattle.gq_pipe.specs.Progress.{plan_in}
 use Rattle.gq_pipe.specs.Rest.{Rest}
 use Rattle.gq_pipe.specs.Serving.{Serves}
@@ -17,7 +17,7 @@ pub returns-clause-chunk : goal.returns-clause-chunk
 returns-clause-chunk c =
     subst (λ (r : Rest). IsChunkOf r.source.graph r.source.typed c.chunk_of.result) c.self.view_is
     (chunk_is c.self.inside c.self.invariant
-    (subst (λ (r : Rest). r.standing ≡ true) (sym c.self.view_is) c.requires.standing) (subst (λ (r : Rest). ArePlain r.source) (sym c.self.view_is) c.requires.plain)
+    (subst (λ (r : Rest). r.standing ≡ true) (sym c.self.view_is) c.requires.standing)
     c.chunk_of.result (c.chunk_of.ensures.groups ∙ c.as_slice-groups.ensures.value) c.chunk_of.ensures.homes (c.chunk_of.ensures.slots ∙ c.as_slice.ensures.value)
     (subst (λ (r : Rest). Serves r c.chunk_of.result.pool.now) (sym c.self.view_is) (subst (Serves c.args.self.now) (sym c.chunk_of.ensures.pool) c.requires.serves)))
 
@@ -25,7 +25,7 @@ pub returns-clause-binds : goal.returns-clause-binds
 returns-clause-binds c =
     subst (λ (r : Rest). map (λ row. given r.source.typed row (plan_in r.source) nothing) (chunk_meaning r.source.graph r.source.typed c.chunk_of.result) ≡ r.chunk) c.self.view_is
     (binds_is c.self.inside c.self.invariant
-    (subst (λ (r : Rest). r.standing ≡ true) (sym c.self.view_is) c.requires.standing) (subst (λ (r : Rest). ArePlain r.source) (sym c.self.view_is) c.requires.plain)
+    (subst (λ (r : Rest). r.standing ≡ true) (sym c.self.view_is) c.requires.standing)
     c.chunk_of.result (c.chunk_of.ensures.groups ∙ c.as_slice-groups.ensures.value) c.chunk_of.ensures.homes (c.chunk_of.ensures.slots ∙ c.as_slice.ensures.value)
     (subst (λ (r : Rest). Serves r c.chunk_of.result.pool.now) (sym c.self.view_is) (subst (Serves c.args.self.now) (sym c.chunk_of.ensures.pool) c.requires.serves)))
 
@@ -33,14 +33,14 @@ pub returns-clause-whole : goal.returns-clause-whole
 returns-clause-whole c =
     subst (λ (r : Rest). binds_all r.source.typed (plan_in r.source) ≡ true → map (assigned r.source.typed) (chunk_meaning r.source.graph r.source.typed c.chunk_of.result) ≡ map (whole r.source.typed) r.chunk) c.self.view_is
     (whole_is c.self.inside c.self.invariant
-    (subst (λ (r : Rest). r.standing ≡ true) (sym c.self.view_is) c.requires.standing) (subst (λ (r : Rest). ArePlain r.source) (sym c.self.view_is) c.requires.plain)
+    (subst (λ (r : Rest). r.standing ≡ true) (sym c.self.view_is) c.requires.standing)
     c.chunk_of.result (c.chunk_of.ensures.groups ∙ c.as_slice-groups.ensures.value) c.chunk_of.ensures.homes (c.chunk_of.ensures.slots ∙ c.as_slice.ensures.value)
     (subst (λ (r : Rest). Serves r c.chunk_of.result.pool.now) (sym c.self.view_is) (subst (Serves c.args.self.now) (sym c.chunk_of.ensures.pool) c.requires.serves)))
 
 pub returns-clause-shape : goal.returns-clause-shape
 returns-clause-shape c =
-    subst (λ (r : Rest). AreShown r.source.graph r.source.typed (groups_of (plan_in r.source)) r.flats c.chunk_of.result.groups.now) c.self.view_is
+    subst (λ (r : Rest). AreShown r.source.graph r.source.typed (groups_of (arranged r.source.typed (plan_in r.source))) r.flats c.chunk_of.result.groups.now) c.self.view_is
     (shape_is c.self.inside c.self.invariant
-    (subst (λ (r : Rest). r.standing ≡ true) (sym c.self.view_is) c.requires.standing) (subst (λ (r : Rest). ArePlain r.source) (sym c.self.view_is) c.requires.plain)
+    (subst (λ (r : Rest). r.standing ≡ true) (sym c.self.view_is) c.requires.standing)
     c.chunk_of.result (c.chunk_of.ensures.groups ∙ c.as_slice-groups.ensures.value) c.chunk_of.ensures.homes (c.chunk_of.ensures.slots ∙ c.as_slice.ensures.value)
     (subst (λ (r : Rest). Serves r c.chunk_of.result.pool.now) (sym c.self.view_is) (subst (Serves c.args.self.now) (sym c.chunk_of.ensures.pool) c.requires.serves)))

@@ -15,7 +15,7 @@ use Rattle.gq_pipe.specs.steps.Chunks.{list_of, matches_in, part}
 use Rattle.gq_group.specs.declared.piece.Piece.TheVariants as piece
 use Rattle.gq_pipe.specs.Shown.{HasForm}
 use Rattle.gq_pipe.specs.steps.Levels.{step_at}
-use Rattle.gq_pipe.specs.steps.Moves.{run_of, IsRun}
+use Rattle.gq_pipe.specs.steps.Moves.{run_of, IsRun, steps_in, builds_in}
 use Rattle.gq_pipe.specs.steps.Outcomes.{CanList}
 use Rattle.gq_pipe.specs.declared.plan_run.Follow.{Follow}
 use Rattle.gq_pipe.specs.declared.plan_run.PlanRun.{PlanRun}
@@ -24,13 +24,13 @@ use Rattle.gq_pipe.proofs.Piecing.{listed_is}
 use Rattle.gq_pipe.proofs.Tried.{step_is, low_step, scan_low, extend_can, extend_goes, close_can, close_goes}
 use Rattle.gq_pipe.proofs.plan_run.PlanRun.piece.Goals as goal
 
-join_step : (k : PlanRun) (d : ℕ) → d < length k.steps.now → (side : code_plan.Plan) (keys : List ℕ) (x : code.Step) → slice_index_or k.steps.now d x ≡ code.Join side keys → step_at (run_of k) d ≡ Join (plan_of side) keys
+join_step : (k : PlanRun) (d : ℕ) → d < length (steps_in k) → (side : code_plan.Plan) (keys : List ℕ) (x : code.Step) → slice_index_or (steps_in k) d x ≡ code.Join side keys → step_at (run_of k) d ≡ Join (plan_of side) keys
 join_step k d low side keys x is = step_is k d low x (code.Join side keys) (Join (plan_of side) keys) is (join_is side keys)
 
-build_low : (k : PlanRun) → IsRun (run_of k) → (d : ℕ) → d < length k.steps.now → d < length k.builds.now
-build_low k run d low = let many = builds_many k.graph.now k.typed.now (run_of k).steps k.builds.now run.builds in let same : length (run_of k).steps ≡ length k.steps.now = rw length-map refl in omega (arith, low, many, same)
+build_low : (k : PlanRun) → IsRun (run_of k) → (d : ℕ) → d < length (steps_in k) → d < length (builds_in k)
+build_low k run d low = let many = builds_many k.graph.now k.typed.now (run_of k).steps (builds_in k) run.builds in let same : length (run_of k).steps ≡ length (steps_in k) = rw length-map refl in omega (arith, low, many, same)
 
-no_group : (k : PlanRun) (d : ℕ) → d < length k.steps.now → makes_group (step_at (run_of k) d) ≡ true → (x s : code.Step) (t : Step) → slice_index_or k.steps.now d x ≡ s → step_of s ≡ t → makes_group t ≡ false → ⊥
+no_group : (k : PlanRun) (d : ℕ) → d < length (steps_in k) → makes_group (step_at (run_of k) d) ≡ true → (x s : code.Step) (t : Step) → slice_index_or (steps_in k) d x ≡ s → step_of s ≡ t → makes_group t ≡ false → ⊥
 no_group k d low makes x s t is same none = true≢false (sym makes ∙ ap makes_group (step_is k d low x s t is same) ∙ none)
 
 -- a part of a range
@@ -57,71 +57,71 @@ part_range n first high low is =
     ap (range_with_len first) e ∙ ap (λ b. range_with_len b (min 1024 (n - first))) (sym z) ∙ sym (take_range (0 + first) (n - first) 1024) ∙ ap (take 1024) (sym (drop_range 0 n first low))
 
 pub row_count-requires-clause-node : goal.row_count-requires-clause-node
-row_count-requires-clause-node c = scan_low (run_of c.args.self.now) c.requires.run c.args.depth (low_step c.args.self.now c.args.depth c.requires.depth) c.args.row.now c.requires.held c.in-Scan.node (step_is c.args.self.now c.args.depth c.requires.depth _ (code.Scan c.in-Scan.node) (Scan c.in-Scan.node) c.in-Scan.is (scan_is c.in-Scan.node))
+row_count-requires-clause-node c = scan_low (run_of c.args.self.now) c.requires.run c.args.depth (low_step c.args.self.now c.args.depth c.requires.depth) c.args.row.now c.requires.held c.in-Scan.node (step_is c.args.self.now c.args.depth c.requires.depth _ (code.Scan c.in-Scan.node) (Scan c.in-Scan.node) (c.step.ensures ∙ c.in-Scan.is) (scan_is c.in-Scan.node))
 
 pub end_of-requires : goal.end_of-requires
 end_of-requires c =
-    let inside = subst (λ t. c.args.first ≤ length (list_of (run_of c.args.self.now) c.args.depth c.args.row.now t)) (step_is c.args.self.now c.args.depth c.requires.depth _ (code.Scan c.in-Scan.node) (Scan c.in-Scan.node) c.in-Scan.is (scan_is c.in-Scan.node)) c.requires.first in
+    let inside = subst (λ t. c.args.first ≤ length (list_of (run_of c.args.self.now) c.args.depth c.args.row.now t)) (step_is c.args.self.now c.args.depth c.requires.depth _ (code.Scan c.in-Scan.node) (Scan c.in-Scan.node) (c.step.ensures ∙ c.in-Scan.is) (scan_is c.in-Scan.node)) c.requires.first in
     omega (arith, inside, c.row_count.ensures, length-range_with_len 0 c.row_count.result, ap (λ n. length (range_with_len 0 n)) c.row_count.ensures)
 
 pub returns-in-Scan : goal.returns-in-Scan
 returns-in-Scan c = record {
-  form = subst (λ t. HasForm t (piece.Span c.args.first c.end_of.result)) (sym (step_is c.args.self.now c.args.depth c.requires.depth _ (code.Scan c.in-Scan.node) (Scan c.in-Scan.node) c.in-Scan.is (scan_is c.in-Scan.node))) tt;
+  form = subst (λ t. HasForm t (piece.Span c.args.first c.end_of.result)) (sym (step_is c.args.self.now c.args.depth c.requires.depth _ (code.Scan c.in-Scan.node) (Scan c.in-Scan.node) (c.step.ensures ∙ c.in-Scan.is) (scan_is c.in-Scan.node))) tt;
   first_is = refl;
   items_are = part_range c.row_count.result c.args.first c.end_of.result
-      (let inside = subst (λ t. c.args.first ≤ length (list_of (run_of c.args.self.now) c.args.depth c.args.row.now t)) (step_is c.args.self.now c.args.depth c.requires.depth _ (code.Scan c.in-Scan.node) (Scan c.in-Scan.node) c.in-Scan.is (scan_is c.in-Scan.node)) c.requires.first in
+      (let inside = subst (λ t. c.args.first ≤ length (list_of (run_of c.args.self.now) c.args.depth c.args.row.now t)) (step_is c.args.self.now c.args.depth c.requires.depth _ (code.Scan c.in-Scan.node) (Scan c.in-Scan.node) (c.step.ensures ∙ c.in-Scan.is) (scan_is c.in-Scan.node)) c.requires.first in
       omega (arith, inside, c.row_count.ensures, length-range_with_len 0 c.row_count.result, ap (λ n. length (range_with_len 0 n)) c.row_count.ensures))
       c.end_of.ensures
       ∙ ap (λ n. part (range_with_len 0 n) c.args.first) c.row_count.ensures
-      ∙ ap (λ t. part (list_of (run_of c.args.self.now) c.args.depth c.args.row.now t) c.args.first) (sym (step_is c.args.self.now c.args.depth c.requires.depth _ (code.Scan c.in-Scan.node) (Scan c.in-Scan.node) c.in-Scan.is (scan_is c.in-Scan.node)));
+      ∙ ap (λ t. part (list_of (run_of c.args.self.now) c.args.depth c.args.row.now t) c.args.first) (sym (step_is c.args.self.now c.args.depth c.requires.depth _ (code.Scan c.in-Scan.node) (Scan c.in-Scan.node) (c.step.ensures ∙ c.in-Scan.is) (scan_is c.in-Scan.node)));
 }
 
 pub list-requires : goal.list-requires
 list-requires c =
     subst (λ (f : Follow). CanList c.args.self.now.graph.now c.args.self.now.typed.now c.args.row.now f) (sym c.following.ensures)
     (record {
-      follow = extend_can (run_of c.args.self.now) c.requires.run c.args.depth (low_step c.args.self.now c.args.depth c.requires.depth) c.args.row.now c.requires.held false c.in-Extend.rel c.in-Extend.from c.in-Extend.to c.in-Extend.direction (step_is c.args.self.now c.args.depth c.requires.depth _ (code.Extend c.in-Extend.rel c.in-Extend.from c.in-Extend.to c.in-Extend.direction) (Extend false c.in-Extend.rel c.in-Extend.from c.in-Extend.to c.in-Extend.direction) c.in-Extend.is (extend_is c.in-Extend.rel c.in-Extend.from c.in-Extend.to c.in-Extend.direction));
-      listed = listed_is (run_of c.args.self.now) c.in-Extend.from c.in-Extend.to c.in-Extend.rel c.in-Extend.direction (extend_goes (run_of c.args.self.now) c.requires.run c.args.depth (low_step c.args.self.now c.args.depth c.requires.depth) c.args.row.now c.requires.held false c.in-Extend.rel c.in-Extend.from c.in-Extend.to c.in-Extend.direction (step_is c.args.self.now c.args.depth c.requires.depth _ (code.Extend c.in-Extend.rel c.in-Extend.from c.in-Extend.to c.in-Extend.direction) (Extend false c.in-Extend.rel c.in-Extend.from c.in-Extend.to c.in-Extend.direction) c.in-Extend.is (extend_is c.in-Extend.rel c.in-Extend.from c.in-Extend.to c.in-Extend.direction)));
+      follow = extend_can (run_of c.args.self.now) c.requires.run c.args.depth (low_step c.args.self.now c.args.depth c.requires.depth) c.args.row.now c.requires.held false c.in-Extend.rel c.in-Extend.from c.in-Extend.to c.in-Extend.direction (step_is c.args.self.now c.args.depth c.requires.depth _ (code.Extend c.in-Extend.rel c.in-Extend.from c.in-Extend.to c.in-Extend.direction) (Extend false c.in-Extend.rel c.in-Extend.from c.in-Extend.to c.in-Extend.direction) (c.step.ensures ∙ c.in-Extend.is) (extend_is c.in-Extend.rel c.in-Extend.from c.in-Extend.to c.in-Extend.direction));
+      listed = listed_is (run_of c.args.self.now) c.in-Extend.from c.in-Extend.to c.in-Extend.rel c.in-Extend.direction (extend_goes (run_of c.args.self.now) c.requires.run c.args.depth (low_step c.args.self.now c.args.depth c.requires.depth) c.args.row.now c.requires.held false c.in-Extend.rel c.in-Extend.from c.in-Extend.to c.in-Extend.direction (step_is c.args.self.now c.args.depth c.requires.depth _ (code.Extend c.in-Extend.rel c.in-Extend.from c.in-Extend.to c.in-Extend.direction) (Extend false c.in-Extend.rel c.in-Extend.from c.in-Extend.to c.in-Extend.direction) (c.step.ensures ∙ c.in-Extend.is) (extend_is c.in-Extend.rel c.in-Extend.from c.in-Extend.to c.in-Extend.direction)));
     })
 
 pub part-requires : goal.part-requires
 part-requires c =
     subst (λ l. c.args.first ≤ length l)
-    (ap (list_of (run_of c.args.self.now) c.args.depth c.args.row.now) (step_is c.args.self.now c.args.depth c.requires.depth _ (code.Extend c.in-Extend.rel c.in-Extend.from c.in-Extend.to c.in-Extend.direction) (Extend false c.in-Extend.rel c.in-Extend.from c.in-Extend.to c.in-Extend.direction) c.in-Extend.is (extend_is c.in-Extend.rel c.in-Extend.from c.in-Extend.to c.in-Extend.direction))
+    (ap (list_of (run_of c.args.self.now) c.args.depth c.args.row.now) (step_is c.args.self.now c.args.depth c.requires.depth _ (code.Extend c.in-Extend.rel c.in-Extend.from c.in-Extend.to c.in-Extend.direction) (Extend false c.in-Extend.rel c.in-Extend.from c.in-Extend.to c.in-Extend.direction) (c.step.ensures ∙ c.in-Extend.is) (extend_is c.in-Extend.rel c.in-Extend.from c.in-Extend.to c.in-Extend.direction))
     ∙ sym (c.list.ensures.value ∙ ap (λ (f : Follow). neighbours c.args.self.now.graph.now (rel_table c.args.self.now.typed.now f.rel) f.direction (slice_index c.args.row.now.nodes f.from)) c.following.ensures))
     c.requires.first
 
 pub returns-in-Extend : goal.returns-in-Extend
 returns-in-Extend c = record {
-  form = subst (λ t. HasForm t (piece.List c.part.result c.args.first)) (sym (step_is c.args.self.now c.args.depth c.requires.depth _ (code.Extend c.in-Extend.rel c.in-Extend.from c.in-Extend.to c.in-Extend.direction) (Extend false c.in-Extend.rel c.in-Extend.from c.in-Extend.to c.in-Extend.direction) c.in-Extend.is (extend_is c.in-Extend.rel c.in-Extend.from c.in-Extend.to c.in-Extend.direction))) tt;
+  form = subst (λ t. HasForm t (piece.List c.part.result c.args.first)) (sym (step_is c.args.self.now c.args.depth c.requires.depth _ (code.Extend c.in-Extend.rel c.in-Extend.from c.in-Extend.to c.in-Extend.direction) (Extend false c.in-Extend.rel c.in-Extend.from c.in-Extend.to c.in-Extend.direction) (c.step.ensures ∙ c.in-Extend.is) (extend_is c.in-Extend.rel c.in-Extend.from c.in-Extend.to c.in-Extend.direction))) tt;
   first_is = refl;
   items_are = c.part.ensures
       ∙ ap (λ l. part l c.args.first) (c.list.ensures.value ∙ ap (λ (f : Follow). neighbours c.args.self.now.graph.now (rel_table c.args.self.now.typed.now f.rel) f.direction (slice_index c.args.row.now.nodes f.from)) c.following.ensures
-      ∙ ap (list_of (run_of c.args.self.now) c.args.depth c.args.row.now) (sym (step_is c.args.self.now c.args.depth c.requires.depth _ (code.Extend c.in-Extend.rel c.in-Extend.from c.in-Extend.to c.in-Extend.direction) (Extend false c.in-Extend.rel c.in-Extend.from c.in-Extend.to c.in-Extend.direction) c.in-Extend.is (extend_is c.in-Extend.rel c.in-Extend.from c.in-Extend.to c.in-Extend.direction))));
+      ∙ ap (list_of (run_of c.args.self.now) c.args.depth c.args.row.now) (sym (step_is c.args.self.now c.args.depth c.requires.depth _ (code.Extend c.in-Extend.rel c.in-Extend.from c.in-Extend.to c.in-Extend.direction) (Extend false c.in-Extend.rel c.in-Extend.from c.in-Extend.to c.in-Extend.direction) (c.step.ensures ∙ c.in-Extend.is) (extend_is c.in-Extend.rel c.in-Extend.from c.in-Extend.to c.in-Extend.direction))));
 }
 
 pub list-requires-in-Close : goal.list-requires-in-Close
 list-requires-in-Close c =
     subst (λ (f : Follow). CanList c.args.self.now.graph.now c.args.self.now.typed.now c.args.row.now f) (sym c.following-in-Close.ensures)
     (record {
-      follow = close_can (run_of c.args.self.now) c.requires.run c.args.depth (low_step c.args.self.now c.args.depth c.requires.depth) c.args.row.now c.requires.held false c.in-Close.rel c.in-Close.from c.in-Close.to c.in-Close.direction (step_is c.args.self.now c.args.depth c.requires.depth _ (code.Close c.in-Close.rel c.in-Close.from c.in-Close.to c.in-Close.direction) (Close false c.in-Close.rel c.in-Close.from c.in-Close.to c.in-Close.direction) c.in-Close.is (close_is c.in-Close.rel c.in-Close.from c.in-Close.to c.in-Close.direction));
-      listed = listed_is (run_of c.args.self.now) c.in-Close.from c.in-Close.to c.in-Close.rel c.in-Close.direction (close_goes (run_of c.args.self.now) c.requires.run c.args.depth (low_step c.args.self.now c.args.depth c.requires.depth) c.args.row.now c.requires.held false c.in-Close.rel c.in-Close.from c.in-Close.to c.in-Close.direction (step_is c.args.self.now c.args.depth c.requires.depth _ (code.Close c.in-Close.rel c.in-Close.from c.in-Close.to c.in-Close.direction) (Close false c.in-Close.rel c.in-Close.from c.in-Close.to c.in-Close.direction) c.in-Close.is (close_is c.in-Close.rel c.in-Close.from c.in-Close.to c.in-Close.direction)));
+      follow = close_can (run_of c.args.self.now) c.requires.run c.args.depth (low_step c.args.self.now c.args.depth c.requires.depth) c.args.row.now c.requires.held false c.in-Close.rel c.in-Close.from c.in-Close.to c.in-Close.direction (step_is c.args.self.now c.args.depth c.requires.depth _ (code.Close c.in-Close.rel c.in-Close.from c.in-Close.to c.in-Close.direction) (Close false c.in-Close.rel c.in-Close.from c.in-Close.to c.in-Close.direction) (c.step.ensures ∙ c.in-Close.is) (close_is c.in-Close.rel c.in-Close.from c.in-Close.to c.in-Close.direction));
+      listed = listed_is (run_of c.args.self.now) c.in-Close.from c.in-Close.to c.in-Close.rel c.in-Close.direction (close_goes (run_of c.args.self.now) c.requires.run c.args.depth (low_step c.args.self.now c.args.depth c.requires.depth) c.args.row.now c.requires.held false c.in-Close.rel c.in-Close.from c.in-Close.to c.in-Close.direction (step_is c.args.self.now c.args.depth c.requires.depth _ (code.Close c.in-Close.rel c.in-Close.from c.in-Close.to c.in-Close.direction) (Close false c.in-Close.rel c.in-Close.from c.in-Close.to c.in-Close.direction) (c.step.ensures ∙ c.in-Close.is) (close_is c.in-Close.rel c.in-Close.from c.in-Close.to c.in-Close.direction)));
     })
 
 pub part-requires-in-Close : goal.part-requires-in-Close
 part-requires-in-Close c =
     subst (λ l. c.args.first ≤ length l)
-    (ap (list_of (run_of c.args.self.now) c.args.depth c.args.row.now) (step_is c.args.self.now c.args.depth c.requires.depth _ (code.Close c.in-Close.rel c.in-Close.from c.in-Close.to c.in-Close.direction) (Close false c.in-Close.rel c.in-Close.from c.in-Close.to c.in-Close.direction) c.in-Close.is (close_is c.in-Close.rel c.in-Close.from c.in-Close.to c.in-Close.direction))
+    (ap (list_of (run_of c.args.self.now) c.args.depth c.args.row.now) (step_is c.args.self.now c.args.depth c.requires.depth _ (code.Close c.in-Close.rel c.in-Close.from c.in-Close.to c.in-Close.direction) (Close false c.in-Close.rel c.in-Close.from c.in-Close.to c.in-Close.direction) (c.step.ensures ∙ c.in-Close.is) (close_is c.in-Close.rel c.in-Close.from c.in-Close.to c.in-Close.direction))
     ∙ sym (c.list-in-Close.ensures.value ∙ ap (λ (f : Follow). neighbours c.args.self.now.graph.now (rel_table c.args.self.now.typed.now f.rel) f.direction (slice_index c.args.row.now.nodes f.from)) c.following-in-Close.ensures))
     c.requires.first
 
 pub returns-in-Close : goal.returns-in-Close
 returns-in-Close c = record {
-  form = subst (λ t. HasForm t (piece.List c.part-in-Close.result c.args.first)) (sym (step_is c.args.self.now c.args.depth c.requires.depth _ (code.Close c.in-Close.rel c.in-Close.from c.in-Close.to c.in-Close.direction) (Close false c.in-Close.rel c.in-Close.from c.in-Close.to c.in-Close.direction) c.in-Close.is (close_is c.in-Close.rel c.in-Close.from c.in-Close.to c.in-Close.direction))) tt;
+  form = subst (λ t. HasForm t (piece.List c.part-in-Close.result c.args.first)) (sym (step_is c.args.self.now c.args.depth c.requires.depth _ (code.Close c.in-Close.rel c.in-Close.from c.in-Close.to c.in-Close.direction) (Close false c.in-Close.rel c.in-Close.from c.in-Close.to c.in-Close.direction) (c.step.ensures ∙ c.in-Close.is) (close_is c.in-Close.rel c.in-Close.from c.in-Close.to c.in-Close.direction))) tt;
   first_is = refl;
   items_are = c.part-in-Close.ensures
       ∙ ap (λ l. part l c.args.first) (c.list-in-Close.ensures.value ∙ ap (λ (f : Follow). neighbours c.args.self.now.graph.now (rel_table c.args.self.now.typed.now f.rel) f.direction (slice_index c.args.row.now.nodes f.from)) c.following-in-Close.ensures
-      ∙ ap (list_of (run_of c.args.self.now) c.args.depth c.args.row.now) (sym (step_is c.args.self.now c.args.depth c.requires.depth _ (code.Close c.in-Close.rel c.in-Close.from c.in-Close.to c.in-Close.direction) (Close false c.in-Close.rel c.in-Close.from c.in-Close.to c.in-Close.direction) c.in-Close.is (close_is c.in-Close.rel c.in-Close.from c.in-Close.to c.in-Close.direction))));
+      ∙ ap (list_of (run_of c.args.self.now) c.args.depth c.args.row.now) (sym (step_is c.args.self.now c.args.depth c.requires.depth _ (code.Close c.in-Close.rel c.in-Close.from c.in-Close.to c.in-Close.direction) (Close false c.in-Close.rel c.in-Close.from c.in-Close.to c.in-Close.direction) (c.step.ensures ∙ c.in-Close.is) (close_is c.in-Close.rel c.in-Close.from c.in-Close.to c.in-Close.direction))));
 }
 
 pub build_at-requires : goal.build_at-requires
@@ -130,34 +130,34 @@ build_at-requires c = build_low c.args.self.now c.requires.run c.args.depth c.re
 pub matches_of-requires : goal.matches_of-requires
 matches_of-requires c =
     subst (λ (h : Held). All (λ v. v < length c.args.row.now.nodes) h.keys)
-    (there (run_of c.args.self.now) c.requires.run c.args.depth (low_step c.args.self.now c.args.depth c.requires.depth) c.args.row.now c.requires.held (plan_of c.in-Join.side) c.in-Join.keys (join_step c.args.self.now c.args.depth c.requires.depth c.in-Join.side c.in-Join.keys _ c.in-Join.is) None c.in-Some.build.now (build_low c.args.self.now c.requires.run c.args.depth c.requires.depth) (sym c.in-Some.ensures))
-    (can_join (run_of c.args.self.now) c.requires.run c.args.depth (low_step c.args.self.now c.args.depth c.requires.depth) c.args.row.now c.requires.held (plan_of c.in-Join.side) c.in-Join.keys (join_step c.args.self.now c.args.depth c.requires.depth c.in-Join.side c.in-Join.keys _ c.in-Join.is)).keys
+    (there (run_of c.args.self.now) c.requires.run c.args.depth (low_step c.args.self.now c.args.depth c.requires.depth) c.args.row.now c.requires.held (plan_of c.in-Join.side) c.in-Join.keys (join_step c.args.self.now c.args.depth c.requires.depth c.in-Join.side c.in-Join.keys _ (c.step.ensures ∙ c.in-Join.is)) None c.in-Some.build.now (build_low c.args.self.now c.requires.run c.args.depth c.requires.depth) (sym c.in-Some.ensures))
+    (can_join (run_of c.args.self.now) c.requires.run c.args.depth (low_step c.args.self.now c.args.depth c.requires.depth) c.args.row.now c.requires.held (plan_of c.in-Join.side) c.in-Join.keys (join_step c.args.self.now c.args.depth c.requires.depth c.in-Join.side c.in-Join.keys _ (c.step.ensures ∙ c.in-Join.is))).keys
 
 -- the matches are the whole list
 pub part-requires-in-Some : goal.part-requires-in-Some
 part-requires-in-Some c =
     subst (λ l. c.args.first ≤ length l)
-    (ap (list_of (run_of c.args.self.now) c.args.depth c.args.row.now) (join_step c.args.self.now c.args.depth c.requires.depth c.in-Join.side c.in-Join.keys _ c.in-Join.is)
+    (ap (list_of (run_of c.args.self.now) c.args.depth c.args.row.now) (join_step c.args.self.now c.args.depth c.requires.depth c.in-Join.side c.in-Join.keys _ (c.step.ensures ∙ c.in-Join.is))
     ∙ ap (λ o. matches_in o c.args.row.now) (sym c.in-Some.ensures) ∙ sym c.matches_of.ensures.value)
     c.requires.first
 
 pub returns-in-Some : goal.returns-in-Some
 returns-in-Some c = record {
-  form = subst (λ t. HasForm t (piece.Matches c.part-in-Some.result c.args.first)) (sym (join_step c.args.self.now c.args.depth c.requires.depth c.in-Join.side c.in-Join.keys _ c.in-Join.is)) tt;
+  form = subst (λ t. HasForm t (piece.Matches c.part-in-Some.result c.args.first)) (sym (join_step c.args.self.now c.args.depth c.requires.depth c.in-Join.side c.in-Join.keys _ (c.step.ensures ∙ c.in-Join.is))) tt;
   first_is = refl;
   items_are = c.part-in-Some.ensures
       ∙ ap (λ l. part l c.args.first) (c.matches_of.ensures.value ∙ ap (λ o. matches_in o c.args.row.now) c.in-Some.ensures
-      ∙ ap (list_of (run_of c.args.self.now) c.args.depth c.args.row.now) (sym (join_step c.args.self.now c.args.depth c.requires.depth c.in-Join.side c.in-Join.keys _ c.in-Join.is)));
+      ∙ ap (list_of (run_of c.args.self.now) c.args.depth c.args.row.now) (sym (join_step c.args.self.now c.args.depth c.requires.depth c.in-Join.side c.in-Join.keys _ (c.step.ensures ∙ c.in-Join.is))));
 }
 
 pub unreachable-requires : goal.unreachable-requires
 unreachable-requires c =
-    not_none (run_of c.args.self.now) c.requires.run c.args.depth (low_step c.args.self.now c.args.depth c.requires.depth) c.args.row.now c.requires.held (plan_of c.in-Join.side) c.in-Join.keys (join_step c.args.self.now c.args.depth c.requires.depth c.in-Join.side c.in-Join.keys _ c.in-Join.is) None
+    not_none (run_of c.args.self.now) c.requires.run c.args.depth (low_step c.args.self.now c.args.depth c.requires.depth) c.args.row.now c.requires.held (plan_of c.in-Join.side) c.in-Join.keys (join_step c.args.self.now c.args.depth c.requires.depth c.in-Join.side c.in-Join.keys _ (c.step.ensures ∙ c.in-Join.is)) None
     (build_low c.args.self.now c.requires.run c.args.depth c.requires.depth) (sym c.in-None.ensures)
 
 pub unreachable-requires-in-ColumnExtend : goal.unreachable-requires-in-ColumnExtend
 unreachable-requires-in-ColumnExtend c =
-    let not_one : (s : code.Step) (t : Step) → slice_index_or c.args.self.now.steps.now c.args.depth c.index-self-depth.result ≡ s → step_of s ≡ t → makes_group t ≡ false → ⊥ = no_group c.args.self.now c.args.depth c.requires.depth c.requires.makes c.index-self-depth.result in
+    let not_one : (s : code.Step) (t : Step) → c.step.result.now ≡ s → step_of s ≡ t → makes_group t ≡ false → ⊥ = λ s t is. no_group c.args.self.now c.args.depth c.requires.depth c.requires.makes c.step.result.now s t (c.step.ensures ∙ is) in
     elim c.in-ColumnExtend.is [
       | inl e ↦ not_one (code.ColumnExtend e.0 e.1 e.2 e.3) (Extend true e.0 e.1 e.2 e.3) e.4 (column_extend_is e.0 e.1 e.2 e.3) refl
       | inr e ↦ not_one (code.ColumnClose e.0 e.1 e.2 e.3) (Close true e.0 e.1 e.2 e.3) e.4 (column_close_is e.0 e.1 e.2 e.3) refl
@@ -165,7 +165,7 @@ unreachable-requires-in-ColumnExtend c =
 
 pub unreachable-requires-in-Keep : goal.unreachable-requires-in-Keep
 unreachable-requires-in-Keep c =
-    let not_one : (s : code.Step) (t : Step) → slice_index_or c.args.self.now.steps.now c.args.depth c.index-self-depth.result ≡ s → step_of s ≡ t → makes_group t ≡ false → ⊥ = no_group c.args.self.now c.args.depth c.requires.depth c.requires.makes c.index-self-depth.result in
+    let not_one : (s : code.Step) (t : Step) → c.step.result.now ≡ s → step_of s ≡ t → makes_group t ≡ false → ⊥ = λ s t is. no_group c.args.self.now c.args.depth c.requires.depth c.requires.makes c.step.result.now s t (c.step.ensures ∙ is) in
     elim c.in-Keep.is [
       | inl e ↦ not_one (code.Keep e.0) (Keep e.0) e.1 (keep_is e.0) refl
       | inr f ↦ elim f [ inl e ↦ not_one (code.Differ e.0) (Differ e.0) e.1 (differ_is e.0) refl | inr e ↦ not_one (code.NoLoop e.0) (NoLoop e.0) e.1 (no_loop_is e.0) refl ]

@@ -25,10 +25,10 @@ pub reply_to_syntax-requires-clause-cause : goal.reply_to_syntax-requires-clause
 reply_to_syntax-requires-clause-cause g c = (c.in-Err-Syntax.ensures.syntax _).0 (ap Err c.in-Err-Syntax.field-0-is)
 
 pub returns-in-Err-Syntax-clause-replies : goal.returns-in-Err-Syntax-clause-replies
-returns-in-Err-Syntax-clause-replies g c = c.reply_to_syntax.ensures.replies c.args.params.now
+returns-in-Err-Syntax-clause-replies g c = c.reply_to_syntax.ensures.replies c.args.workspace.now.params
 
 pub returns-in-Err-Syntax-clause-behind : goal.returns-in-Err-Syntax-clause-behind
-returns-in-Err-Syntax-clause-behind g c = for_one (λ params t. AreBehind params c.args.statement.now t params) c.args.params.now _ c.reply_to_syntax.ensures.blank
+returns-in-Err-Syntax-clause-behind g c = for_one (λ params t. AreBehind params c.args.statement.now t params) c.args.workspace.now.params _ c.reply_to_syntax.ensures.blank
 
 pub returns-in-Err-UnknownParameter-clause-replies : goal.returns-in-Err-UnknownParameter-clause-replies
 returns-in-Err-UnknownParameter-clause-replies g c =

@@ -8,10 +8,8 @@ use Rattle.gq_plan.specs.Plans.{plan_of}
 use Rattle.gq_plan.specs.Soundness.{IsSound}
 use Rattle.gq_plan.specs.declared.Plan as code_plan
 use Rattle.gq_plan.specs.declared.Typed.{Typed}
-use Rattle.gq_explain.specs.Plans.{plan_text}
 use Rattle.gq_reply.proofs.Replying.{as_many, columns_long, replied}
-use Rattle.gq_reply.specs.Replies.{context_of}
-use Rattle.gq_reply.specs.ReplyTexts.{columns_each}
+use Rattle.gq_reply.specs.ReplyTexts.{columns_each, plans_text}
 use Rattle.gq_session.specs.declared.answering.Tone.TheVariants as tone
 use Rattle.gq_reply.proofs.replier.Replier.reply_to_plan.Goals as goal
 
@@ -25,7 +23,7 @@ all_fit catalog (y ∷ ys) (p ∷ ps) sound covers =
 
 pub column_counts-requires : goal.column_counts-requires
 column_counts-requires g c =
-    rw (c.as_slice-alternatives.ensures, c.as_slice.ensures) (all_fit c.args.self.now.graph.now.catalog c.args.bound.now.alternatives c.in-Ok.plans c.requires.sound c.in-Ok.ensures.covers)
+    rw (c.as_slice-alternatives.ensures, c.as_slice.ensures) (all_fit c.args.self.now.graph.now.catalog c.args.bound.now.alternatives c.in-Ok.made.plans c.requires.sound c.in-Ok.ensures.covers)
 
 pub returns-in_default : goal.returns-in_default
 returns-in_default g c = replied _ tone.Memory _ refl _ _ c.write_all.ensures.bytes c.write_all.ensures.cause _ c.toned.ensures
@@ -33,15 +31,21 @@ returns-in_default g c = replied _ tone.Memory _ refl _ _ c.write_all.ensures.by
 pub returns-in_default-column_counts : goal.returns-in_default-column_counts
 returns-in_default-column_counts g c = replied _ tone.Memory _ refl _ _ c.write_all-in_default-column_counts.ensures.bytes c.write_all-in_default-column_counts.ensures.cause _ c.toned-in_default-column_counts.ensures
 
-pub write_plan-requires-clause-columns : goal.write_plan-requires-clause-columns
-write_plan-requires-clause-columns g c =
-    let counts : c.in-Ok-column_counts.counts ≡ columns_each c.args.bound.now.alternatives c.in-Ok.plans =
+pub write_plans-requires-clause-plans : goal.write_plans-requires-clause-plans
+write_plans-requires-clause-plans g c = as_many c.args.self.now.graph.now.catalog c.args.bound.now _ c.in-Ok.ensures.covers
+
+pub write_plans-requires-clause-columns : goal.write_plans-requires-clause-columns
+write_plans-requires-clause-columns g c =
+    let counts : c.in-Ok-column_counts.counts ≡ columns_each c.args.bound.now.alternatives c.in-Ok.made.plans =
     c.in-Ok-column_counts.ensures ∙ ap (λ ys. columns_each ys c.as_slice.result.now) c.as_slice-alternatives.ensures ∙ ap (λ ps. columns_each c.args.bound.now.alternatives ps) c.as_slice.ensures in
-    ap length counts ∙ columns_long _ _ (as_many (context_of c.args.self.now) c.args.bound.now _ c.in-Ok.ensures.plans)
+    ap length counts ∙ columns_long _ _ (as_many c.args.self.now.graph.now.catalog c.args.bound.now _ c.in-Ok.ensures.covers)
 
 pub returns : goal.returns
 returns g c =
-    let counts : c.in-Ok-column_counts.counts ≡ columns_each c.args.bound.now.alternatives c.in-Ok.plans =
+    let counts : c.in-Ok-column_counts.counts ≡ columns_each c.args.bound.now.alternatives c.in-Ok.made.plans =
     c.in-Ok-column_counts.ensures ∙ ap (λ ys. columns_each ys c.as_slice.result.now) c.as_slice-alternatives.ensures ∙ ap (λ ps. columns_each c.args.bound.now.alternatives ps) c.as_slice.ensures in
-    replied _ tone.Good _ (record { plans = c.in-Ok.plans; are = c.in-Ok.ensures.plans; covers = c.in-Ok.ensures.covers; is = ap (plan_text c.args.bound.now c.args.self.now.graph.now.catalog c.in-Ok.plans) counts })
-    _ _ c.write_plan.ensures.bytes c.write_plan.ensures.cause _ c.toned-2.ensures
+    let settings = c.args.self.now.settings in
+    let made = c.in-Ok.made in
+    replied _ tone.Good _
+    (record { plans = made.plans; costs = made.costs; are = c.in-Ok.ensures.plans; covers = c.in-Ok.ensures.covers; is = ap (λ n. plans_text settings.order c.args.bound.now c.args.self.now.graph.now.catalog made.plans n made.costs) counts })
+    _ _ c.write_plans.ensures.bytes c.write_plans.ensures.cause _ c.toned-2.ensures

@@ -1,22 +1,25 @@
 use Rattle.std.proofs.Common.{inl, inr, refl}
-use Rattle.gq_reply.proofs.Replying.{replied}
+use Rattle.gq_reply.proofs.Replying.{answered, replied}
+use Rattle.gq_reply.specs.Replies.{context_of}
 use Rattle.gq_session.specs.declared.answering.Tone.TheVariants as tone
 use Rattle.gq_reply.proofs.replier.Replier.reply_to_query.Goals as goal
 
-pub returns-in-Ok : goal.returns-in-Ok
-returns-in-Ok g c = λ query statement is.
-    replied _ tone.Good _ (c.in-Ok.listing.lines, c.in-Ok.ensures.permitted query statement is, refl) _ _ c.write_rows.ensures.bytes c.write_rows.ensures.cause _ c.toned.ensures
+pub returns-in-Ok-clause-asks : goal.returns-in-Ok-clause-asks
+returns-in-Ok-clause-asks g c = λ query statement is.
+    let found = c.in-Ok.found in
+    let text = answered (context_of c.args.self.now) c.args.profiled query c.args.bound.now found.spent found.listing.pushed found.listing.lines (c.in-Ok.ensures.spends query statement is) in
+    replied _ tone.Good _ (found.listing.lines, c.in-Ok.ensures.permitted query statement is, text) _ _ c.write_answer.ensures.bytes c.write_answer.ensures.cause _ c.toned.ensures
 
-pub returns-in-Err-Fault : goal.returns-in-Err-Fault
-returns-in-Err-Fault g c = λ query statement is.
+pub returns-in-Err-Fault-clause-asks : goal.returns-in-Err-Fault-clause-asks
+returns-in-Err-Fault-clause-asks g c = λ query statement is.
     let permitted = rw c.in-Err-Fault.field-0-is at c.in-Err-Fault.ensures.permitted query statement is in
     replied _ tone.Refused _ (inl (c.in-Err-Fault.fault, permitted, refl)) _ _ c.write_fault.ensures.bytes c.write_fault.ensures.cause _ c.toned-in-Err-Fault.ensures
 
-pub returns-in-Err-TooManyRows : goal.returns-in-Err-TooManyRows
-returns-in-Err-TooManyRows g c = λ query statement is.
+pub returns-in-Err-TooManyRows-clause-asks : goal.returns-in-Err-TooManyRows-clause-asks
+returns-in-Err-TooManyRows-clause-asks g c = λ query statement is.
     let permitted = rw c.in-Err-TooManyRows.field-0-is at c.in-Err-TooManyRows.ensures.permitted query statement is in
     replied _ tone.Refused _ (inr (permitted.1, refl)) _ _ c.write_many.ensures.bytes c.write_many.ensures.cause _ c.toned-in-Err-TooManyRows.ensures
 
-pub returns-in-Err-Memory : goal.returns-in-Err-Memory
-returns-in-Err-Memory g c = λ query statement is.
+pub returns-in-Err-Memory-clause-asks : goal.returns-in-Err-Memory-clause-asks
+returns-in-Err-Memory-clause-asks g c = λ query statement is.
     replied _ tone.Memory _ refl _ _ c.write_all.ensures.bytes c.write_all.ensures.cause _ c.toned-in-Err-Memory.ensures

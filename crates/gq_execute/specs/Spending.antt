@@ -1,0 +1,67 @@
+-- What the pipelines spend that answer a query (this project's profile).
+use Rattle.std.specs.Prelude.{◌≡◌, ℕ, ◌+◌, Option, None, Result, Ok, Err, List, [], ◌∷◌, ◌++◌, flat_map, length, sum_by, if◌then◌else◌}
+use Rattle.std.specs.List.{AllZip}
+use Rattle.gq_base.specs.Plain.{Graph}
+use Rattle.gq_binder.specs.Binding.{IsBound}
+use Rattle.gq_pipe.specs.Spending.{HasOneEach, HasSpent, HasSpentAll, up_to_most}
+use Rattle.gq_pipe.specs.declared.pipeline.Spent.{Spent}
+use Rattle.gq_plan.specs.Covers.{Covers}
+use Rattle.gq_plan.specs.Parts.{sides}
+use Rattle.gq_plan.specs.Plans.{Plan}
+use Rattle.gq_plan.specs.declared.Bound.{Bound}
+use Rattle.gq_plan.specs.declared.Typed.{Typed}
+use Rattle.gq_rows.specs.Answers.{cut_of, rows_in}
+use Rattle.gq_syntax.specs.declared.Query.{Query}
+use Rattle.gq_execute.specs.Answering.{question}
+use Rattle.gq_execute.specs.Planned.{IsPlanIn, sizes}
+use Rattle.gq_execute.specs.Replies.{Question, has_turn, outcomes_in}
+use Rattle.gq_execute.specs.declared.found.Answer.{Answer}
+use Rattle.gq_execute.specs.declared.refusal.AnswerRefusal.{AnswerRefusal}
+use Rattle.gq_execute.specs.declared.settings.Order.{Order}
+use Rattle.gq_execute.specs.declared.settings.Settings.{Settings}
+
+-- the alternatives whose turn comes, where so many rows stand before them
+abbrev pub with_turns : Question → ℕ → List Typed → List Typed
+with_turns a before [] = []
+with_turns a before (y ∷ ys) =
+    let later = with_turns a (before + length (rows_in (outcomes_in a y))) ys in
+    if has_turn (cut_of a.bound) before then y ∷ later else later
+
+-- what the pipelines of an alternative spent: those of its side plans, in the order of the joins, and its own
+pub record Turn : Type 0 where
+  pub sides : List Spent
+  pub own : Spent
+
+-- the same one after another
+abbrev pub spent_in : List Turn → List Spent
+spent_in turns = flat_map (λ (t : Turn). t.sides ++ t.own ∷ []) turns
+
+-- the chunks of the alternatives' own pipelines
+abbrev pub own_chunks : List Turn → ℕ
+own_chunks turns = sum_by (λ (t : Turn). t.own.chunks) turns
+
+-- the plan of an alternative, which covers it, and what its pipelines spent; its own hands out all where all outcomes are
+-- looked at
+pub record IsTurn (g : Graph) (b : Bound) (order : Order) (y : Typed) (t : Turn) : Type 0 where
+  pub plan : Plan
+  pub costs : List (Option ℕ)
+  pub planned : IsPlanIn order g.catalog (sizes g) y plan costs
+  pub covers : Covers g.catalog y plan
+  pub sides : AllZip (HasSpentAll g y) (sides plan) t.sides
+  pub own : HasSpent g y plan t.own
+  pub one_each : cut_of b ≡ None → HasOneEach g y plan t.own
+
+-- what all pipelines spent: those of the alternatives whose turn comes; the chunks with a row that were pushed are those of
+-- the alternatives' own pipelines
+pub record AreSpent (a : Question) (spent : List Spent) (pushed : ℕ) : Type 0 where
+  pub turns : List Turn
+  pub each : AllZip (IsTurn a.graph a.bound a.order) (with_turns a 0 a.bound.alternatives) turns
+  pub all : spent ≡ spent_in turns
+  pub chunks : pushed ≡ up_to_most (own_chunks turns)
+
+-- the same for each query that is bound so
+abbrev pub SpendsToEach : Graph → Bound → Settings → Result Answer AnswerRefusal → Type 0
+SpendsToEach g bound settings (Ok found) =
+    (query : Query) (text : List ℕ) → IsBound query text g.catalog bound
+    → AreSpent (question g query bound settings) found.spent found.listing.pushed
+SpendsToEach g bound settings (Err refused) = Unit {0}

@@ -1,0 +1,183 @@
+-- A plan that is started: its steps run in the order of its groups, and what is owed is what the plan means.
+use Rattle.std.proofs.Common.{◌≡◌, ◌∙◌, ℕ, zero, suc, ◌+◌, ◌<◌, ◌≤◌, Bool, true, false, Option, None, List, [], ◌∷◌, map, length, take, get_or, refl, sym, ap, ap₂, subst, arith}
+use Rattle.std.specs.Prelude.{slice_index_or, All, IsPermutation}
+use Rattle.std.specs.List.{AllByRecursion, range_with_len, sum_by}
+use Rattle.std.proofs.lemmas.List.{length-map, take_all}
+use Rattle.std.proofs.lemmas.List.FromFn.{get_or-map-range_with_len, length-map-range_with_len}
+use Rattle.std.proofs.lemmas.List.Elements.{recursion_from_All}
+use Rattle.std.proofs.lemmas.List.Sorted.{IsPermutation-map, IsPermutation-sym, IsPermutation-trans}
+use Rattle.gq_arrange.proofs.Loops.{steps_back}
+use Rattle.gq_arrange.specs.Law.{IsArranged}
+use Rattle.gq_base.specs.Catalogs.{Tables}
+use Rattle.gq_base.specs.Plain.{Graph}
+use Rattle.gq_base.specs.Valid.{is_valid}
+use Rattle.gq_group.specs.declared.home.Homes.{Homes}
+use Rattle.gq_join.specs.Kept.{Held}
+use Rattle.gq_law_groups.proofs.Moved.{same_plans}
+use Rattle.gq_law_groups.specs.Groups.{decode}
+use Rattle.gq_law_groups.specs.Law.{read_all}
+use Rattle.gq_law_groups.specs.Layout.{AreFlatEnough}
+use Rattle.gq_plan.proofs.StepEquations.{plan_is}
+use Rattle.gq_plan.specs.Arranged.{arranged, arranged_flat, at_numbers, flags_of, in_order, order_of}
+use Rattle.gq_plan.specs.Assignments as plain
+use Rattle.gq_plan.specs.Columns.{columns_of, own_columns, steps_of}
+use Rattle.gq_plan.specs.Covers.{Fits}
+use Rattle.gq_plan.specs.Flat.{is_flat}
+use Rattle.gq_plan.specs.Known.{none}
+use Rattle.gq_plan.specs.Meaning.{Partial, mean, nothing}
+use Rattle.gq_plan.specs.Plans.{Plan, Step, plan_of, steps, step_of}
+use Rattle.gq_plan.specs.Shapes.{places}
+use Rattle.gq_plan.specs.Soundness.{IsSound}
+use Rattle.gq_plan.specs.declared.assignment.Assignment.{Assignment}
+use Rattle.gq_plan.specs.declared.plan.Plan as code_plan
+use Rattle.gq_plan.specs.declared.typed.Typed.{Typed}
+use Rattle.gq_walks.specs.Layouts.{keys, walks}
+use Rattle.gq_pipe.specs.Built.{AreBuilds}
+use Rattle.gq_pipe.specs.Keys.{keys_with, no_rows, plan_keys}
+use Rattle.gq_pipe.specs.Levels.{given}
+use Rattle.gq_pipe.specs.steps.Cuts.{begins, flag, groups_of, IsCutTo}
+use Rattle.gq_pipe.specs.steps.Given.{RunsPlan, bound_by, given_plan, numbers_of}
+use Rattle.gq_pipe.specs.steps.Homes.{AreHomes}
+use Rattle.gq_pipe.specs.steps.Levels.{Run}
+use Rattle.gq_pipe.specs.steps.Lists.{IsGrouped, groups_in, layout_in, rows_in}
+use Rattle.gq_pipe.specs.steps.Moves.{IsRun, builds_in, run_of, steps_in}
+use Rattle.gq_pipe.specs.declared.homes.Filling.{Filling}
+use Rattle.gq_pipe.specs.declared.places.GroupSteps.{GroupSteps}
+use Rattle.gq_pipe.specs.declared.plan_run.PlanRun.{PlanRun}
+use Rattle.gq_pipe.proofs.Flags.{flags_keys}
+use Rattle.gq_pipe.proofs.InOrder.{builds_ordered, ordered_sum, same_bound, still_flat}
+use Rattle.gq_pipe.proofs.Rebinding.{bound_self}
+use Rattle.gq_pipe.proofs.Resting.{flats_are, grouped, keys_are, owed_mean, some_group}
+
+map_map : {X Y Z : Type 0} (f : Y → Z) (h : X → Y) (xs : List X) → map f (map h xs) ≡ map (λ x. f (h x)) xs
+map_map f h [] = refl
+map_map f h (x ∷ xs) = ap (λ l. f (h x) ∷ l) (map_map f h xs)
+
+map_self : {X : Type 0} (f : X → X) (xs : List X) → AllByRecursion (λ x. f x ≡ x) xs → map f xs ≡ xs
+map_self f [] h = refl
+map_self f (x ∷ xs) h = ap₂ ◌∷◌ h.0 (map_self f xs h.1)
+
+-- a list is its items, one after another
+pub all_got : {X : Type 0} (d : X) (xs : List X) → map (λ i. get_or xs i d) (range_with_len 0 (length xs)) ≡ xs
+all_got {X = X} d xs = from xs 0 (λ i. get_or xs i d) (λ i low. let e : 0 + i ≡ i = omega arith in ap (λ j. get_or xs j d) e)
+  where
+    from : (ys : List X) (a : ℕ) (f : ℕ → X) → ((i : ℕ) → i < length ys → f (a + i) ≡ get_or ys i d) → map f (range_with_len a (length ys)) ≡ ys
+    from [] a f h = refl
+    from (y ∷ ys) a f h =
+        let here : a + 0 ≡ a = omega arith in
+        ap₂ ◌∷◌ (ap f (sym here) ∙ h 0 (omega arith)) (from ys (a + 1) f (λ i low. (let next : a + 1 + i ≡ a + suc i = omega arith in ap f next ∙ h (suc i) (omega (arith, low)))))
+
+-- what runs are the steps of a plan and their builds, in the order of its groups
+pub record IsStarted (k : PlanRun) (p : code_plan.Plan) (os : List (Option Held)) (order : List ℕ) (flat : List Bool) : Type 0 where
+  pub valid : is_valid k.graph.now ≡ true
+  pub sound : IsSound k.graph.now.catalog k.typed.now
+  pub fits : Fits k.graph.now.catalog k.typed.now (plan_of p)
+  pub builds : AreBuilds k.graph.now k.typed.now (plan_of p) os
+  pub plan : k.plan.now ≡ p.steps
+  pub order_is : order ≡ order_of k.typed.now (plan_of p)
+  pub flat_is : flat ≡ flags_of k.typed.now (plan_of p)
+  pub within : All (λ n. n < length p.steps) order
+  pub arranged : IsArranged k.graph.now.catalog k.typed.now (plan_of p) order flat
+  pub steps_are : map step_of (steps_in k) ≡ at_numbers (map step_of p.steps) order
+  pub builds_are : builds_in k ≡ map (λ n. slice_index_or os n None) order
+
+module _ (k : PlanRun) (p : code_plan.Plan) (os : List (Option Held)) (order : List ℕ) (flat : List Bool) (s : IsStarted k p os order flat) where
+  abbrev c : Run
+  c = run_of k
+
+  abbrev g : Graph
+  g = k.graph.now
+
+  abbrev y : Typed
+  y = k.typed.now
+
+  pub plan_same : plan_of p ≡ given_plan k
+  plan_same = plan_is p ∙ ap (λ ss. steps (map step_of ss)) (sym s.plan)
+
+  steps_same : steps_of (plan_of p) ≡ map step_of p.steps
+  steps_same = ap steps_of (plan_is p) ∙ steps_back (map step_of p.steps)
+
+  -- the plan that runs
+  runs_are : steps c.steps ≡ in_order (plan_of p) order
+  runs_are = ap steps s.steps_are ∙ ap (λ ss. steps (at_numbers ss order)) (sym steps_same)
+
+  runs_arranged : steps c.steps ≡ arranged y (plan_of p)
+  runs_arranged = runs_are ∙ ap (in_order (plan_of p)) s.order_is
+
+  fits_run : Fits g.catalog y (steps c.steps)
+  fits_run = subst (Fits g.catalog y) (sym runs_are) s.arranged.fits
+
+  pub run : IsRun c
+  run = record {
+    valid = s.valid;
+    sound = s.sound;
+    fits = fits_run;
+    builds = subst (AreBuilds g y (steps c.steps)) (sym s.builds_are)
+        (subst (λ ss. AreBuilds g y (steps ss) (map (λ n. slice_index_or os n None) order)) (sym s.steps_are)
+        (builds_ordered g y (map step_of p.steps) os order (subst (λ q. AreBuilds g y q os) (plan_is p) s.builds)
+        (subst (λ n. AllByRecursion (λ m. m < n) order) (sym (length-map p.steps step_of)) (recursion_from_All (λ n. n < length p.steps) order s.within))));
+  }
+
+  pub runs_plan : RunsPlan k
+  runs_plan = record {
+    order = runs_arranged ∙ ap (arranged y) plan_same;
+    bound = ap (λ q. Rattle.gq_plan.specs.Covers.after q none) (sym plan_same) ∙ same_bound g.catalog y (plan_of p) (in_order (plan_of p) order) s.fits s.arranged.fits (IsPermutation-sym _ _ s.arranged.placed)
+        ∙ ap (λ q. Rattle.gq_plan.specs.Covers.after q none) (sym runs_are);
+  }
+
+  pub begins_run : begins (steps c.steps) ≡ true
+  begins_run = ap begins runs_are ∙ s.arranged.begins
+
+  pub enough_run : AreFlatEnough g.catalog y (flag flat) 0 (groups_of (steps c.steps)) none
+  enough_run = subst (λ q. AreFlatEnough g.catalog y (flag flat) 0 (groups_of q) none) (sym runs_are) s.arranged.enough
+
+  many_groups : length (groups_of (steps c.steps)) ≡ length flat
+  many_groups = ap (λ q. length (groups_of q)) runs_are ∙ s.arranged.count
+
+  -- there are no more columns than the plan counts
+  pub columns_held : (ss : List GroupSteps) (n : ℕ) (fs : List Filling) (h : Homes) (held : ℕ) → held ≡ columns_of y (plan_of p) → AreHomes c ss n (length c.steps) fs h → length fs ≤ held
+  columns_held ss n fs h held is homes =
+      let few = homes.few in
+      let whole : sum_by (own_columns y) (take (length c.steps) c.steps) ≡ sum_by (own_columns y) (steps_of (plan_of p)) =
+      ap (sum_by (own_columns y)) (take_all (length c.steps) c.steps (omega arith) ∙ s.steps_are ∙ ap (λ ss. at_numbers ss order) (sym steps_same))
+      ∙ ordered_sum (own_columns y) (steps_of (plan_of p)) order s.arranged.each in
+      omega (arith, few, whole, is)
+
+  module _ (ss : List GroupSteps) (cut : IsCutTo c.steps flat ss (length c.steps)) where
+    pub grouped_run : IsGrouped c ss
+    grouped_run = grouped c run flat ss cut begins_run enough_run
+
+    pub some_run : 0 < length ss
+    some_run = some_group c run flat ss cut begins_run enough_run
+
+    -- what is owed, as the plan binds it
+    pub owed_given : IsPermutation (map (λ w. bound_by y (given_plan k) (decode g y (rows_in c ss) 0 (groups_in c ss) nothing w)) (walks (layout_in c ss) (length ss) [])) (mean g y (plan_of p) nothing)
+    owed_given =
+        let all = mean g y (plan_of p) nothing in
+        let own = mean g y (steps c.steps) nothing in
+        let there : bound_by y (given_plan k) ≡ bound_by y (plan_of p) = ap (bound_by y) (sym plan_same) in
+        let asked : Rattle.gq_plan.specs.Assignments.Assignment → Partial = λ t. given y (numbers_of t) (plan_of p) nothing in
+        subst (λ (f : Partial → Partial). IsPermutation (map (λ w. f (decode g y (rows_in c ss) 0 (groups_in c ss) nothing w)) (walks (layout_in c ss) (length ss) [])) all) (sym there)
+        (subst (λ es. IsPermutation es all) (map_map (bound_by y (plan_of p)) (decode g y (rows_in c ss) 0 (groups_in c ss) nothing) (walks (layout_in c ss) (length ss) []))
+        (IsPermutation-trans _ _ _ (IsPermutation-map (bound_by y (plan_of p)) _ _ (owed_mean c run flat ss cut begins_run enough_run))
+        (subst (λ es. IsPermutation es all) (map_map asked (read_all y) own)
+        (subst (IsPermutation (map asked (map (read_all y) own))) (map_map asked (read_all y) all ∙ map_self (bound_by y (plan_of p)) all (bound_self g y (plan_of p) s.valid s.sound s.fits))
+        (IsPermutation-map asked _ _ (same_plans g y (steps c.steps) (plan_of p) s.valid s.sound fits_run s.fits (subst (λ q. IsPermutation (Rattle.gq_plan.specs.Covers.placed q) (Rattle.gq_plan.specs.Covers.placed (plan_of p))) (sym runs_are) s.arranged.placed)))))))
+
+    -- a group is flat as the arrangement tells
+    told : (j : ℕ) → j < length (groups_of (steps c.steps)) → flag flat j ≡ arranged_flat y (plan_of p) j
+    told j low =
+        let many : length flat ≡ (places (plan_of p)).count = ap length s.flat_is ∙ length-map-range_with_len (arranged_flat y (plan_of p)) 0 (places (plan_of p)).count in
+        ap (λ f. slice_index_or f j false) s.flat_is ∙ get_or-map-range_with_len (arranged_flat y (plan_of p)) 0 (places (plan_of p)).count j j false (omega (arith, low, many, many_groups)) (omega arith)
+
+    -- without joins the keys are those of the plan
+    pub keys_given : is_flat (plan_of p) ≡ true → keys (layout_in c ss) (length ss) [] ≡ plan_keys g y (plan_of p)
+    keys_given unjoined =
+        keys_are c run flat ss cut begins_run enough_run (ap is_flat runs_are ∙ still_flat (plan_of p) order unjoined)
+        ∙ flags_keys g y no_rows (flag flat) (arranged_flat y (plan_of p)) (groups_of (steps c.steps)) told
+        ∙ ap (keys_with g y (arranged_flat y (plan_of p))) runs_arranged
+
+    pub flats_given : map (λ (t : GroupSteps). t.flat) ss ≡ flags_of y (plan_of p)
+    flats_given =
+        flats_are c run flat ss cut begins_run enough_run
+        ∙ ap (λ n. map (flag flat) (range_with_len 0 n)) many_groups ∙ all_got false flat ∙ s.flat_is

@@ -1,0 +1,44 @@
+-- What the pipelines of a plan spend (PVLDB 14(11), list groups).
+use Rattle.std.specs.Prelude.{◌≡◌, ◌≤◌, ◌^◌, ◌-◌, ℕ, min, true, List, [], ◌∷◌, ◌++◌, length}
+use Rattle.gq_base.specs.Plain.{Graph}
+use Rattle.gq_plan.specs.Columns.{columns_of}
+use Rattle.gq_plan.specs.Flat.{is_flat}
+use Rattle.gq_plan.specs.Meaning.{meaning}
+use Rattle.gq_plan.specs.Plans.{Plan, Done, Then, Step, Scan, Extend, Close, Join, Keep, Differ, NoLoop}
+use Rattle.gq_plan.specs.declared.typed.Typed.{Typed}
+use Rattle.gq_pipe.specs.Keys.{plan_keys}
+use Rattle.gq_pipe.specs.declared.pipeline.Spent.{Spent}
+
+-- a count that stands still at the greatest of its type
+abbrev pub up_to_most : ℕ → ℕ
+up_to_most n = min n (2 ^ 64 - 1)
+
+-- what the pipeline of a plan spends: its columns; no more chunks than the plan has assignments, and none only where it has none
+pub record HasSpent (g : Graph) (y : Typed) (p : Plan) (s : Spent) : Type 0 where
+  pub columns : s.columns ≡ columns_of y p
+  pub most : s.chunks ≤ length (meaning g y p)
+  pub none : s.chunks ≡ 0 → meaning g y p ≡ []
+
+-- a plan without joins whose assignments are all handed out has a chunk for each of their different keys
+abbrev pub HasOneEach : Graph → Typed → Plan → Spent → Type 0
+HasOneEach g y p s = is_flat p ≡ true → s.chunks ≡ up_to_most (length (plan_keys g y p))
+
+-- what the pipeline of a side plan spends
+pub record HasSpentAll (g : Graph) (y : Typed) (p : Plan) (s : Spent) : Type 0 where
+  pub spent : HasSpent g y p s
+  pub one_each : HasOneEach g y p s
+
+unfoldable mutual
+  -- the side plans whose builds a plan reads, each behind those of its own
+  pub runs_of : Plan → List Plan
+  runs_of Done = []
+  runs_of (Then s p) = step_runs s ++ runs_of p
+
+  pub step_runs : Step → List Plan
+  step_runs (Scan v) = []
+  step_runs (Extend column x from to direction) = []
+  step_runs (Close column x from to direction) = []
+  step_runs (Join side keys) = runs_of side ++ side ∷ []
+  step_runs (Keep i) = []
+  step_runs (Differ p) = []
+  step_runs (NoLoop x) = []
