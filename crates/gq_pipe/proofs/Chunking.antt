@@ -3,12 +3,11 @@ use Rattle.std.proofs.Common.{◌≡◌, ◌⊎◌, inl, inr, ℕ, zero, suc, �
 use Rattle.std.specs.Prelude.{slice_index, slice_index_or, All}
 use Rattle.std.specs.List.{range_with_len, AllByRecursion}
 use Rattle.std.proofs.lemmas.Bool.{and_parts, cases_eq, cases_lt, eqb-true, ltb-true}
-use Rattle.std.proofs.lemmas.List.{get_or_default, length-map}
+use Rattle.std.proofs.lemmas.List.{get_or_default}
 use Rattle.std.proofs.lemmas.List.Elements.{All-from_recursion}
-use Rattle.std.proofs.lemmas.List.FromFn.{length-range_with_len}
 use Rattle.std.proofs.lemmas.Option.{get_or_from_slice_get}
 use Rattle.gq_bits.specs.Places.{is_marked}
-use Rattle.gq_group.specs.Chunks.{IsChunk, IsChunkOf, IsColumnIn, IsKeptIn, IsNodeHome, IsRelHome, HasEdges, assignment_at, node_at, edge_at, edge_in, chunk_meaning, group_of, first_in}
+use Rattle.gq_group.specs.Chunks.{IsChunk, IsChunkOf, IsColumnIn, IsKeptIn, IsNodeHome, IsRelHome, assignment_at, node_at, edge_at, edge_in, chunk_meaning, group_of, first_in}
 use Rattle.gq_group.specs.Edges.{IsEdge, HasEdge}
 use Rattle.gq_group.specs.Groups as group
 use Rattle.gq_group.specs.Groups.{AreSelected, IsGroup, IsPosition}
@@ -20,9 +19,9 @@ use Rattle.gq_group.specs.declared.home.RelHome.TheVariants as rel
 use Rattle.gq_join.specs.Kept.{Held, place_of}
 use Rattle.gq_plan.specs.Covers.{after, after_step, fits_step}
 use Rattle.gq_plan.specs.Known.{none}
-use Rattle.gq_plan.specs.Meaning.{nothing, whole}
+use Rattle.gq_plan.specs.Meaning.{nothing}
 use Rattle.gq_plan.specs.Plans.{Plan, Step, Scan, Extend, Close, Join, Keep, Differ, NoLoop, steps}
-use Rattle.gq_plan.specs.Rows.{assigned, rel_table}
+use Rattle.gq_plan.specs.Rows.{rel_table}
 use Rattle.gq_plan.specs.Soundness.{has_number}
 use Rattle.gq_plan.specs.declared.assignment.Assignment.{Assignment}
 use Rattle.gq_law_groups.specs.Groups.{decode}
@@ -30,7 +29,6 @@ use Rattle.gq_walks.specs.Layouts.{piece_of}
 use Rattle.gq_walks.specs.Running as walk
 use Rattle.gq_walks.specs.Running.{Runs, cursor_at, keys_of, prefix}
 use Rattle.gq_walks.specs.declared.walker.Cursor.{Cursor}
-use Rattle.gq_pipe.specs.Bound.{binds_all, all_bound}
 use Rattle.gq_pipe.specs.Built.{HasBuild}
 use Rattle.gq_pipe.specs.Levels.{given}
 use Rattle.gq_pipe.specs.steps.Chunks.{AreStanding, HasKept, IsGroupAt, KeepsOf, marked_at, current_at}
@@ -39,8 +37,7 @@ use Rattle.gq_pipe.specs.steps.Levels.{Run, step_at, built_at, known, before}
 use Rattle.gq_pipe.specs.steps.Lists.{group_at, groups_in, rows_in, layout_in, Tiles, Stands}
 use Rattle.gq_pipe.specs.declared.homes.Filling.{Filling}
 use Rattle.gq_pipe.specs.declared.places.GroupSteps.{GroupSteps}
-use Rattle.gq_pipe.proofs.Assigned.{whole_assigned}
-use Rattle.gq_pipe.proofs.Binding.{after_all, fits_at, given_all, looks}
+use Rattle.gq_pipe.proofs.Binding.{fits_at}
 use Rattle.gq_pipe.proofs.Brings.{knows_keys}
 use Rattle.gq_pipe.proofs.Chosen.{way_is, reads_walk, node_read, all_stand, AllMade, made}
 use Rattle.gq_pipe.proofs.Filling.{AreCells, length-filled, out_at}
@@ -87,25 +84,6 @@ module _ (c : Run) (ss : List GroupSteps) (row : Assignment) (cs : List Cursor) 
       ∙ same_on (AreSelected ch.groups.now) (λ ps. given c.typed (read_at ps) (steps c.steps) nothing) (λ ps. decode c.graph c.typed (rows_in c ss) 0 (groups_in c ss) nothing (shift firsts 0 ps)) (group.choices ch.groups.now) one_choice (all_selected ch.groups.now)
       ∙ sym (map_map (decode c.graph c.typed (rows_in c ss) 0 (groups_in c ss) nothing) (shift firsts 0) (group.choices ch.groups.now))
       ∙ ap (map (decode c.graph c.typed (rows_in c ss) 0 (groups_in c ss) nothing)) (sym (chunk_walks c ss row cs ms ch.groups.now st runs many marks count groups))
-
-  -- where the plan binds all variables, they are the whole assignments
-  pub chunk_whole : binds_all c.typed (steps c.steps) ≡ true → map (assigned c.typed) (chunk_meaning c.graph c.typed ch) ≡ map (whole c.typed) (map (decode c.graph c.typed (rows_in c ss) 0 (groups_in c ss) nothing) (walk.choices (layout_in c ss) [] cs ms))
-  chunk_whole all =
-      map_map (assigned c.typed) read_at (group.choices ch.groups.now)
-      ∙ same_on (AreSelected ch.groups.now) (λ ps. assigned c.typed (read_at ps)) (λ ps. whole c.typed (given c.typed (read_at ps) (steps c.steps) nothing)) (group.choices ch.groups.now) one (all_selected ch.groups.now)
-      ∙ sym (map_map (λ row. whole c.typed (given c.typed row (steps c.steps) nothing)) read_at (group.choices ch.groups.now))
-      ∙ sym (map_map (whole c.typed) (λ row. given c.typed row (steps c.steps) nothing) (chunk_meaning c.graph c.typed ch))
-      ∙ ap (map (whole c.typed)) chunk_binds
-    where
-      bound : all_bound c.typed (known c (length c.steps)) ≡ true
-      bound = ap (all_bound c.typed) (sym (after_all c)) ∙ all
-
-      one : (ps : List ℕ) → AreSelected ch.groups.now ps → assigned c.typed (read_at ps) ≡ whole c.typed (given c.typed (read_at ps) (steps c.steps) nothing)
-      one ps sel =
-          whole_assigned c.typed (read_at ps) (known c (length c.steps)) (before c (read_at ps) (length c.steps)) (looks c st.runs (read_at ps) (length c.steps))
-          (length-map (range_with_len 0 (length c.typed.nodes)) (node_at ch ps) ∙ length-range_with_len 0 (length c.typed.nodes))
-          (length-map (range_with_len 0 (length c.typed.rels)) (Rattle.gq_group.specs.Chunks.rel_at c.graph c.typed ch ps) ∙ length-range_with_len 0 (length c.typed.rels)) bound
-          ∙ ap (whole c.typed) (sym (given_all c (read_at ps)))
 
   -- ---- it can be read
 

@@ -2,7 +2,7 @@
 use Rattle.std.proofs.Common.{◌≡◌, ◌≢◌, ◌⊎◌, inl, inr, ℕ, zero, suc, ◌+◌, ◌-◌, ◌<◌, ◌≤◌, Bool, true, false, ◌||◌, nat_eq, Option, List, [], ◌∷◌, ◌++◌, filter, length, take, refl, sym, ap, ◌∙◌, subst, arith, true≢false}
 use Rattle.std.specs.Prelude.{All}
 use Rattle.std.proofs.lemmas.Bool.{and_parts, cases_eq, cases_lt, eq-eqb, ltb-true, or_left}
-use Rattle.std.proofs.lemmas.List.{get_or-set_same, get_or-set_other, get_or_append_left, get_or_push, length_push, length-append, length-set, take_all, take_more}
+use Rattle.std.proofs.lemmas.List.{get_or-set_same, get_or-set_other, get_or_append_left, get_or_push, length_push, length-append, length-set, take_more}
 use Rattle.std.specs.List.{range_with_len, sum_by}
 use Rattle.std.proofs.lemmas.List.Sums.{sum_by-append, sum_by-cons}
 use Rattle.std.proofs.lemmas.Option.{slice_get_within}
@@ -14,10 +14,10 @@ use Rattle.gq_group.specs.declared.home.RelHome.TheVariants as rel
 use Rattle.gq_join.specs.Kept.{Held, place_of}
 use Rattle.gq_law_groups.specs.Groups.{makes_group}
 use Rattle.gq_law_groups.specs.Order.{AreCut, NoGroups}
-use Rattle.gq_plan.specs.Columns.{columns_of, own_columns, steps_of}
+use Rattle.gq_plan.specs.Columns.{own_columns}
 use Rattle.gq_plan.specs.Covers.{after, after_step, fits_step}
 use Rattle.gq_plan.specs.Known.{Known, none}
-use Rattle.gq_plan.specs.Plans.{Plan, Step, Scan, Extend, Close, Join, Keep, Differ, NoLoop, steps}
+use Rattle.gq_plan.specs.Plans.{Step, Scan, Extend, Close, Join, Keep, Differ, NoLoop}
 use Rattle.gq_pipe.specs.Built.{FitsBuild}
 use Rattle.gq_pipe.specs.steps.Cells.{build_in}
 use Rattle.gq_pipe.specs.steps.Homes.{AreHomes, AreHoused, CanHouse, CanHouseBuild, HasKeptColumn, InGroup, IsFilling, IsHoused, brought_by, filling_at, filling_of, fillings_of, housed, is_forward, no_filling, node_home, rel_home, with_filling, with_node_home, with_rel_home}
@@ -503,18 +503,6 @@ starts_next c run ss i fs h tiles low old = record {
 
 pub starts_all : (c : Run) (ss : List GroupSteps) (i : ℕ) (fs : List Filling) (h : Homes) → i ≡ length ss → Starts c ss i fs h → AreHomes c ss (length ss) (length c.steps) fs h
 starts_all c ss i fs h e s = subst (λ n. AreHomes c ss n (length c.steps) fs h) e (subst (λ n. AreHomes c ss i n fs h) (s.last e) s.homes)
-
--- there are at most as many columns as the plan has
-steps_back : (ss : List Step) → steps_of (steps ss) ≡ ss
-steps_back [] = refl
-steps_back (s ∷ ss) = ap (λ l. s ∷ l) (steps_back ss)
-
-pub columns_fit : (c : Run) (ss : List GroupSteps) (n : ℕ) (fs : List Filling) (h : Homes) (p : Plan) (held : ℕ) → p ≡ steps c.steps → held ≡ columns_of c.typed p → AreHomes c ss n (length c.steps) fs h → length fs ≤ held
-columns_fit c ss n fs h p held same count homes =
-    let few = homes.few in
-    let whole : sum_by (own_columns c.typed) (take (length c.steps) c.steps) ≡ sum_by (own_columns c.typed) (steps_of p) =
-    ap (sum_by (own_columns c.typed)) (take_all (length c.steps) c.steps (omega arith) ∙ sym (steps_back c.steps) ∙ ap steps_of (sym same)) in
-    omega (arith, few, whole, count)
 
 -- ---- which step of a group makes it
 

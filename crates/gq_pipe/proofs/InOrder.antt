@@ -1,5 +1,5 @@
 -- A plan's steps, and its builds, in an order that has each of them.
-use Rattle.std.proofs.Common.{Bor, ◌≡◌, ◌∙◌, take, ℕ, zero, suc, ◌+◌, ◌<◌, Bool, true, false, cond, true≢false, ◌||◌, Option, Some, None, List, [], ◌∷◌, ◌++◌, map, length, flat_map, get_or, slice_get, refl, sym, ap, subst, arith}
+use Rattle.std.proofs.Common.{Bor, ◌≡◌, ◌∙◌, take, ℕ, zero, suc, ◌+◌, ◌<◌, Bool, true, false, cond, true≢false, Option, Some, None, List, [], ◌∷◌, ◌++◌, map, length, get_or, slice_get, refl, sym, ap, subst, arith}
 use Rattle.std.specs.Prelude.{slice_index_or, IsPermutation}
 use Rattle.std.specs.List.{AllByRecursion, list_any, range_with_len, sum_by}
 use Rattle.std.specs.Option.{option_to_list}
@@ -17,7 +17,7 @@ use Rattle.gq_plan.specs.Arranged.{at_numbers, in_order}
 use Rattle.gq_plan.specs.Columns.{steps_of}
 use Rattle.gq_plan.specs.Covers.{Fits, after, placed}
 use Rattle.gq_plan.specs.Flat.{is_flat, is_join}
-use Rattle.gq_plan.specs.Known.{Known, none}
+use Rattle.gq_plan.specs.Known.{none}
 use Rattle.gq_plan.proofs.Each.{each_append}
 use Rattle.gq_plan.specs.Plans.{Plan, Done, Then, Step, Keep, steps, step_of}
 use Rattle.gq_plan.specs.declared.plan.Step as code

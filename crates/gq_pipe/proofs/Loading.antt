@@ -2,7 +2,7 @@
 use Rattle.std.proofs.Common.{◌≡◌, ◌≢◌, ◌∙◌, ◌+◌, ◌-◌, ◌^◌, ◌≤◌, ◌<◌, ℕ, ap, refl, sym, subst, true, List, [], ◌∷◌, ◌++◌, append_assoc, append-nil, length, map, min, arith, length-append}
 use Rattle.std.specs.Prelude.{IsPermutation}
 use Rattle.std.proofs.lemmas.List.{length-map, map-append}
-use Rattle.std.proofs.lemmas.List.Sorted.{IsPermutation-append_left, IsPermutation-append_right, IsPermutation-refl, IsPermutation-trans, length_permutation}
+use Rattle.std.proofs.lemmas.List.Sorted.{IsPermutation-append_right, IsPermutation-refl, IsPermutation-trans, length_permutation}
 use Rattle.gq_base.specs.Plain.{Graph}
 use Rattle.gq_group.specs.Chunks.{IsChunkOf, chunk_meaning}
 use Rattle.gq_group.specs.declared.chunk.Chunk.{Chunk}

@@ -1,5 +1,5 @@
 -- What a plan means is what it binds as rows and load numbers of it read, so plans that bind the same read one another's.
-use Rattle.std.proofs.Common.{◌≡◌, ℕ, ◌+◌, ◌<◌, Bool, true, false, cond, Option, Some, None, List, [], ◌∷◌, ◌++◌, map, filter, flat_map, length, slice_get, refl, sym, ap, ap₂, ◌∙◌, subst, arith}
+use Rattle.std.proofs.Common.{◌≡◌, ℕ, ◌<◌, Bool, true, false, cond, Option, Some, None, List, [], ◌∷◌, ◌++◌, map, filter, length, slice_get, refl, sym, ap, ap₂, ◌∙◌, arith}
 use Rattle.std.specs.Prelude.{slice_index}
 use Rattle.std.specs.List.{AllByRecursion, range_with_len}
 use Rattle.std.specs.Option.{unwrap_or}
@@ -11,7 +11,6 @@ use Rattle.gq_base.specs.Plain.{Graph, rels_at}
 use Rattle.gq_base.specs.Valid.{is_valid}
 use Rattle.gq_base.specs.declared.NodeId.{NodeId}
 use Rattle.gq_base.specs.declared.RelId.{RelId}
-use Rattle.gq_base.specs.declared.RelTable.{RelTable}
 use Rattle.gq_base.specs.declared.direction.Direction.{Direction}
 use Rattle.gq_law_plans.proofs.Lookups.{Found, look_bound}
 use Rattle.gq_law_plans.proofs.Owning.{Owns, owns_mean, owns_nothing}
@@ -26,11 +25,10 @@ use Rattle.gq_plan.specs.Rows.{node_at, node_table, rel_at, rel_table, table_of}
 use Rattle.gq_plan.specs.Soundness.{IsSound}
 use Rattle.gq_plan.specs.declared.assignment.Assignment.{Assignment}
 use Rattle.gq_plan.specs.declared.typed.Typed.{Typed}
-use Rattle.gq_plan.specs.declared.typed.TypedRel.{TypedRel}
 use Rattle.gq_pipe.specs.Levels.{given, given_step}
 use Rattle.gq_pipe.specs.steps.Given.{bound_by, rows_of}
 use Rattle.gq_pipe.specs.steps.Levels.{Run}
-use Rattle.gq_pipe.specs.steps.Moves.{IsAlike, IsRun}
+use Rattle.gq_pipe.specs.steps.Moves.{IsRun}
 use Rattle.gq_pipe.proofs.Binding.{Looks, given_alike, looks_given}
 use Rattle.gq_pipe.proofs.Following.{rel, far_is, far_table}
 use Rattle.gq_pipe.proofs.Stepping.{Follows, follows}

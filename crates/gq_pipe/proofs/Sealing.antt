@@ -1,6 +1,6 @@
 -- A build into which rows came that bind what a side plan makes is a build of that side plan, and what its pipeline spent.
-use Rattle.std.proofs.Common.{◌≡◌, ℕ, zero, suc, ◌+◌, ◌-◌, ◌^◌, ◌<◌, ◌≤◌, true, cond, Some, None, List, [], ◌∷◌, ◌++◌, map, length, min, get_or, refl, sym, ap, ap₂, ◌∙◌, subst, arith}
-use Rattle.std.specs.Prelude.{slice_index, slice_index_or, IsPermutation}
+use Rattle.std.proofs.Common.{◌≡◌, ℕ, suc, ◌+◌, ◌<◌, ◌≤◌, true, cond, Some, None, List, [], ◌∷◌, map, length, get_or, refl, sym, ap, ap₂, ◌∙◌, subst, arith}
+use Rattle.std.specs.Prelude.{slice_index, IsPermutation}
 use Rattle.std.specs.List.{AllByRecursion, range_with_len}
 use Rattle.std.proofs.lemmas.List.{get_or-map, length-map}
 use Rattle.std.proofs.lemmas.List.Elements.{All-from_recursion, recursion_from_All}
@@ -34,7 +34,7 @@ use Rattle.gq_pipe.proofs.Binding.{given_alike, looks_given}
 use Rattle.gq_pipe.proofs.Joined.{IsLow}
 use Rattle.gq_pipe.proofs.Joining.{has, has_kept}
 use Rattle.gq_pipe.proofs.Pushing.{place_has, length-meaning}
-use Rattle.gq_pipe.proofs.Stored.{IsStored, Stores, look_stored, mean_stores}
+use Rattle.gq_pipe.proofs.Stored.{Stores, look_stored, mean_stores}
 
 abbrev no_assignment : Assignment
 no_assignment = record { nodes = []; rels = [] }

@@ -1,5 +1,5 @@
 -- A plan that is started: its steps run in the order of its groups, and what is owed is what the plan means.
-use Rattle.std.proofs.Common.{◌≡◌, ◌∙◌, ℕ, zero, suc, ◌+◌, ◌<◌, ◌≤◌, Bool, true, false, Option, None, List, [], ◌∷◌, map, length, take, get_or, refl, sym, ap, ap₂, subst, arith}
+use Rattle.std.proofs.Common.{◌≡◌, ◌∙◌, ℕ, suc, ◌+◌, ◌<◌, ◌≤◌, Bool, true, false, Option, None, List, [], ◌∷◌, map, length, take, get_or, refl, sym, ap, ap₂, subst, arith}
 use Rattle.std.specs.Prelude.{slice_index_or, All, IsPermutation}
 use Rattle.std.specs.List.{AllByRecursion, range_with_len, sum_by}
 use Rattle.std.proofs.lemmas.List.{length-map, take_all}
@@ -8,7 +8,6 @@ use Rattle.std.proofs.lemmas.List.Elements.{recursion_from_All}
 use Rattle.std.proofs.lemmas.List.Sorted.{IsPermutation-map, IsPermutation-sym, IsPermutation-trans}
 use Rattle.gq_arrange.proofs.Loops.{steps_back}
 use Rattle.gq_arrange.specs.Law.{IsArranged}
-use Rattle.gq_base.specs.Catalogs.{Tables}
 use Rattle.gq_base.specs.Plain.{Graph}
 use Rattle.gq_base.specs.Valid.{is_valid}
 use Rattle.gq_group.specs.declared.home.Homes.{Homes}
@@ -25,10 +24,9 @@ use Rattle.gq_plan.specs.Covers.{Fits}
 use Rattle.gq_plan.specs.Flat.{is_flat}
 use Rattle.gq_plan.specs.Known.{none}
 use Rattle.gq_plan.specs.Meaning.{Partial, mean, nothing}
-use Rattle.gq_plan.specs.Plans.{Plan, Step, plan_of, steps, step_of}
+use Rattle.gq_plan.specs.Plans.{plan_of, steps, step_of}
 use Rattle.gq_plan.specs.Shapes.{places}
 use Rattle.gq_plan.specs.Soundness.{IsSound}
-use Rattle.gq_plan.specs.declared.assignment.Assignment.{Assignment}
 use Rattle.gq_plan.specs.declared.plan.Plan as code_plan
 use Rattle.gq_plan.specs.declared.typed.Typed.{Typed}
 use Rattle.gq_walks.specs.Layouts.{keys, walks}

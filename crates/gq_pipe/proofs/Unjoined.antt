@@ -7,7 +7,7 @@ use Rattle.gq_plan.specs.Meaning.{Partial, nothing}
 use Rattle.gq_plan.specs.Plans.{Plan, Step, Scan, Extend, Close, Join, Keep, Differ, NoLoop}
 use Rattle.gq_plan.specs.declared.typed.Typed.{Typed}
 use Rattle.gq_walks.specs.Layouts.{keys}
-use Rattle.gq_law_groups.specs.Groups.{Group, checked, first, kept, passes, plan_of, raw, raw_at, place}
+use Rattle.gq_law_groups.specs.Groups.{Group, checked, first, kept, passes, plan_of, raw, place}
 use Rattle.gq_law_groups.specs.Layout.{layout_of, size_from, keeps_from, with_singles}
 use Rattle.gq_pipe.proofs.Flags.{keys_same}
 

@@ -1,5 +1,5 @@
 -- What a pipeline's chunks make of a build.
-use Rattle.std.specs.Prelude.{◌≡◌, ◌≤◌, ℕ, IsPermutation, List, [], map, length}
+use Rattle.std.specs.Prelude.{◌≡◌, ◌≤◌, IsPermutation, List, [], map, length}
 use Rattle.gq_join.specs.Kept.{Growing, IsWithin, with_rows}
 use Rattle.gq_plan.specs.Meaning.{Partial, nothing}
 use Rattle.gq_plan.specs.Plans.{Plan}

@@ -1,4 +1,4 @@
-use Rattle.std.proofs.Common.{◌≡◌, ◌∙◌, ap, sym, subst, true, length, map}
+use Rattle.std.proofs.Common.{◌≡◌, ◌∙◌, ap, map}
 use Rattle.gq_group.specs.Chunks.{chunk_meaning}
 use Rattle.gq_join.specs.Kept.{Growing}
 use Rattle.gq_plan.specs.Meaning.{nothing}

@@ -1,5 +1,4 @@
-use Rattle.std.proofs.Common.{◌≡◌, ◌∙◌, ◌+◌, map, take, ap}
-use Rattle.gq_plan.specs.Arranged.{at_numbers}
+use Rattle.std.proofs.Common.{◌∙◌, map, ap}
 use Rattle.gq_plan.specs.Plans.{step_of}
 use Rattle.gq_pipe.specs.steps.Moves.{referred}
 use Rattle.gq_pipe.proofs.InOrder.{steps_more}
