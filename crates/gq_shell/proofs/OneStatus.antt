@@ -211,7 +211,7 @@ module _ (words : List (List ℕ)) (files : Names) (input : List ℕ) where
     settings : settings_of other.read ≡ settings_of one.read
     settings = same_settings _ other.read one.read other.given.means one.given.means
 
-    behind' : List Param
+    abbrev behind' : List Param
     behind' = other.told.2.1.0
 
     replied : Replies (IsTurn (full graph (settings_of one.read))) [] behind' (session.statements input) t' text'
