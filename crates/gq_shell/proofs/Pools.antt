@@ -4,7 +4,7 @@ use Rattle.std.specs.Prelude.{IfOk, count_by, replicate}
 use Rattle.std.proofs.lemmas.List.Folds.{sum_by-replicate}
 use Rattle.gq_pool.specs.Pool.{IsFresh, Pool, spare_of}
 
-all_spare : (p : Pool) (n : ℕ) → IsFresh p n → spare_of p ≡ n
+pub all_spare : (p : Pool) (n : ℕ) → IsFresh p n → spare_of p ≡ n
 all_spare p n fresh =
     let once : n * 1 ≡ n = omega arith in
     ap (count_by (λ out. not out)) fresh.free ∙ sum_by-replicate (λ out. cond (not out) 1 0) n false ∙ once
