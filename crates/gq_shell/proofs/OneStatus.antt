@@ -1,6 +1,6 @@
 -- For given words, files and input one status alone may be answered, but where memory may end and for queries of which not
 -- all outcomes are looked at.
-use Rattle.std.proofs.Common.{◌≡◌, ℕ, List, [], ◌∷◌, ◌++◌, Some, None, Ok, codes, refl, sym, ap, ap₂, ◌∙◌, subst, inl, inr}
+use Rattle.std.proofs.Common.{◌≡◌, ◌≢◌, arith, ℕ, List, [], ◌∷◌, ◌++◌, Some, None, Ok, codes, refl, sym, ap, ap₂, ◌∙◌, subst, inl, inr}
 use Rattle.std.specs.Prelude.{◌⊎◌, Option, Result}
 use Rattle.std.specs.Io.KnownBytes.{Appends}
 use Rattle.clap.specs.Words.{Row, Text, first_of}
@@ -74,16 +74,24 @@ same_sizes found r r' size other m m' from from' =
     (subst (λ x. IsSource (first_of (codes "manifest") found) (first_of (codes "sample") found) x) from m.source)
     (subst (λ x. IsSource (first_of (codes "manifest") found) (first_of (codes "sample") found) x) from' m'.source)
 
+-- words that begin otherwise are not the same
+abbrev front : List ℕ → ℕ
+front [] = 0
+front (x ∷ xs) = x
+
+other_front : (xs ys : List ℕ) (m n : ℕ) → front xs ≡ m → front ys ≡ n → m ≢ n → xs ≡ ys → ⊥
+other_front xs ys m n first second other same = other (sym first ∙ ap front same ∙ second)
+
 same_order : (o : Option Text) (x y : word.Order) → IsOrder o x → IsOrder o y → x ≡ y
 same_order None x y is is' = is ∙ sym is'
 same_order (Some name) order_word.Given order_word.Given is is' = refl
 same_order (Some name) order_word.Given order_word.Greedy is is' = let no : codes "given" ≡ codes "greedy" = sym is ∙ is' in absurd (cc no)
 same_order (Some name) order_word.Greedy order_word.Given is is' = let no : codes "greedy" ≡ codes "given" = sym is ∙ is' in absurd (cc no)
 same_order (Some name) order_word.Greedy order_word.Greedy is is' = refl
-same_order (Some name) order_word.Given order_word.Least is is' = let no : codes "given" ≡ codes "least" = sym is ∙ is' in absurd (cc no)
-same_order (Some name) order_word.Greedy order_word.Least is is' = let no : codes "greedy" ≡ codes "least" = sym is ∙ is' in absurd (cc no)
-same_order (Some name) order_word.Least order_word.Given is is' = let no : codes "least" ≡ codes "given" = sym is ∙ is' in absurd (cc no)
-same_order (Some name) order_word.Least order_word.Greedy is is' = let no : codes "least" ≡ codes "greedy" = sym is ∙ is' in absurd (cc no)
+same_order (Some name) order_word.Given order_word.Least is is' = absurd (other_front (codes "given") (codes "least") 103 108 refl refl (omega arith) (sym is ∙ is'))
+same_order (Some name) order_word.Greedy order_word.Least is is' = absurd (other_front (codes "greedy") (codes "least") 103 108 refl refl (omega arith) (sym is ∙ is'))
+same_order (Some name) order_word.Least order_word.Given is is' = absurd (other_front (codes "least") (codes "given") 108 103 refl refl (omega arith) (sym is ∙ is'))
+same_order (Some name) order_word.Least order_word.Greedy is is' = absurd (other_front (codes "least") (codes "greedy") 108 103 refl refl (omega arith) (sym is ∙ is'))
 same_order (Some name) order_word.Least order_word.Least is is' = refl
 
 same_rows : (o : Option Text) (x y : ℕ) → IsRows o x → IsRows o y → x ≡ y

@@ -1,6 +1,6 @@
 -- A new pool has all its slots free.
 use Rattle.std.proofs.Common.{◌≡◌, ◌∙◌, ◌≤◌, ◌*◌, ℕ, cond, false, not, Result, Ok, Err, ap, arith}
-use Rattle.std.specs.Prelude.{IfOk, count_by, replicate}
+use Rattle.std.specs.Prelude.{IfOk, count_by}
 use Rattle.std.proofs.lemmas.List.Folds.{sum_by-replicate}
 use Rattle.gq_pool.specs.Pool.{IsFresh, Pool, spare_of}
 
