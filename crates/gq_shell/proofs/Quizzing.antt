@@ -1,5 +1,5 @@
 -- One question after another.
-use Rattle.std.proofs.Common.{◌≡◌, ℕ, zero, suc, ◌+◌, ◌-◌, ◌<◌, ◌≤◌, List, [], ◌∷◌, ◌++◌, map, Some, Ok, Err, refl, sym, ap, ap₂, ◌∙◌, subst, arith}
+use Rattle.std.proofs.Common.{◌≡◌, ℕ, zero, suc, ◌+◌, ◌-◌, ◌≤◌, List, [], ◌∷◌, ◌++◌, map, Some, Ok, Err, refl, sym, ap, ap₂, ◌∙◌, subst, arith}
 use Rattle.std.specs.Prelude.{Result, slice_get}
 use Rattle.std.specs.Io.KnownBytes.{Appends}
 use Rattle.std.specs.List.{range_with_len}
@@ -133,7 +133,7 @@ next_number c params mid behind n le t u a b d wrote said =
     subst (λ m. Wrote (IsNumbered c) params behind (first c m) (worse t u) a d) same (next c params mid behind (n - 1) n (omega (arith, le)) t u a b d wrote said)
 
 -- all questions were answered
-pub all_asked : (c : Context) (params behind : List Param) (n : ℕ) → n ≤ 7 → (n < 7 → ⊥) → (t : Tone) (a b : Option (List ℕ)) → Wrote (IsNumbered c) params behind (first c (n - 1)) t a b
+pub all_asked : (c : Context) (params behind : List Param) (n : ℕ) → n ≤ 7 → 7 ≤ n → (t : Tone) (a b : Option (List ℕ)) → Wrote (IsNumbered c) params behind (first c (n - 1)) t a b
     → Wrote (IsNumbered c) params behind questions t a b
 all_asked c params behind n most least t a b wrote =
     let last : n ≡ 7 = omega (arith, most, least) in

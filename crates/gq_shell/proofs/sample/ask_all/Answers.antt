@@ -26,5 +26,5 @@ returns g c = (
     c.loop-number.workspace.params,
     all_asked (context_of c.args.replier.now) [] _ c.loop-number.number c.loop-number.invariant.1 c.loop-number-test.false c.loop-number.worst _ _ c.loop-number.invariant.2,
   ),
-  c.loop-number.invariant.3.0,
+  c.loop-number.invariant.3,
 )
