@@ -57,3 +57,7 @@ place_text place = place.before ++ decimal place.number
 -- the line of a refusal: its front, a name, which may be empty, and where it is
 abbrev pub refusal_line : List ℕ → List ℕ → List PlaceText → List ℕ
 refusal_line front name places = line (front ++ name_text name ++ flat_map place_text places)
+
+-- the line of a parameter: its name and its value
+abbrev pub param_line : List ℕ → Val → List ℕ
+param_line name value = line (codes "param " ++ name_text name ++ codes " " ++ property_text value)

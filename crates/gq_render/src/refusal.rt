@@ -40,7 +40,13 @@ fn put_places<O: Sink>(batch: &mut Batch, out: &mut O, places: &[Place<'_>]) -> 
     Ok(())
 }
 
-fn put_front<O: Sink>(batch: &mut Batch, out: &mut O, front: &str, name: &str) -> Result<(), Failed>
+/// Puts a front, which goes out as it is, and a name.
+pub(crate) fn put_front<O: Sink>(
+    batch: &mut Batch,
+    out: &mut O,
+    front: &str,
+    name: &str,
+) -> Result<(), Failed>
     ensures bytes { Puts (O.taken out.old) (O.taken out.new) batch.old batch.new
         (front.now ++ name_text name.now) result }
     ensures cause { HasCause (O.faults out.old) (O.faults out.new) result }

@@ -1,3 +1,4 @@
 pub mod OneTone
 pub mod Replying
+pub mod SetValue
 pub mod Spendings

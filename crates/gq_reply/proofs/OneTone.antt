@@ -1,9 +1,10 @@
 -- A statement's replies have one tone, but for want of memory and for a query of which not all outcomes are looked at.
 use Rattle.std.proofs.Common.{◌≡◌, ℕ, ◌+◌, Bool, true, false, List, [], ◌∷◌, Some, None, Ok, Err, suc, refl, sym, ap, ap₂, ◌∙◌, subst, inl, inr}
-use Rattle.std.specs.Prelude.{◌⊎◌, ◌||◌, not, Option, IsSome, option_map, slice_get, if◌then◌else◌}
+use Rattle.std.specs.Prelude.{◌⊎◌, ◌||◌, not, Option, IsSome, option_map, slice_get, take, ◌++◌, if◌then◌else◌}
 use Rattle.gq_base.specs.Lists.{is_empty}
 use Rattle.gq_base.specs.Plain.{Graph}
 use Rattle.gq_base.specs.Values.{Val}
+use Rattle.gq_base.specs.declared.literal.Literal.{Literal}
 use Rattle.gq_binder.proofs.OneBound.{same_bound, unordered}
 use Rattle.gq_binder.specs.Binding.{IsBound}
 use Rattle.gq_binder.specs.Columns.{Resolves}
@@ -11,9 +12,9 @@ use Rattle.gq_execute.proofs.OneReply.{not_too_many, some_looked}
 use Rattle.gq_execute.specs.Replies.{Reply, Rows, Faulted, TooManyRows, IsPermitted}
 use Rattle.gq_execute.specs.declared.settings.Settings.{Settings}
 use Rattle.gq_plan.specs.declared.Bound.{Bound}
+use Rattle.gq_reply.proofs.Replying.{not_blank, refusal_is}
 use Rattle.gq_reply.specs.Bindings.{bind_refusal}
-use Rattle.gq_reply.proofs.Replying.{refusal_is}
-use Rattle.gq_reply.specs.Replies.{Context, asked_by, IsAnswered, IsAsked, IsNotBuilt, IsRefused, IsReply, IsStopped, IsUnbound, IsUnbuilt, IsWrong, RepliesWith, question, refusal_text}
+use Rattle.gq_reply.specs.Replies.{AreBehind, Context, IsAnswered, IsAsked, IsOverfull, IsRefused, IsReply, IsStopped, IsTurn, IsUnbound, IsWrong, RepliesWith, Sets, StandBehind, asked_by, params_behind, question, refusal_text}
 use Rattle.gq_reply.specs.declared.replier.Form.{Form}
 use Rattle.gq_rows.specs.Answers.{cut_of, most_listed}
 use Rattle.gq_session.specs.Replies.{Replies}
@@ -26,6 +27,9 @@ use Rattle.gq_syntax.specs.declared.refusal.SyntaxRefusal.TheVariants as refusal
 use Rattle.gq_syntax.specs.declared.statement.Query.{Query}
 use Rattle.gq_syntax.specs.declared.statement.Statement.{Statement}
 use Rattle.gq_syntax.specs.declared.statement.Statement.TheVariants as tree
+use Rattle.gq_tokens.specs.Parameters.{IsFull}
+use Rattle.gq_tokens.specs.Words.{Name}
+use Rattle.gq_tokens.specs.declared.params.Param.{Param}
 
 -- ---- a query of which not all outcomes are looked at
 
@@ -51,10 +55,10 @@ is_cut query text bound r h = by bound.distinct (is_empty bound.keys) refl refl 
     }
 
 -- the statement asks such a query
-pub record AsksOne (graph : Graph) (statement : List ℕ) : Type 0 where
+pub record AsksOne (graph : Graph) (params : List Param) (statement : List ℕ) : Type 0 where
   pub query : Query
   pub bound : Bound
-  pub asked : IsAsked graph statement query bound
+  pub asked : IsAsked graph params statement query bound
   pub cut : IsCut query
 
 -- ---- what asks a query
@@ -73,50 +77,57 @@ not_plan : (p : Bool) (q q' : Query) → asked_by p q ≡ tree.Plan q' → ⊥
 not_plan false q q' e = absurd (cc e)
 not_plan true q q' e = absurd (cc e)
 
+not_param : (p : Bool) (q : Query) (name : Name) (value : Literal) → asked_by p q ≡ tree.Param name value → ⊥
+not_param false q name value e = absurd (cc e)
+not_param true q name value e = absurd (cc e)
+
 -- ---- one statement
 
-module _ (graph : Graph) (settings : Settings) (one other : Form) (statement : List ℕ) where
+-- two trees that one statement spells are one
+one_tree : (params : List Param) (statement : List ℕ) (s s' : Statement) → SpelledText statement params s → SpelledText statement params s' → s ≡ s'
+one_tree params statement s s' spelled spelled' = elim ((comes_statement statement params (Ok s) spelled s').1 spelled') [
+  | inl e ↦ cc e
+  | inr e ↦ cc e
+]
+
+module _ (graph : Graph) (settings : Settings) (one other : Form) (params : List Param) (statement : List ℕ) where
   abbrev first : Context
   first = record { graph = graph; settings = settings; form = one }
 
   abbrev second : Context
   second = record { graph = graph; settings = settings; form = other }
 
-  -- two trees that one statement spells are one
-  same_tree : (s s' : Statement) → SpelledText statement [] s → SpelledText statement [] s' → s ≡ s'
-  same_tree s s' spelled spelled' = elim ((comes_statement statement [] (Ok s) spelled s').1 spelled') [
-    | inl e ↦ cc e
-    | inr e ↦ cc e
-  ]
+  same_tree : (s s' : Statement) → SpelledText statement params s → SpelledText statement params s' → s ≡ s'
+  same_tree s s' spelled spelled' = one_tree params statement s s' spelled spelled'
 
-  built : (profiled : Bool) (query : Query) → ¬ (IsUnbuilt graph statement (asked_by profiled query))
-  built false query unbuilt = unbuilt
-  built true query unbuilt = unbuilt
+  -- where a parameter is set, there is room for it
+  has_room : {text : List ℕ} (sets : Sets params statement text) (name : Name) (value : Literal) → tree.Param sets.name sets.value ≡ tree.Param name value → ¬ (IsFull name params)
+  has_room sets name value same full = let e : sets.name ≡ name = cc same in sets.room (subst (λ n. IsFull n params) (sym e) full)
 
   abbrev Unanswered : List ℕ → Type 0
-  Unanswered text = IsWrong statement text ⊎ IsUnbound graph statement text ⊎ IsNotBuilt graph statement text ⊎ IsStopped second statement text
+  Unanswered text = IsWrong params statement text ⊎ IsUnbound graph params statement text ⊎ IsOverfull params statement text ⊎ IsStopped second params statement text
 
-  -- a statement that is bound and built is refused for its outcomes alone
-  module _ (form : Statement) (spelled : SpelledText statement [] form) (bound : bind_refusal form statement graph.catalog ≡ None)
-      (built : ¬ (IsUnbuilt graph statement form)) where
-    is_stopped : (text : List ℕ) → Unanswered text → IsStopped second statement text
-    is_stopped text (inl wrong) = elim ((comes_statement statement [] (Err wrong.why) wrong.cause form).1 spelled) [
+  -- a statement that is bound and has room for a parameter is refused for its outcomes alone
+  module _ (form : Statement) (spelled : SpelledText statement params form) (bound : bind_refusal form statement graph.catalog ≡ None)
+      (room : (name : Name) (value : Literal) → form ≡ tree.Param name value → ¬ (IsFull name params)) where
+    is_stopped : (text : List ℕ) → Unanswered text → IsStopped second params statement text
+    is_stopped text (inl wrong) = elim ((comes_statement statement params (Err wrong.why) wrong.cause form).1 spelled) [
       | inl e ↦ cc e
       | inr e ↦ (let memory : wrong.why ≡ refusal.Memory = cc e in let none : None ≡ Some text = ap refusal_text (sym memory) ∙ wrong.is in cc none)
     ]
     is_stopped text (inr (inl unbound)) =
         let same : unbound.tree ≡ form = same_tree unbound.tree form unbound.spelled spelled in
         let clash : None ≡ Some unbound.why = sym bound ∙ ap (λ t. bind_refusal t statement graph.catalog) (sym same) ∙ unbound.refused in cc clash
-    is_stopped text (inr (inr (inl unbuilt))) =
-        absurd (built (subst (λ t. IsUnbuilt graph statement t) (same_tree unbuilt.tree form unbuilt.spelled spelled) unbuilt.other))
+    is_stopped text (inr (inr (inl over))) =
+        absurd (room over.name over.value (same_tree form (tree.Param over.name over.value) spelled over.spelled) over.full)
     is_stopped text (inr (inr (inr stopped))) = stopped
 
     -- and where it asks no query it is not refused
     module _ (no : (profiled : Bool) (query : Query) → ¬ (asked_by profiled query ≡ form)) where
-      not_asked : (profiled : Bool) (query : Query) → SpelledText statement [] (asked_by profiled query) → ⊥
+      not_asked : (profiled : Bool) (query : Query) → SpelledText statement params (asked_by profiled query) → ⊥
       not_asked profiled query asked = no profiled query (same_tree (asked_by profiled query) form asked spelled)
 
-      no_stop : (text : List ℕ) → IsStopped second statement text → ⊥
+      no_stop : (text : List ℕ) → IsStopped second params statement text → ⊥
       no_stop text (inl (fault, replies)) = not_asked replies.asked.profiled replies.query replies.asked.spelled
       no_stop text (inr replies) = not_asked replies.asked.profiled replies.query replies.asked.spelled
 
@@ -124,11 +135,11 @@ module _ (graph : Graph) (settings : Settings) (one other : Form) (statement : L
       no_refusal text refused = no_stop text (is_stopped text refused)
 
   -- two replies to the query of one statement are replies to one question
-  module _ (q : Query) (b : Bound) (asked : IsAsked graph statement q b) where
-    same_query : (profiled : Bool) (q' : Query) → SpelledText statement [] (asked_by profiled q') → q' ≡ q
+  module _ (q : Query) (b : Bound) (asked : IsAsked graph params statement q b) where
+    same_query : (profiled : Bool) (q' : Query) → SpelledText statement params (asked_by profiled q') → q' ≡ q
     same_query profiled q' spelled = one_query profiled asked.profiled q' q (same_tree (asked_by profiled q') (asked_by asked.profiled q) spelled asked.spelled)
 
-    same_question : (q' : Query) (b' : Bound) (reply : Reply) → IsAsked graph statement q' b' → IsPermitted (question second q' b') reply
+    same_question : (q' : Query) (b' : Bound) (reply : Reply) → IsAsked graph params statement q' b' → IsPermitted (question second q' b') reply
         → IsPermitted (question first q b) reply
     same_question q' b' reply asked' permitted =
         let query : q' ≡ q = same_query asked'.profiled q' asked'.spelled in
@@ -137,7 +148,7 @@ module _ (graph : Graph) (settings : Settings) (one other : Form) (statement : L
         subst (λ k. IsPermitted (question first q k) reply) bound (subst (λ k. IsPermitted (question first k b') reply) query permitted)
 
   -- rows were answered, and there is none
-  both_stopped : (lines : List (List Val)) (text text' : List ℕ) (rows : RepliesWith first statement (Rows lines) text) → IsStopped second statement text' → AsksOne graph statement
+  both_stopped : (lines : List (List Val)) (text text' : List ℕ) (rows : RepliesWith first params statement (Rows lines) text) → IsStopped second params statement text' → AsksOne graph params statement
   both_stopped lines text text' rows (inl (fault, faulted)) =
       let cut = some_looked (question first rows.query rows.bound) lines rows.permitted fault
       (same_question rows.query rows.bound rows.asked faulted.query faulted.bound (Faulted fault) faulted.asked faulted.permitted) in
@@ -147,63 +158,114 @@ module _ (graph : Graph) (settings : Settings) (one other : Form) (statement : L
       (same_question rows.query rows.bound rows.asked many.query many.bound TooManyRows many.asked many.permitted))
 
   -- a statement that was answered and is refused asks a query of which not all outcomes are looked at
-  both_replies : (text text' : List ℕ) → IsAnswered first statement text → IsRefused second statement text' → AsksOne graph statement
+  both_replies : (text text' : List ℕ) → IsAnswered first params statement text → IsRefused second params statement text' → AsksOne graph params statement
   both_replies text text' (inl blank) refused = absurd (refused.written blank.0)
   both_replies text text' (inr (inl (spelled, is))) refused =
-      absurd (no_refusal tree.Schema spelled refl (λ unbuilt. unbuilt) (λ profiled query same. not_schema profiled query same) text' refused.why)
-  both_replies text text' (inr (inr (inl shows))) refused =
-      absurd (no_refusal (tree.Plan shows.query) shows.spelled shows.binds.accepted (λ unbuilt. unbuilt) (λ profiled query same. not_plan profiled query shows.query same) text' refused.why)
-  both_replies text text' (inr (inr (inr (lines, replies)))) refused =
+      absurd (no_refusal tree.Schema spelled refl (λ name value same. cc same) (λ profiled query same. not_schema profiled query same) text' refused.why)
+  both_replies text text' (inr (inr (inl sets))) refused =
+      absurd (no_refusal (tree.Param sets.name sets.value) sets.spelled refl (has_room sets) (λ profiled query same. not_param profiled query sets.name sets.value same) text' refused.why)
+  both_replies text text' (inr (inr (inr (inl shows)))) refused =
+      absurd (no_refusal (tree.Plan shows.query) shows.spelled shows.binds.accepted (λ name value same. cc same) (λ profiled query same. not_plan profiled query shows.query same) text' refused.why)
+  both_replies text text' (inr (inr (inr (inr (lines, replies))))) refused =
       both_stopped lines text text' replies
       (is_stopped (asked_by replies.asked.profiled replies.query) replies.asked.spelled (refusal_is replies.asked.profiled statement replies.query graph.catalog ∙ replies.asked.binds.accepted)
-      (built replies.asked.profiled replies.query) text' refused.why)
+      (λ name value same full. not_param replies.asked.profiled replies.query name value same) text' refused.why)
+
+-- the parameters behind two replies of one tone are the same
+same_params : (params : List Param) (statement : List ℕ) (t : Tone) (behind behind' : List Param) → AreBehind params statement t behind → AreBehind params statement t behind' → behind ≡ behind'
+same_params params statement tone.Good behind behind' (inl (blank, is)) (inl (blank', is')) = is ∙ sym is'
+same_params params statement tone.Good behind behind' (inl (blank, is)) (inr (s, spelled, is')) = absurd (not_blank statement params s spelled blank)
+same_params params statement tone.Good behind behind' (inr (s, spelled, is)) (inl (blank, is')) = absurd (not_blank statement params s spelled blank)
+same_params params statement tone.Good behind behind' (inr (s, spelled, is)) (inr (s', spelled', is')) = is ∙ ap (λ u. params_behind u params) (one_tree params statement s s' spelled spelled') ∙ sym is'
+same_params params statement tone.Refused behind behind' is is' = is ∙ sym is'
+same_params params statement tone.Memory behind behind' is is' = is ∙ sym is'
 
 -- the tones of replies agree, or memory ended at one of them, or a statement asks such a query
 abbrev pub Agree : Type 0 → Tone → Tone → Type 0
 Agree Asks t u = (t ≡ u) ⊎ (t ≡ tone.Memory) ⊎ (u ≡ tone.Memory) ⊎ Asks
 
-one_tone : (graph : Graph) (settings : Settings) (one other : Form) (statement : List ℕ) (t u : Tone) (x y : List ℕ)
-    → IsReply (record { graph = graph; settings = settings; form = one }) statement t x → IsReply (record { graph = graph; settings = settings; form = other }) statement u y
-    → Agree (AsksOne graph statement) t u
-one_tone graph settings one other statement tone.Good tone.Good x y p q = inl refl
-one_tone graph settings one other statement tone.Good tone.Refused x y p q = inr (inr (inr (both_replies graph settings one other statement x y p q)))
-one_tone graph settings one other statement tone.Refused tone.Good x y p q = inr (inr (inr (both_replies graph settings other one statement y x q p)))
-one_tone graph settings one other statement tone.Refused tone.Refused x y p q = inl refl
-one_tone graph settings one other statement tone.Memory u x y p q = inr (inl refl)
-one_tone graph settings one other statement tone.Good tone.Memory x y p q = inr (inr (inl refl))
-one_tone graph settings one other statement tone.Refused tone.Memory x y p q = inr (inr (inl refl))
-
 -- ---- statements
 
--- some statement asks such a query
-pub record AsksSome (graph : Graph) (statements : List (List ℕ)) : Type 0 where
+-- some statement asks such a query, with the parameters that stand behind those before it
+pub record AsksSome (c : Context) (params : List Param) (statements : List (List ℕ)) : Type 0 where
   pub place : ℕ
   pub statement : List ℕ
   pub at : slice_get statements place ≡ Some statement
-  pub asks : AsksOne graph statement
+  pub behind : List Param
+  pub stand : StandBehind c params (take place statements) behind
+  pub asks : AsksOne c.graph behind statement
 
-later : (graph : Graph) (s : List ℕ) (ss : List (List ℕ)) → AsksSome graph ss → AsksSome graph (s ∷ ss)
-later graph s ss asks = record { place = suc asks.place; statement = asks.statement; at = asks.at; asks = asks.asks }
+not_worse : (a t : Tone) → ¬ (a ≡ tone.Memory) → ¬ (t ≡ tone.Memory) → ¬ (worse a t ≡ tone.Memory)
+not_worse tone.Good t left right same = right same
+not_worse tone.Refused tone.Good left right same = cc same
+not_worse tone.Refused tone.Refused left right same = cc same
+not_worse tone.Refused tone.Memory left right same = right refl
+not_worse tone.Memory t left right same = left refl
+
+later : (c : Context) (params next : List Param) (s : List ℕ) (ss : List (List ℕ)) (a : Tone) (reply : List ℕ) → IsTurn c params s a reply next → ¬ (a ≡ tone.Memory) → AsksSome c next ss
+    → AsksSome c params (s ∷ ss)
+later c params next s ss a reply is some asks =
+    let (t, text, replies, enough) = asks.stand in
+    record {
+      place = suc asks.place;
+      statement = asks.statement;
+      at = asks.at;
+      behind = asks.behind;
+      stand = (worse a t, reply ++ text, (a, t, reply, text, next, is, replies, refl, refl), not_worse a t some enough);
+      asks = asks.asks;
+    }
 
 worse_memory : (t : Tone) → worse t tone.Memory ≡ tone.Memory
 worse_memory tone.Good = refl
 worse_memory tone.Refused = refl
 worse_memory tone.Memory = refl
 
+by_memory : (t : Tone) → (t ≡ tone.Memory) ⊎ (¬ (t ≡ tone.Memory))
+by_memory tone.Good = inr (λ same. cc same)
+by_memory tone.Refused = inr (λ same. cc same)
+by_memory tone.Memory = inl refl
+
 module _ (graph : Graph) (settings : Settings) (one other : Form) where
-  pub tones_agree : (ss : List (List ℕ)) (t u : Tone) (x y : List ℕ)
-      → Replies (IsReply (record { graph = graph; settings = settings; form = one })) ss t x
-      → Replies (IsReply (record { graph = graph; settings = settings; form = other })) ss u y → Agree (AsksSome graph ss) t u
-  tones_agree [] t u x y p q = inl (p.0 ∙ sym q.0)
-  tones_agree (s ∷ ss) t u x y (a, v, reply, more, is, rest, worst, whole) (b, w, reply', more', is', rest', worst', whole') =
-      elim (one_tone graph settings one other s a b reply reply' is is') [
-        | inl same ↦ elim (tones_agree ss v w more more' rest rest') [
-          | inl equal ↦ inl (worst ∙ ap₂ worse same equal ∙ sym worst')
-          | inr (inl memory) ↦ inr (inl (worst ∙ ap (λ z. worse a z) memory ∙ worse_memory a))
-          | inr (inr (inl memory)) ↦ inr (inr (inl (worst' ∙ ap (λ z. worse b z) memory ∙ worse_memory b)))
-          | inr (inr (inr asks)) ↦ inr (inr (inr (later graph s ss asks)))
+  abbrev here : Context
+  here = record { graph = graph; settings = settings; form = one }
+
+  abbrev there : Context
+  there = record { graph = graph; settings = settings; form = other }
+
+  one_tone : (params : List Param) (statement : List ℕ) (t u : Tone) (x y : List ℕ) → IsReply here params statement t x → IsReply there params statement u y
+      → Agree (AsksOne graph params statement) t u
+  one_tone params statement tone.Good tone.Good x y p q = inl refl
+  one_tone params statement tone.Good tone.Refused x y p q = inr (inr (inr (both_replies graph settings one other params statement x y p q)))
+  one_tone params statement tone.Refused tone.Good x y p q = inr (inr (inr (both_replies graph settings other one params statement y x q p)))
+  one_tone params statement tone.Refused tone.Refused x y p q = inl refl
+  one_tone params statement tone.Memory u x y p q = inr (inl refl)
+  one_tone params statement tone.Good tone.Memory x y p q = inr (inr (inl refl))
+  one_tone params statement tone.Refused tone.Memory x y p q = inr (inr (inl refl))
+
+  pub tones_agree : (params behind behind' : List Param) (ss : List (List ℕ)) (t u : Tone) (x y : List ℕ) → Replies (IsTurn here) params behind ss t x → Replies (IsTurn there) params behind' ss u y
+      → Agree (AsksSome here params ss) t u
+  tones_agree params behind behind' [] t u x y p q = inl (p.0 ∙ sym q.0)
+  tones_agree params behind behind' (s ∷ ss) t u x y (a, v, reply, more, next, is, rest, worst, whole) (b, w, reply', more', next', is', rest', worst', whole') =
+      elim (one_tone params s a b reply reply' is.0 is'.0) [
+        | inl same ↦ elim (by_memory a) [
+          | inl memory ↦ inr (inl (worst ∙ ap (λ z. worse z v) memory))
+          | inr some ↦ (
+              let left : next' ≡ next = same_params params s a next' next (subst (λ z. AreBehind params s z next') (sym same) is'.1) is.1 in
+              elim (tones_agree next behind behind' ss v w more more' rest (subst (λ z. Replies (IsTurn there) z behind' ss w more') left rest')) [
+                | inl equal ↦ inl (worst ∙ ap₂ worse same equal ∙ sym worst')
+                | inr (inl memory) ↦ inr (inl (worst ∙ ap (λ z. worse a z) memory ∙ worse_memory a))
+                | inr (inr (inl memory)) ↦ inr (inr (inl (worst' ∙ ap (λ z. worse b z) memory ∙ worse_memory b)))
+                | inr (inr (inr asks)) ↦ inr (inr (inr (later here params next s ss a reply is some asks)))
+              ])
         ]
         | inr (inl memory) ↦ inr (inl (worst ∙ ap (λ z. worse z v) memory))
         | inr (inr (inl memory)) ↦ inr (inr (inl (worst' ∙ ap (λ z. worse z w) memory)))
-        | inr (inr (inr asks)) ↦ inr (inr (inr (record { place = 0; statement = s; at = refl; asks = asks })))
+        | inr (inr (inr asks)) ↦ inr (inr (inr (record {
+          place = 0;
+          statement = s;
+          at = refl;
+          behind = params;
+          stand = (tone.Good, [], (refl, refl, refl), λ same. cc same);
+          asks = asks;
+        })))
       ]

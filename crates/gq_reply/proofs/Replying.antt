@@ -3,7 +3,7 @@ use Rattle.std.proofs.Common.{◌≡◌, ℕ, Bool, true, false, Option, List, [
 use Rattle.std.specs.List.{AllZip}
 use Rattle.std.proofs.lemmas.List.{length-map}
 use Rattle.std.proofs.lemmas.Slice.Zip.{AllZip-long}
-use Rattle.std.specs.Prelude.{◌<◌, All, ◌++◌, codes, decimal, Result}
+use Rattle.std.specs.Prelude.{◌<◌, All, ◌++◌, codes, decimal, IfOk, Result}
 use Rattle.gq_base.specs.Catalogs.{Tables}
 use Rattle.gq_base.specs.declared.literal.Literal.{Literal}
 use Rattle.gq_binder.specs.Binding.{Answers, IsBound}
@@ -31,9 +31,10 @@ use Rattle.gq_render.specs.Texts.{line, refusal_line}
 use Rattle.gq_reply.specs.BindLines.{bind_line}
 use Rattle.gq_reply.specs.steps.BindLines.{bind_tone}
 use Rattle.gq_reply.specs.Bindings.{bind_refusal}
-use Rattle.gq_reply.specs.Replies.{Context, IsAsked, IsText, asked_by, IsBlank, IsRefused, IsReply, IsStopped, IsUnbuilt, RepliesWith, question, refusal_text}
+use Rattle.gq_reply.specs.Replies.{AreBehind, Context, IsAsked, IsBlank, IsRefused, IsReply, IsStopped, IsText, IsTurn, RepliesWith, asked_by, params_behind, question, refusal_text}
 use Rattle.gq_reply.specs.ReplyTexts.{columns_each, fault_text, many_text, rows_text, spent_text}
-use Rattle.gq_reply.specs.steps.Steps.{MayAsk, answer_text, MayShow, Replied, toned}
+use Rattle.gq_reply.specs.steps.Steps.{MayAsk, MaySet, MayShow, Replied, answer_text, behind_set, toned}
+use Rattle.gq_session.specs.Replies.{Answered}
 use Rattle.gq_session.specs.Sessions.{Span}
 use Rattle.gq_session.specs.declared.answering.Tone.{Tone}
 use Rattle.gq_session.specs.declared.answering.Tone.TheVariants as tone
@@ -46,6 +47,9 @@ use Rattle.gq_syntax.specs.declared.statement.Clause.{Clause}
 use Rattle.gq_syntax.specs.declared.statement.Query.{Query}
 use Rattle.gq_syntax.specs.declared.statement.Statement.{Statement}
 use Rattle.gq_syntax.specs.declared.statement.Statement.TheVariants as tree
+use Rattle.gq_tokens.specs.Parameters.{with_value}
+use Rattle.gq_tokens.specs.Words.{Name}
+use Rattle.gq_tokens.specs.declared.params.Param.{Param}
 
 -- ---- replies that were written
 
@@ -87,11 +91,11 @@ spelled_not_blank statement values tokens s lexes spelled blank =
     let none : tokens ≡ [] = cc in
     nothing_spells values 64 s (subst (λ ts. SpelledStatement values 64 ts s) none spelled)
 
-not_blank : (statement : List ℕ) (s : Statement) → SpelledText statement [] s → ¬ (IsBlank statement)
-not_blank statement s text = spelled_not_blank statement _ text.tokens s text.lexes text.spelled
+pub not_blank : (statement : List ℕ) (params : List Param) (s : Statement) → SpelledText statement params s → ¬ (IsBlank statement)
+not_blank statement params s text = spelled_not_blank statement _ text.tokens s text.lexes text.spelled
 
-unknown_not_blank : (statement name : List ℕ) → UnknownIn statement [] name → ¬ (IsBlank statement)
-unknown_not_blank statement name unknown = spelled_not_blank statement unknown.values unknown.tokens unknown.s unknown.lexes unknown.spelled
+unknown_not_blank : (statement : List ℕ) (params : List Param) (name : List ℕ) → UnknownIn statement params name → ¬ (IsBlank statement)
+unknown_not_blank statement params name unknown = spelled_not_blank statement unknown.values unknown.tokens unknown.s unknown.lexes unknown.spelled
 
 lex_not_blank : (statement : List ℕ) (at : ℕ) → lexed statement ≡ Err at → ¬ (IsBlank statement)
 lex_not_blank statement at fails blank = let e : ◌≡◌ {A = Lexed} (Err at) (Ok []) = sym fails ∙ blank in cc
@@ -109,39 +113,34 @@ pub at_byte : (front : List ℕ) (at : ℕ) → refusal_line front [] (record { 
 at_byte front at = ap line (ap (λ f. f ++ (decimal at ++ [])) (append-nil front) ∙ ap (λ n. front ++ n) (append-nil (decimal at)))
 
 -- the line of a statement that the grammar refuses
-wrong : (c : Context) (statement text : List ℕ) (why : SyntaxRefusal) → ¬ (IsBlank statement) → Cause statement [] (Err why) → refusal_text why ≡ Some text → IsRefused c statement text
-wrong c statement text why written cause is = record { written = written; why = inl (record { why = why; cause = cause; is = is }) }
+wrong : (c : Context) (params : List Param) (statement text : List ℕ) (why : SyntaxRefusal) → ¬ (IsBlank statement) → Cause statement params (Err why) → refusal_text why ≡ Some text
+    → IsRefused c params statement text
+wrong c params statement text why written cause is = record { written = written; why = inl (record { why = why; cause = cause; is = is }) }
 
-module _ (c : Context) (statement : List ℕ) where
-  pub wrong_lex : (at : ℕ) → lexed statement ≡ Err at → IsReply c statement tone.Refused (line (codes "error: Lex at byte " ++ decimal at))
-  wrong_lex at cause = wrong c statement _ (refusal.Lex at) (lex_not_blank statement at cause) cause refl
+module _ (c : Context) (params : List Param) (statement : List ℕ) where
+  pub wrong_lex : (at : ℕ) → lexed statement ≡ Err at → IsReply c params statement tone.Refused (line (codes "error: Lex at byte " ++ decimal at))
+  wrong_lex at cause = wrong c params statement _ (refusal.Lex at) (lex_not_blank statement at cause) cause refl
 
-  pub wrong_syntax : (at : ℕ) → ¬ (IsBlank statement) → SyntaxAt statement at → IsReply c statement tone.Refused (line (codes "error: Syntax at byte " ++ decimal at))
-  wrong_syntax at written cause = wrong c statement _ (refusal.Syntax at) written cause refl
+  pub wrong_syntax : (at : ℕ) → ¬ (IsBlank statement) → SyntaxAt statement at → IsReply c params statement tone.Refused (line (codes "error: Syntax at byte " ++ decimal at))
+  wrong_syntax at written cause = wrong c params statement _ (refusal.Syntax at) written cause refl
 
-  pub wrong_depth : (at : ℕ) → DepthAt statement at → IsReply c statement tone.Refused (line (codes "error: Depth at byte " ++ decimal at))
-  wrong_depth at cause = wrong c statement _ (refusal.Depth at) (depth_not_blank statement at cause) cause refl
+  pub wrong_depth : (at : ℕ) → DepthAt statement at → IsReply c params statement tone.Refused (line (codes "error: Depth at byte " ++ decimal at))
+  wrong_depth at cause = wrong c params statement _ (refusal.Depth at) (depth_not_blank statement at cause) cause refl
 
-  pub wrong_unknown : (name : List ℕ) → UnknownIn statement [] name → IsReply c statement tone.Refused (refusal_line (codes "error: UnknownParameter ") name [])
-  wrong_unknown name cause = wrong c statement _ (refusal.UnknownParameter name) (unknown_not_blank statement name cause) cause refl
+  pub wrong_unknown : (name : List ℕ) → UnknownIn statement params name → IsReply c params statement tone.Refused (refusal_line (codes "error: UnknownParameter ") name [])
+  wrong_unknown name cause = wrong c params statement _ (refusal.UnknownParameter name) (unknown_not_blank statement params name cause) cause refl
 
   -- what becomes of a statement that its tokens spell
-  module _ (form : Statement) (spelled : SpelledText statement [] form) where
-    pub unbound_line : (why : BindRefusal) → bind_refusal form statement c.graph.catalog ≡ Some why → IsReply c statement tone.Refused (bind_line why)
+  module _ (form : Statement) (spelled : SpelledText statement params form) where
+    pub unbound_line : (why : BindRefusal) → bind_refusal form statement c.graph.catalog ≡ Some why → IsReply c params statement tone.Refused (bind_line why)
     unbound_line why refused = record {
-      written = not_blank statement form spelled;
+      written = not_blank statement params form spelled;
       why = inr (inl (record { tree = form; spelled = spelled; why = why; refused = refused; is = refl }));
-    }
-
-    pub unbuilt_line : IsUnbuilt c.graph statement form → IsReply c statement tone.Refused (line (codes "error: NotBuilt"))
-    unbuilt_line other = record {
-      written = not_blank statement form spelled;
-      why = inr (inr (inl (record { tree = form; spelled = spelled; other = other; is = refl })));
     }
 
     -- a query that the binder does not accept
     pub unbound : (query : Query) → bind_refusal form statement c.graph.catalog ≡ first_refusal query statement c.graph.catalog → (e : BindRefusal) → Answers query statement c.graph.catalog (Err e)
-        → IsReply c statement (bind_tone e) (bind_line e)
+        → IsReply c params statement (bind_tone e) (bind_line e)
     unbound query of bind.Memory refused = refl
     unbound query of bind.NotBuilt refused = unbound_line bind.NotBuilt (of ∙ refused)
     unbound query of (bind.UnknownVariable name) refused = unbound_line (bind.UnknownVariable name) (of ∙ refused)
@@ -160,7 +159,7 @@ module _ (c : Context) (statement : List ℕ) where
 
 -- ---- queries
 
-module _ (c : Context) (statement : List ℕ) (query : Query) (bound : Bound) where
+module _ (c : Context) (params : List Param) (statement : List ℕ) (query : Query) (bound : Bound) where
   -- a fault and too many rows stand alone, behind `:profile` too
   fault_alone : (profiled : Bool) (f : Fault) (text : List ℕ) → text ≡ fault_text f → IsText c profiled query bound (Faulted f) text
   fault_alone true f text is = is
@@ -170,25 +169,95 @@ module _ (c : Context) (statement : List ℕ) (query : Query) (bound : Bound) wh
   many_alone true text is = is
   many_alone false text is = is
 
-  module _ (asked : IsAsked c.graph statement query bound) where
-    replies_with : (reply : Reply) (text : List ℕ) → IsPermitted (question c query bound) reply → IsText c asked.profiled query bound reply text → RepliesWith c statement reply text
+  module _ (asked : IsAsked c.graph params statement query bound) where
+    replies_with : (reply : Reply) (text : List ℕ) → IsPermitted (question c query bound) reply → IsText c asked.profiled query bound reply text → RepliesWith c params statement reply text
     replies_with reply text permitted is = record { query = query; bound = bound; asked = asked; permitted = permitted; is = is }
 
-    stopped : (text : List ℕ) → IsStopped c statement text → IsRefused c statement text
-    stopped text h = record { written = not_blank statement (asked_by asked.profiled query) asked.spelled; why = inr (inr (inr h)) }
+    stopped : (text : List ℕ) → IsStopped c params statement text → IsRefused c params statement text
+    stopped text h = record { written = not_blank statement params (asked_by asked.profiled query) asked.spelled; why = inr (inr (inr h)) }
 
     -- the reply to the query that a statement asks, or whose profile it asks for, replies to it
-    pub may_reply : (t : Tone) (text : List ℕ) → MayAsk c asked.profiled query bound t text → IsReply c statement t text
-    may_reply tone.Good text (lines, permitted, is) = inr (inr (inr (lines, replies_with (Rows lines) text permitted is)))
+    pub may_reply : (t : Tone) (text : List ℕ) → MayAsk c asked.profiled query bound t text → IsReply c params statement t text
+    may_reply tone.Good text (lines, permitted, is) = inr (inr (inr (inr (lines, replies_with (Rows lines) text permitted is))))
     may_reply tone.Refused text (inl (f, permitted, is)) = stopped text (inl (f, replies_with (Faulted f) text permitted (fault_alone asked.profiled f text is)))
     may_reply tone.Refused text (inr (permitted, is)) = stopped text (inr (replies_with TooManyRows text permitted (many_alone asked.profiled text is)))
     may_reply tone.Memory text is = is
 
   -- the plans of the query that a statement spells reply to it
-  pub may_show : SpelledText statement [] (tree.Plan query) → IsBound query statement c.graph.catalog bound → (t : Tone) (text : List ℕ) → MayShow c bound t text → IsReply c statement t text
-  may_show spelled binds tone.Good text is = inr (inr (inl (record { query = query; bound = bound; spelled = spelled; binds = binds; is = is })))
+  pub may_show : SpelledText statement params (tree.Plan query) → IsBound query statement c.graph.catalog bound → (t : Tone) (text : List ℕ) → MayShow c bound t text → IsReply c params statement t text
+  may_show spelled binds tone.Good text is = inr (inr (inr (inl (record { query = query; bound = bound; spelled = spelled; binds = binds; is = is }))))
   may_show spelled binds tone.Refused text is = absurd is
   may_show spelled binds tone.Memory text is = is
+
+-- ---- parameters
+
+-- a query leaves the parameters
+pub asked_behind : (profiled : Bool) (query : Query) (params : List Param) → params_behind (asked_by profiled query) params ≡ params
+asked_behind false query params = refl
+asked_behind true query params = refl
+
+module _ (params : List Param) (statement : List ℕ) where
+  -- the parameters behind a statement that sets one
+  set_behind : (name : Name) (value : Literal) → SpelledText statement params (tree.Param name value) → (t : Tone) (behind : List Param) → behind ≡ behind_set params name value t
+      → AreBehind params statement t behind
+  set_behind name value spelled tone.Good behind is = inr (tree.Param name value, spelled, is)
+  set_behind name value spelled tone.Refused behind is = is
+  set_behind name value spelled tone.Memory behind is = is
+
+  pub set_after : (name : Name) (value : Literal) → SpelledText statement params (tree.Param name value) → (behind : List Param) (result : Result Tone Failed)
+      → IfOk result (λ t. behind ≡ behind_set params name value t) → IfOk result (λ t. AreBehind params statement t behind)
+  set_after name value spelled behind (Ok t) is = set_behind name value spelled t behind is
+  set_after name value spelled behind (Err failed) is = tt
+
+  -- any other statement leaves them
+  pub same_behind : (s : Statement) → SpelledText statement params s → params_behind s params ≡ params → (t : Tone) → AreBehind params statement t params
+  same_behind s spelled same tone.Good = inr (s, spelled, sym same)
+  same_behind s spelled same tone.Refused = refl
+  same_behind s spelled same tone.Memory = refl
+
+module _ (c : Context) (params : List Param) (statement : List ℕ) where
+  -- the reply to a statement that sets a parameter
+  pub may_set : (name : Name) (value : Literal) → SpelledText statement params (tree.Param name value) → (t : Tone) (text : List ℕ) → MaySet params name value t text → IsReply c params statement t text
+  may_set name value spelled tone.Good text (room, is) = inr (inr (inl (record { name = name; value = value; spelled = spelled; room = room; is = is })))
+  may_set name value spelled tone.Refused text (full, is) = record {
+    written = not_blank statement params (tree.Param name value) spelled;
+    why = inr (inr (inl (record { name = name; value = value; spelled = spelled; full = full; is = is })));
+  }
+  may_set name value spelled tone.Memory text is = is
+
+  -- each reply has parameters behind it
+  some_behind : (t : Tone) (text : List ℕ) → IsReply c params statement t text → (behind : List Param) × AreBehind params statement t behind
+  some_behind tone.Good text (inl (blank, is)) = (params, inl (blank, refl))
+  some_behind tone.Good text (inr (inl (spelled, is))) = (params, inr (tree.Schema, spelled, refl))
+  some_behind tone.Good text (inr (inr (inl sets))) = (with_value sets.name sets.value params, inr (tree.Param sets.name sets.value, sets.spelled, refl))
+  some_behind tone.Good text (inr (inr (inr (inl shows)))) = (params, inr (tree.Plan shows.query, shows.spelled, refl))
+  some_behind tone.Good text (inr (inr (inr (inr (lines, replies))))) = (params, inr (asked_by replies.asked.profiled replies.query, replies.asked.spelled, sym (asked_behind replies.asked.profiled replies.query params)))
+  some_behind tone.Refused text may = (params, refl)
+  some_behind tone.Memory text may = (params, refl)
+
+  -- a reply that was written, with the parameters behind it, is a turn
+  pub turned : (behind : List Param) (out : Span) (result : Result Tone Failed) → Replied (IsReply c params statement) out result → IfOk result (λ t. AreBehind params statement t behind)
+      → Answered (IsTurn c params statement) behind out.old out.new result
+  turned behind out (Ok t) r is = let (text, may, moved) = r.bytes in (text, (may, is), moved)
+  turned behind out (Err failed) r is =
+      let (t, text, may, moved) = r.bytes in
+      let (later, behind') = some_behind t text may in
+      (t, text, later, (may, behind'), moved)
+
+-- what holds of the tone of a line holds of the tone that is answered
+pub by_tone : (P : Tone → Type 0) (t : Tone) → P t → (written : Result (Unit {0}) Failed) (result : Result Tone Failed) → result ≡ toned written t → IfOk result P
+by_tone P t is (Ok done) result same = rw same is
+by_tone P t is (Err failed) result same = rw same tt
+
+-- what holds for each of some holds for one
+pub for_one : {T E X : Type 0} (P : X → T → Type 0) (x : X) (r : Result T E) → IfOk r (λ t. (y : X) → P y t) → IfOk r (P x)
+for_one P x (Ok t) all = all x
+for_one P x (Err e) all = tt
+
+-- what holds of each value holds of that of a result
+pub if_each : {T E : Type 0} (P : T → Type 0) (r : Result T E) → ((t : T) → P t) → IfOk r P
+if_each P (Ok t) all = all t
+if_each P (Err e) all = tt
 
 -- ---- plans
 
@@ -209,11 +278,11 @@ begun query text catalog bound is = λ k d lt. omega (arith, is.has_node, is.nod
 -- ---- profiles
 
 -- a query is spelled, behind `:profile` or not
-pub spelled_query : (profiled : Bool) (statement : List ℕ) (query : Query) → SpelledText statement [] (asked_by profiled query) → SpelledQuery statement query
-spelled_query false statement query spelled = ([], inl spelled)
-spelled_query true statement query spelled = ([], inr (inr spelled))
+pub spelled_query : (profiled : Bool) (params : List Param) (statement : List ℕ) (query : Query) → SpelledText statement params (asked_by profiled query) → SpelledQuery statement query
+spelled_query false params statement query spelled = (params, inl spelled)
+spelled_query true params statement query spelled = (params, inr (inr spelled))
 
--- so what the binder says of it is what it says of the statement
+-- what the binder says of it is what it says of the statement
 pub refusal_is : (profiled : Bool) (statement : List ℕ) (query : Query) (catalog : Tables) → bind_refusal (asked_by profiled query) statement catalog ≡ first_refusal query statement catalog
 refusal_is false statement query catalog = refl
 refusal_is true statement query catalog = refl

@@ -6,6 +6,7 @@
 
 mod bind_line;
 mod blank;
+mod param;
 mod plans;
 mod query;
 mod replier;
@@ -13,4 +14,4 @@ mod spent;
 mod statement;
 mod tone;
 
-pub use replier::{Form, Replier};
+pub use replier::{Form, Replier, Workspace};

@@ -1,20 +1,24 @@
 //! The reply to a statement.
 
-ghost use Rattle.std.specs.Prelude.{◌≡◌, ◌≤◌, ◌++◌, [], length, decimal};
+ghost use Rattle.std.specs.Prelude.{◌≡◌, ◌≤◌, ◌++◌, List, length, decimal, true, IfOk};
 ghost use Rattle.gq_io.specs.Causes.{HasCause};
 ghost use Rattle.gq_io.specs.Outside.{Writes};
 ghost use Rattle.gq_pool.specs.Pool.{spare_of};
 ghost use Rattle.gq_render.specs.Texts.{line};
 ghost use Rattle.gq_reply.specs.BindLines.{bind_line};
-ghost use Rattle.gq_reply.specs.Replies.{IsReply, asked_by, context_of};
+ghost use Rattle.gq_reply.specs.Replies.{AreBehind, IsReply, asked_by, context_of};
 ghost use Rattle.gq_reply.specs.steps.Steps.{Replied};
 ghost use Rattle.gq_session.specs.Sessions.{span_of};
 ghost use Rattle.gq_syntax.specs.Outcomes.{SpelledText, SyntaxAt};
+ghost use Rattle.gq_syntax.specs.Spans.{SpelledQuery};
 ghost use Rattle.gq_syntax.specs.declared.statement.Statement.TheVariants as tree;
+ghost use Rattle.gq_tokens.specs.Parameters.{are_params};
+ghost use Rattle.gq_tokens.specs.declared.params.Param.{Param};
 
 use crate::bind_line::{named, tone_of, write_bind_refusal};
 use crate::blank::is_blank;
-use crate::replier::Replier;
+use crate::param::reply_to_param;
+use crate::replier::{Replier, Workspace};
 use crate::tone::toned;
 use gq_base::Memory;
 use gq_binder::bind;
@@ -23,7 +27,7 @@ use gq_io::{Failed, Sink, write_all};
 use gq_pool::VectorPool;
 use gq_render::{Place, write_refusal};
 use gq_session::Tone;
-use gq_syntax::{Params, Query, Statement, SyntaxRefusal, parse};
+use gq_syntax::{Query, Statement, SyntaxRefusal, parse};
 
 // Writes a line that ends in the number of a byte.
 fn write_at<O: Sink>(out: &mut O, front: &str, at: u32) -> Result<(), Failed>
@@ -48,9 +52,11 @@ impl Replier<'_> {
         query: &Query,
         profiled: bool,
     ) -> Result<Tone, Failed>
-        requires spelled { SpelledText statement.now [] (asked_by profiled query.now) }
+        requires spelled { SpelledQuery statement.now query.now }
         requires slots { 112 ≤ spare_of pool.old }
-        ensures replies { Replied (IsReply (context_of self.now) statement.now)
+        ensures replies { (params : List Param)
+            → SpelledText statement.now params (asked_by profiled query.now)
+            → Replied (IsReply (context_of self.now) params statement.now)
             (span_of O.taken O.faults out.old out.new) result }
         ensures slots { spare_of pool.new ≡ spare_of pool.old }
     {
@@ -67,8 +73,9 @@ impl Replier<'_> {
         statement: &[u8],
         query: &Query,
     ) -> Result<Tone, Failed>
-        requires { SpelledText statement.now [] (tree.Plan query.now) }
-        ensures { Replied (IsReply (context_of self.now) statement.now)
+        requires { SpelledQuery statement.now query.now }
+        ensures { (params : List Param) → SpelledText statement.now params (tree.Plan query.now)
+            → Replied (IsReply (context_of self.now) params statement.now)
             (span_of O.taken O.faults out.old out.new) result }
     {
         match bind(self.alloc, query, statement, self.graph.catalog()) {
@@ -81,22 +88,27 @@ impl Replier<'_> {
     fn reply_to_tree<O: Sink>(
         &self,
         out: &mut O,
-        pool: &mut VectorPool,
+        workspace: &mut Workspace,
         statement: &[u8],
-        tree: &Statement,
+        tree: Statement,
     ) -> Result<Tone, Failed>
-        requires spelled { SpelledText statement.now [] tree.now }
-        requires slots { 112 ≤ spare_of pool.old }
-        ensures replies { Replied (IsReply (context_of self.now) statement.now)
+        requires spelled { SpelledText statement.now workspace.old.params tree }
+        requires params { are_params workspace.old.params ≡ true }
+        requires slots { 112 ≤ spare_of workspace.old.pool }
+        ensures replies { Replied (IsReply (context_of self.now) workspace.old.params statement.now)
             (span_of O.taken O.faults out.old out.new) result }
-        ensures slots { spare_of pool.new ≡ spare_of pool.old }
+        ensures behind { IfOk result (λ t. AreBehind workspace.old.params statement.now t
+            workspace.new.params) }
+        ensures params { are_params workspace.new.params ≡ true }
+        ensures slots { spare_of workspace.new.pool ≡ spare_of workspace.old.pool }
     {
+        let Workspace { pool, params } = workspace;
         match tree {
-            Statement::Query(query) => self.reply_to_asked(out, pool, statement, query, false),
-            Statement::Plan(query) => self.reply_to_planned(out, statement, query),
-            Statement::Profile(query) => self.reply_to_asked(out, pool, statement, query, true),
+            Statement::Query(query) => self.reply_to_asked(out, pool, statement, &query, false),
+            Statement::Plan(query) => self.reply_to_planned(out, statement, &query),
+            Statement::Profile(query) => self.reply_to_asked(out, pool, statement, &query, true),
             Statement::Schema => toned(write_schema(out, self.graph), Tone::Good),
-            Statement::Param(_, _) => toned(write_all(out, b"error: NotBuilt\n"), Tone::Refused),
+            Statement::Param(name, value) => reply_to_param(out, params, name, value),
         }
     }
 
@@ -109,8 +121,11 @@ impl Replier<'_> {
     ) -> Result<Tone, Failed>
         requires fits { length statement.now ≤ 65536 }
         requires cause { SyntaxAt statement.now at }
-        ensures { Replied (IsReply (context_of self.now) statement.now)
+        ensures replies { (params : List Param)
+            → Replied (IsReply (context_of self.now) params statement.now)
             (span_of O.taken O.faults out.old out.new) result }
+        ensures blank { IfOk result (λ t. (params : List Param)
+            → AreBehind params statement.now t params) }
     {
         match is_blank(self.alloc, statement) {
             Ok(true) => Ok(Tone::Good),
@@ -119,21 +134,26 @@ impl Replier<'_> {
         }
     }
 
-    /// Replies to a statement of at most 65,536 bytes.
+    /// Replies to a statement of at most 65,536 bytes, which may set one of the parameters. The pool
+    /// has as many free slots afterwards.
     pub(crate) fn reply<O: Sink>(
         &self,
         out: &mut O,
-        pool: &mut VectorPool,
+        workspace: &mut Workspace,
         statement: &[u8],
     ) -> Result<Tone, Failed>
         requires fits { length statement.now ≤ 65536 }
-        requires slots { 112 ≤ spare_of pool.old }
-        ensures replies { Replied (IsReply (context_of self.now) statement.now)
+        requires params { are_params workspace.old.params ≡ true }
+        requires slots { 112 ≤ spare_of workspace.old.pool }
+        ensures replies { Replied (IsReply (context_of self.now) workspace.old.params statement.now)
             (span_of O.taken O.faults out.old out.new) result }
-        ensures slots { spare_of pool.new ≡ spare_of pool.old }
+        ensures behind { IfOk result (λ t. AreBehind workspace.old.params statement.now t
+            workspace.new.params) }
+        ensures params { are_params workspace.new.params ≡ true }
+        ensures slots { spare_of workspace.new.pool ≡ spare_of workspace.old.pool }
     {
-        match parse(self.alloc, statement, &Params::new(self.alloc)) {
-            Ok(tree) => self.reply_to_tree(out, pool, statement, &tree),
+        match parse(self.alloc, statement, &workspace.params) {
+            Ok(tree) => self.reply_to_tree(out, workspace, statement, tree),
             Err(SyntaxRefusal::Lex { at }) => {
                 toned(write_at(out, "error: Lex at byte ", at), Tone::Refused)
             }

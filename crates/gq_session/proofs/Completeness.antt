@@ -9,7 +9,7 @@ use Rattle.gq_session.specs.declared.answering.Tone.{Tone}
 use Rattle.gq_session.specs.declared.run.Stop.{Stop}
 use Rattle.gq_session.specs.declared.run.Stop.TheVariants as stopped_by
 use Rattle.gq_session.specs.Scanning.{Place, start, stop, step, next_state, ends, ended_by, place_after, ended_in}
-use Rattle.gq_session.specs.Replies.{Replies, WroteFront}
+use Rattle.gq_session.specs.Replies.{Replies, Rule, WroteFront}
 use Rattle.gq_session.specs.Tones.{worse}
 use Rattle.gq_session.specs.declared.answering.Tone.TheVariants as tone
 use Rattle.gq_io.proofs.Moved.{Consumes-whole, front_longer}
@@ -142,85 +142,86 @@ some-eaten text None eaten took = absurd took
 some-eaten text (Some rest) eaten took = (rest, took)
 
 -- a front of the replies to some statements is one of the replies to more
-module _ (answers : List ℕ → Tone → List ℕ → Type 0) (total : (statement : List ℕ) → (t : Tone) × (reply : List ℕ) × answers statement t reply) where
-  some-replies : (ss : List (List ℕ)) → (t : Tone) × (text : List ℕ) × Replies answers ss t text
-  some-replies [] = (tone.Good, [], (refl, refl))
-  some-replies (s ∷ ss) =
-      let (t, reply, is) = total s in
-      let (u, more, rest) = some-replies ss in
-      (worse t u, reply ++ more, (t, u, reply, more, is, rest, refl, refl))
+module _ {S : Type 0} (answers : Rule S) (total : (before : S) (statement : List ℕ) → (t : Tone) × (reply : List ℕ) × (after : S) × answers before statement t reply after) where
+  some-replies : (before : S) (ss : List (List ℕ)) → (t : Tone) × (text : List ℕ) × (after : S) × Replies answers before after ss t text
+  some-replies before [] = (tone.Good, [], before, (refl, refl, refl))
+  some-replies before (s ∷ ss) =
+      let (t, reply, next, is) = total before s in
+      let (u, more, after, rest) = some-replies next ss in
+      (worse t u, reply ++ more, after, (t, u, reply, more, next, is, rest, refl, refl))
 
-  front-longer : (xs ys : List (List ℕ)) (a b : Option (List ℕ)) → WroteFront answers xs a b → WroteFront answers (xs ++ ys) a b
-  front-longer xs ys a b w =
-      let (t, text, rest) = some-replies ys in
+  front-longer : (before : S) (xs ys : List (List ℕ)) (a b : Option (List ℕ)) → WroteFront answers before xs a b → WroteFront answers before (xs ++ ys) a b
+  front-longer before xs ys a b w =
+      let (t, text, after, rest) = some-replies w.after ys in
       record {
+        after = after;
         tone = worse w.tone t;
         text = w.text ++ text;
-        replies = replies-append answers xs ys w.tone t w.text text w.replies rest;
+        replies = replies-append answers before w.after after xs ys w.tone t w.text text w.replies rest;
         moved = front_longer a b w.text text w.moved;
       }
 
-  module _ (long most : ℕ) where
+  module _ (before : S) (long most : ℕ) where
     -- a front of the replies to the statements of a text, whether a limit is passed or not
     partly-by : (text : List ℕ) (a b : Option (List ℕ)) (halts : Bool) → (place_after long most start text).stopped ≡ halts
-        → WroteFront answers (statements_of long most text) a b → Partly answers long most text a b
+        → WroteFront answers before (statements_of long most text) a b → Partly answers before long most text a b
     partly-by text a b true halted w = record {
       result = Err stopped_by.TooLong;
       replies = w.text;
-      permitted = (passed-whole long most text halted, (w.tone, subst (λ l. Replies answers l w.tone w.text) (rw halted (append-nil _)) w.replies));
+      permitted = (passed-whole long most text halted, (w.after, w.tone, subst (λ l. Replies answers before w.after l w.tone w.text) (rw halted (append-nil _)) w.replies));
       moved = w.moved;
     }
     partly-by text a b false alive w = record {
       result = Ok w.tone;
       replies = w.text;
-      permitted = (not-passed long most text alive, subst (λ l. Replies answers l w.tone w.text) (statements-are long most text alive) w.replies);
+      permitted = (not-passed long most text alive, (w.after, subst (λ l. Replies answers before w.after l w.tone w.text) (statements-are long most text alive) w.replies));
       moved = w.moved;
     }
 
-    partly : (text : List ℕ) (a b : Option (List ℕ)) → WroteFront answers (statements_of long most text) a b → Partly answers long most text a b
+    partly : (text : List ℕ) (a b : Option (List ℕ)) → WroteFront answers before (statements_of long most text) a b → Partly answers before long most text a b
     partly text a b w = partly-by text a b (place_after long most start text).stopped refl w
 
     abbrev last-of : List ℕ → List (List ℕ)
     last-of text = if (place_after long most start text).stopped then [] else (place_after long most start text).rest ∷ []
 
     -- a write failed: in the reply to a statement that ended, or in that to the last
-    broke-off : (text : List ℕ) (input out : Span) (h : Session answers long most input out (Err stopped_by.Write)) → input.old ≡ Some text → WroteFront answers (statements_of long most text) out.old out.new
-    broke-off text input out h told = elim h.ends.0 [
+    broke-off : (after : S) (text : List ℕ) (input out : Span) (h : Session answers before after long most input out (Err stopped_by.Write)) → input.old ≡ Some text → WroteFront answers before (statements_of long most text) out.old out.new
+    broke-off after text input out h told = elim h.ends.0 [
       | inl broke ↦
           let (left, whole) = some-eaten text input.new h.eaten (rw told at h.took) in
           let all : text ≡ broke.front ++ (broke.rest ++ left) = whole ∙ ap (λ l. l ++ left) broke.whole ∙ append_assoc broke.front broke.rest left in
-          rw all (subst (λ l. WroteFront answers l out.old out.new)
+          rw all (subst (λ l. WroteFront answers before l out.old out.new)
           (sym (ap (λ l. l ++ last-of (broke.front ++ (broke.rest ++ left))) (ended-append long most start broke.front (broke.rest ++ left))
           ∙ append_assoc (ended_in long most start broke.front) _ _))
-          (front-longer (ended_in long most start broke.front) _ out.old out.new broke.wrote))
+          (front-longer before (ended_in long most start broke.front) _ out.old out.new broke.wrote))
       | inr end ↦ rw (Consumes-whole text h.eaten input.new (rw told at h.took) end.0) end.1
     ]
 
-    complete_by : (input out : Span) (result : Result Tone Stop) → Session answers long most input out result → Whole answers long most input out result
-    complete_by input out (Ok t) h text told =
+    complete_by : (after : S) (input out : Span) (result : Result Tone Stop) → Session answers before after long most input out result → Whole answers before long most input out result
+    complete_by after input out (Ok t) h text told =
         let (alive, end, wrote) = h.ends in
         let all = Consumes-whole text h.eaten input.new (rw told at h.took) end in
         record {
           replies = wrote.text;
-          permitted = rw all (not-passed long most h.eaten alive, subst (λ l. Replies answers l t wrote.text) (statements-are long most h.eaten alive) wrote.replies);
+          permitted = rw all (not-passed long most h.eaten alive, (after, subst (λ l. Replies answers before after l t wrote.text) (statements-are long most h.eaten alive) wrote.replies));
           moved = wrote.moved;
         }
-    complete_by input out (Err stopped_by.TooLong) h text told =
+    complete_by after input out (Err stopped_by.TooLong) h text told =
         let (halted, t, wrote) = h.ends in
         let (rest, whole) = some-eaten text input.new h.eaten (rw told at h.took) in
         let same = place-append long most start h.eaten rest ∙ place-stopped long most _ rest halted in
         let all = ended-append long most start h.eaten rest ∙ ap (λ l. ended_in long most start h.eaten ++ l) (ended-stopped long most _ rest halted) ∙ append-nil _ in
         record {
           replies = wrote.text;
-          permitted = rw whole (passed-whole long most (h.eaten ++ rest) (ap (λ q. q.stopped) same ∙ halted), (t, subst (λ l. Replies answers l t wrote.text) (sym all) wrote.replies));
+          permitted = rw whole (passed-whole long most (h.eaten ++ rest) (ap (λ q. q.stopped) same ∙ halted), (after, t, subst (λ l. Replies answers before after l t wrote.text) (sym all) wrote.replies));
           moved = wrote.moved;
         }
-    complete_by input out (Err stopped_by.Read) h text told =
+    complete_by after input out (Err stopped_by.Read) h text told =
         let (t, wrote, rose) = h.ends in
         let (rest, whole) = some-eaten text input.new h.eaten (rw told at h.took) in
-        (record { front = h.eaten; back = rest; whole = whole; tone = t; wrote = wrote }, rose)
-    complete_by input out (Err stopped_by.Write) h text told = (partly text out.old out.new (broke-off text input out h told), h.ends.1)
+        (record { front = h.eaten; back = rest; whole = whole; after = after; tone = t; wrote = wrote }, rose)
+    complete_by after input out (Err stopped_by.Write) h text told = (partly text out.old out.new (broke-off after text input out h told), h.ends.1)
 
-pub complete : (answers : List ℕ → Tone → List ℕ → Type 0) (total : (statement : List ℕ) → (t : Tone) × (reply : List ℕ) × answers statement t reply) (long most : ℕ) (input out : Span) (result : Result Tone Stop)
-    → Session answers long most input out result → Whole answers long most input out result
-complete answers total long most input out result h = complete_by answers total long most input out result h
+pub complete : {S : Type 0} (answers : Rule S) (total : (before : S) (statement : List ℕ) → (t : Tone) × (reply : List ℕ) × (after : S) × answers before statement t reply after)
+    (before after : S) (long most : ℕ) (input out : Span) (result : Result Tone Stop) → Session answers before after long most input out result → Whole answers before long most input out result
+complete answers total before after long most input out result h = complete_by answers total before long most after input out result h

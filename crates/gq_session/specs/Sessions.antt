@@ -4,7 +4,7 @@ use Rattle.std.specs.declared.option.Option.{Option}
 use Rattle.std.specs.Io.KnownBytes.{Consumes, IsAtEnd}
 use Rattle.gq_io.specs.Causes.{Rose}
 use Rattle.gq_session.specs.Scanning.{Place, start, place_after, ended_in}
-use Rattle.gq_session.specs.Replies.{Wrote, WroteFront}
+use Rattle.gq_session.specs.Replies.{Rule, Wrote, WroteFront}
 use Rattle.gq_session.specs.declared.answering.Tone.{Tone}
 use Rattle.gq_session.specs.declared.run.PieceStop.{PieceStop}
 use Rattle.gq_session.specs.declared.run.PieceStop.TheVariants as piece_stop
@@ -22,20 +22,20 @@ abbrev pub span_of : {D : Type 0} → (D → Option (List ℕ)) → (D → ℕ) 
 span_of told faults old new = record { old = told old; new = told new; before = faults old; now = faults new }
 
 -- the statements that ended in some front of the text were answered but for a rest of the last reply
-pub record Broke (answers : List ℕ → Tone → List ℕ → Type 0) (long most : ℕ) (p : Place) (text : List ℕ) (old new : Option (List ℕ)) : Type 0 where
+pub record Broke {S : Type 0} (answers : Rule S) (before : S) (long most : ℕ) (p : Place) (text : List ℕ) (old new : Option (List ℕ)) : Type 0 where
   pub front : List ℕ
   pub rest : List ℕ
   pub whole : text ≡ front ++ rest
-  pub wrote : WroteFront answers (ended_in long most p front) old new
+  pub wrote : WroteFront answers before (ended_in long most p front) old new
 
-abbrev pub TakenBy : (List ℕ → Tone → List ℕ → Type 0) → ℕ → ℕ → Place → List ℕ → Place → Span → Result Tone PieceStop → Type 0
-TakenBy answers long most p piece q out (Ok t) = (place_after long most p piece ≡ q) × Wrote answers (ended_in long most p piece) t out.old out.new
-TakenBy answers long most p piece q out (Err piece_stop.Write) = Broke answers long most p piece out.old out.new × Rose out.before out.now
-TakenBy answers long most p piece q out (Err piece_stop.TooLong) = ((place_after long most p piece).stopped ≡ true) × (t : Tone) × Wrote answers (ended_in long most p piece) t out.old out.new
+abbrev pub TakenBy : {S : Type 0} → Rule S → S → S → ℕ → ℕ → Place → List ℕ → Place → Span → Result Tone PieceStop → Type 0
+TakenBy answers before after long most p piece q out (Ok t) = (place_after long most p piece ≡ q) × Wrote answers before after (ended_in long most p piece) t out.old out.new
+TakenBy answers before after long most p piece q out (Err piece_stop.Write) = Broke answers before long most p piece out.old out.new × Rose out.before out.now
+TakenBy answers before after long most p piece q out (Err piece_stop.TooLong) = ((place_after long most p piece).stopped ≡ true) × (t : Tone) × Wrote answers before after (ended_in long most p piece) t out.old out.new
 
--- what a piece did
-pub record Taken (answers : List ℕ → Tone → List ℕ → Type 0) (long most : ℕ) (p : Place) (piece : List ℕ) (q : Place) (out : Span) (result : Result Tone PieceStop) : Type 0 where
-  pub taken : TakenBy answers long most p piece q out result
+-- what a piece did: from which state to which, and from which place to which
+pub record Taken {S : Type 0} (answers : Rule S) (before after : S) (long most : ℕ) (p : Place) (piece : List ℕ) (q : Place) (out : Span) (result : Result Tone PieceStop) : Type 0 where
+  pub taken : TakenBy answers before after long most p piece q out result
   pub later : out.before ≤ out.now
 
 -- the statements of a whole input: those that ended, and the last bytes where no limit stopped it
@@ -43,21 +43,21 @@ abbrev pub statements_of : ℕ → ℕ → List ℕ → List (List ℕ)
 statements_of long most text = ended_in long most start text ++ (if (place_after long most start text).stopped then [] else (place_after long most start text).rest ∷ [])
 
 -- how a session ended, over the bytes that it ate
-abbrev pub Ends : (List ℕ → Tone → List ℕ → Type 0) → ℕ → ℕ → List ℕ → Span → Span → Result Tone Stop → Type 0
-Ends answers long most eaten input out (Ok t) =
-    ((place_after long most start eaten).stopped ≡ false) × IsAtEnd input.new × Wrote answers (statements_of long most eaten) t out.old out.new
-Ends answers long most eaten input out (Err stop.Read) =
-    (t : Tone) × Wrote answers (ended_in long most start eaten) t out.old out.new × Rose input.before input.now
-Ends answers long most eaten input out (Err stop.Write) =
-    (Broke answers long most start eaten out.old out.new ⊎ (IsAtEnd input.new × WroteFront answers (statements_of long most eaten) out.old out.new)) × Rose out.before out.now
-Ends answers long most eaten input out (Err stop.TooLong) =
-    ((place_after long most start eaten).stopped ≡ true) × (t : Tone) × Wrote answers (ended_in long most start eaten) t out.old out.new
+abbrev pub Ends : {S : Type 0} → Rule S → S → S → ℕ → ℕ → List ℕ → Span → Span → Result Tone Stop → Type 0
+Ends answers before after long most eaten input out (Ok t) =
+    ((place_after long most start eaten).stopped ≡ false) × IsAtEnd input.new × Wrote answers before after (statements_of long most eaten) t out.old out.new
+Ends answers before after long most eaten input out (Err stop.Read) =
+    (t : Tone) × Wrote answers before after (ended_in long most start eaten) t out.old out.new × Rose input.before input.now
+Ends answers before after long most eaten input out (Err stop.Write) =
+    (Broke answers before long most start eaten out.old out.new ⊎ (IsAtEnd input.new × WroteFront answers before (statements_of long most eaten) out.old out.new)) × Rose out.before out.now
+Ends answers before after long most eaten input out (Err stop.TooLong) =
+    ((place_after long most start eaten).stopped ≡ true) × (t : Tone) × Wrote answers before after (ended_in long most start eaten) t out.old out.new
 
--- what a session did
-pub record Session (answers : List ℕ → Tone → List ℕ → Type 0) (long most : ℕ) (input out : Span) (result : Result Tone Stop) : Type 0 where
+-- what a session did, from which state to which
+pub record Session {S : Type 0} (answers : Rule S) (before after : S) (long most : ℕ) (input out : Span) (result : Result Tone Stop) : Type 0 where
   pub eaten : List ℕ
   pub took : Consumes input.old input.new eaten
   pub few : length eaten ≤ most + 1
-  pub ends : Ends answers long most eaten input out result
+  pub ends : Ends answers before after long most eaten input out result
   pub input_later : input.before ≤ input.now
   pub out_later : out.before ≤ out.now

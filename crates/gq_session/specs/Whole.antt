@@ -6,7 +6,7 @@ use Rattle.std.specs.Io.KnownBytes.{Appends}
 use Rattle.gq_io.specs.Causes.{Rose}
 use Rattle.gq_io.specs.Outside.{AppendsFront}
 use Rattle.gq_session.specs.Scanning.{ended_in, ends, start, next_state}
-use Rattle.gq_session.specs.Replies.{Replies, Wrote}
+use Rattle.gq_session.specs.Replies.{Replies, Rule, Wrote}
 use Rattle.gq_session.specs.Sessions.{Span}
 use Rattle.gq_session.specs.declared.scan.State.{State}
 use Rattle.gq_session.specs.declared.scan.State.TheVariants as at
@@ -38,41 +38,44 @@ pub record HasLongTail (long : ℕ) (s : State) (rest text : List ℕ) : Type 0 
 abbrev pub IsTooLong : ℕ → ℕ → List ℕ → Type 0
 IsTooLong long most text = (most < length text) ⊎ HasLongTail long at.Plain [] text
 
--- how a session over a whole text may end, and the replies that are written then: to all its statements, or, where a limit
+-- how a session over a whole text may end that begins in this state, and the replies that are written then: to all its statements, or, where a limit
 -- is passed, to those that ended before
-abbrev pub Permits : (List ℕ → Tone → List ℕ → Type 0) → ℕ → ℕ → List ℕ → Result Tone Stop → List ℕ → Type 0
-Permits answers long most text (Ok t) replies = (¬ IsTooLong long most text) × Replies answers (statements text) t replies
-Permits answers long most text (Err stop.TooLong) replies = IsTooLong long most text × ((t : Tone) × Replies answers (ended_in long most start text) t replies)
-Permits answers long most text (Err stop.Read) replies = ⊥
-Permits answers long most text (Err stop.Write) replies = ⊥
+abbrev pub Permits : {S : Type 0} → Rule S → S → ℕ → ℕ → List ℕ → Result Tone Stop → List ℕ → Type 0
+Permits {S} answers before long most text (Ok t) replies =
+    (¬ IsTooLong long most text) × ((after : S) × Replies answers before after (statements text) t replies)
+Permits {S} answers before long most text (Err stop.TooLong) replies =
+    IsTooLong long most text × ((after : S) × (t : Tone) × Replies answers before after (ended_in long most start text) t replies)
+Permits answers before long most text (Err stop.Read) replies = ⊥
+Permits answers before long most text (Err stop.Write) replies = ⊥
 
 -- the replies of a permitted end were written
-pub record Wholly (answers : List ℕ → Tone → List ℕ → Type 0) (long most : ℕ) (text : List ℕ) (result : Result Tone Stop) (old new : Option (List ℕ)) : Type 0 where
+pub record Wholly {S : Type 0} (answers : Rule S) (before : S) (long most : ℕ) (text : List ℕ) (result : Result Tone Stop) (old new : Option (List ℕ)) : Type 0 where
   pub replies : List ℕ
-  pub permitted : Permits answers long most text result replies
+  pub permitted : Permits answers before long most text result replies
   pub moved : Appends old new replies
 
 -- a front of the replies of a permitted end was written
-pub record Partly (answers : List ℕ → Tone → List ℕ → Type 0) (long most : ℕ) (text : List ℕ) (old new : Option (List ℕ)) : Type 0 where
+pub record Partly {S : Type 0} (answers : Rule S) (before : S) (long most : ℕ) (text : List ℕ) (old new : Option (List ℕ)) : Type 0 where
   pub result : Result Tone Stop
   pub replies : List ℕ
-  pub permitted : Permits answers long most text result replies
+  pub permitted : Permits answers before long most text result replies
   pub moved : AppendsFront old new replies
 
 -- the replies to the statements that ended in some front of the text were written
-pub record SoFar (answers : List ℕ → Tone → List ℕ → Type 0) (long most : ℕ) (text : List ℕ) (old new : Option (List ℕ)) : Type 0 where
+pub record SoFar {S : Type 0} (answers : Rule S) (before : S) (long most : ℕ) (text : List ℕ) (old new : Option (List ℕ)) : Type 0 where
   pub front : List ℕ
   pub back : List ℕ
   pub whole : text ≡ front ++ back
+  pub after : S
   pub tone : Tone
-  pub wrote : Wrote answers (ended_in long most start front) tone old new
+  pub wrote : Wrote answers before after (ended_in long most start front) tone old new
 
 -- how a session over a whole text ended; a failed read or write has its cause
-abbrev pub Answers : (List ℕ → Tone → List ℕ → Type 0) → ℕ → ℕ → List ℕ → Span → Span → Result Tone Stop → Type 0
-Answers answers long most text input out (Err stop.Read) = SoFar answers long most text out.old out.new × Rose input.before input.now
-Answers answers long most text input out (Err stop.Write) = Partly answers long most text out.old out.new × Rose out.before out.now
-Answers answers long most text input out result = Wholly answers long most text result out.old out.new
+abbrev pub Answers : {S : Type 0} → Rule S → S → ℕ → ℕ → List ℕ → Span → Span → Result Tone Stop → Type 0
+Answers answers before long most text input out (Err stop.Read) = SoFar answers before long most text out.old out.new × Rose input.before input.now
+Answers answers before long most text input out (Err stop.Write) = Partly answers before long most text out.old out.new × Rose out.before out.now
+Answers answers before long most text input out result = Wholly answers before long most text result out.old out.new
 
 -- the same for each text that the input is told to have
-abbrev pub Whole : (List ℕ → Tone → List ℕ → Type 0) → ℕ → ℕ → Span → Span → Result Tone Stop → Type 0
-Whole answers long most input out result = (text : List ℕ) → input.old ≡ Some text → Answers answers long most text input out result
+abbrev pub Whole : {S : Type 0} → Rule S → S → ℕ → ℕ → Span → Span → Result Tone Stop → Type 0
+Whole answers before long most input out result = (text : List ℕ) → input.old ≡ Some text → Answers answers before long most text input out result

@@ -2,7 +2,7 @@
 
 ghost use Rattle.std.specs.Prelude.{◌≡◌, ◌≤◌, List, ℕ, length};
 ghost use Rattle.gq_io.specs.Causes.{HasCause};
-ghost use Rattle.gq_session.specs.Replies.{Answered};
+ghost use Rattle.gq_session.specs.Replies.{Answered, Rule};
 ghost use Rattle.gq_session.specs.Tones.{worse};
 ghost use Rattle.gq_session.specs.declared.answering.Tone.{Tone};
 
@@ -38,11 +38,17 @@ pub trait Answerer {
     /// What each answer is lent to work in, as a pool of buffers.
     type Workspace;
 
-    /// The replies that a statement may have, and what each is like.
-    ghost answers: { Self → List ℕ → Tone → List ℕ → Type 0 };
+    /// What a workspace keeps from one statement to the next.
+    ghost State: { Type 0 };
+
+    ghost state: { Self.Workspace → State };
+
+    /// The replies that a statement may have in a state, what each is like, and the state then.
+    ghost answers: { Self → Rule State };
 
     /// An answer can work in it.
     ghost ready: { Self.Workspace → Type 0 };
+
     /// The longest statement that it answers, in bytes.
     ghost longest: { ℕ };
 
@@ -57,11 +63,11 @@ pub trait Answerer {
         requires ready { ready workspace.old }
         requires fits { length statement.now ≤ longest }
         ensures ready { ready workspace.new }
-        ensures bytes { Answered (answers self.now statement.now)
-            (O.taken out.old) (O.taken out.new) result }
+        ensures bytes { Answered (answers self.now (state workspace.old) statement.now)
+            (state workspace.new) (O.taken out.old) (O.taken out.new) result }
         ensures cause { HasCause (O.faults out.old) (O.faults out.new) result };
 
-    /// Each statement has a reply.
-    ghost has_reply: { (a : Self) (statement : List ℕ) → (t : Tone) × (reply : List ℕ)
-        × answers a statement t reply };
+    /// In each state each statement has a reply.
+    ghost has_reply: { (a : Self) (before : State) (statement : List ℕ) → (t : Tone)
+        × (reply : List ℕ) × (after : State) × answers a before statement t reply after };
 }

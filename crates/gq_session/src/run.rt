@@ -43,9 +43,9 @@ pub fn take_piece<A: Answerer, O: Sink>(
     requires ready { A.ready workspace.old }
     ensures fits { scan.new.filled ≤ length statement.new }
     ensures ready { A.ready workspace.new }
-    ensures taken { Taken (A.answers answerer.now) (length statement.old) most
-        (scan_of scan.old statement.old) piece.now (scan_of scan.new statement.new)
-        (span_of O.taken O.faults out.old out.new) result }
+    ensures taken { Taken (A.answers answerer.now) (A.state workspace.old) (A.state workspace.new)
+        (length statement.old) most (scan_of scan.old statement.old) piece.now
+        (scan_of scan.new statement.new) (span_of O.taken O.faults out.old out.new) result }
 {
     let mut worst = Tone::Good;
     for byte in piece {
@@ -76,7 +76,8 @@ fn take_input<A: Answerer, I: Source, O: Sink>(
     requires longest { length statement.old ≤ A.longest }
     requires ready { A.ready workspace.old }
     ensures ready { A.ready workspace.new }
-    ensures read { Session (A.answers answerer.now) (length statement.old) most
+    ensures read { Session (A.answers answerer.now) (A.state workspace.old)
+        (A.state workspace.new) (length statement.old) most
         (span_of I.left I.faults input.old input.new)
         (span_of O.taken O.faults out.old out.new) result }
 {
@@ -129,10 +130,12 @@ pub fn session<A: Answerer, I: Source, O: Sink>(
     requires longest { length statement.old ≤ A.longest }
     requires ready { A.ready workspace.old }
     ensures ready { A.ready workspace.new }
-    ensures read { Session (A.answers answerer.now) (length statement.old) most
+    ensures read { Session (A.answers answerer.now) (A.state workspace.old)
+        (A.state workspace.new) (length statement.old) most
         (span_of I.left I.faults input.old input.new)
         (span_of O.taken O.faults out.old out.new) result }
-    ensures whole { Whole (A.answers answerer.now) (length statement.old) most
+    ensures whole { Whole (A.answers answerer.now) (A.state workspace.old)
+        (length statement.old) most
         (span_of I.left I.faults input.old input.new)
         (span_of O.taken O.faults out.old out.new) result }
 {

@@ -12,7 +12,7 @@ use Rattle.gq_loader.specs.Limits.{standard}
 use Rattle.gq_loader.specs.Loads.{load_of}
 use Rattle.gq_loader.specs.declared.refusal.LoadRefusal.{LoadRefusal}
 use Rattle.gq_reply.proofs.OneTone.{Agree, AsksSome, tones_agree}
-use Rattle.gq_reply.specs.Replies.{Context, IsReply}
+use Rattle.gq_reply.specs.Replies.{Context, IsTurn}
 use Rattle.gq_reply.specs.declared.replier.Form.TheVariants.{Full, Short}
 use Rattle.gq_sample.specs.Questions.{questions}
 use Rattle.gq_sample.specs.Sample.{sample_graph}
@@ -20,11 +20,12 @@ use Rattle.gq_session.specs.Replies.{Replies}
 use Rattle.gq_session.specs.Whole as session
 use Rattle.gq_session.specs.declared.answering.Tone.{Tone}
 use Rattle.gq_session.specs.declared.answering.Tone.TheVariants as tone
-use Rattle.gq_shell.specs.Claim.{AreOpen, AsksOpenQuery, IsNotLoaded, IsPath, IsToTheEnd, IsWhole, OnSample, Outside, Over, Permits, Refuses, Runs, Whole, full, long, most, order_of, settings_of, short}
+use Rattle.gq_shell.specs.Claim.{AreOpen, AsksOpenQuery, IsNotLoaded, IsPath, IsQuiz, IsToTheEnd, IsWhole, OnSample, Outside, Over, Permits, Refuses, Runs, Whole, full, long, most, order_of, settings_of, short}
 use Rattle.gq_shell.specs.Questions.{IsNumbered}
 use Rattle.gq_shell.specs.steps.Statuses.{status_of}
 use Rattle.gq_shell.specs.declared.status.Status.{Status}
 use Rattle.gq_shell.specs.declared.status.Status.TheVariants as status
+use Rattle.gq_tokens.specs.declared.params.Param.{Param}
 use Rattle.gq_words.specs.Meaning.{IsOrder, IsRows, IsSource, Means}
 use Rattle.gq_words.specs.Reading.{IsMisused, IsRead}
 use Rattle.gq_words.specs.declared.meaning.Order as word
@@ -110,17 +111,20 @@ not_misused words read (inr none) is = none read is.means
 
 -- ---- the questions of the sample, without the lines of their numbers
 
-unnumbered : (c : Context) (ss : List (List ℕ)) (t : Tone) (text : List ℕ) → Replies (IsNumbered c) ss t text → (replies : List ℕ) × Replies (IsReply c) ss t replies
-unnumbered c [] t text is = ([], (is.0, refl))
-unnumbered c (s ∷ ss) t text (u, v, reply, more, is, rest, worst, whole) =
-    let (others, replied) = unnumbered c ss v more rest in
-    (is.reply ++ others, (u, v, is.reply, others, is.replies, replied, worst, refl))
+unnumbered : (c : Context) (params behind : List Param) (ss : List (List ℕ)) (t : Tone) (text : List ℕ) → Replies (IsNumbered c) params behind ss t text
+    → (replies : List ℕ) × Replies (IsTurn c) params behind ss t replies
+unnumbered c params behind [] t text (good, none, same) = ([], (good, refl, same))
+unnumbered c params behind (s ∷ ss) t text (u, v, reply, more, next, is, rest, worst, whole) =
+    let (others, replied) = unnumbered c next behind ss v more rest in
+    (is.reply ++ others, (u, v, is.reply, others, next, is.replies, replied, worst, refl))
 
-opened : (c : Context) (ss : List (List ℕ)) → AsksSome c.graph ss → AsksOpenQuery c ss
+opened : (c : Context) (ss : List (List ℕ)) → AsksSome c [] ss → AsksOpenQuery c ss
 opened c ss asks = record {
   place = asks.place;
   statement = asks.statement;
   at = asks.at;
+  params = asks.behind;
+  stand = asks.stand;
   query = asks.asks.query;
   bound = asks.asks.bound;
   asked = asks.asks.asked;
@@ -154,8 +158,8 @@ module _ (words : List (List ℕ)) (files : Names) (input : List ℕ) where
     misused : s ≡ status.Usage → IsMisused words → Sort s
     unloaded : (text : List ℕ) → s ≡ status.NotLoaded → IsNotLoaded words (Some files) text → Sort s
     too_long : s ≡ status.TooLong → OnInput (λ c text. session.IsTooLong long most text) → Sort s
-    answered : (t : Tone) (text : List ℕ) → s ≡ status_of (Ok t) → OnInput (λ c text'. (¬ session.IsTooLong long most text') × Replies (IsReply c) (session.statements text') t text) → Sort s
-    sampled : (t : Tone) (text : List ℕ) → s ≡ status_of (Ok t) → OnSample words (λ c. Replies (IsNumbered c) questions t text) → Sort s
+    answered : (t : Tone) (text : List ℕ) → s ≡ status_of (Ok t) → OnInput (λ c text'. (¬ session.IsTooLong long most text') × ((behind : List Param) × Replies (IsTurn c) [] behind (session.statements text') t text)) → Sort s
+    sampled : (t : Tone) (text : List ℕ) → s ≡ status_of (Ok t) → OnSample words (λ c. IsQuiz c t text) → Sort s
 
   narrow : (Says Less : Context → List ℕ → Type 0) → ((c : Context) (text : List ℕ) → Says c text → Less c text) → OnInput Says → OnInput Less
   narrow Says Less go over = record { read = over.read; given = over.given; path = over.path; from = over.from; told = (over.told.0, over.told.1, go _ _ over.told.2) }
@@ -201,8 +205,8 @@ module _ (words : List (List ℕ)) (files : Names) (input : List ℕ) where
 
   -- two ends of one session
   module _ (s s' : Status) (t t' : Tone) (text text' : List ℕ) (is : s ≡ status_of (Ok t)) (is' : s' ≡ status_of (Ok t'))
-      (one : OnInput (λ c i. (¬ session.IsTooLong long most i) × Replies (IsReply c) (session.statements i) t text))
-      (other : OnInput (λ c i. (¬ session.IsTooLong long most i) × Replies (IsReply c) (session.statements i) t' text')) where
+      (one : OnInput (λ c i. (¬ session.IsTooLong long most i) × ((behind : List Param) × Replies (IsTurn c) [] behind (session.statements i) t text)))
+      (other : OnInput (λ c i. (¬ session.IsTooLong long most i) × ((behind : List Param) × Replies (IsTurn c) [] behind (session.statements i) t' text'))) where
     abbrev graph : Graph
     graph = one.told.0
 
@@ -215,13 +219,16 @@ module _ (words : List (List ℕ)) (files : Names) (input : List ℕ) where
     settings : settings_of other.read ≡ settings_of one.read
     settings = same_settings _ other.read one.read other.given.means one.given.means
 
-    replied : Replies (IsReply (full graph (settings_of one.read))) (session.statements input) t' text'
-    replied = subst (λ k. Replies (IsReply (full graph k)) (session.statements input) t' text') settings
-        (subst (λ g. Replies (IsReply (full g (settings_of other.read))) (session.statements input) t' text') same other.told.2.1)
+    abbrev behind' : List Param
+    behind' = other.told.2.1.0
+
+    replied : Replies (IsTurn (full graph (settings_of one.read))) [] behind' (session.statements input) t' text'
+    replied = subst (λ k. Replies (IsTurn (full graph k)) [] behind' (session.statements input) t' text') settings
+        (subst (λ g. Replies (IsTurn (full g (settings_of other.read))) [] behind' (session.statements input) t' text') same other.told.2.1.1)
 
     two_ends : Only s s'
     two_ends =
-        ends_by s s' t t' is is' (AsksSome graph (session.statements input))
+        ends_by s s' t t' is is' (AsksSome (full graph (settings_of one.read)) [] (session.statements input))
         (λ asks. inr (inr (inr (record {
           read = one.read;
           given = one.given;
@@ -229,20 +236,22 @@ module _ (words : List (List ℕ)) (files : Names) (input : List ℕ) where
           from = one.from;
           told = (graph, one.told.1, opened (full graph (settings_of one.read)) (session.statements input) asks);
         }))))
-        (tones_agree graph (settings_of one.read) Full Full (session.statements input) t t' text text' one.told.2.1 replied)
+        (tones_agree graph (settings_of one.read) Full Full [] one.told.2.1.0 behind' (session.statements input) t t' text text' one.told.2.1.1 replied)
 
   -- two ends of the questions
   module _ (s s' : Status) (t t' : Tone) (text text' : List ℕ) (is : s ≡ status_of (Ok t)) (is' : s' ≡ status_of (Ok t'))
-      (one : OnSample words (λ c. Replies (IsNumbered c) questions t text)) (other : OnSample words (λ c. Replies (IsNumbered c) questions t' text')) where
+      (one : OnSample words (λ c. IsQuiz c t text)) (other : OnSample words (λ c. IsQuiz c t' text')) where
     there : short other.size (settings_of other.read) ≡ short one.size (settings_of one.read)
     there = ap₂ short (same_sizes _ other.read one.read other.size one.size other.given.means one.given.means other.from one.from)
         (same_settings _ other.read one.read other.given.means one.given.means)
 
     two_quizzes : Only s s'
     two_quizzes =
-        let (first, replied) = unnumbered (short one.size (settings_of one.read)) questions t text one.says in
-        let (second, otherwise) = unnumbered (short one.size (settings_of one.read)) questions t' text' (subst (λ c. Replies (IsNumbered c) questions t' text') there other.says) in
-        ends_by s s' t t' is is' (AsksSome (sample_graph one.size) questions)
+        let (behind, says) = one.says in
+        let (behind', says') = subst (λ c. IsQuiz c t' text') there other.says in
+        let (first, replied) = unnumbered (short one.size (settings_of one.read)) [] behind questions t text says in
+        let (second, otherwise) = unnumbered (short one.size (settings_of one.read)) [] behind' questions t' text' says' in
+        ends_by s s' t t' is is' (AsksSome (short one.size (settings_of one.read)) [] questions)
         (λ asks. inr (inr (inl (record {
           read = one.read;
           given = one.given;
@@ -250,7 +259,7 @@ module _ (words : List (List ℕ)) (files : Names) (input : List ℕ) where
           from = one.from;
           says = opened (short one.size (settings_of one.read)) questions asks;
         }))))
-        (tones_agree (sample_graph one.size) (settings_of one.read) Short Short questions t t' first second replied otherwise)
+        (tones_agree (sample_graph one.size) (settings_of one.read) Short Short [] behind behind' questions t t' first second replied otherwise)
 
   one_by : (s s' : Status) → Sort s → Sort s' → Only s s'
   one_by s s' (misused is m) (misused is' m') = inl (is ∙ sym is')

@@ -12,7 +12,7 @@ use Rattle.gq_io.proofs.Moved.{Appends-both, front_after, front_longer}
 use Rattle.gq_io.specs.Causes.{HasCause}
 use Rattle.gq_io.specs.Outside.{AppendsFront}
 use Rattle.gq_io.specs.declared.Failed.{Failed}
-use Rattle.gq_reply.specs.Replies.{Context, IsReply, memory_line}
+use Rattle.gq_reply.specs.Replies.{Context, IsTurn, memory_line}
 use Rattle.gq_sample.specs.Questions.{questions}
 use Rattle.gq_session.proofs.Texts.{front-more, front-one, replies-append, wrote-more, wrote-one}
 use Rattle.gq_session.specs.Replies.{Answered, Replies, Wrote, WroteFront}
@@ -21,6 +21,7 @@ use Rattle.gq_session.specs.declared.answering.Tone.{Tone}
 use Rattle.gq_session.specs.declared.answering.Tone.TheVariants as tone
 use Rattle.gq_shell.specs.Questions.{IsNumbered, label_text}
 use Rattle.gq_shell.specs.steps.Steps.{question_of}
+use Rattle.gq_tokens.specs.declared.params.Param.{Param}
 
 -- the question of a number has the place before it
 placed : (number : ℕ) → 1 ≤ number → number ≤ 6 → slice_get questions (number - 1) ≡ Some (question_of number)
@@ -50,9 +51,9 @@ all_questions k low =
 
 module _ (c : Context) where
   -- an answer to the question of a number
-  is_numbered : (number : ℕ) → 1 ≤ number → number ≤ 6 → (t : Tone) (reply : List ℕ) → IsReply c (question_of number) t reply
-      → IsNumbered c (question_of number) t (label_text number ++ reply)
-  is_numbered number least most t reply is = record {
+  is_numbered : (params behind : List Param) (number : ℕ) → 1 ≤ number → number ≤ 6 → (t : Tone) (reply : List ℕ) → IsTurn c params (question_of number) t reply behind
+      → IsNumbered c params (question_of number) t (label_text number ++ reply) behind
+  is_numbered params behind number least most t reply is = record {
     place = number - 1;
     at = placed number least most;
     reply = reply;
@@ -61,59 +62,82 @@ module _ (c : Context) where
   }
 
   -- the reply to a question, behind the line of its number
-  pub numbered : (number : ℕ) → 1 ≤ number → number ≤ 6 → (old mid new : Option (List ℕ)) (result : Result Tone Failed) → Appends old mid (label_text number)
-      → Answered (IsReply c (question_of number)) mid new result → Answered (IsNumbered c (question_of number)) old new result
-  numbered number least most old mid new (Ok t) label (reply, is, moved) =
-      (label_text number ++ reply, is_numbered number least most t reply is, Appends-both old mid new (label_text number) reply label moved)
-  numbered number least most old mid new (Err failed) label (t, reply, is, moved) =
-      (t, label_text number ++ reply, is_numbered number least most t reply is, front_after old mid new (label_text number) reply label moved)
+  pub numbered : (params behind : List Param) (number : ℕ) → 1 ≤ number → number ≤ 6 → (old mid new : Option (List ℕ)) (result : Result Tone Failed) → Appends old mid (label_text number)
+      → Answered (IsTurn c params (question_of number)) behind mid new result → Answered (IsNumbered c params (question_of number)) behind old new result
+  numbered params behind number least most old mid new (Ok t) label (reply, is, moved) =
+      (label_text number ++ reply, is_numbered params behind number least most t reply is, Appends-both old mid new (label_text number) reply label moved)
+  numbered params behind number least most old mid new (Err failed) label (t, reply, later, is, moved) =
+      (t, label_text number ++ reply, later, is_numbered params later number least most t reply is, front_after old mid new (label_text number) reply label moved)
 
   -- a front of that line
-  pub unnumbered : (number : ℕ) → 1 ≤ number → number ≤ 6 → (old new : Option (List ℕ)) → AppendsFront old new (label_text number)
-      → (t : Tone) × (text : List ℕ) × IsNumbered c (question_of number) t text × AppendsFront old new text
-  unnumbered number least most old new moved =
-      (tone.Memory, label_text number ++ memory_line, is_numbered number least most tone.Memory memory_line refl, front_longer old new (label_text number) memory_line moved)
+  pub unnumbered : (params : List Param) (number : ℕ) → 1 ≤ number → number ≤ 6 → (old new : Option (List ℕ)) → AppendsFront old new (label_text number)
+      → (t : Tone) × (text : List ℕ) × (behind : List Param) × IsNumbered c params (question_of number) t text behind × AppendsFront old new text
+  unnumbered params number least most old new moved = (
+    tone.Memory,
+    label_text number ++ memory_line,
+    params,
+    is_numbered params params number least most tone.Memory memory_line (refl, refl),
+    front_longer old new (label_text number) memory_line moved,
+  )
 
   abbrev pub first : ℕ → List (List ℕ)
   first k = map question_of (range_with_len 1 k)
 
   -- each question has an answer
-  some_answers : (n k : ℕ) → 1 ≤ n → n + k ≤ 7 → (t : Tone) × (text : List ℕ) × Replies (IsNumbered c) (map question_of (range_with_len n k)) t text
-  some_answers n zero least most = (tone.Good, [], (refl, refl))
-  some_answers n (suc k) least most =
-      let (u, more, rest) = some_answers (n + 1) k (omega arith) (omega (arith, most)) in (
+  some_answers : (params : List Param) (n k : ℕ) → 1 ≤ n → n + k ≤ 7 → (t : Tone) × (text : List ℕ) × Replies (IsNumbered c) params params (map question_of (range_with_len n k)) t text
+  some_answers params n zero least most = (tone.Good, [], (refl, refl, refl))
+  some_answers params n (suc k) least most =
+      let (u, more, rest) = some_answers params (n + 1) k (omega arith) (omega (arith, most)) in (
         worse tone.Memory u,
         (label_text n ++ memory_line) ++ more,
-        (tone.Memory, u, label_text n ++ memory_line, more, is_numbered n least (omega (arith, most)) tone.Memory memory_line refl, rest, refl, refl),
+        (
+          tone.Memory,
+          u,
+          label_text n ++ memory_line,
+          more,
+          params,
+          is_numbered params params n least (omega (arith, most)) tone.Memory memory_line (refl, refl),
+          rest,
+          refl,
+          refl,
+        ),
       )
 
   -- another question was answered
-  pub next : (k number : ℕ) → 1 + k ≡ number → (t u : Tone) (a b d : Option (List ℕ)) → Wrote (IsNumbered c) (first k) t a b
-      → (text : List ℕ) × IsNumbered c (question_of number) u text × Appends b d text → Wrote (IsNumbered c) (first (k + 1)) (worse t u) a d
-  next k number is t u a b d wrote said = subst (λ l. Wrote (IsNumbered c) l (worse t u) a d) (sym (map-range_with_len_more question_of 1 k number is))
-      (wrote-more (IsNumbered c) (first k) (question_of number ∷ []) t u a b d wrote (wrote-one (IsNumbered c) (question_of number) u b d said))
+  pub next : (params mid behind : List Param) (k number : ℕ) → 1 + k ≡ number → (t u : Tone) (a b d : Option (List ℕ)) → Wrote (IsNumbered c) params mid (first k) t a b
+      → (text : List ℕ) × IsNumbered c mid (question_of number) u text behind × Appends b d text → Wrote (IsNumbered c) params behind (first (k + 1)) (worse t u) a d
+  next params mid behind k number is t u a b d wrote said = subst (λ l. Wrote (IsNumbered c) params behind l (worse t u) a d) (sym (map-range_with_len_more question_of 1 k number is))
+      (wrote-more (IsNumbered c) params mid behind (first k) (question_of number ∷ []) t u a b d wrote (wrote-one (IsNumbered c) mid behind (question_of number) u b d said))
 
   -- the answer to a question broke off
-  pub broke : (k number : ℕ) → 1 + k ≡ number → k + 1 ≤ 6 → (t : Tone) (a b d : Option (List ℕ)) → Wrote (IsNumbered c) (first k) t a b
-      → (u : Tone) × (text : List ℕ) × IsNumbered c (question_of number) u text × AppendsFront b d text → WroteFront (IsNumbered c) questions a d
-  broke k number is low t a b d wrote said =
-      let front = subst (λ l. WroteFront (IsNumbered c) l a d) (sym (map-range_with_len_more question_of 1 k number is))
-      (front-more (IsNumbered c) (first k) (question_of number ∷ []) t a b d wrote (front-one (IsNumbered c) (question_of number) b d said)) in
-      let (u, text, more) = some_answers (k + 2) (6 - (k + 1)) (omega arith) (omega (arith, low)) in
+  pub broke : (params mid : List Param) (k number : ℕ) → 1 + k ≡ number → k + 1 ≤ 6 → (t : Tone) (a b d : Option (List ℕ)) → Wrote (IsNumbered c) params mid (first k) t a b
+      → (u : Tone) × (text : List ℕ) × (behind : List Param) × IsNumbered c mid (question_of number) u text behind × AppendsFront b d text → WroteFront (IsNumbered c) params questions a d
+  broke params mid k number is low t a b d wrote said =
+      let front = subst (λ l. WroteFront (IsNumbered c) params l a d) (sym (map-range_with_len_more question_of 1 k number is))
+      (front-more (IsNumbered c) params mid (first k) (question_of number ∷ []) t a b d wrote (front-one (IsNumbered c) mid (question_of number) b d said)) in
+      let (u, text, more) = some_answers front.after (k + 2) (6 - (k + 1)) (omega arith) (omega (arith, low)) in
       record {
+        after = front.after;
         tone = worse front.tone u;
         text = front.text ++ text;
-        replies = subst (λ l. Replies (IsNumbered c) l (worse front.tone u) (front.text ++ text)) (all_questions k low)
-            (replies-append (IsNumbered c) (first (k + 1)) (map question_of (others k)) front.tone u front.text text front.replies more);
+        replies = subst (λ l. Replies (IsNumbered c) params front.after l (worse front.tone u) (front.text ++ text)) (all_questions k low)
+            (replies-append (IsNumbered c) params front.after front.after (first (k + 1)) (map question_of (others k)) front.tone u front.text text front.replies more);
         moved = front_longer a d front.text text front.moved;
       }
 
 -- the same by the number of the question
-pub next_number : (c : Context) (n : ℕ) → 1 ≤ n → (t u : Tone) (a b d : Option (List ℕ)) → Wrote (IsNumbered c) (first c (n - 1)) t a b
-    → (text : List ℕ) × IsNumbered c (question_of n) u text × Appends b d text → Wrote (IsNumbered c) (first c (n + 1 - 1)) (worse t u) a d
-next_number c n le t u a b d wrote said =
+pub next_number : (c : Context) (params mid behind : List Param) (n : ℕ) → 1 ≤ n → (t u : Tone) (a b d : Option (List ℕ)) → Wrote (IsNumbered c) params mid (first c (n - 1)) t a b
+    → (text : List ℕ) × IsNumbered c mid (question_of n) u text behind × Appends b d text → Wrote (IsNumbered c) params behind (first c (n + 1 - 1)) (worse t u) a d
+next_number c params mid behind n le t u a b d wrote said =
     let same : n - 1 + 1 ≡ n + 1 - 1 = omega (arith, le) in
-    subst (λ m. Wrote (IsNumbered c) (first c m) (worse t u) a d) same (next c (n - 1) n (omega (arith, le)) t u a b d wrote said)
+    subst (λ m. Wrote (IsNumbered c) params behind (first c m) (worse t u) a d) same (next c params mid behind (n - 1) n (omega (arith, le)) t u a b d wrote said)
+
+-- all questions were answered
+pub all_asked : (c : Context) (params behind : List Param) (n : ℕ) → n ≤ 7 → 7 ≤ n → (t : Tone) (a b : Option (List ℕ)) → Wrote (IsNumbered c) params behind (first c (n - 1)) t a b
+    → Wrote (IsNumbered c) params behind questions t a b
+all_asked c params behind n most least t a b wrote =
+    let last : n ≡ 7 = omega (arith, most, least) in
+    subst (λ m. Wrote (IsNumbered c) params behind (first c (m - 1)) t a b) last wrote
 
 -- a count that rose in a later part rose in the whole
 pub later_cause : (i j k : ℕ) (result : Result Tone Failed) → i ≤ j → HasCause j k result → HasCause i k result

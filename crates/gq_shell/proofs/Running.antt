@@ -17,7 +17,7 @@ use Rattle.gq_loader.specs.Loads.{load_of}
 use Rattle.gq_loader.specs.declared.refusal.LoadRefusal.{LoadRefusal}
 use Rattle.gq_loader.specs.declared.refusal.LoadStop.{LoadStop}
 use Rattle.gq_loader.specs.declared.refusal.LoadStop.TheVariants as load
-use Rattle.gq_reply.specs.Replies.{Context, IsReply}
+use Rattle.gq_reply.specs.Replies.{Context, IsTurn}
 use Rattle.gq_sample.specs.Questions.{questions}
 use Rattle.gq_session.specs.Replies as replies
 use Rattle.gq_session.specs.Sessions.{Session, Span}
@@ -26,13 +26,14 @@ use Rattle.gq_session.specs.declared.answering.Tone.{Tone}
 use Rattle.gq_session.specs.declared.answering.Tone.TheVariants as tone
 use Rattle.gq_session.specs.declared.run.Stop.{Stop}
 use Rattle.gq_session.specs.declared.run.Stop.TheVariants as stop
-use Rattle.gq_shell.specs.Claim.{EatsAll, Ends, IsPath, Outside, Over, Permits, Refuses, Runs, WroteFront, full, long, most, settings_of, short, usage_text}
+use Rattle.gq_shell.specs.Claim.{EatsAll, Ends, IsPath, IsQuiz, Outside, Over, Permits, Refuses, Runs, WroteFront, full, long, most, settings_of, short, usage_text}
 use Rattle.gq_shell.specs.LoadLines.{load_line}
 use Rattle.gq_shell.specs.Questions.{IsNumbered}
 use Rattle.gq_shell.specs.steps.Statuses.{status_of}
 use Rattle.gq_shell.specs.steps.Steps.{EndsLoad, Quizzed, Served, Told, told}
 use Rattle.gq_shell.specs.declared.status.Status.{Status}
 use Rattle.gq_shell.specs.declared.status.Status.TheVariants as status
+use Rattle.gq_tokens.specs.declared.params.Param.{Param}
 use Rattle.gq_words.specs.Meaning.{IsSource, Means}
 use Rattle.gq_words.specs.Reading.{IsMisused, IsRead}
 use Rattle.gq_words.specs.declared.meaning.Source.TheVariants as source
@@ -79,13 +80,14 @@ pub path_said : (read : Words) (manifest : Bor Text) → read.source ≡ source.
 path_said read manifest is = subst (IsPath manifest.now) (sym is) refl
 
 -- a session that was had over a buffer of the longest statement
-pub served : (graph : Graph) (settings : Settings) (n : ℕ) (input out : Span) (result : Result Tone Stop) (answer : Status) → n ≡ long → answer ≡ status_of result
-    → Session (IsReply (full graph settings)) n most input out result → session.Whole (IsReply (full graph settings)) n most input out result → Served graph settings input out answer
-served graph settings n input out result answer size is read whole = inr (record {
+pub served : (graph : Graph) (settings : Settings) (behind : List Param) (n : ℕ) (input out : Span) (result : Result Tone Stop) (answer : Status) → n ≡ long → answer ≡ status_of result
+    → Session (IsTurn (full graph settings)) [] behind n most input out result → session.Whole (IsTurn (full graph settings)) [] n most input out result → Served graph settings input out answer
+served graph settings behind n input out result answer size is read whole = inr (record {
   result = result;
   is = is;
-  read = subst (λ m. Session (IsReply (full graph settings)) m most input out result) size read;
-  whole = subst (λ m. session.Whole (IsReply (full graph settings)) m most input out result) size whole;
+  behind = behind;
+  read = subst (λ m. Session (IsTurn (full graph settings)) [] behind m most input out result) size read;
+  whole = subst (λ m. session.Whole (IsTurn (full graph settings)) [] m most input out result) size whole;
 })
 
 module _ (words : List (List ℕ)) (o : Outside) where
@@ -145,7 +147,7 @@ module _ (words : List (List ℕ)) (o : Outside) where
         over (Some files) (Some input) Says is says = record { read = read; given = given; path = path; from = from; told = (graph, is, says input refl) }
 
         abbrev May : Result Tone Stop → List ℕ → List ℕ → Type 0
-        May result text input = session.Permits (IsReply here) long most input result text
+        May result text input = session.Permits (IsTurn here) [] long most input result text
 
         -- what holds of the input that is told holds of each that is
         of_told : (input : List ℕ) → o.left ≡ Some input → (P : List ℕ → Type 0) → P input → (other : List ℕ) → o.left ≡ Some other → P other
@@ -156,7 +158,7 @@ module _ (words : List (List ℕ)) (o : Outside) where
         Written result = (text : List ℕ) × ((input : List ℕ) → o.left ≡ Some input → May result text input) × Appends o.taken o.took text
 
         written : (result : Result Tone Stop) (left : Option (List ℕ)) → o.left ≡ left → (text : List ℕ) → Appends o.taken o.took text
-            → ((input : List ℕ) → o.left ≡ Some input → session.Wholly (IsReply here) long most input result o.taken o.took) → Written result
+            → ((input : List ℕ) → o.left ≡ Some input → session.Wholly (IsTurn here) [] long most input result o.taken o.took) → Written result
         written result None is text moved whole = (text, (λ input told. not_told input (sym is ∙ told)), moved)
         written result (Some input) is text moved whole =
             let w = whole input is in
@@ -190,29 +192,29 @@ module _ (words : List (List ℕ)) (o : Outside) where
           moved = moved;
         }
 
-        abbrev Had : Result Tone Stop → Type 0
-        Had result = Session (IsReply here) long most (input_of o) (out_of o) result
+        abbrev Had : List Param → Result Tone Stop → Type 0
+        Had behind result = Session (IsTurn here) [] behind long most (input_of o) (out_of o) result
 
         abbrev HadWhole : Result Tone Stop → Type 0
-        HadWhole result = session.Whole (IsReply here) long most (input_of o) (out_of o) result
+        HadWhole result = session.Whole (IsTurn here) [] long most (input_of o) (out_of o) result
 
-        broke : (left : Option (List ℕ)) → o.left ≡ left → Had (Err stop.Write) → HadWhole (Err stop.Write) → WroteFront words o.held o.left o.taken o.took
-        broke (Some input) is read whole = let p = (whole input is).0 in front_of input is p.result p.replies p.permitted p.moved
-        broke None is read whole = elim read.ends.0 [
+        broke : (behind : List Param) (left : Option (List ℕ)) → o.left ≡ left → Had behind (Err stop.Write) → HadWhole (Err stop.Write) → WroteFront words o.held o.left o.taken o.took
+        broke behind (Some input) is read whole = let p = (whole input is).0 in front_of input is p.result p.replies p.permitted p.moved
+        broke behind None is read whole = elim read.ends.0 [
           | inl part ↦ front_untold is part.wrote.text part.wrote.moved
           | inr end ↦ front_untold is end.1.text end.1.moved
         ]
 
-        not_read : (eaten : List ℕ) → Had (Err stop.Read) → HadWhole (Err stop.Read) → Ends words o eaten status.ReadFault
-        not_read eaten read whole = inr (over o.held o.left _ loads (λ input told. (whole input told).0), read.ends.2)
+        not_read : (behind : List Param) (eaten : List ℕ) → Had behind (Err stop.Read) → HadWhole (Err stop.Read) → Ends words o eaten status.ReadFault
+        not_read behind eaten read whole = inr (over o.held o.left _ loads (λ input told. (whole input told).0), read.ends.2)
 
-        ended : (result : Result Tone Stop) (read : Had result) → HadWhole result → Ends words o read.eaten (status_of result)
-        ended (Ok t) read whole = finished read.eaten read.ends.1 t (written (Ok t) o.left refl read.ends.2.text read.ends.2.moved whole)
-        ended (Err stop.TooLong) read whole =
+        ended : (behind : List Param) (result : Result Tone Stop) (read : Had behind result) → HadWhole result → Ends words o read.eaten (status_of result)
+        ended behind (Ok t) read whole = finished read.eaten read.ends.1 t (written (Ok t) o.left refl read.ends.2.text read.ends.2.moved whole)
+        ended behind (Err stop.TooLong) read whole =
             let (text, may, moved) = written (Err stop.TooLong) o.left refl read.ends.2.text read.ends.2.moved whole in
             record { text = text; permitted = over o.held o.left _ loads may; moved = moved }
-        ended (Err stop.Read) read whole = not_read read.eaten read whole
-        ended (Err stop.Write) read whole = (broke o.left refl read whole, read.ends.1)
+        ended behind (Err stop.Read) read whole = not_read behind read.eaten read whole
+        ended behind (Err stop.Write) read whole = (broke behind o.left refl read whole, read.ends.1)
 
         pub exit_served : (answer : Status) → Served graph (settings_of read) (input_of o) (out_of o) answer → Runs words o answer
         exit_served answer (inl (is, same, kept)) = exit_memory answer is same kept
@@ -220,7 +222,7 @@ module _ (words : List (List ℕ)) (o : Outside) where
           eaten = served.read.eaten;
           ate = served.read.took;
           few = served.read.few;
-          ends = ended served.result served.read served.whole;
+          ends = ended served.behind served.result served.read served.whole;
         })
 
     module _ (size : ℕ) (from : read.source ≡ source.Sample size) where
@@ -228,12 +230,12 @@ module _ (words : List (List ℕ)) (o : Outside) where
       eaten_none : EatsAll words o []
       eaten_none = inr (record { read = read; given = given; size = size; from = from; says = tt }, refl)
 
-      shown : (t : Tone) → replies.Wrote (IsNumbered (short size (settings_of read))) questions t o.taken o.took → Ends words o [] (status_of (Ok t))
-      shown tone.Good w = (record { text = w.text; permitted = inr (record { read = read; given = given; size = size; from = from; says = w.replies }); moved = w.moved }, eaten_none)
-      shown tone.Refused w = (record { text = w.text; permitted = inr (record { read = read; given = given; size = size; from = from; says = w.replies }); moved = w.moved }, eaten_none)
-      shown tone.Memory w = inr (record { text = w.text; permitted = inr (record { read = read; given = given; size = size; from = from; says = w.replies }); moved = w.moved }, eaten_none)
+      shown : (t : Tone) (behind : List Param) → replies.Wrote (IsNumbered (short size (settings_of read))) [] behind questions t o.taken o.took → Ends words o [] (status_of (Ok t))
+      shown tone.Good behind w = (record { text = w.text; permitted = inr (record { read = read; given = given; size = size; from = from; says = (behind, w.replies) }); moved = w.moved }, eaten_none)
+      shown tone.Refused behind w = (record { text = w.text; permitted = inr (record { read = read; given = given; size = size; from = from; says = (behind, w.replies) }); moved = w.moved }, eaten_none)
+      shown tone.Memory behind w = inr (record { text = w.text; permitted = inr (record { read = read; given = given; size = size; from = from; says = (behind, w.replies) }); moved = w.moved }, eaten_none)
 
-      part_shown : (t : Tone) (text : List ℕ) → replies.Replies (IsNumbered (short size (settings_of read))) questions t text → AppendsFront o.taken o.took text
+      part_shown : (t : Tone) (text : List ℕ) → IsQuiz (short size (settings_of read)) t text → AppendsFront o.taken o.took text
           → WroteFront words o.held o.left o.taken o.took
       part_shown tone.Good text says moved = record { answer = status.Ended; text = text; permitted = inr (record { read = read; given = given; size = size; from = from; says = says }); moved = moved }
       part_shown tone.Refused text says moved = record { answer = status.Refused; text = text; permitted = inr (record { read = read; given = given; size = size; from = from; says = says }); moved = moved }
@@ -241,5 +243,5 @@ module _ (words : List (List ℕ)) (o : Outside) where
 
       pub exit_quizzed : (answer : Status) → o.unread ≡ o.left → Quizzed size (settings_of read) (out_of o) answer → Runs words o answer
       exit_quizzed answer same (inl (is, kept)) = exit_memory answer is same kept
-      exit_quizzed answer same (inr (inl (t, is, wrote))) = rw is (unread (status_of (Ok t)) same (shown t wrote))
-      exit_quizzed answer same (inr (inr (is, front, rose))) = rw is (unread status.WriteFault same (part_shown front.tone front.text front.replies front.moved, rose))
+      exit_quizzed answer same (inr (inl (t, behind, is, wrote))) = rw is (unread (status_of (Ok t)) same (shown t behind wrote))
+      exit_quizzed answer same (inr (inr (is, front, rose))) = rw is (unread status.WriteFault same (part_shown front.tone front.text (front.after, front.replies) front.moved, rose))

@@ -1,8 +1,8 @@
 -- The claim of `run`: which status the program answers for its words, the files and its input, and what it writes.
 -- It rests on `IsRead` and `IsMisused` (what the words say), `load_of` (which graph the files give) and `load_line` (how a
 -- refused load is spelled), `sample_graph` and `questions` (the sample), `statements` (how an input is cut), `IsTooLong`
--- (which inputs are refused), and `IsReply` (which replies a statement may have, and what each is like).
-use Rattle.std.specs.Prelude.{◌≡◌, ◌⊎◌, ℕ, ◌+◌, ◌≤◌, false, List, [], length, codes, Option, Some, Result, Ok, Err, IfSome, IsSome, slice_get}
+-- (which inputs are refused), and `IsTurn` (which replies a statement may have, what each is like, and the parameters then).
+use Rattle.std.specs.Prelude.{◌≡◌, ◌⊎◌, ℕ, ◌+◌, ◌≤◌, false, List, [], length, codes, Option, Some, Result, Ok, Err, IfSome, IsSome, slice_get, take}
 use Rattle.std.specs.Io.KnownBytes.{Appends, Consumes, IsAtEnd, Keeps}
 use Rattle.gq_base.specs.Plain.{Graph}
 use Rattle.gq_execute.specs.declared.settings.Order.{Order}
@@ -15,7 +15,7 @@ use Rattle.gq_loader.specs.Loads.{load_of}
 use Rattle.gq_loader.specs.declared.refusal.LoadRefusal.{LoadRefusal}
 use Rattle.gq_plan.specs.declared.Bound.{Bound}
 use Rattle.gq_render.specs.Texts.{line}
-use Rattle.gq_reply.specs.Replies.{Context, IsAsked, IsReply}
+use Rattle.gq_reply.specs.Replies.{Context, IsAsked, IsTurn, StandBehind}
 use Rattle.gq_reply.specs.declared.replier.Form.TheVariants.{Full, Short}
 use Rattle.gq_sample.specs.Questions.{questions}
 use Rattle.gq_sample.specs.Sample.{sample_graph}
@@ -29,6 +29,7 @@ use Rattle.gq_shell.specs.Questions.{IsNumbered}
 use Rattle.gq_shell.specs.declared.status.Status.{Status}
 use Rattle.gq_shell.specs.declared.status.Status.TheVariants as status
 use Rattle.gq_syntax.specs.declared.statement.Query.{Query}
+use Rattle.gq_tokens.specs.declared.params.Param.{Param}
 use Rattle.gq_words.specs.Reading.{IsMisused, IsRead}
 use Rattle.gq_words.specs.declared.meaning.Order.TheVariants as order_word
 use Rattle.gq_words.specs.declared.meaning.Order as word
@@ -102,17 +103,21 @@ pub record OnSample (words : List (List ℕ)) (Says : Context → Type 0) : Type
 
 -- ---- the whole answers
 
--- all statements, or all questions, were answered: the text is their replies, the worst of which has this tone
+-- the answers to the questions, from no parameters on
+abbrev pub IsQuiz : Context → Tone → List ℕ → Type 0
+IsQuiz c t text = (behind : List Param) × Replies (IsNumbered c) [] behind questions t text
+
+-- all statements, from no parameters on, or all questions, were answered: the text is their replies, the worst of which has this tone
 abbrev pub Finished : List (List ℕ) → Option Names → Option (List ℕ) → Tone → List ℕ → Type 0
 Finished words held left t text =
-    Over words held left (λ c input. session.Permits (IsReply c) long most input (Ok t) text)
-    ⊎ OnSample words (λ c. Replies (IsNumbered c) questions t text)
+    Over words held left (λ c input. session.Permits (IsTurn c) [] long most input (Ok t) text)
+    ⊎ OnSample words (λ c. IsQuiz c t text)
 
 -- the status may be answered for these words, files and input, and the text is all that is written then
 abbrev pub Permits : List (List ℕ) → Option Names → Option (List ℕ) → Status → List ℕ → Type 0
 Permits words held left status.Usage text = IsMisused words × (text ≡ usage_text)
 Permits words held left status.NotLoaded text = IsNotLoaded words held text
-Permits words held left status.TooLong text = Over words held left (λ c input. session.Permits (IsReply c) long most input (Err stop.TooLong) text)
+Permits words held left status.TooLong text = Over words held left (λ c input. session.Permits (IsTurn c) [] long most input (Err stop.TooLong) text)
 Permits words held left status.Ended text = Finished words held left tone.Good text
 Permits words held left status.Refused text = Finished words held left tone.Refused text
 Permits words held left status.Memory text = Finished words held left tone.Memory text
@@ -176,7 +181,7 @@ EatsAll words o eaten =
 abbrev pub FailedToRead : List (List ℕ) → Outside → List ℕ → Type 0
 FailedToRead words o eaten =
     (DidNothing o eaten × Rose o.files_faults.before o.files_faults.now)
-    ⊎ (Over words o.held o.left (λ c input. session.SoFar (IsReply c) long most input o.taken o.took)
+    ⊎ (Over words o.held o.left (λ c input. session.SoFar (IsTurn c) [] long most input o.taken o.took)
     × Rose o.input_faults.before o.input_faults.now)
 
 -- how a run ended that ate this much of the input: with a whole answer, with a fault by its cause, or for want of memory
@@ -207,15 +212,18 @@ IsToTheEnd status.Refused = Unit {0}
 IsToTheEnd status.Memory = Unit {0}
 IsToTheEnd s = ⊥
 
--- one of these statements asks a query that is answered and has LIMIT, but neither DISTINCT nor ORDER BY. Which of its
--- outcomes are looked at is open, so both rows and a fault may be permitted
+-- one of these statements, with the parameters that stand behind those before it, asks a query that is answered and has
+-- LIMIT, but neither DISTINCT nor ORDER BY. Which of its outcomes are looked at is open, so both rows and a fault may be
+-- permitted
 pub record AsksOpenQuery (c : Context) (statements : List (List ℕ)) : Type 0 where
   pub place : ℕ
   pub statement : List ℕ
   pub at : slice_get statements place ≡ Some statement
+  pub params : List Param
+  pub stand : StandBehind c [] (take place statements) params
   pub query : Query
   pub bound : Bound
-  pub asked : IsAsked c.graph statement query bound
+  pub asked : IsAsked c.graph params statement query bound
   pub limited : IsSome query.limit
   pub all_lines : query.distinct ≡ false
   pub unordered : query.order ≡ []

@@ -4,11 +4,11 @@
 #![tactic(auto)]
 
 mod load_line;
-mod pool;
 mod program;
 mod sample;
 mod session;
 mod status;
+mod workspace;
 
 pub use program::run;
 pub use status::Status;

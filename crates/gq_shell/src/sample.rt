@@ -1,23 +1,20 @@
 //! The answers to the questions that are asked of the sample graph.
 
-ghost use Rattle.std.specs.Prelude.{◌≤◌};
+ghost use Rattle.std.specs.Prelude.{◌≡◌, ◌≤◌, []};
 ghost use Rattle.gq_io.specs.Causes.{HasCause};
 ghost use Rattle.gq_io.specs.Outside.{Writes};
-ghost use Rattle.gq_pool.specs.Pool.{spare_of};
 ghost use Rattle.gq_reply.specs.Replies.{context_of};
-ghost use Rattle.gq_reply.specs.steps.Steps.{Replied};
 ghost use Rattle.gq_session.specs.Sessions.{span_of};
-ghost use Rattle.gq_shell.specs.Questions.{IsNumbered, label_text};
-ghost use Rattle.gq_shell.specs.steps.Steps.{Asked, Quizzed, question_of};
+ghost use Rattle.gq_shell.specs.Questions.{label_text};
+ghost use Rattle.gq_shell.specs.steps.Steps.{Asked, AskedOne, IsReady, Quizzed};
 
-use crate::pool::new_pool;
 use crate::session::status_of;
 use crate::status::Status;
+use crate::workspace::new_workspace;
 use gq_execute::Settings;
 use gq_io::{Failed, Sink};
-use gq_pool::VectorPool;
 use gq_render::{Place, write_refusal};
-use gq_reply::{Form, Replier};
+use gq_reply::{Form, Replier, Workspace};
 use gq_sample::{question, sample};
 use gq_session::{Answerer, Stop, Tone};
 use std::alloc::Global;
@@ -34,19 +31,19 @@ fn write_label<O: Sink>(out: &mut O, number: u32) -> Result<(), Failed>
 // Answers the question of this number.
 fn ask<O: Sink>(
     replier: &Replier<'_>,
-    pool: &mut VectorPool,
+    workspace: &mut Workspace,
     number: u32,
     out: &mut O,
 ) -> Result<Tone, Failed>
     requires least { 1 ≤ number }
     requires most { number ≤ 6 }
-    requires slots { 112 ≤ spare_of pool.old }
-    ensures replies { Replied (IsNumbered (context_of replier.now) (question_of number))
-        (span_of O.taken O.faults out.old out.new) result }
-    ensures slots { 112 ≤ spare_of pool.new }
+    requires ready { IsReady workspace.old }
+    ensures replies { AskedOne (context_of replier.now) number workspace.old.params
+        workspace.new.params (span_of O.taken O.faults out.old out.new) result }
+    ensures ready { IsReady workspace.new }
 {
     match write_label(out, number) {
-        Ok(()) => replier.answer(pool, question(number).as_bytes(), out),
+        Ok(()) => replier.answer(workspace, question(number).as_bytes(), out),
         Err(Failed) => Err(Failed),
     }
 }
@@ -54,15 +51,16 @@ fn ask<O: Sink>(
 // Answers the six questions, and says what the worst of the answers is like.
 fn ask_all<O: Sink>(
     replier: &Replier<'_>,
-    pool: &mut VectorPool,
+    workspace: &mut Workspace,
     out: &mut O,
 ) -> Result<Tone, Failed>
-    requires { 112 ≤ spare_of pool.old }
+    requires ready { IsReady workspace.old }
+    requires empty { workspace.old.params ≡ [] }
     ensures { Asked (context_of replier.now) (span_of O.taken O.faults out.old out.new) result }
 {
     let mut worst = Tone::Good;
     for number in 1..7u32 {
-        match ask(replier, pool, number, out) {
+        match ask(replier, workspace, number, out) {
             Ok(tone) => worst = worst.worse(tone),
             Err(Failed) => return Err(Failed),
         }
@@ -84,7 +82,7 @@ pub(crate) fn show_sample<O: Sink>(
     let Ok(graph) = sample(alloc, size) else {
         return Status::Memory;
     };
-    let Ok(mut pool) = new_pool(alloc) else {
+    let Ok(mut workspace) = new_workspace(alloc) else {
         return Status::Memory;
     };
     let replier = Replier {
@@ -93,7 +91,7 @@ pub(crate) fn show_sample<O: Sink>(
         settings,
         form: Form::Short,
     };
-    match ask_all(&replier, &mut pool, out) {
+    match ask_all(&replier, &mut workspace, out) {
         Ok(tone) => status_of(Ok(tone)),
         Err(Failed) => status_of(Err(Stop::Write)),
     }

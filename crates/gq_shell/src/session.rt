@@ -5,8 +5,8 @@ ghost use Rattle.gq_session.specs.Sessions.{span_of};
 ghost use Rattle.gq_shell.specs.steps.Statuses.{status_of};
 ghost use Rattle.gq_shell.specs.steps.Steps.{Served};
 
-use crate::pool::new_pool;
 use crate::status::Status;
+use crate::workspace::new_workspace;
 use gq_execute::Settings;
 use gq_io::{Sink, Source};
 use gq_reply::{Form, Replier};
@@ -48,7 +48,7 @@ pub(crate) fn serve<I: Source, O: Sink>(
     let Ok(mut statement) = vec![in alloc; 0u8; MOST_STATEMENT] else {
         return Status::Memory;
     };
-    let Ok(mut pool) = new_pool(alloc) else {
+    let Ok(mut workspace) = new_workspace(alloc) else {
         return Status::Memory;
     };
     let replier = Replier {
@@ -57,6 +57,13 @@ pub(crate) fn serve<I: Source, O: Sink>(
         settings,
         form: Form::Full,
     };
-    let ended = session(&replier, &mut pool, &mut statement, MOST_INPUT, input, out);
+    let ended = session(
+        &replier,
+        &mut workspace,
+        &mut statement,
+        MOST_INPUT,
+        input,
+        out,
+    );
     status_of(ended)
 }

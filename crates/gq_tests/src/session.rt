@@ -17,7 +17,12 @@ struct Echo;
 impl Answerer for Echo {
     type Workspace = ();
 
-    ghost answers = { λ _ statement tone reply. (tone ≡ Good) × (reply ≡ statement ++ 124 ∷ []) };
+    ghost State = { Unit {0} };
+
+    ghost state = { λ _. tt };
+
+    ghost answers = { λ _ before statement tone reply after.
+        (tone ≡ Good) × (reply ≡ statement ++ 124 ∷ []) };
 
     ghost ready = { λ _. Unit {0} };
 
@@ -38,7 +43,7 @@ impl Answerer for Echo {
         Ok(Tone::Good)
     }
 
-    ghost has_reply = { λ _ statement. (Good, statement ++ 124 ∷ [], (refl, refl)) };
+    ghost has_reply = { λ _ before statement. (Good, statement ++ 124 ∷ [], tt, (refl, refl)) };
 }
 
 // How a session over so many `;` ended, and how many bytes it wrote, where the input comes in such pieces.

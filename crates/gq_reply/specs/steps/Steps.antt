@@ -1,29 +1,41 @@
 -- How a reply is written, for the contracts of its parts.
-use Rattle.std.specs.Prelude.{◌≡◌, ◌⊎◌, ℕ, List, Result, Ok, Err, Bool, true, false, ◌++◌}
-use Rattle.gq_base.specs.Values.{Val}
+use Rattle.std.specs.Prelude.{◌≡◌, ◌⊎◌, ℕ, List, Result, Ok, Err, Bool, true, false, ◌++◌, codes}
+use Rattle.std.specs.Io.KnownBytes.{Appends}
+use Rattle.std.specs.declared.option.Option.{Option}
+use Rattle.gq_base.specs.Values.{Val, literal_val}
+use Rattle.gq_base.specs.declared.literal.Literal.{Literal}
 use Rattle.gq_binder.specs.Binding.{IsBound}
 use Rattle.gq_execute.specs.Replies.{Rows, Faulted, TooManyRows, IsPermitted}
 use Rattle.gq_expr.specs.declared.Fault.{Fault}
 use Rattle.gq_io.specs.Causes.{HasCause}
+use Rattle.gq_io.specs.Outside.{AppendsFront}
 use Rattle.gq_io.specs.declared.Failed.{Failed}
 use Rattle.gq_plan.specs.declared.Bound.{Bound}
 use Rattle.gq_pipe.specs.declared.pipeline.Spent.{Spent}
 use Rattle.gq_reply.specs.Replies.{Context, IsText, memory_line, question}
 use Rattle.gq_reply.specs.ReplyTexts.{IsPlanText, fault_text, many_text, rows_text, spent_text}
-use Rattle.gq_session.specs.Replies.{Answered}
 use Rattle.gq_session.specs.Sessions.{Span}
 use Rattle.gq_session.specs.declared.answering.Tone.{Tone}
 use Rattle.gq_session.specs.declared.answering.Tone.TheVariants as tone
+use Rattle.gq_render.specs.Texts.{line, param_line}
 use Rattle.gq_syntax.specs.declared.statement.Query.{Query}
+use Rattle.gq_tokens.specs.Parameters.{IsFull, with_value}
+use Rattle.gq_tokens.specs.Words.{Name}
+use Rattle.gq_tokens.specs.declared.params.Param.{Param}
 
 -- the tone of a reply that was written, or the failure to write it
 abbrev pub toned : Result (Unit {0}) Failed → Tone → Result Tone Failed
 toned (Ok _) t = Ok t
 toned (Err failed) t = Err failed
 
--- a permitted reply was written, or a front of one, and the sink failed
+-- a permitted reply was written, or a front of one
+abbrev pub Written : (Tone → List ℕ → Type 0) → Option (List ℕ) → Option (List ℕ) → Result Tone Failed → Type 0
+Written May old new (Ok t) = (text : List ℕ) × May t text × Appends old new text
+Written May old new (Err failed) = (t : Tone) × (text : List ℕ) × May t text × AppendsFront old new text
+
+-- the same; where a front was written, the sink failed
 pub record Replied (May : Tone → List ℕ → Type 0) (out : Span) (result : Result Tone Failed) : Type 0 where
-  pub bytes : Answered May out.old out.new result
+  pub bytes : Written May out.old out.new result
   pub cause : HasCause out.before out.now result
 
 -- the replies to a query that is bound, or to one whose profile is asked for: its rows, a line in their place, or the line for
@@ -51,3 +63,14 @@ abbrev pub MayShow : Context → Bound → Tone → List ℕ → Type 0
 MayShow c bound tone.Good text = IsPlanText c.settings.order c.graph bound text
 MayShow c bound tone.Refused text = ⊥
 MayShow c bound tone.Memory text = text ≡ memory_line
+
+-- the replies to a statement that sets a parameter
+abbrev pub MaySet : List Param → Name → Literal → Tone → List ℕ → Type 0
+MaySet params name value tone.Good text = (¬ (IsFull name params)) × (text ≡ param_line name (literal_val value))
+MaySet params name value tone.Refused text = IsFull name params × (text ≡ line (codes "error: TooManyParameters"))
+MaySet params name value tone.Memory text = text ≡ memory_line
+
+-- the parameters behind it
+abbrev pub behind_set : List Param → Name → Literal → Tone → List Param
+behind_set params name value tone.Good = with_value name value params
+behind_set params name value t = params

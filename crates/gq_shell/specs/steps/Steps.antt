@@ -1,16 +1,18 @@
 -- How a part of a run ends, for the contracts of its helpers.
-use Rattle.std.specs.Prelude.{◌≡◌, ◌⊎◌, ℕ, ◌-◌, ◌≤◌, List, [], get_or, Result, Ok, Err}
+use Rattle.std.specs.Prelude.{◌≡◌, ◌⊎◌, ℕ, ◌-◌, ◌≤◌, List, [], get_or, true, Result, Ok, Err}
 use Rattle.std.specs.Io.KnownBytes.{Appends, Keeps}
 use Rattle.gq_base.specs.Plain.{Graph}
 use Rattle.gq_execute.specs.declared.settings.Settings.{Settings}
-use Rattle.gq_io.specs.Causes.{Rose}
+use Rattle.gq_io.specs.Causes.{HasCause, Rose}
 use Rattle.gq_io.specs.Outside.{AppendsFront}
 use Rattle.gq_io.specs.declared.Failed.{Failed}
 use Rattle.gq_loader.specs.declared.LoadStop.{LoadStop}
 use Rattle.gq_loader.specs.declared.LoadStop.TheVariants as load
-use Rattle.gq_reply.specs.Replies.{Context, IsReply}
+use Rattle.gq_reply.specs.Replies.{Context, IsTurn}
+use Rattle.gq_pool.specs.Pool.{spare_of}
+use Rattle.gq_reply.specs.declared.replier.Workspace.{Workspace}
 use Rattle.gq_sample.specs.Questions.{questions}
-use Rattle.gq_session.specs.Replies.{Wrote, WroteFront}
+use Rattle.gq_session.specs.Replies.{Answered, Wrote, WroteFront}
 use Rattle.gq_session.specs.Sessions.{Session, Span}
 use Rattle.gq_session.specs.Whole as session
 use Rattle.gq_session.specs.declared.answering.Tone.{Tone}
@@ -21,6 +23,8 @@ use Rattle.gq_shell.specs.Questions.{IsNumbered}
 use Rattle.gq_shell.specs.steps.Statuses.{status_of}
 use Rattle.gq_shell.specs.declared.status.Status.{Status}
 use Rattle.gq_shell.specs.declared.status.Status.TheVariants as status
+use Rattle.gq_tokens.specs.Parameters.{are_params}
+use Rattle.gq_tokens.specs.declared.params.Param.{Param}
 
 -- the status of a run that ended with a line
 abbrev pub told : Result (Unit {0}) Failed → Status → Status
@@ -44,8 +48,9 @@ EndsLoad load.Memory out answer = Keeps out.old out.new × (answer ≡ status.Me
 pub record IsServed (graph : Graph) (settings : Settings) (input out : Span) (answer : Status) : Type 0 where
   pub result : Result Tone Stop
   pub is : answer ≡ status_of result
-  pub read : Session (IsReply (full graph settings)) long most input out result
-  pub whole : session.Whole (IsReply (full graph settings)) long most input out result
+  pub behind : List Param
+  pub read : Session (IsTurn (full graph settings)) [] behind long most input out result
+  pub whole : session.Whole (IsTurn (full graph settings)) [] long most input out result
 
 -- there was not enough memory to begin, or a session was had
 abbrev pub Served : Graph → Settings → Span → Span → Status → Type 0
@@ -59,13 +64,23 @@ question_of number = get_or questions (number - 1) []
 
 -- the questions were answered, or a front of their answers was written and the sink failed
 abbrev pub Asked : Context → Span → Result Tone Failed → Type 0
-Asked c out (Ok t) = Wrote (IsNumbered c) questions t out.old out.new × (out.before ≤ out.now)
-Asked c out (Err failed) = WroteFront (IsNumbered c) questions out.old out.new × Rose out.before out.now
+Asked c out (Ok t) = ((behind : List Param) × Wrote (IsNumbered c) [] behind questions t out.old out.new) × (out.before ≤ out.now)
+Asked c out (Err failed) = WroteFront (IsNumbered c) [] questions out.old out.new × Rose out.before out.now
 
 -- there was not enough memory for the sample graph, or it was asked the questions
 abbrev pub Quizzed : ℕ → Settings → Span → Status → Type 0
 Quizzed size settings out answer =
     ((answer ≡ status.Memory) × Keeps out.old out.new)
-    ⊎ ((t : Tone) × (answer ≡ status_of (Ok t)) × Wrote (IsNumbered (short size settings)) questions t out.old out.new)
-    ⊎ ((answer ≡ status.WriteFault) × WroteFront (IsNumbered (short size settings)) questions out.old out.new
+    ⊎ ((t : Tone) × (behind : List Param) × (answer ≡ status_of (Ok t))
+    × Wrote (IsNumbered (short size settings)) [] behind questions t out.old out.new)
+    ⊎ ((answer ≡ status.WriteFault) × WroteFront (IsNumbered (short size settings)) [] questions out.old out.new
     × Rose out.before out.now)
+
+-- a question was answered, or a front of its answer was written and the sink failed
+pub record AskedOne (c : Context) (number : ℕ) (before after : List Param) (out : Span) (result : Result Tone Failed) : Type 0 where
+  pub bytes : Answered (IsNumbered c before (question_of number)) after out.old out.new result
+  pub cause : HasCause out.before out.now result
+
+-- a session can go on with this workspace: a pipeline has room in its pool, and its parameters are few and distinct
+abbrev pub IsReady : Workspace → Type 0
+IsReady w = (112 ≤ spare_of w.pool) × (are_params w.params ≡ true)

@@ -9,7 +9,7 @@ returns-in_default-clause-taken g c =
     let fed = rw c.loop-byte.auto.statement at c.in-Ended.ensures.feeds in
     record {
       taken = (
-        came-broke _ _ _ _ _ _ c.loop-byte.byte-index _ _ _ _ (take c.in-Ended.count c.feed.new.statement) c.loop-byte-test.true c.loop-byte.invariant.came fed.1 c.in_default.ensures.bytes,
+        came-broke _ _ _ _ _ _ _ _ c.loop-byte.byte-index _ _ _ _ (take c.in-Ended.count c.feed.new.statement) c.loop-byte-test.true c.loop-byte.invariant.came fed.1 c.in_default.ensures.bytes,
         Rose-later _ _ _ c.loop-byte.invariant.later c.in_default.ensures.cause.failed,
       );
       later = omega arith;
@@ -19,7 +19,7 @@ pub returns-in-TooLong-clause-taken : goal.returns-in-TooLong-clause-taken
 returns-in-TooLong-clause-taken g c =
     let fed = rw c.loop-byte.auto.statement at c.in-TooLong.ensures.feeds in
     record {
-      taken = came-over _ _ _ _ _ _ c.loop-byte.byte-index _ _ _ c.loop-byte-test.true c.loop-byte.invariant.came fed.0 fed.1;
+      taken = came-over _ _ _ _ _ _ _ _ c.loop-byte.byte-index _ _ _ c.loop-byte-test.true c.loop-byte.invariant.came fed.0 fed.1;
       later = c.loop-byte.invariant.later;
     }
 
@@ -30,7 +30,7 @@ loop-byte-preserved g c =
           let fed = rw c.loop-byte.auto.statement at w.in-Kept.ensures.feeds in
           rw (w.out-is, w.worst-is, w.workspace-is) (record {
             fits = c.feed.ensures.fits;
-            came = came-kept _ _ _ _ _ _ _ c.loop-byte.byte-index _ _ _ c.loop-byte-test.true c.loop-byte.invariant.came fed.0 fed.1;
+            came = came-kept _ _ _ _ _ _ _ _ _ c.loop-byte.byte-index _ _ _ c.loop-byte-test.true c.loop-byte.invariant.came fed.0 fed.1;
             ready = c.loop-byte.invariant.ready;
             later = c.loop-byte.invariant.later;
           })
@@ -38,7 +38,7 @@ loop-byte-preserved g c =
           let fed = rw c.loop-byte.auto.statement at w.in-Ended.ensures.feeds in
           rw (w.out-is, w.worst-is, w.workspace-is, w.worse-worst.ensures) (record {
             fits = c.feed.ensures.fits;
-            came = came-ended _ _ _ _ _ _ _ c.loop-byte.byte-index _ _ _ _ _ (take w.in-Ended.count c.feed.new.statement) c.loop-byte-test.true c.loop-byte.invariant.came fed.0 fed.1 w.in-Ok.ensures.bytes;
+            came = came-ended _ _ _ _ _ _ _ _ _ _ c.loop-byte.byte-index _ _ _ _ _ (take w.in-Ended.count c.feed.new.statement) c.loop-byte-test.true c.loop-byte.invariant.came fed.0 fed.1 w.in-Ok.ensures.bytes;
             ready = w.in-Ok.ensures.ready;
             later = omega arith;
           })

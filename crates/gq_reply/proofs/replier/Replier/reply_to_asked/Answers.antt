@@ -1,22 +1,19 @@
 use Rattle.std.proofs.Common.{Err, subst}
 use Rattle.gq_binder.specs.Binding.{Answers}
-use Rattle.gq_reply.proofs.Replying.{begun, may_reply, refusal_is, replied, replied_as, spelled_query, unbound}
+use Rattle.gq_reply.proofs.Replying.{begun, may_reply, refusal_is, replied, replied_as, unbound}
 use Rattle.gq_reply.specs.Replies.{asked_by}
 use Rattle.gq_reply.proofs.replier.Replier.reply_to_asked.Goals as goal
-
-pub bind-requires : goal.bind-requires
-bind-requires g c = spelled_query c.args.profiled c.args.statement.now c.args.query.now c.requires.spelled
 
 pub reply_to_query-requires-clause-begins : goal.reply_to_query-requires-clause-begins
 reply_to_query-requires-clause-begins g c = begun _ _ _ _ (rw c.catalog.ensures.value at c.in-Ok.ensures)
 
 pub returns-in-Ok-clause-replies : goal.returns-in-Ok-clause-replies
-returns-in-Ok-clause-replies g c =
+returns-in-Ok-clause-replies g c = λ params spelled.
     let is = rw c.catalog.ensures.value at c.in-Ok.ensures in
-    replied_as _ _ (may_reply _ _ c.args.query.now c.in-Ok.bound (record { profiled = c.args.profiled; spelled = c.requires.spelled; binds = is })) _ _ (c.reply_to_query.ensures.asks c.args.query.now c.args.statement.now is)
+    replied_as _ _ (may_reply _ params _ c.args.query.now c.in-Ok.bound (record { profiled = c.args.profiled; spelled = spelled; binds = is })) _ _ (c.reply_to_query.ensures.asks c.args.query.now c.args.statement.now is)
 
 pub returns-in-Err-clause-replies : goal.returns-in-Err-clause-replies
-returns-in-Err-clause-replies g c =
+returns-in-Err-clause-replies g c = λ params spelled.
     let refused = subst (λ catalog. Answers c.args.query.now c.args.statement.now catalog (Err c.in-Err.refusal)) c.catalog.ensures.value c.in-Err.ensures in
-    replied _ c.tone_of.result _ (rw c.tone_of.ensures (unbound _ _ (asked_by c.args.profiled c.args.query.now) c.requires.spelled c.args.query.now (refusal_is c.args.profiled c.args.statement.now c.args.query.now _) c.in-Err.refusal refused))
+    replied _ c.tone_of.result _ (rw c.tone_of.ensures (unbound _ params _ (asked_by c.args.profiled c.args.query.now) spelled c.args.query.now (refusal_is c.args.profiled c.args.statement.now c.args.query.now _) c.in-Err.refusal refused))
     _ _ c.write_bind_refusal.ensures.bytes c.write_bind_refusal.ensures.cause _ c.toned.ensures

@@ -1,22 +1,19 @@
-use Rattle.std.proofs.Common.{[], Err, inl, inr, refl, subst}
+use Rattle.std.proofs.Common.{Err, refl, subst}
 use Rattle.gq_binder.specs.Binding.{Answers}
 use Rattle.gq_reply.proofs.Replying.{begun, may_show, replied, replied_as, unbound}
 use Rattle.gq_syntax.specs.declared.statement.Statement.TheVariants as tree
 use Rattle.gq_reply.proofs.replier.Replier.reply_to_planned.Goals as goal
 
-pub bind-requires : goal.bind-requires
-bind-requires g c = ([], inr (inl c.requires))
-
 pub reply_to_plan-requires-clause-begins : goal.reply_to_plan-requires-clause-begins
 reply_to_plan-requires-clause-begins g c = begun _ _ _ _ (rw c.catalog.ensures.value at c.in-Ok.ensures)
 
 pub returns-in-Ok : goal.returns-in-Ok
-returns-in-Ok g c =
+returns-in-Ok g c = λ params spelled.
     let is = rw c.catalog.ensures.value at c.in-Ok.ensures in
-    replied_as _ _ (may_show _ _ c.args.query.now c.in-Ok.bound c.requires is) _ _ c.reply_to_plan.ensures
+    replied_as _ _ (may_show _ params _ c.args.query.now c.in-Ok.bound spelled is) _ _ c.reply_to_plan.ensures
 
 pub returns-in-Err : goal.returns-in-Err
-returns-in-Err g c =
+returns-in-Err g c = λ params spelled.
     let refused = subst (λ catalog. Answers c.args.query.now c.args.statement.now catalog (Err c.in-Err.refusal)) c.catalog.ensures.value c.in-Err.ensures in
-    replied _ c.tone_of.result _ (rw c.tone_of.ensures (unbound _ _ (tree.Plan c.args.query.now) c.requires c.args.query.now refl c.in-Err.refusal refused))
+    replied _ c.tone_of.result _ (rw c.tone_of.ensures (unbound _ params _ (tree.Plan c.args.query.now) spelled c.args.query.now refl c.in-Err.refusal refused))
     _ _ c.write_bind_refusal.ensures.bytes c.write_bind_refusal.ensures.cause _ c.toned.ensures
