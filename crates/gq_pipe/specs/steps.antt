@@ -12,6 +12,7 @@ pub mod Levels
 pub mod Limits
 pub mod Lists
 pub mod Moves
+pub mod Origins
 pub mod Outcomes
 pub mod Search
 pub mod Tries
