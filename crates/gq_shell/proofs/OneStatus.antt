@@ -1,6 +1,6 @@
 -- For given words, files and input one status alone may be answered, but where memory may end and for queries of which not
 -- all outcomes are looked at.
-use Rattle.std.proofs.Common.{◌≡◌, ◌≢◌, arith, ℕ, List, [], ◌∷◌, ◌++◌, Some, None, Ok, codes, refl, sym, ap, ap₂, ◌∙◌, subst, inl, inr}
+use Rattle.std.proofs.Common.{◌≡◌, ◌≢◌, arith, ℕ, List, [], ◌∷◌, ◌++◌, Some, None, Ok, Err, codes, refl, sym, ap, ap₂, ◌∙◌, subst, inl, inr}
 use Rattle.std.specs.Prelude.{◌⊎◌, Option, Result}
 use Rattle.std.specs.Io.KnownBytes.{Appends}
 use Rattle.clap.specs.Words.{Row, Text, first_of}
@@ -20,7 +20,8 @@ use Rattle.gq_session.specs.Replies.{Replies}
 use Rattle.gq_session.specs.Whole as session
 use Rattle.gq_session.specs.declared.answering.Tone.{Tone}
 use Rattle.gq_session.specs.declared.answering.Tone.TheVariants as tone
-use Rattle.gq_shell.specs.Claim.{AreOpen, AsksOpenQuery, IsNotLoaded, IsPath, IsQuiz, IsToTheEnd, IsWhole, OnSample, Outside, Over, Permits, Refuses, Runs, Whole, full, long, most, order_of, settings_of, short}
+use Rattle.gq_shell.specs.Claim.{AreOpen, AsksOpenQuery, IsNotLoaded, IsPath, IsQuiz, IsToTheEnd, IsWhole, OnSample, Outside, Over, Permits, Runs, Whole, full, long, most, order_of, settings_of, short}
+use Rattle.gq_shell.specs.LoadLines.{load_line}
 use Rattle.gq_shell.specs.Questions.{IsNumbered}
 use Rattle.gq_shell.specs.steps.Statuses.{status_of}
 use Rattle.gq_shell.specs.declared.status.Status.{Status}
@@ -142,21 +143,23 @@ module _ (words : List (List ℕ)) (files : Names) (input : List ℕ) where
   paths : (Says : Context → List ℕ → Type 0) (over : OnInput Says) (read : Words) (given : IsRead words read) (path : List ℕ) (from : IsPath path read.source) → over.path ≡ path
   paths Says over read given path from = same_paths _ over.read read over.path path over.given.means given.means over.from from
 
-  no_load : (Says : Context → List ℕ → Type 0) (text : List ℕ) → IsNotLoaded words (Some files) text → OnInput Says → ⊥
-  no_load Says text not over =
+  no_load : (Says : Context → List ℕ → Type 0) (refusal : LoadRefusal) → IsNotLoaded words (Some files) refusal → OnInput Says → ⊥
+  no_load Says refusal not over =
       let same : over.path ≡ not.path = paths Says over not.read not.given not.path not.from in
-      subst (λ l. Refuses l text) (subst (λ p. load_of p files standard ≡ Ok over.told.0) same over.told.1) not.told
+      let both : ◌≡◌ {A = Result Graph LoadRefusal} (Err refusal) (Ok over.told.0) =
+          sym not.told ∙ subst (λ p. load_of p files standard ≡ Ok over.told.0) same over.told.1 in
+      cc both
 
   no_input : (Says : Context → List ℕ → Type 0) (read : Words) (given : IsRead words read) (size : ℕ) → read.source ≡ source.Sample size → OnInput Says → ⊥
   no_input Says read given size from over = no_samples _ over.read read size over.path over.given.means given.means from over.from
 
-  not_unloaded : (text : List ℕ) → IsNotLoaded words (Some files) text → (Says : Context → Type 0) → OnSample words Says → ⊥
-  not_unloaded text not Says sample = no_samples _ not.read sample.read sample.size not.path not.given.means sample.given.means sample.from not.from
+  not_unloaded : (refusal : LoadRefusal) → IsNotLoaded words (Some files) refusal → (Says : Context → Type 0) → OnSample words Says → ⊥
+  not_unloaded refusal not Says sample = no_samples _ not.read sample.read sample.size not.path not.given.means sample.given.means sample.from not.from
 
   -- which of five things a status says
   data Sort (s : Status) : Type 0 where
     misused : s ≡ status.Usage → IsMisused words → Sort s
-    unloaded : (text : List ℕ) → s ≡ status.NotLoaded → IsNotLoaded words (Some files) text → Sort s
+    unloaded : (refusal : LoadRefusal) → s ≡ status.NotLoaded → IsNotLoaded words (Some files) refusal → Sort s
     too_long : s ≡ status.TooLong → OnInput (λ c text. session.IsTooLong long most text) → Sort s
     answered : (t : Tone) (text : List ℕ) → s ≡ status_of (Ok t) → OnInput (λ c text'. (¬ session.IsTooLong long most text') × ((behind : List Param) × Replies (IsTurn c) [] behind (session.statements text') t text)) → Sort s
     sampled : (t : Tone) (text : List ℕ) → s ≡ status_of (Ok t) → OnSample words (λ c. IsQuiz c t text) → Sort s
@@ -169,7 +172,7 @@ module _ (words : List (List ℕ)) (files : Names) (input : List ℕ) where
 
   sort : (s : Status) (text : List ℕ) → Permits words (Some files) (Some input) s text → Sort s
   sort status.Usage text p = misused refl p.0
-  sort status.NotLoaded text p = unloaded text refl p
+  sort status.NotLoaded text p = unloaded p.0 refl p.1
   sort status.TooLong text p = too_long refl (narrow _ _ (λ c text' says. says.0) p)
   sort status.Ended text (inl over) = answered tone.Good text refl over
   sort status.Ended text (inr sample) = sampled tone.Good text refl sample
@@ -263,27 +266,27 @@ module _ (words : List (List ℕ)) (files : Names) (input : List ℕ) where
 
   one_by : (s s' : Status) → Sort s → Sort s' → Only s s'
   one_by s s' (misused is m) (misused is' m') = inl (is ∙ sym is')
-  one_by s s' (misused is m) (unloaded text is' n) = absurd (not_misused words n.read m n.given)
+  one_by s s' (misused is m) (unloaded refusal is' n) = absurd (not_misused words n.read m n.given)
   one_by s s' (misused is m) (too_long is' o) = absurd (not_misused words o.read m o.given)
   one_by s s' (misused is m) (answered t text is' o) = absurd (not_misused words o.read m o.given)
   one_by s s' (misused is m) (sampled t text' is' o) = absurd (not_misused words o.read m o.given)
-  one_by s s' (unloaded text is n) (misused is' m) = absurd (not_misused words n.read m n.given)
-  one_by s s' (unloaded text is n) (unloaded text' is' n') = inl (is ∙ sym is')
-  one_by s s' (unloaded text is n) (too_long is' o) = absurd (no_load _ text n o)
-  one_by s s' (unloaded text is n) (answered t text' is' o) = absurd (no_load _ text n o)
-  one_by s s' (unloaded text is n) (sampled t text' is' o) = absurd (not_unloaded text n _ o)
+  one_by s s' (unloaded refusal is n) (misused is' m) = absurd (not_misused words n.read m n.given)
+  one_by s s' (unloaded refusal is n) (unloaded refusal' is' n') = inl (is ∙ sym is')
+  one_by s s' (unloaded refusal is n) (too_long is' o) = absurd (no_load _ refusal n o)
+  one_by s s' (unloaded refusal is n) (answered t text' is' o) = absurd (no_load _ refusal n o)
+  one_by s s' (unloaded refusal is n) (sampled t text' is' o) = absurd (not_unloaded refusal n _ o)
   one_by s s' (too_long is o) (misused is' m) = absurd (not_misused words o.read m o.given)
-  one_by s s' (too_long is o) (unloaded text is' n) = absurd (no_load _ text n o)
+  one_by s s' (too_long is o) (unloaded refusal is' n) = absurd (no_load _ refusal n o)
   one_by s s' (too_long is o) (too_long is' o') = inl (is ∙ sym is')
   one_by s s' (too_long is o) (answered t text is' o') = absurd (o'.told.2.0 o.told.2)
   one_by s s' (too_long is o) (sampled t text' is' o') = absurd (no_input _ o'.read o'.given o'.size o'.from o)
   one_by s s' (answered t text is o) (misused is' m) = absurd (not_misused words o.read m o.given)
-  one_by s s' (answered t text is o) (unloaded text' is' n) = absurd (no_load _ text' n o)
+  one_by s s' (answered t text is o) (unloaded refusal is' n) = absurd (no_load _ refusal n o)
   one_by s s' (answered t text is o) (too_long is' o') = absurd (o.told.2.0 o'.told.2)
   one_by s s' (answered t text is o) (answered t' text' is' o') = two_ends s s' t t' text text' is is' o o'
   one_by s s' (answered t text is o) (sampled t' text' is' o') = absurd (no_input _ o'.read o'.given o'.size o'.from o)
   one_by s s' (sampled t replies is o) (misused is' m) = absurd (not_misused words o.read m o.given)
-  one_by s s' (sampled t replies is o) (unloaded text is' n) = absurd (not_unloaded text n _ o)
+  one_by s s' (sampled t replies is o) (unloaded refusal is' n) = absurd (not_unloaded refusal n _ o)
   one_by s s' (sampled t replies is o) (too_long is' o') = absurd (no_input _ o.read o.given o.size o.from o')
   one_by s s' (sampled t replies is o) (answered t' text is' o') = absurd (no_input _ o.read o.given o.size o.from o')
   one_by s s' (sampled t replies is o) (sampled t' text' is' o') = two_quizzes s s' t t' replies text' is is' o o'
@@ -306,7 +309,9 @@ module _ (words : List (List ℕ)) (outside : Outside) (files : Names) (input : 
 
 pub whole : (words : List (List ℕ)) (outside : Outside) (answer : Status) → Runs words outside answer → Whole words outside answer
 whole words outside status.Usage run files input held left no_files no_input no_out = inr (is_whole words outside files input held left status.Usage run.ends.0.text run.ends.0.permitted run.ends.0.moved)
-whole words outside status.NotLoaded run files input held left no_files no_input no_out = inr (is_whole words outside files input held left status.NotLoaded run.ends.0.text run.ends.0.permitted run.ends.0.moved)
+whole words outside status.NotLoaded run files input held left no_files no_input no_out =
+    let end = run.ends.0 in
+    inr (is_whole words outside files input held left status.NotLoaded (load_line end.refusal) (end.refusal, end.permitted, refl) end.moved)
 whole words outside status.TooLong run files input held left no_files no_input no_out = inr (is_whole words outside files input held left status.TooLong run.ends.text run.ends.permitted run.ends.moved)
 whole words outside status.Refused run files input held left no_files no_input no_out = inr (is_whole words outside files input held left status.Refused run.ends.0.text run.ends.0.permitted run.ends.0.moved)
 whole words outside status.Ended run files input held left no_files no_input no_out = inr (is_whole words outside files input held left status.Ended run.ends.0.text run.ends.0.permitted run.ends.0.moved)

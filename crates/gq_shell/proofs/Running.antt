@@ -11,10 +11,11 @@ use Rattle.gq_io.specs.Outside.{AppendsFront, Names, Writes}
 use Rattle.gq_io.specs.declared.Failed.{Failed}
 use Rattle.gq_io.proofs.Moved.{Consumes-none}
 use Rattle.gq_loader.specs.Answers.{Answers}
-use Rattle.gq_loader.specs.Effects.{ByFault}
+use Rattle.gq_loader.specs.Effects.{ByFault, ByMiss}
 use Rattle.gq_loader.specs.Limits.{standard}
 use Rattle.gq_loader.specs.Loads.{load_of}
 use Rattle.gq_loader.specs.declared.refusal.LoadRefusal.{LoadRefusal}
+use Rattle.gq_loader.specs.declared.refusal.LoadRefusal.TheVariants as refused
 use Rattle.gq_loader.specs.declared.refusal.LoadStop.{LoadStop}
 use Rattle.gq_loader.specs.declared.refusal.LoadStop.TheVariants as load
 use Rattle.gq_reply.specs.Replies.{Context, IsTurn}
@@ -26,7 +27,7 @@ use Rattle.gq_session.specs.declared.answering.Tone.{Tone}
 use Rattle.gq_session.specs.declared.answering.Tone.TheVariants as tone
 use Rattle.gq_session.specs.declared.run.Stop.{Stop}
 use Rattle.gq_session.specs.declared.run.Stop.TheVariants as stop
-use Rattle.gq_shell.specs.Claim.{EatsAll, Ends, IsPath, IsQuiz, Outside, Over, Permits, Refuses, Runs, WroteFront, full, long, most, settings_of, short, usage_text}
+use Rattle.gq_shell.specs.Claim.{AnswersEnded, EatsAll, Ends, IsPath, IsQuiz, Outside, Over, Permits, Runs, WroteFront, full, long, most, settings_of, short, usage_text}
 use Rattle.gq_shell.specs.LoadLines.{load_line}
 use Rattle.gq_shell.specs.Questions.{IsNumbered}
 use Rattle.gq_shell.specs.steps.Statuses.{status_of}
@@ -57,12 +58,6 @@ same_told left a b p q = let e : ◌≡◌ {A = Option (List ℕ)} (Some a) (Som
 
 not_told : {R : Type 0} (a : List ℕ) → ◌≡◌ {A = Option (List ℕ)} None (Some a) → R
 not_told a e = cc e
-
-refuses : (held : Option Names) (path : List ℕ) (e : LoadRefusal)
-    → IfSome held (λ files. load_of path files standard ≡ Err e)
-    → IfSome held (λ files. Refuses (load_of path files standard) (load_line e))
-refuses None path e is = tt
-refuses (Some files) path e is = subst (λ r. Refuses r (load_line e)) (sym is) refl
 
 -- the sizes of samples that words may say
 sample_size : (m s : Option Text) (size : ℕ) → IsSource m s (source.Sample size) → (1 ≤ size) × (size ≤ 1000000)
@@ -110,29 +105,32 @@ module _ (words : List (List ℕ)) (o : Outside) where
 
   module _ (read : Words) (given : IsRead words read) where
     module _ (path : List ℕ) (from : IsPath path read.source) where
-      exit_line : (answer : Status) (e : LoadRefusal) → IfSome o.held (λ files. Refuses (load_of path files standard) (load_line e)) → o.unread ≡ o.left
+      exit_line : (answer : Status) (e : LoadRefusal) → IfSome o.held (λ files. load_of path files standard ≡ Err e)
+          → ((name : List ℕ) → e ≡ refused.NoFile name → Rose o.files_misses.before o.files_misses.now) → o.unread ≡ o.left
           → Told (load_line e) status.NotLoaded (out_of o) answer → Runs words o answer
-      exit_line answer e refused same (inl (is, moved)) = rw is (unread status.NotLoaded same (
+      exit_line answer e meant missed same (inl (is, moved)) = rw is (unread status.NotLoaded same (
         record {
-          text = load_line e;
-          permitted = record { read = read; given = given; path = path; from = from; told = refused };
+          refusal = e;
+          permitted = record { read = read; given = given; path = path; from = from; told = meant };
+          missed = missed;
           moved = moved;
         },
         refl,
       ))
-      exit_line answer e refused same (inr (is, front, rose)) =
-          broken_line answer status.NotLoaded (load_line e) (record { read = read; given = given; path = path; from = from; told = refused }) is front rose same
+      exit_line answer e meant missed same (inr (is, front, rose)) =
+          broken_line answer status.NotLoaded (load_line e) (e, record { read = read; given = given; path = path; from = from; told = meant }, refl) is front rose same
 
       -- the load gave no graph
       pub exit_refused : (answer : Status) (graph : Result Graph LoadStop) (e : LoadStop)
           → graph ≡ Err e → Answers o.held (λ files. load_of path files standard) graph
-          → ByFault o.files_faults.before o.files_faults.now graph → o.unread ≡ o.left → EndsLoad e (out_of o) answer → Runs words o answer
-      exit_refused answer graph (load.Refused e) is loads fault same ends =
+          → ByFault o.files_faults.before o.files_faults.now graph → ByMiss o.files_misses.before o.files_misses.now graph
+          → o.unread ≡ o.left → EndsLoad e (out_of o) answer → Runs words o answer
+      exit_refused answer graph (load.Refused e) is loads fault miss same ends =
           let meant : IfSome o.held (λ files. load_of path files standard ≡ Err e) = rw is at loads in
-          exit_line answer e (refuses o.held path e meant) same ends
-      exit_refused answer graph (load.ReadFault name) is loads fault same (kept, ends) =
+          exit_line answer e meant (λ name no. miss.missed name (subst (λ r. graph ≡ Err (load.Refused r)) no is)) same ends
+      exit_refused answer graph (load.ReadFault name) is loads fault miss same (kept, ends) =
           rw ends (unread status.ReadFault same (inl ((kept, refl), fault.failed name is)))
-      exit_refused answer graph load.Memory is loads fault same (kept, ends) =
+      exit_refused answer graph load.Memory is loads fault miss same (kept, ends) =
           exit_memory answer ends same kept
 
       module _ (graph : Graph) (loads : IfSome o.held (λ files. load_of path files standard ≡ Ok graph)) where
@@ -205,15 +203,19 @@ module _ (words : List (List ℕ)) (o : Outside) where
           | inr end ↦ front_untold is end.1.text end.1.moved
         ]
 
-        not_read : (behind : List Param) (eaten : List ℕ) → Had behind (Err stop.Read) → HadWhole (Err stop.Read) → Ends words o eaten status.ReadFault
-        not_read behind eaten read whole = inr (over o.held o.left _ loads (λ input told. (whole input told).0), read.ends.2)
+        not_read : (behind : List Param) (read : Had behind (Err stop.Read)) → Ends words o read.eaten status.ReadFault
+        not_read behind read = inr (
+          over o.held (Some read.eaten) (λ c text. AnswersEnded c text o.taken o.took) loads (λ text told.
+          subst (λ e. AnswersEnded here e o.taken o.took) (same_told (Some read.eaten) read.eaten text refl told) (read.ends.0, behind, read.ends.1)),
+          read.ends.2,
+        )
 
         ended : (behind : List Param) (result : Result Tone Stop) (read : Had behind result) → HadWhole result → Ends words o read.eaten (status_of result)
         ended behind (Ok t) read whole = finished read.eaten read.ends.1 t (written (Ok t) o.left refl read.ends.2.text read.ends.2.moved whole)
         ended behind (Err stop.TooLong) read whole =
             let (text, may, moved) = written (Err stop.TooLong) o.left refl read.ends.2.text read.ends.2.moved whole in
             record { text = text; permitted = over o.held o.left _ loads may; moved = moved }
-        ended behind (Err stop.Read) read whole = not_read behind read.eaten read whole
+        ended behind (Err stop.Read) read whole = not_read behind read
         ended behind (Err stop.Write) read whole = (broke behind o.left refl read whole, read.ends.1)
 
         pub exit_served : (answer : Status) → Served graph (settings_of read) (input_of o) (out_of o) answer → Runs words o answer

@@ -13,6 +13,7 @@ use Rattle.gq_io.specs.Outside.{AppendsFront, Names}
 use Rattle.gq_loader.specs.Limits.{standard}
 use Rattle.gq_loader.specs.Loads.{load_of}
 use Rattle.gq_loader.specs.declared.refusal.LoadRefusal.{LoadRefusal}
+use Rattle.gq_loader.specs.declared.refusal.LoadRefusal.TheVariants as refused
 use Rattle.gq_plan.specs.declared.Bound.{Bound}
 use Rattle.gq_render.specs.Texts.{line}
 use Rattle.gq_reply.specs.Replies.{Context, IsAsked, IsTurn, StandBehind}
@@ -20,6 +21,8 @@ use Rattle.gq_reply.specs.declared.replier.Form.TheVariants.{Full, Short}
 use Rattle.gq_sample.specs.Questions.{questions}
 use Rattle.gq_sample.specs.Sample.{sample_graph}
 use Rattle.gq_session.specs.Replies.{Replies}
+use Rattle.gq_session.specs.Replies as replies
+use Rattle.gq_session.specs.Scanning.{ended_in, start}
 use Rattle.gq_session.specs.Whole as session
 use Rattle.gq_session.specs.declared.answering.Tone.{Tone}
 use Rattle.gq_session.specs.declared.answering.Tone.TheVariants as tone
@@ -71,18 +74,13 @@ full graph settings = record { graph = graph; settings = settings; form = Full }
 abbrev pub short : ℕ → Settings → Context
 short size settings = record { graph = sample_graph size; settings = settings; form = Short }
 
--- the files give no graph, and this line names their first refusal
-abbrev pub Refuses : Result Graph LoadRefusal → List ℕ → Type 0
-Refuses (Ok graph) text = ⊥
-Refuses (Err refusal) text = text ≡ load_line refusal
-
--- the words name a manifest, and the files give no graph
-pub record IsNotLoaded (words : List (List ℕ)) (held : Option Names) (text : List ℕ) : Type 0 where
+-- the words name a manifest, and this is the first refusal of the files where they are told
+pub record IsNotLoaded (words : List (List ℕ)) (held : Option Names) (refusal : LoadRefusal) : Type 0 where
   pub read : Words
   pub given : IsRead words read
   pub path : List ℕ
   pub from : IsPath path read.source
-  pub told : IfSome held (λ files. Refuses (load_of path files standard) text)
+  pub told : IfSome held (λ files. load_of path files standard ≡ Err refusal)
 
 -- the words name a manifest, the files give a graph where they are told, and the input is read over it where it is told
 pub record Over (words : List (List ℕ)) (held : Option Names) (left : Option (List ℕ)) (Says : Context → List ℕ → Type 0) : Type 0 where
@@ -116,7 +114,7 @@ Finished words held left t text =
 -- the status may be answered for these words, files and input, and the text is all that is written then
 abbrev pub Permits : List (List ℕ) → Option Names → Option (List ℕ) → Status → List ℕ → Type 0
 Permits words held left status.Usage text = IsMisused words × (text ≡ usage_text)
-Permits words held left status.NotLoaded text = IsNotLoaded words held text
+Permits words held left status.NotLoaded text = (refusal : LoadRefusal) × IsNotLoaded words held refusal × (text ≡ load_line refusal)
 Permits words held left status.TooLong text = Over words held left (λ c input. session.Permits (IsTurn c) [] long most input (Err stop.TooLong) text)
 Permits words held left status.Ended text = Finished words held left tone.Good text
 Permits words held left status.Refused text = Finished words held left tone.Refused text
@@ -139,7 +137,7 @@ pub record WroteFront (words : List (List ℕ)) (held : Option Names) (left : Op
 
 -- ---- one run
 
--- a count of faults before and after the run
+-- a count of faults, or of names that were not found, before and after the run
 pub record Count : Type 0 where
   pub before : ℕ
   pub now : ℕ
@@ -152,17 +150,19 @@ pub record Outside : Type 0 where
   pub taken : Option (List ℕ)
   pub took : Option (List ℕ)
   pub files_faults : Count
+  pub files_misses : Count
   pub input_faults : Count
   pub out_faults : Count
 
-abbrev pub outside_of : {F I O : Type 0} → (F → Option Names) → (F → ℕ) → F → F → (I → Option (List ℕ)) → (I → ℕ) → I → I → (O → Option (List ℕ)) → (O → ℕ) → O → O → Outside
-outside_of held files_faults files files' left input_faults input input' taken out_faults out out' = record {
+abbrev pub outside_of : {F I O : Type 0} → (F → Option Names) → (F → ℕ) → (F → ℕ) → F → F → (I → Option (List ℕ)) → (I → ℕ) → I → I → (O → Option (List ℕ)) → (O → ℕ) → O → O → Outside
+outside_of held files_faults files_misses files files' left input_faults input input' taken out_faults out out' = record {
   held = held files;
   left = left input;
   unread = left input';
   taken = taken out;
   took = taken out';
   files_faults = record { before = files_faults files; now = files_faults files' };
+  files_misses = record { before = files_misses files; now = files_misses files' };
   input_faults = record { before = input_faults input; now = input_faults input' };
   out_faults = record { before = out_faults out; now = out_faults out' };
 }
@@ -177,11 +177,22 @@ EatsAll words o eaten =
     (Over words o.held o.left (λ c input. Unit {0}) × IsAtEnd o.unread)
     ⊎ (OnSample words (λ c. Unit {0}) × (eaten ≡ []))
 
--- a read failed: in loading, and nothing was done; or in the session, and the statements that had ended were answered
+-- the line of the files' first refusal was written; where it is that a file is not there, some name was not found in this run
+pub record RefusedLoad (words : List (List ℕ)) (o : Outside) : Type 0 where
+  pub refusal : LoadRefusal
+  pub permitted : IsNotLoaded words o.held refusal
+  pub missed : (name : List ℕ) → refusal ≡ refused.NoFile name → Rose o.files_misses.before o.files_misses.now
+  pub moved : Appends o.taken o.took (load_line refusal)
+
+-- the replies to the statements that ended in what was read were written, from no parameters on
+abbrev pub AnswersEnded : Context → List ℕ → Option (List ℕ) → Option (List ℕ) → Type 0
+AnswersEnded c read old new = (t : Tone) × (behind : List Param) × replies.Wrote (IsTurn c) [] behind (ended_in long most start read) t old new
+
+-- a read failed: in loading, and nothing was done; or in the session, and the statements that ended in what was eaten were answered
 abbrev pub FailedToRead : List (List ℕ) → Outside → List ℕ → Type 0
 FailedToRead words o eaten =
     (DidNothing o eaten × Rose o.files_faults.before o.files_faults.now)
-    ⊎ (Over words o.held o.left (λ c input. session.SoFar (IsTurn c) [] long most input o.taken o.took)
+    ⊎ (Over words o.held (Some eaten) (λ c read. AnswersEnded c read o.taken o.took)
     × Rose o.input_faults.before o.input_faults.now)
 
 -- how a run ended that ate this much of the input: with a whole answer, with a fault by its cause, or for want of memory
@@ -193,7 +204,7 @@ Ends words o eaten status.Memory = DidNothing o eaten ⊎ (Wrote words o.held o.
 Ends words o eaten status.Ended = Wrote words o.held o.left status.Ended o.taken o.took × EatsAll words o eaten
 Ends words o eaten status.Refused = Wrote words o.held o.left status.Refused o.taken o.took × EatsAll words o eaten
 Ends words o eaten status.Usage = Wrote words o.held o.left status.Usage o.taken o.took × (eaten ≡ [])
-Ends words o eaten status.NotLoaded = Wrote words o.held o.left status.NotLoaded o.taken o.took × (eaten ≡ [])
+Ends words o eaten status.NotLoaded = RefusedLoad words o × (eaten ≡ [])
 Ends words o eaten status.TooLong = Wrote words o.held o.left status.TooLong o.taken o.took
 
 -- the run: how it ended, and how much of the input it ate

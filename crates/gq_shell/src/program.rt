@@ -72,7 +72,7 @@ fn execute<F: Files, I: Source, O: Sink>(
     out: &mut O,
 ) -> Status
     ensures { Runs (map string_bytes words.entry.now)
-        (outside_of F.held F.faults files.old files.new I.left I.faults input.old input.new
+        (outside_of F.held F.faults F.misses files.old files.new I.left I.faults input.old input.new
         O.taken O.faults out.old out.new) result }
 {
     let words = match read_words(alloc, words) {
@@ -106,10 +106,10 @@ pub fn run<F: Files, I: Source, O: Sink>(
     out: &mut O,
 ) -> Status
     ensures runs { Runs (map string_bytes words.entry.now)
-        (outside_of F.held F.faults files.old files.new I.left I.faults input.old input.new
+        (outside_of F.held F.faults F.misses files.old files.new I.left I.faults input.old input.new
         O.taken O.faults out.old out.new) result }
     ensures whole { Whole (map string_bytes words.entry.now)
-        (outside_of F.held F.faults files.old files.new I.left I.faults input.old input.new
+        (outside_of F.held F.faults F.misses files.old files.new I.left I.faults input.old input.new
         O.taken O.faults out.old out.new) result }
     ensures read_fault { result ≡ Status.ReadFault → Rose (F.faults files.old) (F.faults files.new)
         ⊎ Rose (I.faults input.old) (I.faults input.new) }

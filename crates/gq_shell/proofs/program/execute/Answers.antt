@@ -30,4 +30,4 @@ returns-in-Ok-load g c =
 pub returns-in-Err : goal.returns-in-Err
 returns-in-Err g c =
     let loads = rw c.standard.ensures at c.in-Err.ensures.loads in
-    exit_refused _ _ c.in-Ok.words c.in-Ok.ensures c.in-Manifest.path.now (path_said c.in-Ok.words c.in-Manifest.path c.in-Manifest.is) _ _ c.in-Err.why refl loads c.in-Err.ensures.faults refl c.end_load.ensures
+    exit_refused _ _ c.in-Ok.words c.in-Ok.ensures c.in-Manifest.path.now (path_said c.in-Ok.words c.in-Manifest.path c.in-Manifest.is) _ _ c.in-Err.why refl loads c.in-Err.ensures.faults c.in-Err.ensures.misses refl c.end_load.ensures
