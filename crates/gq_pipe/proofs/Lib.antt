@@ -20,6 +20,7 @@ pub mod Unjoined
 pub mod Whole
 pub mod Here
 pub mod Sifting
+pub mod Closed
 pub mod Cutting
 pub mod Resting
 pub mod Agreeing

@@ -1,5 +1,6 @@
 pub mod Before
 pub mod Built
+pub mod Candidates
 pub mod Cells
 pub mod Chunks
 pub mod Cuts
