@@ -15,7 +15,7 @@ use Rattle.gq_pipe.specs.steps.Moves.{IsRun, IsHeld, IsMissed, IsPast}
 use Rattle.gq_pipe.specs.steps.Tries.{tries}
 use Rattle.gq_pipe.specs.declared.follow.Hop.{Hop}
 use Rattle.gq_pipe.specs.declared.plan_run.Tried.TheVariants.{Past, Missed}
-use Rattle.gq_pipe.proofs.Following.{as_many, get_some}
+use Rattle.gq_pipe.proofs.Hopping.{hop_there}
 use Rattle.gq_pipe.proofs.Stepping.{Follows, follows}
 use Rattle.gq_pipe.proofs.Tried.{close_goes, close_tried}
 
@@ -30,6 +30,11 @@ pub none_behind : {X : Type 0} (xs : List (List X)) (n : ℕ) → drop n xs ≡ 
 none_behind [] n e = refl
 none_behind (z ∷ xs) zero e = cc
 none_behind (z ∷ xs) (suc n) e = none_behind xs n e
+
+pub none_there : {X : Type 0} (xs : List X) (i : ℕ) → slice_get xs i ≡ None → length xs ≤ i
+none_there [] i e = omega arith
+none_there (x ∷ xs) zero e = cc
+none_there (x ∷ xs) (suc i) e = omega (arith, none_there xs i e)
 
 past_or_there : (xs : List ℕ) (i : ℕ) (o : Option ℕ) → slice_get xs i ≡ o → ((x : ℕ) × (slice_get xs i ≡ Some x) × (o ≡ Some x)) ⊎ ((length xs ≤ i) × (o ≡ None))
 past_or_there [] i o e = inr (omega arith, sym e)
@@ -52,14 +57,7 @@ module _ (c : Run) (run : IsRun c) (d : ℕ) (low : d < length c.steps) (row : A
   -- the relationship at a place of the list
   hop : (place r : ℕ) → slice_get list place ≡ Some r → All (λ other. other < near_rows c.graph table (opposite way)) list → length list < 2 ^ 32 → (n : ℕ) × IsHop c.graph table way near place (record { number = n; row = r })
   hop place r at ends few =
-      let inside : place < length list = slice_get_within list place r at in
-      let number = get_some (numbers c.graph table way near) place (omega (arith, inside, as_many c.graph table follow.table follow.table_is way near)) in
-      (number.0, record {
-        number = number.1;
-        leads = at;
-        inside = subst (λ o. o < near_rows c.graph table (opposite way)) (get_or_from_slice_get list place r 0 at) (ends place 0 inside);
-        few = omega (arith, inside, few);
-      })
+      hop_there c.graph table follow.table follow.table_is way near place r at (subst (λ o. o < near_rows c.graph table (opposite way)) (get_or_from_slice_get list place r 0 at) (ends place 0 (slice_get_within list place r at))) few
 
   nothing : (place : ℕ) → leads_to list place (slice_index row.nodes to) ≡ false → All (λ other. other < near_rows c.graph table (opposite way)) list → length list < 2 ^ 32
       → slice_index_or (tries c.graph c.typed (built_at c d) (step_at c d) (before c row d)) place [] ≡ []

@@ -5,6 +5,7 @@ pub mod Brought
 pub mod Following
 pub mod Joined
 pub mod Joining
+pub mod Judged
 pub mod Keeping
 pub mod Levels
 pub mod Making
@@ -33,6 +34,7 @@ pub mod InOrder
 pub mod Starting
 pub mod Chosen
 pub mod Homing
+pub mod Hopping
 pub mod Piecing
 pub mod Products
 pub mod Chunking

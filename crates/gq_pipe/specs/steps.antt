@@ -14,5 +14,6 @@ pub mod Limits
 pub mod Lists
 pub mod Moves
 pub mod Outcomes
+pub mod RowTests
 pub mod Search
 pub mod Tries
