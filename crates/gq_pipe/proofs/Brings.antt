@@ -18,7 +18,7 @@ use Rattle.gq_plan.specs.Plans.{Plan, Step, Scan, Extend, Close, Join, Keep, Dif
 use Rattle.gq_plan.specs.Soundness.{has_number}
 use Rattle.gq_plan.specs.declared.typed.Typed.{Typed}
 use Rattle.gq_pipe.specs.Built.{HasBuild, IsBuildOf}
-use Rattle.gq_pipe.specs.steps.Homes.{HasKeptColumn, brought_by, filling_at, fillings_of, kept_of, no_filling, node_home, not_in, rel_home, with_build}
+use Rattle.gq_pipe.specs.steps.Homes.{IsColumnOf, column_group, HasKeptColumn, brought_by, filling_at, fillings_of, kept_of, no_filling, node_home, not_in, rel_home, with_build}
 use Rattle.gq_pipe.specs.steps.Levels.{Run}
 use Rattle.gq_pipe.specs.declared.homes.Filling.{Filling}
 use Rattle.gq_pipe.proofs.Brought.{IsNumbered, filter_twice, has_passes, length-numbered, numbered_at, numbered_only, numbered_other, place_is}
@@ -66,7 +66,7 @@ pub record Brings (y : Typed) (side : Plan) (keys : List ℕ) (i d : ℕ) (fs : 
   pub other_rel : (x : ℕ) → (after side none).rels x ≡ false → rel_home (with_build o keys i (length fs) h) x ≡ rel_home h x
   pub node_there : (v : ℕ) → (after side none).nodes v ≡ true → has_number keys v ≡ false → HasKeptColumn (fs ++ fillings_of i d (brought_by keys o)) (with_build o keys i (length fs) h) i v
   pub rel_there : (x : ℕ) → (after side none).rels x ≡ true → rel_home (with_build o keys i (length fs) h) x ≡ rel.Kept i (place_of (filter (after side none).rels (range_with_len 0 (length (with_build o keys i (length fs) h).rels))) x)
-  pub column : (v j m : ℕ) → node_home (with_build o keys i (length fs) h) v ≡ node.Column j m → (node_home h v ≡ node.Column j m) ⊎ (m < length (fs ++ fillings_of i d (brought_by keys o)))
+  pub column : (v j m : ℕ) → node_home (with_build o keys i (length fs) h) v ≡ node.Column j m → (node_home h v ≡ node.Column j m) ⊎ IsColumnOf (fs ++ fillings_of i d (brought_by keys o)) j m
   pub filling : (m : ℕ) → length fs ≤ m → m < length (fs ++ fillings_of i d (brought_by keys o)) → (v : ℕ) × (filling_at (fs ++ fillings_of i d (brought_by keys o)) m ≡ kept_of i d v) × ((after side none).nodes v ≡ true)
   pub few : length (fs ++ fillings_of i d (brought_by keys o)) ≤ length fs + length (brought y side keys)
 
@@ -155,20 +155,24 @@ module _ (c : Run) (k : Known) (side : Plan) (keys : List ℕ) (fit : fits_step 
             node_is = r.home;
           }
 
-      by : (v j m : ℕ) → node_home new v ≡ node.Column j m → (v < length h.nodes) ⊎ (length h.nodes ≤ v) → (node_home h v ≡ node.Column j m) ⊎ (m < length (fs ++ fillings_of i d vs))
+      by : (v j m : ℕ) → node_home new v ≡ node.Column j m → (v < length h.nodes) ⊎ (length h.nodes ≤ v) → (node_home h v ≡ node.Column j m) ⊎ IsColumnOf (fs ++ fillings_of i d vs) j m
       by v j m e (inr past) =
           let many = length-numbered (node.Column i) node.Nowhere (length fs) vs h.nodes in
           let nowhere : node.Nowhere ≡ node.Column j m = sym (get_or_past new.nodes v node.Nowhere (omega (arith, past, many))) ∙ e in
           absurd (cc nowhere)
       by v j m e (inl inside) = go (numbered_only (node.Column i) node.Nowhere (length fs) vs h.nodes v inside)
         where
-          go : (get_or new.nodes v node.Nowhere ≡ get_or h.nodes v node.Nowhere) ⊎ IsNumbered (node.Column i) node.Nowhere (length fs) vs new.nodes v → (node_home h v ≡ node.Column j m) ⊎ (m < length (fs ++ fillings_of i d vs))
+          go : (get_or new.nodes v node.Nowhere ≡ get_or h.nodes v node.Nowhere) ⊎ IsNumbered (node.Column i) node.Nowhere (length fs) vs new.nodes v → (node_home h v ≡ node.Column j m) ⊎ IsColumnOf (fs ++ fillings_of i d vs) j m
           go (inl same) = inl (sym same ∙ e)
           go (inr r) =
               let column : node.Column i (length fs + r.place) ≡ node.Column j m = sym r.home ∙ e in
               let at : length fs + r.place ≡ m = cc column in
               let low = r.low in
-              inr (omega (arith, at, low, long))
+              let here : i ≡ j = cc column in
+              inr (record {
+                inside = omega (arith, at, low, long);
+                group = ap (λ n. column_group (filling_at (fs ++ fillings_of i d vs) n)) (sym at) ∙ ap column_group (filling_is r.place low) ∙ here;
+              })
 
       of_side : (m : ℕ) → m < length vs → (after side none).nodes (get_or vs m 0) ≡ true
       of_side m low = (brought_parts (get_or vs m 0) (has_its vs m low)).0

@@ -2,6 +2,7 @@
 use Rattle.std.proofs.Common.{◌≡◌, ◌⊎◌, inl, inr, ℕ, zero, suc, ◌+◌, ◌-◌, ◌*◌, ◌^◌, ◌<◌, ◌≤◌, Bool, min, true, false, not, ◌&&◌, Some, None, List, [], ◌∷◌, filter, map, length, drop, refl, sym, ap, ap₂, ◌∙◌, subst, arith, true≢false, zero-add}
 use Rattle.std.specs.Prelude.{slice_get, slice_index, slice_index_or, nat_eq, if◌then◌else◌}
 use Rattle.std.specs.List.{list_all, range_with_len, AllByRecursion}
+use Rattle.std.specs.Option.{unwrap_or}
 use Rattle.std.proofs.lemmas.Bool.{and_parts, cases_eq, eq-eqb, ne_eqb}
 use Rattle.std.proofs.lemmas.List.{get_or_default, length-drop, length-map, length-take, drop_more, drop_all}
 use Rattle.std.proofs.lemmas.List.FromFn.{get_or-map-range_with_len, get_or-range_with_len, length-range_with_len}
@@ -10,6 +11,7 @@ use Rattle.gq_base.specs.Catalogs.{Tables}
 use Rattle.gq_base.specs.declared.direction.Direction.{Direction}
 use Rattle.gq_base.specs.declared.direction.Direction.TheVariants.{Forward, Backward}
 use Rattle.gq_base.specs.Valid.{row_count}
+use Rattle.gq_bits.specs.Places.{is_marked}
 use Rattle.gq_group.specs.Pieces.{items_of}
 use Rattle.gq_group.specs.Chunks.{assignment_at, cell_at, items_in, kept_in, node_at, rel_at, node_in, edge_in, group_of, first_in, row_in}
 use Rattle.gq_group.specs.Edges.{way as way_of, number_of}
@@ -37,8 +39,9 @@ use Rattle.gq_walks.proofs.Runs.{length-keys}
 use Rattle.gq_pipe.specs.Built.{HasBuild}
 use Rattle.gq_pipe.specs.Levels.{given}
 use Rattle.gq_pipe.specs.steps.Chunks.{AreStanding, HasKept, KeepsOf, list_of, matches_in, part}
-use Rattle.gq_pipe.specs.steps.Cells.{build_in, cell_of, filled, item_in, kept_row, led, near_in}
-use Rattle.gq_pipe.specs.steps.Homes.{AreHomes, HasColumn, HasKeptColumn, HasMatch, IsFilling, IsHoused, filling_at, filling_of, is_forward, kept_of, leading_of, node_home, rel_home}
+use Rattle.gq_pipe.specs.Serving.{row_of}
+use Rattle.gq_pipe.specs.steps.Cells.{build_in, cell_of, filled, has_cell, item_in, marks_in, kept_row, led, near_in}
+use Rattle.gq_pipe.specs.steps.Homes.{AreHomes, HasColumn, HasKeptColumn, HasMatch, IsFilling, IsHoused, column_group, filling_at, filling_of, is_forward, kept_of, leading_of, node_home, rel_home}
 use Rattle.gq_pipe.specs.steps.Keeps.{IsRange, IsTriedAt}
 use Rattle.gq_pipe.specs.steps.Levels.{Run, step_at, built_at, known, before}
 use Rattle.gq_pipe.specs.steps.Lists.{no_group, group_at, group_in, groups_in, rows_in, layout_in, Tiles, Stands}
@@ -51,7 +54,7 @@ use Rattle.gq_pipe.proofs.Agreeing.{TriesItself, joined, join_itself, scan_itsel
 use Rattle.gq_pipe.proofs.Binding.{fits_at, given_all}
 use Rattle.gq_pipe.proofs.Brings.{side_low}
 use Rattle.gq_pipe.proofs.Brought.{each_passes}
-use Rattle.gq_pipe.proofs.Filling.{AreCells, cell_is, led_within, length-filled}
+use Rattle.gq_pipe.proofs.Filling.{AreCells, cell_marked, led_within}
 use Rattle.gq_pipe.proofs.Going.{IsGoing, begins, ends, tried_made, tried_missed, tried_past}
 use Rattle.gq_pipe.proofs.Here.{group_range, group_held, group_makes, group_size, group_told, group_next, group_place, group_others}
 use Rattle.gq_pipe.proofs.Joined.{build, join_count, key_value, IsLow}
@@ -179,10 +182,20 @@ module _ (c : Run) (ss : List GroupSteps) (row : Assignment) (cs : List Cursor) 
     p_small : slice_index ps i < 1024
     p_small = position_small c ss row cs ms ch ps runs many groups sel i low
 
-    cell_there : (n : ℕ) → n < length fs → row_in (cell_at ch n (slice_index ps i)) ≡ cell_of c row ch.groups.now ch.homes.now (filled c row ch.groups.now ch.homes.now fs n) (filling_at fs n) (slice_index ps i)
-    cell_there n inside =
-        ap row_in (cols.cells n (slice_index ps i) (omega (arith, inside, length-filled c row ch.groups.now ch.homes.now fs (length fs))) p_small).is
-        ∙ cell_is c row ch.groups.now ch.homes.now fs (length fs) n (slice_index ps i) inside p_small
+    -- which is marked
+    has_here : (n : ℕ) → column_group (filling_at fs n) ≡ i → has_cell ch.groups.now (filling_at fs n) (slice_index ps i) ≡ true
+    has_here n mine = ap (λ k. is_marked (marks_in (group_of ch k)) (slice_index ps i)) mine ∙ ap (λ o. is_marked (marks_in o) (slice_index ps i)) spot.there ∙ spot.marked
+
+    -- so it has a row in each column of the group
+    cell_there : (n : ℕ) → n < length fs → column_group (filling_at fs n) ≡ i
+        → row_in (cell_at ch n (slice_index ps i)) ≡ cell_of c row ch.groups.now ch.homes.now (filled c row ch.groups.now ch.homes.now fs n) (filling_at fs n) (slice_index ps i)
+    cell_there n inside mine =
+        ap row_in (cols.cells n (slice_index ps i) _ (cell_marked c row ch.groups.now ch.homes.now fs (length fs) n (slice_index ps i) inside p_small (has_here n mine))).is
+
+    -- a later column reads that row
+    earlier_there : (n m : ℕ) → m < n → n < length fs → column_group (filling_at fs m) ≡ i → unwrap_or (row_of (filled c row ch.groups.now ch.homes.now fs n) m (slice_index ps i)) 0 ≡ row_in (cell_at ch m (slice_index ps i))
+    earlier_there n m less low mine =
+        ap (λ o. unwrap_or o 0) (cell_marked c row ch.groups.now ch.homes.now fs n m (slice_index ps i) less p_small (has_here m mine)) ∙ sym (cell_there m (omega (arith, less, low)) mine)
 
     -- the source of a column, as the column reads it
     source_there : (from n : ℕ) → from < length c.typed.nodes → n < length fs → ((j m : ℕ) → node_home ch.homes.now from ≡ node.Column j m → m < n) → IsIn ch.homes.now i from ⊎ (slice_index row.nodes from ≡ slice_index read.nodes from)
@@ -196,9 +209,8 @@ module _ (c : Run) (ss : List GroupSteps) (row : Assignment) (cs : List Cursor) 
         let m : ℕ = column.0 in
         let less : m < n = before i m column.1 in
         ap (near_in row ch.groups.now (filled c row ch.groups.now ch.homes.now fs n) i from (slice_index ps i)) column.1
-        ∙ ap (λ b. if b then slice_index (slice_index_or (filled c row ch.groups.now ch.homes.now fs n) m []) (slice_index ps i) else slice_index row.nodes from) (eq-eqb i i refl)
-        ∙ cell_is c row ch.groups.now ch.homes.now fs n m (slice_index ps i) less p_small
-        ∙ sym (cell_there m (omega (arith, less, n_low)))
+        ∙ ap (λ b. if b then unwrap_or (row_of (filled c row ch.groups.now ch.homes.now fs n) m (slice_index ps i)) 0 else slice_index row.nodes from) (eq-eqb i i refl)
+        ∙ earlier_there n m less n_low (homes.columns from i m column.1).group
         ∙ sym (node_read from from_low ∙ ap (node_in ch ps) column.1)
     source_there from n from_low n_low before (inr same) = by (node_home ch.homes.now from) refl
       where
@@ -215,16 +227,15 @@ module _ (c : Run) (ss : List GroupSteps) (row : Assignment) (cs : List Cursor) 
                 ap (λ b. if b then slice_index (items_in (group_of ch j)) (slice_index ps i) else slice_index row.nodes from) (ne_eqb j i other) ∙ same
         by (node.Column j m) is = if_column (cases_eq j i)
           where
-            if_column : (j ≡ i) ⊎ (j ≡ i → ⊥) → (if nat_eq j i then slice_index (slice_index_or (filled c row ch.groups.now ch.homes.now fs n) m []) (slice_index ps i) else slice_index row.nodes from) ≡ slice_index read.nodes from
+            if_column : (j ≡ i) ⊎ (j ≡ i → ⊥) → (if nat_eq j i then unwrap_or (row_of (filled c row ch.groups.now ch.homes.now fs n) m (slice_index ps i)) 0 else slice_index row.nodes from) ≡ slice_index read.nodes from
             if_column (inl e) =
                 let less : m < n = before j m is in
-                ap (λ b. if b then slice_index (slice_index_or (filled c row ch.groups.now ch.homes.now fs n) m []) (slice_index ps i) else slice_index row.nodes from) (eq-eqb j i e)
-                ∙ cell_is c row ch.groups.now ch.homes.now fs n m (slice_index ps i) less p_small
-                ∙ sym (cell_there m (omega (arith, less, n_low)))
+                ap (λ b. if b then unwrap_or (row_of (filled c row ch.groups.now ch.homes.now fs n) m (slice_index ps i)) 0 else slice_index row.nodes from) (eq-eqb j i e)
+                ∙ earlier_there n m less n_low ((homes.columns from j m is).group ∙ e)
                 ∙ ap (λ k. row_in (cell_at ch m (slice_index ps k))) (sym e)
                 ∙ sym (node_read from from_low ∙ ap (node_in ch ps) is)
             if_column (inr other) =
-                ap (λ b. if b then slice_index (slice_index_or (filled c row ch.groups.now ch.homes.now fs n) m []) (slice_index ps i) else slice_index row.nodes from) (ne_eqb j i other) ∙ same
+                ap (λ b. if b then unwrap_or (row_of (filled c row ch.groups.now ch.homes.now fs n) m (slice_index ps i)) 0 else slice_index row.nodes from) (ne_eqb j i other) ∙ same
 
     -- what a column extension binds
     column_there : (x from to : ℕ) (w : Direction) (b : HasColumn fs ch.homes.now i x from to w) → from < length c.typed.nodes → to < length c.typed.nodes → slice_index read.nodes from < row_count c.graph.nodes (node_table c.typed from)
@@ -232,7 +243,7 @@ module _ (c : Run) (ss : List GroupSteps) (row : Assignment) (cs : List Cursor) 
     column_there x from to w b from_low to_low within_rows near =
         let filling : IsFilling c ss (known c (length c.steps)) ch.homes.now b.column (filling_at fs b.column) = homes.fillings b.column b.inside in
         let mine : IsFilling c ss (known c (length c.steps)) ch.homes.now b.column (filling_of i x from w) = subst (IsFilling c ss (known c (length c.steps)) ch.homes.now b.column) b.filling filling in
-        node_read to to_low ∙ ap (node_in ch ps) b.node_is ∙ cell_there b.column b.inside
+        node_read to to_low ∙ ap (node_in ch ps) b.node_is ∙ cell_there b.column b.inside (ap column_group b.filling)
         ∙ ap (λ f. cell_of c row ch.groups.now ch.homes.now (filled c row ch.groups.now ch.homes.now fs b.column) f (slice_index ps i)) b.filling
         ∙ ap (led c (leading_of i x from w)) (source_there from b.column from_low b.inside mine.before near)
         ∙ led_within c (leading_of i x from w) (slice_index read.nodes from) within_rows
@@ -310,7 +321,7 @@ module _ (c : Run) (ss : List GroupSteps) (row : Assignment) (cs : List Cursor) 
       brought_there v v_low lives =
           let filling : IsFilling c ss (known c (length c.steps)) ch.homes.now lives.column (filling_at fs lives.column) = homes.fillings lives.column lives.inside in
           let mine : IsFilling c ss (known c (length c.steps)) ch.homes.now lives.column (kept_of i lives.depth v) = subst (IsFilling c ss (known c (length c.steps)) ch.homes.now lives.column) lives.filling filling in
-          node_read v v_low ∙ ap (node_in ch ps) lives.node_is ∙ cell_there lives.column lives.inside
+          node_read v v_low ∙ ap (node_in ch ps) lives.node_is ∙ cell_there lives.column lives.inside (ap column_group lives.filling)
           ∙ ap (λ f. cell_of c row ch.groups.now ch.homes.now (filled c row ch.groups.now ch.homes.now fs lives.column) f (slice_index ps i)) lives.filling
           ∙ ap (λ d. kept_row (build_in c d) (item_in ch.groups.now i (slice_index ps i)) v) mine.depth
           ∙ ap₂ (λ o r. kept_row o r v) b.there item_some

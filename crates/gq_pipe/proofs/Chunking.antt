@@ -32,7 +32,8 @@ use Rattle.gq_walks.specs.declared.walker.Cursor.{Cursor}
 use Rattle.gq_pipe.specs.Built.{HasBuild}
 use Rattle.gq_pipe.specs.Levels.{given}
 use Rattle.gq_pipe.specs.steps.Chunks.{AreStanding, HasKept, IsGroupAt, KeepsOf, marked_at, current_at}
-use Rattle.gq_pipe.specs.steps.Homes.{AreHomes, InGroup, IsHoused, is_forward, node_home, rel_home}
+use Rattle.gq_pipe.specs.steps.Cells.{has_cell, marks_in}
+use Rattle.gq_pipe.specs.steps.Homes.{AreHomes, InGroup, IsHoused, column_group, filling_at, is_forward, node_home, rel_home}
 use Rattle.gq_pipe.specs.steps.Levels.{Run, step_at, built_at, known, before}
 use Rattle.gq_pipe.specs.steps.Lists.{group_at, groups_in, rows_in, layout_in, Tiles, Stands}
 use Rattle.gq_pipe.specs.declared.homes.Filling.{Filling}
@@ -40,7 +41,7 @@ use Rattle.gq_pipe.specs.declared.places.GroupSteps.{GroupSteps}
 use Rattle.gq_pipe.proofs.Binding.{fits_at}
 use Rattle.gq_pipe.proofs.Brings.{knows_keys}
 use Rattle.gq_pipe.proofs.Chosen.{way_is, reads_walk, node_read, all_stand, AllMade, made}
-use Rattle.gq_pipe.proofs.Filling.{AreCells, length-filled, out_at}
+use Rattle.gq_pipe.proofs.Filling.{AreCells, cell_marked, out_at}
 use Rattle.gq_pipe.proofs.Homing.{makes_first}
 use Rattle.gq_pipe.proofs.Matched.{build_of, keeps_rel, piece_rows}
 use Rattle.gq_pipe.proofs.Piecing.{group_here, list_size, list_few, flat_here, piece_inside}
@@ -179,8 +180,8 @@ module _ (c : Run) (ss : List GroupSteps) (row : Assignment) (cs : List Cursor) 
   same_var v w k h e = sym (eqb-true v w (right_true (nat_eq v w) k h e))
 
   -- a column has a row at each marked position
-  column_in : (i n : ℕ) → i < length ss → n < length fs → IsColumnIn ch (group_of ch i) n
-  column_in i n low inside =
+  column_in : (i n : ℕ) → i < length ss → n < length fs → column_group (filling_at fs n) ≡ i → IsColumnIn ch (group_of ch i) n
+  column_in i n low inside mine =
       let g : Group = (h c ss row cs ms ch.groups.now st runs many marks count groups i low).group in
       let is : IsGroup g = is_group i low in
       let room = cols.room in
@@ -192,7 +193,9 @@ module _ (c : Run) (ss : List GroupSteps) (row : Assignment) (cs : List Cursor) 
         rows = λ p on.
             (let below = is.marked p on in
             let short = is.piece.few in
-            let cell = cols.cells n p (let all = length-filled c row ch.groups.now ch.homes.now fs (length fs) in omega (arith, inside, all)) (omega (arith, below, short)) in
+            let has : has_cell ch.groups.now (filling_at fs n) p ≡ true =
+            ap (λ k. is_marked (marks_in (group_of ch k)) p) mine ∙ ap (λ o. is_marked (marks_in o) p) (h c ss row cs ms ch.groups.now st runs many marks count groups i low).there ∙ on in
+            let cell = cols.cells n p _ (cell_marked c row ch.groups.now ch.homes.now fs (length fs) n p inside (omega (arith, below, short)) has) in
             (_, cell.is, cell.few));
       })
 
@@ -206,7 +209,7 @@ module _ (c : Run) (ss : List GroupSteps) (row : Assignment) (cs : List Cursor) 
           subst (IsNodeHome ch) (sym home) (omega (arith, inside, count))
       bound e i low inside (Extend true x from to w) is house free now =
           let home : node_home ch.homes.now v ≡ node.Column i house.column = ap (node_home ch.homes.now) (sym (same_var v to ((known c e).nodes v) now free)) ∙ house.node_is in
-          subst (IsNodeHome ch) (sym home) (column_in i house.column inside house.inside)
+          subst (IsNodeHome ch) (sym home) (column_in i house.column inside house.inside (ap column_group house.filling))
       bound e i low inside (Extend false x from to w) is house free now =
           let home : node_home ch.homes.now v ≡ node.Item i = ap (node_home ch.homes.now) (sym (same_var v to ((known c e).nodes v) now free)) ∙ house.0 in
           subst (IsNodeHome ch) (sym home) (omega (arith, inside, count))
@@ -217,7 +220,7 @@ module _ (c : Run) (ss : List GroupSteps) (row : Assignment) (cs : List Cursor) 
           go true key = absurd (true≢false (sym (knows_keys c.graph.catalog c.typed (Join side keys) (known c e) (subst (λ t. fits_step c.graph.catalog c.typed t (known c e) ≡ true) is (fits_at c st.runs e low)) v key) ∙ free))
           go false other =
               let has = house.nodes v (right_true ((after side none).nodes v) ((known c e).nodes v) now free) other in
-              subst (IsNodeHome ch) (sym has.node_is) (column_in i has.column inside has.inside)
+              subst (IsNodeHome ch) (sym has.node_is) (column_in i has.column inside has.inside (ap column_group has.filling))
       bound e i low inside (Keep t) is house free now = absurd (true≢false (sym now ∙ free))
       bound e i low inside (Differ p) is house free now = absurd (true≢false (sym now ∙ free))
       bound e i low inside (NoLoop x) is house free now = absurd (true≢false (sym now ∙ free))

@@ -20,7 +20,7 @@ use Rattle.gq_plan.specs.Known.{Known, none}
 use Rattle.gq_plan.specs.Plans.{Step, Scan, Extend, Close, Join, Keep, Differ, NoLoop}
 use Rattle.gq_pipe.specs.Built.{FitsBuild}
 use Rattle.gq_pipe.specs.steps.Cells.{build_in}
-use Rattle.gq_pipe.specs.steps.Homes.{AreHomes, AreHoused, CanHouse, CanHouseBuild, HasKeptColumn, InGroup, IsFilling, IsHoused, brought_by, filling_at, filling_of, fillings_of, housed, is_forward, no_filling, node_home, rel_home, with_filling, with_node_home, with_rel_home}
+use Rattle.gq_pipe.specs.steps.Homes.{AreHomes, AreHoused, CanHouse, CanHouseBuild, HasKeptColumn, InGroup, IsColumnOf, IsFilling, IsHoused, brought_by, column_group, filling_at, filling_of, fillings_of, housed, is_forward, no_filling, node_home, rel_home, with_filling, with_node_home, with_rel_home}
 use Rattle.gq_pipe.specs.steps.Levels.{Run, step_at, known}
 use Rattle.gq_pipe.specs.steps.Lists.{group_at, group_in, groups_in, Tiles}
 use Rattle.gq_pipe.specs.steps.Moves.{IsRun}
@@ -32,6 +32,7 @@ use Rattle.gq_pipe.proofs.Brings.{Brings, brings, shared_key, unshared_rel}
 use Rattle.gq_pipe.proofs.Going.{later_node, later_rel}
 use Rattle.gq_pipe.proofs.Here.{none_at}
 use Rattle.gq_pipe.proofs.Joined.{build_at, kept_low}
+use Rattle.gq_pipe.proofs.Piecing.{single_is}
 use Rattle.gq_pipe.proofs.Standings.{tile_at}
 use Rattle.gq_pipe.proofs.Stepping.{Follows, follows, near_rows_are, not_true}
 
@@ -133,7 +134,7 @@ pub record Added (c : Run) (o : Option Held) (i d : ℕ) (s : Step) (k : Known) 
   pub is : IsHoused (with_filling o i d s fs) new i s
   pub free_nodes : (v : ℕ) → (after_step s k).nodes v ≡ false → node_home new v ≡ node_home old v
   pub free_rels : (x : ℕ) → (after_step s k).rels x ≡ false → rel_home new x ≡ rel_home old x
-  pub columns : (v j m : ℕ) → node_home new v ≡ node.Column j m → (node_home old v ≡ node.Column j m) ⊎ (m < length (with_filling o i d s fs))
+  pub columns : (v j m : ℕ) → node_home new v ≡ node.Column j m → (node_home old v ≡ node.Column j m) ⊎ IsColumnOf (with_filling o i d s fs) j m
 
 not_left : (a b : Bool) → (a || b) ≡ false → a ≡ false
 not_left true b e = absurd (true≢false e)
@@ -252,9 +253,12 @@ module _ (c : Run) (run : IsRun c) (h : Homes) (nodes : length h.nodes ≡ lengt
         columns = λ w j m e. told j m (column_set h to w n j m low.1 e) longer_by;
       }
     where
-      told : (j m : ℕ) → {A : Type 0} → A ⊎ (node.Column i (length fs) ≡ node.Column j m) → length (fs ++ filling_of i x from way ∷ []) ≡ length fs + 1 → A ⊎ (m < length (fs ++ filling_of i x from way ∷ []))
+      told : (j m : ℕ) → {A : Type 0} → A ⊎ (node.Column i (length fs) ≡ node.Column j m) → length (fs ++ filling_of i x from way ∷ []) ≡ length fs + 1 → A ⊎ IsColumnOf (fs ++ filling_of i x from way ∷ []) j m
       told j m (inl is) more = inl is
-      told j m (inr is) more = let same : length fs ≡ m = cc is in inr (omega (arith, same, more))
+      told j m (inr is) more =
+          let same : length fs ≡ m = cc is in
+          let here : i ≡ j = cc is in
+          inr (record { inside = omega (arith, same, more); group = ap column_group (get_or_push fs (filling_of i x from way) no_filling m same) ∙ here })
   added i d (Close false x from to way) fit built =
       only_rel i d x (rel.Listed i from (is_forward way)) (Close false x from to way) _ refl (can_house (Close false x from to way) fit built) (not_true _ (and_parts _ _ (and_parts _ _ fit).1).0) (λ w e. not_same w x (k.rels w) e) (λ e. e)
   added i d (Close true x from to way) fit built =
@@ -307,6 +311,7 @@ module _ (c : Run) (run : IsRun c) (h : Homes) (nodes : length h.nodes ≡ lengt
           from = slice_get_within c.typed.nodes from _ f.near;
           table = slice_get_within c.graph.catalog.rels _ _ f.table_is;
           rows = near_rows_are c run x from to way f;
+          single = single_is c from to x way (and_parts _ _ fit).0;
         };
         source = step_keeps_node (Extend true x from to way) k from near;
         before = λ j q e. (let below = columns from j q (sym (keep.nodes from near) ∙ e) in omega (arith, below, here));
@@ -409,13 +414,15 @@ module _ (c : Run) (run : IsRun c) (ss : List GroupSteps) (i : ℕ) where
           free_rels = λ x e. a.free_rels x e ∙ old.homes.free_rels x (less_rel (step_at c d) (known c d) x e);
           columns = λ v j m e. still_column more v j m (a.columns v j m e);
           few = few_more d fs h old.homes.node_count old.homes.rel_count low old.homes.few;
-          fillings = fillings_more c run h old.homes.node_count old.homes.rel_count (known c d) fs (build_in c d) ss i d number low (step_at c d) refl first fit (built_at d low) old.homes.columns old.homes.fillings a;
+          fillings = fillings_more c run h old.homes.node_count old.homes.rel_count (known c d) fs (build_in c d) ss i d number low (step_at c d) refl first fit (built_at d low) (λ v j m e. (old.homes.columns v j m e).inside) old.homes.fillings a;
         };
         here = λ e from below. at e from below a (cases_eq e d);
       })
     where
-      still_column : Longer fs (fillings_then d fs) → (v j m : ℕ) → (node_home h v ≡ node.Column j m) ⊎ (m < length (fillings_then d fs)) → m < length (fillings_then d fs)
-      still_column more v j m (inl is) = more.low m (old.homes.columns v j m is)
+      still_column : Longer fs (fillings_then d fs) → (v j m : ℕ) → (node_home h v ≡ node.Column j m) ⊎ IsColumnOf (fillings_then d fs) j m → IsColumnOf (fillings_then d fs) j m
+      still_column more v j m (inl is) =
+          let was = old.homes.columns v j m is in
+          record { inside = more.low m was.inside; group = ap column_group (more.same m was.inside) ∙ was.group }
       still_column more v j m (inr is) = is
 
       still : (e : ℕ) → e < d → (j : ℕ) → Keeps (known c d) h (homes_then d fs h) → IsHoused fs h j (step_at c e) → IsHoused (fillings_then d fs) (homes_then d fs h) j (step_at c e)

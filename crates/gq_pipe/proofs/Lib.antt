@@ -44,3 +44,6 @@ pub mod Filling
 pub mod Loading
 pub mod Flags
 pub mod Showing
+pub mod Supplied
+pub mod Words
+pub mod Columned

@@ -1,5 +1,5 @@
 -- The whole list of a group has as many items as its step has places, and a piece is a part of it.
-use Rattle.std.proofs.Common.{◌≡◌, ◌≢◌, ◌⊎◌, inl, inr, set, ℕ, zero, suc, ◌+◌, ◌*◌, ◌/◌, ◌^◌, ◌<◌, Bool, true, false, ◌&&◌, nat_eq, Some, List, [], ◌∷◌, length, slice_get, refl, sym, ap, ◌∙◌, subst, arith, true≢false}
+use Rattle.std.proofs.Common.{◌≡◌, ◌≢◌, ◌⊎◌, inl, inr, set, ℕ, zero, suc, ◌+◌, ◌*◌, ◌/◌, ◌^◌, ◌<◌, Bool, true, false, not, ◌&&◌, nat_eq, Some, List, [], ◌∷◌, length, slice_get, refl, sym, ap, ◌∙◌, subst, arith, true≢false}
 use Rattle.std.specs.Prelude.{slice_index_or}
 use Rattle.std.proofs.lemmas.Bool.{and_parts, cases_eq}
 use Rattle.std.proofs.lemmas.List.{get_or_default}
@@ -38,6 +38,14 @@ listed_is c from to x way h =
     let both = and_parts (nat_eq from (start_of way r.0) && nat_eq to (end_of way r.0)) _ r.2 in
     let t = holds_some (λ (table : RelTable). agrees false (is_single table.mult way)) (slice_get c.graph.catalog.rels r.0.table) both.1 in
     ap (λ o. allows_many (mult_of (slice_get c.graph.catalog.rels (table_of o))) way) r.1 ∙ ap (λ o. allows_many (mult_of o) way) t.1 ∙ t.2
+
+-- where a step follows relationships of which a row has one at most, these do not
+pub single_is : (c : Run) (from to x : ℕ) (way : Direction) → holds (goes c.graph.catalog true from to way) (slice_get c.typed.rels x) ≡ true → is_listed c.graph (rel_table c.typed x) way ≡ false
+single_is c from to x way h =
+    let r = holds_some (goes c.graph.catalog true from to way) (slice_get c.typed.rels x) h in
+    let both = and_parts (nat_eq from (start_of way r.0) && nat_eq to (end_of way r.0)) _ r.2 in
+    let t = holds_some (λ (table : RelTable). agrees true (is_single table.mult way)) (slice_get c.graph.catalog.rels r.0.table) both.1 in
+    ap (λ o. allows_many (mult_of (slice_get c.graph.catalog.rels (table_of o))) way) r.1 ∙ ap (λ o. allows_many (mult_of o) way) t.1 ∙ ap not t.2
 
 module _ (c : Run) (run : IsRun c) (d : ℕ) (low : d < length c.steps) (row : Assignment) (held : IsHeld c row (known c d)) where
   pub list_long : makes_group (step_at c d) ≡ true → length (tries c.graph c.typed (built_at c d) (step_at c d) (before c row d)) ≡ length (list_of c d row (step_at c d))

@@ -49,6 +49,7 @@ module _ (c : Run) (ss : List GroupSteps) (row : Assignment) (cs : List Cursor) 
     pub is : IsGroupAt c row (group_at ss i) (cursor_at cs i) (slice_index_or ms i []) group
     pub place : IsPlace (layout_in c ss) (prefix cs i) (cursor_at cs i).key (place_at i)
     pub few : (layout_in c ss).size (prefix cs i) < 2 ^ 32
+    pub marked : is_marked group.marks (slice_index ps i) ≡ true
 
   pub here : (i : ℕ) → i < length ss → IsHere i
   here i low =
@@ -67,6 +68,7 @@ module _ (c : Run) (ss : List GroupSteps) (row : Assignment) (cs : List Cursor) 
         is = h.is;
         place = place_here (layout_in c ss) (prefix cs i) (group_at ss i).flat (cursor_at cs i) (slice_index_or ms i []) (slice_index ps i) flat r (sym (h.is.marks (slice_index ps i)) ∙ on);
         few = omega (arith, few, size);
+        marked = on;
       }
 
   -- a position is in the piece

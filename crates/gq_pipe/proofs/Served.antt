@@ -5,6 +5,7 @@ use Rattle.std.specs.List.{AllByRecursion}
 use Rattle.std.proofs.lemmas.List.{length-map}
 use Rattle.gq_group.specs.Chunks.{items_in}
 use Rattle.gq_group.specs.Pieces.{items_of}
+use Rattle.gq_group.specs.declared.home.NodeHome.TheVariants.{Column}
 use Rattle.gq_walks.specs.Layouts.{piece_of}
 use Rattle.gq_walks.specs.Running.{cursor_at, keys_of}
 use Rattle.gq_walks.specs.declared.walker.Cursor.{Cursor}
@@ -12,7 +13,7 @@ use Rattle.gq_walks.specs.declared.walker.State.TheVariants.{Standing}
 use Rattle.gq_pipe.specs.Built.{HasBuild}
 use Rattle.gq_pipe.specs.steps.Cells.{CanKeep, HasMatches, build_in, item_in}
 use Rattle.gq_pipe.specs.steps.Chunks.{HasGroup, IsPieceOf}
-use Rattle.gq_pipe.specs.steps.Homes.{IsFilling, filling_at}
+use Rattle.gq_pipe.specs.steps.Homes.{IsColumnOf, IsFilling, filling_at, node_home}
 use Rattle.gq_pipe.specs.steps.Levels.{Run, known}
 use Rattle.gq_pipe.specs.steps.Lists.{Stands, group_at}
 use Rattle.gq_pipe.specs.steps.Moves.{run_of, IsRun}
@@ -58,3 +59,6 @@ module _ (p : Inside) (inv : IsSearch p) (now : p.walker.state ≡ Standing) whe
 
   pub matches_there : (m : ℕ) → m < length p.housing.fillings.items → HasMatches c p.groups.items (filling_at p.housing.fillings.items m)
   matches_there m low = matches_of_filling m (filling_at p.housing.fillings.items m) (fillings_there m low)
+
+  pub columns_there : (v j m : ℕ) → node_home p.housing.homes v ≡ Column j m → IsColumnOf p.housing.fillings.items j m
+  columns_there = inv.chunk.homes.columns

@@ -13,6 +13,7 @@ pub mod Levels
 pub mod Limits
 pub mod Lists
 pub mod Moves
+pub mod Origins
 pub mod Outcomes
 pub mod RowTests
 pub mod Search

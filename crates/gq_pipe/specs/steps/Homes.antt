@@ -16,7 +16,7 @@ use Rattle.gq_plan.specs.Known.{Known, none}
 use Rattle.gq_plan.specs.Plans.{Plan, Step, Scan, Extend, Close, Join}
 use Rattle.gq_plan.specs.Soundness.{has_number}
 use Rattle.gq_plan.specs.Rows.{node_table, rel_table}
-use Rattle.gq_store.specs.Neighbours.{near_rows}
+use Rattle.gq_store.specs.Neighbours.{is_listed, near_rows}
 use Rattle.gq_pipe.specs.steps.Levels.{Run, step_at, known}
 use Rattle.gq_pipe.specs.steps.Lists.{group_at}
 use Rattle.gq_pipe.specs.declared.homes.Filling.{Filling}
@@ -56,6 +56,16 @@ no_filling = filling_of 0 0 0 Forward
 
 abbrev pub filling_at : List Filling → ℕ → Filling
 filling_at fs column = slice_index_or fs column no_filling
+
+-- the group of a column
+abbrev pub column_group : Filling → ℕ
+column_group (Led f) = f.group
+column_group (Kept f) = f.group
+
+-- a column of a group
+pub record IsColumnOf (fs : List Filling) (i column : ℕ) : Type 0 where
+  pub inside : column < length fs
+  pub group : column_group (filling_at fs column) ≡ i
 
 -- what a column extension binds lives in a column with this number
 abbrev pub with_column : Leading → ℕ → ℕ → Homes → Homes
@@ -130,12 +140,13 @@ IsHoused fs h i (Close true x from to way) = rel_home h x ≡ rel.Single from (i
 IsHoused fs h i (Join side keys) = HasMatch fs h i side keys
 IsHoused fs h i s = Unit {0}
 
--- relationships are followed from the rows of a node variable
+-- single relationships are followed from the rows of a node variable
 pub record CanFill (c : Run) (f : Leading) : Type 0 where
   pub rel : f.rel < length c.typed.rels
   pub from : f.from < length c.typed.nodes
   pub table : rel_table c.typed f.rel < length c.graph.catalog.rels
   pub rows : near_rows c.graph (rel_table c.typed f.rel) f.direction ≡ row_count c.graph.nodes (node_table c.typed f.from)
+  pub single : is_listed c.graph (rel_table c.typed f.rel) f.direction ≡ false
 
 -- a column of one of so many groups, whose source is known and lives in no later column
 pub record IsLeading (c : Run) (groups : ℕ) (k : Known) (h : Homes) (column : ℕ) (f : Leading) : Type 0 where
@@ -170,7 +181,7 @@ pub record AreHomes (c : Run) (ss : List GroupSteps) (i d : ℕ) (fs : List Fill
   pub done : (j e : ℕ) → j < i → InGroup ss j e → (e < d) × IsHoused fs h j (step_at c e)
   pub free_nodes : (v : ℕ) → (known c d).nodes v ≡ false → node_home h v ≡ node.Nowhere
   pub free_rels : (x : ℕ) → (known c d).rels x ≡ false → rel_home h x ≡ rel.Nowhere
-  pub columns : (v j m : ℕ) → node_home h v ≡ node.Column j m → m < length fs
+  pub columns : (v j m : ℕ) → node_home h v ≡ node.Column j m → IsColumnOf fs j m
   pub few : length fs ≤ sum_by (own_columns c.typed) (take d c.steps)
   pub fillings : (m : ℕ) → m < length fs → IsFilling c ss (known c d) h m (filling_at fs m)
 

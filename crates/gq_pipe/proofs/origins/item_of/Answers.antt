@@ -4,7 +4,7 @@ use Rattle.std.specs.List.{range_with_len}
 use Rattle.std.proofs.lemmas.List.FromFn.{get_or-range_with_len, length-range_with_len}
 use Rattle.std.proofs.lemmas.Option.{slice_get-get_or, slice_get_past}
 use Rattle.gq_group.specs.Pieces.{items_of}
-use Rattle.gq_pipe.proofs.columns.item_of.Goals as goal
+use Rattle.gq_pipe.proofs.origins.item_of.Goals as goal
 
 pub returns-then-position-saturating_sub : goal.returns-then-position-saturating_sub
 returns-then-position-saturating_sub c =
