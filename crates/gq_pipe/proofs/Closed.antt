@@ -1,19 +1,18 @@
 -- A step that closes makes something only at places that lead to the row that is there.
-use Rattle.std.proofs.Common.{◌≡◌, ◌≢◌, ◌⊎◌, inl, inr, ℕ, zero, suc, ◌+◌, ◌^◌, ◌<◌, ◌≤◌, Bool, true, false, ◌&&◌, nat_lt, nat_eq, Option, Some, None, List, [], ◌∷◌, length, drop, get_or, refl, sym, ap, ◌∙◌, subst, arith}
+use Rattle.std.proofs.Common.{◌≡◌, ◌≢◌, ◌⊎◌, inl, inr, ℕ, zero, suc, ◌+◌, ◌^◌, ◌<◌, ◌≤◌, Bool, false, ◌&&◌, nat_lt, Option, Some, None, List, [], ◌∷◌, length, drop, get_or, refl, sym, ap, ◌∙◌, subst, arith}
 use Rattle.std.specs.Prelude.{All, slice_get, slice_index, slice_index_or}
-use Rattle.std.proofs.lemmas.Bool.{and_parts, eqb-false, ltb-true, lt-ltb, true≢false}
-use Rattle.std.proofs.lemmas.Option.{get_or_from_slice_get, slice_get_past, slice_get_within}
+use Rattle.std.proofs.lemmas.Bool.{and_parts, eqb-false, ltb-true, lt-ltb}
+use Rattle.std.proofs.lemmas.Option.{get_or_from_slice_get, slice_get_within}
 use Rattle.gq_base.specs.declared.direction.Direction.{Direction}
 use Rattle.gq_plan.specs.Plans.{Close}
 use Rattle.gq_plan.specs.Rows.{rel_table}
 use Rattle.gq_plan.specs.declared.assignment.Assignment.{Assignment}
-use Rattle.gq_store.specs.Neighbours.{near_rows, neighbours, numbers, opposite}
+use Rattle.gq_store.specs.Neighbours.{near_rows, neighbours, opposite}
 use Rattle.gq_pipe.specs.steps.Candidates.{AreCandidates, is_row, leads_to}
 use Rattle.gq_pipe.specs.steps.Hops.{IsHop}
 use Rattle.gq_pipe.specs.steps.Levels.{Run, step_at, built_at, known, before}
 use Rattle.gq_pipe.specs.steps.Moves.{IsRun, IsHeld, IsMissed, IsPast}
 use Rattle.gq_pipe.specs.steps.Tries.{tries}
-use Rattle.gq_pipe.specs.declared.follow.Hop.{Hop}
 use Rattle.gq_pipe.specs.declared.plan_run.Tried.TheVariants.{Past, Missed}
 use Rattle.gq_pipe.proofs.Hopping.{hop_there}
 use Rattle.gq_pipe.proofs.Stepping.{Follows, follows}

@@ -1,21 +1,20 @@
 -- A group that makes something of a place makes it whichever load number is written, where rows alone decide its tests.
-use Rattle.std.proofs.Common.{◌≡◌, ◌≢◌, inl, inr, ℕ, suc, ◌+◌, ◌^◌, ◌<◌, ◌≤◌, Bool, true, false, None, Some, length, refl, sym, ap, ◌∙◌, subst, arith}
+use Rattle.std.proofs.Common.{◌≡◌, ◌≢◌, inl, inr, ℕ, suc, ◌+◌, ◌^◌, ◌<◌, ◌≤◌, Bool, true, false, Some, length, refl, sym, ap, ◌∙◌, subst, arith}
 use Rattle.std.specs.Prelude.{slice_get, slice_index}
-use Rattle.std.proofs.lemmas.List.{get_or-set_other, length-set}
 use Rattle.gq_plan.specs.Plans.{Step, Scan, Extend, Close, Join, Keep, Differ, NoLoop}
 use Rattle.gq_plan.specs.Rows.{rel_table}
 use Rattle.gq_plan.specs.declared.assignment.Assignment.{Assignment}
 use Rattle.gq_store.specs.Neighbours.{near_rows, neighbours, opposite}
 use Rattle.gq_walks.specs.Layouts.{has_one}
-use Rattle.gq_pipe.specs.steps.Keeps.{IsJudged, IsRange, IsTriedAt, makes_one}
+use Rattle.gq_pipe.specs.steps.Keeps.{IsJudged, IsRange, IsTriedAt}
 use Rattle.gq_pipe.specs.steps.Levels.{Run, step_at, known}
-use Rattle.gq_pipe.specs.steps.Moves.{IsRun, IsHeld, IsAlike, IsTried}
+use Rattle.gq_pipe.specs.steps.Moves.{IsRun, IsHeld, IsTried}
 use Rattle.gq_pipe.specs.steps.Outcomes.{CanFollow, passes_at, tested, with_number, with_row}
-use Rattle.gq_pipe.specs.steps.RowTests.{Extends, IsRowTest, ReadsRows, test_of}
+use Rattle.gq_pipe.specs.steps.RowTests.{IsRowTest, ReadsRows, test_of}
 use Rattle.gq_pipe.specs.declared.follow.Hop.{Hop}
 use Rattle.gq_pipe.specs.declared.places.GroupSteps.{GroupSteps}
 use Rattle.gq_pipe.specs.declared.plan_run.Follow.{Follow}
-use Rattle.gq_pipe.specs.declared.plan_run.Tried.TheVariants.{Past, Missed, Made}
+use Rattle.gq_pipe.specs.declared.plan_run.Tried.TheVariants.{Past, Made}
 use Rattle.gq_pipe.proofs.Going.{IsGoing, begins, ends, made_first, tried_made, tried_missed, tried_past}
 use Rattle.gq_pipe.proofs.Hopping.{hop_there}
 use Rattle.gq_pipe.proofs.Stepping.{follows}

@@ -14,13 +14,7 @@ use gq_plan::{Assignment, Step};
 impl PlanRun<'_> {
     /// Of so many places of the list of the step at a depth, from one on, those at which it can make
     /// something.
-    pub(crate) fn candidates(
-        &self,
-        depth: usize,
-        first: u32,
-        count: u32,
-        row: &Assignment,
-    ) -> Marks
+    pub(crate) fn candidates(&self, depth: usize, first: u32, count: u32, row: &Assignment) -> Marks
         requires run { IsRun (run_of self.now) }
         requires depth { depth < length (steps_in self.now) }
         requires held { IsHeld (run_of self.now) row.now (known (run_of self.now) depth) }

@@ -109,13 +109,7 @@ impl PlanRun<'_> {
 
     // Whether the group makes something of the place. The row that it binds is written, and no load
     // number.
-    fn keep_row(
-        &self,
-        group: GroupSteps,
-        follow: Follow,
-        place: u32,
-        row: &mut Assignment,
-    ) -> bool
+    fn keep_row(&self, group: GroupSteps, follow: Follow, place: u32, row: &mut Assignment) -> bool
         requires run { IsRun (run_of self.now) }
         requires steps { IsRange (run_of self.now) group }
         requires held { IsHeld (run_of self.now) row.old (known (run_of self.now) group.first) }

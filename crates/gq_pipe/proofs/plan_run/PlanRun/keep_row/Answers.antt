@@ -1,10 +1,9 @@
-use Rattle.std.proofs.Common.{◌≡◌, ◌∙◌, ◌≤◌, ◌<◌, ◌+◌, ℕ, List, None, Some, true, false, length, sym, ap, subst, arith, inl, inr}
-use Rattle.std.specs.Prelude.{slice_get, slice_index}
+use Rattle.std.proofs.Common.{◌<◌, ◌+◌, true, false, sym, subst, arith}
+use Rattle.std.specs.Prelude.{slice_index}
 use Rattle.gq_plan.specs.Rows.{rel_table}
 use Rattle.gq_plan.specs.declared.assignment.Assignment.{Assignment}
 use Rattle.gq_store.specs.Neighbours.{neighbours}
 use Rattle.gq_pipe.specs.steps.Keeps.{IsJudged, IsTriedAt}
-use Rattle.gq_pipe.specs.steps.Levels.{Run}
 use Rattle.gq_pipe.specs.steps.Moves.{run_of}
 use Rattle.gq_pipe.specs.steps.Outcomes.{with_number}
 use Rattle.gq_pipe.proofs.Closed.{none_there}
