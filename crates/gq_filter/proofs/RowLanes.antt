@@ -24,6 +24,8 @@ use Rattle.gq_plan.specs.declared.typed.Typed.{Typed}
 use Rattle.gq_plan.specs.declared.variable.Variable.TheVariants.{Node}
 use Rattle.gq_store.specs.Columns.{IsDictOf, node_cells}
 use Rattle.gq_filter.proofs.Deciding.{kept_by}
+use Rattle.gq_plan.specs.Conditions.{passes}
+use Rattle.gq_filter.specs.LaneTests.{holds}
 use Rattle.gq_filter.specs.Cells.{IsInLane}
 use Rattle.gq_filter.specs.Deciding.{Decides}
 use Rattle.gq_filter.specs.Sources.{AreLanes, AreSources, property_of, value_of}
@@ -57,14 +59,14 @@ module _ (g : Graph) (y : Typed) (feed : Feed) (f : IsFeedIn g y feed) where
         (get_or_past feed.column.now row None (omega (arith, past, f.is.rows)))
   ]
 
-  pub in_lane : (row : Assignment) → IsInLane feed.source.kind feed.source.dict.now (value_of g (as_read y row) feed.source) (cell_of row (Some feed))
+  pub in_lane : (row : Assignment) → IsInLane feed.source.kind feed.source.dict.now (value_of g (as_read y row) feed.source) (cell_of row.nodes (Some feed))
   in_lane row =
       let at = as_read y row in
       let node : at.nodes f.variable ≡ node_in (Some f.table) (slice_get row.nodes f.variable) = node_read y row f.variable ∙ ap (λ t. node_in t (slice_get row.nodes f.variable)) f.table_is in
       let value : value_of g at feed.source ≡ property_at (node_property g) (node_in (Some f.table) (slice_get row.nodes f.variable)) f.name =
       ap (λ v. property_of g at v feed.source.name.now) f.is.variable_is ∙ ap (property_of g at (Node f.variable)) f.is.name_is ∙ ap (λ o. property_at (node_property g) o f.name) node in
-      let cell : cell_of row (Some feed) ≡ cell_in feed.column.now (slice_get row.nodes f.variable) = ap (λ v. cell_in feed.column.now (row_of row v)) f.is.variable_is in
-      subst (λ v. IsInLane feed.source.kind feed.source.dict.now v (cell_of row (Some feed))) (sym value)
+      let cell : cell_of row.nodes (Some feed) ≡ cell_in feed.column.now (slice_get row.nodes f.variable) = ap (λ v. cell_in feed.column.now (row_of row.nodes v)) f.is.variable_is in
+      subst (λ v. IsInLane feed.source.kind feed.source.dict.now v (cell_of row.nodes (Some feed))) (sym value)
       (subst (λ c. IsInLane feed.source.kind feed.source.dict.now (property_at (node_property g) (node_in (Some f.table) (slice_get row.nodes f.variable)) f.name) c) (sym cell) (at_row (slice_get row.nodes f.variable)))
 
 -- the source of a lane is that of a feed
@@ -75,11 +77,11 @@ source_at feeds lane s is = found (slice_get feeds lane) refl (sym (slice_get-ma
     found None at h = cc h
     found (Some f) at h = (f, at, cc h)
 
-pub lanes_of_feeds : (g : Graph) (y : Typed) (feeds : List Feed) → AreFeedsIn g y feeds → (row : Assignment) → AreLanes g (as_read y row) (map (λ (f : Feed). f.source) feeds) (cells_of feeds row)
+pub lanes_of_feeds : (g : Graph) (y : Typed) (feeds : List Feed) → AreFeedsIn g y feeds → (row : Assignment) → AreLanes g (as_read y row) (map (λ (f : Feed). f.source) feeds) (cells_of feeds row.nodes)
 lanes_of_feeds g y feeds are row = λ lane s is.
     let (f, at, same) = source_at feeds lane s is in
-    subst (λ (t : LaneSource). IsInLane t.kind t.dict.now (value_of g (as_read y row) t) (cells_of feeds row lane)) same
-    (subst (λ o. IsInLane f.source.kind f.source.dict.now (value_of g (as_read y row) f.source) (cell_of row o)) (sym at) (in_lane g y f (are lane f at) row))
+    subst (λ (t : LaneSource). IsInLane t.kind t.dict.now (value_of g (as_read y row) t) (cells_of feeds row.nodes lane)) same
+    (subst (λ o. IsInLane f.source.kind f.source.dict.now (value_of g (as_read y row) f.source) (cell_of row.nodes o)) (sym at) (in_lane g y f (are lane f at) row))
 
 -- columns of one table and one property have one dictionary
 dicts_of_one : (cells : List (Option Cell)) (d e : List (List ℕ)) → IsDictOf cells d → IsDictOf cells e → d ≡ e
@@ -110,4 +112,9 @@ feeds_none g y = λ lane feed is. cc is
 pub rows_decided : (g : Graph) (y : Typed) (condition : NamedExpr) (feeds : List Feed) (found : Option LaneTest) → AreFeedsIn g y feeds →
     IfSome found (Decides true (map (λ (f : Feed). f.source) feeds) condition.expr) → DecidesRows g y condition feeds found
 rows_decided g y condition feeds found are decides =
-    IfSome_then found decides (λ t decide row. kept_by (map (λ (f : Feed). f.source) feeds) condition t g (as_read y row) (cells_of feeds row) decide (lanes_of_feeds g y feeds are row))
+    IfSome_then found decides (λ t decide row. kept_by (map (λ (f : Feed). f.source) feeds) condition t g (as_read y row) (cells_of feeds row.nodes) decide (lanes_of_feeds g y feeds are row))
+
+-- what lanes of node variables decide hangs on their rows alone
+pub rows_alone : (g : Graph) (y : Typed) (condition : NamedExpr) (feeds : List Feed) (test : LaneTest) → DecidesRows g y condition feeds (Some test) → (old new : Assignment) → old.nodes ≡ new.nodes →
+    passes g (as_read y old) condition ≡ passes g (as_read y new) condition
+rows_alone g y condition feeds test decides old new same = sym (decides old) ∙ ap (λ rows. holds (cells_of feeds rows) test) same ∙ decides new

@@ -17,7 +17,7 @@ pub(crate) struct RowCells<'r> {
 impl Cells for RowCells<'_> {
     ghost use Rattle.gq_filter.specs.steps.RowCells.{cells_of};
 
-    ghost cell = { λ c lane. cells_of c.feeds.now c.row.now lane };
+    ghost cell = { λ c lane. cells_of c.feeds.now c.row.now.nodes lane };
 
     fn cell(&self, lane: u32) -> Option<i64> {
         let feed = self.feeds.get(lane as usize)?;

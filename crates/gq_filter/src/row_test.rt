@@ -1,7 +1,7 @@
 //! Conditions that are decided row by row: by the columns of what they read where lanes can decide
 //! them, and else by evaluating them.
-ghost use Rattle.std.specs.Prelude.{◌≡◌, ◌≤◌, IfOk, length, map};
-ghost use Rattle.gq_filter.specs.RowTests.{condition_over, conditions_of, is_true_of};
+ghost use Rattle.std.specs.Prelude.{◌≡◌, IfOk, IsTrue};
+ghost use Rattle.gq_filter.specs.RowTests.{condition_over, conditions_of, is_true_of, ReadsRows};
 ghost use Rattle.gq_filter.specs.steps.RowCells.{AreFeedsIn, DecidesRows};
 ghost use Rattle.gq_plan.specs.Soundness.{IsSound};
 
@@ -71,6 +71,14 @@ impl<'g> RowTest<'g> {
             test,
             feeds,
         })
+    }
+
+    /// Whether the rows alone decide the condition, and no load number.
+    #[tactic(auto, using(crate::proofs::RowLanes::rows_alone))]
+    pub fn reads_rows(&self) -> bool
+        ensures { IsTrue result → ReadsRows self.now }
+    {
+        self.test.is_some()
     }
 
     /// Whether the condition is true of rows and load numbers. It takes no memory.

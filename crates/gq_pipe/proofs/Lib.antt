@@ -5,6 +5,7 @@ pub mod Brought
 pub mod Following
 pub mod Joined
 pub mod Joining
+pub mod Judged
 pub mod Keeping
 pub mod Levels
 pub mod Making
@@ -20,6 +21,7 @@ pub mod Unjoined
 pub mod Whole
 pub mod Here
 pub mod Sifting
+pub mod Closed
 pub mod Cutting
 pub mod Resting
 pub mod Agreeing
@@ -32,6 +34,7 @@ pub mod InOrder
 pub mod Starting
 pub mod Chosen
 pub mod Homing
+pub mod Hopping
 pub mod Piecing
 pub mod Products
 pub mod Chunking

@@ -1,5 +1,6 @@
 pub mod Before
 pub mod Built
+pub mod Candidates
 pub mod Cells
 pub mod Chunks
 pub mod Cuts
@@ -14,5 +15,6 @@ pub mod Lists
 pub mod Moves
 pub mod Origins
 pub mod Outcomes
+pub mod RowTests
 pub mod Search
 pub mod Tries

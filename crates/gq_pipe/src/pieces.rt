@@ -1,13 +1,13 @@
 //! Pieces of the whole lists of groups.
 ghost use Rattle.std.specs.Prelude.{◌≡◌, ◌+◌, ◌-◌, ◌<◌, ◌≤◌, min, true, None, length, slice_index};
-ghost use Rattle.std.specs.Prelude.{slice_index_or};
+ghost use Rattle.std.specs.Prelude.{slice_index_or, All, ◌^◌};
 ghost use Rattle.gq_law_groups.specs.Groups.{makes_group};
 ghost use Rattle.gq_pipe.specs.steps.Chunks.{IsPieceOf, KeepsOf, list_of, part};
 ghost use Rattle.gq_pipe.specs.steps.Levels.{known, step_at};
 ghost use Rattle.gq_pipe.specs.steps.Moves.{builds_in, run_of, steps_in, IsRun, IsHeld};
 ghost use Rattle.gq_pipe.specs.steps.Outcomes.{CanList};
 ghost use Rattle.gq_plan.specs.Rows.{rel_table};
-ghost use Rattle.gq_store.specs.Neighbours.{neighbours};
+ghost use Rattle.gq_store.specs.Neighbours.{near_rows, neighbours, opposite};
 
 use crate::plan_run::{Follow, PlanRun, following};
 use gq_bits::VECTOR;
@@ -79,12 +79,16 @@ impl<'g> PlanRun<'g> {
         }
     }
 
-    // The rows to which the relationships lead that are followed.
-    fn list(&self, follow: Follow, row: &Assignment) -> &'g [u32]
+    /// The rows to which the relationships lead that are followed.
+    pub(crate) fn list(&self, follow: Follow, row: &Assignment) -> &'g [u32]
         requires { CanList self.now.graph.now self.now.typed.now row.now follow }
         ensures value { result.now ≡ neighbours self.now.graph.now
             (rel_table self.now.typed.now follow.rel) follow.direction
             (slice_index row.now.nodes follow.from) }
+        ensures ends { let table = rel_table self.now.typed.now follow.rel in All
+            (λ other. other < near_rows self.now.graph.now table (opposite follow.direction))
+            result.now }
+        ensures few { length result.now < 2 ^ 32 }
     {
         let table = self.typed.rels.as_slice()[follow.rel as usize].table;
         let from = row.nodes.as_slice()[follow.from as usize];

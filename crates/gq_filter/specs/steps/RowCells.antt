@@ -14,22 +14,22 @@ use Rattle.gq_filter.specs.LaneTests.{holds}
 use Rattle.gq_filter.specs.declared.feeds.Feed.{Feed}
 use Rattle.gq_filter.specs.declared.lane_test.LaneTest.{LaneTest}
 
--- the row of a node variable
-abbrev pub row_of : Assignment → Variable → Option ℕ
-row_of row (Node v) = slice_get row.nodes v
-row_of row (Rel x) = None
+-- the row of a node variable, of these rows
+abbrev pub row_of : List ℕ → Variable → Option ℕ
+row_of rows (Node v) = slice_get rows v
+row_of rows (Rel x) = None
 
 abbrev pub cell_in : List (Option ℤ) → Option ℕ → Option ℤ
 cell_in column None = None
 cell_in column (Some row) = cell_at column row
 
--- the cell of a feed in a row
-abbrev pub cell_of : Assignment → Option Feed → Option ℤ
-cell_of row None = None
-cell_of row (Some feed) = cell_in feed.column.now (row_of row feed.source.variable)
+-- the cell of a feed where the node variables have these rows
+abbrev pub cell_of : List ℕ → Option Feed → Option ℤ
+cell_of rows None = None
+cell_of rows (Some feed) = cell_in feed.column.now (row_of rows feed.source.variable)
 
-abbrev pub cells_of : List Feed → Assignment → ℕ → Option ℤ
-cells_of feeds row lane = cell_of row (slice_get feeds lane)
+abbrev pub cells_of : List Feed → List ℕ → ℕ → Option ℤ
+cells_of feeds rows lane = cell_of rows (slice_get feeds lane)
 
 -- a property of a node variable of an alternative
 pub record IsFeedIn (g : Graph) (y : Typed) (feed : Feed) : Type 0 where
@@ -44,4 +44,4 @@ AreFeedsIn g y feeds = (lane : ℕ) (feed : Feed) → slice_get feeds lane ≡ S
 
 -- a test, if there is one, holds in exactly the rows in which a condition is true
 abbrev pub DecidesRows : Graph → Typed → NamedExpr → List Feed → Option LaneTest → Type 0
-DecidesRows g y condition feeds test = IfSome test (λ t. (row : Assignment) → holds (cells_of feeds row) t ≡ passes g (as_read y row) condition)
+DecidesRows g y condition feeds test = IfSome test (λ t. (row : Assignment) → holds (cells_of feeds row.nodes) t ≡ passes g (as_read y row) condition)

@@ -1,0 +1,121 @@
+-- A group that makes something of a place makes it whichever load number is written, where rows alone decide its tests.
+use Rattle.std.proofs.Common.{◌≡◌, ◌≢◌, inl, inr, ℕ, suc, ◌+◌, ◌^◌, ◌<◌, ◌≤◌, Bool, true, false, Some, length, refl, sym, ap, ◌∙◌, subst, arith}
+use Rattle.std.specs.Prelude.{slice_get, slice_index}
+use Rattle.gq_plan.specs.Plans.{Step, Scan, Extend, Close, Join, Keep, Differ, NoLoop}
+use Rattle.gq_plan.specs.Rows.{rel_table}
+use Rattle.gq_plan.specs.declared.assignment.Assignment.{Assignment}
+use Rattle.gq_store.specs.Neighbours.{near_rows, neighbours, opposite}
+use Rattle.gq_walks.specs.Layouts.{has_one}
+use Rattle.gq_pipe.specs.steps.Keeps.{IsJudged, IsRange, IsTriedAt}
+use Rattle.gq_pipe.specs.steps.Levels.{Run, step_at, known}
+use Rattle.gq_pipe.specs.steps.Moves.{IsRun, IsHeld, IsTried}
+use Rattle.gq_pipe.specs.steps.Outcomes.{CanFollow, passes_at, tested, with_number, with_row}
+use Rattle.gq_pipe.specs.steps.RowTests.{IsRowTest, ReadsRows, test_of}
+use Rattle.gq_pipe.specs.declared.follow.Hop.{Hop}
+use Rattle.gq_pipe.specs.declared.places.GroupSteps.{GroupSteps}
+use Rattle.gq_pipe.specs.declared.plan_run.Follow.{Follow}
+use Rattle.gq_pipe.specs.declared.plan_run.Tried.TheVariants.{Past, Made}
+use Rattle.gq_pipe.proofs.Going.{IsGoing, begins, ends, made_first, tried_made, tried_missed, tried_past}
+use Rattle.gq_pipe.proofs.Hopping.{hop_there}
+use Rattle.gq_pipe.proofs.Stepping.{follows}
+use Rattle.gq_pipe.proofs.Testing.{keep_tried}
+use Rattle.gq_pipe.proofs.Tried.{extend_can, extend_goes, extend_parts, extend_tried}
+
+-- what was tried is judged
+pub judged : (c : Run) (group : GroupSteps) (place : ℕ) (old : Assignment) (told : Bool) (new : Assignment) → IsTriedAt c group place old told new → IsJudged c group place old told new
+judged c group place old true new t = record { held = t.held; alike = t.alike; answer = sym (ap has_one t.answer.made) }
+judged c group place old false new t = record { held = t.held; alike = t.alike; answer = sym (ap has_one t.answer) }
+
+keep_of : (s : Step) (i : ℕ) → test_of s ≡ Some i → s ≡ Keep i
+keep_of (Keep j) i is = let same : j ≡ i = cc in ap Keep same
+keep_of (Scan v) i is = cc
+keep_of (Extend column x from to way) i is = cc
+keep_of (Close column x from to way) i is = cc
+keep_of (Join side keys) i is = cc
+keep_of (Differ p) i is = cc
+keep_of (NoLoop x) i is = cc
+
+-- with some load number, the steps of a group up to one make something of a place
+pub record IsGoingBy (c : Run) (group : GroupSteps) (place : ℕ) (old : Assignment) (f : Follow) (d : ℕ) (row : Assignment) : Type 0 where
+  pub number : ℕ
+  pub going : IsGoing c group place old d (with_number f.rel number row)
+
+module _ (c : Run) (run : IsRun c) (group : GroupSteps) (range : IsRange c group) (place : ℕ) (old : Assignment) (held : IsHeld c old (known c group.first)) (f : Follow) (reads : ReadsRows c group f) where
+  first_low : group.first < length c.steps
+  first_low = let some = range.some in let inside = range.inside in omega arith
+
+  pub can_follow : CanFollow c.graph c.typed old f
+  can_follow = extend_can c run group.first first_low old held reads.extends.0 f.rel f.from f.to f.direction reads.extends.1
+
+  new_rel : (known c group.first).rels f.rel ≡ false
+  new_rel = (extend_parts c run group.first first_low old held reads.extends.0 f.rel f.from f.to f.direction reads.extends.1).0
+
+  -- nothing is made where there is no such place
+  pub past_judged : length (neighbours c.graph (rel_table c.typed f.rel) f.direction (slice_index old.nodes f.from)) ≤ place → IsJudged c group place old false old
+  past_judged high =
+      let past = extend_tried c run group.first first_low old held reads.extends.0 f.rel f.from f.to f.direction reads.extends.1 place old Past (refl, high) in
+      judged c group place old false old
+      (tried_past c group range place old group.first place old old (begins c group range place old held) range.some (λ e. refl) (λ e. absurd (e refl)) (inl refl) past)
+
+  pub first_going : (r : ℕ) → slice_get (neighbours c.graph (rel_table c.typed f.rel) f.direction (slice_index old.nodes f.from)) place ≡ Some r
+      → r < near_rows c.graph (rel_table c.typed f.rel) (opposite f.direction) → length (neighbours c.graph (rel_table c.typed f.rel) f.direction (slice_index old.nodes f.from)) < 2 ^ 32
+      → IsGoingBy c group place old f (group.first + 1) (with_row f.to r old)
+  first_going r at inside few =
+      let follow = follows c run reads.extends.0 f.rel f.from f.to f.direction (extend_goes c run group.first first_low old held reads.extends.0 f.rel f.from f.to f.direction reads.extends.1) in
+      let hop = hop_there c.graph (rel_table c.typed f.rel) follow.table follow.table_is f.direction (slice_index old.nodes f.from) place r at inside few in
+      let h : Hop = record { number = hop.0; row = r } in
+      let exact : Assignment = with_number f.rel hop.0 (with_row f.to r old) in
+      let made = extend_tried c run group.first first_low old held reads.extends.0 f.rel f.from f.to f.direction reads.extends.1 place exact Made (h, hop.1, refl) in
+      let next : suc group.first ≡ group.first + 1 = omega arith in
+      record {
+        number = hop.0;
+        going = subst (λ d. IsGoing c group place old d exact) next (made_first c group range place old group.first old exact (begins c group range place old held) refl made);
+      }
+
+  module _ (d : ℕ) (row : Assignment) (g : IsGoingBy c group place old f d row) (above : group.first < d) (below : d < group.end) (told : Bool) (is : (i : ℕ) → test_of (step_at c d) ≡ Some i → told ≡ passes_at c.graph c.typed row i) where
+    abbrev exact : Assignment
+    exact = with_number f.rel g.number row
+
+    test : IsRowTest c d
+    test = reads.tests d above below
+
+    tried : IsTried c d 0 exact exact (tested 0 told)
+    tried =
+        let same : passes_at c.graph c.typed exact test.test ≡ told = test.reads exact row refl ∙ sym (is test.test test.is) in
+        let low : d < length c.steps = (let inside = range.inside in omega arith) in
+        subst (λ b. IsTried c d 0 exact exact (tested 0 b)) same (keep_tried c run d low exact g.going.held test.test (keep_of (step_at c d) test.test test.is) 0)
+
+    far : d ≢ group.first
+    far = λ e. omega (arith, e, above)
+
+    pub next_going : told ≡ true → IsGoingBy c group place old f (d + 1) row
+    next_going on =
+        let next : suc d ≡ d + 1 = omega arith in
+        record {
+          number = g.number;
+          going = subst (λ n. IsGoing c group place old n exact) next
+              (tried_made c group range place old d 0 exact exact g.going below (λ e. absurd (far e)) (λ e. refl) (inr far) (subst (λ b. IsTried c d 0 exact exact (tested 0 b)) on tried));
+        }
+
+    pub next_missed : told ≡ false → IsTriedAt c group place old false exact
+    next_missed off = tried_missed c group range place old d 0 exact exact g.going below (λ e. absurd (far e)) (λ e. refl) (inr far) (subst (λ b. IsTried c d 0 exact exact (tested 0 b)) off tried)
+
+  pub all_going : (d : ℕ) (row : Assignment) (g : IsGoingBy c group place old f d row) → group.end ≤ d → IsTriedAt c group place old true (with_number f.rel g.number row)
+  all_going d row g high = ends c group range place old (with_number f.rel g.number row) d g.going high
+
+  -- the load number does not matter
+  pub judged_by : (told : Bool) (r number : ℕ) → IsTriedAt c group place old told (with_number f.rel number (with_row f.to r old)) → IsJudged c group place old told (with_row f.to r old)
+  judged_by told r number t =
+      let exact : Assignment = with_number f.rel number (with_row f.to r old) in
+      let j : IsJudged c group place old told exact = judged c group place old told exact t in
+      record {
+        held = record {
+          node_count = j.held.node_count;
+          rel_count = held.rel_count;
+          nodes = j.held.nodes;
+          rels = j.held.rels;
+          rows = j.held.rows;
+        };
+        alike = record { nodes = j.alike.nodes; rels = λ x e. refl };
+        answer = j.answer;
+      }

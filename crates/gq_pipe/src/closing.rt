@@ -1,0 +1,55 @@
+//! The places at which a step can make something: those of a step that closes lead to the row that
+//! is there.
+ghost use Rattle.std.specs.Prelude.{◌≡◌, ◌+◌, ◌<◌, ◌≤◌, ◌^◌, ◌&&◌, ℕ, length, nat_lt};
+ghost use Rattle.gq_bits.specs.Places.{is_marked};
+ghost use Rattle.gq_pipe.specs.steps.Candidates.{AreCandidates, leads_to};
+ghost use Rattle.gq_pipe.specs.steps.Levels.{known};
+ghost use Rattle.gq_pipe.specs.steps.Moves.{run_of, steps_in, IsRun, IsHeld};
+
+use crate::plan_run::{PlanRun, following};
+use gq_bits::Marks;
+use gq_lanes::keep_equal_id;
+use gq_plan::{Assignment, Step};
+
+impl PlanRun<'_> {
+    /// Of so many places of the list of the step at a depth, from one on, those at which it can make
+    /// something.
+    pub(crate) fn candidates(&self, depth: usize, first: u32, count: u32, row: &Assignment) -> Marks
+        requires run { IsRun (run_of self.now) }
+        requires depth { depth < length (steps_in self.now) }
+        requires held { IsHeld (run_of self.now) row.now (known (run_of self.now) depth) }
+        requires count { count ≤ 1024 }
+        requires fits { first + count < 2 ^ 32 }
+        ensures { AreCandidates (run_of self.now) depth first count row.now result }
+    {
+        match self.step(depth) {
+            Step::Close {
+                rel,
+                from,
+                to,
+                direction,
+            } => {
+                let list = self.list(following(*rel, *from, *to, *direction), row);
+                closing(list, first, count, row.nodes.as_slice()[*to as usize])
+            }
+            _ => Marks::first(count),
+        }
+    }
+}
+
+// Of so many places of a list, from one on, those with a row.
+fn closing(list: &[u32], first: u32, count: u32, row: u32) -> Marks
+    requires count { count ≤ 1024 }
+    requires fits { first + count < 2 ^ 32 }
+    ensures whole { length result ≡ 1024 }
+    ensures each { (j : ℕ) → is_marked result j
+        ≡ (nat_lt j count && leads_to list.now (first + j) row) }
+{
+    let low = list.len().min(first as usize);
+    let high = list.len().min((first + count) as usize);
+    let ids = &list[low..high];
+    let mut marks = Marks::first(ids.len() as u32);
+    keep_equal_id(ids, row, &mut marks);
+    let _whole = marks.word(0);
+    marks
+}
