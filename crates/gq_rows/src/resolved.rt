@@ -39,16 +39,15 @@ pub struct Resolved<'g> {
 }
 
 impl<'g> Resolved<'g> {
-    // An expression in a graph. Its column is looked up where the alternative is given.
-    fn new(expr: &'g Expr, typed: Option<&Typed>, graph: &Graph) -> Resolved<'g>
+    // An expression in a graph, for an alternative.
+    fn new(expr: &'g Expr, typed: &Typed, graph: &Graph) -> Resolved<'g>
         ensures expr { result.expr.now ≡ expr.now }
         ensures reads { IsResolved graph.now result }
     {
-        let reader = match typed {
-            Some(typed) => reader_of(expr, typed, graph),
-            None => Reader::Plain,
-        };
-        Resolved { expr, reader }
+        Resolved {
+            expr,
+            reader: reader_of(expr, typed, graph),
+        }
     }
 
     /// The value of the expression in a row, or the first fault met.
@@ -173,12 +172,12 @@ impl<'g> Reading<'g> {
         }
     }
 
-    /// Puts those of a query in the place of what was there. Their columns are looked up where the
-    /// alternative is given, which pays for itself where many rows are read.
+    /// Puts those of a query in the place of what was there, with their properties looked up for an
+    /// alternative.
     pub(crate) fn resolve(
         &mut self,
         bound: &'g Bound,
-        typed: Option<&Typed>,
+        typed: &Typed,
         graph: &Graph,
     ) -> Result<(), Memory>
         ensures { OnOk result (IsReading graph.now bound.now self.new) }
@@ -194,7 +193,7 @@ impl<'g> Reading<'g> {
 fn resolve_columns<'g>(
     all: &mut Vec<Resolved<'g>>,
     columns: &'g [NamedExpr],
-    typed: Option<&Typed>,
+    typed: &Typed,
     graph: &Graph,
 ) -> Result<(), Memory>
     requires { all.old.items ≡ [] }
@@ -210,7 +209,7 @@ fn resolve_columns<'g>(
 fn resolve_keys<'g>(
     all: &mut Vec<Resolved<'g>>,
     keys: &'g [SortExpr],
-    typed: Option<&Typed>,
+    typed: &Typed,
     graph: &Graph,
 ) -> Result<(), Memory>
     requires { all.old.items ≡ [] }

@@ -6,7 +6,7 @@ ghost use Rattle.gq_group.specs.Groups.{choices};
 ghost use Rattle.gq_rows.specs.Chunks.{IsChunkIn, PushesAll, PushesChunk, chunk_outcomes, counted};
 ghost use Rattle.gq_rows.specs.steps.Keeping.{HasForm};
 ghost use Rattle.gq_rows.specs.steps.Resolving.{IsReading};
-ghost use Rattle.gq_rows.specs.Tables.{IsSameQuery, Pushes, PushesRow, StandsFor, StandsForSome};
+ghost use Rattle.gq_rows.specs.Tables.{IsSameQuery, Pushes, StandsFor, StandsForSome};
 ghost use Rattle.gq_rows.specs.Tables.{is_full_table, outcome_read};
 
 use crate::bar::are_sure;
@@ -17,7 +17,7 @@ use crate::resolved::Reading;
 use gq_classes::Classes;
 use gq_expr::Assigned;
 use gq_group::{Choice, Chunk, ChunkRow};
-use gq_plan::{Assignment, Bound, Typed, TypedRow};
+use gq_plan::{Bound, Typed};
 use gq_store::Graph;
 use std::alloc::Global;
 use std::marker::Model;
@@ -118,30 +118,6 @@ impl<'g> RowTable<'g> {
         self.typed = Some(typed);
     }
 
-    /// Takes an assignment of the alternative that was started. After a refusal the table may only
-    /// be dropped.
-    ///
-    /// It refuses with the fault of the outcome, or where the kept rows would be more than the
-    /// limit.
-    pub fn push_row(&mut self, row: &Assignment, graph: &'g Graph) -> Result<More, RowRefusal>
-        requires started { IsSome self.old.alternative }
-        requires stands { StandsForSome self.old }
-        requires room { is_full_table self.old ≡ false }
-        ensures pushes { PushesRow graph.now row.now self.old self.new result }
-        ensures query { IsSameQuery self.old self.new }
-    {
-        let Some(typed) = self.typed else {
-            unreachable!()
-        };
-        let mut reading = mem::replace(&mut self.reading, Reading::new(self.alloc));
-        let Ok(()) = reading.resolve(self.bound, None, graph) else {
-            return Err(RowRefusal::Memory);
-        };
-        let answer = self.push(&TypedRow { typed, row }, &reading, typed, graph);
-        self.reading = reading;
-        answer
-    }
-
     /// Takes the assignments of a chunk of the alternative that was started, by ascending
     /// positions, the first group's deciding first, until all were taken or the table has enough.
     /// After a refusal the table may only be dropped.
@@ -174,7 +150,7 @@ impl<'g> RowTable<'g> {
             return Ok(More::Go);
         }
         let mut reading = mem::replace(&mut self.reading, Reading::new(self.alloc));
-        let Ok(()) = reading.resolve(self.bound, Some(typed), graph) else {
+        let Ok(()) = reading.resolve(self.bound, typed, graph) else {
             return Err(RowRefusal::Memory);
         };
         let answer = self.push_choices(&mut choice, chunk, &reading, typed, graph);
