@@ -29,12 +29,6 @@ use Rattle.gq_trees.specs.Uses.{unknown_name, unknown_function, wrong_count}
 use Rattle.gq_syntax.specs.steps.Spans.{StandsIn}
 use Rattle.gq_syntax.specs.declared.Query.{Query}
 
-exists_passes : (a b c : Bool) → (if a || (b || c) then Some refusal.NotBuilt else None) ≡ None → c ≡ false
-exists_passes true b c e = cc e
-exists_passes false true c e = cc e
-exists_passes false false true e = cc e
-exists_passes false false false e = refl
-
 none_of : (f : Name → BindRefusal) (o : Option Name) → option_map f o ≡ None → o ≡ None
 none_of f None e = refl
 none_of f (Some n) e = cc e
@@ -46,9 +40,8 @@ module _ (query : Query) (text : List ℕ) where
   abbrev names : FirstNames
   names = with_expressions no_names (known_expressions query text)
 
-  named_by : not_built query p names.exists ≡ None → option_map refusal.UnknownVariable names.variable ≡ None → option_map refusal.UnknownFunction names.function ≡ None → option_map refusal.ArgumentCount names.arguments ≡ None → IsNamed query text
-  named_by b v f n = record {
-    exists = sym (first_exists (known_expressions query text)) ∙ exists_passes (not (is_empty query.optionals)) (has_trail p) names.exists b;
+  named_by : option_map refusal.UnknownVariable names.variable ≡ None → option_map refusal.UnknownFunction names.function ≡ None → option_map refusal.ArgumentCount names.arguments ≡ None → IsNamed query text
+  named_by v f n = record {
     variables = sym (first_variable (known_expressions query text)) ∙ none_of refusal.UnknownVariable names.variable v;
     functions = sym (first_function (known_expressions query text)) ∙ none_of refusal.UnknownFunction names.function f;
     counts = sym (first_arguments (known_expressions query text)) ∙ none_of refusal.ArgumentCount names.arguments n;
@@ -81,7 +74,7 @@ module _ (query : Query) (text : List ℕ) where
   same_reads : first_of_all (early ++ numbers listed_reads) ≡ first_of_all (early ++ numbers (all_reads query))
   same_reads =
       same_behind early (numbers listed_reads) (numbers (all_reads query)) (λ passed.
-      let named : IsNamed query text = named_by passed.0 passed.1.0 passed.1.1.1.1.1.1.1.1.0 passed.1.1.1.1.1.1.1.1.1.0 in
+      let named : IsNamed query text = named_by passed.1.0 passed.1.1.1.1.1.1.1.1.0 passed.1.1.1.1.1.1.1.1.1.0 in
       ap (λ reads. first_of_all (numbers reads)) (reads_listed query text (known_conjuncts text (conditions query)) (conjuncts_there query text named)))
 
   -- the expressions that are gone through are those of the definition
@@ -127,7 +120,7 @@ module _ (query : Query) (text : List ℕ) where
   unfolding parts_of
   named_parts e =
       let passed = each_none (early ++ numbers listed_reads) e in
-      named_by passed.0 passed.1.0 passed.1.1.1.1.1.1.1.1.0 passed.1.1.1.1.1.1.1.1.1.0
+      named_by passed.1.0 passed.1.1.1.1.1.1.1.1.0 passed.1.1.1.1.1.1.1.1.1.0
 
   pattern_is : (parts_of text query).pattern ≡ p
   unfolding parts_of

@@ -13,11 +13,15 @@ use Rattle.gq_plan.specs.declared.ExistsPart.{ExistsPart}
 use Rattle.gq_alternatives.specs.Alternatives.{pattern_alternatives, typed_of}
 use Rattle.gq_alternatives.specs.Tested.{exists_value}
 use Rattle.gq_binder.specs.Columns.{entry_test}
-use Rattle.gq_lexer.specs.Sources.{source_text}
-use Rattle.gq_lexer.specs.declared.Span.{Span}
 use Rattle.gq_scopes.specs.PathPatterns.{path_pattern, shared_names}
 use Rattle.gq_scopes.specs.Patterns.{Name, Pattern, find_name}
 use Rattle.gq_trees.specs.PathTests.{PathTest}
+
+-- a test of a path, what it is called, and the names of the node variables that it sees
+pub record ScopedTest : Type 0 where
+  pub names : List (Option Name)
+  pub name : List ℕ
+  pub test : PathTest
 
 -- ---- what a row passes
 
@@ -26,17 +30,17 @@ as_wanted true found = found
 as_wanted false found = not found
 
 -- the test is true of a row, which has these variables of the test's path
-abbrev pub is_met : Graph → PathTest → List ℕ → reading.Assignment → Bool
-is_met g t nodes row = as_wanted t.wanted (exists_value g t.path nodes row)
+abbrev pub is_met : Graph → ScopedTest → List ℕ → reading.Assignment → Bool
+is_met g t nodes row = as_wanted t.test.wanted (exists_value g t.test.path nodes row)
 
 -- all tests are true of a row
-abbrev pub all_met : Graph → List PathTest → List ExistsPart → reading.Assignment → Bool
+abbrev pub all_met : Graph → List ScopedTest → List ExistsPart → reading.Assignment → Bool
 all_met g [] parts row = true
 all_met g (t ∷ ts) [] row = true
 all_met g (t ∷ ts) (part ∷ parts) row = is_met g t part.nodes row && all_met g ts parts row
 
 -- the outcomes of a row, where they are
-abbrev pub where_met : Graph → List PathTest → List ExistsPart → (Marked → List (Result Row Fault)) → Marked → List (Result Row Fault)
+abbrev pub where_met : Graph → List ScopedTest → List ExistsPart → (Marked → List (Result Row Fault)) → Marked → List (Result Row Fault)
 where_met g ts parts later m = if all_met g ts parts m.row then later m else []
 
 -- ---- the parts of a bound query
@@ -48,11 +52,11 @@ AreNamed names [] (v ∷ vs) = ⊥
 AreNamed names (n ∷ ns) [] = ⊥
 AreNamed names (n ∷ ns) (v ∷ vs) = (find_name names n ≡ Some v) × AreNamed names ns vs
 
--- a part of a bound query, whose text has this test at this place, is that of the test, which sees variables with these names
-pub record IsTested (text : List ℕ) (catalog : Tables) (names : List (Option Name)) (span : Span) (t : PathTest) (part : ExistsPart) : Type 0 where
-  pub text : part.text ≡ record { name = source_text text span; expr = expr.Literal (literal.Flag true) }
-  pub wanted : part.wanted ≡ t.wanted
-  pub nodes : AreNamed names (shared_names t.path) part.nodes
-  pub alternatives : let p : Pattern = path_pattern t.path in
+-- a part of a bound query, which stands in a text, is that of a test
+pub record IsTested (text : List ℕ) (catalog : Tables) (t : ScopedTest) (part : ExistsPart) : Type 0 where
+  pub called : part.text ≡ record { name = t.name; expr = expr.Literal (literal.Flag true) }
+  pub wanted : part.wanted ≡ t.test.wanted
+  pub nodes : AreNamed t.names (shared_names t.test.path) part.nodes
+  pub alternatives : let p : Pattern = path_pattern t.test.path in
       part.alternatives ≡ map (typed_of catalog p (map (entry_test text) p.entries) []) (pattern_alternatives catalog p)
   pub sound : All (IsSound catalog) part.alternatives

@@ -13,12 +13,12 @@ use Rattle.gq_plan.proofs.Permuted.{list_any_map}
 use Rattle.gq_scopes.specs.PathPatterns.{path_pattern}
 
 pub path_planned : PathPlansMeanMatches
-path_planned g text names span t part plans real is covers =
-    pattern_planned g (path_pattern t.path) text real part.alternatives plans is.alternatives is.sound covers
+path_planned g text t part plans real is covers =
+    pattern_planned g (path_pattern t.test.path) text real part.alternatives plans is.alternatives is.sound covers
 
 pub exists_is_key : ExistsIsKey
-exists_is_key g text names span t part plans row key real is covers e =
-    sym (list_any-IsPermutation (λ (s : Assignment). stand_at part.nodes row.nodes s.nodes) (meanings g part.alternatives plans) (pattern_matches g (path_pattern t.path))
-    (path_planned g text names span t part plans real is covers))
+exists_is_key g text t part plans row key real is covers e =
+    sym (list_any-IsPermutation (λ (s : Assignment). stand_at part.nodes row.nodes s.nodes) (meanings g part.alternatives plans) (pattern_matches g (path_pattern t.test.path))
+    (path_planned g text t part plans real is covers))
     ∙ (λ i. list_any (λ (s : Assignment). stand_by_key part.nodes row.nodes key s.nodes e i) (meanings g part.alternatives plans))
     ∙ sym (list_any_map (same_nodes key) (key_of (length part.nodes)) (meanings g part.alternatives plans))

@@ -1,6 +1,6 @@
 -- The laws of whatever is made of the rows that conjuncts leave: plans make it as the matches do, the alternatives together as all
 -- matches; and what the tests of paths among conjuncts say.
-use Rattle.std.specs.Prelude.{◌≡◌, ℕ, Option, Some, Result, IsTrue, IsPermutation, All, List, [], ◌∷◌, map, flat_map, length}
+use Rattle.std.specs.Prelude.{◌≡◌, ℕ, Some, Result, IsTrue, IsPermutation, All, List, [], ◌∷◌, map, flat_map, length}
 use Rattle.std.specs.List.{AllZip}
 use Rattle.gq_base.specs.Plain.{Graph}
 use Rattle.gq_base.specs.Valid.{is_valid}
@@ -10,9 +10,8 @@ use Rattle.gq_expr.specs.declared.Fault.{Fault}
 use Rattle.gq_alternatives.specs.Matches.{matches, pattern_matches}
 use Rattle.gq_alternatives.specs.Tested.{exists_value}
 use Rattle.gq_binder.specs.Binding.{IsBound}
-use Rattle.gq_binder.specs.Tested.{IsTested}
+use Rattle.gq_binder.specs.Tested.{IsTested, ScopedTest}
 use Rattle.gq_law_answers.specs.Answered.{lying, meanings, outcomes_of}
-use Rattle.gq_lexer.specs.declared.Span.{Span}
 use Rattle.gq_plan.specs.Assignments.{Assignment}
 use Rattle.gq_plan.specs.Covers.{Covers}
 use Rattle.gq_plan.specs.Keys.{has_key, key_of}
@@ -24,9 +23,7 @@ use Rattle.gq_plan.specs.declared.Bound.{Bound}
 use Rattle.gq_plan.specs.declared.ExistsPart.{ExistsPart}
 use Rattle.gq_plan.specs.declared.Typed.{Typed}
 use Rattle.gq_scopes.specs.PathPatterns.{path_pattern}
-use Rattle.gq_scopes.specs.Patterns.{Name}
 use Rattle.gq_syntax.specs.declared.Query.{Query}
-use Rattle.gq_trees.specs.PathTests.{PathTest}
 
 -- ---- rows
 
@@ -69,16 +66,16 @@ PlainLateRows =
 -- what covering plans make of the alternatives of a test are the matches of its path, each once
 abbrev pub PathPlansMeanMatches : Type 0
 PathPlansMeanMatches =
-    (g : Graph) (text : List ℕ) (names : List (Option Name)) (span : Span) (t : PathTest) (part : ExistsPart) (plans : List Plan)
-    → IsTrue (is_valid g) → IsTested text g.catalog names span t part → AllZip (Covers g.catalog) part.alternatives plans
-    → IsPermutation (meanings g part.alternatives plans) (pattern_matches g (path_pattern t.path))
+    (g : Graph) (text : List ℕ) (t : ScopedTest) (part : ExistsPart) (plans : List Plan)
+    → IsTrue (is_valid g) → IsTested text g.catalog t part → AllZip (Covers g.catalog) part.alternatives plans
+    → IsPermutation (meanings g part.alternatives plans) (pattern_matches g (path_pattern t.test.path))
 
 -- so the value of `exists(path)` under a row is whether the nodes that the row has at the shared variables are among the keys of
 -- what they make
 abbrev pub ExistsIsKey : Type 0
 ExistsIsKey =
-    (g : Graph) (text : List ℕ) (names : List (Option Name)) (span : Span) (t : PathTest) (part : ExistsPart) (plans : List Plan)
+    (g : Graph) (text : List ℕ) (t : ScopedTest) (part : ExistsPart) (plans : List Plan)
     (row : reading.Assignment) (key : List NodeId)
-    → IsTrue (is_valid g) → IsTested text g.catalog names span t part → AllZip (Covers g.catalog) part.alternatives plans
+    → IsTrue (is_valid g) → IsTested text g.catalog t part → AllZip (Covers g.catalog) part.alternatives plans
     → map row.nodes part.nodes ≡ map Some key
-    → exists_value g t.path part.nodes row ≡ has_key key (map (key_of (length part.nodes)) (meanings g part.alternatives plans))
+    → exists_value g t.test.path part.nodes row ≡ has_key key (map (key_of (length part.nodes)) (meanings g part.alternatives plans))
