@@ -1,5 +1,5 @@
 -- The value of `exists(path)` under a row is whether the row's nodes are among the keys of what plans make.
-use Rattle.std.proofs.Common.{◌≡◌, map, length, sym, ◌∙◌}
+use Rattle.std.proofs.Common.{length, sym, ◌∙◌}
 use Rattle.std.specs.List.{list_any}
 use Rattle.std.proofs.lemmas.List.Sorted.{list_any-IsPermutation}
 use Rattle.gq_alternatives.specs.Matches.{pattern_matches}

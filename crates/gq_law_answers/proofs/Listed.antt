@@ -45,4 +45,3 @@ module _ (g : Graph) (p : Pattern) (text : List ℕ) where
       (subst (AllByRecursion (λ y. y.late ≡ [])) (sym are) (each_map (λ c. Unit {0}) (λ y. y.late ≡ []) typed (λ c _. none_late c) (pattern_alternatives g.catalog p) (each_of _ (λ c. tt) (pattern_alternatives g.catalog p))))
       (recursion_from_All _ ys sound) covers)
       (pattern_kept real ys are)
-
