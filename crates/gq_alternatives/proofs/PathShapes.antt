@@ -108,7 +108,7 @@ one_bare : (name : Option Name) (p : Pattern) → IsOfNames p → IsOfNames (wit
 one_bare None p h = h
 one_bare (Some n) p h = go (list_any (is_called n) p.names)
   where
-    abbrev more : Pattern → Pattern
+    more : Pattern → Pattern
     more q = record q { names = q.names ++ Some n ∷ []; node_names = q.node_names ++ n ∷ [] }
 
     go : (b : Bool) → IsOfNames (cond b p (more p))
@@ -146,9 +146,12 @@ module _ (ns : List (Option Name)) where
     where
       go : (o : Option Name) → part.name ≡ o → AllByRecursion (IsPassed ws) (named o done)
       go None e = all
-      go (Some n) e = ((λ v found.
-      let is : variable_of p part ≡ v = ap (λ o. unwrap_or (known_as p.names o) (length p.names)) e ∙ ap (λ o. unwrap_or o (length p.names)) (stay n v found) in
-      subst (λ w. has_number ws w ≡ true) is passed), all)
+      go (Some n) e = (
+        λ v found.
+            let is : variable_of p part ≡ v = ap (λ o. unwrap_or (known_as p.names o) (length p.names)) e ∙ ap (λ o. unwrap_or o (length p.names)) (stay n v found) in
+            subst (λ w. has_number ws w ≡ true) is passed,
+        all,
+      )
 
   abbrev walked : Pattern → ℕ → ℕ → List ℕ
   walked p first count = flat_map (walk (all_ends p)) ([] ++ run first 0 count ∷ [])
@@ -177,11 +180,12 @@ module _ (ns : List (Option Name)) where
   -- a first variable is passed, since it is the variable of some name
   picked : (ws : List ℕ) (v : ℕ) (done : List Name) → AllByRecursion (IsPassed ws) done → list_any (λ n. is_at (find_name ns n) v) done ≡ true → has_number ws v ≡ true
   picked ws v [] all e = absurd (true≢false (sym e))
-  picked ws v (n ∷ done) all e = go (is_at (find_name ns n) v) refl e
+  picked ws v (n ∷ done) all e = go (is_at (find_name ns n) v) refl (picked ws v done all.1) e
     where
-      go : (b : Bool) → is_at (find_name ns n) v ≡ b → (b || list_any (λ m. is_at (find_name ns m) v) done) ≡ true → has_number ws v ≡ true
-      go true is e = all.0 v (at_is (find_name ns n) v is)
-      go false is e = picked ws v done all.1 e
+      go : (b : Bool) → is_at (find_name ns n) v ≡ b → (list_any (λ m. is_at (find_name ns m) v) done ≡ true → has_number ws v ≡ true)
+          → (b || list_any (λ m. is_at (find_name ns m) v) done) ≡ true → has_number ws v ≡ true
+      go true is more e = all.0 v (at_is (find_name ns n) v is)
+      go false is more e = more e
 
 -- ---- there are at most as many variables as node patterns
 

@@ -14,7 +14,7 @@ use Rattle.gq_syntax.specs.declared.Hop.{Hop}
 use Rattle.gq_syntax.specs.declared.NodePart.{NodePart}
 use Rattle.gq_syntax.specs.declared.Path.{Path}
 use Rattle.gq_syntax.specs.declared.RelPart.{RelPart}
-use Rattle.gq_alternatives.proofs.Shapes.{Ends, IsShape, walk, path_ends, end_of, run, shape_path, first_passed, shape_again, shape_new, right_passed, end_is, shape_rel}
+use Rattle.gq_alternatives.proofs.Shapes.{Ends, IsShape, walk, path_ends, end_of, run, shape_path, first_passed, shape_again, shape_new, right_passed, end_is, shape_rel, still_passed}
 use Rattle.gq_scopes.specs.Patterns.{Name, RelPattern, MapEntry, Pattern, no_pattern, is_called, known_as, called, variable_of, entries_of, node_again, node_new, with_node, with_rel, with_hops, with_path, with_paths, with_clauses, pattern_of}
 use Rattle.gq_scopes.specs.steps.Variables.{IsThere}
 
