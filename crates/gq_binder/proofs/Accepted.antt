@@ -1,10 +1,9 @@
 -- The columns, conjuncts and keys of a query whose names and calls are known stand for expressions.
-use Rattle.std.proofs.Common.{◌≡◌, ◌∙◌, sym, refl, ap, ap₂, subst, ℕ, suc, Bool, true, false, not, ◌||◌, List, [], ◌∷◌, ◌++◌, map, filter, flat_map, Option, Some, None, if◌then◌else◌}
+use Rattle.std.proofs.Common.{◌≡◌, ◌∙◌, sym, refl, ap, ap₂, subst, ℕ, suc, Bool, true, false, List, [], ◌∷◌, ◌++◌, map, filter, flat_map, Option, Some, None, if◌then◌else◌}
 use Rattle.gq_base.proofs.OptionLaws.{or_first, or_second}
 use Rattle.std.specs.Prelude.{All, filter_map, unwrap_or}
-use Rattle.std.specs.List.{AllByRecursion, cons_option, list_any}
+use Rattle.std.specs.List.{AllByRecursion, cons_option}
 use Rattle.std.specs.Option.{option_map, option_or}
-use Rattle.std.proofs.lemmas.Bool.{false≢true}
 use Rattle.std.proofs.lemmas.List.Elements.{All-from_recursion, filter-append, filter_map-append}
 use Rattle.gq_base.specs.Lists.{with_first}
 use Rattle.gq_alternatives.proofs.Shapes.{each_left, each_right}
@@ -16,7 +15,7 @@ use Rattle.gq_trees.specs.Conjuncts.{conjunct_expr, is_value, values_of}
 use Rattle.gq_scopes.specs.Patterns.{Name, Pattern, no_pattern, pattern_of, with_paths}
 use Rattle.gq_trees.specs.Resolving.{Conjunct, Split, functions, resolved, resolve_step, split, split_node, split_step, all_some}
 use Rattle.gq_scopes.specs.Scopes.{Scope, scope_of}
-use Rattle.gq_trees.specs.Uses.{Use, is_exists, has_exists, uses, first_name, refused_unless, unknown_name, unknown_function, wrong_count}
+use Rattle.gq_trees.specs.Uses.{Use, uses, first_name, unknown_name, unknown_function, wrong_count}
 use Rattle.gq_scopes.specs.declared.Column.{Column}
 use Rattle.gq_syntax.specs.declared.AstNode.{AstNode}
 use Rattle.gq_syntax.specs.declared.AstNode.TheVariants as ast
@@ -29,7 +28,7 @@ use Rattle.gq_syntax.specs.declared.Sort.{Sort}
 use Rattle.gq_binder.proofs.Known.{IsKnown, IsKnownColumn, mapped, refused_use, known_tree}
 use Rattle.gq_binder.specs.Columns.{Scoped, scoped_in, conditions_from, conditions, conjuncts, columns, columns_in, column_of, star_columns, firsts_behind, item_column, sort_scope, column_expr, sort_expr}
 use Rattle.gq_binder.specs.steps.Parts.{known_conjuncts}
-use Rattle.gq_binder.specs.Refusals.{exists_in, first_in, items_in, sorts_in}
+use Rattle.gq_binder.specs.Refusals.{first_in, items_in, sorts_in}
 
 -- ---- what the checks say of each expression
 

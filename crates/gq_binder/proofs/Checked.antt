@@ -1,10 +1,9 @@
 -- What the checks find in the parts of a query is its first refusal; a query that they pass is bound by its parts.
-use Rattle.std.proofs.Common.{◌≡◌, ◌∙◌, sym, refl, ap, subst, ℕ, Bool, true, false, not, ◌||◌, length, List, [], ◌∷◌, ◌++◌, map, Option, Some, None, Err, if◌then◌else◌}
+use Rattle.std.proofs.Common.{◌≡◌, ◌∙◌, sym, refl, ap, subst, ℕ, length, List, [], ◌∷◌, ◌++◌, map, Option, Some, None, Err}
 use Rattle.gq_base.proofs.OptionLaws.{or_none}
 use Rattle.std.specs.Option.{option_map, option_or}
 use Rattle.gq_alternatives.specs.Alternatives.{Choice, alternatives, pattern_alternatives}
 use Rattle.gq_base.specs.Catalogs.{Tables}
-use Rattle.gq_base.specs.Lists.{is_empty}
 use Rattle.gq_binder.proofs.Accepted.{IsNamed, known_expressions, columns_there, keys_there, conjuncts_there}
 use Rattle.gq_binder.proofs.NameLemmas.{first_variable, first_function, first_arguments, first_exists, sorts_same}
 use Rattle.gq_binder.proofs.Patterns.{node_names_there}
@@ -15,7 +14,7 @@ use Rattle.gq_binder.specs.steps.Checks.{IsOfQuery}
 use Rattle.gq_binder.specs.Columns.{conditions, columns, entry_test, sort_scope}
 use Rattle.gq_binder.specs.steps.Names.{FirstNames, no_names, with_expressions}
 use Rattle.gq_binder.specs.steps.Parts.{known_conjuncts, parts_of, ambiguous_in, reads_in, checks_in, bound_in}
-use Rattle.gq_binder.specs.Refusals.{first_of_all, exists_in, has_trail, not_built, unknown_variable, variable_conflict, relationship_repeated, column_repeated, nothing_to_return, order_out_of_scope, ambiguous_order_name, function_unknown, argument_count, over_limit, max_columns, max_alternatives, too_many_patterns, all_reads, first_refusal, checks_of, too_many_alternatives, expressions, first_in}
+use Rattle.gq_binder.specs.Refusals.{first_of_all, exists_in, not_built, unknown_variable, variable_conflict, relationship_repeated, column_repeated, nothing_to_return, order_out_of_scope, ambiguous_order_name, function_unknown, argument_count, over_limit, max_columns, max_alternatives, too_many_patterns, all_reads, first_refusal, checks_of, too_many_alternatives, expressions, first_in}
 use Rattle.gq_binder.specs.declared.parts.QueryParts.{QueryParts}
 use Rattle.gq_binder.specs.declared.refusal.BindRefusal.{BindRefusal}
 use Rattle.gq_binder.specs.declared.refusal.BindRefusal.TheVariants as refusal

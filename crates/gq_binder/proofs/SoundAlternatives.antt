@@ -9,7 +9,6 @@ use Rattle.std.proofs.lemmas.Bool.{ltb-false, not-true}
 use Rattle.std.proofs.lemmas.Grind.{flat_map-append}
 use Rattle.std.proofs.lemmas.List.{length-map}
 use Rattle.std.proofs.lemmas.List.Elements.{All-from_recursion, filter-append}
-use Rattle.std.proofs.lemmas.List.Folds.{flat_map-map}
 use Rattle.std.proofs.lemmas.Option.{same_Some}
 use Rattle.gq_base.specs.Catalogs.{Tables}
 use Rattle.gq_base.specs.Lists.{with_first}
@@ -41,7 +40,7 @@ use Rattle.gq_trees.proofs.ReadsThere.{AllThere, AreThere}
 use Rattle.gq_alternatives.specs.Alternatives.{Choice, typed_rels, agrees, alternatives, typed_of}
 use Rattle.gq_trees.specs.Conjuncts.{conjunct_expr, is_value, values_of}
 use Rattle.gq_scopes.specs.Patterns.{Name, MapEntry, Pattern, no_pattern, pattern_of, with_paths, with_clauses}
-use Rattle.gq_trees.specs.Resolving.{Conjunct, functions, all_some, resolved, split}
+use Rattle.gq_trees.specs.Resolving.{Conjunct, functions, all_some, split}
 use Rattle.gq_scopes.specs.Scopes.{Scope, scope_of}
 use Rattle.gq_scopes.specs.steps.Variables.{IsThere}
 use Rattle.gq_lexer.specs.Sources.{source_text}
