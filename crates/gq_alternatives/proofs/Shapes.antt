@@ -45,13 +45,14 @@ path_ends es q = map (slice_get es) q.rels
 abbrev pub walk : List Ends → PathPart → List ℕ
 walk es q = q.first ∷ rights_of (path_ends es q)
 
--- patterns with so many node variables and node patterns, relationships with these ends, these paths and entries
-pub record IsShape (n k : ℕ) (es : List Ends) (ps : List PathPart) (entries : List MapEntry) : Type 0 where
+-- patterns with so many node variables and node patterns, relationships with these ends, these paths and entries; of the first node
+-- variables so many are free, that is, may stand in no path yet
+pub record IsShape (free n k : ℕ) (es : List Ends) (ps : List PathPart) (entries : List MapEntry) : Type 0 where
   pub joins : AllByRecursion (λ q. linked q.first (path_ends es q) ≡ true) ps
   pub within : AllByRecursion (λ q. AllByRecursion (λ x. x < length es) q.rels) ps
-  pub every_node : (v : ℕ) → v < n → has_number (flat_map (walk es) ps) v ≡ true
+  pub every_node : (v : ℕ) → free ≤ v → v < n → has_number (flat_map (walk es) ps) v ≡ true
   pub every_rel : flat_map (λ q. q.rels) ps ≡ range_with_len 0 (length es)
-  pub fewer : n ≤ k
+  pub fewer : n ≤ free + k
   pub there : AllByRecursion (λ e. IsThere n (length es) e.variable) entries
 
 pub there_more : (n m k l : ℕ) (v : Variable) → n ≤ k → m ≤ l → IsThere n m v → IsThere k l v
@@ -138,11 +139,11 @@ each_right P (x ∷ xs) ys h = each_right P xs ys h.1
 -- ---- how a shape grows
 
 -- a path without a relationship
-pub shape_path : (first : ℕ) (n k : ℕ) (es : List Ends) (ps : List PathPart) (entries : List MapEntry) → IsShape n k es ps entries → (start : ℕ) → IsShape n k es (ps ++ run first start 0 ∷ []) entries
-shape_path first n k es ps entries s start = record {
+pub shape_path : (first : ℕ) (free n k : ℕ) (es : List Ends) (ps : List PathPart) (entries : List MapEntry) → IsShape free n k es ps entries → (start : ℕ) → IsShape free n k es (ps ++ run first start 0 ∷ []) entries
+shape_path first free n k es ps entries s start = record {
   joins = each_append _ ps (run first start 0 ∷ []) s.joins (refl, tt);
   within = each_append _ ps (run first start 0 ∷ []) s.within (tt, tt);
-  every_node = λ v h. ap (λ ns. has_number ns v) (flat_map-append (walk es) ps (run first start 0 ∷ [])) ∙ has_left (flat_map (walk es) ps) (first ∷ []) v (s.every_node v h);
+  every_node = λ v f h. ap (λ ns. has_number ns v) (flat_map-append (walk es) ps (run first start 0 ∷ [])) ∙ has_left (flat_map (walk es) ps) (first ∷ []) v (s.every_node v f h);
   every_rel = flat_map-append (λ q. q.rels) ps (run first start 0 ∷ []) ∙ append-nil (flat_map (λ q. q.rels) ps) ∙ s.every_rel;
   fewer = s.fewer;
   there = s.there;
@@ -153,40 +154,40 @@ pub first_passed : (first start : ℕ) (es : List Ends) (ps : List PathPart) →
 first_passed first start es ps = ap (λ ns. has_number ns first) (flat_map-append (walk es) ps (run first start 0 ∷ [])) ∙ has_right (flat_map (walk es) ps) (first ∷ []) first (has_first first [])
 
 -- a node pattern of a variable that stands already
-pub shape_again : (n k : ℕ) (es : List Ends) (ps : List PathPart) (entries more : List MapEntry) → IsShape n k es ps entries → AllByRecursion (λ e. IsThere n (length es) e.variable) more
-    → IsShape n (suc k) es ps (entries ++ more)
-shape_again n k es ps entries more s there = record {
+pub shape_again : (free n k : ℕ) (es : List Ends) (ps : List PathPart) (entries more : List MapEntry) → IsShape free n k es ps entries → AllByRecursion (λ e. IsThere n (length es) e.variable) more
+    → IsShape free n (suc k) es ps (entries ++ more)
+shape_again free n k es ps entries more s there = record {
   joins = s.joins;
   within = s.within;
   every_node = s.every_node;
   every_rel = s.every_rel;
-  fewer = let fewer : n ≤ k = s.fewer in omega arith;
+  fewer = let fewer : n ≤ free + k = s.fewer in omega arith;
   there = each_append _ entries more s.there there;
 }
 
 -- a node pattern of a new variable, which stands in a path
-pub shape_new : (n k : ℕ) (es : List Ends) (ps : List PathPart) (entries more : List MapEntry) → IsShape n k es ps entries → has_number (flat_map (walk es) ps) n ≡ true
-    → AllByRecursion (λ e. IsThere (suc n) (length es) e.variable) more → IsShape (suc n) (suc k) es ps (entries ++ more)
-shape_new n k es ps entries more s passed there = record {
+pub shape_new : (free n k : ℕ) (es : List Ends) (ps : List PathPart) (entries more : List MapEntry) → IsShape free n k es ps entries → has_number (flat_map (walk es) ps) n ≡ true
+    → AllByRecursion (λ e. IsThere (suc n) (length es) e.variable) more → IsShape free (suc n) (suc k) es ps (entries ++ more)
+shape_new free n k es ps entries more s passed there = record {
   joins = s.joins;
   within = s.within;
-  every_node = λ v h. elim (cases_lt v n) as (λ _. has_number (flat_map (walk es) ps) v ≡ true) [
-    | inl less ↦ s.every_node v less
+  every_node = λ v f h. elim (cases_lt v n) as (λ _. has_number (flat_map (walk es) ps) v ≡ true) [
+    | inl less ↦ s.every_node v f less
     | inr not_less ↦ let is : n ≡ v = omega arith in subst (λ w. has_number (flat_map (walk es) ps) w ≡ true) is passed
   ];
   every_rel = s.every_rel;
-  fewer = let fewer : n ≤ k = s.fewer in omega arith;
+  fewer = let fewer : n ≤ free + k = s.fewer in omega arith;
   there = each_append _ entries more (each_there n (length es) (suc n) (length es) entries (omega arith) (omega arith) s.there) there;
 }
 
-module _ (n k : ℕ) (es : List Ends) (e : Ends) (ps : List PathPart) (first start count : ℕ) (is : start + count ≡ length es) where
+module _ (free n k : ℕ) (es : List Ends) (e : Ends) (ps : List PathPart) (first start count : ℕ) (is : start + count ≡ length es) where
   abbrev before : List PathPart
   before = ps ++ run first start count ∷ []
 
   abbrev after : List PathPart
   after = ps ++ run first start (count + 1) ∷ []
 
-  module _ (entries : List MapEntry) (s : IsShape n k es before entries) where
+  module _ (entries : List MapEntry) (s : IsShape free n k es before entries) where
     old_within : AllByRecursion (λ q. AllByRecursion (λ x. x < length es) q.rels) ps
     old_within = each_left (λ q. AllByRecursion (λ x. x < length es) q.rels) ps (run first start count ∷ []) s.within
 
@@ -208,12 +209,16 @@ module _ (n k : ℕ) (es : List Ends) (e : Ends) (ps : List PathPart) (first sta
     pub right_passed : has_number (flat_map (walk (es ++ e ∷ [])) after) e.right ≡ true
     right_passed = ap (λ ns. has_number ns e.right) walked ∙ has_right (flat_map (walk es) before) (e.right ∷ []) e.right (has_first e.right [])
 
+    -- what stood in the paths stands there
+    pub still_passed : (v : ℕ) → has_number (flat_map (walk es) before) v ≡ true → has_number (flat_map (walk (es ++ e ∷ [])) after) v ≡ true
+    still_passed v h = ap (λ ns. has_number ns v) walked ∙ has_left (flat_map (walk es) before) (e.right ∷ []) v h
+
     pub end_is : end_of first (path_ends (es ++ e ∷ []) (run first start (count + 1))) ≡ e.right
     end_is = ap (end_of first) (run_more es e first start count is run_within) ∙ end_last first (path_ends es (run first start count)) e
 
     -- a relationship more at the end of the last path
     pub shape_rel : (more : List MapEntry) → end_of first (path_ends es (run first start count)) ≡ e.left → AllByRecursion (λ e. IsThere n (suc (length es)) e.variable) more
-        → IsShape n k (es ++ e ∷ []) after (entries ++ more)
+        → IsShape free n k (es ++ e ∷ []) after (entries ++ more)
     shape_rel more ends there = let longer : length (es ++ e ∷ []) ≡ length es + 1 = length-append es (e ∷ []) in record {
       joins = each_append _ ps (run first start (count + 1) ∷ [])
           (joins_kept es e ps old_within (each_left (λ q. linked q.first (path_ends es q) ≡ true) ps (run first start count ∷ []) s.joins)) (
@@ -225,7 +230,7 @@ module _ (n k : ℕ) (es : List Ends) (e : Ends) (ps : List PathPart) (first sta
           (each_then (λ q. AllByRecursion (λ x. x < length es) q.rels) (λ q. AllByRecursion (λ x. x < length (es ++ e ∷ [])) q.rels)
           (λ q low. each_then (λ x. x < length es) (λ x. x < length (es ++ e ∷ [])) (λ x h. omega arith) q.rels low) ps old_within)
           (each_below start (count + 1) (length (es ++ e ∷ [])) (omega arith), tt);
-      every_node = λ v h. ap (λ ns. has_number ns v) walked ∙ has_left (flat_map (walk es) before) (e.right ∷ []) v (s.every_node v h);
+      every_node = λ v f h. ap (λ ns. has_number ns v) walked ∙ has_left (flat_map (walk es) before) (e.right ∷ []) v (s.every_node v f h);
       every_rel =
           flat_map-append (λ q. q.rels) ps (run first start (count + 1) ∷ [])
           ∙ ap (λ l. flat_map (λ q. q.rels) ps ++ (l ++ [])) (range_more start count)

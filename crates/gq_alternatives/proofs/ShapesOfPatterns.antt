@@ -14,7 +14,7 @@ use Rattle.gq_syntax.specs.declared.Hop.{Hop}
 use Rattle.gq_syntax.specs.declared.NodePart.{NodePart}
 use Rattle.gq_syntax.specs.declared.Path.{Path}
 use Rattle.gq_syntax.specs.declared.RelPart.{RelPart}
-use Rattle.gq_alternatives.proofs.Shapes.{Ends, IsShape, walk, path_ends, end_of, run, shape_path, first_passed, shape_again, shape_new, right_passed, end_is, shape_rel}
+use Rattle.gq_alternatives.proofs.Shapes.{Ends, IsShape, walk, path_ends, end_of, run, shape_path, first_passed, shape_again, shape_new, right_passed, end_is, shape_rel, still_passed}
 use Rattle.gq_scopes.specs.Patterns.{Name, RelPattern, MapEntry, Pattern, no_pattern, is_called, known_as, called, variable_of, entries_of, node_again, node_new, with_node, with_rel, with_hops, with_path, with_paths, with_clauses, pattern_of}
 use Rattle.gq_scopes.specs.steps.Variables.{IsThere}
 
@@ -24,9 +24,9 @@ ends_of r = record { left = r.left; right = r.right }
 abbrev pub all_ends : Pattern → List Ends
 all_ends p = map ends_of p.rels
 
--- a pattern's shape, with these paths
-abbrev pub HasShape : Pattern → List PathPart → Type 0
-HasShape p ps = IsShape (length p.names) (length p.nodes) (all_ends p) ps p.entries
+-- a pattern's shape, with these paths and with so many free node variables
+abbrev pub HasShape : ℕ → Pattern → List PathPart → Type 0
+HasShape free p ps = IsShape free (length p.names) (length p.nodes) (all_ends p) ps p.entries
 
 -- ---- node patterns
 
@@ -49,27 +49,27 @@ entries_there n m v name es there = each_map (λ e. Unit {0}) (λ e. IsThere n m
 longer : {X : Type 0} (xs : List X) (x : X) → suc (length xs) ≡ length (xs ++ x ∷ [])
 longer xs x = let e : length (xs ++ x ∷ []) ≡ length xs + 1 = length_push xs x in omega arith
 
-pub node_shape : (part : NodePart) (p : Pattern) (ps : List PathPart) → HasShape p ps → has_number (flat_map (walk (all_ends p)) ps) (variable_of p part) ≡ true → HasShape (with_node part p) ps
-node_shape part p ps s passed =
-    node_cases (λ q. HasShape q ps) part p
+pub node_shape : (free : ℕ) (part : NodePart) (p : Pattern) (ps : List PathPart) → HasShape free p ps → has_number (flat_map (walk (all_ends p)) ps) (variable_of p part) ≡ true → HasShape free (with_node part p) ps
+node_shape free part p ps s passed =
+    node_cases (λ q. HasShape free q ps) part p
     (λ v low is.
-    subst (λ k. IsShape (length p.names) k (all_ends p) ps (p.entries ++ entries_of (node v) (called p.unnamed part.name) part.map)) (longer p.nodes (record { variable = v; part = part }))
-    (shape_again (length p.names) (length p.nodes) (all_ends p) ps p.entries (entries_of (node v) (called p.unnamed part.name) part.map) s
+    subst (λ k. IsShape free (length p.names) k (all_ends p) ps (p.entries ++ entries_of (node v) (called p.unnamed part.name) part.map)) (longer p.nodes (record { variable = v; part = part }))
+    (shape_again free (length p.names) (length p.nodes) (all_ends p) ps p.entries (entries_of (node v) (called p.unnamed part.name) part.map) s
     (entries_there (length p.names) (length (all_ends p)) (node v) (called p.unnamed part.name) part.map low)))
     (λ is.
     let v : ℕ = length p.names in
     let es : List MapEntry = entries_of (node v) (called p.unnamed part.name) part.map in
-    subst (λ n. IsShape n (length (p.nodes ++ record { variable = v; part = part } ∷ [])) (all_ends p) ps (p.entries ++ es)) (longer p.names part.name)
-    (subst (λ k. IsShape (suc v) k (all_ends p) ps (p.entries ++ es)) (longer p.nodes (record { variable = v; part = part }))
-    (shape_new v (length p.nodes) (all_ends p) ps p.entries es s
+    subst (λ n. IsShape free n (length (p.nodes ++ record { variable = v; part = part } ∷ [])) (all_ends p) ps (p.entries ++ es)) (longer p.names part.name)
+    (subst (λ k. IsShape free (suc v) k (all_ends p) ps (p.entries ++ es)) (longer p.nodes (record { variable = v; part = part }))
+    (shape_new free v (length p.nodes) (all_ends p) ps p.entries es s
     (subst (λ w. has_number (flat_map (walk (all_ends p)) ps) w ≡ true) is passed)
     (entries_there (suc v) (length (all_ends p)) (node v) (called p.unnamed part.name) part.map (omega arith)))))
 
 -- a node pattern leaves the relationships and the paths
-node_rels : (part : NodePart) (p : Pattern) → (with_node part p).rels ≡ p.rels
+pub node_rels : (part : NodePart) (p : Pattern) → (with_node part p).rels ≡ p.rels
 node_rels part p = node_cases (λ q. q.rels ≡ p.rels) part p (λ v low is. refl) (λ is. refl)
 
-node_paths : (part : NodePart) (p : Pattern) → (with_node part p).paths ≡ p.paths
+pub node_paths : (part : NodePart) (p : Pattern) → (with_node part p).paths ≡ p.paths
 node_paths part p = node_cases (λ q. q.paths ≡ p.paths) part p (λ v low is. refl) (λ is. refl)
 
 -- ---- patterns only grow
@@ -127,19 +127,19 @@ clauses_grow number (c ∷ cs) p =
 -- ---- paths
 
 -- the last path is a run that ends at a node variable
-record IsOpen (p : Pattern) (ps : List PathPart) (first start count at : ℕ) : Type 0 where
-  shape : HasShape p (ps ++ run first start count ∷ [])
-  next : start + count ≡ length (all_ends p)
-  ends : end_of first (path_ends (all_ends p) (run first start count)) ≡ at
+pub record IsOpen (free : ℕ) (p : Pattern) (ps : List PathPart) (first start count at : ℕ) : Type 0 where
+  pub shape : HasShape free p (ps ++ run first start count ∷ [])
+  pub next : start + count ≡ length (all_ends p)
+  pub ends : end_of first (path_ends (all_ends p) (run first start count)) ≡ at
 
-module _ (clause at right : ℕ) (part : RelPart) (p : Pattern) (ps : List PathPart) (first start count : ℕ) (o : IsOpen p ps first start count at) where
+module _ (free clause at right : ℕ) (part : RelPart) (p : Pattern) (ps : List PathPart) (first start count : ℕ) (o : IsOpen free p ps first start count at) where
   abbrev new_ends : Ends
   new_ends = record { left = at; right = right }
 
   ends_more : all_ends p ++ new_ends ∷ [] ≡ all_ends (with_rel clause at right part p)
   ends_more = sym (map_push ends_of p.rels (record { clause = clause; left = at; right = right; part = part }))
 
-  rel_open : IsOpen (with_rel clause at right part p) ps first start (count + 1) right
+  pub rel_open : IsOpen free (with_rel clause at right part p) ps first start (count + 1) right
   rel_open =
       let n : ℕ = length p.names in
       let k : ℕ = length p.nodes in
@@ -149,55 +149,65 @@ module _ (clause at right : ℕ) (part : RelPart) (p : Pattern) (ps : List PathP
       let next : start + count ≡ length es = o.next in
       record {
         shape =
-            subst (λ l. IsShape n k l (ps ++ run first start (count + 1) ∷ []) (p.entries ++ entries_of (rel (length p.rels)) (called p.unnamed part.name) part.map)) ends_more
-            (shape_rel n k es new_ends ps first start count next p.entries o.shape (entries_of (rel (length p.rels)) (called p.unnamed part.name) part.map) o.ends
+            subst (λ l. IsShape free n k l (ps ++ run first start (count + 1) ∷ []) (p.entries ++ entries_of (rel (length p.rels)) (called p.unnamed part.name) part.map)) ends_more
+            (shape_rel free n k es new_ends ps first start count next p.entries o.shape (entries_of (rel (length p.rels)) (called p.unnamed part.name) part.map) o.ends
             (entries_there n (suc (length es)) (rel (length p.rels)) (called p.unnamed part.name) part.map (omega arith)));
         next = subst (λ l. start + (count + 1) ≡ length l) ends_more (omega arith);
-        ends = subst (λ l. end_of first (path_ends l (run first start (count + 1))) ≡ right) ends_more (end_is n k es new_ends ps first start count next p.entries o.shape);
+        ends = subst (λ l. end_of first (path_ends l (run first start (count + 1))) ≡ right) ends_more (end_is free n k es new_ends ps first start count next p.entries o.shape);
       }
 
-  rel_passed : has_number (flat_map (walk (all_ends (with_rel clause at right part p))) (ps ++ run first start (count + 1) ∷ [])) right ≡ true
+  pub rel_passed : has_number (flat_map (walk (all_ends (with_rel clause at right part p))) (ps ++ run first start (count + 1) ∷ [])) right ≡ true
   rel_passed =
       subst (λ l. has_number (flat_map (walk l) (ps ++ run first start (count + 1) ∷ [])) right ≡ true) ends_more
-      (right_passed (length p.names) (length p.nodes) (all_ends p) new_ends ps first start count o.next p.entries o.shape)
+      (right_passed free (length p.names) (length p.nodes) (all_ends p) new_ends ps first start count o.next p.entries o.shape)
 
-node_open : (part : NodePart) (p : Pattern) (ps : List PathPart) (first start count at : ℕ) → has_number (flat_map (walk (all_ends p)) (ps ++ run first start count ∷ [])) (variable_of p part) ≡ true
-    → IsOpen p ps first start count at → IsOpen (with_node part p) ps first start count at
-node_open part p ps first start count at passed o = record {
-  shape = node_shape part p (ps ++ run first start count ∷ []) o.shape passed;
+  -- what stood in the paths stands there
+  pub rel_passes : (v : ℕ) → has_number (flat_map (walk (all_ends p)) (ps ++ run first start count ∷ [])) v ≡ true
+      → has_number (flat_map (walk (all_ends (with_rel clause at right part p))) (ps ++ run first start (count + 1) ∷ [])) v ≡ true
+  rel_passes v h =
+      subst (λ l. has_number (flat_map (walk l) (ps ++ run first start (count + 1) ∷ [])) v ≡ true) ends_more
+      (still_passed free (length p.names) (length p.nodes) (all_ends p) new_ends ps first start count o.next p.entries o.shape v h)
+
+pub node_open : (free : ℕ) (part : NodePart) (p : Pattern) (ps : List PathPart) (first start count at : ℕ) → has_number (flat_map (walk (all_ends p)) (ps ++ run first start count ∷ [])) (variable_of p part) ≡ true
+    → IsOpen free p ps first start count at → IsOpen free (with_node part p) ps first start count at
+node_open free part p ps first start count at passed o = record {
+  shape = node_shape free part p (ps ++ run first start count ∷ []) o.shape passed;
   next = subst (λ rs. start + count ≡ length (map ends_of rs)) (sym (node_rels part p)) o.next;
   ends = subst (λ rs. end_of first (path_ends (map ends_of rs) (run first start count)) ≡ at) (sym (node_rels part p)) o.ends;
 }
 
-hops_shape : (clause at : ℕ) (hs : List Hop) (p : Pattern) (ps : List PathPart) (first start count : ℕ) → IsOpen p ps first start count at
-    → HasShape (with_hops clause at hs p) (ps ++ run first start (count + length hs) ∷ [])
-hops_shape clause at [] p ps first start count o = let e : count ≡ count + 0 = omega arith in subst (λ n. HasShape p (ps ++ run first start n ∷ [])) e o.shape
-hops_shape clause at (h ∷ hs) p ps first start count o =
+hops_shape : (free clause at : ℕ) (hs : List Hop) (p : Pattern) (ps : List PathPart) (first start count : ℕ) → IsOpen free p ps first start count at
+    → HasShape free (with_hops clause at hs p) (ps ++ run first start (count + length hs) ∷ [])
+hops_shape free clause at [] p ps first start count o = let e : count ≡ count + 0 = omega arith in subst (λ n. HasShape free p (ps ++ run first start n ∷ [])) e o.shape
+hops_shape free clause at (h ∷ hs) p ps first start count o =
     let w : ℕ = variable_of p h.node in
     let q : Pattern = with_rel clause at w h.rel p in
     let e : count + 1 + length hs ≡ count + suc (length hs) = omega arith in
-    subst (λ n. HasShape (with_hops clause w hs (with_node h.node q)) (ps ++ run first start n ∷ [])) e
-    (hops_shape clause w hs (with_node h.node q) ps first start (count + 1)
-    (node_open h.node q ps first start (count + 1) w (rel_passed clause at w h.rel p ps first start count o) (rel_open clause at w h.rel p ps first start count o)))
+    subst (λ n. HasShape free (with_hops clause w hs (with_node h.node q)) (ps ++ run first start n ∷ [])) e
+    (hops_shape free clause w hs (with_node h.node q) ps first start (count + 1)
+    (node_open free h.node q ps first start (count + 1) w (rel_passed free clause at w h.rel p ps first start count o) (rel_open free clause at w h.rel p ps first start count o)))
 
-hops_paths : (clause at : ℕ) (hs : List Hop) (p : Pattern) → (with_hops clause at hs p).paths ≡ p.paths
+pub hops_paths : (clause at : ℕ) (hs : List Hop) (p : Pattern) → (with_hops clause at hs p).paths ≡ p.paths
 hops_paths clause at [] p = refl
 hops_paths clause at (h ∷ hs) p =
     let q : Pattern = with_rel clause at (variable_of p h.node) h.rel p in
     hops_paths clause (variable_of p h.node) hs (with_node h.node q) ∙ node_paths h.node q
 
--- patterns have a shape, and each path begins with a node variable of theirs
-pub record IsShaped (p : Pattern) : Type 0 where
-  pub shape : HasShape p p.paths
+-- patterns have a shape, with so many free node variables, and each path begins with a node variable of theirs
+pub record IsShapedBut (free : ℕ) (p : Pattern) : Type 0 where
+  pub shape : HasShape free p p.paths
   pub starts : AllByRecursion (λ q. q.first < length p.names) p.paths
+
+abbrev pub IsShaped : Pattern → Type 0
+IsShaped p = IsShapedBut 0 p
 
 node_there : (part : NodePart) (p : Pattern) → variable_of p part < length (with_node part p).names
 node_there part p =
     node_cases (λ q. variable_of p part < length q.names) part p (λ v low is. omega arith)
     (λ is. let e : suc (length p.names) ≡ length (p.names ++ part.name ∷ []) = longer p.names part.name in omega arith)
 
-path_shaped : (clause : ℕ) (path : Path) (p : Pattern) → IsShaped p → IsShaped (with_path clause path p)
-path_shaped clause path p s =
+pub path_shaped : (free clause : ℕ) (path : Path) (p : Pattern) → IsShapedBut free p → IsShapedBut free (with_path clause path p)
+path_shaped free clause path p s =
     let first : ℕ = variable_of p path.first in
     let start : ℕ = length p.rels in
     let q : Pattern = with_node path.first p in
@@ -205,8 +215,8 @@ path_shaped clause path p s =
     let part : PathPart = run first start (length path.hops) in
     let paths_are : p.paths ≡ r.paths = sym (hops_paths clause first path.hops q ∙ node_paths path.first p) in
     let counted : length (all_ends p) ≡ length p.rels = length-map p.rels ends_of in
-    let opened : IsOpen q p.paths first start 0 first = record {
-      shape = node_shape path.first p (p.paths ++ run first start 0 ∷ []) (shape_path first (length p.names) (length p.nodes) (all_ends p) p.paths p.entries s.shape start) (first_passed first start (all_ends p) p.paths);
+    let opened : IsOpen free q p.paths first start 0 first = record {
+      shape = node_shape free path.first p (p.paths ++ run first start 0 ∷ []) (shape_path first free (length p.names) (length p.nodes) (all_ends p) p.paths p.entries s.shape start) (first_passed first start (all_ends p) p.paths);
       next = subst (λ rs. start + 0 ≡ length (map ends_of rs)) (sym (node_rels path.first p)) (omega arith);
       ends = refl;
     } in
@@ -215,7 +225,7 @@ path_shaped clause path p s =
     let grows : length p.names ≤ length q.names = (node_grows path.first p).names in
     let there : first < length q.names = node_there path.first p in
     record {
-      shape = subst (λ ps. HasShape r (ps ++ part ∷ [])) paths_are (subst (λ n. HasShape r (p.paths ++ run first start n ∷ [])) none (hops_shape clause first path.hops q p.paths first start 0 opened));
+      shape = subst (λ ps. HasShape free r (ps ++ part ∷ [])) paths_are (subst (λ n. HasShape free r (p.paths ++ run first start n ∷ [])) none (hops_shape free clause first path.hops q p.paths first start 0 opened));
       starts =
           subst (λ ps. AllByRecursion (λ q. q.first < length r.names) (ps ++ part ∷ [])) paths_are
           (each_append (λ q. q.first < length r.names) p.paths (part ∷ []) (each_then (λ q. q.first < length p.names) (λ q. q.first < length r.names) (λ q low. omega arith) p.paths s.starts) (omega arith, tt));
@@ -223,7 +233,7 @@ path_shaped clause path p s =
 
 paths_shaped : (clause : ℕ) (paths : List Path) (p : Pattern) → IsShaped p → IsShaped (with_paths clause paths p)
 paths_shaped clause [] p s = s
-paths_shaped clause (path ∷ paths) p s = paths_shaped clause paths (with_path clause path p) (path_shaped clause path p s)
+paths_shaped clause (path ∷ paths) p s = paths_shaped clause paths (with_path clause path p) (path_shaped 0 clause path p s)
 
 clauses_shaped : (number : ℕ) (cs : List Clause) (p : Pattern) → IsShaped p → IsShaped (with_clauses number cs p)
 clauses_shaped number [] p s = s
@@ -233,4 +243,4 @@ pub pattern_shaped : (clauses : List Clause) → IsShaped (pattern_of clauses)
 unfolding pattern_of
 pattern_shaped clauses =
     clauses_shaped 0 clauses no_pattern
-    (record { shape = record { joins = tt; within = tt; every_node = λ v h. absurd (omega arith); every_rel = refl; fewer = omega arith; there = tt }; starts = tt })
+    (record { shape = record { joins = tt; within = tt; every_node = λ v f h. absurd (omega arith); every_rel = refl; fewer = omega arith; there = tt }; starts = tt })

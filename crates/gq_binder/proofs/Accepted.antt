@@ -1,23 +1,21 @@
--- The columns, conjuncts and keys of a query that has no EXISTS, and whose names and calls are known, stand for
--- expressions.
-use Rattle.std.proofs.Common.{◌≡◌, ◌∙◌, sym, refl, ap, ap₂, subst, ℕ, suc, Bool, true, false, not, ◌||◌, List, [], ◌∷◌, ◌++◌, map, flat_map, Option, Some, None, if◌then◌else◌}
+-- The columns, conjuncts and keys of a query whose names and calls are known stand for expressions.
+use Rattle.std.proofs.Common.{◌≡◌, ◌∙◌, sym, refl, ap, ap₂, subst, ℕ, suc, Bool, true, false, List, [], ◌∷◌, ◌++◌, map, filter, flat_map, Option, Some, None, if◌then◌else◌}
 use Rattle.gq_base.proofs.OptionLaws.{or_first, or_second}
 use Rattle.std.specs.Prelude.{All, filter_map, unwrap_or}
-use Rattle.std.specs.List.{AllByRecursion, cons_option, list_any}
+use Rattle.std.specs.List.{AllByRecursion, cons_option}
 use Rattle.std.specs.Option.{option_map, option_or}
-use Rattle.std.proofs.lemmas.Bool.{false≢true}
-use Rattle.std.proofs.lemmas.List.Elements.{All-from_recursion, filter_map-append}
+use Rattle.std.proofs.lemmas.List.Elements.{All-from_recursion, filter-append, filter_map-append}
 use Rattle.gq_base.specs.Lists.{with_first}
 use Rattle.gq_alternatives.proofs.Shapes.{each_left, each_right}
 use Rattle.gq_expr.specs.declared.Expr.{Expr}
 use Rattle.gq_expr.specs.declared.Expr.TheVariants as expr
-use Rattle.gq_plan.proofs.Each.{each_of, each_map, each_append}
+use Rattle.gq_plan.proofs.Each.{each_of, each_map, each_append, each_kept, each_then}
 use Rattle.gq_trees.proofs.Splits.{split_whole}
-use Rattle.gq_trees.specs.Conjuncts.{conjunct_expr}
+use Rattle.gq_trees.specs.Conjuncts.{conjunct_expr, is_value, values_of}
 use Rattle.gq_scopes.specs.Patterns.{Name, Pattern, no_pattern, pattern_of, with_paths}
 use Rattle.gq_trees.specs.Resolving.{Conjunct, Split, functions, resolved, resolve_step, split, split_node, split_step, all_some}
 use Rattle.gq_scopes.specs.Scopes.{Scope, scope_of}
-use Rattle.gq_trees.specs.Uses.{Use, is_exists, has_exists, uses, first_name, refused_unless, unknown_name, unknown_function, wrong_count}
+use Rattle.gq_trees.specs.Uses.{Use, uses, first_name, unknown_name, unknown_function, wrong_count}
 use Rattle.gq_scopes.specs.declared.Column.{Column}
 use Rattle.gq_syntax.specs.declared.AstNode.{AstNode}
 use Rattle.gq_syntax.specs.declared.AstNode.TheVariants as ast
@@ -27,10 +25,10 @@ use Rattle.gq_syntax.specs.declared.Clause.{Clause}
 use Rattle.gq_syntax.specs.declared.Item.{Item}
 use Rattle.gq_syntax.specs.declared.Query.{Query}
 use Rattle.gq_syntax.specs.declared.Sort.{Sort}
-use Rattle.gq_binder.proofs.Known.{IsKnown, IsKnownColumn, exists_use, mapped, refused_use, known_tree}
+use Rattle.gq_binder.proofs.Known.{IsKnown, IsKnownColumn, mapped, refused_use, known_tree}
 use Rattle.gq_binder.specs.Columns.{Scoped, scoped_in, conditions_from, conditions, conjuncts, columns, columns_in, column_of, star_columns, firsts_behind, item_column, sort_scope, column_expr, sort_expr}
 use Rattle.gq_binder.specs.steps.Parts.{known_conjuncts}
-use Rattle.gq_binder.specs.Refusals.{exists_in, first_in, items_in, sorts_in}
+use Rattle.gq_binder.specs.Refusals.{first_in, items_in, sorts_in}
 
 -- ---- what the checks say of each expression
 
@@ -44,40 +42,25 @@ joint a b (u ∷ us) e f =
     (both_none (a u) (b u) (or_first (a u) (first_name a us) e) (or_first (b u) (first_name b us) f))
     (joint a b us (or_second (a u) (first_name a us) e) (or_second (b u) (first_name b us) f))
 
-exists_refused : (b : Bool) (o : Option Name) (more : Bool) → (b || more) ≡ false → (more ≡ false → o ≡ None) → option_or (refused_unless (not b) []) o ≡ None
-exists_refused true o more e h = absurd (false≢true (sym e))
-exists_refused false o more e h = h e
-
-no_exists : (us : List Use) → list_any is_exists us ≡ false → first_name exists_use us ≡ None
-no_exists [] e = refl
-no_exists (u ∷ us) e = exists_refused (is_exists u) (first_name exists_use us) (list_any is_exists us) e (no_exists us)
-
-neither : (a b : Bool) → (a || b) ≡ false → (a ≡ false) × (b ≡ false)
-neither true b e = absurd (false≢true (sym e))
-neither false b e = (refl, e)
-
--- an expression has no EXISTS, and no name and no call of it is refused
+-- no name and no call of an expression is refused
 abbrev IsFine : Scoped → Type 0
 IsFine e = first_name (refused_use e.scope) (uses e.tree) ≡ None
 
-all_fine : (es : List Scoped) → exists_in es ≡ false → first_in unknown_name es ≡ None → first_in (λ _. unknown_function) es ≡ None → first_in (λ _. wrong_count) es ≡ None → AllByRecursion IsFine es
-all_fine [] x v f c = tt
-all_fine (e ∷ es) x v f c =
-    let us : List Use = uses e.tree in
-    let none = neither (has_exists e.tree) (exists_in es) x in (
-      joint exists_use (λ u. option_or (unknown_name e.scope u) (option_or (unknown_function u) (wrong_count u))) us (no_exists us none.0)
-          (joint (unknown_name e.scope) (λ u. option_or (unknown_function u) (wrong_count u)) us (or_first (first_name (unknown_name e.scope) us) (first_in unknown_name es) v)
-          (joint unknown_function wrong_count us (or_first (first_name unknown_function us) (first_in (λ _. unknown_function) es) f) (or_first (first_name wrong_count us) (first_in (λ _. wrong_count) es) c))),
-      all_fine es none.1 (or_second (first_name (unknown_name e.scope) us) (first_in unknown_name es) v) (or_second (first_name unknown_function us) (first_in (λ _. unknown_function) es) f) (or_second (first_name wrong_count us) (first_in (λ _. wrong_count) es) c),
+all_fine : (es : List Scoped) → first_in unknown_name es ≡ None → first_in (λ _. unknown_function) es ≡ None → first_in (λ _. wrong_count) es ≡ None → AllByRecursion IsFine es
+all_fine [] v f c = tt
+all_fine (e ∷ es) v f c =
+    let us : List Use = uses e.tree in (
+      joint (unknown_name e.scope) (λ u. option_or (unknown_function u) (wrong_count u)) us (or_first (first_name (unknown_name e.scope) us) (first_in unknown_name es) v)
+          (joint unknown_function wrong_count us (or_first (first_name unknown_function us) (first_in (λ _. unknown_function) es) f) (or_first (first_name wrong_count us) (first_in (λ _. wrong_count) es) c)),
+      all_fine es (or_second (first_name (unknown_name e.scope) us) (first_in unknown_name es) v) (or_second (first_name unknown_function us) (first_in (λ _. unknown_function) es) f) (or_second (first_name wrong_count us) (first_in (λ _. wrong_count) es) c),
     )
 
 -- the expressions of a query in text order, with its functions known
 abbrev pub known_expressions : Query → List ℕ → List Scoped
 known_expressions query text = conditions query ++ (items_in (scope_of (pattern_of query.clauses)) query.items ++ sorts_in (sort_scope functions text query) query.order)
 
--- a query has no EXISTS, and all its names and calls are known
+-- all names and calls of a query are known
 pub record IsNamed (query : Query) (text : List ℕ) : Type 0 where
-  pub exists : exists_in (known_expressions query text) ≡ false
   pub variables : first_in unknown_name (known_expressions query text) ≡ None
   pub functions : first_in (λ _. unknown_function) (known_expressions query text) ≡ None
   pub counts : first_in (λ _. wrong_count) (known_expressions query text) ≡ None
@@ -90,7 +73,7 @@ module _ (query : Query) (text : List ℕ) (named : IsNamed query text) where
   sorts = sorts_in (sort_scope functions text query) query.order
 
   expressions_fine : AllByRecursion IsFine (conditions query ++ (items ++ sorts))
-  expressions_fine = all_fine (conditions query ++ (items ++ sorts)) named.exists named.variables named.functions named.counts
+  expressions_fine = all_fine (conditions query ++ (items ++ sorts)) named.variables named.functions named.counts
 
   conditions_fine : AllByRecursion IsFine (conditions query)
   conditions_fine = each_left IsFine (conditions query) (items ++ sorts) expressions_fine
@@ -222,7 +205,7 @@ module _ (s : Scope) where
   rolled y h =
       let x : Ast-F Ast = map-Ast Part Ast (λ q. q.0) y in
       let step : Split = split_step functions s (parts.map Ast Split cut x.node) x.span in
-      let whole : Conjunct = record { span = x.span; expr = step.expr } in
+      let whole : Conjunct = record { span = x.span; expr = step.expr; test = step.test } in
       let same : go (roll-Ast x) ≡ step.expr = sym (split_whole functions s (roll-Ast x)) ∙ ap (λ (part : Split). part.expr) (split_roll x) in
       subst (λ (part : Split). AllByRecursion IsKnownConjunct part.conjuncts) (sym (split_roll x))
       (level y.node whole (subst (λ (o : Option Expr). IsKnown o) same h) (subst (λ (o : Option Expr). IsKnown o) (resolved_roll x) h))
@@ -263,14 +246,22 @@ each_conjunct : (text : List ℕ) (cs : List Scoped) → AllByRecursion (IsSplit
 each_conjunct text [] h = tt
 each_conjunct text (c ∷ cs) h = each_append (λ k. IsKnown (conjunct_expr text k)) (split_of c) (flat_map split_of cs) h.0 (each_conjunct text cs h.1)
 
-listed : (text : List ℕ) (cs : List Scoped) → AllByRecursion (IsSplitKnown text) cs → filter_map (conjunct_expr text) (flat_map split_of cs) ≡ known_conjuncts text cs
+-- the conjuncts of values of each condition, and so those of all
+known_values : (text : List ℕ) (ks : List Conjunct) → AllByRecursion (λ k. IsKnown (conjunct_expr text k)) ks → AllByRecursion (λ k. IsKnown (conjunct_expr text k)) (filter is_value ks)
+known_values text ks h =
+    each_then (λ k. IsKnown (conjunct_expr text k) × (is_value k ≡ true)) (λ k. IsKnown (conjunct_expr text k)) (λ k both. both.0) (filter is_value ks)
+    (each_kept (λ k. IsKnown (conjunct_expr text k)) is_value ks h)
+
+listed : (text : List ℕ) (cs : List Scoped) → AllByRecursion (IsSplitKnown text) cs → filter_map (conjunct_expr text) (filter is_value (flat_map split_of cs)) ≡ known_conjuncts text cs
 listed text [] h = refl
 listed text (c ∷ cs) h =
-    filter_map-append (conjunct_expr text) (split_of c) (flat_map split_of cs)
-    ∙ ap₂ ◌++◌ (sym (ap (λ o. unwrap_or o []) (all_there (conjunct_expr text) (split_of c) h.0))) (listed text cs h.1)
+    ap (filter_map (conjunct_expr text)) (filter-append is_value (split_of c) (flat_map split_of cs))
+    ∙ filter_map-append (conjunct_expr text) (filter is_value (split_of c)) (filter is_value (flat_map split_of cs))
+    ∙ ap₂ ◌++◌ (sym (ap (λ o. unwrap_or o []) (all_there (conjunct_expr text) (filter is_value (split_of c)) (known_values text (split_of c) h.0)))) (listed text cs h.1)
 
-pub conjuncts_there : (query : Query) (text : List ℕ) → IsNamed query text → all_some (map (conjunct_expr text) (conjuncts query)) ≡ Some (known_conjuncts text (conditions query))
+pub conjuncts_there : (query : Query) (text : List ℕ) → IsNamed query text → all_some (values_of text (conjuncts query)) ≡ Some (known_conjuncts text (conditions query))
 unfolding conjuncts
 conjuncts_there query text named =
     let each = each_condition text (conditions query) (conditions_fine query text named) (placed 0 no_pattern query.clauses) in
-    all_there (conjunct_expr text) (flat_map split_of (conditions query)) (each_conjunct text (conditions query) each) ∙ ap Some (listed text (conditions query) each)
+    all_there (conjunct_expr text) (filter is_value (flat_map split_of (conditions query))) (known_values text (flat_map split_of (conditions query)) (each_conjunct text (conditions query) each))
+    ∙ ap Some (listed text (conditions query) each)

@@ -1,10 +1,9 @@
 -- What the checks find in the parts of a query is its first refusal; a query that they pass is bound by its parts.
-use Rattle.std.proofs.Common.{◌≡◌, ◌∙◌, sym, refl, ap, subst, ℕ, Bool, true, false, not, ◌||◌, length, List, [], ◌∷◌, ◌++◌, map, Option, Some, None, Err, if◌then◌else◌}
+use Rattle.std.proofs.Common.{◌≡◌, ◌∙◌, sym, refl, ap, subst, ℕ, length, List, [], ◌∷◌, ◌++◌, map, Option, Some, None, Err}
 use Rattle.gq_base.proofs.OptionLaws.{or_none}
 use Rattle.std.specs.Option.{option_map, option_or}
 use Rattle.gq_alternatives.specs.Alternatives.{Choice, alternatives, pattern_alternatives}
 use Rattle.gq_base.specs.Catalogs.{Tables}
-use Rattle.gq_base.specs.Lists.{is_empty}
 use Rattle.gq_binder.proofs.Accepted.{IsNamed, known_expressions, columns_there, keys_there, conjuncts_there}
 use Rattle.gq_binder.proofs.NameLemmas.{first_variable, first_function, first_arguments, first_exists, sorts_same}
 use Rattle.gq_binder.proofs.Patterns.{node_names_there}
@@ -15,7 +14,7 @@ use Rattle.gq_binder.specs.steps.Checks.{IsOfQuery}
 use Rattle.gq_binder.specs.Columns.{conditions, columns, entry_test, sort_scope}
 use Rattle.gq_binder.specs.steps.Names.{FirstNames, no_names, with_expressions}
 use Rattle.gq_binder.specs.steps.Parts.{known_conjuncts, parts_of, ambiguous_in, reads_in, checks_in, bound_in}
-use Rattle.gq_binder.specs.Refusals.{first_of_all, exists_in, has_trail, not_built, unknown_variable, variable_conflict, relationship_repeated, column_repeated, nothing_to_return, order_out_of_scope, ambiguous_order_name, function_unknown, argument_count, over_limit, max_columns, max_alternatives, too_many_patterns, all_reads, first_refusal, checks_of, too_many_alternatives, expressions, first_in}
+use Rattle.gq_binder.specs.Refusals.{first_of_all, exists_in, not_built, unknown_variable, variable_conflict, relationship_repeated, column_repeated, nothing_to_return, order_out_of_scope, ambiguous_order_name, function_unknown, argument_count, over_limit, max_columns, max_alternatives, too_many_patterns, all_reads, first_refusal, checks_of, too_many_alternatives, expressions, first_in}
 use Rattle.gq_binder.specs.declared.parts.QueryParts.{QueryParts}
 use Rattle.gq_binder.specs.declared.refusal.BindRefusal.{BindRefusal}
 use Rattle.gq_binder.specs.declared.refusal.BindRefusal.TheVariants as refusal
@@ -29,12 +28,6 @@ use Rattle.gq_trees.specs.Uses.{unknown_name, unknown_function, wrong_count}
 use Rattle.gq_syntax.specs.steps.Spans.{StandsIn}
 use Rattle.gq_syntax.specs.declared.Query.{Query}
 
-exists_passes : (a b c : Bool) → (if a || (b || c) then Some refusal.NotBuilt else None) ≡ None → c ≡ false
-exists_passes true b c e = cc e
-exists_passes false true c e = cc e
-exists_passes false false true e = cc e
-exists_passes false false false e = refl
-
 none_of : (f : Name → BindRefusal) (o : Option Name) → option_map f o ≡ None → o ≡ None
 none_of f None e = refl
 none_of f (Some n) e = cc e
@@ -46,9 +39,8 @@ module _ (query : Query) (text : List ℕ) where
   abbrev names : FirstNames
   names = with_expressions no_names (known_expressions query text)
 
-  named_by : not_built query p names.exists ≡ None → option_map refusal.UnknownVariable names.variable ≡ None → option_map refusal.UnknownFunction names.function ≡ None → option_map refusal.ArgumentCount names.arguments ≡ None → IsNamed query text
-  named_by b v f n = record {
-    exists = sym (first_exists (known_expressions query text)) ∙ exists_passes (not (is_empty query.optionals)) (has_trail p) names.exists b;
+  named_by : option_map refusal.UnknownVariable names.variable ≡ None → option_map refusal.UnknownFunction names.function ≡ None → option_map refusal.ArgumentCount names.arguments ≡ None → IsNamed query text
+  named_by v f n = record {
     variables = sym (first_variable (known_expressions query text)) ∙ none_of refusal.UnknownVariable names.variable v;
     functions = sym (first_function (known_expressions query text)) ∙ none_of refusal.UnknownFunction names.function f;
     counts = sym (first_arguments (known_expressions query text)) ∙ none_of refusal.ArgumentCount names.arguments n;
@@ -81,7 +73,7 @@ module _ (query : Query) (text : List ℕ) where
   same_reads : first_of_all (early ++ numbers listed_reads) ≡ first_of_all (early ++ numbers (all_reads query))
   same_reads =
       same_behind early (numbers listed_reads) (numbers (all_reads query)) (λ passed.
-      let named : IsNamed query text = named_by passed.0 passed.1.0 passed.1.1.1.1.1.1.1.1.0 passed.1.1.1.1.1.1.1.1.1.0 in
+      let named : IsNamed query text = named_by passed.1.0 passed.1.1.1.1.1.1.1.1.0 passed.1.1.1.1.1.1.1.1.1.0 in
       ap (λ reads. first_of_all (numbers reads)) (reads_listed query text (known_conjuncts text (conditions query)) (conjuncts_there query text named)))
 
   -- the expressions that are gone through are those of the definition
@@ -127,7 +119,7 @@ module _ (query : Query) (text : List ℕ) where
   unfolding parts_of
   named_parts e =
       let passed = each_none (early ++ numbers listed_reads) e in
-      named_by passed.0 passed.1.0 passed.1.1.1.1.1.1.1.1.0 passed.1.1.1.1.1.1.1.1.1.0
+      named_by passed.1.0 passed.1.1.1.1.1.1.1.1.0 passed.1.1.1.1.1.1.1.1.1.0
 
   pattern_is : (parts_of text query).pattern ≡ p
   unfolding parts_of

@@ -1,4 +1,4 @@
--- A tree that has no EXISTS, and whose names and calls pass the checks, stands for an expression.
+-- A tree whose names and calls pass the checks stands for an expression.
 use Rattle.std.proofs.Common.{◌≡◌, ◌∙◌, sym, refl, ap, subst, ℕ, suc, List, [], ◌∷◌, ◌++◌, map, length, slice_get, Option, Some, None, Bool, true, false, not, ◌||◌, nat_eq, codes, arith}
 use Rattle.gq_syntax.specs.Operands.{in_tester}
 use Rattle.gq_base.proofs.OptionLaws.{or_first, or_second}
@@ -15,7 +15,7 @@ use Rattle.gq_expr.specs.declared.Tester.TheVariants as tester
 use Rattle.gq_scopes.specs.Patterns.{Name, find_name}
 use Rattle.gq_trees.specs.Resolving.{functions, resolved, resolve_step, all_some, over_known, bound_term, bound_tester, type_call, coalesce_call, is_function}
 use Rattle.gq_trees.specs.steps.Trees.{term_with}
-use Rattle.gq_trees.specs.Uses.{Use, bare, owner, call, is_exists, uses, uses_step, all_uses, term_uses, first_name, refused_unless, is_some_function, takes, unknown_name, unknown_function, wrong_count}
+use Rattle.gq_trees.specs.Uses.{Use, bare, owner, call, uses, uses_step, all_uses, term_uses, first_name, refused_unless, is_some_function, takes, unknown_name, unknown_function, wrong_count}
 use Rattle.gq_scopes.specs.Scopes.{Scope, column_or, either_property, either_variable, expr_of, find_column, is_there, is_variable}
 use Rattle.gq_trees.proofs.Resolved.{tests_of}
 use Rattle.gq_trees.proofs.UseLemmas.{first_name_append}
@@ -116,13 +116,9 @@ called_is : (name : Name) (n : ℕ) (args : Option (List Expr)) → HasLength n 
 called_is name n None l h f k = absurd h
 called_is name n (Some args) l h f k = call_is (is_function name (codes "type")) (is_function name (codes "coalesce")) args f (subst (λ (m : ℕ). takes name m ≡ true) (sym l) k)
 
--- an EXISTS, which stands for no expression
-abbrev pub exists_use : Use → Option Name
-exists_use u = refused_unless (not (is_exists u)) []
-
--- what the checks of forms, names and calls refuse
+-- what the checks of names and calls refuse
 abbrev pub refused_use : Scope → Use → Option Name
-refused_use s u = option_or (exists_use u) (option_or (unknown_name s u) (option_or (unknown_function u) (wrong_count u)))
+refused_use s u = option_or (unknown_name s u) (option_or (unknown_function u) (wrong_count u))
 
 module _ (s : Scope) (known : All IsKnownColumn s.columns) where
   abbrev check : Use → Option Name
@@ -180,14 +176,14 @@ module _ (s : Scope) (known : All IsKnownColumn s.columns) where
       (subst (λ (m : ℕ). takes name m ≡ true) same (allowed (takes name n) name (or_second (unknown_function (call name n)) _ kept)))
 
   name_passes : (u : Use) → first_name check (u ∷ []) ≡ None → unknown_name s u ≡ None
-  name_passes u h = or_first (unknown_name s u) _ (or_second (exists_use u) _ (or_first (check u) None h))
+  name_passes u h = or_first (unknown_name s u) _ (or_first (check u) None h)
 
   level : (n : AstNode Part) → first_name check (uses_step (parts.map Ast (List Use) uses (parts.map Part Ast (λ q. q.0) n))) ≡ None → IsKnown (resolve_step functions s (parts.map Ast (Option Expr) go (parts.map Part Ast (λ q. q.0) n)))
   level (ast.Literal l) h = tt
   level (ast.Variable name) h = bare_is s name (find_column s.columns name) refl known (allowed _ name (name_passes (bare name) h))
   level (ast.Property name key) h = property_is (find_name s.nodes name) (find_name s.rels name) key (allowed _ name (name_passes (owner name) h))
   level (ast.Call name qs) h = call_passes name qs h
-  level (ast.Exists path) h = cc h
+  level (ast.Exists path) h = tt
   level (ast.Paren q) h = q.1 h
   level (ast.Negate q) h = mapped _ (go q.0) (q.1 h)
   level (ast.Plus q) h = mapped _ (go q.0) (q.1 h)
@@ -213,6 +209,6 @@ module _ (s : Scope) (known : All IsKnownColumn s.columns) where
       let x : Ast-F Ast = map-Ast Part Ast (λ q. q.0) y in
       subst (λ (o : Option Expr). IsKnown o) (sym (resolved_roll x)) (level y.node (subst (λ (us : List Use). first_name check us ≡ None) (uses_roll x) h))
 
-  -- a tree without an EXISTS and without a refused name or call stands for an expression
+  -- a tree without a refused name or call stands for an expression
   pub known_tree : (t : Ast) → Passes t
   known_tree = ind-Ast Passes (λ x y is. subst (λ z. Passes (roll-Ast z)) is (rolled y))

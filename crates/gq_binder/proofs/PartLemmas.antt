@@ -8,7 +8,7 @@ use Rattle.gq_binder.specs.steps.Names.{FirstNames, no_names, with_expressions}
 use Rattle.gq_binder.specs.steps.Parts.{known_conjuncts, parts_of}
 use Rattle.gq_binder.specs.Refusals.{items_in, sorts_in}
 use Rattle.gq_plan.specs.declared.NamedExpr.{NamedExpr}
-use Rattle.gq_trees.specs.Conjuncts.{conjunct_expr}
+use Rattle.gq_trees.specs.Conjuncts.{values_of}
 use Rattle.gq_scopes.specs.Patterns.{Pattern, pattern_of, with_clauses, with_paths}
 use Rattle.gq_trees.specs.Resolving.{functions, split, all_some}
 use Rattle.gq_scopes.specs.Scopes.{scope_of}
@@ -17,7 +17,7 @@ use Rattle.gq_syntax.specs.declared.Clause.{Clause}
 use Rattle.gq_syntax.specs.declared.Query.{Query}
 
 pub known_conjuncts_append : (text : List ℕ) (cs ds : List Scoped) → known_conjuncts text (cs ++ ds) ≡ known_conjuncts text cs ++ known_conjuncts text ds
-known_conjuncts_append text cs ds = flat_map-append (λ c. unwrap_or (all_some (map (conjunct_expr text) (split functions c.scope c.tree).conjuncts)) []) cs ds
+known_conjuncts_append text cs ds = flat_map-append (λ c. unwrap_or (all_some (values_of text (split functions c.scope c.tree).conjuncts)) []) cs ds
 
 -- one more clause of several
 module _ (clauses : List Clause) (at : ℕ) (more : at < length clauses) (c : Clause) (is : c ≡ get_or clauses at c) where

@@ -9,7 +9,6 @@ use Rattle.std.proofs.lemmas.Bool.{ltb-false, not-true}
 use Rattle.std.proofs.lemmas.Grind.{flat_map-append}
 use Rattle.std.proofs.lemmas.List.{length-map}
 use Rattle.std.proofs.lemmas.List.Elements.{All-from_recursion, filter-append}
-use Rattle.std.proofs.lemmas.List.Folds.{flat_map-map}
 use Rattle.std.proofs.lemmas.Option.{same_Some}
 use Rattle.gq_base.specs.Catalogs.{Tables}
 use Rattle.gq_base.specs.Lists.{with_first}
@@ -33,15 +32,15 @@ use Rattle.gq_syntax.specs.declared.Clause.{Clause}
 use Rattle.gq_syntax.specs.declared.Query.{Query}
 use Rattle.gq_alternatives.proofs.Shapes.{each_left, each_right}
 use Rattle.gq_alternatives.proofs.ShapesOfPatterns.{Grows, grows_same, grows_then, clauses_grow, IsShaped, ends_of, pattern_shaped}
-use Rattle.gq_trees.proofs.ConditionReads.{Alike, alike_more, conjuncts_read}
+use Rattle.gq_trees.proofs.ConditionReads.{IsRead, conjuncts_read}
 use Rattle.gq_alternatives.proofs.SoundPatterns.{IsChoice, each_alternative, pattern_sound, typed_count}
 use Rattle.gq_plan.proofs.DifferentReads.{AllAmong, some_among, properties_among, distinct_fewer}
 use Rattle.gq_plan.proofs.ReadEquations.{reads_Literal, reads_NodeProperty, reads_RelProperty, reads_Compare}
-use Rattle.gq_trees.proofs.ReadsThere.{AllThere}
+use Rattle.gq_trees.proofs.ReadsThere.{AllThere, AreThere}
 use Rattle.gq_alternatives.specs.Alternatives.{Choice, typed_rels, agrees, alternatives, typed_of}
-use Rattle.gq_trees.specs.Conjuncts.{conjunct_expr}
+use Rattle.gq_trees.specs.Conjuncts.{conjunct_expr, is_value, values_of}
 use Rattle.gq_scopes.specs.Patterns.{Name, MapEntry, Pattern, no_pattern, pattern_of, with_paths, with_clauses}
-use Rattle.gq_trees.specs.Resolving.{Conjunct, functions, all_some, resolved, split}
+use Rattle.gq_trees.specs.Resolving.{Conjunct, functions, all_some, split}
 use Rattle.gq_scopes.specs.Scopes.{Scope, scope_of}
 use Rattle.gq_scopes.specs.steps.Variables.{IsThere}
 use Rattle.gq_lexer.specs.Sources.{source_text}
@@ -49,7 +48,7 @@ use Rattle.gq_binder.proofs.Patterns.{names_counted}
 use Rattle.gq_binder.specs.Binding.{IsBound}
 use Rattle.gq_binder.specs.Columns.{Scoped, scoped_in, conditions_from, conditions, conjuncts, property_of, entry_expr, entry_test, Resolves, HasAlternatives}
 use Rattle.gq_binder.specs.steps.Parts.{reads_in}
-use Rattle.gq_binder.specs.Refusals.{first_of_all, over_limit, all_reads, first_refusal, checks_of, too_many_alternatives}
+use Rattle.gq_binder.specs.Refusals.{first_of_all, over_limit, all_reads, known_reads, first_refusal, checks_of, too_many_alternatives}
 use Rattle.gq_binder.specs.declared.refusal.BindRefusal.{BindRefusal}
 use Rattle.gq_binder.specs.declared.refusal.BindRefusal.TheVariants as refusal
 
@@ -116,76 +115,60 @@ query_within : (query : Query) → AllByRecursion (λ c. IsWithin (pattern_of qu
 unfolding pattern_of
 query_within query = conditions_within 0 no_pattern query.clauses (with_clauses 0 query.clauses no_pattern) (grows_same (with_clauses 0 query.clauses no_pattern))
 
--- ---- what conditions read
+-- ---- what conjuncts read
 
-abbrev listed : Scoped → Option Expr
-listed c = resolved functions c.scope c.tree
+abbrev Reading : ℕ → ℕ → List Conjunct → Type 0
+Reading n m cs = AllByRecursion (IsRead n m) cs
 
 conditions_read : (final : Pattern) (cs : List Scoped) → AllByRecursion (λ c. IsWithin final c.scope) cs
-    → Alike (length final.names) (length final.rels) (flat_map reads) (flat_map reads) (all_some (map (λ c. c.expr) (flat_map (λ c. (split functions c.scope c.tree).conjuncts) cs))) (all_some (map listed cs))
-conditions_read final [] h = (refl, tt)
+    → Reading (length final.names) (length final.rels) (flat_map (λ c. (split functions c.scope c.tree).conjuncts) cs)
+conditions_read final [] h = tt
 conditions_read final (c ∷ cs) h =
     let n : ℕ = length final.names in
     let m : ℕ = length final.rels in
-    alike_more n m (split functions c.scope c.tree).conjuncts (flat_map (λ c. (split functions c.scope c.tree).conjuncts) cs) (listed c) (map listed cs)
+    each_append (IsRead n m) (split functions c.scope c.tree).conjuncts (flat_map (λ c. (split functions c.scope c.tree).conjuncts) cs)
     (conjuncts_read n m c.scope h.0.columns h.0.nodes h.0.rels c.tree) (conditions_read final cs h.1)
-
-abbrev known_reads : Option Expr → List Read
-known_reads None = []
-known_reads (Some e) = reads e
-
-known_together : (os : List (Option Expr)) (es : List Expr) → all_some os ≡ Some es → flat_map known_reads os ≡ flat_map reads es
-known_together [] es e = ap (flat_map reads) (same_Some [] es e)
-known_together (None ∷ os) es e = cc e
-known_together (Some d ∷ os) es e = go (all_some os) (λ fs is. known_together os fs is) e
-  where
-    go : (o : Option (List Expr)) → ((fs : List Expr) → o ≡ Some fs → flat_map known_reads os ≡ flat_map reads fs) → with_first (Some d) o ≡ Some es → reads d ++ flat_map known_reads os ≡ flat_map reads es
-    go None more e = cc e
-    go (Some fs) more e = ap (λ rs. reads d ++ rs) (more fs refl) ∙ ap (flat_map reads) (same_Some (d ∷ fs) es e)
-
-abbrev exprs : List NamedExpr → List Expr
-exprs es = map (λ e. e.expr) es
 
 named_reads : NamedExpr → List Read
 named_reads e = reads e.expr
 
-unnamed : (text : List ℕ) (cs : List Conjunct) → all_some (map (λ c. c.expr) cs) ≡ option_map exprs (all_some (map (conjunct_expr text) cs))
-unnamed text [] = refl
-unnamed text (c ∷ cs) = ap (with_first c.expr) (unnamed text cs) ∙ go c.expr (all_some (map (conjunct_expr text) cs))
+-- conjuncts that stand for these expressions read what the expressions read
+values_read : (text : List ℕ) (vs : List Conjunct) (es : List NamedExpr) → all_some (map (conjunct_expr text) vs) ≡ Some es → flat_map named_reads es ≡ flat_map (λ c. known_reads c.expr) vs
+unfolding named_reads
+values_read text [] es e = sym (ap (flat_map named_reads) (same_Some [] es e))
+values_read text (c ∷ vs) es e = go c.expr (all_some (map (conjunct_expr text) vs)) (λ fs is. values_read text vs fs is) e
   where
-    go : (o : Option Expr) (p : Option (List NamedExpr)) → with_first o (option_map exprs p) ≡ option_map exprs (with_first (option_map (λ e. record { name = source_text text c.span; expr = e }) o) p)
-    go None p = refl
-    go (Some e) None = refl
-    go (Some e) (Some es) = refl
+    go : (o : Option Expr) (p : Option (List NamedExpr)) → ((fs : List NamedExpr) → p ≡ Some fs → flat_map named_reads fs ≡ flat_map (λ c. known_reads c.expr) vs)
+        → with_first (option_map (λ d. record { name = source_text text c.span; expr = d }) o) p ≡ Some es → flat_map named_reads es ≡ known_reads o ++ flat_map (λ c. known_reads c.expr) vs
+    go None p more e = cc e
+    go (Some d) None more e = cc e
+    go (Some d) (Some fs) more e =
+        sym (ap (flat_map named_reads) (same_Some (record { name = source_text text c.span; expr = d } ∷ fs) es e)) ∙ ap (λ rs. reads d ++ rs) (more fs refl)
 
--- the conjuncts of a bound query read what the conditions read, all of variables that are there
+values_there : (n m : ℕ) (vs : List Conjunct) → Reading n m vs → AllThere n m (flat_map (λ c. known_reads c.expr) vs)
+values_there n m [] h = tt
+values_there n m (c ∷ vs) h = each_append (λ r. IsThere n m r.variable) (known_reads c.expr) (flat_map (λ c. known_reads c.expr) vs) (go c.expr h.0) (values_there n m vs h.1)
+  where
+    go : (o : Option Expr) → AreThere n m reads o → AllThere n m (known_reads o)
+    go None h = tt
+    go (Some d) h = h
+
+-- the conjuncts of a bound query read what its conditions' conjuncts of values read, all of variables that are there
 record ReadsConditions (query : Query) (es : List NamedExpr) : Type 0 where
-  same : flat_map named_reads es ≡ flat_map (λ c. known_reads (listed c)) (conditions query)
+  same : flat_map named_reads es ≡ flat_map (λ c. known_reads c.expr) (filter is_value (conjuncts query))
   there : AllThere (length (pattern_of query.clauses).names) (length (pattern_of query.clauses).rels) (flat_map named_reads es)
 
-conjuncts_known : (query : Query) (text : List ℕ) (es : List NamedExpr) → all_some (map (conjunct_expr text) (conjuncts query)) ≡ Some es → ReadsConditions query es
-unfolding conjuncts named_reads
+conjuncts_known : (query : Query) (text : List ℕ) (es : List NamedExpr) → all_some (values_of text (conjuncts query)) ≡ Some es → ReadsConditions query es
+unfolding conjuncts
 conjuncts_known query text es e =
-    go (all_some (map listed cs)) (λ fs i. known_together (map listed cs) fs i)
-    (subst (λ o. Alike n m (flat_map reads) (flat_map reads) o (all_some (map listed cs))) (unnamed text (flat_map (λ c. (split functions c.scope c.tree).conjuncts) cs) ∙ ap (option_map exprs) e) (conditions_read (pattern_of query.clauses) cs (query_within query)))
-  where
-    n : ℕ
-    n = length (pattern_of query.clauses).names
-
-    m : ℕ
-    m = length (pattern_of query.clauses).rels
-
-    cs : List Scoped
-    cs = conditions query
-
-    go : (o : Option (List Expr)) → ((fs : List Expr) → o ≡ Some fs → flat_map known_reads (map listed cs) ≡ flat_map reads fs) → Alike n m (flat_map reads) (flat_map reads) (Some (exprs es)) o → ReadsConditions query es
-    go None known h = absurd h
-    go (Some fs) known h =
-        let same : flat_map named_reads es ≡ flat_map reads fs = sym (flat_map-map reads (λ (e : NamedExpr). e.expr) es) ∙ h.0 in
-        record {
-          same = same ∙ sym (known fs refl) ∙ flat_map-map known_reads listed cs;
-          there = subst (AllThere n m) (sym same) h.1;
-        }
+    let n : ℕ = length (pattern_of query.clauses).names in
+    let m : ℕ = length (pattern_of query.clauses).rels in
+    let cs : List Conjunct = flat_map (λ c. (split functions c.scope c.tree).conjuncts) (conditions query) in
+    let same : flat_map named_reads es ≡ flat_map (λ c. known_reads c.expr) (filter is_value cs) = values_read text (filter is_value cs) es e in
+    let all : Reading n m (filter is_value cs) =
+    each_then (λ c. IsRead n m c × (is_value c ≡ true)) (IsRead n m) (λ c h. h.0) (filter is_value cs)
+    (each_kept (IsRead n m) is_value cs (conditions_read (pattern_of query.clauses) (conditions query) (query_within query))) in
+    record { same = same; there = subst (AllThere n m) (sym same) (values_there n m (filter is_value cs) all) }
 
 -- ---- map entries
 
@@ -219,7 +202,7 @@ entries_listed : (text : List ℕ) (es : List MapEntry) → reads_in (map (entry
 entries_listed text [] = refl
 entries_listed text (e ∷ es) = ap₂ ◌++◌ (ap properties (entry_reads e)) (entries_listed text es)
 
-pub reads_listed : (query : Query) (text : List ℕ) (es : List NamedExpr) → all_some (map (conjunct_expr text) (conjuncts query)) ≡ Some es
+pub reads_listed : (query : Query) (text : List ℕ) (es : List NamedExpr) → all_some (values_of text (conjuncts query)) ≡ Some es
     → reads_in (map (entry_test text) (pattern_of query.clauses).entries) ++ reads_in es ≡ all_reads query
 unfolding all_reads
 reads_listed query text es e =

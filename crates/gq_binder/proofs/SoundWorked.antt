@@ -78,7 +78,7 @@ bound = record {
 }
 
 accepted : first_refusal query text catalog ≡ None
-unfolding first_refusal expressions all_reads columns_in pattern_of pattern_alternatives choices tuples
+unfolding first_refusal expressions all_reads columns_in pattern_of pattern_alternatives choices tuples conjuncts
 accepted = refl
 
 is_bound_so : IsBound query text catalog bound

@@ -18,7 +18,7 @@ use Rattle.gq_syntax.specs.declared.Item.{Item}
 use Rattle.gq_syntax.specs.declared.Query.{Query}
 use Rattle.gq_syntax.specs.declared.Sort.{Sort}
 use Rattle.gq_alternatives.specs.Alternatives.{alternatives, typed_of}
-use Rattle.gq_trees.specs.Conjuncts.{conjunct_expr}
+use Rattle.gq_trees.specs.Conjuncts.{values_of}
 use Rattle.gq_scopes.specs.Patterns.{Name, MapEntry, NamedVariable, Pattern, no_pattern, pattern_of, with_paths, is_same_name}
 use Rattle.gq_trees.specs.Resolving.{Calls, Conjunct, functions, resolved, split, all_some}
 use Rattle.gq_scopes.specs.Scopes.{Scope, scope_of}
@@ -110,7 +110,7 @@ pub record Resolves (query : Query) (text : List ℕ) (bound : Bound) : Type 0 w
   pub node_names : bound.node_names ≡ (pattern_of query.clauses).node_names
   pub rel_names : bound.rel_names ≡ (pattern_of query.clauses).rel_names
   pub columns : all_some (map column_expr (columns functions text query)) ≡ Some bound.columns
-  pub conjuncts : all_some (map (conjunct_expr text) (conjuncts query)) ≡ Some bound.conjuncts
+  pub conjuncts : all_some (values_of text (conjuncts query)) ≡ Some bound.conjuncts
   pub patterns : bound.patterns ≡ []
   pub keys : all_some (map (sort_expr (sort_scope functions text query)) query.order) ≡ Some bound.keys
   pub distinct : bound.distinct ≡ query.distinct

@@ -1,6 +1,6 @@
 -- Why a query cannot be bound: it has a form that is not built yet, or else the first of thirteen checks that applies,
 -- with its first place in the text (this project's profile).
-use Rattle.std.specs.Prelude.{ℕ, suc, nat_eq, nat_lt, Bool, true, false, not, is_some, ◌&&◌, ◌||◌, Option, Some, None, List, [], ◌∷◌, ◌++◌, map, flat_map, length, if◌then◌else◌}
+use Rattle.std.specs.Prelude.{ℕ, suc, nat_eq, nat_lt, Bool, true, false, not, is_some, ◌&&◌, ◌||◌, Option, Some, None, List, [], ◌∷◌, ◌++◌, map, filter, flat_map, length, if◌then◌else◌}
 use Rattle.gq_plan.specs.declared.variable.Variable.TheVariants.{Node as node, Rel as rel}
 use Rattle.gq_plan.specs.declared.variable.Variable.{Variable}
 use Rattle.std.specs.List.{list_any}
@@ -15,7 +15,8 @@ use Rattle.gq_syntax.specs.declared.Item.{Item}
 use Rattle.gq_syntax.specs.declared.Query.{Query}
 use Rattle.gq_syntax.specs.declared.Sort.{Sort}
 use Rattle.gq_alternatives.specs.Alternatives.{alternatives}
-use Rattle.gq_binder.specs.Columns.{Scoped, conditions, columns, sort_scope}
+use Rattle.gq_binder.specs.Columns.{Scoped, conditions, conjuncts, columns, sort_scope}
+use Rattle.gq_trees.specs.Conjuncts.{is_value}
 use Rattle.gq_trees.specs.MadeOf.{column_exprs, is_made_of}
 use Rattle.gq_trees.specs.Renames.{ambiguous_name}
 use Rattle.gq_scopes.specs.Patterns.{Name, NamedVariable, Pattern, pattern_of, is_same_name}
@@ -162,11 +163,11 @@ abbrev pub known_reads : Option Expr → List Read
 known_reads None = []
 known_reads (Some e) = reads e
 
--- what the conditions and the pattern's maps read
+-- what the pattern's maps and the conjuncts of values read
 unfoldable pub all_reads : Query → List Read
 all_reads query =
     map (λ e. property e.variable e.entry.key) (pattern_of query.clauses).entries
-    ++ properties (flat_map (λ c. known_reads (resolved functions c.scope c.tree)) (conditions query))
+    ++ properties (flat_map (λ c. known_reads c.expr) (filter is_value (conjuncts query)))
 
 -- whether all its forms are built, and the twelve checks that ask no catalogue, in their order
 abbrev pub checks_of : Query → List ℕ → List (Option BindRefusal)

@@ -176,7 +176,7 @@ fn read_condition<'q>(
     let scope = pattern.scope(&[])?;
     names.read(&scope, tree);
     match conjuncts_of(alloc, text, &scope, tree)? {
-        Some(more) => push_all(conjuncts, more),
+        Some(more) => push_all(conjuncts, more.values),
         None => Ok(()),
     }
 }

@@ -3,7 +3,11 @@ use Rattle.std.proofs.Common.{◌≡◌, List, [], ◌∷◌, ◌++◌, map, fla
 use Rattle.std.proofs.lemmas.List.Elements.{All-cons, All-head, All-nil, All-same, All-tail}
 use Rattle.gq_lexer.specs.Sources.{IsWhole}
 use Rattle.gq_lexer.specs.declared.token.Span.{Span}
-use Rattle.gq_syntax.specs.Spans.{IsWholeTree, operand_spans, spans_of}
+use Rattle.gq_syntax.specs.Spans.{IsWholeTree, hop_spans, operand_spans, path_spans, spans_of, value_spans}
+use Rattle.gq_syntax.specs.steps.Spans.{IsWholeEntry, IsWholeHop, IsWholePath}
+use Rattle.gq_syntax.specs.declared.statement.Entry.{Entry}
+use Rattle.gq_syntax.specs.declared.statement.Hop.{Hop}
+use Rattle.gq_syntax.specs.declared.statement.Path.{Path}
 use Rattle.gq_syntax.specs.declared.expression.Ast.{Ast, out-Ast, fold_out-Ast}
 use Rattle.gq_syntax.specs.declared.expression.Ast.TheShapes.{former-Ast-node as parts}
 use Rattle.gq_syntax.specs.declared.expression.AstNode.{AstNode}
@@ -49,3 +53,22 @@ module _ (text : List ℕ) where
   -- and the members of AND
   pub and_whole : (t : Ast) (ts : List Ast) → (out-Ast t).node ≡ e.And ts → Tree t → All Tree ts
   and_whole t ts is h = each_whole ts (inside t (e.And ts) is h)
+
+  -- and the path of an EXISTS
+  values_whole : (es : List Entry) → Spans (value_spans es) → All (IsWholeEntry text) es
+  values_whole [] h = All-nil (IsWholeEntry text)
+  values_whole (x ∷ es) h = All-cons (IsWholeEntry text) x es (All-head (IsWhole text) x.value_span (value_spans es) h) (values_whole es (All-tail (IsWhole text) x.value_span (value_spans es) h))
+
+  hops_whole : (hs : List Hop) → Spans (flat_map hop_spans hs) → All (IsWholeHop text) hs
+  hops_whole [] h = All-nil (IsWholeHop text)
+  hops_whole (x ∷ hs) h =
+      let own = front (hop_spans x) (flat_map hop_spans hs) h in
+      All-cons (IsWholeHop text) x hs
+      (record { rel = values_whole x.rel.map (front (value_spans x.rel.map) (value_spans x.node.map) own); node = values_whole x.node.map (back (value_spans x.rel.map) (value_spans x.node.map) own) })
+      (hops_whole hs (back (hop_spans x) (flat_map hop_spans hs) h))
+
+  path_whole : (p : Path) → Spans (path_spans p) → IsWholePath text p
+  path_whole p h = record { first = values_whole p.first.map (front (value_spans p.first.map) (flat_map hop_spans p.hops) h); hops = hops_whole p.hops (back (value_spans p.first.map) (flat_map hop_spans p.hops) h) }
+
+  pub exists_whole : (t : Ast) (p : Path) → (out-Ast t).node ≡ e.Exists p → Tree t → IsWholePath text p
+  exists_whole t p is h = path_whole p (inside t (e.Exists p) is h)

@@ -5,5 +5,6 @@ pub mod Resolved
 pub mod SliceLemmas
 pub mod SourceLemmas
 pub mod Splits
+pub mod Tests
 pub mod UseLemmas
 pub mod Walks

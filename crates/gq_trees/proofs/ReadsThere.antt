@@ -4,6 +4,7 @@ use Rattle.std.specs.List.{AllByRecursion}
 use Rattle.std.specs.Option.{option_map, option_and_then}
 use Rattle.gq_base.proofs.ListFacts.{found_within}
 use Rattle.gq_base.specs.Lists.{with_first}
+use Rattle.gq_base.specs.declared.Literal.TheVariants as literal
 use Rattle.gq_expr.specs.declared.Operand.{Operand}
 use Rattle.gq_expr.specs.declared.Expr.{Expr}
 use Rattle.gq_expr.specs.declared.Expr.TheVariants as expr
@@ -166,7 +167,7 @@ module _ (n m : ℕ) where
         (either_there (find_name s.nodes name) (find_name s.rels name) (λ v e. name_there s.nodes name n v nodes e) (λ x e. name_there s.rels name m x rels e))
     level (ast.Property name key) = property_there (find_name s.nodes name) (find_name s.rels name) key (λ v e. name_there s.nodes name n v nodes e) (λ x e. name_there s.rels name m x rels e)
     level (ast.Call name qs) = there_call name (all_some (map known (map (λ q. q.0) qs))) (all_known qs)
-    level (ast.Exists path) = tt
+    level (ast.Exists path) = subst (AllThere n m) (sym (reads_Literal (literal.Flag true))) tt
     level (ast.Paren q) = q.1
     level (ast.Negate q) = one_known expr.Negate reads_Negate q
     level (ast.Plus q) = one_known expr.Plus reads_Plus q

@@ -1,5 +1,5 @@
 -- The equation of `uses`, with a tree opened by one level, and what is found in several lists of names and calls.
-use Rattle.std.proofs.Common.{◌≡◌, ◌∙◌, ap, refl, Bool, ◌||◌, List, [], ◌∷◌, ◌++◌, Option, None}
+use Rattle.std.proofs.Common.{◌≡◌, ◌∙◌, ap, refl, Bool, ◌||◌, List, [], ◌∷◌, ◌++◌, Option}
 use Rattle.gq_base.proofs.OptionLaws.{or_assoc}
 use Rattle.std.specs.List.{list_any}
 use Rattle.std.specs.Option.{option_or}
@@ -8,11 +8,7 @@ use Rattle.std.proofs.lemmas.List.Folds.{list_any-append}
 use Rattle.gq_syntax.specs.declared.Ast.{Ast, out-Ast, fold_out-Ast}
 use Rattle.gq_trees.proofs.Resolved.{answered, opens}
 use Rattle.gq_scopes.specs.Patterns.{Name}
-use Rattle.gq_scopes.specs.Scopes.{Scope}
-use Rattle.gq_trees.specs.Checks.{check_of}
-use Rattle.gq_trees.specs.Uses.{Use, exists, uses, uses_step, all_uses, first_name}
-use Rattle.gq_trees.specs.declared.uses.Check.{Check}
-use Rattle.gq_trees.specs.declared.uses.Check.TheVariants as check
+use Rattle.gq_trees.specs.Uses.{Use, uses, uses_step, all_uses, first_name}
 use Rattle.gq_trees.specs.steps.Uses.{first_of}
 
 pub uses_out : (t : Ast) → uses t ≡ uses_step (answered uses (out-Ast t).node)
@@ -31,14 +27,7 @@ pub first_name_all : (check : Use → Option Name) (uss : List (List Use)) → f
 first_name_all check [] = refl
 first_name_all check (us ∷ uss) = first_name_append check us (all_uses uss) ∙ ap (option_or (first_name check us)) (first_name_all check uss)
 
--- no check of names refuses an EXISTS, which has no name
-pub exists_passes : (c : Check) (s : Scope) → check_of c s exists ≡ None
-exists_passes check.UnknownName s = refl
-exists_passes check.UnknownFunction s = refl
-exists_passes check.WrongCount s = refl
-exists_passes (check.AmbiguousName renamed) s = refl
-
-pub ruleset opening = (uses_out, first_name_append, first_name_all, exists_passes, length-map)
+pub ruleset opening = (uses_out, first_name_append, first_name_all, length-map)
 
 -- one of several lists together has what passes a test where one of the lists has it
 pub any_of_all : (p : Use → Bool) (uss : List (List Use)) → list_any p (all_uses uss) ≡ list_any (list_any p) uss

@@ -36,7 +36,7 @@ abbrev pub renamed_name : List Name → Use → Option Name
 renamed_name names (bare name) = refused_unless (not (is_among names name)) name
 renamed_name names (owner name) = refused_unless (not (is_among names name)) name
 renamed_name names (call name arguments) = None
-renamed_name names exists = None
+renamed_name names (exists path) = None
 
 -- a name in ORDER BY, by itself or with a property, is a variable, and AS gives it to another column
 abbrev pub ambiguous_name : Scope → List Item → Use → Option Name

@@ -1,6 +1,6 @@
 -- The expressions that trees stand for once their names are resolved (openCypher 9; the functions are those of this
 -- project's profile).
-use Rattle.std.specs.Prelude.{ℕ, Bool, Option, Some, None, List, [], ◌∷◌, map, flat_map, codes, if◌then◌else◌}
+use Rattle.std.specs.Prelude.{ℕ, Bool, true, Option, Some, None, List, [], ◌∷◌, map, flat_map, codes, if◌then◌else◌}
 use Rattle.std.specs.Option.{option_and_then, option_map}
 use Rattle.std.specs.Str.{str_eq_ignore_ascii_case, str_to_ascii_lowercase}
 use Rattle.gq_base.specs.Lists.{each}
@@ -22,6 +22,7 @@ use Rattle.gq_scopes.specs.Patterns.{Name}
 use Rattle.gq_trees.specs.declared.calls.CallForm.{CallForm}
 use Rattle.gq_trees.specs.declared.calls.CallForm.TheVariants as form
 use Rattle.gq_scopes.specs.Scopes.{Scope, bare, property}
+use Rattle.gq_trees.specs.PathTests.{PathTest, test_step}
 
 -- what a call stands for, by its name and its arguments
 abbrev pub Calls : Type 0
@@ -77,13 +78,14 @@ over_known node (Some e) ts = option_map (node e) ts
 abbrev pub over : {T : Type 0} → (Expr → List T → Expr) → Option Expr → List (Option T) → Option Expr
 over node e ts = over_known node e (all_some ts)
 
--- one level of a tree, by what its parts stand for; parentheses leave no trace
+-- one level of a tree, by what its parts stand for; parentheses leave no trace, and EXISTS, whose value no expression has, stands
+-- for true: it reads nothing, and never faults
 abbrev pub resolve_step : Calls → Scope → AstNode (Option Expr) → Option Expr
 resolve_step calls s (ast.Literal l) = Some (expr.Literal l)
 resolve_step calls s (ast.Variable name) = bare s name
 resolve_step calls s (ast.Property name key) = property s name key
 resolve_step calls s (ast.Call name es) = option_and_then (calls name) (all_some es)
-resolve_step calls s (ast.Exists path) = None
+resolve_step calls s (ast.Exists path) = Some (expr.Literal (literal.Flag true))
 resolve_step calls s (ast.Paren e) = e
 resolve_step calls s (ast.Negate e) = option_map expr.Negate e
 resolve_step calls s (ast.Plus e) = option_map expr.Plus e
@@ -96,19 +98,20 @@ resolve_step calls s (ast.Test e ts) = over expr.Test e (map bound_tester ts)
 resolve_step calls s (ast.Sum e ts) = over expr.Arith e (map bound_term ts)
 resolve_step calls s (ast.Product e ts) = over expr.Arith e (map bound_term ts)
 
--- the expression that a tree stands for; none where it names what the scope does not have, a call is none, or it has an
--- EXISTS, which stands for no expression
+-- the expression that a tree stands for; none where it names what the scope does not have, or a call is none
 unfoldable pub resolved : Calls → Scope → Ast → Option Expr
 resolved calls s = fold-Ast (Option Expr) (λ a. resolve_step calls s a.node)
 
--- a conjunct of a condition and its place in the text
+-- a conjunct of a condition, its place in the text, and the test of a path that it is, if it is one
 pub record Conjunct : Type 0 where
   pub span : Span
   pub expr : Option Expr
+  pub test : Option PathTest
 
--- what a condition stands for, and its conjuncts
+-- what a condition stands for, the test that it is, and its conjuncts
 pub record Split : Type 0 where
   pub expr : Option Expr
+  pub test : Option PathTest
   pub conjuncts : List Conjunct
 
 abbrev pub split_node : AstNode Split → Conjunct → List Conjunct
@@ -120,7 +123,8 @@ split_node node whole = whole ∷ []
 abbrev pub split_step : Calls → Scope → AstNode Split → Span → Split
 split_step calls s node span =
     let whole : Option Expr = resolve_step calls s (parts.map Split (Option Expr) (λ part. part.expr) node) in
-    record { expr = whole; conjuncts = split_node node (record { span = span; expr = whole }) }
+    let test : Option PathTest = test_step (parts.map Split (Option PathTest) (λ part. part.test) node) in
+    record { expr = whole; test = test; conjuncts = split_node node (record { span = span; expr = whole; test = test }) }
 
 -- the conjuncts of a condition: those of the members of an AND, those within parentheses, else itself
 unfoldable pub split : Calls → Scope → Ast → Split

@@ -6,17 +6,19 @@ use Rattle.std.specs.Option.{option_or}
 use Rattle.gq_syntax.specs.declared.Ast.{Ast, fold-Ast}
 use Rattle.gq_syntax.specs.declared.AstNode.{AstNode}
 use Rattle.gq_syntax.specs.declared.AstNode.TheVariants as ast
+use Rattle.gq_syntax.specs.declared.Hop.{Hop}
+use Rattle.gq_syntax.specs.declared.Path.{Path}
 use Rattle.gq_syntax.specs.declared.Term.{Term}
 use Rattle.gq_scopes.specs.Patterns.{Name}
 use Rattle.gq_trees.specs.Resolving.{is_function}
 use Rattle.gq_scopes.specs.Scopes.{Scope, is_known, is_variable}
 
--- a name by itself, a name with a property, a call with a number of arguments, or an EXISTS
+-- a name by itself, a name with a property, a call with a number of arguments, or an EXISTS of a path
 pub data Use : Type 0 where
   bare : Name → Use
   owner : Name → Use
   call : Name → ℕ → Use
-  exists : Use
+  exists : Path → Use
 
 abbrev pub term_uses : {O : Type 0} → Term O (List Use) → List Use
 term_uses t = t.tree
@@ -30,7 +32,7 @@ uses_step (ast.Literal l) = []
 uses_step (ast.Variable name) = bare name ∷ []
 uses_step (ast.Property name key) = owner name ∷ []
 uses_step (ast.Call name uss) = call name (length uss) ∷ all_uses uss
-uses_step (ast.Exists path) = exists ∷ []
+uses_step (ast.Exists path) = exists path ∷ []
 uses_step (ast.Paren us) = us
 uses_step (ast.Negate us) = us
 uses_step (ast.Plus us) = us
@@ -48,7 +50,7 @@ unfoldable pub uses : Ast → List Use
 uses = fold-Ast (List Use) (λ a. uses_step a.node)
 
 abbrev pub is_exists : Use → Bool
-is_exists exists = true
+is_exists (exists path) = true
 is_exists u = false
 
 -- a tree has an EXISTS
@@ -64,12 +66,24 @@ abbrev pub refused_unless : Bool → Name → Option Name
 refused_unless true name = None
 refused_unless false name = Some name
 
--- a name that the scope does not have: by itself it may be a column or a variable, with a property a variable
+abbrev pub unless_variable : Scope → Option Name → Option Name
+unless_variable s None = None
+unless_variable s (Some name) = refused_unless (is_variable s name) name
+
+abbrev pub unknown_in_hops : Scope → List Hop → Option Name
+unknown_in_hops s [] = None
+unknown_in_hops s (h ∷ hs) = option_or (unless_variable s h.rel.name) (option_or (unless_variable s h.node.name) (unknown_in_hops s hs))
+
+-- the first name in a path that is no variable of the scope
+abbrev pub unknown_in : Scope → Path → Option Name
+unknown_in s path = option_or (unless_variable s path.first.name) (unknown_in_hops s path.hops)
+
+-- a name that the scope does not have: by itself it may be a column or a variable, with a property and in a path a variable
 abbrev pub unknown_name : Scope → Use → Option Name
 unknown_name s (bare name) = refused_unless (is_known s name) name
 unknown_name s (owner name) = refused_unless (is_variable s name) name
 unknown_name s (call name arguments) = None
-unknown_name s exists = None
+unknown_name s (exists path) = unknown_in s path
 
 abbrev pub is_some_function : Name → Bool
 is_some_function name = is_function name (codes "type") || is_function name (codes "coalesce")

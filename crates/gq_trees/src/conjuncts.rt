@@ -1,6 +1,7 @@
 //! The conjuncts of a condition.
-ghost use Rattle.std.specs.Prelude.{◌≡◌, ◌∷◌, ◌++◌, [], map, All, IfOk};
-ghost use Rattle.gq_trees.specs.Conjuncts.{conjunct_expr};
+ghost use Rattle.std.specs.Prelude.{◌≡◌, ◌∷◌, ◌++◌, [], All, IfOk};
+ghost use Rattle.std.specs.Option.{option_map};
+ghost use Rattle.gq_trees.specs.Conjuncts.{tests_of, values_of};
 ghost use Rattle.gq_trees.specs.steps.Conjuncts.{conjuncts_in, listed_behind, whole_conjunct};
 ghost use Rattle.gq_trees.specs.Resolving as resolving;
 ghost use Rattle.gq_trees.specs.Resolving.{split, all_some};
@@ -9,6 +10,7 @@ ghost use Rattle.gq_syntax.specs.Spans.{IsWholeTree};
 ghost use Rattle.gq_syntax.specs.declared.Ast.{out-Ast};
 
 use crate::calls::CallForm;
+use crate::path_tests::{NamedTest, test_of};
 use crate::resolution::resolve;
 use crate::source::source_text;
 use gq_base::{List, Memory};
@@ -17,35 +19,48 @@ use gq_scopes::Scope;
 use gq_syntax::{Ast, AstNode};
 use std::alloc::Global;
 
-/// The conjuncts of a condition in text order, each called by its source text: those of the members of an AND, those
-/// within parentheses, else the condition itself. `None` where the condition names what the scope does not have, or a
-/// call of it is none. The parts of the condition begin and end between characters of the text.
-pub fn conjuncts_of(
+/// The conjuncts of conditions in text order: those of values, and the tests of paths.
+#[derive(Drop)]
+pub struct Conjuncts<'t> {
+    pub values: List<NamedExpr>,
+    pub tests: List<NamedTest<'t>>,
+}
+
+/// The conjuncts of a condition, each called by its source text: those of the members of an AND, those within
+/// parentheses, else the condition itself. `None` where the condition names what the scope does not have, or a call of
+/// it is none. The parts of the condition begin and end between characters of the text.
+pub fn conjuncts_of<'t>(
     alloc: Global,
     text: &[u8],
     scope: &Scope<'_>,
-    tree: &Ast,
-) -> Result<Option<List<NamedExpr>>, Memory>
+    tree: &'t Ast,
+) -> Result<Option<Conjuncts<'t>>, Memory>
     requires { IsWholeTree text.now tree.now }
     ensures { let conjuncts = (split resolving.functions scope.now tree.now).conjuncts in
-        IfOk result (λ cs. cs ≡ all_some (map (conjunct_expr text.now) conjuncts)) }
+        IfOk result (λ found. found ≡ option_map
+        (λ es. record { values = es; tests = tests_of text.now conjuncts })
+        (all_some (values_of text.now conjuncts))) }
 {
-    with_conjuncts(alloc, text, scope, tree, List::new(alloc))
+    let none = Conjuncts {
+        values: List::new(alloc),
+        tests: List::new(alloc),
+    };
+    with_conjuncts(alloc, text, scope, tree, none)
 }
 
 // The conjuncts of a condition, behind those that stand already.
 #[cycle(with_conjuncts)]
 #[tactic(auto, using(crate::proofs::Splits::opening))]
-fn with_conjuncts(
+fn with_conjuncts<'t>(
     alloc: Global,
     text: &[u8],
     scope: &Scope<'_>,
-    tree: &Ast,
-    before: List<NamedExpr>,
-) -> Result<Option<List<NamedExpr>>, Memory>
+    tree: &'t Ast,
+    before: Conjuncts<'t>,
+) -> Result<Option<Conjuncts<'t>>, Memory>
     ensures { let conjuncts = (split resolving.functions scope.now tree.now).conjuncts in
         IfOk result (λ cs. IsWholeTree text.now tree.now
-        → cs ≡ listed_behind before text.now conjuncts) }
+        → cs ≡ listed_behind before.entry text.now conjuncts) }
 {
     match &tree.node {
         AstNode::And(all) => with_all_conjuncts(alloc, text, scope, all.as_slice(), before),
@@ -55,15 +70,15 @@ fn with_conjuncts(
 }
 
 #[cycle(with_conjuncts)]
-fn with_all_conjuncts(
+fn with_all_conjuncts<'t>(
     alloc: Global,
     text: &[u8],
     scope: &Scope<'_>,
-    trees: &[Ast],
-    before: List<NamedExpr>,
-) -> Result<Option<List<NamedExpr>>, Memory>
+    trees: &'t [Ast],
+    before: Conjuncts<'t>,
+) -> Result<Option<Conjuncts<'t>>, Memory>
     ensures { IfOk result (λ cs. All (IsWholeTree text.now) trees.now
-        → cs ≡ listed_behind before text.now (conjuncts_in scope.now trees.now)) }
+        → cs ≡ listed_behind before.entry text.now (conjuncts_in scope.now trees.now)) }
 {
     let mut all = before;
     for tree in trees {
@@ -76,19 +91,27 @@ fn with_all_conjuncts(
 }
 
 // A condition that is one conjunct, behind those that stand already.
-fn with_whole(
+fn with_whole<'t>(
     alloc: Global,
     text: &[u8],
     scope: &Scope<'_>,
-    tree: &Ast,
-    before: List<NamedExpr>,
-) -> Result<Option<List<NamedExpr>>, Memory>
+    tree: &'t Ast,
+    before: Conjuncts<'t>,
+) -> Result<Option<Conjuncts<'t>>, Memory>
     ensures { IfOk result (λ cs. IsWhole text.now (out-Ast tree.now).span
-        → cs ≡ listed_behind before text.now (whole_conjunct scope.now tree.now ∷ [])) }
+        → cs ≡ listed_behind before.entry text.now (whole_conjunct scope.now tree.now ∷ [])) }
 {
+    let Conjuncts { values, tests } = before;
     let name = source_text(alloc, text, tree.span)?;
+    if let Some(test) = test_of(tree) {
+        let tests = appended(tests, NamedTest { name, test })?;
+        return Ok(Some(Conjuncts { values, tests }));
+    }
     match resolve(alloc, CallForm::Functions, scope, tree)? {
-        Some(expr) => Ok(Some(appended(before, NamedExpr { name, expr })?)),
+        Some(expr) => {
+            let values = appended(values, NamedExpr { name, expr })?;
+            Ok(Some(Conjuncts { values, tests }))
+        }
         None => Ok(None),
     }
 }

@@ -6,14 +6,14 @@ ghost use Rattle.gq_trees.specs.Resolving.{over_known};
 ghost use Rattle.gq_trees.specs.steps.Trees.{term_with, tester_with};
 
 use crate::calls::{CallForm, call};
-use gq_base::{Boxed, List, Memory};
+use gq_base::{Boxed, List, Literal, Memory};
 use gq_expr::{ArithOperand, CompareOperand, Expr, ExprTester, Operand, Tester};
 use gq_scopes::{Copying, Scope, copy_literal, copy_literals};
 use gq_syntax::{ArithTerm, Ast, AstNode, AstTester, CompareTerm, Tester as Tested};
 use std::alloc::Global;
 
-/// The expression that a tree stands for, or `None` where it names what the scope does not have, a call is none, or it
-/// has an EXISTS.
+/// The expression that a tree stands for, or `None` where it names what the scope does not have, or a call is none. An
+/// EXISTS, whose value no expression has, stands for true.
 pub fn resolve(
     alloc: Global,
     calls: CallForm,
@@ -68,7 +68,7 @@ impl<'r, 's> Resolver<'r, 's> {
                 Some(all) => call(self.alloc, self.calls, name, all),
                 None => Ok(None),
             },
-            AstNode::Exists(_) => Ok(None),
+            AstNode::Exists(_) => Ok(Some(Expr::Literal(Literal::Flag(true)))),
             AstNode::Paren(inner) => self.part(copying, inner.get()),
             AstNode::Negate(inner) => Ok(self.boxed(copying, inner.get())?.map(Expr::Negate)),
             AstNode::Plus(inner) => Ok(self.boxed(copying, inner.get())?.map(Expr::Plus)),

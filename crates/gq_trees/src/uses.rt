@@ -5,14 +5,14 @@ ghost use Rattle.std.specs.Option.{option_copied};
 ghost use Rattle.gq_trees.specs.Checks.{check_of};
 ghost use Rattle.gq_trees.specs.steps.Trees.{term_with, tester_with};
 ghost use Rattle.gq_trees.specs.Uses as uses;
-ghost use Rattle.gq_trees.specs.Uses.{first_name, term_uses, bare, owner};
+ghost use Rattle.gq_trees.specs.Uses.{first_name, term_uses, bare, owner, exists};
 ghost use Rattle.gq_trees.specs.Uses.{refused_unless, takes, is_some_function};
 ghost use Rattle.gq_trees.specs.steps.Uses.{first_of};
 
 use crate::renames::Renamed;
 use gq_base::Text;
 use gq_scopes::Scope;
-use gq_syntax::{ArithTerm, Ast, AstNode, AstTester, CompareTerm, Tester};
+use gq_syntax::{ArithTerm, Ast, AstNode, AstTester, CompareTerm, Hop, Path, Tester};
 
 /// What is looked for in an expression.
 #[derive(Clone, Copy)]
@@ -35,7 +35,8 @@ pub fn first_refused<'t>(check: Check<'_>, scope: &Scope<'_>, tree: &'t Ast) -> 
         ≡ first_name (check_of check.entry scope.now) (uses.uses tree.now) }
 {
     match &tree.node {
-        AstNode::Literal(_) | AstNode::Exists(_) => None,
+        AstNode::Literal(_) => None,
+        AstNode::Exists(path) => refused_path(check, scope, path),
         AstNode::Variable(name) => refused_name(check, scope, name, true),
         AstNode::Property(name, _) => refused_name(check, scope, name, false),
         AstNode::Call(name, all) => match refused_call(check, scope, name, all.len()) {
@@ -174,6 +175,49 @@ fn refused_call<'t>(
         Check::UnknownFunction => unless(names_function(name), name),
         Check::WrongCount => unless(takes_arguments(name, arguments), name),
         Check::AmbiguousName(_) => None,
+    }
+}
+
+fn refused_path<'t>(check: Check<'_>, scope: &Scope<'_>, path: &'t Path) -> Option<&'t Text>
+    ensures { option_copied result ≡ check_of check.entry scope.now (exists path.now) }
+{
+    match check {
+        Check::UnknownName => unknown_in(scope, path),
+        Check::UnknownFunction | Check::WrongCount | Check::AmbiguousName(_) => None,
+    }
+}
+
+// The first name in a path that is no variable.
+fn unknown_in<'t>(scope: &Scope<'_>, path: &'t Path) -> Option<&'t Text>
+    ensures { option_copied result ≡ uses.unknown_in scope.now path.now }
+{
+    match unless_variable(scope, &path.first.name) {
+        Some(name) => Some(name),
+        None => unknown_in_hops(scope, path.hops.as_slice()),
+    }
+}
+
+fn unknown_in_hops<'t>(scope: &Scope<'_>, hops: &'t [Hop]) -> Option<&'t Text>
+    ensures { option_copied result ≡ uses.unknown_in_hops scope.now hops.now }
+{
+    for hop in hops {
+        let unknown = match unless_variable(scope, &hop.rel.name) {
+            Some(name) => Some(name),
+            None => unless_variable(scope, &hop.node.name),
+        };
+        if let Some(name) = unknown {
+            return Some(name);
+        }
+    }
+    None
+}
+
+fn unless_variable<'t>(scope: &Scope<'_>, name: &'t Option<Text>) -> Option<&'t Text>
+    ensures { option_copied result ≡ uses.unless_variable scope.now name.now }
+{
+    match name {
+        None => None,
+        Some(name) => unless(scope.knows(name, false), name),
     }
 }
 

@@ -14,17 +14,17 @@ use Rattle.gq_binder.specs.Refusals.{items_in, sorts_in, first_in, not_built, va
 use Rattle.gq_binder.specs.declared.parts.QueryParts.{QueryParts}
 use Rattle.gq_binder.specs.declared.refusal.BindRefusal.{BindRefusal}
 use Rattle.gq_binder.specs.declared.refusal.BindRefusal.TheVariants as refusal
-use Rattle.gq_trees.specs.Conjuncts.{conjunct_expr}
+use Rattle.gq_trees.specs.Conjuncts.{values_of}
 use Rattle.gq_trees.specs.MadeOf.{column_exprs}
 use Rattle.gq_scopes.specs.Patterns.{Pattern, pattern_of}
 use Rattle.gq_trees.specs.Renames.{ambiguous_name}
 use Rattle.gq_trees.specs.Resolving.{as_lists, functions, split, all_some}
 use Rattle.gq_scopes.specs.Scopes.{scope_of}
 
--- the conjuncts of conditions, of those all of whose conjuncts stand for an expression
+-- the conjuncts of values of conditions, of those all of which stand for an expression
 abbrev pub known_conjuncts : List ℕ → List Scoped → List NamedExpr
 known_conjuncts text cs =
-    flat_map (λ c. unwrap_or (all_some (map (conjunct_expr text) (split functions c.scope c.tree).conjuncts)) []) cs
+    flat_map (λ c. unwrap_or (all_some (values_of text (split functions c.scope c.tree).conjuncts)) []) cs
 
 -- the parts of a query that stands in a text
 unfoldable pub parts_of : List ℕ → Query → QueryParts
