@@ -11,8 +11,8 @@ use Rattle.gq_plan.proofs.Each.{each_of}
 use Rattle.gq_alternatives.specs.Alternatives.{Reading}
 use Rattle.gq_alternatives.specs.steps.Branching.{unknown}
 use Rattle.gq_alternatives.specs.steps.Narrowing.{ends_in, has, is_in, restricting, those_of, with_number}
-use Rattle.gq_alternatives.specs.steps.Searching.{Step, agreeing, kept, standing, stands, stands_at, supported, supports}
-use Rattle.gq_alternatives.proofs.Narrowed.{standing_agree, supported_agree}
+use Rattle.gq_alternatives.specs.steps.Searching.{Step, agreeing, standing, stands, stands_at, supports}
+use Rattle.gq_alternatives.proofs.Narrowed.{kept, standing_agree, supported, supported_agree}
 use Rattle.gq_alternatives.proofs.Searches.{filter_both, filter_same}
 use Rattle.gq_scopes.specs.Patterns.{RelPattern}
 
