@@ -1,6 +1,6 @@
 -- What narrowing drops stands in no choice that agrees.
 use Rattle.std.proofs.Common.{◌≡◌, ℕ, zero, suc, ◌+◌, arith, not, Bool, true, false, ◌&&◌, ◌||◌, nat_eq, Option, Some, None, List, [], ◌∷◌, map, filter, flat_map, slice_get, refl, sym, ap, ap₂, ◌∙◌, true≢false, zero-add, ◌++◌}
-use Rattle.std.specs.List.{AllByRecursion, list_any}
+use Rattle.std.specs.List.{AllByRecursion, list_all, list_any}
 use Rattle.std.specs.Option.{option_map}
 use Rattle.std.proofs.Math.Bool.{and-false, or-true}
 use Rattle.std.proofs.lemmas.Bool.{and_parts, and_from, eqb-true, eq-eqb}
@@ -8,7 +8,7 @@ use Rattle.std.proofs.lemmas.List.Folds.{flat_map-map}
 use Rattle.gq_base.specs.Catalogs.{Tables}
 use Rattle.gq_plan.proofs.Each.{each_of, each_then, each_map, each_flat_map}
 use Rattle.gq_alternatives.specs.Alternatives.{Reading, Choice, source_of, target_of, same_table}
-use Rattle.gq_alternatives.specs.steps.Searching.{Step, one_of_each, ends_agree, all_ends_agree, agreeing, stands_at, stands, standing, suits, supports, supported, kept}
+use Rattle.gq_alternatives.specs.steps.Searching.{Step, one_of_each, ends_agree, all_ends_agree, agreeing, stands_at, stands, standing, suits, supports}
 use Rattle.gq_alternatives.proofs.Searches.{filter_both, filter_cons, flat_map_flat_map, flat_map_same, flat_map_none, flat_map_filtered, filter_none, filter_same}
 use Rattle.gq_scopes.specs.Patterns.{RelPattern}
 
@@ -99,6 +99,15 @@ module _ (catalog : Tables) (lists : List (List ℕ)) where
       (λ cs p q h. ap (map (λ ts. record { readings = cs; tables = ts })) (filter_same p q (one_of_each lists) h)) ss)
 
 -- ---- the tables that are supported
+
+-- each relationship pattern has a reading that does not deny a variable a table
+abbrev pub supported : Tables → List Step → ℕ → ℕ → Bool
+supported catalog steps v table = list_all (supports catalog v table) steps
+
+-- of the lists of the variables from one on, what passes a test
+abbrev pub kept : (ℕ → ℕ → Bool) → ℕ → List (List ℕ) → List (List ℕ)
+kept fits v [] = []
+kept fits v (ts ∷ tss) = filter (fits v) ts ∷ kept fits (suc v) tss
 
 abbrev fits : (ℕ → ℕ → Bool) → ℕ → List ℕ → Bool
 fits fit v [] = true

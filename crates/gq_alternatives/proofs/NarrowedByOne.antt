@@ -10,9 +10,9 @@ use Rattle.gq_base.specs.Catalogs.{Tables}
 use Rattle.gq_plan.proofs.Each.{each_of}
 use Rattle.gq_alternatives.specs.Alternatives.{Reading}
 use Rattle.gq_alternatives.specs.steps.Branching.{unknown}
-use Rattle.gq_alternatives.specs.steps.Narrowing.{ends_in, has, is_in, restricting, those_of, with_table}
-use Rattle.gq_alternatives.specs.steps.Searching.{Step, agreeing, kept, standing, stands, stands_at, supported, supports}
-use Rattle.gq_alternatives.proofs.Narrowed.{standing_agree, supported_agree}
+use Rattle.gq_alternatives.specs.steps.Narrowing.{ends_in, has, is_in, restricting, those_of, with_number}
+use Rattle.gq_alternatives.specs.steps.Searching.{Step, agreeing, standing, stands, stands_at, supports}
+use Rattle.gq_alternatives.proofs.Narrowed.{kept, standing_agree, supported, supported_agree}
 use Rattle.gq_alternatives.proofs.Searches.{filter_both, filter_same}
 use Rattle.gq_scopes.specs.Patterns.{RelPattern}
 
@@ -28,7 +28,7 @@ has_more marks = λ i t. go marks t i
     go (x ∷ xs) zero = refl
     go (x ∷ xs) (suc t) = go xs t
 
-pub has_set : (marks : List Bool) (table : ℕ) → table < length marks → has (slice_set marks table true) ≡ with_table table (has marks)
+pub has_set : (marks : List Bool) (table : ℕ) → table < length marks → has (slice_set marks table true) ≡ with_number table (has marks)
 has_set marks table low = λ i t. go t (nat_eq table t) refl i
   where
     go : (t : ℕ) (b : Bool) → nat_eq table t ≡ b → get_or (slice_set marks table true) t false ≡ (get_or marks t false || nat_eq table t)

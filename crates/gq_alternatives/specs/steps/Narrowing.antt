@@ -6,13 +6,13 @@ use Rattle.gq_alternatives.specs.Alternatives.{Reading}
 use Rattle.gq_alternatives.specs.steps.Searching.{stands_at}
 use Rattle.gq_scopes.specs.Patterns.{RelPattern}
 
--- a set of tables, by the marks at their places
+-- a set of numbers, by the marks at their places
 abbrev pub has : List Bool → ℕ → Bool
-has marks t = slice_index_or marks t false
+has marks n = slice_index_or marks n false
 
--- a set with one more table
-abbrev pub with_table : ℕ → (ℕ → Bool) → ℕ → Bool
-with_table table set t = set t || nat_eq table t
+-- a set with one more number
+abbrev pub with_number : ℕ → (ℕ → Bool) → ℕ → Bool
+with_number number set n = set n || nat_eq number n
 
 -- the tables that a node variable may have, if there is one
 abbrev pub those_of : Option (List ℕ) → ℕ → Bool
