@@ -147,7 +147,7 @@ module _ (words : List (List ℕ)) (files : Names) (input : List ℕ) where
   no_load Says refusal not over =
       let same : over.path ≡ not.path = paths Says over not.read not.given not.path not.from in
       let both : ◌≡◌ {A = Result Graph LoadRefusal} (Err refusal) (Ok over.told.0) =
-          sym not.told ∙ subst (λ p. load_of p files standard ≡ Ok over.told.0) same over.told.1 in
+      sym not.told ∙ subst (λ p. load_of p files standard ≡ Ok over.told.0) same over.told.1 in
       cc both
 
   no_input : (Says : Context → List ℕ → Type 0) (read : Words) (given : IsRead words read) (size : ℕ) → read.source ≡ source.Sample size → OnInput Says → ⊥

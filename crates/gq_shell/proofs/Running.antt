@@ -206,7 +206,7 @@ module _ (words : List (List ℕ)) (o : Outside) where
         not_read : (behind : List Param) (read : Had behind (Err stop.Read)) → Ends words o read.eaten status.ReadFault
         not_read behind read = inr (
           over o.held (Some read.eaten) (λ c text. AnswersEnded c text o.taken o.took) loads (λ text told.
-          subst (λ e. AnswersEnded here e o.taken o.took) (same_told (Some read.eaten) read.eaten text refl told) (read.ends.0, behind, read.ends.1)),
+              subst (λ e. AnswersEnded here e o.taken o.took) (same_told (Some read.eaten) read.eaten text refl told) (read.ends.0, behind, read.ends.1)),
           read.ends.2,
         )
 

@@ -2,7 +2,7 @@
 -- It rests on `IsRead` and `IsMisused` (what the words say), `load_of` (which graph the files give) and `load_line` (how a
 -- refused load is spelled), `sample_graph` and `questions` (the sample), `statements` (how an input is cut), `IsTooLong`
 -- (which inputs are refused), and `IsTurn` (which replies a statement may have, what each is like, and the parameters then).
-use Rattle.std.specs.Prelude.{◌≡◌, ◌⊎◌, ℕ, ◌+◌, ◌≤◌, false, List, [], length, codes, Option, Some, Result, Ok, Err, IfSome, IsSome, slice_get, take}
+use Rattle.std.specs.Prelude.{◌≡◌, ◌⊎◌, ℕ, ◌+◌, ◌≤◌, false, List, [], length, codes, Option, Some, Ok, Err, IfSome, IsSome, slice_get, take}
 use Rattle.std.specs.Io.KnownBytes.{Appends, Consumes, IsAtEnd, Keeps}
 use Rattle.gq_base.specs.Plain.{Graph}
 use Rattle.gq_execute.specs.declared.settings.Order.{Order}

@@ -1,9 +1,9 @@
-use Rattle.std.proofs.Common.{◌≡◌, Some, None, refl, sym, ap, ap₂, ◌∙◌, subst}
+use Rattle.std.proofs.Common.{◌≡◌, Some, None, refl, sym, ap₂, ◌∙◌, subst}
 use Rattle.gq_base.specs.Values.{literal_val}
 use Rattle.gq_render.specs.Texts.{param_line}
 use Rattle.gq_reply.proofs.Replying.{replied}
 use Rattle.gq_reply.proofs.SetValue.{value_got}
-use Rattle.gq_tokens.specs.Parameters.{IsFull, value_of}
+use Rattle.gq_tokens.specs.Parameters.{IsFull}
 use Rattle.gq_session.specs.declared.answering.Tone.TheVariants as tone
 use Rattle.gq_reply.proofs.param.reply_to_param.Goals as goal
 
