@@ -49,6 +49,8 @@ class Source:  # a file: what its words bring from elsewhere, its items, and its
     def __init__(self, path):
         self.path, self.text = path.relative_to(CRATES), path.read_text().replace("::", ".")
         self.crate, self.is_rust = self.path.parts[0], path.suffix == ".rt"
+        if not self.is_rust:  # a comment behind code
+            self.text = re.sub(r"(?<=\S) +-- .*$", "", self.text, flags=re.M)
         self.items, self.declared, self.imports, self.uses = [], {}, {}, {}
         for ghost, module, names, alias in IMPORT.findall(self.text):
             for name, _, other in (item.strip().partition(" as ") for item in names.strip(", \n").split(",")):
