@@ -1,6 +1,6 @@
 //! Takes the lines of a case: a line's first word says what it is.
 
-use crate::case::{Case, CaseFile, Place, Stop};
+use crate::case::{Case, CaseFile, Orders, Place, Stop};
 use crate::spelled::push_line;
 use std::fs;
 
@@ -66,7 +66,8 @@ fn take_word(rt: &HostRuntime, case: &mut Case, word: &str, rest: &str) -> Resul
         "input" if rest.is_empty() => case.place = Place::Input,
         "fails" => set_failing(case, rest)?,
         "pieces" => case.piece = Some(piece_of(rest)?),
-        "orders" if rest == "all" => case.all_orders = true,
+        "orders" if rest == "both" => case.orders = Orders::Both,
+        "orders" if rest == "all" => case.orders = Orders::All,
         "status" => case.status = Some(status_of(rest)?),
         _ => return Err(Stop::Malformed),
     }
