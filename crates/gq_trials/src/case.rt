@@ -70,12 +70,12 @@ impl SeriesOf {
     }
 }
 
-/// A case with a series is run once for each number from the first to the last.
+/// A case with a series is run once for each number from the first to the one before the end.
 #[derive(Clone, Copy)]
 pub struct Series {
     pub of: SeriesOf,
     pub first: u32,
-    pub last: u32,
+    pub end: u32,
 }
 
 /// What the program is given: its words, whether each order is to be named behind them, the files, of which the last of a

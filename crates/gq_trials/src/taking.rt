@@ -38,11 +38,13 @@ fn number_of(text: &str) -> Result<u32, Stop> {
 fn set_series(case: &mut Case, of: SeriesOf, text: &str) -> Result<(), Stop> {
     let (first, last) = text.split_once('-').unwrap_or((text, text));
     let first = number_of(first)?;
-    let last = number_of(last)?;
-    if last < first || case.series.is_some() {
+    let Some(end) = number_of(last)?.checked_add(1) else {
+        return Err(Stop::Malformed);
+    };
+    if end <= first || case.series.is_some() {
         return Err(Stop::Malformed);
     }
-    case.series = Some(Series { of, first, last });
+    case.series = Some(Series { of, first, end });
     Ok(())
 }
 

@@ -182,7 +182,7 @@ fn differs_with(alloc: Global, trial: Trial<'_>) -> Result<Option<Got>, Stop> {
         return differs_at(alloc, trial);
     };
     let mut numbered = trial;
-    for number in series.first..=series.last {
+    for number in series.first..series.end {
         numbered.turn = Some(Turn {
             of: series.of,
             number,
