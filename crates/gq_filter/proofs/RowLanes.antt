@@ -1,28 +1,35 @@
 -- The lanes of a condition in a row have the values of what it reads there.
-use Rattle.std.proofs.Common.{◌≡◌, ◌≤◌, ◌∙◌, [], refl, ℕ, List, Option, Some, None, true, length, map, sym, ap, subst, arith, inl, inr}
+use mathlib.Core.Path.{fun_ext}
+use Rattle.std.proofs.Common.{◌≡◌, ◌≢◌, ◌++◌, ◌∷◌, zero, suc, is_some, ◌≤◌, ◌<◌, ◌∙◌, [], refl, ℕ, List, Option, Some, None, true, length, map, sym, ap, subst, arith, inl, inr}
 use Rattle.std.specs.Prelude.{slice_get, IfSome}
 use Rattle.std.specs.Option.{option_map}
-use Rattle.std.proofs.lemmas.Bool.{cases_lt}
+use Rattle.std.proofs.lemmas.Bool.{cases_lt, false≢true, true≢false}
 use Rattle.std.proofs.lemmas.Option.{slice_get-map, slice_get_past, IfSome_then}
 use Rattle.std.proofs.lemmas.List.{get_or_past}
 use Rattle.gq_base.specs.Plain.{Graph}
 use Rattle.gq_base.specs.Plain as plain
-use Rattle.gq_base.specs.Valid.{row_count}
+use Rattle.gq_base.specs.Valid.{is_of_kind, row_count}
 use Rattle.gq_base.specs.Values.{null}
 use Rattle.gq_base.specs.declared.Cell.{Cell}
+use Rattle.gq_base.specs.declared.cell.Cell.TheVariants as cell
+use Rattle.gq_base.specs.declared.Kind.{Kind}
+use Rattle.gq_base.specs.declared.Kind.TheVariants as kind
 use Rattle.gq_base.specs.declared.NodeTable.{NodeTable}
 use Rattle.gq_column.specs.Cells.{cell_at}
 use Rattle.gq_dict.proofs.OneDict.{one_dict}
 use Rattle.gq_expr.specs.Reading as reading
-use Rattle.gq_expr.specs.Reading.{get_in, property_at, node_property}
-use Rattle.gq_plan.proofs.Rows.{node_read}
+use Rattle.gq_expr.specs.Reading.{get_in, property_at, node_property, rel_property}
+use Rattle.gq_plan.proofs.Rows.{node_read, rel_read}
 use Rattle.gq_plan.specs.Rows.{as_read}
-use Rattle.gq_plan.specs.steps.Rows.{node_in}
+use Rattle.gq_plan.specs.steps.Rows.{node_in, rel_in}
 use Rattle.gq_plan.specs.declared.assignment.Assignment.{Assignment}
 use Rattle.gq_plan.specs.declared.bound.NamedExpr.{NamedExpr}
 use Rattle.gq_plan.specs.declared.typed.Typed.{Typed}
-use Rattle.gq_plan.specs.declared.variable.Variable.TheVariants.{Node}
+use Rattle.gq_plan.specs.declared.variable.Variable.{Variable}
+use Rattle.gq_plan.specs.declared.variable.Variable.TheVariants.{Node, Rel}
+use Rattle.gq_store.specs.Cells.{rel_cell, rel_fields}
 use Rattle.gq_store.specs.Columns.{IsDictOf, node_cells}
+use Rattle.gq_store.specs.RelColumns.{rel_cells}
 use Rattle.gq_filter.proofs.Deciding.{kept_by}
 use Rattle.gq_plan.specs.Conditions.{passes}
 use Rattle.gq_filter.specs.LaneTests.{holds}
@@ -33,7 +40,7 @@ use Rattle.gq_filter.specs.declared.feeds.Feed.{Feed}
 use Rattle.gq_filter.specs.declared.lane_test.LaneTest.{LaneTest}
 use Rattle.gq_filter.specs.declared.source.ColumnId.{ColumnId}
 use Rattle.gq_filter.specs.declared.source.LaneSource.{LaneSource}
-use Rattle.gq_filter.specs.steps.RowCells.{AreFeedsIn, DecidesRows, IsFeedIn, cell_in, cell_of, cells_of, row_of}
+use Rattle.gq_filter.specs.steps.RowCells.{AreFeedsIn, AreInside, AreOfNodes, DecidesRows, IsFeedIn, IsNodeFeedIn, IsOfNode, IsRelFeedIn, cell_in, cell_of, cells_of, lane_of, number_of, rel_lane}
 
 -- a node past the rows of its table has no properties
 no_cells : (name : List ℕ) (t : Option NodeTable) → plain.cell_val (reading.node_cell name t None) ≡ null
@@ -49,7 +56,7 @@ past_rows g table row name past =
     none (Some rows) h = slice_get_past rows row h
 
 -- a feed's cell in a row is what its source's value is in a lane
-module _ (g : Graph) (y : Typed) (feed : Feed) (f : IsFeedIn g y feed) where
+module _ (g : Graph) (y : Typed) (feed : Feed) (f : IsNodeFeedIn g y feed) where
   at_row : (o : Option ℕ) → IsInLane feed.source.kind feed.source.dict.now (property_at (node_property g) (node_in (Some f.table) o) f.name) (cell_in feed.column.now o)
   at_row None = refl
   at_row (Some row) = elim (cases_lt row (row_count g.nodes f.table)) [
@@ -59,15 +66,49 @@ module _ (g : Graph) (y : Typed) (feed : Feed) (f : IsFeedIn g y feed) where
         (get_or_past feed.column.now row None (omega (arith, past, f.is.rows)))
   ]
 
-  pub in_lane : (row : Assignment) → IsInLane feed.source.kind feed.source.dict.now (value_of g (as_read y row) feed.source) (cell_of row.nodes (Some feed))
-  in_lane row =
+  node_lane : (row : Assignment) → IsInLane feed.source.kind feed.source.dict.now (value_of g (as_read y row) feed.source) (cell_of g row (Some feed))
+  node_lane row =
       let at = as_read y row in
       let node : at.nodes f.variable ≡ node_in (Some f.table) (slice_get row.nodes f.variable) = node_read y row f.variable ∙ ap (λ t. node_in t (slice_get row.nodes f.variable)) f.table_is in
       let value : value_of g at feed.source ≡ property_at (node_property g) (node_in (Some f.table) (slice_get row.nodes f.variable)) f.name =
       ap (λ v. property_of g at v feed.source.name.now) f.is.variable_is ∙ ap (property_of g at (Node f.variable)) f.is.name_is ∙ ap (λ o. property_at (node_property g) o f.name) node in
-      let cell : cell_of row.nodes (Some feed) ≡ cell_in feed.column.now (slice_get row.nodes f.variable) = ap (λ v. cell_in feed.column.now (row_of row.nodes v)) f.is.variable_is in
-      subst (λ v. IsInLane feed.source.kind feed.source.dict.now v (cell_of row.nodes (Some feed))) (sym value)
+      let cell : cell_of g row (Some feed) ≡ cell_in feed.column.now (slice_get row.nodes f.variable) = ap (lane_of g row feed) f.is.variable_is in
+      subst (λ v. IsInLane feed.source.kind feed.source.dict.now v (cell_of g row (Some feed))) (sym value)
       (subst (λ c. IsInLane feed.source.kind feed.source.dict.now (property_at (node_property g) (node_in (Some f.table) (slice_get row.nodes f.variable)) f.name) c) (sym cell) (at_row (slice_get row.nodes f.variable)))
+
+-- a cell that is no text is in a lane what its value is
+coded : (k : Kind) (dict : List (List ℕ)) (c : Option Cell) → is_of_kind k c ≡ true → k ≢ kind.Str → IsInLane k dict (plain.cell_val c) (number_of (plain.cell_val c))
+coded k dict None of other = refl
+coded kind.Int dict (Some (cell.Int z)) of other = refl
+coded kind.Int dict (Some (cell.Str s)) of other = absurd (false≢true of)
+coded kind.Int dict (Some (cell.Flag b)) of other = absurd (false≢true of)
+coded kind.Flag dict (Some (cell.Int z)) of other = absurd (false≢true of)
+coded kind.Flag dict (Some (cell.Str s)) of other = absurd (false≢true of)
+coded kind.Flag dict (Some (cell.Flag b)) of other = refl
+coded kind.Str dict (Some c) of other = absurd (other refl)
+
+module _ (g : Graph) (y : Typed) (feed : Feed) (f : IsRelFeedIn g y feed) where
+  at_number : (o : Option ℕ) → IsInLane feed.source.kind feed.source.dict.now (property_at (rel_property g) (rel_in (Some f.rel) o) f.name) (rel_lane g feed.source.column o)
+  at_number None = refl
+  at_number (Some number) =
+      let c = rel_cell g f.rel.table f.is.property number in
+      let lane : rel_lane g feed.source.column (Some number) ≡ number_of (plain.cell_val c) = ap (λ (i : ColumnId). rel_lane g i (Some number)) f.is.column_is in
+      subst (IsInLane feed.source.kind feed.source.dict.now (rel_property g (record { table = f.rel.table; row = number }) f.name)) (sym lane)
+      (subst (λ v. IsInLane feed.source.kind feed.source.dict.now v (number_of (plain.cell_val c))) (f.is.values number) (coded feed.source.kind feed.source.dict.now c (f.is.kinds number) f.no_text))
+
+  rel_in_row : (row : Assignment) → IsInLane feed.source.kind feed.source.dict.now (value_of g (as_read y row) feed.source) (cell_of g row (Some feed))
+  rel_in_row row =
+      let at = as_read y row in
+      let found : at.rels f.variable ≡ rel_in (Some f.rel) (slice_get row.rels f.variable) = rel_read y row f.variable ∙ ap (λ r. rel_in r (slice_get row.rels f.variable)) f.rel_is in
+      let value : value_of g at feed.source ≡ property_at (rel_property g) (rel_in (Some f.rel) (slice_get row.rels f.variable)) f.name =
+      ap (λ v. property_of g at v feed.source.name.now) f.is.variable_is ∙ ap (property_of g at (Rel f.variable)) f.is.name_is ∙ ap (λ o. property_at (rel_property g) o f.name) found in
+      let cell : cell_of g row (Some feed) ≡ rel_lane g feed.source.column (slice_get row.rels f.variable) = ap (lane_of g row feed) f.is.variable_is in
+      subst (λ v. IsInLane feed.source.kind feed.source.dict.now v (cell_of g row (Some feed))) (sym value)
+      (subst (λ c. IsInLane feed.source.kind feed.source.dict.now (property_at (rel_property g) (rel_in (Some f.rel) (slice_get row.rels f.variable)) f.name) c) (sym cell) (at_number (slice_get row.rels f.variable)))
+
+in_lane : (g : Graph) (y : Typed) (feed : Feed) → IsFeedIn g y feed → (row : Assignment) → IsInLane feed.source.kind feed.source.dict.now (value_of g (as_read y row) feed.source) (cell_of g row (Some feed))
+in_lane g y feed (inl f) row = node_lane g y feed f row
+in_lane g y feed (inr f) row = rel_in_row g y feed f row
 
 -- the source of a lane is that of a feed
 source_at : (feeds : List Feed) (lane : ℕ) (s : LaneSource) → slice_get (map (λ (f : Feed). f.source) feeds) lane ≡ Some s → (f : Feed) × (slice_get feeds lane ≡ Some f) × (f.source ≡ s)
@@ -77,44 +118,81 @@ source_at feeds lane s is = found (slice_get feeds lane) refl (sym (slice_get-ma
     found None at h = cc h
     found (Some f) at h = (f, at, cc h)
 
-pub lanes_of_feeds : (g : Graph) (y : Typed) (feeds : List Feed) → AreFeedsIn g y feeds → (row : Assignment) → AreLanes g (as_read y row) (map (λ (f : Feed). f.source) feeds) (cells_of feeds row.nodes)
+pub lanes_of_feeds : (g : Graph) (y : Typed) (feeds : List Feed) → AreFeedsIn g y feeds → (row : Assignment) → AreLanes g (as_read y row) (map (λ (f : Feed). f.source) feeds) (cells_of g feeds row)
 lanes_of_feeds g y feeds are row = λ lane s is.
     let (f, at, same) = source_at feeds lane s is in
-    subst (λ (t : LaneSource). IsInLane t.kind t.dict.now (value_of g (as_read y row) t) (cells_of feeds row.nodes lane)) same
-    (subst (λ o. IsInLane f.source.kind f.source.dict.now (value_of g (as_read y row) f.source) (cell_of row.nodes o)) (sym at) (in_lane g y f (are lane f at) row))
+    subst (λ (t : LaneSource). IsInLane t.kind t.dict.now (value_of g (as_read y row) t) (cells_of g feeds row lane)) same
+    (subst (λ o. IsInLane f.source.kind f.source.dict.now (value_of g (as_read y row) f.source) (cell_of g row o)) (sym at) (in_lane g y f (are lane f at) row))
 
 -- columns of one table and one property have one dictionary
 dicts_of_one : (cells : List (Option Cell)) (d e : List (List ℕ)) → IsDictOf cells d → IsDictOf cells e → d ≡ e
 dicts_of_one cells d e a b = one_dict d e a.ascending b.ascending (λ t has. (b.same t).1 ((a.same t).0 has)) (λ t has. (a.same t).1 ((b.same t).0 has))
 
+dicts_same : (cells : ℕ → ℕ → List (Option Cell)) (d e : List (List ℕ)) (t u p q : ℕ) → t ≡ u → p ≡ q → IsDictOf (cells t p) d → IsDictOf (cells u q) e → d ≡ e
+dicts_same cells d e t u p q tables properties a b = dicts_of_one (cells u q) d e (subst (λ i. IsDictOf (cells u i) d) properties (subst (λ k. IsDictOf (cells k p) d) tables a)) b
+
+one_column : (g : Graph) (y : Typed) (f h : Feed) → IsFeedIn g y f → IsFeedIn g y h → f.source.column ≡ h.source.column → f.source.dict.now ≡ h.source.dict.now
+one_column g y f h (inl a) (inl b) same =
+    let column = sym a.is.column_is ∙ same ∙ b.is.column_is in
+    dicts_same (node_cells g) _ _ _ _ _ _ (ap (λ (c : ColumnId). c.table) column) (ap (λ (c : ColumnId). c.property) column) a.is.dict_is b.is.dict_is
+one_column g y f h (inl a) (inr b) same = absurd (false≢true (ap (λ (c : ColumnId). c.of_rels) (sym a.is.column_is ∙ same ∙ b.is.column_is)))
+one_column g y f h (inr a) (inl b) same = absurd (true≢false (ap (λ (c : ColumnId). c.of_rels) (sym a.is.column_is ∙ same ∙ b.is.column_is)))
+one_column g y f h (inr a) (inr b) same =
+    let column = sym a.is.column_is ∙ same ∙ b.is.column_is in
+    dicts_same (rel_cells g) _ _ _ _ _ _ (ap (λ (c : ColumnId). c.table) column) (ap (λ (c : ColumnId). c.property) column) a.is.dict_is b.is.dict_is
+
 pub sources_of_feeds : (g : Graph) (y : Typed) (feeds : List Feed) → AreFeedsIn g y feeds → AreSources (map (λ (f : Feed). f.source) feeds)
 sources_of_feeds g y feeds are = record {
   ascending = λ lane s is.
       let (f, at, same) = source_at feeds lane s is in
-      rw (← same) (are lane f at).is.dict_is.ascending;
+      rw (← same) (elim (are lane f at) [ inl a ↦ a.is.dict_is.ascending | inr b ↦ b.is.dict_is.ascending ]);
   one_dict = λ i j s t at_i at_j one.
       let (f, here, f_is) = source_at feeds i s at_i in
       let (h, there, h_is) = source_at feeds j t at_j in
-      let a = are i f here in
-      let b = are j h there in
-      let column = sym a.is.column_is ∙ ap (λ (s : LaneSource). s.column) f_is ∙ one ∙ sym (ap (λ (s : LaneSource). s.column) h_is) ∙ b.is.column_is in
-      let table : a.table ≡ b.table = ap (λ (c : ColumnId). c.table) column in
-      let property : a.is.property ≡ b.is.property = ap (λ (c : ColumnId). c.property) column in
-      sym (ap (λ (s : LaneSource). s.dict.now) f_is)
-      ∙ dicts_of_one (node_cells g b.table b.is.property) f.source.dict.now h.source.dict.now (subst (λ p. IsDictOf (node_cells g b.table p) f.source.dict.now) property (subst (λ k. IsDictOf (node_cells g k a.is.property) f.source.dict.now) table a.is.dict_is)) b.is.dict_is
-      ∙ ap (λ (s : LaneSource). s.dict.now) h_is;
+      let column : f.source.column ≡ h.source.column = ap (λ (s : LaneSource). s.column) f_is ∙ one ∙ sym (ap (λ (s : LaneSource). s.column) h_is) in
+      sym (ap (λ (s : LaneSource). s.dict.now) f_is) ∙ one_column g y f h (are i f here) (are j h there) column ∙ ap (λ (s : LaneSource). s.dict.now) h_is;
 }
 
-pub feeds_none : (g : Graph) (y : Typed) → AreFeedsIn g y []
-feeds_none g y = λ lane feed is. cc is
+-- the columns of relationships are there
+inside_of : (g : Graph) (y : Typed) (feed : Feed) → IsFeedIn g y feed → (x : ℕ) → feed.source.variable ≡ Rel x →
+    (feed.source.column.table < length g.catalog.rels) × (feed.source.column.property < length (rel_fields g feed.source.column.table))
+inside_of g y feed (inl a) x is = cc (a.is.variable_is, is)
+inside_of g y feed (inr b) x is = subst (λ (c : ColumnId). (c.table < length g.catalog.rels) × (c.property < length (rel_fields g c.table))) (sym b.is.column_is) (b.within, b.is.inside)
+
+pub all_inside : (g : Graph) (y : Typed) (feeds : List Feed) → AreFeedsIn g y feeds → AreInside g feeds
+all_inside g y feeds are = λ lane feed x at is. inside_of g y feed (are lane feed at) x is
 
 -- a test that decides a condition by the feeds' lanes decides it row by row
 pub rows_decided : (g : Graph) (y : Typed) (condition : NamedExpr) (feeds : List Feed) (found : Option LaneTest) → AreFeedsIn g y feeds →
     IfSome found (Decides true (map (λ (f : Feed). f.source) feeds) condition.expr) → DecidesRows g y condition feeds found
 rows_decided g y condition feeds found are decides =
-    IfSome_then found decides (λ t decide row. kept_by (map (λ (f : Feed). f.source) feeds) condition t g (as_read y row) (cells_of feeds row.nodes) decide (lanes_of_feeds g y feeds are row))
+    IfSome_then found decides (λ t decide row. kept_by (map (λ (f : Feed). f.source) feeds) condition t g (as_read y row) (cells_of g feeds row) decide (lanes_of_feeds g y feeds are row))
 
 -- what lanes of node variables decide hangs on their rows alone
-pub rows_alone : (g : Graph) (y : Typed) (condition : NamedExpr) (feeds : List Feed) (test : LaneTest) → DecidesRows g y condition feeds (Some test) → (old new : Assignment) → old.nodes ≡ new.nodes →
+pub rows_alone : (g : Graph) (y : Typed) (condition : NamedExpr) (feeds : List Feed) (test : LaneTest) → DecidesRows g y condition feeds (Some test) → AreOfNodes feeds → (old new : Assignment) → old.nodes ≡ new.nodes →
     passes g (as_read y old) condition ≡ passes g (as_read y new) condition
-rows_alone g y condition feeds test decides old new same = sym (decides old) ∙ ap (λ rows. holds (cells_of feeds rows) test) same ∙ decides new
+rows_alone g y condition feeds test decides nodes old new same =
+    sym (decides old) ∙ ap (λ cells. holds cells test) (fun_ext (λ lane. at lane (slice_get feeds lane) refl)) ∙ decides new
+  where
+    lane_same : (feed : Feed) (v : Variable) → IsOfNode v → lane_of g old feed v ≡ lane_of g new feed v
+    lane_same feed (Node v) u = ap (λ rows. cell_in feed.column.now (slice_get rows v)) same
+    lane_same feed (Rel x) u = absurd u
+
+    at : (lane : ℕ) (o : Option Feed) → slice_get feeds lane ≡ o → cell_of g old (slice_get feeds lane) ≡ cell_of g new (slice_get feeds lane)
+    at lane None h = rw h refl
+    at lane (Some feed) h = rw h (lane_same feed feed.source.variable (nodes lane feed h))
+
+pub rows_only : (g : Graph) (y : Typed) (condition : NamedExpr) (feeds : List Feed) (found : Option LaneTest) → is_some found ≡ true → DecidesRows g y condition feeds found → AreOfNodes feeds → (old new : Assignment) → old.nodes ≡ new.nodes →
+    passes g (as_read y old) condition ≡ passes g (as_read y new) condition
+rows_only g y condition feeds None some decides nodes old new same = absurd (false≢true some)
+rows_only g y condition feeds (Some test) some decides nodes old new same = rows_alone g y condition feeds test decides nodes old new same
+
+-- one feed more
+more : (P : Feed → Type 0) (feeds : List Feed) (f : Feed) → ((lane : ℕ) (feed : Feed) → slice_get feeds lane ≡ Some feed → P feed) → P f → (lane : ℕ) (feed : Feed) → slice_get (feeds ++ f ∷ []) lane ≡ Some feed → P feed
+more P [] f all p zero feed at = let same : f ≡ feed = cc in subst P same p
+more P [] f all p (suc lane) feed at = cc
+more P (x ∷ feeds) f all p zero feed at = all zero feed at
+more P (x ∷ feeds) f all p (suc lane) feed at = more P feeds f (λ n. all (suc n)) p lane feed at
+
+pub feeds_more : (g : Graph) (y : Typed) (feeds : List Feed) (f : Feed) → AreFeedsIn g y feeds → IsFeedIn g y f → AreFeedsIn g y (feeds ++ f ∷ [])
+feeds_more g y feeds f are is = more (IsFeedIn g y) feeds f are is

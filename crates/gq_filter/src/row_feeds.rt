@@ -1,10 +1,10 @@
-//! The columns of the properties of node variables that a condition reads.
+//! The columns of the properties that a condition reads.
 ghost use Rattle.std.specs.Prelude.{IfOk, length};
 ghost use Rattle.gq_filter.specs.steps.RowCells.{AreFeedsIn};
 ghost use Rattle.gq_plan.specs.Soundness.{IsSound};
 
-use crate::feeds::{Feed, node_feed};
-use gq_base::{Memory, Text};
+use crate::feeds::{Feed, node_feed, rel_feed};
+use gq_base::{Kind, Memory, Text};
 use gq_expr::{CompareOperand, Expr};
 use gq_plan::Typed;
 use gq_store::Graph;
@@ -22,7 +22,8 @@ pub(crate) fn add_feeds<'g>(
     ensures { IfOk result (λ _. AreFeedsIn graph.now typed.now feeds.new.items) }
 {
     match expr {
-        Expr::NodeProperty(variable, name) => add_feed(feeds, graph, typed, *variable, name),
+        Expr::NodeProperty(variable, name) => add_node(feeds, graph, typed, *variable, name),
+        Expr::RelProperty(variable, name) => add_rel(feeds, graph, typed, *variable, name),
         Expr::Not(inner) => add_feeds(feeds, graph, typed, inner.get()),
         Expr::And(all) => add_all(feeds, graph, typed, all.as_slice()),
         Expr::Or(all) => add_all(feeds, graph, typed, all.as_slice()),
@@ -70,7 +71,7 @@ fn add_terms<'g>(
 }
 
 // Adds the feed of a property of a node variable, where its table has the property.
-fn add_feed<'g>(
+fn add_node<'g>(
     feeds: &mut Vec<Feed<'g>>,
     graph: &'g Graph,
     typed: &Typed,
@@ -89,6 +90,34 @@ fn add_feed<'g>(
                 feeds.push(feed)?;
                 Ok(())
             }
+        },
+    }
+}
+
+// Adds the feed of a property of a relationship variable, where its table has the property and it is
+// no text.
+fn add_rel<'g>(
+    feeds: &mut Vec<Feed<'g>>,
+    graph: &'g Graph,
+    typed: &Typed,
+    variable: u32,
+    name: &'g Text,
+) -> Result<(), Memory>
+    requires sound { IsSound graph.now.catalog typed.now }
+    requires feeds { AreFeedsIn graph.now typed.now feeds.old.items }
+    ensures { IfOk result (λ _. AreFeedsIn graph.now typed.now feeds.new.items) }
+{
+    match typed.rels.get(variable as usize) {
+        None => Ok(()),
+        Some(rel) => match rel_feed(graph, variable, rel.table, name) {
+            None => Ok(()),
+            Some(feed) => match feed.source.kind {
+                Kind::Str => Ok(()),
+                Kind::Int | Kind::Flag => {
+                    feeds.push(feed)?;
+                    Ok(())
+                }
+            },
         },
     }
 }

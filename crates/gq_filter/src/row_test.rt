@@ -2,7 +2,7 @@
 //! them, and else by evaluating them.
 ghost use Rattle.std.specs.Prelude.{◌≡◌, IfOk, IsTrue};
 ghost use Rattle.gq_filter.specs.RowTests.{condition_over, conditions_of, is_true_of, ReadsRows};
-ghost use Rattle.gq_filter.specs.steps.RowCells.{AreFeedsIn, DecidesRows};
+ghost use Rattle.gq_filter.specs.steps.RowCells.{AreFeedsIn, AreOfNodes, DecidesRows};
 ghost use Rattle.gq_plan.specs.Soundness.{IsSound};
 
 use crate::cells::holds_at;
@@ -13,7 +13,7 @@ use crate::lane_test::LaneTest;
 use crate::row_cells::RowCells;
 use crate::row_feeds::add_feeds;
 use gq_base::Memory;
-use gq_plan::{Assignment, NamedExpr, Typed, TypedRow};
+use gq_plan::{Assignment, NamedExpr, Typed, TypedRow, Variable};
 use gq_store::Graph;
 use std::alloc::Global;
 use std::marker::Model;
@@ -33,7 +33,7 @@ impl<'g> Model for RowTest<'g> {
     ghost use Rattle.std.specs.Coded.{codes};
     ghost use Rattle.gq_expr.specs.contracts.expr.Expr as expr;
     ghost use Rattle.gq_filter.specs.RowTests.{RowCondition};
-    ghost use Rattle.gq_filter.specs.steps.RowCells.{DecidesRows};
+    ghost use Rattle.gq_filter.specs.steps.RowCells.{AreInside, DecidesRows};
 
     ghost Value = { RowCondition };
 
@@ -45,8 +45,8 @@ impl<'g> Model for RowTest<'g> {
       condition = t.condition.now;
     } };
 
-    ghost invariant = { λ t.
-        DecidesRows t.graph.now t.typed.now t.condition.now t.feeds.items t.test };
+    ghost invariant = { λ t. AreInside t.graph.now t.feeds.items
+        × DecidesRows t.graph.now t.typed.now t.condition.now t.feeds.items t.test };
 }
 
 impl<'g> RowTest<'g> {
@@ -74,11 +74,10 @@ impl<'g> RowTest<'g> {
     }
 
     /// Whether the rows alone decide the condition, and no load number.
-    #[tactic(auto, using(crate::proofs::RowLanes::rows_alone))]
     pub fn reads_rows(&self) -> bool
         ensures { IsTrue result → ReadsRows self.now }
     {
-        self.test.is_some()
+        self.test.is_some() && are_of_nodes(self.feeds.as_slice())
     }
 
     /// Whether the condition is true of rows and load numbers. It takes no memory.
@@ -88,6 +87,7 @@ impl<'g> RowTest<'g> {
         match &self.test {
             Some(test) => {
                 let cells = RowCells {
+                    graph: self.graph,
                     feeds: self.feeds.as_slice(),
                     row,
                 };
@@ -124,6 +124,19 @@ fn test_of(
     }
     let test = compile(alloc, &condition.expr, sources.as_slice())?;
     Ok(test)
+}
+
+// Whether each feed is of a node variable.
+fn are_of_nodes(feeds: &[Feed<'_>]) -> bool
+    ensures { IsTrue result → AreOfNodes feeds.now }
+{
+    for feed in feeds {
+        match feed.source.variable {
+            Variable::Node(_) => {}
+            Variable::Rel(_) => return false,
+        }
+    }
+    true
 }
 
 /// The tests of an alternative, in their order.

@@ -38,6 +38,14 @@ pub struct CaseFile {
     pub bytes: Vec<u8>,
 }
 
+/// Under which orders of plans a case has to agree: that of its words, those whose plans have no costs, or each.
+#[derive(Clone, Copy, PartialEq, Eq)]
+pub enum Orders {
+    OfTheWords,
+    Both,
+    All,
+}
+
 /// Where the lines behind `|` belong.
 #[derive(Clone, Copy, PartialEq, Eq)]
 pub enum Place {
@@ -78,14 +86,14 @@ pub struct Series {
     pub end: u32,
 }
 
-/// What the program is given: its words, whether each order is to be named behind them, the files, of which the last of a
+/// What the program is given: its words, which orders are to be named behind them, the files, of which the last of a
 /// name counts, the input, which calls fail, how many bytes a read of the input gives and a write takes, where the case
 /// says it, and what is another one in each run; and its output and status. A mixed output may have its lines between the
 /// first and the last in any order.
 #[derive(Drop)]
 pub struct Case {
     pub words: Vec<String>,
-    pub all_orders: bool,
+    pub orders: Orders,
     pub files: Vec<CaseFile>,
     pub input: Vec<u8>,
     pub place: Place,
@@ -112,7 +120,7 @@ impl Case {
     pub fn new(alloc: Global) -> Result<Case, Stop> {
         Ok(Case {
             words: standard_words(alloc)?,
-            all_orders: false,
+            orders: Orders::OfTheWords,
             files: Vec::new(alloc),
             input: Vec::new(alloc),
             place: Place::Input,

@@ -1,6 +1,6 @@
 //! Takes the lines of a case: a line's first word says what it is.
 
-use crate::case::{Case, CaseFile, Place, Series, SeriesOf, Stop};
+use crate::case::{Case, CaseFile, Orders, Place, Series, SeriesOf, Stop};
 use crate::spelled::push_line;
 use std::fs;
 
@@ -100,7 +100,8 @@ fn take_word(rt: &HostRuntime, case: &mut Case, word: &str, rest: &str) -> Resul
         "pieces" => case.piece = Some(number_of(rest)?),
         "room" => set_series(case, SeriesOf::Rooms, rest)?,
         "cut" => set_series(case, SeriesOf::Cuts, rest)?,
-        "orders" if rest == "all" => case.all_orders = true,
+        "orders" if rest == "both" => case.orders = Orders::Both,
+        "orders" if rest == "all" => case.orders = Orders::All,
         "status" => case.status = Some(status_of(rest)?),
         _ => return Err(Stop::Malformed),
     }

@@ -2,7 +2,7 @@
 
 ghost use Rattle.std.specs.Prelude.{◌<◌};
 
-use crate::case::{Case, SeriesOf, Stop};
+use crate::case::{Case, Orders, SeriesOf, Stop};
 use gq_base::{Bytes, List, Text};
 use gq_io::{MemoryFiles, MemorySink, MemorySource};
 use gq_shell::run;
@@ -17,7 +17,9 @@ static PIECES: [u32; 5] = [1, 2, 7, 4_096, 65_536];
 // The length where some call fails, so that the number of the call tells where.
 static ONE_PIECE: [u32; 1] = [4_096];
 
-static ORDERS: [&str; 3] = ["given", "greedy", "least"];
+static BOTH: [&str; 2] = ["given", "greedy"];
+
+static ALL: [&str; 3] = ["given", "greedy", "least"];
 
 /// What a run wrote and its exit status; and how it was run: in pieces of which length, in which order, and with which
 /// number of its series, 0 where there is none.
@@ -203,8 +205,13 @@ fn ordered_words(alloc: Global, case: &Case, order: &str) -> Result<Vec<String>,
     Ok(words)
 }
 
-fn differs_in_orders(alloc: Global, case: &Case) -> Result<Option<Got>, Stop> {
-    for order in ORDERS {
+fn differs_in_orders(
+    alloc: Global,
+    case: &Case,
+    orders: &[&'static str],
+) -> Result<Option<Got>, Stop> {
+    for order in orders {
+        let order = *order;
         let words = ordered_words(alloc, case, order)?;
         let words = words.as_slice();
         let got = differs_with(alloc, Trial::new(case, words, order))?;
@@ -217,11 +224,14 @@ fn differs_in_orders(alloc: Global, case: &Case) -> Result<Option<Got>, Stop> {
 
 /// Runs the program as a case says, in each way, and gives the first run that does not do what the case wants.
 pub fn difference(alloc: Global, case: &Case) -> Result<Option<Got>, Stop> {
-    if case.all_orders {
-        return differs_in_orders(alloc, case);
+    match case.orders {
+        Orders::Both => differs_in_orders(alloc, case, BOTH.as_slice()),
+        Orders::All => differs_in_orders(alloc, case, ALL.as_slice()),
+        Orders::OfTheWords => {
+            let words = case.words.as_slice();
+            differs_with(alloc, Trial::new(case, words, "of the words"))
+        }
     }
-    let words = case.words.as_slice();
-    differs_with(alloc, Trial::new(case, words, "of the words"))
 }
 
 fn sorted_lines<'t>(alloc: Global, text: &'t str) -> Result<Vec<&'t str>, Stop> {

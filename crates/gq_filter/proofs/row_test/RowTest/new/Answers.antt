@@ -1,0 +1,10 @@
+use Rattle.std.proofs.Common.{subst}
+use Rattle.gq_filter.specs.steps.RowCells.{DecidesRows}
+use Rattle.gq_filter.proofs.RowLanes.{all_inside}
+use Rattle.gq_filter.proofs.row_test.RowTest.new.Goals as goal
+
+pub invariant_of-result : goal.invariant_of-result
+invariant_of-result c = (
+  all_inside c.args.graph.now c.args.typed.now c.add_feeds.new.feeds.items c.in_ok-add_feeds.ensures,
+  subst (λ feeds. DecidesRows c.args.graph.now c.args.typed.now c.args.condition.now feeds c.in_ok-test.test) c.as_slice.ensures.value c.in_ok-test.ensures,
+)
