@@ -20,15 +20,24 @@ fn failure(status: Status) -> Option<&'static str> {
     }
 }
 
-fn main(rt: HostRuntime) -> ExitCode {
-    let alloc = rt.alloc();
-    let Ok(args) = env::args(&rt) else {
-        let _ = eprintln!(rt; "graphq: the words are no text");
-        return ExitCode::from(Status::Usage.code());
-    };
-    let Ok(words) = args.collect::<Vec<String>>(alloc) else {
+// Says why the words cannot be read: there was not enough memory for them, or they are no text.
+fn end_without_words(rt: &HostRuntime, kind: io::ErrorKind) -> ExitCode {
+    if kind == io::ErrorKind::OutOfMemory {
         let _ = eprintln!(rt; "graphq: there was not enough memory");
         return ExitCode::from(Status::Memory.code());
+    }
+    let _ = eprintln!(rt; "graphq: the words are no text");
+    ExitCode::from(Status::Usage.code())
+}
+
+fn main(rt: HostRuntime) -> ExitCode {
+    let alloc = rt.alloc();
+    let args = match env::args(&rt) {
+        Ok(args) => args,
+        Err(error) => return end_without_words(&rt, error.kind()),
+    };
+    let Ok(words) = args.collect::<Vec<String>>(alloc) else {
+        return end_without_words(&rt, io::ErrorKind::OutOfMemory);
     };
     let mut files = RealFiles::new(&rt);
     let mut input = RealSource::new(rt.reader());

@@ -53,9 +53,43 @@ pub enum Place {
     File,
 }
 
+/// What the numbers of a series say.
+#[derive(Clone, Copy, PartialEq, Eq)]
+pub enum SeriesOf {
+    /// The call of the files that fails.
+    FileCalls,
+    /// The call of the input that fails.
+    InputCalls,
+    /// The write that fails.
+    OutputCalls,
+    /// The room of the output, in bytes.
+    Rooms,
+    /// After how many bytes the file that was named last is cut.
+    Cuts,
+}
+
+impl SeriesOf {
+    // Whether they are numbers of calls that fail.
+    fn fails(self) -> bool {
+        match self {
+            SeriesOf::FileCalls | SeriesOf::InputCalls | SeriesOf::OutputCalls => true,
+            SeriesOf::Rooms | SeriesOf::Cuts => false,
+        }
+    }
+}
+
+/// A case with a series is run once for each number from the first to the one before the end.
+#[derive(Clone, Copy)]
+pub struct Series {
+    pub of: SeriesOf,
+    pub first: u32,
+    pub end: u32,
+}
+
 /// What the program is given: its words, which orders are to be named behind them, the files, of which the last of a
-/// name counts, the input, which calls fail, and how many bytes a read of the input gives and a write takes, where the case
-/// says it; and its output and status. A mixed output may have its lines between the first and the last in any order.
+/// name counts, the input, which calls fail, how many bytes a read of the input gives and a write takes, where the case
+/// says it, and what is another one in each run; and its output and status. A mixed output may have its lines between the
+/// first and the last in any order.
 #[derive(Drop)]
 pub struct Case {
     pub words: Vec<String>,
@@ -67,6 +101,7 @@ pub struct Case {
     pub failing_input: Vec<u64>,
     pub failing_output: Vec<u64>,
     pub piece: Option<u32>,
+    pub series: Option<Series>,
     pub output: Vec<u8>,
     pub mixed: bool,
     pub status: Option<u8>,
@@ -93,6 +128,7 @@ impl Case {
             failing_input: Vec::new(alloc),
             failing_output: Vec::new(alloc),
             piece: None,
+            series: None,
             output: Vec::new(alloc),
             mixed: false,
             status: None,
@@ -104,6 +140,14 @@ impl Case {
         !self.failing_files.is_empty()
             || !self.failing_input.is_empty()
             || !self.failing_output.is_empty()
+            || self.fails_in_series()
+    }
+
+    fn fails_in_series(&self) -> bool {
+        match self.series {
+            Some(series) => series.of.fails(),
+            None => false,
+        }
     }
 
     /// The status that is wanted: what the case says, or else what the lines of the output tell.

@@ -1,6 +1,6 @@
 //! Takes the lines of a case: a line's first word says what it is.
 
-use crate::case::{Case, CaseFile, Orders, Place, Stop};
+use crate::case::{Case, CaseFile, Orders, Place, Series, SeriesOf, Stop};
 use crate::spelled::push_line;
 use std::fs;
 
@@ -30,10 +30,34 @@ fn set_words(rt: &HostRuntime, case: &mut Case, text: &str) -> Result<(), Stop> 
     Ok(())
 }
 
-fn set_failing(case: &mut Case, text: &str) -> Result<(), Stop> {
-    let Some((place, call)) = text.split_once(' ') else {
+fn number_of(text: &str) -> Result<u32, Stop> {
+    text.parse::<u32>().map_err(|_| Stop::Malformed)
+}
+
+// One number, or the first one and the last one of several. A case has one series, and no empty one.
+fn set_series(case: &mut Case, of: SeriesOf, text: &str) -> Result<(), Stop> {
+    let (first, last) = text.split_once('-').unwrap_or((text, text));
+    let first = number_of(first)?;
+    let Some(end) = number_of(last)?.checked_add(1) else {
         return Err(Stop::Malformed);
     };
+    if end <= first || case.series.is_some() {
+        return Err(Stop::Malformed);
+    }
+    case.series = Some(Series { of, first, end });
+    Ok(())
+}
+
+fn set_failing_series(case: &mut Case, place: &str, calls: &str) -> Result<(), Stop> {
+    match place {
+        "files" => set_series(case, SeriesOf::FileCalls, calls),
+        "input" => set_series(case, SeriesOf::InputCalls, calls),
+        "output" => set_series(case, SeriesOf::OutputCalls, calls),
+        _ => Err(Stop::Malformed),
+    }
+}
+
+fn add_failing(case: &mut Case, place: &str, call: &str) -> Result<(), Stop> {
     let Ok(call) = call.parse::<u64>() else {
         return Err(Stop::Malformed);
     };
@@ -46,8 +70,16 @@ fn set_failing(case: &mut Case, text: &str) -> Result<(), Stop> {
     Ok(())
 }
 
-fn piece_of(text: &str) -> Result<u32, Stop> {
-    text.parse::<u32>().map_err(|_| Stop::Malformed)
+// The call that fails in each run, or a call for each run of a series.
+fn set_failing(case: &mut Case, text: &str) -> Result<(), Stop> {
+    let Some((place, calls)) = text.split_once(' ') else {
+        return Err(Stop::Malformed);
+    };
+    if calls.contains('-') {
+        set_failing_series(case, place, calls)
+    } else {
+        add_failing(case, place, calls)
+    }
 }
 
 fn status_of(text: &str) -> Result<u8, Stop> {
@@ -65,7 +97,9 @@ fn take_word(rt: &HostRuntime, case: &mut Case, word: &str, rest: &str) -> Resul
         }
         "input" if rest.is_empty() => case.place = Place::Input,
         "fails" => set_failing(case, rest)?,
-        "pieces" => case.piece = Some(piece_of(rest)?),
+        "pieces" => case.piece = Some(number_of(rest)?),
+        "room" => set_series(case, SeriesOf::Rooms, rest)?,
+        "cut" => set_series(case, SeriesOf::Cuts, rest)?,
         "orders" if rest == "both" => case.orders = Orders::Both,
         "orders" if rest == "all" => case.orders = Orders::All,
         "status" => case.status = Some(status_of(rest)?),

@@ -1,4 +1,6 @@
-//! Reads a case file line by line, and tries each case where the next one begins.
+//! Reads case files line by line, and tries each case where the next one begins.
+
+ghost use Rattle.std.specs.Prelude.{◌≡◌};
 
 use crate::case::{Case, Place, Stop};
 use crate::taking::take_line;
@@ -14,7 +16,10 @@ pub struct Tally {
 
 impl Tally {
     /// No cases.
-    pub fn new() -> Tally {
+    pub fn new() -> Tally
+        ensures agree { result.agree ≡ 0 }
+        ensures differ { result.differ ≡ 0 }
+    {
         Tally {
             agree: 0,
             differ: 0,
@@ -44,7 +49,7 @@ struct Heading<'t> {
 
 fn tell(rt: &HostRuntime, at: Heading<'_>, case: &Case, got: &Got) -> Result<(), Stop> {
     let printed = println!(rt;
-        "{} line {}: {}\n{}wanted, with status {}:\n{}got, with status {}, in pieces of {}, in the order {}:\n{}",
+        "{} line {}: {}\n{}wanted, with status {}:\n{}got, with status {}, in pieces of {}, in the order {}, with the number {}:\n{}",
         at.file,
         at.line,
         at.title,
@@ -54,6 +59,7 @@ fn tell(rt: &HostRuntime, at: Heading<'_>, case: &Case, got: &Got) -> Result<(),
         got.status,
         got.piece,
         got.order,
+        got.number,
         shown(got.output.as_slice())
     );
     printed.map_err(|_| Stop::Outside)
@@ -159,9 +165,9 @@ fn try_lines(rt: &HostRuntime, file: &str, text: &str, tally: &mut Tally) -> Res
     reader.finish(rt, tally)
 }
 
-/// Tries the cases of a file that lies where the program runs, prints those that differ and how many agree, and counts
-/// them. It stops at a file that cannot be read and at a line of no form, and prints which.
-pub fn try_file(rt: &HostRuntime, file: &str, tally: &mut Tally) -> Result<(), Stop> {
+// Tries the cases of a file that lies where the program runs, prints those that differ and how many agree, and counts
+// them. It stops at a file that cannot be read and at a line of no form, and prints which.
+fn try_file(rt: &HostRuntime, file: &str, tally: &mut Tally) -> Result<(), Stop> {
     let Ok(text) = fs::read_to_string(rt, file) else {
         let _ = println!(rt; "{file}: cannot be read");
         return Err(Stop::Outside);
@@ -169,4 +175,19 @@ pub fn try_file(rt: &HostRuntime, file: &str, tally: &mut Tally) -> Result<(), S
     let before = tally.agree;
     try_lines(rt, file, &text, tally)?;
     println!(rt; "{file}: {} agree", tally.agree.saturating_sub(before)).map_err(|_| Stop::Outside)
+}
+
+/// Tries the case files that the standard input names, one a line: prints each case that differs, and how many of each file
+/// agree, and counts them. It answers false where it stops: at a file that cannot be read or a line of no form, which it
+/// prints, and for want of memory.
+pub fn try_named(rt: &HostRuntime, tally: &mut Tally) -> bool {
+    for line in rt.lines(rt.alloc()) {
+        let Ok(name) = line else {
+            return false;
+        };
+        if try_file(rt, name.as_str(), tally).is_err() {
+            return false;
+        }
+    }
+    true
 }
