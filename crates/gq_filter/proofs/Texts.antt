@@ -1,13 +1,12 @@
 -- What a test of a text tells of a condition.
-use Rattle.std.proofs.Common.{◌≡◌, ◌∙◌, ◌∷◌, ◌<◌, [], refl, sym, ap, subst, ℕ, ℤ, pos, Bool, true, false, cond, List, Option, Some, None, Ok, length, map}
+use Rattle.std.proofs.Common.{◌≡◌, ◌∙◌, ◌∷◌, ◌<◌, [], refl, sym, ap, subst, ℕ, ℤ, pos, Bool, true, false, cond, List, Option, Some, None, Ok, length, map, is_some}
 use Rattle.std.specs.Prelude.{slice_get}
-use Rattle.std.proofs.lemmas.Bool.{lt-ltb}
+use Rattle.std.proofs.lemmas.Bool.{lt-ltb, false≢true}
 use Rattle.gq_base.specs.Plain.{Graph}
 use Rattle.gq_base.specs.Results.{and_then}
 use Rattle.gq_base.specs.Values.{Val, null, flag, int, str, node, rel}
 use Rattle.gq_base.specs.declared.Kind.TheVariants as kind
 use Rattle.gq_base.specs.declared.Literal.TheVariants as spelled
-use Rattle.gq_dict.specs.Texts.{text_at}
 use Rattle.gq_expr.proofs.Equations.{meaning_Literal, meaning_NodeProperty, meaning_Test}
 use Rattle.gq_expr.specs.Meaning.{meaning, test_chain}
 use Rattle.gq_expr.specs.Operators.{of_truth, ends_vals, contains_vals}
@@ -27,8 +26,9 @@ use Rattle.gq_filter.specs.Deciding.{wanted}
 use Rattle.gq_filter.specs.declared.feeds.Feed.{Feed}
 use Rattle.gq_filter.specs.declared.text_test.Part.{Part}
 use Rattle.gq_filter.specs.declared.text_test.Part.TheVariants.{End, Inner}
+use Rattle.gq_filter.specs.declared.text_test.TextTest.{TextTest}
 use Rattle.gq_filter.specs.steps.RowCells.{IsNodeFeedIn, cell_in}
-use Rattle.gq_filter.specs.steps.Texts.{code_in, coded_passes, is_in, tester_of, text_passes}
+use Rattle.gq_filter.specs.steps.Texts.{code_in, coded_passes, is_in, tester_of, text_passes, TextDecides}
 
 -- whether a value has a part
 abbrev part_vals : Part → Val → Option Bool
@@ -79,3 +79,11 @@ text_decides g y condition feed part f expr of row =
     let cell = cell_in feed.column.now (slice_get row.nodes f.variable) in
     lane_has feed.source.dict.now part value cell (subst (λ k. IsInLane k feed.source.dict.now value cell) of (node_text g y feed f row))
     ∙ passes_is g at condition (part_vals part value) (ap (meaning g at) expr ∙ asked g at f.variable f.name part)
+
+-- what a test of a text decides hangs on the rows alone
+pub text_alone : (g : Graph) (y : Typed) (condition : NamedExpr) (test : Option TextTest) → is_some test ≡ true → TextDecides g y condition test → (old new : Assignment) → old.nodes ≡ new.nodes →
+    passes g (as_read y old) condition ≡ passes g (as_read y new) condition
+text_alone g y condition None some decides old new same = absurd (false≢true some)
+text_alone g y condition (Some t) some decides old new same =
+    sym (decides old)
+    ∙ ap (λ rows. coded_passes t.dict.now t.part (code_in (length t.dict.now) (cell_in t.column.now (slice_get rows t.variable)))) same ∙ decides new

@@ -1,5 +1,5 @@
-//! Conditions that are decided row by row: by the columns of what they read where lanes can decide
-//! them, and else by evaluating them.
+//! Conditions that are decided row by row: by the columns of what they read where lanes or a text
+//! can decide them, and else by evaluating them.
 ghost use Rattle.std.specs.Prelude.{◌≡◌, IfOk, IsTrue};
 ghost use Rattle.gq_filter.specs.RowTests.{condition_over, conditions_of, is_true_of, ReadsRows};
 ghost use Rattle.gq_filter.specs.steps.RowCells.{AreFeedsIn, AreOfNodes, DecidesRows};
@@ -83,6 +83,9 @@ impl<'g> RowTest<'g> {
     pub fn reads_rows(&self) -> bool
         ensures { IsTrue result → ReadsRows self.now }
     {
+        if self.text.is_some() {
+            return true;
+        }
         self.test.is_some() && are_of_nodes(self.feeds.as_slice())
     }
 
