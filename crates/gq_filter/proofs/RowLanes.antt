@@ -66,6 +66,12 @@ module _ (g : Graph) (y : Typed) (feed : Feed) (f : IsNodeFeedIn g y feed) where
         (get_or_past feed.column.now row None (omega (arith, past, f.is.rows)))
   ]
 
+  -- the property of the variable's node in a row is in the column at the variable's row
+  pub node_text : (row : Assignment) → IsInLane feed.source.kind feed.source.dict.now (property_at (node_property g) ((as_read y row).nodes f.variable) f.name) (cell_in feed.column.now (slice_get row.nodes f.variable))
+  node_text row =
+      let node : (as_read y row).nodes f.variable ≡ node_in (Some f.table) (slice_get row.nodes f.variable) = node_read y row f.variable ∙ ap (λ t. node_in t (slice_get row.nodes f.variable)) f.table_is in
+      subst (λ n. IsInLane feed.source.kind feed.source.dict.now (property_at (node_property g) n f.name) (cell_in feed.column.now (slice_get row.nodes f.variable))) (sym node) (at_row (slice_get row.nodes f.variable))
+
   node_lane : (row : Assignment) → IsInLane feed.source.kind feed.source.dict.now (value_of g (as_read y row) feed.source) (cell_of g row (Some feed))
   node_lane row =
       let at = as_read y row in

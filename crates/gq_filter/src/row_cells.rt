@@ -44,9 +44,9 @@ impl Cells for RowCells<'_> {
     }
 }
 
-// The cell of a row; past the end of the column it is null.
+/// The cell of a row; past the end of the column it is null.
 #[tactic(auto, using(std::proofs::lemmas::List::get_or_past))]
-fn cell_at(column: &Column, row: u32) -> Option<i64>
+pub(crate) fn cell_at(column: &Column, row: u32) -> Option<i64>
     ensures { result ≡ cell_at column.now row }
 {
     if row < column.len() {

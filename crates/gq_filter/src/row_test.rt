@@ -1,5 +1,5 @@
-//! Conditions that are decided row by row: by the columns of what they read where lanes can decide
-//! them, and else by evaluating them.
+//! Conditions that are decided row by row: by the columns of what they read where lanes or a text
+//! can decide them, and else by evaluating them.
 ghost use Rattle.std.specs.Prelude.{◌≡◌, IfOk, IsTrue};
 ghost use Rattle.gq_filter.specs.RowTests.{condition_over, conditions_of, is_true_of, ReadsRows};
 ghost use Rattle.gq_filter.specs.steps.RowCells.{AreFeedsIn, AreOfNodes, DecidesRows};
@@ -12,6 +12,7 @@ use crate::filters::is_true;
 use crate::lane_test::LaneTest;
 use crate::row_cells::RowCells;
 use crate::row_feeds::add_feeds;
+use crate::text_test::{TextTest, text_test};
 use gq_base::Memory;
 use gq_plan::{Assignment, NamedExpr, Typed, TypedRow, Variable};
 use gq_store::Graph;
@@ -27,6 +28,8 @@ pub struct RowTest<'g> {
     // What decides it, if lanes can, and the feeds of the lanes.
     test: Option<LaneTest>,
     feeds: Vec<Feed<'g>>,
+    // What decides it where lanes cannot, if it asks for a part of a text.
+    text: Option<TextTest<'g>>,
 }
 
 impl<'g> Model for RowTest<'g> {
@@ -34,6 +37,7 @@ impl<'g> Model for RowTest<'g> {
     ghost use Rattle.gq_expr.specs.contracts.expr.Expr as expr;
     ghost use Rattle.gq_filter.specs.RowTests.{RowCondition};
     ghost use Rattle.gq_filter.specs.steps.RowCells.{AreInside, DecidesRows};
+    ghost use Rattle.gq_filter.specs.steps.Texts.{TextDecides};
 
     ghost Value = { RowCondition };
 
@@ -46,7 +50,8 @@ impl<'g> Model for RowTest<'g> {
     } };
 
     ghost invariant = { λ t. AreInside t.graph.now t.feeds.items
-        × DecidesRows t.graph.now t.typed.now t.condition.now t.feeds.items t.test };
+        × DecidesRows t.graph.now t.typed.now t.condition.now t.feeds.items t.test
+        × TextDecides t.graph.now t.typed.now t.condition.now t.text };
 }
 
 impl<'g> RowTest<'g> {
@@ -70,6 +75,7 @@ impl<'g> RowTest<'g> {
             condition,
             test,
             feeds,
+            text: text_test(graph, typed, condition),
         })
     }
 
@@ -77,6 +83,9 @@ impl<'g> RowTest<'g> {
     pub fn reads_rows(&self) -> bool
         ensures { IsTrue result → ReadsRows self.now }
     {
+        if self.text.is_some() {
+            return true;
+        }
         self.test.is_some() && are_of_nodes(self.feeds.as_slice())
     }
 
@@ -93,13 +102,16 @@ impl<'g> RowTest<'g> {
                 };
                 holds_at(test, &cells)
             }
-            None => {
-                let typed_row = TypedRow {
-                    typed: self.typed,
-                    row,
-                };
-                is_true(self.condition, self.graph, &typed_row)
-            }
+            None => match &self.text {
+                Some(text) => text.passes(row),
+                None => {
+                    let typed_row = TypedRow {
+                        typed: self.typed,
+                        row,
+                    };
+                    is_true(self.condition, self.graph, &typed_row)
+                }
+            },
         }
     }
 }

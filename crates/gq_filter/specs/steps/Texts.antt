@@ -1,0 +1,48 @@
+-- Tests of a text of a node.
+use Rattle.std.specs.Prelude.{ℕ, ℤ, pos, negsuc, ◌≡◌, Bool, false, nat_eq, nat_lt, if◌then◌else◌, List, Option, Some, None, IfSome, length, slice_get}
+use Rattle.std.specs.List.{ends_with}
+use Rattle.gq_base.specs.Plain.{Graph}
+use Rattle.gq_base.specs.declared.Literal.TheVariants.{Str}
+use Rattle.gq_dict.specs.Texts.{text_at}
+use Rattle.gq_expr.specs.Operators.{occurs}
+use Rattle.gq_expr.specs.declared.expr.Expr.{Expr}
+use Rattle.gq_expr.specs.declared.expr.Expr.TheVariants.{Literal}
+use Rattle.gq_expr.specs.declared.expr.Tester.{Tester}
+use Rattle.gq_expr.specs.declared.expr.Tester.TheVariants.{Ends, Contains}
+use Rattle.gq_plan.specs.Conditions.{passes}
+use Rattle.gq_plan.specs.Rows.{as_read}
+use Rattle.gq_plan.specs.declared.assignment.Assignment.{Assignment}
+use Rattle.gq_plan.specs.declared.bound.NamedExpr.{NamedExpr}
+use Rattle.gq_plan.specs.declared.typed.Typed.{Typed}
+use Rattle.gq_filter.specs.declared.text_test.Part.{Part}
+use Rattle.gq_filter.specs.declared.text_test.Part.TheVariants.{End, Inner}
+use Rattle.gq_filter.specs.declared.text_test.TextTest.{TextTest}
+use Rattle.gq_filter.specs.steps.RowCells.{cell_in}
+
+-- the test of an expression that asks for a part
+abbrev pub tester_of : Part → Tester Expr
+tester_of (End part) = Ends (Literal (Str part.now))
+tester_of (Inner part) = Contains (Literal (Str part.now))
+
+-- whether a text has a part
+abbrev pub is_in : Part → List ℕ → Bool
+is_in (End part) text = ends_with nat_eq text part.now
+is_in (Inner part) text = occurs text part.now
+
+-- the code that a cell is, below the count of the codes
+abbrev pub code_in : ℕ → Option ℤ → Option ℕ
+code_in count None = None
+code_in count (Some (negsuc n)) = None
+code_in count (Some (pos code)) = if nat_lt code count then Some code else None
+
+abbrev pub coded_passes : List (List ℕ) → Part → Option ℕ → Bool
+coded_passes dict part None = false
+coded_passes dict part (Some code) = is_in part (text_at dict code)
+
+-- the text of the variable's node in a row is there and has the part
+abbrev pub text_passes : TextTest → Assignment → Bool
+text_passes t row = coded_passes t.dict.now t.part (code_in (length t.dict.now) (cell_in t.column.now (slice_get row.nodes t.variable)))
+
+-- a test, if there is one, holds in exactly the rows in which a condition is true
+abbrev pub TextDecides : Graph → Typed → NamedExpr → Option TextTest → Type 0
+TextDecides g y condition test = IfSome test (λ t. (row : Assignment) → text_passes t row ≡ passes g (as_read y row) condition)
