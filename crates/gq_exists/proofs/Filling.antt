@@ -1,5 +1,5 @@
 -- The keys of what pipelines hand out, chunk by chunk, and where no further key can differ.
-use Rattle.std.proofs.Common.{◌≡◌, ◌≢◌, ◌∙◌, ap, refl, sym, subst, ℕ, ◌<◌, Bool, true, false, ◌||◌, ◌&&◌, nat_eq, List, [], ◌∷◌, ◌++◌, length, map, take, Result, Ok, Err, arith, length-append, append_assoc, append-nil, true≢false}
+use Rattle.std.proofs.Common.{◌≡◌, ◌≢◌, ◌∙◌, ap, ap₂, refl, sym, subst, ℕ, ◌<◌, Bool, true, false, ◌||◌, ◌&&◌, nat_eq, List, [], ◌∷◌, ◌++◌, length, map, take, Result, Ok, Err, arith, length-append, append_assoc, append-nil, true≢false}
 use Rattle.std.specs.HashSet.{HashSet}
 use Rattle.std.specs.Prelude.{IsPermutation}
 use Rattle.std.proofs.lemmas.Bool.{and_parts, eqb-true}
@@ -12,19 +12,27 @@ use Rattle.gq_group.specs.Chunks.{assignment_at, chunk_meaning}
 use Rattle.gq_group.specs.Groups.{choices}
 use Rattle.gq_group.specs.declared.chunk.Chunk.{Chunk}
 use Rattle.gq_join.specs.declared.build.JoinRefusal.{JoinRefusal}
+use Rattle.gq_join.specs.declared.build.JoinRefusal.TheVariants as refusal
+use Rattle.gq_law_answers.specs.Answered.{meanings}
 use Rattle.gq_pipe.specs.Progress.{Source}
 use Rattle.gq_pipe.specs.Rest.{Rest}
 use Rattle.gq_plan.specs.Assignments as plain
 use Rattle.gq_plan.specs.Keys.{has_key, key_of, same_nodes}
-use Rattle.gq_plan.specs.Meaning.{Partial, whole}
+use Rattle.gq_plan.proofs.DifferentReads.{IsUnique, among_fewer}
+use Rattle.gq_plan.proofs.Each.{each_then}
+use Rattle.gq_plan.specs.Meaning.{Partial, meaning, whole}
+use Rattle.gq_plan.specs.Plans.{plan_of}
+use Rattle.gq_plan.specs.declared.plan.Plan as code
 use Rattle.gq_plan.specs.Rows.{assigned}
 use Rattle.gq_plan.specs.declared.typed.Typed.{Typed}
+use Rattle.gq_exists.specs.Different.{AreDifferent, HasMany, HasNoMore}
+use Rattle.gq_exists.specs.Made.{IsRefusal}
 use Rattle.gq_exists.specs.declared.gathering.Gathering.{Gathering}
 use Rattle.gq_exists.specs.declared.keys.Keys.{Keys}
 use Rattle.gq_exists.specs.declared.keys.Link.{Link}
 use Rattle.gq_exists.specs.steps.Gathered.{Gathers, IsGathering, Stands, TakesOn, key_at, keys_at}
 use Rattle.gq_exists.specs.steps.Levels.{keys_from, keys_in, links_of, roots}
-use Rattle.gq_exists.specs.steps.Running.{owed_keys}
+use Rattle.gq_exists.specs.steps.Running.{made_keys, owed_keys}
 use Rattle.gq_exists.proofs.Gathered.{AllKeys, Same, Within, alike, came_none, or_left, or_right, same_behind, stops, then}
 use Rattle.gq_exists.proofs.Paths.{same_is}
 
@@ -159,3 +167,29 @@ module _ (y : Typed) (begun : Rest) (old : Gathering) where
         still : (ps : List Partial) → ps ≢ [] → map (whole y) ps ≢ []
         still [] h e = h refl
         still (p ∷ ps) h e = absurd (omega (arith, ap length e))
+
+-- ---- alternatives
+
+pub each_keys : (g : Graph) (ys rest : List Typed) (ps more : List code.Plan) (y : Typed) (p : code.Plan) → ys ≡ y ∷ rest → ps ≡ p ∷ more → (w : ℕ)
+    → map (key_of w) (meanings g ys (map plan_of ps)) ≡ made_keys g y w p ++ map (key_of w) (meanings g rest (map plan_of more))
+each_keys g ys rest ps more y p e f w =
+    ap₂ (λ zs qs. map (key_of w) (meanings g zs (map plan_of qs))) e f ∙ map-append (key_of w) (meaning g y (plan_of p)) (meanings g rest (map plan_of more))
+
+-- ---- all of them
+
+pub begun : (a : Gathering) → keys_in a.keys ≡ [] → Stands a.limit [] a.keys
+begun a e = record { same = λ q. ap (has_key q) e; apart = subst AreDifferent (sym e) tt; few = omega (arith, ap length e) }
+
+unique : (ks : AllKeys) → AreDifferent ks → IsUnique same_nodes same_is ks
+unique [] a = tt
+unique (k ∷ ks) a = (a.0, unique ks a.1)
+
+pub no_more : (limit : ℕ) (all : AllKeys) (k : Keys) → Stands limit all k → HasNoMore limit all
+no_more limit all k s = λ m.
+    let among = each_then (λ l. has_key l all ≡ true) (λ l. has_key l (keys_in k) ≡ true) (λ l e. s.same l ∙ e) m.some m.among in
+    let fewer = among_fewer same_nodes same_is m.some (keys_in k) (unique m.some m.apart) among in
+    omega (arith, m.many, fewer, s.few)
+
+pub refused : (limit : ℕ) (all : AllKeys) (a b : Gathering) (e : JoinRefusal) → keys_in a.keys ≡ [] → a.limit ≡ limit → Gathers all a b (Err e) → IsRefusal limit all e
+refused limit all a b (refusal.TooManyRows l) none is h = (h.0 ∙ is, subst (λ n. HasMany n all) is (h.1 [] (begun a none)))
+refused limit all a b refusal.Memory none is h = tt

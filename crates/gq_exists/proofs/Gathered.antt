@@ -102,7 +102,7 @@ module _ (limit : ℕ) (key : List NodeId) (came : AllKeys) (k : Keys) (s : Stan
 
 -- ---- more keys
 
-same_behind : (came xs ys : AllKeys) → Same xs ys → Same (came ++ xs) (came ++ ys)
+pub same_behind : (came xs ys : AllKeys) → Same xs ys → Same (came ++ xs) (came ++ ys)
 same_behind came xs ys h q = list_any-append (same_nodes q) came xs ∙ ap (λ b. has_key q came || b) (h q) ∙ sym (list_any-append (same_nodes q) came ys)
 
 many_more : (limit : ℕ) (xs ys : AllKeys) → Within xs ys → HasMany limit xs → HasMany limit ys
