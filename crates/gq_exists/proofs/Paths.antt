@@ -1,11 +1,10 @@
 -- Which lists stand at the ends of levels, and what one more makes of them.
-use Rattle.std.proofs.Common.{◌≡◌, ◌∙◌, ap, ap₂, refl, sym, subst, ℕ, ◌+◌, ◌-◌, ◌<◌, ◌≤◌, zero, suc, replicate, Bool, true, false, not, cond, ◌&&◌, ◌||◌, ltb, nat_eq, List, [], ◌∷◌, ◌++◌, length, map, slice_index_or, arith, length-append, append_assoc, append-nil, true≢false}
+use Rattle.std.proofs.Common.{◌≡◌, ◌∙◌, ap, ap₂, refl, sym, subst, ℕ, ◌+◌, ◌-◌, ◌<◌, ◌≤◌, zero, suc, replicate, Bool, true, false, not, cond, ◌&&◌, ◌||◌, ltb, nat_eq, List, [], ◌∷◌, ◌++◌, length, slice_index_or, arith, length-append, append_assoc, append-nil, true≢false}
 use Rattle.std.specs.HashSet.{HashSet}
 use Rattle.std.specs.List.{AllByRecursion, list_any, position_or_len}
-use Rattle.std.specs.Cmp.Lexicographic.{pointwise}
 use Rattle.std.proofs.Math.ListN.{get_or-append}
 use Rattle.std.proofs.Math.Seq.{get_or-append_seam}
-use Rattle.std.proofs.lemmas.Bool.{and_from, and_parts, eq-eqb, le-ltb, lt-ltb, ltb-false, ltb-true, not-true}
+use Rattle.std.proofs.lemmas.Bool.{and_from, and_parts, eq-eqb, le-ltb, lt-ltb, ltb-false, ltb-true}
 use Rattle.std.proofs.lemmas.Bool.Decides.{nat_tests}
 use Rattle.std.proofs.lemmas.List.{length-map, map-append}
 use Rattle.std.proofs.lemmas.List.Folds.{list_any_at, position_or_len_push}
@@ -19,7 +18,7 @@ use Rattle.gq_plan.specs.Assignments.{same_node}
 use Rattle.gq_plan.specs.Keys.{has_key, same_nodes}
 use Rattle.gq_exists.specs.contracts.keys.LinkPartialEq as derived
 use Rattle.gq_exists.specs.declared.keys.Link.{Link}
-use Rattle.gq_exists.specs.steps.Levels.{AreLevels, IsOnce, grown, is_path, keys_from, link, links_of, longer, node_of, place, roots, same_link, with_link}
+use Rattle.gq_exists.specs.steps.Levels.{AreLevels, IsOnce, grown, is_path, keys_from, link, links_of, longer, node_of, place, roots, same_link}
 
 -- ---- places
 

@@ -1,12 +1,12 @@
 -- What gathered keys stand for, and how one call ends.
-use Rattle.std.specs.Prelude.{◌≡◌, ◌<◌, ◌≤◌, ℕ, Bool, true, false, Result, Ok, Err, List, [], ◌∷◌, ◌++◌, length, map, take}
-use Rattle.std.specs.List.{AllByRecursion, range_with_len}
+use Rattle.std.specs.Prelude.{◌≡◌, ◌≤◌, ℕ, Result, Ok, Err, List, ◌++◌, length, map, take}
+use Rattle.std.specs.List.{range_with_len}
 use Rattle.gq_base.specs.declared.NodeId.{NodeId}
 use Rattle.gq_group.specs.Chunks.{node_at}
 use Rattle.gq_group.specs.declared.chunk.Chunk.{Chunk}
 use Rattle.gq_join.specs.declared.build.JoinRefusal.{JoinRefusal}
 use Rattle.gq_join.specs.declared.build.JoinRefusal.TheVariants as refusal
-use Rattle.gq_plan.specs.Keys.{has_key, same_nodes}
+use Rattle.gq_plan.specs.Keys.{has_key}
 use Rattle.gq_plan.specs.Rows.{nodes_of_tables}
 use Rattle.gq_plan.specs.declared.typed.Typed.{Typed}
 use Rattle.gq_exists.specs.Different.{AreDifferent, HasMany}

@@ -1,4 +1,4 @@
-use Rattle.std.proofs.Common.{◌≡◌, ◌∷◌, ap, length, map, subst, sym, arith, true, Err}
+use Rattle.std.proofs.Common.{◌≡◌, ◌∙◌, ◌∷◌, ap, length, map, subst, sym, arith, true, Err}
 use Rattle.std.specs.List.{All, AllZip}
 use Rattle.std.proofs.lemmas.List.Elements.{All-head, All-tail}
 use Rattle.gq_law_answers.specs.Answered.{meanings}
@@ -29,13 +29,11 @@ run_each-requires t c =
     let e = c.in-Some.ensures.cases.0 in
     let f = c.in-Some-split_first.ensures.cases.0 in
     let both = subst (λ ys. AllZip covers ys (map plan_of c.args.plans.now)) e c.requires.covers in
-    (omega (arith, c.decreases, ap length f), record {
-      sound = All-tail sound c.in-Some.typed.now c.in-Some.alternatives.now (subst (All sound) e c.requires.sound);
-      covers = (subst (λ ps. AllZip covers (c.in-Some.typed.now ∷ c.in-Some.alternatives.now) (map plan_of ps)) f both).1;
-      begins = All-tail (λ (p : code.Plan). begins (plan_of p) ≡ true) c.in-Some-split_first.plan.now c.in-Some-split_first.plans.now (subst (All (λ (p : code.Plan). begins (plan_of p) ≡ true)) f c.requires.begins);
-      is = c.in-Ok.ensures.gathers.is;
-      room = (let kept = c.run.ensures.pool in omega (arith, kept, c.requires.room));
-    })
+    let later = subst (λ ps. AllZip covers (c.in-Some.typed.now ∷ c.in-Some.alternatives.now) (map plan_of ps)) f both in
+    let sounds = All-tail sound c.in-Some.typed.now c.in-Some.alternatives.now (subst (All sound) e c.requires.sound) in
+    let begin = All-tail (λ (p : code.Plan). begins (plan_of p) ≡ true) c.in-Some-split_first.plan.now c.in-Some-split_first.plans.now (subst (All (λ (p : code.Plan). begins (plan_of p) ≡ true)) f c.requires.begins) in
+    let kept = c.run.ensures.pool in
+    (omega (arith, c.decreases, ap length f), (sounds, (later.1, (begin, (c.in-Ok.ensures.gathers.is, omega (arith, kept, c.requires.room))))))
 
 pub returns-in-Err-clause-gathers : goal.returns-in-Err-clause-gathers
 returns-in-Err-clause-gathers t c =

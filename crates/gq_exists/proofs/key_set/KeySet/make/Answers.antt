@@ -1,29 +1,26 @@
-use Rattle.std.proofs.Common.{◌≡◌, ◌∙◌, [], ap, ap₂, map, subst, Ok, Err}
+use Rattle.std.proofs.Common.{◌∙◌, [], ap₂, map, subst, Err}
 use Rattle.gq_law_answers.specs.Answered.{meanings}
-use Rattle.gq_plan.specs.Keys.{has_key, key_of}
+use Rattle.gq_plan.specs.Keys.{key_of}
 use Rattle.gq_plan.specs.Plans.{plan_of}
 use Rattle.gq_exists.specs.Made.{keys_of}
 use Rattle.gq_exists.specs.steps.Gathered.{Gathers, Stands}
 use Rattle.gq_exists.proofs.Filling.{begun, no_more, refused}
 use Rattle.gq_exists.proofs.key_set.KeySet.make.Goals as goal
-use Rattle.gq_exists.proofs.key_set.KeySet.make.Goals.{After-run_each, In-Ok}
-
--- the keys of what was run are those of the path
-same : (c : After-run_each)
-    → map (key_of c.in_ok-gathering.gathering.width) (meanings c.args.graph.now c.as_slice-alternatives.result.now (map plan_of c.args.plans.now)) ≡ keys_of c.args.graph.now c.args.part.now (map plan_of c.args.plans.now)
-same c =
-    ap₂ (λ w ys. map (key_of w) (meanings c.args.graph.now ys (map plan_of c.args.plans.now))) (c.in_ok-gathering.ensures.width ∙ c.len-2.ensures) c.as_slice-alternatives.ensures
+use Rattle.gq_exists.proofs.key_set.KeySet.make.Goals.{In-Ok}
 
 pub returns-in-Err-clause-refused : goal.returns-in-Err-clause-refused
 returns-in-Err-clause-refused c =
     let g = c.in_ok-gathering in
+    let same = ap₂ (λ w ys. map (key_of w) (meanings c.args.graph.now ys (map plan_of c.args.plans.now))) (g.ensures.width ∙ c.len-2.ensures) c.as_slice-alternatives.ensures in
     refused c.args.limit (keys_of c.args.graph.now c.args.part.now (map plan_of c.args.plans.now)) g.gathering c.run_each.new.gathering c.in-Err.refusal g.ensures.none g.ensures.limit
-    (subst (λ l. Gathers l g.gathering c.run_each.new.gathering (Err c.in-Err.refusal)) (same (goal.at.returns-in-Err-clause-refused c).After-run_each) c.in-Err.ensures.gathers)
+    (subst (λ l. Gathers l g.gathering c.run_each.new.gathering (Err c.in-Err.refusal)) same c.in-Err.ensures.gathers)
 
 -- they stand
 stands : (c : In-Ok) → Stands c.in_ok-gathering.gathering.limit (keys_of c.args.graph.now c.args.part.now (map plan_of c.args.plans.now)) c.run_each.new.gathering.keys
 stands c =
-    subst (λ l. Stands c.in_ok-gathering.gathering.limit l c.run_each.new.gathering.keys) (same c.before)
+    let g = c.in_ok-gathering in
+    let same = ap₂ (λ w ys. map (key_of w) (meanings c.args.graph.now ys (map plan_of c.args.plans.now))) (g.ensures.width ∙ c.len-2.ensures) c.as_slice-alternatives.ensures in
+    subst (λ l. Stands c.in_ok-gathering.gathering.limit l c.run_each.new.gathering.keys) same
     (c.in-Ok.ensures.gathers.stands [] (begun c.in_ok-gathering.gathering c.in_ok-gathering.ensures.none))
 
 pub returns-clause-keys : goal.returns-clause-keys
