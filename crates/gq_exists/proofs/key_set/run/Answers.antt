@@ -1,0 +1,36 @@
+use Rattle.std.proofs.Common.{◌∙◌, ap, map, sym, arith, Ok, Err}
+use Rattle.gq_pipe.proofs.Assigned.{covers_bind_all}
+use Rattle.gq_pipe.specs.Bound.{binds_all}
+use Rattle.gq_pipe.specs.Progress.{Source, plan_in}
+use Rattle.gq_plan.proofs.ColumnBounds.{columns_bound}
+use Rattle.gq_plan.proofs.StepEquations.{plan_is}
+use Rattle.gq_plan.specs.Meaning.{meaning, whole}
+use Rattle.gq_plan.specs.Plans.{plan_of}
+use Rattle.gq_exists.specs.steps.Running.{made_keys, owed_keys}
+use Rattle.gq_exists.proofs.Filling.{bag_same}
+use Rattle.gq_exists.proofs.Gathered.{alike}
+use Rattle.gq_exists.proofs.key_set.run.Goals as goal
+
+pub start-requires-clause-room : goal.start-requires-clause-room
+start-requires-clause-room c =
+    let few = columns_bound c.args.graph.now.catalog c.args.typed.now (plan_of c.args.plan.now) c.requires.sound c.requires.covers.fits in
+    omega (arith, few, c.requires.room, c.make_builds.ensures.pool)
+
+pub fill-filled-requires-clause-complete : goal.fill-filled-requires-clause-complete
+fill-filled-requires-clause-complete c =
+    let y = c.args.typed.now in
+    ap (λ (s : Source). binds_all y (plan_in s)) c.in-Ok-start.ensures.source ∙ ap (binds_all y) (sym (plan_is c.args.plan.now)) ∙ covers_bind_all c.args.graph.now.catalog y (plan_of c.args.plan.now) c.requires.covers
+
+pub returns-in-Err-clause-gathers : goal.returns-in-Err-clause-gathers
+returns-in-Err-clause-gathers c =
+    let y = c.args.typed.now in
+    let w = c.args.gathering.now.width in
+    alike (owed_keys y w c.in-Ok-start.pipeline) (made_keys c.args.graph.now y w c.args.plan.now) c.args.gathering.now c.fill-filled.new.gathering (Err c.in-Err.refusal)
+    (bag_same w (map (whole y) c.in-Ok-start.pipeline.owed) (meaning c.args.graph.now y (plan_of c.args.plan.now)) c.in-Ok-start.ensures.meaning) c.in-Err.ensures.gathers
+
+pub returns-clause-gathers : goal.returns-clause-gathers
+returns-clause-gathers c =
+    let y = c.args.typed.now in
+    let w = c.args.gathering.now.width in
+    alike (owed_keys y w c.in-Ok-start.pipeline) (made_keys c.args.graph.now y w c.args.plan.now) c.args.gathering.now c.fill-filled.new.gathering (Ok tt)
+    (bag_same w (map (whole y) c.in-Ok-start.pipeline.owed) (meaning c.args.graph.now y (plan_of c.args.plan.now)) c.in-Ok-start.ensures.meaning) c.in-Ok-filled.ensures.gathers

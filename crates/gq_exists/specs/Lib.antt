@@ -1,0 +1,3 @@
+pub mod Different
+pub mod Made
+pub mod steps

@@ -1,0 +1,4 @@
+pub mod Gathered
+pub mod Inner
+pub mod Levels
+pub mod Running
