@@ -23,7 +23,8 @@ use Rattle.gq_bits.specs.Places.{is_marked}
 use Rattle.gq_plan.specs.declared.assignment.Assignment.{Assignment}
 use Rattle.gq_pool.specs.Pool as pool
 use Rattle.gq_pool.specs.Pool.{Pool, IsOut, cells_of}
-use Rattle.gq_pipe.specs.Serving.{AreApart, HasCell, HasCells, Holds, Serves, row_of}
+use Rattle.gq_pipe.specs.Serving.{HasCell, HasCells, Serves, row_of}
+use Rattle.gq_pool.specs.Slots.{AreApart, Holds}
 use Rattle.gq_pipe.specs.steps.Cells.{HasSource, cell_of, cell_seen, column_of, filled, has_cell, led, marks_in, near_in, near_seen}
 use Rattle.gq_pipe.specs.steps.Homes.{IsColumnOf, IsFilling, filling_at, node_home}
 use Rattle.gq_pipe.specs.steps.Levels.{Run}
@@ -211,17 +212,17 @@ module _ (c : Run) (row : Assignment) (gs : List Group) (h : Homes) (fs : List F
 
 -- ---- the pool that serves a pipeline
 
-pub serves_now : (p : Inside) (q : Pool) (found : Bool) → has_chunk p.walker.state ≡ found → Holds q p.slots.items → (found ≡ true → HasCells q p.slots.items (cells_in p)) → Serves (rest_of p) q
+pub serves_now : (p : Inside) (q : Pool) (found : Bool) → has_chunk p.walker.state ≡ found → Holds q p.slots.numbers → (found ≡ true → HasCells q p.slots.numbers (cells_in p)) → Serves (rest_of p) q
 serves_now p q found told held cells = record { held = held; cells = go p.walker.state told }
   where
-    go : (s : State) → has_chunk s ≡ found → HasCells q p.slots.items (cells_when s (cells_in p))
+    go : (s : State) → has_chunk s ≡ found → HasCells q p.slots.numbers (cells_when s (cells_in p))
     go Fresh is = λ m k r at. absurd (cc at)
     go Standing is = cells (sym is)
     go Done is = λ m k r at. absurd (cc at)
 
 -- while a chunk stands its columns have their cells
-pub served_cells : (p : Inside) (q : Pool) → p.walker.state ≡ Standing → Serves (rest_of p) q → HasCells q p.slots.items (cells_in p)
-served_cells p q now s = subst (λ s. HasCells q p.slots.items (cells_when s (cells_in p))) now s.cells
+pub served_cells : (p : Inside) (q : Pool) → p.walker.state ≡ Standing → Serves (rest_of p) q → HasCells q p.slots.numbers (cells_in p)
+served_cells p q now s = subst (λ s. HasCells q p.slots.numbers (cells_when s (cells_in p))) now s.cells
 
 -- ---- the columns of a chunk
 
