@@ -35,7 +35,8 @@ use Rattle.gq_pipe.proofs.Binding.{after_all, looks_given}
 use Rattle.gq_pipe.proofs.Chunking.{is_chunk_of, chunk_binds}
 use Rattle.gq_pipe.proofs.Rebinding.{bound_given}
 use Rattle.gq_pipe.proofs.Standings.{all_held}
-use Rattle.gq_pipe.specs.Serving.{HasCells, Holds, Serves}
+use Rattle.gq_pipe.specs.Serving.{HasCells, Serves}
+use Rattle.gq_pool.specs.Slots.{Holds}
 use Rattle.gq_pipe.specs.Shown.{AreShown}
 use Rattle.gq_pipe.specs.steps.Cells.{filled}
 use Rattle.gq_pipe.proofs.Filling.{AreCells, served_cells}

@@ -1,11 +1,11 @@
 use Rattle.std.proofs.Common.{◌∙◌, ◌+◌, length, refl, sym, ap, subst, arith}
 use Rattle.std.specs.Prelude.{vec_capacity}
 use Rattle.std.proofs.lemmas.List.{length_push}
-use Rattle.gq_pool.specs.Pool.{Pool, spare_of}
-use Rattle.gq_pipe.specs.Serving.{Holds}
-use Rattle.gq_pipe.proofs.Holding.{holds_more}
-use Rattle.gq_pipe.proofs.slots.take_slots.Goals as goal
-use Rattle.gq_pipe.proofs.slots.take_slots.Goals.{in-Some+in-Ok, in-Some+in-Err, in-None}
+use Rattle.gq_pool.specs.Pool.{Pool, spare_of, taken}
+use Rattle.gq_pool.specs.Slots.{Holds, all_taken}
+use Rattle.gq_pool.proofs.Holding.{holds_more, taken_more}
+use Rattle.gq_pool.proofs.slot_list.take_slots.Goals as goal
+use Rattle.gq_pool.proofs.slot_list.take_slots.Goals.{in-Some+in-Ok, in-Some+in-Err, in-None}
 
 pub loop-preserved : goal.loop-preserved
 loop-preserved c =
@@ -13,6 +13,7 @@ loop-preserved c =
     let many = c.loop.invariant.1 in
     let spare = c.loop.invariant.2 in
     let wide = c.loop.invariant.3 in
+    let taken_so = c.loop.invariant.4 in
     let room = c.requires.room in
     elim c.match-take.branch [
       | in-Some+in-Ok w ↦
@@ -25,6 +26,7 @@ loop-preserved c =
             ap length items ∙ length_push c.loop.slots.items w.in-Some.slot ∙ ap (λ n. n + 1) many,
             omega (arith, one_less, spare, ap spare_of w.pool-is),
             omega (arith, wide, no_less, ap vec_capacity w.slots-is),
+            w.pool-is ∙ w.in-Some.ensures.takes ∙ ap (λ p. taken p w.in-Some.slot) taken_so ∙ sym (taken_more _ c.loop.slots.items w.in-Some.slot) ∙ ap (all_taken _) (sym items),
           ))
       | in-Some+in-Err w ↦ (let full = w.in-Err.ensures.full in absurd (omega (arith, full, wide, more, many, c.loop.slots.ok.0)))
       | in-None w ↦ (let none = w.in-None.ensures.none.0 refl in absurd (omega (arith, none, spare, more, room)))

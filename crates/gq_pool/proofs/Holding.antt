@@ -1,8 +1,8 @@
--- One slot more, or one less, is held.
-use Rattle.std.proofs.Common.{◌≡◌, ◌≢◌, ℕ, zero, suc, Bool, true, false, List, [], ◌∷◌, ◌++◌, get_or, sym, ◌∙◌, ap, true≢false}
+-- One slot more, or one less, is held, taken and given back.
+use Rattle.std.proofs.Common.{◌≡◌, ◌≢◌, ℕ, zero, suc, Bool, true, false, List, [], ◌∷◌, ◌++◌, get_or, refl, sym, ◌∙◌, ap, true≢false}
 use Rattle.std.specs.List.{AllByRecursion}
-use Rattle.gq_pool.specs.Pool.{Pool, IsOut, IsFree}
-use Rattle.gq_pipe.specs.Serving.{AreApart, Holds}
+use Rattle.gq_pool.specs.Pool.{Pool, IsOut, IsFree, taken, freed}
+use Rattle.gq_pool.specs.Slots.{AreApart, Holds, all_taken, all_freed}
 
 out_there : (xs : List Bool) (i : ℕ) → get_or xs i false ≡ true → get_or xs i true ≡ true
 out_there [] i h = absurd (true≢false (sym h))
@@ -59,3 +59,11 @@ holds_less old new slots s h others =
       out = both_still (λ t. t ≢ s) (IsOut old) (IsOut new) slots others apart.1 (all_less (IsOut old) slots s h.out).0;
       apart = apart.0;
     }
+
+pub taken_more : (p : Pool) (slots : List ℕ) (s : ℕ) → all_taken p (slots ++ s ∷ []) ≡ taken (all_taken p slots) s
+taken_more p [] s = refl
+taken_more p (t ∷ slots) s = taken_more (taken p t) slots s
+
+pub freed_last : (p : Pool) (slots : List ℕ) (s : ℕ) → all_freed p (slots ++ s ∷ []) ≡ all_freed (freed p s) slots
+freed_last p [] s = refl
+freed_last p (t ∷ slots) s = ap (λ q. freed q t) (freed_last p slots s)
