@@ -14,7 +14,7 @@ rank present row = count_by (λ on. on) (take row present)
 abbrev one_if : Bool → ℕ
 one_if on = cond on 1 0
 
-count-cons : (b : Bool) (bs : List Bool) → count_by (λ on. on) (b ∷ bs) ≡ cond b 1 0 + count_by (λ on. on) bs
+pub count-cons : (b : Bool) (bs : List Bool) → count_by (λ on. on) (b ∷ bs) ≡ cond b 1 0 + count_by (λ on. on) bs
 count-cons b bs = sum_by-cons one_if b bs
 
 pub length-cells_of : (present : List Bool) (kept : List ℤ) → length (cells_of present kept) ≡ length present

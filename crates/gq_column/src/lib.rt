@@ -9,6 +9,9 @@ ghost use Rattle.std.specs.Prelude.{is_some};
 ghost use Rattle.gq_column.specs.Cells.{Gathered, cell_at};
 ghost use Rattle.gq_column.specs.steps.Cells.{BlockGathered, kept_of};
 
+mod builder;
+
+pub use builder::ColumnBuilder;
 use gq_base::Memory;
 use gq_bits::{BitList, Marks, VECTOR};
 use std::alloc::Global;
@@ -41,10 +44,11 @@ impl Column {
         requires { length cells.now < 2 ^ 32 }
         ensures { IfOk result (λ column. column ≡ cells.now) }
     {
-        let flags = flags_of(alloc, cells)?;
-        let present = BitList::from_bools(alloc, flags.as_slice())?;
-        let kept = kept_cells(alloc, cells, present.ones() as usize + 1)?;
-        Ok(Column { present, kept })
+        let mut growing = ColumnBuilder::with_capacity(alloc, cells.len() as u32)?;
+        for cell in cells {
+            growing.push(*cell)?;
+        }
+        growing.build(alloc)
     }
 
     /// How many rows the column has.
@@ -179,28 +183,6 @@ impl Column {
         }
         word
     }
-}
-
-// Which cells are not null.
-fn flags_of(alloc: Global, cells: &[Option<i64>]) -> Result<Vec<bool>, Memory>
-    ensures { IfOk result (λ flags. flags.items ≡ map (λ cell. is_some cell) cells.now) }
-{
-    Ok(cells.iter().map(|cell| cell.is_some()).collect(alloc)?)
-}
-
-// The cells that are not null, and a 0. Room for so many is made at once, so that none is left
-// over.
-fn kept_cells(alloc: Global, cells: &[Option<i64>], room: usize) -> Result<Vec<i64>, Memory>
-    ensures { IfOk result (λ kept. kept.items ≡ (kept_of cells.now ++ (pos 0 ∷ []))) }
-{
-    let mut kept = Vec::with_capacity(alloc, room)?;
-    for cell in cells {
-        if let Some(value) = cell {
-            kept.push(*value)?;
-        }
-    }
-    kept.push(0)?;
-    Ok(kept)
 }
 
 fn copy_rows(cells: &[i64], rows: &[u32], out: &mut [i64])

@@ -1,16 +1,20 @@
 -- What the tests of a field's bytes say.
-use Rattle.std.proofs.Common.{◌≡◌, ◌≢◌, ℕ, ◌<◌, ◌≤◌, ◌^◌, Bool, true, false, List, [], ◌∷◌, length, drop, Some, None, refl, ap, arith, w64}
-use Rattle.std.specs.Prelude.{if◌then◌else◌, ◌==◌, ◌&&◌, not, nat_eq, nat_lt, nat_le, ℤ, pos, neg_ℤ, Result, Ok, Err, slice_index}
+use Rattle.std.proofs.Common.{◌≡◌, ◌≢◌, ℕ, ◌+◌, ◌-◌, ◌*◌, ◌<◌, ◌≤◌, ◌^◌, Bool, true, false, List, [], ◌∷◌, length, drop, get_or, Option, Some, None, refl, sym, ap, ◌∙◌, arith, w64, rules}
+use Rattle.std.specs.Prelude.{if◌then◌else◌, ◌==◌, ◌&&◌, not, nat_eq, nat_lt, nat_le, ℤ, pos, neg_ℤ, Result, Ok, Err, slice_index, option_map}
 use Rattle.std.specs.List.{starts_with}
 use Rattle.std.specs.Result.{OkIff, result_ok}
+use Rattle.std.specs.Char.{is_ascii_digit}
 use Rattle.std.specs.Str.{IsAscii, all_ascii_digits, is_utf8}
 use Rattle.std.specs.Str.Parse.{ParsesSigned, digits_value}
 use Rattle.std.proofs.lemmas.Bool.Decides.{nat_tests}
 use Rattle.std.proofs.lemmas.Str.Ascii.{IsAscii-cons, IsAscii-nil}
 use Rattle.std.proofs.lemmas.Str.{IsUtf8-from_ascii, is_utf8-from_IsUtf8}
-use Rattle.std.proofs.lemmas.Str.Parse.{IsNumeralModel, numerals_by_value, parse_signed_minus, parse_signed_plain, tells_all_ascii_digits}
+use Rattle.std.proofs.lemmas.Str.Parse.{IsNumeralModel, numerals_by_fold, numerals_by_value, parse_signed_minus, parse_signed_plain, tells_all_ascii_digits}
 use Rattle.gq_base.specs.Words.{text_of}
-use Rattle.gq_fields.specs.Fields.{int_of}
+use Rattle.std.proofs.Math.Nat.{pow-le-pow_right}
+use Rattle.std.proofs.lemmas.Grind.{pow_more}
+use Rattle.std.proofs.lemmas.List.{drop_more, drop_all}
+use Rattle.gq_fields.specs.Fields.{int_of, is_numeral}
 
 none_test : (b : Bool) (bytes : List ℕ) → None ≡ (if b then Some bytes else None) → b ≡ false
 none_test true bytes e = cc e
@@ -103,3 +107,88 @@ no_int c cs false e u =
 pub int_of-none : (bytes : List ℕ) → None ≡ text_of bytes → int_of bytes ≡ None
 int_of-none [] e = absurd (not_ascii [] (none_test (is_utf8 []) [] e) IsAscii-nil)
 int_of-none (c ∷ cs) e = no_int c cs (c == 45) refl (none_test (is_utf8 (c ∷ cs)) (c ∷ cs) e)
+
+-- ---- a few digits
+
+-- the number that digits go on with
+abbrev pub read_on : ℕ → List ℕ → ℕ
+read_on number [] = number
+read_on number (c ∷ cs) = read_on (10 * number + (c - 48)) cs
+
+by_fold : IsNumeralModel (λ ds. all_ascii_digits ds ≡ true) (read_on 0)
+by_fold = numerals_by_fold _ tells_all_ascii_digits read_on (search rules)
+
+pub read_on-value : (ds : List ℕ) → all_ascii_digits ds ≡ true → read_on 0 ds ≡ digits_value 10 ds
+read_on-value ds h = by_fold.same ds (by_fold.to ds h)
+
+-- one digit more
+pub read_more : (i number : ℕ) (ds : List ℕ) (digit : ℕ) → i < length ds → digit ≡ get_or ds i 0 → is_ascii_digit digit ≡ true
+    → read_on number (drop i ds) ≡ read_on 0 ds → all_ascii_digits (drop i ds) ≡ all_ascii_digits ds → number < 10 ^ i
+    → (read_on (10 * number + (digit - 48)) (drop (i + 1) ds) ≡ read_on 0 ds) × (all_ascii_digits (drop (i + 1) ds) ≡ all_ascii_digits ds) × (10 * number + (digit - 48) < 10 ^ (i + 1))
+read_more i number ds digit h is numeral told all low =
+    let next : drop i ds ≡ digit ∷ drop (i + 1) ds = drop_more ds i 0 h ∙ ap (λ d. d ∷ drop (i + 1) ds) (sym is) in
+    let range : (48 ≤ digit) × (digit ≤ 57) = grind (arith, nat_tests, numeral) in
+    let power : 10 ^ (i + 1) ≡ 10 ^ i * 10 = pow_more 10 i in (
+      sym (ap (read_on number) next) ∙ told,
+      sym (ap all_ascii_digits next ∙ ap (λ b. b && all_ascii_digits (drop (i + 1) ds)) numeral) ∙ all,
+      omega (arith, range.0, range.1, power, low),
+    )
+
+-- a byte that is no digit
+pub no_numeral : (i : ℕ) (ds : List ℕ) (digit : ℕ) → i < length ds → digit ≡ get_or ds i 0 → is_ascii_digit digit ≡ false → all_ascii_digits (drop i ds) ≡ all_ascii_digits ds → is_numeral ds ≡ false
+no_numeral i ds digit h is other all =
+    let next : drop i ds ≡ digit ∷ drop (i + 1) ds = drop_more ds i 0 h ∙ ap (λ d. d ∷ drop (i + 1) ds) (sym is) in
+    let none : all_ascii_digits ds ≡ false = sym all ∙ ap all_ascii_digits next ∙ ap (λ b. b && all_ascii_digits (drop (i + 1) ds)) other in
+    rw none (and-false (not (length ds == 0)))
+  where
+    and-false : (b : Bool) → (b && false) ≡ false
+    and-false true = refl
+    and-false false = refl
+
+minus_sign : (bs : List ℕ) (b : Bool) → starts_with nat_eq bs (45 ∷ []) ≡ b → (slice_index bs 0 == 45) ≡ b
+minus_sign [] b e = e
+minus_sign (c ∷ cs) b e = flip b (sym (and-true (45 == c)) ∙ e)
+  where
+    and-true : (x : Bool) → (x && true) ≡ x
+    and-true true = refl
+    and-true false = refl
+
+    flip : (x : Bool) → (45 == c) ≡ x → (c == 45) ≡ x
+    flip true h = grind (arith, nat_tests, h)
+    flip false h = grind (arith, nat_tests, h)
+
+-- what a few digits give is an integer
+pub plain_digits : (ds : List ℕ) (r : Option ℤ) → r ≡ (if is_numeral ds then Some (pos (digits_value 10 ds)) else None) → (is_numeral ds ≡ true → digits_value 10 ds < 2 ^ 63)
+    → starts_with nat_eq ds (45 ∷ []) ≡ false → r ≡ int_of ds
+plain_digits ds r is few sign = is ∙ shortly (is_numeral ds) (digits_value 10 ds) few ∙ rw (minus_sign ds false sign) refl
+  where
+    shortly : (b : Bool) (n : ℕ) → (b ≡ true → n < 2 ^ 63) → (if b then Some (pos n) else None) ≡ (if b && nat_lt n (2 ^ 63) then Some (pos n) else None)
+    shortly true n few = rw (lt-true n (2 ^ 63) (few refl)) refl
+    shortly false n few = refl
+
+pub minus_digits : (bs : List ℕ) (r : Option ℤ) → r ≡ (if is_numeral (drop 1 bs) then Some (pos (digits_value 10 (drop 1 bs))) else None)
+    → (is_numeral (drop 1 bs) ≡ true → digits_value 10 (drop 1 bs) < 2 ^ 63) → starts_with nat_eq bs (45 ∷ []) ≡ true → option_map neg_ℤ r ≡ int_of bs
+minus_digits bs r is few sign =
+    let ds = drop 1 bs in
+    ap (option_map neg_ℤ) is ∙ shortly (is_numeral ds) (digits_value 10 ds) few ∙ rw (minus_sign bs true sign) refl
+  where
+    shortly : (b : Bool) (n : ℕ) → (b ≡ true → n < 2 ^ 63) → option_map neg_ℤ (if b then Some (pos n) else None) ≡ (if b && nat_le n (2 ^ 63) then Some (neg_ℤ (pos n)) else None)
+    shortly true n few = (let low : n ≤ 2 ^ 63 = omega (arith, few refl) in rw (le-true n (2 ^ 63) low) refl)
+    shortly false n few = refl
+
+-- fewer than eighteen digits so far
+pub few_so_far : (i number : ℕ) → number < 10 ^ i → i < 18 → number < 10 ^ 17
+few_so_far i number low few = (let most : 10 ^ i ≤ 10 ^ 17 = pow-le-pow_right {n = 10} (omega arith) {i = i} {j = 17} (omega arith) in omega (arith, low, most))
+
+pub all_so_far : (i number : ℕ) → number < 10 ^ i → i ≤ 18 → number < 2 ^ 63
+all_so_far i number low few = (let most : 10 ^ i ≤ 10 ^ 18 = pow-le-pow_right {n = 10} (omega arith) {i = i} {j = 18} (omega arith) in omega (arith, low, most))
+
+-- what is read at the end
+pub numeral_is : (ds : List ℕ) (number : ℕ) → (length ds == 0) ≡ false → read_on number (drop (length ds) ds) ≡ read_on 0 ds → all_ascii_digits (drop (length ds) ds) ≡ all_ascii_digits ds
+    → (is_numeral ds ≡ true) × (digits_value 10 ds ≡ number)
+numeral_is ds number some told all =
+    let none : drop (length ds) ds ≡ [] = drop_all (length ds) ds (omega arith) in
+    let digits : all_ascii_digits ds ≡ true = sym all ∙ ap all_ascii_digits none in (
+      rw (digits, some) refl,
+      sym (read_on-value ds digits) ∙ sym told ∙ ap (read_on number) none,
+    )

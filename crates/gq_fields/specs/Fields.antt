@@ -16,7 +16,7 @@ use Rattle.gq_base.specs.Words.{name_of, text_of}
 -- ---- values
 
 -- one decimal digit or more
-abbrev is_numeral : List ℕ → Bool
+abbrev pub is_numeral : List ℕ → Bool
 is_numeral digits = not (is_empty digits) && all_ascii_digits digits
 
 -- the number that digits spell, within 64 signed bits

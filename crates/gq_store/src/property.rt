@@ -10,7 +10,7 @@ ghost use Rattle.gq_store.specs.Columns.{AreCells, IsCellOf, IsDictOf, column_of
 ghost use Rattle.gq_store.specs.RelColumns.{cell_numbered};
 
 use gq_base::{Cell, Field, Kind, Memory, NodeRows, RelRows, Value};
-use gq_column::Column;
+use gq_column::{Column, ColumnBuilder};
 use gq_dict::{Coded, Dict};
 use std::alloc::Global;
 use std::marker::Model;
@@ -53,7 +53,7 @@ impl Property {
     {
         let Coded { dict, codes } = Coded::build(alloc, texts_of(alloc, kind, cells)?)?;
         let integers = integers_of(alloc, cells, codes.as_slice())?;
-        let column = Column::build(alloc, integers.as_slice())?;
+        let column = integers.build(alloc)?;
         Ok(Property { kind, column, dict })
     }
 
@@ -239,13 +239,14 @@ fn integers_of(
     alloc: Global,
     cells: &[&Option<Cell>],
     codes: &[u32],
-) -> Result<Vec<Option<i64>>, Memory>
-    requires { length codes.now ≡ length (texts_in (map (λ cell. cell.now) cells.now)) }
+) -> Result<ColumnBuilder, Memory>
+    requires few { length cells.now < 2 ^ 32 }
+    requires codes { length codes.now ≡ length (texts_in (map (λ cell. cell.now) cells.now)) }
     ensures { IfOk result (λ integers. (dict : List (List ℕ)) →
         AreCodes dict (texts_in (map (λ cell. cell.now) cells.now)) codes.now →
-        AreCells dict (map (λ cell. cell.now) cells.now) integers.items) }
+        AreCells dict (map (λ cell. cell.now) cells.now) integers) }
 {
-    let mut integers = Vec::with_capacity(alloc, cells.len())?;
+    let mut integers = ColumnBuilder::with_capacity(alloc, cells.len() as u32)?;
     let mut left = codes;
     for cell in cells {
         let (integer, rest) = integer_of(cell, left);

@@ -1,5 +1,5 @@
 -- A column as it is kept, which rows are there and the cells of these, and a block that is gathered from it.
-use Rattle.std.specs.Prelude.{ℕ, ℤ, pos, ◌≡◌, ◌^◌, ◌<◌, ◌≤◌, ◌+◌, ◌==◌, false, List, [], ◌∷◌, Bool, Option, Some, None, is_some, unwrap_or, if◌then◌else◌, length, map, take, slice_index_or, count_by}
+use Rattle.std.specs.Prelude.{ℕ, ℤ, pos, ◌≡◌, ◌^◌, ◌<◌, ◌≤◌, ◌+◌, ◌==◌, true, false, List, [], ◌∷◌, Bool, Option, Some, None, is_some, unwrap_or, if◌then◌else◌, length, map, take, slice_index_or, count_by}
 use Rattle.std.specs.List.{range_with_len}
 use Rattle.std.specs.Int.{bit_at}
 
@@ -8,6 +8,13 @@ abbrev pub kept_of : List (Option ℤ) → List ℤ
 kept_of [] = []
 kept_of (None ∷ cells) = kept_of cells
 kept_of (Some cell ∷ cells) = cell ∷ kept_of cells
+
+-- the cells that flags and kept cells stand for: each flag that is set takes the next kept cell
+abbrev pub flagged : List Bool → List ℤ → List (Option ℤ)
+flagged [] kept = []
+flagged (false ∷ flags) kept = None ∷ flagged flags kept
+flagged (true ∷ flags) [] = None ∷ flagged flags []
+flagged (true ∷ flags) (cell ∷ kept) = Some cell ∷ flagged flags kept
 
 -- the cells that bits and kept cells stand for: where a row's bit is set, its cell stands at the row's rank
 abbrev pub cells_of : List Bool → List ℤ → List (Option ℤ)

@@ -13,6 +13,7 @@ use Rattle.gq_edges.specs.Order.{numbers_of, page_start_of}
 use Rattle.gq_edges.specs.steps.Order.{IsPlaceOf}
 use Rattle.gq_store.specs.Neighbours.{is_listed, mult_at, near_ends, near_rows, opposite}
 use Rattle.gq_store.specs.declared.links.Links.{Links}
+use Rattle.gq_store.specs.declared.links.Shape.{Shape}
 use Rattle.gq_store.specs.declared.links.Places.TheVariants.{Sources, Targets, Paged}
 use Rattle.gq_store.specs.declared.links.Places.{Places}
 use Rattle.gq_store.specs.declared.links.Side.TheVariants.{Listed, Single}
@@ -57,6 +58,12 @@ ArePlaces g rel backward (Paged pages) = (mult_at g rel ≡ Some ManyMany) × Ar
 abbrev pub side : Direction → Links → Side
 side Forward links = links.forward
 side Backward links = links.backward
+
+-- the multiplicity of a table, and how many rows there are at both ends
+pub record IsShape (g : Graph) (rel : ℕ) (shape : Shape) : Type 0 where
+  pub mult_is : mult_at g rel ≡ Some shape.mult
+  pub sources_are : shape.sources ≡ near_rows g rel Forward
+  pub targets_are : shape.targets ≡ near_rows g rel Backward
 
 -- a table's relationships are kept
 pub record IsLinked (g : Graph) (rel : ℕ) (links : Links) : Type 0 where

@@ -24,6 +24,6 @@ integer_of-integer-requires c =
 pub loop-cell-preserved : goal.loop-cell-preserved
 loop-cell-preserved c =
     let (low, is) = next_cell c.args.cells.now c.loop-cell.cell-index c.cell-item.result (omega arith) c.cell-item.is in
-    rw (c.in_ok-push.ensures.items)
-    (integers_more c.loop-cell.cell-index (map (λ (x : Bor (Option Cell)). x.now) c.args.cells.now) c.args.codes.now c.loop-cell.left.now c.integer_of-integer.result.1.now c.loop-cell.integers.items c.cell-item.result.now c.integer_of-integer.result.0 c.loop-cell.invariant low is
+    rw c.in_ok-push.ensures
+    (integers_more c.loop-cell.cell-index (map (λ (x : Bor (Option Cell)). x.now) c.args.cells.now) c.args.codes.now c.loop-cell.left.now c.integer_of-integer.result.1.now c.loop-cell.integers c.cell-item.result.now c.integer_of-integer.result.0 c.loop-cell.invariant low is
     c.integer_of-integer.ensures.left c.integer_of-integer.ensures.is)

@@ -3,7 +3,7 @@ use Rattle.std.specs.Prelude.{ℤ, FitsSigned}
 use Rattle.std.proofs.lemmas.Int.{to_z-of_z}
 use Rattle.gq_base.proofs.Texts.{text_of-same}
 use Rattle.gq_fields.proofs.FieldLaws.{int_of-none, int_of-parsed}
-use Rattle.gq_fields.proofs.field.read_int.Goals as goal
+use Rattle.gq_fields.proofs.field.read_long.Goals as goal
 
 pub returns-in_default : goal.returns-in_default
 returns-in_default c = sym (int_of-none _ c.in_default.ensures)
