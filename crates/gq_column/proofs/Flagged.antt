@@ -1,5 +1,5 @@
 -- Cells that stand as flags and as kept cells, one after the other.
-use Rattle.std.proofs.Common.{◌≡◌, ℕ, ℤ, pos, ◌+◌, Bool, true, false, cond, List, [], ◌∷◌, ◌++◌, length, map, Option, Some, None, refl, sym, ap, ◌∙◌, arith, count_by}
+use Rattle.std.proofs.Common.{◌≡◌, ℤ, pos, ◌+◌, Bool, true, false, cond, List, [], ◌∷◌, ◌++◌, length, map, Some, None, refl, sym, ap, ◌∙◌, arith, count_by}
 use Rattle.std.specs.Prelude.{is_some}
 use Rattle.std.proofs.lemmas.List.{length-append}
 use Rattle.gq_column.specs.steps.Cells.{cells_of, flagged, kept_of}

@@ -1,7 +1,6 @@
-use Rattle.std.proofs.Common.{◌≡◌, ◌<◌, ◌^◌, ℕ, Some, None, length, drop, sym, ap, ◌∙◌, subst, arith, w64}
+use Rattle.std.proofs.Common.{◌≡◌, Some, length, sym, ap, arith, w64}
 use Rattle.std.proofs.Math.Facts.{to_z_pos}
-use Rattle.std.specs.Prelude.{pos}
-use Rattle.gq_fields.proofs.FieldLaws.{all_so_far, few_so_far, numeral_is, read_on}
+use Rattle.gq_fields.proofs.FieldLaws.{all_so_far, few_so_far, numeral_is}
 use Rattle.gq_fields.proofs.field.read_digits.Goals as goal
 
 pub overflow_mul-number : goal.overflow_mul-number

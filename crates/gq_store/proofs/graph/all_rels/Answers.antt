@@ -1,6 +1,5 @@
-use Rattle.std.proofs.Common.{◌≡◌, List, length, sym, ap, ◌∙◌, arith}
+use Rattle.std.proofs.Common.{List, ap, ◌∙◌, arith}
 use Rattle.std.specs.Prelude.{slice_get}
-use Rattle.gq_base.specs.Catalogs.{Tables}
 use Rattle.gq_base.specs.declared.cell.PlainRel.{PlainRel}
 use Rattle.gq_store.proofs.Keeping.{rest_less, tables_more}
 use Rattle.gq_store.proofs.Linking.{linked_more}
