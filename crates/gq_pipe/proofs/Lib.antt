@@ -41,7 +41,7 @@ pub mod Chunking
 pub mod Chunked
 pub mod Holding
 pub mod Filling
-pub mod Filtering
+pub mod Scanned
 pub mod Loading
 pub mod Flags
 pub mod Showing

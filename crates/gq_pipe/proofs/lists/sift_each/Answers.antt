@@ -1,5 +1,5 @@
-use Rattle.std.proofs.Common.{◌≡◌, ◌+◌, ◌<◌, ◌≤◌, ℕ, true, false, Some, None, refl, sym, ap, ◌∙◌, subst, arith}
-use Rattle.std.specs.Prelude.{slice_index_or, slice_set, MatchOption}
+use Rattle.std.proofs.Common.{◌≡◌, ◌+◌, ◌<◌, ◌≤◌, ℕ, true, false, sym, ◌∙◌, subst, arith}
+use Rattle.std.specs.Prelude.{slice_set, MatchOption}
 use Rattle.gq_bits.specs.Places.{is_marked}
 use Rattle.gq_pipe.specs.steps.Keeps.{IsJudged}
 use Rattle.gq_pipe.specs.steps.Moves.{run_of}

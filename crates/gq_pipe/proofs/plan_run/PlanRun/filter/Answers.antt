@@ -1,4 +1,4 @@
-use Rattle.std.proofs.Common.{◌≡◌, ◌<◌, ◌+◌, ◌&&◌, ℕ, Bool, Some, ap, refl, sym, subst, ◌∙◌, arith, length}
+use Rattle.std.proofs.Common.{◌≡◌, ◌<◌, ◌+◌, ◌&&◌, ℕ, Some, ap, refl, sym, subst, ◌∙◌, arith, length}
 use Rattle.gq_bits.specs.Places.{is_marked}
 use Rattle.gq_plan.specs.declared.assignment.Assignment.{Assignment}
 use Rattle.gq_pipe.specs.steps.Keeps.{IsSifted}
@@ -6,7 +6,7 @@ use Rattle.gq_pipe.specs.steps.Levels.{step_at}
 use Rattle.gq_pipe.specs.steps.Moves.{run_of}
 use Rattle.gq_pipe.specs.steps.Outcomes.{passes_at, with_row}
 use Rattle.gq_pipe.specs.steps.RowTests.{test_of}
-use Rattle.gq_pipe.proofs.Filtering.{IsFiltering, filtering_from, filtering_next, filtering_node, filtering_within, filtered}
+use Rattle.gq_pipe.proofs.Scanned.{filtering_from, filtering_next, filtering_node, filtering_within, filtered}
 use Rattle.gq_pipe.proofs.plan_run.PlanRun.filter.Goals as goal
 
 pub loop-depth-init : goal.loop-depth-init
@@ -22,7 +22,7 @@ keep_rows-requires-clause-node c =
 
 pub keep_rows-requires-clause-within : goal.keep_rows-requires-clause-within
 keep_rows-requires-clause-within c =
-    filtering_within (run_of c.args.self.now) c.requires.run c.args.group c.requires.steps c.args.node c.requires.filters c.args.first c.args.count c.args.row.now c.requires.held c.loop-depth.depth c.loop-depth.marks c.loop-depth.invariant.0
+    filtering_within (run_of c.args.self.now) c.args.group c.args.node c.args.first c.args.count c.args.row.now c.loop-depth.depth c.loop-depth.marks c.loop-depth.invariant.0
 
 pub loop-depth-preserved : goal.loop-depth-preserved
 loop-depth-preserved c =
@@ -38,4 +38,4 @@ pub returns : goal.returns
 returns c =
     let k = run_of c.args.self.now in
     subst (λ (r : Assignment). IsSifted k c.args.group c.args.first c.args.count c.args.row.now r c.loop-depth.marks) (sym c.loop-depth.invariant.1)
-    (filtered k c.requires.run c.args.group c.requires.steps c.args.node c.requires.filters c.args.first c.args.count c.args.row.now c.requires.held c.loop-depth.depth c.loop-depth.marks c.word-_whole.ensures.whole c.loop-depth.invariant.0 c.loop-depth-test.false)
+    (filtered k c.requires.run c.args.group c.requires.steps c.args.node c.requires.filters c.args.first c.args.count c.args.row.now c.requires.held c.loop-depth.depth c.loop-depth.marks c.word-whole.ensures.whole c.loop-depth.invariant.0 c.loop-depth-test.false)

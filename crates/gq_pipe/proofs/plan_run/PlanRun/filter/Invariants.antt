@@ -1,6 +1,6 @@
-use Rattle.std.proofs.Common.{◌≡◌, ◌×◌}
+use Rattle.std.proofs.Common.{◌≡◌}
 use Rattle.gq_pipe.specs.steps.Moves.{run_of}
-use Rattle.gq_pipe.proofs.Filtering.{IsFiltering}
+use Rattle.gq_pipe.proofs.Scanned.{IsFiltering}
 use Rattle.gq_pipe.proofs.plan_run.PlanRun.filter.Given as goal
 
 abbrev pub invariant-loop-depth : goal.invariant-loop-depth
