@@ -33,6 +33,8 @@ SESSION = [
     "MATCH (p:Person) WHERE p.age IN [30, null] RETURN p.name, coalesce(p.age, 0)",
     "MATCH (a:Person),(b:Person) RETURN a.id",
     "MATCH (p {id: 1}) RETURN p.id LIMIT 1",
+    ":profile MATCH (a)-[:KNOWS]->(b), (c)-[:KNOWS]->(b) RETURN a.id, c.id ORDER BY a.id, c.id",
+    ":param name 'Ann'",
 ]
 
 

@@ -9,4 +9,4 @@ pub use ranked::BitList;
 pub use vector_marks::Marks;
 
 /// How many places a vector has; a multiple of 64.
-pub const VECTOR: u32 = 1024;
+pub const VECTOR: u32 = 2048;

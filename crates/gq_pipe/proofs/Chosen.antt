@@ -7,6 +7,7 @@ use Rattle.std.proofs.lemmas.Bool.{and_parts, cases_eq, eq-eqb, ne_eqb}
 use Rattle.std.proofs.lemmas.List.{get_or_default, length-drop, length-map, length-take, drop_more, drop_all}
 use Rattle.std.proofs.lemmas.List.FromFn.{get_or-map-range_with_len, get_or-range_with_len, length-range_with_len}
 use Rattle.std.proofs.lemmas.Option.{slice_get-get_or, slice_get_within}
+use Rattle.gq_bits.specs.declared.TheConstants.{VECTOR}
 use Rattle.gq_base.specs.Catalogs.{Tables}
 use Rattle.gq_base.specs.declared.direction.Direction.{Direction}
 use Rattle.gq_base.specs.declared.direction.Direction.TheVariants.{Forward, Backward}
@@ -179,7 +180,7 @@ module _ (c : Run) (ss : List GroupSteps) (row : Assignment) (cs : List Cursor) 
     item_there v home v_low = node_read v v_low ∙ ap (node_in ch ps) home ∙ item_is c ss row cs ms ch ps runs many groups sel i low
 
     -- the position is in the piece
-    p_small : slice_index ps i < 1024
+    p_small : slice_index ps i < VECTOR
     p_small = position_small c ss row cs ms ch ps runs many groups sel i low
 
     -- which is marked
@@ -287,12 +288,12 @@ module _ (c : Run) (ss : List GroupSteps) (row : Assignment) (cs : List Cursor) 
     item_some : item_in ch.groups.now i (slice_index ps i) ≡ Some (slice_index (items_in (group_of ch i)) (slice_index ps i))
     item_some =
         let list : List ℕ = list_of c s.first row (step_at c s.first) in
-        let first : ℕ = 1024 * piece_of s.flat (cursor_at cs i).key in
+        let first : ℕ = VECTOR * piece_of s.flat (cursor_at cs i).key in
         let items : items_in (group_of ch i) ≡ part list first = ap items_in spot.there ∙ spot.is.piece.items_are in
         let inside = spot.place.inside in
         let size = list_size c ss row cs ms st runs many i low in
         let behind : length (drop first list) ≡ length list - first = length-drop first list in
-        let most : length (part list first) ≡ min 1024 (length (drop first list)) = length-take 1024 (drop first list) in
+        let most : length (part list first) ≡ min VECTOR (length (drop first list)) = length-take VECTOR (drop first list) in
         let same = ap length items in
         let small = p_small in
         slice_get-get_or (items_in (group_of ch i)) (slice_index ps i) 0 (omega (arith, inside, size, behind, most, same, small))

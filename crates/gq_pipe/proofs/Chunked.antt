@@ -35,7 +35,8 @@ use Rattle.gq_pipe.proofs.Binding.{after_all, looks_given}
 use Rattle.gq_pipe.proofs.Chunking.{is_chunk_of, chunk_binds}
 use Rattle.gq_pipe.proofs.Rebinding.{bound_given}
 use Rattle.gq_pipe.proofs.Standings.{all_held}
-use Rattle.gq_pipe.specs.Serving.{HasCells, Holds, Serves}
+use Rattle.gq_pipe.specs.Serving.{HasCells, Serves}
+use Rattle.gq_pool.specs.Slots.{Holds}
 use Rattle.gq_pipe.specs.Shown.{AreShown}
 use Rattle.gq_pipe.specs.steps.Cells.{filled}
 use Rattle.gq_pipe.proofs.Filling.{AreCells, served_cells}
@@ -57,7 +58,7 @@ map_map f h [] = refl
 map_map f h (x ∷ xs) = ap (λ l. f (h x) ∷ l) (map_map f h xs)
 
 module _ (p : Inside) (inv : IsSearch p) (now : (rest_of p).standing ≡ true) (ch : Chunk) (gs : ch.groups.now ≡ p.groups.items) (hs : ch.homes.now ≡ p.housing.homes)
-    (slots : ch.slots.now ≡ p.slots.items) (serves : Serves (rest_of p) ch.pool.now) where
+    (slots : ch.slots.now ≡ p.slots.numbers) (serves : Serves (rest_of p) ch.pool.now) where
   abbrev c : Run
   c = run_of p.lists.plan_run
 
@@ -87,8 +88,8 @@ module _ (p : Inside) (inv : IsSearch p) (now : (rest_of p).standing ≡ true) (
     room = subst (λ (l : List ℕ). length p.housing.fillings.items ≤ length l) (sym slots) inv.room;
     held = subst (Holds ch.pool.now) (sym slots) serves.held;
     cells = subst (λ (l : List ℕ). HasCells ch.pool.now l (filled c p.lists.row ch.groups.now ch.homes.now p.housing.fillings.items (length p.housing.fillings.items))) (sym slots)
-        (subst (λ (l : List Group). HasCells ch.pool.now p.slots.items (filled c p.lists.row l ch.homes.now p.housing.fillings.items (length p.housing.fillings.items))) (sym gs)
-        (subst (λ (o : Homes). HasCells ch.pool.now p.slots.items (filled c p.lists.row p.groups.items o p.housing.fillings.items (length p.housing.fillings.items))) (sym hs)
+        (subst (λ (l : List Group). HasCells ch.pool.now p.slots.numbers (filled c p.lists.row l ch.homes.now p.housing.fillings.items (length p.housing.fillings.items))) (sym gs)
+        (subst (λ (o : Homes). HasCells ch.pool.now p.slots.numbers (filled c p.lists.row p.groups.items o p.housing.fillings.items (length p.housing.fillings.items))) (sym hs)
         (served_cells p ch.pool.now state_is serves)));
   }
 

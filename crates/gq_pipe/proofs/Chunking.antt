@@ -6,6 +6,7 @@ use Rattle.std.proofs.lemmas.Bool.{and_parts, cases_eq, cases_lt, eqb-true, ltb-
 use Rattle.std.proofs.lemmas.List.{get_or_default}
 use Rattle.std.proofs.lemmas.List.Elements.{All-from_recursion}
 use Rattle.std.proofs.lemmas.Option.{get_or_from_slice_get}
+use Rattle.gq_bits.specs.declared.TheConstants.{VECTOR}
 use Rattle.gq_bits.specs.Places.{is_marked}
 use Rattle.gq_group.specs.Chunks.{IsChunk, IsChunkOf, IsColumnIn, IsKeptIn, IsNodeHome, IsRelHome, assignment_at, node_at, edge_at, edge_in, chunk_meaning, group_of, first_in}
 use Rattle.gq_group.specs.Edges.{IsEdge, HasEdge}
@@ -92,7 +93,7 @@ module _ (c : Run) (ss : List GroupSteps) (row : Assignment) (cs : List Cursor) 
   is_group i low =
       let g : Group = (h c ss row cs ms ch.groups.now st runs many marks count groups i low).group in
       let is : IsGroupAt c row (group_at ss i) (cursor_at cs i) (slice_index_or ms i []) g = (h c ss row cs ms ch.groups.now st runs many marks count groups i low).is in
-      let long : length (items_of g.piece) ≡ min 1024 ((layout_in c ss).size (prefix cs i) - firsts i) = items_long c ss row cs ms ch.groups.now st runs many marks count groups i low in
+      let long : length (items_of g.piece) ≡ min VECTOR ((layout_in c ss).size (prefix cs i) - firsts i) = items_long c ss row cs ms ch.groups.now st runs many marks count groups i low in
       let inside = piece_inside c ss row cs ms st runs many i low in
       let few = list_few c ss row cs ms st runs many i low in
       let size = list_size c ss row cs ms st runs many i low in
@@ -118,11 +119,11 @@ module _ (c : Run) (ss : List GroupSteps) (row : Assignment) (cs : List Cursor) 
       marked_low (b ∷ m) zero on = omega arith
       marked_low (b ∷ m) (suc p) on = let low = marked_low m p on in omega (arith, low)
 
-      below : (p : ℕ) (f : Bool) → (layout_in c ss).flat (prefix cs i) ≡ f → length (items_of (h c ss row cs ms ch.groups.now st runs many marks count groups i low).group.piece) ≡ min 1024 ((layout_in c ss).size (prefix cs i) - 1024 * piece_of f key)
+      below : (p : ℕ) (f : Bool) → (layout_in c ss).flat (prefix cs i) ≡ f → length (items_of (h c ss row cs ms ch.groups.now st runs many marks count groups i low).group.piece) ≡ min VECTOR ((layout_in c ss).size (prefix cs i) - VECTOR * piece_of f key)
           → marked_at f key (slice_index_or ms i []) p ≡ true → p < length (items_of (h c ss row cs ms ch.groups.now st runs many marks count groups i low).group.piece)
       below p true flat long on =
           let within : key < (layout_in c ss).size (prefix cs i) = subst (λ b. key < Rattle.gq_walks.specs.Layouts.numbers_in b ((layout_in c ss).size (prefix cs i))) flat r.key_in in
-          let same : p ≡ key % 1024 = eqb-true p (key % 1024) on in
+          let same : p ≡ key % VECTOR = eqb-true p (key % VECTOR) on in
           omega (arith, same, within, long)
       below p false flat long on =
           let m : List Bool = slice_index_or ms i [] in
@@ -130,7 +131,7 @@ module _ (c : Run) (ss : List GroupSteps) (row : Assignment) (cs : List Cursor) 
           let short = marked_low m p on in
           let wide = marked.len in
           let both = and_parts _ _ (sym (marked.each p (omega (arith, short, wide))) ∙ on) in
-          let low : 1024 * key + p < (layout_in c ss).size (prefix cs i) = ltb-true (1024 * key + p) ((layout_in c ss).size (prefix cs i)) both.0 in
+          let low : VECTOR * key + p < (layout_in c ss).size (prefix cs i) = ltb-true (VECTOR * key + p) ((layout_in c ss).size (prefix cs i)) both.0 in
           omega (arith, low, long, short, wide)
 
   all_groups : All IsGroup ch.groups.now

@@ -3,6 +3,7 @@ use Rattle.std.proofs.Common.{◌≡◌, ◌≢◌, ◌⊎◌, inl, inr, ℕ, ze
 use Rattle.std.specs.Prelude.{All, slice_get, slice_index, slice_index_or}
 use Rattle.std.proofs.lemmas.Bool.{and_parts, eqb-false, ltb-true, lt-ltb}
 use Rattle.std.proofs.lemmas.Option.{get_or_from_slice_get, slice_get_within}
+use Rattle.gq_bits.specs.declared.TheConstants.{VECTOR}
 use Rattle.gq_base.specs.declared.direction.Direction.{Direction}
 use Rattle.gq_plan.specs.Plans.{Close}
 use Rattle.gq_plan.specs.Rows.{rel_table}
@@ -71,7 +72,7 @@ module _ (c : Run) (run : IsRun c) (d : ℕ) (low : d < length c.steps) (row : A
         none_behind (tries c.graph c.typed (built_at c d) (step_at c d) (before c row d)) place past.past)
   ]
 
-  pub closing_candidates : (first count : ℕ) (marks : List Bool) → length marks ≡ 1024 → ((j : ℕ) → slice_index_or marks j false ≡ (nat_lt j count && leads_to list (first + j) (slice_index row.nodes to)))
+  pub closing_candidates : (first count : ℕ) (marks : List Bool) → length marks ≡ VECTOR → ((j : ℕ) → slice_index_or marks j false ≡ (nat_lt j count && leads_to list (first + j) (slice_index row.nodes to)))
       → All (λ other. other < near_rows c.graph table (opposite way)) list → length list < 2 ^ 32 → AreCandidates c d first count row marks
   closing_candidates first count marks len each ends few = record {
     len = len;

@@ -10,7 +10,8 @@ use Rattle.gq_group.specs.declared.home.NodeHome.TheVariants as node
 use Rattle.gq_plan.specs.Known.{Known}
 use Rattle.gq_plan.specs.declared.assignment.Assignment.{Assignment}
 use Rattle.gq_pool.specs.Pool.{Pool, IsOut, cell_at, cells_of}
-use Rattle.gq_pipe.specs.Serving.{HasCell, HasCells, Holds}
+use Rattle.gq_pipe.specs.Serving.{HasCell, HasCells}
+use Rattle.gq_pool.specs.Slots.{Holds}
 use Rattle.gq_pipe.specs.steps.Cells.{HasSource, cell_of, cell_seen, filled, has_cell, marks_in}
 use Rattle.gq_pipe.specs.steps.Homes.{IsColumnOf, IsFilling, column_group, filling_at, node_home}
 use Rattle.gq_pipe.specs.steps.Levels.{Run}

@@ -8,6 +8,7 @@ use Rattle.std.proofs.lemmas.Option.{unwrap_or-slice_get}
 use Rattle.std.proofs.lemmas.Bool.{cases_lt, eq-eqb, eqb-true, lt-ltb}
 use Rattle.std.proofs.lemmas.List.{get_or_append_left, get_or_past, get_or_push, length_push}
 use Rattle.std.proofs.lemmas.List.FromFn.{get_or-map-range_with_len, length-map-range_with_len}
+use Rattle.gq_bits.specs.declared.TheConstants.{VECTOR}
 use Rattle.gq_group.specs.Chunks.{items_in, row_in}
 use Rattle.gq_group.specs.Pieces.{items_of}
 use Rattle.gq_group.specs.declared.chunk.Chunk.{Chunk}
@@ -22,7 +23,8 @@ use Rattle.gq_bits.specs.Places.{is_marked}
 use Rattle.gq_plan.specs.declared.assignment.Assignment.{Assignment}
 use Rattle.gq_pool.specs.Pool as pool
 use Rattle.gq_pool.specs.Pool.{Pool, IsOut, cells_of}
-use Rattle.gq_pipe.specs.Serving.{AreApart, HasCell, HasCells, Holds, Serves, row_of}
+use Rattle.gq_pipe.specs.Serving.{HasCell, HasCells, Serves, row_of}
+use Rattle.gq_pool.specs.Slots.{AreApart, Holds}
 use Rattle.gq_pipe.specs.steps.Cells.{HasSource, cell_of, cell_seen, column_of, filled, has_cell, led, marks_in, near_in, near_seen}
 use Rattle.gq_pipe.specs.steps.Homes.{IsColumnOf, IsFilling, filling_at, node_home}
 use Rattle.gq_pipe.specs.steps.Levels.{Run}
@@ -121,12 +123,12 @@ module _ (c : Run) (row : Assignment) (gs : List Group) (h : Homes) (fs : List F
   abbrev cell_in : ℕ → ℕ → Option ℕ
   cell_in m k = if has_cell gs (filling_at fs m) k then Some (cell_of c row gs h (filled c row gs h fs m) (filling_at fs m) k) else None
 
-  pub cell_is : (n m k : ℕ) → m < n → k < 1024 → row_of (filled c row gs h fs n) m k ≡ cell_in m k
+  pub cell_is : (n m k : ℕ) → m < n → k < VECTOR → row_of (filled c row gs h fs n) m k ≡ cell_in m k
   cell_is n m k low small =
       ap (λ l. slice_index_or l k None) (filled_at n m low)
-      ∙ get_or-map-range_with_len (cell_in m) 0 1024 k k None small (Rattle.std.proofs.Common.zero-add k)
+      ∙ get_or-map-range_with_len (cell_in m) 0 VECTOR k k None small (Rattle.std.proofs.Common.zero-add k)
 
-  pub cell_marked : (n m k : ℕ) → m < n → k < 1024 → has_cell gs (filling_at fs m) k ≡ true → row_of (filled c row gs h fs n) m k ≡ Some (cell_of c row gs h (filled c row gs h fs m) (filling_at fs m) k)
+  pub cell_marked : (n m k : ℕ) → m < n → k < VECTOR → has_cell gs (filling_at fs m) k ≡ true → row_of (filled c row gs h fs n) m k ≡ Some (cell_of c row gs h (filled c row gs h fs m) (filling_at fs m) k)
   cell_marked n m k low small on =
       cell_is n m k low small ∙ ap (λ b. if b then Some (cell_of c row gs h (filled c row gs h fs m) (filling_at fs m) k) else None) on
 
@@ -136,21 +138,21 @@ module _ (c : Run) (row : Assignment) (gs : List Group) (h : Homes) (fs : List F
 
   -- a column has rows where its group is marked alone
   record IsCell (m k r : ℕ) : Type 0 where
-    small : k < 1024
+    small : k < VECTOR
     marked : has_cell gs (filling_at fs m) k ≡ true
     is : cell_of c row gs h (filled c row gs h fs m) (filling_at fs m) k ≡ r
 
   cell_some : (n m k r : ℕ) → m < n → row_of (filled c row gs h fs n) m k ≡ Some r → IsCell m k r
-  cell_some n m k r low at = go (cases_lt k 1024)
+  cell_some n m k r low at = go (cases_lt k VECTOR)
     where
-      by : (b : Bool) → has_cell gs (filling_at fs m) k ≡ b → (if b then Some (cell_of c row gs h (filled c row gs h fs m) (filling_at fs m) k) else None) ≡ Some r → k < 1024 → IsCell m k r
+      by : (b : Bool) → has_cell gs (filling_at fs m) k ≡ b → (if b then Some (cell_of c row gs h (filled c row gs h fs m) (filling_at fs m) k) else None) ≡ Some r → k < VECTOR → IsCell m k r
       by true on e small = record { small = small; marked = on; is = cc e }
       by false on e small = absurd (cc e)
 
-      go : (k < 1024) ⊎ (1024 ≤ k) → IsCell m k r
+      go : (k < VECTOR) ⊎ (VECTOR ≤ k) → IsCell m k r
       go (inl small) = by (has_cell gs (filling_at fs m) k) refl (sym (cell_is n m k low small) ∙ at) small
       go (inr past) =
-          let long = length-map-range_with_len (cell_in m) 0 1024 in
+          let long = length-map-range_with_len (cell_in m) 0 VECTOR in
           let none : None ≡ Some r = sym (ap (λ l. slice_index_or l k None) (filled_at n m low) ∙ get_or_past (column_of c row gs h (filled c row gs h fs m) (filling_at fs m)) k None (omega (arith, past, long))) ∙ at in
           absurd (cc none)
 
@@ -159,7 +161,7 @@ module _ (c : Run) (row : Assignment) (gs : List Group) (h : Homes) (fs : List F
   marked_there v j m p columns home on = ap (λ i. is_marked (marks_in (slice_get gs i)) p) (columns v j m home).group ∙ on
 
   -- what is read of the pool is what the columns have
-  seen_is : (q : Pool) (slots : List ℕ) (n i v p : ℕ) → HasCells q slots (filled c row gs h fs n) → p < 1024 → (o : NodeHome)
+  seen_is : (q : Pool) (slots : List ℕ) (n i v p : ℕ) → HasCells q slots (filled c row gs h fs n) → p < VECTOR → (o : NodeHome)
       → ((m : ℕ) → o ≡ node.Column i m → (m < n) × (has_cell gs (filling_at fs m) p ≡ true)) → near_seen row gs q slots i v p o ≡ near_in row gs (filled c row gs h fs n) i v p o
   seen_is q slots n i v p has small node.Nowhere low = refl
   seen_is q slots n i v p has small (node.Item j) low = refl
@@ -175,14 +177,14 @@ module _ (c : Run) (row : Assignment) (gs : List Group) (h : Homes) (fs : List F
 
   -- so are the cells of one more column
   pub seen_cell : (q : Pool) (slots : List ℕ) (n p : ℕ) (ss : List GroupSteps) (k : Known) (f : Filling) → ((v j m : ℕ) → node_home h v ≡ node.Column j m → IsColumnOf fs j m)
-      → HasCells q slots (filled c row gs h fs n) → p < 1024 → has_cell gs f p ≡ true → IsFilling c ss k h n f → cell_seen c row gs h q slots f p ≡ cell_of c row gs h (filled c row gs h fs n) f p
+      → HasCells q slots (filled c row gs h fs n) → p < VECTOR → has_cell gs f p ≡ true → IsFilling c ss k h n f → cell_seen c row gs h q slots f p ≡ cell_of c row gs h (filled c row gs h fs n) f p
   seen_cell q slots n p ss k (Led f) columns has small on is =
       ap (led c f) (seen_is q slots n f.group f.from p has small (node_home h f.from) (λ m home. (is.before f.group m home, marked_there f.from f.group m p columns home on)))
   seen_cell q slots n p ss k (Kept f) columns has small on is = refl
 
   -- what a column is filled from can be read where the column's group is marked
   pub source_there : (q : Pool) (slots : List ℕ) (n p : ℕ) (ss : List GroupSteps) (k : Known) (f : Filling) → ((v j m : ℕ) → node_home h v ≡ node.Column j m → IsColumnOf fs j m)
-      → Holds q slots → HasCells q slots (filled c row gs h fs n) → n < length slots → p < 1024 → has_cell gs f p ≡ true → IsFilling c ss k h n f → HasSource h q slots (slice_index slots n) f p
+      → Holds q slots → HasCells q slots (filled c row gs h fs n) → n < length slots → p < VECTOR → has_cell gs f p ≡ true → IsFilling c ss k h n f → HasSource h q slots (slice_index slots n) f p
   source_there q slots n p ss k (Led f) columns held has room small on is = λ m home.
       (let low : m < n = is.before f.group m home in
       let cell : HasCell q (slice_index slots m) p (cell_of c row gs h (filled c row gs h fs m) (filling_at fs m) p) = has m p _ (cell_marked n m p low small (marked_there f.from f.group m p columns home on)) in
@@ -191,7 +193,7 @@ module _ (c : Run) (row : Assignment) (gs : List Group) (h : Homes) (fs : List F
 
   -- one column more
   pub cells_more : (q : Pool) (slots : List ℕ) (n : ℕ) → HasCells q slots (filled c row gs h fs n)
-      → ((k : ℕ) → k < 1024 → has_cell gs (filling_at fs n) k ≡ true → HasCell q (slice_index slots n) k (cell_of c row gs h (filled c row gs h fs n) (filling_at fs n) k)) → HasCells q slots (filled c row gs h fs (n + 1))
+      → ((k : ℕ) → k < VECTOR → has_cell gs (filling_at fs n) k ≡ true → HasCell q (slice_index slots n) k (cell_of c row gs h (filled c row gs h fs n) (filling_at fs n) k)) → HasCells q slots (filled c row gs h fs (n + 1))
   cells_more q slots n has here m k r at = go (cases_lt m n)
     where
       go : (m < n) ⊎ (n ≤ m) → HasCell q (slice_index slots m) k r
@@ -210,17 +212,17 @@ module _ (c : Run) (row : Assignment) (gs : List Group) (h : Homes) (fs : List F
 
 -- ---- the pool that serves a pipeline
 
-pub serves_now : (p : Inside) (q : Pool) (found : Bool) → has_chunk p.walker.state ≡ found → Holds q p.slots.items → (found ≡ true → HasCells q p.slots.items (cells_in p)) → Serves (rest_of p) q
+pub serves_now : (p : Inside) (q : Pool) (found : Bool) → has_chunk p.walker.state ≡ found → Holds q p.slots.numbers → (found ≡ true → HasCells q p.slots.numbers (cells_in p)) → Serves (rest_of p) q
 serves_now p q found told held cells = record { held = held; cells = go p.walker.state told }
   where
-    go : (s : State) → has_chunk s ≡ found → HasCells q p.slots.items (cells_when s (cells_in p))
+    go : (s : State) → has_chunk s ≡ found → HasCells q p.slots.numbers (cells_when s (cells_in p))
     go Fresh is = λ m k r at. absurd (cc at)
     go Standing is = cells (sym is)
     go Done is = λ m k r at. absurd (cc at)
 
 -- while a chunk stands its columns have their cells
-pub served_cells : (p : Inside) (q : Pool) → p.walker.state ≡ Standing → Serves (rest_of p) q → HasCells q p.slots.items (cells_in p)
-served_cells p q now s = subst (λ s. HasCells q p.slots.items (cells_when s (cells_in p))) now s.cells
+pub served_cells : (p : Inside) (q : Pool) → p.walker.state ≡ Standing → Serves (rest_of p) q → HasCells q p.slots.numbers (cells_in p)
+served_cells p q now s = subst (λ s. HasCells q p.slots.numbers (cells_when s (cells_in p))) now s.cells
 
 -- ---- the columns of a chunk
 

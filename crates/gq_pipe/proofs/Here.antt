@@ -3,6 +3,7 @@ use Rattle.std.proofs.Common.{◌≡◌, ℕ, zero, suc, ◌+◌, ◌-◌, ◌*�
 use Rattle.std.specs.Prelude.{IsPermutation, Option, None, min, slice_get, slice_index_or}
 use Rattle.std.proofs.lemmas.Bool.{and_parts, cases_lt, lt-ltb, le-ltb, ltb-true}
 use Rattle.std.proofs.lemmas.List.{length-map, get_or_default}
+use Rattle.gq_bits.specs.declared.TheConstants.{VECTOR}
 use Rattle.gq_plan.specs.Covers.{fits_step, goes, after_step}
 use Rattle.gq_plan.specs.Known.{Known, none}
 use Rattle.gq_plan.specs.Meaning.{Partial, nothing, look, far, arrive, with_rel, keep_if, rels_from, holds, mean}
@@ -325,25 +326,25 @@ module _ (c : Run) (ss : List GroupSteps) (row : Assignment) (depth : ℕ) (insi
   }
 
   -- the marks of a piece
-  module _ (piece count : ℕ) (much : count ≡ min ((layout_in c ss).size pre - 1024 * piece) 1024) (marks : List Bool) (len : length marks ≡ 1024) where
-    in_piece : (i : ℕ) → i < 1024 → nat_lt i count ≡ nat_lt (1024 * piece + i) ((layout_in c ss).size pre)
+  module _ (piece count : ℕ) (much : count ≡ min ((layout_in c ss).size pre - VECTOR * piece) VECTOR) (marks : List Bool) (len : length marks ≡ VECTOR) where
+    in_piece : (i : ℕ) → i < VECTOR → nat_lt i count ≡ nat_lt (VECTOR * piece + i) ((layout_in c ss).size pre)
     in_piece i high = go (cases_lt i count)
       where
-        go : (i < count) ⊎ (count ≤ i) → nat_lt i count ≡ nat_lt (1024 * piece + i) ((layout_in c ss).size pre)
-        go (inl h) = lt-ltb i count h ∙ sym (lt-ltb (1024 * piece + i) ((layout_in c ss).size pre) (omega (arith, h, much)))
-        go (inr h) = le-ltb i count h ∙ sym (le-ltb (1024 * piece + i) ((layout_in c ss).size pre) (omega (arith, h, high, much)))
+        go : (i < count) ⊎ (count ≤ i) → nat_lt i count ≡ nat_lt (VECTOR * piece + i) ((layout_in c ss).size pre)
+        go (inl h) = lt-ltb i count h ∙ sym (lt-ltb (VECTOR * piece + i) ((layout_in c ss).size pre) (omega (arith, h, much)))
+        go (inr h) = le-ltb i count h ∙ sym (le-ltb (VECTOR * piece + i) ((layout_in c ss).size pre) (omega (arith, h, high, much)))
 
-    pub sifted_marks : (new : Assignment) → IsSifted c x (1024 * piece) count row new marks → IsMarkedAt (layout_in c ss) pre piece marks
-    sifted_marks new s = record { len = len; each = λ i high. s.each i high ∙ go i (nat_lt i count) refl ∙ ap (λ b. b && (layout_in c ss).keeps pre (1024 * piece + i)) (in_piece i high) }
+    pub sifted_marks : (new : Assignment) → IsSifted c x (VECTOR * piece) count row new marks → IsMarkedAt (layout_in c ss) pre piece marks
+    sifted_marks new s = record { len = len; each = λ i high. s.each i high ∙ go i (nat_lt i count) refl ∙ ap (λ b. b && (layout_in c ss).keeps pre (VECTOR * piece + i)) (in_piece i high) }
       where
-        go : (i : ℕ) (b : Bool) → nat_lt i count ≡ b → (b && makes_one c x (1024 * piece + i) row) ≡ (b && (layout_in c ss).keeps pre (1024 * piece + i))
+        go : (i : ℕ) (b : Bool) → nat_lt i count ≡ b → (b && makes_one c x (VECTOR * piece + i) row) ≡ (b && (layout_in c ss).keeps pre (VECTOR * piece + i))
         go i true e =
             let h : i < count = ltb-true i count e in
-            ap (λ (s : GroupSteps). makes_one c s (1024 * piece + i) row) (sym group_is) ∙ keeps_made c ss row pre st low (1024 * piece + i) (omega (arith, h, much))
+            ap (λ (s : GroupSteps). makes_one c s (VECTOR * piece + i) row) (sym group_is) ∙ keeps_made c ss row pre st low (VECTOR * piece + i) (omega (arith, h, much))
         go i false e = refl
 
     pub whole_marks : ((i : ℕ) → slice_index_or marks i false ≡ nat_lt i count) → IsUntested c x → IsMarkedAt (layout_in c ss) pre piece marks
-    whole_marks each all = record { len = len; each = λ i high. each i ∙ in_piece i high ∙ and_true (nat_lt (1024 * piece + i) ((layout_in c ss).size pre)) ∙ ap (λ b. nat_lt (1024 * piece + i) ((layout_in c ss).size pre) && b) (sym (keeps_all (1024 * piece + i))) }
+    whole_marks each all = record { len = len; each = λ i high. each i ∙ in_piece i high ∙ and_true (nat_lt (VECTOR * piece + i) ((layout_in c ss).size pre)) ∙ ap (λ b. nat_lt (VECTOR * piece + i) ((layout_in c ss).size pre) && b) (sym (keeps_all (VECTOR * piece + i))) }
       where
         and_true : (b : Bool) → b ≡ (b && true)
         and_true true = refl

@@ -39,7 +39,6 @@ pub mod Piecing
 pub mod Products
 pub mod Chunking
 pub mod Chunked
-pub mod Holding
 pub mod Filling
 pub mod Scanned
 pub mod Loading

@@ -2,6 +2,7 @@
 use Rattle.std.proofs.Common.{◌≡◌, ◌∙◌, ℕ, zero, suc, ◌<◌, true, None, Some, List, [], ◌∷◌, map, length, take, drop, slice_get, sym, ap, subst, arith}
 use Rattle.std.specs.Prelude.{slice_index, slice_index_or}
 use Rattle.std.specs.List.{range_with_len, AllByRecursion}
+use Rattle.gq_bits.specs.declared.TheConstants.{VECTOR}
 use Rattle.gq_group.specs.Pieces.{items_of}
 use Rattle.gq_group.specs.declared.piece.Piece.{Piece}
 use Rattle.gq_join.specs.Kept.{Held, columns, has_key, matches_of, node_in, place_of}
@@ -69,7 +70,7 @@ pub piece_rows : (c : Run) (d : ℕ) (row : Assignment) (side : Plan) (keys : Li
 piece_rows c d row side keys is h there p first piece =
     let list : list_of c d row (step_at c d) ≡ matches_of h row = ap (list_of c d row) is ∙ ap (λ o. matches_in o row) there in
     subst (AllByRecursion (λ r. r < length h.rows)) (sym (piece.items_are ∙ ap (λ l. part l first) list))
-    (all_part (λ r. r < length h.rows) 1024 first (matches_of h row) (matches_low h row))
+    (all_part (λ r. r < length h.rows) VECTOR first (matches_of h row) (matches_low h row))
 
 -- so a node variable that is kept has a row at each position
 pub row_kept : (h : Held) (v : ℕ) (rows : List ℕ) (p : ℕ) → AllByRecursion (λ r. r < length h.rows) rows → place_of h.nodes v < length h.nodes → CanKeep (Some h) (slice_get rows p) v

@@ -1,9 +1,11 @@
 -- The whole list of a group has as many items as its step has places, and a piece is a part of it.
 use Rattle.std.proofs.Common.{◌≡◌, ◌≢◌, ◌⊎◌, inl, inr, set, ℕ, zero, suc, ◌+◌, ◌*◌, ◌/◌, ◌^◌, ◌<◌, Bool, true, false, not, ◌&&◌, nat_eq, Some, List, [], ◌∷◌, length, slice_get, refl, sym, ap, ◌∙◌, subst, arith, true≢false}
+use Rattle.std.specs.Int.{div_ceil}
 use Rattle.std.specs.Prelude.{slice_index_or}
 use Rattle.std.proofs.lemmas.Bool.{and_parts, cases_eq}
 use Rattle.std.proofs.lemmas.List.{get_or_default}
 use Rattle.std.proofs.lemmas.List.FromFn.{length-range_with_len}
+use Rattle.gq_bits.specs.declared.TheConstants.{VECTOR}
 use Rattle.gq_base.specs.Valid.{is_single}
 use Rattle.gq_base.specs.declared.RelTable.{RelTable}
 use Rattle.gq_base.specs.declared.direction.Direction.{Direction}
@@ -96,15 +98,15 @@ module _ (c : Run) (ss : List GroupSteps) (row : Assignment) (cs : List Cursor) 
   flat_here = ap (flat_in ss) long
 
   -- the piece begins within the list
-  pub piece_inside : 1024 * piece_of s.flat (cursor_at cs i).key < (layout_in c ss).size pre
+  pub piece_inside : VECTOR * piece_of s.flat (cursor_at cs i).key < (layout_in c ss).size pre
   piece_inside = go s.flat flat_here
     where
-      go : (f : Bool) → (layout_in c ss).flat pre ≡ f → 1024 * piece_of f (cursor_at cs i).key < (layout_in c ss).size pre
+      go : (f : Bool) → (layout_in c ss).flat pre ≡ f → VECTOR * piece_of f (cursor_at cs i).key < (layout_in c ss).size pre
       go true e =
           let k : (cursor_at cs i).key < (layout_in c ss).size pre = subst (λ b. (cursor_at cs i).key < numbers_in b ((layout_in c ss).size pre)) e group_here.key_in in
           omega (arith, k)
       go false e =
-          let k : (cursor_at cs i).key < ((layout_in c ss).size pre + 1023) / 1024 = subst (λ b. (cursor_at cs i).key < numbers_in b ((layout_in c ss).size pre)) e group_here.key_in in
+          let k : (cursor_at cs i).key < div_ceil ((layout_in c ss).size pre) VECTOR = subst (λ b. (cursor_at cs i).key < numbers_in b ((layout_in c ss).size pre)) e group_here.key_in in
           omega (arith, k)
 
   pub list_few : length (list_of c s.first row (step_at c s.first)) < 2 ^ 32

@@ -4,6 +4,7 @@ use Rattle.std.specs.Prelude.{slice_index, slice_index_or}
 use Rattle.std.specs.List.{range_with_len, flat_map, AllByRecursion}
 use Rattle.std.proofs.lemmas.Bool.{cases_eq, eq-eqb, ne_eqb}
 use Rattle.std.proofs.lemmas.List.{drop_more, drop_all, length-take, length-drop}
+use Rattle.gq_bits.specs.declared.TheConstants.{VECTOR}
 use Rattle.gq_bits.specs.Places.{is_marked}
 use Rattle.gq_group.specs.Groups as group
 use Rattle.gq_group.specs.Groups.{AreSelected, is_selected, products}
@@ -72,7 +73,7 @@ module _ (c : Run) (ss : List GroupSteps) (row : Assignment) (cs : List Cursor) 
     (marks : length ms ≡ length ss) (count : length gs ≡ length ss) (groups : AreStanding c ss row cs ms gs (length ss)) where
   -- where the piece of a group begins
   abbrev pub first_at : ℕ → ℕ
-  first_at i = 1024 * piece_of (group_at ss i).flat (cursor_at cs i).key
+  first_at i = VECTOR * piece_of (group_at ss i).flat (cursor_at cs i).key
 
   module _ (i : ℕ) (low : i < length ss) where
     abbrev pub s : GroupSteps
@@ -84,11 +85,11 @@ module _ (c : Run) (ss : List GroupSteps) (row : Assignment) (cs : List Cursor) 
     r : IsGroup (layout_in c ss) (prefix cs i) (cursor_at cs i) (slice_index_or ms i [])
     r = group_here c ss row cs ms st runs many i low
 
-    pub items_long : length (items_of h.group.piece) ≡ min 1024 ((layout_in c ss).size (prefix cs i) - first_at i)
+    pub items_long : length (items_of h.group.piece) ≡ min VECTOR ((layout_in c ss).size (prefix cs i) - first_at i)
     items_long =
         ap length h.is.piece.items_are
-        ∙ length-take 1024 (drop (first_at i) (list_of c s.first row (step_at c s.first)))
-        ∙ ap (min 1024) (length-drop (first_at i) (list_of c s.first row (step_at c s.first)) ∙ ap (λ n. n - first_at i) (list_size c ss row cs ms st runs many i low))
+        ∙ length-take VECTOR (drop (first_at i) (list_of c s.first row (step_at c s.first)))
+        ∙ ap (min VECTOR) (length-drop (first_at i) (list_of c s.first row (step_at c s.first)) ∙ ap (λ n. n - first_at i) (list_size c ss row cs ms st runs many i low))
 
     -- the places that are selected are those of the selected positions
     pub selected_is : walk.selected ((layout_in c ss).flat (prefix cs i)) (cursor_at cs i) (slice_index_or ms i []) ≡ map (λ p. first_at i + p) (group.selected h.group)
@@ -104,25 +105,25 @@ module _ (c : Run) (ss : List GroupSteps) (row : Assignment) (cs : List Cursor) 
         size = (layout_in c ss).size (prefix cs i)
 
         go : (f : Bool) → (layout_in c ss).flat (prefix cs i) ≡ f → ((p : ℕ) → is_marked h.group.marks p ≡ Rattle.gq_pipe.specs.steps.Chunks.marked_at f key m p) → h.group.current ≡ Rattle.gq_pipe.specs.steps.Chunks.current_at f key
-            → length (items_of h.group.piece) ≡ min 1024 (size - 1024 * piece_of f key) → 1024 * piece_of f key < size
-            → walk.selected f (cursor_at cs i) m ≡ map (λ p. 1024 * piece_of f key + p) (group.selected h.group)
+            → length (items_of h.group.piece) ≡ min VECTOR (size - VECTOR * piece_of f key) → VECTOR * piece_of f key < size
+            → walk.selected f (cursor_at cs i) m ≡ map (λ p. VECTOR * piece_of f key + p) (group.selected h.group)
         go true flat marked current long inside =
             let within : key < size = subst (λ b. key < Rattle.gq_walks.specs.Layouts.numbers_in b size) flat r.key_in in
-            let on : get_or m (key % 1024) false ≡ true = live-flat (layout_in c ss) (prefix cs i) key m flat within (subst (λ b. Rattle.gq_walks.specs.Marked.IsMarkedAt (layout_in c ss) (prefix cs i) (piece_of b key) m) flat r.marked) ∙ r.alive in
-            let at : key ≡ 1024 * (key / 1024) + key % 1024 = omega arith in
+            let on : get_or m (key % VECTOR) false ≡ true = live-flat (layout_in c ss) (prefix cs i) key m flat within (subst (λ b. Rattle.gq_walks.specs.Marked.IsMarkedAt (layout_in c ss) (prefix cs i) (piece_of b key) m) flat r.marked) ∙ r.alive in
+            let at : key ≡ VECTOR * (key / VECTOR) + key % VECTOR = omega arith in
             ap (λ b. cond b (key ∷ []) []) on ∙ ap (λ k. k ∷ []) at
-            ∙ ap (map (λ p. 1024 * (key / 1024) + p)) (sym (only_one (is_selected h.group) (key % 1024) 0 (length (items_of h.group.piece))
-            (λ p. both_same (group.is_current h.group.current p) (is_marked h.group.marks p) (nat_eq p (key % 1024)) (ap (λ o. group.is_current o p) current) (marked p))
+            ∙ ap (map (λ p. VECTOR * (key / VECTOR) + p)) (sym (only_one (is_selected h.group) (key % VECTOR) 0 (length (items_of h.group.piece))
+            (λ p. both_same (group.is_current h.group.current p) (is_marked h.group.marks p) (nat_eq p (key % VECTOR)) (ap (λ o. group.is_current o p) current) (marked p))
             (omega arith) (omega (arith, long, within))))
         go false flat marked current long inside =
-            let z : 1024 * key ≡ 1024 * key + 0 = omega arith in
+            let z : VECTOR * key ≡ VECTOR * key + 0 = omega arith in
             let few = r.size_is in
-            ap (λ n. filter (λ j. get_or m (j % 1024) false) (numbers_from (1024 * key) (min 1024 (n - 1024 * key)))) few
-            ∙ ap (λ a. filter (λ j. get_or m (j % 1024) false) (numbers_from a (min 1024 (size - 1024 * key)))) z
-            ∙ shifted_filter (λ j. get_or m (j % 1024) false) (is_selected h.group) (1024 * key) 0 (min 1024 (size - 1024 * key))
-            (λ p above below. (let e : (1024 * key + p) % 1024 ≡ p = omega (arith, below) in
+            ap (λ n. filter (λ j. get_or m (j % VECTOR) false) (numbers_from (VECTOR * key) (min VECTOR (n - VECTOR * key)))) few
+            ∙ ap (λ a. filter (λ j. get_or m (j % VECTOR) false) (numbers_from a (min VECTOR (size - VECTOR * key)))) z
+            ∙ shifted_filter (λ j. get_or m (j % VECTOR) false) (is_selected h.group) (VECTOR * key) 0 (min VECTOR (size - VECTOR * key))
+            (λ p above below. (let e : (VECTOR * key + p) % VECTOR ≡ p = omega (arith, below) in
             ap (λ k. get_or m k false) e ∙ sym (marked p) ∙ sym (ap (λ o. group.is_current o p && is_marked h.group.marks p) current)))
-            ∙ ap (λ n. map (λ p. 1024 * key + p) (filter (is_selected h.group) (range_with_len 0 n))) (sym long)
+            ∙ ap (λ n. map (λ p. VECTOR * key + p) (filter (is_selected h.group) (range_with_len 0 n))) (sym long)
 
   -- ---- all choices
 

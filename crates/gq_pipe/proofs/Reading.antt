@@ -3,6 +3,7 @@ use Rattle.std.proofs.Common.{◌≡◌, ℕ, zero, suc, ◌+◌, ◌*◌, ◌/�
 use Rattle.std.specs.Prelude.{slice_index, slice_index_or}
 use Rattle.std.proofs.lemmas.Bool.{and_parts, eqb-true}
 use Rattle.std.proofs.lemmas.List.{get_or-take, get_or-drop}
+use Rattle.gq_bits.specs.declared.TheConstants.{VECTOR}
 use Rattle.gq_bits.specs.Places.{is_marked}
 use Rattle.gq_group.specs.Chunks.{items_in, first_in, group_of}
 use Rattle.gq_group.specs.Groups.{AreSelected, is_selected, is_current}
@@ -29,19 +30,19 @@ selected_here (x ∷ gs) (p ∷ ps) (suc i) g h is = selected_here gs ps i g h.1
 
 -- it is in the list, is kept, and has the number at which the group stands
 place_here : (l : Layout) (pre : List ℕ) (flat : Bool) (c : Cursor) (m : List Bool) (p : ℕ) → l.flat pre ≡ flat → IsGroup l pre c m → marked_at flat c.key m p ≡ true
-    → IsPlace l pre c.key (1024 * piece_of flat c.key + p)
+    → IsPlace l pre c.key (VECTOR * piece_of flat c.key + p)
 place_here l pre true c m p f g on =
-    let same : p ≡ c.key % 1024 = eqb-true p (c.key % 1024) on in
-    let at : 1024 * (c.key / 1024) + p ≡ c.key = omega (arith, same) in
+    let same : p ≡ c.key % VECTOR = eqb-true p (c.key % VECTOR) on in
+    let at : VECTOR * (c.key / VECTOR) + p ≡ c.key = omega (arith, same) in
     subst (IsPlace l pre c.key) (sym at) (flat-place l pre c.key f g.key_in g.alive)
 place_here l pre false c m p f g on =
-    let at : c.key * 1024 + p ≡ 1024 * c.key + p = omega arith in
+    let at : c.key * VECTOR + p ≡ VECTOR * c.key + p = omega arith in
     subst (IsPlace l pre c.key) at (piece-place l pre c.key p m f g.marked on)
 
 module _ (c : Run) (ss : List GroupSteps) (row : Assignment) (cs : List Cursor) (ms : List (List Bool)) (ch : Chunk) (ps : List ℕ) (runs : Runs (layout_in c ss) [] cs ms) (many : length cs ≡ length ss)
     (groups : AreStanding c ss row cs ms ch.groups.now (length ss)) (sel : AreSelected ch.groups.now ps) where
   abbrev pub place_at : ℕ → ℕ
-  place_at i = 1024 * piece_of (group_at ss i).flat (cursor_at cs i).key + slice_index ps i
+  place_at i = VECTOR * piece_of (group_at ss i).flat (cursor_at cs i).key + slice_index ps i
 
   pub record IsHere (i : ℕ) : Type 0 where
     pub group : Group
@@ -72,11 +73,11 @@ module _ (c : Run) (ss : List GroupSteps) (row : Assignment) (cs : List Cursor) 
       }
 
   -- a position is in the piece
-  pub position_small : (i : ℕ) → i < length ss → slice_index ps i < 1024
+  pub position_small : (i : ℕ) → i < length ss → slice_index ps i < VECTOR
   position_small i low = small i low
     where
-      short : (flat : Bool) (key : ℕ) (m : List Bool) (p : ℕ) → length m ≡ 1024 → marked_at flat key m p ≡ true → p < 1024
-      short true key m p long on = let same : p ≡ key % 1024 = eqb-true p (key % 1024) on in omega (arith, same)
+      short : (flat : Bool) (key : ℕ) (m : List Bool) (p : ℕ) → length m ≡ VECTOR → marked_at flat key m p ≡ true → p < VECTOR
+      short true key m p long on = let same : p ≡ key % VECTOR = eqb-true p (key % VECTOR) on in omega (arith, same)
       short false key m p long on = let inside : p < length m = marked_inside m p on in omega (arith, inside, long)
         where
           marked_inside : (m : List Bool) (p : ℕ) → is_marked m p ≡ true → p < length m
@@ -84,7 +85,7 @@ module _ (c : Run) (ss : List GroupSteps) (row : Assignment) (cs : List Cursor) 
           marked_inside (b ∷ m) zero h = omega arith
           marked_inside (b ∷ m) (suc p) h = let low = marked_inside m p h in omega (arith, low)
 
-      small : (i : ℕ) → i < length ss → slice_index ps i < 1024
+      small : (i : ℕ) → i < length ss → slice_index ps i < VECTOR
       small i low =
           let h : HasGroup c row (group_at ss i) (cursor_at cs i) (slice_index_or ms i []) ch.groups.now i = groups i low in
           let g : Group = h.group in
@@ -98,11 +99,11 @@ module _ (c : Run) (ss : List GroupSteps) (row : Assignment) (cs : List Cursor) 
   item_is i low =
       let h : IsHere i = here i low in
       let list : List ℕ = list_of c (group_at ss i).first row (step_at c (group_at ss i).first) in
-      let first : ℕ = 1024 * piece_of (group_at ss i).flat (cursor_at cs i).key in
+      let first : ℕ = VECTOR * piece_of (group_at ss i).flat (cursor_at cs i).key in
       ap (λ o. slice_index (items_in o) (slice_index ps i)) h.there
       ∙ ap (λ l. slice_index l (slice_index ps i)) h.is.piece.items_are
-      ∙ get_or-take 1024 (drop first list) (slice_index ps i) 0 (position_small i low)
+      ∙ get_or-take VECTOR (drop first list) (slice_index ps i) 0 (position_small i low)
       ∙ get_or-drop first list (slice_index ps i) 0
 
-  pub first_is : (i : ℕ) → i < length ss → first_in (group_of ch i) ≡ 1024 * piece_of (group_at ss i).flat (cursor_at cs i).key
+  pub first_is : (i : ℕ) → i < length ss → first_in (group_of ch i) ≡ VECTOR * piece_of (group_at ss i).flat (cursor_at cs i).key
   first_is i low = let h : IsHere i = here i low in ap first_in h.there ∙ h.is.piece.first_is

@@ -3,6 +3,7 @@ use Rattle.std.proofs.Common.{◌≡◌, ◌∙◌, ℕ, ◌*◌, ◌<◌, Some,
 use Rattle.std.specs.Prelude.{slice_index_or}
 use Rattle.std.specs.List.{AllByRecursion}
 use Rattle.std.proofs.lemmas.List.{length-map}
+use Rattle.gq_bits.specs.declared.TheConstants.{VECTOR}
 use Rattle.gq_group.specs.Chunks.{items_in}
 use Rattle.gq_group.specs.Pieces.{items_of}
 use Rattle.gq_group.specs.declared.home.NodeHome.TheVariants.{Column}
@@ -44,7 +45,7 @@ module _ (p : Inside) (inv : IsSearch p) (now : p.walker.state ≡ Standing) whe
 
   -- where the piece of a group begins
   abbrev first_of : ℕ → ℕ
-  first_of i = 1024 * piece_of (group_at p.lists.groups.items i).flat (cursor_at p.walker.cursors.items i).key
+  first_of i = VECTOR * piece_of (group_at p.lists.groups.items i).flat (cursor_at p.walker.cursors.items i).key
 
   -- the rows of a group that a join makes are rows of its build
   matches_of_filling : (m : ℕ) (f : Filling) → IsFilling c p.lists.groups.items (known c (length c.steps)) p.housing.homes m f → HasMatches c p.groups.items f

@@ -1,18 +1,8 @@
 -- When a pool serves a pipeline.
-use Rattle.std.specs.Prelude.{◌≡◌, ◌≢◌, ◌<◌, ◌^◌, ℕ, pos, Option, Some, None, List, [], ◌∷◌, slice_index, slice_index_or}
-use Rattle.std.specs.List.{AllByRecursion}
-use Rattle.gq_pool.specs.Pool.{Pool, IsOut, cell_at}
+use Rattle.std.specs.Prelude.{◌≡◌, ◌<◌, ◌^◌, ℕ, pos, Option, Some, None, List, [], slice_index, slice_index_or}
+use Rattle.gq_pool.specs.Pool.{Pool, cell_at}
+use Rattle.gq_pool.specs.Slots.{Holds}
 use Rattle.gq_pipe.specs.Rest.{Rest}
-
--- no slot stands twice among others
-abbrev pub AreApart : List ℕ → Type 0
-AreApart [] = Unit {0}
-AreApart (s ∷ ss) = AllByRecursion (λ t. s ≢ t) ss × AreApart ss
-
--- different slots are out
-pub record Holds (p : Pool) (slots : List ℕ) : Type 0 where
-  pub out : AllByRecursion (IsOut p) slots
-  pub apart : AreApart slots
 
 -- a slot has a row in a cell
 pub record HasCell (p : Pool) (slot place row : ℕ) : Type 0 where

@@ -1,5 +1,6 @@
 -- The groups of a chunk as the plan has them: their number, the form and the flatness of each, and its piece.
 use Rattle.std.specs.Prelude.{◌≡◌, ◌<◌, ◌*◌, ℕ, Bool, true, false, Option, Some, None, List, [], length, take, drop, slice_get, slice_index_or}
+use Rattle.gq_bits.specs.declared.TheConstants.{VECTOR}
 use Rattle.gq_base.specs.Plain.{Graph}
 use Rattle.gq_group.specs.Pieces.{first_of, items_of}
 use Rattle.gq_group.specs.declared.group.Group as shown
@@ -30,16 +31,16 @@ is_flat (Some position) = true
 
 -- neighbours are a part of the graph's own list of a vertex, and rows of a build a part of those that a build of the side plan has for a key
 abbrev pub IsPartOf : Graph → Typed → Step → Piece → Type 0
-IsPartOf g y (Extend column x from to way) p = (row : ℕ) × (items_of p ≡ take 1024 (drop (first_of p) (neighbours g (rel_table y x) way row)))
-IsPartOf g y (Close column x from to way) p = (row : ℕ) × (items_of p ≡ take 1024 (drop (first_of p) (neighbours g (rel_table y x) way row)))
-IsPartOf g y (Join side keys) p = (build : Held) × IsBuildOf g y side keys build × ((key : List ℕ) × (items_of p ≡ take 1024 (drop (first_of p) (matches build key))))
+IsPartOf g y (Extend column x from to way) p = (row : ℕ) × (items_of p ≡ take VECTOR (drop (first_of p) (neighbours g (rel_table y x) way row)))
+IsPartOf g y (Close column x from to way) p = (row : ℕ) × (items_of p ≡ take VECTOR (drop (first_of p) (neighbours g (rel_table y x) way row)))
+IsPartOf g y (Join side keys) p = (build : Held) × IsBuildOf g y side keys build × ((key : List ℕ) × (items_of p ≡ take VECTOR (drop (first_of p) (matches build key))))
 IsPartOf g y s p = Unit {0}
 
 pub record IsShown (g : Graph) (y : Typed) (s : Step) (flat : Bool) (x : shown.Group) : Type 0 where
   pub form : HasForm s x.piece
   pub flat_is : is_flat x.current ≡ flat
   pub number : ℕ
-  pub cut : first_of x.piece ≡ 1024 * number
+  pub cut : first_of x.piece ≡ VECTOR * number
   pub part : IsPartOf g y s x.piece
 
 pub record ShowsGroup (g : Graph) (y : Typed) (s : Step) (flat : Bool) (xs : List shown.Group) (i : ℕ) : Type 0 where

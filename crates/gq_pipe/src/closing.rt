@@ -7,7 +7,7 @@ ghost use Rattle.gq_pipe.specs.steps.Levels.{known};
 ghost use Rattle.gq_pipe.specs.steps.Moves.{run_of, steps_in, IsRun, IsHeld};
 
 use crate::plan_run::{PlanRun, following};
-use gq_bits::Marks;
+use gq_bits::{Marks, VECTOR};
 use gq_lanes::keep_equal_id;
 use gq_plan::{Assignment, Step};
 
@@ -18,7 +18,7 @@ impl PlanRun<'_> {
         requires run { IsRun (run_of self.now) }
         requires depth { depth < length (steps_in self.now) }
         requires held { IsHeld (run_of self.now) row.now (known (run_of self.now) depth) }
-        requires count { count ≤ 1024 }
+        requires count { count ≤ VECTOR }
         requires fits { first + count < 2 ^ 32 }
         ensures { AreCandidates (run_of self.now) depth first count row.now result }
     {
@@ -39,9 +39,9 @@ impl PlanRun<'_> {
 
 // Of so many places of a list, from one on, those with a row.
 fn closing(list: &[u32], first: u32, count: u32, row: u32) -> Marks
-    requires count { count ≤ 1024 }
+    requires count { count ≤ VECTOR }
     requires fits { first + count < 2 ^ 32 }
-    ensures whole { length result ≡ 1024 }
+    ensures whole { length result ≡ VECTOR }
     ensures each { (j : ℕ) → is_marked result j
         ≡ (nat_lt j count && leads_to list.now (first + j) row) }
 {

@@ -2,7 +2,8 @@
 ghost use Rattle.std.specs.Prelude.{◌≡◌, ◌≢◌, ◌≤◌, ◌<◌, ◌+◌, ◌*◌, ◌/◌, ℕ, length};
 ghost use Rattle.std.specs.Int.{bit_at};
 ghost use Rattle.gq_pool.specs.Pool.{IsOut, cell_at, cells_of};
-ghost use Rattle.gq_pipe.specs.Serving.{HasCell, HasCells, Holds};
+ghost use Rattle.gq_pipe.specs.Serving.{HasCell, HasCells};
+ghost use Rattle.gq_pool.specs.Slots.{Holds};
 ghost use Rattle.gq_pipe.specs.steps.Cells.{HasMatches, filled};
 ghost use Rattle.gq_pipe.specs.steps.Homes.{IsColumnOf, IsFilling, column_group, filling_at};
 ghost use Rattle.gq_pipe.specs.steps.Homes.{node_home};

@@ -99,7 +99,7 @@ impl<'g> PlanRun<'g> {
 // Where the piece ends that begins at a place of so many.
 fn end_of(first: u32, count: u32) -> u32
     requires { first ≤ count }
-    ensures { result ≡ first + min 1024 (count - first) }
+    ensures { result ≡ first + min VECTOR (count - first) }
 {
     let rest = count - first;
     if rest < VECTOR { count } else { first + VECTOR }

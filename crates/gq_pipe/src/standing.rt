@@ -71,7 +71,7 @@ fn standing_group<'g>(
     marks: &Marks,
 ) -> Group<'g>
     requires stands { CanStand (run_of plan_run.now) row.now group cursor }
-    requires marks { length marks.now ≡ 1024 }
+    requires marks { length marks.now ≡ VECTOR }
     ensures { IsGroupAt (run_of plan_run.now) row.now group cursor marks.now result }
 {
     let number = if group.flat {
@@ -96,7 +96,7 @@ fn standing_group<'g>(
 
 // The marks of a group: in a flat one its current position alone is marked.
 fn marks_at(flat: bool, key: u32, marks: &Marks) -> Marks
-    requires { length marks.now ≡ 1024 }
+    requires { length marks.now ≡ VECTOR }
     ensures { (p : ℕ) → is_marked result p ≡ marked_at flat key marks.now p }
 {
     if flat {

@@ -1,3 +1,4 @@
 pub mod Pool
+pub mod Slots
 pub mod Lending
 pub mod steps

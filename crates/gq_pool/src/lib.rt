@@ -9,8 +9,11 @@ ghost use Rattle.gq_pool.specs.Pool.{IsOut, IsFree, IsFresh, cells_of, cell_at, 
 ghost use Rattle.gq_pool.specs.Pool.{taken};
 ghost use Rattle.gq_pool.specs.Lending.{LendsCells};
 
+mod slot_list;
+
 use gq_base::Memory;
 use gq_bits::VECTOR;
+pub use slot_list::SlotList;
 use std::alloc::Global;
 use std::marker::Model;
 use std::mem;

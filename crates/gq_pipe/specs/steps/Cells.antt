@@ -2,6 +2,7 @@
 use Rattle.std.specs.Prelude.{◌≡◌, ◌≢◌, ◌<◌, ℕ, zero, suc, nat_eq, nat_lt, if◌then◌else◌, Bool, Option, Some, None, List, [], ◌∷◌, ◌++◌, map, length, slice_get, slice_index, slice_index_or}
 use Rattle.std.specs.List.{range_with_len}
 use Rattle.std.specs.Option.{unwrap_or}
+use Rattle.gq_bits.specs.declared.TheConstants.{VECTOR}
 use Rattle.gq_base.specs.Valid.{row_count}
 use Rattle.gq_bits.specs.Places.{is_marked}
 use Rattle.gq_group.specs.Chunks.{IsRow, items_in, row_in}
@@ -60,7 +61,7 @@ module _ (c : Run) (row : Assignment) (gs : List Group) (h : Homes) where
   cell_of done (Kept f) p = kept_row (build_in c f.depth) (item_in gs f.group p) f.node
 
   abbrev pub column_of : List (List (Option ℕ)) → Filling → List (Option ℕ)
-  column_of done f = map (λ p. if has_cell gs f p then Some (cell_of done f p) else None) (range_with_len 0 1024)
+  column_of done f = map (λ p. if has_cell gs f p then Some (cell_of done f p) else None) (range_with_len 0 VECTOR)
 
   -- the first columns
   unfoldable pub filled : List Filling → ℕ → List (List (Option ℕ))

@@ -1,6 +1,7 @@
 -- The groups of the chunk that stands: the piece of each group's whole list, and the marks of its positions.
 use Rattle.std.specs.Prelude.{◌≡◌, ◌<◌, ◌≤◌, ◌+◌, ◌*◌, ◌^◌, ◌%◌, ◌==◌, ℕ, Bool, true, false, Option, Some, None, List, [], length, take, drop, slice_get, slice_index, slice_index_or}
 use Rattle.std.specs.List.{range_with_len}
+use Rattle.gq_bits.specs.declared.TheConstants.{VECTOR}
 use Rattle.gq_base.specs.Valid.{row_count}
 use Rattle.gq_bits.specs.Places.{is_marked}
 use Rattle.gq_group.specs.Pieces.{first_of, items_of}
@@ -34,9 +35,9 @@ list_of c d row (Close column x from to way) = neighbours c.graph (rel_table c.t
 list_of c d row (Join side keys) = matches_in (slice_index_or c.builds d None) row
 list_of c d row s = []
 
--- the part of a list that begins at a place, up to 1,024 items
+-- the part of a list that begins at a place, up to VECTOR items
 abbrev pub part : List ℕ → ℕ → List ℕ
-part list first = take 1024 (drop first list)
+part list first = take VECTOR (drop first list)
 
 -- that part of the list of the step at a depth
 pub record IsPieceOf (c : Run) (d : ℕ) (row : Assignment) (first : ℕ) (p : Piece) : Type 0 where
@@ -46,11 +47,11 @@ pub record IsPieceOf (c : Run) (d : ℕ) (row : Assignment) (first : ℕ) (p : P
 
 -- a flat group has its current position marked alone, another group the places that its steps keep
 abbrev pub marked_at : Bool → ℕ → List Bool → ℕ → Bool
-marked_at true key marks p = p == key % 1024
+marked_at true key marks p = p == key % VECTOR
 marked_at false key marks p = is_marked marks p
 
 abbrev pub current_at : Bool → ℕ → Option ℕ
-current_at true key = Some (key % 1024)
+current_at true key = Some (key % VECTOR)
 current_at false key = None
 
 -- the load numbers of the relationships that a build keeps, row by row
@@ -66,7 +67,7 @@ KeepsOf (Some h) k = HasKept h k
 
 -- a group stands at a number
 pub record IsGroupAt (c : Run) (row : Assignment) (s : GroupSteps) (cursor : Cursor) (m : List Bool) (g : Group) : Type 0 where
-  pub piece : IsPieceOf c s.first row (1024 * piece_of s.flat cursor.key) g.piece
+  pub piece : IsPieceOf c s.first row (VECTOR * piece_of s.flat cursor.key) g.piece
   pub marks : (p : ℕ) → is_marked g.marks p ≡ marked_at s.flat cursor.key m p
   pub current : g.current ≡ current_at s.flat cursor.key
   pub kept : KeepsOf (slice_index_or c.builds s.first None) g.kept
@@ -86,5 +87,5 @@ pub record CanStand (c : Run) (row : Assignment) (s : GroupSteps) (cursor : Curs
   pub low : s.first < length c.steps
   pub makes : makes_group (step_at c s.first) ≡ true
   pub held : IsHeld c row (known c s.first)
-  pub inside : 1024 * piece_of s.flat cursor.key ≤ length (list_of c s.first row (step_at c s.first))
+  pub inside : VECTOR * piece_of s.flat cursor.key ≤ length (list_of c s.first row (step_at c s.first))
   pub few : length (list_of c s.first row (step_at c s.first)) < 2 ^ 32

@@ -1,5 +1,6 @@
 use Rattle.std.proofs.Common.{◌≡◌}
-use Rattle.gq_pipe.specs.Serving.{HasCells, Holds}
+use Rattle.gq_pipe.specs.Serving.{HasCells}
+use Rattle.gq_pool.specs.Slots.{Holds}
 use Rattle.gq_pipe.specs.steps.Cells.{filled}
 use Rattle.gq_pipe.specs.steps.Moves.{run_of}
 use Rattle.gq_pipe.proofs.columns.fill_columns.Given as goal

@@ -18,7 +18,7 @@ returns-clause-chunk c =
     subst (λ (r : Rest). IsChunkOf r.source.graph r.source.typed c.chunk_of.result) c.self.view_is
     (chunk_is c.self.inside c.self.invariant
     (subst (λ (r : Rest). r.standing ≡ true) (sym c.self.view_is) c.requires.standing)
-    c.chunk_of.result (c.chunk_of.ensures.groups ∙ c.as_slice-groups.ensures.value) c.chunk_of.ensures.homes (c.chunk_of.ensures.slots ∙ c.as_slice.ensures.value)
+    c.chunk_of.result (c.chunk_of.ensures.groups ∙ c.as_slice-groups.ensures.value) c.chunk_of.ensures.homes (c.chunk_of.ensures.slots ∙ c.as_slice.ensures)
     (subst (λ (r : Rest). Serves r c.chunk_of.result.pool.now) (sym c.self.view_is) (subst (Serves c.args.self.now) (sym c.chunk_of.ensures.pool) c.requires.serves)))
 
 pub returns-clause-binds : goal.returns-clause-binds
@@ -26,7 +26,7 @@ returns-clause-binds c =
     subst (λ (r : Rest). map (λ row. given r.source.typed row (plan_in r.source) nothing) (chunk_meaning r.source.graph r.source.typed c.chunk_of.result) ≡ r.chunk) c.self.view_is
     (binds_is c.self.inside c.self.invariant
     (subst (λ (r : Rest). r.standing ≡ true) (sym c.self.view_is) c.requires.standing)
-    c.chunk_of.result (c.chunk_of.ensures.groups ∙ c.as_slice-groups.ensures.value) c.chunk_of.ensures.homes (c.chunk_of.ensures.slots ∙ c.as_slice.ensures.value)
+    c.chunk_of.result (c.chunk_of.ensures.groups ∙ c.as_slice-groups.ensures.value) c.chunk_of.ensures.homes (c.chunk_of.ensures.slots ∙ c.as_slice.ensures)
     (subst (λ (r : Rest). Serves r c.chunk_of.result.pool.now) (sym c.self.view_is) (subst (Serves c.args.self.now) (sym c.chunk_of.ensures.pool) c.requires.serves)))
 
 pub returns-clause-whole : goal.returns-clause-whole
@@ -34,7 +34,7 @@ returns-clause-whole c =
     subst (λ (r : Rest). binds_all r.source.typed (plan_in r.source) ≡ true → map (assigned r.source.typed) (chunk_meaning r.source.graph r.source.typed c.chunk_of.result) ≡ map (whole r.source.typed) r.chunk) c.self.view_is
     (whole_is c.self.inside c.self.invariant
     (subst (λ (r : Rest). r.standing ≡ true) (sym c.self.view_is) c.requires.standing)
-    c.chunk_of.result (c.chunk_of.ensures.groups ∙ c.as_slice-groups.ensures.value) c.chunk_of.ensures.homes (c.chunk_of.ensures.slots ∙ c.as_slice.ensures.value)
+    c.chunk_of.result (c.chunk_of.ensures.groups ∙ c.as_slice-groups.ensures.value) c.chunk_of.ensures.homes (c.chunk_of.ensures.slots ∙ c.as_slice.ensures)
     (subst (λ (r : Rest). Serves r c.chunk_of.result.pool.now) (sym c.self.view_is) (subst (Serves c.args.self.now) (sym c.chunk_of.ensures.pool) c.requires.serves)))
 
 pub returns-clause-shape : goal.returns-clause-shape
@@ -42,5 +42,5 @@ returns-clause-shape c =
     subst (λ (r : Rest). AreShown r.source.graph r.source.typed (groups_of (arranged r.source.typed (plan_in r.source))) r.flats c.chunk_of.result.groups.now) c.self.view_is
     (shape_is c.self.inside c.self.invariant
     (subst (λ (r : Rest). r.standing ≡ true) (sym c.self.view_is) c.requires.standing)
-    c.chunk_of.result (c.chunk_of.ensures.groups ∙ c.as_slice-groups.ensures.value) c.chunk_of.ensures.homes (c.chunk_of.ensures.slots ∙ c.as_slice.ensures.value)
+    c.chunk_of.result (c.chunk_of.ensures.groups ∙ c.as_slice-groups.ensures.value) c.chunk_of.ensures.homes (c.chunk_of.ensures.slots ∙ c.as_slice.ensures)
     (subst (λ (r : Rest). Serves r c.chunk_of.result.pool.now) (sym c.self.view_is) (subst (Serves c.args.self.now) (sym c.chunk_of.ensures.pool) c.requires.serves)))

@@ -3,6 +3,7 @@ use Rattle.std.specs.Prelude.{slice_index, slice_index_or, All}
 use Rattle.std.specs.List.{range_with_len}
 use Rattle.std.proofs.lemmas.List.{length-map}
 use Rattle.std.proofs.lemmas.List.FromFn.{length-range_with_len}
+use Rattle.gq_bits.specs.declared.TheConstants.{VECTOR}
 use Rattle.gq_plan.proofs.StepEquations.{scan_is, extend_is, column_extend_is, close_is, column_close_is, join_is, keep_is, differ_is, no_loop_is}
 use Rattle.gq_plan.specs.Plans.{Step, Scan, Extend, Close, Join, Keep, Differ, NoLoop, plan_of, step_of}
 use Rattle.gq_plan.specs.declared.plan.Step as code
@@ -50,11 +51,11 @@ take_range a n zero = let e : min 0 n ≡ 0 = omega arith in ap (range_with_len 
 take_range a zero (suc k) = let e : min (suc k) 0 ≡ 0 = omega arith in ap (range_with_len a) (sym e)
 take_range a (suc n) (suc k) = let e : min (suc k) (suc n) ≡ suc (min k n) = omega arith in ap (λ l. a ∷ l) (take_range (a + 1) n k) ∙ ap (range_with_len a) (sym e)
 
-part_range : (n first high : ℕ) → first ≤ n → high ≡ first + min 1024 (n - first) → range_with_len first (high - first) ≡ part (range_with_len 0 n) first
+part_range : (n first high : ℕ) → first ≤ n → high ≡ first + min VECTOR (n - first) → range_with_len first (high - first) ≡ part (range_with_len 0 n) first
 part_range n first high low is =
-    let e : high - first ≡ min 1024 (n - first) = omega (arith, is) in
+    let e : high - first ≡ min VECTOR (n - first) = omega (arith, is) in
     let z : 0 + first ≡ first = omega arith in
-    ap (range_with_len first) e ∙ ap (λ b. range_with_len b (min 1024 (n - first))) (sym z) ∙ sym (take_range (0 + first) (n - first) 1024) ∙ ap (take 1024) (sym (drop_range 0 n first low))
+    ap (range_with_len first) e ∙ ap (λ b. range_with_len b (min VECTOR (n - first))) (sym z) ∙ sym (take_range (0 + first) (n - first) VECTOR) ∙ ap (take VECTOR) (sym (drop_range 0 n first low))
 
 pub row_count-requires-clause-node : goal.row_count-requires-clause-node
 row_count-requires-clause-node c = scan_low (run_of c.args.self.now) c.requires.run c.args.depth (low_step c.args.self.now c.args.depth c.requires.depth) c.args.row.now c.requires.held c.in-Scan.node (step_is c.args.self.now c.args.depth c.requires.depth _ (code.Scan c.in-Scan.node) (Scan c.in-Scan.node) (c.step.ensures ∙ c.in-Scan.is) (scan_is c.in-Scan.node))

@@ -1,0 +1,4 @@
+pub mod Clauses
+pub mod Judged
+pub mod Rows
+pub mod Shared
