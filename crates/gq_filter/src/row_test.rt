@@ -1,19 +1,26 @@
 //! Conditions that are decided row by row: by the columns of what they read where lanes or a text
 //! can decide them, and else by evaluating them.
-ghost use Rattle.std.specs.Prelude.{◌≡◌, IfOk, IsTrue};
+ghost use Rattle.std.specs.Prelude.{◌≡◌, ◌≤◌, ◌<◌, ◌-◌, ◌&&◌, ℕ, IfOk, IsTrue, false, length};
+ghost use Rattle.gq_bits.specs.Places.{is_marked};
 ghost use Rattle.gq_filter.specs.RowTests.{condition_over, conditions_of, is_true_of, ReadsRows};
+ghost use Rattle.gq_filter.specs.Rows.{count_in, row_in, with_row};
 ghost use Rattle.gq_filter.specs.steps.RowCells.{AreFeedsIn, AreOfNodes, DecidesRows};
+ghost use Rattle.gq_filter.specs.steps.SpanLanes.{AreSpanned, IsSpanned};
 ghost use Rattle.gq_plan.specs.Soundness.{IsSound};
 
 use crate::cells::holds_at;
 use crate::conditions::compile;
 use crate::feeds::Feed;
 use crate::filters::is_true;
+use crate::kernels::keep_lanes;
 use crate::lane_test::LaneTest;
 use crate::row_cells::RowCells;
 use crate::row_feeds::add_feeds;
+use crate::rows::Rows;
+use crate::span_lanes::SpanLanes;
 use crate::text_test::{TextTest, text_test};
 use gq_base::Memory;
+use gq_bits::{Marks, VECTOR};
 use gq_plan::{Assignment, NamedExpr, Typed, TypedRow, Variable};
 use gq_store::Graph;
 use std::alloc::Global;
@@ -113,6 +120,78 @@ impl<'g> RowTest<'g> {
                 }
             },
         }
+    }
+}
+
+impl RowTest<'_> {
+    /// Keeps the marked places at whose row the condition is true: a node variable has that row, and
+    /// all others have what they have in one row. It takes no memory.
+    pub fn keep_rows(&self, variable: u32, rows: Rows<'_>, row: &mut Assignment, marks: &mut Marks)
+        requires few { count_in rows ≤ VECTOR }
+        requires variable { variable < length row.old.nodes }
+        requires within { (k : ℕ) → count_in rows ≤ k → is_marked marks.old k ≡ false }
+        ensures kept { (k : ℕ) → is_marked marks.new k ≡ (is_marked marks.old k
+            && is_true_of self.now (with_row variable (row_in rows.entry k) row.old)) }
+        ensures row { row.new ≡ row.old }
+    {
+        match rows {
+            Rows::List(_) => self.keep_each(variable, rows, row, marks),
+            Rows::Span { low, high } => match &self.test {
+                None => self.keep_each(variable, rows, row, marks),
+                Some(test) => {
+                    let feeds = self.feeds.as_slice();
+                    if low <= high && are_spanned(feeds, variable, high) {
+                        let lanes = SpanLanes { feeds, low, high };
+                        keep_lanes(test, &lanes, high - low, marks);
+                    } else {
+                        self.keep_each(variable, rows, row, marks);
+                    }
+                }
+            },
+        }
+    }
+
+    // The same, row by row.
+    fn keep_each(&self, variable: u32, rows: Rows<'_>, row: &mut Assignment, marks: &mut Marks)
+        requires few { count_in rows ≤ VECTOR }
+        requires variable { variable < length row.old.nodes }
+        requires within { (k : ℕ) → count_in rows ≤ k → is_marked marks.old k ≡ false }
+        ensures kept { (k : ℕ) → is_marked marks.new k ≡ (is_marked marks.old k
+            && is_true_of self.now (with_row variable (row_in rows.entry k) row.old)) }
+        ensures row { row.new ≡ row.old }
+    {
+        let stands = row.nodes.as_slice()[variable as usize];
+        for place in 0..rows.len() {
+            if !marks.get(place) {
+                continue;
+            }
+            row.nodes.set(variable as usize, rows.row(place));
+            if !self.passes(row) {
+                marks.set(place, false);
+            }
+        }
+        row.nodes.set(variable as usize, stands);
+    }
+}
+
+// Whether each feed is of a node variable, and its column has the rows below `high`.
+fn are_spanned(feeds: &[Feed<'_>], variable: u32, high: u32) -> bool
+    ensures { IsTrue result → AreSpanned variable high feeds.now }
+{
+    for feed in feeds {
+        if !is_spanned(feed, variable, high) {
+            return false;
+        }
+    }
+    true
+}
+
+fn is_spanned(feed: &Feed<'_>, variable: u32, high: u32) -> bool
+    ensures { IsTrue result → IsSpanned variable high feed.now }
+{
+    match feed.source.variable {
+        Variable::Node(node) => node == variable && high <= feed.column.len(),
+        Variable::Rel(_) => false,
     }
 }
 

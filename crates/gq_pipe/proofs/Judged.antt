@@ -26,7 +26,7 @@ pub judged : (c : Run) (group : GroupSteps) (place : ℕ) (old : Assignment) (to
 judged c group place old true new t = record { held = t.held; alike = t.alike; answer = sym (ap has_one t.answer.made) }
 judged c group place old false new t = record { held = t.held; alike = t.alike; answer = sym (ap has_one t.answer) }
 
-keep_of : (s : Step) (i : ℕ) → test_of s ≡ Some i → s ≡ Keep i
+pub keep_of : (s : Step) (i : ℕ) → test_of s ≡ Some i → s ≡ Keep i
 keep_of (Keep j) i is = let same : j ≡ i = cc in ap Keep same
 keep_of (Scan v) i is = cc
 keep_of (Extend column x from to way) i is = cc

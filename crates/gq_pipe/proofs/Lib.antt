@@ -40,6 +40,7 @@ pub mod Products
 pub mod Chunking
 pub mod Chunked
 pub mod Filling
+pub mod Scanned
 pub mod Loading
 pub mod Flags
 pub mod Showing

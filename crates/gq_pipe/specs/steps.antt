@@ -5,6 +5,7 @@ pub mod Cells
 pub mod Chunks
 pub mod Cuts
 pub mod Filled
+pub mod Filters
 pub mod Given
 pub mod Homes
 pub mod Hops

@@ -89,8 +89,8 @@ impl PlanRun<'_> {
         }
     }
 
-    // The test that the step at a depth asks for, if it is one.
-    fn test_at(&self, depth: usize) -> Option<u32>
+    /// The test that the step at a depth asks for, if it is one.
+    pub(crate) fn test_at(&self, depth: usize) -> Option<u32>
         requires { depth < length (steps_in self.now) }
         ensures { result ≡ test_of (step_at (run_of self.now) depth) }
     {

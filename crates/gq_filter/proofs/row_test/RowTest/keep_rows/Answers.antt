@@ -1,0 +1,21 @@
+use Rattle.std.proofs.Common.{◌≡◌, ◌≤◌, ◌-◌, ◌&&◌, ℕ, List, Option, Some, false, sym, subst}
+use Rattle.gq_bits.specs.Places.{is_marked}
+use Rattle.gq_filter.specs.RowTests.{RowCondition, is_true_of}
+use Rattle.gq_filter.specs.Rows.{count_in, row_in, with_row}
+use Rattle.gq_filter.specs.declared.feeds.Feed.{Feed}
+use Rattle.gq_filter.specs.declared.lane_test.LaneTest.{LaneTest}
+use Rattle.gq_filter.specs.declared.rows.Rows.{Rows}
+use Rattle.gq_filter.specs.steps.RowCells.{DecidesRows}
+use Rattle.gq_filter.proofs.Spanned.{span_kept}
+use Rattle.gq_filter.proofs.row_test.RowTest.keep_rows.Goals as goal
+
+pub returns-then-are_spanned-clause-kept : goal.returns-then-are_spanned-clause-kept
+returns-then-are_spanned-clause-kept c =
+    let i = c.self.inside in
+    let at_items = subst {A = Option LaneTest} (DecidesRows i.graph.now i.typed.now i.condition.now i.feeds.items) c.in-Some.is c.self.invariant.1 in
+    let decides = subst (λ (feeds : List Feed). DecidesRows i.graph.now i.typed.now i.condition.now feeds (Some c.in-Some.test)) (sym c.as_slice-feeds.ensures.value) at_items in
+    let within : (k : ℕ) → c.in-Span.high - c.in-Span.low ≤ k → is_marked c.args.marks.now k ≡ false =
+    subst (λ (r : Rows). (k : ℕ) → count_in r ≤ k → is_marked c.args.marks.now k ≡ false) c.in-Span.is c.requires.within in
+    λ k. subst (λ (s : RowCondition). is_marked c.keep_lanes.new.marks k ≡ (is_marked c.args.marks.now k && is_true_of s (with_row c.args.variable (row_in c.args.rows k) c.args.row.now))) c.self.view_is
+    (subst (λ (r : Rows). is_marked c.keep_lanes.new.marks k ≡ (is_marked c.args.marks.now k && is_true_of (record { graph = i.graph.now; typed = i.typed.now; condition = i.condition.now }) (with_row c.args.variable (row_in r k) c.args.row.now))) (sym c.in-Span.is)
+    (span_kept i.graph.now i.typed.now i.condition.now c.as_slice-feeds.result.now _ decides c.args.variable c.in-Span.low c.in-Span.high (c.are_spanned.ensures c.if-are_spanned.true) c.args.row.now c.requires.variable c.args.marks.now c.keep_lanes.new.marks within c.keep_lanes.ensures k))

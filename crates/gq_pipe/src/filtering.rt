@@ -1,0 +1,104 @@
+//! The places of a scan that conditions keep, a piece at a time.
+ghost use Rattle.std.specs.Prelude.{◌≡◌, ◌+◌, ◌≤◌, ◌<◌, ◌^◌, ◌&&◌, ℕ, length, false, IfSome, Some};
+ghost use Rattle.gq_base.specs.Valid.{row_count};
+ghost use Rattle.gq_bits.specs.Places.{is_marked};
+ghost use Rattle.gq_filter.specs.Rows.{count_in, row_in};
+ghost use Rattle.gq_plan.specs.Rows.{node_table};
+ghost use Rattle.gq_pipe.specs.steps.Filters.{Filters, Scans};
+ghost use Rattle.gq_pipe.specs.steps.Keeps.{IsRange, IsSifted};
+ghost use Rattle.gq_pipe.specs.steps.Levels.{known, step_at};
+ghost use Rattle.gq_pipe.specs.steps.Moves.{run_of, steps_in, IsRun, IsHeld};
+ghost use Rattle.gq_pipe.specs.steps.Outcomes.{passes_at, with_row};
+ghost use Rattle.gq_pipe.specs.steps.RowTests.{test_of};
+
+use crate::places::GroupSteps;
+use crate::plan_run::PlanRun;
+use gq_bits::{Marks, VECTOR};
+use gq_filter::Rows;
+use gq_plan::{Assignment, Step};
+
+impl PlanRun<'_> {
+    /// The node variable that a group scans, where its other steps are conditions.
+    pub(crate) fn filters(&self, group: GroupSteps) -> Option<u32>
+        requires run { IsRun (run_of self.now) }
+        requires steps { IsRange (run_of self.now) group }
+        ensures { IfSome result (Filters (run_of self.now) group) }
+    {
+        let node = self.scans(group.first)?;
+        for depth in group.first + 1..group.end {
+            let _test = self.test_at(depth)?;
+        }
+        Some(node)
+    }
+
+    // The node variable that the step at a depth scans, if it does.
+    fn scans(&self, depth: usize) -> Option<u32>
+        requires { depth < length (steps_in self.now) }
+        ensures { IfSome result (Scans (run_of self.now) depth) }
+    {
+        match self.step(depth) {
+            Step::Scan { node } => Some(*node),
+            _ => None,
+        }
+    }
+
+    /// Of so many places of a scan, from one on, those that the group's conditions keep.
+    pub(crate) fn filter(
+        &self,
+        group: GroupSteps,
+        node: u32,
+        first: u32,
+        count: u32,
+        row: &mut Assignment,
+    ) -> Marks
+        requires run { IsRun (run_of self.now) }
+        requires steps { IsRange (run_of self.now) group }
+        requires filters { Filters (run_of self.now) group node }
+        requires held { IsHeld (run_of self.now) row.old (known (run_of self.now) group.first) }
+        requires count { count ≤ VECTOR }
+        requires inside { first + count ≤ row_count self.now.graph.now.nodes
+            (node_table self.now.typed.now node) }
+        requires fits { first + count < 2 ^ 32 }
+        ensures { IsSifted (run_of self.now) group first count row.old row.new result }
+    {
+        let mut marks = Marks::first(count);
+        let rows = Rows::Span {
+            low: first,
+            high: first + count,
+        };
+        for depth in group.first + 1..group.end {
+            self.keep_rows(depth, node, rows, row, &mut marks);
+        }
+        let _whole = marks.word(0);
+        marks
+    }
+
+    // Keeps the marked places at whose row the condition is true that the step at a depth asks for:
+    // a node variable has that row.
+    fn keep_rows(
+        &self,
+        depth: usize,
+        node: u32,
+        rows: Rows<'_>,
+        row: &mut Assignment,
+        marks: &mut Marks,
+    )
+        requires run { IsRun (run_of self.now) }
+        requires depth { depth < length (steps_in self.now) }
+        requires node { node < length row.old.nodes }
+        requires few { count_in rows ≤ VECTOR }
+        requires within { (j : ℕ) → count_in rows ≤ j → is_marked marks.old j ≡ false }
+        ensures kept { (i : ℕ) → test_of (step_at (run_of self.now) depth) ≡ Some i → (j : ℕ)
+            → is_marked marks.new j ≡ (is_marked marks.old j && passes_at self.now.graph.now
+            self.now.typed.now (with_row node (row_in rows.entry j) row.old) i) }
+        ensures row { row.new ≡ row.old }
+    {
+        match self.test_at(depth) {
+            None => {}
+            Some(test) => match self.tests.get(test as usize) {
+                None => *marks = Marks::none(),
+                Some(test) => test.keep_rows(node, rows, row, marks),
+            },
+        }
+    }
+}
