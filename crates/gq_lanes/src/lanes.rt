@@ -7,6 +7,9 @@ ghost use Rattle.gq_lanes.specs.Tests.{compares, cell};
 
 use std::simd::prelude::*;
 
+// Up to so many ids are compared one by one: to fill 64 of them up takes longer.
+const FEW: usize = 24;
+
 /// A comparison of two cells.
 #[derive(Clone, Copy, Debug, PartialEq, Eq)]
 pub enum LaneOp {
@@ -53,11 +56,26 @@ pub(crate) fn id_mask(ids: &[u32], id: u32) -> u64
 {
     if ids.len() == 64 {
         id_lanes(ids, id)
+    } else if ids.len() <= FEW {
+        id_bits(ids, id)
     } else {
         let mut padded = [0; 64];
         padded[..ids.len()].copy_from_slice(ids);
         id_lanes(&padded, id)
     }
+}
+
+// The places of a few ids that equal `id`, one by one.
+fn id_bits(ids: &[u32], id: u32) -> u64
+    requires { length ids.now ≤ 64 }
+    ensures { (i : ℕ) → i < length ids.now
+        → (bit_at result i == 1) ≡ (slice_index ids.now i == id) }
+{
+    let mut mask = 0;
+    for (place, other) in ids.iter().enumerate() {
+        mask |= u64::from(*other == id) << place;
+    }
+    mask
 }
 
 fn const_lanes(op: LaneOp, cells: &[i64], constant: i64) -> u64
