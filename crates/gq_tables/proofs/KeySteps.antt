@@ -9,13 +9,11 @@ use Rattle.gq_base.specs.Values.{Val, null}
 use Rattle.gq_base.specs.declared.cell.Cell.TheVariants as cell
 use Rattle.gq_base.proofs.ListLaws.{any-snoc}
 use Rattle.gq_tables.specs.Cells.{Cells}
-use Rattle.gq_tables.specs.steps.KeyIndexes.{held, is_held}
-use Rattle.gq_tables.specs.steps.KeyMaps.{with_row}
+use Rattle.gq_tables.specs.steps.KeyMaps.{stands, with_row}
 use Rattle.gq_tables.specs.Keys.{find_key, has_key, is_key}
 use Rattle.gq_base.specs.Valid.{key_of}
 use Rattle.gq_tables.specs.Nodes.{is_taken}
 use Rattle.gq_tables.specs.steps.Passes.{add_nodes}
-use Rattle.gq_tables.specs.declared.key_index.KeyIndex.{KeyIndex}
 use Rattle.gq_tables.specs.declared.refusal.TableRefusal.TheVariants as refusal
 
 -- ---- the first row with each key
@@ -63,17 +61,17 @@ no_null rows = position_from-zero (has_key null) rows ∙ none_from rows 0
 
 -- ---- keys that stand in two rows
 
--- the keys of the rows before this place are distinct, and the index has just them
-pub record Keyed (rows : List Cells) (at : ℕ) (index : KeyIndex) : Type 0 where
+-- the keys of the rows before this place are distinct, and rows stand at just them
+pub record Keyed (rows : List Cells) (at : ℕ) (there : Val → Option ℕ) : Type 0 where
   pub given : add_nodes 2 [] rows ≡ add_nodes (at + 2) (take at rows) (drop at rows)
-  pub same : (v : Val) → is_some (held index v) ≡ list_any (has_key v) (take at rows)
+  pub same : (v : Val) → is_some (there v) ≡ list_any (has_key v) (take at rows)
 
-pub unkeyed : (rows : List Cells) (index : KeyIndex) → ((v : Val) → held index v ≡ None) → Keyed rows 0 index
-unkeyed rows index none = record { given = refl; same = λ v. rw (none v) refl }
+pub unkeyed : (rows : List Cells) (there : Val → Option ℕ) → ((v : Val) → there v ≡ None) → Keyed rows 0 there
+unkeyed rows there none = record { given = refl; same = λ v. rw (none v) refl }
 
-taken_as : (index : KeyIndex) (front : List Cells) (key : Option Val) → ((v : Val) → is_some (held index v) ≡ list_any (has_key v) front) → is_held index key ≡ is_taken front key
-taken_as index front None same = refl
-taken_as index front (Some key) same = same key
+taken_as : (there : Val → Option ℕ) (front : List Cells) (key : Option Val) → ((v : Val) → is_some (there v) ≡ list_any (has_key v) front) → stands there key ≡ is_taken front key
+taken_as there front None same = refl
+taken_as there front (Some key) same = same key
 
 some_cond : (b : Bool) (at : ℕ) (o : Option ℕ) → is_some (cond b (Some at) o) ≡ (is_some o || (b || false))
 some_cond true at (Some x) = refl
@@ -81,7 +79,7 @@ some_cond true at None = refl
 some_cond false at (Some x) = refl
 some_cond false at None = refl
 
-module _ (rows : List Cells) (at : ℕ) (index : KeyIndex) (h : Keyed rows at index) where
+module _ (rows : List Cells) (at : ℕ) (there : Val → Option ℕ) (h : Keyed rows at there) where
   pub all_keyed : length rows ≤ at → add_nodes 2 [] rows ≡ Ok rows
   all_keyed e = let none : drop at rows ≡ [] = drop_all at rows e in let whole : take at rows ≡ rows = take_all at rows e in rw (h.given, none, whole) refl
 
@@ -92,15 +90,15 @@ module _ (rows : List Cells) (at : ℕ) (index : KeyIndex) (h : Keyed rows at in
     front : take (at + 1) rows ≡ take at rows ++ row ∷ []
     front = take_more rows at row more ∙ ap (λ r. take at rows ++ r ∷ []) (sym is)
 
-    pub key_twice : is_held index (key_of row) ≡ true → add_nodes 2 [] rows ≡ Err (refusal.KeyRepeated (at + 2))
-    key_twice e = let taken : is_taken (take at rows) (key_of row) ≡ true = sym (taken_as index (take at rows) (key_of row) h.same) ∙ e in rw (h.given, rest, taken) refl
+    pub key_twice : stands there (key_of row) ≡ true → add_nodes 2 [] rows ≡ Err (refusal.KeyRepeated (at + 2))
+    key_twice e = let taken : is_taken (take at rows) (key_of row) ≡ true = sym (taken_as there (take at rows) (key_of row) h.same) ∙ e in rw (h.given, rest, taken) refl
 
-    pub key_once : (new : KeyIndex) → is_held index (key_of row) ≡ false → ((v : Val) → held new v ≡ with_row (key_of row) at v (held index v)) → Keyed rows (at + 1) new
+    pub key_once : (new : Val → Option ℕ) → stands there (key_of row) ≡ false → ((v : Val) → new v ≡ with_row (key_of row) at v (there v)) → Keyed rows (at + 1) new
     key_once new e put =
-        let fresh : is_taken (take at rows) (key_of row) ≡ false = sym (taken_as index (take at rows) (key_of row) h.same) ∙ e in
+        let fresh : is_taken (take at rows) (key_of row) ≡ false = sym (taken_as there (take at rows) (key_of row) h.same) ∙ e in
         let number : at + 1 + 2 ≡ at + 2 + 1 = omega arith in
         record {
           given = h.given ∙ rw (rest, fresh, front, number) refl;
-          same = λ v. ap is_some (put v ∙ by_key (key_of row) at v (held index v)) ∙ some_cond (has_key v row) at (held index v)
+          same = λ v. ap is_some (put v ∙ by_key (key_of row) at v (there v)) ∙ some_cond (has_key v row) at (there v)
               ∙ ap (λ b. b || (has_key v row || false)) (h.same v) ∙ sym (any-snoc (has_key v) (take at rows) row) ∙ sym (ap (list_any (has_key v)) front);
         }

@@ -32,6 +32,18 @@ impl NearKeys {
         ensures { IfOk result (λ made.
             IfSome made (λ index. (v : Val) → near index v ≡ find_key rows.now v)) }
     {
+        match NearKeys::empty(alloc, rows)? {
+            Some(index) => Ok(index.with_rows(rows)),
+            None => Ok(None),
+        }
+    }
+
+    /// No rows yet, with a place for each of the keys of these rows, or `None` where some row has no
+    /// integer as its key, or the keys lie far apart.
+    pub(crate) fn empty(alloc: Global, rows: &NodeRows) -> Result<Option<NearKeys>, Memory>
+        requires { length rows.now < 2 ^ 32 }
+        ensures { IfOk result (λ made. IfSome made (λ index. (v : Val) → near index v ≡ None)) }
+    {
         let Some((low, high)) = bounds_of(rows) else {
             return Ok(None);
         };
@@ -40,7 +52,7 @@ impl NearKeys {
             return Ok(None);
         }
         let places = vec![in alloc; NO_ROW; distance + 1]?;
-        Ok(NearKeys { low, rows: places }.with_rows(rows))
+        Ok(Some(NearKeys { low, rows: places }))
     }
 
     // The empty index with these rows, or `None` where some key has no place. From the last row on,
@@ -60,8 +72,8 @@ impl NearKeys {
         Some(self)
     }
 
-    // Puts a row at its key, or answers false where the key has no place.
-    fn put(&mut self, row: &[Option<Cell>], number: u32) -> bool
+    /// Puts a row at its key, or answers false where the key has no place.
+    pub(crate) fn put(&mut self, row: &[Option<Cell>], number: u32) -> bool
         requires { number + 1 < 2 ^ 32 }
         ensures { OnTrue result
             ((v : Val) → near self.new v ≡ with_row (key_of row.now) number v (near self.old v)) }

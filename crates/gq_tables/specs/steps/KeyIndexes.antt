@@ -1,9 +1,8 @@
 -- Rows by their keys, each in a slot of its key's window or in an ordered map.
-use Rattle.std.specs.Prelude.{ℕ, Bool, false, is_some}
+use Rattle.std.specs.Prelude.{ℕ, Bool}
 use Rattle.std.specs.declared.option.Option.{Option}
-use Rattle.std.specs.declared.option.Option.TheVariants.{Some, None}
 use Rattle.gq_base.specs.Values.{Val}
-use Rattle.gq_tables.specs.steps.KeyMaps.{row_at}
+use Rattle.gq_tables.specs.steps.KeyMaps.{row_at, stands}
 use Rattle.gq_tables.specs.steps.Slots.{row_or}
 use Rattle.gq_tables.specs.declared.key_index.KeyIndex.{KeyIndex}
 
@@ -13,5 +12,4 @@ held index v = row_or index.slots.items v (row_at index.others v)
 
 -- some row stands at a key, if there is a key
 abbrev pub is_held : KeyIndex → Option Val → Bool
-is_held index None = false
-is_held index (Some key) = is_some (held index key)
+is_held index key = stands (held index) key

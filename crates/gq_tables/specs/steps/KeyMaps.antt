@@ -1,5 +1,5 @@
 -- Rows by their keys, in one ordered map for each kind of key.
-use Rattle.std.specs.Prelude.{ℕ, cond}
+use Rattle.std.specs.Prelude.{ℕ, Bool, false, is_some, cond}
 use Rattle.std.specs.BTreeMap.{get_by}
 use Rattle.std.specs.Cmp.Lexicographic.{slice_cmp}
 use Rattle.std.specs.Ordering.{bool_cmp, int_cmp, nat_cmp}
@@ -20,3 +20,8 @@ row_at map v = None
 abbrev pub with_row : Option Val → ℕ → Val → Option ℕ → Option ℕ
 with_row None row v before = before
 with_row (Some key) row v before = cond (same_key key v) (Some row) before
+
+-- some row stands at a key, if there is a key
+abbrev pub stands : (Val → Option ℕ) → Option Val → Bool
+stands there None = false
+stands there (Some key) = is_some (there key)
