@@ -39,6 +39,15 @@ tests text query = flat_map (scoped_tests text) (conditions query)
 abbrev pub shared : ScopedTest → List ℕ
 shared t = filter_map (find_name t.names) (shared_names t.test.path)
 
+-- a test, what it is called, and these variables
+pub record SharedTest : Type 0 where
+  pub name : List ℕ
+  pub test : PathTest
+  pub nodes : List ℕ
+
+abbrev pub shared_test : ScopedTest → SharedTest
+shared_test t = record { name = t.name; test = t.test; nodes = shared t }
+
 -- ---- what a row passes
 
 abbrev as_wanted : Bool → Bool → Bool

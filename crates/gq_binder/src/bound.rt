@@ -1,15 +1,18 @@
 //! The bound form of a query, or why it has none.
-ghost use Rattle.std.specs.Prelude.{◌≡◌, [], map, filter_map, IfOk};
-ghost use Rattle.gq_alternatives.specs.Alternatives.{typed_of};
+ghost use Rattle.std.specs.Prelude.{◌≡◌, [], All, map, filter_map, IfOk};
+ghost use Rattle.gq_alternatives.specs.Alternatives.{pattern_alternatives, typed_of};
 ghost use Rattle.gq_binder.specs.Binding.{Answers};
 ghost use Rattle.gq_binder.specs.Columns.{sort_expr};
 ghost use Rattle.gq_binder.specs.steps.Parts.{bound_in};
 ghost use Rattle.gq_binder.specs.Refusals.{first_refusal};
+ghost use Rattle.gq_scopes.specs.PathPatterns.{path_pattern};
 ghost use Rattle.gq_syntax.specs.Spans.{SpelledQuery};
+ghost use Rattle.gq_syntax.specs.steps.Spans.{IsWholePath};
 
-use crate::checks::{check, few_alternatives};
+use crate::checks::{Choices, check, few_alternatives};
 use crate::columns::known_columns;
 use crate::parts::{QueryParts, parts_of};
+use crate::path_tests::exists_parts;
 use crate::refusal::BindRefusal;
 use gq_alternatives::{Choice, typed};
 use gq_base::{Catalog, List, Memory, Text};
@@ -33,7 +36,7 @@ pub fn bind(
     let parts = parts_of(alloc, text, query)?;
     check(alloc, text, query, &parts)?;
     let choices = few_alternatives(alloc, catalog, &parts)?;
-    Ok(bound_of(alloc, catalog, query, parts, choices)?)
+    Ok(bound_of(alloc, text, catalog, query, parts, choices)?)
 }
 
 /// Why a query, which a text spells, cannot be bound over a catalogue: the first check that
@@ -60,14 +63,26 @@ pub fn refusal_of(
 // refuses the query, all does.
 fn bound_of(
     alloc: Global,
+    text: &[u8],
     catalog: &Catalog,
     query: &Query,
     parts: QueryParts<'_>,
-    choices: List<Choice>,
+    choices: Choices,
 ) -> Result<Bound, Memory>
-    ensures { IfOk result (λ b. b ≡ bound_in catalog.now query.now parts.entry choices) }
+    requires whole { All (λ t. IsWholePath text.now t.test.path) parts.entry.patterns }
+    requires paths { choices.paths
+        ≡ map (λ t. pattern_alternatives catalog.now (path_pattern t.test.path))
+        parts.entry.patterns }
+    ensures { IfOk result (λ b.
+        b ≡ bound_in text.now catalog.now query.now parts.entry choices.query) }
 {
-    let mut bound = without_lists(alloc, catalog, query, &parts, choices.as_slice())?;
+    let Choices {
+        query: own,
+        paths,
+    } = choices;
+    let mut bound = without_lists(alloc, catalog, query, &parts, own.as_slice())?;
+    let tests = parts.patterns.as_slice();
+    bound.patterns = exists_parts(alloc, text, catalog, tests, paths.as_slice())?;
     let QueryParts {
         columns,
         conjuncts,
@@ -87,9 +102,10 @@ fn without_lists(
     choices: &[Choice],
 ) -> Result<Bound, Memory>
     ensures { IfOk result (λ b. b
-        ≡ record (bound_in catalog.now query.now parts.now choices.now) {
+        ≡ record (bound_in [] catalog.now query.now parts.now choices.now) {
           columns = [];
           conjuncts = [];
+          patterns = [];
         }) }
 {
     let pattern = &parts.pattern;
@@ -135,7 +151,7 @@ fn known_keys(alloc: Global, scope: &Scope<'_>, order: &[Sort]) -> Result<List<S
 // alternatives of one query. With 512 alternatives it is 8,192 for each.
 const MOST_TESTS: usize = 4_194_304;
 
-fn all_typed(
+pub fn all_typed(
     alloc: Global,
     catalog: &Catalog,
     pattern: &Pattern<'_>,
