@@ -11,3 +11,4 @@ pub mod RefusalLemmas
 mod WorkedRefusals
 pub mod SoundAlternatives
 mod SoundWorked
+pub mod TestLemmas

@@ -85,5 +85,5 @@ is_bound_so : IsBound query text catalog bound
 unfolding conjuncts columns_in pattern_of pattern_alternatives choices tuples typed_of
 is_bound_so =
     is_bound query text catalog bound accepted
-    (record { node_names = refl; rel_names = refl; columns = refl; conjuncts = refl; patterns = refl; keys = refl; distinct = refl; skip = refl; limit = refl })
+    (record { node_names = refl; rel_names = refl; columns = refl; conjuncts = refl; keys = refl; distinct = refl; skip = refl; limit = refl })
     refl (omega arith)

@@ -1,18 +1,15 @@
 //! The bound form of a query, or why it has none.
-ghost use Rattle.std.specs.Prelude.{◌≡◌, [], All, map, filter_map, IfOk};
-ghost use Rattle.gq_alternatives.specs.Alternatives.{pattern_alternatives, typed_of};
+ghost use Rattle.std.specs.Prelude.{◌≡◌, [], map, filter_map, IfOk};
+ghost use Rattle.gq_alternatives.specs.Alternatives.{typed_of};
 ghost use Rattle.gq_binder.specs.Binding.{Answers};
 ghost use Rattle.gq_binder.specs.Columns.{sort_expr};
-ghost use Rattle.gq_binder.specs.steps.Parts.{bound_in};
+ghost use Rattle.gq_binder.specs.steps.Parts.{bound_in, exists_part};
 ghost use Rattle.gq_binder.specs.Refusals.{first_refusal};
-ghost use Rattle.gq_scopes.specs.PathPatterns.{path_pattern};
 ghost use Rattle.gq_syntax.specs.Spans.{SpelledQuery};
-ghost use Rattle.gq_syntax.specs.steps.Spans.{IsWholePath};
 
-use crate::checks::{Choices, check, few_alternatives};
+use crate::checks::{Alternatives, check, few_alternatives};
 use crate::columns::known_columns;
 use crate::parts::{QueryParts, parts_of};
-use crate::path_tests::exists_parts;
 use crate::refusal::BindRefusal;
 use gq_alternatives::{Choice, typed};
 use gq_base::{Catalog, List, Memory, Text};
@@ -35,8 +32,8 @@ pub fn bind(
 {
     let parts = parts_of(alloc, text, query)?;
     check(alloc, text, query, &parts)?;
-    let choices = few_alternatives(alloc, catalog, &parts)?;
-    Ok(bound_of(alloc, text, catalog, query, parts, choices)?)
+    let all = few_alternatives(alloc, text, catalog, &parts)?;
+    Ok(bound_of(alloc, text, catalog, query, parts, all)?)
 }
 
 /// Why a query, which a text spells, cannot be bound over a catalogue: the first check that
@@ -67,22 +64,15 @@ fn bound_of(
     catalog: &Catalog,
     query: &Query,
     parts: QueryParts<'_>,
-    choices: Choices,
+    all: Alternatives,
 ) -> Result<Bound, Memory>
-    requires whole { All (λ t. IsWholePath text.now t.test.path) parts.entry.patterns }
-    requires paths { choices.paths
-        ≡ map (λ t. pattern_alternatives catalog.now (path_pattern t.test.path))
-        parts.entry.patterns }
+    requires { all.patterns ≡ map (exists_part text.now catalog.now) parts.entry.patterns }
     ensures { IfOk result (λ b.
-        b ≡ bound_in text.now catalog.now query.now parts.entry choices.query) }
+        b ≡ bound_in text.now catalog.now query.now parts.entry all.choices) }
 {
-    let Choices {
-        query: own,
-        paths,
-    } = choices;
-    let mut bound = without_lists(alloc, catalog, query, &parts, own.as_slice())?;
-    let tests = parts.patterns.as_slice();
-    bound.patterns = exists_parts(alloc, text, catalog, tests, paths.as_slice())?;
+    let Alternatives { choices, patterns } = all;
+    let mut bound = without_lists(alloc, catalog, query, &parts, choices.as_slice())?;
+    bound.patterns = patterns;
     let QueryParts {
         columns,
         conjuncts,

@@ -4,7 +4,7 @@ ghost use Rattle.std.specs.Prelude.{nat_lt};
 ghost use Rattle.std.specs.Option.{option_map};
 ghost use Rattle.gq_alternatives.specs.Alternatives.{pattern_alternatives};
 ghost use Rattle.gq_binder.specs.steps.Checks.{Checks};
-ghost use Rattle.gq_binder.specs.steps.Parts.{checks_in, reads_in};
+ghost use Rattle.gq_binder.specs.steps.Parts.{checks_in, exists_part, reads_in};
 ghost use Rattle.gq_binder.specs.Refusals as refusals;
 ghost use Rattle.gq_binder.specs.Refusals.{first_of_all, first_behind, conflicting, repeating};
 ghost use Rattle.gq_binder.specs.Refusals.{nothing, over_limit, max_alternatives, max_columns};
@@ -12,17 +12,17 @@ ghost use Rattle.gq_binder.specs.Refusals.{alternatives_in, nodes_in, paths_of, 
 ghost use Rattle.gq_binder.specs.declared.refusal.BindRefusal.TheVariants as refusal;
 ghost use Rattle.gq_plan.specs.Reads.{property, with_reads};
 ghost use Rattle.gq_plan.specs.Soundness.{max_variables};
-ghost use Rattle.gq_scopes.specs.PathPatterns.{path_pattern};
 ghost use Rattle.gq_syntax.specs.Spans.{IsWholeTree};
+ghost use Rattle.gq_syntax.specs.steps.Spans.{IsWholePath};
 
 use crate::met::Met;
 use crate::order::{ambiguous_order_name, order_out_of_scope};
 use crate::parts::QueryParts;
-use crate::path_tests::SharedTest;
+use crate::path_tests::{SharedTest, exists_parts};
 use crate::refusal::BindRefusal;
 use gq_alternatives::{Choice, choices_of};
 use gq_base::{Catalog, List, Memory};
-use gq_plan::{NamedExpr, PropertyReads};
+use gq_plan::{ExistsPart, NamedExpr, PropertyReads};
 use gq_scopes::{Column, MapEntry, NamedVariable, Names, Pattern, RelPattern, Variable};
 use gq_scopes::{copy_text, number};
 use gq_syntax::Query;
@@ -329,61 +329,35 @@ fn too_many_columns(columns: &[Column]) -> Result<(), BindRefusal>
     }
 }
 
-/// The alternatives of a query's patterns, and those of the paths of its tests.
+/// The alternatives of a query's patterns, and the parts that its tests of paths give.
 #[derive(Drop)]
-pub struct Choices {
-    pub query: List<Choice>,
-    pub paths: List<List<Choice>>,
+pub struct Alternatives {
+    pub choices: List<Choice>,
+    pub patterns: List<ExistsPart>,
 }
 
 /// The alternatives of a query's patterns and of the paths of its tests, unless there are too many.
-#[tactic(auto, using(crate::proofs::RefusalLemmas::within, crate::proofs::RefusalLemmas::beyond))]
+#[tactic(auto, using(crate::proofs::RefusalLemmas::within, crate::proofs::RefusalLemmas::within_more, crate::proofs::RefusalLemmas::beyond_more))]
 pub fn few_alternatives(
     alloc: Global,
+    text: &[u8],
     catalog: &Catalog,
     parts: &QueryParts<'_>,
-) -> Result<Choices, BindRefusal>
+) -> Result<Alternatives, BindRefusal>
+    requires { All (λ t. IsWholePath text.now t.test.path) parts.now.patterns }
     ensures few { Checks (over_limit max_alternatives
         (length (pattern_alternatives catalog.now parts.now.pattern)
         + alternatives_in catalog.now (paths_of parts.now.patterns)) refusal.TooManyAlternatives)
         result }
-    ensures query { IfOk result (λ cs.
-        cs.query ≡ pattern_alternatives catalog.now parts.now.pattern) }
-    ensures paths { IfOk result (λ cs. cs.paths
-        ≡ map (λ t. pattern_alternatives catalog.now (path_pattern t.test.path))
-        parts.now.patterns) }
+    ensures choices { IfOk result (λ all.
+        all.choices ≡ pattern_alternatives catalog.now parts.now.pattern) }
+    ensures patterns { IfOk result (λ all. all.patterns
+        ≡ map (exists_part text.now catalog.now) parts.now.patterns) }
 {
-    match choices_of(alloc, catalog, &parts.pattern, MAX_ALTERNATIVES)? {
-        Some(query) => {
-            let left = MAX_ALTERNATIVES - query.len();
-            let paths = few_path_alternatives(alloc, catalog, parts.patterns.as_slice(), left)?;
-            Ok(Choices { query, paths })
-        }
-        None => Err(BindRefusal::TooManyAlternatives),
-    }
-}
-
-// The alternatives of the paths of tests, unless there are more than so many.
-fn few_path_alternatives(
-    alloc: Global,
-    catalog: &Catalog,
-    tests: &[SharedTest<'_>],
-    most: usize,
-) -> Result<List<List<Choice>>, BindRefusal>
-    ensures few { Checks (over_limit most (alternatives_in catalog.now (paths_of tests.now))
-        refusal.TooManyAlternatives) result }
-    ensures paths { IfOk result (λ cs. cs
-        ≡ map (λ t. pattern_alternatives catalog.now (path_pattern t.test.path)) tests.now) }
-{
-    let mut left = most;
-    let mut all = List::new(alloc);
-    for test in tests {
-        let pattern = Pattern::of_path(alloc, test.test.path)?;
-        let Some(choices) = choices_of(alloc, catalog, &pattern, left)? else {
-            return Err(BindRefusal::TooManyAlternatives);
-        };
-        left -= choices.len();
-        all.push(choices)?;
-    }
-    Ok(all)
+    let Some(choices) = choices_of(alloc, catalog, &parts.pattern, MAX_ALTERNATIVES)? else {
+        return Err(BindRefusal::TooManyAlternatives);
+    };
+    let left = MAX_ALTERNATIVES - choices.len();
+    let patterns = exists_parts(alloc, text, catalog, parts.patterns.as_slice(), left)?;
+    Ok(Alternatives { choices, patterns })
 }

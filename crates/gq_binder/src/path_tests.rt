@@ -1,13 +1,18 @@
 //! The tests of paths of a query, and the parts of its bound form that they give.
-ghost use Rattle.std.specs.Prelude.{◌≡◌, ◌++◌, [], All, map, IfOk, OnOk};
+ghost use Rattle.std.specs.Prelude.{◌≡◌, ◌++◌, All, map, IfOk, OnOk};
 ghost use Rattle.gq_alternatives.specs.Alternatives.{pattern_alternatives};
-ghost use Rattle.gq_binder.specs.steps.Parts.{exists_part, shared_in};
+ghost use Rattle.gq_binder.specs.Refusals.{alternatives_in, over_limit, paths_of};
+ghost use Rattle.gq_binder.specs.declared.refusal.BindRefusal.TheVariants as refusal;
+ghost use Rattle.gq_binder.specs.steps.Checks.{Checks};
+ghost use Rattle.gq_binder.specs.steps.Parts as steps;
+ghost use Rattle.gq_binder.specs.steps.Parts.{shared_in};
 ghost use Rattle.gq_scopes.specs.PathPatterns.{path_pattern};
-ghost use Rattle.gq_syntax.specs.steps.Spans.{IsWholePath};
+ghost use Rattle.gq_syntax.specs.steps.Spans.{IsWholeEntry, IsWholePath};
 
 use crate::bound::all_typed;
 use crate::entries::entry_tests;
-use gq_alternatives::Choice;
+use crate::refusal::BindRefusal;
+use gq_alternatives::{Choice, choices_of};
 use gq_base::{Catalog, List, Literal, Memory, Text};
 use gq_expr::Expr;
 use gq_plan::{ExistsPart, NamedExpr};
@@ -49,22 +54,31 @@ pub fn push_tests<'q>(
     Ok(())
 }
 
-/// The parts of a bound query that tests give, whose paths have these alternatives.
+/// The parts of a bound query that tests give, unless their paths have more alternatives than so
+/// many.
+#[tactic(auto, using(crate::proofs::RefusalLemmas::within, crate::proofs::RefusalLemmas::within_more, crate::proofs::RefusalLemmas::beyond_more))]
 pub fn exists_parts(
     alloc: Global,
     text: &[u8],
     catalog: &Catalog,
     tests: &[SharedTest<'_>],
-    choices: &[List<Choice>],
-) -> Result<List<ExistsPart>, Memory>
-    requires whole { All (λ t. IsWholePath text.now t.test.path) tests.now }
-    requires choices { choices.now
-        ≡ map (λ t. pattern_alternatives catalog.now (path_pattern t.test.path)) tests.now }
-    ensures { IfOk result (λ parts. parts ≡ map (exists_part text.now catalog.now) tests.now) }
+    most: usize,
+) -> Result<List<ExistsPart>, BindRefusal>
+    requires { All (λ t. IsWholePath text.now t.test.path) tests.now }
+    ensures few { Checks (over_limit most (alternatives_in catalog.now (paths_of tests.now))
+        refusal.TooManyAlternatives) result }
+    ensures parts { IfOk result (λ parts. parts
+        ≡ map (steps.exists_part text.now catalog.now) tests.now) }
 {
+    let mut left = most;
     let mut parts = List::new(alloc);
-    for (test, choices) in tests.iter().zip(choices.iter()) {
-        let part = exists_part(alloc, text, catalog, test, choices.as_slice())?;
+    for test in tests {
+        let pattern = Pattern::of_path(alloc, test.test.path)?;
+        let Some(choices) = choices_of(alloc, catalog, &pattern, left)? else {
+            return Err(BindRefusal::TooManyAlternatives);
+        };
+        left -= choices.len();
+        let part = exists_part(alloc, text, catalog, test, &pattern, choices.as_slice())?;
         parts.push(part)?;
     }
     Ok(parts)
@@ -75,16 +89,16 @@ fn exists_part(
     text: &[u8],
     catalog: &Catalog,
     test: &SharedTest<'_>,
+    pattern: &Pattern<'_>,
     choices: &[Choice],
 ) -> Result<ExistsPart, Memory>
-    requires whole { IsWholePath text.now test.now.test.path }
-    requires choices { choices.now
-        ≡ pattern_alternatives catalog.now (path_pattern test.now.test.path) }
-    ensures { IfOk result (λ part. part ≡ exists_part text.now catalog.now test.now) }
+    requires entries { All (λ e. IsWholeEntry text.now e.entry) pattern.now.entries }
+    requires pattern { pattern.now ≡ path_pattern test.now.test.path }
+    requires choices { choices.now ≡ pattern_alternatives catalog.now pattern.now }
+    ensures { IfOk result (λ part. part ≡ steps.exists_part text.now catalog.now test.now) }
 {
-    let pattern = Pattern::of_path(alloc, test.test.path)?;
     let entries = entry_tests(alloc, text, pattern.entries())?;
-    let alternatives = all_typed(alloc, catalog, &pattern, entries.as_slice(), &[], choices)?;
+    let alternatives = all_typed(alloc, catalog, pattern, entries.as_slice(), &[], choices)?;
     Ok(ExistsPart {
         text: NamedExpr {
             name: copy_text(alloc, &test.name)?,
