@@ -377,6 +377,8 @@ IsSmallTest t =
 each_small : (ts : List SharedTest) (k l : ℕ) → k + nodes_in (paths_of ts) ≤ max_variables → l + rels_in (paths_of ts) ≤ max_variables → first_of_all (map reads_alone ts) ≡ None → AllByRecursion IsSmallTest ts
 each_small [] k l h j e = tt
 each_small (t ∷ ts) k l h j e =
+    let nodes : k + (suc (length t.test.path.hops) + nodes_in (paths_of ts)) ≤ max_variables = h in
+    let rels : l + (length t.test.path.hops + rels_in (paths_of ts)) ≤ max_variables = j in
     let read = first_none (reads_alone t) (map reads_alone ts) e in (
       (omega arith, (omega arith, within_limit max_reads (length (distinct (map entry_read (path_pattern t.test.path).entries))) refusal.TooManyReads read.0)),
       each_small ts (k + suc (length t.test.path.hops)) (l + length t.test.path.hops) (omega arith) (omega arith) read.1,
