@@ -1,16 +1,15 @@
 -- The pattern of a path by itself has a shape: its first node variables, which are the names of the path's nodes, stand in the path.
 use Rattle.std.proofs.Common.{◌≡◌, ℕ, zero, suc, ◌+◌, ◌<◌, ◌≤◌, Bool, true, false, ◌||◌, cond, nat_eq, Option, Some, None, List, [], ◌∷◌, ◌++◌, map, flat_map, length, refl, unwrap_or, sym, ap, ◌∙◌, subst, arith, append-nil, true≢false, inl, inr, eqb-true}
-use Rattle.std.specs.Prelude.{is_some, if◌then◌else◌}
+use Rattle.std.specs.Prelude.{is_some}
 use Rattle.std.specs.List.{AllByRecursion, list_any, range_with_len}
 use Rattle.std.specs.Cmp.Lexicographic.{pointwise}
 use Rattle.std.proofs.lemmas.Bool.{and_from, cases_lt, eq-eqb, or_left, or_right}
 use Rattle.std.proofs.lemmas.List.{length-map, length_push}
 use Rattle.gq_plan.specs.Soundness.{has_number}
-use Rattle.gq_plan.specs.declared.PathPart.{PathPart}
 use Rattle.gq_plan.proofs.DifferentReads.{IsUnique, among_fewer}
 use Rattle.gq_scopes.proofs.NamingLemmas.{listed, where_none_passes, where_one_passes}
 use Rattle.gq_scopes.specs.PathPatterns.{named_first, path_pattern, with_name, with_names}
-use Rattle.gq_scopes.specs.Patterns.{Name, Pattern, find_name, is_called, known_as, no_pattern, node_again, node_new, variable_of, with_hops, with_node, with_path, with_rel}
+use Rattle.gq_scopes.specs.Patterns.{Name, Pattern, find_name, is_called, known_as, no_pattern, variable_of, with_hops, with_node, with_path, with_rel}
 use Rattle.gq_syntax.specs.declared.Hop.{Hop}
 use Rattle.gq_syntax.specs.declared.NodePart.{NodePart}
 use Rattle.gq_syntax.specs.declared.Path.{Path}

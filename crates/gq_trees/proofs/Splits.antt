@@ -1,7 +1,6 @@
 -- The equation of the conjuncts of a condition, with a tree opened by one level; a condition that is split stands for
 -- what the tree stands for, and is the test that the tree is.
 use Rattle.std.proofs.Common.{◌≡◌, ◌∙◌, ℕ, suc, ◌+◌, ◌<◌, length, drop, get_or, drop-cons, add-one, sym, ap, ap₂, refl, subst, List, [], ◌∷◌, ◌++◌, map, filter, flat_map, append-nil, append_assoc, Option, Some, None}
-use Rattle.std.specs.Prelude.{filter_map}
 use Rattle.std.specs.Option.{option_map}
 use Rattle.std.proofs.lemmas.List.{map-append}
 use Rattle.std.proofs.lemmas.List.Elements.{filter-append, filter_map-append}

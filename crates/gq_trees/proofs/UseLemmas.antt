@@ -1,5 +1,5 @@
 -- The equation of `uses`, with a tree opened by one level, and what is found in several lists of names and calls.
-use Rattle.std.proofs.Common.{◌≡◌, ◌∙◌, ap, refl, Bool, ◌||◌, List, [], ◌∷◌, ◌++◌, Option, None}
+use Rattle.std.proofs.Common.{◌≡◌, ◌∙◌, ap, refl, Bool, ◌||◌, List, [], ◌∷◌, ◌++◌, Option}
 use Rattle.gq_base.proofs.OptionLaws.{or_assoc}
 use Rattle.std.specs.List.{list_any}
 use Rattle.std.specs.Option.{option_or}

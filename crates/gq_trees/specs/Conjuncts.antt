@@ -3,7 +3,7 @@ use Rattle.std.specs.Prelude.{ℕ, Bool, not, is_some, List, Option, map, filter
 use Rattle.std.specs.Option.{option_map}
 use Rattle.gq_plan.specs.declared.NamedExpr.{NamedExpr}
 use Rattle.gq_trees.specs.PathTests.{PathTest}
-use Rattle.gq_trees.specs.Resolving.{Conjunct, all_some}
+use Rattle.gq_trees.specs.Resolving.{Conjunct}
 use Rattle.gq_lexer.specs.Sources.{source_text}
 
 abbrev pub conjunct_expr : List ℕ → Conjunct → Option NamedExpr

@@ -1,5 +1,5 @@
 -- The conjuncts of conditions as they are listed, one condition after another.
-use Rattle.std.specs.Prelude.{ℕ, List, ◌++◌, Option, map, flat_map}
+use Rattle.std.specs.Prelude.{ℕ, List, ◌++◌, Option, flat_map}
 use Rattle.std.specs.Option.{option_map}
 use Rattle.gq_plan.specs.declared.NamedExpr.{NamedExpr}
 use Rattle.gq_syntax.specs.declared.Ast.{Ast, out-Ast}
