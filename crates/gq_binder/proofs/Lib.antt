@@ -5,6 +5,7 @@ pub mod MetLemmas
 pub mod NameLemmas
 pub mod OneBound
 pub mod PartLemmas
+pub mod PathCounts
 pub mod Patterns
 pub mod ReadingLemmas
 pub mod RefusalLemmas

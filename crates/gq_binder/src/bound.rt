@@ -66,7 +66,7 @@ fn bound_of(
     parts: QueryParts<'_>,
     all: Alternatives,
 ) -> Result<Bound, Memory>
-    requires { all.patterns ≡ map (exists_part text.now catalog.now) parts.entry.patterns }
+    requires { all.patterns ≡ map (exists_part text.now catalog.now) parts.patterns }
     ensures { IfOk result (λ b.
         b ≡ bound_in text.now catalog.now query.now parts.entry all.choices) }
 {

@@ -13,7 +13,7 @@ use Rattle.gq_scopes.specs.Scopes.{Scope, is_there}
 use Rattle.gq_syntax.proofs.SpanLemmas.{and_whole, exists_whole, not_whole, paren_whole}
 use Rattle.gq_syntax.specs.Spans.{IsWholeTree}
 use Rattle.gq_syntax.specs.steps.Spans.{IsWholePath}
-use Rattle.gq_syntax.specs.declared.Ast.{Ast, Ast-F, roll-Ast, fold-roll-Ast}
+use Rattle.gq_syntax.specs.declared.Ast.{Ast, Ast-F, out-Ast, roll-Ast, out-roll-Ast, fold-roll-Ast}
 use Rattle.gq_syntax.specs.declared.expression.Ast.TheShapes.{former-Ast-node as parts}
 use Rattle.gq_syntax.specs.declared.AstNode.{AstNode}
 use Rattle.gq_syntax.specs.declared.AstNode.TheVariants as ast
@@ -25,12 +25,15 @@ use Rattle.gq_trees.specs.Uses.{Use, all_uses, conflict_in, conflict_in_hops, ex
 
 -- ---- where they stand
 
+at : (x : Ast-F Ast) → {n : AstNode Ast} → x.node ≡ n → (out-Ast (roll-Ast x)).node ≡ n
+at x is = ap (λ a. a.node) (out-roll-Ast x) ∙ is
+
 pub whole_paths : (text : List ℕ) → GoesDown (IsWholeTree text) (IsWholePath text)
 whole_paths text = record {
-  ands = λ x ts is h. recursion_from_All (IsWholeTree text) ts (and_whole text (roll-Ast x) ts is h);
-  parens = λ x t is h. paren_whole text (roll-Ast x) t is h;
-  nots = λ x t is h. not_whole text (roll-Ast x) t is h;
-  tests = λ x path is h. exists_whole text (roll-Ast x) path is h;
+  ands = λ x ts is h. recursion_from_All (IsWholeTree text) ts (and_whole text (roll-Ast x) ts (at x is) h);
+  parens = λ x t is h. paren_whole text (roll-Ast x) t (at x is) h;
+  nots = λ x t is h. not_whole text (roll-Ast x) t (at x is) h;
+  tests = λ x path is h. exists_whole text (roll-Ast x) path (at x is) h;
 }
 
 -- ---- what checks say of them
