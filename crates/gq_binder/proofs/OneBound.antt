@@ -34,13 +34,13 @@ same_part text catalog t a b x y =
     (record { text = b.text; wanted = b.wanted; nodes = b.nodes; alternatives = b.alternatives }) = cc (called, wanted, nodes, alternatives) in
     e
 
-same_parts : (text : List ℕ) (catalog : Tables) (ts : List ScopedTest) (as bs : List ExistsPart) → AllZip (IsTested text catalog) ts as → AllZip (IsTested text catalog) ts bs → as ≡ bs
+same_parts : (text : List ℕ) (catalog : Tables) (ts : List ScopedTest) (xs ys : List ExistsPart) → AllZip (IsTested text catalog) ts xs → AllZip (IsTested text catalog) ts ys → xs ≡ ys
 same_parts text catalog [] [] [] x y = refl
-same_parts text catalog [] [] (b ∷ bs) x y = absurd y
-same_parts text catalog [] (a ∷ as) bs x y = absurd x
-same_parts text catalog (t ∷ ts) [] bs x y = absurd x
-same_parts text catalog (t ∷ ts) (a ∷ as) [] x y = absurd y
-same_parts text catalog (t ∷ ts) (a ∷ as) (b ∷ bs) x y = ap₂ ◌∷◌ (same_part text catalog t a b x.0 y.0) (same_parts text catalog ts as bs x.1 y.1)
+same_parts text catalog [] [] (b ∷ ys) x y = absurd y
+same_parts text catalog [] (a ∷ xs) ys x y = absurd x
+same_parts text catalog (t ∷ ts) [] ys x y = absurd x
+same_parts text catalog (t ∷ ts) (a ∷ xs) [] x y = absurd y
+same_parts text catalog (t ∷ ts) (a ∷ xs) (b ∷ ys) x y = ap₂ ◌∷◌ (same_part text catalog t a b x.0 y.0) (same_parts text catalog ts xs ys x.1 y.1)
 
 pub same_bound : (query : Query) (text : List ℕ) (catalog : Tables) (b c : Bound) → IsBound query text catalog b → IsBound query text catalog c → b ≡ c
 same_bound query text catalog b c x y =

@@ -1,6 +1,6 @@
 -- The tests of paths of an accepted query: they stand in its text, their paths name node variables that they see, and the parts that
 -- they give are theirs.
-use Rattle.std.proofs.Common.{◌≡◌, ◌∙◌, ℕ, suc, List, [], ◌∷◌, ◌++◌, map, flat_map, Option, Some, None, All, IfSome, refl, sym, ap, ap₂, subst}
+use Rattle.std.proofs.Common.{◌≡◌, ◌∙◌, ℕ, suc, true, List, [], ◌∷◌, ◌++◌, map, flat_map, Option, Some, None, All, IfSome, refl, sym, ap, ap₂, subst}
 use Rattle.std.specs.Prelude.{filter_map}
 use Rattle.std.specs.List.{AllByRecursion, AllZip, cons_option}
 use Rattle.std.specs.Option.{option_map, option_or}
@@ -125,7 +125,7 @@ tests_known text query h = tests_all AreKnown text (conditions query) (each_know
 abbrev IsPartOf : List ℕ → Tables → ScopedTest → Type 0
 IsPartOf text catalog t = IsTested text catalog t (exists_part text catalog (shared_test t))
 
-zip_parts : (text : List ℕ) (catalog : Tables) (ts : List ScopedTest) → AllByRecursion (λ t. AreKnown t.names t.test.path) ts
+pub zip_parts : (text : List ℕ) (catalog : Tables) (ts : List ScopedTest) → AllByRecursion (λ t. AreKnown t.names t.test.path) ts
     → AllByRecursion (λ t. All (IsSound catalog) (exists_part text catalog t).alternatives) (map shared_test ts)
     → AllZip (IsTested text catalog) ts (map (exists_part text catalog) (map shared_test ts))
 zip_parts text catalog [] named sound = tt

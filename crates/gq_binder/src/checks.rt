@@ -231,7 +231,7 @@ fn add_path_reads<'e>(
     let mut nodes = number(pattern.names().len())?;
     let mut rels = number(pattern.rels().len())?;
     for test in tests {
-        let path = Pattern::of_path(alloc, test.test.path)?;
+        let path = test.pattern(alloc)?;
         let shared = test.nodes.as_slice();
         add_entries(reads, shared, nodes, rels, path.entries())?;
         nodes = plus(nodes, path.names().len())?;
@@ -297,7 +297,7 @@ fn many_reads_alone(alloc: Global, tests: &[SharedTest<'_>]) -> Result<(), BindR
 fn reads_alone(alloc: Global, test: &SharedTest<'_>) -> Result<(), BindRefusal>
     ensures { Checks (refusals.reads_alone test.now) result }
 {
-    let path = Pattern::of_path(alloc, test.test.path)?;
+    let path = test.pattern(alloc)?;
     let mut reads = PropertyReads::new(alloc);
     for entry in path.entries() {
         reads.add(entry.variable, &entry.entry.key)?;

@@ -37,6 +37,15 @@ impl<'q> Model for SharedTest<'q> {
     ghost view = { λ t. record { name = t.name; test = t.test; nodes = t.nodes } };
 }
 
+impl<'q> SharedTest<'q> {
+    /// The pattern of its path.
+    pub fn pattern(&self, alloc: Global) -> Result<Pattern<'q>, Memory>
+        ensures { IfOk result (λ p. p ≡ path_pattern self.now.test.path) }
+    {
+        Pattern::of_path(alloc, self.test.path)
+    }
+}
+
 /// Appends tests, with the variables that their paths share with a scope.
 pub fn push_tests<'q>(
     alloc: Global,
@@ -73,7 +82,7 @@ pub fn exists_parts(
     let mut left = most;
     let mut parts = List::new(alloc);
     for test in tests {
-        let pattern = Pattern::of_path(alloc, test.test.path)?;
+        let pattern = test.pattern(alloc)?;
         let Some(choices) = choices_of(alloc, catalog, &pattern, left)? else {
             return Err(BindRefusal::TooManyAlternatives);
         };
