@@ -201,7 +201,7 @@ fn has_many_rels(own: usize, tests: &[SharedTest<'_>]) -> bool
 }
 
 /// There are too many different pairs of a variable and a property.
-#[tactic(auto, using(crate::proofs::ReadingLemmas::counted))]
+#[tactic(auto, using(crate::proofs::ReadingLemmas::counted_more))]
 fn too_many_reads(alloc: Global, parts: &QueryParts<'_>) -> Result<(), BindRefusal>
     ensures { Checks (refusals.too_many_reads
         (reads_in parts.now.tests ++ reads_in parts.now.conjuncts) parts.now.pattern
@@ -294,6 +294,7 @@ fn many_reads_alone(alloc: Global, tests: &[SharedTest<'_>]) -> Result<(), BindR
     Ok(())
 }
 
+#[tactic(auto, using(crate::proofs::ReadingLemmas::counted_alone))]
 fn reads_alone(alloc: Global, test: &SharedTest<'_>) -> Result<(), BindRefusal>
     ensures { Checks (refusals.reads_alone test.now) result }
 {

@@ -1,6 +1,7 @@
-use Rattle.std.proofs.Common.{◌≡◌, ◌∙◌, ◌++◌, ◌∷◌, [], All, map, sym, ap, subst}
+use Rattle.std.proofs.Common.{◌∙◌, ◌+◌, ◌-◌, All, drop, sym, ap, subst}
 use Rattle.gq_binder.proofs.PathCounts.{few_next, few_over, parts_next}
 use Rattle.gq_binder.proofs.Patterns.{IsWholeMap, path_entries_whole}
+use Rattle.gq_binder.specs.Refusals.{alternatives_in, over_limit, paths_of}
 use Rattle.gq_binder.specs.Tested.{SharedTest}
 use Rattle.gq_binder.specs.declared.refusal.BindRefusal.TheVariants as refusal
 use Rattle.gq_binder.specs.steps.Parts.{exists_part}
@@ -20,7 +21,8 @@ exists_part-requires-clause-entries c =
 
 pub loop-test-preserved : goal.loop-test-preserved
 loop-test-preserved c = record {
-  few = few_next c.args.catalog.now refusal.TooManyAlternatives c.args.tests.now c.loop-test.test-index c.test-item.result c.loop-test-test.true c.test-item.is c.in_ok-pattern.pattern c.in_ok-pattern.ensures
+  few = ap (λ n. over_limit (c.loop-test.left - n) (alternatives_in c.args.catalog.now (paths_of (drop (c.loop-test.test-index + 1) c.args.tests.now))) refusal.TooManyAlternatives) c.len-left.ensures
+      ∙ few_next c.args.catalog.now refusal.TooManyAlternatives c.args.tests.now c.loop-test.test-index c.test-item.result c.loop-test-test.true c.test-item.is c.in_ok-pattern.pattern c.in_ok-pattern.ensures
       c.loop-test.left c.in-Some.choices _ (sym c.in-Some.is ∙ c.in_ok-choices.ensures) c.loop-test.invariant.few;
-  parts = c.in_ok-push.ensures ∙ parts_next (exists_part c.args.text.now c.args.catalog.now) c.args.tests.now c.loop-test.test-index c.test-item.result c.loop-test-test.true c.test-item.is _ _ c.loop-test.invariant.parts c.in_ok-part.ensures;
+  parts = c.in_ok-push.ensures.pushed ∙ parts_next (exists_part c.args.text.now c.args.catalog.now) c.args.tests.now c.loop-test.test-index c.test-item.result c.loop-test-test.true c.test-item.is _ _ c.loop-test.invariant.parts c.in_ok-part.ensures;
 }
