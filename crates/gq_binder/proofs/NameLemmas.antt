@@ -8,7 +8,7 @@ use Rattle.gq_binder.specs.steps.Names.{FirstNames, no_names, with_expression, w
 use Rattle.gq_binder.specs.Refusals.{exists_in, first_in, sorts_in}
 use Rattle.gq_scopes.specs.Patterns.{Name}
 use Rattle.gq_scopes.specs.Scopes.{Scope}
-use Rattle.gq_trees.specs.Uses.{Use, uses, has_exists, first_name, unknown_name, unknown_function, wrong_count}
+use Rattle.gq_trees.specs.Uses.{Use, uses, has_exists, first_name, named_again, of_other_form, unknown_name, unknown_function, wrong_count}
 
 pub first_in_append : (check : Scope → Use → Option Name) (xs ys : List Scoped) → first_in check (xs ++ ys) ≡ option_or (first_in check xs) (first_in check ys)
 first_in_append check [] ys = refl
@@ -32,6 +32,12 @@ module _ (of : FirstNames → Option Name) (check : Scope → Use → Option Nam
 
 pub first_variable : (es : List Scoped) → (with_expressions no_names es).variable ≡ first_in unknown_name es
 first_variable es = found (λ names. names.variable) unknown_name (λ names e. refl) no_names es
+
+pub first_other_form : (es : List Scoped) → (with_expressions no_names es).other_form ≡ first_in of_other_form es
+first_other_form es = found (λ names. names.other_form) of_other_form (λ names e. refl) no_names es
+
+pub first_again : (es : List Scoped) → (with_expressions no_names es).again ≡ first_in named_again es
+first_again es = found (λ names. names.again) named_again (λ names e. refl) no_names es
 
 pub first_function : (es : List Scoped) → (with_expressions no_names es).function ≡ first_in (λ _. unknown_function) es
 first_function es = found (λ names. names.function) (λ _. unknown_function) (λ names e. refl) no_names es

@@ -16,12 +16,15 @@ use gq_trees::{Check, first_refused, has_exists};
 use std::alloc::Global;
 use std::marker::Model;
 
-/// Of the expressions that were read, the first name that its scope does not have, the first call
-/// that names no function, the first call with a wrong number of arguments, and whether one has an
+/// Of the expressions that were read, the first name that its scope does not have, the first names
+/// in paths that it has as a variable of the other form and as a relationship that a path would have
+/// again, the first call that names no function, the first call with a wrong number of arguments, and whether one has an
 /// EXISTS.
 #[derive(Drop)]
 pub struct FirstNames<'q> {
     variable: Option<&'q Text>,
+    other_form: Option<&'q Text>,
+    again: Option<&'q Text>,
     function: Option<&'q Text>,
     arguments: Option<&'q Text>,
     exists: bool,
@@ -35,6 +38,8 @@ impl<'q> Model for FirstNames<'q> {
 
     ghost view = { λ n. record {
       variable = option_copied n.variable;
+      other_form = option_copied n.other_form;
+      again = option_copied n.again;
       function = option_copied n.function;
       arguments = option_copied n.arguments;
       exists = n.exists;
@@ -48,6 +53,8 @@ impl<'q> FirstNames<'q> {
     {
         FirstNames {
             variable: None,
+            other_form: None,
+            again: None,
             function: None,
             arguments: None,
             exists: false,
@@ -60,6 +67,8 @@ impl<'q> FirstNames<'q> {
             ≡ with_expression self.old (record { scope = scope.now; tree = tree.now }) }
     {
         self.variable = or_first(self.variable, Check::UnknownName, scope, tree);
+        self.other_form = or_first(self.other_form, Check::OtherForm, scope, tree);
+        self.again = or_first(self.again, Check::NamedAgain, scope, tree);
         self.function = or_first(self.function, Check::UnknownFunction, scope, tree);
         self.arguments = or_first(self.arguments, Check::WrongCount, scope, tree);
         self.exists = self.exists || has_exists(tree);
@@ -99,6 +108,28 @@ impl<'q> FirstNames<'q> {
         };
         let name = copy_text(alloc, name)?;
         Err(BindRefusal::UnknownVariable { name })
+    }
+
+    /// A path names a variable that its scope has in the other form.
+    pub fn path_conflict(&self, alloc: Global) -> Result<(), BindRefusal>
+        ensures { Checks (option_map refusal.VariableConflict self.now.other_form) result }
+    {
+        let Some(name) = self.other_form else {
+            return Ok(());
+        };
+        let name = copy_text(alloc, name)?;
+        Err(BindRefusal::VariableConflict { name })
+    }
+
+    /// A path would have a relationship variable of its scope again.
+    pub fn path_repeated(&self, alloc: Global) -> Result<(), BindRefusal>
+        ensures { Checks (option_map refusal.RelationshipRepeated self.now.again) result }
+    {
+        let Some(name) = self.again else {
+            return Ok(());
+        };
+        let name = copy_text(alloc, name)?;
+        Err(BindRefusal::RelationshipRepeated { name })
     }
 
     /// A call names no function.
