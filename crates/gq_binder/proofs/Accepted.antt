@@ -16,7 +16,7 @@ use Rattle.gq_trees.specs.Conjuncts.{conjunct_expr, is_value, values_of}
 use Rattle.gq_scopes.specs.Patterns.{Name, Pattern, find_name, no_pattern, pattern_of, with_paths}
 use Rattle.gq_trees.specs.Resolving.{Conjunct, Split, functions, resolved, resolve_step, split, split_node, split_step, all_some}
 use Rattle.gq_scopes.specs.Scopes.{Scope, is_there, scope_of}
-use Rattle.gq_trees.specs.Uses.{Use, is_exists, has_exists, uses, first_name, refused_unless, of_other_form, unknown_name, unknown_function, wrong_count}
+use Rattle.gq_trees.specs.Uses.{Use, uses, first_name, of_other_form, unknown_name, unknown_function, wrong_count}
 use Rattle.gq_scopes.specs.declared.Column.{Column}
 use Rattle.gq_syntax.specs.declared.AstNode.{AstNode}
 use Rattle.gq_syntax.specs.declared.AstNode.TheVariants as ast
@@ -34,7 +34,7 @@ use Rattle.gq_binder.specs.Tested.{shared_test, tests}
 use Rattle.gq_binder.specs.steps.Parts.{known_conjuncts, known_tests}
 use Rattle.gq_plan.specs.declared.NamedExpr.{NamedExpr}
 use Rattle.gq_scopes.specs.PathPatterns.{shared_names}
-use Rattle.gq_binder.specs.Refusals.{exists_in, first_in, items_in, sorts_in}
+use Rattle.gq_binder.specs.Refusals.{first_in, items_in, sorts_in}
 
 -- ---- what the checks say of each expression
 

@@ -8,7 +8,7 @@ use Rattle.gq_base.specs.Catalogs.{Tables}
 use Rattle.gq_base.specs.Lists.{is_empty}
 use Rattle.gq_binder.proofs.Accepted.{IsNamed, known_expressions, columns_there, keys_there, conjuncts_there, tests_named, tests_there}
 use Rattle.gq_binder.proofs.TestLemmas.{tests_whole, zip_parts}
-use Rattle.gq_binder.proofs.NameLemmas.{first_again, first_other_form, first_variable, first_function, first_arguments, first_exists, sorts_same}
+use Rattle.gq_binder.proofs.NameLemmas.{first_again, first_other_form, first_variable, first_function, first_arguments, sorts_same}
 use Rattle.gq_binder.proofs.Patterns.{node_names_there}
 use Rattle.gq_binder.proofs.RefusalLemmas.{first_then, first_append, same_behind}
 use Rattle.gq_binder.proofs.SoundAlternatives.{each_none, is_bound, reads_listed, tests_sound}
@@ -18,7 +18,7 @@ use Rattle.gq_binder.specs.Columns.{conditions, columns, entry_test, sort_scope}
 use Rattle.gq_binder.specs.steps.Names.{FirstNames, no_names, with_expressions}
 use Rattle.gq_binder.specs.Tested.{IsTested, SharedTest, shared_test, tests}
 use Rattle.gq_binder.specs.steps.Parts.{exists_part, known_conjuncts, known_tests, parts_of, ambiguous_in, reads_in, checks_in, bound_in}
-use Rattle.gq_binder.specs.Refusals.{first_of_all, exists_in, has_trail, not_built, unknown_variable, variable_conflict, relationship_repeated, column_repeated, nothing_to_return, order_out_of_scope, ambiguous_order_name, function_unknown, argument_count, over_limit, max_columns, max_alternatives, alternatives_in, path_conflict, path_repeated, paths_of, too_many_patterns, too_many_reads, all_reads, first_refusal, checks_of, too_many_alternatives, expressions, first_in}
+use Rattle.gq_binder.specs.Refusals.{first_of_all, not_built, unknown_variable, variable_conflict, relationship_repeated, column_repeated, nothing_to_return, order_out_of_scope, ambiguous_order_name, function_unknown, argument_count, over_limit, max_columns, max_alternatives, alternatives_in, path_conflict, path_repeated, paths_of, too_many_patterns, too_many_reads, all_reads, first_refusal, checks_of, too_many_alternatives, exists_place, expressions, first_in}
 use Rattle.gq_binder.specs.declared.parts.QueryParts.{QueryParts}
 use Rattle.gq_binder.specs.declared.refusal.BindRefusal.{BindRefusal}
 use Rattle.gq_binder.specs.declared.refusal.BindRefusal.TheVariants as refusal
@@ -54,7 +54,7 @@ module _ (query : Query) (text : List ℕ) where
   -- the checks before those of numbers
   abbrev early : List (Option BindRefusal)
   early =
-      not_built query p names.exists
+      not_built query p
       ∷ option_map refusal.UnknownVariable names.variable
       ∷ variable_conflict p
       ∷ option_map refusal.VariableConflict names.other_form
@@ -96,8 +96,6 @@ module _ (query : Query) (text : List ℕ) where
 
   same_checks : first_of_all (early ++ numbers (all_reads query) all_tests) ≡ first_of_all (checks_of query text)
   same_checks =
-      let built : not_built query p names.exists ≡ not_built query p (exists_in (expressions text query)) =
-      ap (not_built query p) (first_exists (known_expressions query text) ∙ ap exists_in same_expressions) in
       let unknown : option_map refusal.UnknownVariable names.variable ≡ unknown_variable text query =
       ap (option_map refusal.UnknownVariable) (first_variable (known_expressions query text) ∙ ap (first_in unknown_name) same_expressions) in
       let form : option_map refusal.VariableConflict names.other_form ≡ path_conflict text query =
@@ -112,7 +110,7 @@ module _ (query : Query) (text : List ℕ) where
       ap (option_map refusal.ArgumentCount) (first_arguments (known_expressions query text) ∙ ap (first_in (λ _. wrong_count)) same_expressions) in
       λ i.
       first_of_all
-      (built i
+      (not_built query p
       ∷ unknown i
       ∷ variable_conflict p
       ∷ form i
@@ -148,14 +146,18 @@ module _ (query : Query) (text : List ℕ) where
   tests_are = refl
 
   module _ (catalog : Tables) where
+    abbrev place : Option BindRefusal
+    place = exists_place query
+
     abbrev last : Option BindRefusal
-    last = too_many_alternatives text query catalog
+    last = option_or (too_many_alternatives text query catalog) place
 
     refusal_is : first_refusal query text catalog ≡ option_or found last
     unfolding first_refusal
     refusal_is =
-        first_append (checks_of query text) (last ∷ [])
-        ∙ ap (option_or (first_of_all (checks_of query text))) (first_then last [] ∙ or_none last)
+        first_append (checks_of query text) (too_many_alternatives text query catalog ∷ place ∷ [])
+        ∙ ap (option_or (first_of_all (checks_of query text)))
+        (first_then (too_many_alternatives text query catalog) (place ∷ []) ∙ ap (option_or (too_many_alternatives text query catalog)) (first_then place [] ∙ or_none place))
         ∙ ap (λ o. option_or o last) (sym checked)
 
     answered : (e : BindRefusal) → (IsOfQuery e → first_refusal query text catalog ≡ Some e) → Answers query text catalog (Err e)
@@ -181,12 +183,20 @@ module _ (query : Query) (text : List ℕ) where
       tests_so : parts.patterns ≡ map shared_test (tests text query)
       tests_so = ap (λ (ps : QueryParts). ps.patterns) is ∙ tests_are ∙ tests_there query text (named_parts passes)
 
-      rest : first_refusal query text catalog ≡ many parts.pattern parts.patterns
-      rest = refusal_is ∙ ap (λ o. option_or o last) passes ∙ sym (ap₂ many pattern_so tests_so)
+      rest : first_refusal query text catalog ≡ option_or (many parts.pattern parts.patterns) place
+      rest = refusal_is ∙ ap (λ o. option_or o last) passes ∙ sym (ap (λ o. option_or o place) (ap₂ many pattern_so tests_so))
 
-      -- the last check refuses it
-      pub refused_last : (e : BindRefusal) → (IsOfQuery e → many parts.pattern parts.patterns ≡ Some e) → Answers query text catalog (Err e)
-      refused_last e h = answered e (λ q. rest ∙ h q)
+      -- the number of alternatives refuses it
+      pub refused_many : (e : BindRefusal) → (IsOfQuery e → many parts.pattern parts.patterns ≡ Some e) → Answers query text catalog (Err e)
+      refused_many e h = answered e (λ q. rest ∙ ap (λ o. option_or o place) (h q))
+
+      module _ (few : many parts.pattern parts.patterns ≡ None) where
+        last_rest : first_refusal query text catalog ≡ place
+        last_rest = rest ∙ ap (λ o. option_or o place) few
+
+        -- the last check refuses it
+        pub refused_last : (e : BindRefusal) → (IsOfQuery e → place ≡ Some e) → Answers query text catalog (Err e)
+        refused_last e h = answered e (λ q. last_rest ∙ h q)
 
       bound_by_parts : StandsIn text query → first_refusal query text catalog ≡ None → IsNamed query text → IsBound query text catalog (bound_in text catalog query (parts_of text query) (alternatives query catalog))
       unfolding parts_of
@@ -208,11 +218,11 @@ module _ (query : Query) (text : List ℕ) where
           (node_names_there text query stands)
 
       -- no check refuses it
-      pub accepted : (choices : List Choice) → StandsIn text query → many parts.pattern parts.patterns ≡ None → choices ≡ pattern_alternatives catalog parts.pattern → IsBound query text catalog (bound_in text catalog query parts choices)
-      accepted choices stands few all =
+      pub accepted : (choices : List Choice) → StandsIn text query → many parts.pattern parts.patterns ≡ None → place ≡ None → choices ≡ pattern_alternatives catalog parts.pattern → IsBound query text catalog (bound_in text catalog query parts choices)
+      accepted choices stands few placed all =
           subst (λ ps. IsBound query text catalog (bound_in text catalog query ps choices)) (sym is)
           (subst (λ cs. IsBound query text catalog (bound_in text catalog query (parts_of text query) cs)) (sym (all ∙ ap (pattern_alternatives catalog) pattern_so))
-          (bound_by_parts stands (rest ∙ few) (named_parts passes)))
+          (bound_by_parts stands (last_rest few ∙ placed) (named_parts passes)))
 
     -- a refusal that is no want of memory
     pub refused_so : (e : BindRefusal) → (e ≡ refusal.Memory → ⊥) → Answers query text catalog (Err e) → Some e ≡ first_refusal query text catalog

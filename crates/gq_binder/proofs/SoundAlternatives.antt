@@ -52,7 +52,7 @@ use Rattle.gq_binder.proofs.Patterns.{names_counted}
 use Rattle.gq_binder.specs.Binding.{IsBound}
 use Rattle.gq_binder.specs.Columns.{Scoped, scoped_in, conditions_from, conditions, conjuncts, property_of, entry_expr, entry_test, Resolves, HasAlternatives}
 use Rattle.gq_binder.specs.steps.Parts.{exists_part, reads_in}
-use Rattle.gq_binder.specs.Refusals.{first_of_all, over_limit, all_reads, known_reads, first_refusal, checks_of, nodes_in, path_reads, paths_of, reads_alone, rels_in, too_many_alternatives}
+use Rattle.gq_binder.specs.Refusals.{first_of_all, over_limit, all_reads, known_reads, first_refusal, checks_of, nodes_in, path_reads, paths_of, reads_alone, rels_in, too_many_alternatives, exists_place}
 use Rattle.gq_binder.specs.Tested.{IsTested, SharedTest, shared_test, tests}
 use Rattle.gq_binder.specs.declared.refusal.BindRefusal.{BindRefusal}
 use Rattle.gq_binder.specs.declared.refusal.BindRefusal.TheVariants as refusal
@@ -93,7 +93,7 @@ accepted_small query text catalog accepted =
     let nodes : ℕ = length p.nodes + nodes_in (paths_of ts) in
     let rels : ℕ = length p.rels + rels_in (paths_of ts) in
     let all : ℕ = length (distinct (all_reads query ++ path_reads (length p.names) (length p.rels) ts)) in
-    let checks = each_none (checks_of query text ++ too_many_alternatives text query catalog ∷ []) accepted in
+    let checks = each_none (checks_of query text ++ too_many_alternatives text query catalog ∷ exists_place query ∷ []) accepted in
     let patterns =
     each_none (over_limit max_variables nodes refusal.TooManyPatterns ∷ over_limit max_variables rels refusal.TooManyPatterns ∷ []) checks.1.1.1.1.1.1.1.1.1.1.1.1.0 in
     let read = first_none (over_limit max_reads all refusal.TooManyReads) (map reads_alone ts) checks.1.1.1.1.1.1.1.1.1.1.1.1.1.0 in

@@ -32,7 +32,7 @@ abbrev star : List Clause → Query
 star clauses = record { clauses = clauses; optionals = []; star = true; items = []; distinct = false; order = []; skip = None; limit = None }
 
 abbrev built : Query → Option BindRefusal
-built query = not_built query (pattern_of query.clauses) false
+built query = not_built query (pattern_of query.clauses)
 
 -- ()-[]->() alone, ()-[:KNOWS*2]->(), and () with OPTIONAL MATCH (b) behind it
 all_built : built (star (one_path unnamed (hop (rel None) unnamed ∷ []))) ≡ None

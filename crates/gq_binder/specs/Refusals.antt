@@ -1,4 +1,4 @@
--- Why a query cannot be bound: it has a form that is not built yet, or else the first of thirteen checks that applies,
+-- Why a query cannot be bound: it has a form that is not built yet, or else the first of fourteen checks that applies,
 -- with its first place in the text: in its patterns, and then in the paths of its expressions (this project's profile).
 use Rattle.std.specs.Prelude.{ℕ, suc, nat_eq, nat_lt, Bool, true, false, not, is_some, ◌+◌, slice_get, unwrap_or, ◌&&◌, ◌||◌, Option, Some, None, List, [], ◌∷◌, ◌++◌, map, filter, flat_map, length, if◌then◌else◌}
 use Rattle.gq_plan.specs.declared.variable.Variable.TheVariants.{Node as node, Rel as rel}
@@ -11,6 +11,7 @@ use Rattle.gq_base.specs.Lists.{is_empty}
 use Rattle.gq_expr.specs.declared.Expr.{Expr}
 use Rattle.gq_plan.specs.Reads.{Read, property, reads, properties, distinct}
 use Rattle.gq_plan.specs.Soundness.{max_variables, max_reads}
+use Rattle.gq_syntax.specs.declared.Ast.{Ast}
 use Rattle.gq_syntax.specs.declared.Item.{Item}
 use Rattle.gq_syntax.specs.declared.Query.{Query}
 use Rattle.gq_syntax.specs.declared.Sort.{Sort}
@@ -23,6 +24,7 @@ use Rattle.gq_scopes.specs.Patterns.{Name, NamedVariable, Pattern, pattern_of, i
 use Rattle.gq_binder.specs.Tested.{SharedTest, shared_test, tests}
 use Rattle.gq_scopes.specs.PathPatterns.{path_pattern}
 use Rattle.gq_syntax.specs.declared.Path.{Path}
+use Rattle.gq_trees.specs.Places.{has_stray}
 use Rattle.gq_trees.specs.Uses.{Use, uses, has_exists, first_name, named_again, of_other_form, refused_unless, unknown_name, unknown_function, wrong_count}
 use Rattle.gq_trees.specs.Resolving.{as_lists, functions, resolved}
 use Rattle.gq_binder.specs.declared.refusal.BindRefusal.{BindRefusal}
@@ -54,16 +56,12 @@ expressions text query = conditions query ++ (items_in (scope_of (pattern_of que
 abbrev pub has_trail : Pattern → Bool
 has_trail p = list_any (λ r. is_some r.part.trail) p.rels
 
-abbrev pub exists_in : List Scoped → Bool
-exists_in es = list_any (λ e. has_exists e.tree) es
+-- a query with these patterns has a form that is spelled and has no bound form yet: a clause behind OPTIONAL, or a trail
+abbrev pub has_form_to_come : Query → Pattern → Bool
+has_form_to_come query p = not (is_empty query.optionals) || has_trail p
 
--- a query with these patterns, and with an EXISTS or none, has a form that is spelled and has no bound form yet: a clause
--- behind OPTIONAL, a trail, or an EXISTS
-abbrev pub has_form_to_come : Query → Pattern → Bool → Bool
-has_form_to_come query p exists = not (is_empty query.optionals) || (has_trail p || exists)
-
-abbrev pub not_built : Query → Pattern → Bool → Option BindRefusal
-not_built query p exists = if has_form_to_come query p exists then Some refusal.NotBuilt else None
+abbrev pub not_built : Query → Pattern → Option BindRefusal
+not_built query p = if has_form_to_come query p then Some refusal.NotBuilt else None
 
 -- ---- names
 
@@ -222,7 +220,7 @@ checks_of query text =
     let p : Pattern = pattern_of query.clauses in
     let cs : List Column = columns functions text query in
     let ts : List SharedTest = map shared_test (tests text query) in
-    not_built query p (exists_in (expressions text query))
+    not_built query p
     ∷ unknown_variable text query
     ∷ variable_conflict p
     ∷ path_conflict text query
@@ -243,12 +241,27 @@ abbrev pub alternatives_in : Tables → List Path → ℕ
 alternatives_in catalog [] = 0
 alternatives_in catalog (p ∷ ps) = length (pattern_alternatives catalog (path_pattern p)) + alternatives_in catalog ps
 
--- how many alternatives there are is asked last
+-- how many alternatives there are
 abbrev pub too_many_alternatives : List ℕ → Query → Tables → Option BindRefusal
 too_many_alternatives text query catalog =
     over_limit max_alternatives (length (alternatives query catalog) + alternatives_in catalog (paths_of (map shared_test (tests text query)))) refusal.TooManyAlternatives
 
+-- ---- where an EXISTS stands
+
+abbrev pub stray_in : Option Ast → Bool
+stray_in None = false
+stray_in (Some tree) = has_stray tree
+
+-- it stands elsewhere than as a whole conjunct of a condition
+abbrev pub has_misplaced : Query → Bool
+has_misplaced query =
+    list_any (λ c. stray_in c.filter) query.clauses
+    || (list_any (λ i. has_exists i.tree) query.items || list_any (λ s. has_exists s.tree) query.order)
+
+abbrev pub exists_place : Query → Option BindRefusal
+exists_place query = if has_misplaced query then Some refusal.ExistsPlace else None
+
 -- the first check that applies
 unfoldable pub first_refusal : Query → List ℕ → Tables → Option BindRefusal
 first_refusal query text catalog =
-    first_of_all (checks_of query text ++ too_many_alternatives text query catalog ∷ [])
+    first_of_all (checks_of query text ++ too_many_alternatives text query catalog ∷ exists_place query ∷ [])

@@ -7,7 +7,7 @@ ghost use Rattle.gq_binder.specs.steps.Parts.{bound_in, exists_part};
 ghost use Rattle.gq_binder.specs.Refusals.{first_refusal};
 ghost use Rattle.gq_syntax.specs.Spans.{SpelledQuery};
 
-use crate::checks::{Alternatives, check, few_alternatives};
+use crate::checks::{Alternatives, check, exists_place, few_alternatives};
 use crate::columns::known_columns;
 use crate::parts::{QueryParts, parts_of};
 use crate::refusal::BindRefusal;
@@ -33,6 +33,7 @@ pub fn bind(
     let parts = parts_of(alloc, text, query)?;
     check(alloc, text, query, &parts)?;
     let all = few_alternatives(alloc, text, catalog, &parts)?;
+    exists_place(query)?;
     Ok(bound_of(alloc, text, catalog, query, parts, all)?)
 }
 

@@ -1,4 +1,4 @@
-//! The checks of a query in their order, and those of its forms, patterns, columns and numbers.
+//! The checks of a query in their order, and those of its forms, patterns, columns and numbers, and of the places of EXISTS.
 ghost use Rattle.std.specs.Prelude.{◌≡◌, ◌++◌, ◌+◌, [], All, IfOk, OnOk, is_some, length, map};
 ghost use Rattle.std.specs.Prelude.{nat_lt};
 ghost use Rattle.std.specs.Option.{option_map};
@@ -25,7 +25,8 @@ use gq_base::{Catalog, List, Memory};
 use gq_plan::{ExistsPart, NamedExpr, PropertyReads};
 use gq_scopes::{Column, MapEntry, NamedVariable, Names, Pattern, RelPattern, Variable};
 use gq_scopes::{copy_text, number};
-use gq_syntax::Query;
+use gq_syntax::{Ast, Query};
+use gq_trees::{has_exists, has_stray_exists};
 use std::alloc::Global;
 
 const MAX_VARIABLES: usize = 24;
@@ -36,7 +37,7 @@ const MAX_COLUMNS: usize = 64;
 
 const MAX_ALTERNATIVES: usize = 512;
 
-/// The checks of a query in their order, but for that of its alternatives.
+/// The checks of a query in their order, but for those of its alternatives and of the places of EXISTS.
 #[tactic(auto, using(crate::proofs::RefusalLemmas::firsts))]
 pub fn check(
     alloc: Global,
@@ -69,21 +70,20 @@ pub fn check(
 /// The query has a form that is not built yet.
 fn not_built(query: &Query, parts: &QueryParts<'_>) -> Result<(), BindRefusal>
     ensures { Checks
-        (refusals.not_built query.now parts.now.pattern parts.now.names.exists) result }
+        (refusals.not_built query.now parts.now.pattern) result }
 {
-    if has_form_to_come(query, parts) {
+    if has_form_to_come(query, &parts.pattern) {
         Err(BindRefusal::NotBuilt)
     } else {
         Ok(())
     }
 }
 
-// Whether a query has a clause behind OPTIONAL, a trail, or an EXISTS.
-fn has_form_to_come(query: &Query, parts: &QueryParts<'_>) -> bool
-    ensures { result
-        ≡ refusals.has_form_to_come query.now parts.now.pattern parts.now.names.exists }
+// Whether a query has a clause behind OPTIONAL, or a trail.
+fn has_form_to_come(query: &Query, pattern: &Pattern<'_>) -> bool
+    ensures { result ≡ refusals.has_form_to_come query.now pattern.now }
 {
-    !query.optionals.as_slice().is_empty() || has_trail(&parts.pattern) || parts.names.has_exists()
+    !query.optionals.as_slice().is_empty() || has_trail(pattern)
 }
 
 fn has_trail(pattern: &Pattern<'_>) -> bool
@@ -361,4 +361,33 @@ pub fn few_alternatives(
     let left = MAX_ALTERNATIVES - choices.len();
     let patterns = exists_parts(alloc, text, catalog, parts.patterns.as_slice(), left)?;
     Ok(Alternatives { choices, patterns })
+}
+
+/// An EXISTS stands elsewhere than as a whole conjunct of a condition.
+pub fn exists_place(query: &Query) -> Result<(), BindRefusal>
+    ensures { Checks (refusals.exists_place query.now) result }
+{
+    if has_misplaced(query) {
+        Err(BindRefusal::ExistsPlace)
+    } else {
+        Ok(())
+    }
+}
+
+fn has_misplaced(query: &Query) -> bool
+    ensures { result ≡ refusals.has_misplaced query.now }
+{
+    let (clauses, items) = (query.clauses.as_slice(), query.items.as_slice());
+    clauses.iter().any(|clause| is_stray_in(&clause.filter))
+        || items.iter().any(|item| has_exists(&item.tree))
+        || query.order.as_slice().iter().any(|sort| has_exists(&sort.tree))
+}
+
+fn is_stray_in(filter: &Option<Ast>) -> bool
+    ensures { result ≡ refusals.stray_in filter.now }
+{
+    match filter {
+        Some(tree) => has_stray_exists(tree),
+        None => false,
+    }
 }

@@ -1,4 +1,4 @@
-//! The first names and calls of a query's expressions that the checks of names refuse, and whether one has an EXISTS.
+//! The first names and calls of a query's expressions that the checks of names refuse.
 ghost use Rattle.std.specs.Prelude.{◌≡◌};
 ghost use Rattle.std.specs.Option.{option_copied, option_map, option_or};
 ghost use Rattle.gq_binder.specs.steps.Checks.{Checks};
@@ -12,14 +12,13 @@ use crate::refusal::BindRefusal;
 use gq_base::Text;
 use gq_scopes::{Scope, copy_text};
 use gq_syntax::{Ast, Item, Sort};
-use gq_trees::{Check, first_refused, has_exists};
+use gq_trees::{Check, first_refused};
 use std::alloc::Global;
 use std::marker::Model;
 
 /// Of the expressions that were read, the first name that its scope does not have, the first names
 /// in paths that it has as a variable of the other form and as a relationship that a path would have
-/// again, the first call that names no function, the first call with a wrong number of arguments, and whether one has an
-/// EXISTS.
+/// again, the first call that names no function, and the first call with a wrong number of arguments.
 #[derive(Drop)]
 pub struct FirstNames<'q> {
     variable: Option<&'q Text>,
@@ -27,7 +26,6 @@ pub struct FirstNames<'q> {
     again: Option<&'q Text>,
     function: Option<&'q Text>,
     arguments: Option<&'q Text>,
-    exists: bool,
 }
 
 impl<'q> Model for FirstNames<'q> {
@@ -42,7 +40,6 @@ impl<'q> Model for FirstNames<'q> {
       again = option_copied n.again;
       function = option_copied n.function;
       arguments = option_copied n.arguments;
-      exists = n.exists;
     } };
 }
 
@@ -57,7 +54,6 @@ impl<'q> FirstNames<'q> {
             again: None,
             function: None,
             arguments: None,
-            exists: false,
         }
     }
 
@@ -71,7 +67,6 @@ impl<'q> FirstNames<'q> {
         self.again = or_first(self.again, Check::NamedAgain, scope, tree);
         self.function = or_first(self.function, Check::UnknownFunction, scope, tree);
         self.arguments = or_first(self.arguments, Check::WrongCount, scope, tree);
-        self.exists = self.exists || has_exists(tree);
     }
 
     /// Reads the expressions of items.
@@ -90,13 +85,6 @@ impl<'q> FirstNames<'q> {
         for sort in order {
             self.read(scope, &sort.tree);
         }
-    }
-
-    /// Whether an expression has an EXISTS.
-    pub fn has_exists(&self) -> bool
-        ensures { result ≡ self.now.exists }
-    {
-        self.exists
     }
 
     /// An expression names what its scope does not have.

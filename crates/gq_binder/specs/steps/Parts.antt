@@ -82,7 +82,7 @@ reads_in es = flat_map (λ e. properties_of e.expr) es
 -- what each check but the last finds, in their order
 abbrev pub checks_in : List ℕ → Query → QueryParts → List (Option BindRefusal)
 checks_in text query parts =
-    not_built query parts.pattern parts.names.exists
+    not_built query parts.pattern
     ∷ option_map refusal.UnknownVariable parts.names.variable
     ∷ variable_conflict parts.pattern
     ∷ option_map refusal.VariableConflict parts.names.other_form

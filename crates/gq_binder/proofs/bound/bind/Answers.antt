@@ -4,7 +4,7 @@ use Rattle.gq_binder.proofs.Checked.{parts_whole}
 use Rattle.gq_binder.specs.declared.parts.QueryParts.{QueryParts}
 use Rattle.gq_syntax.specs.steps.Spans.{IsWholePath}
 use Rattle.gq_syntax.proofs.Whole.{spelled_stands}
-use Rattle.gq_binder.proofs.Checked.{refused_early, refused_last, accepted}
+use Rattle.gq_binder.proofs.Checked.{refused_early, refused_many, refused_last, accepted}
 use Rattle.gq_binder.proofs.bound.bind.Goals as goal
 
 pub parts_of-requires : goal.parts_of-requires
@@ -26,10 +26,15 @@ returns-in_err-check c =
 pub returns-in_err-all : goal.returns-in_err-all
 returns-in_err-all c =
     let p = err_from_is_err_and c.from_residual-in_err-all.result c.from_residual-in_err-all.ensures.1 in
-    rw (p.1, p.2) (refused_last c.args.query.now c.args.text.now c.args.catalog.now c.in_ok-parts.parts c.in_ok-parts.ensures c.in_ok-check.ensures c.in_err-all.field-0.0 c.in_err-all.ensures.few)
+    rw (p.1, p.2) (refused_many c.args.query.now c.args.text.now c.args.catalog.now c.in_ok-parts.parts c.in_ok-parts.ensures c.in_ok-check.ensures c.in_err-all.field-0.0 c.in_err-all.ensures.few)
+
+pub returns-in_err-exists_place : goal.returns-in_err-exists_place
+returns-in_err-exists_place c =
+    let p = err_from_is_err_and c.from_residual-in_err-exists_place.result c.from_residual-in_err-exists_place.ensures.1 in
+    rw (p.1, p.2) (refused_last c.args.query.now c.args.text.now c.args.catalog.now c.in_ok-parts.parts c.in_ok-parts.ensures c.in_ok-check.ensures c.in_ok-all.ensures.few c.in_err-exists_place.field-0.0 c.in_err-exists_place.ensures)
 
 pub returns : goal.returns
 returns c =
     rw c.in_ok-bound_of.ensures
     (accepted c.args.query.now c.args.text.now c.args.catalog.now c.in_ok-parts.parts c.in_ok-parts.ensures c.in_ok-check.ensures c.in_ok-all.all.choices
-    (spelled_stands c.args.text.now c.args.query.now c.requires) c.in_ok-all.ensures.few c.in_ok-all.ensures.choices)
+    (spelled_stands c.args.text.now c.args.query.now c.requires) c.in_ok-all.ensures.few c.in_ok-exists_place.ensures c.in_ok-all.ensures.choices)
