@@ -38,9 +38,9 @@ use Rattle.gq_alternatives.proofs.SoundPatterns.{IsChoice, each_alternative, pat
 use Rattle.gq_plan.proofs.DifferentReads.{AllAmong, is_among, some_among, properties_among, distinct_fewer}
 use Rattle.gq_plan.proofs.ReadEquations.{reads_Literal, reads_NodeProperty, reads_RelProperty, reads_Compare}
 use Rattle.gq_trees.proofs.ReadsThere.{AllThere, AreThere}
-use Rattle.gq_alternatives.proofs.PathShapes.{IsCounted, path_pattern_counted, path_pattern_shaped}
+use Rattle.gq_alternatives.proofs.PathShapes.{HasVariables, IsCounted, path_pattern_counted, path_pattern_named, path_pattern_shaped}
 use Rattle.gq_alternatives.specs.Alternatives.{Choice, typed_rels, agrees, alternatives, pattern_alternatives, typed_of}
-use Rattle.gq_scopes.specs.PathPatterns.{path_pattern}
+use Rattle.gq_scopes.specs.PathPatterns.{path_pattern, shared_names}
 use Rattle.gq_syntax.specs.declared.Path.{Path}
 use Rattle.gq_trees.specs.Conjuncts.{conjunct_expr, is_value, values_of}
 use Rattle.gq_scopes.specs.Patterns.{Name, MapEntry, Pattern, no_pattern, pattern_of, with_paths, with_clauses}
@@ -368,6 +368,22 @@ module _ (catalog : Tables) (text : List ℕ) (path : Path) where
       All-from_recursion (IsSound catalog) (map made (pattern_alternatives catalog own))
       (each_map (λ c. IsChoice catalog (length own.names) (length own.rels) c × (agrees catalog own c ≡ true)) (IsSound catalog) made (own_sound few_nodes few_rels few)
       (pattern_alternatives catalog own) (each_alternative catalog own))
+
+  each_counted : (P : ℕ → Type 0) → P (length own.names) → All (λ y. P (length y.nodes)) (map made (pattern_alternatives catalog own))
+  unfolding typed_of
+  each_counted P h =
+      All-from_recursion (λ (y : Typed). P (length y.nodes)) (map made (pattern_alternatives catalog own))
+      (each_map (λ c. IsChoice catalog (length own.names) (length own.rels) c × (agrees catalog own c ≡ true)) (λ (y : Typed). P (length y.nodes)) made (λ c k. subst P (sym k.0.table_count) h)
+      (pattern_alternatives catalog own) (each_alternative catalog own))
+
+  pub path_nodes : All (λ y. 0 < length y.nodes) (map made (pattern_alternatives catalog own))
+  path_nodes = each_counted (λ n. 0 < n) (path_pattern_named path).one
+
+  pub path_wide : (ns : List ℕ) → length ns ≤ length (shared_names path) → All (λ y. length ns ≤ length y.nodes) (map made (pattern_alternatives catalog own))
+  path_wide ns few =
+      let named : HasVariables path (path_pattern path) = path_pattern_named path in
+      let shared : length (shared_names path) ≤ length (path_pattern path).names = named.shared in
+      each_counted (λ n. length ns ≤ n) (omega (arith, few, shared))
 
 -- each test of an accepted query is small
 abbrev IsSmallTest : SharedTest → Type 0

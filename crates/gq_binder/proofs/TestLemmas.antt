@@ -1,6 +1,6 @@
 -- The tests of paths of an accepted query: they stand in its text, their paths name node variables that they see, and the parts that
 -- they give are theirs.
-use Rattle.std.proofs.Common.{◌≡◌, ◌∙◌, ℕ, suc, true, List, [], ◌∷◌, ◌++◌, map, flat_map, Option, Some, None, All, IfSome, refl, sym, ap, ap₂, subst}
+use Rattle.std.proofs.Common.{◌≡◌, ◌∙◌, ℕ, suc, ◌≤◌, arith, length, true, List, [], ◌∷◌, ◌++◌, map, flat_map, Option, Some, None, All, IfSome, refl, sym, ap, ap₂, subst}
 use Rattle.std.specs.Prelude.{filter_map}
 use Rattle.std.specs.List.{AllByRecursion, AllZip, cons_option}
 use Rattle.std.specs.Option.{option_map, option_or}
@@ -29,7 +29,8 @@ use Rattle.gq_trees.specs.PathTests.{PathTest}
 use Rattle.gq_trees.specs.Resolving.{Conjunct, all_some, functions, split}
 use Rattle.gq_trees.specs.Uses.{Use, conflict_in, first_name, of_other_form, unknown_in, unknown_name, uses}
 use Rattle.gq_binder.specs.Columns.{Scoped, conditions, conditions_from, scoped_in}
-use Rattle.gq_binder.specs.Tested.{IsTested, ScopedTest, SharedTest, scoped_tests, shared_test, tests}
+use Rattle.gq_binder.proofs.SoundAlternatives.{path_nodes, path_wide}
+use Rattle.gq_binder.specs.Tested.{IsTested, ScopedTest, SharedTest, scoped_tests, shared, shared_test, tests}
 use Rattle.gq_binder.specs.steps.Parts.{exists_part, known_tests, known_tests_of, shared_in, where_known}
 
 -- ---- what holds of the paths of conjuncts holds of the tests
@@ -122,14 +123,31 @@ tests_known text query h = tests_all AreKnown text (conditions query) (each_know
 
 -- ---- their parts
 
-abbrev IsPartOf : List ℕ → Tables → ScopedTest → Type 0
-IsPartOf text catalog t = IsTested text catalog t (exists_part text catalog (shared_test t))
+found_fewer : {X Y : Type 0} (f : X → Option Y) (xs : List X) → length (filter_map f xs) ≤ length xs
+found_fewer f [] = omega arith
+found_fewer {Y = Y} f (x ∷ xs) = go (f x) (found_fewer f xs)
+  where
+    go : (o : Option Y) → length (filter_map f xs) ≤ length xs → length (cons_option o (filter_map f xs)) ≤ suc (length xs)
+    go None h = omega arith
+    go (Some y) h = omega arith
 
 pub zip_parts : (text : List ℕ) (catalog : Tables) (ts : List ScopedTest) → AllByRecursion (λ t. AreKnown t.names t.test.path) ts
     → AllByRecursion (λ t. All (IsSound catalog) (exists_part text catalog t).alternatives) (map shared_test ts)
     → AllZip (IsTested text catalog) ts (map (exists_part text catalog) (map shared_test ts))
 zip_parts text catalog [] named sound = tt
-zip_parts text catalog (t ∷ ts) named sound = (record { called = refl; wanted = refl; nodes = refl; named = named.0; alternatives = refl; sound = sound.0 }, zip_parts text catalog ts named.1 sound.1)
+zip_parts text catalog (t ∷ ts) named sound = (
+  record {
+    called = refl;
+    wanted = refl;
+    nodes = refl;
+    named = named.0;
+    alternatives = refl;
+    sound = sound.0;
+    has_node = path_nodes catalog text t.test.path;
+    wide = path_wide catalog text t.test.path (shared t) (found_fewer (find_name t.names) (shared_names t.test.path));
+  },
+  zip_parts text catalog ts named.1 sound.1,
+)
 
 -- tests, with what their paths share, in one step and in two
 shared_all : (names : List (Option Name)) (ts : List NamedTest) → map (shared_in names) ts ≡ map shared_test (map (λ t. record { names = names; name = t.name; test = t.test }) ts)

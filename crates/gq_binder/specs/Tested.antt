@@ -1,5 +1,5 @@
 -- When a part of a bound query is a test of a path, and when a row passes such tests.
-use Rattle.std.specs.Prelude.{◌≡◌, ℕ, Bool, true, false, not, ◌&&◌, Option, Result, List, [], ◌∷◌, map, flat_map, filter_map, All, if◌then◌else◌}
+use Rattle.std.specs.Prelude.{◌≡◌, ℕ, ◌<◌, ◌≤◌, Bool, true, false, not, ◌&&◌, Option, Result, List, [], ◌∷◌, length, map, flat_map, filter_map, All, if◌then◌else◌}
 use Rattle.std.specs.List.{AllByRecursion}
 use Rattle.gq_base.specs.Catalogs.{Tables}
 use Rattle.gq_base.specs.Plain.{Graph}
@@ -79,3 +79,5 @@ pub record IsTested (text : List ℕ) (catalog : Tables) (t : ScopedTest) (part 
   pub alternatives : let p : Pattern = path_pattern t.test.path in
       part.alternatives ≡ map (typed_of catalog p (map (entry_test text) p.entries) []) (pattern_alternatives catalog p)
   pub sound : All (IsSound catalog) part.alternatives
+  pub has_node : All (λ y. 0 < length y.nodes) part.alternatives
+  pub wide : All (λ y. length part.nodes ≤ length y.nodes) part.alternatives
