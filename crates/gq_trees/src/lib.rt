@@ -1,5 +1,5 @@
 //! What the trees of a query's expressions stand for: bound expressions, the conjuncts of a
-//! condition, the first name or call that a check refuses; whether one has an EXISTS; and whether two
+//! condition, the first name or call that a check refuses; the paths of its EXISTS; and whether two
 //! expressions are the same.
 //! The crate stands on the trees of `gq_syntax` and the names of `gq_scopes`.
 #![tactic(auto)]
