@@ -1,5 +1,5 @@
 -- The equations of the paths of an expression and of those that are stray in a condition, with the tree opened by one level.
-use Rattle.std.proofs.Common.{◌≡◌, ◌∙◌, ℕ, suc, ◌+◌, ◌<◌, List, [], ◌∷◌, ◌++◌, map, flat_map, length, drop, get_or, drop-cons, add-one, append_assoc, refl, sym, ap, ap₂, subst}
+use Rattle.std.proofs.Common.{◌≡◌, ◌∙◌, ℕ, suc, ◌+◌, ◌<◌, List, [], ◌∷◌, ◌++◌, map, flat_map, length, drop, get_or, drop-cons, add-one, append_assoc, append-nil, refl, sym, ap, ap₂, subst}
 use Rattle.std.proofs.lemmas.Grind.{flat_map-append}
 use Rattle.std.proofs.lemmas.List.Folds.{flat_map-map}
 use mathlib.Core.Former.{map-map}
@@ -92,7 +92,7 @@ paths_testers (t ∷ ts) = flat_map-append use_paths (in_tester (tester_with use
     one (tester.Ends e) = refl
     one (tester.Contains e) = refl
 
-pub ruleset finding = (uses_out, flat_map-append, paths_all, paths_terms, paths_testers, append_assoc)
+pub ruleset finding = (uses_out, flat_map-append, paths_all, paths_terms, paths_testers, append_assoc, append-nil)
 
 -- ---- one more item of several
 
