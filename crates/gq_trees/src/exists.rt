@@ -9,7 +9,7 @@ use gq_syntax::{ArithTerm, Ast, AstNode, AstTester, CompareTerm, Tester};
 
 /// Appends the path of each EXISTS of an expression, in text order, as a test whether it has a match.
 #[cycle(push_paths)]
-#[tactic(auto, using(crate::proofs::Strays::finding))]
+#[tactic(auto, using(crate::proofs::ExistsPaths::finding))]
 pub fn push_paths<'t>(tree: &'t Ast, paths: &mut List<PathTest<'t>>) -> Result<(), Memory>
     ensures { OnOk result (paths.new ≡ paths.old ++ paths_in tree.now) }
 {
@@ -90,7 +90,7 @@ fn push_tester_paths<'t>(
 }
 
 #[cycle(push_paths)]
-#[tactic(auto, using(crate::proofs::Strays::finding))]
+#[tactic(auto, using(crate::proofs::ExistsPaths::finding))]
 fn push_tester_path<'t>(
     tester: &'t AstTester,
     paths: &mut List<PathTest<'t>>,
