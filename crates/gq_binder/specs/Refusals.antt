@@ -19,7 +19,7 @@ use Rattle.gq_binder.specs.Columns.{Scoped, conditions, conjuncts, columns, sort
 use Rattle.gq_trees.specs.Conjuncts.{is_value}
 use Rattle.gq_trees.specs.MadeOf.{column_exprs, is_made_of}
 use Rattle.gq_trees.specs.Renames.{ambiguous_name}
-use Rattle.gq_scopes.specs.Patterns.{Name, NamedVariable, Pattern, pattern_of, is_same_name}
+use Rattle.gq_scopes.specs.Patterns.{MapEntry, Name, NamedVariable, Pattern, pattern_of, is_same_name}
 use Rattle.gq_binder.specs.Tested.{SharedTest, seen_elsewhere, seen_in}
 use Rattle.gq_scopes.specs.PathPatterns.{path_pattern}
 use Rattle.gq_syntax.specs.declared.Path.{Path}
@@ -204,11 +204,15 @@ abbrev pub placed : List ℕ → ℕ → ℕ → Variable → Variable
 placed vs n m (node v) = node (unwrap_or (slice_get vs v) (n + v))
 placed vs n m (rel x) = rel (m + x)
 
--- what the maps of the paths read, of variables behind so many
+-- what the entries of a path's maps read, of variables behind so many
+abbrev pub entries_read : List ℕ → ℕ → ℕ → List MapEntry → List Read
+entries_read vs n m es = map (λ e. property (placed vs n m e.variable) e.entry.key) es
+
+-- what the maps of the paths read, one path behind another
 abbrev pub path_reads : ℕ → ℕ → List SharedTest → List Read
 path_reads n m [] = []
 path_reads n m (t ∷ ts) =
-    map (λ e. property (placed t.nodes n m e.variable) e.entry.key) (path_pattern t.test.path).entries
+    entries_read t.nodes n m (path_pattern t.test.path).entries
     ++ path_reads (n + length (path_pattern t.test.path).names) (m + length (path_pattern t.test.path).rels) ts
 
 -- the maps of a path by itself read too much, which is among what all read
