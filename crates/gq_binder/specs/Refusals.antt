@@ -3,7 +3,7 @@
 use Rattle.std.specs.Prelude.{ℕ, suc, nat_eq, nat_lt, Bool, true, false, not, is_some, ◌+◌, slice_get, unwrap_or, ◌&&◌, ◌||◌, Option, Some, None, List, [], ◌∷◌, ◌++◌, map, filter, flat_map, length, if◌then◌else◌}
 use Rattle.gq_plan.specs.declared.variable.Variable.TheVariants.{Node as node, Rel as rel}
 use Rattle.gq_plan.specs.declared.variable.Variable.{Variable}
-use Rattle.std.specs.List.{list_all, list_any}
+use Rattle.std.specs.List.{list_any}
 use Rattle.std.specs.Option.{option_map, option_or}
 use Rattle.std.specs.Cmp.Lexicographic.{pointwise}
 use Rattle.gq_base.specs.Catalogs.{Tables}
@@ -258,9 +258,15 @@ too_many_alternatives text query catalog =
 
 -- ---- where an EXISTS stands
 
--- one is no test: it stands elsewhere than as a whole conjunct of a condition
+-- it is no test: it stands elsewhere than as a whole conjunct of a condition
+abbrev pub is_misplaced : SharedTest → Bool
+is_misplaced t = not (is_some t.name)
+
+abbrev pub has_misplaced : List SharedTest → Bool
+has_misplaced ts = list_any is_misplaced ts
+
 abbrev pub exists_place : List SharedTest → Option BindRefusal
-exists_place ts = if list_all (λ t. is_some t.name) ts then None else Some refusal.ExistsPlace
+exists_place ts = if has_misplaced ts then Some refusal.ExistsPlace else None
 
 -- the first check that applies
 unfoldable pub first_refusal : Query → List ℕ → Tables → Option BindRefusal

@@ -26,8 +26,9 @@ use crate::refusal::BindRefusal;
 use gq_alternatives::{Choice, choices_of};
 use gq_base::{Catalog, List, Memory};
 use gq_plan::{ExistsPart, NamedExpr, PropertyReads};
-use gq_scopes::{Column, MapEntry, NamedVariable, Names, Pattern, RelPattern, Variable};
-use gq_scopes::{copy_text, number};
+use gq_scopes::{
+    Column, MapEntry, NamedVariable, Names, Pattern, RelPattern, Variable, copy_text, number,
+};
 use gq_syntax::Query;
 use std::alloc::Global;
 
@@ -159,10 +160,7 @@ fn nothing_to_return(star: bool, named: &[NamedVariable<'_>]) -> Result<(), Bind
 }
 
 /// There are too many patterns, with those of the paths of tests.
-fn too_many_patterns(
-    pattern: &Pattern<'_>,
-    tests: &[SharedTest<'_>],
-) -> Result<(), BindRefusal>
+fn too_many_patterns(pattern: &Pattern<'_>, tests: &[SharedTest<'_>]) -> Result<(), BindRefusal>
     ensures { Checks (refusals.too_many_patterns pattern.now (paths_of tests.now)) result }
 {
     if has_many_nodes(pattern.nodes().len(), tests) || has_many_rels(pattern.rels().len(), tests) {
@@ -290,12 +288,7 @@ fn add_entries<'e>(
 }
 
 // A variable of a path's pattern among those of the query.
-fn placed(
-    shared: &[u32],
-    nodes: u32,
-    rels: u32,
-    variable: Variable,
-) -> Result<Variable, Memory>
+fn placed(shared: &[u32], nodes: u32, rels: u32, variable: Variable) -> Result<Variable, Memory>
     ensures { IfOk result (λ v. v ≡ refusals.placed shared.now nodes rels variable) }
 {
     match variable {
@@ -343,10 +336,18 @@ fn count_reads(alloc: Global, entries: &[MapEntry<'_>]) -> Result<usize, Memory>
         ≡ length (distinct (map (λ e. property e.variable e.entry.key) entries.now))) }
 {
     let mut reads = PropertyReads::new(alloc);
+    add_own(&mut reads, entries)?;
+    Ok(reads.len())
+}
+
+fn add_own<'e>(reads: &mut PropertyReads<'e>, entries: &[MapEntry<'e>]) -> Result<(), Memory>
+    ensures { OnOk result (reads.new ≡ with_reads reads.old
+        (map (λ e. property e.variable e.entry.key) entries.now)) }
+{
     for entry in entries {
         reads.add(entry.variable, &entry.entry.key)?;
     }
-    Ok(reads.len())
+    Ok(())
 }
 
 fn add_reads<'e>(reads: &mut PropertyReads<'e>, exprs: &'e [NamedExpr]) -> Result<(), Memory>
@@ -406,15 +407,21 @@ pub fn few_alternatives(
 pub fn exists_place(exists: &[SharedTest<'_>]) -> Result<(), BindRefusal>
     ensures { Checks (refusals.exists_place exists.now) result }
 {
-    if exists.iter().all(|test| is_test(test)) {
-        Ok(())
-    } else {
+    if has_misplaced(exists) {
         Err(BindRefusal::ExistsPlace)
+    } else {
+        Ok(())
     }
 }
 
-fn is_test(test: &SharedTest<'_>) -> bool
-    ensures { result ≡ is_some test.now.name }
+fn has_misplaced(exists: &[SharedTest<'_>]) -> bool
+    ensures { result ≡ refusals.has_misplaced exists.now }
 {
-    test.name.is_some()
+    exists.iter().any(|test| is_misplaced(test))
+}
+
+fn is_misplaced(test: &SharedTest<'_>) -> bool
+    ensures { result ≡ refusals.is_misplaced test.now }
+{
+    test.name.is_none()
 }

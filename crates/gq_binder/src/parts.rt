@@ -232,11 +232,10 @@ fn read_conjuncts<'q>(
     exists: &mut List<SharedTest<'q>>,
 ) -> Result<(), Memory>
     requires { IsWholeTree text.now tree.now }
-    ensures conjuncts { let condition = record { scope = scope.now; tree = tree.now } in
-        OnOk result (conjuncts.new
-        ≡ conjuncts.old ++ known_conjuncts text.now (condition ∷ [])) }
-    ensures exists { let condition = record { scope = scope.now; tree = tree.now } in
-        OnOk result (exists.new ≡ exists.old ++ known_tests_of text.now condition) }
+    ensures conjuncts { OnOk result (conjuncts.new ≡ conjuncts.old
+        ++ known_conjuncts text.now (record { scope = scope.now; tree = tree.now } ∷ [])) }
+    ensures exists { OnOk result (exists.new ≡ exists.old
+        ++ known_tests_of text.now (record { scope = scope.now; tree = tree.now })) }
 {
     match conjuncts_of(alloc, text, scope, tree)? {
         Some(more) => {

@@ -173,7 +173,15 @@ pub fn exists_parts(
             return Err(BindRefusal::TooManyAlternatives);
         };
         left -= choices.len();
-        push_part(alloc, text, catalog, test, &pattern, choices.as_slice(), &mut parts)?;
+        push_part(
+            alloc,
+            text,
+            catalog,
+            test,
+            &pattern,
+            choices.as_slice(),
+            &mut parts,
+        )?;
     }
     Ok(parts)
 }
