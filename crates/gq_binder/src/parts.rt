@@ -1,9 +1,11 @@
 //! The parts of a query that its checks and its bound form share, each made once.
-ghost use Rattle.std.specs.Prelude.{◌≡◌, ◌++◌, map, All, IfOk, IfSome, OnOk};
+ghost use Rattle.std.specs.Prelude.{◌≡◌, ◌++◌, ◌∷◌, [], flat_map, map, All, IfOk, IfSome};
+ghost use Rattle.std.specs.Prelude.{OnOk};
 ghost use Rattle.gq_binder.specs.Columns.{columns_in, conditions_from, entry_test, scoped_in};
 ghost use Rattle.gq_binder.specs.steps.Names.{no_names, with_expressions};
-ghost use Rattle.gq_binder.specs.steps.Parts.{known_conjuncts, parts_of};
+ghost use Rattle.gq_binder.specs.steps.Parts.{known_conjuncts, known_seen, known_tests_of, parts_of};
 ghost use Rattle.gq_binder.specs.Refusals.{items_in, sorts_in};
+ghost use Rattle.gq_binder.specs.Tested.{seen_elsewhere};
 ghost use Rattle.gq_scopes.specs.Patterns.{no_pattern, pattern_of, with_clauses};
 ghost use Rattle.gq_trees.specs.Resolving.{functions};
 ghost use Rattle.gq_scopes.specs.Scopes.{scope_of};
@@ -13,21 +15,23 @@ ghost use Rattle.gq_syntax.specs.steps.Spans.{IsWholeClause, IsWholeEntry, Stand
 use crate::columns::columns_of;
 use crate::entries::entry_tests;
 use crate::names::FirstNames;
+use crate::path_tests::{SharedTest, push_in_items, push_in_sorts, push_strays_of, push_tests};
 use gq_base::{List, Memory};
 use gq_plan::NamedExpr;
-use gq_scopes::{Column, Pattern, next};
+use gq_scopes::{Column, Pattern, Scope, next};
 use gq_syntax::{Ast, Clause, Query};
 use gq_trees::{CallForm, conjuncts_of};
 use std::alloc::Global;
 
 /// The parts of a query: its patterns, the first names that the checks of names refuse, its
-/// columns, the conjuncts of its conditions, and the tests of the maps of its patterns.
+/// columns, the conjuncts of its conditions, its EXISTS, and the tests of the maps of its patterns.
 #[derive(Drop)]
 pub struct QueryParts<'q> {
     pub pattern: Pattern<'q>,
     pub names: FirstNames<'q>,
     pub columns: List<Column>,
     pub conjuncts: List<NamedExpr>,
+    pub exists: List<SharedTest<'q>>,
     pub tests: List<NamedExpr>,
 }
 
@@ -41,13 +45,16 @@ pub fn parts_of<'q>(alloc: Global, text: &[u8], query: &'q Query) -> Result<Quer
         pattern,
         mut names,
         conjuncts,
+        mut exists,
     } = conditions;
     let lists = lists_of(alloc, text, query, &pattern, &mut names)?;
+    push_elsewhere(alloc, query, &pattern, &mut exists)?;
     Ok(QueryParts {
         pattern,
         names,
         columns: lists.columns,
         conjuncts,
+        exists,
         tests: lists.tests,
     })
 }
@@ -87,13 +94,30 @@ fn lists_of<'q>(
     Ok(Lists { columns, tests })
 }
 
+// Appends the EXISTS of items and sort items.
+fn push_elsewhere<'q>(
+    alloc: Global,
+    query: &'q Query,
+    pattern: &Pattern<'_>,
+    exists: &mut List<SharedTest<'q>>,
+) -> Result<(), Memory>
+    ensures { OnOk result (exists.new ≡ exists.old ++ (
+        flat_map seen_elsewhere (items_in (scope_of pattern.now) query.now.items)
+        ++ flat_map seen_elsewhere (sorts_in (scope_of pattern.now) query.now.order))) }
+{
+    let scope = pattern.scope(&[])?;
+    push_in_items(alloc, &scope, exists, query.items.as_slice())?;
+    push_in_sorts(alloc, &scope, exists, query.order.as_slice())
+}
+
 // The patterns of clauses, the first names that are refused in their conditions, and the conjuncts
-// of these.
+// of these with their EXISTS.
 #[derive(Drop)]
 struct Conditions<'q> {
     pattern: Pattern<'q>,
     names: FirstNames<'q>,
     conjuncts: List<NamedExpr>,
+    exists: List<SharedTest<'q>>,
 }
 
 #[tactic(auto, unfolding(gq_scopes::specs::Patterns::pattern_of))]
@@ -108,10 +132,13 @@ fn conditions_of<'q>(
         ≡ with_expressions no_names (conditions_from 0 no_pattern clauses.now)) }
     ensures conjuncts { IfOk result (λ c. c.conjuncts
         ≡ known_conjuncts text.now (conditions_from 0 no_pattern clauses.now)) }
+    ensures exists { IfOk result (λ c. c.exists
+        ≡ known_seen text.now (conditions_from 0 no_pattern clauses.now)) }
 {
     let mut pattern = Pattern::new(alloc);
     let mut names = FirstNames::new();
     let mut conjuncts = List::new(alloc);
+    let mut exists = List::new(alloc);
     read_clauses(
         alloc,
         text,
@@ -119,17 +146,19 @@ fn conditions_of<'q>(
         &mut pattern,
         &mut names,
         &mut conjuncts,
+        &mut exists,
     )?;
     Ok(Conditions {
         pattern,
         names,
         conjuncts,
+        exists,
     })
 }
 
 // Reads clauses behind those that were read. Each condition sees the variables of its clause and of
 // earlier ones.
-#[tactic(auto, using(crate::proofs::NameLemmas::with_expressions_append, crate::proofs::PartLemmas::known_conjuncts_append))]
+#[tactic(auto, using(crate::proofs::NameLemmas::with_expressions_append, crate::proofs::PartLemmas::known_conjuncts_append, crate::proofs::PartLemmas::known_seen_append))]
 fn read_clauses<'q>(
     alloc: Global,
     text: &[u8],
@@ -137,6 +166,7 @@ fn read_clauses<'q>(
     pattern: &mut Pattern<'q>,
     names: &mut FirstNames<'q>,
     conjuncts: &mut List<NamedExpr>,
+    exists: &mut List<SharedTest<'q>>,
 ) -> Result<(), Memory>
     requires { All (IsWholeClause text.now) clauses.now }
     ensures pattern { OnOk result (pattern.new ≡ with_clauses 0 clauses.now pattern.old) }
@@ -144,11 +174,21 @@ fn read_clauses<'q>(
         ≡ with_expressions names.old (conditions_from 0 pattern.old clauses.now)) }
     ensures conjuncts { OnOk result (conjuncts.new ≡ conjuncts.old
         ++ known_conjuncts text.now (conditions_from 0 pattern.old clauses.now)) }
+    ensures exists { OnOk result (exists.new ≡ exists.old
+        ++ known_seen text.now (conditions_from 0 pattern.old clauses.now)) }
 {
     let mut number = 0;
     for clause in clauses {
         pattern.push_paths(alloc, number, clause.paths.as_slice())?;
-        read_condition(alloc, text, pattern, &clause.filter, names, conjuncts)?;
+        read_condition(
+            alloc,
+            text,
+            pattern,
+            &clause.filter,
+            names,
+            conjuncts,
+            exists,
+        )?;
         number = next(number)?;
     }
     Ok(())
@@ -163,20 +203,45 @@ fn read_condition<'q>(
     filter: &'q Option<Ast>,
     names: &mut FirstNames<'q>,
     conjuncts: &mut List<NamedExpr>,
+    exists: &mut List<SharedTest<'q>>,
 ) -> Result<(), Memory>
     requires { IfSome filter.now (IsWholeTree text.now) }
     ensures names { OnOk result (names.new
         ≡ with_expressions names.old (scoped_in (scope_of pattern.now) filter.now)) }
     ensures conjuncts { OnOk result (conjuncts.new
         ≡ conjuncts.old ++ known_conjuncts text.now (scoped_in (scope_of pattern.now) filter.now)) }
+    ensures exists { OnOk result (exists.new
+        ≡ exists.old ++ known_seen text.now (scoped_in (scope_of pattern.now) filter.now)) }
 {
     let Some(tree) = filter else {
         return Ok(());
     };
     let scope = pattern.scope(&[])?;
     names.read(&scope, tree);
-    match conjuncts_of(alloc, text, &scope, tree)? {
-        Some(more) => push_all(conjuncts, more.values),
+    read_conjuncts(alloc, text, &scope, tree, conjuncts, exists)?;
+    push_strays_of(alloc, &scope, exists, tree)
+}
+
+// The conjuncts of a condition, if all of those of values stand for an expression.
+fn read_conjuncts<'q>(
+    alloc: Global,
+    text: &[u8],
+    scope: &Scope<'_>,
+    tree: &'q Ast,
+    conjuncts: &mut List<NamedExpr>,
+    exists: &mut List<SharedTest<'q>>,
+) -> Result<(), Memory>
+    requires { IsWholeTree text.now tree.now }
+    ensures conjuncts { OnOk result (conjuncts.new ≡ conjuncts.old
+        ++ known_conjuncts text.now (record { scope = scope.now; tree = tree.now } ∷ [])) }
+    ensures exists { OnOk result (exists.new ≡ exists.old
+        ++ known_tests_of text.now (record { scope = scope.now; tree = tree.now })) }
+{
+    match conjuncts_of(alloc, text, scope, tree)? {
+        Some(more) => {
+            push_all(conjuncts, more.values)?;
+            push_tests(alloc, scope, exists, more.tests)
+        }
         None => Ok(()),
     }
 }
