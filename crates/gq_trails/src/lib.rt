@@ -3,11 +3,16 @@
 //! stored graph of `gq_store`.
 #![tactic(auto)]
 
+mod ends;
 mod follow;
 mod hop;
 mod search;
 mod state;
+mod taken;
+mod trails;
+mod trek;
 mod used;
 mod walker;
 
+pub use trails::Trails;
 pub use walker::Walker;

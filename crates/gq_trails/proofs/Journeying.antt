@@ -1,0 +1,158 @@
+-- The moves of the search for ways to walk all trails: what stays true of it, and what is owed.
+use Rattle.std.proofs.Common.{◌≡◌, ◌≢◌, ℕ, zero, suc, ◌<◌, List, [], ◌∷◌, drop, flat_map, length, set, refl, sym, ap, ap₂, ◌∙◌, subst, arith, inl, inr, ◌⊎◌}
+use Rattle.std.proofs.lemmas.Bool.{cases_eq}
+use Rattle.std.proofs.lemmas.List.{get_or-set_same, get_or-set_other, length-set}
+use Rattle.gq_base.specs.Plain.{Graph}
+use Rattle.gq_base.specs.declared.RelId.{RelId}
+use Rattle.gq_law_trails.specs.Trails.{Trailing, after_trails, walks_from}
+use Rattle.gq_law_trails.specs.declared.TrailPart.{TrailPart}
+use Rattle.gq_plan.specs.Meaning.{Partial, look}
+use Rattle.gq_wide.specs.Rows.{Wide}
+use Rattle.gq_trails.specs.Walking.{Walking, course_of}
+use Rattle.gq_trails.specs.steps.Journeys.{AreWalkers, HaveCourses, IsAt, IsFit, Journey, bound_by, frame_of, frames_at, no_walk, owed_at, owed_behind, part_at, patterns_of, reached_at, row_at, turn_at, walk_at, walked_at}
+use Rattle.gq_trails.specs.steps.Treks.{Frame, Turn, around, met_by, ways_by}
+use Rattle.gq_trails.proofs.Fitting.{split_parts}
+use Rattle.gq_trails.proofs.Moves.{arrives, first_of, goes_back, misses, starts}
+
+-- ---- what hangs on the first walkers alone
+
+abbrev pub AreSameWalks : List Walking → List Walking → ℕ → Type 0
+AreSameWalks vs ws n = (i : ℕ) → i < n → walk_at vs i ≡ walk_at ws i
+
+pub row_alike : (j : Journey) (vs ws : List Walking) (n : ℕ) → AreSameWalks vs ws n → row_at j vs n ≡ row_at j ws n
+unfolding row_at
+row_alike j vs ws zero same = refl
+row_alike j vs ws (suc n) same =
+    ap₂ (λ (a : Partial) (w : Walking). bound_by j.graph (part_at j.parts n) a w.rels) (row_alike j vs ws n (λ i low. same i (omega arith))) (same n (omega arith))
+
+pub walked_alike : (parts : List TrailPart) (vs ws : List Walking) (n : ℕ) → AreSameWalks vs ws n → walked_at parts vs n ≡ walked_at parts ws n
+unfolding walked_at
+walked_alike parts vs ws zero same = refl
+walked_alike parts vs ws (suc n) same =
+    ap₂ (λ (w : Walking) (l : List (ℕ × List RelId)). ((part_at parts n).clause, w.rels) ∷ l) (same n (omega arith)) (walked_alike parts vs ws n (λ i low. same i (omega arith)))
+
+turn_with : Journey → ℕ → Partial → List (ℕ × List RelId) → Turn
+turn_with j n a l = record { part = part_at j.parts n; later = drop (suc n) j.parts; row = a; walked = l }
+
+pub turn_alike : (j : Journey) (vs ws : List Walking) (n : ℕ) → AreSameWalks vs ws n → turn_at j vs n ≡ turn_at j ws n
+unfolding turn_with
+turn_alike j vs ws n same = ap₂ (turn_with j n) (row_alike j vs ws n same) (walked_alike j.parts vs ws n same)
+
+pub frames_alike : (j : Journey) (vs ws : List Walking) (n : ℕ) → AreSameWalks vs ws n → frames_at j vs n ≡ frames_at j ws n
+unfolding frames_at
+frames_alike j vs ws zero same = refl
+frames_alike j vs ws (suc n) same =
+    let below : AreSameWalks vs ws n = λ i low. same i (omega arith) in
+    ap₂ ◌∷◌ (ap₂ frame_of (turn_alike j vs ws n below) (same n (omega arith))) (frames_alike j vs ws n below)
+
+-- ---- a walker is put in the place of another
+
+module _ (ws : List Walking) (n : ℕ) (w : Walking) (low : n < length ws) where
+  pub put_here : walk_at (set ws n w) n ≡ w
+  put_here = get_or-set_same ws n w no_walk low
+
+  pub put_other : (i : ℕ) → i ≢ n → walk_at (set ws n w) i ≡ walk_at ws i
+  put_other i other = get_or-set_other ws n i w no_walk other
+
+  pub put_below : AreSameWalks (set ws n w) ws n
+  put_below i less = let other : i ≢ n = omega arith in put_other i other
+
+  pub courses_put : (g : Graph) (parts : List TrailPart) (m : ℕ) → w.course ≡ (walk_at ws n).course → HaveCourses g parts ws m → HaveCourses g parts (set ws n w) m
+  courses_put g parts m same have i less = go (cases_eq i n)
+    where
+      go : (i ≡ n) ⊎ (i ≡ n → ⊥) → (walk_at (set ws n w) i).course ≡ course_of g (part_at parts i)
+      go (inl here) =
+          ap (λ k. (walk_at (set ws n w) k).course) here ∙ ap (λ (v : Walking). v.course) put_here ∙ same ∙ ap (λ k. (walk_at ws k).course) (sym here) ∙ have i less
+      go (inr other) = ap (λ (v : Walking). v.course) (put_other i other) ∙ have i less
+
+  pub at_put : (j : Journey) (row : Wide) → IsAt j ws row n → IsAt j (set ws n w) row n
+  at_put j row at = record {
+    standing = λ i less. ap (λ (v : Walking). v.standing) (put_below i less) ∙ at.standing i less;
+    fits = λ i most. subst (λ a. IsFit j.graph (drop i j.parts) a) (sym (row_alike j (set ws n w) ws i (λ k less. put_below k (omega arith)))) (at.fits i most);
+    agrees = λ v free. at.agrees v free ∙ ap (λ (a : Partial). look a.nodes v) (sym (row_alike j (set ws n w) ws n put_below));
+  }
+
+  pub walkers_put : (j : Journey) (row : Wide) → w.course ≡ (walk_at ws n).course → AreWalkers j ws row → AreWalkers j (set ws n w) row
+  walkers_put j row same are = record {
+    count = length-set ws n w ∙ are.count;
+    courses = courses_put j.graph j.parts (length j.parts) same are.courses;
+    ends = are.ends;
+    base = are.base;
+    rels = are.rels;
+    size = are.size;
+  }
+
+-- ---- what is owed
+
+module _ (j : Journey) where
+  abbrev g : Graph
+  g = j.graph
+
+  abbrev ps : ℕ → List RelId
+  ps = patterns_of j
+
+  abbrev owing : List Frame → Turn → List (List RelId) → List Trailing
+  owing fs t ls = around g ps fs (flat_map (ways_by g ps t) ls)
+
+  -- a trail begins
+  pub owed_started : (ws : List Walking) (n : ℕ) (w : Walking) → n < length ws → n < length j.parts
+      → w.owed ≡ walks_from g ps (part_at j.parts n) (row_at j ws n) (walked_at j.parts ws n)
+      → around g ps (frames_at j ws n) (after_trails g ps (drop n j.parts) (row_at j ws n) (walked_at j.parts ws n)) ≡ owed_at j (set ws n w) n
+  owed_started ws n w low within owed =
+      ap (λ l. around g ps (frames_at j ws n) (after_trails g ps l (row_at j ws n) (walked_at j.parts ws n))) (split_parts j.parts n within)
+      ∙ ap (around g ps (frames_at j ws n)) (starts g ps (part_at j.parts n) (drop (suc n) j.parts) (row_at j ws n) (walked_at j.parts ws n))
+      ∙ ap (owing (frames_at j ws n) (turn_at j ws n)) (sym owed ∙ ap (λ (v : Walking). v.owed) (sym (put_here ws n w low)))
+      ∙ ap₂ (λ fs t. owing fs t (walk_at (set ws n w) n).owed) (sym (frames_alike j (set ws n w) ws n (put_below ws n w low))) (sym (turn_alike j (set ws n w) ws n (put_below ws n w low)))
+
+  -- its walker goes on
+  module _ (ws : List Walking) (n : ℕ) (w : Walking) (low : n < length ws) (next : (walk_at ws n).owed ≡ w.rels ∷ w.owed) where
+    abbrev vs : List Walking
+    vs = set ws n w
+
+    row_now : row_at j (set ws n w) n ≡ row_at j ws n
+    row_now = row_alike j (set ws n w) ws n (put_below ws n w low)
+
+    pub row_new : row_at j (set ws n w) (suc n) ≡ bound_by j.graph (part_at j.parts n) (row_at j ws n) w.rels
+    unfolding row_at
+    row_new = ap₂ (λ (a : Partial) (v : Walking). bound_by j.graph (part_at j.parts n) a v.rels) row_now (put_here ws n w low)
+
+    pub owed_missed : met_by j.graph (patterns_of j) (turn_at j ws n) w.rels ≡ [] → owed_at j ws n ≡ owed_at j (set ws n w) n
+    owed_missed none =
+        ap (owing (frames_at j ws n) (turn_at j ws n)) next
+        ∙ misses g ps (frames_at j ws n) (turn_at j ws n) w.rels w.owed none
+        ∙ ap (owing (frames_at j ws n) (turn_at j ws n)) (ap (λ (v : Walking). v.owed) (sym (put_here ws n w low)))
+        ∙ ap₂ (λ fs t. owing fs t (walk_at vs n).owed) (sym (frames_alike j vs ws n (put_below ws n w low))) (sym (turn_alike j vs ws n (put_below ws n w low)))
+
+    onward : List Frame → Turn → Walking → List Trailing
+    onward fs t v = around g ps (frame_of t v ∷ fs) (after_trails g ps t.later (row_at j vs (suc n)) ((t.part.clause, v.rels) ∷ t.walked))
+
+    pub owed_arrived : met_by j.graph (patterns_of j) (turn_at j ws n) w.rels ≡ row_at j (set ws n w) (suc n) ∷ []
+        → owed_at j ws n
+        ≡ around j.graph (patterns_of j) (frames_at j (set ws n w) (suc n)) (after_trails j.graph (patterns_of j) (drop (suc n) j.parts) (row_at j (set ws n w) (suc n)) (walked_at j.parts (set ws n w) (suc n)))
+    unfolding frames_at walked_at onward
+    owed_arrived one =
+        ap (owing (frames_at j ws n) (turn_at j ws n)) next
+        ∙ arrives g ps (frames_at j ws n) (turn_at j ws n) w.rels w.owed (row_at j vs (suc n)) one
+        ∙ ap (onward (frames_at j ws n) (turn_at j ws n)) (sym (put_here ws n w low))
+        ∙ ap₂ (λ fs t. onward fs t (walk_at vs n)) (sym (frames_alike j vs ws n (put_below ws n w low))) (sym (turn_alike j vs ws n (put_below ws n w low)))
+
+  -- its walker owes nothing
+  pub owed_none : (ws : List Walking) (n : ℕ) → (walk_at ws n).owed ≡ [] → owed_at j ws n ≡ owed_behind j ws n
+  owed_none ws n none = ap (owing (frames_at j ws n) (turn_at j ws n)) none
+
+  pub owed_back : (ws : List Walking) (n : ℕ) → owed_behind j ws (suc n) ≡ owed_at j ws n
+  unfolding frames_at
+  owed_back ws n = goes_back g ps (frame_of (turn_at j ws n) (walk_at ws n)) (frames_at j ws n)
+
+  pub owed_first : (ws : List Walking) → owed_behind j ws zero ≡ []
+  unfolding frames_at around
+  owed_first ws = refl
+
+  -- all trails have walks
+  pub owed_reached : (ws : List Walking) (n : ℕ) → drop n j.parts ≡ []
+      → around j.graph (patterns_of j) (frames_at j ws n) (after_trails j.graph (patterns_of j) (drop n j.parts) (row_at j ws n) (walked_at j.parts ws n))
+      ≡ reached_at j ws n ∷ owed_behind j ws n
+  unfolding after_trails
+  owed_reached ws n all =
+      ap (λ l. around g ps (frames_at j ws n) (after_trails g ps l (row_at j ws n) (walked_at j.parts ws n))) all
+      ∙ first_of g ps (frames_at j ws n) (record { row = row_at j ws n; lists = [] }) []

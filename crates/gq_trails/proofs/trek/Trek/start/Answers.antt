@@ -1,0 +1,65 @@
+use Rattle.std.proofs.Common.{◌≡◌, ◌∙◌, ◌++◌, get_or, List, Option, Some, ap, ap₂, sym, refl, arith}
+use Rattle.std.proofs.lemmas.List.{get_or_default, get_or_read}
+use Rattle.gq_base.specs.declared.NodeId.{NodeId}
+use Rattle.gq_base.specs.declared.RelId.{RelId}
+use Rattle.gq_law_trails.specs.Trails.{taken_in, used_in}
+use Rattle.gq_law_trails.specs.Walks.{walks}
+use Rattle.gq_law_trails.specs.declared.TrailPart.{TrailPart}
+use Rattle.gq_plan.specs.Assignments.{is_node}
+use Rattle.gq_wide.specs.Rows.{item_at}
+use Rattle.gq_trails.specs.Trekking.{patterns_in}
+use Rattle.gq_trails.specs.Walking.{Course, Walking, course_of}
+use Rattle.gq_trails.specs.steps.Journeys.{Journey, journey_of, no_part, no_walk, part_at, patterns_of, walk_at, walked_at}
+use Rattle.gq_trails.proofs.Searched.{from_is, from_node, from_there}
+use Rattle.gq_trails.proofs.trek.Trek.start.Goals as goal
+
+pub begin-requires-clause-start : goal.begin-requires-clause-start
+begin-requires-clause-start c =
+    let r = c.args.route.now in
+    let s = c.args.self.now in
+    let d = c.args.depth in
+    let j : Journey = journey_of r s.row in
+    let part_is : get_or r.parts.now d c.index-route-depth.result ≡ part_at r.parts.now d = sym (get_or_default r.parts.now d no_part c.index-route-depth.result c.requires.low) in
+    let elem : c.index_mut.result.now ≡ walk_at s.walkers.items d = get_or_read s.walkers.items d c.index_mut.result.now (omega (arith, c.requires.low, c.requires.walkers.count)) c.index_mut.ensures.value no_walk in
+    let start_is : item_at s.row.nodes (part_at r.parts.now d).from ≡ Some c.in-Some.start = ap (λ (p : TrailPart). item_at s.row.nodes p.from) (sym part_is) ∙ sym c.node.ensures ∙ c.in-Some.is in
+    ap (λ (v : Walking). is_node v.course.graph c.in-Some.start) elem
+    ∙ ap (λ (k : Course). is_node k.graph c.in-Some.start) (c.requires.walkers.courses d c.requires.low)
+    ∙ from_node j s.walkers.items s.row d c.requires.low c.requires.at c.in-Some.start start_is
+
+pub returns-in-Some : goal.returns-in-Some
+returns-in-Some c =
+    let r = c.args.route.now in
+    let s = c.args.self.now in
+    let d = c.args.depth in
+    let j : Journey = journey_of r s.row in
+    let p : TrailPart = part_at r.parts.now d in
+    let part_is : get_or r.parts.now d c.index-route-depth.result ≡ part_at r.parts.now d = sym (get_or_default r.parts.now d no_part c.index-route-depth.result c.requires.low) in
+    let elem : c.index_mut.result.now ≡ walk_at s.walkers.items d = get_or_read s.walkers.items d c.index_mut.result.now (omega (arith, c.requires.low, c.requires.walkers.count)) c.index_mut.ensures.value no_walk in
+    let start_is : item_at s.row.nodes p.from ≡ Some c.in-Some.start = ap (λ (q : TrailPart). item_at s.row.nodes q.from) (sym part_is) ∙ sym c.node.ensures ∙ c.in-Some.is in
+    let clause_is = ap (λ (q : TrailPart). q.clause) part_is in
+    let used_is : c.as_slice.result.now ≡ used_in (patterns_of j) (walked_at r.parts.now s.walkers.items d) p.clause =
+    c.as_slice.ensures ∙ c.take_patterns.ensures.taken
+    ∙ ap₂ (λ (a b : List RelId). a ++ b)
+    (c.take_walks.ensures.taken
+    ∙ ap₂ (λ (a b : List RelId). a ++ b) c.clear.ensures
+    (ap₂ (λ cl us. taken_in cl (walked_at r.parts.now us d)) clause_is c.as_slice-walkers.ensures.value))
+    (ap (patterns_in r.rels.now s.row.rels) clause_is) in
+    let walked : Course → Option NodeId → List RelId → List (List RelId) = λ k o us. walks k.graph k.kind k.way k.low k.high o us in
+    record {
+      walk = c.begin.new.self;
+      is = refl;
+      owed = c.begin.ensures.owed
+          ∙ ap (λ (v : Walking). walked v.course (Some c.in-Some.start) c.as_slice.result.now) elem
+          ∙ ap (λ k. walked k (Some c.in-Some.start) c.as_slice.result.now) (c.requires.walkers.courses d c.requires.low)
+          ∙ ap₂ (walked (course_of r.graph.now p)) (sym start_is ∙ from_is j s.walkers.items s.row d c.requires.low c.requires.at) used_is;
+      course = c.begin.ensures.course ∙ ap (λ (v : Walking). v.course) elem;
+      row = refl;
+    }
+
+pub returns-in-None : goal.returns-in-None
+returns-in-None c =
+    let r = c.args.route.now in
+    let s = c.args.self.now in
+    let d = c.args.depth in
+    let part_is : get_or r.parts.now d c.index-route-depth.result ≡ part_at r.parts.now d = sym (get_or_default r.parts.now d no_part c.index-route-depth.result c.requires.low) in
+    absurd (from_there (journey_of r s.row) s.walkers.items s.row d c.requires.low c.requires.at (ap (λ (p : TrailPart). item_at s.row.nodes p.from) (sym part_is) ∙ sym c.node.ensures ∙ c.in-None.is))

@@ -1,0 +1,113 @@
+//! What is asked of the node where a walk of a trail ends.
+ghost use Rattle.std.specs.Prelude.{◌≡◌, ◌<◌, length, slice_get, Some};
+ghost use Rattle.std.specs.List.{list_all};
+ghost use Rattle.gq_base.specs.Catalogs.{has_label};
+ghost use Rattle.gq_law_trails.specs.Trails.{fits_end};
+ghost use Rattle.gq_plan.specs.Allowed.{at_same};
+ghost use Rattle.gq_plan.specs.Conditions.{passes};
+ghost use Rattle.gq_plan.specs.Meaning.{row, nothing, with_node};
+ghost use Rattle.gq_trails.specs.steps.Ends.{may_end, settled};
+
+use gq_base::{Catalog, NodeId, RelId, Text, Value};
+use gq_expr::{Assigned, eval};
+use gq_law_trails::TrailPart;
+use gq_plan::NamedExpr;
+use gq_store::Graph;
+use gq_wide::WideRow;
+
+/// A row in which one variable has a node, and no other has anything.
+#[derive(Clone, Copy)]
+struct End {
+    variable: u32,
+    node: NodeId,
+}
+
+impl Assigned for End {
+    ghost assignment = { λ e. row (with_node e.variable e.node nothing) };
+
+    fn node(&self, variable: u32) -> Option<NodeId> {
+        if self.variable == variable {
+            Some(self.node)
+        } else {
+            None
+        }
+    }
+
+    fn rel(&self, _variable: u32) -> Option<RelId> {
+        None
+    }
+}
+
+/// Whether a walk of a trail may end at a node: where the other end is bound, that has to be the
+/// node; else the node has to be as the trail asks, and is put into the row.
+pub(crate) fn arrives(graph: &Graph, part: &TrailPart, end: NodeId, row: &mut WideRow) -> bool
+    requires { part.now.to < length row.old.nodes }
+    ensures may { result ≡ may_end graph.now part.now row.old end }
+    ensures row { row.new ≡ settled part.now row.old end }
+{
+    if part.both {
+        return is_at(row.node(part.to), end);
+    }
+    row.set_node(part.to, Some(end));
+    fits(graph, part, end)
+}
+
+fn is_at(node: Option<NodeId>, end: NodeId) -> bool
+    ensures { result ≡ at_same node (Some end) }
+{
+    match node {
+        None => false,
+        Some(node) => node == end,
+    }
+}
+
+// Whether a node has the labels and passes the tests that a trail asks of its other end.
+#[tactic(auto, unfolding(gq_law_trails::specs::Trails::fits_end))]
+fn fits(graph: &Graph, part: &TrailPart, end: NodeId) -> bool
+    ensures { result ≡ fits_end graph.now part.now end }
+{
+    let row = End {
+        variable: part.to,
+        node: end,
+    };
+    has_labels(graph, part.labels.as_slice(), end) && pass(graph, part.tests.as_slice(), &row)
+}
+
+fn has_labels(graph: &Graph, labels: &[Text], node: NodeId) -> bool
+    ensures { let table = slice_get graph.now.catalog.nodes node.table in
+        result ≡ list_all (has_label table) labels.now }
+{
+    let catalog = graph.catalog();
+    labels
+        .iter()
+        .all(|label| is_labelled(catalog, node.table, label))
+}
+
+// Whether there is a node table of this number, which has a label.
+#[tactic(auto, using(std::proofs::lemmas::Option::slice_get_past))]
+fn is_labelled(catalog: &Catalog, table: u32, label: &Text) -> bool
+    ensures { result ≡ has_label (slice_get catalog.now.nodes table) label.now }
+{
+    if catalog.node_tables() <= table {
+        return false;
+    }
+    catalog.has_label(table, label.as_str())
+}
+
+// Whether all tests are true of a row.
+fn pass(graph: &Graph, tests: &[NamedExpr], end: &End) -> bool
+    ensures { let here = row (with_node end.now.variable end.now.node nothing) in
+        result ≡ list_all (passes graph.now here) tests.now }
+{
+    tests.iter().all(|test| passes_one(graph, test, end))
+}
+
+fn passes_one(graph: &Graph, test: &NamedExpr, end: &End) -> bool
+    ensures { let here = row (with_node end.now.variable end.now.node nothing) in
+        result ≡ passes graph.now here test.now }
+{
+    match eval(&test.expr, graph, end) {
+        Ok(Value::Flag(truth)) => truth,
+        _ => false,
+    }
+}
