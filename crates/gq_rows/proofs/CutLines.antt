@@ -1,6 +1,6 @@
 -- Lines that are cut from a list of values, and those that a listing has.
 use Rattle.std.proofs.Common.{◌≡◌, ℕ, ◌+◌, ◌-◌, ◌*◌, ◌<◌, ◌≤◌, zero, suc, min, List, [], ◌∷◌, length, map, take, drop, get_or, Option, Some, None, refl, sym, subst, ap, ap₂, ◌∙◌, arith, length-append, length-take}
-use Rattle.std.specs.Prelude.{flat_map, slice_get, option_map}
+use Rattle.std.specs.Prelude.{flat_map, option_map}
 use Rattle.std.specs.List.{All}
 use Rattle.std.proofs.Math.Nat.{mul-le-mul_right}
 use Rattle.std.proofs.lemmas.List.{drop-drop, drop-map, drop_at, get_or-drop, get_or-take, length-drop, take_all, take_at, take_min}

@@ -17,7 +17,7 @@ use Rattle.gq_expr.specs.Meaning.{meaning}
 use Rattle.gq_expr.specs.Operators.{Outcome}
 use Rattle.gq_expr.specs.Reading as reading
 use Rattle.gq_expr.specs.declared.Fault.{Fault}
-use Rattle.gq_plan.specs.Outcomes.{Row, key_meanings, late_conjuncts, meanings_of, outcome_by, then_with, values}
+use Rattle.gq_plan.specs.Outcomes.{Row, key_meanings, late_conjuncts, meanings_of, then_with, values}
 use Rattle.gq_plan.specs.declared.bound.Bound.{Bound}
 use Rattle.gq_plan.specs.declared.bound.NamedExpr.{NamedExpr}
 use Rattle.gq_plan.specs.declared.typed.Typed.{Typed}
@@ -36,13 +36,12 @@ use Rattle.gq_rows.specs.declared.refusal.More.TheVariants as more
 use Rattle.gq_rows.specs.declared.refusal.RowRefusal.{RowRefusal}
 use Rattle.gq_rows.specs.declared.refusal.RowRefusal.TheVariants as refusal
 use Rattle.gq_rows.specs.declared.table.RowTable.TheInside.{Inside}
-use Rattle.gq_rows.specs.steps.Finding.{IsFinder}
 use Rattle.gq_rows.specs.steps.Inner.{held_by, table_of, table_with}
 use Rattle.gq_rows.specs.steps.Judged.{check_after, values_after}
 use Rattle.gq_rows.specs.steps.Keeping.{Has, HasForm, HasFull, HasMore, HasPast, IsNoFault, PushesHeld, TellsFull, bar_of, held_of, more_rows}
 use Rattle.gq_rows.specs.steps.Listed.{AddedIn, AddsIn, AreFinders, Finding, IsListing, IsPlain, PutsRow, column_exprs, held_in, is_listing, meanings_found, outcome_in, table_in}
 use Rattle.gq_rows.proofs.Forms.{stands_by}
-use Rattle.gq_rows.proofs.Looking.{appended, met, when_column, when_dropped, when_faulty}
+use Rattle.gq_rows.proofs.Looking.{appended, met, when_column}
 use Rattle.gq_rows.proofs.Ranked.{keyless_sorted, none}
 use Rattle.gq_rows.proofs.Standings.{open_is, pushed, pushes, room_of}
 

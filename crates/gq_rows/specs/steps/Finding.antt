@@ -1,5 +1,5 @@
 -- What it means that the number of a column's variable stands for the column's value.
-use Rattle.std.specs.Prelude.{◌≡◌, ℕ, ◌<◌, Option, Some, Result, Ok, Err, List, [], ◌∷◌, ◌++◌, slice_get}
+use Rattle.std.specs.Prelude.{◌≡◌, ℕ, ◌<◌, Some, Result, Ok, Err, List, [], ◌∷◌, ◌++◌, slice_get}
 use Rattle.gq_base.specs.Plain.{Graph}
 use Rattle.gq_base.specs.Values.{Val}
 use Rattle.gq_cells.specs.Numbers.{IsNumber, source_val}

@@ -1,5 +1,5 @@
 -- Rows that are held as cells, of a query without DISTINCT and without ORDER BY.
-use Rattle.std.specs.Prelude.{◌≡◌, ℕ, ◌+◌, ◌<◌, ◌≤◌, ◌^◌, ◌&&◌, not, Bool, true, false, Option, Some, None, Result, Ok, Err, List, [], ◌∷◌, ◌++◌, length, map}
+use Rattle.std.specs.Prelude.{◌≡◌, ◌+◌, ◌<◌, ◌≤◌, ◌^◌, ◌&&◌, not, Bool, true, false, Option, Some, None, Result, Ok, Err, List, [], ◌++◌, length, map}
 use Rattle.std.specs.List.{All}
 use Rattle.gq_base.specs.Lists.{is_empty}
 use Rattle.gq_base.specs.Plain.{Graph}
@@ -13,7 +13,7 @@ use Rattle.gq_expr.specs.declared.expr.Expr.{Expr}
 use Rattle.gq_plan.specs.Outcomes.{Row}
 use Rattle.gq_plan.specs.declared.bound.Bound.{Bound}
 use Rattle.gq_plan.specs.declared.bound.NamedExpr.{NamedExpr}
-use Rattle.gq_rows.specs.Tables.{Held, HoldsRows, Table, outcome_admitted, outcome_read}
+use Rattle.gq_rows.specs.Tables.{Held, Table, outcome_admitted, outcome_read}
 use Rattle.gq_rows.specs.steps.Finding.{IsFinder}
 use Rattle.gq_rows.specs.steps.Judged.{values_after}
 use Rattle.gq_rows.specs.steps.Keeping.{HasForm}

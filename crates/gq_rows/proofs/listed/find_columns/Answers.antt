@@ -1,9 +1,5 @@
 use Rattle.std.proofs.Common.{◌∙◌, sym, subst, ap}
-use Rattle.std.specs.List.{All}
-use Rattle.gq_expr.specs.declared.expr.Expr.{Expr}
 use Rattle.gq_plan.specs.declared.bound.NamedExpr.{NamedExpr}
-use Rattle.gq_rows.specs.declared.finder.Finder.{Finder}
-use Rattle.gq_rows.specs.steps.Finding.{IsFinder}
 use Rattle.gq_rows.specs.steps.Listed.{AreFinders}
 use Rattle.gq_rows.proofs.Finding.{exprs_next, stay_and}
 use Rattle.gq_rows.proofs.listed.find_columns.Goals as goal

@@ -1,4 +1,4 @@
-use Rattle.std.proofs.Common.{◌≡◌, ◌∙◌, map, ap, subst}
+use Rattle.std.proofs.Common.{◌∙◌, map, ap}
 use Rattle.gq_cells.specs.Numbers.{Kept}
 use Rattle.gq_cells.specs.steps.Inner.{cell_value}
 use Rattle.gq_cells.proofs.Staying.{stays}

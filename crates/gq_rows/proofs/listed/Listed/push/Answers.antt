@@ -1,5 +1,4 @@
 use Rattle.gq_rows.proofs.ListedRows.{few, refused, told}
-use Rattle.gq_rows.specs.steps.Listed.{outcome_in}
 use Rattle.gq_rows.proofs.listed.Listed.push.Goals as goal
 
 pub add-requires-clause-few : goal.add-requires-clause-few

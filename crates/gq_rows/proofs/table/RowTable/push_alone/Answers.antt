@@ -1,6 +1,5 @@
 use Rattle.std.proofs.Common.{[], None, Some, ap, refl, subst}
 use Rattle.gq_plan.specs.declared.bound.Bound.{Bound}
-use Rattle.gq_rows.specs.Chunks.{PushesAll, chunk_outcomes}
 use Rattle.gq_rows.specs.Tables.{Pushes, Table, outcome_read}
 use Rattle.gq_rows.specs.steps.Inner.{table_of}
 use Rattle.gq_rows.proofs.ListedRows.{inside_listing, listing_is, pushed_listed, room_listed, stands_listed}

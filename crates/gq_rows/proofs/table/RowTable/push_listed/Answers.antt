@@ -1,7 +1,7 @@
 use Rattle.std.proofs.Common.{[], None, Some, ap, refl, subst}
 use Rattle.gq_plan.specs.declared.bound.Bound.{Bound}
 use Rattle.gq_rows.specs.Chunks.{PushesAll, admitted_outcomes}
-use Rattle.gq_rows.specs.Tables.{Pushes, Table, outcome_read}
+use Rattle.gq_rows.specs.Tables.{Table}
 use Rattle.gq_rows.specs.steps.Inner.{table_of}
 use Rattle.gq_rows.proofs.ListedRows.{inside_listing, listing_is, pushed_chunk, room_listed, stands_listed}
 use Rattle.gq_rows.proofs.table.RowTable.push_listed.Goals as goal
