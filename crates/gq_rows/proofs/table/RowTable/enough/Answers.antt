@@ -13,4 +13,4 @@ by t old view h lt (inr (inl (n, is))) = never_full (Top n) t old view is h (λ 
 by t old view h lt (inr (inr is)) = never_full Classes t old view is h (λ held x. x) lt
 
 pub returns-in-All : goal.returns-in-All
-returns-in-All c = by c.self.inside c.args.self.now c.self.view_is c.self.invariant.form (omega (arith, c.count.ensures)) c.in-All.is
+returns-in-All c = by c.self.inside c.args.self.now c.self.view_is c.self.invariant.form (omega (arith, c.count-count.ensures)) c.in-All.is
