@@ -1,6 +1,6 @@
 //! Listings: the names of their columns, a line for each row, and how many rows there are.
 
-ghost use Rattle.std.specs.Prelude.{[], ◌<◌, codes, flat_map, length, map, slice_index_or};
+ghost use Rattle.std.specs.Prelude.{[], ◌<◌, codes, drop, flat_map, length, map, slice_index_or};
 ghost use Rattle.gq_base.specs.Values.{val};
 ghost use Rattle.gq_io.specs.Causes.{HasCause};
 ghost use Rattle.gq_io.specs.Outside.{Writes};
@@ -87,19 +87,22 @@ fn put_next_value<O: Sink>(
     put_value(batch, out, graph, value)
 }
 
-// Puts values, each behind a tab.
+// Puts the values of a line behind its first one, each behind a tab.
 fn put_other_values<O: Sink>(
     batch: &mut Batch,
     out: &mut O,
     graph: &Graph,
-    values: &[Value<'_>],
+    listing: &Listing<'_>,
+    row: usize,
 ) -> Result<(), Failed>
-    ensures bytes { Puts (O.taken out.old) (O.taken out.new) batch.old batch.new
-        (flat_map (λ value. after_tab (value_text graph.now (val value))) values.now) result }
+    requires { row < length listing.now.lines }
+    ensures bytes { let values = slice_index_or listing.now.lines row [] in
+        Puts (O.taken out.old) (O.taken out.new) batch.old batch.new
+        (flat_map (λ value. after_tab (value_text graph.now value)) (drop 1 values)) result }
     ensures cause { HasCause (O.faults out.old) (O.faults out.new) result }
 {
-    for value in values {
-        put_next_value(batch, out, graph, value)?;
+    for column in 1..listing.width(row) {
+        put_next_value(batch, out, graph, &listing.value(row, column))?;
     }
     Ok(())
 }
@@ -108,17 +111,20 @@ fn put_values<O: Sink>(
     batch: &mut Batch,
     out: &mut O,
     graph: &Graph,
-    values: &[Value<'_>],
+    listing: &Listing<'_>,
+    row: usize,
 ) -> Result<(), Failed>
-    ensures bytes { Puts (O.taken out.old) (O.taken out.new) batch.old batch.new
-        (tabbed (map (value_text graph.now) (map val values.now))) result }
+    requires { row < length listing.now.lines }
+    ensures bytes { let values = slice_index_or listing.now.lines row [] in
+        Puts (O.taken out.old) (O.taken out.new) batch.old batch.new
+        (tabbed (map (value_text graph.now) values)) result }
     ensures cause { HasCause (O.faults out.old) (O.faults out.new) result }
 {
-    let [first, others @ ..] = values else {
+    if listing.width(row) == 0 {
         return Ok(());
-    };
-    put_value(batch, out, graph, first)?;
-    put_other_values(batch, out, graph, others)
+    }
+    put_value(batch, out, graph, &listing.value(row, 0))?;
+    put_other_values(batch, out, graph, listing, row)
 }
 
 // Puts the line of a row.
@@ -126,13 +132,16 @@ fn put_row<O: Sink>(
     batch: &mut Batch,
     out: &mut O,
     graph: &Graph,
-    values: &[Value<'_>],
+    listing: &Listing<'_>,
+    row: usize,
 ) -> Result<(), Failed>
-    ensures bytes { Puts (O.taken out.old) (O.taken out.new) batch.old batch.new
-        (row_text graph.now (map val values.now)) result }
+    requires { row < length listing.now.lines }
+    ensures bytes { let values = slice_index_or listing.now.lines row [] in
+        Puts (O.taken out.old) (O.taken out.new) batch.old batch.new
+        (row_text graph.now values) result }
     ensures cause { HasCause (O.faults out.old) (O.faults out.new) result }
 {
-    put_values(batch, out, graph, values)?;
+    put_values(batch, out, graph, listing, row)?;
     batch.put(out, b"\n")
 }
 
@@ -163,7 +172,7 @@ fn put_rows<O: Sink>(
     ensures cause { HasCause (O.faults out.old) (O.faults out.new) result }
 {
     for row in 0..listing.len() {
-        put_row(batch, out, graph, listing.line(row))?;
+        put_row(batch, out, graph, listing, row)?;
     }
     Ok(())
 }
@@ -217,7 +226,7 @@ pub fn write_row<O: Sink>(
     ensures cause { HasCause (O.faults out.old) (O.faults out.new) result }
 {
     let mut batch = Batch::new();
-    put_row(&mut batch, out, graph, listing.line(row))?;
+    put_row(&mut batch, out, graph, listing, row)?;
     batch.flush(out)
 }
 
@@ -236,8 +245,8 @@ fn put_end_rows<O: Sink>(
     if count == 0 {
         return Ok(());
     }
-    put_row(batch, out, graph, listing.line(0))?;
-    put_row(batch, out, graph, listing.line(count - 1))
+    put_row(batch, out, graph, listing, 0)?;
+    put_row(batch, out, graph, listing, count - 1)
 }
 
 fn put_ends<O: Sink>(

@@ -1,19 +1,17 @@
 -- Lines that are cut from a list of values, and those that a listing has.
 use Rattle.std.proofs.Common.{◌≡◌, ℕ, ◌+◌, ◌-◌, ◌*◌, ◌<◌, ◌≤◌, zero, suc, min, List, [], ◌∷◌, length, map, take, drop, get_or, Option, Some, None, refl, sym, subst, ap, ap₂, ◌∙◌, arith, length-append, length-take}
-use Rattle.std.specs.Prelude.{flat_map, slice_get, option_map}
-use Rattle.std.specs.List.{All, take-map}
+use Rattle.std.specs.Prelude.{flat_map, option_map}
+use Rattle.std.specs.List.{All}
 use Rattle.std.proofs.Math.Nat.{mul-le-mul_right}
-use Rattle.std.proofs.lemmas.List.{drop-drop, drop-map, drop_at, get_or-drop, length-drop, length-map, take_all, take_at, take_min}
+use Rattle.std.proofs.lemmas.List.{drop-drop, drop-map, drop_at, get_or-drop, get_or-take, length-drop, take_all, take_at, take_min}
 use Rattle.std.proofs.lemmas.List.Concat.{flat_map-cons}
 use Rattle.std.proofs.lemmas.List.Elements.{All-tail}
-use Rattle.std.proofs.lemmas.Option.{slice_get-get_or}
-use Rattle.gq_base.specs.Values.{Val, val}
+use Rattle.gq_base.specs.Values.{Val, null}
 use Rattle.gq_plan.specs.Outcomes.{Row}
 use Rattle.gq_plan.specs.declared.bound.Bound.{Bound}
 use Rattle.gq_rows.specs.Answers.{at_most, columns_of, first_of, most_listed, window}
-use Rattle.gq_rows.specs.steps.Keeping.{HoldsOf}
-use Rattle.gq_rows.specs.steps.Lines.{HasLines, cut_lines, lines_of}
-use Rattle.gq_rows.specs.declared.held.Rows.{Rows}
+use Rattle.gq_rows.specs.steps.Lines.{HasLines, cut_lines, lines_of, values_of}
+use Rattle.gq_rows.specs.Tables.{Held, HoldsRows}
 use Rattle.gq_rows.specs.declared.listing.Lines.TheInside.{Inside}
 use Rattle.gq_rows.proofs.Tops.{cut-window}
 
@@ -57,58 +55,64 @@ most-within : (o : Option ℕ) (count : ℕ) → at_most o count ≤ count
 most-within None count = omega arith
 most-within (Some n) count = omega arith
 
-module _ (b : Bound) (list : List Row) (v : Rows) (h : HoldsOf b list v) where
+module _ (b : Bound) (list : List Row) (v : Held) (h : HoldsRows (length b.columns) (length b.keys) list v) where
   columns_sized : All (λ (r : Row). length r.columns ≡ length b.columns) list
   columns_sized = λ k d lt. (h.sized k d lt).0
 
-  pub windowed : (width skip end : ℕ) → width ≡ length b.columns → skip ≡ b.skip → end ≡ at_most (most_listed b) v.count → drop skip (cut_lines end width (map val v.columns.items)) ≡ columns_of (window b list)
+  pub windowed : (width skip end : ℕ) → width ≡ length b.columns → skip ≡ b.skip → end ≡ at_most (most_listed b) v.count → drop skip (cut_lines end width v.columns) ≡ columns_of (window b list)
   windowed width skip end w s e =
       let last : ℕ = at_most (most_listed b) (length list) in
       let ends : end ≡ last = e ∙ ap (at_most (most_listed b)) h.count in
-      ap₂ (λ k n. drop k (cut_lines n width (map val v.columns.items))) s ends
+      ap₂ (λ k n. drop k (cut_lines n width v.columns)) s ends
       ∙ ap₂ (λ n vs. drop b.skip (cut_lines last n vs)) w h.columns
       ∙ ap (drop b.skip) (cut_rows (length b.columns) (λ (r : Row). r.columns) last list (most-within (most_listed b) (length list)) columns_sized)
       ∙ drop-map (λ (r : Row). r.columns) b.skip (take last list)
       ∙ ap columns_of (window-by b.skip b.limit list)
 
-  pub wide : (width end : ℕ) → width ≡ length b.columns → end ≡ at_most (most_listed b) v.count → end * width ≤ length v.columns.items
+  pub wide : (width end : ℕ) → width ≡ length b.columns → end ≡ at_most (most_listed b) v.count → end * width ≤ length v.columns
   wide width end w e =
-      let all : length v.columns.items ≡ length list * length b.columns =
-      sym (length-map v.columns.items val) ∙ ap length h.columns ∙ flat-length (length b.columns) (λ (r : Row). r.columns) list columns_sized in
+      let all : length v.columns ≡ length list * length b.columns =
+      ap length h.columns ∙ flat-length (length b.columns) (λ (r : Row). r.columns) list columns_sized in
       let within : end * length b.columns ≤ length list * length b.columns = mul-le-mul_right (length b.columns) (omega (arith, e, most-within (most_listed b) v.count, h.count)) in
       omega (arith, within, all, ap (λ k. end * k) w)
 
 -- ---- the lines of a listing
 
 pub lines_len : (l : Inside) → length (lines_of l) ≡ l.end - l.skip
-lines_len l = length-drop l.skip (cut_lines l.end l.width (map val l.values.items)) ∙ ap (λ n. n - l.skip) (length_cut l.end l.width (map val l.values.items))
+lines_len l = length-drop l.skip (cut_lines l.end l.width (values_of l.values)) ∙ ap (λ n. n - l.skip) (length_cut l.end l.width (values_of l.values))
 
 module _ (l : Inside) (has : HasLines l) where
   -- a line's values are there
-  pub line_within : (i : ℕ) → i < l.end → i * l.width + l.width ≤ length l.values.items
+  pub line_within : (i : ℕ) → i < l.end → i * l.width + l.width ≤ length (values_of l.values)
   line_within i lt =
       let rows : (i + 1) * l.width ≤ l.end * l.width = mul-le-mul_right l.width (omega (arith, lt)) in
       omega (arith, rows, has.values)
 
-  line_get : (row : ℕ) (d : List Val) → row < length (lines_of l) → get_or (lines_of l) row d ≡ map val (take l.width (drop ((l.skip + row) * l.width) l.values.items))
+  pub line_get : (row : ℕ) (d : List Val) → row < length (lines_of l) → get_or (lines_of l) row d ≡ take l.width (drop ((l.skip + row) * l.width) (values_of l.values))
   line_get row d lt =
-      let i = l.skip + row in
-      let below : i < l.end = omega (arith, lt, lines_len l) in
-      get_or-drop l.skip (cut_lines l.end l.width (map val l.values.items)) row d
-      ∙ cut_at l.end l.width (map val l.values.items) i d below
-      ∙ ap (take l.width) (drop-map val (i * l.width) l.values.items)
-      ∙ take-map val l.width (drop (i * l.width) l.values.items)
+      get_or-drop l.skip (cut_lines l.end l.width (values_of l.values)) row d
+      ∙ cut_at l.end l.width (values_of l.values) (l.skip + row) d (omega (arith, lt, lines_len l))
 
-  pub line_at : (row : ℕ) → row < length (lines_of l) → slice_get (lines_of l) row ≡ Some (map val (take l.width (drop ((l.skip + row) * l.width) l.values.items)))
-  line_at row lt = slice_get-get_or (lines_of l) row [] lt ∙ ap Some (line_get row [] lt)
-
-  lines_width : All (λ line. length line ≡ l.width) (lines_of l)
+  pub lines_width : All (λ line. length line ≡ l.width) (lines_of l)
   lines_width k d lt =
       let i = l.skip + k in
-      let below : i < l.end = omega (arith, lt, lines_len l) in
-      let vs = drop (i * l.width) l.values.items in
-      ap length (line_get k d lt) ∙ length-map (take l.width vs) val
-      ∙ omega (arith, length-take l.width vs, length-drop (i * l.width) l.values.items, line_within i below)
+      ap length (line_get k d lt)
+      ∙ omega (arith, length-take l.width (drop (i * l.width) (values_of l.values)), length-drop (i * l.width) (values_of l.values), line_within i (omega (arith, lt, lines_len l)))
+
+  -- where the value of a line stands among all values
+  pub value_within : (row column : ℕ) → row < length (lines_of l) → column < length (get_or (lines_of l) row []) → (l.skip + row) * l.width + column < length (values_of l.values)
+  value_within row column lt within =
+      let wide : length (get_or (lines_of l) row []) ≡ l.width = lines_width row [] lt in
+      omega (arith, within, wide, line_within (l.skip + row) (omega (arith, lt, lines_len l)))
+
+  pub value_get : (row column : ℕ) → row < length (lines_of l) → column < length (get_or (lines_of l) row [])
+      → get_or (values_of l.values) ((l.skip + row) * l.width + column) null ≡ get_or (get_or (lines_of l) row []) column null
+  value_get row column lt within =
+      let start : ℕ = (l.skip + row) * l.width in
+      let wide : length (get_or (lines_of l) row []) ≡ l.width = lines_width row [] lt in
+      sym (ap (λ line. get_or line column null) (line_get row [] lt)
+      ∙ get_or-take l.width (drop start (values_of l.values)) column null (omega (arith, within, wide))
+      ∙ get_or-drop start (values_of l.values) column null)
 
 -- each line has so many values as the lines are wide
 pub wide_lines : (w : ℕ) (l : Inside) → HasLines l → l.width ≡ w → All (λ line. length line ≡ w) (lines_of l)

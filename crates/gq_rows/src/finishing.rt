@@ -1,14 +1,16 @@
 //! The lines that a table of rows answers.
-ghost use Rattle.std.specs.Prelude.{◌≡◌, All, IfOk, List, length};
+ghost use Rattle.std.specs.Prelude.{◌≡◌, All, IfOk, List, length, true};
 ghost use Rattle.gq_plan.specs.Outcomes.{Row};
-ghost use Rattle.gq_rows.specs.Answers.{at_most, columns_of, most_listed, window};
+ghost use Rattle.gq_rows.specs.Answers.{Lists, at_most, columns_of, most_listed, window};
 ghost use Rattle.gq_rows.specs.steps.Keeping.{HoldsOf, held_of};
+ghost use Rattle.gq_rows.specs.steps.Listed.{held_in, is_listing};
 ghost use Rattle.gq_rows.specs.steps.Sorting.{ArrangesRows, ChoosesRows, HasFirsts, IsWindowOf};
 ghost use Rattle.gq_rows.specs.steps.Sorting.{ListsRows};
 ghost use Rattle.gq_rows.specs.Tables.{AnswersListings, Holds, StandsForSome};
 
 use crate::held::Rows;
-use crate::listing::{Lines, Listing};
+use crate::listed::{Listed, is_listing};
+use crate::listing::{Lines, Listing, Values};
 use crate::sorting::sorted;
 use crate::table::RowTable;
 use gq_base::Memory;
@@ -85,7 +87,26 @@ fn window_of<'g>(bound: &Bound, rows: Rows<'g>) -> Lines<'g>
         bar: _,
     } = rows;
     Lines {
-        values: columns,
+        values: Values::Made(columns),
+        width: bound.columns.len(),
+        skip: bound.skip as usize,
+        end: end_of(bound, count),
+    }
+}
+
+// The lines of the rows that are listed as they come.
+fn lines_of<'g>(bound: &Bound, listed: Listed<'g>) -> Lines<'g>
+    requires listing { is_listing bound.now ≡ true }
+    requires holds { (list : List Row) × Holds bound.now list (held_in listed) }
+    ensures lists { (list : List Row) → Holds bound.now list (held_in listed.entry)
+        → Lists bound.now list result }
+    ensures wide { All (λ line. length line ≡ length bound.now.columns) result }
+{
+    let Listed { cells, count } = listed;
+    // The number of values fits its type.
+    let _ = cells.len();
+    Lines {
+        values: Values::Kept(cells),
         width: bound.columns.len(),
         skip: bound.skip as usize,
         end: end_of(bound, count),
@@ -132,10 +153,19 @@ impl<'g> RowTable<'g> {
             form: _,
             sure: _,
             rows,
+            listed,
+            finders: _,
             pushed,
             choice: _,
             reading: _,
         } = self;
+        if is_listing(bound) {
+            return Ok(Listing {
+                lines: lines_of(bound, listed),
+                columns: bound.columns.len(),
+                pushed,
+            });
+        }
         match listing_of(alloc, bound, rows) {
             Ok(lines) => Ok(Listing {
                 lines,

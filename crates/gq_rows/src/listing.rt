@@ -1,16 +1,37 @@
 //! The lines of an answer, and the listing that has them.
-ghost use Rattle.std.specs.Prelude.{◌≡◌, ◌<◌, [], Some, length, map, nat_eq, slice_get};
-ghost use Rattle.std.specs.Prelude.{slice_index_or};
+ghost use Rattle.std.specs.Prelude.{◌≡◌, ◌<◌, [], length, nat_eq, slice_index_or};
 ghost use Rattle.gq_base.specs.Values.{null, val};
+ghost use Rattle.gq_rows.specs.steps.Lines.{values_of};
 
 use gq_base::Value;
+use gq_cells::Cells;
 use std::marker::Model;
+
+/// The values of rows, one row after another.
+#[derive(Drop)]
+pub enum Values<'g> {
+    Made(Vec<Value<'g>>),
+    Kept(Cells<'g>),
+}
+
+impl<'g> Values<'g> {
+    // A value, counted from 0.
+    fn value(&self, index: usize) -> Value<'g>
+        requires { index < length (values_of self.now) }
+        ensures { val result ≡ slice_index_or (values_of self.now) index null }
+    {
+        match self {
+            Values::Made(values) => values[index],
+            Values::Kept(cells) => cells.value(index),
+        }
+    }
+}
 
 /// The lines that answer a query, each with one value for each of its columns. The first lines of
 /// the list of values are skipped.
 #[derive(Drop)]
 pub struct Lines<'g> {
-    pub(crate) values: Vec<Value<'g>>,
+    pub(crate) values: Values<'g>,
     pub(crate) width: usize,
     pub(crate) skip: usize,
     pub(crate) end: usize,
@@ -44,13 +65,13 @@ impl<'g> Lines<'g> {
         self.len() == 0
     }
 
-    /// The values of a line, counted from 0: one for each column.
-    pub fn line(&self, row: usize) -> &[Value<'g>]
+    /// How many values a line has.
+    pub fn width(&self, row: usize) -> usize
         requires { row < length self.now }
-        ensures { slice_get self.now row ≡ Some (map val result.now) }
+        ensures { result ≡ length (slice_index_or self.now row []) }
     {
-        let start = (self.skip + row) * self.width;
-        &self.values[start..start + self.width]
+        let _ = row;
+        self.width
     }
 
     /// The value of a line in a column, both counted from 0.
@@ -59,7 +80,7 @@ impl<'g> Lines<'g> {
         requires column { column < length (slice_index_or self.now row []) }
         ensures { val result ≡ slice_index_or (slice_index_or self.now row []) column null }
     {
-        self.line(row)[column]
+        self.values.value((self.skip + row) * self.width + column)
     }
 }
 
@@ -94,12 +115,12 @@ impl<'g> Listing<'g> {
         self.columns
     }
 
-    /// The values of a line, counted from 0: one for each column.
-    pub fn line(&self, row: usize) -> &[Value<'g>]
+    /// How many values a line has, counted from 0: one for each column.
+    pub fn width(&self, row: usize) -> usize
         requires { row < length self.now.lines }
-        ensures { slice_get self.now.lines row ≡ Some (map val result.now) }
+        ensures { result ≡ length (slice_index_or self.now.lines row []) }
     {
-        self.lines.line(row)
+        self.lines.width(row)
     }
 
     /// The value of a line in a column, both counted from 0.

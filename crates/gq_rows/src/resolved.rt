@@ -101,7 +101,8 @@ fn read_rel<'g, R: Assigned>(
     Ok(graph.rel_value(property.table, property.place, rel.row))
 }
 
-fn reader_of(expr: &Expr, typed: &Typed, graph: &Graph) -> Reader
+/// How an expression is evaluated for an alternative in a graph.
+pub(crate) fn reader_of(expr: &Expr, typed: &Typed, graph: &Graph) -> Reader
     ensures { IsReader graph.now expr.now result }
 {
     match expr {

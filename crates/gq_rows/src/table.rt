@@ -3,17 +3,24 @@ ghost use Rattle.std.specs.Prelude.{◌≡◌, [], None, Some, IsSome, OnOk, fal
 ghost use Rattle.gq_group.specs.Choices.{Begins};
 ghost use Rattle.gq_group.specs.Chunks.{IsChunkOf};
 ghost use Rattle.gq_group.specs.Groups.{choices};
-ghost use Rattle.gq_rows.specs.Chunks.{IsChunkIn, PushesAll, PushesChunk, chunk_outcomes, counted};
+ghost use Rattle.gq_plan.specs.Assignments.{row_of};
+ghost use Rattle.gq_rows.specs.Chunks.{IsChunkIn, PushesAdmitted, PushesAll, PushesChunk};
+ghost use Rattle.gq_rows.specs.Chunks.{admitted_outcomes, counted};
 ghost use Rattle.gq_rows.specs.steps.Keeping.{HasForm};
+ghost use Rattle.gq_rows.specs.steps.Listed.{is_listing};
 ghost use Rattle.gq_rows.specs.steps.Resolving.{IsReading};
 ghost use Rattle.gq_rows.specs.Tables.{IsSameQuery, Pushes, StandsFor, StandsForSome};
-ghost use Rattle.gq_rows.specs.Tables.{is_full_table, outcome_read};
+ghost use Rattle.gq_rows.specs.Tables.{is_full_table, outcome_admitted, outcome_read};
 
+use crate::admitting::{Admits, Everything};
 use crate::bar::are_sure;
+use crate::finder::Finder;
 use crate::held::{Form, Rows};
 use crate::judging::Question;
+use crate::listed::{Asked, Listed, find_columns, is_listing};
 use crate::refusal::{More, RowRefusal};
 use crate::resolved::Reading;
+use gq_cells::Cells;
 use gq_classes::Classes;
 use gq_expr::Assigned;
 use gq_group::{Choice, Chunk, ChunkRow};
@@ -38,6 +45,9 @@ pub struct RowTable<'g> {
     // Each column and each key is sure to have a value.
     pub(crate) sure: bool,
     pub(crate) rows: Rows<'g>,
+    // The rows of a query without DISTINCT and without ORDER BY, and how their values are kept.
+    pub(crate) listed: Listed<'g>,
+    pub(crate) finders: Vec<Finder<'g>>,
     // The chunks with a row that were pushed, the positions of the last one, and the columns and
     // the keys as they were evaluated for it.
     pub(crate) pushed: u64,
@@ -105,6 +115,11 @@ impl<'g> RowTable<'g> {
                 seen: Classes::new(alloc),
                 bar: None,
             },
+            listed: Listed {
+                cells: Cells::new(alloc),
+                count: 0,
+            },
+            finders: Vec::new(alloc),
             pushed: 0,
             choice: Choice::new(alloc),
             reading: Reading::new(alloc),
@@ -138,6 +153,26 @@ impl<'g> RowTable<'g> {
         ensures counted { let all = choices chunk.now.groups.now in
             OnOk result (self.new.pushed ≡ counted self.old.pushed all) }
     {
+        self.push_admitted(chunk, graph, &Everything)
+    }
+
+    /// Takes those of the assignments that are admitted, in the same way.
+    pub fn push_admitted<A: Admits>(
+        &mut self,
+        chunk: &Chunk<'_, '_>,
+        graph: &'g Graph,
+        admits: &A,
+    ) -> Result<More, RowRefusal>
+        requires started { IsSome self.old.alternative }
+        requires chunk { IsChunkIn graph.now self.old.alternative chunk.now }
+        requires stands { StandsForSome self.old }
+        requires room { is_full_table self.old ≡ false }
+        ensures pushes { let admitted = A.admitted admits.now in
+            PushesAdmitted admitted graph.now chunk.now self.old self.new result }
+        ensures query { OnOk result (IsSameQuery self.old self.new) }
+        ensures counted { let all = choices chunk.now.groups.now in
+            OnOk result (self.new.pushed ≡ counted self.old.pushed all) }
+    {
         let Some(typed) = self.typed else {
             unreachable!()
         };
@@ -149,25 +184,123 @@ impl<'g> RowTable<'g> {
             self.choice = choice;
             return Ok(More::Go);
         }
-        let mut reading = mem::replace(&mut self.reading, Reading::new(self.alloc));
-        let Ok(()) = reading.resolve(self.bound, typed, graph) else {
-            return Err(RowRefusal::Memory);
-        };
-        let answer = self.push_choices(&mut choice, chunk, &reading, typed, graph);
+        let answer = self.push_found(&mut choice, chunk, typed, graph, admits);
         self.choice = choice;
-        self.reading = reading;
         self.pushed = self.pushed.saturating_add(1);
         answer
     }
 
-    // Takes the assignments of the choices from the one that stands on.
-    fn push_choices(
+    // Takes the admitted assignments of the choices from the one that stands on, as the query's rows
+    // are held.
+    fn push_found<A: Admits>(
+        &mut self,
+        choice: &mut Choice,
+        chunk: &Chunk<'_, '_>,
+        typed: &'g Typed,
+        graph: &'g Graph,
+        admits: &A,
+    ) -> Result<More, RowRefusal>
+        requires chunk { IsChunkOf graph.now typed.now chunk.now }
+        requires stands { StandsForSome self.old }
+        requires room { is_full_table self.old ≡ false }
+        requires begins { Begins chunk.now.groups.now true choice.old }
+        ensures pushes { let y = Some typed.now in
+            let admitted = A.admitted admits.now in
+            let os = admitted_outcomes admitted graph.now self.old.bound y chunk.now in
+            PushesAll os self.old self.new result }
+        ensures query { OnOk result (IsSameQuery self.old self.new) }
+        ensures pushed { OnOk result (self.new.pushed ≡ self.old.pushed) }
+    {
+        if is_listing(self.bound) {
+            return self.push_listed(choice, chunk, typed, graph, admits);
+        }
+        let mut reading = mem::replace(&mut self.reading, Reading::new(self.alloc));
+        let Ok(()) = reading.resolve(self.bound, typed, graph) else {
+            return Err(RowRefusal::Memory);
+        };
+        let answer = self.push_choices(choice, chunk, &reading, typed, graph, admits);
+        self.reading = reading;
+        answer
+    }
+
+    // Takes the admitted assignments of the choices from the one that stands on, where the rows are
+    // listed as they come.
+    fn push_listed<A: Admits>(
+        &mut self,
+        choice: &mut Choice,
+        chunk: &Chunk<'_, '_>,
+        typed: &'g Typed,
+        graph: &'g Graph,
+        admits: &A,
+    ) -> Result<More, RowRefusal>
+        requires listing { is_listing self.old.bound ≡ true }
+        requires chunk { IsChunkOf graph.now typed.now chunk.now }
+        requires stands { StandsForSome self.old }
+        requires room { is_full_table self.old ≡ false }
+        requires begins { Begins chunk.now.groups.now true choice.old }
+        ensures pushes { let y = Some typed.now in
+            let admitted = A.admitted admits.now in
+            let os = admitted_outcomes admitted graph.now self.old.bound y chunk.now in
+            PushesAll os self.old self.new result }
+        ensures query { IsSameQuery self.old self.new }
+        ensures pushed { self.new.pushed ≡ self.old.pushed }
+    {
+        let asked = Asked {
+            graph,
+            bound: self.bound,
+            typed,
+            limit: self.limit,
+            form: self.form,
+        };
+        let columns = self.bound.columns.as_slice();
+        let cells = &mut self.listed.cells;
+        let Ok(()) = find_columns(cells, &mut self.finders, columns, typed, graph) else {
+            return Err(RowRefusal::Memory);
+        };
+        self.listed
+            .push_choices(self.finders.as_slice(), &asked, choice, chunk, admits)
+    }
+
+    // Takes what expressions read of an assignment, where the rows are listed as they come.
+    fn push_alone<R: Assigned>(
+        &mut self,
+        row: &R,
+        typed: &'g Typed,
+        graph: &'g Graph,
+    ) -> Result<More, RowRefusal>
+        requires listing { is_listing self.old.bound ≡ true }
+        requires stands { StandsForSome self.old }
+        requires room { is_full_table self.old ≡ false }
+        ensures pushes { let here = R.assignment row.now in
+            Pushes (outcome_read graph.now self.old.bound typed.now here)
+            self.old self.new result }
+        ensures query { IsSameQuery self.old self.new }
+        ensures pushed { self.new.pushed ≡ self.old.pushed }
+    {
+        let asked = Asked {
+            graph,
+            bound: self.bound,
+            typed,
+            limit: self.limit,
+            form: self.form,
+        };
+        let columns = self.bound.columns.as_slice();
+        let cells = &mut self.listed.cells;
+        let Ok(()) = find_columns(cells, &mut self.finders, columns, typed, graph) else {
+            return Err(RowRefusal::Memory);
+        };
+        self.listed.push(self.finders.as_slice(), &asked, row)
+    }
+
+    // Takes the admitted assignments of the choices from the one that stands on.
+    fn push_choices<A: Admits>(
         &mut self,
         choice: &mut Choice,
         chunk: &Chunk<'_, '_>,
         reading: &Reading<'g>,
         typed: &'g Typed,
         graph: &'g Graph,
+        admits: &A,
     ) -> Result<More, RowRefusal>
         requires chunk { IsChunkOf graph.now typed.now chunk.now }
         requires reading { IsReading graph.now self.old.bound reading.now }
@@ -175,7 +308,7 @@ impl<'g> RowTable<'g> {
         requires room { is_full_table self.old ≡ false }
         requires begins { Begins chunk.now.groups.now true choice.old }
         ensures pushes { let y = Some typed.now in
-            let os = chunk_outcomes graph.now self.old.bound y chunk.now in
+            let os = admitted_outcomes (A.admitted admits.now) graph.now self.old.bound y chunk.now in
             PushesAll os self.old self.new result }
         ensures query { OnOk result (IsSameQuery self.old self.new) }
         ensures pushed { OnOk result (self.new.pushed ≡ self.old.pushed) }
@@ -183,7 +316,7 @@ impl<'g> RowTable<'g> {
         let mut found = true;
         'choices: while found {
             let row = ChunkRow::new(graph, typed, chunk, choice.positions());
-            match self.push(&row, reading, typed, graph) {
+            match self.push_row(&row, reading, typed, graph, admits) {
                 Ok(More::Go) => {}
                 Ok(More::Enough) => return Ok(More::Enough),
                 Err(refusal) => return Err(refusal),
@@ -191,6 +324,30 @@ impl<'g> RowTable<'g> {
             found = choice.next(chunk.groups);
         }
         Ok(More::Go)
+    }
+
+    // Takes an assignment, if it is admitted.
+    fn push_row<A: Admits>(
+        &mut self,
+        row: &ChunkRow<'_, '_, '_, '_, '_>,
+        reading: &Reading<'g>,
+        typed: &'g Typed,
+        graph: &'g Graph,
+        admits: &A,
+    ) -> Result<More, RowRefusal>
+        requires reading { IsReading graph.now self.old.bound reading.now }
+        requires stands { StandsForSome self.old }
+        requires room { is_full_table self.old ≡ false }
+        ensures pushes { let admitted = A.admitted admits.now in
+            Pushes (outcome_admitted admitted graph.now self.old.bound typed.now (row_of row.now))
+            self.old self.new result }
+        ensures query { IsSameQuery self.old self.new }
+        ensures pushed { self.new.pushed ≡ self.old.pushed }
+    {
+        if !admits.admits(row) {
+            return Ok(More::Go);
+        }
+        self.push(row, reading, typed, graph)
     }
 
     // Takes what expressions read of an assignment of an alternative.
@@ -210,6 +367,9 @@ impl<'g> RowTable<'g> {
         ensures query { IsSameQuery self.old self.new }
         ensures pushed { self.new.pushed ≡ self.old.pushed }
     {
+        if is_listing(self.bound) {
+            return self.push_alone(row, typed, graph);
+        }
         let question = Question {
             graph,
             bound: self.bound,
@@ -220,10 +380,20 @@ impl<'g> RowTable<'g> {
         };
         match self.form {
             Form::All => self.rows.push_all(&question, row),
-            Form::First(n) => self.rows.push_first(n, &question, row),
+            Form::First(_) => unreachable!(),
             Form::Top(n) => self.rows.push_top(self.alloc, n, &question, row),
             Form::Classes => self.rows.push_class(&question, row),
         }
+    }
+
+    // How many rows are held.
+    fn count(&self) -> usize
+        ensures { result ≡ self.now.held.count }
+    {
+        if is_listing(self.bound) {
+            return self.listed.count;
+        }
+        self.rows.count
     }
 
     /// Whether further assignments cannot change what the table answers: with LIMIT, but neither
@@ -231,7 +401,7 @@ impl<'g> RowTable<'g> {
     pub fn enough(&self) -> bool
         ensures { result ≡ is_full_table self.now }
     {
-        let count = self.rows.count;
+        let count = self.count();
         match self.form {
             Form::First(n) => count >= n,
             Form::All | Form::Top(_) | Form::Classes => false,

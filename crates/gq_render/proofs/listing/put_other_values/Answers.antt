@@ -1,24 +1,36 @@
-use Rattle.std.proofs.Common.{◌+◌, ◌++◌, drop, flat_map, refl, ap, ◌∙◌, arith, List, ℕ}
+use Rattle.std.proofs.Common.{◌≡◌, ◌<◌, ◌≤◌, ◌+◌, ◌-◌, ◌++◌, ℕ, [], length, get_or, take, drop, flat_map, ap, sym, ◌∙◌, arith, List}
+use Rattle.std.specs.Prelude.{slice_index_or}
+use Rattle.std.proofs.lemmas.List.{get_or-drop, length-drop}
 use Rattle.gq_base.proofs.ListFacts.{flat_map_next, flat_map_split}
 use Rattle.gq_base.specs.Plain.{Graph}
-use Rattle.gq_base.specs.Values.{val}
-use Rattle.gq_base.specs.declared.Value.{Value}
+use Rattle.gq_base.specs.Values.{Val, null}
 use Rattle.gq_render.specs.Listings.{value_text}
 use Rattle.gq_render.specs.Texts.{after_tab}
 use Rattle.gq_render.proofs.Sequence.{next_broke, put_then}
 use Rattle.gq_render.proofs.listing.put_other_values.Goals as goal
 
-abbrev piece : Graph → Value → List ℕ
-piece g value = after_tab (value_text g (val value))
+abbrev piece : Graph → Val → List ℕ
+piece g value = after_tab (value_text g value)
+
+-- the values behind the first, and one more of them
+next : (g : Graph) (line : List Val) (column : ℕ) (value : Val) → 1 ≤ column → column < length line → value ≡ get_or line column null
+    → flat_map (piece g) (take (column - 1) (drop 1 line)) ++ piece g value ≡ flat_map (piece g) (take (column + 1 - 1) (drop 1 line))
+next g line column value some lt is =
+    flat_map_next (piece g) (drop 1 line) (column - 1) null value (omega (arith, lt, some, length-drop 1 line))
+    (is ∙ ap (λ i. get_or line i null) (let e : column ≡ 1 + (column - 1) = omega (arith, some) in e) ∙ sym (get_or-drop 1 line (column - 1) null))
+    ∙ ap (λ n. flat_map (piece g) (take n (drop 1 line))) (let e : column - 1 + 1 ≡ column + 1 - 1 = omega (arith, some) in e)
 
 pub returns-in_err-put_next_value-clause-bytes : goal.returns-in_err-put_next_value-clause-bytes
 returns-in_err-put_next_value-clause-bytes g c =
-    let rest = flat_map (piece c.args.graph.now) (drop (c.loop-value.value-index + 1) c.args.values.now) in
-    next_broke _ _ _ _ _ _ _ _ _ _ rest _ _ _ _ c.loop-value.invariant.0 c.put_next_value.ensures.bytes c.in_err-put_next_value.was c.from_residual.ensures.1
-    (ap (λ l. l ++ rest) (flat_map_next (piece c.args.graph.now) c.args.values.now _ _ _ c.loop-value-test.true refl) ∙ flat_map_split (piece c.args.graph.now) c.args.values.now (c.loop-value.value-index + 1))
+    let line = slice_index_or c.args.listing.now.lines c.args.row [] in
+    let n = c.loop-column.column + 1 - 1 in
+    let rest = flat_map (piece c.args.graph.now) (drop n (drop 1 line)) in
+    next_broke _ _ _ _ _ _ _ _ _ _ rest _ _ _ _ c.loop-column.invariant.0 c.put_next_value.ensures.bytes c.in_err-put_next_value.was c.from_residual.ensures.1
+    (ap (λ l. l ++ rest) (next c.args.graph.now line c.loop-column.column _ (omega arith) (omega (arith, c.width.ensures)) c.value.ensures) ∙ flat_map_split (piece c.args.graph.now) (drop 1 line) n)
 
-pub loop-value-preserved : goal.loop-value-preserved
-loop-value-preserved g c = (
-  put_then _ _ _ _ _ _ _ _ _ c.loop-value.invariant.0 c.in_ok-put_next_value.ensures.bytes (flat_map_next (piece c.args.graph.now) c.args.values.now _ _ _ c.loop-value-test.true refl),
-  omega (arith, c.loop-value.invariant.1, c.in_ok-put_next_value.ensures.cause.later),
-)
+pub loop-column-preserved : goal.loop-column-preserved
+loop-column-preserved g c =
+    let line = slice_index_or c.args.listing.now.lines c.args.row [] in (
+      put_then _ _ _ _ _ _ _ _ _ c.loop-column.invariant.0 c.in_ok-put_next_value.ensures.bytes (next c.args.graph.now line c.loop-column.column _ (omega arith) (omega (arith, c.width.ensures)) c.value.ensures),
+      omega (arith, c.loop-column.invariant.1, c.in_ok-put_next_value.ensures.cause.later),
+    )

@@ -1,0 +1,301 @@
+-- A table whose rows are listed as they come holds them as cells.
+use Rattle.std.proofs.Common.{◌≡◌, ◌∙◌, ℕ, ◌+◌, ◌<◌, ◌≤◌, ◌^◌, Bool, true, false, not, cond, true≢false, List, [], ◌∷◌, ◌++◌, length, map, Option, Some, None, Result, Ok, Err, refl, sym, ap, ap₂, subst, arith, length-append, append-nil}
+use Rattle.std.specs.Option.{option_copied}
+use Rattle.std.specs.Prelude.{flat_map, ◌&&◌}
+use Rattle.std.specs.List.{All}
+use Rattle.std.specs.List.Sorted.{IsPermutation}
+use Rattle.std.proofs.lemmas.List.Sorted.{IsPermutation-refl}
+use Rattle.std.proofs.lemmas.Grind.{flat_map-append}
+use Rattle.std.proofs.lemmas.Simd.{map-map}
+use Rattle.std.proofs.lemmas.List.{length-map}
+use Rattle.std.proofs.lemmas.List.Elements.{All-append, All-cons}
+use Rattle.gq_base.specs.Lists.{is_empty}
+use Rattle.gq_base.specs.Plain.{Graph}
+use Rattle.gq_base.specs.Values.{Val, val}
+use Rattle.gq_cells.specs.declared.source.Source.{Source}
+use Rattle.gq_expr.specs.Meaning.{meaning}
+use Rattle.gq_expr.specs.Operators.{Outcome}
+use Rattle.gq_expr.specs.Reading as reading
+use Rattle.gq_expr.specs.declared.Fault.{Fault}
+use Rattle.gq_plan.specs.Outcomes.{Row, key_meanings, late_conjuncts, meanings_of, then_with, values}
+use Rattle.gq_plan.specs.declared.bound.Bound.{Bound}
+use Rattle.gq_plan.specs.declared.bound.NamedExpr.{NamedExpr}
+use Rattle.gq_plan.specs.declared.typed.Typed.{Typed}
+use Rattle.gq_rows.specs.Chunks.{PushesAll}
+use Rattle.gq_rows.specs.Tables.{AnswersListings, Held, Holds, HoldsAs, HoldsRows, IsSized, Pushes, StandsFor, StandsForSome, Table, is_full, is_full_table}
+use Rattle.gq_rows.specs.Answers.{Lists, classes, columns_of, cut_of, most_listed, window}
+use Rattle.gq_rows.specs.declared.finder.Finder.{Finder}
+use Rattle.gq_rows.specs.declared.held.Form.{Form}
+use Rattle.gq_rows.specs.declared.held.Form.TheVariants as form
+use Rattle.gq_rows.specs.declared.held.Rows.{Rows}
+use Rattle.gq_rows.specs.declared.judging.Checked.TheVariants as checked
+use Rattle.gq_rows.specs.declared.listed.Asked.{Asked}
+use Rattle.gq_rows.specs.declared.listed.Listed.{Listed}
+use Rattle.gq_rows.specs.declared.refusal.More.{More}
+use Rattle.gq_rows.specs.declared.refusal.More.TheVariants as more
+use Rattle.gq_rows.specs.declared.refusal.RowRefusal.{RowRefusal}
+use Rattle.gq_rows.specs.declared.refusal.RowRefusal.TheVariants as refusal
+use Rattle.gq_rows.specs.declared.table.RowTable.TheInside.{Inside}
+use Rattle.gq_rows.specs.steps.Inner.{held_by, table_of, table_with}
+use Rattle.gq_rows.specs.steps.Judged.{check_after, values_after}
+use Rattle.gq_rows.specs.steps.Keeping.{Has, HasForm, HasFull, HasMore, HasPast, IsNoFault, PushesHeld, TellsFull, bar_of, held_of, more_rows}
+use Rattle.gq_rows.specs.steps.Listed.{AddedIn, AddsIn, AreFinders, Finding, IsListing, IsPlain, PutsRow, column_exprs, held_in, is_listing, meanings_found, outcome_in, table_in}
+use Rattle.gq_rows.proofs.Forms.{stands_by}
+use Rattle.gq_rows.proofs.Looking.{appended, met, when_column}
+use Rattle.gq_rows.proofs.Ranked.{keyless_sorted, none}
+use Rattle.gq_rows.proofs.Standings.{open_is, pushed, pushes, room_of}
+
+-- ---- what columns mean
+
+pub mean : (g : Graph) (here : reading.Assignment) (cs : List NamedExpr) (fs : List Finder) (sources : List Source) → AreFinders g sources (column_exprs cs) fs → meanings_found g here fs ≡ meanings_of g here cs
+mean g here cs fs sources h = sym (map-map (meaning g here) (λ (f : Finder). f.expr.now) fs) ∙ ap (map (meaning g here)) h.exprs ∙ map-map (meaning g here) (λ (c : NamedExpr). c.expr) cs
+
+-- ---- a row is added
+
+module _ (q : Asked) (here : reading.Assignment) (fs : List Finder) (sources : List Source) (finding : Finding q sources fs) (keyless : q.bound.now.keys ≡ [])
+    (is_met : checked.Met ≡ check_after checked.Met (meanings_of q.graph.now here (late_conjuncts q.bound.now q.typed.now))) where
+  abbrev columns : List Outcome
+  columns = meanings_of q.graph.now here q.bound.now.columns
+
+  no_keys : values (key_meanings q.graph.now here q.bound.now.keys) ≡ Ok []
+  no_keys = ap (λ ks. values (key_meanings q.graph.now here ks)) keyless
+
+  pub kept : (old new : Listed) → PutsRow (meanings_found q.graph.now here fs) old.cells.values new.cells.values (Ok tt) → new.count ≡ old.count + 1 → old.count < q.limit → AddedIn q (outcome_in q here) old new
+  kept old new p count room =
+      let a = appended columns old.cells.values new.cells.values (ap (values_after old.cells.values) (sym (mean q.graph.now here q.bound.now.columns fs sources finding)) ∙ p) in
+      record {
+        row = record { columns = a.more; keys = [] };
+        is = met q.graph.now q.bound.now (late_conjuncts q.bound.now q.typed.now) here is_met
+            ∙ ap (λ v. Some (then_with v (λ vs. then_with (values (key_meanings q.graph.now here q.bound.now.keys)) (λ ks. Ok (record { columns = vs; keys = ks }))))) a.is
+            ∙ ap (λ v. Some (then_with v (λ ks. Ok (record { columns = a.more; keys = ks })))) no_keys;
+        columns = a.whole;
+        keys = refl;
+        wide = a.size ∙ length-map q.bound.now.columns _;
+        count = count;
+        room = room;
+      }
+
+  pub many : (old : Listed) (new : List Val) → PutsRow (meanings_found q.graph.now here fs) old.cells.values new (Ok tt) → (row : Row) × (outcome_in q here ≡ Some (Ok row))
+  many old new p =
+      let a = appended columns old.cells.values new (ap (values_after old.cells.values) (sym (mean q.graph.now here q.bound.now.columns fs sources finding)) ∙ p) in (
+        record { columns = a.more; keys = [] },
+        met q.graph.now q.bound.now (late_conjuncts q.bound.now q.typed.now) here is_met
+            ∙ ap (λ v. Some (then_with v (λ vs. then_with (values (key_meanings q.graph.now here q.bound.now.keys)) (λ ks. Ok (record { columns = vs; keys = ks }))))) a.is
+            ∙ ap (λ v. Some (then_with v (λ ks. Ok (record { columns = a.more; keys = ks })))) no_keys,
+      )
+
+  pub failed : (old new : Listed) (vs : List Val) (r : RowRefusal) → PutsRow (meanings_found q.graph.now here fs) old.cells.values vs (Err r) → AddsIn q (outcome_in q here) old new (Err r)
+  failed old new vs (refusal.Fault f) p =
+      when_column q.graph.now q.bound.now (late_conjuncts q.bound.now q.typed.now) here f old.cells.values is_met (ap (values_after old.cells.values) (sym (mean q.graph.now here q.bound.now.columns fs sources finding)) ∙ p)
+  failed old new vs (refusal.TooManyRows l) p = absurd p
+  failed old new vs refusal.Memory p = tt
+
+-- ---- what is held
+
+module _ (q : Asked) (listing : IsListing q) where
+  abbrev b : Bound
+  b = q.bound.now
+
+  holds_more : (old new : Listed) (o : Option (Result Row Fault)) (a : AddedIn q o old new) (rows : List Row) → HoldsRows (length b.columns) (length b.keys) rows (held_in old) → HoldsRows (length b.columns) (length b.keys) (rows ++ a.row ∷ []) (held_in new)
+  holds_more old new o a rows h = record {
+    columns = a.columns ∙ ap₂ (λ xs ys. xs ++ ys) h.columns (sym (append-nil a.row.columns)) ∙ sym (flat_map-append (λ (r : Row). r.columns) rows (a.row ∷ []));
+    keys = h.keys ∙ sym (append-nil (flat_map (λ (r : Row). r.keys) rows)) ∙ ap (λ ks. flat_map (λ (r : Row). r.keys) rows ++ ks) (sym (append-nil a.row.keys ∙ a.keys)) ∙ sym (flat_map-append (λ (r : Row). r.keys) rows (a.row ∷ []));
+    count = omega (arith, a.count, h.count, length-append rows (a.row ∷ []));
+    sized = All-append (IsSized (length b.columns) (length b.keys)) rows (a.row ∷ []) h.sized
+        (All-cons (IsSized (length b.columns) (length b.keys)) a.row [] (a.wide, ap length a.keys ∙ sym (ap length listing.keyless)) (λ k d lt. absurd (omega (arith, lt))));
+  }
+
+  has_more : (f : Form) → IsPlain f → (old new : Listed) (o : Option (Result Row Fault)) → (HasFull f (held_in old) → ⊥) → AddedIn q o old new → HasMore f b q.limit o (held_in old) (held_in new)
+  has_more form.All plain old new o room a rows k =
+      subst (λ l. Has form.All b q.limit l (held_in new)) (ap (more_rows rows) (sym a.is))
+      (holds_more old new o a rows k.0, omega (arith, a.room, k.0.count, length-append rows (a.row ∷ [])))
+  has_more (form.First n) plain old new o room a rows k =
+      subst (λ l. Has (form.First n) b q.limit l (held_in new)) (ap (more_rows rows) (sym a.is))
+      (holds_more old new o a rows k.0, omega (arith, a.room, k.0.count, length-append rows (a.row ∷ [])), omega (arith, room, k.0.count, length-append rows (a.row ∷ [])))
+  has_more (form.Top n) plain old new o room a rows k = absurd plain
+  has_more form.Classes plain old new o room a rows k = absurd plain
+
+  past : (f : Form) → IsPlain f → (old : Listed) (row : Row) → q.limit ≤ old.count → HasPast f b q.limit row (held_in old)
+  past form.All plain old row le rows k = omega (arith, le, k.0.count, length-append rows (row ∷ []))
+  past (form.First n) plain old row le rows k = omega (arith, le, k.0.count, length-append rows (row ∷ []))
+  past (form.Top n) plain old row le rows k = absurd plain
+  past form.Classes plain old row le rows k = absurd plain
+
+  -- what is added is a push to what is held
+  held_ok : (old new : Listed) (o : Option (Result Row Fault)) (added : Bool) (m : More) → (HasFull q.form (held_in old) → ⊥) → AddsIn q o old new (Ok added) → TellsFull q.form m (held_in new) → PushesHeld q.form b q.limit o (held_in old) (held_in new) (Ok m)
+  held_ok old new o true m room a tells = (subst IsNoFault (sym a.is) tt, has_more q.form listing.plain old new o room a, tells)
+  held_ok old new o false m room a tells = (
+    subst IsNoFault (sym a.0) tt,
+    λ rows k. subst (λ l. Has q.form b q.limit l (held_in new)) (ap (more_rows rows) (sym a.0)) (subst (λ l. Has q.form b q.limit rows (held_in l)) (sym a.1) k),
+    tells,
+  )
+
+  held_err : (old new : Listed) (o : Option (Result Row Fault)) (r : RowRefusal) → AddsIn q o old new (Err r) → PushesHeld q.form b q.limit o (held_in old) (held_in new) (Err r)
+  held_err old new o (refusal.Fault f) a = a
+  held_err old new o (refusal.TooManyRows l) a = (a.0, (a.2.0, a.2.1, past q.form listing.plain old a.2.0 a.1))
+  held_err old new o refusal.Memory a = tt
+
+  module _ (old : Listed) (some : StandsForSome (table_in q old)) (room : is_full_table (table_in q old) ≡ false) where
+    open_at : HasFull q.form (held_in old) → ⊥
+    open_at = room_of b q.form (held_in old) listing.form room
+
+    few_by : (f : Form) → IsPlain f → (rows : List Row) → Has f b q.limit rows (held_in old) → old.count ≤ q.limit
+    few_by form.All plain rows k = omega (arith, k.0.count, k.1)
+    few_by (form.First n) plain rows k = omega (arith, k.0.count, k.1)
+    few_by (form.Top n) plain rows k = absurd plain
+    few_by form.Classes plain rows k = absurd plain
+
+    pub few : old.count < 2 ^ 40
+    few = let s = stands_by b q.form q.limit listing.form listing.small some.0 (held_in old) some.1 in omega (arith, few_by q.form listing.plain s.rows s.keeps, listing.small)
+
+    pub told : (new : Listed) (o : Option (Result Row Fault)) (added : Bool) (m : More) → AddsIn q o old new (Ok added) → TellsFull q.form m (held_in new) → Pushes o (table_in q old) (table_in q new) (Ok m)
+    told new o added m a tells =
+        pushes b q.form q.limit (Some q.typed.now) 0 listing.small listing.form (held_in old) room some (held_in new) o (Ok m) (held_ok old new o added m open_at a tells)
+
+    pub refused : (new : Listed) (o : Option (Result Row Fault)) (r : RowRefusal) → AddsIn q o old new (Err r) → Pushes o (table_in q old) (table_in q new) (Err r)
+    refused new o r a = pushes b q.form q.limit (Some q.typed.now) 0 listing.small listing.form (held_in old) room some (held_in new) o (Err r) (held_err old new o r a)
+
+-- ---- the two ways in which a table holds its rows
+
+abbrev held_t : Bool → Inside → Held
+held_t d t = held_by d (held_in t.listed) (held_of t.rows)
+
+empty_by : {X : Type 0} (d : Bool) (ks : List X) → (not d && is_empty ks) ≡ true → ks ≡ []
+empty_by false [] e = refl
+empty_by false (k ∷ ks) e = absurd (none (length ks) e)
+empty_by true ks e = absurd (true≢false (sym e))
+
+keyless_of : (b : Bound) → is_listing b ≡ true → b.keys ≡ []
+keyless_of b e = empty_by b.distinct b.keys e
+
+distinct_by : (d k : Bool) → (not d && k) ≡ true → (d ≡ false) × (k ≡ true)
+distinct_by false k e = (refl, e)
+distinct_by true k e = absurd (true≢false (sym e))
+
+plain_by : (b : Bound) (f : Form) → HasForm b f → is_listing b ≡ true → IsPlain f
+plain_by b form.All h e = tt
+plain_by b (form.First n) h e = tt
+plain_by b (form.Top n) h e = absurd (true≢false (sym e ∙ rw (h.0, h.1) refl))
+plain_by b form.Classes h e = absurd (true≢false (sym e ∙ rw h refl))
+
+-- a query of which only the first rows count lists its rows
+pub never_first : (b : Bound) (n : ℕ) → HasForm b (form.First n) → is_listing b ≡ false → ⊥
+never_first b n h e = let yes : is_listing b ≡ true = rw (h.0, h.1) refl in true≢false (sym yes ∙ e)
+
+pub rows_view : (t : Inside) (old : Table) → table_of t ≡ old → is_listing t.bound.now ≡ false → table_with t (held_of t.rows) ≡ old
+rows_view t old view e = ap (λ l. table_with t (held_t l t)) (sym e) ∙ view
+
+-- a push to values
+pub pushed_rows : (o : Option (Result Row Fault)) (t : Inside) (old : Table) (f : Form) (new : Rows) (r : Result More RowRefusal) → table_of t ≡ old → is_listing t.bound.now ≡ false
+    → t.limit < 2 ^ 32 → HasForm t.bound.now t.form → is_full_table old ≡ false → StandsForSome old → t.form ≡ f
+    → PushesHeld f t.bound.now t.limit o (held_of t.rows) (held_of new) r → Pushes o old (table_of (record t { rows = new })) r
+pushed_rows o t old f new r view e small form_is room some is p =
+    subst (λ l. Pushes o old (table_with t (held_t l (record t { rows = new }))) r) (sym e)
+    (pushed o t old f (held_of t.rows) (held_of new) r (rows_view t old view e) small form_is room some is p)
+
+module _ (t : Inside) (old : Table) (view : table_of t ≡ old) (e : is_listing t.bound.now ≡ true) where
+  pub listed_view : table_with t (held_in t.listed) ≡ old
+  listed_view = ap (λ l. table_with t (held_t l t)) (sym e) ∙ view
+
+  pub listing_is : (g : Asked) → g.bound.now ≡ t.bound.now → g.form ≡ t.form → g.limit ≡ t.limit → HasForm t.bound.now t.form → t.limit < 2 ^ 32 → IsListing g
+  listing_is g b f l h small = record {
+    keyless = ap (λ (x : Bound). x.keys) b ∙ keyless_of t.bound.now e;
+    form = subst (λ x. HasForm x g.form) (sym b) (subst (HasForm t.bound.now) (sym f) h);
+    plain = subst IsPlain (sym f) (plain_by t.bound.now t.form h e);
+    small = omega (arith, l, small);
+  }
+
+  -- a table of what is asked, that holds the same cells
+  abbrev with_cells : Option Typed → ℕ → Held → Table
+  with_cells y n h = record { bound = t.bound.now; most = t.limit; alternative = y; held = h; pushed = n }
+
+  pub stands_listed : (l : Listed) (y : Option Typed) → held_in l ≡ held_in t.listed → StandsForSome old → StandsForSome (with_cells y 0 (held_in l))
+  stands_listed l y same some =
+      let here : StandsForSome (table_with t (held_in t.listed)) = subst StandsForSome (sym listed_view) some in
+      subst (λ h. StandsForSome (with_cells y 0 h)) (sym same) (here.0, here.1)
+
+  pub room_listed : (l : Listed) (y : Option Typed) → held_in l ≡ held_in t.listed → is_full_table old ≡ false → is_full_table (with_cells y 0 (held_in l)) ≡ false
+  room_listed l y same room =
+      let here : is_full_table (table_with t (held_in t.listed)) ≡ false = subst (λ x. is_full_table x ≡ false) (sym listed_view) room in
+      ap (is_full (cut_of t.bound.now)) same ∙ here
+
+  alike : (o : Option (Result Row Fault)) (r : Result More RowRefusal) (y z : Option Typed) (n m : ℕ) (h new : Held) → Pushes o (with_cells y 0 h) (with_cells y 0 new) r → Pushes o (with_cells z n h) (with_cells z m new) r
+  alike o (Ok more.Go) y z n m h new p = p
+  alike o (Ok more.Enough) y z n m h new p = p
+  alike o (Err (refusal.Fault f)) y z n m h new p = p
+  alike o (Err (refusal.TooManyRows l)) y z n m h new p = p
+  alike o (Err refusal.Memory) y z n m h new p = tt
+
+  alike_all : (os : List (Result Row Fault)) (r : Result More RowRefusal) (y z : Option Typed) (n m : ℕ) (h new : Held) → PushesAll os (with_cells y 0 h) (with_cells y 0 new) r → PushesAll os (with_cells z n h) (with_cells z m new) r
+  alike_all os (Ok more.Go) y z n m h new p = p
+  alike_all os (Ok more.Enough) y z n m h new p = p
+  alike_all os (Err (refusal.Fault f)) y z n m h new p = record { there = p.there; seen = p.seen }
+  alike_all os (Err (refusal.TooManyRows l)) y z n m h new p = p
+  alike_all os (Err refusal.Memory) y z n m h new p = tt
+
+  pub pushed_listed : (o : Option (Result Row Fault)) (r : Result More RowRefusal) (y : Option Typed) (l new : Listed) (fs : _) → held_in l ≡ held_in t.listed
+      → Pushes o (with_cells y 0 (held_in l)) (with_cells y 0 (held_in new)) r → Pushes o old (table_of (record t { listed = new; finders = fs })) r
+  pushed_listed o r y l new fs same p =
+      subst (λ x. Pushes o x (table_of (record t { listed = new; finders = fs })) r) listed_view
+      (subst (λ b. Pushes o (table_with t (held_in t.listed)) (table_with t (held_t b (record t { listed = new; finders = fs }))) r) (sym e)
+      (alike o r y (option_copied t.typed) t.pushed t.pushed (held_in t.listed) (held_in new) (subst (λ h. Pushes o (with_cells y 0 h) (with_cells y 0 (held_in new)) r) same p)))
+
+  pub pushed_chunk : (os : List (Result Row Fault)) (r : Result More RowRefusal) (y : Option Typed) (l new : Listed) (fs : _) → held_in l ≡ held_in t.listed
+      → PushesAll os (with_cells y 0 (held_in l)) (with_cells y 0 (held_in new)) r → PushesAll os old (table_of (record t { listed = new; finders = fs })) r
+  pushed_chunk os r y l new fs same p =
+      subst (λ x. PushesAll os x (table_of (record t { listed = new; finders = fs })) r) listed_view
+      (subst (λ b. PushesAll os (table_with t (held_in t.listed)) (table_with t (held_t b (record t { listed = new; finders = fs }))) r) (sym e)
+      (alike_all os r y (option_copied t.typed) t.pushed t.pushed (held_in t.listed) (held_in new) (subst (λ h. PushesAll os (with_cells y 0 h) (with_cells y 0 (held_in new)) r) same p)))
+
+  pub answers_listed : (lines : List (List Val)) → ((list : List Row) → Holds t.bound.now list (held_in t.listed) → Lists t.bound.now list lines) → AnswersListings old lines
+  answers_listed lines lists = subst (λ x. AnswersListings x lines) listed_view (λ outcomes s. record { rows = s.rows; looked = s.looked; lists = lists s.rows s.holds })
+
+  pub holds_listed : StandsForSome old → (list : List Row) × Holds t.bound.now list (held_in t.listed)
+  holds_listed some = let s = subst StandsForSome (sym listed_view) some in (s.1.rows, s.1.holds)
+
+-- the same of the table's own query
+pub inside_listing : (t : Inside) (old : Table) → table_of t ≡ old → is_listing old.bound ≡ true → is_listing t.bound.now ≡ true
+inside_listing t old view e = ap (λ (x : Table). is_listing x.bound) view ∙ e
+
+-- ---- the lines of rows that are listed as they come
+
+holds_by : (d k : Bool) (most : Option ℕ) (b : Bound) (list : List Row) (h : Held) → d ≡ false → k ≡ true → HoldsAs d k most b list h → HoldsRows (length b.columns) (length b.keys) list h
+holds_by false true None b list h d k x = x
+holds_by false true (Some n) b list h d k x = x
+holds_by false false most b list h d k x = absurd (true≢false (sym k))
+holds_by true k most b list h d e x = absurd (true≢false d)
+
+pub holds_rows : (b : Bound) (list : List Row) (h : Held) → is_listing b ≡ true → Holds b list h → HoldsRows (length b.columns) (length b.keys) list h
+holds_rows b list h e x = let s = distinct_by b.distinct (is_empty b.keys) e in holds_by b.distinct (is_empty b.keys) (most_listed b) b list h s.0 s.1 x
+
+pub lists_as : (b : Bound) (list : List Row) (lines : List (List Val)) → is_listing b ≡ true → lines ≡ columns_of (window b list) → Lists b list lines
+lists_as b list lines e is =
+    let s = distinct_by b.distinct (is_empty b.keys) e in
+    record {
+      arranged = list;
+      same = subst (λ l. IsPermutation l list) (sym (ap (λ d. cond d (classes list) list) s.0)) (IsPermutation-refl list);
+      sorted = keyless_sorted b s.1 list;
+      is = is;
+    }
+
+-- ---- a new table
+
+held_same : (a b : Held) → a.columns ≡ b.columns → a.keys ≡ b.keys → a.count ≡ b.count → a.classes ≡ b.classes → a.bar ≡ b.bar → a ≡ b
+held_same a b c k n s r =
+    ap (λ x. record { columns = x; keys = a.keys; count = a.count; classes = a.classes; bar = a.bar }) c
+    ∙ ap (λ x. record { columns = b.columns; keys = x; count = a.count; classes = a.classes; bar = a.bar }) k
+    ∙ ap (λ x. record { columns = b.columns; keys = b.keys; count = x; classes = a.classes; bar = a.bar }) n
+    ∙ ap (λ x. record { columns = b.columns; keys = b.keys; count = b.count; classes = x; bar = a.bar }) s
+    ∙ ap (λ x. record { columns = b.columns; keys = b.keys; count = b.count; classes = b.classes; bar = x }) r
+
+pub none_by : (b : Bound) (most : ℕ) (d : Bool) (l : Listed) (r : Rows) → StandsFor b most [] (held_of r) → l.cells.values ≡ [] → l.count ≡ r.count → r.columns.items ≡ [] → r.keys.items ≡ [] → r.seen ≡ [] → bar_of r ≡ None
+    → StandsFor b most [] (held_by d (held_in l) (held_of r))
+none_by b most false l r s vs n cs ks seen bar = s
+none_by b most true l r s vs n cs ks seen bar =
+    subst (StandsFor b most []) (sym (held_same (held_in l) (held_of r) (vs ∙ sym (ap (map val) cs)) (sym (ap (map val) ks)) n (sym seen) (sym bar))) s
+
+-- ---- a table of all rows is never full
+
+pub never_full : (f : Form) (t : Inside) (old : Table) → table_of t ≡ old → t.form ≡ f → HasForm t.bound.now t.form → ((h : Held) → HasFull f h → ⊥) → old.held.count < 2 ^ 64 → false ≡ is_full_table old
+never_full f t old view is form_is room lt =
+    sym (ap (λ b. is_full (cut_of b) old.held) (sym (ap (λ (x : Table). x.bound) view)) ∙ open_is t.bound.now f old.held (subst (HasForm t.bound.now) is form_is) lt (room old.held))

@@ -1,0 +1,16 @@
+use Rattle.std.proofs.Common.{◌≡◌, false, length}
+use Rattle.gq_rows.specs.Tables.{StandsForSome, is_full_table}
+use Rattle.gq_rows.specs.steps.Choosing.{Came, choices_left}
+use Rattle.gq_rows.specs.steps.Listed.{Finding, table_in}
+use Rattle.gq_rows.proofs.listed.Listed.push_choices.Given as goal
+
+abbrev pub invariant-choices : goal.invariant-choices
+invariant-choices t l = record {
+  room : is_full_table (table_in l.asked l.self) ≡ false;
+  some : StandsForSome (table_in l.asked l.self);
+  finders : Finding l.asked l.self.cells.sources l.finders;
+  came : Came (t.A.Admits.admitted l.admits) l.asked.graph.now l.asked.typed.now l.chunk (table_in l.asked l.initial.self) (table_in l.asked l.self) l.found l.choice;
+}
+
+abbrev pub decreases-choices : goal.decreases-choices
+decreases-choices t l = length (choices_left l.chunk.groups.now l.found l.choice)

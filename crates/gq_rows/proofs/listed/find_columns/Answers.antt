@@ -1,0 +1,17 @@
+use Rattle.std.proofs.Common.{◌∙◌, sym, subst, ap}
+use Rattle.gq_plan.specs.declared.bound.NamedExpr.{NamedExpr}
+use Rattle.gq_rows.specs.steps.Listed.{AreFinders}
+use Rattle.gq_rows.proofs.Finding.{exprs_next, stay_and}
+use Rattle.gq_rows.proofs.listed.find_columns.Goals as goal
+
+pub columns-preserved : goal.columns-preserved
+columns-preserved c =
+    let i = c.columns.invariant in
+    let f = c.in_ok-finder.finder in
+    record {
+      found = subst (AreFinders c.args.graph.now c.new.new.cells.sources _) (sym c.in_ok-push.ensures.items) (record {
+        exprs = exprs_next c.args.columns.now c.column-item.result c.columns.column-index c.columns.finders.items f c.columns-test.true i.found.exprs (c.in_ok-finder.ensures.expr ∙ ap (λ (x : NamedExpr). x.expr) c.column-item.is);
+        finders = stay_and c.args.graph.now c.columns.cells.sources c.new.new.cells.sources c.in_ok-finder.ensures.more c.columns.finders.items f i.found.finders c.in_ok-finder.ensures.finds;
+      });
+      values = c.in_ok-finder.ensures.values ∙ i.values;
+    }

@@ -1,0 +1,99 @@
+-- Rows that are held as cells, of a query without DISTINCT and without ORDER BY.
+use Rattle.std.specs.Prelude.{◌≡◌, ◌+◌, ◌<◌, ◌≤◌, ◌^◌, ◌&&◌, not, Bool, true, false, Option, Some, None, Result, Ok, Err, List, [], ◌++◌, length, map}
+use Rattle.std.specs.List.{All}
+use Rattle.gq_base.specs.Lists.{is_empty}
+use Rattle.gq_base.specs.Plain.{Graph}
+use Rattle.gq_base.specs.Values.{Val}
+use Rattle.gq_cells.specs.declared.source.Source.{Source}
+use Rattle.gq_expr.specs.Meaning.{meaning}
+use Rattle.gq_expr.specs.Operators.{Outcome}
+use Rattle.gq_expr.specs.Reading as reading
+use Rattle.gq_expr.specs.declared.Fault.{Fault}
+use Rattle.gq_expr.specs.declared.expr.Expr.{Expr}
+use Rattle.gq_plan.specs.Outcomes.{Row}
+use Rattle.gq_plan.specs.declared.bound.Bound.{Bound}
+use Rattle.gq_plan.specs.declared.bound.NamedExpr.{NamedExpr}
+use Rattle.gq_rows.specs.Tables.{Held, Table, outcome_admitted, outcome_read}
+use Rattle.gq_rows.specs.steps.Finding.{IsFinder}
+use Rattle.gq_rows.specs.steps.Judged.{values_after}
+use Rattle.gq_rows.specs.steps.Keeping.{HasForm}
+use Rattle.gq_rows.specs.declared.finder.Finder.{Finder}
+use Rattle.gq_rows.specs.declared.held.Form.{Form}
+use Rattle.gq_rows.specs.declared.held.Form.TheVariants as form
+use Rattle.gq_rows.specs.declared.listed.Asked.{Asked}
+use Rattle.gq_rows.specs.declared.listed.Listed.{Listed}
+use Rattle.gq_rows.specs.declared.refusal.RowRefusal.{RowRefusal}
+use Rattle.gq_rows.specs.declared.refusal.RowRefusal.TheVariants as refusal
+
+-- the rows are listed as they come
+abbrev pub is_listing : Bound → Bool
+is_listing b = not b.distinct && is_empty b.keys
+
+-- what is held as cells
+abbrev pub held_in : Listed → Held
+held_in l = record { columns = l.cells.values; keys = []; count = l.count; classes = []; bar = None }
+
+-- a table of what is asked that holds it
+abbrev pub table_in : Asked → Listed → Table
+table_in q l = record { bound = q.bound.now; most = q.limit; alternative = Some q.typed.now; held = held_in l; pushed = 0 }
+
+-- the outcome of what expressions read
+abbrev pub outcome_in : Asked → reading.Assignment → Option (Result Row Fault)
+outcome_in q here = outcome_read q.graph.now q.bound.now q.typed.now here
+
+-- none, where it is not admitted
+abbrev pub outcome_within : (reading.Assignment → Bool) → Asked → reading.Assignment → Option (Result Row Fault)
+outcome_within admitted q here = outcome_admitted admitted q.graph.now q.bound.now q.typed.now here
+
+abbrev pub IsPlain : Form → Type 0
+IsPlain form.All = Unit {0}
+IsPlain (form.First n) = Unit {0}
+IsPlain f = ⊥
+
+-- a query whose rows are listed as they come, and its form
+pub record IsListing (q : Asked) : Type 0 where
+  pub keyless : q.bound.now.keys ≡ []
+  pub form : HasForm q.bound.now q.form
+  pub plain : IsPlain q.form
+  pub small : q.limit < 2 ^ 32
+
+-- these expressions, each with what finds its values
+pub record AreFinders (g : Graph) (sources : List Source) (es : List Expr) (fs : List Finder) : Type 0 where
+  pub exprs : map (λ (f : Finder). f.expr.now) fs ≡ es
+  pub finders : All (IsFinder g sources) fs
+
+-- the expressions of the columns
+abbrev pub column_exprs : List NamedExpr → List Expr
+column_exprs cs = map (λ (c : NamedExpr). c.expr) cs
+
+abbrev pub Finding : Asked → List Source → List Finder → Type 0
+Finding q sources fs = AreFinders q.graph.now sources (column_exprs q.bound.now.columns) fs
+
+-- what expressions mean
+abbrev pub meanings_found : Graph → reading.Assignment → List Finder → List Outcome
+meanings_found g here fs = map (λ (f : Finder). meaning g here f.expr.now) fs
+
+-- what a call tells that appends the values of expressions
+abbrev pub PutsRow : List Outcome → List Val → List Val → Result (Unit {0}) RowRefusal → Type 0
+PutsRow os old new (Ok _) = values_after old os ≡ Ok new
+PutsRow os old new (Err (refusal.Fault f)) = values_after old os ≡ Err f
+PutsRow os old new (Err (refusal.TooManyRows limit)) = ⊥
+PutsRow os old new (Err refusal.Memory) = Unit {0}
+
+-- a row was added, for whatever rows were held
+pub record AddedIn (q : Asked) (o : Option (Result Row Fault)) (old new : Listed) : Type 0 where
+  pub row : Row
+  pub is : o ≡ Some (Ok row)
+  pub columns : new.cells.values ≡ old.cells.values ++ row.columns
+  pub keys : row.keys ≡ []
+  pub wide : length row.columns ≡ length q.bound.now.columns
+  pub count : new.count ≡ old.count + 1
+  pub room : old.count < q.limit
+
+-- what a call tells that adds a row, unless the row is dropped
+abbrev pub AddsIn : Asked → Option (Result Row Fault) → Listed → Listed → Result Bool RowRefusal → Type 0
+AddsIn q o old new (Ok true) = AddedIn q o old new
+AddsIn q o old new (Ok false) = (o ≡ None) × (new ≡ old)
+AddsIn q o old new (Err (refusal.Fault f)) = o ≡ Some (Err f)
+AddsIn q o old new (Err (refusal.TooManyRows l)) = (l ≡ q.limit) × (q.limit ≤ old.count) × ((row : Row) × (o ≡ Some (Ok row)))
+AddsIn q o old new (Err refusal.Memory) = Unit {0}

@@ -1,0 +1,215 @@
+//! Rows that are held as cells: those of a query without DISTINCT and without ORDER BY.
+ghost use Rattle.std.specs.Prelude.{◌≡◌, ◌<◌, ◌^◌, [], Some, OnOk, false, true};
+ghost use Rattle.std.specs.List.{All};
+ghost use Rattle.gq_group.specs.Choices.{Begins};
+ghost use Rattle.gq_group.specs.Chunks.{IsChunkOf};
+ghost use Rattle.gq_plan.specs.Assignments.{row_of};
+ghost use Rattle.gq_rows.specs.Chunks.{PushesAll, admitted_outcomes};
+ghost use Rattle.gq_rows.specs.Tables.{Pushes, StandsForSome, is_full_table};
+ghost use Rattle.gq_rows.specs.steps.Finding.{Extends, IsFinder};
+ghost use Rattle.gq_rows.specs.steps.Keeping.{TellsFull};
+ghost use Rattle.gq_rows.specs.steps.Listed.{AddsIn, AreFinders, Finding, IsListing, PutsRow};
+ghost use Rattle.gq_rows.specs.steps.Listed.{column_exprs, held_in, is_listing, meanings_found};
+ghost use Rattle.gq_rows.specs.steps.Listed.{outcome_in, outcome_within, table_in};
+
+use crate::admitting::Admits;
+use crate::finder::{Finder, put_column};
+use crate::held::Form;
+use crate::judging::{Checked, check_late};
+use crate::refusal::{More, RowRefusal};
+use gq_base::Memory;
+use gq_cells::Cells;
+use gq_expr::Assigned;
+use gq_group::{Choice, Chunk, ChunkRow};
+use gq_plan::{Bound, NamedExpr, Typed};
+use gq_store::Graph;
+
+/// What is asked of the assignments of an alternative whose rows are listed as they come, and the
+/// most rows that are kept.
+#[derive(Clone, Copy)]
+pub struct Asked<'g> {
+    pub(crate) graph: &'g Graph,
+    pub(crate) bound: &'g Bound,
+    pub(crate) typed: &'g Typed,
+    pub(crate) limit: u32,
+    pub(crate) form: Form,
+}
+
+/// The values of rows, one row after another, as cells.
+#[derive(Drop)]
+pub struct Listed<'g> {
+    pub(crate) cells: Cells<'g>,
+    pub(crate) count: usize,
+}
+
+/// Whether the rows of a query are listed as they come.
+pub(crate) fn is_listing(bound: &Bound) -> bool
+    ensures { result ≡ is_listing bound.now }
+{
+    !bound.distinct && bound.keys.is_empty()
+}
+
+/// How the values of columns are kept for an alternative in a graph, in the place of what was there.
+pub(crate) fn find_columns<'g>(
+    cells: &mut Cells<'g>,
+    finders: &mut Vec<Finder<'g>>,
+    columns: &'g [NamedExpr],
+    typed: &Typed,
+    graph: &'g Graph,
+) -> Result<(), Memory>
+    ensures finds { let exprs = column_exprs columns.now in
+        OnOk result (AreFinders graph.now cells.new.sources exprs finders.new.items) }
+    ensures values { cells.new.values ≡ cells.old.values }
+{
+    finders.clear();
+    'columns: for column in columns {
+        let finder = Finder::new(cells, &column.expr, typed, graph)?;
+        finders.push(finder)?;
+    }
+    Ok(())
+}
+
+// Appends the values of columns for an assignment.
+fn put_row<'g, R: Assigned>(
+    cells: &mut Cells<'g>,
+    finders: &[Finder<'g>],
+    graph: &'g Graph,
+    row: &R,
+) -> Result<(), RowRefusal>
+    requires { All (IsFinder graph.now cells.old.sources) finders.now }
+    ensures puts { PutsRow (meanings_found graph.now (R.assignment row.now) finders.now)
+        cells.old.values cells.new.values result }
+    ensures more { OnOk result (Extends cells.old.sources cells.new.sources) }
+{
+    'finders: for finder in finders {
+        match put_column(cells, finder, graph, row) {
+            Ok(()) => {}
+            Err(refusal) => return Err(refusal),
+        }
+    }
+    Ok(())
+}
+
+impl<'g> Listed<'g> {
+    // Adds the row of an assignment, unless it is dropped.
+    fn add<R: Assigned>(
+        &mut self,
+        finders: &[Finder<'g>],
+        asked: &Asked<'g>,
+        row: &R,
+    ) -> Result<bool, RowRefusal>
+        requires few { self.old.count < 2 ^ 40 }
+        requires keyless { asked.now.bound.now.keys ≡ [] }
+        requires finders { Finding asked.now self.old.cells.sources finders.now }
+        ensures adds { AddsIn asked.now (outcome_in asked.now (R.assignment row.now))
+            self.old self.new result }
+        ensures more { OnOk result (Extends self.old.cells.sources self.new.cells.sources) }
+    {
+        match check_late(asked.graph, asked.bound, asked.typed, row) {
+            Checked::Dropped => return Ok(false),
+            Checked::Faulty(fault) => return Err(RowRefusal::Fault(fault)),
+            Checked::Met => {}
+        }
+        match put_row(&mut self.cells, finders, asked.graph, row) {
+            Ok(()) => {}
+            Err(refusal) => return Err(refusal),
+        }
+        if self.count >= asked.limit as usize {
+            return Err(RowRefusal::TooManyRows { limit: asked.limit });
+        }
+        self.count += 1;
+        Ok(true)
+    }
+
+    // Whether another row can change what is answered.
+    fn more(&self, form: Form) -> More
+        ensures { TellsFull form result (held_in self.now) }
+    {
+        match form {
+            Form::First(n) => if self.count >= n {
+                More::Enough
+            } else {
+                More::Go
+            },
+            Form::All | Form::Top(_) | Form::Classes => More::Go,
+        }
+    }
+
+    /// Takes an assignment.
+    pub(crate) fn push<R: Assigned>(
+        &mut self,
+        finders: &[Finder<'g>],
+        asked: &Asked<'g>,
+        row: &R,
+    ) -> Result<More, RowRefusal>
+        requires listing { IsListing asked.now }
+        requires finders { Finding asked.now self.old.cells.sources finders.now }
+        requires stands { StandsForSome (table_in asked.now self.old) }
+        requires room { is_full_table (table_in asked.now self.old) ≡ false }
+        ensures pushes { Pushes (outcome_in asked.now (R.assignment row.now))
+            (table_in asked.now self.old) (table_in asked.now self.new) result }
+        ensures more { OnOk result (Extends self.old.cells.sources self.new.cells.sources) }
+    {
+        match self.add(finders, asked, row) {
+            Ok(_) => Ok(self.more(asked.form)),
+            Err(refusal) => Err(refusal),
+        }
+    }
+
+    // Takes an assignment, if it is admitted.
+    fn push_row<A: Admits>(
+        &mut self,
+        finders: &[Finder<'g>],
+        asked: &Asked<'g>,
+        row: &ChunkRow<'_, '_, '_, '_, '_>,
+        admits: &A,
+    ) -> Result<More, RowRefusal>
+        requires listing { IsListing asked.now }
+        requires finders { Finding asked.now self.old.cells.sources finders.now }
+        requires stands { StandsForSome (table_in asked.now self.old) }
+        requires room { is_full_table (table_in asked.now self.old) ≡ false }
+        ensures pushes { let admitted = A.admitted admits.now in
+            Pushes (outcome_within admitted asked.now (row_of row.now))
+            (table_in asked.now self.old) (table_in asked.now self.new) result }
+        ensures more { OnOk result (Extends self.old.cells.sources self.new.cells.sources) }
+    {
+        if !admits.admits(row) {
+            return Ok(More::Go);
+        }
+        self.push(finders, asked, row)
+    }
+
+    /// Takes the admitted assignments of the choices of a chunk from the one that stands on.
+    pub(crate) fn push_choices<A: Admits>(
+        &mut self,
+        finders: &[Finder<'g>],
+        asked: &Asked<'g>,
+        choice: &mut Choice,
+        chunk: &Chunk<'_, '_>,
+        admits: &A,
+    ) -> Result<More, RowRefusal>
+        requires chunk { IsChunkOf asked.now.graph.now asked.now.typed.now chunk.now }
+        requires listing { IsListing asked.now }
+        requires finders { Finding asked.now self.old.cells.sources finders.now }
+        requires stands { StandsForSome (table_in asked.now self.old) }
+        requires room { is_full_table (table_in asked.now self.old) ≡ false }
+        requires begins { Begins chunk.now.groups.now true choice.old }
+        ensures { let q = asked.now in
+            let y = Some q.typed.now in
+            let admitted = A.admitted admits.now in
+            let os = admitted_outcomes admitted q.graph.now q.bound.now y chunk.now in
+            PushesAll os (table_in q self.old) (table_in q self.new) result }
+    {
+        let mut found = true;
+        'choices: while found {
+            let row = ChunkRow::new(asked.graph, asked.typed, chunk, choice.positions());
+            match self.push_row(finders, asked, &row, admits) {
+                Ok(More::Go) => {}
+                Ok(More::Enough) => return Ok(More::Enough),
+                Err(refusal) => return Err(refusal),
+            }
+            found = choice.next(chunk.groups);
+        }
+        Ok(More::Go)
+    }
+}
