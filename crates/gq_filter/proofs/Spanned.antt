@@ -1,13 +1,12 @@
 -- A test of lanes in rows that follow one another says what it says row by row.
 use mathlib.Core.Path.{fun_ext}
-use Rattle.std.proofs.Common.{◌≡◌, ◌≤◌, ◌<◌, ◌+◌, ◌-◌, ◌∙◌, refl, sym, ap, ℕ, ℤ, List, Bool, Option, Some, None, false, length, drop, inl, inr, arith}
-use Rattle.std.specs.Prelude.{◌&&◌, slice_get, slice_set, slice_range}
+use Rattle.std.proofs.Common.{◌≡◌, ◌≤◌, ◌<◌, ◌+◌, ◌-◌, ◌∙◌, refl, sym, ap, ℕ, List, Bool, Option, Some, None, false, length, drop, inl, inr, arith}
+use Rattle.std.specs.Prelude.{◌&&◌, slice_get, slice_set}
 use Rattle.std.proofs.lemmas.Bool.{cases_lt}
 use Rattle.std.proofs.lemmas.List.{get_or-take, get_or-drop, get_or-set_same, length-set}
 use Rattle.std.proofs.lemmas.Option.{slice_get-get_or}
 use Rattle.gq_base.specs.Plain.{Graph}
 use Rattle.gq_bits.specs.Places.{is_marked}
-use Rattle.gq_column.specs.Cells.{cell_at}
 use Rattle.gq_plan.specs.Conditions.{passes}
 use Rattle.gq_plan.specs.Rows.{as_read}
 use Rattle.gq_plan.specs.declared.assignment.Assignment.{Assignment}

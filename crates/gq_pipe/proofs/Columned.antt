@@ -3,6 +3,7 @@ use Rattle.std.proofs.Common.{◌≡◌, ◌≢◌, ◌⊎◌, ◌∙◌, inl, i
 use Rattle.std.specs.Prelude.{slice_index, slice_get, ◌==◌}
 use Rattle.std.specs.Int.{bit_at}
 use Rattle.std.proofs.lemmas.Bool.{cases_lt, eq-eqb, eqb-true}
+use Rattle.gq_bits.specs.declared.TheConstants.{VECTOR}
 use Rattle.gq_bits.specs.Places.{is_marked}
 use Rattle.gq_group.specs.declared.group.Group.{Group}
 use Rattle.gq_group.specs.declared.home.Homes.{Homes}
@@ -45,10 +46,10 @@ module _ (c : Run) (row : Assignment) (gs : List Group) (h : Homes) (fs : List F
   pub columned_none : (old : Pool) → Holds old slots → HasCells old slots (filled c row gs h fs n) → AreColumned 0 old old
   columned_none old held before = record { held = held; same_out = refl; before = before; here = λ k low on. absurd (omega (arith, low)) }
 
-  pub columned_all : (old new : Pool) (index : ℕ) → 16 ≤ index → AreColumned index old new → HasCells new slots (filled c row gs h fs (n + 1))
+  pub columned_all : (old new : Pool) (index : ℕ) → VECTOR / 64 ≤ index → AreColumned index old new → HasCells new slots (filled c row gs h fs (n + 1))
   columned_all old new index over all = cells_more c row gs h fs new slots n all.before (λ k low on. all.here k (omega (arith, low, over)) on)
 
-  module _ (old mid : Pool) (index : ℕ) (was : AreColumned index old mid) (small : index < 16) (room : n < length slots) (ss : List GroupSteps) (k : Known) (is : IsFilling c ss k h n f)
+  module _ (old mid : Pool) (index : ℕ) (was : AreColumned index old mid) (small : index < VECTOR / 64) (room : n < length slots) (ss : List GroupSteps) (k : Known) (is : IsFilling c ss k h n f)
       (columns : (v j m : ℕ) → node_home h v ≡ node.Column j m → IsColumnOf fs j m) (o : Origin) (row_is : (q : Pool) (p : ℕ) → row_from o q p ≡ cell_seen c row gs h q slots f p)
       (can : (q : Pool) (written p : ℕ) → HasSource h q slots written f p → CanRead o q written p) (word : ℕ)
       (bits : (i : ℕ) → i < 64 → (bit_at word i == 1) ≡ is_marked (marks_in (slice_get gs (column_group f))) (64 * index + i)) where

@@ -1,5 +1,5 @@
 -- A group that makes something of a place makes it whichever load number is written, where rows alone decide its tests.
-use Rattle.std.proofs.Common.{◌≡◌, ◌≢◌, inl, inr, ℕ, suc, ◌+◌, ◌^◌, ◌<◌, ◌≤◌, Bool, true, false, Some, length, refl, sym, ap, ◌∙◌, subst, arith}
+use Rattle.std.proofs.Common.{◌≡◌, ◌≢◌, inr, ℕ, suc, ◌+◌, ◌^◌, ◌<◌, ◌≤◌, Bool, true, false, Some, length, refl, sym, ap, ◌∙◌, subst, arith}
 use Rattle.std.specs.Prelude.{slice_get, slice_index}
 use Rattle.gq_plan.specs.Plans.{Step, Scan, Extend, Close, Join, Keep, Differ, NoLoop}
 use Rattle.gq_plan.specs.Rows.{rel_table}
@@ -14,8 +14,8 @@ use Rattle.gq_pipe.specs.steps.RowTests.{IsRowTest, ReadsRows, test_of}
 use Rattle.gq_pipe.specs.declared.follow.Hop.{Hop}
 use Rattle.gq_pipe.specs.declared.places.GroupSteps.{GroupSteps}
 use Rattle.gq_pipe.specs.declared.plan_run.Follow.{Follow}
-use Rattle.gq_pipe.specs.declared.plan_run.Tried.TheVariants.{Past, Made}
-use Rattle.gq_pipe.proofs.Going.{IsGoing, begins, ends, made_first, tried_made, tried_missed, tried_past}
+use Rattle.gq_pipe.specs.declared.plan_run.Tried.TheVariants.{Made}
+use Rattle.gq_pipe.proofs.Going.{IsGoing, begins, ends, made_first, tried_made, tried_missed}
 use Rattle.gq_pipe.proofs.Hopping.{hop_there}
 use Rattle.gq_pipe.proofs.Stepping.{follows}
 use Rattle.gq_pipe.proofs.Testing.{keep_tried}
@@ -49,13 +49,6 @@ module _ (c : Run) (run : IsRun c) (group : GroupSteps) (range : IsRange c group
 
   new_rel : (known c group.first).rels f.rel ≡ false
   new_rel = (extend_parts c run group.first first_low old held reads.extends.0 f.rel f.from f.to f.direction reads.extends.1).0
-
-  -- nothing is made where there is no such place
-  pub past_judged : length (neighbours c.graph (rel_table c.typed f.rel) f.direction (slice_index old.nodes f.from)) ≤ place → IsJudged c group place old false old
-  past_judged high =
-      let past = extend_tried c run group.first first_low old held reads.extends.0 f.rel f.from f.to f.direction reads.extends.1 place old Past (refl, high) in
-      judged c group place old false old
-      (tried_past c group range place old group.first place old old (begins c group range place old held) range.some (λ e. refl) (λ e. absurd (e refl)) (inl refl) past)
 
   pub first_going : (r : ℕ) → slice_get (neighbours c.graph (rel_table c.typed f.rel) f.direction (slice_index old.nodes f.from)) place ≡ Some r
       → r < near_rows c.graph (rel_table c.typed f.rel) (opposite f.direction) → length (neighbours c.graph (rel_table c.typed f.rel) f.direction (slice_index old.nodes f.from)) < 2 ^ 32
@@ -102,20 +95,3 @@ module _ (c : Run) (run : IsRun c) (group : GroupSteps) (range : IsRange c group
 
   pub all_going : (d : ℕ) (row : Assignment) (g : IsGoingBy c group place old f d row) → group.end ≤ d → IsTriedAt c group place old true (with_number f.rel g.number row)
   all_going d row g high = ends c group range place old (with_number f.rel g.number row) d g.going high
-
-  -- the load number does not matter
-  pub judged_by : (told : Bool) (r number : ℕ) → IsTriedAt c group place old told (with_number f.rel number (with_row f.to r old)) → IsJudged c group place old told (with_row f.to r old)
-  judged_by told r number t =
-      let exact : Assignment = with_number f.rel number (with_row f.to r old) in
-      let j : IsJudged c group place old told exact = judged c group place old told exact t in
-      record {
-        held = record {
-          node_count = j.held.node_count;
-          rel_count = held.rel_count;
-          nodes = j.held.nodes;
-          rels = j.held.rels;
-          rows = j.held.rows;
-        };
-        alike = record { nodes = j.alike.nodes; rels = λ x e. refl };
-        answer = j.answer;
-      }

@@ -41,6 +41,7 @@ pub mod Chunking
 pub mod Chunked
 pub mod Filling
 pub mod Scanned
+pub mod Listed
 pub mod Loading
 pub mod Flags
 pub mod Showing

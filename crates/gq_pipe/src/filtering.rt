@@ -1,10 +1,12 @@
-//! The places of a scan that conditions keep, a piece at a time.
-ghost use Rattle.std.specs.Prelude.{◌≡◌, ◌+◌, ◌≤◌, ◌<◌, ◌^◌, ◌&&◌, ℕ, length, false, IfSome, Some};
+//! The places of a scan or of a list that conditions keep, a piece at a time.
+ghost use Rattle.std.specs.Prelude.{◌≡◌, ◌+◌, ◌≤◌, ◌<◌, ◌^◌, ◌&&◌, ℕ, length, false, true, IfSome, IsTrue};
+ghost use Rattle.std.specs.Prelude.{Some, slice_index, slice_range};
 ghost use Rattle.gq_base.specs.Valid.{row_count};
 ghost use Rattle.gq_bits.specs.Places.{is_marked};
 ghost use Rattle.gq_filter.specs.Rows.{count_in, row_in};
-ghost use Rattle.gq_plan.specs.Rows.{node_table};
-ghost use Rattle.gq_pipe.specs.steps.Filters.{Filters, Scans};
+ghost use Rattle.gq_plan.specs.Rows.{node_table, rel_table};
+ghost use Rattle.gq_store.specs.Neighbours.{neighbours};
+ghost use Rattle.gq_pipe.specs.steps.Filters.{Filters, FiltersList, Scans, is_listed_step};
 ghost use Rattle.gq_pipe.specs.steps.Keeps.{IsRange, IsSifted};
 ghost use Rattle.gq_pipe.specs.steps.Levels.{known, step_at};
 ghost use Rattle.gq_pipe.specs.steps.Moves.{run_of, steps_in, IsRun, IsHeld};
@@ -12,7 +14,7 @@ ghost use Rattle.gq_pipe.specs.steps.Outcomes.{passes_at, with_row};
 ghost use Rattle.gq_pipe.specs.steps.RowTests.{test_of};
 
 use crate::places::GroupSteps;
-use crate::plan_run::PlanRun;
+use crate::plan_run::{Follow, PlanRun};
 use gq_bits::{Marks, VECTOR};
 use gq_filter::Rows;
 use gq_plan::{Assignment, Step};
@@ -73,6 +75,62 @@ impl PlanRun<'_> {
         marks
     }
 
+    /// How a group follows relationships in a list to a node that was not bound, where rows alone
+    /// decide its tests.
+    pub(crate) fn filters_list(&self, group: GroupSteps) -> Option<Follow>
+        requires run { IsRun (run_of self.now) }
+        requires steps { IsRange (run_of self.now) group }
+        ensures { IfSome result (FiltersList (run_of self.now) group) }
+    {
+        let follow = self.reads_rows(group)?;
+        if self.is_listed(group.first) {
+            Some(follow)
+        } else {
+            None
+        }
+    }
+
+    // Whether the step at a depth follows relationships in a list to a node that was not bound.
+    fn is_listed(&self, depth: usize) -> bool
+        requires { depth < length (steps_in self.now) }
+        ensures { IsTrue result → is_listed_step (step_at (run_of self.now) depth) ≡ true }
+    {
+        match self.step(depth) {
+            Step::Extend { .. } => true,
+            _ => false,
+        }
+    }
+
+    /// Of so many places of a list, from one on, those that the group's conditions keep.
+    pub(crate) fn filter_list(
+        &self,
+        group: GroupSteps,
+        follow: Follow,
+        first: u32,
+        count: u32,
+        row: &mut Assignment,
+    ) -> Marks
+        requires run { IsRun (run_of self.now) }
+        requires steps { IsRange (run_of self.now) group }
+        requires filters { FiltersList (run_of self.now) group follow }
+        requires held { IsHeld (run_of self.now) row.old (known (run_of self.now) group.first) }
+        requires count { count ≤ VECTOR }
+        requires inside { let table = rel_table self.now.typed.now follow.rel in first + count
+            ≤ length (neighbours self.now.graph.now table follow.direction
+            (slice_index row.old.nodes follow.from)) }
+        requires fits { first + count < 2 ^ 32 }
+        ensures { IsSifted (run_of self.now) group first count row.old row.new result }
+    {
+        let mut marks = Marks::first(count);
+        let list = self.list(follow, row);
+        let ids = part_of(list, first, count);
+        for depth in group.first + 1..group.end {
+            self.keep_rows(depth, follow.to, Rows::List(ids), row, &mut marks);
+        }
+        let _whole = marks.word(0);
+        marks
+    }
+
     // Keeps the marked places at whose row the condition is true that the step at a depth asks for:
     // a node variable has that row.
     fn keep_rows(
@@ -101,4 +159,13 @@ impl PlanRun<'_> {
             },
         }
     }
+}
+
+// So many items of a list, from a place on.
+fn part_of(list: &[u32], first: u32, count: u32) -> &[u32]
+    requires inside { first + count ≤ length list.now }
+    requires fits { first + count < 2 ^ 32 }
+    ensures { result.now ≡ slice_range list.now first (first + count) }
+{
+    &list[first as usize..(first + count) as usize]
 }
