@@ -1,4 +1,5 @@
 pub mod Filling
 pub mod Gathered
-pub mod Paths
+pub mod Missing
+mod Paths
 pub mod Taking

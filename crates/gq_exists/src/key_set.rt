@@ -3,7 +3,7 @@
 ghost use Rattle.std.specs.Prelude.{◌≡◌, ◌≤◌, true, List, length, map, All, IfOk, IfErr, OnOk};
 ghost use Rattle.std.specs.List.{AllZip};
 ghost use Rattle.gq_base.specs.declared.NodeId.{NodeId};
-ghost use Rattle.gq_exists.specs.Made.{IsRefusal, keys_of};
+ghost use Rattle.gq_exists.specs.Made.{IsRefusal, keys_of, some_stand_on};
 ghost use Rattle.gq_exists.specs.Different.{HasNoMore};
 ghost use Rattle.gq_exists.specs.steps.Gathered.{Gathers, IsGathering};
 ghost use Rattle.gq_exists.specs.steps.Running.{made_keys, owed_keys};
@@ -21,6 +21,7 @@ ghost use Rattle.gq_pool.specs.Pool.{spare_of};
 use crate::gathering::Gathering;
 use crate::keys::Keys;
 use gq_base::{List, NodeId};
+use gq_expr::Assigned;
 use gq_group::Choice;
 use gq_join::JoinRefusal;
 use gq_pipe::{Pipeline, Spent, make_builds};
@@ -106,6 +107,14 @@ impl KeySet {
         ensures { result ≡ has_key key.now self.now.keys }
     {
         self.keys.has(key)
+    }
+
+    /// Whether some match of the path has, at the shared variables, the nodes that a row has at
+    /// these. It takes no memory.
+    pub fn holds_at<R: Assigned>(&self, nodes: &[u32], row: &R) -> bool
+        ensures { result ≡ some_stand_on nodes.now (R.assignment row.now) self.now.keys }
+    {
+        self.keys.has_at(nodes, row)
     }
 
     /// What the pipelines spent that ran, one for each alternative.

@@ -3,12 +3,15 @@ ghost use Rattle.std.specs.Prelude.{◌≡◌, [], None, Some, IsSome, OnOk, fal
 ghost use Rattle.gq_group.specs.Choices.{Begins};
 ghost use Rattle.gq_group.specs.Chunks.{IsChunkOf};
 ghost use Rattle.gq_group.specs.Groups.{choices};
-ghost use Rattle.gq_rows.specs.Chunks.{IsChunkIn, PushesAll, PushesChunk, chunk_outcomes, counted};
+ghost use Rattle.gq_plan.specs.Assignments.{row_of};
+ghost use Rattle.gq_rows.specs.Chunks.{IsChunkIn, PushesAdmitted, PushesAll, PushesChunk};
+ghost use Rattle.gq_rows.specs.Chunks.{admitted_outcomes, counted};
 ghost use Rattle.gq_rows.specs.steps.Keeping.{HasForm};
 ghost use Rattle.gq_rows.specs.steps.Resolving.{IsReading};
 ghost use Rattle.gq_rows.specs.Tables.{IsSameQuery, Pushes, StandsFor, StandsForSome};
-ghost use Rattle.gq_rows.specs.Tables.{is_full_table, outcome_read};
+ghost use Rattle.gq_rows.specs.Tables.{is_full_table, outcome_admitted, outcome_read};
 
+use crate::admitting::{Admits, Everything};
 use crate::bar::are_sure;
 use crate::held::{Form, Rows};
 use crate::judging::Question;
@@ -138,6 +141,26 @@ impl<'g> RowTable<'g> {
         ensures counted { let all = choices chunk.now.groups.now in
             OnOk result (self.new.pushed ≡ counted self.old.pushed all) }
     {
+        self.push_admitted(chunk, graph, &Everything)
+    }
+
+    /// Takes those of the assignments that are admitted, in the same way.
+    pub fn push_admitted<A: Admits>(
+        &mut self,
+        chunk: &Chunk<'_, '_>,
+        graph: &'g Graph,
+        admits: &A,
+    ) -> Result<More, RowRefusal>
+        requires started { IsSome self.old.alternative }
+        requires chunk { IsChunkIn graph.now self.old.alternative chunk.now }
+        requires stands { StandsForSome self.old }
+        requires room { is_full_table self.old ≡ false }
+        ensures pushes { let admitted = A.admitted admits.now in
+            PushesAdmitted admitted graph.now chunk.now self.old self.new result }
+        ensures query { OnOk result (IsSameQuery self.old self.new) }
+        ensures counted { let all = choices chunk.now.groups.now in
+            OnOk result (self.new.pushed ≡ counted self.old.pushed all) }
+    {
         let Some(typed) = self.typed else {
             unreachable!()
         };
@@ -153,21 +176,22 @@ impl<'g> RowTable<'g> {
         let Ok(()) = reading.resolve(self.bound, typed, graph) else {
             return Err(RowRefusal::Memory);
         };
-        let answer = self.push_choices(&mut choice, chunk, &reading, typed, graph);
+        let answer = self.push_choices(&mut choice, chunk, &reading, typed, graph, admits);
         self.choice = choice;
         self.reading = reading;
         self.pushed = self.pushed.saturating_add(1);
         answer
     }
 
-    // Takes the assignments of the choices from the one that stands on.
-    fn push_choices(
+    // Takes the admitted assignments of the choices from the one that stands on.
+    fn push_choices<A: Admits>(
         &mut self,
         choice: &mut Choice,
         chunk: &Chunk<'_, '_>,
         reading: &Reading<'g>,
         typed: &'g Typed,
         graph: &'g Graph,
+        admits: &A,
     ) -> Result<More, RowRefusal>
         requires chunk { IsChunkOf graph.now typed.now chunk.now }
         requires reading { IsReading graph.now self.old.bound reading.now }
@@ -175,7 +199,7 @@ impl<'g> RowTable<'g> {
         requires room { is_full_table self.old ≡ false }
         requires begins { Begins chunk.now.groups.now true choice.old }
         ensures pushes { let y = Some typed.now in
-            let os = chunk_outcomes graph.now self.old.bound y chunk.now in
+            let os = admitted_outcomes (A.admitted admits.now) graph.now self.old.bound y chunk.now in
             PushesAll os self.old self.new result }
         ensures query { OnOk result (IsSameQuery self.old self.new) }
         ensures pushed { OnOk result (self.new.pushed ≡ self.old.pushed) }
@@ -183,7 +207,7 @@ impl<'g> RowTable<'g> {
         let mut found = true;
         'choices: while found {
             let row = ChunkRow::new(graph, typed, chunk, choice.positions());
-            match self.push(&row, reading, typed, graph) {
+            match self.push_row(&row, reading, typed, graph, admits) {
                 Ok(More::Go) => {}
                 Ok(More::Enough) => return Ok(More::Enough),
                 Err(refusal) => return Err(refusal),
@@ -191,6 +215,30 @@ impl<'g> RowTable<'g> {
             found = choice.next(chunk.groups);
         }
         Ok(More::Go)
+    }
+
+    // Takes an assignment, if it is admitted.
+    fn push_row<A: Admits>(
+        &mut self,
+        row: &ChunkRow<'_, '_, '_, '_, '_>,
+        reading: &Reading<'g>,
+        typed: &'g Typed,
+        graph: &'g Graph,
+        admits: &A,
+    ) -> Result<More, RowRefusal>
+        requires reading { IsReading graph.now self.old.bound reading.now }
+        requires stands { StandsForSome self.old }
+        requires room { is_full_table self.old ≡ false }
+        ensures pushes { let admitted = A.admitted admits.now in
+            Pushes (outcome_admitted admitted graph.now self.old.bound typed.now (row_of row.now))
+            self.old self.new result }
+        ensures query { IsSameQuery self.old self.new }
+        ensures pushed { self.new.pushed ≡ self.old.pushed }
+    {
+        if !admits.admits(row) {
+            return Ok(More::Go);
+        }
+        self.push(row, reading, typed, graph)
     }
 
     // Takes what expressions read of an assignment of an alternative.
