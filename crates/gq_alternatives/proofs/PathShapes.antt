@@ -320,3 +320,33 @@ unfolding path_pattern
 path_pattern_shaped path =
     subst (λ p. IsShaped (with_path 0 path p)) (sym (path_bare path))
     (names_shaped (named_first path).names (named_first path).node_names path (path_firsts path))
+
+-- ---- how many patterns there are
+
+hops_rels : (clause at : ℕ) (hs : List Hop) (p : Pattern) → length (with_hops clause at hs p).rels ≡ length p.rels + length hs
+hops_rels clause at [] p = omega arith
+hops_rels clause at (h ∷ hs) p =
+    let w : ℕ = variable_of p h.node in
+    let q : Pattern = with_rel clause at w h.rel p in
+    let more : length q.rels ≡ length p.rels + 1 = length_push p.rels (record { clause = clause; left = at; right = w; part = h.rel }) in
+    let same : length (with_node h.node q).rels ≡ length q.rels = ap length (node_rels h.node q) in
+    let rest = hops_rels clause w hs (with_node h.node q) in
+    omega arith
+
+pub record IsCounted (path : Path) (p : Pattern) : Type 0 where
+  pub nodes : length p.nodes ≡ suc (length path.hops)
+  pub rels : length p.rels ≡ length path.hops
+
+names_counted : (ns : List (Option Name)) (ms : List Name) (path : Path) → IsCounted path (with_path 0 path (of_names ns ms))
+names_counted ns ms path =
+    let begun : Pattern = of_names ns ms in
+    let at : ℕ = variable_of begun path.first in
+    let first : length (with_node path.first begun).nodes ≡ 0 + 1 = node_more path.first begun in
+    let nodes = hops_nodes 0 at path.hops (with_node path.first begun) in
+    let none : length (with_node path.first begun).rels ≡ 0 = ap length (node_rels path.first begun) in
+    let rels = hops_rels 0 at path.hops (with_node path.first begun) in
+    record { nodes = omega arith; rels = omega arith }
+
+pub path_pattern_counted : (path : Path) → IsCounted path (path_pattern path)
+unfolding path_pattern
+path_pattern_counted path = subst (λ p. IsCounted path (with_path 0 path p)) (sym (path_bare path)) (names_counted (named_first path).names (named_first path).node_names path)

@@ -1,9 +1,10 @@
 -- The columns, conjuncts and keys of a query whose names and calls are known stand for expressions.
-use Rattle.std.proofs.Common.{◌≡◌, ◌∙◌, sym, refl, ap, ap₂, subst, ℕ, suc, Bool, true, false, List, [], ◌∷◌, ◌++◌, map, filter, flat_map, Option, Some, None, if◌then◌else◌}
+use Rattle.std.proofs.Common.{◌≡◌, ◌∙◌, sym, refl, ap, ap₂, subst, ℕ, suc, Bool, true, false, not, ◌||◌, List, [], ◌∷◌, ◌++◌, map, filter, flat_map, Option, Some, None, if◌then◌else◌}
 use Rattle.gq_base.proofs.OptionLaws.{or_first, or_second}
 use Rattle.std.specs.Prelude.{All, filter_map, unwrap_or}
-use Rattle.std.specs.List.{AllByRecursion, cons_option}
+use Rattle.std.specs.List.{AllByRecursion, cons_option, list_any}
 use Rattle.std.specs.Option.{option_map, option_or}
+use Rattle.std.proofs.lemmas.Bool.{false≢true}
 use Rattle.std.proofs.lemmas.List.Elements.{All-from_recursion, filter-append, filter_map-append}
 use Rattle.gq_base.specs.Lists.{with_first}
 use Rattle.gq_alternatives.proofs.Shapes.{each_left, each_right}
@@ -12,10 +13,10 @@ use Rattle.gq_expr.specs.declared.Expr.TheVariants as expr
 use Rattle.gq_plan.proofs.Each.{each_of, each_map, each_append, each_kept, each_then}
 use Rattle.gq_trees.proofs.Splits.{split_whole}
 use Rattle.gq_trees.specs.Conjuncts.{conjunct_expr, is_value, values_of}
-use Rattle.gq_scopes.specs.Patterns.{Name, Pattern, no_pattern, pattern_of, with_paths}
+use Rattle.gq_scopes.specs.Patterns.{Name, Pattern, find_name, no_pattern, pattern_of, with_paths}
 use Rattle.gq_trees.specs.Resolving.{Conjunct, Split, functions, resolved, resolve_step, split, split_node, split_step, all_some}
-use Rattle.gq_scopes.specs.Scopes.{Scope, scope_of}
-use Rattle.gq_trees.specs.Uses.{Use, uses, first_name, unknown_name, unknown_function, wrong_count}
+use Rattle.gq_scopes.specs.Scopes.{Scope, is_there, scope_of}
+use Rattle.gq_trees.specs.Uses.{Use, uses, first_name, of_other_form, unknown_name, unknown_function, wrong_count}
 use Rattle.gq_scopes.specs.declared.Column.{Column}
 use Rattle.gq_syntax.specs.declared.AstNode.{AstNode}
 use Rattle.gq_syntax.specs.declared.AstNode.TheVariants as ast
@@ -25,9 +26,14 @@ use Rattle.gq_syntax.specs.declared.Clause.{Clause}
 use Rattle.gq_syntax.specs.declared.Item.{Item}
 use Rattle.gq_syntax.specs.declared.Query.{Query}
 use Rattle.gq_syntax.specs.declared.Sort.{Sort}
+use Rattle.gq_binder.proofs.NameLemmas.{first_in_append}
+use Rattle.gq_binder.proofs.TestLemmas.{IsRight, tests_known, tests_listed}
 use Rattle.gq_binder.proofs.Known.{IsKnown, IsKnownColumn, mapped, refused_use, known_tree}
 use Rattle.gq_binder.specs.Columns.{Scoped, scoped_in, conditions_from, conditions, conjuncts, columns, columns_in, column_of, star_columns, firsts_behind, item_column, sort_scope, column_expr, sort_expr}
-use Rattle.gq_binder.specs.steps.Parts.{known_conjuncts}
+use Rattle.gq_binder.specs.Tested.{shared_test, tests}
+use Rattle.gq_binder.specs.steps.Parts.{known_conjuncts, known_tests}
+use Rattle.gq_plan.specs.declared.NamedExpr.{NamedExpr}
+use Rattle.gq_scopes.specs.PathPatterns.{shared_names}
 use Rattle.gq_binder.specs.Refusals.{first_in, items_in, sorts_in}
 
 -- ---- what the checks say of each expression
@@ -55,6 +61,14 @@ all_fine (e ∷ es) v f c =
       all_fine es (or_second (first_name (unknown_name e.scope) us) (first_in unknown_name es) v) (or_second (first_name unknown_function us) (first_in (λ _. unknown_function) es) f) (or_second (first_name wrong_count us) (first_in (λ _. wrong_count) es) c),
     )
 
+all_right : (es : List Scoped) → first_in unknown_name es ≡ None → first_in of_other_form es ≡ None → AllByRecursion IsRight es
+all_right [] v o = tt
+all_right (e ∷ es) v o =
+    let us : List Use = uses e.tree in (
+      joint (unknown_name e.scope) (of_other_form e.scope) us (or_first (first_name (unknown_name e.scope) us) (first_in unknown_name es) v) (or_first (first_name (of_other_form e.scope) us) (first_in of_other_form es) o),
+      all_right es (or_second (first_name (unknown_name e.scope) us) (first_in unknown_name es) v) (or_second (first_name (of_other_form e.scope) us) (first_in of_other_form es) o),
+    )
+
 -- the expressions of a query in text order, with its functions known
 abbrev pub known_expressions : Query → List ℕ → List Scoped
 known_expressions query text = conditions query ++ (items_in (scope_of (pattern_of query.clauses)) query.items ++ sorts_in (sort_scope functions text query) query.order)
@@ -62,6 +76,7 @@ known_expressions query text = conditions query ++ (items_in (scope_of (pattern_
 -- all names and calls of a query are known
 pub record IsNamed (query : Query) (text : List ℕ) : Type 0 where
   pub variables : first_in unknown_name (known_expressions query text) ≡ None
+  pub forms : first_in of_other_form (known_expressions query text) ≡ None
   pub functions : first_in (λ _. unknown_function) (known_expressions query text) ≡ None
   pub counts : first_in (λ _. wrong_count) (known_expressions query text) ≡ None
 
@@ -83,6 +98,12 @@ module _ (query : Query) (text : List ℕ) (named : IsNamed query text) where
 
   sorts_fine : AllByRecursion IsFine sorts
   sorts_fine = each_right IsFine items sorts (each_right IsFine (conditions query) (items ++ sorts) expressions_fine)
+
+  -- nor does a check of the names in paths refuse one of the conditions
+  conditions_right : AllByRecursion IsRight (conditions query)
+  conditions_right =
+      all_right (conditions query) (or_first (first_in unknown_name (conditions query)) (first_in unknown_name (items ++ sorts)) (sym (first_in_append unknown_name (conditions query) (items ++ sorts)) ∙ named.variables))
+      (or_first (first_in of_other_form (conditions query)) (first_in of_other_form (items ++ sorts)) (sym (first_in_append of_other_form (conditions query) (items ++ sorts)) ∙ named.forms))
 
 -- ---- lists of known parts
 
@@ -265,3 +286,21 @@ conjuncts_there query text named =
     let each = each_condition text (conditions query) (conditions_fine query text named) (placed 0 no_pattern query.clauses) in
     all_there (conjunct_expr text) (filter is_value (flat_map split_of (conditions query))) (known_values text (flat_map split_of (conditions query)) (each_conjunct text (conditions query) each))
     ∙ ap Some (listed text (conditions query) each)
+
+-- ---- tests
+
+abbrev AreValued : List ℕ → Scoped → Type 0
+AreValued text c = (es : List NamedExpr) × (all_some (values_of text (split functions c.scope c.tree).conjuncts) ≡ Some es)
+
+each_valued : (text : List ℕ) (cs : List Scoped) → AllByRecursion (IsSplitKnown text) cs → AllByRecursion (AreValued text) cs
+each_valued text [] h = tt
+each_valued text (c ∷ cs) h =
+    ((filter_map (conjunct_expr text) (filter is_value (split_of c)), all_there (conjunct_expr text) (filter is_value (split_of c)) (known_values text (split_of c) h.0)), each_valued text cs h.1)
+
+pub tests_there : (query : Query) (text : List ℕ) → IsNamed query text → known_tests text (conditions query) ≡ map shared_test (tests text query)
+unfolding tests
+tests_there query text named =
+    tests_listed text (conditions query) (each_valued text (conditions query) (each_condition text (conditions query) (conditions_fine query text named) (placed 0 no_pattern query.clauses)))
+
+pub tests_named : (query : Query) (text : List ℕ) → IsNamed query text → AllByRecursion (λ t. AllByRecursion (λ n. is_there (find_name t.names n) ≡ true) (shared_names t.test.path)) (tests text query)
+tests_named query text named = tests_known text query (conditions_right query text named)

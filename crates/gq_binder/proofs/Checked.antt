@@ -1,31 +1,34 @@
 -- What the checks find in the parts of a query is its first refusal; a query that they pass is bound by its parts.
-use Rattle.std.proofs.Common.{◌≡◌, ◌∙◌, sym, refl, ap, subst, ℕ, length, List, [], ◌∷◌, ◌++◌, map, Option, Some, None, Err}
+use Rattle.std.proofs.Common.{◌≡◌, ◌∙◌, sym, refl, ap, ap₂, subst, ℕ, ◌+◌, Bool, true, false, not, ◌||◌, length, List, [], ◌∷◌, ◌++◌, map, All, Option, Some, None, Err, if◌then◌else◌}
 use Rattle.gq_base.proofs.OptionLaws.{or_none}
+use Rattle.std.specs.List.{AllZip}
 use Rattle.std.specs.Option.{option_map, option_or}
 use Rattle.gq_alternatives.specs.Alternatives.{Choice, alternatives, pattern_alternatives}
 use Rattle.gq_base.specs.Catalogs.{Tables}
-use Rattle.gq_binder.proofs.Accepted.{IsNamed, known_expressions, columns_there, keys_there, conjuncts_there}
-use Rattle.gq_binder.proofs.NameLemmas.{first_variable, first_function, first_arguments, first_exists, sorts_same}
+use Rattle.gq_base.specs.Lists.{is_empty}
+use Rattle.gq_binder.proofs.Accepted.{IsNamed, known_expressions, columns_there, keys_there, conjuncts_there, tests_named, tests_there}
+use Rattle.gq_binder.proofs.TestLemmas.{tests_whole, zip_parts}
+use Rattle.gq_binder.proofs.NameLemmas.{first_again, first_other_form, first_variable, first_function, first_arguments, sorts_same}
 use Rattle.gq_binder.proofs.Patterns.{node_names_there}
 use Rattle.gq_binder.proofs.RefusalLemmas.{first_then, first_append, same_behind}
-use Rattle.gq_binder.proofs.SoundAlternatives.{each_none, is_bound, reads_listed}
+use Rattle.gq_binder.proofs.SoundAlternatives.{each_none, is_bound, reads_listed, tests_sound}
 use Rattle.gq_binder.specs.Binding.{Answers, IsBound}
 use Rattle.gq_binder.specs.steps.Checks.{IsOfQuery}
 use Rattle.gq_binder.specs.Columns.{conditions, columns, entry_test, sort_scope}
 use Rattle.gq_binder.specs.steps.Names.{FirstNames, no_names, with_expressions}
-use Rattle.gq_binder.specs.steps.Parts.{known_conjuncts, parts_of, ambiguous_in, reads_in, checks_in, bound_in}
-use Rattle.gq_binder.specs.Refusals.{first_of_all, exists_in, not_built, unknown_variable, variable_conflict, relationship_repeated, column_repeated, nothing_to_return, order_out_of_scope, ambiguous_order_name, function_unknown, argument_count, over_limit, max_columns, max_alternatives, too_many_patterns, all_reads, first_refusal, checks_of, too_many_alternatives, expressions, first_in}
+use Rattle.gq_binder.specs.Tested.{IsTested, SharedTest, shared_test, tests}
+use Rattle.gq_binder.specs.steps.Parts.{exists_part, known_conjuncts, known_tests, parts_of, ambiguous_in, reads_in, checks_in, bound_in}
+use Rattle.gq_binder.specs.Refusals.{first_of_all, not_built, unknown_variable, variable_conflict, relationship_repeated, column_repeated, nothing_to_return, order_out_of_scope, ambiguous_order_name, function_unknown, argument_count, over_limit, max_columns, max_alternatives, alternatives_in, path_conflict, path_repeated, paths_of, too_many_patterns, too_many_reads, all_reads, first_refusal, checks_of, too_many_alternatives, exists_place, expressions, first_in}
 use Rattle.gq_binder.specs.declared.parts.QueryParts.{QueryParts}
 use Rattle.gq_binder.specs.declared.refusal.BindRefusal.{BindRefusal}
 use Rattle.gq_binder.specs.declared.refusal.BindRefusal.TheVariants as refusal
-use Rattle.gq_plan.specs.Reads.{Read, distinct}
-use Rattle.gq_plan.specs.Soundness.{max_reads}
+use Rattle.gq_plan.specs.Reads.{Read}
 use Rattle.gq_scopes.specs.Patterns.{Name, Pattern, pattern_of}
 use Rattle.gq_trees.specs.Renames.{ambiguous_name}
 use Rattle.gq_trees.specs.Resolving.{functions}
 use Rattle.gq_scopes.specs.Scopes.{scope_of}
-use Rattle.gq_trees.specs.Uses.{unknown_name, unknown_function, wrong_count}
-use Rattle.gq_syntax.specs.steps.Spans.{StandsIn}
+use Rattle.gq_trees.specs.Uses.{named_again, of_other_form, unknown_name, unknown_function, wrong_count}
+use Rattle.gq_syntax.specs.steps.Spans.{IsWholePath, StandsIn}
 use Rattle.gq_syntax.specs.declared.Query.{Query}
 
 none_of : (f : Name → BindRefusal) (o : Option Name) → option_map f o ≡ None → o ≡ None
@@ -39,9 +42,11 @@ module _ (query : Query) (text : List ℕ) where
   abbrev names : FirstNames
   names = with_expressions no_names (known_expressions query text)
 
-  named_by : option_map refusal.UnknownVariable names.variable ≡ None → option_map refusal.UnknownFunction names.function ≡ None → option_map refusal.ArgumentCount names.arguments ≡ None → IsNamed query text
-  named_by v f n = record {
+  named_by : option_map refusal.UnknownVariable names.variable ≡ None → option_map refusal.VariableConflict names.other_form ≡ None → option_map refusal.UnknownFunction names.function ≡ None
+      → option_map refusal.ArgumentCount names.arguments ≡ None → IsNamed query text
+  named_by v o f n = record {
     variables = sym (first_variable (known_expressions query text)) ∙ none_of refusal.UnknownVariable names.variable v;
+    forms = sym (first_other_form (known_expressions query text)) ∙ none_of refusal.VariableConflict names.other_form o;
     functions = sym (first_function (known_expressions query text)) ∙ none_of refusal.UnknownFunction names.function f;
     counts = sym (first_arguments (known_expressions query text)) ∙ none_of refusal.ArgumentCount names.arguments n;
   }
@@ -49,44 +54,54 @@ module _ (query : Query) (text : List ℕ) where
   -- the checks before those of numbers
   abbrev early : List (Option BindRefusal)
   early =
-      not_built query p names.exists
+      not_built query p
       ∷ option_map refusal.UnknownVariable names.variable
       ∷ variable_conflict p
+      ∷ option_map refusal.VariableConflict names.other_form
       ∷ relationship_repeated p
+      ∷ option_map refusal.RelationshipRepeated names.again
       ∷ column_repeated (columns functions text query)
       ∷ nothing_to_return query p
       ∷ order_out_of_scope text query
       ∷ ambiguous_in query p
       ∷ option_map refusal.UnknownFunction names.function
-      ∷ option_map refusal.ArgumentCount names.arguments
-      ∷ too_many_patterns p ∷ []
+      ∷ option_map refusal.ArgumentCount names.arguments ∷ []
 
-  abbrev numbers : List Read → List (Option BindRefusal)
-  numbers reads =
-      over_limit max_reads (length (distinct reads)) refusal.TooManyReads
+  abbrev numbers : List Read → List SharedTest → List (Option BindRefusal)
+  numbers reads ts =
+      too_many_patterns p (paths_of ts)
+      ∷ too_many_reads reads p ts
       ∷ over_limit max_columns (length (columns functions text query)) refusal.TooManyColumns ∷ []
 
   abbrev listed_reads : List Read
   listed_reads = reads_in (map (entry_test text) p.entries) ++ reads_in (known_conjuncts text (conditions query))
 
-  -- where all names and calls are known, the conjuncts read what the conditions read
-  same_reads : first_of_all (early ++ numbers listed_reads) ≡ first_of_all (early ++ numbers (all_reads query))
+  abbrev listed_tests : List SharedTest
+  listed_tests = known_tests text (conditions query)
+
+  abbrev all_tests : List SharedTest
+  all_tests = map shared_test (tests text query)
+
+  -- where all names and calls are known, the conjuncts read what the conditions read, and the tests are those of the conditions
+  same_reads : first_of_all (early ++ numbers listed_reads listed_tests) ≡ first_of_all (early ++ numbers (all_reads query) all_tests)
   same_reads =
-      same_behind early (numbers listed_reads) (numbers (all_reads query)) (λ passed.
-      let named : IsNamed query text = named_by passed.1.0 passed.1.1.1.1.1.1.1.1.0 passed.1.1.1.1.1.1.1.1.1.0 in
-      ap (λ reads. first_of_all (numbers reads)) (reads_listed query text (known_conjuncts text (conditions query)) (conjuncts_there query text named)))
+      same_behind early (numbers listed_reads listed_tests) (numbers (all_reads query) all_tests) (λ passed.
+      let named : IsNamed query text = named_by passed.1.0 passed.1.1.1.0 passed.1.1.1.1.1.1.1.1.1.1.0 passed.1.1.1.1.1.1.1.1.1.1.1.0 in
+      ap₂ (λ reads ts. first_of_all (numbers reads ts)) (reads_listed query text (known_conjuncts text (conditions query)) (conjuncts_there query text named)) (tests_there query text named))
 
   -- the expressions that are gone through are those of the definition
   same_expressions : known_expressions query text ≡ expressions text query
   unfolding expressions
   same_expressions = refl
 
-  same_checks : first_of_all (early ++ numbers (all_reads query)) ≡ first_of_all (checks_of query text)
+  same_checks : first_of_all (early ++ numbers (all_reads query) all_tests) ≡ first_of_all (checks_of query text)
   same_checks =
-      let built : not_built query p names.exists ≡ not_built query p (exists_in (expressions text query)) =
-      ap (not_built query p) (first_exists (known_expressions query text) ∙ ap exists_in same_expressions) in
       let unknown : option_map refusal.UnknownVariable names.variable ≡ unknown_variable text query =
       ap (option_map refusal.UnknownVariable) (first_variable (known_expressions query text) ∙ ap (first_in unknown_name) same_expressions) in
+      let form : option_map refusal.VariableConflict names.other_form ≡ path_conflict text query =
+      ap (option_map refusal.VariableConflict) (first_other_form (known_expressions query text) ∙ ap (first_in of_other_form) same_expressions) in
+      let again : option_map refusal.RelationshipRepeated names.again ≡ path_repeated text query =
+      ap (option_map refusal.RelationshipRepeated) (first_again (known_expressions query text) ∙ ap (first_in named_again) same_expressions) in
       let ambiguous : ambiguous_in query p ≡ ambiguous_order_name text query =
       ap (option_map refusal.AmbiguousOrderName) (sorts_same (λ _. ambiguous_name (scope_of p) query.items) (scope_of p) (sort_scope functions text query) (λ u. refl) query.order) in
       let function : option_map refusal.UnknownFunction names.function ≡ function_unknown text query =
@@ -95,18 +110,19 @@ module _ (query : Query) (text : List ℕ) where
       ap (option_map refusal.ArgumentCount) (first_arguments (known_expressions query text) ∙ ap (first_in (λ _. wrong_count)) same_expressions) in
       λ i.
       first_of_all
-      (built i
+      (not_built query p
       ∷ unknown i
       ∷ variable_conflict p
+      ∷ form i
       ∷ relationship_repeated p
+      ∷ again i
       ∷ column_repeated (columns functions text query)
       ∷ nothing_to_return query p
       ∷ order_out_of_scope text query
       ∷ ambiguous i
       ∷ function i
       ∷ count i
-      ∷ too_many_patterns p
-      ∷ numbers (all_reads query))
+      ∷ numbers (all_reads query) all_tests)
 
   abbrev found : Option BindRefusal
   found = first_of_all (checks_in text query (parts_of text query))
@@ -118,22 +134,30 @@ module _ (query : Query) (text : List ℕ) where
   named_parts : found ≡ None → IsNamed query text
   unfolding parts_of
   named_parts e =
-      let passed = each_none (early ++ numbers listed_reads) e in
-      named_by passed.1.0 passed.1.1.1.1.1.1.1.1.0 passed.1.1.1.1.1.1.1.1.1.0
+      let passed = each_none (early ++ numbers listed_reads listed_tests) e in
+      named_by passed.1.0 passed.1.1.1.0 passed.1.1.1.1.1.1.1.1.1.1.0 passed.1.1.1.1.1.1.1.1.1.1.1.0
 
   pattern_is : (parts_of text query).pattern ≡ p
   unfolding parts_of
   pattern_is = refl
 
+  tests_are : (parts_of text query).patterns ≡ known_tests text (conditions query)
+  unfolding parts_of
+  tests_are = refl
+
   module _ (catalog : Tables) where
+    abbrev place : Option BindRefusal
+    place = exists_place query
+
     abbrev last : Option BindRefusal
-    last = too_many_alternatives query catalog
+    last = option_or (too_many_alternatives text query catalog) place
 
     refusal_is : first_refusal query text catalog ≡ option_or found last
     unfolding first_refusal
     refusal_is =
-        first_append (checks_of query text) (last ∷ [])
-        ∙ ap (option_or (first_of_all (checks_of query text))) (first_then last [] ∙ or_none last)
+        first_append (checks_of query text) (too_many_alternatives text query catalog ∷ place ∷ [])
+        ∙ ap (option_or (first_of_all (checks_of query text)))
+        (first_then (too_many_alternatives text query catalog) (place ∷ []) ∙ ap (option_or (too_many_alternatives text query catalog)) (first_then place [] ∙ or_none place))
         ∙ ap (λ o. option_or o last) (sym checked)
 
     answered : (e : BindRefusal) → (IsOfQuery e → first_refusal query text catalog ≡ Some e) → Answers query text catalog (Err e)
@@ -146,8 +170,8 @@ module _ (query : Query) (text : List ℕ) where
     refused_early parts e is h =
         answered e (λ q. refusal_is ∙ ap (λ o. option_or o last) (sym (ap (λ ps. first_of_all (checks_in text query ps)) is) ∙ h q))
 
-    abbrev many : Pattern → Option BindRefusal
-    many pattern = over_limit max_alternatives (length (pattern_alternatives catalog pattern)) refusal.TooManyAlternatives
+    abbrev many : Pattern → List SharedTest → Option BindRefusal
+    many pattern ts = over_limit max_alternatives (length (pattern_alternatives catalog pattern) + alternatives_in catalog (paths_of ts)) refusal.TooManyAlternatives
 
     module _ (parts : QueryParts) (is : parts ≡ parts_of text query) (passed : first_of_all (checks_in text query parts) ≡ None) where
       passes : found ≡ None
@@ -156,38 +180,56 @@ module _ (query : Query) (text : List ℕ) where
       pattern_so : parts.pattern ≡ p
       pattern_so = ap (λ (ps : QueryParts). ps.pattern) is ∙ pattern_is
 
-      rest : first_refusal query text catalog ≡ many parts.pattern
-      rest = refusal_is ∙ ap (λ o. option_or o last) passes ∙ sym (ap many pattern_so)
+      tests_so : parts.patterns ≡ map shared_test (tests text query)
+      tests_so = ap (λ (ps : QueryParts). ps.patterns) is ∙ tests_are ∙ tests_there query text (named_parts passes)
 
-      -- the last check refuses it
-      pub refused_last : (e : BindRefusal) → (IsOfQuery e → many parts.pattern ≡ Some e) → Answers query text catalog (Err e)
-      refused_last e h = answered e (λ q. rest ∙ h q)
+      rest : first_refusal query text catalog ≡ option_or (many parts.pattern parts.patterns) place
+      rest = refusal_is ∙ ap (λ o. option_or o last) passes ∙ sym (ap (λ o. option_or o place) (ap₂ many pattern_so tests_so))
 
-      bound_by_parts : StandsIn text query → first_refusal query text catalog ≡ None → IsNamed query text → IsBound query text catalog (bound_in catalog query (parts_of text query) (alternatives query catalog))
+      -- the number of alternatives refuses it
+      pub refused_many : (e : BindRefusal) → (IsOfQuery e → many parts.pattern parts.patterns ≡ Some e) → Answers query text catalog (Err e)
+      refused_many e h = answered e (λ q. rest ∙ ap (λ o. option_or o place) (h q))
+
+      module _ (few : many parts.pattern parts.patterns ≡ None) where
+        last_rest : first_refusal query text catalog ≡ place
+        last_rest = rest ∙ ap (λ o. option_or o place) few
+
+        -- the last check refuses it
+        pub refused_last : (e : BindRefusal) → (IsOfQuery e → place ≡ Some e) → Answers query text catalog (Err e)
+        refused_last e h = answered e (λ q. last_rest ∙ h q)
+
+      bound_by_parts : StandsIn text query → first_refusal query text catalog ≡ None → IsNamed query text → IsBound query text catalog (bound_in text catalog query (parts_of text query) (alternatives query catalog))
       unfolding parts_of
       bound_by_parts stands accepted named =
-          is_bound query text catalog (bound_in catalog query (parts_of text query) (alternatives query catalog)) accepted
+          is_bound query text catalog (bound_in text catalog query (parts_of text query) (alternatives query catalog)) accepted
           (record {
             node_names = refl;
             rel_names = refl;
             columns = columns_there query text named;
             conjuncts = conjuncts_there query text named;
-            patterns = refl;
             keys = keys_there query text named;
             distinct = refl;
             skip = refl;
             limit = refl;
           })
-          refl (node_names_there text query stands)
+          refl
+          (subst (λ ts. AllZip (IsTested text catalog) (tests text query) (map (exists_part text catalog) ts)) (sym (tests_there query text named))
+          (zip_parts text catalog (tests text query) (tests_named query text named) (tests_sound query text catalog accepted)))
+          (node_names_there text query stands)
 
       -- no check refuses it
-      pub accepted : (choices : List Choice) → StandsIn text query → many parts.pattern ≡ None → choices ≡ pattern_alternatives catalog parts.pattern → IsBound query text catalog (bound_in catalog query parts choices)
-      accepted choices stands few all =
-          subst (λ ps. IsBound query text catalog (bound_in catalog query ps choices)) (sym is)
-          (subst (λ cs. IsBound query text catalog (bound_in catalog query (parts_of text query) cs)) (sym (all ∙ ap (pattern_alternatives catalog) pattern_so))
-          (bound_by_parts stands (rest ∙ few) (named_parts passes)))
+      pub accepted : (choices : List Choice) → StandsIn text query → many parts.pattern parts.patterns ≡ None → place ≡ None → choices ≡ pattern_alternatives catalog parts.pattern → IsBound query text catalog (bound_in text catalog query parts choices)
+      accepted choices stands few placed all =
+          subst (λ ps. IsBound query text catalog (bound_in text catalog query ps choices)) (sym is)
+          (subst (λ cs. IsBound query text catalog (bound_in text catalog query (parts_of text query) cs)) (sym (all ∙ ap (pattern_alternatives catalog) pattern_so))
+          (bound_by_parts stands (last_rest few ∙ placed) (named_parts passes)))
 
     -- a refusal that is no want of memory
     pub refused_so : (e : BindRefusal) → (e ≡ refusal.Memory → ⊥) → Answers query text catalog (Err e) → Some e ≡ first_refusal query text catalog
     refused_so refusal.Memory other h = absurd (other refl)
     refused_so e other h = sym h
+
+-- each path that the parts of a query test begins and ends between characters
+pub parts_whole : (text : List ℕ) (query : Query) → StandsIn text query → All (λ (t : SharedTest). IsWholePath text t.test.path) (parts_of text query).patterns
+unfolding parts_of
+parts_whole text query stands = tests_whole text query stands

@@ -5,9 +5,11 @@ pub mod MetLemmas
 pub mod NameLemmas
 pub mod OneBound
 pub mod PartLemmas
+pub mod PathCounts
 pub mod Patterns
 pub mod ReadingLemmas
 pub mod RefusalLemmas
 mod WorkedRefusals
 pub mod SoundAlternatives
 mod SoundWorked
+pub mod TestLemmas

@@ -5,10 +5,10 @@ use Rattle.gq_base.proofs.OptionLaws.{or_assoc, or_none}
 use Rattle.std.specs.Option.{option_or}
 use Rattle.gq_binder.specs.Columns.{Scoped}
 use Rattle.gq_binder.specs.steps.Names.{FirstNames, no_names, with_expression, with_expressions}
-use Rattle.gq_binder.specs.Refusals.{exists_in, first_in, sorts_in}
+use Rattle.gq_binder.specs.Refusals.{first_in, sorts_in}
 use Rattle.gq_scopes.specs.Patterns.{Name}
 use Rattle.gq_scopes.specs.Scopes.{Scope}
-use Rattle.gq_trees.specs.Uses.{Use, uses, has_exists, first_name, unknown_name, unknown_function, wrong_count}
+use Rattle.gq_trees.specs.Uses.{Use, uses, first_name, named_again, of_other_form, unknown_name, unknown_function, wrong_count}
 
 pub first_in_append : (check : Scope → Use → Option Name) (xs ys : List Scoped) → first_in check (xs ++ ys) ≡ option_or (first_in check xs) (first_in check ys)
 first_in_append check [] ys = refl
@@ -33,27 +33,17 @@ module _ (of : FirstNames → Option Name) (check : Scope → Use → Option Nam
 pub first_variable : (es : List Scoped) → (with_expressions no_names es).variable ≡ first_in unknown_name es
 first_variable es = found (λ names. names.variable) unknown_name (λ names e. refl) no_names es
 
+pub first_other_form : (es : List Scoped) → (with_expressions no_names es).other_form ≡ first_in of_other_form es
+first_other_form es = found (λ names. names.other_form) of_other_form (λ names e. refl) no_names es
+
+pub first_again : (es : List Scoped) → (with_expressions no_names es).again ≡ first_in named_again es
+first_again es = found (λ names. names.again) named_again (λ names e. refl) no_names es
+
 pub first_function : (es : List Scoped) → (with_expressions no_names es).function ≡ first_in (λ _. unknown_function) es
 first_function es = found (λ names. names.function) (λ _. unknown_function) (λ names e. refl) no_names es
 
 pub first_arguments : (es : List Scoped) → (with_expressions no_names es).arguments ≡ first_in (λ _. wrong_count) es
 first_arguments es = found (λ names. names.arguments) (λ _. wrong_count) (λ names e. refl) no_names es
-
-or_again : (a b c : Bool) → ((a || b) || c) ≡ (a || (b || c))
-or_again true b c = refl
-or_again false b c = refl
-
-or_false : (a : Bool) → a ≡ (a || false)
-or_false true = refl
-or_false false = refl
-
-exists_found : (names : FirstNames) (es : List Scoped) → (with_expressions names es).exists ≡ (names.exists || exists_in es)
-exists_found names [] = or_false names.exists
-exists_found names (e ∷ es) = exists_found (with_expression names e) es ∙ or_again names.exists (has_exists e.tree) (exists_in es)
-
--- whether there is an EXISTS
-pub first_exists : (es : List Scoped) → (with_expressions no_names es).exists ≡ exists_in es
-first_exists es = exists_found no_names es
 
 -- ---- a check that says the same of each name in two scopes
 

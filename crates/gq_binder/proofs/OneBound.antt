@@ -1,5 +1,8 @@
 -- A query that stands in a text is bound in one way over a catalogue.
-use Rattle.std.proofs.Common.{◌≡◌, ℕ, true, Option, Some, None, List, [], ◌∷◌, length, map, refl, sym, ap, ◌∙◌, arith, eqb-true}
+use Rattle.std.proofs.Common.{◌≡◌, ℕ, true, Option, Some, None, List, [], ◌∷◌, length, map, refl, sym, ap, ap₂, ◌∙◌, arith, eqb-true}
+use Rattle.std.specs.List.{AllZip}
+use Rattle.gq_binder.specs.Tested.{IsTested, ScopedTest, tests}
+use Rattle.gq_plan.specs.declared.ExistsPart.{ExistsPart}
 use Rattle.gq_base.specs.Catalogs.{Tables}
 use Rattle.gq_base.specs.Lists.{is_empty, with_first}
 use Rattle.gq_plan.specs.declared.Bound.{Bound}
@@ -21,13 +24,31 @@ typed_with query text catalog conjuncts =
     let p : Pattern = pattern_of query.clauses in
     map (typed_of catalog p (map (entry_test text) p.entries) conjuncts) (alternatives query catalog)
 
+same_part : (text : List ℕ) (catalog : Tables) (t : ScopedTest) (a b : ExistsPart) → IsTested text catalog t a → IsTested text catalog t b → a ≡ b
+same_part text catalog t a b x y =
+    let called : a.text ≡ b.text = x.called ∙ sym y.called in
+    let wanted : a.wanted ≡ b.wanted = x.wanted ∙ sym y.wanted in
+    let nodes : a.nodes ≡ b.nodes = x.nodes ∙ sym y.nodes in
+    let alternatives : a.alternatives ≡ b.alternatives = x.alternatives ∙ sym y.alternatives in
+    let e : ◌≡◌ {A = ExistsPart} (record { text = a.text; wanted = a.wanted; nodes = a.nodes; alternatives = a.alternatives })
+    (record { text = b.text; wanted = b.wanted; nodes = b.nodes; alternatives = b.alternatives }) = cc (called, wanted, nodes, alternatives) in
+    e
+
+same_parts : (text : List ℕ) (catalog : Tables) (ts : List ScopedTest) (xs ys : List ExistsPart) → AllZip (IsTested text catalog) ts xs → AllZip (IsTested text catalog) ts ys → xs ≡ ys
+same_parts text catalog [] [] [] x y = refl
+same_parts text catalog [] [] (b ∷ ys) x y = absurd y
+same_parts text catalog [] (a ∷ xs) ys x y = absurd x
+same_parts text catalog (t ∷ ts) [] ys x y = absurd x
+same_parts text catalog (t ∷ ts) (a ∷ xs) [] x y = absurd y
+same_parts text catalog (t ∷ ts) (a ∷ xs) (b ∷ ys) x y = ap₂ ◌∷◌ (same_part text catalog t a b x.0 y.0) (same_parts text catalog ts xs ys x.1 y.1)
+
 pub same_bound : (query : Query) (text : List ℕ) (catalog : Tables) (b c : Bound) → IsBound query text catalog b → IsBound query text catalog c → b ≡ c
 same_bound query text catalog b c x y =
     let conjuncts : b.conjuncts ≡ c.conjuncts = one_some _ _ (sym x.resolves.conjuncts ∙ y.resolves.conjuncts) in
     let alternatives : b.alternatives ≡ c.alternatives =
     x.alternatives ∙ ap (typed_with query text catalog) conjuncts ∙ sym y.alternatives in
     let columns : b.columns ≡ c.columns = one_some _ _ (sym x.resolves.columns ∙ y.resolves.columns) in
-    let patterns : b.patterns ≡ c.patterns = x.resolves.patterns ∙ sym y.resolves.patterns in
+    let patterns : b.patterns ≡ c.patterns = same_parts text catalog (tests text query) b.patterns c.patterns x.tested y.tested in
     let keys : b.keys ≡ c.keys = one_some _ _ (sym x.resolves.keys ∙ y.resolves.keys) in
     let nodes : b.node_names ≡ c.node_names = x.resolves.node_names ∙ sym y.resolves.node_names in
     let rels : b.rel_names ≡ c.rel_names = x.resolves.rel_names ∙ sym y.resolves.rel_names in

@@ -1,11 +1,12 @@
 -- The names and conjuncts of some conditions and then others.
-use Rattle.std.proofs.Common.{◌≡◌, ◌∙◌, ℕ, suc, ◌+◌, ◌<◌, List, [], ◌∷◌, ◌++◌, map, length, drop, get_or, drop-cons, add-one, append_assoc, sym, ap}
+use Rattle.std.proofs.Common.{◌≡◌, ◌∙◌, ℕ, suc, ◌+◌, ◌<◌, List, [], ◌∷◌, ◌++◌, map, flat_map, length, drop, get_or, drop-cons, add-one, append_assoc, sym, ap}
 use Rattle.std.specs.Prelude.{unwrap_or}
 use Rattle.std.proofs.lemmas.Grind.{flat_map-append}
 use Rattle.gq_binder.proofs.NameLemmas.{with_expressions_append}
 use Rattle.gq_binder.specs.Columns.{Scoped, columns_in, conditions, conditions_from, entry_test, scoped_in}
 use Rattle.gq_binder.specs.steps.Names.{FirstNames, no_names, with_expressions}
-use Rattle.gq_binder.specs.steps.Parts.{known_conjuncts, parts_of}
+use Rattle.gq_binder.specs.Tested.{SharedTest}
+use Rattle.gq_binder.specs.steps.Parts.{known_conjuncts, known_tests, known_tests_of, parts_of}
 use Rattle.gq_binder.specs.Refusals.{items_in, sorts_in}
 use Rattle.gq_plan.specs.declared.NamedExpr.{NamedExpr}
 use Rattle.gq_trees.specs.Conjuncts.{values_of}
@@ -18,6 +19,9 @@ use Rattle.gq_syntax.specs.declared.Query.{Query}
 
 pub known_conjuncts_append : (text : List ℕ) (cs ds : List Scoped) → known_conjuncts text (cs ++ ds) ≡ known_conjuncts text cs ++ known_conjuncts text ds
 known_conjuncts_append text cs ds = flat_map-append (λ c. unwrap_or (all_some (values_of text (split functions c.scope c.tree).conjuncts)) []) cs ds
+
+pub known_tests_append : (text : List ℕ) (cs ds : List Scoped) → known_tests text (cs ++ ds) ≡ known_tests text cs ++ known_tests text ds
+known_tests_append text cs ds = flat_map-append (known_tests_of text) cs ds
 
 -- one more clause of several
 module _ (clauses : List Clause) (at : ℕ) (more : at < length clauses) (c : Clause) (is : c ≡ get_or clauses at c) where
@@ -43,24 +47,33 @@ module _ (clauses : List Clause) (at : ℕ) (more : at < length clauses) (c : Cl
         ∙ sym (ap (λ cs. with_expressions old (conditions_from number p cs)) cut)
         ∙ h
 
-    pub next_conjuncts : (text : List ℕ) (old new whole : List NamedExpr) → new ≡ old ++ known_conjuncts text (scoped_in (scope_of q) c.filter) → old ++ known_conjuncts text (conditions_from number p (drop at clauses)) ≡ whole
-        → new ++ known_conjuncts text (conditions_from next q (drop (at + 1) clauses)) ≡ whole
-    next_conjuncts text old new whole e h =
-        (λ i. new ++ known_conjuncts text (conditions_from (counted i) (is_q i) (drop (at + 1) clauses)))
-        ∙ ap (λ n. n ++ known_conjuncts text rest) (e ∙ ap (λ r. old ++ known_conjuncts text (scoped_in (scope_of r) c.filter)) is_q)
-        ∙ append_assoc old (known_conjuncts text first) (known_conjuncts text rest)
-        ∙ ap (λ l. old ++ l) (sym (known_conjuncts_append text first rest))
-        ∙ sym (ap (λ cs. old ++ known_conjuncts text (conditions_from number p cs)) cut)
+    -- what is listed of conditions
+    next_listed : {A : Type 0} (f : Scoped → List A) (old new whole : List A) → new ≡ old ++ flat_map f (scoped_in (scope_of q) c.filter) → old ++ flat_map f (conditions_from number p (drop at clauses)) ≡ whole
+        → new ++ flat_map f (conditions_from next q (drop (at + 1) clauses)) ≡ whole
+    next_listed f old new whole e h =
+        (λ i. new ++ flat_map f (conditions_from (counted i) (is_q i) (drop (at + 1) clauses)))
+        ∙ ap (λ n. n ++ flat_map f rest) (e ∙ ap (λ r. old ++ flat_map f (scoped_in (scope_of r) c.filter)) is_q)
+        ∙ append_assoc old (flat_map f first) (flat_map f rest)
+        ∙ ap (λ l. old ++ l) (sym (flat_map-append f first rest))
+        ∙ sym (ap (λ cs. old ++ flat_map f (conditions_from number p cs)) cut)
         ∙ h
 
+    pub next_conjuncts : (text : List ℕ) (old new whole : List NamedExpr) → new ≡ old ++ known_conjuncts text (scoped_in (scope_of q) c.filter) → old ++ known_conjuncts text (conditions_from number p (drop at clauses)) ≡ whole
+        → new ++ known_conjuncts text (conditions_from next q (drop (at + 1) clauses)) ≡ whole
+    next_conjuncts text = next_listed (λ c. unwrap_or (all_some (values_of text (split functions c.scope c.tree).conjuncts)) [])
+
+    pub next_tests : (text : List ℕ) (old new whole : List SharedTest) → new ≡ old ++ known_tests text (scoped_in (scope_of q) c.filter) → old ++ known_tests text (conditions_from number p (drop at clauses)) ≡ whole
+        → new ++ known_tests text (conditions_from next q (drop (at + 1) clauses)) ≡ whole
+    next_tests text = next_listed (known_tests_of text)
+
 -- the parts of a query, made one after another
-pub parts_made : (query : Query) (text : List ℕ) (p : Pattern) (names after : FirstNames) (cs : List Column) (es ts : List NamedExpr)
-    → p ≡ pattern_of query.clauses → names ≡ with_expressions no_names (conditions query) → es ≡ known_conjuncts text (conditions query)
+pub parts_made : (query : Query) (text : List ℕ) (p : Pattern) (names after : FirstNames) (cs : List Column) (es ts : List NamedExpr) (ps : List SharedTest)
+    → p ≡ pattern_of query.clauses → names ≡ with_expressions no_names (conditions query) → es ≡ known_conjuncts text (conditions query) → ps ≡ known_tests text (conditions query)
     → cs ≡ columns_in functions text p query → ts ≡ map (entry_test text) p.entries
     → after ≡ with_expressions (with_expressions names (items_in (scope_of p) query.items)) (sorts_in (record (scope_of p) { columns = columns_in functions text p query }) query.order)
-    → record { pattern = p; names = after; columns = cs; conjuncts = es; tests = ts } ≡ parts_of text query
+    → record { pattern = p; names = after; columns = cs; conjuncts = es; patterns = ps; tests = ts } ≡ parts_of text query
 unfolding parts_of
-parts_made query text p names after cs es ts is_p is_names is_es is_cs is_ts is_after =
+parts_made query text p names after cs es ts ps is_p is_names is_es is_ps is_cs is_ts is_after =
     let items : Pattern → List Scoped = λ q. items_in (scope_of q) query.items in
     let sorts : Pattern → List Scoped = λ q. sorts_in (record (scope_of q) { columns = columns_in functions text q query }) query.order in
     let q : Pattern = pattern_of query.clauses in
@@ -71,4 +84,4 @@ parts_made query text p names after cs es ts is_p is_names is_es is_cs is_ts is_
     ∙ sym (with_expressions_append no_names (conditions query) (items q ++ sorts q)) in
     let columns : cs ≡ columns_in functions text q query = is_cs ∙ ap (λ r. columns_in functions text r query) is_p in
     let tests : ts ≡ map (entry_test text) q.entries = is_ts ∙ ap (λ (r : Pattern). map (entry_test text) r.entries) is_p in
-    λ i. record { pattern = is_p i; names = all i; columns = columns i; conjuncts = is_es i; tests = tests i }
+    λ i. record { pattern = is_p i; names = all i; columns = columns i; conjuncts = is_es i; patterns = is_ps i; tests = tests i }

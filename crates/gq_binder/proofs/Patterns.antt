@@ -3,7 +3,8 @@
 use Rattle.std.proofs.Common.{◌≡◌, ℕ, suc, ◌<◌, List, [], ◌∷◌, ◌++◌, length, All, refl, arith}
 use Rattle.gq_plan.specs.declared.variable.Variable.TheVariants.{Node as node, Rel as rel}
 use Rattle.gq_plan.specs.declared.variable.Variable.{Variable}
-use Rattle.std.specs.List.{AllByRecursion}
+use Rattle.std.specs.Prelude.{Bool, true, false, Option, Some, None, if◌then◌else◌}
+use Rattle.std.specs.List.{AllByRecursion, list_any}
 use Rattle.std.proofs.lemmas.List.{length_push}
 use Rattle.std.proofs.lemmas.List.Elements.{All-append, All-head, All-map, All-nil, All-weaker, recursion_from_All}
 use Rattle.gq_plan.specs.declared.PathPart.{PathPart}
@@ -17,7 +18,8 @@ use Rattle.gq_syntax.specs.declared.Path.{Path}
 use Rattle.gq_syntax.specs.declared.Query.{Query}
 use Rattle.gq_syntax.specs.declared.RelPart.{RelPart}
 use Rattle.gq_alternatives.proofs.ShapesOfPatterns.{clauses_grow, hops_grow, node_cases, paths_grow}
-use Rattle.gq_scopes.specs.Patterns.{MapEntry, Name, Pattern, called, entries_of, no_pattern, node_again, node_new, pattern_of, variable_of, with_clauses, with_hops, with_node, with_part, with_path, with_paths, with_rel}
+use Rattle.gq_scopes.specs.PathPatterns.{named_first, path_pattern, with_name, with_names}
+use Rattle.gq_scopes.specs.Patterns.{MapEntry, Name, Pattern, called, is_called, entries_of, no_pattern, node_again, node_new, pattern_of, variable_of, with_clauses, with_hops, with_node, with_part, with_path, with_paths, with_rel}
 
 -- ---- what each step of a pattern keeps, all steps keep
 
@@ -147,6 +149,29 @@ module _ (text : List ℕ) where
 
   clauses_whole : (cs : List Clause) → All (IsWholeClause text) cs → AllByRecursion (λ c. Paths c.paths) cs
   clauses_whole cs h = recursion_from_All (λ c. Paths c.paths) cs (All-weaker (IsWholeClause text) (λ c. Paths c.paths) (λ c w. paths_whole c.paths w.paths) cs h)
+
+  one_keeps : (name : Option Name) (p : Pattern) → All IsWholeMap p.entries → All IsWholeMap (with_name name p).entries
+  one_keeps None p h = h
+  one_keeps (Some n) p h = go (list_any (is_called n) p.names)
+    where
+      more : Pattern → Pattern
+      more q = record q { names = q.names ++ Some n ∷ []; node_names = q.node_names ++ n ∷ [] }
+
+      go : (b : Bool) → All IsWholeMap (if b then p else more p).entries
+      go true = h
+      go false = h
+
+  names_keep : (hs : List Hop) (p : Pattern) → All IsWholeMap p.entries → All IsWholeMap (with_names hs p).entries
+  names_keep [] p h = h
+  names_keep (x ∷ hs) p h = names_keep hs (with_name x.node.name p) (one_keeps x.node.name p h)
+
+  pub path_entries_whole : (path : Path) → IsWholePath text path → All IsWholeMap (path_pattern path).entries
+  unfolding path_pattern
+  path_entries_whole path w =
+      path_kept Entries NodeMap RelMap (λ v part p n h. more (node v) (called p.unnamed part.name) p.entries part.map n h)
+      (λ part p n h. more (node (length p.names)) (called p.unnamed part.name) p.entries part.map n h)
+      (λ clause left right part p n h. more (rel (length p.rels)) (called p.unnamed part.name) p.entries part.map n h) (λ part p h. h)
+      0 path (named_first path) (w.first, hops_whole path.hops w.hops) (names_keep path.hops (with_name path.first.name no_pattern) (one_keeps path.first.name no_pattern (All-nil IsWholeMap)))
 
   pub entries_whole : (q : Query) → StandsIn text q → All IsWholeMap (pattern_of q.clauses).entries
   unfolding pattern_of

@@ -1,5 +1,7 @@
 -- The first refusal of several checks.
-use Rattle.std.proofs.Common.{◌≡◌, ap, refl, sym, ℕ, Bool, true, false, nat_lt, length, List, [], ◌∷◌, ◌++◌, Option, Some, None, if◌then◌else◌, ◌∙◌}
+use Rattle.std.proofs.Common.{◌≡◌, ap, refl, sym, ℕ, ◌+◌, ◌-◌, ◌≤◌, arith, Bool, true, false, nat_lt, length, List, [], ◌∷◌, ◌++◌, Option, Some, None, if◌then◌else◌, ◌∙◌}
+use Rattle.std.proofs.lemmas.Bool.{ltb-false}
+use Rattle.std.proofs.lemmas.Bool.Decides.{nat_tests}
 use Rattle.gq_base.proofs.OptionLaws.{or_none}
 use Rattle.std.specs.List.{AllByRecursion}
 use Rattle.std.specs.Option.{option_map, option_or}
@@ -49,6 +51,36 @@ beyond n xs r e = go (nat_lt n (length xs)) e
     go : (b : Bool) → None ≡ (if b then None else Some xs) → (if b then Some r else None) ≡ Some r
     go true e = refl
     go false e = cc e
+
+-- a limit, with so many taken from it
+pub over_taken : (left k rest : ℕ) (r : BindRefusal) → k ≤ left → over_limit left (k + rest) r ≡ over_limit (left - k) rest r
+over_taken left k rest r low = ap (λ b. if b then Some r else None) less
+  where
+    less : nat_lt left (k + rest) ≡ nat_lt (left - k) rest
+    less = grind (arith, nat_tests)
+
+-- more than all that is left
+pub over_now : (left k rest : ℕ) (r : BindRefusal) → over_limit left k r ≡ Some r → over_limit left (k + rest) r ≡ Some r
+over_now left k rest r e = go (nat_lt left k) refl e
+  where
+    go : (b : Bool) → nat_lt left k ≡ b → (if b then Some r else None) ≡ Some r → over_limit left (k + rest) r ≡ Some r
+    go true is e = let more : nat_lt left (k + rest) ≡ true = grind (arith, nat_tests, is) in rw more refl
+    go false is e = cc e
+
+-- where so many choices are within a limit, what stays of it limits the rest
+pub within_more : (n rest : ℕ) (xs ys : List Choice) (r : BindRefusal) → Some ys ≡ at_most n xs → over_limit n (length xs + rest) r ≡ over_limit (n - length ys) rest r
+within_more n rest xs ys r e = go (nat_lt n (length xs)) refl e
+  where
+    go : (b : Bool) → nat_lt n (length xs) ≡ b → Some ys ≡ (if b then None else Some xs) → over_limit n (length xs + rest) r ≡ over_limit (n - length ys) rest r
+    go true is e = cc e
+    go false is e =
+        let low : length xs ≤ n = ltb-false n (length xs) is in
+        let same : xs ≡ ys = cc e in
+        over_taken n (length xs) rest r low ∙ ap (λ zs. over_limit (n - length zs) rest r) same
+
+-- where they are beyond it, they are so with the rest
+pub beyond_more : (n rest : ℕ) (xs : List Choice) (r : BindRefusal) → None ≡ at_most n xs → over_limit n (length xs + rest) r ≡ Some r
+beyond_more n rest xs r e = over_now n (length xs) rest r (beyond n xs r e)
 
 -- to look for the names that AS gives away is to look for ambiguous names
 pub ambiguous_is : (s : Scope) (items : List Item) (names : List Name) (es : List Scoped) → names ≡ renamed_names s items → first_in (λ _. renamed_name names) es ≡ first_in (λ _. ambiguous_name s items) es

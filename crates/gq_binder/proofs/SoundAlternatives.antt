@@ -1,14 +1,15 @@
 -- The alternatives that binding gives are sound for the catalogue.
-use Rattle.std.proofs.Common.{◌≡◌, ℕ, suc, ◌<◌, ◌≤◌, Bool, true, false, not, ◌||◌, cond, nat_lt, Option, Some, None, List, [], ◌∷◌, ◌++◌, map, filter, flat_map, length, if◌then◌else◌, refl, sym, ap, ap₂, ◌∙◌, subst, arith}
+use Rattle.std.proofs.Common.{◌≡◌, ℕ, suc, ◌+◌, append-nil, ◌<◌, ◌≤◌, Bool, true, false, not, ◌||◌, cond, nat_lt, Option, Some, None, List, [], ◌∷◌, ◌++◌, map, filter, flat_map, length, if◌then◌else◌, refl, sym, ap, ap₂, ◌∙◌, subst, arith}
 use Rattle.gq_plan.specs.declared.variable.Variable.TheVariants.{Node as node, Rel as rel}
 use Rattle.gq_plan.specs.declared.variable.Variable.{Variable}
 use Rattle.std.specs.Prelude.{All}
-use Rattle.std.specs.List.{AllByRecursion}
+use Rattle.std.specs.List.{AllByRecursion, AllZip}
 use Rattle.std.specs.Option.{option_map}
-use Rattle.std.proofs.lemmas.Bool.{ltb-false, not-true}
+use Rattle.std.proofs.lemmas.Bool.{ltb-false, not-true, or_left}
 use Rattle.std.proofs.lemmas.Grind.{flat_map-append}
 use Rattle.std.proofs.lemmas.List.{length-map}
 use Rattle.std.proofs.lemmas.List.Elements.{All-from_recursion, filter-append}
+use Rattle.std.proofs.lemmas.List.Folds.{flat_map-map, list_any-append}
 use Rattle.std.proofs.lemmas.Option.{same_Some}
 use Rattle.gq_base.specs.Catalogs.{Tables}
 use Rattle.gq_base.specs.Lists.{with_first}
@@ -22,7 +23,7 @@ use Rattle.gq_expr.specs.declared.Expr.{Expr}
 use Rattle.gq_expr.specs.declared.Expr.TheVariants as expr
 use Rattle.gq_expr.specs.declared.Kinds.{Kinds}
 use Rattle.gq_plan.proofs.Each.{each_of, each_then, each_map, each_append, each_kept}
-use Rattle.gq_plan.specs.Reads.{Read, reads, is_property, property, properties, distinct}
+use Rattle.gq_plan.specs.Reads.{Read, reads, is_property, property, properties, distinct, same_read}
 use Rattle.gq_plan.specs.Soundness.{max_variables, max_reads, IsSound, HasVariable, kinds_for, kinds_of, test_reads}
 use Rattle.gq_plan.specs.declared.Bound.{Bound}
 use Rattle.gq_plan.specs.declared.NamedExpr.{NamedExpr}
@@ -34,21 +35,25 @@ use Rattle.gq_alternatives.proofs.Shapes.{each_left, each_right}
 use Rattle.gq_alternatives.proofs.ShapesOfPatterns.{Grows, grows_same, grows_then, clauses_grow, IsShaped, ends_of, pattern_shaped}
 use Rattle.gq_trees.proofs.ConditionReads.{IsRead, conjuncts_read}
 use Rattle.gq_alternatives.proofs.SoundPatterns.{IsChoice, each_alternative, pattern_sound, typed_count}
-use Rattle.gq_plan.proofs.DifferentReads.{AllAmong, some_among, properties_among, distinct_fewer}
+use Rattle.gq_plan.proofs.DifferentReads.{AllAmong, is_among, some_among, properties_among, distinct_fewer}
 use Rattle.gq_plan.proofs.ReadEquations.{reads_Literal, reads_NodeProperty, reads_RelProperty, reads_Compare}
 use Rattle.gq_trees.proofs.ReadsThere.{AllThere, AreThere}
-use Rattle.gq_alternatives.specs.Alternatives.{Choice, typed_rels, agrees, alternatives, typed_of}
+use Rattle.gq_alternatives.proofs.PathShapes.{IsCounted, path_pattern_counted, path_pattern_shaped}
+use Rattle.gq_alternatives.specs.Alternatives.{Choice, typed_rels, agrees, alternatives, pattern_alternatives, typed_of}
+use Rattle.gq_scopes.specs.PathPatterns.{path_pattern}
+use Rattle.gq_syntax.specs.declared.Path.{Path}
 use Rattle.gq_trees.specs.Conjuncts.{conjunct_expr, is_value, values_of}
 use Rattle.gq_scopes.specs.Patterns.{Name, MapEntry, Pattern, no_pattern, pattern_of, with_paths, with_clauses}
-use Rattle.gq_trees.specs.Resolving.{Conjunct, functions, all_some, split}
+use Rattle.gq_trees.specs.Resolving.{Conjunct, functions, all_some, resolved, split}
 use Rattle.gq_scopes.specs.Scopes.{Scope, scope_of}
 use Rattle.gq_scopes.specs.steps.Variables.{IsThere}
 use Rattle.gq_lexer.specs.Sources.{source_text}
 use Rattle.gq_binder.proofs.Patterns.{names_counted}
 use Rattle.gq_binder.specs.Binding.{IsBound}
 use Rattle.gq_binder.specs.Columns.{Scoped, scoped_in, conditions_from, conditions, conjuncts, property_of, entry_expr, entry_test, Resolves, HasAlternatives}
-use Rattle.gq_binder.specs.steps.Parts.{reads_in}
-use Rattle.gq_binder.specs.Refusals.{first_of_all, over_limit, all_reads, known_reads, first_refusal, checks_of, too_many_alternatives}
+use Rattle.gq_binder.specs.steps.Parts.{exists_part, reads_in}
+use Rattle.gq_binder.specs.Refusals.{first_of_all, over_limit, all_reads, known_reads, first_refusal, checks_of, nodes_in, path_reads, paths_of, reads_alone, rels_in, too_many_alternatives, exists_place}
+use Rattle.gq_binder.specs.Tested.{IsTested, SharedTest, shared_test, tests}
 use Rattle.gq_binder.specs.declared.refusal.BindRefusal.{BindRefusal}
 use Rattle.gq_binder.specs.declared.refusal.BindRefusal.TheVariants as refusal
 
@@ -66,23 +71,37 @@ within_limit limit number refused e = go (nat_lt limit number) refl e
     go true is e = cc e
     go false is e = ltb-false limit number is
 
--- what the numbers of an accepted query are
-record IsSmall (query : Query) : Type 0 where
-  nodes : length (pattern_of query.clauses).nodes ≤ max_variables
-  rels : length (pattern_of query.clauses).rels ≤ max_variables
-  reads : length (distinct (all_reads query)) ≤ max_reads
+abbrev query_tests : List ℕ → Query → List SharedTest
+query_tests text query = map shared_test (tests text query)
 
-accepted_small : (query : Query) (text : List ℕ) (catalog : Tables) → first_refusal query text catalog ≡ None → IsSmall query
+-- what the numbers of an accepted query are
+record IsSmall (query : Query) (text : List ℕ) : Type 0 where
+  nodes : length (pattern_of query.clauses).nodes + nodes_in (paths_of (query_tests text query)) ≤ max_variables
+  rels : length (pattern_of query.clauses).rels + rels_in (paths_of (query_tests text query)) ≤ max_variables
+  reads : length (distinct (all_reads query ++ path_reads (length (pattern_of query.clauses).names) (length (pattern_of query.clauses).rels) (query_tests text query))) ≤ max_reads
+  alone : first_of_all (map reads_alone (query_tests text query)) ≡ None
+
+first_none : (o : Option BindRefusal) (os : List (Option BindRefusal)) → first_of_all (o ∷ os) ≡ None → (o ≡ None) × (first_of_all os ≡ None)
+first_none None os e = (refl, e)
+first_none (Some x) os e = cc e
+
+accepted_small : (query : Query) (text : List ℕ) (catalog : Tables) → first_refusal query text catalog ≡ None → IsSmall query text
 unfolding first_refusal
 accepted_small query text catalog accepted =
     let p : Pattern = pattern_of query.clauses in
-    let checks = each_none (checks_of query text ++ too_many_alternatives query catalog ∷ []) accepted in
+    let ts : List SharedTest = query_tests text query in
+    let nodes : ℕ = length p.nodes + nodes_in (paths_of ts) in
+    let rels : ℕ = length p.rels + rels_in (paths_of ts) in
+    let all : ℕ = length (distinct (all_reads query ++ path_reads (length p.names) (length p.rels) ts)) in
+    let checks = each_none (checks_of query text ++ too_many_alternatives text query catalog ∷ exists_place query ∷ []) accepted in
     let patterns =
-    each_none (over_limit max_variables (length p.nodes) refusal.TooManyPatterns ∷ over_limit max_variables (length p.rels) refusal.TooManyPatterns ∷ []) checks.1.1.1.1.1.1.1.1.1.1.0 in
+    each_none (over_limit max_variables nodes refusal.TooManyPatterns ∷ over_limit max_variables rels refusal.TooManyPatterns ∷ []) checks.1.1.1.1.1.1.1.1.1.1.1.1.0 in
+    let read = first_none (over_limit max_reads all refusal.TooManyReads) (map reads_alone ts) checks.1.1.1.1.1.1.1.1.1.1.1.1.1.0 in
     record {
-      nodes = within_limit max_variables (length p.nodes) refusal.TooManyPatterns patterns.0;
-      rels = within_limit max_variables (length p.rels) refusal.TooManyPatterns patterns.1.0;
-      reads = within_limit max_reads (length (distinct (all_reads query))) refusal.TooManyReads checks.1.1.1.1.1.1.1.1.1.1.1.0;
+      nodes = within_limit max_variables nodes refusal.TooManyPatterns patterns.0;
+      rels = within_limit max_variables rels refusal.TooManyPatterns patterns.1.0;
+      reads = within_limit max_reads all refusal.TooManyReads read.0;
+      alone = read.1;
     }
 
 -- ---- conditions stand in scopes of patterns so far
@@ -232,6 +251,11 @@ each_some {X} P f test (x ∷ xs) h = go (test x) (each_some P f test xs (each_r
     go true more = each_append P (f x) (flat_map f (filter test xs)) (each_left P (f x) (flat_map f xs) h) more
     go false more = more
 
+among_more : (rs ss more : List Read) → AllAmong rs ss → AllAmong rs (ss ++ more)
+among_more rs ss more h =
+    each_then (λ r. is_among ss r ≡ true) (λ r. is_among (ss ++ more) r ≡ true)
+    (λ r k. list_any-append (same_read r) ss more ∙ or_left (is_among ss r) (is_among more r) k) rs h
+
 module _ (catalog : Tables) (query : Query) (text : List ℕ) (es : List NamedExpr) (known : ReadsConditions query es) (c : Choice) where
   abbrev p : Pattern
   p = pattern_of query.clauses
@@ -272,19 +296,99 @@ module _ (catalog : Tables) (query : Query) (text : List ℕ) (es : List NamedEx
       (each_then (λ t. Unit {0} × (stays_test t ≡ true)) (λ t. can_fault kinds t.expr ≡ false) (λ t h. not-true (can_fault kinds t.expr) h.1) (filter stays_test es)
       (each_kept (λ t. Unit {0}) stays_test es (each_of (λ t. Unit {0}) (λ t. tt) es)))
 
-  choice_sound : IsSmall query → IsChoice catalog (length p.names) (length p.rels) c × (agrees catalog p c ≡ true) → IsSound catalog y
+  choice_sound : IsSmall query text → IsChoice catalog (length p.names) (length p.rels) c × (agrees catalog p c ≡ true) → IsSound catalog y
   unfolding typed_of
   choice_sound small h =
       let shaped : IsShaped p = pattern_shaped query.clauses in
       let nodes : length p.names ≡ length c.tables = sym h.0.table_count in
       let rels : length p.rels ≡ length (typed_rels p.rels c.readings) = sym (typed_count p.rels c.readings h.0.reading_count) in
-      let fewer : length (distinct (properties (test_reads y))) ≤ length (distinct (all_reads query)) = distinct_fewer (properties (test_reads y)) (all_reads query) reads_among in
-      let few : length (distinct (all_reads query)) ≤ max_reads = small.reads in
-      pattern_sound catalog p (map (entry_test text) p.entries) es c shaped small.nodes small.rels h.0 h.1
+      let more : List Read = path_reads (length p.names) (length p.rels) (query_tests text query) in
+      let fewer : length (distinct (properties (test_reads y))) ≤ length (distinct (all_reads query ++ more)) =
+      distinct_fewer (properties (test_reads y)) (all_reads query ++ more) (among_more (properties (test_reads y)) (all_reads query) more reads_among) in
+      let few : length (distinct (all_reads query ++ more)) ≤ max_reads = small.reads in
+      let few_nodes : length p.nodes + nodes_in (paths_of (query_tests text query)) ≤ max_variables = small.nodes in
+      let few_rels : length p.rels + rels_in (paths_of (query_tests text query)) ≤ max_variables = small.rels in
+      pattern_sound catalog p (map (entry_test text) p.entries) es c shaped (omega arith) (omega arith) h.0 h.1
       (All-from_recursion (λ r. HasVariable y r.variable) (test_reads y)
       (each_then (λ r. IsThere (length p.names) (length p.rels) r.variable) (λ r. HasVariable y r.variable) (λ r there. has_variable y (length p.names) (length p.rels) r.variable nodes rels there) (test_reads y) (names_there shaped)))
       (omega arith)
       (All-from_recursion (λ t. can_fault (kinds_of catalog y) t.expr ≡ false) y.tests tests_safe)
+
+-- ---- the alternatives of a path by itself
+
+module _ (catalog : Tables) (text : List ℕ) (path : Path) where
+  abbrev own : Pattern
+  own = path_pattern path
+
+  abbrev entries : List NamedExpr
+  entries = map (entry_test text) (path_pattern path).entries
+
+  abbrev made : Choice → Typed
+  made c = typed_of catalog (path_pattern path) (map (entry_test text) (path_pattern path).entries) [] c
+
+  own_tests : (c : Choice) → (made c).tests ≡ entries
+  unfolding typed_of
+  own_tests c = append-nil entries
+
+  own_reads : (c : Choice) → test_reads (made c) ≡ map entry_read own.entries
+  unfolding named_reads
+  own_reads c = ap (flat_map named_reads) (own_tests c) ∙ entries_read text own.entries
+
+  own_properties : (c : Choice) → properties (test_reads (made c)) ≡ map entry_read own.entries
+  unfolding named_reads
+  own_properties c = ap (λ ts. properties (flat_map named_reads ts)) (own_tests c) ∙ properties_listed entries ∙ entries_listed text own.entries
+
+  own_sound : suc (length path.hops) ≤ max_variables → length path.hops ≤ max_variables → length (distinct (map entry_read own.entries)) ≤ max_reads
+      → (c : Choice) → IsChoice catalog (length own.names) (length own.rels) c × (agrees catalog own c ≡ true) → IsSound catalog (made c)
+  unfolding typed_of
+  own_sound few_nodes few_rels few c h =
+      let shaped : IsShaped own = path_pattern_shaped path in
+      let counted : IsCounted path own = path_pattern_counted path in
+      let many_nodes : length own.nodes ≡ suc (length path.hops) = counted.nodes in
+      let many_rels : length own.rels ≡ length path.hops = counted.rels in
+      let nodes : length own.names ≡ length c.tables = sym h.0.table_count in
+      let rels : length own.rels ≡ length (typed_rels own.rels c.readings) = sym (typed_count own.rels c.readings h.0.reading_count) in
+      let there : AllThere (length own.names) (length own.rels) (map entry_read own.entries) =
+      each_map (λ e. IsThere (length own.names) (length own.rels) e.variable) (λ r. IsThere (length own.names) (length own.rels) r.variable) entry_read (λ e h. h) own.entries
+      (subst (λ m. AllByRecursion (λ e. IsThere (length own.names) m e.variable) own.entries) (length-map own.rels ends_of) shaped.shape.there) in
+      let kinds : Kinds = kinds_of catalog (made c) in
+      pattern_sound catalog own entries [] c shaped (omega arith) (omega arith) h.0 h.1
+      (All-from_recursion (λ r. HasVariable (made c) r.variable) (test_reads (made c))
+      (subst (AllByRecursion (λ r. HasVariable (made c) r.variable)) (sym (own_reads c))
+      (each_then (λ r. IsThere (length own.names) (length own.rels) r.variable) (λ r. HasVariable (made c) r.variable) (λ r k. has_variable (made c) (length own.names) (length own.rels) r.variable nodes rels k)
+      (map entry_read own.entries) there)))
+      (subst (λ rs. length (distinct rs) ≤ max_reads) (sym (own_properties c)) few)
+      (All-from_recursion (λ t. can_fault kinds t.expr ≡ false) (made c).tests
+      (subst (AllByRecursion (λ t. can_fault kinds t.expr ≡ false)) (sym (own_tests c))
+      (each_map (λ e. Unit {0}) (λ t. can_fault kinds t.expr ≡ false) (entry_test text) (λ e _. entry_safe kinds e) own.entries (each_of (λ e. Unit {0}) (λ e. tt) own.entries))))
+
+  pub path_sound : suc (length path.hops) ≤ max_variables → length path.hops ≤ max_variables → length (distinct (map entry_read own.entries)) ≤ max_reads
+      → All (IsSound catalog) (map made (pattern_alternatives catalog own))
+  path_sound few_nodes few_rels few =
+      All-from_recursion (IsSound catalog) (map made (pattern_alternatives catalog own))
+      (each_map (λ c. IsChoice catalog (length own.names) (length own.rels) c × (agrees catalog own c ≡ true)) (IsSound catalog) made (own_sound few_nodes few_rels few)
+      (pattern_alternatives catalog own) (each_alternative catalog own))
+
+-- each test of an accepted query is small
+abbrev IsSmallTest : SharedTest → Type 0
+IsSmallTest t =
+    (suc (length t.test.path.hops) ≤ max_variables) × ((length t.test.path.hops ≤ max_variables) × (length (distinct (map entry_read (path_pattern t.test.path).entries)) ≤ max_reads))
+
+each_small : (ts : List SharedTest) (k l : ℕ) → k + nodes_in (paths_of ts) ≤ max_variables → l + rels_in (paths_of ts) ≤ max_variables → first_of_all (map reads_alone ts) ≡ None → AllByRecursion IsSmallTest ts
+each_small [] k l h j e = tt
+each_small (t ∷ ts) k l h j e =
+    let nodes : k + (suc (length t.test.path.hops) + nodes_in (paths_of ts)) ≤ max_variables = h in
+    let rels : l + (length t.test.path.hops + rels_in (paths_of ts)) ≤ max_variables = j in
+    let read = first_none (reads_alone t) (map reads_alone ts) e in (
+      (omega arith, (omega arith, within_limit max_reads (length (distinct (map entry_read (path_pattern t.test.path).entries))) refusal.TooManyReads read.0)),
+      each_small ts (k + suc (length t.test.path.hops)) (l + length t.test.path.hops) (omega arith) (omega arith) read.1,
+    )
+
+pub tests_sound : (query : Query) (text : List ℕ) (catalog : Tables) → first_refusal query text catalog ≡ None → AllByRecursion (λ t. All (IsSound catalog) (exists_part text catalog t).alternatives) (map shared_test (tests text query))
+tests_sound query text catalog accepted =
+    let small : IsSmall query text = accepted_small query text catalog accepted in
+    each_then IsSmallTest (λ t. All (IsSound catalog) (exists_part text catalog t).alternatives) (λ t h. path_sound catalog text t.test.path h.0 h.1.0 h.1.1) (query_tests text query)
+    (each_small (query_tests text query) (length (pattern_of query.clauses).nodes) (length (pattern_of query.clauses).rels) small.nodes small.rels small.alone)
 
 -- the alternatives of a bound query are sound
 pub alternatives_sound : (query : Query) (text : List ℕ) (catalog : Tables) (bound : Bound) → first_refusal query text catalog ≡ None → Resolves query text bound → HasAlternatives query text catalog bound
@@ -313,11 +417,12 @@ nodes_counted query text catalog bound resolves has =
 
 -- so a query that no check refuses, with its names resolved and its alternatives, is bound
 pub is_bound : (query : Query) (text : List ℕ) (catalog : Tables) (bound : Bound) → first_refusal query text catalog ≡ None → Resolves query text bound → HasAlternatives query text catalog bound
-    → 0 < length (pattern_of query.clauses).node_names → IsBound query text catalog bound
-is_bound query text catalog bound accepted resolves has begins = record {
+    → AllZip (IsTested text catalog) (tests text query) bound.patterns → 0 < length (pattern_of query.clauses).node_names → IsBound query text catalog bound
+is_bound query text catalog bound accepted resolves has tested begins = record {
   accepted = accepted;
   resolves = resolves;
   alternatives = has;
+  tested = tested;
   sound = alternatives_sound query text catalog bound accepted resolves has;
   has_node = subst (λ names. 0 < length names) (sym resolves.node_names) begins;
   node_counts = nodes_counted query text catalog bound resolves has;

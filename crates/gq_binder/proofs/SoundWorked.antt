@@ -15,6 +15,7 @@ use Rattle.gq_binder.proofs.SoundAlternatives.{is_bound}
 use Rattle.gq_binder.specs.Binding.{IsBound}
 use Rattle.gq_binder.specs.Columns.{conjuncts, columns_in}
 use Rattle.gq_binder.specs.Refusals.{expressions, all_reads, first_refusal}
+use Rattle.gq_binder.specs.Tested.{tests}
 use Rattle.gq_scopes.specs.Patterns.{pattern_of}
 use Rattle.gq_lexer.specs.Sources.{source_text}
 
@@ -78,12 +79,12 @@ bound = record {
 }
 
 accepted : first_refusal query text catalog ≡ None
-unfolding first_refusal expressions all_reads columns_in pattern_of pattern_alternatives choices tuples conjuncts
+unfolding first_refusal expressions all_reads columns_in pattern_of pattern_alternatives choices tuples conjuncts tests
 accepted = refl
 
 is_bound_so : IsBound query text catalog bound
-unfolding conjuncts columns_in pattern_of pattern_alternatives choices tuples typed_of
+unfolding conjuncts columns_in pattern_of pattern_alternatives choices tuples typed_of tests
 is_bound_so =
     is_bound query text catalog bound accepted
-    (record { node_names = refl; rel_names = refl; columns = refl; conjuncts = refl; patterns = refl; keys = refl; distinct = refl; skip = refl; limit = refl })
-    refl (omega arith)
+    (record { node_names = refl; rel_names = refl; columns = refl; conjuncts = refl; keys = refl; distinct = refl; skip = refl; limit = refl })
+    refl tt (omega arith)

@@ -32,7 +32,7 @@ abbrev star : List Clause → Query
 star clauses = record { clauses = clauses; optionals = []; star = true; items = []; distinct = false; order = []; skip = None; limit = None }
 
 abbrev built : Query → Option BindRefusal
-built query = not_built query (pattern_of query.clauses) false
+built query = not_built query (pattern_of query.clauses)
 
 -- ()-[]->() alone, ()-[:KNOWS*2]->(), and () with OPTIONAL MATCH (b) behind it
 all_built : built (star (one_path unnamed (hop (rel None) unnamed ∷ []))) ≡ None
@@ -81,10 +81,10 @@ unfolding pattern_of
 something = refl
 
 -- 24 node patterns, and 25
-enough : too_many_patterns (pattern_of (one_path unnamed (replicate 23 (hop (rel None) unnamed)))) ≡ None
+enough : too_many_patterns (pattern_of (one_path unnamed (replicate 23 (hop (rel None) unnamed)))) [] ≡ None
 unfolding pattern_of
 enough = refl
 
-too_many : too_many_patterns (pattern_of (one_path unnamed (replicate 24 (hop (rel None) unnamed)))) ≡ Some refusal.TooManyPatterns
+too_many : too_many_patterns (pattern_of (one_path unnamed (replicate 24 (hop (rel None) unnamed)))) [] ≡ Some refusal.TooManyPatterns
 unfolding pattern_of
 too_many = refl

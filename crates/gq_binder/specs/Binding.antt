@@ -1,9 +1,11 @@
 -- What binding a query answers: the first refusal that applies, or a bound query that resolves it and has its
 -- alternatives, each sound. Want of memory is free.
 use Rattle.std.specs.Prelude.{◌≡◌, ℕ, ◌<◌, List, length, Some, None, Result, Ok, Err, All}
+use Rattle.std.specs.List.{AllZip}
 use Rattle.gq_base.specs.Catalogs.{Tables}
 use Rattle.gq_binder.specs.Columns.{Resolves, HasAlternatives}
 use Rattle.gq_binder.specs.Refusals.{first_refusal}
+use Rattle.gq_binder.specs.Tested.{IsTested, tests}
 use Rattle.gq_binder.specs.declared.refusal.BindRefusal.{BindRefusal}
 use Rattle.gq_binder.specs.declared.refusal.BindRefusal.TheVariants as refusal
 use Rattle.gq_plan.specs.Soundness.{IsSound}
@@ -15,6 +17,7 @@ pub record IsBound (query : Query) (text : List ℕ) (catalog : Tables) (bound :
   pub accepted : first_refusal query text catalog ≡ None
   pub resolves : Resolves query text bound
   pub alternatives : HasAlternatives query text catalog bound
+  pub tested : AllZip (IsTested text catalog) (tests text query) bound.patterns
   pub sound : All (IsSound catalog) bound.alternatives
   pub has_node : 0 < length bound.node_names
   pub node_counts : All (λ y. length y.nodes ≡ length bound.node_names) bound.alternatives

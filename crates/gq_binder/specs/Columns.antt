@@ -104,14 +104,12 @@ column_expr c = option_map (λ e. record { name = c.name; expr = e }) c.expr
 abbrev pub sort_expr : Scope → Sort → Option SortExpr
 sort_expr scope s = option_map (λ e. record { expr = e; down = s.down }) (resolved functions scope s.tree)
 
--- a bound query has the names, columns, conjuncts and keys of a query, which stands in a text, and no test of a path: no query
--- with an EXISTS is bound yet
+-- a bound query has the names, columns, conjuncts and keys of a query, which stands in a text
 pub record Resolves (query : Query) (text : List ℕ) (bound : Bound) : Type 0 where
   pub node_names : bound.node_names ≡ (pattern_of query.clauses).node_names
   pub rel_names : bound.rel_names ≡ (pattern_of query.clauses).rel_names
   pub columns : all_some (map column_expr (columns functions text query)) ≡ Some bound.columns
   pub conjuncts : all_some (values_of text (conjuncts query)) ≡ Some bound.conjuncts
-  pub patterns : bound.patterns ≡ []
   pub keys : all_some (map (sort_expr (sort_scope functions text query)) query.order) ≡ Some bound.keys
   pub distinct : bound.distinct ≡ query.distinct
   pub skip : bound.skip ≡ unwrap_or query.skip 0

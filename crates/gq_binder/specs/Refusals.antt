@@ -1,6 +1,6 @@
--- Why a query cannot be bound: it has a form that is not built yet, or else the first of thirteen checks that applies,
--- with its first place in the text (this project's profile).
-use Rattle.std.specs.Prelude.{ℕ, suc, nat_eq, nat_lt, Bool, true, false, not, is_some, ◌&&◌, ◌||◌, Option, Some, None, List, [], ◌∷◌, ◌++◌, map, filter, flat_map, length, if◌then◌else◌}
+-- Why a query cannot be bound: it has a form that is not built yet, or else the first of fourteen checks that applies,
+-- with its first place in the text: in its patterns, and then in the paths of its expressions (this project's profile).
+use Rattle.std.specs.Prelude.{ℕ, suc, nat_eq, nat_lt, Bool, true, false, not, is_some, ◌+◌, slice_get, unwrap_or, ◌&&◌, ◌||◌, Option, Some, None, List, [], ◌∷◌, ◌++◌, map, filter, flat_map, length, if◌then◌else◌}
 use Rattle.gq_plan.specs.declared.variable.Variable.TheVariants.{Node as node, Rel as rel}
 use Rattle.gq_plan.specs.declared.variable.Variable.{Variable}
 use Rattle.std.specs.List.{list_any}
@@ -11,16 +11,21 @@ use Rattle.gq_base.specs.Lists.{is_empty}
 use Rattle.gq_expr.specs.declared.Expr.{Expr}
 use Rattle.gq_plan.specs.Reads.{Read, property, reads, properties, distinct}
 use Rattle.gq_plan.specs.Soundness.{max_variables, max_reads}
+use Rattle.gq_syntax.specs.declared.Ast.{Ast}
 use Rattle.gq_syntax.specs.declared.Item.{Item}
 use Rattle.gq_syntax.specs.declared.Query.{Query}
 use Rattle.gq_syntax.specs.declared.Sort.{Sort}
-use Rattle.gq_alternatives.specs.Alternatives.{alternatives}
+use Rattle.gq_alternatives.specs.Alternatives.{alternatives, pattern_alternatives}
 use Rattle.gq_binder.specs.Columns.{Scoped, conditions, conjuncts, columns, sort_scope}
 use Rattle.gq_trees.specs.Conjuncts.{is_value}
 use Rattle.gq_trees.specs.MadeOf.{column_exprs, is_made_of}
 use Rattle.gq_trees.specs.Renames.{ambiguous_name}
 use Rattle.gq_scopes.specs.Patterns.{Name, NamedVariable, Pattern, pattern_of, is_same_name}
-use Rattle.gq_trees.specs.Uses.{Use, uses, has_exists, first_name, refused_unless, unknown_name, unknown_function, wrong_count}
+use Rattle.gq_binder.specs.Tested.{SharedTest, shared_test, tests}
+use Rattle.gq_scopes.specs.PathPatterns.{path_pattern}
+use Rattle.gq_syntax.specs.declared.Path.{Path}
+use Rattle.gq_trees.specs.Places.{has_stray}
+use Rattle.gq_trees.specs.Uses.{Use, uses, has_exists, first_name, named_again, of_other_form, refused_unless, unknown_name, unknown_function, wrong_count}
 use Rattle.gq_trees.specs.Resolving.{as_lists, functions, resolved}
 use Rattle.gq_binder.specs.declared.refusal.BindRefusal.{BindRefusal}
 use Rattle.gq_binder.specs.declared.refusal.BindRefusal.TheVariants as refusal
@@ -51,16 +56,12 @@ expressions text query = conditions query ++ (items_in (scope_of (pattern_of que
 abbrev pub has_trail : Pattern → Bool
 has_trail p = list_any (λ r. is_some r.part.trail) p.rels
 
-abbrev pub exists_in : List Scoped → Bool
-exists_in es = list_any (λ e. has_exists e.tree) es
+-- a query with these patterns has a form that is spelled and has no bound form yet: a clause behind OPTIONAL, or a trail
+abbrev pub has_form_to_come : Query → Pattern → Bool
+has_form_to_come query p = not (is_empty query.optionals) || has_trail p
 
--- a query with these patterns, and with an EXISTS or none, has a form that is spelled and has no bound form yet: a clause
--- behind OPTIONAL, a trail, or an EXISTS
-abbrev pub has_form_to_come : Query → Pattern → Bool → Bool
-has_form_to_come query p exists = not (is_empty query.optionals) || (has_trail p || exists)
-
-abbrev pub not_built : Query → Pattern → Bool → Option BindRefusal
-not_built query p exists = if has_form_to_come query p exists then Some refusal.NotBuilt else None
+abbrev pub not_built : Query → Pattern → Option BindRefusal
+not_built query p = if has_form_to_come query p then Some refusal.NotBuilt else None
 
 -- ---- names
 
@@ -97,8 +98,16 @@ repeating before n = refused_unless (not (is_rel n.variable && list_any (λ m. i
 abbrev pub variable_conflict : Pattern → Option BindRefusal
 variable_conflict p = option_map refusal.VariableConflict (first_behind conflicting [] p.named)
 
+-- so does one in the path of an expression
+abbrev pub path_conflict : List ℕ → Query → Option BindRefusal
+path_conflict text query = option_map refusal.VariableConflict (first_in of_other_form (expressions text query))
+
 abbrev pub relationship_repeated : Pattern → Option BindRefusal
 relationship_repeated p = option_map refusal.RelationshipRepeated (first_behind repeating [] p.named)
+
+-- a path of an expression has a relationship variable
+abbrev pub path_repeated : List ℕ → Query → Option BindRefusal
+path_repeated text query = option_map refusal.RelationshipRepeated (first_in named_again (expressions text query))
 
 -- ---- columns
 
@@ -155,9 +164,24 @@ max_alternatives = 512
 abbrev pub over_limit : ℕ → ℕ → BindRefusal → Option BindRefusal
 over_limit limit number refused = if nat_lt limit number then Some refused else None
 
-abbrev pub too_many_patterns : Pattern → Option BindRefusal
-too_many_patterns p =
-    first_of_all (over_limit max_variables (length p.nodes) refusal.TooManyPatterns ∷ over_limit max_variables (length p.rels) refusal.TooManyPatterns ∷ [])
+abbrev pub paths_of : List SharedTest → List Path
+paths_of ts = map (λ t. t.test.path) ts
+
+-- how many node patterns and relationship patterns paths have
+abbrev pub nodes_in : List Path → ℕ
+nodes_in [] = 0
+nodes_in (p ∷ ps) = suc (length p.hops) + nodes_in ps
+
+abbrev pub rels_in : List Path → ℕ
+rels_in [] = 0
+rels_in (p ∷ ps) = length p.hops + rels_in ps
+
+-- those of the query's patterns and of the paths that it tests
+abbrev pub too_many_patterns : Pattern → List Path → Option BindRefusal
+too_many_patterns p paths =
+    first_of_all
+    (over_limit max_variables (length p.nodes + nodes_in paths) refusal.TooManyPatterns
+    ∷ over_limit max_variables (length p.rels + rels_in paths) refusal.TooManyPatterns ∷ [])
 
 abbrev pub known_reads : Option Expr → List Read
 known_reads None = []
@@ -169,31 +193,75 @@ all_reads query =
     map (λ e. property e.variable e.entry.key) (pattern_of query.clauses).entries
     ++ properties (flat_map (λ c. known_reads c.expr) (filter is_value (conjuncts query)))
 
--- whether all its forms are built, and the twelve checks that ask no catalogue, in their order
+-- a variable of a path's pattern among those of the query: a shared one is the query's, and the others come behind so many
+abbrev pub placed : List ℕ → ℕ → ℕ → Variable → Variable
+placed vs n m (node v) = node (unwrap_or (slice_get vs v) (n + v))
+placed vs n m (rel x) = rel (m + x)
+
+-- what the maps of the paths of tests read, of variables behind so many
+abbrev pub path_reads : ℕ → ℕ → List SharedTest → List Read
+path_reads n m [] = []
+path_reads n m (t ∷ ts) =
+    map (λ e. property (placed t.nodes n m e.variable) e.entry.key) (path_pattern t.test.path).entries
+    ++ path_reads (n + length (path_pattern t.test.path).names) (m + length (path_pattern t.test.path).rels) ts
+
+-- the maps of a path by itself read too much, which is among what all read
+abbrev pub reads_alone : SharedTest → Option BindRefusal
+reads_alone t = over_limit max_reads (length (distinct (map (λ e. property e.variable e.entry.key) (path_pattern t.test.path).entries))) refusal.TooManyReads
+
+-- these, and what the maps of the paths of tests read
+abbrev pub too_many_reads : List Read → Pattern → List SharedTest → Option BindRefusal
+too_many_reads rs p ts =
+    first_of_all (over_limit max_reads (length (distinct (rs ++ path_reads (length p.names) (length p.rels) ts))) refusal.TooManyReads ∷ map reads_alone ts)
+
+-- whether all its forms are built, and the checks that ask no catalogue, in their order
 abbrev pub checks_of : Query → List ℕ → List (Option BindRefusal)
 checks_of query text =
     let p : Pattern = pattern_of query.clauses in
     let cs : List Column = columns functions text query in
-    not_built query p (exists_in (expressions text query))
+    let ts : List SharedTest = map shared_test (tests text query) in
+    not_built query p
     ∷ unknown_variable text query
     ∷ variable_conflict p
+    ∷ path_conflict text query
     ∷ relationship_repeated p
+    ∷ path_repeated text query
     ∷ column_repeated cs
     ∷ nothing_to_return query p
     ∷ order_out_of_scope text query
     ∷ ambiguous_order_name text query
     ∷ function_unknown text query
     ∷ argument_count text query
-    ∷ too_many_patterns p
-    ∷ over_limit max_reads (length (distinct (all_reads query))) refusal.TooManyReads
+    ∷ too_many_patterns p (paths_of ts)
+    ∷ too_many_reads (all_reads query) p ts
     ∷ over_limit max_columns (length cs) refusal.TooManyColumns ∷ []
 
--- how many alternatives there are is asked last
-abbrev pub too_many_alternatives : Query → Tables → Option BindRefusal
-too_many_alternatives query catalog =
-    over_limit max_alternatives (length (alternatives query catalog)) refusal.TooManyAlternatives
+-- how many alternatives the paths have
+abbrev pub alternatives_in : Tables → List Path → ℕ
+alternatives_in catalog [] = 0
+alternatives_in catalog (p ∷ ps) = length (pattern_alternatives catalog (path_pattern p)) + alternatives_in catalog ps
+
+-- how many alternatives there are
+abbrev pub too_many_alternatives : List ℕ → Query → Tables → Option BindRefusal
+too_many_alternatives text query catalog =
+    over_limit max_alternatives (length (alternatives query catalog) + alternatives_in catalog (paths_of (map shared_test (tests text query)))) refusal.TooManyAlternatives
+
+-- ---- where an EXISTS stands
+
+abbrev pub stray_in : Option Ast → Bool
+stray_in None = false
+stray_in (Some tree) = has_stray tree
+
+-- it stands elsewhere than as a whole conjunct of a condition
+abbrev pub has_misplaced : Query → Bool
+has_misplaced query =
+    list_any (λ c. stray_in c.filter) query.clauses
+    || (list_any (λ i. has_exists i.tree) query.items || list_any (λ s. has_exists s.tree) query.order)
+
+abbrev pub exists_place : Query → Option BindRefusal
+exists_place query = if has_misplaced query then Some refusal.ExistsPlace else None
 
 -- the first check that applies
 unfoldable pub first_refusal : Query → List ℕ → Tables → Option BindRefusal
 first_refusal query text catalog =
-    first_of_all (checks_of query text ++ too_many_alternatives query catalog ∷ [])
+    first_of_all (checks_of query text ++ too_many_alternatives text query catalog ∷ exists_place query ∷ [])

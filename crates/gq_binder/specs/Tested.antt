@@ -1,5 +1,6 @@
 -- When a part of a bound query is a test of a path, and when a row passes such tests.
-use Rattle.std.specs.Prelude.{◌≡◌, ℕ, Bool, true, false, not, ◌&&◌, Option, Some, Result, List, [], ◌∷◌, map, All, if◌then◌else◌}
+use Rattle.std.specs.Prelude.{◌≡◌, ℕ, Bool, true, false, not, ◌&&◌, Option, Result, List, [], ◌∷◌, map, flat_map, filter_map, All, if◌then◌else◌}
+use Rattle.std.specs.List.{AllByRecursion}
 use Rattle.gq_base.specs.Catalogs.{Tables}
 use Rattle.gq_base.specs.Plain.{Graph}
 use Rattle.gq_base.specs.declared.Literal.TheVariants as literal
@@ -12,16 +13,40 @@ use Rattle.gq_plan.specs.Soundness.{IsSound}
 use Rattle.gq_plan.specs.declared.ExistsPart.{ExistsPart}
 use Rattle.gq_alternatives.specs.Alternatives.{pattern_alternatives, typed_of}
 use Rattle.gq_alternatives.specs.Tested.{exists_value}
-use Rattle.gq_binder.specs.Columns.{entry_test}
+use Rattle.gq_binder.specs.Columns.{Scoped, conditions, entry_test}
 use Rattle.gq_scopes.specs.PathPatterns.{path_pattern, shared_names}
 use Rattle.gq_scopes.specs.Patterns.{Name, Pattern, find_name}
+use Rattle.gq_scopes.specs.Scopes.{is_there}
+use Rattle.gq_syntax.specs.declared.Query.{Query}
+use Rattle.gq_trees.specs.Conjuncts.{tests_of}
 use Rattle.gq_trees.specs.PathTests.{PathTest}
+use Rattle.gq_trees.specs.Resolving.{functions, split}
 
 -- a test of a path, what it is called, and the names of the node variables that it sees
 pub record ScopedTest : Type 0 where
   pub names : List (Option Name)
   pub name : List ℕ
   pub test : PathTest
+
+abbrev pub scoped_tests : List ℕ → Scoped → List ScopedTest
+scoped_tests text c = map (λ t. record { names = c.scope.nodes; name = t.name; test = t.test }) (tests_of text (split functions c.scope c.tree).conjuncts)
+
+-- the tests of paths in all conditions, in text order
+unfoldable pub tests : List ℕ → Query → List ScopedTest
+tests text query = flat_map (scoped_tests text) (conditions query)
+
+-- which node variables a test's path shares with the query, in the order of their first appearance in the path
+abbrev pub shared : ScopedTest → List ℕ
+shared t = filter_map (find_name t.names) (shared_names t.test.path)
+
+-- a test, what it is called, and these variables
+pub record SharedTest : Type 0 where
+  pub name : List ℕ
+  pub test : PathTest
+  pub nodes : List ℕ
+
+abbrev pub shared_test : ScopedTest → SharedTest
+shared_test t = record { name = t.name; test = t.test; nodes = shared t }
 
 -- ---- what a row passes
 
@@ -45,18 +70,12 @@ where_met g ts parts later m = if all_met g ts parts m.row then later m else []
 
 -- ---- the parts of a bound query
 
--- the variables, among those with these names, of a path's names
-abbrev pub AreNamed : List (Option Name) → List Name → List ℕ → Type 0
-AreNamed names [] [] = Unit {0}
-AreNamed names [] (v ∷ vs) = ⊥
-AreNamed names (n ∷ ns) [] = ⊥
-AreNamed names (n ∷ ns) (v ∷ vs) = (find_name names n ≡ Some v) × AreNamed names ns vs
-
 -- a part of a bound query, which stands in a text, is that of a test
 pub record IsTested (text : List ℕ) (catalog : Tables) (t : ScopedTest) (part : ExistsPart) : Type 0 where
   pub called : part.text ≡ record { name = t.name; expr = expr.Literal (literal.Flag true) }
   pub wanted : part.wanted ≡ t.test.wanted
-  pub nodes : AreNamed t.names (shared_names t.test.path) part.nodes
+  pub nodes : part.nodes ≡ shared t
+  pub named : AllByRecursion (λ n. is_there (find_name t.names n) ≡ true) (shared_names t.test.path)
   pub alternatives : let p : Pattern = path_pattern t.test.path in
       part.alternatives ≡ map (typed_of catalog p (map (entry_test text) p.entries) []) (pattern_alternatives catalog p)
   pub sound : All (IsSound catalog) part.alternatives

@@ -3,11 +3,11 @@ ghost use Rattle.std.specs.Prelude.{◌≡◌, [], map, filter_map, IfOk};
 ghost use Rattle.gq_alternatives.specs.Alternatives.{typed_of};
 ghost use Rattle.gq_binder.specs.Binding.{Answers};
 ghost use Rattle.gq_binder.specs.Columns.{sort_expr};
-ghost use Rattle.gq_binder.specs.steps.Parts.{bound_in};
+ghost use Rattle.gq_binder.specs.steps.Parts.{bound_in, exists_part};
 ghost use Rattle.gq_binder.specs.Refusals.{first_refusal};
 ghost use Rattle.gq_syntax.specs.Spans.{SpelledQuery};
 
-use crate::checks::{check, few_alternatives};
+use crate::checks::{Alternatives, check, exists_place, few_alternatives};
 use crate::columns::known_columns;
 use crate::parts::{QueryParts, parts_of};
 use crate::refusal::BindRefusal;
@@ -32,8 +32,9 @@ pub fn bind(
 {
     let parts = parts_of(alloc, text, query)?;
     check(alloc, text, query, &parts)?;
-    let choices = few_alternatives(alloc, catalog, &parts)?;
-    Ok(bound_of(alloc, catalog, query, parts, choices)?)
+    let all = few_alternatives(alloc, text, catalog, &parts)?;
+    exists_place(query)?;
+    Ok(bound_of(alloc, text, catalog, query, parts, all)?)
 }
 
 /// Why a query, which a text spells, cannot be bound over a catalogue: the first check that
@@ -60,14 +61,19 @@ pub fn refusal_of(
 // refuses the query, all does.
 fn bound_of(
     alloc: Global,
+    text: &[u8],
     catalog: &Catalog,
     query: &Query,
     parts: QueryParts<'_>,
-    choices: List<Choice>,
+    all: Alternatives,
 ) -> Result<Bound, Memory>
-    ensures { IfOk result (λ b. b ≡ bound_in catalog.now query.now parts.entry choices) }
+    requires { all.patterns ≡ map (exists_part text.now catalog.now) parts.patterns }
+    ensures { IfOk result (λ b.
+        b ≡ bound_in text.now catalog.now query.now parts.entry all.choices) }
 {
+    let Alternatives { choices, patterns } = all;
     let mut bound = without_lists(alloc, catalog, query, &parts, choices.as_slice())?;
+    bound.patterns = patterns;
     let QueryParts {
         columns,
         conjuncts,
@@ -87,9 +93,10 @@ fn without_lists(
     choices: &[Choice],
 ) -> Result<Bound, Memory>
     ensures { IfOk result (λ b. b
-        ≡ record (bound_in catalog.now query.now parts.now choices.now) {
+        ≡ record (bound_in [] catalog.now query.now parts.now choices.now) {
           columns = [];
           conjuncts = [];
+          patterns = [];
         }) }
 {
     let pattern = &parts.pattern;
@@ -135,7 +142,7 @@ fn known_keys(alloc: Global, scope: &Scope<'_>, order: &[Sort]) -> Result<List<S
 // alternatives of one query. With 512 alternatives it is 2,048 for each.
 const MOST_TESTS: usize = 1_048_576;
 
-fn all_typed(
+pub fn all_typed(
     alloc: Global,
     catalog: &Catalog,
     pattern: &Pattern<'_>,

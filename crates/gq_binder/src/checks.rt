@@ -1,26 +1,32 @@
-//! The checks of a query in their order, and those of its forms, patterns, columns and numbers.
-ghost use Rattle.std.specs.Prelude.{◌≡◌, ◌++◌, [], All, IfOk, OnOk, is_some, length};
+//! The checks of a query in their order, and those of its forms, patterns, columns and numbers, and of the places of EXISTS.
+ghost use Rattle.std.specs.Prelude.{◌≡◌, ◌++◌, ◌+◌, [], All, IfOk, OnOk, is_some, length, map};
+ghost use Rattle.std.specs.Prelude.{nat_lt};
 ghost use Rattle.std.specs.Option.{option_map};
 ghost use Rattle.gq_alternatives.specs.Alternatives.{pattern_alternatives};
 ghost use Rattle.gq_binder.specs.steps.Checks.{Checks};
-ghost use Rattle.gq_binder.specs.steps.Parts.{checks_in, reads_in};
+ghost use Rattle.gq_binder.specs.steps.Parts.{checks_in, exists_part, reads_in};
 ghost use Rattle.gq_binder.specs.Refusals as refusals;
 ghost use Rattle.gq_binder.specs.Refusals.{first_of_all, first_behind, conflicting, repeating};
 ghost use Rattle.gq_binder.specs.Refusals.{nothing, over_limit, max_alternatives, max_columns};
+ghost use Rattle.gq_binder.specs.Refusals.{alternatives_in, nodes_in, paths_of, rels_in};
 ghost use Rattle.gq_binder.specs.declared.refusal.BindRefusal.TheVariants as refusal;
-ghost use Rattle.gq_plan.specs.Reads.{distinct, with_reads};
-ghost use Rattle.gq_plan.specs.Soundness.{max_reads};
+ghost use Rattle.gq_plan.specs.Reads.{property, with_reads};
+ghost use Rattle.gq_plan.specs.Soundness.{max_variables};
 ghost use Rattle.gq_syntax.specs.Spans.{IsWholeTree};
+ghost use Rattle.gq_syntax.specs.steps.Spans.{IsWholePath};
 
 use crate::met::Met;
 use crate::order::{ambiguous_order_name, order_out_of_scope};
 use crate::parts::QueryParts;
+use crate::path_tests::{SharedTest, exists_parts};
 use crate::refusal::BindRefusal;
 use gq_alternatives::{Choice, choices_of};
 use gq_base::{Catalog, List, Memory};
-use gq_plan::{NamedExpr, PropertyReads};
-use gq_scopes::{Column, NamedVariable, Names, Pattern, RelPattern, Variable, copy_text};
-use gq_syntax::Query;
+use gq_plan::{ExistsPart, NamedExpr, PropertyReads};
+use gq_scopes::{Column, MapEntry, NamedVariable, Names, Pattern, RelPattern, Variable};
+use gq_scopes::{copy_text, number};
+use gq_syntax::{Ast, Query};
+use gq_trees::{has_exists, has_stray_exists};
 use std::alloc::Global;
 
 const MAX_VARIABLES: usize = 24;
@@ -31,7 +37,7 @@ const MAX_COLUMNS: usize = 64;
 
 const MAX_ALTERNATIVES: usize = 512;
 
-/// The checks of a query in their order, but for that of its alternatives.
+/// The checks of a query in their order, but for those of its alternatives and of the places of EXISTS.
 #[tactic(auto, using(crate::proofs::RefusalLemmas::firsts))]
 pub fn check(
     alloc: Global,
@@ -47,36 +53,37 @@ pub fn check(
     not_built(query, parts)?;
     parts.names.unknown_variable(alloc)?;
     variable_conflict(alloc, pattern.named())?;
+    parts.names.path_conflict(alloc)?;
     relationship_repeated(alloc, pattern.named())?;
+    parts.names.path_repeated(alloc)?;
     column_repeated(alloc, columns)?;
     nothing_to_return(query.star, pattern.named())?;
     order_out_of_scope(alloc, text, query, pattern)?;
     ambiguous_order_name(alloc, query, pattern)?;
     parts.names.unknown_function(alloc)?;
     parts.names.argument_count(alloc)?;
-    too_many_patterns(pattern)?;
-    too_many_reads(alloc, parts.tests.as_slice(), parts.conjuncts.as_slice())?;
+    too_many_patterns(pattern, parts.patterns.as_slice())?;
+    too_many_reads(alloc, parts)?;
     too_many_columns(columns)
 }
 
 /// The query has a form that is not built yet.
 fn not_built(query: &Query, parts: &QueryParts<'_>) -> Result<(), BindRefusal>
     ensures { Checks
-        (refusals.not_built query.now parts.now.pattern parts.now.names.exists) result }
+        (refusals.not_built query.now parts.now.pattern) result }
 {
-    if has_form_to_come(query, parts) {
+    if has_form_to_come(query, &parts.pattern) {
         Err(BindRefusal::NotBuilt)
     } else {
         Ok(())
     }
 }
 
-// Whether a query has a clause behind OPTIONAL, a trail, or an EXISTS.
-fn has_form_to_come(query: &Query, parts: &QueryParts<'_>) -> bool
-    ensures { result
-        ≡ refusals.has_form_to_come query.now parts.now.pattern parts.now.names.exists }
+// Whether a query has a clause behind OPTIONAL, or a trail.
+fn has_form_to_come(query: &Query, pattern: &Pattern<'_>) -> bool
+    ensures { result ≡ refusals.has_form_to_come query.now pattern.now }
 {
-    !query.optionals.as_slice().is_empty() || has_trail(&parts.pattern) || parts.names.has_exists()
+    !query.optionals.as_slice().is_empty() || has_trail(pattern)
 }
 
 fn has_trail(pattern: &Pattern<'_>) -> bool
@@ -149,31 +156,153 @@ fn nothing_to_return(star: bool, named: &[NamedVariable<'_>]) -> Result<(), Bind
     }
 }
 
-/// There are too many patterns.
-fn too_many_patterns(pattern: &Pattern<'_>) -> Result<(), BindRefusal>
-    ensures { Checks (refusals.too_many_patterns pattern.now) result }
+/// There are too many patterns, with those of the paths of tests.
+fn too_many_patterns(
+    pattern: &Pattern<'_>,
+    tests: &[SharedTest<'_>],
+) -> Result<(), BindRefusal>
+    ensures { Checks (refusals.too_many_patterns pattern.now (paths_of tests.now)) result }
 {
-    if pattern.nodes().len() > MAX_VARIABLES || pattern.rels().len() > MAX_VARIABLES {
+    if has_many_nodes(pattern.nodes().len(), tests) || has_many_rels(pattern.rels().len(), tests) {
         Err(BindRefusal::TooManyPatterns)
     } else {
         Ok(())
     }
 }
 
-/// There are too many different pairs of a variable and a property.
-#[tactic(auto, using(crate::proofs::ReadingLemmas::counted))]
-fn too_many_reads(
-    alloc: Global,
-    tests: &[NamedExpr],
-    conjuncts: &[NamedExpr],
-) -> Result<(), BindRefusal>
-    ensures { Checks (over_limit max_reads
-        (length (distinct (reads_in tests.now ++ reads_in conjuncts.now))) refusal.TooManyReads)
-        result }
+// Whether there are too many node patterns, beside so many those of the paths of tests.
+fn has_many_nodes(own: usize, tests: &[SharedTest<'_>]) -> bool
+    ensures { result ≡ nat_lt max_variables (own + nodes_in (paths_of tests.now)) }
 {
+    let mut nodes = own;
+    for test in tests {
+        let hops = test.test.path.hops.len();
+        if nodes > MAX_VARIABLES || hops > MAX_VARIABLES {
+            return true;
+        }
+        nodes += 1 + hops;
+    }
+    nodes > MAX_VARIABLES
+}
+
+// Whether there are too many relationship patterns, beside so many those of the paths of tests.
+fn has_many_rels(own: usize, tests: &[SharedTest<'_>]) -> bool
+    ensures { result ≡ nat_lt max_variables (own + rels_in (paths_of tests.now)) }
+{
+    let mut rels = own;
+    for test in tests {
+        let hops = test.test.path.hops.len();
+        if rels > MAX_VARIABLES || hops > MAX_VARIABLES {
+            return true;
+        }
+        rels += hops;
+    }
+    rels > MAX_VARIABLES
+}
+
+/// There are too many different pairs of a variable and a property.
+#[tactic(auto, using(crate::proofs::ReadingLemmas::counted_more))]
+fn too_many_reads(alloc: Global, parts: &QueryParts<'_>) -> Result<(), BindRefusal>
+    ensures { Checks (refusals.too_many_reads
+        (reads_in parts.now.tests ++ reads_in parts.now.conjuncts) parts.now.pattern
+        parts.now.patterns) result }
+{
+    let tests = parts.patterns.as_slice();
     let mut reads = PropertyReads::new(alloc);
-    add_reads(&mut reads, tests)?;
-    add_reads(&mut reads, conjuncts)?;
+    add_reads(&mut reads, parts.tests.as_slice())?;
+    add_reads(&mut reads, parts.conjuncts.as_slice())?;
+    add_path_reads(alloc, &mut reads, &parts.pattern, tests)?;
+    if reads.len() > MAX_READS {
+        return Err(BindRefusal::TooManyReads);
+    }
+    many_reads_alone(alloc, tests)
+}
+
+// Takes what the maps of the paths of tests read, of variables behind those of a pattern.
+fn add_path_reads<'e>(
+    alloc: Global,
+    reads: &mut PropertyReads<'e>,
+    pattern: &Pattern<'_>,
+    tests: &'e [SharedTest<'e>],
+) -> Result<(), Memory>
+    ensures { OnOk result (reads.new ≡ with_reads reads.old
+        (refusals.path_reads (length pattern.now.names) (length pattern.now.rels) tests.now)) }
+{
+    let mut nodes = number(pattern.names().len())?;
+    let mut rels = number(pattern.rels().len())?;
+    for test in tests {
+        let path = test.pattern(alloc)?;
+        let shared = test.nodes.as_slice();
+        add_entries(reads, shared, nodes, rels, path.entries())?;
+        nodes = plus(nodes, path.names().len())?;
+        rels = plus(rels, path.rels().len())?;
+    }
+    Ok(())
+}
+
+fn add_entries<'e>(
+    reads: &mut PropertyReads<'e>,
+    shared: &[u32],
+    nodes: u32,
+    rels: u32,
+    entries: &[MapEntry<'e>],
+) -> Result<(), Memory>
+    ensures { OnOk result (reads.new ≡ with_reads reads.old
+        (map (λ e. property (refusals.placed shared.now nodes rels e.variable) e.entry.key)
+        entries.now)) }
+{
+    for entry in entries {
+        let variable = placed(shared, nodes, rels, entry.variable)?;
+        reads.add(variable, &entry.entry.key)?;
+    }
+    Ok(())
+}
+
+// A variable of a path's pattern among those of the query.
+fn placed(
+    shared: &[u32],
+    nodes: u32,
+    rels: u32,
+    variable: Variable,
+) -> Result<Variable, Memory>
+    ensures { IfOk result (λ v. v ≡ refusals.placed shared.now nodes rels variable) }
+{
+    match variable {
+        Variable::Node(own) => match shared.get(own as usize) {
+            Some(known) => Ok(Variable::Node(*known)),
+            None => Ok(Variable::Node(plus(nodes, own as usize)?)),
+        },
+        Variable::Rel(own) => Ok(Variable::Rel(plus(rels, own as usize)?)),
+    }
+}
+
+fn plus(number: u32, more: usize) -> Result<u32, Memory>
+    ensures { IfOk result (λ n. n ≡ number + more) }
+{
+    if more > (4_294_967_295 - number) as usize {
+        return Err(Memory);
+    }
+    Ok(number + more as u32)
+}
+
+fn many_reads_alone(alloc: Global, tests: &[SharedTest<'_>]) -> Result<(), BindRefusal>
+    ensures { Checks (refusals.first_of_all (map refusals.reads_alone tests.now)) result }
+{
+    for test in tests {
+        reads_alone(alloc, test)?;
+    }
+    Ok(())
+}
+
+#[tactic(auto, using(crate::proofs::ReadingLemmas::counted_alone))]
+fn reads_alone(alloc: Global, test: &SharedTest<'_>) -> Result<(), BindRefusal>
+    ensures { Checks (refusals.reads_alone test.now) result }
+{
+    let path = test.pattern(alloc)?;
+    let mut reads = PropertyReads::new(alloc);
+    for entry in path.entries() {
+        reads.add(entry.variable, &entry.entry.key)?;
+    }
     if reads.len() > MAX_READS {
         Err(BindRefusal::TooManyReads)
     } else {
@@ -201,21 +330,64 @@ fn too_many_columns(columns: &[Column]) -> Result<(), BindRefusal>
     }
 }
 
-/// The alternatives of a query's patterns, unless there are too many.
-#[tactic(auto, using(crate::proofs::RefusalLemmas::within, crate::proofs::RefusalLemmas::beyond))]
+/// The alternatives of a query's patterns, and the parts that its tests of paths give.
+#[derive(Drop)]
+pub struct Alternatives {
+    pub choices: List<Choice>,
+    pub patterns: List<ExistsPart>,
+}
+
+/// The alternatives of a query's patterns and of the paths of its tests, unless there are too many.
+#[tactic(auto, using(crate::proofs::RefusalLemmas::within, crate::proofs::RefusalLemmas::within_more, crate::proofs::RefusalLemmas::beyond_more))]
 pub fn few_alternatives(
     alloc: Global,
+    text: &[u8],
     catalog: &Catalog,
     parts: &QueryParts<'_>,
-) -> Result<List<Choice>, BindRefusal>
+) -> Result<Alternatives, BindRefusal>
+    requires { All (λ t. IsWholePath text.now t.test.path) parts.now.patterns }
     ensures few { Checks (over_limit max_alternatives
-        (length (pattern_alternatives catalog.now parts.now.pattern)) refusal.TooManyAlternatives)
+        (length (pattern_alternatives catalog.now parts.now.pattern)
+        + alternatives_in catalog.now (paths_of parts.now.patterns)) refusal.TooManyAlternatives)
         result }
-    ensures choices { IfOk result (λ cs.
-        cs ≡ pattern_alternatives catalog.now parts.now.pattern) }
+    ensures choices { IfOk result (λ all.
+        all.choices ≡ pattern_alternatives catalog.now parts.now.pattern) }
+    ensures patterns { IfOk result (λ all. all.patterns
+        ≡ map (exists_part text.now catalog.now) parts.now.patterns) }
 {
-    match choices_of(alloc, catalog, &parts.pattern, MAX_ALTERNATIVES)? {
-        Some(choices) => Ok(choices),
-        None => Err(BindRefusal::TooManyAlternatives),
+    let Some(choices) = choices_of(alloc, catalog, &parts.pattern, MAX_ALTERNATIVES)? else {
+        return Err(BindRefusal::TooManyAlternatives);
+    };
+    let left = MAX_ALTERNATIVES - choices.len();
+    let patterns = exists_parts(alloc, text, catalog, parts.patterns.as_slice(), left)?;
+    Ok(Alternatives { choices, patterns })
+}
+
+/// An EXISTS stands elsewhere than as a whole conjunct of a condition.
+pub fn exists_place(query: &Query) -> Result<(), BindRefusal>
+    ensures { Checks (refusals.exists_place query.now) result }
+{
+    if has_misplaced(query) {
+        Err(BindRefusal::ExistsPlace)
+    } else {
+        Ok(())
+    }
+}
+
+fn has_misplaced(query: &Query) -> bool
+    ensures { result ≡ refusals.has_misplaced query.now }
+{
+    let (clauses, items) = (query.clauses.as_slice(), query.items.as_slice());
+    clauses.iter().any(|clause| is_stray_in(&clause.filter))
+        || items.iter().any(|item| has_exists(&item.tree))
+        || query.order.as_slice().iter().any(|sort| has_exists(&sort.tree))
+}
+
+fn is_stray_in(filter: &Option<Ast>) -> bool
+    ensures { result ≡ refusals.stray_in filter.now }
+{
+    match filter {
+        Some(tree) => has_stray_exists(tree),
+        None => false,
     }
 }

@@ -11,6 +11,7 @@ mod met;
 mod names;
 mod order;
 mod parts;
+mod path_tests;
 mod refusal;
 
 pub use bound::{bind, refusal_of};

@@ -1,4 +1,4 @@
-//! The first names and calls of a query's expressions that the checks of names refuse, and whether one has an EXISTS.
+//! The first names and calls of a query's expressions that the checks of names refuse.
 ghost use Rattle.std.specs.Prelude.{◌≡◌};
 ghost use Rattle.std.specs.Option.{option_copied, option_map, option_or};
 ghost use Rattle.gq_binder.specs.steps.Checks.{Checks};
@@ -12,19 +12,20 @@ use crate::refusal::BindRefusal;
 use gq_base::Text;
 use gq_scopes::{Scope, copy_text};
 use gq_syntax::{Ast, Item, Sort};
-use gq_trees::{Check, first_refused, has_exists};
+use gq_trees::{Check, first_refused};
 use std::alloc::Global;
 use std::marker::Model;
 
-/// Of the expressions that were read, the first name that its scope does not have, the first call
-/// that names no function, the first call with a wrong number of arguments, and whether one has an
-/// EXISTS.
+/// Of the expressions that were read, the first name that its scope does not have, the first names
+/// in paths that it has as a variable of the other form and as a relationship that a path would have
+/// again, the first call that names no function, and the first call with a wrong number of arguments.
 #[derive(Drop)]
 pub struct FirstNames<'q> {
     variable: Option<&'q Text>,
+    other_form: Option<&'q Text>,
+    again: Option<&'q Text>,
     function: Option<&'q Text>,
     arguments: Option<&'q Text>,
-    exists: bool,
 }
 
 impl<'q> Model for FirstNames<'q> {
@@ -35,9 +36,10 @@ impl<'q> Model for FirstNames<'q> {
 
     ghost view = { λ n. record {
       variable = option_copied n.variable;
+      other_form = option_copied n.other_form;
+      again = option_copied n.again;
       function = option_copied n.function;
       arguments = option_copied n.arguments;
-      exists = n.exists;
     } };
 }
 
@@ -48,9 +50,10 @@ impl<'q> FirstNames<'q> {
     {
         FirstNames {
             variable: None,
+            other_form: None,
+            again: None,
             function: None,
             arguments: None,
-            exists: false,
         }
     }
 
@@ -60,9 +63,10 @@ impl<'q> FirstNames<'q> {
             ≡ with_expression self.old (record { scope = scope.now; tree = tree.now }) }
     {
         self.variable = or_first(self.variable, Check::UnknownName, scope, tree);
+        self.other_form = or_first(self.other_form, Check::OtherForm, scope, tree);
+        self.again = or_first(self.again, Check::NamedAgain, scope, tree);
         self.function = or_first(self.function, Check::UnknownFunction, scope, tree);
         self.arguments = or_first(self.arguments, Check::WrongCount, scope, tree);
-        self.exists = self.exists || has_exists(tree);
     }
 
     /// Reads the expressions of items.
@@ -83,13 +87,6 @@ impl<'q> FirstNames<'q> {
         }
     }
 
-    /// Whether an expression has an EXISTS.
-    pub fn has_exists(&self) -> bool
-        ensures { result ≡ self.now.exists }
-    {
-        self.exists
-    }
-
     /// An expression names what its scope does not have.
     pub fn unknown_variable(&self, alloc: Global) -> Result<(), BindRefusal>
         ensures { Checks (option_map refusal.UnknownVariable self.now.variable) result }
@@ -99,6 +96,28 @@ impl<'q> FirstNames<'q> {
         };
         let name = copy_text(alloc, name)?;
         Err(BindRefusal::UnknownVariable { name })
+    }
+
+    /// A path names a variable that its scope has in the other form.
+    pub fn path_conflict(&self, alloc: Global) -> Result<(), BindRefusal>
+        ensures { Checks (option_map refusal.VariableConflict self.now.other_form) result }
+    {
+        let Some(name) = self.other_form else {
+            return Ok(());
+        };
+        let name = copy_text(alloc, name)?;
+        Err(BindRefusal::VariableConflict { name })
+    }
+
+    /// A path would have a relationship variable of its scope again.
+    pub fn path_repeated(&self, alloc: Global) -> Result<(), BindRefusal>
+        ensures { Checks (option_map refusal.RelationshipRepeated self.now.again) result }
+    {
+        let Some(name) = self.again else {
+            return Ok(());
+        };
+        let name = copy_text(alloc, name)?;
+        Err(BindRefusal::RelationshipRepeated { name })
     }
 
     /// A call names no function.

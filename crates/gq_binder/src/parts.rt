@@ -2,7 +2,7 @@
 ghost use Rattle.std.specs.Prelude.{◌≡◌, ◌++◌, map, All, IfOk, IfSome, OnOk};
 ghost use Rattle.gq_binder.specs.Columns.{columns_in, conditions_from, entry_test, scoped_in};
 ghost use Rattle.gq_binder.specs.steps.Names.{no_names, with_expressions};
-ghost use Rattle.gq_binder.specs.steps.Parts.{known_conjuncts, parts_of};
+ghost use Rattle.gq_binder.specs.steps.Parts.{known_conjuncts, known_tests, parts_of};
 ghost use Rattle.gq_binder.specs.Refusals.{items_in, sorts_in};
 ghost use Rattle.gq_scopes.specs.Patterns.{no_pattern, pattern_of, with_clauses};
 ghost use Rattle.gq_trees.specs.Resolving.{functions};
@@ -13,6 +13,7 @@ ghost use Rattle.gq_syntax.specs.steps.Spans.{IsWholeClause, IsWholeEntry, Stand
 use crate::columns::columns_of;
 use crate::entries::entry_tests;
 use crate::names::FirstNames;
+use crate::path_tests::{SharedTest, push_tests};
 use gq_base::{List, Memory};
 use gq_plan::NamedExpr;
 use gq_scopes::{Column, Pattern, next};
@@ -21,13 +22,14 @@ use gq_trees::{CallForm, conjuncts_of};
 use std::alloc::Global;
 
 /// The parts of a query: its patterns, the first names that the checks of names refuse, its
-/// columns, the conjuncts of its conditions, and the tests of the maps of its patterns.
+/// columns, the conjuncts of its conditions, the tests of paths among them, and the tests of the maps of its patterns.
 #[derive(Drop)]
 pub struct QueryParts<'q> {
     pub pattern: Pattern<'q>,
     pub names: FirstNames<'q>,
     pub columns: List<Column>,
     pub conjuncts: List<NamedExpr>,
+    pub patterns: List<SharedTest<'q>>,
     pub tests: List<NamedExpr>,
 }
 
@@ -41,6 +43,7 @@ pub fn parts_of<'q>(alloc: Global, text: &[u8], query: &'q Query) -> Result<Quer
         pattern,
         mut names,
         conjuncts,
+        patterns,
     } = conditions;
     let lists = lists_of(alloc, text, query, &pattern, &mut names)?;
     Ok(QueryParts {
@@ -48,6 +51,7 @@ pub fn parts_of<'q>(alloc: Global, text: &[u8], query: &'q Query) -> Result<Quer
         names,
         columns: lists.columns,
         conjuncts,
+        patterns,
         tests: lists.tests,
     })
 }
@@ -88,12 +92,13 @@ fn lists_of<'q>(
 }
 
 // The patterns of clauses, the first names that are refused in their conditions, and the conjuncts
-// of these.
+// of these with the tests of paths among them.
 #[derive(Drop)]
 struct Conditions<'q> {
     pattern: Pattern<'q>,
     names: FirstNames<'q>,
     conjuncts: List<NamedExpr>,
+    patterns: List<SharedTest<'q>>,
 }
 
 #[tactic(auto, unfolding(gq_scopes::specs::Patterns::pattern_of))]
@@ -108,10 +113,13 @@ fn conditions_of<'q>(
         ≡ with_expressions no_names (conditions_from 0 no_pattern clauses.now)) }
     ensures conjuncts { IfOk result (λ c. c.conjuncts
         ≡ known_conjuncts text.now (conditions_from 0 no_pattern clauses.now)) }
+    ensures patterns { IfOk result (λ c. c.patterns
+        ≡ known_tests text.now (conditions_from 0 no_pattern clauses.now)) }
 {
     let mut pattern = Pattern::new(alloc);
     let mut names = FirstNames::new();
     let mut conjuncts = List::new(alloc);
+    let mut patterns = List::new(alloc);
     read_clauses(
         alloc,
         text,
@@ -119,17 +127,19 @@ fn conditions_of<'q>(
         &mut pattern,
         &mut names,
         &mut conjuncts,
+        &mut patterns,
     )?;
     Ok(Conditions {
         pattern,
         names,
         conjuncts,
+        patterns,
     })
 }
 
 // Reads clauses behind those that were read. Each condition sees the variables of its clause and of
 // earlier ones.
-#[tactic(auto, using(crate::proofs::NameLemmas::with_expressions_append, crate::proofs::PartLemmas::known_conjuncts_append))]
+#[tactic(auto, using(crate::proofs::NameLemmas::with_expressions_append, crate::proofs::PartLemmas::known_conjuncts_append, crate::proofs::PartLemmas::known_tests_append))]
 fn read_clauses<'q>(
     alloc: Global,
     text: &[u8],
@@ -137,6 +147,7 @@ fn read_clauses<'q>(
     pattern: &mut Pattern<'q>,
     names: &mut FirstNames<'q>,
     conjuncts: &mut List<NamedExpr>,
+    patterns: &mut List<SharedTest<'q>>,
 ) -> Result<(), Memory>
     requires { All (IsWholeClause text.now) clauses.now }
     ensures pattern { OnOk result (pattern.new ≡ with_clauses 0 clauses.now pattern.old) }
@@ -144,11 +155,21 @@ fn read_clauses<'q>(
         ≡ with_expressions names.old (conditions_from 0 pattern.old clauses.now)) }
     ensures conjuncts { OnOk result (conjuncts.new ≡ conjuncts.old
         ++ known_conjuncts text.now (conditions_from 0 pattern.old clauses.now)) }
+    ensures patterns { OnOk result (patterns.new ≡ patterns.old
+        ++ known_tests text.now (conditions_from 0 pattern.old clauses.now)) }
 {
     let mut number = 0;
     for clause in clauses {
         pattern.push_paths(alloc, number, clause.paths.as_slice())?;
-        read_condition(alloc, text, pattern, &clause.filter, names, conjuncts)?;
+        read_condition(
+            alloc,
+            text,
+            pattern,
+            &clause.filter,
+            names,
+            conjuncts,
+            patterns,
+        )?;
         number = next(number)?;
     }
     Ok(())
@@ -163,12 +184,15 @@ fn read_condition<'q>(
     filter: &'q Option<Ast>,
     names: &mut FirstNames<'q>,
     conjuncts: &mut List<NamedExpr>,
+    patterns: &mut List<SharedTest<'q>>,
 ) -> Result<(), Memory>
     requires { IfSome filter.now (IsWholeTree text.now) }
     ensures names { OnOk result (names.new
         ≡ with_expressions names.old (scoped_in (scope_of pattern.now) filter.now)) }
     ensures conjuncts { OnOk result (conjuncts.new
         ≡ conjuncts.old ++ known_conjuncts text.now (scoped_in (scope_of pattern.now) filter.now)) }
+    ensures patterns { OnOk result (patterns.new
+        ≡ patterns.old ++ known_tests text.now (scoped_in (scope_of pattern.now) filter.now)) }
 {
     let Some(tree) = filter else {
         return Ok(());
@@ -176,7 +200,10 @@ fn read_condition<'q>(
     let scope = pattern.scope(&[])?;
     names.read(&scope, tree);
     match conjuncts_of(alloc, text, &scope, tree)? {
-        Some(more) => push_all(conjuncts, more.values),
+        Some(more) => {
+            push_all(conjuncts, more.values)?;
+            push_tests(alloc, &scope, patterns, more.tests)
+        }
         None => Ok(()),
     }
 }

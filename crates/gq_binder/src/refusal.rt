@@ -8,13 +8,13 @@ use gq_base::{Memory, Text};
 /// text.
 #[derive(Debug, Drop)]
 pub enum BindRefusal {
-    /// The query has a form that can be written and not yet bound: a clause behind OPTIONAL, a trail, or an EXISTS.
+    /// The query has a form that can be written and not yet bound: a clause behind OPTIONAL, or a trail.
     NotBuilt,
-    /// An expression names what its scope does not have.
+    /// An expression, or a path in one, names what its scope does not have.
     UnknownVariable { name: Text },
-    /// One name is a node variable and a relationship variable.
+    /// One name is a node variable and a relationship variable; so is one in the path of an EXISTS that its scope has in the other form.
     VariableConflict { name: Text },
-    /// A relationship variable stands in two patterns.
+    /// A relationship variable stands in two patterns, or in a pattern and in the path of an EXISTS.
     RelationshipRepeated { name: Text },
     /// Two columns have one name.
     ColumnRepeated { name: Text },
@@ -28,14 +28,17 @@ pub enum BindRefusal {
     UnknownFunction { name: Text },
     /// `type` has not exactly one argument, or `coalesce` has none.
     ArgumentCount { name: Text },
-    /// More than 24 node patterns, or more than 24 relationship patterns.
+    /// More than 24 node patterns, or more than 24 relationship patterns, with those of the paths that are tested.
     TooManyPatterns,
-    /// More than 64 different pairs of variable and property in WHERE clauses and maps of patterns.
+    /// More than 64 different pairs of variable and property in WHERE clauses and maps of patterns, with
+    /// those of the paths that are tested.
     TooManyReads,
     /// More than 64 columns.
     TooManyColumns,
-    /// More than 512 alternatives.
+    /// More than 512 alternatives, with those of the paths that are tested.
     TooManyAlternatives,
+    /// An EXISTS stands elsewhere than as a whole conjunct of a WHERE clause, alone or inside parentheses and NOTs alone.
+    ExistsPlace,
     /// There was not enough memory.
     Memory,
 }

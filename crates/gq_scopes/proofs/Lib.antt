@@ -1,3 +1,4 @@
+pub mod Listing
 pub mod NamingLemmas
 pub mod RangeLemmas
 pub mod ScopeLemmas

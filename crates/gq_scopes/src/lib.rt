@@ -14,5 +14,5 @@ pub use copying::Copying;
 pub use counts::{next, number};
 pub use gq_plan::Variable;
 pub use naming::Names;
-pub use patterns::{MapEntry, NamedVariable, NodePattern, Pattern, RelPattern};
+pub use patterns::{MapEntry, NamedVariable, NodePattern, Pattern, RelPattern, shared_variables};
 pub use scope::{Column, Scope};

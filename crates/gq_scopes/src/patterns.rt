@@ -1,12 +1,14 @@
 //! The patterns of a query, read from left to right.
-ghost use Rattle.std.specs.Prelude.{◌≡◌, ◌++◌, ◌∷◌, ◌<◌, [], length, map, IfOk, IfSome};
+ghost use Rattle.std.specs.Prelude.{◌≡◌, ◌++◌, ◌∷◌, ◌<◌, [], filter_map, length, map, IfOk};
+ghost use Rattle.std.specs.Prelude.{IfSome};
 ghost use Rattle.std.specs.List.{range_with_len};
 ghost use Rattle.gq_scopes.specs.Scopes.{scope_of};
 ghost use Rattle.gq_scopes.specs.Patterns as patterns;
 ghost use Rattle.gq_scopes.specs.Patterns.{pattern_of, with_clauses, with_paths, with_path};
 ghost use Rattle.gq_scopes.specs.Patterns.{with_hops, with_rel, with_part, with_node, node_new};
 ghost use Rattle.gq_scopes.specs.Patterns.{node_again, entries_of, naming, no_pattern, with_variable};
-ghost use Rattle.gq_scopes.specs.PathPatterns.{path_pattern, with_name, with_names};
+ghost use Rattle.gq_scopes.specs.PathPatterns.{path_pattern, shared_names, with_name, with_names};
+ghost use Rattle.gq_scopes.specs.Patterns.{find_name};
 
 use crate::copies::copy_text;
 use crate::counts::{next, number};
@@ -479,6 +481,34 @@ impl<'t> Pattern<'t> {
         pattern.push_path(alloc, 0, path)?;
         Ok(pattern)
     }
+}
+
+/// The node variables of a scope that a path names, in the order of their first appearance there.
+pub fn shared_variables(
+    alloc: Global,
+    scope: &Scope<'_>,
+    path: &Path,
+) -> Result<List<u32>, Memory>
+    ensures { IfOk result (λ vs.
+        vs ≡ filter_map (find_name scope.now.nodes) (shared_names path.now)) }
+{
+    let mut named = Pattern::new(alloc);
+    named.push_name(alloc, &path.first.name)?;
+    named.push_names(alloc, path.hops.as_slice())?;
+    variables_of(alloc, scope, named.node_names())
+}
+
+fn variables_of(alloc: Global, scope: &Scope<'_>, names: &[Text]) -> Result<List<u32>, Memory>
+    ensures { IfOk result (λ vs. vs ≡ filter_map (find_name scope.now.nodes) names.now) }
+{
+    let mut variables = List::new(alloc);
+    for name in names {
+        let Some(at) = scope.node(name) else {
+            continue;
+        };
+        variables.push(number(at)?)?;
+    }
+    Ok(variables)
 }
 
 #[tactic(auto, using(crate::proofs::RangeLemmas::range_more))]

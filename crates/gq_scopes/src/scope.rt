@@ -1,6 +1,7 @@
 //! What the expressions of a query may name.
 ghost use Rattle.std.specs.Prelude.{◌≡◌, ◌<◌, ◌^◌, true, false, length, map, Some, IfOk, IfSome};
 ghost use Rattle.gq_scopes.specs.Scopes as scopes;
+ghost use Rattle.gq_scopes.specs.Patterns.{find_name};
 ghost use Rattle.gq_scopes.specs.Scopes.{is_known, is_variable};
 
 use crate::copies::{copy_part, copy_text};
@@ -85,6 +86,20 @@ impl<'s> Scope<'s> {
                 None => None,
             },
         }
+    }
+
+    /// The node variable of a name.
+    pub fn node(&self, name: &Text) -> Option<usize>
+        ensures { result ≡ find_name self.now.nodes name.now }
+    {
+        self.nodes.find(name)
+    }
+
+    /// The relationship variable of a name.
+    pub fn rel(&self, name: &Text) -> Option<usize>
+        ensures { result ≡ find_name self.now.rels name.now }
+    {
+        self.rels.find(name)
     }
 
     /// Whether an expression may name it: alone it may be a column or a variable, else a variable.

@@ -1,10 +1,13 @@
 pub mod ConditionReads
+pub mod NamedPaths
 pub mod ReadsThere
 pub mod RenameLemmas
 pub mod Resolved
 pub mod SliceLemmas
 pub mod SourceLemmas
 pub mod Splits
+pub mod Strays
+pub mod TestFacts
 pub mod Tests
 pub mod UseLemmas
 pub mod Walks

@@ -3,6 +3,7 @@ pub mod Conjuncts
 pub mod MadeOf
 pub mod Operands
 pub mod PathTests
+pub mod Places
 pub mod Renames
 pub mod Resolving
 pub mod Uses

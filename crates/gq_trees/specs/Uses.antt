@@ -9,9 +9,9 @@ use Rattle.gq_syntax.specs.declared.AstNode.TheVariants as ast
 use Rattle.gq_syntax.specs.declared.Hop.{Hop}
 use Rattle.gq_syntax.specs.declared.Path.{Path}
 use Rattle.gq_syntax.specs.declared.Term.{Term}
-use Rattle.gq_scopes.specs.Patterns.{Name}
+use Rattle.gq_scopes.specs.Patterns.{Name, find_name}
 use Rattle.gq_trees.specs.Resolving.{is_function}
-use Rattle.gq_scopes.specs.Scopes.{Scope, is_known, is_variable}
+use Rattle.gq_scopes.specs.Scopes.{Scope, is_known, is_there, is_variable}
 
 -- a name by itself, a name with a property, a call with a number of arguments, or an EXISTS of a path
 pub data Use : Type 0 where
@@ -78,12 +78,43 @@ unknown_in_hops s (h ∷ hs) = option_or (unless_variable s h.rel.name) (option_
 abbrev pub unknown_in : Scope → Path → Option Name
 unknown_in s path = option_or (unless_variable s path.first.name) (unknown_in_hops s path.hops)
 
+abbrev pub unless_node : Scope → Option Name → Option Name
+unless_node s None = None
+unless_node s (Some name) = refused_unless (not (is_there (find_name s.nodes name))) name
+
+abbrev pub unless_rel : Scope → Option Name → Option Name
+unless_rel s None = None
+unless_rel s (Some name) = refused_unless (not (is_there (find_name s.rels name))) name
+
+abbrev pub conflict_in_hops : Scope → List Hop → Option Name
+conflict_in_hops s [] = None
+conflict_in_hops s (h ∷ hs) = option_or (unless_node s h.rel.name) (option_or (unless_rel s h.node.name) (conflict_in_hops s hs))
+
+-- the first name of a path that is a node there and a relationship variable of the scope, or the other way round
+abbrev pub conflict_in : Scope → Path → Option Name
+conflict_in s path = option_or (unless_rel s path.first.name) (conflict_in_hops s path.hops)
+
+-- the first relationship of a path that is a relationship variable of the scope
+abbrev pub again_in : Scope → List Hop → Option Name
+again_in s [] = None
+again_in s (h ∷ hs) = option_or (unless_rel s h.rel.name) (again_in s hs)
+
 -- a name that the scope does not have: by itself it may be a column or a variable, with a property and in a path a variable
 abbrev pub unknown_name : Scope → Use → Option Name
 unknown_name s (bare name) = refused_unless (is_known s name) name
 unknown_name s (owner name) = refused_unless (is_variable s name) name
 unknown_name s (call name arguments) = None
 unknown_name s (exists path) = unknown_in s path
+
+-- a name in a path that the scope has as a variable of the other form
+abbrev pub of_other_form : Scope → Use → Option Name
+of_other_form s (exists path) = conflict_in s path
+of_other_form s u = None
+
+-- a relationship variable of the scope, which a path would have again
+abbrev pub named_again : Scope → Use → Option Name
+named_again s (exists path) = again_in s path.hops
+named_again s u = None
 
 abbrev pub is_some_function : Name → Bool
 is_some_function name = is_function name (codes "type") || is_function name (codes "coalesce")

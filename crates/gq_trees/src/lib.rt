@@ -14,6 +14,7 @@ mod renames;
 mod resolution;
 mod sameness;
 mod source;
+mod strays;
 mod uses;
 
 pub use calls::CallForm;
@@ -25,4 +26,5 @@ pub use renames::Renamed;
 pub use resolution::{resolve, resolve_part};
 pub use sameness::same;
 pub use source::source_text;
+pub use strays::has_stray_exists;
 pub use uses::{Check, first_refused};

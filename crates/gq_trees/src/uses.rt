@@ -19,6 +19,10 @@ use gq_syntax::{ArithTerm, Ast, AstNode, AstTester, CompareTerm, Hop, Path, Test
 pub enum Check<'c> {
     /// A name that the scope does not have.
     UnknownName,
+    /// A name in a path that the scope has as a variable of the other form.
+    OtherForm,
+    /// A relationship variable of the scope, which a path names as a relationship.
+    NamedAgain,
     /// A call that names no function.
     UnknownFunction,
     /// A call of a function that does not take so many arguments.
@@ -156,6 +160,7 @@ fn refused_name<'t>(
 {
     match check {
         Check::UnknownName => unless(scope.knows(name, alone), name),
+        Check::OtherForm | Check::NamedAgain => None,
         Check::UnknownFunction => None,
         Check::WrongCount => None,
         Check::AmbiguousName(renamed) => unless(!renamed.contains(name), name),
@@ -171,7 +176,7 @@ fn refused_call<'t>(
     ensures { option_copied result ≡ check_of check.entry scope.now (uses.call name.now arguments) }
 {
     match check {
-        Check::UnknownName => None,
+        Check::UnknownName | Check::OtherForm | Check::NamedAgain => None,
         Check::UnknownFunction => unless(names_function(name), name),
         Check::WrongCount => unless(takes_arguments(name, arguments), name),
         Check::AmbiguousName(_) => None,
@@ -183,6 +188,8 @@ fn refused_path<'t>(check: Check<'_>, scope: &Scope<'_>, path: &'t Path) -> Opti
 {
     match check {
         Check::UnknownName => unknown_in(scope, path),
+        Check::OtherForm => conflict_in(scope, path),
+        Check::NamedAgain => again_in(scope, path.hops.as_slice()),
         Check::UnknownFunction | Check::WrongCount | Check::AmbiguousName(_) => None,
     }
 }
@@ -210,6 +217,61 @@ fn unknown_in_hops<'t>(scope: &Scope<'_>, hops: &'t [Hop]) -> Option<&'t Text>
         }
     }
     None
+}
+
+// The first name of a path that is a node there and a relationship variable of the scope, or the other way round.
+fn conflict_in<'t>(scope: &Scope<'_>, path: &'t Path) -> Option<&'t Text>
+    ensures { option_copied result ≡ uses.conflict_in scope.now path.now }
+{
+    match unless_rel(scope, &path.first.name) {
+        Some(name) => Some(name),
+        None => conflict_in_hops(scope, path.hops.as_slice()),
+    }
+}
+
+fn conflict_in_hops<'t>(scope: &Scope<'_>, hops: &'t [Hop]) -> Option<&'t Text>
+    ensures { option_copied result ≡ uses.conflict_in_hops scope.now hops.now }
+{
+    for hop in hops {
+        let conflict = match unless_node(scope, &hop.rel.name) {
+            Some(name) => Some(name),
+            None => unless_rel(scope, &hop.node.name),
+        };
+        if let Some(name) = conflict {
+            return Some(name);
+        }
+    }
+    None
+}
+
+// The first relationship of a path that is a relationship variable of the scope.
+fn again_in<'t>(scope: &Scope<'_>, hops: &'t [Hop]) -> Option<&'t Text>
+    ensures { option_copied result ≡ uses.again_in scope.now hops.now }
+{
+    for hop in hops {
+        if let Some(name) = unless_rel(scope, &hop.rel.name) {
+            return Some(name);
+        }
+    }
+    None
+}
+
+fn unless_node<'t>(scope: &Scope<'_>, name: &'t Option<Text>) -> Option<&'t Text>
+    ensures { option_copied result ≡ uses.unless_node scope.now name.now }
+{
+    match name {
+        None => None,
+        Some(name) => unless(scope.node(name).is_none(), name),
+    }
+}
+
+fn unless_rel<'t>(scope: &Scope<'_>, name: &'t Option<Text>) -> Option<&'t Text>
+    ensures { option_copied result ≡ uses.unless_rel scope.now name.now }
+{
+    match name {
+        None => None,
+        Some(name) => unless(scope.rel(name).is_none(), name),
+    }
 }
 
 fn unless_variable<'t>(scope: &Scope<'_>, name: &'t Option<Text>) -> Option<&'t Text>

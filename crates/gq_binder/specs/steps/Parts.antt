@@ -1,30 +1,51 @@
 -- What the checks and the bound form of a query share, what each check finds in it, and the bound form that it gives.
-use Rattle.std.specs.Prelude.{ℕ, Option, None, List, [], ◌∷◌, ◌++◌, map, flat_map, filter_map, length, unwrap_or, if◌then◌else◌}
+use Rattle.std.specs.Prelude.{ℕ, true, Option, Some, None, List, [], ◌∷◌, ◌++◌, map, flat_map, filter_map, length, unwrap_or, if◌then◌else◌}
 use Rattle.std.specs.Option.{option_map}
 use Rattle.gq_base.specs.Catalogs.{Tables}
-use Rattle.gq_plan.specs.Reads.{Read, properties_of, distinct}
-use Rattle.gq_plan.specs.Soundness.{max_reads}
+use Rattle.gq_plan.specs.Reads.{Read, properties_of}
 use Rattle.gq_plan.specs.declared.Bound.{Bound}
+use Rattle.gq_plan.specs.declared.ExistsPart.{ExistsPart}
 use Rattle.gq_plan.specs.declared.NamedExpr.{NamedExpr}
+use Rattle.gq_base.specs.declared.Literal.TheVariants as literal
+use Rattle.gq_expr.specs.declared.Expr.TheVariants as expr
 use Rattle.gq_syntax.specs.declared.Query.{Query}
-use Rattle.gq_alternatives.specs.Alternatives.{Choice, typed_of}
+use Rattle.gq_alternatives.specs.Alternatives.{Choice, pattern_alternatives, typed_of}
 use Rattle.gq_binder.specs.Columns.{Scoped, conditions, columns, columns_in, column_expr, entry_test, sort_expr, sort_scope}
 use Rattle.gq_binder.specs.steps.Names.{no_names, with_expressions}
-use Rattle.gq_binder.specs.Refusals.{items_in, sorts_in, first_in, not_built, variable_conflict, relationship_repeated, column_repeated, nothing_to_return, out_of_scope_from, too_many_patterns, over_limit, max_columns}
+use Rattle.gq_binder.specs.Refusals.{items_in, sorts_in, first_in, not_built, variable_conflict, relationship_repeated, column_repeated, nothing_to_return, out_of_scope_from, too_many_patterns, too_many_reads, paths_of, over_limit, max_columns}
 use Rattle.gq_binder.specs.declared.parts.QueryParts.{QueryParts}
 use Rattle.gq_binder.specs.declared.refusal.BindRefusal.{BindRefusal}
 use Rattle.gq_binder.specs.declared.refusal.BindRefusal.TheVariants as refusal
-use Rattle.gq_trees.specs.Conjuncts.{values_of}
+use Rattle.gq_binder.specs.Tested.{SharedTest}
+use Rattle.gq_trees.specs.Conjuncts.{NamedTest, tests_of, values_of}
 use Rattle.gq_trees.specs.MadeOf.{column_exprs}
-use Rattle.gq_scopes.specs.Patterns.{Pattern, pattern_of}
+use Rattle.gq_scopes.specs.PathPatterns.{path_pattern, shared_names}
+use Rattle.gq_scopes.specs.Patterns.{Name, Pattern, find_name, pattern_of}
 use Rattle.gq_trees.specs.Renames.{ambiguous_name}
-use Rattle.gq_trees.specs.Resolving.{as_lists, functions, split, all_some}
+use Rattle.gq_trees.specs.Resolving.{Conjunct, as_lists, functions, split, all_some}
 use Rattle.gq_scopes.specs.Scopes.{scope_of}
 
 -- the conjuncts of values of conditions, of those all of which stand for an expression
 abbrev pub known_conjuncts : List ℕ → List Scoped → List NamedExpr
 known_conjuncts text cs =
     flat_map (λ c. unwrap_or (all_some (values_of text (split functions c.scope c.tree).conjuncts)) []) cs
+
+-- tests, where the values beside them stand for expressions
+abbrev pub where_known : Option (List NamedExpr) → List SharedTest → List SharedTest
+where_known None ts = []
+where_known (Some es) ts = ts
+
+abbrev pub shared_in : List (Option Name) → NamedTest → SharedTest
+shared_in names t = record { name = t.name; test = t.test; nodes = filter_map (find_name names) (shared_names t.test.path) }
+
+abbrev pub known_tests_of : List ℕ → Scoped → List SharedTest
+known_tests_of text c =
+    let ks : List Conjunct = (split functions c.scope c.tree).conjuncts in
+    where_known (all_some (values_of text ks)) (map (shared_in c.scope.nodes) (tests_of text ks))
+
+-- the tests of conditions, of those all of whose values stand for an expression
+abbrev pub known_tests : List ℕ → List Scoped → List SharedTest
+known_tests text cs = flat_map (known_tests_of text) cs
 
 -- the parts of a query that stands in a text
 unfoldable pub parts_of : List ℕ → Query → QueryParts
@@ -36,6 +57,7 @@ parts_of text query =
           (conditions query ++ (items_in (scope_of p) query.items ++ sorts_in (sort_scope functions text query) query.order));
       columns = columns functions text query;
       conjuncts = known_conjuncts text (conditions query);
+      patterns = known_tests text (conditions query);
       tests = map (entry_test text) p.entries;
     }
 
@@ -60,28 +82,41 @@ reads_in es = flat_map (λ e. properties_of e.expr) es
 -- what each check but the last finds, in their order
 abbrev pub checks_in : List ℕ → Query → QueryParts → List (Option BindRefusal)
 checks_in text query parts =
-    not_built query parts.pattern parts.names.exists
+    not_built query parts.pattern
     ∷ option_map refusal.UnknownVariable parts.names.variable
     ∷ variable_conflict parts.pattern
+    ∷ option_map refusal.VariableConflict parts.names.other_form
     ∷ relationship_repeated parts.pattern
+    ∷ option_map refusal.RelationshipRepeated parts.names.again
     ∷ column_repeated parts.columns
     ∷ nothing_to_return query parts.pattern
     ∷ out_of_scope_in text query parts.pattern
     ∷ ambiguous_in query parts.pattern
     ∷ option_map refusal.UnknownFunction parts.names.function
     ∷ option_map refusal.ArgumentCount parts.names.arguments
-    ∷ too_many_patterns parts.pattern
-    ∷ over_limit max_reads (length (distinct (reads_in parts.tests ++ reads_in parts.conjuncts))) refusal.TooManyReads
+    ∷ too_many_patterns parts.pattern (paths_of parts.patterns)
+    ∷ too_many_reads (reads_in parts.tests ++ reads_in parts.conjuncts) parts.pattern parts.patterns
     ∷ over_limit max_columns (length parts.columns) refusal.TooManyColumns ∷ []
 
+-- the part of a bound query that a test gives
+abbrev pub exists_part : List ℕ → Tables → SharedTest → ExistsPart
+exists_part text catalog t =
+    let p : Pattern = path_pattern t.test.path in
+    record {
+      text = record { name = t.name; expr = expr.Literal (literal.Flag true) };
+      wanted = t.test.wanted;
+      nodes = t.nodes;
+      alternatives = map (typed_of catalog p (map (entry_test text) p.entries) []) (pattern_alternatives catalog p);
+    }
+
 -- the bound form that the parts of a query give, with what stands for an expression
-abbrev pub bound_in : Tables → Query → QueryParts → List Choice → Bound
-bound_in catalog query parts choices = record {
+abbrev pub bound_in : List ℕ → Tables → Query → QueryParts → List Choice → Bound
+bound_in text catalog query parts choices = record {
   node_names = parts.pattern.node_names;
   rel_names = parts.pattern.rel_names;
   columns = filter_map column_expr parts.columns;
   conjuncts = parts.conjuncts;
-  patterns = [];
+  patterns = map (exists_part text catalog) parts.patterns;
   keys = filter_map (sort_expr (record (scope_of parts.pattern) { columns = parts.columns })) query.order;
   distinct = query.distinct;
   skip = unwrap_or query.skip 0;

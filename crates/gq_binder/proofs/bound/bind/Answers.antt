@@ -1,6 +1,10 @@
+use Rattle.std.proofs.Common.{All, subst, sym}
 use Rattle.std.proofs.lemmas.Result.{err_from_is_err_and}
+use Rattle.gq_binder.proofs.Checked.{parts_whole}
+use Rattle.gq_binder.specs.declared.parts.QueryParts.{QueryParts}
+use Rattle.gq_syntax.specs.steps.Spans.{IsWholePath}
 use Rattle.gq_syntax.proofs.Whole.{spelled_stands}
-use Rattle.gq_binder.proofs.Checked.{refused_early, refused_last, accepted}
+use Rattle.gq_binder.proofs.Checked.{refused_early, refused_many, refused_last, accepted}
 use Rattle.gq_binder.proofs.bound.bind.Goals as goal
 
 pub parts_of-requires : goal.parts_of-requires
@@ -9,18 +13,28 @@ parts_of-requires c = spelled_stands c.args.text.now c.args.query.now c.requires
 pub check-requires : goal.check-requires
 check-requires c = (spelled_stands c.args.text.now c.args.query.now c.requires).items
 
+pub few_alternatives-requires : goal.few_alternatives-requires
+few_alternatives-requires c =
+    subst (λ (ps : QueryParts). All (λ t. IsWholePath c.args.text.now t.test.path) ps.patterns) (sym c.in_ok-parts.ensures)
+    (parts_whole c.args.text.now c.args.query.now (spelled_stands c.args.text.now c.args.query.now c.requires))
+
 pub returns-in_err-check : goal.returns-in_err-check
 returns-in_err-check c =
     let p = err_from_is_err_and c.from_residual-in_err-check.result c.from_residual-in_err-check.ensures.1 in
     rw (p.1, p.2) (refused_early c.args.query.now c.args.text.now c.args.catalog.now c.in_ok-parts.parts c.in_err-check.field-0.0 c.in_ok-parts.ensures c.in_err-check.ensures)
 
-pub returns-in_err-choices : goal.returns-in_err-choices
-returns-in_err-choices c =
-    let p = err_from_is_err_and c.from_residual-in_err-choices.result c.from_residual-in_err-choices.ensures.1 in
-    rw (p.1, p.2) (refused_last c.args.query.now c.args.text.now c.args.catalog.now c.in_ok-parts.parts c.in_ok-parts.ensures c.in_ok-check.ensures c.in_err-choices.field-0.0 c.in_err-choices.ensures.few)
+pub returns-in_err-all : goal.returns-in_err-all
+returns-in_err-all c =
+    let p = err_from_is_err_and c.from_residual-in_err-all.result c.from_residual-in_err-all.ensures.1 in
+    rw (p.1, p.2) (refused_many c.args.query.now c.args.text.now c.args.catalog.now c.in_ok-parts.parts c.in_ok-parts.ensures c.in_ok-check.ensures c.in_err-all.field-0.0 c.in_err-all.ensures.few)
+
+pub returns-in_err-exists_place : goal.returns-in_err-exists_place
+returns-in_err-exists_place c =
+    let p = err_from_is_err_and c.from_residual-in_err-exists_place.result c.from_residual-in_err-exists_place.ensures.1 in
+    rw (p.1, p.2) (refused_last c.args.query.now c.args.text.now c.args.catalog.now c.in_ok-parts.parts c.in_ok-parts.ensures c.in_ok-check.ensures c.in_ok-all.ensures.few c.in_err-exists_place.field-0.0 c.in_err-exists_place.ensures)
 
 pub returns : goal.returns
 returns c =
     rw c.in_ok-bound_of.ensures
-    (accepted c.args.query.now c.args.text.now c.args.catalog.now c.in_ok-parts.parts c.in_ok-parts.ensures c.in_ok-check.ensures c.in_ok-choices.choices
-    (spelled_stands c.args.text.now c.args.query.now c.requires) c.in_ok-choices.ensures.few c.in_ok-choices.ensures.choices)
+    (accepted c.args.query.now c.args.text.now c.args.catalog.now c.in_ok-parts.parts c.in_ok-parts.ensures c.in_ok-check.ensures c.in_ok-all.all.choices
+    (spelled_stands c.args.text.now c.args.query.now c.requires) c.in_ok-all.ensures.few c.in_ok-exists_place.ensures c.in_ok-all.ensures.choices)

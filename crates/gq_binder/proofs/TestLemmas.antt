@@ -1,0 +1,145 @@
+-- The tests of paths of an accepted query: they stand in its text, their paths name node variables that they see, and the parts that
+-- they give are theirs.
+use Rattle.std.proofs.Common.{◌≡◌, ◌∙◌, ℕ, suc, true, List, [], ◌∷◌, ◌++◌, map, flat_map, Option, Some, None, All, IfSome, refl, sym, ap, ap₂, subst}
+use Rattle.std.specs.Prelude.{filter_map}
+use Rattle.std.specs.List.{AllByRecursion, AllZip, cons_option}
+use Rattle.std.specs.Option.{option_map, option_or}
+use Rattle.std.proofs.lemmas.List.{map-append}
+use Rattle.std.proofs.lemmas.List.Elements.{All-from_recursion, All-head, All-tail}
+use Rattle.gq_base.proofs.OptionLaws.{or_first, or_second}
+use Rattle.gq_base.specs.Catalogs.{Tables}
+use Rattle.gq_plan.proofs.Each.{each_append, each_map}
+use Rattle.gq_plan.specs.Soundness.{IsSound}
+use Rattle.gq_plan.specs.declared.ExistsPart.{ExistsPart}
+use Rattle.gq_plan.specs.declared.NamedExpr.{NamedExpr}
+use Rattle.gq_lexer.specs.Sources.{source_text}
+use Rattle.gq_scopes.specs.PathPatterns.{shared_names}
+use Rattle.gq_scopes.specs.Patterns.{Name, Pattern, find_name, no_pattern, with_paths}
+use Rattle.gq_scopes.specs.Scopes.{Scope, is_there, scope_of}
+use Rattle.gq_syntax.specs.Spans.{IsWholeTree}
+use Rattle.gq_syntax.specs.steps.Spans.{IsWholeClause, IsWholePath, StandsIn}
+use Rattle.gq_syntax.specs.declared.Ast.{Ast}
+use Rattle.gq_syntax.specs.declared.Clause.{Clause}
+use Rattle.gq_syntax.specs.declared.Path.{Path}
+use Rattle.gq_syntax.specs.declared.Query.{Query}
+use Rattle.gq_trees.proofs.NamedPaths.{Passes, PathPasses, names_known, passing_paths, whole_paths}
+use Rattle.gq_trees.proofs.TestFacts.{GoesDown, Holds, each_test}
+use Rattle.gq_trees.specs.Conjuncts.{NamedTest, tests_of, values_of}
+use Rattle.gq_trees.specs.PathTests.{PathTest}
+use Rattle.gq_trees.specs.Resolving.{Conjunct, all_some, functions, split}
+use Rattle.gq_trees.specs.Uses.{Use, conflict_in, first_name, of_other_form, unknown_in, unknown_name, uses}
+use Rattle.gq_binder.specs.Columns.{Scoped, conditions, conditions_from, scoped_in}
+use Rattle.gq_binder.specs.Tested.{IsTested, ScopedTest, SharedTest, scoped_tests, shared_test, tests}
+use Rattle.gq_binder.specs.steps.Parts.{exists_part, known_tests, known_tests_of, shared_in, where_known}
+
+-- ---- what holds of the paths of conjuncts holds of the tests
+
+tests_hold : (Q : Path → Type 0) (H : Option PathTest → Type 0) → ((t : PathTest) → H (Some t) → Q t.path) → (text : List ℕ) (ks : List Conjunct)
+    → AllByRecursion (λ k. H k.test) ks → AllByRecursion (λ t. Q t.test.path) (tests_of text ks)
+tests_hold Q H have text [] h = tt
+tests_hold Q H have text (k ∷ ks) h = go k.test h.0 (tests_hold Q H have text ks h.1)
+  where
+    go : (o : Option PathTest) → H o → AllByRecursion (λ t. Q t.test.path) (tests_of text ks)
+        → AllByRecursion (λ t. Q t.test.path) (cons_option (option_map (λ t. record { name = source_text text k.span; test = t }) o) (tests_of text ks))
+    go None h more = more
+    go (Some t) h more = (have t h, more)
+
+abbrev conjuncts_of : Scoped → List Conjunct
+conjuncts_of c = (split functions c.scope c.tree).conjuncts
+
+condition_tests : (P : Ast → Type 0) (Q : Path → Type 0) (down : GoesDown P Q) (text : List ℕ) (c : Scoped) → P c.tree → AllByRecursion (λ t. Q t.test.path) (tests_of text (conjuncts_of c))
+condition_tests P Q down text c h = tests_hold Q (Holds P Q down) (λ t k. k) text (conjuncts_of c) (each_test P Q down c.scope c.tree h)
+
+-- ---- they stand in the text
+
+one_whole : (text : List ℕ) (s : Scope) (tree : Option Ast) → IfSome tree (IsWholeTree text) → AllByRecursion (λ c. IsWholeTree text c.tree) (scoped_in s tree)
+one_whole text s None h = tt
+one_whole text s (Some tree) h = (h, tt)
+
+conditions_whole : (text : List ℕ) (number : ℕ) (p : Pattern) (cs : List Clause) → All (IsWholeClause text) cs → AllByRecursion (λ c. IsWholeTree text c.tree) (conditions_from number p cs)
+conditions_whole text number p [] h = tt
+conditions_whole text number p (c ∷ cs) h =
+    let q : Pattern = with_paths number c.paths p in
+    each_append (λ c. IsWholeTree text c.tree) (scoped_in (scope_of q) c.filter) (conditions_from (suc number) q cs)
+    (one_whole text (scope_of q) c.filter (All-head (IsWholeClause text) c cs h).filter) (conditions_whole text (suc number) q cs (All-tail (IsWholeClause text) c cs h))
+
+abbrev IsWholeTest : List ℕ → SharedTest → Type 0
+IsWholeTest text t = IsWholePath text t.test.path
+
+known_whole : (text : List ℕ) (cs : List Scoped) → AllByRecursion (λ c. IsWholeTree text c.tree) cs → AllByRecursion (IsWholeTest text) (known_tests text cs)
+known_whole text [] h = tt
+known_whole text (c ∷ cs) h =
+    each_append (IsWholeTest text) (known_tests_of text c) (known_tests text cs) (go (all_some (values_of text (conjuncts_of c)))) (known_whole text cs h.1)
+  where
+    listed : AllByRecursion (IsWholeTest text) (map (shared_in c.scope.nodes) (tests_of text (conjuncts_of c)))
+    listed =
+        each_map (λ (t : NamedTest). IsWholePath text t.test.path) (IsWholeTest text) (shared_in c.scope.nodes) (λ t k. k) (tests_of text (conjuncts_of c))
+        (condition_tests (IsWholeTree text) (IsWholePath text) (whole_paths text) text c h.0)
+
+    go : (o : Option (List NamedExpr)) → AllByRecursion (IsWholeTest text) (where_known o (map (shared_in c.scope.nodes) (tests_of text (conjuncts_of c))))
+    go None = tt
+    go (Some es) = listed
+
+-- each path that a query tests begins and ends between characters
+pub tests_whole : (text : List ℕ) (query : Query) → StandsIn text query → All (λ (t : SharedTest). IsWholePath text t.test.path) (known_tests text (conditions query))
+tests_whole text query stands =
+    All-from_recursion (λ (t : SharedTest). IsWholePath text t.test.path) (known_tests text (conditions query))
+    (known_whole text (conditions query) (conditions_whole text 0 no_pattern query.clauses stands.clauses))
+
+-- ---- their names are those of node variables
+
+abbrev AreKnown : List (Option Name) → Path → Type 0
+AreKnown names path = AllByRecursion (λ n. is_there (find_name names n) ≡ true) (shared_names path)
+
+-- no check refuses a name of a condition
+abbrev pub IsRight : Scoped → Type 0
+IsRight c = first_name (λ u. option_or (unknown_name c.scope u) (of_other_form c.scope u)) (uses c.tree) ≡ None
+
+tests_all : (Q : List (Option Name) → Path → Type 0) (text : List ℕ) (cs : List Scoped) → AllByRecursion (λ c. AllByRecursion (λ t. Q c.scope.nodes t.test.path) (tests_of text (conjuncts_of c))) cs
+    → AllByRecursion (λ t. Q t.names t.test.path) (flat_map (scoped_tests text) cs)
+tests_all Q text [] h = tt
+tests_all Q text (c ∷ cs) h =
+    each_append (λ t. Q t.names t.test.path) (scoped_tests text c) (flat_map (scoped_tests text) cs)
+    (each_map (λ (t : NamedTest). Q c.scope.nodes t.test.path) (λ t. Q t.names t.test.path) (λ t. record { names = c.scope.nodes; name = t.name; test = t.test }) (λ t k. k) (tests_of text (conjuncts_of c)) h.0)
+    (tests_all Q text cs h.1)
+
+each_known : (text : List ℕ) (cs : List Scoped) → AllByRecursion IsRight cs → AllByRecursion (λ c. AllByRecursion (λ t. AreKnown c.scope.nodes t.test.path) (tests_of text (conjuncts_of c))) cs
+each_known text [] h = tt
+each_known text (c ∷ cs) h = (one, each_known text cs h.1)
+  where
+    check : Use → Option Name
+    check u = option_or (unknown_name c.scope u) (of_other_form c.scope u)
+
+    one : AllByRecursion (λ t. AreKnown c.scope.nodes t.test.path) (tests_of text (conjuncts_of c))
+    one =
+        tests_hold (AreKnown c.scope.nodes) (Holds (Passes check) (PathPasses check) (passing_paths check))
+        (λ t k. names_known c.scope t.path (or_first (unknown_in c.scope t.path) (conflict_in c.scope t.path) k) (or_second (unknown_in c.scope t.path) (conflict_in c.scope t.path) k))
+        text (conjuncts_of c) (each_test (Passes check) (PathPasses check) (passing_paths check) c.scope c.tree h.0)
+
+pub tests_known : (text : List ℕ) (query : Query) → AllByRecursion IsRight (conditions query) → AllByRecursion (λ t. AreKnown t.names t.test.path) (tests text query)
+unfolding tests
+tests_known text query h = tests_all AreKnown text (conditions query) (each_known text (conditions query) h)
+
+-- ---- their parts
+
+abbrev IsPartOf : List ℕ → Tables → ScopedTest → Type 0
+IsPartOf text catalog t = IsTested text catalog t (exists_part text catalog (shared_test t))
+
+pub zip_parts : (text : List ℕ) (catalog : Tables) (ts : List ScopedTest) → AllByRecursion (λ t. AreKnown t.names t.test.path) ts
+    → AllByRecursion (λ t. All (IsSound catalog) (exists_part text catalog t).alternatives) (map shared_test ts)
+    → AllZip (IsTested text catalog) ts (map (exists_part text catalog) (map shared_test ts))
+zip_parts text catalog [] named sound = tt
+zip_parts text catalog (t ∷ ts) named sound = (record { called = refl; wanted = refl; nodes = refl; named = named.0; alternatives = refl; sound = sound.0 }, zip_parts text catalog ts named.1 sound.1)
+
+-- tests, with what their paths share, in one step and in two
+shared_all : (names : List (Option Name)) (ts : List NamedTest) → map (shared_in names) ts ≡ map shared_test (map (λ t. record { names = names; name = t.name; test = t.test }) ts)
+shared_all names [] = refl
+shared_all names (t ∷ ts) = ap (λ l. shared_in names t ∷ l) (shared_all names ts)
+
+-- where all values stand for expressions, the tests are known
+pub tests_listed : (text : List ℕ) (cs : List Scoped) → AllByRecursion (λ c. (es : List NamedExpr) × (all_some (values_of text (conjuncts_of c)) ≡ Some es)) cs
+    → known_tests text cs ≡ map shared_test (flat_map (scoped_tests text) cs)
+tests_listed text [] h = refl
+tests_listed text (c ∷ cs) h =
+    ap₂ ◌++◌ (ap (λ o. where_known o (map (shared_in c.scope.nodes) (tests_of text (conjuncts_of c)))) h.0.1 ∙ shared_all c.scope.nodes (tests_of text (conjuncts_of c))) (tests_listed text cs h.1)
+    ∙ sym (map-append shared_test (scoped_tests text c) (flat_map (scoped_tests text) cs))
