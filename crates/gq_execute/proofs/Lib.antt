@@ -4,6 +4,7 @@ pub mod Covering
 pub mod Draining
 pub mod Going
 pub mod OneReply
+pub mod Parted
 pub mod Parting
 pub mod Replying
 pub mod Turning

@@ -51,12 +51,14 @@ pub record IsTurn (g : Graph) (b : Bound) (order : Order) (y : Typed) (t : Turn)
   pub own : HasSpent g y plan t.own
   pub one_each : cut_of b ≡ None → HasOneEach g y plan t.own
 
--- what all pipelines spent: those of the alternatives whose turn comes; the chunks with a row that were pushed are those of
--- the alternatives' own pipelines
+-- what all pipelines spent: those of the tests of paths, where a query has some, and behind them those of the alternatives
+-- whose turn comes; the chunks with a row that were pushed are those of the alternatives' own pipelines
 pub record AreSpent (a : Question) (spent : List Spent) (pushed : ℕ) : Type 0 where
+  pub tested : List Spent
+  pub none : a.bound.patterns ≡ [] → tested ≡ []
   pub turns : List Turn
   pub each : AllZip (IsTurn a.graph a.bound a.order) (with_turns a 0 a.bound.alternatives) turns
-  pub all : spent ≡ spent_in turns
+  pub all : spent ≡ tested ++ spent_in turns
   pub chunks : pushed ≡ up_to_most (own_chunks turns)
 
 -- the same for each query that is bound so

@@ -180,7 +180,7 @@ each_keys g ys rest ps more y p e f w =
 pub begun : (a : Gathering) → keys_in a.keys ≡ [] → Stands a.limit [] a.keys
 begun a e = record { same = λ q. ap (has_key q) e; apart = subst AreDifferent (sym e) tt; few = omega (arith, ap length e) }
 
-unique : (ks : AllKeys) → AreDifferent ks → IsUnique same_nodes same_is ks
+pub unique : (ks : AllKeys) → AreDifferent ks → IsUnique same_nodes same_is ks
 unique [] a = tt
 unique (k ∷ ks) a = (a.0, unique ks a.1)
 

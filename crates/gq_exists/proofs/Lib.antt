@@ -1,3 +1,4 @@
+pub mod Asked
 pub mod Filling
 pub mod Gathered
 pub mod Missing

@@ -1,12 +1,13 @@
 use Rattle.std.proofs.Common.{◌∙◌, ◌<◌, ap, refl, sym, subst, length, get_or, arith, inl, inr}
 use Rattle.gq_execute.specs.Answering.{question}
 use Rattle.gq_execute.proofs.Going.{came_start, fresh_stands, item_at, spends_more, spends_none, taken_more, turn_ended, turn_taken}
-use Rattle.gq_execute.proofs.Parting.{bound_parted}
-use Rattle.gq_execute.proofs.answering.fill.Goals as goal
+use Rattle.gq_execute.proofs.Parted.{bound_parted, made_here}
+use Rattle.gq_execute.specs.steps.Testing.{admitted_by}
+use Rattle.gq_execute.proofs.answering.take_turns.Goals as goal
 
 pub alternatives-init : goal.alternatives-init
 alternatives-init c = record {
-  stats = c.in_ok-stats.ensures.sizes;
+  stats = c.requires.stats;
   bound = c.requires.fresh.bound;
   most = c.requires.fresh.most;
   some = (_, fresh_stands _ _ _ c.requires.fresh);
@@ -28,11 +29,12 @@ alternatives-preserved c =
       stats = i.stats;
       bound = run.meets.alike.bound ∙ i.bound;
       most = run.meets.alike.most ∙ i.most;
-      some = taken_more _ _ _ y old new i.some run;
+      some = taken_more (admitted_by c.args.tests.now.all) _ _ _ y old new i.some run;
       slots = c.in-Ok.ensures.slots ∙ i.slots;
       spends = rw c.in_ok-append-in-Ok.ensures (spends_more c.args.graph.now c.args.bound.now c.args.settings.now.order c.args.bound.now.alternatives c.alternatives.typed-index y old new c.alternatives.spent c.in-Ok.turn here i.bound i.spends c.in-Ok.ensures.spends);
       came = λ query text is.
-          turn_taken (question c.args.graph.now query c.args.bound.now c.args.settings.now) (bound_parted (question c.args.graph.now query c.args.bound.now c.args.settings.now) text c.catalog.ensures.valid is)
+          turn_taken (question c.args.graph.now query c.args.bound.now c.args.settings.now) (bound_parted (question c.args.graph.now query c.args.bound.now c.args.settings.now) text c.catalog.ensures.valid is) (admitted_by c.args.tests.now.all)
+          (made_here c.args.graph.now query c.args.bound.now c.args.settings.now text c.args.tests.now.all c.catalog.ensures.valid is c.requires.tests)
           c.alternatives.typed-index y old new here (i.came query text is) (sym c.enough.ensures ∙ c.if-enough.false) run;
     }
 
@@ -58,7 +60,8 @@ returns-in-Err c =
     (c.typed-item.is ∙ ap (λ ys. get_or ys c.alternatives.typed-index y) c.as_slice-typed-items.ensures) in
     record {
       fills = λ query text is.
-          turn_ended (question c.args.graph.now query c.args.bound.now c.args.settings.now) (bound_parted (question c.args.graph.now query c.args.bound.now c.args.settings.now) text c.catalog.ensures.valid is)
+          turn_ended (question c.args.graph.now query c.args.bound.now c.args.settings.now) (bound_parted (question c.args.graph.now query c.args.bound.now c.args.settings.now) text c.catalog.ensures.valid is) (admitted_by c.args.tests.now.all)
+          (made_here c.args.graph.now query c.args.bound.now c.args.settings.now text c.args.tests.now.all c.catalog.ensures.valid is c.requires.tests)
           c.alternatives.typed-index y c.alternatives.table c.take_turn.new.table here (i.came query text is) (sym c.enough.ensures ∙ c.if-enough.false) c.in-Err.refusal c.in-Err.ensures.drains;
       stands = tt;
       bound = tt;

@@ -4,13 +4,13 @@ use Rattle.gq_plan.specs.Covers.{Covers}
 use Rattle.gq_plan.specs.Plans.{plan_of}
 use Rattle.gq_execute.proofs.Covering.{planned_more, zip_more}
 use Rattle.gq_execute.specs.Planned.{IsPlanIn}
-use Rattle.gq_execute.proofs.planning.plans.Goals as goal
+use Rattle.gq_execute.proofs.planning.plans_in.Goals as goal
 
 pub alternatives-preserved : goal.alternatives-preserved
 alternatives-preserved c =
     let i = c.alternatives.invariant in
     let g = c.args.graph.now in
-    let ys = c.args.bound.now.alternatives in
+    let ys = c.args.alternatives.now in
     let items = c.as_slice-typed-items.ensures in
     let low = rw items at c.alternatives-test.true in
     let is = rw items at c.typed-item.is in
