@@ -3,4 +3,5 @@ pub mod Filling
 pub mod Gathered
 pub mod Missing
 mod Paths
+pub mod Spent
 pub mod Taking
