@@ -1,6 +1,6 @@
 -- Each step of answering a query leads on, or to a reply that is permitted.
 use Rattle.std.proofs.Common.{◌≡◌, ℕ, zero, suc, ◌+◌, ◌<◌, ◌≤◌, get_or, Bool, true, false, Some, List, [], ◌∷◌, ◌++◌, length, take, drop, slice_get, Result, Err, inl, inr, refl, sym, ap, ap₂, ◌∙◌, append-nil, subst, arith, true≢false}
-use Rattle.std.specs.Prelude.{◌⊎◌}
+use Rattle.std.specs.Prelude.{◌⊎◌, flat_map}
 use Rattle.std.specs.List.{AllZip, fold}
 use Rattle.std.proofs.lemmas.Grind.{flat_map-append}
 use Rattle.gq_pipe.specs.Spending.{up_to_most}
@@ -21,7 +21,7 @@ use Rattle.gq_execute.specs.declared.settings.Settings.{Settings}
 use Rattle.gq_execute.specs.Answering.{Replies}
 use Rattle.gq_execute.specs.steps.Answering.{AreParted, Came, MakeOutcomes, Drains, IsFresh, Reached, Runs, Spends, SpendsTurn}
 use Rattle.gq_execute.specs.Replies.{Question, IsPermitted, Rows, TooManyRows, has_heavy_test, has_large_part, has_turn}
-use Rattle.gq_execute.specs.Spending.{AreSpent, IsTurn, Turn, own_chunks, with_turns}
+use Rattle.gq_execute.specs.Spending.{AreSpent, IsSpentOn, IsTurn, Turn, own_chunks, tests_made, with_turns}
 use Rattle.gq_rows.specs.Chunks.{Stands}
 use Rattle.gq_execute.specs.steps.Taking.{Admission, MeetsMany, Takes, outcomes_by}
 use Rattle.gq_execute.specs.declared.refusal.AnswerRefusal.{AnswerRefusal}
@@ -149,14 +149,14 @@ module _ (a : Question) (parted : AreParted a) (k : ℕ) (t : Table) (came : Cam
       turned_all a parted (take k a.bound.alternatives) (drop k a.bound.alternatives) came.pushed came.left (sym (take-append-drop k a.bound.alternatives)) came.at t.held came.stands (done end came.done)
 
   -- so what was spent in their turns, and before them on tests, is what all pipelines spent
-  pub spent_all : (tested own spent : List Spent) (pushed : ℕ) → pushed ≡ t.pushed → Spends a.graph a.bound a.order (take k a.bound.alternatives) t own → (a.bound.patterns ≡ [] → tested ≡ [])
-      → spent ≡ tested ++ own → AreSpent a spent pushed
-  spent_all tested own spent pushed same spends none all = record {
+  pub spent_all : (tested : List (List Spent)) (own spent : List Spent) (pushed : ℕ) → pushed ≡ t.pushed → Spends a.graph a.bound a.order (take k a.bound.alternatives) t own
+      → AllZip (IsSpentOn a.graph a.order) (tests_made a) tested → spent ≡ flat_map (λ s. s) tested ++ own → AreSpent a spent pushed
+  spent_all tested own spent pushed same spends on_tests all = record {
     tested = tested;
-    none = none;
+    on_tests = on_tests;
     turns = spends.turns;
     each = subst (λ ys. AllZip (IsTurn a.graph a.bound a.order) ys spends.turns) (sym turns_taken) spends.each;
-    all = all ∙ ap (λ l. tested ++ l) spends.all;
+    all = all ∙ ap (λ l. flat_map (λ s. s) tested ++ l) spends.all;
     chunks = same ∙ spends.chunks;
   }
 

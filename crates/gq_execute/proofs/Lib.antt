@@ -2,6 +2,7 @@ pub mod Begins
 pub mod Costing
 pub mod Covering
 pub mod Draining
+pub mod Ending
 pub mod Going
 pub mod OneReply
 pub mod Parted

@@ -15,7 +15,7 @@ use Rattle.gq_plan.specs.Outcomes.{Row}
 use Rattle.gq_plan.specs.declared.Typed.{Typed}
 use Rattle.gq_rows.specs.Answers.{Answers, rows_in, cut_of, first_of, looked_at, kept}
 use Rattle.gq_rows.specs.Tables.{Held, StandsFor, is_full}
-use Rattle.gq_execute.specs.Replies.{Question, all_outcomes, outcomes_in, has_turn, has_large_part, some_heavy, has_heavy_test, has_turns, some_many_keys, tests_of, Rows, Faulted, TooManyRows, IsPermitted}
+use Rattle.gq_execute.specs.Replies.{Question, all_outcomes, outcomes_in, has_turn, has_large_part, some_heavy, has_heavy_test, has_turns, Rows, Faulted, TooManyRows, IsPermitted}
 use Rattle.gq_execute.specs.Spending.{with_turns}
 use Rattle.gq_execute.specs.steps.Answering.{AreParted, Reached}
 use Rattle.gq_rows.proofs.Listings.{looked_front, rows_append, kept_grows, kept_few, full_enough, full_looked, open_few, few_rows}
@@ -246,13 +246,9 @@ module _ (a : Question) (parted : AreParted a) (held : Held) (stands : StandsFor
   none_by None e full = absurd (let no : false ≡ true = sym (ap (λ c. is_full c held) e) ∙ full in cc)
   none_by (Some n) e full = no_turn a n 0 e (turns_end a parted [] a.bound.alternatives [] [] refl (reached_start a) held stands full n e)
 
-  -- else none does, and no test is made
-  pub light_full : is_full (cut_of a.bound) held ≡ true → has_heavy_test a ≡ false
-  light_full full =
-      let many : Bool = some_many_keys a.graph a.most (tests_of a.query) a.bound.patterns in
-      ap (λ b. (b && not (is_empty a.bound.alternatives)) && many) (none_by (cut_of a.bound) refl full)
+  -- else none does
+  pub none_full : is_full (cut_of a.bound) held ≡ true → has_turns a ≡ false
+  none_full full = ap (λ b. b && not (is_empty a.bound.alternatives)) (none_by (cut_of a.bound) refl full)
 
-pub light_none : (a : Question) → is_empty a.bound.alternatives ≡ true → has_heavy_test a ≡ false
-light_none a none =
-    let many : Bool = some_many_keys a.graph a.most (tests_of a.query) a.bound.patterns in
-    ap (λ b. b && many) (and_right (has_turn (cut_of a.bound) 0) (not (is_empty a.bound.alternatives)) (ap not none))
+pub none_there : (a : Question) → is_empty a.bound.alternatives ≡ true → has_turns a ≡ false
+none_there a none = and_right (has_turn (cut_of a.bound) 0) (not (is_empty a.bound.alternatives)) (ap not none)

@@ -1,9 +1,11 @@
 //! The tests of paths of a query, each by the keys of its path's matches.
-ghost use Rattle.std.specs.Prelude.{◌≡◌, ◌≤◌, ◌<◌, ◌++◌, [], true, length, All, IfOk, IfErr, OnOk};
-ghost use Rattle.std.specs.List.{list_all};
+ghost use Rattle.std.specs.Prelude.{◌≡◌, ◌≤◌, ◌<◌, ◌++◌, [], true, flat_map, length, All, IfOk, IfErr, OnOk};
+ghost use Rattle.std.specs.List.{AllZip, list_all};
 ghost use Rattle.gq_execute.specs.Planned.{sizes};
+ghost use Rattle.gq_execute.specs.Spending.{IsSpentOn};
 ghost use Rattle.gq_execute.specs.steps.Testing.{AreTestsOf, IsTestOf, RefusesTest};
 ghost use Rattle.gq_execute.specs.steps.Testing.{RefusesTests, admitted_by, passes_test};
+ghost use Rattle.gq_execute.specs.steps.Testing.{spent_on};
 ghost use Rattle.gq_plan.specs.Soundness.{IsSound};
 ghost use Rattle.gq_pool.specs.Pool.{spare_of};
 
@@ -65,7 +67,7 @@ impl<'q> Tests<'q> {
 
     /// What was spent to find the keys, test by test.
     pub(crate) fn into_spent(self, alloc: Global) -> Result<List<Spent>, Memory>
-        ensures { self.all ≡ [] → IfOk result (λ spent. spent ≡ []) }
+        ensures { IfOk result (λ spent. spent ≡ flat_map (λ s. s) (spent_on self.all)) }
     {
         let Tests { all } = self;
         let mut spent = List::new(alloc);
@@ -109,6 +111,8 @@ fn test_of<'q>(
     requires stats { stats.now ≡ sizes graph.now }
     requires slots { 112 ≤ spare_of pool.old }
     ensures test { IfOk result (IsTestOf graph.now settings.now.rows part.now) }
+    ensures spent { IfOk result (λ test.
+        IsSpentOn graph.now settings.now.order part.now test.keys.spent) }
     ensures refused { IfErr result (RefusesTest graph.now settings.now.rows part.now) }
     ensures slots { spare_of pool.new ≡ spare_of pool.old }
 {
@@ -136,6 +140,8 @@ pub(crate) fn tests_of<'q>(
     requires slots { 112 ≤ spare_of pool.old }
     ensures tests { IfOk result (λ tests.
         AreTestsOf graph.now settings.now.rows parts.now tests.all) }
+    ensures spent { IfOk result (λ tests.
+        AllZip (IsSpentOn graph.now settings.now.order) parts.now (spent_on tests.all)) }
     ensures refused { IfErr result (RefusesTests graph.now settings.now.rows parts.now) }
     ensures slots { spare_of pool.new ≡ spare_of pool.old }
 {

@@ -17,7 +17,7 @@ use Rattle.gq_syntax.specs.declared.Query.{Query}
 use Rattle.gq_base.specs.Plain.{Graph}
 use Rattle.gq_execute.specs.Answering.{question, RepliesToEach}
 use Rattle.gq_execute.specs.Replies.{Question, all_outcomes, has_heavy_test, has_large_part, outcomes_in, some_heavy}
-use Rattle.gq_execute.specs.Spending.{IsTurn, Turn, own_chunks, spent_in, with_turns}
+use Rattle.gq_execute.specs.Spending.{IsSpentOn, IsTurn, Turn, own_chunks, spent_in, tests_made, with_turns}
 use Rattle.gq_execute.specs.steps.Taking.{Admission, MeetsFault, MeetsMany, Takes, outcomes_by}
 use Rattle.gq_execute.specs.declared.refusal.AnswerRefusal.{AnswerRefusal}
 use Rattle.gq_execute.specs.declared.refusal.AnswerRefusal.TheVariants as refusal
@@ -105,11 +105,12 @@ Fills g bound settings table (Err refused) = RepliesToEach g bound settings (Err
 
 -- what was spent in the turns, and before them on the tests, of which none has too many keys
 pub record AnswersWith (g : Graph) (bound : Bound) (settings : Settings) (table : Table) (spent : List Spent) : Type 0 where
-  pub tested : List Spent
-  pub none : bound.patterns ≡ [] → tested ≡ []
+  pub tested : List (List Spent)
+  pub on_tests : (query : Query) (text : List ℕ) → IsBound query text g.catalog bound
+      → AllZip (IsSpentOn g settings.order) (tests_made (question g query bound settings)) tested
   pub own : List Spent
   pub fills : FillsWith g bound settings table own
-  pub all : spent ≡ tested ++ own
+  pub all : spent ≡ flat_map (λ s. s) tested ++ own
   pub light : (query : Query) (text : List ℕ) → IsBound query text g.catalog bound
       → has_heavy_test (question g query bound settings) ≡ false
 

@@ -1,11 +1,12 @@
 -- Tests of paths by their keys: which rows they admit, and what they are to a query.
-use Rattle.std.specs.Prelude.{◌≡◌, ℕ, Bool, not, Some, List, slice_get, if◌then◌else◌}
+use Rattle.std.specs.Prelude.{◌≡◌, ℕ, Bool, not, Some, List, map, slice_get, if◌then◌else◌}
 use Rattle.std.specs.List.{AllZip, list_all}
 use Rattle.gq_base.specs.Plain.{Graph}
 use Rattle.gq_base.specs.declared.NodeId.{NodeId}
 use Rattle.gq_exists.specs.Different.{HasMany, HasNoMore}
 use Rattle.gq_exists.specs.Made.{keys_of, some_stand_on}
 use Rattle.gq_expr.specs.Reading as reading
+use Rattle.gq_pipe.specs.declared.pipeline.Spent.{Spent}
 use Rattle.gq_plan.specs.Covers.{Covers}
 use Rattle.gq_plan.specs.Keys.{has_key}
 use Rattle.gq_plan.specs.Plans.{Plan}
@@ -34,6 +35,10 @@ pub record IsTestOf (g : Graph) (most : ℕ) (part : ExistsPart) (t : Test) : Ty
 
 abbrev pub AreTestsOf : Graph → ℕ → List ExistsPart → List Test → Type 0
 AreTestsOf g most parts tests = AllZip (IsTestOf g most) parts tests
+
+-- what was spent on each of them
+abbrev pub spent_on : List Test → List (List Spent)
+spent_on tests = map (λ (t : Test). t.keys.spent) tests
 
 -- they are too many
 pub record HasManyKeys (g : Graph) (most : ℕ) (part : ExistsPart) : Type 0 where
