@@ -1,0 +1,9 @@
+use Rattle.std.proofs.Common.{subst}
+use Rattle.gq_rows.specs.Chunks.{PushesAll}
+use Rattle.gq_rows.proofs.Chunking.{all_admitted}
+use Rattle.gq_rows.proofs.table.RowTable.push_chunk.Goals as goal
+
+pub returns-clause-pushes : goal.returns-clause-pushes
+returns-clause-pushes c =
+    let old = c.args.self.now in
+    subst (λ os. PushesAll os old c.push_admitted.new.self c.push_admitted.result) (all_admitted c.args.graph.now old.bound old.alternative c.args.chunk.now) c.push_admitted.ensures.pushes
