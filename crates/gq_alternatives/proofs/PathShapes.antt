@@ -1,4 +1,5 @@
--- The pattern of a path by itself has a shape: its first node variables, which are the names of the path's nodes, stand in the path.
+-- The pattern of a path by itself has a shape: its first node variables, which are the names of the path's nodes, stand in the path; and
+-- how many patterns and variables it has.
 use Rattle.std.proofs.Common.{◌≡◌, ℕ, zero, suc, ◌+◌, ◌<◌, ◌≤◌, Bool, true, false, ◌||◌, cond, nat_eq, Option, Some, None, List, [], ◌∷◌, ◌++◌, map, flat_map, length, refl, unwrap_or, sym, ap, ◌∙◌, subst, arith, append-nil, true≢false, inl, inr, eqb-true}
 use Rattle.std.specs.Prelude.{is_some}
 use Rattle.std.specs.List.{AllByRecursion, list_any, range_with_len}
@@ -8,13 +9,13 @@ use Rattle.std.proofs.lemmas.List.{length-map, length_push}
 use Rattle.gq_plan.specs.Soundness.{has_number}
 use Rattle.gq_plan.proofs.DifferentReads.{IsUnique, among_fewer}
 use Rattle.gq_scopes.proofs.NamingLemmas.{listed, where_none_passes, where_one_passes}
-use Rattle.gq_scopes.specs.PathPatterns.{named_first, path_pattern, with_name, with_names}
+use Rattle.gq_scopes.specs.PathPatterns.{named_first, path_pattern, shared_names, with_name, with_names}
 use Rattle.gq_scopes.specs.Patterns.{Name, Pattern, find_name, is_called, known_as, no_pattern, variable_of, with_hops, with_node, with_path, with_rel}
 use Rattle.gq_syntax.specs.declared.Hop.{Hop}
 use Rattle.gq_syntax.specs.declared.NodePart.{NodePart}
 use Rattle.gq_syntax.specs.declared.Path.{Path}
 use Rattle.gq_alternatives.proofs.Shapes.{Ends, path_ends, rights_of, run, walk, first_passed, shape_path}
-use Rattle.gq_alternatives.proofs.ShapesOfPatterns.{IsOpen, IsShaped, IsShapedBut, all_ends, ends_of, hops_paths, node_cases, node_open, node_paths, node_rels, node_shape, path_shaped, rel_open, rel_passed, rel_passes}
+use Rattle.gq_alternatives.proofs.ShapesOfPatterns.{IsOpen, IsShaped, IsShapedBut, all_ends, ends_of, hops_grow, hops_paths, path_grows, node_cases, node_open, node_paths, node_rels, node_shape, path_shaped, rel_open, rel_passed, rel_passes}
 
 -- ---- the names of a path's nodes, the last one first
 
@@ -350,3 +351,43 @@ names_counted ns ms path =
 pub path_pattern_counted : (path : Path) → IsCounted path (path_pattern path)
 unfolding path_pattern
 path_pattern_counted path = subst (λ p. IsCounted path (with_path 0 path p)) (sym (path_bare path)) (names_counted (named_first path).names (named_first path).node_names path)
+
+-- ---- how many variables there are
+
+one_name : (name : Option Name) (p : Pattern) → length p.node_names ≡ length p.names → length (with_name name p).node_names ≡ length (with_name name p).names
+one_name None p h = h
+one_name (Some n) p h = go (list_any (is_called n) p.names)
+  where
+    names : length (p.names ++ Some n ∷ []) ≡ length p.names + 1
+    names = length_push p.names (Some n)
+
+    node_names : length (p.node_names ++ n ∷ []) ≡ length p.node_names + 1
+    node_names = length_push p.node_names n
+
+    go : (b : Bool) → length (cond b p (record p { names = p.names ++ Some n ∷ []; node_names = p.node_names ++ n ∷ [] })).node_names
+        ≡ length (cond b p (record p { names = p.names ++ Some n ∷ []; node_names = p.node_names ++ n ∷ [] })).names
+    go true = h
+    go false = omega (arith, names, node_names, h)
+
+all_names : (hs : List Hop) (p : Pattern) → length p.node_names ≡ length p.names → length (with_names hs p).node_names ≡ length (with_names hs p).names
+all_names [] p h = h
+all_names (x ∷ hs) p h = all_names hs (with_name x.node.name p) (one_name x.node.name p h)
+
+some_name : (path : Path) (p : Pattern) → 0 < length (with_path 0 path p).names
+some_name path p =
+    let at : ℕ = variable_of p path.first in
+    let first : 0 < length (with_node path.first p).names = node_cases (λ r. 0 < length r.names) path.first p (λ v low is. omega arith) (λ is. let e : length (p.names ++ path.first.name ∷ []) ≡ length p.names + 1 = length_push p.names path.first.name in omega arith) in
+    let grown : length (with_node path.first p).names ≤ length (with_hops 0 at path.hops (with_node path.first p)).names = (hops_grow 0 at path.hops (with_node path.first p)).names in
+    omega arith
+
+-- one at least, and those that the path names
+pub record HasVariables (path : Path) (p : Pattern) : Type 0 where
+  pub one : 0 < length p.names
+  pub shared : length (shared_names path) ≤ length p.names
+
+pub path_pattern_named : (path : Path) → HasVariables path (path_pattern path)
+unfolding path_pattern
+path_pattern_named path =
+    let names : length (named_first path).node_names ≡ length (named_first path).names = all_names path.hops (with_name path.first.name no_pattern) (one_name path.first.name no_pattern refl) in
+    let grown : length (named_first path).names ≤ length (with_path 0 path (named_first path)).names = (path_grows 0 path (named_first path)).names in
+    record { one = some_name path (named_first path); shared = omega (arith, names, grown) }

@@ -27,14 +27,14 @@ use Rattle.gq_syntax.specs.declared.Item.{Item}
 use Rattle.gq_syntax.specs.declared.Query.{Query}
 use Rattle.gq_syntax.specs.declared.Sort.{Sort}
 use Rattle.gq_binder.proofs.NameLemmas.{first_in_append}
-use Rattle.gq_binder.proofs.TestLemmas.{IsRight, tests_known, tests_listed}
+use Rattle.gq_binder.proofs.TestLemmas.{IsRight, seen_known, tests_known}
 use Rattle.gq_binder.proofs.Known.{IsKnown, IsKnownColumn, mapped, refused_use, known_tree}
 use Rattle.gq_binder.specs.Columns.{Scoped, scoped_in, conditions_from, conditions, conjuncts, columns, columns_in, column_of, star_columns, firsts_behind, item_column, sort_scope, column_expr, sort_expr}
-use Rattle.gq_binder.specs.Tested.{shared_test, tests}
-use Rattle.gq_binder.specs.steps.Parts.{known_conjuncts, known_tests}
+use Rattle.gq_binder.specs.Tested.{seen_elsewhere, tests}
+use Rattle.gq_binder.specs.steps.Parts.{known_conjuncts, known_seen}
 use Rattle.gq_plan.specs.declared.NamedExpr.{NamedExpr}
 use Rattle.gq_scopes.specs.PathPatterns.{shared_names}
-use Rattle.gq_binder.specs.Refusals.{first_in, items_in, sorts_in}
+use Rattle.gq_binder.specs.Refusals.{first_in, items_in, seen, sorts_in}
 
 -- ---- what the checks say of each expression
 
@@ -297,10 +297,12 @@ each_valued text [] h = tt
 each_valued text (c ∷ cs) h =
     ((filter_map (conjunct_expr text) (filter is_value (split_of c)), all_there (conjunct_expr text) (filter is_value (split_of c)) (known_values text (split_of c) h.0)), each_valued text cs h.1)
 
-pub tests_there : (query : Query) (text : List ℕ) → IsNamed query text → known_tests text (conditions query) ≡ map shared_test (tests text query)
-unfolding tests
+pub tests_there : (query : Query) (text : List ℕ) → IsNamed query text
+    → known_seen text (conditions query) ++ flat_map seen_elsewhere (items_in (scope_of (pattern_of query.clauses)) query.items ++ sorts_in (sort_scope functions text query) query.order) ≡ seen text query
+unfolding seen
 tests_there query text named =
-    tests_listed text (conditions query) (each_valued text (conditions query) (each_condition text (conditions query) (conditions_fine query text named) (placed 0 no_pattern query.clauses)))
+    ap (λ l. l ++ flat_map seen_elsewhere (items_in (scope_of (pattern_of query.clauses)) query.items ++ sorts_in (sort_scope functions text query) query.order))
+    (seen_known text (conditions query) (each_valued text (conditions query) (each_condition text (conditions query) (conditions_fine query text named) (placed 0 no_pattern query.clauses))))
 
 pub tests_named : (query : Query) (text : List ℕ) → IsNamed query text → AllByRecursion (λ t. AllByRecursion (λ n. is_there (find_name t.names n) ≡ true) (shared_names t.test.path)) (tests text query)
 tests_named query text named = tests_known text query (conditions_right query text named)

@@ -1,13 +1,14 @@
 -- What the checks find in the parts of a query is its first refusal; a query that they pass is bound by its parts.
 use Rattle.std.proofs.Common.{◌≡◌, ◌∙◌, sym, refl, ap, ap₂, subst, ℕ, ◌+◌, Bool, true, false, not, ◌||◌, length, List, [], ◌∷◌, ◌++◌, map, All, Option, Some, None, Err, if◌then◌else◌}
 use Rattle.gq_base.proofs.OptionLaws.{or_none}
+use Rattle.std.specs.Prelude.{filter_map, flat_map}
 use Rattle.std.specs.List.{AllZip}
 use Rattle.std.specs.Option.{option_map, option_or}
 use Rattle.gq_alternatives.specs.Alternatives.{Choice, alternatives, pattern_alternatives}
 use Rattle.gq_base.specs.Catalogs.{Tables}
 use Rattle.gq_base.specs.Lists.{is_empty}
 use Rattle.gq_binder.proofs.Accepted.{IsNamed, known_expressions, columns_there, keys_there, conjuncts_there, tests_named, tests_there}
-use Rattle.gq_binder.proofs.TestLemmas.{tests_whole, zip_parts}
+use Rattle.gq_binder.proofs.TestLemmas.{IsWholeTest, parts_given, tests_whole, zip_parts}
 use Rattle.gq_binder.proofs.NameLemmas.{first_again, first_other_form, first_variable, first_function, first_arguments, sorts_same}
 use Rattle.gq_binder.proofs.Patterns.{node_names_there}
 use Rattle.gq_binder.proofs.RefusalLemmas.{first_then, first_append, same_behind}
@@ -16,9 +17,9 @@ use Rattle.gq_binder.specs.Binding.{Answers, IsBound}
 use Rattle.gq_binder.specs.steps.Checks.{IsOfQuery}
 use Rattle.gq_binder.specs.Columns.{conditions, columns, entry_test, sort_scope}
 use Rattle.gq_binder.specs.steps.Names.{FirstNames, no_names, with_expressions}
-use Rattle.gq_binder.specs.Tested.{IsTested, SharedTest, shared_test, tests}
-use Rattle.gq_binder.specs.steps.Parts.{exists_part, known_conjuncts, known_tests, parts_of, ambiguous_in, reads_in, checks_in, bound_in}
-use Rattle.gq_binder.specs.Refusals.{first_of_all, not_built, unknown_variable, variable_conflict, relationship_repeated, column_repeated, nothing_to_return, order_out_of_scope, ambiguous_order_name, function_unknown, argument_count, over_limit, max_columns, max_alternatives, alternatives_in, path_conflict, path_repeated, paths_of, too_many_patterns, too_many_reads, all_reads, first_refusal, checks_of, too_many_alternatives, exists_place, expressions, first_in}
+use Rattle.gq_binder.specs.Tested.{IsTested, SharedTest, seen_elsewhere, tests}
+use Rattle.gq_binder.specs.steps.Parts.{exists_part, known_conjuncts, known_seen, parts_of, ambiguous_in, reads_in, checks_in, bound_in}
+use Rattle.gq_binder.specs.Refusals.{first_of_all, not_built, unknown_variable, variable_conflict, relationship_repeated, column_repeated, nothing_to_return, order_out_of_scope, ambiguous_order_name, function_unknown, argument_count, over_limit, max_columns, max_alternatives, alternatives_in, path_conflict, path_repeated, paths_of, too_many_patterns, too_many_reads, all_reads, first_refusal, checks_of, too_many_alternatives, exists_place, expressions, first_in, items_in, seen, sorts_in}
 use Rattle.gq_binder.specs.declared.parts.QueryParts.{QueryParts}
 use Rattle.gq_binder.specs.declared.refusal.BindRefusal.{BindRefusal}
 use Rattle.gq_binder.specs.declared.refusal.BindRefusal.TheVariants as refusal
@@ -28,7 +29,7 @@ use Rattle.gq_trees.specs.Renames.{ambiguous_name}
 use Rattle.gq_trees.specs.Resolving.{functions}
 use Rattle.gq_scopes.specs.Scopes.{scope_of}
 use Rattle.gq_trees.specs.Uses.{named_again, of_other_form, unknown_name, unknown_function, wrong_count}
-use Rattle.gq_syntax.specs.steps.Spans.{IsWholePath, StandsIn}
+use Rattle.gq_syntax.specs.steps.Spans.{StandsIn}
 use Rattle.gq_syntax.specs.declared.Query.{Query}
 
 none_of : (f : Name → BindRefusal) (o : Option Name) → option_map f o ≡ None → o ≡ None
@@ -77,10 +78,10 @@ module _ (query : Query) (text : List ℕ) where
   listed_reads = reads_in (map (entry_test text) p.entries) ++ reads_in (known_conjuncts text (conditions query))
 
   abbrev listed_tests : List SharedTest
-  listed_tests = known_tests text (conditions query)
+  listed_tests = known_seen text (conditions query) ++ flat_map seen_elsewhere (items_in (scope_of p) query.items ++ sorts_in (sort_scope functions text query) query.order)
 
   abbrev all_tests : List SharedTest
-  all_tests = map shared_test (tests text query)
+  all_tests = seen text query
 
   -- where all names and calls are known, the conjuncts read what the conditions read, and the tests are those of the conditions
   same_reads : first_of_all (early ++ numbers listed_reads listed_tests) ≡ first_of_all (early ++ numbers (all_reads query) all_tests)
@@ -141,13 +142,13 @@ module _ (query : Query) (text : List ℕ) where
   unfolding parts_of
   pattern_is = refl
 
-  tests_are : (parts_of text query).patterns ≡ known_tests text (conditions query)
+  tests_are : (parts_of text query).exists ≡ listed_tests
   unfolding parts_of
   tests_are = refl
 
   module _ (catalog : Tables) where
     abbrev place : Option BindRefusal
-    place = exists_place query
+    place = exists_place (seen text query)
 
     abbrev last : Option BindRefusal
     last = option_or (too_many_alternatives text query catalog) place
@@ -180,23 +181,23 @@ module _ (query : Query) (text : List ℕ) where
       pattern_so : parts.pattern ≡ p
       pattern_so = ap (λ (ps : QueryParts). ps.pattern) is ∙ pattern_is
 
-      tests_so : parts.patterns ≡ map shared_test (tests text query)
-      tests_so = ap (λ (ps : QueryParts). ps.patterns) is ∙ tests_are ∙ tests_there query text (named_parts passes)
+      tests_so : parts.exists ≡ seen text query
+      tests_so = ap (λ (ps : QueryParts). ps.exists) is ∙ tests_are ∙ tests_there query text (named_parts passes)
 
-      rest : first_refusal query text catalog ≡ option_or (many parts.pattern parts.patterns) place
+      rest : first_refusal query text catalog ≡ option_or (many parts.pattern parts.exists) place
       rest = refusal_is ∙ ap (λ o. option_or o last) passes ∙ sym (ap (λ o. option_or o place) (ap₂ many pattern_so tests_so))
 
       -- the number of alternatives refuses it
-      pub refused_many : (e : BindRefusal) → (IsOfQuery e → many parts.pattern parts.patterns ≡ Some e) → Answers query text catalog (Err e)
+      pub refused_many : (e : BindRefusal) → (IsOfQuery e → many parts.pattern parts.exists ≡ Some e) → Answers query text catalog (Err e)
       refused_many e h = answered e (λ q. rest ∙ ap (λ o. option_or o place) (h q))
 
-      module _ (few : many parts.pattern parts.patterns ≡ None) where
+      module _ (few : many parts.pattern parts.exists ≡ None) where
         last_rest : first_refusal query text catalog ≡ place
         last_rest = rest ∙ ap (λ o. option_or o place) few
 
         -- the last check refuses it
-        pub refused_last : (e : BindRefusal) → (IsOfQuery e → place ≡ Some e) → Answers query text catalog (Err e)
-        refused_last e h = answered e (λ q. last_rest ∙ h q)
+        pub refused_last : (e : BindRefusal) → (IsOfQuery e → exists_place parts.exists ≡ Some e) → Answers query text catalog (Err e)
+        refused_last e h = answered e (λ q. last_rest ∙ sym (ap exists_place tests_so) ∙ h q)
 
       bound_by_parts : StandsIn text query → first_refusal query text catalog ≡ None → IsNamed query text → IsBound query text catalog (bound_in text catalog query (parts_of text query) (alternatives query catalog))
       unfolding parts_of
@@ -213,16 +214,16 @@ module _ (query : Query) (text : List ℕ) where
             limit = refl;
           })
           refl
-          (subst (λ ts. AllZip (IsTested text catalog) (tests text query) (map (exists_part text catalog) ts)) (sym (tests_there query text named))
+          (subst (AllZip (IsTested text catalog) (tests text query)) (sym (ap (filter_map (exists_part text catalog)) (tests_there query text named) ∙ parts_given text catalog query))
           (zip_parts text catalog (tests text query) (tests_named query text named) (tests_sound query text catalog accepted)))
           (node_names_there text query stands)
 
       -- no check refuses it
-      pub accepted : (choices : List Choice) → StandsIn text query → many parts.pattern parts.patterns ≡ None → place ≡ None → choices ≡ pattern_alternatives catalog parts.pattern → IsBound query text catalog (bound_in text catalog query parts choices)
+      pub accepted : (choices : List Choice) → StandsIn text query → many parts.pattern parts.exists ≡ None → exists_place parts.exists ≡ None → choices ≡ pattern_alternatives catalog parts.pattern → IsBound query text catalog (bound_in text catalog query parts choices)
       accepted choices stands few placed all =
           subst (λ ps. IsBound query text catalog (bound_in text catalog query ps choices)) (sym is)
           (subst (λ cs. IsBound query text catalog (bound_in text catalog query (parts_of text query) cs)) (sym (all ∙ ap (pattern_alternatives catalog) pattern_so))
-          (bound_by_parts stands (last_rest few ∙ placed) (named_parts passes)))
+          (bound_by_parts stands (last_rest few ∙ sym (ap exists_place tests_so) ∙ placed) (named_parts passes)))
 
     -- a refusal that is no want of memory
     pub refused_so : (e : BindRefusal) → (e ≡ refusal.Memory → ⊥) → Answers query text catalog (Err e) → Some e ≡ first_refusal query text catalog
@@ -230,6 +231,6 @@ module _ (query : Query) (text : List ℕ) where
     refused_so e other h = sym h
 
 -- each path that the parts of a query test begins and ends between characters
-pub parts_whole : (text : List ℕ) (query : Query) → StandsIn text query → All (λ (t : SharedTest). IsWholePath text t.test.path) (parts_of text query).patterns
+pub parts_whole : (text : List ℕ) (query : Query) → StandsIn text query → All (IsWholeTest text) (parts_of text query).exists
 unfolding parts_of
-parts_whole text query stands = tests_whole text query stands
+parts_whole text query stands = tests_whole text query (items_in (scope_of (pattern_of query.clauses)) query.items ++ sorts_in (sort_scope functions text query) query.order) stands

@@ -1,6 +1,9 @@
 -- What stays of a limit on alternatives as tests are gone through.
-use Rattle.std.proofs.Common.{◌≡◌, ◌∙◌, ℕ, suc, ◌+◌, ◌-◌, ◌<◌, Option, Some, None, List, [], ◌∷◌, ◌++◌, map, length, drop, take, get_or, drop-cons, add-one, sym, ap, ap₂}
-use Rattle.std.proofs.lemmas.List.{map_push, take_more}
+use Rattle.std.proofs.Common.{◌≡◌, ◌∙◌, ℕ, suc, ◌+◌, ◌-◌, ◌<◌, Option, Some, None, List, [], ◌∷◌, ◌++◌, append-nil, length, drop, take, get_or, drop-cons, add-one, sym, ap}
+use Rattle.std.specs.Prelude.{filter_map}
+use Rattle.std.specs.List.{cons_option}
+use Rattle.std.proofs.lemmas.List.{take_more}
+use Rattle.std.proofs.lemmas.List.Elements.{filter_map-append}
 use Rattle.gq_alternatives.specs.Alternatives.{Choice, pattern_alternatives}
 use Rattle.gq_alternatives.specs.Searching.{at_most}
 use Rattle.gq_base.specs.Catalogs.{Tables}
@@ -29,7 +32,14 @@ module _ (catalog : Tables) (r : BindRefusal) (tests : List SharedTest) (i : ℕ
       → over_limit left (alternatives_in catalog (paths_of (drop i tests))) r ≡ whole → whole ≡ Some r
   few_over left whole e h = sym h ∙ ap (λ n. over_limit left n r) counted ∙ beyond_more left rest (pattern_alternatives catalog p) r e
 
--- what is made of items, with one more
-pub parts_next : {A B : Type 0} (f : A → B) (xs : List A) (i : ℕ) (x : A) → i < length xs → x ≡ get_or xs i x → (before : List B) (y : B) → before ≡ map f (take i xs) → y ≡ f x → before ++ y ∷ [] ≡ map f (take (i + 1) xs)
-parts_next f xs i x low is before y e d =
-    ap₂ (λ l z. l ++ z ∷ []) e d ∙ sym (map_push f (take i xs) x) ∙ sym (ap (map f) (take_more xs i x low ∙ ap (λ z. take i xs ++ z ∷ []) (sym is)))
+-- what items give, with one more, which gives nothing or something
+module _ {A B : Type 0} (f : A → Option B) (xs : List A) (i : ℕ) (x : A) (low : i < length xs) (is : x ≡ get_or xs i x) where
+  given : (o : Option B) → o ≡ f x → filter_map f (take (i + 1) xs) ≡ filter_map f (take i xs) ++ cons_option o []
+  given o e =
+      ap (filter_map f) (take_more xs i x low ∙ ap (λ z. take i xs ++ z ∷ []) (sym is)) ∙ filter_map-append f (take i xs) (x ∷ []) ∙ ap (λ p. filter_map f (take i xs) ++ cons_option p []) (sym e)
+
+  pub nothing_given : (before : List B) → before ≡ filter_map f (take i xs) → None ≡ f x → before ≡ filter_map f (take (i + 1) xs)
+  nothing_given before e d = e ∙ sym (append-nil (filter_map f (take i xs))) ∙ sym (given None d)
+
+  pub one_given : (before : List B) (y : B) → before ≡ filter_map f (take i xs) → Some y ≡ f x → before ++ y ∷ [] ≡ filter_map f (take (i + 1) xs)
+  one_given before y e d = ap (λ l. l ++ y ∷ []) e ∙ sym (given (Some y) d)

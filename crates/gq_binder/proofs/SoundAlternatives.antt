@@ -38,11 +38,12 @@ use Rattle.gq_alternatives.proofs.SoundPatterns.{IsChoice, each_alternative, pat
 use Rattle.gq_plan.proofs.DifferentReads.{AllAmong, is_among, some_among, properties_among, distinct_fewer}
 use Rattle.gq_plan.proofs.ReadEquations.{reads_Literal, reads_NodeProperty, reads_RelProperty, reads_Compare}
 use Rattle.gq_trees.proofs.ReadsThere.{AllThere, AreThere}
-use Rattle.gq_alternatives.proofs.PathShapes.{IsCounted, path_pattern_counted, path_pattern_shaped}
+use Rattle.gq_alternatives.proofs.PathShapes.{HasVariables, IsCounted, path_pattern_counted, path_pattern_named, path_pattern_shaped}
 use Rattle.gq_alternatives.specs.Alternatives.{Choice, typed_rels, agrees, alternatives, pattern_alternatives, typed_of}
-use Rattle.gq_scopes.specs.PathPatterns.{path_pattern}
+use Rattle.gq_scopes.specs.PathPatterns.{path_pattern, shared_names}
 use Rattle.gq_syntax.specs.declared.Path.{Path}
 use Rattle.gq_trees.specs.Conjuncts.{conjunct_expr, is_value, values_of}
+use Rattle.gq_trees.specs.Places.{strays}
 use Rattle.gq_scopes.specs.Patterns.{Name, MapEntry, Pattern, no_pattern, pattern_of, with_paths, with_clauses}
 use Rattle.gq_trees.specs.Resolving.{Conjunct, functions, all_some, resolved, split}
 use Rattle.gq_scopes.specs.Scopes.{Scope, scope_of}
@@ -51,9 +52,9 @@ use Rattle.gq_lexer.specs.Sources.{source_text}
 use Rattle.gq_binder.proofs.Patterns.{names_counted}
 use Rattle.gq_binder.specs.Binding.{IsBound}
 use Rattle.gq_binder.specs.Columns.{Scoped, scoped_in, conditions_from, conditions, conjuncts, property_of, entry_expr, entry_test, Resolves, HasAlternatives}
-use Rattle.gq_binder.specs.steps.Parts.{exists_part, reads_in}
-use Rattle.gq_binder.specs.Refusals.{first_of_all, over_limit, all_reads, known_reads, first_refusal, checks_of, nodes_in, path_reads, paths_of, reads_alone, rels_in, too_many_alternatives, exists_place}
-use Rattle.gq_binder.specs.Tested.{IsTested, SharedTest, shared_test, tests}
+use Rattle.gq_binder.specs.steps.Parts.{named_part, reads_in}
+use Rattle.gq_binder.specs.Refusals.{first_of_all, over_limit, all_reads, known_reads, first_refusal, checks_of, nodes_in, path_reads, paths_of, reads_alone, rels_in, seen, sort_trees, items_in, too_many_alternatives, exists_place}
+use Rattle.gq_binder.specs.Tested.{IsTested, ScopedTest, SharedTest, scoped_tests, seen_elsewhere, seen_in, shared_test, stray_test, tests}
 use Rattle.gq_binder.specs.declared.refusal.BindRefusal.{BindRefusal}
 use Rattle.gq_binder.specs.declared.refusal.BindRefusal.TheVariants as refusal
 
@@ -71,15 +72,12 @@ within_limit limit number refused e = go (nat_lt limit number) refl e
     go true is e = cc e
     go false is e = ltb-false limit number is
 
-abbrev query_tests : List ℕ → Query → List SharedTest
-query_tests text query = map shared_test (tests text query)
-
 -- what the numbers of an accepted query are
 record IsSmall (query : Query) (text : List ℕ) : Type 0 where
-  nodes : length (pattern_of query.clauses).nodes + nodes_in (paths_of (query_tests text query)) ≤ max_variables
-  rels : length (pattern_of query.clauses).rels + rels_in (paths_of (query_tests text query)) ≤ max_variables
-  reads : length (distinct (all_reads query ++ path_reads (length (pattern_of query.clauses).names) (length (pattern_of query.clauses).rels) (query_tests text query))) ≤ max_reads
-  alone : first_of_all (map reads_alone (query_tests text query)) ≡ None
+  nodes : length (pattern_of query.clauses).nodes + nodes_in (paths_of (seen text query)) ≤ max_variables
+  rels : length (pattern_of query.clauses).rels + rels_in (paths_of (seen text query)) ≤ max_variables
+  reads : length (distinct (all_reads query ++ path_reads (length (pattern_of query.clauses).names) (length (pattern_of query.clauses).rels) (seen text query))) ≤ max_reads
+  alone : first_of_all (map reads_alone (seen text query)) ≡ None
 
 first_none : (o : Option BindRefusal) (os : List (Option BindRefusal)) → first_of_all (o ∷ os) ≡ None → (o ≡ None) × (first_of_all os ≡ None)
 first_none None os e = (refl, e)
@@ -89,11 +87,11 @@ accepted_small : (query : Query) (text : List ℕ) (catalog : Tables) → first_
 unfolding first_refusal
 accepted_small query text catalog accepted =
     let p : Pattern = pattern_of query.clauses in
-    let ts : List SharedTest = query_tests text query in
+    let ts : List SharedTest = seen text query in
     let nodes : ℕ = length p.nodes + nodes_in (paths_of ts) in
     let rels : ℕ = length p.rels + rels_in (paths_of ts) in
     let all : ℕ = length (distinct (all_reads query ++ path_reads (length p.names) (length p.rels) ts)) in
-    let checks = each_none (checks_of query text ++ too_many_alternatives text query catalog ∷ exists_place query ∷ []) accepted in
+    let checks = each_none (checks_of query text ++ too_many_alternatives text query catalog ∷ exists_place (seen text query) ∷ []) accepted in
     let patterns =
     each_none (over_limit max_variables nodes refusal.TooManyPatterns ∷ over_limit max_variables rels refusal.TooManyPatterns ∷ []) checks.1.1.1.1.1.1.1.1.1.1.1.1.0 in
     let read = first_none (over_limit max_reads all refusal.TooManyReads) (map reads_alone ts) checks.1.1.1.1.1.1.1.1.1.1.1.1.1.0 in
@@ -302,12 +300,12 @@ module _ (catalog : Tables) (query : Query) (text : List ℕ) (es : List NamedEx
       let shaped : IsShaped p = pattern_shaped query.clauses in
       let nodes : length p.names ≡ length c.tables = sym h.0.table_count in
       let rels : length p.rels ≡ length (typed_rels p.rels c.readings) = sym (typed_count p.rels c.readings h.0.reading_count) in
-      let more : List Read = path_reads (length p.names) (length p.rels) (query_tests text query) in
+      let more : List Read = path_reads (length p.names) (length p.rels) (seen text query) in
       let fewer : length (distinct (properties (test_reads y))) ≤ length (distinct (all_reads query ++ more)) =
       distinct_fewer (properties (test_reads y)) (all_reads query ++ more) (among_more (properties (test_reads y)) (all_reads query) more reads_among) in
       let few : length (distinct (all_reads query ++ more)) ≤ max_reads = small.reads in
-      let few_nodes : length p.nodes + nodes_in (paths_of (query_tests text query)) ≤ max_variables = small.nodes in
-      let few_rels : length p.rels + rels_in (paths_of (query_tests text query)) ≤ max_variables = small.rels in
+      let few_nodes : length p.nodes + nodes_in (paths_of (seen text query)) ≤ max_variables = small.nodes in
+      let few_rels : length p.rels + rels_in (paths_of (seen text query)) ≤ max_variables = small.rels in
       pattern_sound catalog p (map (entry_test text) p.entries) es c shaped (omega arith) (omega arith) h.0 h.1
       (All-from_recursion (λ r. HasVariable y r.variable) (test_reads y)
       (each_then (λ r. IsThere (length p.names) (length p.rels) r.variable) (λ r. HasVariable y r.variable) (λ r there. has_variable y (length p.names) (length p.rels) r.variable nodes rels there) (test_reads y) (names_there shaped)))
@@ -369,6 +367,22 @@ module _ (catalog : Tables) (text : List ℕ) (path : Path) where
       (each_map (λ c. IsChoice catalog (length own.names) (length own.rels) c × (agrees catalog own c ≡ true)) (IsSound catalog) made (own_sound few_nodes few_rels few)
       (pattern_alternatives catalog own) (each_alternative catalog own))
 
+  each_counted : (P : ℕ → Type 0) → P (length own.names) → All (λ y. P (length y.nodes)) (map made (pattern_alternatives catalog own))
+  unfolding typed_of
+  each_counted P h =
+      All-from_recursion (λ (y : Typed). P (length y.nodes)) (map made (pattern_alternatives catalog own))
+      (each_map (λ c. IsChoice catalog (length own.names) (length own.rels) c × (agrees catalog own c ≡ true)) (λ (y : Typed). P (length y.nodes)) made (λ c k. subst P (sym k.0.table_count) h)
+      (pattern_alternatives catalog own) (each_alternative catalog own))
+
+  pub path_nodes : All (λ y. 0 < length y.nodes) (map made (pattern_alternatives catalog own))
+  path_nodes = each_counted (λ n. 0 < n) (path_pattern_named path).one
+
+  pub path_wide : (ns : List ℕ) → length ns ≤ length (shared_names path) → All (λ y. length ns ≤ length y.nodes) (map made (pattern_alternatives catalog own))
+  path_wide ns few =
+      let named : HasVariables path (path_pattern path) = path_pattern_named path in
+      let shared : length (shared_names path) ≤ length (path_pattern path).names = named.shared in
+      each_counted (λ n. length ns ≤ n) (omega (arith, few, shared))
+
 -- each test of an accepted query is small
 abbrev IsSmallTest : SharedTest → Type 0
 IsSmallTest t =
@@ -384,11 +398,31 @@ each_small (t ∷ ts) k l h j e =
       each_small ts (k + suc (length t.test.path.hops)) (l + length t.test.path.hops) (omega arith) (omega arith) read.1,
     )
 
-pub tests_sound : (query : Query) (text : List ℕ) (catalog : Tables) → first_refusal query text catalog ≡ None → AllByRecursion (λ t. All (IsSound catalog) (exists_part text catalog t).alternatives) (map shared_test (tests text query))
+-- the tests among the EXISTS of conditions
+tests_small : (ts : List ScopedTest) → AllByRecursion IsSmallTest (map shared_test ts) → AllByRecursion (λ t. IsSmallTest (shared_test t)) ts
+tests_small [] h = tt
+tests_small (t ∷ ts) h = (h.0, tests_small ts h.1)
+
+conditions_small : (text : List ℕ) (cs : List Scoped) → AllByRecursion IsSmallTest (flat_map (seen_in text) cs) → AllByRecursion (λ t. IsSmallTest (shared_test t)) (flat_map (scoped_tests text) cs)
+conditions_small text [] h = tt
+conditions_small text (c ∷ cs) h =
+    each_append (λ t. IsSmallTest (shared_test t)) (scoped_tests text c) (flat_map (scoped_tests text) cs)
+    (tests_small (scoped_tests text c)
+    (each_left IsSmallTest (map shared_test (scoped_tests text c)) (map (stray_test c.scope.nodes) (strays c.tree)) (each_left IsSmallTest (seen_in text c) (flat_map (seen_in text) cs) h)))
+    (conditions_small text cs (each_right IsSmallTest (seen_in text c) (flat_map (seen_in text) cs) h))
+
+all_small : (query : Query) (text : List ℕ) → AllByRecursion IsSmallTest (seen text query) → AllByRecursion (λ t. IsSmallTest (shared_test t)) (tests text query)
+unfolding seen tests
+all_small query text h =
+    conditions_small text (conditions query)
+    (each_left IsSmallTest (flat_map (seen_in text) (conditions query)) (flat_map seen_elsewhere (items_in (scope_of (pattern_of query.clauses)) query.items ++ sort_trees text query)) h)
+
+pub tests_sound : (query : Query) (text : List ℕ) (catalog : Tables) → first_refusal query text catalog ≡ None
+    → AllByRecursion (λ t. All (IsSound catalog) (named_part text catalog (shared_test t) t.name).alternatives) (tests text query)
 tests_sound query text catalog accepted =
     let small : IsSmall query text = accepted_small query text catalog accepted in
-    each_then IsSmallTest (λ t. All (IsSound catalog) (exists_part text catalog t).alternatives) (λ t h. path_sound catalog text t.test.path h.0 h.1.0 h.1.1) (query_tests text query)
-    (each_small (query_tests text query) (length (pattern_of query.clauses).nodes) (length (pattern_of query.clauses).rels) small.nodes small.rels small.alone)
+    each_then (λ t. IsSmallTest (shared_test t)) (λ t. All (IsSound catalog) (named_part text catalog (shared_test t) t.name).alternatives) (λ t h. path_sound catalog text t.test.path h.0 h.1.0 h.1.1) (tests text query)
+    (all_small query text (each_small (seen text query) (length (pattern_of query.clauses).nodes) (length (pattern_of query.clauses).rels) small.nodes small.rels small.alone))
 
 -- the alternatives of a bound query are sound
 pub alternatives_sound : (query : Query) (text : List ℕ) (catalog : Tables) (bound : Bound) → first_refusal query text catalog ≡ None → Resolves query text bound → HasAlternatives query text catalog bound

@@ -3,7 +3,7 @@
 use Rattle.std.specs.Prelude.{ℕ, suc, nat_eq, nat_lt, Bool, true, false, not, is_some, ◌+◌, slice_get, unwrap_or, ◌&&◌, ◌||◌, Option, Some, None, List, [], ◌∷◌, ◌++◌, map, filter, flat_map, length, if◌then◌else◌}
 use Rattle.gq_plan.specs.declared.variable.Variable.TheVariants.{Node as node, Rel as rel}
 use Rattle.gq_plan.specs.declared.variable.Variable.{Variable}
-use Rattle.std.specs.List.{list_any}
+use Rattle.std.specs.List.{list_all, list_any}
 use Rattle.std.specs.Option.{option_map, option_or}
 use Rattle.std.specs.Cmp.Lexicographic.{pointwise}
 use Rattle.gq_base.specs.Catalogs.{Tables}
@@ -11,7 +11,6 @@ use Rattle.gq_base.specs.Lists.{is_empty}
 use Rattle.gq_expr.specs.declared.Expr.{Expr}
 use Rattle.gq_plan.specs.Reads.{Read, property, reads, properties, distinct}
 use Rattle.gq_plan.specs.Soundness.{max_variables, max_reads}
-use Rattle.gq_syntax.specs.declared.Ast.{Ast}
 use Rattle.gq_syntax.specs.declared.Item.{Item}
 use Rattle.gq_syntax.specs.declared.Query.{Query}
 use Rattle.gq_syntax.specs.declared.Sort.{Sort}
@@ -21,11 +20,10 @@ use Rattle.gq_trees.specs.Conjuncts.{is_value}
 use Rattle.gq_trees.specs.MadeOf.{column_exprs, is_made_of}
 use Rattle.gq_trees.specs.Renames.{ambiguous_name}
 use Rattle.gq_scopes.specs.Patterns.{Name, NamedVariable, Pattern, pattern_of, is_same_name}
-use Rattle.gq_binder.specs.Tested.{SharedTest, shared_test, tests}
+use Rattle.gq_binder.specs.Tested.{SharedTest, seen_elsewhere, seen_in}
 use Rattle.gq_scopes.specs.PathPatterns.{path_pattern}
 use Rattle.gq_syntax.specs.declared.Path.{Path}
-use Rattle.gq_trees.specs.Places.{has_stray}
-use Rattle.gq_trees.specs.Uses.{Use, uses, has_exists, first_name, named_again, of_other_form, refused_unless, unknown_name, unknown_function, wrong_count}
+use Rattle.gq_trees.specs.Uses.{Use, uses, first_name, named_again, of_other_form, refused_unless, unknown_name, unknown_function, wrong_count}
 use Rattle.gq_trees.specs.Resolving.{as_lists, functions, resolved}
 use Rattle.gq_binder.specs.declared.refusal.BindRefusal.{BindRefusal}
 use Rattle.gq_binder.specs.declared.refusal.BindRefusal.TheVariants as refusal
@@ -153,6 +151,14 @@ function_unknown text query = option_map refusal.UnknownFunction (first_in (λ _
 abbrev pub argument_count : List ℕ → Query → Option BindRefusal
 argument_count text query = option_map refusal.ArgumentCount (first_in (λ _. wrong_count) (expressions text query))
 
+-- ---- EXISTS
+
+-- those of a query, wherever they stand
+unfoldable pub seen : List ℕ → Query → List SharedTest
+seen text query =
+    flat_map (seen_in text) (conditions query)
+    ++ flat_map seen_elsewhere (items_in (scope_of (pattern_of query.clauses)) query.items ++ sort_trees text query)
+
 -- ---- numbers
 
 abbrev pub max_columns : ℕ
@@ -176,7 +182,7 @@ abbrev pub rels_in : List Path → ℕ
 rels_in [] = 0
 rels_in (p ∷ ps) = length p.hops + rels_in ps
 
--- those of the query's patterns and of the paths that it tests
+-- those of the query's patterns and of the paths of its EXISTS
 abbrev pub too_many_patterns : Pattern → List Path → Option BindRefusal
 too_many_patterns p paths =
     first_of_all
@@ -198,7 +204,7 @@ abbrev pub placed : List ℕ → ℕ → ℕ → Variable → Variable
 placed vs n m (node v) = node (unwrap_or (slice_get vs v) (n + v))
 placed vs n m (rel x) = rel (m + x)
 
--- what the maps of the paths of tests read, of variables behind so many
+-- what the maps of the paths read, of variables behind so many
 abbrev pub path_reads : ℕ → ℕ → List SharedTest → List Read
 path_reads n m [] = []
 path_reads n m (t ∷ ts) =
@@ -209,7 +215,7 @@ path_reads n m (t ∷ ts) =
 abbrev pub reads_alone : SharedTest → Option BindRefusal
 reads_alone t = over_limit max_reads (length (distinct (map (λ e. property e.variable e.entry.key) (path_pattern t.test.path).entries))) refusal.TooManyReads
 
--- these, and what the maps of the paths of tests read
+-- these, and what the maps of the paths read
 abbrev pub too_many_reads : List Read → Pattern → List SharedTest → Option BindRefusal
 too_many_reads rs p ts =
     first_of_all (over_limit max_reads (length (distinct (rs ++ path_reads (length p.names) (length p.rels) ts))) refusal.TooManyReads ∷ map reads_alone ts)
@@ -219,7 +225,7 @@ abbrev pub checks_of : Query → List ℕ → List (Option BindRefusal)
 checks_of query text =
     let p : Pattern = pattern_of query.clauses in
     let cs : List Column = columns functions text query in
-    let ts : List SharedTest = map shared_test (tests text query) in
+    let ts : List SharedTest = seen text query in
     not_built query p
     ∷ unknown_variable text query
     ∷ variable_conflict p
@@ -244,24 +250,15 @@ alternatives_in catalog (p ∷ ps) = length (pattern_alternatives catalog (path_
 -- how many alternatives there are
 abbrev pub too_many_alternatives : List ℕ → Query → Tables → Option BindRefusal
 too_many_alternatives text query catalog =
-    over_limit max_alternatives (length (alternatives query catalog) + alternatives_in catalog (paths_of (map shared_test (tests text query)))) refusal.TooManyAlternatives
+    over_limit max_alternatives (length (alternatives query catalog) + alternatives_in catalog (paths_of (seen text query))) refusal.TooManyAlternatives
 
 -- ---- where an EXISTS stands
 
-abbrev pub stray_in : Option Ast → Bool
-stray_in None = false
-stray_in (Some tree) = has_stray tree
-
--- it stands elsewhere than as a whole conjunct of a condition
-abbrev pub has_misplaced : Query → Bool
-has_misplaced query =
-    list_any (λ c. stray_in c.filter) query.clauses
-    || (list_any (λ i. has_exists i.tree) query.items || list_any (λ s. has_exists s.tree) query.order)
-
-abbrev pub exists_place : Query → Option BindRefusal
-exists_place query = if has_misplaced query then Some refusal.ExistsPlace else None
+-- one is no test: it stands elsewhere than as a whole conjunct of a condition
+abbrev pub exists_place : List SharedTest → Option BindRefusal
+exists_place ts = if list_all (λ t. is_some t.name) ts then None else Some refusal.ExistsPlace
 
 -- the first check that applies
 unfoldable pub first_refusal : Query → List ℕ → Tables → Option BindRefusal
 first_refusal query text catalog =
-    first_of_all (checks_of query text ++ too_many_alternatives text query catalog ∷ exists_place query ∷ [])
+    first_of_all (checks_of query text ++ too_many_alternatives text query catalog ∷ exists_place (seen text query) ∷ [])

@@ -1,5 +1,5 @@
 -- When a part of a bound query is a test of a path, and when a row passes such tests.
-use Rattle.std.specs.Prelude.{◌≡◌, ℕ, Bool, true, false, not, ◌&&◌, Option, Result, List, [], ◌∷◌, map, flat_map, filter_map, All, if◌then◌else◌}
+use Rattle.std.specs.Prelude.{◌≡◌, ℕ, ◌<◌, ◌≤◌, Bool, true, false, not, ◌&&◌, Option, Some, None, Result, List, [], ◌∷◌, ◌++◌, length, map, flat_map, filter_map, All, if◌then◌else◌}
 use Rattle.std.specs.List.{AllByRecursion}
 use Rattle.gq_base.specs.Catalogs.{Tables}
 use Rattle.gq_base.specs.Plain.{Graph}
@@ -20,6 +20,7 @@ use Rattle.gq_scopes.specs.Scopes.{is_there}
 use Rattle.gq_syntax.specs.declared.Query.{Query}
 use Rattle.gq_trees.specs.Conjuncts.{tests_of}
 use Rattle.gq_trees.specs.PathTests.{PathTest}
+use Rattle.gq_trees.specs.Places.{paths_in, strays}
 use Rattle.gq_trees.specs.Resolving.{functions, split}
 
 -- a test of a path, what it is called, and the names of the node variables that it sees
@@ -39,14 +40,26 @@ tests text query = flat_map (scoped_tests text) (conditions query)
 abbrev pub shared : ScopedTest → List ℕ
 shared t = filter_map (find_name t.names) (shared_names t.test.path)
 
--- a test, what it is called, and these variables
+-- an EXISTS and these variables of its path; what it is called, where it is a test
 pub record SharedTest : Type 0 where
-  pub name : List ℕ
+  pub name : Option (List ℕ)
   pub test : PathTest
   pub nodes : List ℕ
 
 abbrev pub shared_test : ScopedTest → SharedTest
-shared_test t = record { name = t.name; test = t.test; nodes = shared t }
+shared_test t = record { name = Some t.name; test = t.test; nodes = shared t }
+
+-- one that stands elsewhere than as a whole conjunct of a condition
+abbrev pub stray_test : List (Option Name) → PathTest → SharedTest
+stray_test names t = record { name = None; test = t; nodes = filter_map (find_name names) (shared_names t.path) }
+
+-- those of a condition: its tests, and then what is stray in it
+abbrev pub seen_in : List ℕ → Scoped → List SharedTest
+seen_in text c = map shared_test (scoped_tests text c) ++ map (stray_test c.scope.nodes) (strays c.tree)
+
+-- those of another expression
+abbrev pub seen_elsewhere : Scoped → List SharedTest
+seen_elsewhere e = map (stray_test e.scope.nodes) (paths_in e.tree)
 
 -- ---- what a row passes
 
@@ -79,3 +92,5 @@ pub record IsTested (text : List ℕ) (catalog : Tables) (t : ScopedTest) (part 
   pub alternatives : let p : Pattern = path_pattern t.test.path in
       part.alternatives ≡ map (typed_of catalog p (map (entry_test text) p.entries) []) (pattern_alternatives catalog p)
   pub sound : All (IsSound catalog) part.alternatives
+  pub has_node : All (λ y. 0 < length y.nodes) part.alternatives
+  pub wide : All (λ y. length part.nodes ≤ length y.nodes) part.alternatives

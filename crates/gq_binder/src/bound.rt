@@ -33,7 +33,7 @@ pub fn bind(
     let parts = parts_of(alloc, text, query)?;
     check(alloc, text, query, &parts)?;
     let all = few_alternatives(alloc, text, catalog, &parts)?;
-    exists_place(query)?;
+    exists_place(parts.exists.as_slice())?;
     Ok(bound_of(alloc, text, catalog, query, parts, all)?)
 }
 
@@ -67,7 +67,7 @@ fn bound_of(
     parts: QueryParts<'_>,
     all: Alternatives,
 ) -> Result<Bound, Memory>
-    requires { all.patterns ≡ map (exists_part text.now catalog.now) parts.patterns }
+    requires { all.patterns ≡ filter_map (exists_part text.now catalog.now) parts.exists }
     ensures { IfOk result (λ b.
         b ≡ bound_in text.now catalog.now query.now parts.entry all.choices) }
 {

@@ -1,5 +1,6 @@
 //! The checks of a query in their order, and those of its forms, patterns, columns and numbers, and of the places of EXISTS.
-ghost use Rattle.std.specs.Prelude.{◌≡◌, ◌++◌, ◌+◌, [], All, IfOk, OnOk, is_some, length, map};
+ghost use Rattle.std.specs.Prelude.{◌≡◌, ◌++◌, ◌+◌, [], All, IfOk, IfSome, OnOk};
+ghost use Rattle.std.specs.Prelude.{filter_map, is_some, length, map};
 ghost use Rattle.std.specs.Prelude.{nat_lt};
 ghost use Rattle.std.specs.Option.{option_map};
 ghost use Rattle.gq_alternatives.specs.Alternatives.{pattern_alternatives};
@@ -25,8 +26,7 @@ use gq_base::{Catalog, List, Memory};
 use gq_plan::{ExistsPart, NamedExpr, PropertyReads};
 use gq_scopes::{Column, MapEntry, NamedVariable, Names, Pattern, RelPattern, Variable};
 use gq_scopes::{copy_text, number};
-use gq_syntax::{Ast, Query};
-use gq_trees::{has_exists, has_stray_exists};
+use gq_syntax::Query;
 use std::alloc::Global;
 
 const MAX_VARIABLES: usize = 24;
@@ -62,7 +62,7 @@ pub fn check(
     ambiguous_order_name(alloc, query, pattern)?;
     parts.names.unknown_function(alloc)?;
     parts.names.argument_count(alloc)?;
-    too_many_patterns(pattern, parts.patterns.as_slice())?;
+    too_many_patterns(pattern, parts.exists.as_slice())?;
     too_many_reads(alloc, parts)?;
     too_many_columns(columns)
 }
@@ -205,9 +205,9 @@ fn has_many_rels(own: usize, tests: &[SharedTest<'_>]) -> bool
 fn too_many_reads(alloc: Global, parts: &QueryParts<'_>) -> Result<(), BindRefusal>
     ensures { Checks (refusals.too_many_reads
         (reads_in parts.now.tests ++ reads_in parts.now.conjuncts) parts.now.pattern
-        parts.now.patterns) result }
+        parts.now.exists) result }
 {
-    let tests = parts.patterns.as_slice();
+    let tests = parts.exists.as_slice();
     let mut reads = PropertyReads::new(alloc);
     add_reads(&mut reads, parts.tests.as_slice())?;
     add_reads(&mut reads, parts.conjuncts.as_slice())?;
@@ -345,49 +345,37 @@ pub fn few_alternatives(
     catalog: &Catalog,
     parts: &QueryParts<'_>,
 ) -> Result<Alternatives, BindRefusal>
-    requires { All (λ t. IsWholePath text.now t.test.path) parts.now.patterns }
+    requires { All (λ t. IfSome t.name (λ _. IsWholePath text.now t.test.path)) parts.now.exists }
     ensures few { Checks (over_limit max_alternatives
         (length (pattern_alternatives catalog.now parts.now.pattern)
-        + alternatives_in catalog.now (paths_of parts.now.patterns)) refusal.TooManyAlternatives)
+        + alternatives_in catalog.now (paths_of parts.now.exists)) refusal.TooManyAlternatives)
         result }
     ensures choices { IfOk result (λ all.
         all.choices ≡ pattern_alternatives catalog.now parts.now.pattern) }
     ensures patterns { IfOk result (λ all. all.patterns
-        ≡ map (exists_part text.now catalog.now) parts.now.patterns) }
+        ≡ filter_map (exists_part text.now catalog.now) parts.now.exists) }
 {
     let Some(choices) = choices_of(alloc, catalog, &parts.pattern, MAX_ALTERNATIVES)? else {
         return Err(BindRefusal::TooManyAlternatives);
     };
     let left = MAX_ALTERNATIVES - choices.len();
-    let patterns = exists_parts(alloc, text, catalog, parts.patterns.as_slice(), left)?;
+    let patterns = exists_parts(alloc, text, catalog, parts.exists.as_slice(), left)?;
     Ok(Alternatives { choices, patterns })
 }
 
-/// An EXISTS stands elsewhere than as a whole conjunct of a condition.
-pub fn exists_place(query: &Query) -> Result<(), BindRefusal>
-    ensures { Checks (refusals.exists_place query.now) result }
+/// An EXISTS is no test: it stands elsewhere than as a whole conjunct of a condition.
+pub fn exists_place(exists: &[SharedTest<'_>]) -> Result<(), BindRefusal>
+    ensures { Checks (refusals.exists_place exists.now) result }
 {
-    if has_misplaced(query) {
-        Err(BindRefusal::ExistsPlace)
-    } else {
+    if exists.iter().all(|test| is_test(test)) {
         Ok(())
+    } else {
+        Err(BindRefusal::ExistsPlace)
     }
 }
 
-fn has_misplaced(query: &Query) -> bool
-    ensures { result ≡ refusals.has_misplaced query.now }
+fn is_test(test: &SharedTest<'_>) -> bool
+    ensures { result ≡ is_some test.now.name }
 {
-    let (clauses, items) = (query.clauses.as_slice(), query.items.as_slice());
-    clauses.iter().any(|clause| is_stray_in(&clause.filter))
-        || items.iter().any(|item| has_exists(&item.tree))
-        || query.order.as_slice().iter().any(|sort| has_exists(&sort.tree))
-}
-
-fn is_stray_in(filter: &Option<Ast>) -> bool
-    ensures { result ≡ refusals.stray_in filter.now }
-{
-    match filter {
-        Some(tree) => has_stray_exists(tree),
-        None => false,
-    }
+    test.name.is_some()
 }

@@ -1,5 +1,5 @@
 //! A query bound over a catalogue: its columns, conditions, keys and typed alternatives; or why it is
-//! not, a form that is not built yet or the first of thirteen refusals. The crate stands on the names of `gq_scopes`, the expressions of
+//! not, a form that is not built yet or the first of fourteen refusals. The crate stands on the names of `gq_scopes`, the expressions of
 //! `gq_trees` and the alternatives of `gq_alternatives`.
 #![tactic(auto)]
 

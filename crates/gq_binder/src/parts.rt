@@ -1,9 +1,10 @@
 //! The parts of a query that its checks and its bound form share, each made once.
-ghost use Rattle.std.specs.Prelude.{◌≡◌, ◌++◌, map, All, IfOk, IfSome, OnOk};
+ghost use Rattle.std.specs.Prelude.{◌≡◌, ◌++◌, flat_map, map, All, IfOk, IfSome, OnOk};
 ghost use Rattle.gq_binder.specs.Columns.{columns_in, conditions_from, entry_test, scoped_in};
 ghost use Rattle.gq_binder.specs.steps.Names.{no_names, with_expressions};
-ghost use Rattle.gq_binder.specs.steps.Parts.{known_conjuncts, known_tests, parts_of};
+ghost use Rattle.gq_binder.specs.steps.Parts.{known_conjuncts, known_seen, parts_of};
 ghost use Rattle.gq_binder.specs.Refusals.{items_in, sorts_in};
+ghost use Rattle.gq_binder.specs.Tested.{seen_elsewhere};
 ghost use Rattle.gq_scopes.specs.Patterns.{no_pattern, pattern_of, with_clauses};
 ghost use Rattle.gq_trees.specs.Resolving.{functions};
 ghost use Rattle.gq_scopes.specs.Scopes.{scope_of};
@@ -13,7 +14,7 @@ ghost use Rattle.gq_syntax.specs.steps.Spans.{IsWholeClause, IsWholeEntry, Stand
 use crate::columns::columns_of;
 use crate::entries::entry_tests;
 use crate::names::FirstNames;
-use crate::path_tests::{SharedTest, push_tests};
+use crate::path_tests::{SharedTest, push_in_items, push_in_sorts, push_strays_of, push_tests};
 use gq_base::{List, Memory};
 use gq_plan::NamedExpr;
 use gq_scopes::{Column, Pattern, next};
@@ -22,14 +23,14 @@ use gq_trees::{CallForm, conjuncts_of};
 use std::alloc::Global;
 
 /// The parts of a query: its patterns, the first names that the checks of names refuse, its
-/// columns, the conjuncts of its conditions, the tests of paths among them, and the tests of the maps of its patterns.
+/// columns, the conjuncts of its conditions, its EXISTS, and the tests of the maps of its patterns.
 #[derive(Drop)]
 pub struct QueryParts<'q> {
     pub pattern: Pattern<'q>,
     pub names: FirstNames<'q>,
     pub columns: List<Column>,
     pub conjuncts: List<NamedExpr>,
-    pub patterns: List<SharedTest<'q>>,
+    pub exists: List<SharedTest<'q>>,
     pub tests: List<NamedExpr>,
 }
 
@@ -43,15 +44,16 @@ pub fn parts_of<'q>(alloc: Global, text: &[u8], query: &'q Query) -> Result<Quer
         pattern,
         mut names,
         conjuncts,
-        patterns,
+        mut exists,
     } = conditions;
     let lists = lists_of(alloc, text, query, &pattern, &mut names)?;
+    push_elsewhere(alloc, query, &pattern, &mut exists)?;
     Ok(QueryParts {
         pattern,
         names,
         columns: lists.columns,
         conjuncts,
-        patterns,
+        exists,
         tests: lists.tests,
     })
 }
@@ -91,14 +93,30 @@ fn lists_of<'q>(
     Ok(Lists { columns, tests })
 }
 
+// Appends the EXISTS of items and sort items.
+fn push_elsewhere<'q>(
+    alloc: Global,
+    query: &'q Query,
+    pattern: &Pattern<'_>,
+    exists: &mut List<SharedTest<'q>>,
+) -> Result<(), Memory>
+    ensures { OnOk result (exists.new ≡ exists.old ++ (
+        flat_map seen_elsewhere (items_in (scope_of pattern.now) query.now.items)
+        ++ flat_map seen_elsewhere (sorts_in (scope_of pattern.now) query.now.order))) }
+{
+    let scope = pattern.scope(&[])?;
+    push_in_items(alloc, &scope, exists, query.items.as_slice())?;
+    push_in_sorts(alloc, &scope, exists, query.order.as_slice())
+}
+
 // The patterns of clauses, the first names that are refused in their conditions, and the conjuncts
-// of these with the tests of paths among them.
+// of these with their EXISTS.
 #[derive(Drop)]
 struct Conditions<'q> {
     pattern: Pattern<'q>,
     names: FirstNames<'q>,
     conjuncts: List<NamedExpr>,
-    patterns: List<SharedTest<'q>>,
+    exists: List<SharedTest<'q>>,
 }
 
 #[tactic(auto, unfolding(gq_scopes::specs::Patterns::pattern_of))]
@@ -113,13 +131,13 @@ fn conditions_of<'q>(
         ≡ with_expressions no_names (conditions_from 0 no_pattern clauses.now)) }
     ensures conjuncts { IfOk result (λ c. c.conjuncts
         ≡ known_conjuncts text.now (conditions_from 0 no_pattern clauses.now)) }
-    ensures patterns { IfOk result (λ c. c.patterns
-        ≡ known_tests text.now (conditions_from 0 no_pattern clauses.now)) }
+    ensures exists { IfOk result (λ c. c.exists
+        ≡ known_seen text.now (conditions_from 0 no_pattern clauses.now)) }
 {
     let mut pattern = Pattern::new(alloc);
     let mut names = FirstNames::new();
     let mut conjuncts = List::new(alloc);
-    let mut patterns = List::new(alloc);
+    let mut exists = List::new(alloc);
     read_clauses(
         alloc,
         text,
@@ -127,19 +145,19 @@ fn conditions_of<'q>(
         &mut pattern,
         &mut names,
         &mut conjuncts,
-        &mut patterns,
+        &mut exists,
     )?;
     Ok(Conditions {
         pattern,
         names,
         conjuncts,
-        patterns,
+        exists,
     })
 }
 
 // Reads clauses behind those that were read. Each condition sees the variables of its clause and of
 // earlier ones.
-#[tactic(auto, using(crate::proofs::NameLemmas::with_expressions_append, crate::proofs::PartLemmas::known_conjuncts_append, crate::proofs::PartLemmas::known_tests_append))]
+#[tactic(auto, using(crate::proofs::NameLemmas::with_expressions_append, crate::proofs::PartLemmas::known_conjuncts_append, crate::proofs::PartLemmas::known_seen_append))]
 fn read_clauses<'q>(
     alloc: Global,
     text: &[u8],
@@ -147,7 +165,7 @@ fn read_clauses<'q>(
     pattern: &mut Pattern<'q>,
     names: &mut FirstNames<'q>,
     conjuncts: &mut List<NamedExpr>,
-    patterns: &mut List<SharedTest<'q>>,
+    exists: &mut List<SharedTest<'q>>,
 ) -> Result<(), Memory>
     requires { All (IsWholeClause text.now) clauses.now }
     ensures pattern { OnOk result (pattern.new ≡ with_clauses 0 clauses.now pattern.old) }
@@ -155,8 +173,8 @@ fn read_clauses<'q>(
         ≡ with_expressions names.old (conditions_from 0 pattern.old clauses.now)) }
     ensures conjuncts { OnOk result (conjuncts.new ≡ conjuncts.old
         ++ known_conjuncts text.now (conditions_from 0 pattern.old clauses.now)) }
-    ensures patterns { OnOk result (patterns.new ≡ patterns.old
-        ++ known_tests text.now (conditions_from 0 pattern.old clauses.now)) }
+    ensures exists { OnOk result (exists.new ≡ exists.old
+        ++ known_seen text.now (conditions_from 0 pattern.old clauses.now)) }
 {
     let mut number = 0;
     for clause in clauses {
@@ -168,7 +186,7 @@ fn read_clauses<'q>(
             &clause.filter,
             names,
             conjuncts,
-            patterns,
+            exists,
         )?;
         number = next(number)?;
     }
@@ -184,28 +202,26 @@ fn read_condition<'q>(
     filter: &'q Option<Ast>,
     names: &mut FirstNames<'q>,
     conjuncts: &mut List<NamedExpr>,
-    patterns: &mut List<SharedTest<'q>>,
+    exists: &mut List<SharedTest<'q>>,
 ) -> Result<(), Memory>
     requires { IfSome filter.now (IsWholeTree text.now) }
     ensures names { OnOk result (names.new
         ≡ with_expressions names.old (scoped_in (scope_of pattern.now) filter.now)) }
     ensures conjuncts { OnOk result (conjuncts.new
         ≡ conjuncts.old ++ known_conjuncts text.now (scoped_in (scope_of pattern.now) filter.now)) }
-    ensures patterns { OnOk result (patterns.new
-        ≡ patterns.old ++ known_tests text.now (scoped_in (scope_of pattern.now) filter.now)) }
+    ensures exists { OnOk result (exists.new
+        ≡ exists.old ++ known_seen text.now (scoped_in (scope_of pattern.now) filter.now)) }
 {
     let Some(tree) = filter else {
         return Ok(());
     };
     let scope = pattern.scope(&[])?;
     names.read(&scope, tree);
-    match conjuncts_of(alloc, text, &scope, tree)? {
-        Some(more) => {
-            push_all(conjuncts, more.values)?;
-            push_tests(alloc, &scope, patterns, more.tests)
-        }
-        None => Ok(()),
+    if let Some(more) = conjuncts_of(alloc, text, &scope, tree)? {
+        push_all(conjuncts, more.values)?;
+        push_tests(alloc, &scope, exists, more.tests)?;
     }
+    push_strays_of(alloc, &scope, exists, tree)
 }
 
 fn push_all(all: &mut List<NamedExpr>, more: List<NamedExpr>) -> Result<(), Memory>

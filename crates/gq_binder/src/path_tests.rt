@@ -1,13 +1,16 @@
-//! The tests of paths of a query, and the parts of its bound form that they give.
-ghost use Rattle.std.specs.Prelude.{◌≡◌, ◌++◌, All, map, IfOk, OnOk};
+//! The EXISTS of a query, and the parts of its bound form that those give which are tests.
+ghost use Rattle.std.specs.Prelude.{◌≡◌, ◌++◌, All, filter_map, flat_map, map, IfOk, IfSome, OnOk};
 ghost use Rattle.gq_alternatives.specs.Alternatives.{pattern_alternatives};
 ghost use Rattle.gq_binder.specs.Refusals.{alternatives_in, over_limit, paths_of};
 ghost use Rattle.gq_binder.specs.declared.refusal.BindRefusal.TheVariants as refusal;
 ghost use Rattle.gq_binder.specs.steps.Checks.{Checks};
 ghost use Rattle.gq_binder.specs.steps.Parts as steps;
 ghost use Rattle.gq_binder.specs.steps.Parts.{shared_in};
+ghost use Rattle.gq_binder.specs.Refusals.{items_in, sorts_in};
+ghost use Rattle.gq_binder.specs.Tested.{seen_elsewhere, stray_test};
 ghost use Rattle.gq_scopes.specs.PathPatterns.{path_pattern};
 ghost use Rattle.gq_syntax.specs.steps.Spans.{IsWholeEntry, IsWholePath};
+ghost use Rattle.gq_trees.specs.Places.{strays};
 
 use crate::bound::all_typed;
 use crate::entries::entry_tests;
@@ -17,14 +20,16 @@ use gq_base::{Catalog, List, Literal, Memory, Text};
 use gq_expr::Expr;
 use gq_plan::{ExistsPart, NamedExpr};
 use gq_scopes::{Pattern, Scope, copy_text, shared_variables};
-use gq_trees::{NamedTest, PathTest};
+use gq_syntax::{Ast, Item, Sort};
+use gq_trees::{NamedTest, PathTest, push_paths, push_strays};
 use std::alloc::Global;
 use std::marker::Model;
 
-/// A test of a path, what it is called, and which node variables of the query its path names.
+/// An EXISTS, and which node variables of the query its path names; what it is called, where it is
+/// a test, a whole conjunct of a condition.
 #[derive(Drop)]
 pub struct SharedTest<'q> {
-    pub name: Text,
+    pub name: Option<Text>,
     pub test: PathTest<'q>,
     pub nodes: List<u32>,
 }
@@ -58,13 +63,93 @@ pub fn push_tests<'q>(
     for named in more.into_vec() {
         let NamedTest { name, test } = named;
         let nodes = shared_variables(alloc, scope, test.path)?;
+        let name = Some(name);
         all.push(SharedTest { name, test, nodes })?;
     }
     Ok(())
 }
 
-/// The parts of a bound query that tests give, unless their paths have more alternatives than so
-/// many.
+// Appends what is no test, with the variables that its paths share with a scope.
+fn push_untested<'q>(
+    alloc: Global,
+    scope: &Scope<'_>,
+    all: &mut List<SharedTest<'q>>,
+    more: List<PathTest<'q>>,
+) -> Result<(), Memory>
+    ensures { OnOk result (all.new ≡ all.old ++ map (stray_test scope.now.nodes) more.entry) }
+{
+    for test in more.into_vec() {
+        let nodes = shared_variables(alloc, scope, test.path)?;
+        let name = None;
+        all.push(SharedTest { name, test, nodes })?;
+    }
+    Ok(())
+}
+
+/// Appends the EXISTS of a condition that are no whole conjuncts of it.
+pub fn push_strays_of<'q>(
+    alloc: Global,
+    scope: &Scope<'_>,
+    all: &mut List<SharedTest<'q>>,
+    tree: &'q Ast,
+) -> Result<(), Memory>
+    ensures { OnOk result (all.new
+        ≡ all.old ++ map (stray_test scope.now.nodes) (strays tree.now)) }
+{
+    let mut found = List::new(alloc);
+    push_strays(tree, &mut found)?;
+    push_untested(alloc, scope, all, found)
+}
+
+// Appends the EXISTS of an expression that is no condition.
+fn push_all_of<'q>(
+    alloc: Global,
+    scope: &Scope<'_>,
+    all: &mut List<SharedTest<'q>>,
+    tree: &'q Ast,
+) -> Result<(), Memory>
+    ensures { OnOk result (all.new ≡ all.old
+        ++ seen_elsewhere (record { scope = scope.now; tree = tree.now })) }
+{
+    let mut found = List::new(alloc);
+    push_paths(tree, &mut found)?;
+    push_untested(alloc, scope, all, found)
+}
+
+/// Appends the EXISTS of items.
+pub fn push_in_items<'q>(
+    alloc: Global,
+    scope: &Scope<'_>,
+    all: &mut List<SharedTest<'q>>,
+    items: &'q [Item],
+) -> Result<(), Memory>
+    ensures { OnOk result (all.new ≡ all.old
+        ++ flat_map seen_elsewhere (items_in scope.now items.now)) }
+{
+    for item in items {
+        push_all_of(alloc, scope, all, &item.tree)?;
+    }
+    Ok(())
+}
+
+/// Appends the EXISTS of sort items.
+pub fn push_in_sorts<'q>(
+    alloc: Global,
+    scope: &Scope<'_>,
+    all: &mut List<SharedTest<'q>>,
+    order: &'q [Sort],
+) -> Result<(), Memory>
+    ensures { OnOk result (all.new ≡ all.old
+        ++ flat_map seen_elsewhere (sorts_in scope.now order.now)) }
+{
+    for sort in order {
+        push_all_of(alloc, scope, all, &sort.tree)?;
+    }
+    Ok(())
+}
+
+/// The parts of a bound query that tests give, unless the paths of all EXISTS have more alternatives
+/// than so many.
 #[tactic(auto, using(crate::proofs::RefusalLemmas::within, crate::proofs::RefusalLemmas::within_more, crate::proofs::RefusalLemmas::beyond_more))]
 pub fn exists_parts(
     alloc: Global,
@@ -73,11 +158,11 @@ pub fn exists_parts(
     tests: &[SharedTest<'_>],
     most: usize,
 ) -> Result<List<ExistsPart>, BindRefusal>
-    requires { All (λ t. IsWholePath text.now t.test.path) tests.now }
+    requires { All (λ t. IfSome t.name (λ _. IsWholePath text.now t.test.path)) tests.now }
     ensures few { Checks (over_limit most (alternatives_in catalog.now (paths_of tests.now))
         refusal.TooManyAlternatives) result }
     ensures parts { IfOk result (λ parts. parts
-        ≡ map (steps.exists_part text.now catalog.now) tests.now) }
+        ≡ filter_map (steps.exists_part text.now catalog.now) tests.now) }
 {
     let mut left = most;
     let mut parts = List::new(alloc);
@@ -87,30 +172,35 @@ pub fn exists_parts(
             return Err(BindRefusal::TooManyAlternatives);
         };
         left -= choices.len();
-        let part = exists_part(alloc, text, catalog, test, &pattern, choices.as_slice())?;
+        let Some(name) = &test.name else {
+            continue;
+        };
+        let part = named_part(alloc, text, catalog, test, name, &pattern, choices.as_slice())?;
         parts.push(part)?;
     }
     Ok(parts)
 }
 
-fn exists_part(
+fn named_part(
     alloc: Global,
     text: &[u8],
     catalog: &Catalog,
     test: &SharedTest<'_>,
+    name: &Text,
     pattern: &Pattern<'_>,
     choices: &[Choice],
 ) -> Result<ExistsPart, Memory>
     requires entries { All (λ e. IsWholeEntry text.now e.entry) pattern.now.entries }
     requires pattern { pattern.now ≡ path_pattern test.now.test.path }
     requires choices { choices.now ≡ pattern_alternatives catalog.now pattern.now }
-    ensures { IfOk result (λ part. part ≡ steps.exists_part text.now catalog.now test.now) }
+    ensures { IfOk result (λ part.
+        part ≡ steps.named_part text.now catalog.now test.now name.now) }
 {
     let entries = entry_tests(alloc, text, pattern.entries())?;
     let alternatives = all_typed(alloc, catalog, pattern, entries.as_slice(), &[], choices)?;
     Ok(ExistsPart {
         text: NamedExpr {
-            name: copy_text(alloc, &test.name)?,
+            name: copy_text(alloc, name)?,
             expr: Expr::Literal(Literal::Flag(true)),
         },
         wanted: test.test.wanted,

@@ -3,6 +3,7 @@
 #![tactic(auto)]
 
 mod costs;
+mod counts;
 mod naming;
 mod pieces;
 mod plans;

@@ -160,6 +160,7 @@ module _ (c : Context) (params : List Param) (statement : List ℕ) where
     unbound query of bind.TooManyReads refused = unbound_line bind.TooManyReads (of ∙ refused)
     unbound query of bind.TooManyColumns refused = unbound_line bind.TooManyColumns (of ∙ refused)
     unbound query of bind.TooManyAlternatives refused = unbound_line bind.TooManyAlternatives (of ∙ refused)
+    unbound query of bind.ExistsPlace refused = unbound_line bind.ExistsPlace (of ∙ refused)
 
 -- ---- queries
 

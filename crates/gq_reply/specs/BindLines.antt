@@ -23,4 +23,5 @@ bind_line refusal.TooManyPatterns = refusal_line (codes "error: TooManyPatterns"
 bind_line refusal.TooManyReads = refusal_line (codes "error: TooManyReads") [] []
 bind_line refusal.TooManyColumns = refusal_line (codes "error: TooManyColumns") [] []
 bind_line refusal.TooManyAlternatives = refusal_line (codes "error: TooManyAlternatives") [] []
+bind_line refusal.ExistsPlace = refusal_line (codes "error: ExistsPlace") [] []
 bind_line refusal.Memory = refusal_line (codes "error: Memory") [] []

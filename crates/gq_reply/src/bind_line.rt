@@ -35,6 +35,7 @@ pub fn write_bind_refusal<O: Sink>(out: &mut O, refusal: &BindRefusal) -> Result
         BindRefusal::TooManyReads => alone(out, "error: TooManyReads"),
         BindRefusal::TooManyColumns => alone(out, "error: TooManyColumns"),
         BindRefusal::TooManyAlternatives => alone(out, "error: TooManyAlternatives"),
+        BindRefusal::ExistsPlace => alone(out, "error: ExistsPlace"),
         BindRefusal::Memory => alone(out, "error: Memory"),
     }
 }

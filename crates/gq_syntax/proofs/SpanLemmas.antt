@@ -38,10 +38,6 @@ module _ (text : List ℕ) where
   pub paren_whole : (t x : Ast) → (out-Ast t).node ≡ e.Paren x → Tree t → Tree x
   paren_whole t x is h = record { spans = inside t (e.Paren x) is h }
 
-  -- and what stands behind NOT
-  pub not_whole : (t x : Ast) → (out-Ast t).node ≡ e.Not x → Tree t → Tree x
-  not_whole t x is h = record { spans = inside t (e.Not x) is h }
-
   front : (ss us : List Span) → Spans (ss ++ us) → Spans ss
   front [] us h = All-nil (IsWhole text)
   front (s ∷ ss) us h = All-cons (IsWhole text) s ss (All-head (IsWhole text) s (ss ++ us) h) (front ss us (All-tail (IsWhole text) s (ss ++ us) h))

@@ -1,19 +1,21 @@
 -- The paths that conjuncts test begin and end between characters where their condition does; no check refuses a name in them where it
 -- refuses none in the condition; and then the scope has a node variable for each name of their nodes.
-use Rattle.std.proofs.Common.{◌≡◌, ◌∙◌, ℕ, Bool, true, false, not, ◌||◌, List, [], ◌∷◌, ◌++◌, map, Option, Some, None, refl, sym, ap, subst}
+use Rattle.std.proofs.Common.{◌≡◌, ◌∙◌, ℕ, All, Bool, true, false, not, ◌||◌, List, [], ◌∷◌, ◌++◌, map, Option, Some, None, refl, sym, ap, subst}
 use Rattle.std.specs.List.{AllByRecursion, list_any}
 use Rattle.std.specs.Option.{option_or}
 use Rattle.std.specs.Prelude.{if◌then◌else◌}
-use Rattle.std.proofs.lemmas.List.Elements.{recursion_from_All}
+use Rattle.std.proofs.lemmas.List.Elements.{All-same, All-tail, recursion_from_All}
 use Rattle.gq_base.proofs.OptionLaws.{or_first, or_second}
+use Rattle.gq_lexer.specs.Sources.{IsWhole}
+use Rattle.gq_lexer.specs.declared.Span.{Span}
 use Rattle.gq_plan.proofs.Each.{each_append}
 use Rattle.gq_scopes.specs.PathPatterns.{shared_names, with_name, with_names}
 use Rattle.gq_scopes.specs.Patterns.{Name, Pattern, find_name, is_called, no_pattern}
 use Rattle.gq_scopes.specs.Scopes.{Scope, is_there}
-use Rattle.gq_syntax.proofs.SpanLemmas.{and_whole, exists_whole, not_whole, paren_whole}
-use Rattle.gq_syntax.specs.Spans.{IsWholeTree}
+use Rattle.gq_syntax.proofs.SpanLemmas.{and_whole, exists_whole, paren_whole}
+use Rattle.gq_syntax.specs.Spans.{IsWholeTree, operand_spans, spans_of}
 use Rattle.gq_syntax.specs.steps.Spans.{IsWholePath}
-use Rattle.gq_syntax.specs.declared.Ast.{Ast, Ast-F, out-Ast, roll-Ast, out-roll-Ast, fold-roll-Ast}
+use Rattle.gq_syntax.specs.declared.Ast.{Ast, Ast-F, out-Ast, roll-Ast, out-roll-Ast, fold-roll-Ast, fold_out-Ast}
 use Rattle.gq_syntax.specs.declared.expression.Ast.TheShapes.{former-Ast-node as parts}
 use Rattle.gq_syntax.specs.declared.AstNode.{AstNode}
 use Rattle.gq_syntax.specs.declared.AstNode.TheVariants as ast
@@ -27,6 +29,13 @@ use Rattle.gq_trees.specs.Uses.{Use, all_uses, conflict_in, conflict_in_hops, ex
 
 at : (x : Ast-F Ast) → {n : AstNode Ast} → x.node ≡ n → (out-Ast (roll-Ast x)).node ≡ n
 at x is = ap (λ a. a.node) (out-roll-Ast x) ∙ is
+
+-- what stands behind NOT stands in the text where the whole does
+not_whole : (text : List ℕ) (t x : Ast) → (out-Ast t).node ≡ ast.Not x → IsWholeTree text t → IsWholeTree text x
+unfolding spans_of
+not_whole text t x is h =
+    let whole = All-same (IsWhole text) _ _ (sym (fold_out-Ast (List Span) (λ a. a.span ∷ operand_spans a.node) t)) h.spans in
+    record { spans = subst (λ n. All (IsWhole text) (operand_spans (parts.map Ast (List Span) spans_of n))) is (All-tail (IsWhole text) _ _ whole) }
 
 pub whole_paths : (text : List ℕ) → GoesDown (IsWholeTree text) (IsWholePath text)
 whole_paths text = record {

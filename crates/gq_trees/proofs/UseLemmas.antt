@@ -1,10 +1,8 @@
--- The equation of `uses`, with a tree opened by one level, and what is found in several lists of names and calls.
-use Rattle.std.proofs.Common.{◌≡◌, ◌∙◌, ap, refl, Bool, ◌||◌, List, [], ◌∷◌, ◌++◌, Option}
+-- The equation of `uses`, with a tree opened by one level, and what is refused in several lists of names and calls.
+use Rattle.std.proofs.Common.{◌≡◌, ◌∙◌, ap, refl, List, [], ◌∷◌, ◌++◌, Option}
 use Rattle.gq_base.proofs.OptionLaws.{or_assoc}
-use Rattle.std.specs.List.{list_any}
 use Rattle.std.specs.Option.{option_or}
 use Rattle.std.proofs.lemmas.List.{length-map}
-use Rattle.std.proofs.lemmas.List.Folds.{list_any-append}
 use Rattle.gq_syntax.specs.declared.Ast.{Ast, out-Ast, fold_out-Ast}
 use Rattle.gq_trees.proofs.Resolved.{answered, opens}
 use Rattle.gq_scopes.specs.Patterns.{Name}
@@ -28,10 +26,3 @@ first_name_all check [] = refl
 first_name_all check (us ∷ uss) = first_name_append check us (all_uses uss) ∙ ap (option_or (first_name check us)) (first_name_all check uss)
 
 pub ruleset opening = (uses_out, first_name_append, first_name_all, length-map)
-
--- one of several lists together has what passes a test where one of the lists has it
-pub any_of_all : (p : Use → Bool) (uss : List (List Use)) → list_any p (all_uses uss) ≡ list_any (list_any p) uss
-any_of_all p [] = refl
-any_of_all p (us ∷ uss) = list_any-append p us (all_uses uss) ∙ ap (λ b. list_any p us || b) (any_of_all p uss)
-
-pub ruleset looking = (uses_out, list_any-append, any_of_all)

@@ -1,7 +1,6 @@
 -- The names, calls and EXISTS of an expression, in text order, and the first name that a check refuses.
 use Rattle.std.specs.Prelude.{ℕ, nat_eq, Bool, true, false, not, ◌||◌, Option, Some, None, List, [], ◌∷◌, ◌++◌, map, flat_map, length, codes, if◌then◌else◌}
 use Rattle.gq_syntax.specs.Operands.{in_tester}
-use Rattle.std.specs.List.{list_any}
 use Rattle.std.specs.Option.{option_or}
 use Rattle.gq_syntax.specs.declared.Ast.{Ast, fold-Ast}
 use Rattle.gq_syntax.specs.declared.AstNode.{AstNode}
@@ -48,14 +47,6 @@ uses_step (ast.Product us ts) = us ++ all_uses (map term_uses ts)
 -- the names, calls and EXISTS of a tree, in text order
 unfoldable pub uses : Ast → List Use
 uses = fold-Ast (List Use) (λ a. uses_step a.node)
-
-abbrev pub is_exists : Use → Bool
-is_exists (exists path) = true
-is_exists u = false
-
--- a tree has an EXISTS
-abbrev pub has_exists : Ast → Bool
-has_exists tree = list_any is_exists (uses tree)
 
 -- the first name that a check refuses
 abbrev pub first_name : (Use → Option Name) → List Use → Option Name

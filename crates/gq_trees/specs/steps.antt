@@ -1,3 +1,4 @@
 pub mod Conjuncts
+pub mod Places
 pub mod Trees
 pub mod Uses

@@ -1,92 +1,106 @@
-//! Whether an expression has an EXISTS.
-ghost use Rattle.std.specs.Prelude.{◌≡◌, map};
-ghost use Rattle.std.specs.List.{list_any};
-ghost use Rattle.gq_syntax.specs.Operands.{in_tester};
-ghost use Rattle.gq_trees.specs.steps.Trees.{term_with, tester_with};
-ghost use Rattle.gq_trees.specs.Uses as uses;
-ghost use Rattle.gq_trees.specs.Uses.{is_exists, term_uses};
+//! The paths of the EXISTS of an expression.
+ghost use Rattle.std.specs.Prelude.{◌≡◌, ◌++◌, flat_map, OnOk};
+ghost use Rattle.gq_trees.specs.Places.{paths_in};
+ghost use Rattle.gq_trees.specs.steps.Places.{tester_paths};
 
+use crate::path_tests::PathTest;
+use gq_base::{List, Memory};
 use gq_syntax::{ArithTerm, Ast, AstNode, AstTester, CompareTerm, Tester};
 
-/// Whether an expression has an EXISTS, wherever it stands in it.
-#[cycle(has_exists)]
-#[tactic(auto, using(crate::proofs::UseLemmas::looking))]
-pub fn has_exists(tree: &Ast) -> bool
-    ensures { result ≡ uses.has_exists tree.now }
+/// Appends the path of each EXISTS of an expression, in text order, as a test whether it has a match.
+#[cycle(push_paths)]
+#[tactic(auto, using(crate::proofs::Strays::finding))]
+pub fn push_paths<'t>(tree: &'t Ast, paths: &mut List<PathTest<'t>>) -> Result<(), Memory>
+    ensures { OnOk result (paths.new ≡ paths.old ++ paths_in tree.now) }
 {
     match &tree.node {
-        AstNode::Literal(_) | AstNode::Variable(_) | AstNode::Property(_, _) => false,
-        AstNode::Exists(_) => true,
+        AstNode::Literal(_) | AstNode::Variable(_) | AstNode::Property(_, _) => Ok(()),
+        AstNode::Exists(path) => paths.push(PathTest { path, wanted: true }),
         AstNode::Call(_, all) | AstNode::Or(all) | AstNode::Xor(all) | AstNode::And(all) => {
-            one_has_exists(all.as_slice())
+            push_all_paths(all.as_slice(), paths)
         }
         AstNode::Paren(inner)
         | AstNode::Negate(inner)
         | AstNode::Plus(inner)
-        | AstNode::Not(inner) => has_exists(inner.get()),
+        | AstNode::Not(inner) => push_paths(inner.get(), paths),
         AstNode::Compare(first, terms) => {
-            has_exists(first.get()) || one_compared_has_exists(terms.as_slice())
+            push_paths(first.get(), paths)?;
+            push_compared_paths(terms.as_slice(), paths)
         }
         AstNode::Test(first, testers) => {
-            has_exists(first.get()) || one_tester_has_exists(testers.as_slice())
+            push_paths(first.get(), paths)?;
+            push_tester_paths(testers.as_slice(), paths)
         }
         AstNode::Sum(first, terms) | AstNode::Product(first, terms) => {
-            has_exists(first.get()) || one_operand_has_exists(terms.as_slice())
+            push_paths(first.get(), paths)?;
+            push_operand_paths(terms.as_slice(), paths)
         }
     }
 }
 
-#[cycle(has_exists)]
-fn one_has_exists(trees: &[Ast]) -> bool
-    ensures { result ≡ list_any (list_any is_exists) (map uses.uses trees.now) }
+#[cycle(push_paths)]
+fn push_all_paths<'t>(trees: &'t [Ast], paths: &mut List<PathTest<'t>>) -> Result<(), Memory>
+    ensures { OnOk result (paths.new ≡ paths.old ++ flat_map paths_in trees.now) }
 {
     for tree in trees {
-        if has_exists(tree) {
-            return true;
-        }
+        push_paths(tree, paths)?;
     }
-    false
+    Ok(())
 }
 
-#[cycle(has_exists)]
-fn one_compared_has_exists(terms: &[CompareTerm]) -> bool
-    ensures { let uss = map term_uses (map (term_with uses.uses) terms.now) in
-        result ≡ list_any (list_any is_exists) uss }
+#[cycle(push_paths)]
+fn push_compared_paths<'t>(
+    terms: &'t [CompareTerm],
+    paths: &mut List<PathTest<'t>>,
+) -> Result<(), Memory>
+    ensures { OnOk result (paths.new
+        ≡ paths.old ++ flat_map (λ t. paths_in t.tree) terms.now) }
 {
     for term in terms {
-        if has_exists(&term.tree) {
-            return true;
-        }
+        push_paths(&term.tree, paths)?;
     }
-    false
+    Ok(())
 }
 
-#[cycle(has_exists)]
-fn one_operand_has_exists(terms: &[ArithTerm]) -> bool
-    ensures { let uss = map term_uses (map (term_with uses.uses) terms.now) in
-        result ≡ list_any (list_any is_exists) uss }
+#[cycle(push_paths)]
+fn push_operand_paths<'t>(
+    terms: &'t [ArithTerm],
+    paths: &mut List<PathTest<'t>>,
+) -> Result<(), Memory>
+    ensures { OnOk result (paths.new
+        ≡ paths.old ++ flat_map (λ t. paths_in t.tree) terms.now) }
 {
     for term in terms {
-        if has_exists(&term.tree) {
-            return true;
-        }
+        push_paths(&term.tree, paths)?;
     }
-    false
+    Ok(())
 }
 
-#[cycle(has_exists)]
-fn one_tester_has_exists(testers: &[AstTester]) -> bool
-    ensures { let uss = map in_tester (map (tester_with uses.uses) testers.now) in
-        result ≡ list_any (list_any is_exists) uss }
+#[cycle(push_paths)]
+fn push_tester_paths<'t>(
+    testers: &'t [AstTester],
+    paths: &mut List<PathTest<'t>>,
+) -> Result<(), Memory>
+    ensures { OnOk result (paths.new ≡ paths.old ++ flat_map tester_paths testers.now) }
 {
     for tester in testers {
-        let has = match tester {
-            Tester::IsNull | Tester::IsNotNull | Tester::Member(_) => false,
-            Tester::Starts(part) | Tester::Ends(part) | Tester::Contains(part) => has_exists(part),
-        };
-        if has {
-            return true;
+        push_tester_path(tester, paths)?;
+    }
+    Ok(())
+}
+
+#[cycle(push_paths)]
+#[tactic(auto, using(crate::proofs::Strays::finding))]
+fn push_tester_path<'t>(
+    tester: &'t AstTester,
+    paths: &mut List<PathTest<'t>>,
+) -> Result<(), Memory>
+    ensures { OnOk result (paths.new ≡ paths.old ++ tester_paths tester.now) }
+{
+    match tester {
+        Tester::IsNull | Tester::IsNotNull | Tester::Member(_) => Ok(()),
+        Tester::Starts(part) | Tester::Ends(part) | Tester::Contains(part) => {
+            push_paths(part, paths)
         }
     }
-    false
 }

@@ -1,5 +1,5 @@
 //! What the trees of a query's expressions stand for: bound expressions, the conjuncts of a
-//! condition, the first name or call that a check refuses; whether one has an EXISTS; and whether two
+//! condition, the first name or call that a check refuses; the paths of its EXISTS; and whether two
 //! expressions are the same.
 //! The crate stands on the trees of `gq_syntax` and the names of `gq_scopes`.
 #![tactic(auto)]
@@ -19,12 +19,12 @@ mod uses;
 
 pub use calls::CallForm;
 pub use conjuncts::{Conjuncts, conjuncts_of};
-pub use exists::has_exists;
+pub use exists::push_paths;
 pub use made::is_made_of;
 pub use path_tests::{NamedTest, PathTest, test_of};
 pub use renames::Renamed;
 pub use resolution::{resolve, resolve_part};
 pub use sameness::same;
 pub use source::source_text;
-pub use strays::has_stray_exists;
+pub use strays::push_strays;
 pub use uses::{Check, first_refused};

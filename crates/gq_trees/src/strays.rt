@@ -1,34 +1,43 @@
-//! Whether an EXISTS stands in a condition elsewhere than as a whole conjunct.
-ghost use Rattle.std.specs.Prelude.{◌≡◌};
-ghost use Rattle.std.specs.List.{list_any};
-ghost use Rattle.gq_trees.specs.Places.{has_stray};
+//! The paths of the EXISTS that stand in a condition elsewhere than as a whole conjunct.
+ghost use Rattle.std.specs.Prelude.{◌≡◌, ◌++◌, flat_map, OnOk};
+ghost use Rattle.gq_trees.specs.Places as places;
+ghost use Rattle.gq_trees.specs.Places.{untested};
 
-use crate::exists::has_exists;
-use crate::path_tests::test_of;
+use crate::exists::push_paths;
+use crate::path_tests::{PathTest, test_of};
+use gq_base::{List, Memory};
 use gq_syntax::{Ast, AstNode};
 
-/// Whether an EXISTS stands in a condition elsewhere than as a whole conjunct, alone or inside
-/// parentheses and NOTs alone.
-#[cycle(has_stray_exists)]
+/// Appends the path of each EXISTS that stands in a condition elsewhere than as a whole conjunct,
+/// alone or inside parentheses and NOTs alone.
+#[cycle(push_strays)]
 #[tactic(auto, using(crate::proofs::Strays::straying))]
-pub fn has_stray_exists(tree: &Ast) -> bool
-    ensures { result ≡ has_stray tree.now }
+pub fn push_strays<'t>(tree: &'t Ast, paths: &mut List<PathTest<'t>>) -> Result<(), Memory>
+    ensures { OnOk result (paths.new ≡ paths.old ++ places.strays tree.now) }
 {
     match &tree.node {
-        AstNode::And(all) => one_has_stray(all.as_slice()),
-        AstNode::Paren(inner) => has_stray_exists(inner.get()),
-        _ => has_exists(tree) && test_of(tree).is_none(),
+        AstNode::And(all) => push_all_strays(all.as_slice(), paths),
+        AstNode::Paren(inner) => push_strays(inner.get(), paths),
+        _ => push_untested(tree, paths),
     }
 }
 
-#[cycle(has_stray_exists)]
-fn one_has_stray(trees: &[Ast]) -> bool
-    ensures { result ≡ list_any has_stray trees.now }
+// The paths of a condition that is one conjunct, unless it is a test.
+fn push_untested<'t>(tree: &'t Ast, paths: &mut List<PathTest<'t>>) -> Result<(), Memory>
+    ensures { OnOk result (paths.new ≡ paths.old ++ untested tree.now) }
+{
+    if test_of(tree).is_some() {
+        return Ok(());
+    }
+    push_paths(tree, paths)
+}
+
+#[cycle(push_strays)]
+fn push_all_strays<'t>(trees: &'t [Ast], paths: &mut List<PathTest<'t>>) -> Result<(), Memory>
+    ensures { OnOk result (paths.new ≡ paths.old ++ flat_map places.strays trees.now) }
 {
     for tree in trees {
-        if has_stray_exists(tree) {
-            return true;
-        }
+        push_strays(tree, paths)?;
     }
-    false
+    Ok(())
 }

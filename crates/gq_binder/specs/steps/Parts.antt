@@ -16,9 +16,10 @@ use Rattle.gq_binder.specs.Refusals.{items_in, sorts_in, first_in, not_built, va
 use Rattle.gq_binder.specs.declared.parts.QueryParts.{QueryParts}
 use Rattle.gq_binder.specs.declared.refusal.BindRefusal.{BindRefusal}
 use Rattle.gq_binder.specs.declared.refusal.BindRefusal.TheVariants as refusal
-use Rattle.gq_binder.specs.Tested.{SharedTest}
+use Rattle.gq_binder.specs.Tested.{SharedTest, seen_elsewhere, stray_test}
 use Rattle.gq_trees.specs.Conjuncts.{NamedTest, tests_of, values_of}
 use Rattle.gq_trees.specs.MadeOf.{column_exprs}
+use Rattle.gq_trees.specs.Places.{strays}
 use Rattle.gq_scopes.specs.PathPatterns.{path_pattern, shared_names}
 use Rattle.gq_scopes.specs.Patterns.{Name, Pattern, find_name, pattern_of}
 use Rattle.gq_trees.specs.Renames.{ambiguous_name}
@@ -36,16 +37,19 @@ where_known None ts = []
 where_known (Some es) ts = ts
 
 abbrev pub shared_in : List (Option Name) → NamedTest → SharedTest
-shared_in names t = record { name = t.name; test = t.test; nodes = filter_map (find_name names) (shared_names t.test.path) }
+shared_in names t = record { name = Some t.name; test = t.test; nodes = filter_map (find_name names) (shared_names t.test.path) }
 
 abbrev pub known_tests_of : List ℕ → Scoped → List SharedTest
 known_tests_of text c =
     let ks : List Conjunct = (split functions c.scope c.tree).conjuncts in
     where_known (all_some (values_of text ks)) (map (shared_in c.scope.nodes) (tests_of text ks))
 
--- the tests of conditions, of those all of whose values stand for an expression
-abbrev pub known_tests : List ℕ → List Scoped → List SharedTest
-known_tests text cs = flat_map (known_tests_of text) cs
+-- the EXISTS of a condition, its tests where all of its values stand for an expression
+abbrev pub known_seen_in : List ℕ → Scoped → List SharedTest
+known_seen_in text c = known_tests_of text c ++ map (stray_test c.scope.nodes) (strays c.tree)
+
+abbrev pub known_seen : List ℕ → List Scoped → List SharedTest
+known_seen text cs = flat_map (known_seen_in text) cs
 
 -- the parts of a query that stands in a text
 unfoldable pub parts_of : List ℕ → Query → QueryParts
@@ -57,7 +61,8 @@ parts_of text query =
           (conditions query ++ (items_in (scope_of p) query.items ++ sorts_in (sort_scope functions text query) query.order));
       columns = columns functions text query;
       conjuncts = known_conjuncts text (conditions query);
-      patterns = known_tests text (conditions query);
+      exists = known_seen text (conditions query)
+          ++ flat_map seen_elsewhere (items_in (scope_of p) query.items ++ sorts_in (sort_scope functions text query) query.order);
       tests = map (entry_test text) p.entries;
     }
 
@@ -94,20 +99,24 @@ checks_in text query parts =
     ∷ ambiguous_in query parts.pattern
     ∷ option_map refusal.UnknownFunction parts.names.function
     ∷ option_map refusal.ArgumentCount parts.names.arguments
-    ∷ too_many_patterns parts.pattern (paths_of parts.patterns)
-    ∷ too_many_reads (reads_in parts.tests ++ reads_in parts.conjuncts) parts.pattern parts.patterns
+    ∷ too_many_patterns parts.pattern (paths_of parts.exists)
+    ∷ too_many_reads (reads_in parts.tests ++ reads_in parts.conjuncts) parts.pattern parts.exists
     ∷ over_limit max_columns (length parts.columns) refusal.TooManyColumns ∷ []
 
--- the part of a bound query that a test gives
-abbrev pub exists_part : List ℕ → Tables → SharedTest → ExistsPart
-exists_part text catalog t =
+-- the part of a bound query that a test of this name gives
+abbrev pub named_part : List ℕ → Tables → SharedTest → List ℕ → ExistsPart
+named_part text catalog t name =
     let p : Pattern = path_pattern t.test.path in
     record {
-      text = record { name = t.name; expr = expr.Literal (literal.Flag true) };
+      text = record { name = name; expr = expr.Literal (literal.Flag true) };
       wanted = t.test.wanted;
       nodes = t.nodes;
       alternatives = map (typed_of catalog p (map (entry_test text) p.entries) []) (pattern_alternatives catalog p);
     }
+
+-- an EXISTS that is no test gives none
+abbrev pub exists_part : List ℕ → Tables → SharedTest → Option ExistsPart
+exists_part text catalog t = option_map (named_part text catalog t) t.name
 
 -- the bound form that the parts of a query give, with what stands for an expression
 abbrev pub bound_in : List ℕ → Tables → Query → QueryParts → List Choice → Bound
@@ -116,7 +125,7 @@ bound_in text catalog query parts choices = record {
   rel_names = parts.pattern.rel_names;
   columns = filter_map column_expr parts.columns;
   conjuncts = parts.conjuncts;
-  patterns = map (exists_part text catalog) parts.patterns;
+  patterns = filter_map (exists_part text catalog) parts.exists;
   keys = filter_map (sort_expr (record (scope_of parts.pattern) { columns = parts.columns })) query.order;
   distinct = query.distinct;
   skip = unwrap_or query.skip 0;

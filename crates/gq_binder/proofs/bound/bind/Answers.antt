@@ -2,7 +2,7 @@ use Rattle.std.proofs.Common.{All, subst, sym}
 use Rattle.std.proofs.lemmas.Result.{err_from_is_err_and}
 use Rattle.gq_binder.proofs.Checked.{parts_whole}
 use Rattle.gq_binder.specs.declared.parts.QueryParts.{QueryParts}
-use Rattle.gq_syntax.specs.steps.Spans.{IsWholePath}
+use Rattle.gq_binder.proofs.TestLemmas.{IsWholeTest}
 use Rattle.gq_syntax.proofs.Whole.{spelled_stands}
 use Rattle.gq_binder.proofs.Checked.{refused_early, refused_many, refused_last, accepted}
 use Rattle.gq_binder.proofs.bound.bind.Goals as goal
@@ -15,7 +15,7 @@ check-requires c = (spelled_stands c.args.text.now c.args.query.now c.requires).
 
 pub few_alternatives-requires : goal.few_alternatives-requires
 few_alternatives-requires c =
-    subst (λ (ps : QueryParts). All (λ t. IsWholePath c.args.text.now t.test.path) ps.patterns) (sym c.in_ok-parts.ensures)
+    subst (λ (ps : QueryParts). All (IsWholeTest c.args.text.now) ps.exists) (sym c.in_ok-parts.ensures)
     (parts_whole c.args.text.now c.args.query.now (spelled_stands c.args.text.now c.args.query.now c.requires))
 
 pub returns-in_err-check : goal.returns-in_err-check

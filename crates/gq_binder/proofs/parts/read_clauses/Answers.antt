@@ -1,5 +1,5 @@
 use Rattle.std.proofs.Common.{◌∙◌, ap}
-use Rattle.gq_binder.proofs.PartLemmas.{next_pattern, next_names, next_conjuncts, next_tests}
+use Rattle.gq_binder.proofs.PartLemmas.{next_pattern, next_names, next_conjuncts, next_seen}
 use Rattle.gq_scopes.specs.Patterns.{with_paths}
 use Rattle.gq_binder.proofs.parts.read_clauses.Goals as goal
 
@@ -10,6 +10,6 @@ loop-clause-preserved c =
     record {
       pattern = next_pattern c.args.clauses.now l.clause-index c.loop-clause-test.true c.clause-item.result c.clause-item.is l.number c.in_ok-number.number l.pattern c.push_paths.new.self c.in_ok-number.ensures paths _ l.invariant.pattern;
       names = next_names c.args.clauses.now l.clause-index c.loop-clause-test.true c.clause-item.result c.clause-item.is l.number c.in_ok-number.number l.pattern c.push_paths.new.self c.in_ok-number.ensures paths l.names c.read_condition.new.names _ c.in_ok-read_condition.ensures.names l.invariant.names;
-      patterns = next_tests c.args.clauses.now l.clause-index c.loop-clause-test.true c.clause-item.result c.clause-item.is l.number c.in_ok-number.number l.pattern c.push_paths.new.self c.in_ok-number.ensures paths c.args.text.now l.patterns c.read_condition.new.patterns _ c.in_ok-read_condition.ensures.patterns l.invariant.patterns;
+      exists = next_seen c.args.clauses.now l.clause-index c.loop-clause-test.true c.clause-item.result c.clause-item.is l.number c.in_ok-number.number l.pattern c.push_paths.new.self c.in_ok-number.ensures paths c.args.text.now l.exists c.read_condition.new.exists _ c.in_ok-read_condition.ensures.exists l.invariant.exists;
       conjuncts = next_conjuncts c.args.clauses.now l.clause-index c.loop-clause-test.true c.clause-item.result c.clause-item.is l.number c.in_ok-number.number l.pattern c.push_paths.new.self c.in_ok-number.ensures paths c.args.text.now l.conjuncts c.read_condition.new.conjuncts _ c.in_ok-read_condition.ensures.conjuncts l.invariant.conjuncts;
     }

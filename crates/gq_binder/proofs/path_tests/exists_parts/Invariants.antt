@@ -1,4 +1,5 @@
-use Rattle.std.proofs.Common.{◌≡◌, drop, map, take}
+use Rattle.std.proofs.Common.{◌≡◌, drop, take}
+use Rattle.std.specs.Prelude.{filter_map}
 use Rattle.gq_binder.specs.Refusals.{alternatives_in, over_limit, paths_of}
 use Rattle.gq_binder.specs.declared.refusal.BindRefusal.TheVariants as refusal
 use Rattle.gq_binder.specs.steps.Parts.{exists_part}
@@ -8,5 +9,5 @@ abbrev pub invariant-loop-test : goal.invariant-loop-test
 invariant-loop-test l = record {
   few : over_limit l.left (alternatives_in l.catalog (paths_of (drop l.test-index l.tests))) refusal.TooManyAlternatives
       ≡ over_limit l.most (alternatives_in l.catalog (paths_of l.tests)) refusal.TooManyAlternatives;
-  parts : l.parts ≡ map (exists_part l.text l.catalog) (take l.test-index l.tests);
+  parts : l.parts ≡ filter_map (exists_part l.text l.catalog) (take l.test-index l.tests);
 }
