@@ -1,16 +1,16 @@
 -- Lists of nodes by a row that may miss some of them.
-use Rattle.std.proofs.Common.{◌≡◌, ◌∙◌, ap, ap₂, refl, sym, ℕ, Bool, false, ◌&&◌, ◌||◌, ltb, Option, Some, None, List, [], ◌∷◌, length, map, inl, inr}
+use Rattle.std.proofs.Common.{◌≡◌, ◌∙◌, ap, ap₂, refl, sym, ℕ, Bool, false, ◌&&◌, ◌||◌, ltb, Option, Some, None, List, [], ◌∷◌, length, map, arith, inl, inr}
 use Rattle.std.specs.Prelude.{◌⊎◌}
 use Rattle.std.specs.Cmp.Lexicographic.{pointwise}
 use Rattle.std.specs.List.{list_any}
-use Rattle.std.proofs.lemmas.Bool.{and_right}
+use Rattle.std.proofs.lemmas.Bool.{and_right, le-ltb}
 use Rattle.gq_base.specs.declared.NodeId.{NodeId}
 use Rattle.gq_plan.specs.Allowed.{at_same}
 use Rattle.gq_plan.specs.Assignments.{same_node}
 use Rattle.gq_plan.specs.Keys.{has_key, same_nodes}
 use Rattle.gq_exists.specs.declared.keys.Link.{Link}
-use Rattle.gq_exists.specs.steps.Levels.{AreLevels, is_path, is_path_at, link, place, roots}
-use Rattle.gq_exists.proofs.Paths.{all, has_path}
+use Rattle.gq_exists.specs.steps.Levels.{AreLevels, is_path, is_path_at, link, place, roots, same_link}
+use Rattle.gq_exists.proofs.Paths.{absent, all, has_path}
 
 -- the nodes are these
 abbrev Are : List (Option NodeId) → List NodeId → Bool
@@ -81,3 +81,10 @@ has_path_at any levels os a = go (given os)
         ap (λ l. any && is_path_at levels 0 l) e ∙ ap (λ b. any && b) (path_there levels 0 key) ∙ has_path any levels key a
         ∙ (λ i. list_any (λ k. sym (ap (λ l. Are l k) e ∙ are_same key k) i) (all any levels))
     go (inr m) = and_right any (is_path_at levels 0 os) (m.no_path levels 0) ∙ sym (none_any (Are os) m.none (all any levels))
+
+-- no list goes on where a link is not there
+pub no_link_at : (links : List Link) (levels : List (List Link)) (k : Link) (front : ℕ) (n : NodeId) (os : List (Option NodeId)) → k ≡ link front n → false ≡ list_any (same_link k) links
+    → false ≡ is_path_at (links ∷ levels) front (Some n ∷ os)
+no_link_at links levels k front n os is none =
+    let at_end = absent (same_link (link front n)) links (ap (λ l. list_any (same_link l) links) (sym is) ∙ sym none) in
+    sym (ap (λ b. b && is_path_at levels (place links (link front n)) os) (le-ltb (place links (link front n)) (length links) (omega (arith, at_end))))

@@ -144,7 +144,7 @@ full_false : (w : ℕ) (any : Bool) → (nat_eq w 0 && any) ≡ false → w ≡ 
 full_false zero any e z = e
 full_false (suc w) any e z = absurd (omega (arith, z))
 
-module _ (g : Graph) (y : Typed) (p : code.Plan) (ys : List Typed) (ps : List code.Plan) (old mid : Gathering) (is : IsGathering old) (open : is_full_at old ≡ false)
+module _ (g : Graph) (y : Typed) (p : code.Plan) (ys : List Typed) (ps : List code.Plan) (old mid : Gathering) (is : IsGathering old) (room : is_full_at old ≡ false)
     (took : TakesOn (made_keys g y old.width p) old mid) where
   goes_on : (w : ℕ) (any : Bool) (ms : List plain.Assignment) (more : List Spent) → (w ≡ 0 → any ≡ some_rows ms) → SpendsEach (nat_eq w 0 && any) w g ys (map plan_of ps) more
       → GoesOn w ms (HasSpentEach w g ys (map plan_of ps) more) more
@@ -161,10 +161,10 @@ module _ (g : Graph) (y : Typed) (p : code.Plan) (ys : List Typed) (ps : List co
     more = one.own ∷ more.more;
     all = more.all ∙ ap (λ l. l ++ more.more) one.all ∙ append_assoc before (one.own ∷ []) more.more;
     each =
-        subst (λ b. SpendsEach b old.width g (y ∷ ys) (plan_of p ∷ map plan_of ps) (one.own ∷ more.more)) (sym open)
+        subst (λ b. SpendsEach b old.width g (y ∷ ys) (plan_of p ∷ map plan_of ps) (one.own ∷ more.more)) (sym room)
         (one.is,
         goes_on old.width mid.keys.any (meaning g y (plan_of p)) more.more
-        (λ z. stands_now g y p old mid is z (full_false old.width old.keys.any open z) took)
+        (λ z. stands_now g y p old mid is z (full_false old.width old.keys.any room z) took)
         (subst (λ w. SpendsEach (nat_eq w 0 && mid.keys.any) w g ys (map plan_of ps) more.more) took.width more.each));
   }
 
