@@ -126,18 +126,18 @@ module _ (g : Graph) where
   many_asks most (t ∷ ts) [] = refl
   many_asks most (t ∷ ts) (part ∷ parts) = ap (λ b. has_many_keys g most t part || b) (many_asks most ts parts)
 
+abbrev called : List ℕ → Conjunct → PathTest → NamedTest
+called text c t = record { name = source_text text c.span; test = t }
+
 -- what they are called plays no part
 named_alike : (text : List ℕ) (cs : List Conjunct)
     → map (λ (t : NamedTest). t.test) (filter_map (named_test text) cs) ≡ map (λ (t : NamedTest). t.test) (filter_map (named_test []) cs)
 named_alike text [] = refl
 named_alike text (c ∷ cs) = go c.test (named_alike text cs)
   where
-    abbrev called : List ℕ → PathTest → NamedTest
-    called from t = record { name = source_text from c.span; test = t }
-
     go : (o : Option PathTest) → map (λ (t : NamedTest). t.test) (filter_map (named_test text) cs) ≡ map (λ (t : NamedTest). t.test) (filter_map (named_test []) cs)
-        → map (λ (t : NamedTest). t.test) (cons_option (option_map (called text) o) (filter_map (named_test text) cs))
-        ≡ map (λ (t : NamedTest). t.test) (cons_option (option_map (called []) o) (filter_map (named_test []) cs))
+        → map (λ (t : NamedTest). t.test) (cons_option (option_map (called text c) o) (filter_map (named_test text) cs))
+        ≡ map (λ (t : NamedTest). t.test) (cons_option (option_map (called [] c) o) (filter_map (named_test []) cs))
     go None more = more
     go (Some t) more = ap (λ l. t ∷ l) more
 

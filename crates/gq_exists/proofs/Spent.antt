@@ -161,11 +161,12 @@ module _ (g : Graph) (y : Typed) (p : code.Plan) (ys : List Typed) (ps : List co
     more = one.own ∷ more.more;
     all = more.all ∙ ap (λ l. l ++ more.more) one.all ∙ append_assoc before (one.own ∷ []) more.more;
     each =
-        subst (λ b. SpendsEach b old.width g (y ∷ ys) (plan_of p ∷ map plan_of ps) (one.own ∷ more.more)) (sym room)
-        (one.is,
-        goes_on old.width mid.keys.any (meaning g y (plan_of p)) more.more
-        (λ z. stands_now g y p old mid is z (full_false old.width old.keys.any room z) took)
-        (subst (λ w. SpendsEach (nat_eq w 0 && mid.keys.any) w g ys (map plan_of ps) more.more) took.width more.each));
+        subst (λ b. SpendsEach b old.width g (y ∷ ys) (plan_of p ∷ map plan_of ps) (one.own ∷ more.more)) (sym room) (
+          one.is,
+          goes_on old.width mid.keys.any (meaning g y (plan_of p)) more.more
+              (λ z. stands_now g y p old mid is z (full_false old.width old.keys.any room z) took)
+              (subst (λ w. SpendsEach (nat_eq w 0 && mid.keys.any) w g ys (map plan_of ps) more.more) took.width more.each),
+        );
   }
 
 -- no pipeline ran

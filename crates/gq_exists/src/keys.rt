@@ -121,12 +121,7 @@ fn is_found(levels: &[IndexSet<Link>], front: usize, key: &[NodeId]) -> bool
 }
 
 // Whether the nodes that a row has at some variables lead on from a front through all levels.
-fn is_found_at<R: Assigned>(
-    levels: &[IndexSet<Link>],
-    front: usize,
-    nodes: &[u32],
-    row: &R,
-) -> bool
+fn is_found_at<R: Assigned>(levels: &[IndexSet<Link>], front: usize, nodes: &[u32], row: &R) -> bool
     ensures { let here = map (R.assignment row.now).nodes nodes.now in
         result ≡ is_path_at (links_of levels.now) front here }
 {
