@@ -1,6 +1,7 @@
 -- What pipelines spend that run for keys.
 use Rattle.std.proofs.Common.{◌≡◌, ◌≢◌, ◌∙◌, ap, ap₂, refl, sym, subst, ℕ, zero, suc, ◌+◌, ◌-◌, ◌^◌, ◌<◌, ◌≤◌, min, Bool, true, false, not, ◌&&◌, nat_eq, Option, Some, List, [], ◌∷◌, ◌++◌, length, map, arith, length-append, append_assoc, append-nil, true≢false}
 use Rattle.std.specs.Prelude.{IsPermutation, OnOk, Result, Ok, Err}
+use Rattle.std.proofs.lemmas.Bool.Decides.{nat_tests}
 use Rattle.std.proofs.lemmas.List.{length-map}
 use Rattle.std.proofs.lemmas.List.Sorted.{length_permutation}
 use Rattle.gq_base.specs.Plain.{Graph}
@@ -123,7 +124,7 @@ has_root : (any : Bool) → has_key [] (roots any) ≡ any
 has_root true = refl
 has_root false = refl
 
-some_rows : List plain.Assignment → Bool
+abbrev some_rows : List plain.Assignment → Bool
 some_rows [] = false
 some_rows (m ∷ ms) = true
 
@@ -140,6 +141,9 @@ stands_now g y p old mid is z none took =
     sym (has_root mid.keys.any) ∙ ap (has_key []) (sym (no_levels mid.keys.any mid.keys.levels.items (took.is.wide ∙ took.width ∙ z))) ∙ here.same []
     ∙ has_some old.width z (meaning g y (plan_of p))
 
+not_zero : (w : ℕ) → nat_eq (suc w) 0 ≡ false
+not_zero w = grind (arith, nat_tests)
+
 full_false : (w : ℕ) (any : Bool) → (nat_eq w 0 && any) ≡ false → w ≡ 0 → any ≡ false
 full_false zero any e z = e
 full_false (suc w) any e z = absurd (omega (arith, z))
@@ -152,7 +156,7 @@ module _ (g : Graph) (y : Typed) (p : code.Plan) (ys : List Typed) (ps : List co
   goes_on zero false [] more h e = e
   goes_on zero true (m ∷ ms) more h e = e
   goes_on zero false (m ∷ ms) more h e = absurd (true≢false (sym (h refl)))
-  goes_on (suc w) any ms more h e = e
+  goes_on (suc w) any ms more h e = subst (λ b. SpendsEach (b && any) (suc w) g ys (map plan_of ps) more) (not_zero w) e
 
   -- the pipelines of the others stand behind that of the first
   pub each_spent : (before between after : List Spent) → HasSpentOne old.width g y (plan_of p) before between → HasSpentMore (is_full_at mid) mid.width g ys (map plan_of ps) between after

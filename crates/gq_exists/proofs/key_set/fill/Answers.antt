@@ -73,6 +73,6 @@ returns-then-gathering-eq0-clause-ran c =
 
 pub returns-clause-ran : goal.returns-clause-ran
 returns-clause-ran c =
-    let stood = λ z. c.chunks.invariant.fresh (c.chunks.invariant.filled.took.width ∙ z) in
+    let stood : c.args.gathering.now.width ≡ 0 → c.chunks.pipeline.chunks ≡ 0 = λ z. c.chunks.invariant.fresh (c.chunks.invariant.filled.took.width ∙ z) in
     run_out c.args.pipeline.now c.chunks.pipeline c.advance.new.self c.chunks.invariant.counted c.args.gathering.now.width stood (c.advance.ensures.none c.chunks-test.false) (c.advance.ensures.no_keys c.chunks-test.false)
     (c.advance.ensures.chunks ∙ ap (λ t. counted t c.chunks.pipeline.chunks) c.chunks-test.false)
