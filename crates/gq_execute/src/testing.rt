@@ -67,7 +67,7 @@ impl<'q> Tests<'q> {
 
     /// What was spent to find the keys, test by test.
     pub(crate) fn into_spent(self, alloc: Global) -> Result<List<Spent>, Memory>
-        ensures { IfOk result (λ spent. spent ≡ flat_map (λ s. s) (spent_on self.all)) }
+        ensures { IfOk result (λ spent. spent ≡ flat_map (λ s. s) (spent_on self.entry.all)) }
     {
         let Tests { all } = self;
         let mut spent = List::new(alloc);
