@@ -41,22 +41,22 @@ filtered f p (x ∷ xs) = go (p x) (filtered f p xs)
     go false more = more
 
 module _ (admitted : Admission) (g : Graph) (b : Bound) (y : Typed) where
-  abbrev one : Assignment → List (Result Row Fault)
-  one t = found (outcome_by g b (late_conjuncts b y) (row_of t))
+  abbrev found_of : Assignment → List (Result Row Fault)
+  found_of t = found (outcome_by g b (late_conjuncts b y) (row_of t))
 
-  abbrev here : Assignment → Bool
-  here t = admitted (row_of t)
+  abbrev passes : Assignment → Bool
+  passes t = admitted (row_of t)
 
   -- the outcomes of some assignments, and of more
   pub outcomes_append : (ts us : List Assignment) → outcomes_by admitted g b y (ts ++ us) ≡ outcomes_by admitted g b y ts ++ outcomes_by admitted g b y us
-  outcomes_append ts us = ap (flat_map one) (filter-append here ts us) ∙ flat_map-append one (filter here ts) (filter here us)
+  outcomes_append ts us = ap (flat_map found_of) (filter-append passes ts us) ∙ flat_map-append found_of (filter passes ts) (filter passes us)
 
   -- in another order
   pub outcomes_bag : (ts us : List Assignment) → IsPermutation ts us → IsPermutation (outcomes_by admitted g b y ts) (outcomes_by admitted g b y us)
   outcomes_bag ts us bag =
-      let each : Assignment → List (Result Row Fault) = λ t. cond (here t) (one t) [] in
-      subst (λ l. IsPermutation l (outcomes_by admitted g b y us)) (sym (filtered one here ts))
-      (subst (IsPermutation (flat_map each ts)) (sym (filtered one here us)) (permuted_flat_map each ts us bag))
+      let each : Assignment → List (Result Row Fault) = λ t. cond (passes t) (found_of t) [] in
+      subst (λ l. IsPermutation l (outcomes_by admitted g b y us)) (sym (filtered found_of passes ts))
+      (subst (IsPermutation (flat_map each ts)) (sym (filtered found_of passes us)) (permuted_flat_map each ts us bag))
 
   -- of a chunk that is told by another bound query and a table of the same
   pub outcomes_here : (b' : Bound) (o : Option Typed) (c : Chunk) → b' ≡ b → o ≡ Some y → admitted_outcomes admitted g b' o c ≡ outcomes_by admitted g b y (assignments_of g y c)
