@@ -1,5 +1,5 @@
 -- How a query with tests of paths ends: no turn comes, a test is refused, or tests are made and turns taken.
-use Rattle.std.proofs.Common.{◌≡◌, ◌∙◌, ap, refl, sym, subst, ℕ, ◌≤◌, Bool, true, false, cond, ◌&&◌, ◌||◌, IsTrue, List, [], ◌∷◌, ◌++◌, flat_map, length, map, arith, Err, inl, inr, true≢false}
+use Rattle.std.proofs.Common.{◌≡◌, ◌∙◌, ap, refl, sym, subst, ℕ, ◌≤◌, Bool, true, false, cond, ◌&&◌, ◌||◌, IsTrue, Some, slice_get, List, [], ◌∷◌, ◌++◌, flat_map, length, map, arith, Err, inl, inr, true≢false}
 use Rattle.std.specs.Prelude.{◌⊎◌, nat_eq}
 use Rattle.std.specs.List.{AllZip}
 use Rattle.std.proofs.lemmas.Bool.{eqb-true}
@@ -23,7 +23,7 @@ use Rattle.gq_execute.specs.declared.settings.Order.{Order}
 use Rattle.gq_execute.specs.declared.settings.Settings.{Settings}
 use Rattle.gq_execute.specs.declared.testing.Test.{Test}
 use Rattle.gq_execute.specs.steps.Answering.{AnswersWith, FillsWith, IsFresh}
-use Rattle.gq_execute.specs.steps.Testing.{AreTestsOf, RefusesTests, spent_on}
+use Rattle.gq_execute.specs.steps.Testing.{AreTestsOf, RefusesTest, RefusesTests, spent_on}
 use Rattle.gq_execute.proofs.Going.{came_start, spends_none}
 use Rattle.gq_execute.proofs.Parted.{bound_parted, heavy_tests, light_tests}
 use Rattle.gq_execute.proofs.Replying.{none_full, none_there, test_permitted, turns_come}
@@ -90,3 +90,9 @@ module _ (g : Graph) (b : Bound) (settings : Settings) (t : Table) (real : IsTru
       all = all;
       light = λ query text is. light_tests (asked query) text real is tests are;
     }
+
+-- a refusal of a part's test is one of the tests
+pub one_refuses : (g : Graph) (most : ℕ) (parts : List ExistsPart) (k : ℕ) (part : ExistsPart) (e : AnswerRefusal) → slice_get parts k ≡ Some part → RefusesTest g most part e → RefusesTests g most parts e
+one_refuses g most parts k part (refusal.TooManyRows limit) there h = (h.0, record { number = k; part = part; there = there; has = h.1 })
+one_refuses g most parts k part (refusal.Fault f) there h = h
+one_refuses g most parts k part refusal.Memory there h = tt

@@ -170,7 +170,7 @@ pub taken_more : (admitted : Admission) (g : Graph) (b : Bound) (order : Order) 
 taken_more admitted g b order y old new some run = (some.0 ++ run.meets.cut.pushed, run.meets.stands some.0 some.1)
 
 -- the alternative of a number
-pub item_at : (ys : List Typed) (k : ℕ) (y : Typed) → k < length ys → y ≡ get_or ys k y → slice_get ys k ≡ Some y
+pub item_at : {X : Type 0} (ys : List X) (k : ℕ) (y : X) → k < length ys → y ≡ get_or ys k y → slice_get ys k ≡ Some y
 item_at [] k y lt e = absurd (omega (arith, lt))
 item_at (z ∷ ys) zero y lt e = ap Some (sym e)
 item_at (z ∷ ys) (suc k) y lt e = item_at ys k y (omega (arith, lt)) e

@@ -106,7 +106,7 @@ abbrev asks : List ScopedTest → List PathTest
 asks ts = map (λ (t : ScopedTest). t.test) ts
 
 module _ (g : Graph) where
-  met_by : List PathTest → List ExistsPart → reading.Assignment → Bool
+  abbrev met_by : List PathTest → List ExistsPart → reading.Assignment → Bool
   met_by [] parts row = true
   met_by (t ∷ ts) [] row = true
   met_by (t ∷ ts) (part ∷ parts) row = is_met g (unnamed t) part.nodes row && met_by ts parts row
@@ -116,7 +116,7 @@ module _ (g : Graph) where
   met_asks (t ∷ ts) [] row = refl
   met_asks (t ∷ ts) (part ∷ parts) row = ap (λ b. is_met g t part.nodes row && b) (met_asks ts parts row)
 
-  many_by : ℕ → List PathTest → List ExistsPart → Bool
+  abbrev many_by : ℕ → List PathTest → List ExistsPart → Bool
   many_by most [] parts = false
   many_by most (t ∷ ts) [] = false
   many_by most (t ∷ ts) (part ∷ parts) = has_many_keys g most (unnamed t) part || many_by most ts parts

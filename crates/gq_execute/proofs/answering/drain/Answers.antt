@@ -18,7 +18,7 @@ chunks-init c = record {
   slots = refl;
   room = c.requires.room;
   some = c.requires.stands;
-  came = pushed_none _ _ _;
+  came = pushed_none _ _ _ _;
   counted = counted_none _ _ c.requires.fresh;
 }
 
