@@ -1,8 +1,9 @@
 -- How a query with tests of paths ends: no turn comes, a test is refused, or tests are made and turns taken.
-use Rattle.std.proofs.Common.{◌≡◌, ◌∙◌, ap, refl, sym, subst, ℕ, ◌≤◌, Bool, true, false, cond, ◌&&◌, ◌||◌, IsTrue, Some, slice_get, List, [], ◌∷◌, ◌++◌, flat_map, length, map, arith, Err, inl, inr, true≢false}
-use Rattle.std.specs.Prelude.{◌⊎◌, nat_eq}
+use Rattle.std.proofs.Common.{◌≡◌, ◌∙◌, ap, refl, sym, subst, ℕ, suc, ◌≤◌, Bool, true, false, cond, ◌&&◌, ◌||◌, IsTrue, Some, slice_get, List, [], ◌∷◌, ◌++◌, flat_map, length, map, arith, Err, inl, inr, true≢false}
+use Rattle.std.specs.Prelude.{◌⊎◌, ◌↔◌, nat_eq}
 use Rattle.std.specs.List.{AllZip}
 use Rattle.std.proofs.lemmas.Bool.{eqb-true}
+use Rattle.std.proofs.lemmas.Bool.Decides.{nat_tests}
 use Rattle.gq_base.specs.Lists.{is_empty}
 use Rattle.gq_base.specs.Plain.{Graph}
 use Rattle.gq_base.specs.Valid.{is_valid}
@@ -96,3 +97,13 @@ pub one_refuses : (g : Graph) (most : ℕ) (parts : List ExistsPart) (k : ℕ) (
 one_refuses g most parts k part (refusal.TooManyRows limit) there h = (h.0, record { number = k; part = part; there = there; has = h.1 })
 one_refuses g most parts k part (refusal.Fault f) there h = h
 one_refuses g most parts k part refusal.Memory there h = tt
+
+-- whether a list is empty, as its test tells it
+pub empty_tells : {X : Type 0} (xs : List X) (r : Bool) → (IsTrue r ↔ (xs ≡ [])) → is_empty xs ≡ r
+empty_tells [] true h = refl
+empty_tells [] false h = absurd (true≢false (sym (h.1 refl)))
+empty_tells (x ∷ xs) true h = absurd (omega (arith, ap length (h.0 refl)))
+empty_tells (x ∷ xs) false h = not_zero (length xs)
+  where
+    not_zero : (n : ℕ) → nat_eq (suc n) 0 ≡ false
+    not_zero n = grind (arith, nat_tests)

@@ -6,7 +6,7 @@ use Rattle.gq_rows.specs.Tables.{is_full_table}
 use Rattle.gq_execute.specs.Spending.{IsSpentOn}
 use Rattle.gq_execute.specs.steps.Answering.{AnswersWith}
 use Rattle.gq_execute.specs.steps.Testing.{AreTestsOf, RefusesTests, spent_on}
-use Rattle.gq_execute.proofs.Ending.{all_done, nothing_done, test_refused}
+use Rattle.gq_execute.proofs.Ending.{all_done, empty_tells, nothing_done, test_refused}
 use Rattle.gq_execute.proofs.answering.fill.Goals as goal
 use Rattle.gq_execute.proofs.answering.fill.Goals.{then-is_empty-via-then-is_empty, then-is_empty-via-else-is_empty+then-enough}
 
@@ -16,7 +16,7 @@ returns-then-is_empty-clause-answers c =
     let b = c.args.bound.now in
     let t = c.args.table.now in
     let over : (is_empty b.alternatives ≡ true) ⊎ (is_full_table t ≡ true) =
-    elim c.then-is_empty.branch [ then-is_empty-via-then-is_empty w ↦ inl (sym c.is_empty.ensures ∙ w.if-is_empty.true) | then-is_empty-via-else-is_empty+then-enough w ↦ inr (sym w.enough.ensures ∙ w.if-enough.true) ] in
+    elim c.then-is_empty.branch [ then-is_empty-via-then-is_empty w ↦ inl (empty_tells b.alternatives c.is_empty.result c.is_empty.ensures ∙ w.if-is_empty.true) | then-is_empty-via-else-is_empty+then-enough w ↦ inr (sym w.enough.ensures ∙ w.if-enough.true) ] in
     subst (AnswersWith g b c.args.settings.now t) (sym c.new.ensures) (nothing_done g b c.args.settings.now t c.catalog.ensures.valid c.requires.fresh over)
 
 pub returns-in-Err-clause-answers : goal.returns-in-Err-clause-answers
@@ -24,7 +24,7 @@ returns-in-Err-clause-answers c =
     let g = c.args.graph.now in
     let b = c.args.bound.now in
     let settings = c.args.settings.now in
-    let some : is_empty b.alternatives ≡ false = sym c.is_empty.ensures ∙ c.if-is_empty.false in
+    let some : is_empty b.alternatives ≡ false = empty_tells b.alternatives c.is_empty.result c.is_empty.ensures ∙ c.if-is_empty.false in
     let room : is_full_table c.args.table.now ≡ false = sym c.enough.ensures ∙ c.if-enough.false in
     test_refused g b settings c.args.table.now c.catalog.ensures.valid c.requires.fresh some room c.in-Err.refusal
     (subst (λ parts. RefusesTests g settings.rows parts c.in-Err.refusal) c.as_slice-parts.ensures c.in-Err.ensures.refused)
@@ -34,7 +34,7 @@ returns-clause-answers c =
     let g = c.args.graph.now in
     let b = c.args.bound.now in
     let settings = c.args.settings.now in
-    let some : is_empty b.alternatives ≡ false = sym c.is_empty.ensures ∙ c.if-is_empty.false in
+    let some : is_empty b.alternatives ≡ false = empty_tells b.alternatives c.is_empty.result c.is_empty.ensures ∙ c.if-is_empty.false in
     let room : is_full_table c.args.table.now ≡ false = sym c.enough.ensures ∙ c.if-enough.false in
     let tests = c.in-Ok.tests.all in
     all_done g b settings c.args.table.now c.catalog.ensures.valid c.requires.fresh some room c.take_turns.new.table tests c.in-Ok-take_turns.turns c.append.new.spent
