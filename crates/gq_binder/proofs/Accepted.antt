@@ -187,8 +187,8 @@ module _ (s : Scope) where
   abbrev trees : List Part → List Ast
   trees qs = map (λ q. q.0) qs
 
-  abbrev seen : AstNode Part → AstNode Ast
-  seen n = parts.map Part Ast (λ q. q.0) n
+  abbrev at_trees : AstNode Part → AstNode Ast
+  at_trees n = parts.map Part Ast (λ q. q.0) n
 
   members : (qs : List Part) → IsKnown (all_some (map go (trees qs))) → AllByRecursion IsKnownConjunct (flat_map (λ part. part.conjuncts) (map cut (trees qs)))
   members [] h = tt
@@ -196,7 +196,7 @@ module _ (s : Scope) where
       each_append IsKnownConjunct (cut q.0).conjuncts (flat_map (λ part. part.conjuncts) (map cut (trees qs)))
       (q.1 (first_known (go q.0) (all_some (map go (trees qs))) h)) (members qs (rest_known (go q.0) (all_some (map go (trees qs))) h))
 
-  level : (n : AstNode Part) (whole : Conjunct) → IsKnown whole.expr → IsKnown (resolve_step functions s (parts.map Ast (Option Expr) go (seen n))) → AllByRecursion IsKnownConjunct (split_node (parts.map Ast Split cut (seen n)) whole)
+  level : (n : AstNode Part) (whole : Conjunct) → IsKnown whole.expr → IsKnown (resolve_step functions s (parts.map Ast (Option Expr) go (at_trees n))) → AllByRecursion IsKnownConjunct (split_node (parts.map Ast Split cut (at_trees n)) whole)
   level (ast.Literal l) whole k h = (k, tt)
   level (ast.Variable name) whole k h = (k, tt)
   level (ast.Property name key) whole k h = (k, tt)

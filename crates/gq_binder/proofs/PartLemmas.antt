@@ -1,12 +1,12 @@
 -- The names and conjuncts of some conditions and then others.
-use Rattle.std.proofs.Common.{◌≡◌, ◌∙◌, ℕ, suc, ◌+◌, ◌<◌, List, [], ◌∷◌, ◌++◌, map, flat_map, length, drop, get_or, drop-cons, add-one, append_assoc, refl, sym, ap, ap₂}
+use Rattle.std.proofs.Common.{◌≡◌, ◌∙◌, ℕ, suc, ◌+◌, ◌<◌, List, [], ◌∷◌, ◌++◌, map, flat_map, length, drop, get_or, drop-cons, add-one, append_assoc, append-nil, refl, sym, ap, ap₂}
 use Rattle.std.specs.Prelude.{unwrap_or}
 use Rattle.std.proofs.lemmas.Grind.{flat_map-append}
 use Rattle.gq_binder.proofs.NameLemmas.{with_expressions_append}
 use Rattle.gq_binder.specs.Columns.{Scoped, columns_in, conditions, conditions_from, entry_test, scoped_in}
 use Rattle.gq_binder.specs.steps.Names.{FirstNames, no_names, with_expressions}
 use Rattle.gq_binder.specs.Tested.{SharedTest, seen_elsewhere, stray_test}
-use Rattle.gq_binder.specs.steps.Parts.{known_conjuncts, known_seen, known_seen_in, parts_of}
+use Rattle.gq_binder.specs.steps.Parts.{known_conjuncts, known_seen, known_seen_in, known_tests_of, parts_of}
 use Rattle.gq_binder.specs.Refusals.{items_in, sorts_in}
 use Rattle.gq_plan.specs.declared.NamedExpr.{NamedExpr}
 use Rattle.gq_trees.specs.Conjuncts.{values_of}
@@ -17,13 +17,19 @@ use Rattle.gq_scopes.specs.declared.Column.{Column}
 use Rattle.gq_syntax.specs.declared.Clause.{Clause}
 use Rattle.gq_syntax.specs.declared.Query.{Query}
 use Rattle.gq_syntax.specs.declared.Sort.{Sort}
-use Rattle.gq_trees.specs.Places.{paths_in}
+use Rattle.gq_trees.specs.Places.{paths_in, strays}
 
 pub known_conjuncts_append : (text : List ℕ) (cs ds : List Scoped) → known_conjuncts text (cs ++ ds) ≡ known_conjuncts text cs ++ known_conjuncts text ds
 known_conjuncts_append text cs ds = flat_map-append (λ c. unwrap_or (all_some (values_of text (split functions c.scope c.tree).conjuncts)) []) cs ds
 
 pub known_seen_append : (text : List ℕ) (cs ds : List Scoped) → known_seen text (cs ++ ds) ≡ known_seen text cs ++ known_seen text ds
 known_seen_append text cs ds = flat_map-append (known_seen_in text) cs ds
+
+-- the tests of a condition, and then what is stray in it
+pub condition_seen : (text : List ℕ) (c : Scoped) (old mid new : List SharedTest) → mid ≡ old ++ known_tests_of text c → new ≡ mid ++ map (stray_test c.scope.nodes) (strays c.tree) → new ≡ old ++ known_seen text (c ∷ [])
+condition_seen text c old mid new e d =
+    let strayed : List SharedTest = map (stray_test c.scope.nodes) (strays c.tree) in
+    d ∙ ap (λ l. l ++ strayed) e ∙ append_assoc old (known_tests_of text c) strayed ∙ ap (λ l. old ++ l) (sym (append-nil (known_tests_of text c ++ strayed)))
 
 -- one more clause of several
 module _ (clauses : List Clause) (at : ℕ) (more : at < length clauses) (c : Clause) (is : c ≡ get_or clauses at c) where

@@ -1,7 +1,6 @@
 -- What stays of a limit on alternatives as tests are gone through.
-use Rattle.std.proofs.Common.{◌≡◌, ◌∙◌, ℕ, suc, ◌+◌, ◌-◌, ◌<◌, Option, Some, None, List, [], ◌∷◌, ◌++◌, append-nil, length, drop, take, get_or, drop-cons, add-one, sym, ap}
+use Rattle.std.proofs.Common.{◌≡◌, ◌∙◌, ℕ, suc, ◌+◌, ◌-◌, ◌<◌, Option, Some, None, List, [], ◌∷◌, ◌++◌, IfSome, length, drop, take, get_or, drop-cons, add-one, sym, ap}
 use Rattle.std.specs.Prelude.{filter_map}
-use Rattle.std.specs.List.{cons_option}
 use Rattle.std.proofs.lemmas.List.{take_more}
 use Rattle.std.proofs.lemmas.List.Elements.{filter_map-append}
 use Rattle.gq_alternatives.specs.Alternatives.{Choice, pattern_alternatives}
@@ -32,14 +31,13 @@ module _ (catalog : Tables) (r : BindRefusal) (tests : List SharedTest) (i : ℕ
       → over_limit left (alternatives_in catalog (paths_of (drop i tests))) r ≡ whole → whole ≡ Some r
   few_over left whole e h = sym h ∙ ap (λ n. over_limit left n r) counted ∙ beyond_more left rest (pattern_alternatives catalog p) r e
 
--- what items give, with one more, which gives nothing or something
-module _ {A B : Type 0} (f : A → Option B) (xs : List A) (i : ℕ) (x : A) (low : i < length xs) (is : x ≡ get_or xs i x) where
-  given : (o : Option B) → o ≡ f x → filter_map f (take (i + 1) xs) ≡ filter_map f (take i xs) ++ cons_option o []
-  given o e =
-      ap (filter_map f) (take_more xs i x low ∙ ap (λ z. take i xs ++ z ∷ []) (sym is)) ∙ filter_map-append f (take i xs) (x ∷ []) ∙ ap (λ p. filter_map f (take i xs) ++ cons_option p []) (sym e)
+-- what items give, with one more
+pub given_next : {A B : Type 0} (f : A → Option B) (xs : List A) (i : ℕ) (x : A) → i < length xs → x ≡ get_or xs i x → (before new : List B) → before ≡ filter_map f (take i xs) → new ≡ before ++ filter_map f (x ∷ [])
+    → new ≡ filter_map f (take (i + 1) xs)
+given_next f xs i x low is before new e d =
+    d ∙ ap (λ l. l ++ filter_map f (x ∷ [])) e ∙ sym (filter_map-append f (take i xs) (x ∷ [])) ∙ sym (ap (filter_map f) (take_more xs i x low ∙ ap (λ z. take i xs ++ z ∷ []) (sym is)))
 
-  pub nothing_given : (before : List B) → before ≡ filter_map f (take i xs) → None ≡ f x → before ≡ filter_map f (take (i + 1) xs)
-  nothing_given before e d = e ∙ sym (append-nil (filter_map f (take i xs))) ∙ sym (given None d)
-
-  pub one_given : (before : List B) (y : B) → before ≡ filter_map f (take i xs) → Some y ≡ f x → before ++ y ∷ [] ≡ filter_map f (take (i + 1) xs)
-  one_given before y e d = ap (λ l. l ++ y ∷ []) e ∙ sym (given (Some y) d)
+-- what is said where something is there
+pub some_then : {A B X : Type 0} (o : Option X) → (A → B) → IfSome o (λ _. A) → IfSome o (λ _. B)
+some_then None f h = tt
+some_then (Some x) f h = f h

@@ -14,7 +14,7 @@ use Rattle.gq_alternatives.specs.Alternatives.{choices, pattern_alternatives, ty
 use Rattle.gq_binder.proofs.SoundAlternatives.{is_bound}
 use Rattle.gq_binder.specs.Binding.{IsBound}
 use Rattle.gq_binder.specs.Columns.{conjuncts, columns_in}
-use Rattle.gq_binder.specs.Refusals.{expressions, all_reads, first_refusal}
+use Rattle.gq_binder.specs.Refusals.{expressions, all_reads, first_refusal, seen}
 use Rattle.gq_binder.specs.Tested.{tests}
 use Rattle.gq_scopes.specs.Patterns.{pattern_of}
 use Rattle.gq_lexer.specs.Sources.{source_text}
@@ -79,7 +79,7 @@ bound = record {
 }
 
 accepted : first_refusal query text catalog ≡ None
-unfolding first_refusal expressions all_reads columns_in pattern_of pattern_alternatives choices tuples conjuncts tests
+unfolding first_refusal expressions all_reads columns_in pattern_of pattern_alternatives choices tuples conjuncts seen
 accepted = refl
 
 is_bound_so : IsBound query text catalog bound

@@ -3,7 +3,7 @@
 use Rattle.std.specs.Prelude.{ℕ, suc, nat_eq, nat_lt, Bool, true, false, not, is_some, ◌+◌, slice_get, unwrap_or, ◌&&◌, ◌||◌, Option, Some, None, List, [], ◌∷◌, ◌++◌, map, filter, flat_map, length, if◌then◌else◌}
 use Rattle.gq_plan.specs.declared.variable.Variable.TheVariants.{Node as node, Rel as rel}
 use Rattle.gq_plan.specs.declared.variable.Variable.{Variable}
-use Rattle.std.specs.List.{list_all, list_any}
+use Rattle.std.specs.List.{list_any}
 use Rattle.std.specs.Option.{option_map, option_or}
 use Rattle.std.specs.Cmp.Lexicographic.{pointwise}
 use Rattle.gq_base.specs.Catalogs.{Tables}
@@ -19,7 +19,7 @@ use Rattle.gq_binder.specs.Columns.{Scoped, conditions, conjuncts, columns, sort
 use Rattle.gq_trees.specs.Conjuncts.{is_value}
 use Rattle.gq_trees.specs.MadeOf.{column_exprs, is_made_of}
 use Rattle.gq_trees.specs.Renames.{ambiguous_name}
-use Rattle.gq_scopes.specs.Patterns.{Name, NamedVariable, Pattern, pattern_of, is_same_name}
+use Rattle.gq_scopes.specs.Patterns.{MapEntry, Name, NamedVariable, Pattern, pattern_of, is_same_name}
 use Rattle.gq_binder.specs.Tested.{SharedTest, seen_elsewhere, seen_in}
 use Rattle.gq_scopes.specs.PathPatterns.{path_pattern}
 use Rattle.gq_syntax.specs.declared.Path.{Path}
@@ -204,11 +204,15 @@ abbrev pub placed : List ℕ → ℕ → ℕ → Variable → Variable
 placed vs n m (node v) = node (unwrap_or (slice_get vs v) (n + v))
 placed vs n m (rel x) = rel (m + x)
 
--- what the maps of the paths read, of variables behind so many
+-- what the entries of a path's maps read, of variables behind so many
+abbrev pub entries_read : List ℕ → ℕ → ℕ → List MapEntry → List Read
+entries_read vs n m es = map (λ e. property (placed vs n m e.variable) e.entry.key) es
+
+-- what the maps of the paths read, one path behind another
 abbrev pub path_reads : ℕ → ℕ → List SharedTest → List Read
 path_reads n m [] = []
 path_reads n m (t ∷ ts) =
-    map (λ e. property (placed t.nodes n m e.variable) e.entry.key) (path_pattern t.test.path).entries
+    entries_read t.nodes n m (path_pattern t.test.path).entries
     ++ path_reads (n + length (path_pattern t.test.path).names) (m + length (path_pattern t.test.path).rels) ts
 
 -- the maps of a path by itself read too much, which is among what all read
@@ -254,9 +258,15 @@ too_many_alternatives text query catalog =
 
 -- ---- where an EXISTS stands
 
--- one is no test: it stands elsewhere than as a whole conjunct of a condition
+-- it is no test: it stands elsewhere than as a whole conjunct of a condition
+abbrev pub is_misplaced : SharedTest → Bool
+is_misplaced t = not (is_some t.name)
+
+abbrev pub has_misplaced : List SharedTest → Bool
+has_misplaced ts = list_any is_misplaced ts
+
 abbrev pub exists_place : List SharedTest → Option BindRefusal
-exists_place ts = if list_all (λ t. is_some t.name) ts then None else Some refusal.ExistsPlace
+exists_place ts = if has_misplaced ts then Some refusal.ExistsPlace else None
 
 -- the first check that applies
 unfoldable pub first_refusal : Query → List ℕ → Tables → Option BindRefusal

@@ -9,10 +9,12 @@ ghost use Rattle.gq_binder.specs.steps.Parts.{checks_in, exists_part, reads_in};
 ghost use Rattle.gq_binder.specs.Refusals as refusals;
 ghost use Rattle.gq_binder.specs.Refusals.{first_of_all, first_behind, conflicting, repeating};
 ghost use Rattle.gq_binder.specs.Refusals.{nothing, over_limit, max_alternatives, max_columns};
-ghost use Rattle.gq_binder.specs.Refusals.{alternatives_in, nodes_in, paths_of, rels_in};
+ghost use Rattle.gq_binder.specs.Refusals.{alternatives_in, entries_read, nodes_in, paths_of};
+ghost use Rattle.gq_binder.specs.Refusals.{rels_in};
 ghost use Rattle.gq_binder.specs.declared.refusal.BindRefusal.TheVariants as refusal;
-ghost use Rattle.gq_plan.specs.Reads.{property, with_reads};
+ghost use Rattle.gq_plan.specs.Reads.{distinct, property, with_reads};
 ghost use Rattle.gq_plan.specs.Soundness.{max_variables};
+ghost use Rattle.gq_scopes.specs.PathPatterns.{path_pattern};
 ghost use Rattle.gq_syntax.specs.Spans.{IsWholeTree};
 ghost use Rattle.gq_syntax.specs.steps.Spans.{IsWholePath};
 
@@ -24,8 +26,9 @@ use crate::refusal::BindRefusal;
 use gq_alternatives::{Choice, choices_of};
 use gq_base::{Catalog, List, Memory};
 use gq_plan::{ExistsPart, NamedExpr, PropertyReads};
-use gq_scopes::{Column, MapEntry, NamedVariable, Names, Pattern, RelPattern, Variable};
-use gq_scopes::{copy_text, number};
+use gq_scopes::{
+    Column, MapEntry, NamedVariable, Names, Pattern, RelPattern, Variable, copy_text, number,
+};
 use gq_syntax::Query;
 use std::alloc::Global;
 
@@ -157,10 +160,7 @@ fn nothing_to_return(star: bool, named: &[NamedVariable<'_>]) -> Result<(), Bind
 }
 
 /// There are too many patterns, with those of the paths of tests.
-fn too_many_patterns(
-    pattern: &Pattern<'_>,
-    tests: &[SharedTest<'_>],
-) -> Result<(), BindRefusal>
+fn too_many_patterns(pattern: &Pattern<'_>, tests: &[SharedTest<'_>]) -> Result<(), BindRefusal>
     ensures { Checks (refusals.too_many_patterns pattern.now (paths_of tests.now)) result }
 {
     if has_many_nodes(pattern.nodes().len(), tests) || has_many_rels(pattern.rels().len(), tests) {
@@ -201,21 +201,32 @@ fn has_many_rels(own: usize, tests: &[SharedTest<'_>]) -> bool
 }
 
 /// There are too many different pairs of a variable and a property.
-#[tactic(auto, using(crate::proofs::ReadingLemmas::counted_more))]
+#[tactic(auto, using(crate::proofs::RefusalLemmas::firsts))]
 fn too_many_reads(alloc: Global, parts: &QueryParts<'_>) -> Result<(), BindRefusal>
     ensures { Checks (refusals.too_many_reads
         (reads_in parts.now.tests ++ reads_in parts.now.conjuncts) parts.now.pattern
         parts.now.exists) result }
 {
-    let tests = parts.exists.as_slice();
+    if count_all_reads(alloc, parts)? > MAX_READS {
+        return Err(BindRefusal::TooManyReads);
+    }
+    many_reads_alone(alloc, parts.exists.as_slice())
+}
+
+// How many different properties of variables all maps and the conjuncts of values read.
+#[tactic(auto, using(crate::proofs::ReadingLemmas::counted_more))]
+fn count_all_reads(alloc: Global, parts: &QueryParts<'_>) -> Result<usize, Memory>
+    ensures { let pattern = parts.now.pattern in
+        let paths = refusals.path_reads (length pattern.names) (length pattern.rels)
+        parts.now.exists in
+        let all = (reads_in parts.now.tests ++ reads_in parts.now.conjuncts) ++ paths in
+        IfOk result (λ n. n ≡ length (distinct all)) }
+{
     let mut reads = PropertyReads::new(alloc);
     add_reads(&mut reads, parts.tests.as_slice())?;
     add_reads(&mut reads, parts.conjuncts.as_slice())?;
-    add_path_reads(alloc, &mut reads, &parts.pattern, tests)?;
-    if reads.len() > MAX_READS {
-        return Err(BindRefusal::TooManyReads);
-    }
-    many_reads_alone(alloc, tests)
+    add_path_reads(alloc, &mut reads, &parts.pattern, parts.exists.as_slice())?;
+    Ok(reads.len())
 }
 
 // Takes what the maps of the paths of tests read, of variables behind those of a pattern.
@@ -231,12 +242,31 @@ fn add_path_reads<'e>(
     let mut nodes = number(pattern.names().len())?;
     let mut rels = number(pattern.rels().len())?;
     for test in tests {
-        let path = test.pattern(alloc)?;
-        let shared = test.nodes.as_slice();
-        add_entries(reads, shared, nodes, rels, path.entries())?;
-        nodes = plus(nodes, path.names().len())?;
-        rels = plus(rels, path.rels().len())?;
+        add_path(alloc, reads, test, &mut nodes, &mut rels)?;
     }
+    Ok(())
+}
+
+// Takes what the maps of one path read, of variables behind so many, and counts its variables.
+fn add_path<'e>(
+    alloc: Global,
+    reads: &mut PropertyReads<'e>,
+    test: &'e SharedTest<'e>,
+    nodes: &mut u32,
+    rels: &mut u32,
+) -> Result<(), Memory>
+    ensures reads { let entries = (path_pattern test.now.test.path).entries in
+        OnOk result (reads.new ≡ with_reads reads.old
+        (entries_read test.now.nodes nodes.old rels.old entries)) }
+    ensures nodes { OnOk result (nodes.new
+        ≡ nodes.old + length (path_pattern test.now.test.path).names) }
+    ensures rels { OnOk result (rels.new
+        ≡ rels.old + length (path_pattern test.now.test.path).rels) }
+{
+    let path = test.pattern(alloc)?;
+    add_entries(reads, test.nodes.as_slice(), *nodes, *rels, path.entries())?;
+    *nodes = plus(*nodes, path.names().len())?;
+    *rels = plus(*rels, path.rels().len())?;
     Ok(())
 }
 
@@ -247,9 +277,8 @@ fn add_entries<'e>(
     rels: u32,
     entries: &[MapEntry<'e>],
 ) -> Result<(), Memory>
-    ensures { OnOk result (reads.new ≡ with_reads reads.old
-        (map (λ e. property (refusals.placed shared.now nodes rels e.variable) e.entry.key)
-        entries.now)) }
+    ensures { OnOk result (reads.new
+        ≡ with_reads reads.old (entries_read shared.now nodes rels entries.now)) }
 {
     for entry in entries {
         let variable = placed(shared, nodes, rels, entry.variable)?;
@@ -259,12 +288,7 @@ fn add_entries<'e>(
 }
 
 // A variable of a path's pattern among those of the query.
-fn placed(
-    shared: &[u32],
-    nodes: u32,
-    rels: u32,
-    variable: Variable,
-) -> Result<Variable, Memory>
+fn placed(shared: &[u32], nodes: u32, rels: u32, variable: Variable) -> Result<Variable, Memory>
     ensures { IfOk result (λ v. v ≡ refusals.placed shared.now nodes rels variable) }
 {
     match variable {
@@ -294,20 +318,36 @@ fn many_reads_alone(alloc: Global, tests: &[SharedTest<'_>]) -> Result<(), BindR
     Ok(())
 }
 
-#[tactic(auto, using(crate::proofs::ReadingLemmas::counted_alone))]
 fn reads_alone(alloc: Global, test: &SharedTest<'_>) -> Result<(), BindRefusal>
     ensures { Checks (refusals.reads_alone test.now) result }
 {
     let path = test.pattern(alloc)?;
-    let mut reads = PropertyReads::new(alloc);
-    for entry in path.entries() {
-        reads.add(entry.variable, &entry.entry.key)?;
-    }
-    if reads.len() > MAX_READS {
+    if count_reads(alloc, path.entries())? > MAX_READS {
         Err(BindRefusal::TooManyReads)
     } else {
         Ok(())
     }
+}
+
+// How many different properties of variables entries read.
+#[tactic(auto, using(crate::proofs::ReadingLemmas::counted_alone))]
+fn count_reads(alloc: Global, entries: &[MapEntry<'_>]) -> Result<usize, Memory>
+    ensures { IfOk result (λ n. n
+        ≡ length (distinct (map (λ e. property e.variable e.entry.key) entries.now))) }
+{
+    let mut reads = PropertyReads::new(alloc);
+    add_own(&mut reads, entries)?;
+    Ok(reads.len())
+}
+
+fn add_own<'e>(reads: &mut PropertyReads<'e>, entries: &[MapEntry<'e>]) -> Result<(), Memory>
+    ensures { OnOk result (reads.new ≡ with_reads reads.old
+        (map (λ e. property e.variable e.entry.key) entries.now)) }
+{
+    for entry in entries {
+        reads.add(entry.variable, &entry.entry.key)?;
+    }
+    Ok(())
 }
 
 fn add_reads<'e>(reads: &mut PropertyReads<'e>, exprs: &'e [NamedExpr]) -> Result<(), Memory>
@@ -367,15 +407,21 @@ pub fn few_alternatives(
 pub fn exists_place(exists: &[SharedTest<'_>]) -> Result<(), BindRefusal>
     ensures { Checks (refusals.exists_place exists.now) result }
 {
-    if exists.iter().all(|test| is_test(test)) {
-        Ok(())
-    } else {
+    if has_misplaced(exists) {
         Err(BindRefusal::ExistsPlace)
+    } else {
+        Ok(())
     }
 }
 
-fn is_test(test: &SharedTest<'_>) -> bool
-    ensures { result ≡ is_some test.now.name }
+fn has_misplaced(exists: &[SharedTest<'_>]) -> bool
+    ensures { result ≡ refusals.has_misplaced exists.now }
 {
-    test.name.is_some()
+    exists.iter().any(|test| is_misplaced(test))
+}
+
+fn is_misplaced(test: &SharedTest<'_>) -> bool
+    ensures { result ≡ refusals.is_misplaced test.now }
+{
+    test.name.is_none()
 }

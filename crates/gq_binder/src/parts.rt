@@ -1,8 +1,9 @@
 //! The parts of a query that its checks and its bound form share, each made once.
-ghost use Rattle.std.specs.Prelude.{◌≡◌, ◌++◌, flat_map, map, All, IfOk, IfSome, OnOk};
+ghost use Rattle.std.specs.Prelude.{◌≡◌, ◌++◌, ◌∷◌, [], flat_map, map, All, IfOk, IfSome};
+ghost use Rattle.std.specs.Prelude.{OnOk};
 ghost use Rattle.gq_binder.specs.Columns.{columns_in, conditions_from, entry_test, scoped_in};
 ghost use Rattle.gq_binder.specs.steps.Names.{no_names, with_expressions};
-ghost use Rattle.gq_binder.specs.steps.Parts.{known_conjuncts, known_seen, parts_of};
+ghost use Rattle.gq_binder.specs.steps.Parts.{known_conjuncts, known_seen, known_tests_of, parts_of};
 ghost use Rattle.gq_binder.specs.Refusals.{items_in, sorts_in};
 ghost use Rattle.gq_binder.specs.Tested.{seen_elsewhere};
 ghost use Rattle.gq_scopes.specs.Patterns.{no_pattern, pattern_of, with_clauses};
@@ -17,7 +18,7 @@ use crate::names::FirstNames;
 use crate::path_tests::{SharedTest, push_in_items, push_in_sorts, push_strays_of, push_tests};
 use gq_base::{List, Memory};
 use gq_plan::NamedExpr;
-use gq_scopes::{Column, Pattern, next};
+use gq_scopes::{Column, Pattern, Scope, next};
 use gq_syntax::{Ast, Clause, Query};
 use gq_trees::{CallForm, conjuncts_of};
 use std::alloc::Global;
@@ -217,11 +218,32 @@ fn read_condition<'q>(
     };
     let scope = pattern.scope(&[])?;
     names.read(&scope, tree);
-    if let Some(more) = conjuncts_of(alloc, text, &scope, tree)? {
-        push_all(conjuncts, more.values)?;
-        push_tests(alloc, &scope, exists, more.tests)?;
-    }
+    read_conjuncts(alloc, text, &scope, tree, conjuncts, exists)?;
     push_strays_of(alloc, &scope, exists, tree)
+}
+
+// The conjuncts of a condition, if all of those of values stand for an expression.
+fn read_conjuncts<'q>(
+    alloc: Global,
+    text: &[u8],
+    scope: &Scope<'_>,
+    tree: &'q Ast,
+    conjuncts: &mut List<NamedExpr>,
+    exists: &mut List<SharedTest<'q>>,
+) -> Result<(), Memory>
+    requires { IsWholeTree text.now tree.now }
+    ensures conjuncts { OnOk result (conjuncts.new ≡ conjuncts.old
+        ++ known_conjuncts text.now (record { scope = scope.now; tree = tree.now } ∷ [])) }
+    ensures exists { OnOk result (exists.new ≡ exists.old
+        ++ known_tests_of text.now (record { scope = scope.now; tree = tree.now })) }
+{
+    match conjuncts_of(alloc, text, scope, tree)? {
+        Some(more) => {
+            push_all(conjuncts, more.values)?;
+            push_tests(alloc, scope, exists, more.tests)
+        }
+        None => Ok(()),
+    }
 }
 
 fn push_all(all: &mut List<NamedExpr>, more: List<NamedExpr>) -> Result<(), Memory>

@@ -1,5 +1,6 @@
 //! The EXISTS of a query, and the parts of its bound form that those give which are tests.
-ghost use Rattle.std.specs.Prelude.{◌≡◌, ◌++◌, All, filter_map, flat_map, map, IfOk, IfSome, OnOk};
+ghost use Rattle.std.specs.Prelude.{◌≡◌, ◌++◌, ◌∷◌, [], All, filter_map, flat_map, map, IfOk};
+ghost use Rattle.std.specs.Prelude.{IfSome, OnOk};
 ghost use Rattle.gq_alternatives.specs.Alternatives.{pattern_alternatives};
 ghost use Rattle.gq_binder.specs.Refusals.{alternatives_in, over_limit, paths_of};
 ghost use Rattle.gq_binder.specs.declared.refusal.BindRefusal.TheVariants as refusal;
@@ -172,13 +173,43 @@ pub fn exists_parts(
             return Err(BindRefusal::TooManyAlternatives);
         };
         left -= choices.len();
-        let Some(name) = &test.name else {
-            continue;
-        };
-        let part = named_part(alloc, text, catalog, test, name, &pattern, choices.as_slice())?;
-        parts.push(part)?;
+        push_part(
+            alloc,
+            text,
+            catalog,
+            test,
+            &pattern,
+            choices.as_slice(),
+            &mut parts,
+        )?;
     }
     Ok(parts)
+}
+
+// Appends the part that an EXISTS gives which is a test.
+fn push_part(
+    alloc: Global,
+    text: &[u8],
+    catalog: &Catalog,
+    test: &SharedTest<'_>,
+    pattern: &Pattern<'_>,
+    choices: &[Choice],
+    parts: &mut List<ExistsPart>,
+) -> Result<(), Memory>
+    requires entries { IfSome test.now.name
+        (λ _. All (λ e. IsWholeEntry text.now e.entry) pattern.now.entries) }
+    requires pattern { pattern.now ≡ path_pattern test.now.test.path }
+    requires choices { choices.now ≡ pattern_alternatives catalog.now pattern.now }
+    ensures { OnOk result (parts.new ≡ parts.old
+        ++ filter_map (steps.exists_part text.now catalog.now) (test.now ∷ [])) }
+{
+    match &test.name {
+        Some(name) => {
+            let part = named_part(alloc, text, catalog, test, name, pattern, choices)?;
+            parts.push(part)
+        }
+        None => Ok(()),
+    }
 }
 
 fn named_part(

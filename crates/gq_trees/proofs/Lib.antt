@@ -6,7 +6,7 @@ pub mod Resolved
 pub mod SliceLemmas
 pub mod SourceLemmas
 pub mod Splits
-pub mod Strays
+pub mod ExistsPaths
 pub mod TestFacts
 pub mod Tests
 pub mod UseLemmas

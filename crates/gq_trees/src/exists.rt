@@ -9,7 +9,7 @@ use gq_syntax::{ArithTerm, Ast, AstNode, AstTester, CompareTerm, Tester};
 
 /// Appends the path of each EXISTS of an expression, in text order, as a test whether it has a match.
 #[cycle(push_paths)]
-#[tactic(auto, using(crate::proofs::Strays::finding))]
+#[tactic(auto, using(crate::proofs::ExistsPaths::finding))]
 pub fn push_paths<'t>(tree: &'t Ast, paths: &mut List<PathTest<'t>>) -> Result<(), Memory>
     ensures { OnOk result (paths.new ≡ paths.old ++ paths_in tree.now) }
 {
@@ -84,23 +84,12 @@ fn push_tester_paths<'t>(
     ensures { OnOk result (paths.new ≡ paths.old ++ flat_map tester_paths testers.now) }
 {
     for tester in testers {
-        push_tester_path(tester, paths)?;
-    }
-    Ok(())
-}
-
-#[cycle(push_paths)]
-#[tactic(auto, using(crate::proofs::Strays::finding))]
-fn push_tester_path<'t>(
-    tester: &'t AstTester,
-    paths: &mut List<PathTest<'t>>,
-) -> Result<(), Memory>
-    ensures { OnOk result (paths.new ≡ paths.old ++ tester_paths tester.now) }
-{
-    match tester {
-        Tester::IsNull | Tester::IsNotNull | Tester::Member(_) => Ok(()),
-        Tester::Starts(part) | Tester::Ends(part) | Tester::Contains(part) => {
-            push_paths(part, paths)
+        match tester {
+            Tester::IsNull | Tester::IsNotNull | Tester::Member(_) => {}
+            Tester::Starts(part) | Tester::Ends(part) | Tester::Contains(part) => {
+                push_paths(part, paths)?;
+            }
         }
     }
+    Ok(())
 }

@@ -11,7 +11,7 @@ use gq_syntax::{Ast, AstNode};
 /// Appends the path of each EXISTS that stands in a condition elsewhere than as a whole conjunct,
 /// alone or inside parentheses and NOTs alone.
 #[cycle(push_strays)]
-#[tactic(auto, using(crate::proofs::Strays::straying))]
+#[tactic(auto, using(crate::proofs::ExistsPaths::straying))]
 pub fn push_strays<'t>(tree: &'t Ast, paths: &mut List<PathTest<'t>>) -> Result<(), Memory>
     ensures { OnOk result (paths.new ≡ paths.old ++ places.strays tree.now) }
 {

@@ -1,4 +1,5 @@
-use Rattle.std.proofs.Common.{All, subst, sym}
+use Rattle.std.proofs.Common.{All, ap, subst, sym, ◌∙◌}
+use Rattle.gq_binder.specs.Refusals.{exists_place}
 use Rattle.std.proofs.lemmas.Result.{err_from_is_err_and}
 use Rattle.gq_binder.proofs.Checked.{parts_whole}
 use Rattle.gq_binder.specs.declared.parts.QueryParts.{QueryParts}
@@ -31,10 +32,11 @@ returns-in_err-all c =
 pub returns-in_err-exists_place : goal.returns-in_err-exists_place
 returns-in_err-exists_place c =
     let p = err_from_is_err_and c.from_residual-in_err-exists_place.result c.from_residual-in_err-exists_place.ensures.1 in
-    rw (p.1, p.2) (refused_last c.args.query.now c.args.text.now c.args.catalog.now c.in_ok-parts.parts c.in_ok-parts.ensures c.in_ok-check.ensures c.in_ok-all.ensures.few c.in_err-exists_place.field-0.0 c.in_err-exists_place.ensures)
+    rw (p.1, p.2) (refused_last c.args.query.now c.args.text.now c.args.catalog.now c.in_ok-parts.parts c.in_ok-parts.ensures c.in_ok-check.ensures c.in_ok-all.ensures.few c.in_err-exists_place.field-0.0
+    (λ q. ap exists_place (sym c.as_slice.ensures) ∙ c.in_err-exists_place.ensures q))
 
 pub returns : goal.returns
 returns c =
     rw c.in_ok-bound_of.ensures
     (accepted c.args.query.now c.args.text.now c.args.catalog.now c.in_ok-parts.parts c.in_ok-parts.ensures c.in_ok-check.ensures c.in_ok-all.all.choices
-    (spelled_stands c.args.text.now c.args.query.now c.requires) c.in_ok-all.ensures.few c.in_ok-exists_place.ensures c.in_ok-all.ensures.choices)
+    (spelled_stands c.args.text.now c.args.query.now c.requires) c.in_ok-all.ensures.few (ap exists_place (sym c.as_slice.ensures) ∙ c.in_ok-exists_place.ensures) c.in_ok-all.ensures.choices)

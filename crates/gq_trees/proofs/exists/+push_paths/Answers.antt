@@ -1,5 +1,5 @@
 use Rattle.gq_syntax.specs.declared.Term.{Term}
-use Rattle.gq_trees.proofs.Strays.{one_more}
+use Rattle.gq_trees.proofs.ExistsPaths.{one_more}
 use Rattle.gq_trees.specs.Places.{paths_in}
 use Rattle.gq_trees.specs.steps.Places.{tester_paths}
 use Rattle.gq_trees.proofs.exists.+push_paths.Goals as goal
@@ -15,7 +15,3 @@ push_compared_paths-loop-term-preserved t c =
 pub push_operand_paths-loop-term-preserved : goal.push_operand_paths-loop-term-preserved
 push_operand_paths-loop-term-preserved t c =
     one_more (λ t. paths_in t.tree) c.args.terms.now c.loop-term.term-index c.term-item.result c.loop-term-test.true c.term-item.is c.loop-term.paths c.push_paths.new.paths _ c.in_ok-push_paths.ensures c.loop-term.invariant
-
-pub push_tester_paths-loop-tester-preserved : goal.push_tester_paths-loop-tester-preserved
-push_tester_paths-loop-tester-preserved t c =
-    one_more tester_paths c.args.testers.now c.loop-tester.tester-index c.tester-item.result c.loop-tester-test.true c.tester-item.is c.loop-tester.paths c.push_tester_path.new.paths _ c.in_ok-push_tester_path.ensures c.loop-tester.invariant

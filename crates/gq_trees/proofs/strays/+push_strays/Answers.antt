@@ -1,4 +1,4 @@
-use Rattle.gq_trees.proofs.Strays.{one_more}
+use Rattle.gq_trees.proofs.ExistsPaths.{one_more}
 use Rattle.gq_trees.specs.Places.{strays}
 use Rattle.gq_trees.proofs.strays.+push_strays.Goals as goal
 
