@@ -55,6 +55,21 @@ inline void Social::one_hop(Reply& out, const Parameters& given) const {
   }
 }
 
+// Marks who knows somebody of this age, then goes through all.
+inline void Social::no_path(Reply& out, const Parameters& given) const {
+  const Lists& from = knows.backward;
+  std::vector<bool> knowing(people.rows);
+  for (uint32_t b = 0; b < people.rows; b++) {
+    if (age.nulls[b] || age.values[b] != given[0]) continue;
+    for (uint32_t at = from.begin(b); at < from.end(b); at++) knowing[from.neighbours[at]] = true;
+  }
+  for (uint32_t p = 0; p < people.rows; p++) {
+    if (knowing[p]) continue;
+    out.number(person_id[p]);
+    out.end();
+  }
+}
+
 // A relationship from a node to itself stands in both lists of the node, and counts once.
 inline void Social::undirected_hop(Reply& out, const Parameters& given) const {
   const Lists &to = knows.forward, &from = knows.backward;

@@ -60,6 +60,10 @@ def hops(hundredth, tenth):
               "JOIN knows k3 ON k3.src = k2.dst AND k3.dst = k1.src "
               f"WHERE k1.src <= {tenth} AND k1.rowid <> k2.rowid AND k1.rowid <> k3.rowid AND k2.rowid <> k3.rowid",
               "iii", (tenth,)),
+        Query("no_path", "a path that is not there: who knows nobody of an age",
+              "MATCH (p:Person) WHERE NOT exists((p)-[:KNOWS]->(:Person {age: 30})) RETURN p.id",
+              "SELECT p.id FROM person p WHERE NOT EXISTS (SELECT 1 FROM knows k JOIN person q ON q.id = k.dst "
+              "WHERE k.src = p.id AND q.age = 30)", "i", (30,)),
     ]
 
 

@@ -24,6 +24,12 @@ zip_more R f xs cs new n c x zip low is pushed r =
     let back : map f new ≡ map f cs ++ f c ∷ [] = ap (map f) pushed ∙ map-append f cs (c ∷ []) in
     rw (front, back) (zip_push R (take n xs) (map f cs) x (f c) zip r)
 
+pub zip_next : {A B : Type 0} (R : A → B → Type 0) (xs : List A) (ys new : List B) (n : ℕ) (x : A) (y : B)
+    → AllZip R (take n xs) ys → n < length xs → x ≡ get_or xs n x → new ≡ ys ++ y ∷ [] → R x y → AllZip R (take (n + 1) xs) new
+zip_next R xs ys new n x y zip low is pushed r =
+    let front : take (n + 1) xs ≡ take n xs ++ x ∷ [] = take_more xs n x low ∙ ap (λ z. take n xs ++ z ∷ []) (sym is) in
+    rw (front, pushed) (zip_push R (take n xs) ys x y zip r)
+
 -- ---- the plans of an order
 
 module _ (order : Order) (g : Graph) where

@@ -1,8 +1,9 @@
 -- What a table has taken, and what a pipeline has spent, when the pipeline's chunks are drained into the table.
-use Rattle.std.proofs.Common.{◌≡◌, ◌≢◌, ◌∙◌, ◌+◌, ◌-◌, ◌^◌, ◌<◌, ℕ, ap, refl, sym, subst, true, Some, List, [], ◌∷◌, ◌++◌, append_assoc, append-nil, length, map, min, Result, Err, inl, inr, arith, length-append}
-use Rattle.std.specs.Prelude.{Option, IsPermutation}
+use Rattle.std.proofs.Common.{◌≡◌, ◌≢◌, ◌∙◌, ◌+◌, ◌-◌, ◌^◌, ◌<◌, ℕ, ap, refl, sym, subst, Bool, true, false, cond, Some, List, [], ◌∷◌, ◌++◌, append_assoc, append-nil, length, map, min, Result, Err, inl, inr, arith, length-append}
+use Rattle.std.specs.Prelude.{Option, IsPermutation, filter, flat_map}
 use Rattle.std.proofs.lemmas.Grind.{flat_map-append}
 use Rattle.std.proofs.lemmas.List.{length-map, map-append}
+use Rattle.std.proofs.lemmas.List.Elements.{filter-append}
 use Rattle.std.proofs.lemmas.List.Sorted.{IsPermutation-append_left, IsPermutation-append_right, IsPermutation-map, IsPermutation-refl, IsPermutation-sym, IsPermutation-trans, length_permutation}
 use Rattle.gq_base.specs.Plain.{Graph}
 use Rattle.gq_expr.specs.declared.Fault.{Fault}
@@ -16,34 +17,52 @@ use Rattle.gq_pipe.specs.Spending.{up_to_most}
 use Rattle.gq_plan.specs.Assignments.{Assignment, row_of}
 use Rattle.gq_plan.specs.Meaning.{Partial, found, whole}
 use Rattle.gq_plan.specs.Rows.{assigned}
-use Rattle.gq_plan.specs.Outcomes.{Row, late_conjuncts, late_outcomes, outcome_by}
+use Rattle.gq_plan.specs.Outcomes.{Row, late_conjuncts, outcome_by}
 use Rattle.gq_plan.specs.declared.Bound.{Bound}
 use Rattle.gq_plan.specs.declared.typed.Typed.{Typed}
 use Rattle.std.specs.List.{Contains}
 use Rattle.gq_rows.specs.Answers.{kept, looked_at, rows_in}
 use Rattle.gq_rows.specs.Chunks as chunks
-use Rattle.gq_rows.specs.Chunks.{IsChunkIn, Stands, assignments_of, chunk_outcomes}
+use Rattle.gq_rows.specs.Chunks.{IsChunkIn, Stands, admitted_outcomes, assignments_of}
 use Rattle.gq_rows.specs.Tables.{Table, is_full_table}
 use Rattle.gq_rows.specs.declared.refusal.More.{More}
 use Rattle.gq_rows.specs.declared.refusal.RowRefusal.{RowRefusal}
 use Rattle.gq_rows.specs.declared.refusal.RowRefusal.TheVariants as row_refusal
 use Rattle.gq_execute.specs.Refusals.{of_rows}
-use Rattle.gq_execute.specs.steps.Taking.{Counted, Cut, HasRun, MeetsFault, MeetsMany, Pushed, Takes, TakesAll, owed_by}
+use Rattle.gq_execute.specs.steps.Taking.{Admission, Counted, Cut, HasRun, MeetsFault, MeetsMany, Pushed, Takes, TakesAll, outcomes_by, owed_by}
 
-module _ (g : Graph) (b : Bound) (y : Typed) where
+-- what is made of the items that pass is made of each, or nothing
+pub filtered : {A B : Type 0} (f : A → List B) (p : A → Bool) (xs : List A) → flat_map f (filter p xs) ≡ flat_map (λ x. cond (p x) (f x) []) xs
+filtered f p [] = refl
+filtered f p (x ∷ xs) = go (p x) (filtered f p xs)
+  where
+    go : (b : Bool) → flat_map f (filter p xs) ≡ flat_map (λ z. cond (p z) (f z) []) xs → flat_map f (cond b (x ∷ filter p xs) (filter p xs)) ≡ cond b (f x) [] ++ flat_map (λ z. cond (p z) (f z) []) xs
+    go true more = ap (λ l. f x ++ l) more
+    go false more = more
+
+module _ (admitted : Admission) (g : Graph) (b : Bound) (y : Typed) where
+  abbrev found_of : Assignment → List (Result Row Fault)
+  found_of t = found (outcome_by g b (late_conjuncts b y) (row_of t))
+
+  abbrev passes : Assignment → Bool
+  passes t = admitted (row_of t)
+
   -- the outcomes of some assignments, and of more
-  pub outcomes_append : (ts us : List Assignment) → late_outcomes g b y (ts ++ us) ≡ late_outcomes g b y ts ++ late_outcomes g b y us
-  outcomes_append ts us = flat_map-append (λ t. found (outcome_by g b (late_conjuncts b y) (row_of t))) ts us
+  pub outcomes_append : (ts us : List Assignment) → outcomes_by admitted g b y (ts ++ us) ≡ outcomes_by admitted g b y ts ++ outcomes_by admitted g b y us
+  outcomes_append ts us = ap (flat_map found_of) (filter-append passes ts us) ∙ flat_map-append found_of (filter passes ts) (filter passes us)
 
   -- in another order
-  pub outcomes_bag : (ts us : List Assignment) → IsPermutation ts us → IsPermutation (late_outcomes g b y ts) (late_outcomes g b y us)
-  outcomes_bag ts us = permuted_flat_map (λ t. found (outcome_by g b (late_conjuncts b y) (row_of t))) ts us
+  pub outcomes_bag : (ts us : List Assignment) → IsPermutation ts us → IsPermutation (outcomes_by admitted g b y ts) (outcomes_by admitted g b y us)
+  outcomes_bag ts us bag =
+      let each : Assignment → List (Result Row Fault) = λ t. cond (passes t) (found_of t) [] in
+      subst (λ l. IsPermutation l (outcomes_by admitted g b y us)) (sym (filtered found_of passes ts))
+      (subst (IsPermutation (flat_map each ts)) (sym (filtered found_of passes us)) (permuted_flat_map each ts us bag))
 
   -- of a chunk that is told by another bound query and a table of the same
-  pub outcomes_here : (b' : Bound) (o : Option Typed) (c : Chunk) → b' ≡ b → o ≡ Some y → chunk_outcomes g b' o c ≡ late_outcomes g b y (assignments_of g y c)
-  outcomes_here b' o c same started = ap (λ q. chunk_outcomes g q o c) same ∙ ap (λ p. chunk_outcomes g b p c) started
+  pub outcomes_here : (b' : Bound) (o : Option Typed) (c : Chunk) → b' ≡ b → o ≡ Some y → admitted_outcomes admitted g b' o c ≡ outcomes_by admitted g b y (assignments_of g y c)
+  outcomes_here b' o c same started = ap (λ q. admitted_outcomes admitted g q o c) same ∙ ap (λ p. admitted_outcomes admitted g b p c) started
 
-module _ (g : Graph) (old : Table) (begun : Rest) where
+module _ (admitted : Admission) (g : Graph) (old : Table) (begun : Rest) where
   abbrev b : Bound
   b = old.bound
 
@@ -51,21 +70,21 @@ module _ (g : Graph) (old : Table) (begun : Rest) where
   y = begun.source.typed
 
   abbrev os : List (Result Row Fault)
-  os = late_outcomes g b y (owed_by y begun)
+  os = outcomes_by admitted g b y (owed_by y begun)
 
   -- nothing was taken yet
-  pub pushed_none : Pushed g old old begun begun
+  pub pushed_none : Pushed admitted g old old begun begun
   pushed_none = record {
     taken = [];
     bag = IsPermutation-refl (owed_by y begun);
     stands = λ before h. subst (λ l. Stands l old) (sym (append-nil before)) h;
   }
 
-  module _ (mid : Table) (now after : Rest) (came : Pushed g old mid begun now) (bound : mid.bound ≡ old.bound) (most : mid.most ≡ old.most) (c : Chunk)
+  module _ (mid : Table) (now after : Rest) (came : Pushed admitted g old mid begun now) (bound : mid.bound ≡ old.bound) (most : mid.most ≡ old.most) (c : Chunk)
       (next : IsPermutation now.owed (after.chunk ++ after.owed)) (chunk_bag : IsPermutation (assignments_of g y c) (map (whole y) after.chunk)) where
     -- the outcomes of the chunk, and the assignments that were taken with it
     abbrev here : List (Result Row Fault)
-    here = late_outcomes g b y (assignments_of g y c)
+    here = outcomes_by admitted g b y (assignments_of g y c)
 
     abbrev taken : List Assignment
     taken = came.taken ++ assignments_of g y c
@@ -83,24 +102,24 @@ module _ (g : Graph) (old : Table) (begun : Rest) where
         (IsPermutation-trans _ _ _ came.bag (IsPermutation-append_right came.taken (owed_by y now) (assignments_of g y c ++ owed_by y after) parted))
 
     -- the outcomes that were taken, and those of the chunk
-    more_taken : (before : List (Result Row Fault)) → (before ++ late_outcomes g b y came.taken) ++ here ≡ before ++ late_outcomes g b y taken
+    more_taken : (before : List (Result Row Fault)) → (before ++ outcomes_by admitted g b y came.taken) ++ here ≡ before ++ outcomes_by admitted g b y taken
     more_taken before =
-        append_assoc before (late_outcomes g b y came.taken) here
-        ∙ ap (λ l. before ++ l) (sym (outcomes_append g b y came.taken (assignments_of g y c)))
+        append_assoc before (outcomes_by admitted g b y came.taken) here
+        ∙ ap (λ l. before ++ l) (sym (outcomes_append admitted g b y came.taken (assignments_of g y c)))
 
     abbrev cut_here : Cut os
     cut_here = record {
-      pushed = late_outcomes g b y taken;
-      left = late_outcomes g b y (owed_by y after);
-      bag = subst (IsPermutation os) (outcomes_append g b y taken (owed_by y after)) (outcomes_bag g b y (owed_by y begun) (taken ++ owed_by y after) bag);
+      pushed = outcomes_by admitted g b y taken;
+      left = outcomes_by admitted g b y (owed_by y after);
+      bag = subst (IsPermutation os) (outcomes_append admitted g b y taken (owed_by y after)) (outcomes_bag admitted g b y (owed_by y begun) (taken ++ owed_by y after) bag);
     }
 
     -- the chunk's outcomes went into the table
-    pub pushed_more : (new : Table) → chunks.TakesWhole here mid new → Pushed g old new begun after
+    pub pushed_more : (new : Table) → chunks.TakesWhole here mid new → Pushed admitted g old new begun after
     pushed_more new takes = record {
       taken = taken;
       bag = bag;
-      stands = λ before h. subst (λ l. Stands l new) (more_taken before) (takes (before ++ late_outcomes g b y came.taken) (came.stands before h));
+      stands = λ before h. subst (λ l. Stands l new) (more_taken before) (takes (before ++ outcomes_by admitted g b y came.taken) (came.stands before h));
     }
 
     -- one of them is a fault that is looked at
@@ -109,7 +128,7 @@ module _ (g : Graph) (old : Table) (begun : Rest) where
       cut = cut_here;
       seen = λ before h.
           subst (λ l. Contains (looked_at old.bound l) (Err f)) (more_taken before)
-          (subst (λ q. Contains (looked_at q ((before ++ late_outcomes g b y came.taken) ++ here)) (Err f)) bound (faulty.seen (before ++ late_outcomes g b y came.taken) (came.stands before h)));
+          (subst (λ q. Contains (looked_at q ((before ++ outcomes_by admitted g b y came.taken) ++ here)) (Err f)) bound (faulty.seen (before ++ outcomes_by admitted g b y came.taken) (came.stands before h)));
     }
 
     -- too many rows are kept with them
@@ -118,8 +137,8 @@ module _ (g : Graph) (old : Table) (begun : Rest) where
       cut = cut_here;
       many = λ before h.
           subst (λ l. old.most < kept old.bound (rows_in l)) (more_taken before)
-          (subst (λ q. old.most < kept q (rows_in ((before ++ late_outcomes g b y came.taken) ++ here))) bound
-          (subst (λ m. m < kept mid.bound (rows_in ((before ++ late_outcomes g b y came.taken) ++ here))) most (over (before ++ late_outcomes g b y came.taken) (came.stands before h))));
+          (subst (λ q. old.most < kept q (rows_in ((before ++ outcomes_by admitted g b y came.taken) ++ here))) bound
+          (subst (λ m. m < kept mid.bound (rows_in ((before ++ outcomes_by admitted g b y came.taken) ++ here))) most (over (before ++ outcomes_by admitted g b y came.taken) (came.stands before h))));
     }
 
     -- so each refusal of the table is one of what was owed
@@ -139,15 +158,15 @@ module _ (g : Graph) (old : Table) (begun : Rest) where
     }
 
   -- nothing is owed any more
-  pub all_taken : (new : Table) (now : Rest) → Pushed g old new begun now → new.bound ≡ old.bound → new.most ≡ old.most → now.owed ≡ [] → Takes os old new
+  pub all_taken : (new : Table) (now : Rest) → Pushed admitted g old new begun now → new.bound ≡ old.bound → new.most ≡ old.most → now.owed ≡ [] → Takes os old new
   all_taken new now came bound most none =
       let all : IsPermutation (owed_by y begun) came.taken =
       subst (IsPermutation (owed_by y begun)) (ap (λ l. came.taken ++ map (whole y) l) none ∙ append-nil came.taken) came.bag in
       record {
         cut = record {
-          pushed = late_outcomes g b y came.taken;
+          pushed = outcomes_by admitted g b y came.taken;
           left = [];
-          bag = subst (IsPermutation os) (sym (append-nil (late_outcomes g b y came.taken))) (outcomes_bag g b y (owed_by y begun) came.taken all);
+          bag = subst (IsPermutation os) (sym (append-nil (outcomes_by admitted g b y came.taken))) (outcomes_bag admitted g b y (owed_by y begun) came.taken all);
         };
         alike = record { bound = bound; most = most };
         stands = came.stands;
@@ -171,9 +190,9 @@ bag_here g y s c here graph typed h =
     subst (λ z. IsPermutation (assignments_of g z c) (map (whole z) here)) typed (subst (λ k. IsPermutation (assignments_of k s.typed c) (map (whole s.typed) here)) graph h)
 
 -- what a table answers to it
-pub pushes_here : (g : Graph) (b : Bound) (y : Typed) (mid new : Table) (c : Chunk) (r : Result More RowRefusal) → mid.bound ≡ b → mid.alternative ≡ Some y
-    → chunks.PushesChunk g c mid new r → chunks.PushesAll (late_outcomes g b y (assignments_of g y c)) mid new r
-pushes_here g b y mid new c r same started h = subst (λ os. chunks.PushesAll os mid new r) (outcomes_here g b y mid.bound mid.alternative c same started) h
+pub pushes_here : (admitted : Admission) (g : Graph) (b : Bound) (y : Typed) (mid new : Table) (c : Chunk) (r : Result More RowRefusal) → mid.bound ≡ b → mid.alternative ≡ Some y
+    → chunks.PushesAdmitted admitted g c mid new r → chunks.PushesAll (outcomes_by admitted g b y (assignments_of g y c)) mid new r
+pushes_here admitted g b y mid new c r same started h = subst (λ os. chunks.PushesAll os mid new r) (outcomes_here admitted g b y mid.bound mid.alternative c same started) h
 
 -- less is owed after it
 pub less_owed : (old chunk new : List Partial) → IsPermutation old (chunk ++ new) → chunk ≢ [] → length new < length old

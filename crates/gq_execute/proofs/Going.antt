@@ -1,6 +1,6 @@
 -- Each step of answering a query leads on, or to a reply that is permitted.
 use Rattle.std.proofs.Common.{◌≡◌, ℕ, zero, suc, ◌+◌, ◌<◌, ◌≤◌, get_or, Bool, true, false, Some, List, [], ◌∷◌, ◌++◌, length, take, drop, slice_get, Result, Err, inl, inr, refl, sym, ap, ap₂, ◌∙◌, append-nil, subst, arith, true≢false}
-use Rattle.std.specs.Prelude.{◌⊎◌}
+use Rattle.std.specs.Prelude.{◌⊎◌, flat_map}
 use Rattle.std.specs.List.{AllZip, fold}
 use Rattle.std.proofs.lemmas.Grind.{flat_map-append}
 use Rattle.gq_pipe.specs.Spending.{up_to_most}
@@ -10,7 +10,7 @@ use Rattle.std.proofs.lemmas.List.Sorted.{IsPermutation-sym}
 use Rattle.gq_base.specs.Values.{Val}
 use Rattle.gq_expr.specs.declared.Fault.{Fault}
 use Rattle.gq_plan.specs.Meaning.{meaning}
-use Rattle.gq_plan.specs.Outcomes.{Row, late_outcomes}
+use Rattle.gq_plan.specs.Outcomes.{Row}
 use Rattle.gq_plan.specs.declared.Typed.{Typed}
 use Rattle.gq_rows.specs.Answers.{Answers, cut_of}
 use Rattle.gq_base.specs.Plain.{Graph}
@@ -19,11 +19,11 @@ use Rattle.gq_rows.specs.Tables.{StandsFor, StandsForSome, Table, is_full, is_fu
 use Rattle.gq_execute.specs.declared.settings.Order.{Order}
 use Rattle.gq_execute.specs.declared.settings.Settings.{Settings}
 use Rattle.gq_execute.specs.Answering.{Replies}
-use Rattle.gq_execute.specs.steps.Answering.{AreParted, Came, Drains, IsFresh, Reached, Runs, Spends, SpendsTurn}
-use Rattle.gq_execute.specs.Replies.{Question, IsPermitted, Rows, TooManyRows, has_large_part, has_turn}
-use Rattle.gq_execute.specs.Spending.{AreSpent, IsTurn, Turn, own_chunks, with_turns}
+use Rattle.gq_execute.specs.steps.Answering.{AreParted, Came, MakeOutcomes, Drains, IsFresh, Reached, Runs, Spends, SpendsTurn}
+use Rattle.gq_execute.specs.Replies.{Question, IsPermitted, Rows, TooManyRows, has_heavy_test, has_large_part, has_turn}
+use Rattle.gq_execute.specs.Spending.{AreSpent, IsSpentOn, IsTurn, Turn, own_chunks, tests_made, with_turns}
 use Rattle.gq_rows.specs.Chunks.{Stands}
-use Rattle.gq_execute.specs.steps.Taking.{MeetsMany, Takes}
+use Rattle.gq_execute.specs.steps.Taking.{Admission, MeetsMany, Takes, outcomes_by}
 use Rattle.gq_execute.specs.declared.refusal.AnswerRefusal.{AnswerRefusal}
 use Rattle.gq_execute.specs.declared.refusal.AnswerRefusal.TheVariants as refusal
 use Rattle.gq_execute.proofs.Replying.{reached_start, reached_next, reached_more, fault_permitted, many_permitted, rows_permitted, heavy_permitted, rows_of, turn_comes, turned_all}
@@ -60,7 +60,7 @@ take_at (z ∷ ys) (suc k) y e = ap (λ l. z ∷ l) (take_at ys k y e)
 
 -- ---- the turn of an alternative
 
-module _ (a : Question) (parted : AreParted a) (k : ℕ) (y : Typed) (old : Table) (here : slice_get a.bound.alternatives k ≡ Some y)
+module _ (a : Question) (parted : AreParted a) (admitted : Admission) (makes : MakeOutcomes a admitted) (k : ℕ) (y : Typed) (old : Table) (here : slice_get a.bound.alternatives k ≡ Some y)
     (came : Came a (take k a.bound.alternatives) old) (room : is_full_table old ≡ false) where
   abbrev begun : List Typed
   begun = take (suc k) a.bound.alternatives
@@ -78,17 +78,17 @@ module _ (a : Question) (parted : AreParted a) (k : ℕ) (y : Typed) (old : Tabl
       (full_told a old false came.bound room) refl
 
   -- the alternative is begun: the outcomes of its plan are left
-  started : (Meets : List (Result Row Fault) → Type 0) (run : Runs a.graph a.bound a.order old.most y Meets) → Reached a begun came.pushed (late_outcomes a.graph a.bound y (meaning a.graph y run.plan))
+  started : (Meets : List (Result Row Fault) → Type 0) (run : Runs admitted a.graph a.bound a.order old.most y Meets) → Reached a begun came.pushed (outcomes_by admitted a.graph a.bound y (meaning a.graph y run.plan))
   started Meets run =
       let light : has_large_part a.graph a.order a.most y ≡ false = ap (λ m. has_large_part a.graph a.order m y) (sym came.most) ∙ run.light in
-      subst (λ ys. Reached a ys came.pushed (late_outcomes a.graph a.bound y (meaning a.graph y run.plan))) (sym (take_at a.bound.alternatives k y here))
-      (reached_next a (take k a.bound.alternatives) came.pushed y _ (IsPermutation-sym _ _ (parted.each k y here run.plan run.covers)) light has_come reached)
+      subst (λ ys. Reached a ys came.pushed (outcomes_by admitted a.graph a.bound y (meaning a.graph y run.plan))) (sym (take_at a.bound.alternatives k y here))
+      (reached_next a (take k a.bound.alternatives) came.pushed y _ (IsPermutation-sym _ _ (makes k y here run.plan run.covers)) light has_come reached)
 
   stood : Stands came.pushed old
   stood = told a old came.pushed came.bound came.most came.stands
 
   -- its outcomes went into the table
-  pub turn_came : (new : Table) → Runs a.graph a.bound a.order old.most y (λ os. Takes os old new) → Came a begun new
+  pub turn_came : (new : Table) → Runs admitted a.graph a.bound a.order old.most y (λ os. Takes os old new) → Came a begun new
   turn_came new run =
       let t = run.meets in
       let bound : new.bound ≡ a.bound = t.alike.bound ∙ came.bound in
@@ -104,14 +104,14 @@ module _ (a : Question) (parted : AreParted a) (k : ℕ) (y : Typed) (old : Tabl
       }
 
   -- or stopped it
-  pub turn_stopped : (new : Table) (e : AnswerRefusal) → Drains a.graph a.bound a.order y old new (Err e) → Replies a (Err e)
+  pub turn_stopped : (new : Table) (e : AnswerRefusal) → Drains admitted a.graph a.bound a.order y old new (Err e) → Replies a (Err e)
   turn_stopped new (refusal.Fault f) run =
       let t = run.meets in
       fault_permitted a parted begun later (came.pushed ++ t.cut.pushed) t.cut.left (sym (take-append-drop (suc k) a.bound.alternatives))
       (reached_more a begun came.pushed _ t.cut.pushed t.cut.left t.cut.bag (started _ run)) f (rw (← came.bound) (t.seen came.pushed stood))
   turn_stopped new (refusal.TooManyRows most) (is, why) = (is ∙ came.most, many why)
     where
-      many : (has_large_part a.graph a.order old.most y ≡ true) ⊎ Runs a.graph a.bound a.order old.most y (λ os. MeetsMany os old) → IsPermitted a TooManyRows
+      many : (has_large_part a.graph a.order old.most y ≡ true) ⊎ Runs admitted a.graph a.bound a.order old.most y (λ os. MeetsMany os old) → IsPermitted a TooManyRows
       many (inl heavy) =
           heavy_permitted a parted (take k a.bound.alternatives) later y came.pushed old.held (split_at a.bound.alternatives k y here) reached came.stands
           (full_told a old false came.bound room) (ap (λ m. has_large_part a.graph a.order m y) (sym came.most) ∙ heavy)
@@ -138,22 +138,25 @@ module _ (a : Question) (parted : AreParted a) (k : ℕ) (t : Table) (came : Cam
   done (inr all) (inr none) = inr (none, past a.bound.alternatives k all)
 
   -- its lines are permitted
-  pub finished : (lines : List (List Val)) → ((os : List (Result Row Fault)) → Stands os t → Answers t.bound os lines) → IsPermitted a (Rows lines)
-  finished lines answers =
+  pub finished : (lines : List (List Val)) → ((os : List (Result Row Fault)) → Stands os t → Answers t.bound os lines) → has_heavy_test a ≡ false → IsPermitted a (Rows lines)
+  finished lines answers light =
       rows_permitted a parted (take k a.bound.alternatives) (drop k a.bound.alternatives) came.pushed came.left (sym (take-append-drop k a.bound.alternatives)) came.at t.held lines came.stands (done end came.done)
-      (rw (← came.bound) (answers came.pushed (told a t came.pushed came.bound came.most came.stands)))
+      (rw (← came.bound) (answers came.pushed (told a t came.pushed came.bound came.most came.stands))) light
 
   -- and just the alternatives whose turn comes were begun
   turns_taken : with_turns a 0 a.bound.alternatives ≡ take k a.bound.alternatives
   turns_taken =
       turned_all a parted (take k a.bound.alternatives) (drop k a.bound.alternatives) came.pushed came.left (sym (take-append-drop k a.bound.alternatives)) came.at t.held came.stands (done end came.done)
 
-  -- so what was spent in their turns is what all pipelines spent
-  pub spent_all : (spent : List Spent) (pushed : ℕ) → pushed ≡ t.pushed → Spends a.graph a.bound a.order (take k a.bound.alternatives) t spent → AreSpent a spent pushed
-  spent_all spent pushed same spends = record {
+  -- so what was spent in their turns, and before them on tests, is what all pipelines spent
+  pub spent_all : (tested : List (List Spent)) (own spent : List Spent) (pushed : ℕ) → pushed ≡ t.pushed → Spends a.graph a.bound a.order (take k a.bound.alternatives) t own
+      → AllZip (IsSpentOn a.graph a.order) (tests_made a) tested → spent ≡ flat_map (λ s. s) tested ++ own → AreSpent a spent pushed
+  spent_all tested own spent pushed same spends on_tests all = record {
+    tested = tested;
+    on_tests = on_tests;
     turns = spends.turns;
     each = subst (λ ys. AllZip (IsTurn a.graph a.bound a.order) ys spends.turns) (sym turns_taken) spends.each;
-    all = spends.all;
+    all = all ∙ ap (λ l. flat_map (λ s. s) tested ++ l) spends.all;
     chunks = same ∙ spends.chunks;
   }
 
@@ -163,28 +166,28 @@ fresh_stands b settings t fresh =
     subst (λ m. StandsFor t.bound m [] t.held) (sym fresh.most) (subst (λ q. StandsFor q settings.rows [] t.held) (sym fresh.bound) fresh.none)
 
 -- what a table stands for when an alternative went into it
-pub taken_more : (g : Graph) (b : Bound) (order : Order) (y : Typed) (old new : Table) → StandsForSome old → Runs g b order old.most y (λ os. Takes os old new) → StandsForSome new
-taken_more g b order y old new some run = (some.0 ++ run.meets.cut.pushed, run.meets.stands some.0 some.1)
+pub taken_more : (admitted : Admission) (g : Graph) (b : Bound) (order : Order) (y : Typed) (old new : Table) → StandsForSome old → Runs admitted g b order old.most y (λ os. Takes os old new) → StandsForSome new
+taken_more admitted g b order y old new some run = (some.0 ++ run.meets.cut.pushed, run.meets.stands some.0 some.1)
 
 -- the alternative of a number
-pub item_at : (ys : List Typed) (k : ℕ) (y : Typed) → k < length ys → y ≡ get_or ys k y → slice_get ys k ≡ Some y
+pub item_at : {X : Type 0} (ys : List X) (k : ℕ) (y : X) → k < length ys → y ≡ get_or ys k y → slice_get ys k ≡ Some y
 item_at [] k y lt e = absurd (omega (arith, lt))
 item_at (z ∷ ys) zero y lt e = ap Some (sym e)
 item_at (z ∷ ys) (suc k) y lt e = item_at ys k y (omega (arith, lt)) e
 
 -- a turn was taken
-pub turn_taken : (a : Question) → AreParted a → (k : ℕ) (y : Typed) (old new : Table) → slice_get a.bound.alternatives k ≡ Some y → Came a (take k a.bound.alternatives) old → is_full_table old ≡ false
-    → Runs a.graph old.bound a.order old.most y (λ os. Takes os old new) → Came a (take (k + 1) a.bound.alternatives) new
-turn_taken a parted k y old new here came room run =
+pub turn_taken : (a : Question) → AreParted a → (admitted : Admission) → MakeOutcomes a admitted → (k : ℕ) (y : Typed) (old new : Table) → slice_get a.bound.alternatives k ≡ Some y → Came a (take k a.bound.alternatives) old → is_full_table old ≡ false
+    → Runs admitted a.graph old.bound a.order old.most y (λ os. Takes os old new) → Came a (take (k + 1) a.bound.alternatives) new
+turn_taken a parted admitted makes k y old new here came room run =
     let same : suc k ≡ k + 1 = omega arith in
     subst (λ n. Came a (take n a.bound.alternatives) new) same
-    (turn_came a parted k y old here came room new (subst (λ b. Runs a.graph b a.order old.most y (λ os. Takes os old new)) came.bound run))
+    (turn_came a parted admitted makes k y old here came room new (subst (λ b. Runs admitted a.graph b a.order old.most y (λ os. Takes os old new)) came.bound run))
 
 -- or it was stopped
-pub turn_ended : (a : Question) → AreParted a → (k : ℕ) (y : Typed) (old new : Table) → slice_get a.bound.alternatives k ≡ Some y → Came a (take k a.bound.alternatives) old → is_full_table old ≡ false
-    → (e : AnswerRefusal) → Drains a.graph old.bound a.order y old new (Err e) → Replies a (Err e)
-turn_ended a parted k y old new here came room e h =
-    turn_stopped a parted k y old here came room new e (subst (λ b. Drains a.graph b a.order y old new (Err e)) came.bound h)
+pub turn_ended : (a : Question) → AreParted a → (admitted : Admission) → MakeOutcomes a admitted → (k : ℕ) (y : Typed) (old new : Table) → slice_get a.bound.alternatives k ≡ Some y → Came a (take k a.bound.alternatives) old → is_full_table old ≡ false
+    → (e : AnswerRefusal) → Drains admitted a.graph old.bound a.order y old new (Err e) → Replies a (Err e)
+turn_ended a parted admitted makes k y old new here came room e h =
+    turn_stopped a parted admitted makes k y old here came room new e (subst (λ b. Drains admitted a.graph b a.order y old new (Err e)) came.bound h)
 
 -- ---- what was spent
 

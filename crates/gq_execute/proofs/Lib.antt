@@ -2,8 +2,10 @@ pub mod Begins
 pub mod Costing
 pub mod Covering
 pub mod Draining
+pub mod Ending
 pub mod Going
 pub mod OneReply
+pub mod Parted
 pub mod Parting
 pub mod Replying
 pub mod Turning

@@ -1,14 +1,12 @@
--- The alternatives of a bound query part its outcomes, and the builds of a plan tell whether a part is too large.
+-- The builds of a plan tell whether a part is too large.
 use Rattle.std.proofs.Common.{◌≡◌, ℕ, Bool, true, false, not, ◌&&◌, ◌||◌, List, [], ◌∷◌, length, map, IsTrue, refl, sym, ap, ap₂, ◌∙◌, arith, Err, inl}
 use Rattle.std.proofs.lemmas.Bool.{not-true, not-false}
 use Rattle.std.specs.Prelude.{nat_lt, nat_le}
 use Rattle.std.specs.List.{AllZip, list_all, list_any}
 use Rattle.std.proofs.lemmas.List.{length-map}
 use Rattle.std.proofs.lemmas.Bool.Decides.{nat_tests}
-use Rattle.gq_law_answers.proofs.Laws.{alternatives_part_outcomes, late_plan_at}
 use Rattle.gq_base.specs.Plain.{Graph}
 use Rattle.gq_base.specs.Valid.{is_valid}
-use Rattle.gq_binder.specs.Binding.{IsBound}
 use Rattle.gq_law_plans.proofs.Sides.{given_counts, greedy_counts}
 use Rattle.gq_join.specs.declared.build.JoinRefusal.{JoinRefusal}
 use Rattle.gq_join.specs.declared.build.JoinRefusal.TheVariants as join
@@ -23,16 +21,11 @@ use Rattle.gq_plan.specs.Parts.{IsSide, Part, part_assignments, sides}
 use Rattle.gq_plan.specs.Soundness.{IsSound}
 use Rattle.gq_plan.specs.Plans.{Plan}
 use Rattle.gq_plan.specs.declared.Typed.{Typed}
-use Rattle.gq_execute.specs.steps.Answering.{AreParted, Drains}
-use Rattle.gq_execute.specs.Replies.{Question, has_large_part, parts_by}
+use Rattle.gq_execute.specs.steps.Answering.{Drains}
+use Rattle.gq_execute.specs.steps.Taking.{Admission}
+use Rattle.gq_execute.specs.Replies.{has_large_part, parts_by}
 use Rattle.gq_execute.specs.declared.settings.Order.{Order}
 use Rattle.gq_execute.specs.declared.settings.Order.TheVariants as order
-
-pub bound_parted : (a : Question) (text : List ℕ) → IsTrue (is_valid a.graph) → IsBound a.query text a.graph.catalog a.bound → AreParted a
-bound_parted a text real is = record {
-  each = λ k y e. late_plan_at a.graph a.query text a.bound real is k y e;
-  all = alternatives_part_outcomes a.graph a.query text a.bound real is;
-}
 
 -- ---- large parts
 
@@ -91,8 +84,8 @@ module _ (g : Graph) (by : Order) (y : Typed) (most : ℕ) where
   sides_heavy p real sound are flat many = not-false (has_large_part g by most y) (sym (sides_tell p real sound are flat) ∙ many)
 
 -- a part is too large where the builds of a plan are refused for their rows
-pub sides_refused : (g : Graph) (by : Order) (y : Typed) (b : Bound) (old new : Table) (p : Plan) → IsTrue (is_valid g) → IsSound g.catalog y → AllZip (IsSide g.catalog y) (parts_by by y) (sides p)
-    → list_all is_flat (sides p) ≡ true → {most : ℕ} → most ≡ old.most → (e : JoinRefusal) → IsSidesRefusal g y most p e → Drains g b by y old new (Err (of_join e))
-sides_refused g by y b old new p real sound are flat {most = most} same (join.TooManyRows l) h =
+pub sides_refused : (admitted : Admission) (g : Graph) (by : Order) (y : Typed) (b : Bound) (old new : Table) (p : Plan) → IsTrue (is_valid g) → IsSound g.catalog y → AllZip (IsSide g.catalog y) (parts_by by y) (sides p)
+    → list_all is_flat (sides p) ≡ true → {most : ℕ} → most ≡ old.most → (e : JoinRefusal) → IsSidesRefusal g y most p e → Drains admitted g b by y old new (Err (of_join e))
+sides_refused admitted g by y b old new p real sound are flat {most = most} same (join.TooManyRows l) h =
     (h.0 ∙ same, inl (ap (λ m. has_large_part g by m y) (sym same) ∙ sides_heavy g by y most p real sound are flat h.1))
-sides_refused g by y b old new p real sound are flat same join.Memory h = tt
+sides_refused admitted g by y b old new p real sound are flat same join.Memory h = tt

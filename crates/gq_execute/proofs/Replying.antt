@@ -1,5 +1,5 @@
 -- What is answered at each step of a query is a permitted reply.
-use Rattle.std.proofs.Common.{◌≡◌, ℕ, ◌+◌, ◌<◌, ◌≤◌, Bool, true, false, cond, ◌&&◌, ◌||◌, Option, Some, None, List, [], ◌∷◌, ◌++◌, flat_map, length, Result, Err, refl, sym, ap, ap₂, ◌∙◌, subst, arith, add-zero, append_assoc, append-nil, length-append, inl, inr}
+use Rattle.std.proofs.Common.{◌≡◌, ℕ, ◌+◌, ◌<◌, ◌≤◌, Bool, true, false, cond, not, ◌&&◌, ◌||◌, Option, Some, None, List, [], ◌∷◌, ◌++◌, flat_map, length, Result, Err, refl, sym, ap, ap₂, ◌∙◌, subst, arith, add-zero, append_assoc, append-nil, length-append, inl, inr}
 use Rattle.std.proofs.lemmas.Bool.{or_from, and_right}
 use Rattle.std.proofs.Math.Bool.{or-true, or_assoc}
 use Rattle.std.specs.Prelude.{◌⊎◌, nat_lt}
@@ -8,13 +8,14 @@ use Rattle.std.specs.List.Sorted.{IsPermutation}
 use Rattle.std.proofs.lemmas.Bool.Decides.{nat_tests}
 use Rattle.std.proofs.lemmas.Grind.{flat_map-append}
 use Rattle.std.proofs.lemmas.List.Sorted.{IsPermutation-refl, IsPermutation-sym, IsPermutation-trans, IsPermutation-append, IsPermutation-append_left, IsPermutation-append_right}
+use Rattle.gq_base.specs.Lists.{is_empty}
 use Rattle.gq_base.specs.Values.{Val}
 use Rattle.gq_expr.specs.declared.Fault.{Fault}
 use Rattle.gq_plan.specs.Outcomes.{Row}
 use Rattle.gq_plan.specs.declared.Typed.{Typed}
 use Rattle.gq_rows.specs.Answers.{Answers, rows_in, cut_of, first_of, looked_at, kept}
 use Rattle.gq_rows.specs.Tables.{Held, StandsFor, is_full}
-use Rattle.gq_execute.specs.Replies.{Question, all_outcomes, outcomes_in, has_turn, has_large_part, some_heavy, Rows, Faulted, TooManyRows, IsPermitted}
+use Rattle.gq_execute.specs.Replies.{Question, all_outcomes, outcomes_in, has_turn, has_large_part, some_heavy, has_heavy_test, has_turns, Rows, Faulted, TooManyRows, IsPermitted}
 use Rattle.gq_execute.specs.Spending.{with_turns}
 use Rattle.gq_execute.specs.steps.Answering.{AreParted, Reached}
 use Rattle.gq_rows.proofs.Listings.{looked_front, rows_append, kept_grows, kept_few, full_enough, full_looked, open_few, few_rows}
@@ -44,7 +45,7 @@ module _ (a : Question) where
       ∙ sym (or_assoc (has_turn (cut_of a.bound) before && has_large_part a.graph a.order a.most x) (some_heavy a (before + r) xs) (some_heavy a (before + rows_of (x ∷ xs)) ys))
 
   -- no alternative has a turn behind as many rows as are looked at
-  no_turn : (n before : ℕ) → cut_of a.bound ≡ Some n → n ≤ before → has_turn (cut_of a.bound) before ≡ false
+  pub no_turn : (n before : ℕ) → cut_of a.bound ≡ Some n → n ≤ before → has_turn (cut_of a.bound) before ≡ false
   no_turn n before e h = ap (λ c. has_turn c before) e ∙ less
     where
       less : nat_lt before n ≡ false
@@ -127,7 +128,7 @@ module _ (a : Question) (parted : AreParted a) (begun later : List Typed) (pushe
 
   listing_bag : IsPermutation (all_outcomes a) listing
   listing_bag =
-      IsPermutation-trans _ _ _ (IsPermutation-sym _ _ parted.all)
+      IsPermutation-trans _ _ _ (IsPermutation-sym _ _ parted)
       (subst (λ l. IsPermutation l listing) (sym (ap (flat_map (outcomes_in a)) are ∙ flat_map-append (outcomes_in a) begun later))
       (subst (IsPermutation (flat_map (outcomes_in a) begun ++ flat_map (outcomes_in a) later)) (append_assoc pushed left (flat_map (outcomes_in a) later))
       (IsPermutation-append_left (flat_map (outcomes_in a) later) _ _ at.as_a_bag)))
@@ -197,12 +198,12 @@ module _ (a : Question) (parted : AreParted a) (begun later : List Typed) (pushe
 
   -- the rows, once as many are held as are looked at, or nothing is left
   pub rows_permitted : (held : Held) (lines : List (List Val)) → StandsFor a.bound a.most pushed held → (is_full (cut_of a.bound) held ≡ true) ⊎ ((left ≡ []) × (later ≡ []))
-      → Answers a.bound pushed lines → IsPermitted a (Rows lines)
-  rows_permitted held lines stands done answers = record {
+      → Answers a.bound pushed lines → has_heavy_test a ≡ false → IsPermitted a (Rows lines)
+  rows_permitted held lines stands done answers light = record {
     listing = listing;
     as_a_bag = listing_bag;
     permits = (
-      or_from _ _ (few_kept a.most (kept a.bound (rows_in listing)) (kept_few a.bound a.most pushed held stands behind (rest_of held done))) (ap (some_heavy a 0) are ∙ light_all held stands done),
+      or_from _ _ (few_kept a.most (kept a.bound (rows_in listing)) (kept_few a.bound a.most pushed held stands behind (rest_of held done))) (or_from _ _ (ap (some_heavy a 0) are ∙ light_all held stands done) light),
       record { rows = answers.rows; looked = same_looked held stands done ∙ answers.looked; lists = answers.lists },
     );
   }
@@ -213,7 +214,7 @@ pub heavy_permitted : (a : Question) → AreParted a → (begun later : List Typ
 heavy_permitted a parted begun later y pushed held are at stands room heavy = record {
   listing = listing a parted begun (y ∷ later) pushed [] are at;
   as_a_bag = listing_bag a parted begun (y ∷ later) pushed [] are at;
-  permits = ap (λ b. nat_lt a.most (kept a.bound (rows_in (listing a parted begun (y ∷ later) pushed [] are at))) || b) (ap (some_heavy a 0) are ∙ heavy_append a 0 begun (y ∷ later) ∙ here) ∙ or-true _;
+  permits = ap (λ b. nat_lt a.most (kept a.bound (rows_in (listing a parted begun (y ∷ later) pushed [] are at))) || (b || has_heavy_test a)) (ap (some_heavy a 0) are ∙ heavy_append a 0 begun (y ∷ later) ∙ here) ∙ or-true _;
 }
   where
     here : (some_heavy a 0 begun || some_heavy a (0 + rows_of a begun) (y ∷ later)) ≡ true
@@ -222,3 +223,32 @@ heavy_permitted a parted begun later y pushed held are at stands room heavy = re
         ap (λ b. some_heavy a 0 begun || (b || some_heavy a (0 + rows_of a begun + length (rows_in (outcomes_in a y))) later))
         (ap₂ ◌&&◌ (ap (has_turn (cut_of a.bound)) zero_rows ∙ turn_comes a parted begun (y ∷ later) pushed [] are at held stands room refl) heavy)
         ∙ or-true (some_heavy a 0 begun)
+
+-- the path of a test has too many keys
+pub test_permitted : (a : Question) → has_heavy_test a ≡ true → IsPermitted a TooManyRows
+test_permitted a heavy = record {
+  listing = all_outcomes a;
+  as_a_bag = IsPermutation-refl (all_outcomes a);
+  permits =
+      let many : Bool = nat_lt a.most (kept a.bound (rows_in (all_outcomes a))) in
+      let parts : Bool = some_heavy a 0 a.bound.alternatives in
+      ap (λ b. many || (parts || b)) heavy ∙ ap (λ b. many || b) (or-true parts) ∙ or-true many;
+}
+
+-- ---- whether a turn comes
+
+module _ (a : Question) (parted : AreParted a) (held : Held) (stands : StandsFor a.bound a.most [] held) where
+  -- the first alternative's comes where an empty table is not full
+  pub turns_come : is_full (cut_of a.bound) held ≡ false → is_empty a.bound.alternatives ≡ false → has_turns a ≡ true
+  turns_come room some = ap₂ ◌&&◌ (turn_comes a parted [] a.bound.alternatives [] [] refl (reached_start a) held stands room refl) (ap not some)
+
+  none_by : (cut : Option ℕ) → cut_of a.bound ≡ cut → is_full (cut_of a.bound) held ≡ true → has_turn (cut_of a.bound) 0 ≡ false
+  none_by None e full = absurd (let no : false ≡ true = sym (ap (λ c. is_full c held) e) ∙ full in cc)
+  none_by (Some n) e full = no_turn a n 0 e (turns_end a parted [] a.bound.alternatives [] [] refl (reached_start a) held stands full n e)
+
+  -- else none does
+  pub none_full : is_full (cut_of a.bound) held ≡ true → has_turns a ≡ false
+  none_full full = ap (λ b. b && not (is_empty a.bound.alternatives)) (none_by (cut_of a.bound) refl full)
+
+pub none_there : (a : Question) → is_empty a.bound.alternatives ≡ true → has_turns a ≡ false
+none_there a none = and_right (has_turn (cut_of a.bound) 0) (not (is_empty a.bound.alternatives)) (ap not none)

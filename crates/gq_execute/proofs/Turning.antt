@@ -16,7 +16,7 @@ use Rattle.gq_plan.specs.Columns.{columns_of}
 use Rattle.gq_plan.specs.Covers.{Covers}
 use Rattle.gq_plan.specs.Flat.{is_flat}
 use Rattle.gq_plan.specs.Meaning.{meaning, whole}
-use Rattle.gq_plan.specs.Outcomes.{Row, late_outcomes}
+use Rattle.gq_plan.specs.Outcomes.{Row}
 use Rattle.gq_plan.specs.Parts.{sides}
 use Rattle.gq_plan.specs.Plans.{Plan, Done, Then, Scan, Extend, Close, Join, Keep, Differ, NoLoop}
 use Rattle.gq_plan.specs.declared.Bound.{Bound}
@@ -27,7 +27,7 @@ use Rattle.gq_execute.specs.Planned.{IsPlanIn, sizes}
 use Rattle.gq_execute.specs.Spending.{IsTurn}
 use Rattle.gq_execute.specs.steps.Answering.{Drains, Runs}
 use Rattle.gq_execute.specs.Replies.{has_large_part}
-use Rattle.gq_execute.specs.steps.Taking.{Cut, HasRun, MeetsFault, MeetsMany, Takes, TakesAll, owed_outcomes}
+use Rattle.gq_execute.specs.steps.Taking.{Admission, Cut, HasRun, MeetsFault, MeetsMany, Takes, TakesAll, outcomes_by, owed_outcomes}
 use Rattle.gq_execute.specs.declared.refusal.AnswerRefusal.{AnswerRefusal}
 use Rattle.gq_execute.specs.declared.refusal.AnswerRefusal.TheVariants as refusal
 use Rattle.gq_execute.specs.declared.settings.Order.{Order}
@@ -35,12 +35,12 @@ use Rattle.gq_execute.proofs.Draining.{outcomes_bag}
 
 -- ---- what goes into the table
 
-module _ (g : Graph) (order : Order) (y : Typed) (old new : Table) (p : Plan) (covers : Covers g.catalog y p) (light : has_large_part g order old.most y ≡ false) where
+module _ (admitted : Admission) (g : Graph) (order : Order) (y : Typed) (old new : Table) (p : Plan) (covers : Covers g.catalog y p) (light : has_large_part g order old.most y ≡ false) where
   abbrev started : Table
   started = record { bound = old.bound; most = old.most; alternative = Some y; held = old.held; pushed = old.pushed }
 
   abbrev os : List (Result Row Fault)
-  os = late_outcomes g old.bound y (meaning g y p)
+  os = outcomes_by admitted g old.bound y (meaning g y p)
 
   -- what is taken of the same outcomes in another order
   abbrev recut : (here : List (Result Row Fault)) → IsPermutation os here → Cut here → Cut os
@@ -48,33 +48,33 @@ module _ (g : Graph) (order : Order) (y : Typed) (old new : Table) (p : Plan) (c
 
   module _ (start : Table) (pipeline : Rest) (is : start ≡ started) (typed : pipeline.source.typed ≡ y) (owed : IsPermutation (map (whole y) pipeline.owed) (meaning g y p)) where
     -- a pipeline of this plan owes these outcomes
-    owed_same : owed_outcomes g start pipeline ≡ late_outcomes g old.bound y (map (whole y) pipeline.owed)
-    owed_same = ap (λ (t : Table). owed_outcomes g t pipeline) is ∙ ap (λ z. late_outcomes g old.bound z (map (whole z) pipeline.owed)) typed
+    owed_same : owed_outcomes admitted g start pipeline ≡ outcomes_by admitted g old.bound y (map (whole y) pipeline.owed)
+    owed_same = ap (λ (t : Table). owed_outcomes admitted g t pipeline) is ∙ ap (λ z. outcomes_by admitted g old.bound z (map (whole z) pipeline.owed)) typed
 
-    owed_bag : IsPermutation os (owed_outcomes g start pipeline)
+    owed_bag : IsPermutation os (owed_outcomes admitted g start pipeline)
     owed_bag =
         subst (IsPermutation os) (sym owed_same)
-        (outcomes_bag g old.bound y (meaning g y p) (map (whole y) pipeline.owed) (IsPermutation-sym _ _ owed))
+        (outcomes_bag admitted g old.bound y (meaning g y p) (map (whole y) pipeline.owed) (IsPermutation-sym _ _ owed))
 
     -- what it hands out went into the table
-    pub turned : Takes (owed_outcomes g start pipeline) start new → Runs g old.bound order old.most y (λ os. Takes os old new)
+    pub turned : Takes (owed_outcomes admitted g start pipeline) start new → Runs admitted g old.bound order old.most y (λ os. Takes os old new)
     turned takes =
-        let t = subst (λ (s : Table). Takes (owed_outcomes g start pipeline) s new) is takes in
+        let t = subst (λ (s : Table). Takes (owed_outcomes admitted g start pipeline) s new) is takes in
         record {
           plan = p;
           covers = covers;
           light = light;
-          meets = record { cut = recut (owed_outcomes g start pipeline) owed_bag t.cut; alike = record { bound = t.alike.bound; most = t.alike.most }; stands = t.stands; done = t.done };
+          meets = record { cut = recut (owed_outcomes admitted g start pipeline) owed_bag t.cut; alike = record { bound = t.alike.bound; most = t.alike.most }; stands = t.stands; done = t.done };
         }
 
     -- or it was stopped
-    pub turn_stops : (e : AnswerRefusal) → TakesAll (owed_outcomes g start pipeline) start new (Err e) → Drains g old.bound order y old new (Err e)
+    pub turn_stops : (e : AnswerRefusal) → TakesAll (owed_outcomes admitted g start pipeline) start new (Err e) → Drains admitted g old.bound order y old new (Err e)
     turn_stops (refusal.Fault f) takes =
-        let t = subst (λ (s : Table). MeetsFault (owed_outcomes g start pipeline) s f) is takes in
-        record { plan = p; covers = covers; light = light; meets = record { cut = recut (owed_outcomes g start pipeline) owed_bag t.cut; seen = t.seen } }
+        let t = subst (λ (s : Table). MeetsFault (owed_outcomes admitted g start pipeline) s f) is takes in
+        record { plan = p; covers = covers; light = light; meets = record { cut = recut (owed_outcomes admitted g start pipeline) owed_bag t.cut; seen = t.seen } }
     turn_stops (refusal.TooManyRows most) takes =
-        let t = subst (λ (s : Table). MeetsMany (owed_outcomes g start pipeline) s) is takes.1 in
-        (takes.0 ∙ ap (λ (s : Table). s.most) is, inr (record { plan = p; covers = covers; light = light; meets = record { cut = recut (owed_outcomes g start pipeline) owed_bag t.cut; many = t.many } }))
+        let t = subst (λ (s : Table). MeetsMany (owed_outcomes admitted g start pipeline) s) is takes.1 in
+        (takes.0 ∙ ap (λ (s : Table). s.most) is, inr (record { plan = p; covers = covers; light = light; meets = record { cut = recut (owed_outcomes admitted g start pipeline) owed_bag t.cut; many = t.many } }))
     turn_stops refusal.Memory takes = tt
 
 -- ---- what is spent

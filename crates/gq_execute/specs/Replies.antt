@@ -1,17 +1,24 @@
 -- Which replies to a query are permitted (openCypher 9 for the rows, whose order it leaves open without ORDER BY; faults,
 -- too many rows and the parts of a pattern are this project's profile).
-use Rattle.std.specs.Prelude.{◌≡◌, ℕ, ◌+◌, nat_lt, Bool, true, false, ◌&&◌, ◌||◌, Option, Some, None, List, [], ◌∷◌, length, Result, Err}
+use Rattle.std.specs.Prelude.{◌≡◌, ℕ, ◌+◌, nat_lt, Bool, true, false, not, ◌&&◌, ◌||◌, Option, Some, None, List, [], ◌∷◌, length, map, Result, Err}
 use Rattle.std.specs.List.{Contains, list_any}
 use Rattle.std.specs.List.Sorted.{IsPermutation}
 use Rattle.gq_base.specs.Plain.{Graph}
+use Rattle.gq_base.specs.Lists.{is_empty}
 use Rattle.gq_base.specs.Values.{Val}
+use Rattle.gq_base.specs.declared.NodeId.{NodeId}
+use Rattle.gq_alternatives.specs.Matches.{matches, pattern_matches}
+use Rattle.gq_binder.specs.Tested.{ScopedTest, tests, where_met}
 use Rattle.gq_expr.specs.declared.Fault.{Fault}
-use Rattle.gq_law_answers.specs.Answered as answered
-use Rattle.gq_law_answers.specs.Answered.{outcomes_of}
+use Rattle.gq_law_answers.specs.Answered.{lying}
+use Rattle.gq_plan.specs.Keys.{different, key_of}
+use Rattle.gq_plan.specs.Marked.{Marked, ending, made_of}
 use Rattle.gq_plan.specs.Outcomes.{Row}
 use Rattle.gq_plan.specs.Parts.{Part, given_parts, greedy_parts, part_assignments}
 use Rattle.gq_plan.specs.declared.Bound.{Bound}
+use Rattle.gq_plan.specs.declared.ExistsPart.{ExistsPart}
 use Rattle.gq_plan.specs.declared.Typed.{Typed}
+use Rattle.gq_scopes.specs.PathPatterns.{path_pattern}
 use Rattle.gq_rows.specs.Answers.{Answers, cut_of, kept, looked_at, rows_in}
 use Rattle.gq_syntax.specs.declared.Query.{Query}
 use Rattle.gq_execute.specs.declared.settings.Order.{Order}
@@ -31,12 +38,20 @@ parts_by order.Given y = given_parts y
 parts_by order.Greedy y = greedy_parts y
 parts_by order.Least y = greedy_parts y
 
+-- the tests of paths among the conditions of a query (what they are called plays no part)
+abbrev pub tests_of : Query → List ScopedTest
+tests_of query = tests [] query
+
+-- what becomes of a row that the other conjuncts leave: its outcome, where all tests are true of it
+abbrev pub later_of : Question → Marked → List (Result Row Fault)
+later_of a = where_met a.graph (tests_of a.query) a.bound.patterns (λ m. ending a.graph a.bound m ∷ [])
+
 -- the outcomes of all matches, and those of the matches that lie in an alternative
 abbrev pub all_outcomes : Question → List (Result Row Fault)
-all_outcomes a = outcomes_of a.graph a.bound a.query
+all_outcomes a = made_of a.graph a.bound.conjuncts (later_of a) (matches a.query a.graph)
 
 abbrev pub outcomes_in : Question → Typed → List (Result Row Fault)
-outcomes_in a y = answered.outcomes_in a.graph a.bound a.query y
+outcomes_in a y = made_of a.graph a.bound.conjuncts (later_of a) (lying a.query a.graph y)
 
 -- an alternative's turn comes while those before it have fewer rows than are looked at
 abbrev pub has_turn : Option ℕ → ℕ → Bool
@@ -55,9 +70,33 @@ some_heavy a before (y ∷ ys) =
     (has_turn (cut_of a.bound) before && has_large_part a.graph a.order a.most y)
     || some_heavy a (before + length (rows_in (outcomes_in a y))) ys
 
--- too many rows are kept of a listing, or a part has too many assignments
+-- some alternative's turn comes: that of the first
+abbrev pub has_turns : Question → Bool
+has_turns a = has_turn (cut_of a.bound) 0 && not (is_empty a.bound.alternatives)
+
+-- the nodes that the matches of a test's path have at the variables which it shares with the query
+abbrev pub shared_nodes : Graph → ScopedTest → ExistsPart → List (List NodeId)
+shared_nodes g t part = map (key_of (length part.nodes)) (pattern_matches g (path_pattern t.test.path))
+
+-- more of them differ than this
+unfoldable pub has_many_keys : Graph → ℕ → ScopedTest → ExistsPart → Bool
+has_many_keys g most t part = nat_lt most (length (different [] (shared_nodes g t part)))
+
+-- this is so of some test
+abbrev pub some_many_keys : Graph → ℕ → List ScopedTest → List ExistsPart → Bool
+some_many_keys g most [] parts = false
+some_many_keys g most (t ∷ ts) [] = false
+some_many_keys g most (t ∷ ts) (part ∷ parts) = has_many_keys g most t part || some_many_keys g most ts parts
+
+-- the matches of some test's path have too many, where some alternative's turn comes
+abbrev pub has_heavy_test : Question → Bool
+has_heavy_test a = has_turns a && some_many_keys a.graph a.most (tests_of a.query) a.bound.patterns
+
+-- too many rows are kept of a listing, or a part has too many assignments, or a test's path too many shared nodes
 abbrev pub is_too_many : Question → List (Result Row Fault) → Bool
-is_too_many a listing = nat_lt a.most (kept a.bound (rows_in listing)) || some_heavy a 0 a.bound.alternatives
+is_too_many a listing =
+    nat_lt a.most (kept a.bound (rows_in listing))
+    || (some_heavy a 0 a.bound.alternatives || has_heavy_test a)
 
 -- the lines of an answer, each with the values of its columns; or why there are none
 pub data Reply : Type 0 where

@@ -3,18 +3,20 @@ use Rattle.std.specs.Prelude.{◌≡◌, ℕ, ◌+◌, Option, None, Result, Ok,
 use Rattle.std.specs.List.{AllZip}
 use Rattle.gq_base.specs.Plain.{Graph}
 use Rattle.gq_binder.specs.Binding.{IsBound}
+use Rattle.gq_exists.specs.Spending.{HasSpentEach}
 use Rattle.gq_pipe.specs.Spending.{HasOneEach, HasSpent, HasSpentAll, up_to_most}
 use Rattle.gq_pipe.specs.declared.pipeline.Spent.{Spent}
 use Rattle.gq_plan.specs.Covers.{Covers}
 use Rattle.gq_plan.specs.Parts.{sides}
 use Rattle.gq_plan.specs.Plans.{Plan}
 use Rattle.gq_plan.specs.declared.Bound.{Bound}
+use Rattle.gq_plan.specs.declared.ExistsPart.{ExistsPart}
 use Rattle.gq_plan.specs.declared.Typed.{Typed}
 use Rattle.gq_rows.specs.Answers.{cut_of, rows_in}
 use Rattle.gq_syntax.specs.declared.Query.{Query}
 use Rattle.gq_execute.specs.Answering.{question}
-use Rattle.gq_execute.specs.Planned.{IsPlanIn, sizes}
-use Rattle.gq_execute.specs.Replies.{Question, has_turn, outcomes_in}
+use Rattle.gq_execute.specs.Planned.{ArePlansIn, IsPlanIn, sizes}
+use Rattle.gq_execute.specs.Replies.{Question, has_turn, has_turns, outcomes_in}
 use Rattle.gq_execute.specs.declared.found.Answer.{Answer}
 use Rattle.gq_execute.specs.declared.refusal.AnswerRefusal.{AnswerRefusal}
 use Rattle.gq_execute.specs.declared.settings.Order.{Order}
@@ -51,12 +53,26 @@ pub record IsTurn (g : Graph) (b : Bound) (order : Order) (y : Typed) (t : Turn)
   pub own : HasSpent g y plan t.own
   pub one_each : cut_of b ≡ None → HasOneEach g y plan t.own
 
--- what all pipelines spent: those of the alternatives whose turn comes; the chunks with a row that were pushed are those of
--- the alternatives' own pipelines
+-- what was spent on a test of a path: on pipelines of the plans of the path's alternatives, which cover them
+pub record IsSpentOn (g : Graph) (order : Order) (part : ExistsPart) (spent : List Spent) : Type 0 where
+  pub plans : List Plan
+  pub costs : List (List (Option ℕ))
+  pub planned : ArePlansIn order g part.alternatives plans costs
+  pub covers : AllZip (Covers g.catalog) part.alternatives plans
+  pub each : HasSpentEach (length part.nodes) g part.alternatives plans spent
+
+-- the tests that are made: all of them, where some alternative's turn comes
+abbrev pub tests_made : Question → List ExistsPart
+tests_made a = if has_turns a then a.bound.patterns else []
+
+-- what all pipelines spent: those of the tests of paths, and behind them those of the alternatives whose turn comes; the chunks
+-- with a row that were pushed are those of the alternatives' own pipelines
 pub record AreSpent (a : Question) (spent : List Spent) (pushed : ℕ) : Type 0 where
+  pub tested : List (List Spent)
+  pub on_tests : AllZip (IsSpentOn a.graph a.order) (tests_made a) tested
   pub turns : List Turn
   pub each : AllZip (IsTurn a.graph a.bound a.order) (with_turns a 0 a.bound.alternatives) turns
-  pub all : spent ≡ spent_in turns
+  pub all : spent ≡ flat_map (λ s. s) tested ++ spent_in turns
   pub chunks : pushed ≡ up_to_most (own_chunks turns)
 
 -- the same for each query that is bound so

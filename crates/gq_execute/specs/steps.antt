@@ -1,3 +1,4 @@
 pub mod Answering
 pub mod Costing
 pub mod Taking
+pub mod Testing

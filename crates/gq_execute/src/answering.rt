@@ -1,33 +1,63 @@
 //! Answers a query alternative by alternative: the pipelines of the plan of each one run, and the
 //! chunks that its own hands out go into one table of rows.
-ghost use Rattle.std.specs.Prelude.{◌≡◌, ◌≤◌, ◌<◌, ◌++◌, false, length, All, IfOk, OnOk};
+ghost use Rattle.std.specs.Prelude.{◌≡◌, ◌≤◌, ◌<◌, false, length, All, IfOk, IsSome, OnOk};
 ghost use Rattle.gq_execute.specs.Answering.{RepliesToEach, lines_in};
 ghost use Rattle.gq_execute.specs.Planned.{sizes};
 ghost use Rattle.gq_execute.specs.Spending.{SpendsToEach};
-ghost use Rattle.gq_execute.specs.steps.Answering.{Drains, Fills, IsFresh, SpendsTurn};
+ghost use Rattle.gq_execute.specs.steps.Answering.{AnswersAll, Drains, Fills, IsFresh};
+ghost use Rattle.gq_execute.specs.steps.Answering.{SpendsTurn};
 ghost use Rattle.gq_execute.specs.steps.Taking.{HasRun, IsRunOf, TakesAll, owed_outcomes};
+ghost use Rattle.gq_execute.specs.steps.Testing.{AreTestsOf, admitted_by};
+ghost use Rattle.gq_group.specs.Groups.{choices};
 ghost use Rattle.gq_pipe.specs.Serving.{Serves};
 ghost use Rattle.gq_plan.specs.Soundness.{IsSound};
 ghost use Rattle.gq_pool.specs.Pool.{spare_of};
-ghost use Rattle.gq_rows.specs.Tables.{StandsForSome, is_full_table};
+ghost use Rattle.gq_rows.specs.Chunks.{IsChunkIn, PushesAdmitted, counted};
+ghost use Rattle.gq_rows.specs.Tables.{IsSameQuery, StandsForSome, is_full_table};
 
 use crate::found::Answer;
 use crate::planning::{plan_for, stats_of};
 use crate::refusal::AnswerRefusal;
 use crate::settings::Settings;
+use crate::testing::{Tests, append, tests_of};
 use gq_base::{List, Memory};
+use gq_group::Chunk;
 use gq_order::Stats;
 use gq_pipe::{Pipeline, Spent, make_builds};
 use gq_plan::{Bound, Typed};
 use gq_pool::VectorPool;
-use gq_rows::{More, RowTable};
+use gq_rows::{More, RowRefusal, RowTable};
 use gq_store::Graph;
 use std::alloc::Global;
+
+// Pushes those assignments of a chunk that pass some tests.
+fn push<'g>(
+    table: &mut RowTable<'g>,
+    chunk: &Chunk<'_, '_>,
+    graph: &'g Graph,
+    tests: &Tests<'_>,
+) -> Result<More, RowRefusal>
+    requires started { IsSome table.old.alternative }
+    requires chunk { IsChunkIn graph.now table.old.alternative chunk.now }
+    requires stands { StandsForSome table.old }
+    requires room { is_full_table table.old ≡ false }
+    ensures pushes { let admitted = admitted_by tests.now.all in
+        PushesAdmitted admitted graph.now chunk.now table.old table.new result }
+    ensures query { OnOk result (IsSameQuery table.old table.new) }
+    ensures counted { let all = choices chunk.now.groups.now in
+        OnOk result (table.new.pushed ≡ counted table.old.pushed all) }
+{
+    if tests.is_empty() {
+        return table.push_chunk(chunk, graph);
+    }
+    table.push_admitted(chunk, graph, tests)
+}
 
 // Pushes the chunks that a pipeline owes, one after another, until nothing is owed or the table has
 // enough.
 fn drain<'g>(
     graph: &'g Graph,
+    tests: &Tests<'_>,
     pipeline: &mut Pipeline<'_>,
     pool: &mut VectorPool,
     table: &mut RowTable<'g>,
@@ -37,7 +67,8 @@ fn drain<'g>(
     requires serves { Serves pipeline.old pool.old }
     requires stands { StandsForSome table.old }
     requires room { is_full_table table.old ≡ false }
-    ensures takes { TakesAll (owed_outcomes graph.now table.old pipeline.old)
+    ensures takes { let admitted = admitted_by tests.now.all in
+        TakesAll (owed_outcomes admitted graph.now table.old pipeline.old)
         table.old table.new result }
     ensures ran { OnOk result (HasRun table.old table.new pipeline.old pipeline.new) }
     ensures columns { pipeline.new.columns ≡ pipeline.old.columns }
@@ -46,7 +77,7 @@ fn drain<'g>(
 {
     'chunks: while pipeline.advance(pool) {
         let chunk = pipeline.chunk(pool);
-        match table.push_chunk(&chunk, graph) {
+        match push(table, &chunk, graph, tests) {
             Ok(More::Go) => {}
             Ok(More::Enough) => return Ok(()),
             Err(refusal) => return Err(AnswerRefusal::from(refusal)),
@@ -62,6 +93,7 @@ fn take_turn<'g>(
     graph: &'g Graph,
     stats: &Stats,
     typed: &'g Typed,
+    tests: &Tests<'_>,
     table: &mut RowTable<'g>,
     pool: &mut VectorPool,
     settings: &Settings,
@@ -73,7 +105,8 @@ fn take_turn<'g>(
     requires room { is_full_table table.old ≡ false }
     requires most { settings.now.rows ≡ table.old.most }
     requires slots { 112 ≤ spare_of pool.old }
-    ensures drains { Drains graph.now table.old.bound settings.now.order typed.now
+    ensures drains { let admitted = admitted_by tests.now.all in
+        Drains admitted graph.now table.old.bound settings.now.order typed.now
         table.old table.new result }
     ensures spends { IfOk result
         (SpendsTurn graph.now settings.now.order typed.now table.old table.new) }
@@ -88,7 +121,7 @@ fn take_turn<'g>(
     };
     let mut pipeline = Pipeline::start(alloc, graph, &builds, plan, typed, pool)?;
     table.start_alternative(typed);
-    let drained = drain(graph, &mut pipeline, pool, table);
+    let drained = drain(graph, tests, &mut pipeline, pool, table);
     let own = pipeline.finish(pool);
     match drained {
         Ok(()) => {}
@@ -99,18 +132,45 @@ fn take_turn<'g>(
     Ok(spent)
 }
 
-// Appends what the pipelines of an alternative spent.
-fn append(spent: &mut List<Spent>, more: List<Spent>) -> Result<(), Memory>
-    ensures { OnOk result (spent.new ≡ spent.old ++ more) }
-{
-    for one in more.into_vec() {
-        spent.push(one)?;
-    }
-    Ok(())
-}
-
 // Takes the turns of the alternatives, until all were taken or the table has enough. Answers what
 // their pipelines spent.
+fn take_turns<'g>(
+    alloc: Global,
+    graph: &'g Graph,
+    stats: &Stats,
+    bound: &'g Bound,
+    tests: &Tests<'_>,
+    table: &mut RowTable<'g>,
+    pool: &mut VectorPool,
+    settings: &Settings,
+) -> Result<List<Spent>, AnswerRefusal>
+    requires sound { All (IsSound graph.now.catalog) bound.now.alternatives }
+    requires begins { All (λ y. 0 < length y.nodes) bound.now.alternatives }
+    requires stats { stats.now ≡ sizes graph.now }
+    requires tests { AreTestsOf graph.now settings.now.rows bound.now.patterns tests.now.all }
+    requires fresh { IsFresh bound.now settings.now table.old }
+    requires slots { 112 ≤ spare_of pool.old }
+    ensures fills { Fills graph.now bound.now settings.now table.new result }
+    ensures stands { OnOk result (StandsForSome table.new) }
+    ensures bound { OnOk result (table.new.bound ≡ bound.now) }
+    ensures slots { spare_of pool.new ≡ spare_of pool.old }
+{
+    let _ = graph.catalog();
+    let mut spent = List::new(alloc);
+    'alternatives: for typed in bound.alternatives.as_slice() {
+        if table.enough() {
+            return Ok(spent);
+        }
+        match take_turn(alloc, graph, stats, typed, tests, table, pool, settings) {
+            Ok(turn) => append(&mut spent, turn)?,
+            Err(refusal) => return Err(refusal),
+        }
+    }
+    Ok(spent)
+}
+
+// Makes the tests, and takes the turns of the alternatives; where no turn comes, it does neither.
+// Answers what the pipelines spent.
 fn fill<'g>(
     alloc: Global,
     graph: &'g Graph,
@@ -121,25 +181,33 @@ fn fill<'g>(
 ) -> Result<List<Spent>, AnswerRefusal>
     requires sound { All (IsSound graph.now.catalog) bound.now.alternatives }
     requires begins { All (λ y. 0 < length y.nodes) bound.now.alternatives }
+    requires tests_sound { let sound = All (IsSound graph.now.catalog) in
+        All (λ p. sound p.alternatives) bound.now.patterns }
+    requires tests_begin { let begin = All (λ y. 0 < length y.nodes) in
+        All (λ p. begin p.alternatives) bound.now.patterns }
     requires fresh { IsFresh bound.now settings.now table.old }
     requires slots { 112 ≤ spare_of pool.old }
-    ensures fills { Fills graph.now bound.now settings.now table.new result }
+    ensures answers { AnswersAll graph.now bound.now settings.now table.new result }
     ensures stands { OnOk result (StandsForSome table.new) }
     ensures bound { OnOk result (table.new.bound ≡ bound.now) }
     ensures slots { spare_of pool.new ≡ spare_of pool.old }
 {
     let _ = graph.catalog();
-    let stats = stats_of(alloc, graph)?;
-    let mut spent = List::new(alloc);
-    'alternatives: for typed in bound.alternatives.as_slice() {
-        if table.enough() {
-            return Ok(spent);
-        }
-        match take_turn(alloc, graph, &stats, typed, table, pool, settings) {
-            Ok(turn) => append(&mut spent, turn)?,
-            Err(refusal) => return Err(refusal),
-        }
+    if bound.alternatives.is_empty() || table.enough() {
+        return Ok(List::new(alloc));
     }
+    let stats = stats_of(alloc, graph)?;
+    let parts = bound.patterns.as_slice();
+    let tests = match tests_of(alloc, graph, &stats, parts, pool, settings) {
+        Ok(tests) => tests,
+        Err(refusal) => return Err(refusal),
+    };
+    let turns = match take_turns(alloc, graph, &stats, bound, &tests, table, pool, settings) {
+        Ok(turns) => turns,
+        Err(refusal) => return Err(refusal),
+    };
+    let mut spent = tests.into_spent(alloc)?;
+    append(&mut spent, turns)?;
     Ok(spent)
 }
 
@@ -149,7 +217,8 @@ fn fill<'g>(
 /// The answer is permitted by openCypher's meaning of each query that is bound so: the lines are a
 /// window of an arrangement of its rows; a fault is one of an outcome that is looked at;
 /// `TooManyRows` comes where more rows than `settings.rows` would be kept, or where a part of an
-/// alternative whose turn comes has more assignments. `Memory` may come at any time.
+/// alternative whose turn comes has more assignments, or the path of a test more different nodes
+/// that it shares with the query. `Memory` may come at any time.
 ///
 /// The rows are made of the chunks that the pipelines hand out, and of no others. All pipelines
 /// take their slots from the pool, which has as many free afterwards, at a refusal too.
@@ -162,6 +231,10 @@ pub fn answer<'g>(
 ) -> Result<Answer<'g>, AnswerRefusal>
     requires sound { All (IsSound graph.now.catalog) bound.now.alternatives }
     requires begins { All (λ y. 0 < length y.nodes) bound.now.alternatives }
+    requires tests_sound { let sound = All (IsSound graph.now.catalog) in
+        All (λ p. sound p.alternatives) bound.now.patterns }
+    requires tests_begin { let begin = All (λ y. 0 < length y.nodes) in
+        All (λ p. begin p.alternatives) bound.now.patterns }
     requires slots { 112 ≤ spare_of pool.old }
     ensures permitted { RepliesToEach graph.now bound.now settings.now (lines_in result) }
     ensures spends { SpendsToEach graph.now bound.now settings.now result }

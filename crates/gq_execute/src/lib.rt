@@ -9,6 +9,7 @@ mod found;
 mod planning;
 mod refusal;
 mod settings;
+mod testing;
 
 pub use answering::answer;
 pub use found::Answer;

@@ -1,9 +1,10 @@
 //! The plans of alternatives, in the order that the settings name, and what they cost.
-ghost use Rattle.std.specs.Prelude.{◌≡◌, ◌<◌, [], length, map, All, IfOk, IsTrue};
+ghost use Rattle.std.specs.Prelude.{◌≡◌, ◌<◌, [], true, length, map, All, IfOk, IsTrue};
 ghost use Rattle.std.specs.List.{AllZip, list_all};
 ghost use Rattle.gq_execute.specs.Planned.{ArePlansIn, IsPlanIn, sizes};
 ghost use Rattle.gq_execute.specs.Replies.{parts_by};
 ghost use Rattle.gq_execute.specs.steps.Costing.{last_cost};
+ghost use Rattle.gq_pipe.specs.steps.Cuts.{begins};
 ghost use Rattle.gq_plan.specs.Covers.{Covers};
 ghost use Rattle.gq_plan.specs.Flat.{is_flat};
 ghost use Rattle.gq_plan.specs.Parts.{IsSide, sides};
@@ -154,10 +155,32 @@ pub fn plans(
         AllZip (Covers graph.now.catalog) bound.now.alternatives (map plan_of made.plans)) }
 {
     let stats = stats_of(alloc, graph)?;
+    plans_in(alloc, order, graph, &stats, bound.alternatives.as_slice())
+}
+
+/// The same of any alternatives; each plan begins with a scan.
+pub(crate) fn plans_in(
+    alloc: Global,
+    order: Order,
+    graph: &Graph,
+    stats: &Stats,
+    alternatives: &[Typed],
+) -> Result<QueryPlans, Memory>
+    requires sound { All (IsSound graph.now.catalog) alternatives.now }
+    requires begins { All (λ y. 0 < length y.nodes) alternatives.now }
+    requires stats { stats.now ≡ sizes graph.now }
+    ensures plans { IfOk result (λ made.
+        ArePlansIn order graph.now alternatives.now (map plan_of made.plans) made.costs) }
+    ensures covers { IfOk result (λ made.
+        AllZip (Covers graph.now.catalog) alternatives.now (map plan_of made.plans)) }
+    ensures begins { IfOk result (λ made.
+        All (λ p. begins (plan_of p) ≡ true) made.plans) }
+{
+    let _ = graph.catalog();
     let mut plans = List::new(alloc);
     let mut costs = List::new(alloc);
-    'alternatives: for typed in bound.alternatives.as_slice() {
-        let planned = plan_for(alloc, order, graph, &stats, typed)?;
+    'alternatives: for typed in alternatives {
+        let planned = plan_for(alloc, order, graph, stats, typed)?;
         plans.push(planned.plan)?;
         costs.push(planned.costs)?;
     }

@@ -57,7 +57,7 @@ absorbed xs ys h q = go (has_key q xs) refl (has_key q ys) refl ∙ sym (list_an
 
 -- ---- keys without nodes
 
-zero_any : (n : ℕ) → n ≡ 0 → (ms : List plain.Assignment) (q : List NodeId) → has_key q (map (key_of n) ms) ≡ true → same_nodes q [] ≡ true
+pub zero_any : (n : ℕ) → n ≡ 0 → (ms : List plain.Assignment) (q : List NodeId) → has_key q (map (key_of n) ms) ≡ true → same_nodes q [] ≡ true
 zero_any n z [] q e = absurd (true≢false (sym e))
 zero_any n z (m ∷ ms) q e = go (same_nodes q (key_of n m)) refl e (zero_any n z ms q)
   where
@@ -65,7 +65,7 @@ zero_any n z (m ∷ ms) q e = go (same_nodes q (key_of n m)) refl e (zero_any n 
     go true h e more = sym (ap (λ k. same_nodes q (take k m.nodes)) z) ∙ h
     go false h e more = more e
 
-zero_has : (n : ℕ) → n ≡ 0 → (ms : List plain.Assignment) → ms ≢ [] → (q : List NodeId) → same_nodes q [] ≡ true → has_key q (map (key_of n) ms) ≡ true
+pub zero_has : (n : ℕ) → n ≡ 0 → (ms : List plain.Assignment) → ms ≢ [] → (q : List NodeId) → same_nodes q [] ≡ true → has_key q (map (key_of n) ms) ≡ true
 zero_has n z [] some q e = absurd (some refl)
 zero_has n z (m ∷ ms) some q e = or_left (same_nodes q (key_of n m)) (has_key q (map (key_of n) ms)) (ap (λ k. same_nodes q (take k m.nodes)) z ∙ e)
 
@@ -180,7 +180,7 @@ each_keys g ys rest ps more y p e f w =
 pub begun : (a : Gathering) → keys_in a.keys ≡ [] → Stands a.limit [] a.keys
 begun a e = record { same = λ q. ap (has_key q) e; apart = subst AreDifferent (sym e) tt; few = omega (arith, ap length e) }
 
-unique : (ks : AllKeys) → AreDifferent ks → IsUnique same_nodes same_is ks
+pub unique : (ks : AllKeys) → AreDifferent ks → IsUnique same_nodes same_is ks
 unique [] a = tt
 unique (k ∷ ks) a = (a.0, unique ks a.1)
 

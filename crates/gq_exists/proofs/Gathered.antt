@@ -34,11 +34,11 @@ or_right false b e = e
 
 -- ---- keys apart
 
-all_among : (ks all : AllKeys) → Within ks all → AllByRecursion (λ k. has_key k all ≡ true) ks
+pub all_among : (ks all : AllKeys) → Within ks all → AllByRecursion (λ k. has_key k all ≡ true) ks
 all_among [] all h = tt
 all_among (k ∷ ks) all h = (h k (or_left (same_nodes k k) (has_key k ks) (same_refl k)), all_among ks all (λ l e. h l (or_right (same_nodes l k) (has_key l ks) e)))
 
-none_same : (key : List NodeId) (ks : AllKeys) → has_key key ks ≡ false → AllByRecursion (λ l. same_nodes key l ≡ false) ks
+pub none_same : (key : List NodeId) (ks : AllKeys) → has_key key ks ≡ false → AllByRecursion (λ l. same_nodes key l ≡ false) ks
 none_same key [] e = tt
 none_same key (k ∷ ks) e = go (same_nodes key k) refl e (none_same key ks)
   where
@@ -54,7 +54,7 @@ turned k l e = go (same_nodes l k) refl
     go false h = h
     go true h = absurd (true≢false (sym (ap (same_nodes k) (same_is l k h) ∙ same_refl k) ∙ e))
 
-apart_push : (ks : AllKeys) (key : List NodeId) → AreDifferent ks → AllByRecursion (λ l. same_nodes key l ≡ false) ks → AreDifferent (ks ++ key ∷ [])
+pub apart_push : (ks : AllKeys) (key : List NodeId) → AreDifferent ks → AllByRecursion (λ l. same_nodes key l ≡ false) ks → AreDifferent (ks ++ key ∷ [])
 apart_push [] key a h = (tt, tt)
 apart_push (k ∷ ks) key a h = (each_append (λ l. same_nodes k l ≡ false) ks (key ∷ []) a.0 (turned key k h.0, tt), apart_push ks key a.1 h.1)
 
@@ -104,7 +104,7 @@ module _ (limit : ℕ) (key : List NodeId) (came : AllKeys) (k : Keys) (s : Stan
 pub same_behind : (came xs ys : AllKeys) → Same xs ys → Same (came ++ xs) (came ++ ys)
 same_behind came xs ys h q = list_any-append (same_nodes q) came xs ∙ ap (λ b. has_key q came || b) (h q) ∙ sym (list_any-append (same_nodes q) came ys)
 
-many_more : (limit : ℕ) (xs ys : AllKeys) → Within xs ys → HasMany limit xs → HasMany limit ys
+pub many_more : (limit : ℕ) (xs ys : AllKeys) → Within xs ys → HasMany limit xs → HasMany limit ys
 many_more limit xs ys h m = record {
   some = m.some;
   apart = m.apart;

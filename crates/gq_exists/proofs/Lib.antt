@@ -1,4 +1,7 @@
+pub mod Asked
 pub mod Filling
 pub mod Gathered
-pub mod Paths
+pub mod Missing
+mod Paths
+pub mod Spent
 pub mod Taking

@@ -1,3 +1,4 @@
 pub mod Different
 pub mod Made
+pub mod Spending
 pub mod steps

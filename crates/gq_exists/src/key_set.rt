@@ -3,9 +3,11 @@
 ghost use Rattle.std.specs.Prelude.{◌≡◌, ◌≤◌, true, List, length, map, All, IfOk, IfErr, OnOk};
 ghost use Rattle.std.specs.List.{AllZip};
 ghost use Rattle.gq_base.specs.declared.NodeId.{NodeId};
-ghost use Rattle.gq_exists.specs.Made.{IsRefusal, keys_of};
+ghost use Rattle.gq_exists.specs.Made.{IsRefusal, keys_of, some_stand_on};
 ghost use Rattle.gq_exists.specs.Different.{HasNoMore};
 ghost use Rattle.gq_exists.specs.steps.Gathered.{Gathers, IsGathering};
+ghost use Rattle.gq_exists.specs.Spending.{HasSpentEach};
+ghost use Rattle.gq_exists.specs.steps.Running.{HasRun, HasSpentMore, HasSpentOne, is_full_at};
 ghost use Rattle.gq_exists.specs.steps.Running.{made_keys, owed_keys};
 ghost use Rattle.gq_pipe.specs.Bound.{binds_all};
 ghost use Rattle.gq_pipe.specs.Progress.{plan_in};
@@ -21,6 +23,7 @@ ghost use Rattle.gq_pool.specs.Pool.{spare_of};
 use crate::gathering::Gathering;
 use crate::keys::Keys;
 use gq_base::{List, NodeId};
+use gq_expr::Assigned;
 use gq_group::Choice;
 use gq_join::JoinRefusal;
 use gq_pipe::{Pipeline, Spent, make_builds};
@@ -76,6 +79,9 @@ impl KeySet {
             OnOk result (HasNoMore limit all) }
         ensures refused { let all = keys_of graph.now part.now (map plan_of plans.now) in
             IfErr result (IsRefusal limit all) }
+        ensures spent { let shared = length part.now.nodes in
+            IfOk result (λ s. HasSpentEach shared graph.now part.now.alternatives
+            (map plan_of plans.now) s.spent) }
         ensures pool { spare_of pool.new ≡ spare_of pool.old }
     {
         let _ = graph.catalog();
@@ -108,6 +114,14 @@ impl KeySet {
         self.keys.has(key)
     }
 
+    /// Whether some match of the path has, at the shared variables, the nodes that a row has at
+    /// these. It takes no memory.
+    pub fn holds_at<R: Assigned>(&self, nodes: &[u32], row: &R) -> bool
+        ensures { result ≡ some_stand_on nodes.now (R.assignment row.now) self.now.keys }
+    {
+        self.keys.has_at(nodes, row)
+    }
+
     /// What the pipelines spent that ran, one for each alternative.
     pub fn spent(&self) -> &List<Spent>
         ensures { result.now ≡ self.now.spent }
@@ -136,9 +150,11 @@ fn fill(
     requires complete { binds_all typed.now (plan_in pipeline.old.source) ≡ true }
     requires is { IsGathering gathering.old }
     requires wide { gathering.old.width ≤ length typed.now.nodes }
+    requires fresh { pipeline.old.chunks ≡ 0 }
     requires serves { Serves pipeline.old pool.old }
     ensures gathers { let all = owed_keys typed.now gathering.old.width pipeline.old in
         Gathers all gathering.old gathering.new result }
+    ensures ran { OnOk result (HasRun gathering.old.width pipeline.old pipeline.new) }
     ensures columns { pipeline.new.columns ≡ pipeline.old.columns }
     ensures serves { Serves pipeline.new pool.new }
     ensures slots { pool.new.out ≡ pool.old.out }
@@ -176,6 +192,8 @@ fn run(
     requires room { 112 ≤ spare_of pool.old }
     ensures gathers { let all = made_keys graph.now typed.now gathering.old.width plan.now in
         Gathers all gathering.old gathering.new result }
+    ensures spent { OnOk result (HasSpentOne gathering.old.width
+        graph.now typed.now (plan_of plan.now) spent.old spent.new) }
     ensures pool { spare_of pool.new ≡ spare_of pool.old }
 {
     let _ = graph.catalog();
@@ -219,6 +237,9 @@ fn run_each(
     ensures gathers { let made = meanings graph.now alternatives.now (map plan_of plans.now) in
         let all = map (key_of gathering.old.width) made in
         Gathers all gathering.old gathering.new result }
+    ensures spent { let full = is_full_at gathering.old in
+        OnOk result (HasSpentMore full gathering.old.width
+        graph.now alternatives.now (map plan_of plans.now) spent.old spent.new) }
     ensures pool { spare_of pool.new ≡ spare_of pool.old }
 {
     let Some((typed, alternatives)) = alternatives.split_first() else {

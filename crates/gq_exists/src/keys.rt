@@ -1,9 +1,12 @@
 //! Lists of nodes, each once, as paths through levels.
-ghost use Rattle.std.specs.Prelude.{◌≡◌, ◌++◌, ◌∷◌, [], OnOk, IfOk, false, length, replicate};
-ghost use Rattle.gq_exists.specs.steps.Levels.{AreKeys, grown, is_path, keys_in, links_of};
+ghost use Rattle.std.specs.Prelude.{◌≡◌, ◌++◌, ◌∷◌, [], OnOk, IfOk, false, length, map, replicate};
+ghost use Rattle.gq_exists.specs.Made.{some_stand_on};
+ghost use Rattle.gq_exists.specs.steps.Levels.{AreKeys, grown, is_path, is_path_at, keys_in};
+ghost use Rattle.gq_exists.specs.steps.Levels.{links_of};
 ghost use Rattle.gq_plan.specs.Keys.{has_key};
 
 use gq_base::{Memory, NodeId};
+use gq_expr::Assigned;
 use indexmap::IndexSet;
 use std::alloc::Global;
 
@@ -66,6 +69,14 @@ impl Keys {
         self.any && is_found(self.levels.as_slice(), 0, key)
     }
 
+    /// Whether the nodes that a row has at some variables are one of the lists. It takes no memory.
+    pub(crate) fn has_at<R: Assigned>(&self, nodes: &[u32], row: &R) -> bool
+        requires { AreKeys self.now }
+        ensures { result ≡ some_stand_on nodes.now (R.assignment row.now) (keys_in self.now) }
+    {
+        self.any && is_found_at(self.levels.as_slice(), 0, nodes, row)
+    }
+
     /// Adds a list that is not among them.
     pub(crate) fn insert(&mut self, key: &[NodeId]) -> Result<(), Memory>
         requires are { AreKeys self.old }
@@ -106,6 +117,26 @@ fn is_found(levels: &[IndexSet<Link>], front: usize, key: &[NodeId]) -> bool
     match level.get_index_of(&Link::new(front, *node)) {
         None => false,
         Some(number) => is_found(levels, number, key),
+    }
+}
+
+// Whether the nodes that a row has at some variables lead on from a front through all levels.
+fn is_found_at<R: Assigned>(levels: &[IndexSet<Link>], front: usize, nodes: &[u32], row: &R) -> bool
+    ensures { let here = map (R.assignment row.now).nodes nodes.now in
+        result ≡ is_path_at (links_of levels.now) front here }
+{
+    let Some((level, levels)) = levels.split_first() else {
+        return nodes.is_empty();
+    };
+    let Some((variable, nodes)) = nodes.split_first() else {
+        return false;
+    };
+    let Some(node) = row.node(*variable) else {
+        return false;
+    };
+    match level.get_index_of(&Link::new(front, node)) {
+        None => false,
+        Some(number) => is_found_at(levels, number, nodes, row),
     }
 }
 

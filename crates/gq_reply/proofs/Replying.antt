@@ -1,13 +1,15 @@
 -- How a reply that was written is one that its statement may have.
 use Rattle.std.proofs.Common.{◌≡◌, ℕ, Bool, true, false, Option, List, [], ◌∷◌, length, map, suc, Some, Ok, Err, refl, sym, ap, ◌∙◌, subst, append-nil, arith, inl, inr}
-use Rattle.std.specs.List.{AllZip}
+use Rattle.std.specs.List.{AllByRecursion, AllZip}
 use Rattle.std.proofs.lemmas.List.{length-map}
+use Rattle.std.proofs.lemmas.List.Elements.{All-from_recursion}
 use Rattle.std.proofs.lemmas.Slice.Zip.{AllZip-long}
 use Rattle.std.specs.Prelude.{◌<◌, All, ◌++◌, codes, decimal, IfOk, Result}
 use Rattle.gq_base.specs.Catalogs.{Tables}
 use Rattle.gq_base.specs.declared.literal.Literal.{Literal}
 use Rattle.gq_binder.specs.Binding.{Answers, IsBound}
 use Rattle.gq_binder.specs.Refusals.{first_refusal}
+use Rattle.gq_binder.specs.Tested.{IsTested, ScopedTest, tests}
 use Rattle.gq_binder.specs.declared.refusal.BindRefusal.{BindRefusal}
 use Rattle.gq_binder.specs.declared.refusal.BindRefusal.TheVariants as bind
 use Rattle.gq_base.specs.Values.{Val}
@@ -25,6 +27,8 @@ use Rattle.gq_lexer.specs.declared.token.Token.{Token}
 use Rattle.gq_plan.specs.Covers.{Covers}
 use Rattle.gq_plan.specs.Plans.{plan_of}
 use Rattle.gq_plan.specs.declared.Bound.{Bound}
+use Rattle.gq_plan.specs.Soundness.{IsSound}
+use Rattle.gq_plan.specs.declared.ExistsPart.{ExistsPart}
 use Rattle.gq_plan.specs.declared.Plan as code_plan
 use Rattle.gq_plan.specs.declared.typed.Typed.{Typed}
 use Rattle.gq_render.specs.Texts.{line, refusal_line}
@@ -275,6 +279,25 @@ columns_long (y ∷ ys) (p ∷ ps) same = let less : length ps ≡ length ys = o
 -- the alternatives of a bound query have node variables
 pub begun : (query : Query) (text : List ℕ) (catalog : Tables) (bound : Bound) → IsBound query text catalog bound → All (λ y. 0 < length y.nodes) bound.alternatives
 begun query text catalog bound is = λ k d lt. omega (arith, is.has_node, is.node_counts k d lt)
+
+-- what is so of each test of a path is so of the parts of a bound query
+zip_each : (P : ExistsPart → Type 0) (text : List ℕ) (catalog : Tables) → ((t : ScopedTest) (part : ExistsPart) → IsTested text catalog t part → P part)
+    → (ts : List ScopedTest) (parts : List ExistsPart) → AllZip (IsTested text catalog) ts parts → AllByRecursion P parts
+zip_each P text catalog holds [] [] is = tt
+zip_each P text catalog holds [] (part ∷ parts) is = absurd is
+zip_each P text catalog holds (t ∷ ts) [] is = tt
+zip_each P text catalog holds (t ∷ ts) (part ∷ parts) is = (holds t part is.0, zip_each P text catalog holds ts parts is.1)
+
+-- their alternatives are sound, and have node variables
+pub tests_sound : (query : Query) (text : List ℕ) (catalog : Tables) (bound : Bound) → IsBound query text catalog bound → All (λ (p : ExistsPart). All (IsSound catalog) p.alternatives) bound.patterns
+tests_sound query text catalog bound is =
+    All-from_recursion _ bound.patterns (zip_each (λ p. All (IsSound catalog) p.alternatives) text catalog (λ t part tested. tested.sound) (tests text query) bound.patterns is.tested)
+
+pub tests_begin : (query : Query) (text : List ℕ) (catalog : Tables) (bound : Bound) → IsBound query text catalog bound
+    → All (λ (p : ExistsPart). All (λ (y : Typed). 0 < length y.nodes) p.alternatives) bound.patterns
+tests_begin query text catalog bound is =
+    All-from_recursion _ bound.patterns
+    (zip_each (λ p. All (λ (y : Typed). 0 < length y.nodes) p.alternatives) text catalog (λ t part tested. tested.has_node) (tests text query) bound.patterns is.tested)
 
 -- ---- profiles
 

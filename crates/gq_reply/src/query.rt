@@ -97,6 +97,10 @@ impl Replier<'_> {
     ) -> Result<Tone, Failed>
         requires sound { All (IsSound self.now.graph.now.catalog) bound.now.alternatives }
         requires begins { All (λ y. 0 < length y.nodes) bound.now.alternatives }
+        requires tests_sound { let sound = All (IsSound self.now.graph.now.catalog) in
+            All (λ p. sound p.alternatives) bound.now.patterns }
+        requires tests_begin { let begin = All (λ y. 0 < length y.nodes) in
+            All (λ p. begin p.alternatives) bound.now.patterns }
         requires slots { 112 ≤ spare_of pool.old }
         ensures asks { Asks (context_of self.now) profiled bound.now
             (span_of O.taken O.faults out.old out.new) result }

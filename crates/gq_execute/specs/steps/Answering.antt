@@ -2,14 +2,13 @@
 use Rattle.std.specs.Prelude.{◌≡◌, ◌⊎◌, ◌≤◌, ◌+◌, ℕ, length, take, true, false, Some, Result, Ok, Err, List, [], ◌∷◌, ◌++◌, flat_map, slice_get}
 use Rattle.std.specs.List.{AllZip}
 use Rattle.std.specs.List.Sorted.{IsPermutation}
-use Rattle.gq_law_answers.specs.Answered.{MakesLateOutcomes}
 use Rattle.gq_binder.specs.Binding.{IsBound}
 use Rattle.gq_expr.specs.declared.Fault.{Fault}
 use Rattle.gq_pipe.specs.Spending.{up_to_most}
 use Rattle.gq_pipe.specs.declared.pipeline.Spent.{Spent}
 use Rattle.gq_plan.specs.Covers.{Covers}
 use Rattle.gq_plan.specs.Meaning.{meaning}
-use Rattle.gq_plan.specs.Outcomes.{Row, late_outcomes}
+use Rattle.gq_plan.specs.Outcomes.{Row}
 use Rattle.gq_plan.specs.Plans.{Plan}
 use Rattle.gq_plan.specs.declared.Bound.{Bound}
 use Rattle.gq_plan.specs.declared.Typed.{Typed}
@@ -17,20 +16,23 @@ use Rattle.gq_rows.specs.Tables.{StandsFor, Table, is_full_table}
 use Rattle.gq_syntax.specs.declared.Query.{Query}
 use Rattle.gq_base.specs.Plain.{Graph}
 use Rattle.gq_execute.specs.Answering.{question, RepliesToEach}
-use Rattle.gq_execute.specs.Replies.{Question, all_outcomes, outcomes_in, has_large_part, some_heavy}
-use Rattle.gq_execute.specs.Spending.{IsTurn, Turn, own_chunks, spent_in, with_turns}
-use Rattle.gq_execute.specs.steps.Taking.{MeetsFault, MeetsMany, Takes}
+use Rattle.gq_execute.specs.Replies.{Question, all_outcomes, has_heavy_test, has_large_part, outcomes_in, some_heavy}
+use Rattle.gq_execute.specs.Spending.{IsSpentOn, IsTurn, Turn, own_chunks, spent_in, tests_made, with_turns}
+use Rattle.gq_execute.specs.steps.Taking.{Admission, MeetsFault, MeetsMany, Takes, outcomes_by}
 use Rattle.gq_execute.specs.declared.refusal.AnswerRefusal.{AnswerRefusal}
 use Rattle.gq_execute.specs.declared.refusal.AnswerRefusal.TheVariants as refusal
 use Rattle.gq_execute.specs.declared.settings.Order.{Order}
 use Rattle.gq_execute.specs.declared.settings.Settings.{Settings}
 
--- each plan that covers an alternative makes the outcomes of the matches that lie in it, and these are together those of all
--- matches
-pub record AreParted (a : Question) : Type 0 where
-  pub each : (k : ℕ) (y : Typed) → slice_get a.bound.alternatives k ≡ Some y
-      → MakesLateOutcomes a.graph a.query a.bound y
-  pub all : IsPermutation (flat_map (outcomes_in a) a.bound.alternatives) (all_outcomes a)
+-- the outcomes of the matches that lie in the alternatives are together those of all matches
+abbrev pub AreParted : Question → Type 0
+AreParted a = IsPermutation (flat_map (outcomes_in a) a.bound.alternatives) (all_outcomes a)
+
+-- each plan that covers an alternative makes the outcomes of those that lie in it, where these rows are admitted
+abbrev pub MakeOutcomes : Question → Admission → Type 0
+MakeOutcomes a admitted =
+    (k : ℕ) (y : Typed) → slice_get a.bound.alternatives k ≡ Some y → (p : Plan) → Covers a.graph.catalog y p
+    → IsPermutation (outcomes_by admitted a.graph a.bound y (meaning a.graph y p)) (outcomes_in a y)
 
 -- these alternatives were begun, since their turn came: the outcomes in them are those that were pushed and those that are
 -- left, and none is heavy
@@ -50,19 +52,19 @@ pub record Came (a : Question) (begun : List Typed) (table : Table) : Type 0 whe
   pub done : (is_full_table table ≡ true) ⊎ (left ≡ [])
 
 -- an alternative has no large part, and its plan, which covers it, makes outcomes that meet a property
-pub record Runs (g : Graph) (b : Bound) (order : Order) (most : ℕ) (y : Typed) (Meets : List (Result Row Fault) → Type 0) : Type 0 where
+pub record Runs (admitted : Admission) (g : Graph) (b : Bound) (order : Order) (most : ℕ) (y : Typed) (Meets : List (Result Row Fault) → Type 0) : Type 0 where
   pub plan : Plan
   pub covers : Covers g.catalog y plan
   pub light : has_large_part g order most y ≡ false
-  pub meets : Meets (late_outcomes g b y (meaning g y plan))
+  pub meets : Meets (outcomes_by admitted g b y (meaning g y plan))
 
 -- how the turn of an alternative ends: its outcomes went into the table, or one of them or a large part stopped it
-abbrev pub Drains : Graph → Bound → Order → Typed → Table → Table → Result (List Spent) AnswerRefusal → Type 0
-Drains g b order y old new (Ok _) = Runs g b order old.most y (λ os. Takes os old new)
-Drains g b order y old new (Err (refusal.Fault f)) = Runs g b order old.most y (λ os. MeetsFault os old f)
-Drains g b order y old new (Err (refusal.TooManyRows most)) =
-    (most ≡ old.most) × ((has_large_part g order old.most y ≡ true) ⊎ Runs g b order old.most y (λ os. MeetsMany os old))
-Drains g b order y old new (Err refusal.Memory) = Unit {0}
+abbrev pub Drains : Admission → Graph → Bound → Order → Typed → Table → Table → Result (List Spent) AnswerRefusal → Type 0
+Drains admitted g b order y old new (Ok _) = Runs admitted g b order old.most y (λ os. Takes os old new)
+Drains admitted g b order y old new (Err (refusal.Fault f)) = Runs admitted g b order old.most y (λ os. MeetsFault os old f)
+Drains admitted g b order y old new (Err (refusal.TooManyRows most)) =
+    (most ≡ old.most) × ((has_large_part g order old.most y ≡ true) ⊎ Runs admitted g b order old.most y (λ os. MeetsMany os old))
+Drains admitted g b order y old new (Err refusal.Memory) = Unit {0}
 
 -- what was spent in the turn of an alternative, whose chunks the table counted
 pub record SpendsTurn (g : Graph) (order : Order) (y : Typed) (old new : Table) (spent : List Spent) : Type 0 where
@@ -100,3 +102,18 @@ pub record FillsWith (g : Graph) (bound : Bound) (settings : Settings) (table : 
 abbrev pub Fills : Graph → Bound → Settings → Table → Result (List Spent) AnswerRefusal → Type 0
 Fills g bound settings table (Ok spent) = FillsWith g bound settings table spent
 Fills g bound settings table (Err refused) = RepliesToEach g bound settings (Err refused)
+
+-- what was spent in the turns, and before them on the tests, of which none has too many keys
+pub record AnswersWith (g : Graph) (bound : Bound) (settings : Settings) (table : Table) (spent : List Spent) : Type 0 where
+  pub tested : List (List Spent)
+  pub on_tests : (query : Query) (text : List ℕ) → IsBound query text g.catalog bound
+      → AllZip (IsSpentOn g settings.order) (tests_made (question g query bound settings)) tested
+  pub own : List Spent
+  pub fills : FillsWith g bound settings table own
+  pub all : spent ≡ flat_map (λ s. s) tested ++ own
+  pub light : (query : Query) (text : List ℕ) → IsBound query text g.catalog bound
+      → has_heavy_test (question g query bound settings) ≡ false
+
+abbrev pub AnswersAll : Graph → Bound → Settings → Table → Result (List Spent) AnswerRefusal → Type 0
+AnswersAll g bound settings table (Ok spent) = AnswersWith g bound settings table spent
+AnswersAll g bound settings table (Err refused) = RepliesToEach g bound settings (Err refused)

@@ -1,6 +1,7 @@
 -- What a table of rows takes of the outcomes of the chunks that are pushed to it one after another, and where it stops.
-use Rattle.std.specs.Prelude.{◌≡◌, ◌⊎◌, ◌<◌, ◌≤◌, ◌+◌, ℕ, true, Some, Result, Ok, Err, List, [], ◌++◌, IsPermutation, length, map}
+use Rattle.std.specs.Prelude.{◌≡◌, ◌⊎◌, ◌<◌, ◌≤◌, ◌+◌, ℕ, Bool, true, Some, Result, Ok, Err, List, [], ◌++◌, IsPermutation, filter, length, map}
 use Rattle.std.specs.List.{Contains}
+use Rattle.gq_expr.specs.Reading as reading
 use Rattle.gq_expr.specs.declared.Fault.{Fault}
 use Rattle.gq_plan.specs.Outcomes.{Row, late_outcomes}
 use Rattle.gq_base.specs.Plain.{Graph}
@@ -8,8 +9,9 @@ use Rattle.gq_pipe.specs.Bound.{binds_all}
 use Rattle.gq_pipe.specs.Progress.{plan_in}
 use Rattle.gq_pipe.specs.Rest.{Rest}
 use Rattle.gq_pipe.specs.Spending.{up_to_most}
-use Rattle.gq_plan.specs.Assignments.{Assignment}
+use Rattle.gq_plan.specs.Assignments.{Assignment, row_of}
 use Rattle.gq_plan.specs.Meaning.{whole}
+use Rattle.gq_plan.specs.declared.Bound.{Bound}
 use Rattle.gq_plan.specs.declared.Typed.{Typed}
 use Rattle.gq_rows.specs.Answers.{kept, looked_at, rows_in}
 use Rattle.gq_rows.specs.Chunks.{Stands}
@@ -64,18 +66,26 @@ pub record IsRunOf (g : Graph) (table : Table) (pipeline : Rest) : Type 0 where
 abbrev pub owed_by : Typed → Rest → List Assignment
 owed_by y pipeline = map (whole y) pipeline.owed
 
+-- the rows that the tests of a query admit
+abbrev pub Admission : Type 0
+Admission = reading.Assignment → Bool
+
+-- the outcomes of those assignments that are admitted
+abbrev pub outcomes_by : Admission → Graph → Bound → Typed → List Assignment → List (Result Row Fault)
+outcomes_by admitted g b y ts = late_outcomes g b y (filter (λ t. admitted (row_of t)) ts)
+
 -- the outcomes of what a pipeline owes
-abbrev pub owed_outcomes : Graph → Table → Rest → List (Result Row Fault)
-owed_outcomes g table pipeline =
+abbrev pub owed_outcomes : Admission → Graph → Table → Rest → List (Result Row Fault)
+owed_outcomes admitted g table pipeline =
     let y = pipeline.source.typed in
-    late_outcomes g table.bound y (owed_by y pipeline)
+    outcomes_by admitted g table.bound y (owed_by y pipeline)
 
 -- how far a pipeline has come: the outcomes of these assignments went into the table
-pub record Pushed (g : Graph) (old new : Table) (begun now : Rest) : Type 0 where
+pub record Pushed (admitted : Admission) (g : Graph) (old new : Table) (begun now : Rest) : Type 0 where
   pub taken : List Assignment
   pub bag : IsPermutation (owed_by begun.source.typed begun) (taken ++ owed_by begun.source.typed now)
   pub stands : (before : List (Result Row Fault)) → Stands before old
-      → Stands (before ++ late_outcomes g old.bound begun.source.typed taken) new
+      → Stands (before ++ outcomes_by admitted g old.bound begun.source.typed taken) new
 
 -- so many chunks were handed out, and the table counted as many: one for each key that was owed and is not any more, each
 -- with an assignment

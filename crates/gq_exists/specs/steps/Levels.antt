@@ -1,6 +1,6 @@
 -- Lists of nodes by levels: a level numbers, in the order of its links, the fronts of lists that have one node more than those
 -- before it.
-use Rattle.std.specs.Prelude.{◌≡◌, ℕ, ◌<◌, nat_eq, nat_lt, Bool, true, false, ◌&&◌, List, [], ◌∷◌, ◌++◌, length, map, slice_index_or, if◌then◌else◌}
+use Rattle.std.specs.Prelude.{◌≡◌, ℕ, ◌<◌, nat_eq, nat_lt, Bool, true, false, ◌&&◌, Option, Some, None, List, [], ◌∷◌, ◌++◌, length, map, slice_index_or, if◌then◌else◌}
 use Rattle.std.specs.HashSet.{HashSet}
 use Rattle.std.specs.List.{AllByRecursion, list_any, position_or_len}
 use Rattle.gq_base.specs.declared.NodeId.{NodeId}
@@ -67,6 +67,15 @@ is_path [] front (n ∷ ns) = false
 is_path (links ∷ levels) front [] = false
 is_path (links ∷ levels) front (n ∷ ns) =
     nat_lt (place links (link front n)) (length links) && is_path levels (place links (link front n)) ns
+
+-- the same of nodes that may be missing
+abbrev pub is_path_at : List (List Link) → ℕ → List (Option NodeId) → Bool
+is_path_at [] front [] = true
+is_path_at [] front (n ∷ ns) = false
+is_path_at (links ∷ levels) front [] = false
+is_path_at (links ∷ levels) front (None ∷ ns) = false
+is_path_at (links ∷ levels) front (Some n ∷ ns) =
+    nat_lt (place links (link front n)) (length links) && is_path_at levels (place links (link front n)) ns
 
 -- the links with one more, unless it is among them
 abbrev pub with_link : List Link → Link → List Link

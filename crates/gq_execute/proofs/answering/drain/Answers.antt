@@ -5,6 +5,7 @@ use Rattle.gq_pipe.specs.Progress.{Source, plan_in}
 use Rattle.gq_pipe.specs.Rest.{counted}
 use Rattle.gq_rows.specs.declared.refusal.More.TheVariants as more
 use Rattle.gq_execute.proofs.Draining.{all_taken, bag_here, chunk_in, counted_here, counted_more, counted_none, full_here, has_choice, in_order, less_owed, met, pushed_more, pushed_none, pushes_here, run_full, run_out}
+use Rattle.gq_execute.specs.steps.Testing.{admitted_by}
 use Rattle.gq_execute.proofs.answering.drain.Goals as goal
 
 pub chunks-init : goal.chunks-init
@@ -17,12 +18,12 @@ chunks-init c = record {
   slots = refl;
   room = c.requires.room;
   some = c.requires.stands;
-  came = pushed_none _ _ _;
+  came = pushed_none _ _ _ _;
   counted = counted_none _ _ c.requires.fresh;
 }
 
-pub push_chunk-requires-clause-chunk : goal.push_chunk-requires-clause-chunk
-push_chunk-requires-clause-chunk c =
+pub push-requires-clause-chunk : goal.push-requires-clause-chunk
+push-requires-clause-chunk c =
     let source = c.advance.ensures.source in
     chunk_in c.args.graph.now c.advance.new.self.source c.chunks.table.alternative c.chunk-chunk.result (ap (λ (s : Source). s.graph) source ∙ c.chunks.invariant.run.graph)
     (c.chunks.invariant.run.alternative ∙ ap (λ (s : Source). Some s.typed) (sym source)) c.chunk-chunk.ensures.chunk
@@ -39,10 +40,10 @@ chunks-preserved c =
     let bag = c.advance.ensures.bag c.chunks-test.true in
     let some = c.advance.ensures.some c.chunks-test.true in
     let here = bag_here g begun.source.typed after.source chunk after.chunk (ap (λ (s : Source). s.graph) source ∙ i.run.graph) (ap (λ (s : Source). s.typed) (source ∙ i.source)) (in_order _ _ (c.chunk-chunk.ensures.whole (ap (λ (s : Source). binds_all s.typed (plan_in s)) source ∙ i.run.complete))) in
-    let pushes = pushes_here g old.bound begun.source.typed c.chunks.table c.push_chunk.new.self chunk (Ok more.Go) i.same.bound (i.run.alternative ∙ ap (λ (s : Source). Some s.typed) i.source)
+    let pushes = pushes_here (admitted_by c.args.tests.now.all) g old.bound begun.source.typed c.chunks.table c.push.new.table chunk (Ok more.Go) i.same.bound (i.run.alternative ∙ ap (λ (s : Source). Some s.typed) i.source)
     (rw c.in-Ok-Go.field-0-is at c.in-Ok-Go.ensures.pushes) in
     let query = c.in-Ok-Go.ensures.query in
-    let more = pushed_more g old begun c.chunks.table c.chunks.pipeline after i.came i.same.bound i.same.most chunk bag here c.push_chunk.new.self pushes.0 in
+    let more = pushed_more (admitted_by c.args.tests.now.all) g old begun c.chunks.table c.chunks.pipeline after i.came i.same.bound i.same.most chunk bag here c.push.new.table pushes.0 in
     record {
       run = record {
         graph = ap (λ (s : Source). s.graph) source ∙ i.run.graph;
@@ -57,9 +58,9 @@ chunks-preserved c =
       room = pushes.1;
       some = (_, pushes.0 i.some.0 i.some.1);
       came = more;
-      counted = counted_more old begun c.chunks.table c.push_chunk.new.self c.chunks.pipeline after i.counted bag some (c.advance.ensures.next_key c.chunks-test.true)
+      counted = counted_more old begun c.chunks.table c.push.new.table c.chunks.pipeline after i.counted bag some (c.advance.ensures.next_key c.chunks-test.true)
           (c.advance.ensures.chunks ∙ ap (λ t. counted t c.chunks.pipeline.chunks) c.chunks-test.true)
-          (counted_here c.chunks.table.pushed c.push_chunk.new.self.pushed (choices chunk.groups.now) c.in-Ok-Go.ensures.counted (has_choice g begun.source.typed chunk after.chunk here some));
+          (counted_here c.chunks.table.pushed c.push.new.table.pushed (choices chunk.groups.now) c.in-Ok-Go.ensures.counted (has_choice g begun.source.typed chunk after.chunk here some));
     }
 
 pub chunks-smaller : goal.chunks-smaller
@@ -77,14 +78,14 @@ returns-in-Ok-Enough c =
     let bag = c.advance.ensures.bag c.chunks-test.true in
     let some = c.advance.ensures.some c.chunks-test.true in
     let here = bag_here g begun.source.typed after.source chunk after.chunk (ap (λ (s : Source). s.graph) source ∙ i.run.graph) (ap (λ (s : Source). s.typed) (source ∙ i.source)) (in_order _ _ (c.chunk-chunk.ensures.whole (ap (λ (s : Source). binds_all s.typed (plan_in s)) source ∙ i.run.complete))) in
-    let pushes = pushes_here g old.bound begun.source.typed c.chunks.table c.push_chunk.new.self chunk (Ok more.Enough) i.same.bound (i.run.alternative ∙ ap (λ (s : Source). Some s.typed) i.source)
+    let pushes = pushes_here (admitted_by c.args.tests.now.all) g old.bound begun.source.typed c.chunks.table c.push.new.table chunk (Ok more.Enough) i.same.bound (i.run.alternative ∙ ap (λ (s : Source). Some s.typed) i.source)
     (rw c.in-Ok-Enough.field-0-is at c.in-Ok-Enough.ensures.pushes) in
     let query = c.in-Ok-Enough.ensures.query in
     record {
-      takes = full_here g old begun c.chunks.table c.chunks.pipeline after i.came i.same.bound i.same.most chunk bag here c.push_chunk.new.self query.bound query.most pushes.0 pushes.1;
-      ran = run_full old begun c.chunks.table c.push_chunk.new.self c.chunks.pipeline after i.counted bag some (c.advance.ensures.next_key c.chunks-test.true)
+      takes = full_here (admitted_by c.args.tests.now.all) g old begun c.chunks.table c.chunks.pipeline after i.came i.same.bound i.same.most chunk bag here c.push.new.table query.bound query.most pushes.0 pushes.1;
+      ran = run_full old begun c.chunks.table c.push.new.table c.chunks.pipeline after i.counted bag some (c.advance.ensures.next_key c.chunks-test.true)
           (c.advance.ensures.chunks ∙ ap (λ t. counted t c.chunks.pipeline.chunks) c.chunks-test.true)
-          (counted_here c.chunks.table.pushed c.push_chunk.new.self.pushed (choices chunk.groups.now) c.in-Ok-Enough.ensures.counted (has_choice g begun.source.typed chunk after.chunk here some)) pushes.1;
+          (counted_here c.chunks.table.pushed c.push.new.table.pushed (choices chunk.groups.now) c.in-Ok-Enough.ensures.counted (has_choice g begun.source.typed chunk after.chunk here some)) pushes.1;
       columns = c.advance.ensures.columns ∙ i.columns;
       serves = c.advance.ensures.serves;
       slots = c.advance.ensures.pool ∙ i.slots;
@@ -101,10 +102,10 @@ returns-in-Err c =
     let source = c.advance.ensures.source in
     let bag = c.advance.ensures.bag c.chunks-test.true in
     let here = bag_here g begun.source.typed after.source chunk after.chunk (ap (λ (s : Source). s.graph) source ∙ i.run.graph) (ap (λ (s : Source). s.typed) (source ∙ i.source)) (in_order _ _ (c.chunk-chunk.ensures.whole (ap (λ (s : Source). binds_all s.typed (plan_in s)) source ∙ i.run.complete))) in
-    let pushes = pushes_here g old.bound begun.source.typed c.chunks.table c.push_chunk.new.self chunk (Err c.in-Err.refusal) i.same.bound (i.run.alternative ∙ ap (λ (s : Source). Some s.typed) i.source)
+    let pushes = pushes_here (admitted_by c.args.tests.now.all) g old.bound begun.source.typed c.chunks.table c.push.new.table chunk (Err c.in-Err.refusal) i.same.bound (i.run.alternative ∙ ap (λ (s : Source). Some s.typed) i.source)
     c.in-Err.ensures.pushes in
     record {
-      takes = rw c.from.ensures (met g old begun c.chunks.table c.chunks.pipeline after i.came i.same.bound i.same.most chunk bag here c.push_chunk.new.self c.in-Err.refusal pushes);
+      takes = rw c.from.ensures (met (admitted_by c.args.tests.now.all) g old begun c.chunks.table c.chunks.pipeline after i.came i.same.bound i.same.most chunk bag here c.push.new.table c.in-Err.refusal pushes);
       ran = tt;
       columns = c.advance.ensures.columns ∙ i.columns;
       serves = c.advance.ensures.serves;
@@ -116,7 +117,7 @@ returns c =
     let i = c.chunks.invariant in
     let none = c.advance.ensures.none c.chunks-test.false in
     record {
-      takes = all_taken c.args.graph.now c.args.table.now c.args.pipeline.now c.chunks.table c.chunks.pipeline i.came i.same.bound i.same.most none;
+      takes = all_taken (admitted_by c.args.tests.now.all) c.args.graph.now c.args.table.now c.args.pipeline.now c.chunks.table c.chunks.pipeline i.came i.same.bound i.same.most none;
       ran = run_out c.args.table.now c.args.pipeline.now c.chunks.table c.chunks.pipeline c.advance.new.self i.counted none (c.advance.ensures.no_keys c.chunks-test.false)
           (c.advance.ensures.chunks ∙ ap (λ t. counted t c.chunks.pipeline.chunks) c.chunks-test.false);
       columns = c.advance.ensures.columns ∙ i.columns;

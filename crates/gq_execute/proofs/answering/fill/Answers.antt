@@ -1,81 +1,43 @@
-use Rattle.std.proofs.Common.{◌∙◌, ◌<◌, ap, refl, sym, subst, length, get_or, arith, inl, inr}
-use Rattle.gq_execute.specs.Answering.{question}
-use Rattle.gq_execute.proofs.Going.{came_start, fresh_stands, item_at, spends_more, spends_none, taken_more, turn_ended, turn_taken}
-use Rattle.gq_execute.proofs.Parting.{bound_parted}
+use Rattle.std.proofs.Common.{◌≡◌, ◌∙◌, ◌++◌, ap, false, inl, inr, subst, sym, true}
+use Rattle.std.specs.Prelude.{◌⊎◌}
+use Rattle.std.specs.List.{AllZip}
+use Rattle.gq_base.specs.Lists.{is_empty}
+use Rattle.gq_rows.specs.Tables.{is_full_table}
+use Rattle.gq_execute.specs.Spending.{IsSpentOn}
+use Rattle.gq_execute.specs.steps.Answering.{AnswersWith}
+use Rattle.gq_execute.specs.steps.Testing.{AreTestsOf, RefusesTests, spent_on}
+use Rattle.gq_execute.proofs.Ending.{all_done, empty_tells, nothing_done, test_refused}
 use Rattle.gq_execute.proofs.answering.fill.Goals as goal
+use Rattle.gq_execute.proofs.answering.fill.Goals.{then-is_empty-via-then-is_empty, then-is_empty-via-else-is_empty+then-enough}
 
-pub alternatives-init : goal.alternatives-init
-alternatives-init c = record {
-  stats = c.in_ok-stats.ensures.sizes;
-  bound = c.requires.fresh.bound;
-  most = c.requires.fresh.most;
-  some = (_, fresh_stands _ _ _ c.requires.fresh);
-  slots = refl;
-  spends = rw c.new-spent.ensures (spends_none c.args.graph.now c.args.bound.now c.args.settings.now c.args.table.now c.requires.fresh);
-  came = λ query text is. came_start (question c.args.graph.now query c.args.bound.now c.args.settings.now) c.args.table.now c.requires.fresh.bound c.requires.fresh.most c.requires.fresh.none;
-}
+pub returns-then-is_empty-clause-answers : goal.returns-then-is_empty-clause-answers
+returns-then-is_empty-clause-answers c =
+    let g = c.args.graph.now in
+    let b = c.args.bound.now in
+    let t = c.args.table.now in
+    let over : (is_empty b.alternatives ≡ true) ⊎ (is_full_table t ≡ true) =
+    elim c.then-is_empty.branch [ then-is_empty-via-then-is_empty w ↦ inl (empty_tells b.alternatives c.is_empty.result c.is_empty.ensures ∙ w.if-is_empty.true) | then-is_empty-via-else-is_empty+then-enough w ↦ inr (sym w.enough.ensures ∙ w.if-enough.true) ] in
+    subst (AnswersWith g b c.args.settings.now t) (sym c.new.ensures) (nothing_done g b c.args.settings.now t c.catalog.ensures.valid c.requires.fresh over)
 
-pub alternatives-preserved : goal.alternatives-preserved
-alternatives-preserved c =
-    let i = c.alternatives.invariant in
-    let y = c.typed-item.result in
-    let old = c.alternatives.table in
-    let new = c.take_turn.new.table in
-    let run = c.in-Ok.ensures.drains in
-    let here = item_at c.args.bound.now.alternatives c.alternatives.typed-index y (subst (λ ys. c.alternatives.typed-index < length ys) c.as_slice-typed-items.ensures c.alternatives-test.true)
-    (c.typed-item.is ∙ ap (λ ys. get_or ys c.alternatives.typed-index y) c.as_slice-typed-items.ensures) in
-    record {
-      stats = i.stats;
-      bound = run.meets.alike.bound ∙ i.bound;
-      most = run.meets.alike.most ∙ i.most;
-      some = taken_more _ _ _ y old new i.some run;
-      slots = c.in-Ok.ensures.slots ∙ i.slots;
-      spends = rw c.in_ok-append-in-Ok.ensures (spends_more c.args.graph.now c.args.bound.now c.args.settings.now.order c.args.bound.now.alternatives c.alternatives.typed-index y old new c.alternatives.spent c.in-Ok.turn here i.bound i.spends c.in-Ok.ensures.spends);
-      came = λ query text is.
-          turn_taken (question c.args.graph.now query c.args.bound.now c.args.settings.now) (bound_parted (question c.args.graph.now query c.args.bound.now c.args.settings.now) text c.catalog.ensures.valid is)
-          c.alternatives.typed-index y old new here (i.came query text is) (sym c.enough.ensures ∙ c.if-enough.false) run;
-    }
+pub returns-in-Err-clause-answers : goal.returns-in-Err-clause-answers
+returns-in-Err-clause-answers c =
+    let g = c.args.graph.now in
+    let b = c.args.bound.now in
+    let settings = c.args.settings.now in
+    let some : is_empty b.alternatives ≡ false = empty_tells b.alternatives c.is_empty.result c.is_empty.ensures ∙ c.if-is_empty.false in
+    let room : is_full_table c.args.table.now ≡ false = sym c.enough.ensures ∙ c.if-enough.false in
+    test_refused g b settings c.args.table.now c.catalog.ensures.valid c.requires.fresh some room c.in-Err.refusal
+    (subst (λ parts. RefusesTests g settings.rows parts c.in-Err.refusal) c.as_slice-parts.ensures c.in-Err.ensures.refused)
 
-pub returns-then-enough : goal.returns-then-enough
-returns-then-enough c =
-    let i = c.alternatives.invariant in
-    record {
-      fills = record {
-        turns = c.alternatives.typed-index;
-        spends = i.spends;
-        filled = λ query text is. record { came = i.came query text is; done = inl (sym c.enough.ensures ∙ c.if-enough.true) };
-      };
-      stands = i.some;
-      bound = i.bound;
-      slots = i.slots;
-    }
-
-pub returns-in-Err : goal.returns-in-Err
-returns-in-Err c =
-    let i = c.alternatives.invariant in
-    let y = c.typed-item.result in
-    let here = item_at c.args.bound.now.alternatives c.alternatives.typed-index y (subst (λ ys. c.alternatives.typed-index < length ys) c.as_slice-typed-items.ensures c.alternatives-test.true)
-    (c.typed-item.is ∙ ap (λ ys. get_or ys c.alternatives.typed-index y) c.as_slice-typed-items.ensures) in
-    record {
-      fills = λ query text is.
-          turn_ended (question c.args.graph.now query c.args.bound.now c.args.settings.now) (bound_parted (question c.args.graph.now query c.args.bound.now c.args.settings.now) text c.catalog.ensures.valid is)
-          c.alternatives.typed-index y c.alternatives.table c.take_turn.new.table here (i.came query text is) (sym c.enough.ensures ∙ c.if-enough.false) c.in-Err.refusal c.in-Err.ensures.drains;
-      stands = tt;
-      bound = tt;
-      slots = c.in-Err.ensures.slots ∙ i.slots;
-    }
-
-pub returns : goal.returns
-returns c =
-    let past = c.alternatives-test.false in
-    let i = c.alternatives.invariant in
-    record {
-      fills = record {
-        turns = c.alternatives.typed-index;
-        spends = i.spends;
-        filled = λ query text is. record { came = i.came query text is; done = inr (omega (arith, past, ap length c.as_slice-typed-items.ensures)) };
-      };
-      stands = i.some;
-      bound = i.bound;
-      slots = i.slots;
-    }
+pub returns-clause-answers : goal.returns-clause-answers
+returns-clause-answers c =
+    let g = c.args.graph.now in
+    let b = c.args.bound.now in
+    let settings = c.args.settings.now in
+    let some : is_empty b.alternatives ≡ false = empty_tells b.alternatives c.is_empty.result c.is_empty.ensures ∙ c.if-is_empty.false in
+    let room : is_full_table c.args.table.now ≡ false = sym c.enough.ensures ∙ c.if-enough.false in
+    let tests = c.in-Ok.tests.all in
+    all_done g b settings c.args.table.now c.catalog.ensures.valid c.requires.fresh some room c.take_turns.new.table tests c.in-Ok-take_turns.turns c.append.new.spent
+    (subst (λ parts. AreTestsOf g settings.rows parts tests) c.as_slice-parts.ensures c.in-Ok.ensures.tests)
+    (subst (λ parts. AllZip (IsSpentOn g settings.order) parts (spent_on tests)) c.as_slice-parts.ensures c.in-Ok.ensures.spent) c.in-Ok-take_turns.ensures.fills
+    (c.in_ok-append.ensures ∙ ap (λ l. l ++ c.in-Ok-take_turns.turns) c.in_ok-spent.ensures)

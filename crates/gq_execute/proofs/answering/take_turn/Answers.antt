@@ -14,6 +14,7 @@ use Rattle.gq_execute.proofs.Begins.{plan_begins}
 use Rattle.gq_execute.proofs.Parting.{sides_light, sides_refused}
 use Rattle.gq_pipe.proofs.Assigned.{covers_bind_all}
 use Rattle.gq_execute.proofs.Turning.{own_counted, own_keys, own_spent, turn_spent, turn_stops, turned}
+use Rattle.gq_execute.specs.steps.Testing.{admitted_by}
 use Rattle.gq_execute.proofs.answering.take_turn.Goals as goal
 
 pub plan_for-requires-clause-nodes : goal.plan_for-requires-clause-nodes
@@ -34,7 +35,7 @@ start-requires-clause-room c =
 
 pub returns-in-Err : goal.returns-in-Err
 returns-in-Err c = record {
-  drains = rw c.from.ensures (sides_refused c.args.graph.now c.args.settings.now.order c.args.typed.now c.args.table.now.bound c.args.table.now c.args.table.now (plan_of c.in_ok-planned.planned.plan)
+  drains = rw c.from.ensures (sides_refused (admitted_by c.args.tests.now.all) c.args.graph.now c.args.settings.now.order c.args.typed.now c.args.table.now.bound c.args.table.now c.args.table.now (plan_of c.in_ok-planned.planned.plan)
       c.catalog.ensures.valid c.requires.sound c.in_ok-planned.ensures.parts c.in_ok-planned.ensures.alone c.requires.most c.in-Err.refusal c.in-Err.ensures.refused);
   spends = tt;
   slots = c.make_builds.ensures.pool;
@@ -57,7 +58,7 @@ returns-in-Err-drained-clause-drains c =
     let plan = plan_of c.in_ok-planned.planned.plan in
     let few = ap (λ m. sides_within g y m plan) (sym c.requires.most) ∙ c.in-Ok.ensures.few in
     let light = sides_light g c.args.settings.now.order y c.args.table.now.most plan c.catalog.ensures.valid c.requires.sound c.in_ok-planned.ensures.parts c.in_ok-planned.ensures.alone few in
-    turn_stops g c.args.settings.now.order y c.args.table.now c.drain-drained.new.table plan c.in_ok-planned.ensures.covers light c.start_alternative.new.self c.in_ok-pipeline.pipeline
+    turn_stops (admitted_by c.args.tests.now.all) g c.args.settings.now.order y c.args.table.now c.drain-drained.new.table plan c.in_ok-planned.ensures.covers light c.start_alternative.new.self c.in_ok-pipeline.pipeline
     c.start_alternative.ensures (ap (λ (s : Source). s.typed) p.source) p.meaning c.in-Err-drained.refusal c.in-Err-drained.ensures.takes
 
 pub returns-clause-drains : goal.returns-clause-drains
@@ -68,7 +69,7 @@ returns-clause-drains c =
     let plan = plan_of c.in_ok-planned.planned.plan in
     let few = ap (λ m. sides_within g y m plan) (sym c.requires.most) ∙ c.in-Ok.ensures.few in
     let light = sides_light g c.args.settings.now.order y c.args.table.now.most plan c.catalog.ensures.valid c.requires.sound c.in_ok-planned.ensures.parts c.in_ok-planned.ensures.alone few in
-    turned g c.args.settings.now.order y c.args.table.now c.drain-drained.new.table plan c.in_ok-planned.ensures.covers light c.start_alternative.new.self c.in_ok-pipeline.pipeline
+    turned (admitted_by c.args.tests.now.all) g c.args.settings.now.order y c.args.table.now c.drain-drained.new.table plan c.in_ok-planned.ensures.covers light c.start_alternative.new.self c.in_ok-pipeline.pipeline
     c.start_alternative.ensures (ap (λ (s : Source). s.typed) p.source) p.meaning c.in-Ok-drained.ensures.takes
 
 pub returns-clause-spends : goal.returns-clause-spends

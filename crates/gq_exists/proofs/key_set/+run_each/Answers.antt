@@ -12,6 +12,8 @@ use Rattle.gq_exists.specs.steps.Gathered.{Gathers}
 use Rattle.gq_exists.specs.steps.Running.{made_keys}
 use Rattle.gq_exists.proofs.Filling.{each_keys, full_takes}
 use Rattle.gq_exists.proofs.Gathered.{stops, then}
+use Rattle.gq_exists.specs.steps.Running.{HasSpentMore, is_full_at}
+use Rattle.gq_exists.proofs.Spent.{each_spent, full_none, none_spent, on_ok}
 use Rattle.gq_exists.proofs.key_set.+run_each.Goals as goal
 
 pub returns-then-is_full-clause-gathers : goal.returns-then-is_full-clause-gathers
@@ -59,3 +61,29 @@ returns-clause-gathers t c =
     subst (λ l. Gathers l old new c.run_each.result) (sym keys)
     (then (made_keys g c.in-Some.typed.now w c.in-Some-split_first.plan.now) (map (key_of w) (meanings g ys (map plan_of ps))) old mid new c.run_each.result took
     (subst (λ k. Gathers (map (key_of k) (meanings g ys (map plan_of ps))) mid new c.run_each.result) took.width c.run_each.ensures.gathers))
+
+pub returns-then-is_full-clause-spent : goal.returns-then-is_full-clause-spent
+returns-then-is_full-clause-spent t c =
+    let full = is_full_at c.args.gathering.now in
+    none_spent full c.args.gathering.now.width c.args.graph.now c.args.alternatives.now (map plan_of c.args.plans.now) c.args.spent.now
+    (full_none full c.args.gathering.now.width c.args.graph.now c.args.alternatives.now (map plan_of c.args.plans.now) (sym c.is_full.ensures ∙ c.if-is_full.true))
+
+pub returns-clause-spent : goal.returns-clause-spent
+returns-clause-spent t c =
+    let g = c.args.graph.now in
+    let old = c.args.gathering.now in
+    let mid = c.run.new.gathering in
+    let y = c.in-Some.typed.now in
+    let p = c.in-Some-split_first.plan.now in
+    let ys = c.in-Some.alternatives.now in
+    let ps = c.in-Some-split_first.plans.now in
+    let full = is_full_at old in
+    let w = old.width in
+    let before = c.args.spent.now in
+    let after = c.run_each.new.spent in
+    on_ok c.run_each.result
+    (λ more.
+    subst (λ zs. HasSpentMore full w g zs (map plan_of c.args.plans.now) before after) (sym c.in-Some.ensures.cases.0)
+    (subst (λ qs. HasSpentMore full w g (y ∷ ys) (map plan_of qs) before after) (sym c.in-Some-split_first.ensures.cases.0)
+    (each_spent g y p ys ps old mid c.requires.is (sym c.is_full.ensures ∙ c.if-is_full.false) c.in-Ok.ensures.gathers before c.run.new.spent after c.in-Ok.ensures.spent more)))
+    c.run_each.ensures.spent

@@ -6,6 +6,8 @@ use Rattle.gq_plan.specs.Keys.{key_of}
 use Rattle.gq_plan.specs.Meaning.{whole}
 use Rattle.gq_exists.specs.steps.Gathered.{keys_at}
 use Rattle.gq_exists.proofs.Filling.{chunk_keys, filled_all, filled_first, filled_more, filled_none, filled_stops, less_owed}
+use Rattle.gq_pipe.specs.Rest.{counted}
+use Rattle.gq_exists.proofs.Spent.{counted_more, counted_none, run_first, run_out}
 use Rattle.gq_exists.proofs.key_set.fill.Goals as goal
 use Rattle.gq_exists.proofs.key_set.fill.Goals.{After-chunk-chunk}
 
@@ -23,6 +25,8 @@ chunks-init c = record {
   columns = λ i. c.args.pipeline.now.columns;
   serves = c.requires.serves;
   slots = λ i. c.args.pool.now.out;
+  fresh = λ z. c.requires.fresh;
+  counted = counted_none c.args.pipeline.now c.requires.fresh;
   filled = filled_none c.args.typed.now c.args.pipeline.now c.args.gathering.now c.requires.is;
 }
 
@@ -37,6 +41,9 @@ chunks-preserved c =
       columns = c.advance.ensures.columns ∙ i.columns;
       serves = c.advance.ensures.serves;
       slots = c.advance.ensures.pool ∙ i.slots;
+      fresh = λ z. absurd (omega (arith, z, c.if-gathering-eq0.false));
+      counted = counted_more c.args.pipeline.now c.chunks.pipeline c.advance.new.self i.counted (c.advance.ensures.bag c.chunks-test.true) (c.advance.ensures.some c.chunks-test.true)
+          (c.advance.ensures.next_key c.chunks-test.true) (c.advance.ensures.chunks ∙ ap (λ t. counted t c.chunks.pipeline.chunks) c.chunks-test.true);
       filled = filled_more c.args.typed.now c.args.pipeline.now c.args.gathering.now c.chunks.pipeline c.advance.new.self c.chunks.gathering i.filled (c.advance.ensures.bag c.chunks-test.true) c.chunk-chunk.result
           (here (goal.at.chunks-preserved c).After-chunk-chunk) c.take_chunk.new.self tt c.in-Ok.ensures;
     }
@@ -55,3 +62,17 @@ returns-then-gathering-eq0-clause-gathers c =
 pub returns-clause-gathers : goal.returns-clause-gathers
 returns-clause-gathers c =
     filled_all c.args.typed.now c.args.pipeline.now c.args.gathering.now c.chunks.pipeline c.chunks.gathering c.chunks.invariant.filled (c.advance.ensures.none c.chunks-test.false)
+
+pub returns-then-gathering-eq0-clause-ran : goal.returns-then-gathering-eq0-clause-ran
+returns-then-gathering-eq0-clause-ran c =
+    let zero_wide = c.if-gathering-eq0.true in
+    let was : c.args.gathering.now.width ≡ 0 = omega (arith, zero_wide, c.in-Ok.ensures.width, c.chunks.invariant.filled.took.width) in
+    let stood : c.chunks.gathering.width ≡ 0 = omega (arith, zero_wide, c.in-Ok.ensures.width) in
+    run_first c.args.pipeline.now c.chunks.pipeline c.advance.new.self c.chunks.invariant.counted (c.advance.ensures.bag c.chunks-test.true) (c.advance.ensures.some c.chunks-test.true)
+    (c.advance.ensures.next_key c.chunks-test.true) (c.advance.ensures.chunks ∙ ap (λ t. counted t c.chunks.pipeline.chunks) c.chunks-test.true) c.args.gathering.now.width was (c.chunks.invariant.fresh stood)
+
+pub returns-clause-ran : goal.returns-clause-ran
+returns-clause-ran c =
+    let stood : c.args.gathering.now.width ≡ 0 → c.chunks.pipeline.chunks ≡ 0 = λ z. c.chunks.invariant.fresh (c.chunks.invariant.filled.took.width ∙ z) in
+    run_out c.args.pipeline.now c.chunks.pipeline c.advance.new.self c.chunks.invariant.counted c.args.gathering.now.width stood (c.advance.ensures.none c.chunks-test.false) (c.advance.ensures.no_keys c.chunks-test.false)
+    (c.advance.ensures.chunks ∙ ap (λ t. counted t c.chunks.pipeline.chunks) c.chunks-test.false)

@@ -9,6 +9,7 @@ use Rattle.gq_plan.specs.Plans.{plan_of}
 use Rattle.gq_exists.specs.steps.Running.{made_keys, owed_keys}
 use Rattle.gq_exists.proofs.Filling.{bag_same}
 use Rattle.gq_exists.proofs.Gathered.{alike}
+use Rattle.gq_exists.proofs.Spent.{one_spent}
 use Rattle.gq_exists.proofs.key_set.run.Goals as goal
 
 pub start-requires-clause-room : goal.start-requires-clause-room
@@ -34,3 +35,10 @@ returns-clause-gathers c =
     let w = c.args.gathering.now.width in
     alike (owed_keys y w c.in-Ok-start.pipeline) (made_keys c.args.graph.now y w c.args.plan.now) c.args.gathering.now c.fill-filled.new.gathering (Ok tt)
     (bag_same w (map (whole y) c.in-Ok-start.pipeline.owed) (meaning c.args.graph.now y (plan_of c.args.plan.now)) c.in-Ok-start.ensures.meaning) c.in-Ok-filled.ensures.gathers
+
+pub returns-clause-spent : goal.returns-clause-spent
+returns-clause-spent c =
+    let y = c.args.typed.now in
+    let start = c.in-Ok-start.ensures in
+    one_spent c.args.graph.now y (plan_of c.args.plan.now) c.in-Ok-start.pipeline c.fill-filled.new.pipeline c.finish-own.result start.meaning start.keys start.columns c.fill-filled.ensures.columns
+    c.finish-own.ensures.chunks c.finish-own.ensures.columns c.args.gathering.now.width c.in-Ok-filled.ensures.ran c.args.spent.now c.push.new.self c.in-Ok-push.ensures.pushed

@@ -1,11 +1,17 @@
 use Rattle.std.proofs.Common.{Err, subst}
 use Rattle.gq_binder.specs.Binding.{Answers}
-use Rattle.gq_reply.proofs.Replying.{begun, may_reply, refusal_is, replied, replied_as, unbound}
+use Rattle.gq_reply.proofs.Replying.{begun, may_reply, refusal_is, replied, replied_as, tests_begin, tests_sound, unbound}
 use Rattle.gq_reply.specs.Replies.{asked_by}
 use Rattle.gq_reply.proofs.replier.Replier.reply_to_asked.Goals as goal
 
 pub reply_to_query-requires-clause-begins : goal.reply_to_query-requires-clause-begins
 reply_to_query-requires-clause-begins g c = begun _ _ _ _ (rw c.catalog.ensures.value at c.in-Ok.ensures)
+
+pub reply_to_query-requires-clause-tests_sound : goal.reply_to_query-requires-clause-tests_sound
+reply_to_query-requires-clause-tests_sound g c = tests_sound _ _ _ _ (rw c.catalog.ensures.value at c.in-Ok.ensures)
+
+pub reply_to_query-requires-clause-tests_begin : goal.reply_to_query-requires-clause-tests_begin
+reply_to_query-requires-clause-tests_begin g c = tests_begin _ _ _ _ (rw c.catalog.ensures.value at c.in-Ok.ensures)
 
 pub returns-in-Ok-clause-replies : goal.returns-in-Ok-clause-replies
 returns-in-Ok-clause-replies g c = λ params spelled.

@@ -6,7 +6,7 @@ use Rattle.gq_execute.specs.Planned.{sizes}
 use Rattle.gq_execute.specs.steps.Answering.{Came, Spends}
 use Rattle.gq_rows.specs.Tables.{StandsForSome}
 use Rattle.gq_syntax.specs.declared.Query.{Query}
-use Rattle.gq_execute.proofs.answering.fill.Given as goal
+use Rattle.gq_execute.proofs.answering.take_turns.Given as goal
 
 abbrev pub invariant-alternatives : goal.invariant-alternatives
 invariant-alternatives l = record {

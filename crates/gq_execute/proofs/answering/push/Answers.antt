@@ -1,0 +1,13 @@
+use Rattle.std.proofs.Common.{◌∙◌, ap, subst, sym}
+use Rattle.gq_rows.specs.Chunks.{PushesAll, admitted_outcomes}
+use Rattle.gq_rows.proofs.Chunking.{all_admitted}
+use Rattle.gq_execute.specs.steps.Testing.{admitted_by}
+use Rattle.gq_execute.proofs.answering.push.Goals as goal
+
+pub returns-then-is_empty-clause-pushes : goal.returns-then-is_empty-clause-pushes
+returns-then-is_empty-clause-pushes c =
+    let g = c.args.graph.now in
+    let old = c.args.table.now in
+    let chunk = c.args.chunk.now in
+    subst (λ os. PushesAll os old c.push_chunk.new.self c.push_chunk.result)
+    (sym (ap (λ ts. admitted_outcomes (admitted_by ts) g old.bound old.alternative chunk) (c.is_empty.ensures c.if-is_empty.true) ∙ all_admitted g old.bound old.alternative chunk)) c.push_chunk.ensures.pushes

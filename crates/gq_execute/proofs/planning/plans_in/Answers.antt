@@ -1,0 +1,38 @@
+use Rattle.std.proofs.Common.{◌≡◌, ◌∙◌, ◌<◌, ◌++◌, ◌∷◌, [], ap, length, subst, sym, true}
+use Rattle.std.specs.List.{All}
+use Rattle.std.proofs.lemmas.List.Elements.{All-push}
+use Rattle.std.proofs.lemmas.List.FromFn.{length-map-range_with_len}
+use Rattle.gq_order.specs.declared.stats.Stats.{Stats}
+use Rattle.gq_pipe.specs.steps.Cuts.{begins}
+use Rattle.gq_plan.specs.Covers.{Covers}
+use Rattle.gq_plan.specs.Plans.{plan_of}
+use Rattle.gq_plan.specs.declared.plan.Plan as code
+use Rattle.gq_plan.specs.declared.typed.Typed.{Typed}
+use Rattle.gq_execute.proofs.Begins.{plan_begins}
+use Rattle.gq_execute.proofs.Covering.{planned_more, zip_more}
+use Rattle.gq_execute.specs.Planned.{IsPlanIn}
+use Rattle.gq_execute.proofs.planning.plans_in.Goals as goal
+
+pub plan_for-requires-clause-nodes : goal.plan_for-requires-clause-nodes
+plan_for-requires-clause-nodes c = ap (λ (s : Stats). length s.nodes) c.requires.stats ∙ length-map-range_with_len _ 0 _
+
+pub plan_for-requires-clause-rels : goal.plan_for-requires-clause-rels
+plan_for-requires-clause-rels c = ap (λ (s : Stats). length s.rels) c.requires.stats ∙ length-map-range_with_len _ 0 _
+
+pub alternatives-preserved : goal.alternatives-preserved
+alternatives-preserved c =
+    let i = c.alternatives.invariant in
+    let g = c.args.graph.now in
+    let ys = c.args.alternatives.now in
+    let low = c.alternatives-test.true in
+    let is = c.typed-item.is in
+    let p = c.in_ok-planned.ensures in
+    let made = c.in_ok-planned.planned in
+    let planned = subst (λ (s : Stats). IsPlanIn c.args.order g.catalog s c.typed-item.result (plan_of made.plan) made.costs) c.requires.stats p.plan in
+    let some = subst (λ (y : Typed). 0 < length y.nodes) (sym is) (c.requires.begins c.alternatives.typed-index c.typed-item.result low) in
+    let first = plan_begins g.catalog c.typed-item.result c.args.order c.args.stats.now (plan_of made.plan) made.costs p.plan some p.covers in
+    record {
+      plans = planned_more c.args.order g ys _ _ _ _ _ _ _ _ i.plans low is c.in_ok-push.ensures.pushed c.in_ok-push-2.ensures.pushed planned;
+      begins = subst (All (λ (q : code.Plan). begins (plan_of q) ≡ true)) (sym c.in_ok-push.ensures.pushed) (All-push (λ (q : code.Plan). begins (plan_of q) ≡ true) _ made.plan i.begins first);
+      covers = zip_more (Covers g.catalog) plan_of ys _ _ _ _ _ i.covers low is c.in_ok-push.ensures.pushed p.covers;
+    }
