@@ -1,0 +1,14 @@
+pub mod Continuing
+pub mod Cored
+pub mod Cores
+pub mod Ends
+pub mod Held
+pub mod Lying
+pub mod Meant
+pub mod Orders
+pub mod Outer
+pub mod Outside
+pub mod Reached
+pub mod Reals
+pub mod Turning
+pub mod Untrailed

@@ -1,0 +1,5 @@
+pub mod Continued
+pub mod Core
+pub mod Cores
+pub mod Reaches
+pub mod Turned
