@@ -26,11 +26,11 @@ returns-in_err-put_next_value-clause-bytes g c =
     let n = c.loop-column.column + 1 - 1 in
     let rest = flat_map (piece c.args.graph.now) (drop n (drop 1 line)) in
     next_broke _ _ _ _ _ _ _ _ _ _ rest _ _ _ _ c.loop-column.invariant.0 c.put_next_value.ensures.bytes c.in_err-put_next_value.was c.from_residual.ensures.1
-    (ap (λ l. l ++ rest) (next c.args.graph.now line c.loop-column.column _ (omega arith) (omega (arith, c.width.ensures)) c.value.ensures) ∙ flat_map_split (piece c.args.graph.now) (drop 1 line) n)
+    (ap (λ l. l ++ rest) (next c.args.graph.now line c.loop-column.column _ (omega arith) (omega (arith, c.width-column-end.ensures)) c.value.ensures) ∙ flat_map_split (piece c.args.graph.now) (drop 1 line) n)
 
 pub loop-column-preserved : goal.loop-column-preserved
 loop-column-preserved g c =
     let line = slice_index_or c.args.listing.now.lines c.args.row [] in (
-      put_then _ _ _ _ _ _ _ _ _ c.loop-column.invariant.0 c.in_ok-put_next_value.ensures.bytes (next c.args.graph.now line c.loop-column.column _ (omega arith) (omega (arith, c.width.ensures)) c.value.ensures),
+      put_then _ _ _ _ _ _ _ _ _ c.loop-column.invariant.0 c.in_ok-put_next_value.ensures.bytes (next c.args.graph.now line c.loop-column.column _ (omega arith) (omega (arith, c.width-column-end.ensures)) c.value.ensures),
       omega (arith, c.loop-column.invariant.1, c.in_ok-put_next_value.ensures.cause.later),
     )
