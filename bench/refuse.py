@@ -110,7 +110,8 @@ def uses(program, room):
         before = Tried("", program, room, OVER_GRAPH, text).whole[1]
         text += ("\n" if text else "") + statement + ";"
         replies.append(Tried("", program, room, OVER_GRAPH, text).whole[1][len(before):])
-    yield Tried("a session", program, room, OVER_GRAPH, text), replies
+    # What is left behind the last `;` is white space, which has no reply, whatever is refused.
+    yield Tried("a session", program, room, OVER_GRAPH, text + "\n"), replies
     sample = Tried("the sample", program, room, ["--sample", "4"], "")
     yield sample, [part for part in re.split(r"(?m)^(Q\d\n)", sample.whole[1]) if part]
     for name, words in [("the usage line", []), ("a file that is not there", ["--manifest", "h"])]:

@@ -1,21 +1,19 @@
 -- What pipelines spend that run for keys.
-use Rattle.std.proofs.Common.{◌≡◌, ◌≢◌, ◌∙◌, ap, ap₂, refl, sym, subst, ℕ, zero, suc, ◌+◌, ◌-◌, ◌^◌, ◌<◌, ◌≤◌, min, Bool, true, false, not, ◌&&◌, nat_eq, Option, Some, List, [], ◌∷◌, ◌++◌, length, map, arith, length-append, append_assoc, append-nil, true≢false}
+use Rattle.std.proofs.Common.{◌≡◌, ◌≢◌, ◌∙◌, ap, refl, sym, subst, ℕ, zero, suc, ◌+◌, ◌-◌, ◌^◌, ◌<◌, min, Bool, true, false, ◌&&◌, nat_eq, List, [], ◌∷◌, ◌++◌, length, map, arith, length-append, append_assoc, append-nil, true≢false}
 use Rattle.std.specs.Prelude.{IsPermutation, OnOk, Result, Ok, Err}
 use Rattle.std.proofs.lemmas.Bool.Decides.{nat_tests}
 use Rattle.std.proofs.lemmas.List.{length-map}
 use Rattle.std.proofs.lemmas.List.Sorted.{length_permutation}
 use Rattle.gq_base.specs.Plain.{Graph}
-use Rattle.gq_base.specs.declared.NodeId.{NodeId}
-use Rattle.gq_law_answers.specs.Answered.{meanings}
 use Rattle.gq_pipe.specs.Keys.{plan_keys}
 use Rattle.gq_pipe.specs.Rest.{Rest}
-use Rattle.gq_pipe.specs.Spending.{HasOneEach, HasSpentAll, up_to_most}
+use Rattle.gq_pipe.specs.Spending.{HasSpentAll, up_to_most}
 use Rattle.gq_pipe.specs.declared.pipeline.Spent.{Spent}
 use Rattle.gq_plan.specs.Assignments as plain
 use Rattle.gq_plan.specs.Columns.{columns_of}
 use Rattle.gq_plan.specs.Flat.{is_flat}
-use Rattle.gq_plan.specs.Keys.{has_key, key_of, same_nodes}
-use Rattle.gq_plan.specs.Meaning.{Partial, meaning, whole}
+use Rattle.gq_plan.specs.Keys.{has_key, key_of}
+use Rattle.gq_plan.specs.Meaning.{meaning, whole}
 use Rattle.gq_plan.specs.Plans.{Plan, plan_of}
 use Rattle.gq_plan.specs.declared.plan.Plan as code
 use Rattle.gq_plan.specs.declared.typed.Typed.{Typed}
@@ -26,7 +24,7 @@ use Rattle.gq_exists.specs.declared.keys.Link.{Link}
 use Rattle.gq_exists.specs.steps.Gathered.{IsGathering, TakesOn}
 use Rattle.gq_exists.specs.steps.Levels.{keys_from, keys_in, links_of, roots}
 use Rattle.gq_exists.specs.steps.Running.{Counted, Ended, HasRun, HasSpentMore, HasSpentOne, SpendsEach, is_full_at, made_keys, one_of}
-use Rattle.gq_exists.proofs.Filling.{begun, zero_any, zero_has}
+use Rattle.gq_exists.proofs.Filling.{begun, zero_has}
 
 -- ---- chunks
 

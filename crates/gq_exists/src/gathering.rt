@@ -6,6 +6,7 @@ ghost use Rattle.gq_group.specs.Chunks.{IsChunk};
 ghost use Rattle.gq_group.specs.Groups.{AreSelected, choices};
 
 use crate::keys::Keys;
+use crate::settled::are_settled;
 use gq_base::{Memory, NodeId};
 use gq_group::{Choice, Chunk};
 use gq_join::JoinRefusal;
@@ -74,8 +75,8 @@ impl Gathering {
         self.take(key.as_slice())
     }
 
-    /// Takes the keys of a chunk of an alternative.
-    pub(crate) fn take_chunk(
+    // Takes the keys at all choices of a chunk.
+    fn take_each(
         &mut self,
         key: &mut Vec<NodeId>,
         choice: &mut Choice,
@@ -98,6 +99,32 @@ impl Gathering {
             found = choice.next(chunk.groups);
         }
         Ok(())
+    }
+
+    /// Takes the keys of a chunk of an alternative. Where all choices have the same key the first
+    /// of them is taken alone.
+    pub(crate) fn take_chunk(
+        &mut self,
+        key: &mut Vec<NodeId>,
+        choice: &mut Choice,
+        chunk: &Chunk<'_, '_>,
+        typed: &Typed,
+    ) -> Result<(), JoinRefusal>
+        requires is { IsGathering self.old }
+        requires chunk { IsChunk chunk.now }
+        requires wide { self.old.width ≤ length typed.now.nodes }
+        ensures { let all = keys_at typed.now self.old.width chunk.now
+            (choices chunk.now.groups.now) in
+            Gathers all self.old self.new result }
+    {
+        if !are_settled(chunk, self.width) {
+            return self.take_each(key, choice, chunk, typed);
+        }
+        let found = choice.first(chunk.groups)?;
+        if !found {
+            return Ok(());
+        }
+        self.take_at(key, chunk, choice.positions(), typed)
     }
 }
 

@@ -6,5 +6,6 @@
 mod gathering;
 mod key_set;
 mod keys;
+mod settled;
 
 pub use key_set::KeySet;

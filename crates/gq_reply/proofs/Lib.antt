@@ -1,3 +1,4 @@
+pub mod Blanks
 pub mod OneTone
 pub mod Replying
 pub mod SetValue

@@ -1,3 +1,4 @@
 pub mod BindLines
 pub mod Counts
 pub mod Steps
+pub mod Gaps

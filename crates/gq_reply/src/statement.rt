@@ -16,7 +16,7 @@ ghost use Rattle.gq_tokens.specs.Parameters.{are_params};
 ghost use Rattle.gq_tokens.specs.declared.params.Param.{Param};
 
 use crate::bind_line::{named, tone_of, write_bind_refusal};
-use crate::blank::is_blank;
+use crate::blank::{is_blank, is_white};
 use crate::param::reply_to_param;
 use crate::replier::{Replier, Workspace};
 use crate::tone::toned;
@@ -127,7 +127,7 @@ impl Replier<'_> {
         ensures blank { IfOk result (λ t. (params : List Param)
             → AreBehind params statement.now t params) }
     {
-        match is_blank(self.alloc, statement) {
+        match is_blank(self.alloc, statement, at) {
             Ok(true) => Ok(Tone::Good),
             Ok(false) => toned(write_at(out, "error: Syntax at byte ", at), Tone::Refused),
             Err(Memory) => toned(write_all(out, b"error: Memory\n"), Tone::Memory),
@@ -152,6 +152,9 @@ impl Replier<'_> {
         ensures params { are_params workspace.new.params ≡ true }
         ensures slots { spare_of workspace.new.pool ≡ spare_of workspace.old.pool }
     {
+        if is_white(statement) {
+            return Ok(Tone::Good);
+        }
         match parse(self.alloc, statement, &workspace.params) {
             Ok(tree) => self.reply_to_tree(out, workspace, statement, tree),
             Err(SyntaxRefusal::Lex { at }) => {

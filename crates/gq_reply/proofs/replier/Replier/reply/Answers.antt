@@ -1,8 +1,18 @@
-use Rattle.std.proofs.Common.{Err, ap, refl}
+use Rattle.std.proofs.Common.{[], Err, ap, arith, inl, refl, sym, ◌∙◌}
+use Rattle.gq_io.proofs.Moved.{Appends-none}
+use Rattle.gq_reply.proofs.Blanks.{white_blank}
 use Rattle.gq_reply.proofs.Replying.{by_tone, for_one, replied, wrong_depth, wrong_lex, wrong_unknown}
 use Rattle.gq_reply.specs.Replies.{AreBehind}
 use Rattle.gq_session.specs.declared.answering.Tone.TheVariants as tone
 use Rattle.gq_reply.proofs.replier.Replier.reply.Goals as goal
+
+pub returns-then-is_white-clause-replies : goal.returns-then-is_white-clause-replies
+returns-then-is_white-clause-replies g c =
+    let blank = white_blank _ (sym c.is_white.ensures ∙ c.if-is_white.true) in
+    record { bytes = ([], inl (blank, refl), Appends-none _); cause = record { later = omega arith; failed = tt } }
+
+pub returns-then-is_white-clause-behind : goal.returns-then-is_white-clause-behind
+returns-then-is_white-clause-behind g c = inl (white_blank _ (sym c.is_white.ensures ∙ c.if-is_white.true), refl)
 
 pub reply_to_tree-requires-clause-spelled : goal.reply_to_tree-requires-clause-spelled
 reply_to_tree-requires-clause-spelled g c = (c.in-Ok.ensures.whole c.in-Ok.tree).0 refl
