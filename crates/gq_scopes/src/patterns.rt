@@ -484,11 +484,7 @@ impl<'t> Pattern<'t> {
 }
 
 /// The node variables of a scope that a path names, in the order of their first appearance there.
-pub fn shared_variables(
-    alloc: Global,
-    scope: &Scope<'_>,
-    path: &Path,
-) -> Result<List<u32>, Memory>
+pub fn shared_variables(alloc: Global, scope: &Scope<'_>, path: &Path) -> Result<List<u32>, Memory>
     ensures { IfOk result (λ vs.
         vs ≡ filter_map (find_name scope.now.nodes) (shared_names path.now)) }
 {
