@@ -216,6 +216,7 @@ module _ (query : Query) (text : List ℕ) where
           refl
           (subst (AllZip (IsTested text catalog) (tests text query)) (sym (ap (filter_map (exists_part text catalog)) (tests_there query text named) ∙ parts_given text catalog query))
           (zip_parts text catalog (tests text query) (tests_named query text named) (tests_sound query text catalog accepted)))
+          refl
           (node_names_there text query stands)
 
       -- no check refuses it

@@ -49,14 +49,15 @@ same_bound query text catalog b c x y =
     x.alternatives ∙ ap (typed_with query text catalog) conjuncts ∙ sym y.alternatives in
     let columns : b.columns ≡ c.columns = one_some _ _ (sym x.resolves.columns ∙ y.resolves.columns) in
     let patterns : b.patterns ≡ c.patterns = same_parts text catalog (tests text query) b.patterns c.patterns x.tested y.tested in
+    let optionals : b.optionals ≡ c.optionals = x.optionals ∙ sym y.optionals in
     let keys : b.keys ≡ c.keys = one_some _ _ (sym x.resolves.keys ∙ y.resolves.keys) in
     let nodes : b.node_names ≡ c.node_names = x.resolves.node_names ∙ sym y.resolves.node_names in
     let rels : b.rel_names ≡ c.rel_names = x.resolves.rel_names ∙ sym y.resolves.rel_names in
     let distinct : b.distinct ≡ c.distinct = x.resolves.distinct ∙ sym y.resolves.distinct in
     let skip : b.skip ≡ c.skip = x.resolves.skip ∙ sym y.resolves.skip in
     let limit : b.limit ≡ c.limit = x.resolves.limit ∙ sym y.resolves.limit in
-    let e : ◌≡◌ {A = Bound} (record { node_names = b.node_names; rel_names = b.rel_names; columns = b.columns; conjuncts = b.conjuncts; patterns = b.patterns; keys = b.keys; distinct = b.distinct; skip = b.skip; limit = b.limit; alternatives = b.alternatives })
-    (record { node_names = c.node_names; rel_names = c.rel_names; columns = c.columns; conjuncts = c.conjuncts; patterns = c.patterns; keys = c.keys; distinct = c.distinct; skip = c.skip; limit = c.limit; alternatives = c.alternatives }) = cc (nodes, rels, columns, conjuncts, patterns, keys, distinct, skip, limit, alternatives) in
+    let e : ◌≡◌ {A = Bound} (record { node_names = b.node_names; rel_names = b.rel_names; columns = b.columns; conjuncts = b.conjuncts; patterns = b.patterns; optionals = b.optionals; keys = b.keys; distinct = b.distinct; skip = b.skip; limit = b.limit; alternatives = b.alternatives })
+    (record { node_names = c.node_names; rel_names = c.rel_names; columns = c.columns; conjuncts = c.conjuncts; patterns = c.patterns; optionals = c.optionals; keys = c.keys; distinct = c.distinct; skip = c.skip; limit = c.limit; alternatives = c.alternatives }) = cc (nodes, rels, columns, conjuncts, patterns, optionals, keys, distinct, skip, limit, alternatives) in
     e
 
 -- where there is an item, there is one of it

@@ -451,12 +451,14 @@ nodes_counted query text catalog bound resolves has =
 
 -- so a query that no check refuses, with its names resolved and its alternatives, is bound
 pub is_bound : (query : Query) (text : List ℕ) (catalog : Tables) (bound : Bound) → first_refusal query text catalog ≡ None → Resolves query text bound → HasAlternatives query text catalog bound
-    → AllZip (IsTested text catalog) (tests text query) bound.patterns → 0 < length (pattern_of query.clauses).node_names → IsBound query text catalog bound
-is_bound query text catalog bound accepted resolves has tested begins = record {
+    → AllZip (IsTested text catalog) (tests text query) bound.patterns → bound.optionals ≡ [] → 0 < length (pattern_of query.clauses).node_names
+    → IsBound query text catalog bound
+is_bound query text catalog bound accepted resolves has tested plain begins = record {
   accepted = accepted;
   resolves = resolves;
   alternatives = has;
   tested = tested;
+  optionals = plain;
   sound = alternatives_sound query text catalog bound accepted resolves has;
   has_node = subst (λ names. 0 < length names) (sym resolves.node_names) begins;
   node_counts = nodes_counted query text catalog bound resolves has;

@@ -63,6 +63,7 @@ bound = record {
   columns = record { name = codes "a"; expr = expr.Node 0 } ∷ record { name = codes "r"; expr = expr.Rel 0 } ∷ record { name = codes "b"; expr = expr.Node 1 } ∷ [];
   conjuncts = [];
   patterns = [];
+  optionals = [];
   keys = [];
   distinct = false;
   skip = 0;
@@ -87,4 +88,4 @@ unfolding conjuncts columns_in pattern_of pattern_alternatives choices tuples ty
 is_bound_so =
     is_bound query text catalog bound accepted
     (record { node_names = refl; rel_names = refl; columns = refl; conjuncts = refl; keys = refl; distinct = refl; skip = refl; limit = refl })
-    refl tt (omega arith)
+    refl tt refl (omega arith)

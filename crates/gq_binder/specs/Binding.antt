@@ -1,6 +1,6 @@
 -- What binding a query answers: the first refusal that applies, or a bound query that resolves it and has its
 -- alternatives, each sound. Want of memory is free.
-use Rattle.std.specs.Prelude.{◌≡◌, ℕ, ◌<◌, List, length, Some, None, Result, Ok, Err, All}
+use Rattle.std.specs.Prelude.{◌≡◌, ℕ, [], ◌<◌, List, length, Some, None, Result, Ok, Err, All}
 use Rattle.std.specs.List.{AllZip}
 use Rattle.gq_base.specs.Catalogs.{Tables}
 use Rattle.gq_binder.specs.Columns.{Resolves, HasAlternatives}
@@ -18,6 +18,7 @@ pub record IsBound (query : Query) (text : List ℕ) (catalog : Tables) (bound :
   pub resolves : Resolves query text bound
   pub alternatives : HasAlternatives query text catalog bound
   pub tested : AllZip (IsTested text catalog) (tests text query) bound.patterns
+  pub optionals : bound.optionals ≡ []
   pub sound : All (IsSound catalog) bound.alternatives
   pub has_node : 0 < length bound.node_names
   pub node_counts : All (λ y. length y.nodes ≡ length bound.node_names) bound.alternatives

@@ -111,6 +111,7 @@ fn without_lists(
         columns: List::new(alloc),
         conjuncts: List::new(alloc),
         patterns: List::new(alloc),
+        optionals: List::new(alloc),
         keys,
         distinct: query.distinct,
         skip: query.skip.unwrap_or(0),

@@ -33,6 +33,20 @@ pub struct ExistsPart {
     pub alternatives: List<Typed>,
 }
 
+/// An OPTIONAL MATCH clause. Its alternatives have variables of their own, numbered from 0 in the
+/// order of their first appearance in the clause.
+#[derive(Drop)]
+pub struct OptionalPart {
+    /// Which node variable of the query each node variable of the clause is.
+    pub nodes: List<u32>,
+    /// Which relationship variable of the query each relationship variable of the clause is.
+    pub rels: List<u32>,
+    /// What the clause's WHERE asks, over the query's variables, in text order.
+    pub conjuncts: List<NamedExpr>,
+    /// The typed forms of the clause alone; their tests are the entries of its maps.
+    pub alternatives: List<Typed>,
+}
+
 /// A query whose names are resolved. Node variables are numbered from 0 in the order of their first appearance, and
 /// relationship variables from 0 in text order.
 #[derive(Drop)]
@@ -48,6 +62,8 @@ pub struct Bound {
     pub conjuncts: List<NamedExpr>,
     /// What WHERE asks of paths, all clauses together, in text order.
     pub patterns: List<ExistsPart>,
+    /// The OPTIONAL MATCH clauses, in text order.
+    pub optionals: List<OptionalPart>,
     /// What ORDER BY sorts by; none without it.
     pub keys: List<SortExpr>,
     pub distinct: bool,

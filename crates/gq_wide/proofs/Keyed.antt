@@ -11,7 +11,7 @@ use Rattle.gq_plan.specs.Marked.{marked}
 use Rattle.gq_plan.specs.Soundness.{has_number}
 use Rattle.gq_wide.specs.Shared.{asked_nodes, are_asked, shared_nodes, with_node}
 use Rattle.gq_wide.specs.Clauses.{agrees, agrees_at, continuations, with_match}
-use Rattle.gq_wide.specs.declared.optional_part.OptionalPart.{OptionalPart}
+use Rattle.gq_plan.specs.declared.bound.OptionalPart.{OptionalPart}
 
 key_step : (o : Option NodeId) (n : NodeId) (k : Option (List NodeId)) (ns : List NodeId) → (at_same o (Some n) && are_asked k ns) ≡ are_asked (with_node o k) (n ∷ ns)
 key_step None n k ns = refl

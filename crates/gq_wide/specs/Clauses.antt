@@ -9,7 +9,7 @@ use Rattle.gq_plan.specs.Allowed.{at_same}
 use Rattle.gq_plan.specs.Assignments.{Assignment}
 use Rattle.gq_plan.specs.Marked.{Marked, marked}
 use Rattle.gq_plan.specs.Soundness.{has_number}
-use Rattle.gq_wide.specs.declared.optional_part.OptionalPart.{OptionalPart}
+use Rattle.gq_plan.specs.declared.bound.OptionalPart.{OptionalPart}
 
 -- a row that no fault marks
 abbrev pub unmarked : reading.Assignment → Marked

@@ -3,9 +3,7 @@
 #![tactic(auto)]
 
 mod judging;
-mod optional_part;
 mod wide_row;
 
 pub use judging::{Verdict, judge};
-pub use optional_part::OptionalPart;
 pub use wide_row::WideRow;

@@ -126,6 +126,7 @@ bound_in text catalog query parts choices = record {
   columns = filter_map column_expr parts.columns;
   conjuncts = parts.conjuncts;
   patterns = filter_map (exists_part text catalog) parts.exists;
+  optionals = [];
   keys = filter_map (sort_expr (record (scope_of parts.pattern) { columns = parts.columns })) query.order;
   distinct = query.distinct;
   skip = unwrap_or query.skip 0;
