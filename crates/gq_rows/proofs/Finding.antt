@@ -13,12 +13,11 @@ use Rattle.gq_expr.specs.Meaning.{meaning}
 use Rattle.gq_expr.specs.Operators.{Outcome}
 use Rattle.gq_expr.specs.Reading as reading
 use Rattle.gq_expr.specs.declared.expr.Expr.{Expr}
-use Rattle.gq_expr.specs.declared.Fault.{Fault}
 use Rattle.gq_plan.specs.Outcomes.{then_with}
 use Rattle.gq_plan.specs.declared.bound.NamedExpr.{NamedExpr}
 use Rattle.gq_rows.specs.steps.Finding.{Extends, Finds, FindsBy, HasNumber, IsFinder, PutsColumn}
 use Rattle.gq_rows.specs.steps.Judged.{values_after}
-use Rattle.gq_rows.specs.steps.Listed.{PutsRow, column_exprs, meanings_found}
+use Rattle.gq_rows.specs.steps.Listed.{AreFinders, PutsRow, column_exprs, meanings_found}
 use Rattle.gq_rows.specs.declared.finder.Finder.{Finder}
 use Rattle.gq_rows.specs.declared.finder.Way.{Way}
 use Rattle.gq_rows.specs.declared.finder.Way.TheVariants as way
@@ -65,6 +64,9 @@ module _ (g : Graph) (old new : List Source) (more : Extends old new) where
   -- one more finder
   pub stay_and : (fs : List Finder) (f : Finder) → All (IsFinder g old) fs → IsFinder g new f → All (IsFinder g new) (fs ++ f ∷ [])
   stay_and fs f h k = All-append (IsFinder g new) fs (f ∷ []) (stay fs h) (All-cons (IsFinder g new) f [] k (λ i d lt. absurd (omega (arith, lt))))
+
+  pub stay_found : (es : List Expr) (fs : List Finder) → AreFinders g old es fs → AreFinders g new es fs
+  stay_found es fs h = record { exprs = h.exprs; finders = stay fs h.finders }
 
 -- ---- the values of a row, one after another
 

@@ -1,5 +1,5 @@
 //! Columns and keys, of which the properties' columns are looked up once for many rows.
-ghost use Rattle.std.specs.Prelude.{◌≡◌, [], map, OnOk};
+ghost use Rattle.std.specs.Prelude.{◌≡◌, [], map, OnOk, true};
 ghost use Rattle.gq_expr.specs.Meaning.{meaning};
 ghost use Rattle.gq_expr.specs.Operators.{outcome};
 ghost use Rattle.gq_expr.specs.declared.expr.Expr.TheVariants.{NodeProperty, RelProperty};
@@ -174,15 +174,20 @@ impl<'g> Reading<'g> {
     }
 
     /// Puts those of a query in the place of what was there, with their properties looked up for an
-    /// alternative.
+    /// alternative; where that was done, they stay.
     pub(crate) fn resolve(
         &mut self,
+        done: bool,
         bound: &'g Bound,
         typed: &Typed,
         graph: &Graph,
     ) -> Result<(), Memory>
+        requires { done ≡ true → IsReading graph.now bound.now self.old }
         ensures { OnOk result (IsReading graph.now bound.now self.new) }
     {
+        if done {
+            return Ok(());
+        }
         self.columns.clear();
         self.keys.clear();
         resolve_columns(&mut self.columns, bound.columns.as_slice(), typed, graph)?;
