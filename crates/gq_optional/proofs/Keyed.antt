@@ -1,7 +1,6 @@
 -- The rows of a build that a key finds are those whose matches agree with the row that asks.
 use Rattle.std.proofs.Common.{◌≡◌, ◌∙◌, ℕ, zero, suc, ◌+◌, ◌<◌, Bool, true, false, not, ◌&&◌, ◌||◌, cond, nat_eq, Option, Some, None, List, [], ◌∷◌, map, filter, length, drop, get_or, refl, sym, ap, ap₂, subst, arith}
 use Rattle.std.specs.List.{AllByRecursion, range_with_len}
-use Rattle.std.specs.Prelude.{slice_index, slice_index_or}
 use Rattle.std.proofs.Math.Bool.{and-false}
 use Rattle.std.proofs.lemmas.Bool.{eq-eqb}
 use Rattle.std.proofs.lemmas.List.{drop_all, drop_more}
@@ -10,13 +9,11 @@ use Rattle.gq_expr.specs.Reading as reading
 use Rattle.gq_join.specs.Kept.{Held, Kept, columns, has_key, matches, no_row, node_in, place_of, row_at}
 use Rattle.gq_plan.proofs.ColumnBounds.{eqb_sym}
 use Rattle.gq_plan.specs.Allowed.{at_same}
-use Rattle.gq_plan.specs.Assignments as plain
-use Rattle.gq_plan.specs.Assignments.{same_node}
 use Rattle.gq_plan.specs.Rows.{nodes_of_tables}
 use Rattle.gq_plan.specs.Soundness.{has_number}
 use Rattle.gq_wide.specs.Clauses.{agrees_at}
 use Rattle.gq_optional.specs.declared.clause.Matches.{Matches}
-use Rattle.gq_optional.specs.steps.Listed.{IsSized, IsWhole, agreeing, agrees_with, match_at, match_of, matches_in}
+use Rattle.gq_optional.specs.steps.Listed.{IsSized, IsWhole, agreeing, agrees_with, match_at, match_of}
 use Rattle.gq_optional.specs.steps.Looked.{agrees_by, asked_rows, count_shared, has_rows, in_table, picked, places_of, same_rows, with_row}
 
 -- ---- agreeing at variables that are known is agreeing where they are shared

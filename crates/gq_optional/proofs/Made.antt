@@ -1,6 +1,5 @@
 -- What a clause makes of a row, match by match, and what clauses make of it one behind another.
-use Rattle.std.proofs.Common.{◌≡◌, ◌∙◌, Bool, true, false, cond, ℕ, Option, Some, None, List, [], ◌∷◌, ◌++◌, map, filter, flat_map, append_assoc, append-nil, refl, sym, ap, ap₂}
-use Rattle.std.proofs.lemmas.Grind.{flat_map-append}
+use Rattle.std.proofs.Common.{◌≡◌, ◌∙◌, Bool, Option, List, [], ◌∷◌, ◌++◌, map, filter, flat_map, refl, sym, ap}
 use Rattle.std.proofs.lemmas.List.Elements.{filter-append}
 use Rattle.gq_base.specs.Plain.{Graph}
 use Rattle.gq_expr.specs.Reading as reading
@@ -9,15 +8,13 @@ use Rattle.gq_plan.specs.Assignments as plain
 use Rattle.gq_plan.specs.Marked.{Marked, marked, marks}
 use Rattle.gq_plan.specs.Outcomes.{meanings_of}
 use Rattle.gq_plan.specs.declared.bound.NamedExpr.{NamedExpr}
-use Rattle.gq_wide.specs.Clauses.{joined, or_alone, unless_marked, unmarked, with_match}
+use Rattle.gq_wide.specs.Clauses.{joined, or_alone, unmarked, with_match}
 use Rattle.gq_wide.specs.Judged.{marks_of}
 use Rattle.gq_wide.specs.declared.judging.Verdict.{Verdict}
-use Rattle.gq_wide.specs.declared.judging.Verdict.TheVariants as verdict
 use Rattle.gq_plan.specs.declared.bound.OptionalPart.{OptionalPart}
 use Rattle.gq_optional.specs.declared.clause.Clause.{Clause}
-use Rattle.gq_optional.specs.declared.clause.Matches.{Matches}
 use Rattle.gq_optional.specs.steps.Levels.{agreeing_in, made_by, made_by_all}
-use Rattle.gq_optional.specs.steps.Listed.{agreeing, agrees_with, list_of, matches_in}
+use Rattle.gq_optional.specs.steps.Listed.{agrees_with, list_of, matches_in}
 
 -- ---- one match
 

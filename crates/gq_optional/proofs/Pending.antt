@@ -1,22 +1,22 @@
 -- What is left of a clause at work, from one alternative to the next and from one match to the next.
-use Rattle.std.proofs.Common.{◌≡◌, ◌∙◌, ℕ, ◌+◌, ◌<◌, None, Some, List, [], ◌∷◌, ◌++◌, map, drop, get_or, length, refl, sym, ap, subst}
+use Rattle.std.proofs.Common.{◌≡◌, ◌∙◌, ℕ, ◌+◌, ◌<◌, List, [], ◌∷◌, ◌++◌, map, drop, get_or, length, refl, sym, ap, subst}
 use Rattle.std.proofs.lemmas.List.{drop_more}
 use Rattle.gq_base.specs.Plain.{Graph}
 use Rattle.gq_expr.specs.Reading as reading
 use Rattle.gq_plan.specs.Assignments as plain
 use Rattle.gq_plan.specs.Marked.{Marked, marks}
 use Rattle.gq_plan.specs.Outcomes.{meanings_of}
-use Rattle.gq_wide.specs.Clauses.{joined, unmarked, with_match}
+use Rattle.gq_wide.specs.Clauses.{joined, with_match}
 use Rattle.gq_wide.specs.Judged.{marks_of}
-use Rattle.gq_wide.specs.Rows.{Wide, read}
+use Rattle.gq_wide.specs.Rows.{read}
 use Rattle.gq_wide.specs.declared.judging.Verdict.{Verdict}
 use Rattle.gq_optional.specs.declared.clause.Clause.{Clause}
 use Rattle.gq_optional.specs.declared.clause.Matches.{Matches}
 use Rattle.gq_optional.specs.declared.level.Found.{Found}
 use Rattle.gq_optional.specs.declared.level.Level.{Level}
-use Rattle.gq_optional.specs.steps.Levels.{AreRowsOf, FindsNext, HasRows, IsSameClause, agreeing_in, left_of, made_by, matches_left, now_at, pending, pending_of}
+use Rattle.gq_optional.specs.steps.Levels.{AreRowsOf, FindsNext, HasRows, IsSameClause, agreeing_in, left_of, matches_left, pending, pending_of}
 use Rattle.gq_optional.specs.steps.Listed.{agreeing, match_at}
-use Rattle.gq_optional.proofs.Made.{joined_by, made_none, made_some}
+use Rattle.gq_optional.proofs.Made.{joined_by}
 
 pub drop_here : {X : Type 0} (xs : List X) (i : ℕ) (x : X) → i < length xs → x ≡ get_or xs i x → drop i xs ≡ x ∷ drop (i + 1) xs
 drop_here xs i x low e = drop_more xs i x low ∙ ap (λ y. y ∷ drop (i + 1) xs) (sym e)

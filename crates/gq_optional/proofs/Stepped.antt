@@ -1,5 +1,5 @@
 -- The row that comes to a clause, and the row behind all clauses.
-use Rattle.std.proofs.Common.{◌≡◌, ◌∙◌, ℕ, zero, suc, ◌+◌, ◌-◌, ◌<◌, ◌≤◌, true, false, List, [], ◌∷◌, ◌++◌, drop, take, get_or, length, map, flat_map, refl, sym, ap, ap₂, subst, arith, Option, None}
+use Rattle.std.proofs.Common.{◌≡◌, ◌∙◌, ℕ, zero, suc, ◌+◌, ◌-◌, ◌<◌, ◌≤◌, true, false, List, [], ◌∷◌, ◌++◌, drop, take, get_or, length, flat_map, refl, sym, ap, ap₂, subst, arith, Option}
 use Rattle.std.specs.Prelude.{slice_set}
 use Rattle.std.proofs.lemmas.List.{drop_more}
 use Rattle.gq_base.specs.Plain.{Graph}

@@ -1,5 +1,5 @@
 -- Rows that clauses make one behind another: the first one, the next one, and what is left behind it.
-use Rattle.std.proofs.Common.{◌≡◌, ◌∙◌, ℕ, ◌+◌, ◌<◌, Bool, List, [], ◌∷◌, ◌++◌, drop, take, get_or, filter, flat_map, length, map, refl, sym, ap, subst, arith, Option, None, Some}
+use Rattle.std.proofs.Common.{◌≡◌, ◌∙◌, ℕ, ◌+◌, ◌<◌, Bool, List, [], ◌∷◌, ◌++◌, drop, take, get_or, filter, flat_map, length, map, refl, sym, ap, subst, arith, Option}
 use Rattle.std.specs.Prelude.{slice_set}
 use Rattle.std.proofs.lemmas.List.{drop_more}
 use Rattle.gq_base.specs.Plain.{Graph}
@@ -8,14 +8,13 @@ use Rattle.gq_expr.specs.declared.Fault.{Fault}
 use Rattle.gq_plan.specs.Assignments as plain
 use Rattle.gq_plan.specs.Marked.{Marked}
 use Rattle.gq_plan.specs.Soundness.{has_number}
-use Rattle.gq_wide.specs.Clauses.{after_clause, after_clauses, agrees, joined, or_alone, unless_marked, unmarked}
+use Rattle.gq_wide.specs.Clauses.{after_clause, after_clauses, joined, or_alone, unless_marked, unmarked}
 use Rattle.gq_wide.specs.Rows.{Wide, read}
-use Rattle.gq_plan.specs.declared.bound.OptionalPart.{OptionalPart}
 use Rattle.gq_optional.specs.Walks.{AreShared, lists_of, parts_of}
 use Rattle.gq_optional.specs.declared.clause.Clause.{Clause}
 use Rattle.gq_optional.specs.declared.level.Level.{Level}
 use Rattle.gq_optional.specs.steps.Levels.{AreLevels, HasRows, IsLevel, IsSameClause, clauses_of, last_mark, last_row, last_wide, left_of, made_by, made_by_all, now_at, still}
-use Rattle.gq_optional.specs.steps.Listed.{agrees_with, list_of}
+use Rattle.gq_optional.specs.steps.Listed.{list_of}
 use Rattle.gq_optional.specs.steps.Looked.{agrees_by}
 use Rattle.gq_optional.proofs.Keyed.{agrees_shared}
 use Rattle.gq_optional.proofs.Made.{all_begun}

@@ -1,13 +1,11 @@
 -- A walk from one row to the next: what is owed, and that it stays a walk.
-use Rattle.std.proofs.Common.{◌≡◌, ◌∙◌, ℕ, Bool, true, false, List, [], ◌∷◌, length, map, sym, ap, ap₂, subst, refl, Option, None}
+use Rattle.std.proofs.Common.{◌≡◌, ◌∙◌, Bool, true, false, List, [], ◌∷◌, length, sym, ap, ap₂, subst, refl, Option, None}
 use Rattle.std.proofs.lemmas.List.{length-map}
 use Rattle.gq_base.specs.Plain.{Graph}
 use Rattle.gq_expr.specs.declared.Fault.{Fault}
-use Rattle.gq_plan.specs.Marked.{Marked}
 use Rattle.gq_wide.specs.Clauses.{unmarked}
 use Rattle.gq_wide.specs.Rows.{Wide, read}
 use Rattle.gq_optional.specs.Walks.{owed_as}
-use Rattle.gq_optional.specs.declared.clause.Clause.{Clause}
 use Rattle.gq_optional.specs.declared.level.Level.{Level}
 use Rattle.gq_optional.specs.steps.Levels.{AreLevels, IsAlike, StepsOn, clauses_of, last_mark, last_row, last_wide, made_by_all, still}
 use Rattle.gq_optional.proofs.Stepped.{last_alike}

@@ -2,8 +2,7 @@
 
 use gq_base::List;
 use gq_join::Sealed;
-use gq_plan::Typed;
-use gq_plan::OptionalPart;
+use gq_plan::{OptionalPart, Typed};
 
 /// The matches of an alternative of an optional clause. A build holds their rows and load numbers,
 /// to be found by the shared variables.

@@ -14,11 +14,12 @@ use crate::placing::{place_nodes, place_rels};
 use gq_expr::Fault;
 use gq_store::Graph;
 use gq_wide::{Verdict, WideRow, judge};
+use std::marker::Model;
 
 /// An optional clause, the row that it made last, and what is left to be looked at.
 #[derive(Drop)]
-pub struct Level<'w, 'b> {
-    pub(crate) clause: &'w Clause<'b>,
+pub struct Level<'w> {
+    pub(crate) clause: &'w Clause<'w>,
     // The alternative that is looked at, its rows, and which of them comes next.
     pub(crate) at: usize,
     pub(crate) rows: &'w [u32],
@@ -31,12 +32,12 @@ pub struct Level<'w, 'b> {
 
 /// A match, as a row of a build.
 #[derive(Clone, Copy)]
-pub struct Found<'w, 'b> {
-    pub(crate) matches: &'w Matches<'b>,
+pub struct Found<'w> {
+    pub(crate) matches: &'w Matches<'w>,
     pub(crate) at: u32,
 }
 
-impl<'w, 'b> Level<'w, 'b> {
+impl<'w> Level<'w> {
     // Looks up the rows of the alternative that is looked at.
     fn look_up(&mut self, before: &WideRow)
         requires level { IsLevel self.old }
@@ -52,7 +53,7 @@ impl<'w, 'b> Level<'w, 'b> {
     }
 
     // The next match that agrees with the row before.
-    fn next_match(&mut self, before: &WideRow) -> Option<Found<'w, 'b>>
+    fn next_match(&mut self, before: &WideRow) -> Option<Found<'w>>
         requires level { IsLevel self.old }
         requires rows { HasRows self.old }
         ensures level { IsLevel self.new }
@@ -100,8 +101,8 @@ impl<'w, 'b> Level<'w, 'b> {
         place_rels(&mut self.row, 0, rels, typed.rels.as_slice(), build, at);
     }
 
-    /// Goes on to the next continuation of the row before, and answers whether there is one.
-    pub(crate) fn go_on(&mut self, before: &WideRow, graph: &Graph) -> bool
+    // Goes on to the next continuation of the row before, and answers whether there is one.
+    fn go_on(&mut self, before: &WideRow, graph: &Graph) -> bool
         requires level { IsLevel self.old }
         requires rows { HasRows self.old }
         requires wide { IsAsWide before.now self.old }
@@ -160,8 +161,8 @@ impl<'w, 'b> Level<'w, 'b> {
         }
     }
 
-    /// Makes the first row of a row that comes to the clause.
-    pub(crate) fn begin(&mut self, before: &WideRow, mark: Option<Fault>, graph: &Graph)
+    // Makes the first row of a row that comes to the clause.
+    fn begin(&mut self, before: &WideRow, mark: Option<Fault>, graph: &Graph)
         requires level { IsLevel self.old }
         requires wide { IsAsWide before.now self.old }
         ensures level { IsLevel self.new }
@@ -175,5 +176,66 @@ impl<'w, 'b> Level<'w, 'b> {
             Some(fault) => self.keep(before, fault),
             None => self.make_first(before, graph),
         }
+    }
+}
+
+/// A clause at work, as those that work behind one another are kept. It is seen as its fields.
+#[derive(Drop)]
+pub struct Stage<'w> {
+    level: Level<'w>,
+}
+
+impl<'w> Model for Stage<'w> {
+    ghost use Rattle.std.specs.Coded.{codes};
+    ghost use Rattle.gq_expr.specs.contracts.expr.Expr as expr;
+    ghost use Rattle.gq_optional.specs.declared.level.Level.{Level};
+
+    ghost Value = { Level };
+
+    ghost coded = { Prim.hlevel (codes, expr.the_row.coded) };
+
+    ghost view = { λ s. s.level };
+}
+
+impl<'w> Stage<'w> {
+    /// Makes the first row of a row that comes to the clause.
+    pub(crate) fn begin(&mut self, before: &WideRow, mark: Option<Fault>, graph: &Graph)
+        requires level { IsLevel self.old }
+        requires wide { IsAsWide before.now self.old }
+        ensures level { IsLevel self.new }
+        ensures rows { HasRows self.new }
+        ensures begins { let m : Marked = record { row = read before.now; mark = mark } in
+            made_by graph.now self.old.clause.now m
+            ≡ now_at self.new ∷ left_of graph.now (read before.now) self.new }
+        ensures same { IsSameClause self.old self.new }
+    {
+        self.level.begin(before, mark, graph);
+    }
+
+    /// Goes on to the next continuation of the row before, and answers whether there is one.
+    pub(crate) fn go_on(&mut self, before: &WideRow, graph: &Graph) -> bool
+        requires level { IsLevel self.old }
+        requires rows { HasRows self.old }
+        requires wide { IsAsWide before.now self.old }
+        ensures level { IsLevel self.new }
+        ensures rows { HasRows self.new }
+        ensures goes_on { GoesOn graph.now (read before.now) self.old result self.new }
+        ensures same { IsSameClause self.old self.new }
+    {
+        self.level.go_on(before, graph)
+    }
+
+    /// The row that was made last.
+    pub(crate) fn row(&self) -> &WideRow
+        ensures { result.now ≡ self.now.row }
+    {
+        &self.level.row
+    }
+
+    /// The fault that marks it, if one does.
+    pub(crate) fn mark(&self) -> Option<Fault>
+        ensures { result ≡ self.now.mark }
+    {
+        self.level.mark
     }
 }

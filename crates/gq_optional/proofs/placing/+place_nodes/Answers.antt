@@ -1,4 +1,4 @@
-use Rattle.std.proofs.Common.{◌+◌, ◌≤◌, ◌<◌, ap, length, arith}
+use Rattle.std.proofs.Common.{ap, length, arith}
 use Rattle.gq_join.specs.Kept.{row_at}
 use Rattle.gq_wide.specs.Rows.{Wide, item_at}
 use Rattle.gq_optional.proofs.Placed.{all_head, all_tail, placed_nodes}

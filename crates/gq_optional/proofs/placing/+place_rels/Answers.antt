@@ -1,4 +1,4 @@
-use Rattle.std.proofs.Common.{◌∙◌, ◌+◌, ◌*◌, ◌≤◌, ◌<◌, ap, length, sym, subst, arith}
+use Rattle.std.proofs.Common.{◌∙◌, ◌+◌, ◌*◌, ◌<◌, ap, length, sym, subst, arith}
 use Rattle.std.specs.Prelude.{slice_index}
 use Rattle.gq_join.specs.Kept.{row_at}
 use Rattle.gq_wide.specs.Rows.{Wide, item_at}

@@ -148,7 +148,7 @@ copy_from-requires-2-clause-nodes t c =
     let low : d < length old = omega (arith, c.if-depth-levels.false) in
     let inside = long old mid d x low kept in
     let alike = alike_back c.copy_from.new.self (last_wide base (take d old)) c.args.row.now (c.copy_from.ensures ∙ c.coming.ensures ∙ ap (last_wide base) (kept_less old mid d kept)) c.requires.here in
-    alike.nodes ∙ sym (ap (λ (l : Level). length l.row.nodes) (get_or-set_same mid d now c.index-levels-depth-2.result inside)
+    alike.nodes ∙ sym (ap (λ (w : Wide). length w.nodes) c.row.ensures ∙ ap (λ (l : Level). length l.row.nodes) (get_or-set_same mid d now c.index-levels-depth-2.result inside)
     ∙ (sized_put n m mid d x now inside (levels_stay old mid d x low kept n m c.requires.levels c.step_from.ensures.levels) c.go_on.ensures.same).0)
 
 pub copy_from-requires-2-clause-rels : goal.copy_from-requires-2-clause-rels
@@ -165,7 +165,7 @@ copy_from-requires-2-clause-rels t c =
     let low : d < length old = omega (arith, c.if-depth-levels.false) in
     let inside = long old mid d x low kept in
     let alike = alike_back c.copy_from.new.self (last_wide base (take d old)) c.args.row.now (c.copy_from.ensures ∙ c.coming.ensures ∙ ap (last_wide base) (kept_less old mid d kept)) c.requires.here in
-    alike.rels ∙ sym (ap (λ (l : Level). length l.row.rels) (get_or-set_same mid d now c.index-levels-depth-2.result inside)
+    alike.rels ∙ sym (ap (λ (w : Wide). length w.rels) c.row.ensures ∙ ap (λ (l : Level). length l.row.rels) (get_or-set_same mid d now c.index-levels-depth-2.result inside)
     ∙ (sized_put n m mid d x now inside (levels_stay old mid d x low kept n m c.requires.levels c.step_from.ensures.levels) c.go_on.ensures.same).1)
 
 pub begin_from-requires : goal.begin_from-requires
@@ -180,7 +180,7 @@ begin_from-requires t c =
     let m = length c.args.row.now.rels in
     let low : d < length old = omega (arith, c.if-depth-levels.false) in
     let inside = long old mid d x low kept in
-    let is : c.copy_from-2.new.self ≡ now.row = c.copy_from-2.ensures ∙ ap (λ (l : Level). l.row) (get_or-set_same mid d now c.index-levels-depth-2.result inside) in
+    let is : c.copy_from-2.new.self ≡ now.row = c.copy_from-2.ensures ∙ c.row.ensures ∙ ap (λ (l : Level). l.row) (get_or-set_same mid d now c.index-levels-depth-2.result inside) in
     let sized = sized_put n m mid d x now inside (levels_stay old mid d x low kept n m c.requires.levels c.step_from.ensures.levels) c.go_on.ensures.same in
     levels_sized n m c.copy_from-2.new.self (drop (d + 1) mid) (drop (d + 1) (slice_set mid d now)) (ap (λ (w : Wide). length w.nodes) is ∙ sized.0) (ap (λ (w : Wide). length w.rels) is ∙ sized.1) (drop_set_more mid d now) c.step_from.ensures.levels
 
@@ -197,7 +197,7 @@ returns-clause-levels t c =
     let m = length c.args.row.now.rels in
     let low : d < length old = omega (arith, c.if-depth-levels.false) in
     let inside = long old mid d x low kept in
-    let is : c.copy_from-2.new.self ≡ now.row = c.copy_from-2.ensures ∙ ap (λ (l : Level). l.row) (get_or-set_same mid d now c.index-levels-depth-2.result inside) in
+    let is : c.copy_from-2.new.self ≡ now.row = c.copy_from-2.ensures ∙ c.row.ensures ∙ ap (λ (l : Level). l.row) (get_or-set_same mid d now c.index-levels-depth-2.result inside) in
     let all = levels_stay old mid d x low kept n m c.requires.levels c.step_from.ensures.levels in
     let sized = sized_put n m mid d x now inside all c.go_on.ensures.same in
     levels_put mid new d x now inside c.begin_from.ensures.kept n m all c.go_on.ensures.level c.go_on.ensures.rows c.go_on.ensures.same
@@ -223,8 +223,8 @@ returns-clause-next t c =
     let kept = c.step_from.ensures.kept in
     let low : d < length old = omega (arith, c.if-depth-levels.false) in
     let inside = long old mid d x low kept in
-    let is = c.copy_from-2.ensures ∙ ap (λ (l : Level). l.row) (get_or-set_same mid d now c.index-levels-depth-2.result inside) in
-    let mark = ap (λ (l : Level). l.mark) (get_or-set_same mid d now c.index-levels-depth-3.result inside) in
+    let is = c.copy_from-2.ensures ∙ c.row.ensures ∙ ap (λ (l : Level). l.row) (get_or-set_same mid d now c.index-levels-depth-2.result inside) in
+    let mark = c.mark-made.ensures ∙ ap (λ (l : Level). l.mark) (get_or-set_same mid d now c.index-levels-depth-3.result inside) in
     let clauses = ap clauses_of (drop_set_more mid d now) ∙ c.step_from.ensures.clauses in
     steps_here old mid d x low kept g base c.copy_from.new.self (last_wide base (take d old)) now new
     (c.copy_from.ensures ∙ c.coming.ensures ∙ ap (last_wide base) (kept_less old mid d kept)) c.if-step_from.ensures.next c.if-not-go_on.ensures.goes_on
@@ -256,7 +256,7 @@ returns-clause-wide t c =
     let m = length c.args.row.now.rels in
     let low : d < length old = omega (arith, c.if-depth-levels.false) in
     let inside = long old mid d x low kept in
-    let is : came ≡ now.row = c.copy_from-2.ensures ∙ ap (λ (l : Level). l.row) (get_or-set_same mid d now c.index-levels-depth-2.result inside) in
+    let is : came ≡ now.row = c.copy_from-2.ensures ∙ c.row.ensures ∙ ap (λ (l : Level). l.row) (get_or-set_same mid d now c.index-levels-depth-2.result inside) in
     let sized = sized_put n m mid d x now inside (levels_stay old mid d x low kept n m c.requires.levels c.step_from.ensures.levels) c.go_on.ensures.same in
     let last = last_alike (length came.nodes) (length came.rels) came (drop (d + 1) c.begin_from.new.levels) refl refl c.begin_from.ensures.levels in
     record {
@@ -274,7 +274,7 @@ returns-clause-row t c _ =
     let now = c.go_on.new.self in
     let low : d < length old = omega (arith, c.if-depth-levels.false) in
     let inside = long old mid d x low c.step_from.ensures.kept in
-    let is = c.copy_from-2.ensures ∙ ap (λ (l : Level). l.row) (get_or-set_same mid d now c.index-levels-depth-2.result inside) in
+    let is = c.copy_from-2.ensures ∙ c.row.ensures ∙ ap (λ (l : Level). l.row) (get_or-set_same mid d now c.index-levels-depth-2.result inside) in
     c.begin_from.ensures.row ∙ ap (λ w. last_wide w (drop (d + 1) new)) is
     ∙ sym (through c.args.base.now new d now (drop (d + 1) new) (news mid new d x now inside c.begin_from.ensures.kept))
 
@@ -288,6 +288,6 @@ returns-clause-mark t c _ =
     let now = c.go_on.new.self in
     let low : d < length old = omega (arith, c.if-depth-levels.false) in
     let inside = long old mid d x low c.step_from.ensures.kept in
-    let is = ap (λ (l : Level). l.mark) (get_or-set_same mid d now c.index-levels-depth-3.result inside) in
+    let is = c.mark-made.ensures ∙ ap (λ (l : Level). l.mark) (get_or-set_same mid d now c.index-levels-depth-3.result inside) in
     c.begin_from.ensures.mark ∙ ap (λ k. last_mark k (drop (d + 1) new)) is
     ∙ sym (marked_through None new d now (drop (d + 1) new) (news mid new d x now inside c.begin_from.ensures.kept))

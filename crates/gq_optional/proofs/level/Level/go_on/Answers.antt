@@ -1,4 +1,4 @@
-use Rattle.std.proofs.Common.{◌∙◌, ap, ap₂}
+use Rattle.std.proofs.Common.{◌∙◌, ap}
 use Rattle.gq_plan.specs.Marked.{marks}
 use Rattle.gq_plan.specs.Outcomes.{meanings_of}
 use Rattle.gq_wide.specs.Rows.{read}
