@@ -17,11 +17,12 @@ use crate::finder::{Finder, put_column};
 use crate::held::Form;
 use crate::judging::{Checked, check_late};
 use crate::refusal::{More, RowRefusal};
-use gq_base::Memory;
-use gq_cells::Cells;
+use crate::tables::Tables;
+use gq_base::{Memory, Value};
+use gq_cells::{Cells, Source};
 use gq_expr::Assigned;
 use gq_group::{Choice, Chunk, ChunkRow};
-use gq_plan::{Bound, NamedExpr, Typed};
+use gq_plan::{Bound, Typed};
 use gq_store::Graph;
 
 /// What is asked of each row where the rows are listed as they come, and the most rows that are
@@ -56,22 +57,25 @@ pub(crate) fn find_columns<'g>(
     done: bool,
     cells: &mut Cells<'g>,
     finders: &mut Vec<Finder<'g>>,
-    columns: &'g [NamedExpr],
+    bound: &'g Bound,
     typed: &Typed,
     graph: &'g Graph,
 ) -> Result<(), Memory>
-    requires { let exprs = column_exprs columns.now in
+    requires { let exprs = column_exprs bound.now.columns in
         done ≡ true → AreFinders graph.now cells.old.sources exprs finders.old.items }
-    ensures finds { let exprs = column_exprs columns.now in
+    ensures finds { let exprs = column_exprs bound.now.columns in
         OnOk result (AreFinders graph.now cells.new.sources exprs finders.new.items) }
     ensures values { cells.new.values ≡ cells.old.values }
 {
     if done {
         return Ok(());
     }
+    let tables = Tables { bound, typed };
+    let columns = bound.columns.as_slice();
+    let null = cells.add(Source::Value(Value::Null))?;
     finders.clear();
     'columns: for column in columns {
-        let finder = Finder::new(cells, &column.expr, typed, graph)?;
+        let finder = Finder::new(cells, null, &column.expr, &tables, graph)?;
         finders.push(finder)?;
     }
     Ok(())

@@ -313,9 +313,8 @@ impl<'g> RowTable<'g> {
         };
         let done = self.done;
         self.done = false;
-        let columns = self.bound.columns.as_slice();
         let cells = &mut self.listed.cells;
-        let Ok(()) = find_columns(done, cells, &mut self.finders, columns, typed, graph) else {
+        let Ok(()) = find_columns(done, cells, &mut self.finders, self.bound, typed, graph) else {
             return Err(RowRefusal::Memory);
         };
         let finders = self.finders.as_slice();
@@ -357,9 +356,8 @@ impl<'g> RowTable<'g> {
         };
         let done = self.done;
         self.done = false;
-        let columns = self.bound.columns.as_slice();
         let cells = &mut self.listed.cells;
-        let Ok(()) = find_columns(done, cells, &mut self.finders, columns, typed, graph) else {
+        let Ok(()) = find_columns(done, cells, &mut self.finders, self.bound, typed, graph) else {
             return Err(RowRefusal::Memory);
         };
         match self.listed.push(self.finders.as_slice(), &asked, row) {

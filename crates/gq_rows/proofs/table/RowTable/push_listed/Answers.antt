@@ -10,9 +10,8 @@ use Rattle.gq_rows.proofs.table.RowTable.push_listed.Goals as goal
 
 pub find_columns-requires : goal.find_columns-requires
 find_columns-requires t c = λ e.
-    subst (λ cs. AreFinders c.args.graph.now c.self.inside.listed.cells.sources (column_exprs cs) c.self.inside.finders.items) (sym c.as_slice-columns.ensures)
-    (was_done true c.args.graph.now c.self.inside (inside_graph c.self.inside c.args.self.now c.args.graph.now c.self.view_is c.requires.graph)
-    (inside_listing c.self.inside c.args.self.now c.self.view_is c.requires.listing) (c.self.invariant.done e))
+    was_done true c.args.graph.now c.self.inside (inside_graph c.self.inside c.args.self.now c.args.graph.now c.self.view_is c.requires.graph)
+    (inside_listing c.self.inside c.args.self.now c.self.view_is c.requires.listing) (c.self.invariant.done e)
 
 pub push_choices-requires-clause-listing : goal.push_choices-requires-clause-listing
 push_choices-requires-clause-listing t c = listing_is c.self.inside c.args.self.now c.self.view_is (inside_listing c.self.inside c.args.self.now c.self.view_is c.requires.listing) (record { graph = c.args.graph; bound = c.self.inside.bound; late = c.as_slice.result; limit = c.self.inside.limit; form = c.self.inside.form }) refl refl refl c.self.invariant.form c.self.invariant.small
@@ -34,8 +33,7 @@ invariant_of-self-in-Ok-push_choices t c =
       done = λ e.
           now_done true c.args.graph.now new (inside_graph t c.args.self.now c.args.graph.now c.self.view_is c.requires.graph)
           (inside_listing t c.args.self.now c.self.view_is c.requires.listing)
-          (stay_found c.args.graph.now c.find_columns.new.cells.sources c.push_choices.new.self.cells.sources c.in-Ok-push_choices.ensures.more (column_exprs t.bound.now.columns) c.find_columns.new.finders.items
-          (subst (λ cs. AreFinders c.args.graph.now c.find_columns.new.cells.sources (column_exprs cs) c.find_columns.new.finders.items) c.as_slice-columns.ensures c.in-Ok.ensures.finds));
+          (stay_found c.args.graph.now c.find_columns.new.cells.sources c.push_choices.new.self.cells.sources c.in-Ok-push_choices.ensures.more (column_exprs t.bound.now.columns) c.find_columns.new.finders.items c.in-Ok.ensures.finds);
     }
 
 pub returns-in-Err-clause-pushes : goal.returns-in-Err-clause-pushes
