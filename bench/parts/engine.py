@@ -8,6 +8,13 @@ import subprocess
 
 MOST_COPIES = 1000  # of a statement in one run
 ROWS = "16777216"   # the greatest number of rows that graphq keeps
+FIRST = "RETURN 1;\n"  # any statement: its reply, one line at least, tells that the graph is there
+
+
+def resident(process):
+    """The memory that a process has now, in MB."""
+    with open(f"/proc/{process}/status", encoding="ascii", errors="replace") as status:
+        return int(re.search(r"VmRSS:\s+(\d+)", status.read())[1]) / 1024
 
 
 class Run:
@@ -69,6 +76,16 @@ class Graphq:
         run = self.run("")
         self.empty.append(run.seconds)
         self.load_peak = max(self.load_peak, run.peak)
+
+    def resident(self):
+        """The memory that it has behind the load, when it has answered a first statement and waits for more."""
+        child = subprocess.Popen(self.command, cwd=self.folder, stdin=subprocess.PIPE, stdout=subprocess.PIPE, stderr=subprocess.DEVNULL)
+        child.stdin.write(FIRST.encode())
+        child.stdin.flush()
+        child.stdout.readline()
+        megabytes = resident(child.pid)
+        child.communicate()
+        return megabytes
 
     def load(self):
         return statistics.median(self.empty)

@@ -33,7 +33,7 @@ class Bench:
             self.failures.append(failure)
 
     def loads(self):
-        """Starts the programs, and gives the seconds and the peak of each one's load."""
+        """Starts the programs, and gives the seconds of each one's load, its peak, and what it holds afterwards."""
         loads, program = {}, self.kept.program("floor")
         if program:
             times = []
@@ -42,18 +42,18 @@ class Bench:
                     self.floor.close()
                 self.floor = Floor(program, self.kind, self.folder, self.options.timeout)
                 times.append(self.floor.load)
-            loads["C++"] = {"seconds": statistics.median(times), "peak_mb": self.floor.load_peak}
+            loads["C++"] = {"seconds": statistics.median(times), "peak_mb": self.floor.load_peak, "resident_mb": self.floor.resident}
             self.judge = Judge(self.kept.program("bag"), program, self.kind, self.folder)
         if shutil.which("sqlite3"):
             self.sqlite = Sqlite(self.kind, self.folder, self.options.timeout)
-            loads["sqlite3"] = {"seconds": self.sqlite.load, "peak_mb": self.sqlite.load_peak}
+            loads["sqlite3"] = {"seconds": self.sqlite.load, "peak_mb": self.sqlite.load_peak, "resident_mb": self.sqlite.resident}
         order = ["--order", self.options.order] if self.options.order else []
         self.engine = Graphq(self.options.graphq, order, self.kept.program("once"), self.folder, self.room, self.options.timeout)
         why = self.engine.loaded(max(3, self.options.repeat))
         if why:
             self.fail(why)
         else:
-            loads["graphq"] = {"seconds": self.engine.load(), "peak_mb": self.engine.load_peak}
+            loads["graphq"] = {"seconds": self.engine.load(), "peak_mb": self.engine.load_peak, "resident_mb": self.engine.resident()}
         return loads
 
     def queries(self, only):

@@ -28,9 +28,10 @@ def ratio(seconds, program):
 
 def loads(graph):
     seconds = seconds_of(graph)
-    rows = [[name, number(load["seconds"]), number(ratio(seconds, name)), number(load["peak_mb"])]
+    rows = [[name, number(load["seconds"]), number(ratio(seconds, name)), number(load["peak_mb"]),
+             number(load["resident_mb"])]
             for name, load in graph["loads"].items()]
-    return table(["load", "seconds", "ratio to C++", "peak MB"], rows)
+    return table(["load", "seconds", "ratio to C++", "peak MB", "resident MB"], rows)
 
 
 def query_row(answer):

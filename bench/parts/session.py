@@ -5,6 +5,7 @@ import select
 import subprocess
 import time
 
+from .engine import resident
 from .schemas import SCHEMAS
 
 LOADING = 3000  # processor seconds that a load may take
@@ -80,7 +81,7 @@ class Floor(Session):
     def __init__(self, program, kind, folder, limit):
         super().__init__("C++", [program, kind, folder], limit)
         self.ask("", "LOADED", LOADING)
-        self.load, self.load_peak = self.seconds(), self.peak()
+        self.load, self.load_peak, self.resident = self.seconds(), self.peak(), resident(self.child.pid)
 
     def answer(self, query, out):
         words = [query.name, out, query.header().replace("\t", "\x1f"), *map(str, query.numbers)]
@@ -97,7 +98,7 @@ class Sqlite(Session):
         lines = self.ask("\n".join([*first, *SCHEMAS[kind].statements(folder), ".print DONE\n"]), "DONE", LOADING)
         if lines:
             raise Stopped(f"sqlite3 does not load {folder}: {lines[0]}")
-        self.load, self.load_peak = self.seconds(), self.peak()
+        self.load, self.load_peak, self.resident = self.seconds(), self.peak(), resident(self.child.pid)
 
     def answer(self, query, out):
         lines = self.ask(f'.output "{out}"\n{query.sql};\n.output stdout\n.print DONE\n', "DONE")

@@ -103,6 +103,7 @@ bound = record {
   columns = record { name = codes "a"; expr = expr.Node 0 } ∷ record { name = codes "b.age"; expr = age 1 } ∷ [];
   conjuncts = conditions;
   patterns = [];
+  optionals = [];
   keys = record { expr = age 1; down = false } ∷ [];
   distinct = false;
   skip = 0;

@@ -23,6 +23,7 @@ use Rattle.gq_pipe.specs.Built.{IsBuildOf, kept_nodes, kept_rels, whole_row}
 use Rattle.gq_pipe.specs.Keys.{plan_keys}
 use Rattle.gq_pipe.specs.Levels.{given}
 use Rattle.gq_pipe.specs.Rest.{Rest}
+use Rattle.gq_pipe.specs.Sized.{AreSized, HasNumbers}
 use Rattle.gq_pipe.specs.Spending.{HasSpentAll, up_to_most}
 use Rattle.gq_plan.specs.Columns.{columns_of}
 use Rattle.gq_pipe.specs.declared.pipeline.Spent.{Spent}
@@ -140,6 +141,19 @@ filled_few g y side keys limit old new owed begun filled bag =
     go (r ∷ rs) within many =
         let room = within (omega arith) in
         omega (arith, room, many, ap (λ (b : Growing). b.limit) begun, ap (λ (b : Growing). length b.rows) begun)
+
+-- each of its rows has a number for each variable that it keeps
+each_sized : (nodes rels : List ℕ) (h : Held) (rows : List Assignment) → h.nodes ≡ nodes → h.rels ≡ rels → AllByRecursion (HasNumbers h) (map (kept nodes rels) rows)
+each_sized nodes rels h [] e f = tt
+each_sized nodes rels h (r ∷ rs) e f =
+    ((length-map nodes (slice_index r.nodes) ∙ ap length (sym e), length-map rels (slice_index r.rels) ∙ ap length (sym f)), each_sized nodes rels h rs e f)
+
+pub filled_sized : (y : Typed) (side : Plan) (keys : List ℕ) (limit : ℕ) (old new : Growing) (h : Held) (owed : List Partial)
+    → old ≡ side_build y side keys limit → IsFilled y side owed old new → h ≡ sealed_of new → AreSized h
+filled_sized y side keys limit old new h owed begun filled sealed =
+    let is : h ≡ sealed_of (with_rows filled.rows (side_build y side keys limit)) = sealed ∙ ap sealed_of (filled.pushed ∙ ap (with_rows filled.rows) begun) in
+    subst (AllByRecursion (HasNumbers h)) (sym (ap (λ (g : Held). g.rows) is))
+    (each_sized (kept_nodes y side) (kept_rels y side) h filled.rows (ap (λ (g : Held). g.nodes) is) (ap (λ (g : Held). g.rels) is))
 
 -- it is refused only where there are more
 pub past_refused : (g : Graph) (y : Typed) (side : Plan) (keys : List ℕ) (limit : ℕ) (old : Growing) (owed : List Partial) (e : JoinRefusal)

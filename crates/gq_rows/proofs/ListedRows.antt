@@ -2,7 +2,6 @@
 use Rattle.std.proofs.Common.{◌≡◌, ◌∙◌, ℕ, ◌+◌, ◌<◌, ◌≤◌, ◌^◌, Bool, true, false, not, cond, true≢false, List, [], ◌∷◌, ◌++◌, length, map, Option, Some, None, Result, Ok, Err, refl, sym, ap, ap₂, subst, arith, length-append, append-nil}
 use Rattle.std.specs.Option.{option_copied}
 use Rattle.std.specs.Prelude.{flat_map, ◌&&◌}
-use Rattle.std.specs.List.{All}
 use Rattle.std.specs.List.Sorted.{IsPermutation}
 use Rattle.std.proofs.lemmas.List.Sorted.{IsPermutation-refl}
 use Rattle.std.proofs.lemmas.Grind.{flat_map-append}
@@ -17,12 +16,12 @@ use Rattle.gq_expr.specs.Meaning.{meaning}
 use Rattle.gq_expr.specs.Operators.{Outcome}
 use Rattle.gq_expr.specs.Reading as reading
 use Rattle.gq_expr.specs.declared.Fault.{Fault}
-use Rattle.gq_plan.specs.Outcomes.{Row, key_meanings, late_conjuncts, meanings_of, then_with, values}
+use Rattle.gq_plan.specs.Outcomes.{Row, key_meanings, meanings_of, then_with, values}
 use Rattle.gq_plan.specs.declared.bound.Bound.{Bound}
 use Rattle.gq_plan.specs.declared.bound.NamedExpr.{NamedExpr}
 use Rattle.gq_plan.specs.declared.typed.Typed.{Typed}
 use Rattle.gq_rows.specs.Chunks.{PushesAll}
-use Rattle.gq_rows.specs.Tables.{AnswersListings, Held, Holds, HoldsAs, HoldsRows, IsSized, Pushes, StandsFor, StandsForSome, Table, is_full, is_full_table}
+use Rattle.gq_rows.specs.Tables.{AnswersListings, Held, Holds, HoldsAs, HoldsRows, IsSized, Pushes, StandsFor, StandsForSome, Table, is_full, is_full_table, numbered, outcome_admitted, outcome_numbered}
 use Rattle.gq_rows.specs.Answers.{Lists, classes, columns_of, cut_of, most_listed, window}
 use Rattle.gq_rows.specs.declared.finder.Finder.{Finder}
 use Rattle.gq_rows.specs.declared.held.Form.{Form}
@@ -36,10 +35,10 @@ use Rattle.gq_rows.specs.declared.refusal.More.TheVariants as more
 use Rattle.gq_rows.specs.declared.refusal.RowRefusal.{RowRefusal}
 use Rattle.gq_rows.specs.declared.refusal.RowRefusal.TheVariants as refusal
 use Rattle.gq_rows.specs.declared.table.RowTable.TheInside.{Inside}
-use Rattle.gq_rows.specs.steps.Inner.{held_by, table_of, table_with}
+use Rattle.gq_rows.specs.steps.Inner.{IsDone, IsDoneAs, held_by, table_of, table_with}
 use Rattle.gq_rows.specs.steps.Judged.{check_after, values_after}
 use Rattle.gq_rows.specs.steps.Keeping.{Has, HasForm, HasFull, HasMore, HasPast, IsNoFault, PushesHeld, TellsFull, bar_of, held_of, more_rows}
-use Rattle.gq_rows.specs.steps.Listed.{AddedIn, AddsIn, AreFinders, Finding, IsListing, IsPlain, PutsRow, column_exprs, held_in, is_listing, meanings_found, outcome_in, table_in}
+use Rattle.gq_rows.specs.steps.Listed.{AddedIn, AddsIn, AreFinders, Finding, IsListing, IsPlain, PutsRow, column_exprs, held_in, is_listing, meanings_found, outcome_in, outcome_within, table_in}
 use Rattle.gq_rows.proofs.Forms.{stands_by}
 use Rattle.gq_rows.proofs.Looking.{appended, met, when_column}
 use Rattle.gq_rows.proofs.Ranked.{keyless_sorted, none}
@@ -53,7 +52,7 @@ mean g here cs fs sources h = sym (map-map (meaning g here) (λ (f : Finder). f.
 -- ---- a row is added
 
 module _ (q : Asked) (here : reading.Assignment) (fs : List Finder) (sources : List Source) (finding : Finding q sources fs) (keyless : q.bound.now.keys ≡ [])
-    (is_met : checked.Met ≡ check_after checked.Met (meanings_of q.graph.now here (late_conjuncts q.bound.now q.typed.now))) where
+    (is_met : checked.Met ≡ check_after checked.Met (meanings_of q.graph.now here (numbered q.bound.now.conjuncts q.late.now))) where
   abbrev columns : List Outcome
   columns = meanings_of q.graph.now here q.bound.now.columns
 
@@ -65,7 +64,7 @@ module _ (q : Asked) (here : reading.Assignment) (fs : List Finder) (sources : L
       let a = appended columns old.cells.values new.cells.values (ap (values_after old.cells.values) (sym (mean q.graph.now here q.bound.now.columns fs sources finding)) ∙ p) in
       record {
         row = record { columns = a.more; keys = [] };
-        is = met q.graph.now q.bound.now (late_conjuncts q.bound.now q.typed.now) here is_met
+        is = met q.graph.now q.bound.now (numbered q.bound.now.conjuncts q.late.now) here is_met
             ∙ ap (λ v. Some (then_with v (λ vs. then_with (values (key_meanings q.graph.now here q.bound.now.keys)) (λ ks. Ok (record { columns = vs; keys = ks }))))) a.is
             ∙ ap (λ v. Some (then_with v (λ ks. Ok (record { columns = a.more; keys = ks })))) no_keys;
         columns = a.whole;
@@ -79,14 +78,14 @@ module _ (q : Asked) (here : reading.Assignment) (fs : List Finder) (sources : L
   many old new p =
       let a = appended columns old.cells.values new (ap (values_after old.cells.values) (sym (mean q.graph.now here q.bound.now.columns fs sources finding)) ∙ p) in (
         record { columns = a.more; keys = [] },
-        met q.graph.now q.bound.now (late_conjuncts q.bound.now q.typed.now) here is_met
+        met q.graph.now q.bound.now (numbered q.bound.now.conjuncts q.late.now) here is_met
             ∙ ap (λ v. Some (then_with v (λ vs. then_with (values (key_meanings q.graph.now here q.bound.now.keys)) (λ ks. Ok (record { columns = vs; keys = ks }))))) a.is
             ∙ ap (λ v. Some (then_with v (λ ks. Ok (record { columns = a.more; keys = ks })))) no_keys,
       )
 
   pub failed : (old new : Listed) (vs : List Val) (r : RowRefusal) → PutsRow (meanings_found q.graph.now here fs) old.cells.values vs (Err r) → AddsIn q (outcome_in q here) old new (Err r)
   failed old new vs (refusal.Fault f) p =
-      when_column q.graph.now q.bound.now (late_conjuncts q.bound.now q.typed.now) here f old.cells.values is_met (ap (values_after old.cells.values) (sym (mean q.graph.now here q.bound.now.columns fs sources finding)) ∙ p)
+      when_column q.graph.now q.bound.now (numbered q.bound.now.conjuncts q.late.now) here f old.cells.values is_met (ap (values_after old.cells.values) (sym (mean q.graph.now here q.bound.now.columns fs sources finding)) ∙ p)
   failed old new vs (refusal.TooManyRows l) p = absurd p
   failed old new vs refusal.Memory p = tt
 
@@ -150,10 +149,10 @@ module _ (q : Asked) (listing : IsListing q) where
 
     pub told : (new : Listed) (o : Option (Result Row Fault)) (added : Bool) (m : More) → AddsIn q o old new (Ok added) → TellsFull q.form m (held_in new) → Pushes o (table_in q old) (table_in q new) (Ok m)
     told new o added m a tells =
-        pushes b q.form q.limit (Some q.typed.now) 0 listing.small listing.form (held_in old) room some (held_in new) o (Ok m) (held_ok old new o added m open_at a tells)
+        pushes b q.form q.limit None None 0 listing.small listing.form (held_in old) room some (held_in new) o (Ok m) (held_ok old new o added m open_at a tells)
 
     pub refused : (new : Listed) (o : Option (Result Row Fault)) (r : RowRefusal) → AddsIn q o old new (Err r) → Pushes o (table_in q old) (table_in q new) (Err r)
-    refused new o r a = pushes b q.form q.limit (Some q.typed.now) 0 listing.small listing.form (held_in old) room some (held_in new) o (Err r) (held_err old new o r a)
+    refused new o r a = pushes b q.form q.limit None None 0 listing.small listing.form (held_in old) room some (held_in new) o (Err r) (held_err old new o r a)
 
 -- ---- the two ways in which a table holds its rows
 
@@ -206,46 +205,46 @@ module _ (t : Inside) (old : Table) (view : table_of t ≡ old) (e : is_listing 
   }
 
   -- a table of what is asked, that holds the same cells
-  abbrev with_cells : Option Typed → ℕ → Held → Table
-  with_cells y n h = record { bound = t.bound.now; most = t.limit; alternative = y; held = h; pushed = n }
+  abbrev with_cells : Option Typed → Option Graph → ℕ → Held → Table
+  with_cells y g n h = record { bound = t.bound.now; most = t.limit; alternative = y; graph = g; held = h; pushed = n }
 
-  pub stands_listed : (l : Listed) (y : Option Typed) → held_in l ≡ held_in t.listed → StandsForSome old → StandsForSome (with_cells y 0 (held_in l))
-  stands_listed l y same some =
+  pub stands_listed : (l : Listed) → held_in l ≡ held_in t.listed → StandsForSome old → StandsForSome (with_cells None None 0 (held_in l))
+  stands_listed l same some =
       let here : StandsForSome (table_with t (held_in t.listed)) = subst StandsForSome (sym listed_view) some in
-      subst (λ h. StandsForSome (with_cells y 0 h)) (sym same) (here.0, here.1)
+      subst (λ h. StandsForSome (with_cells None None 0 h)) (sym same) (here.0, here.1)
 
-  pub room_listed : (l : Listed) (y : Option Typed) → held_in l ≡ held_in t.listed → is_full_table old ≡ false → is_full_table (with_cells y 0 (held_in l)) ≡ false
-  room_listed l y same room =
+  pub room_listed : (l : Listed) → held_in l ≡ held_in t.listed → is_full_table old ≡ false → is_full_table (with_cells None None 0 (held_in l)) ≡ false
+  room_listed l same room =
       let here : is_full_table (table_with t (held_in t.listed)) ≡ false = subst (λ x. is_full_table x ≡ false) (sym listed_view) room in
       ap (is_full (cut_of t.bound.now)) same ∙ here
 
-  alike : (o : Option (Result Row Fault)) (r : Result More RowRefusal) (y z : Option Typed) (n m : ℕ) (h new : Held) → Pushes o (with_cells y 0 h) (with_cells y 0 new) r → Pushes o (with_cells z n h) (with_cells z m new) r
-  alike o (Ok more.Go) y z n m h new p = p
-  alike o (Ok more.Enough) y z n m h new p = p
-  alike o (Err (refusal.Fault f)) y z n m h new p = p
-  alike o (Err (refusal.TooManyRows l)) y z n m h new p = p
-  alike o (Err refusal.Memory) y z n m h new p = tt
+  alike : (o : Option (Result Row Fault)) (r : Result More RowRefusal) (z : Option Typed) (g : Option Graph) (n : ℕ) (h new : Held) → Pushes o (with_cells None None 0 h) (with_cells None None 0 new) r → Pushes o (with_cells z g n h) (with_cells z g n new) r
+  alike o (Ok more.Go) z g n h new p = p
+  alike o (Ok more.Enough) z g n h new p = p
+  alike o (Err (refusal.Fault f)) z g n h new p = p
+  alike o (Err (refusal.TooManyRows l)) z g n h new p = p
+  alike o (Err refusal.Memory) z g n h new p = tt
 
-  alike_all : (os : List (Result Row Fault)) (r : Result More RowRefusal) (y z : Option Typed) (n m : ℕ) (h new : Held) → PushesAll os (with_cells y 0 h) (with_cells y 0 new) r → PushesAll os (with_cells z n h) (with_cells z m new) r
-  alike_all os (Ok more.Go) y z n m h new p = p
-  alike_all os (Ok more.Enough) y z n m h new p = p
-  alike_all os (Err (refusal.Fault f)) y z n m h new p = record { there = p.there; seen = p.seen }
-  alike_all os (Err (refusal.TooManyRows l)) y z n m h new p = p
-  alike_all os (Err refusal.Memory) y z n m h new p = tt
+  alike_all : (os : List (Result Row Fault)) (r : Result More RowRefusal) (z : Option Typed) (g : Option Graph) (n : ℕ) (h new : Held) → PushesAll os (with_cells None None 0 h) (with_cells None None 0 new) r → PushesAll os (with_cells z g n h) (with_cells z g n new) r
+  alike_all os (Ok more.Go) z g n h new p = p
+  alike_all os (Ok more.Enough) z g n h new p = p
+  alike_all os (Err (refusal.Fault f)) z g n h new p = record { there = p.there; seen = p.seen }
+  alike_all os (Err (refusal.TooManyRows l)) z g n h new p = p
+  alike_all os (Err refusal.Memory) z g n h new p = tt
 
-  pub pushed_listed : (o : Option (Result Row Fault)) (r : Result More RowRefusal) (y : Option Typed) (l new : Listed) (fs : _) → held_in l ≡ held_in t.listed
-      → Pushes o (with_cells y 0 (held_in l)) (with_cells y 0 (held_in new)) r → Pushes o old (table_of (record t { listed = new; finders = fs })) r
-  pushed_listed o r y l new fs same p =
-      subst (λ x. Pushes o x (table_of (record t { listed = new; finders = fs })) r) listed_view
-      (subst (λ b. Pushes o (table_with t (held_in t.listed)) (table_with t (held_t b (record t { listed = new; finders = fs }))) r) (sym e)
-      (alike o r y (option_copied t.typed) t.pushed t.pushed (held_in t.listed) (held_in new) (subst (λ h. Pushes o (with_cells y 0 h) (with_cells y 0 (held_in new)) r) same p)))
+  pub pushed_listed : (o : Option (Result Row Fault)) (r : Result More RowRefusal) (l new : Listed) (done : Bool) (fs : _) → held_in l ≡ held_in t.listed
+      → Pushes o (with_cells None None 0 (held_in l)) (with_cells None None 0 (held_in new)) r → Pushes o old (table_of (record t { listed = new; done = done; finders = fs })) r
+  pushed_listed o r l new done fs same p =
+      subst (λ x. Pushes o x (table_of (record t { listed = new; done = done; finders = fs })) r) listed_view
+      (subst (λ b. Pushes o (table_with t (held_in t.listed)) (table_with t (held_t b (record t { listed = new; done = done; finders = fs }))) r) (sym e)
+      (alike o r (option_copied t.typed) (option_copied t.graph) t.pushed (held_in t.listed) (held_in new) (subst (λ h. Pushes o (with_cells None None 0 h) (with_cells None None 0 (held_in new)) r) same p)))
 
-  pub pushed_chunk : (os : List (Result Row Fault)) (r : Result More RowRefusal) (y : Option Typed) (l new : Listed) (fs : _) → held_in l ≡ held_in t.listed
-      → PushesAll os (with_cells y 0 (held_in l)) (with_cells y 0 (held_in new)) r → PushesAll os old (table_of (record t { listed = new; finders = fs })) r
-  pushed_chunk os r y l new fs same p =
-      subst (λ x. PushesAll os x (table_of (record t { listed = new; finders = fs })) r) listed_view
-      (subst (λ b. PushesAll os (table_with t (held_in t.listed)) (table_with t (held_t b (record t { listed = new; finders = fs }))) r) (sym e)
-      (alike_all os r y (option_copied t.typed) t.pushed t.pushed (held_in t.listed) (held_in new) (subst (λ h. PushesAll os (with_cells y 0 h) (with_cells y 0 (held_in new)) r) same p)))
+  pub pushed_chunk : (os : List (Result Row Fault)) (r : Result More RowRefusal) (l new : Listed) (done : Bool) (fs : _) → held_in l ≡ held_in t.listed
+      → PushesAll os (with_cells None None 0 (held_in l)) (with_cells None None 0 (held_in new)) r → PushesAll os old (table_of (record t { listed = new; done = done; finders = fs })) r
+  pushed_chunk os r l new done fs same p =
+      subst (λ x. PushesAll os x (table_of (record t { listed = new; done = done; finders = fs })) r) listed_view
+      (subst (λ b. PushesAll os (table_with t (held_in t.listed)) (table_with t (held_t b (record t { listed = new; done = done; finders = fs }))) r) (sym e)
+      (alike_all os r (option_copied t.typed) (option_copied t.graph) t.pushed (held_in t.listed) (held_in new) (subst (λ h. PushesAll os (with_cells None None 0 h) (with_cells None None 0 (held_in new)) r) same p)))
 
   pub answers_listed : (lines : List (List Val)) → ((list : List Row) → Holds t.bound.now list (held_in t.listed) → Lists t.bound.now list lines) → AnswersListings old lines
   answers_listed lines lists = subst (λ x. AnswersListings x lines) listed_view (λ outcomes s. record { rows = s.rows; looked = s.looked; lists = lists s.rows s.holds })
@@ -256,6 +255,25 @@ module _ (t : Inside) (old : Table) (view : table_of t ≡ old) (e : is_listing 
 -- the same of the table's own query
 pub inside_listing : (t : Inside) (old : Table) → table_of t ≡ old → is_listing old.bound ≡ true → is_listing t.bound.now ≡ true
 inside_listing t old view e = ap (λ (x : Table). is_listing x.bound) view ∙ e
+
+pub inside_valued : (t : Inside) (old : Table) → table_of t ≡ old → is_listing old.bound ≡ false → is_listing t.bound.now ≡ false
+inside_valued t old view e = ap (λ (x : Table). is_listing x.bound) view ∙ e
+
+-- ---- what was looked up for the alternative
+
+pub inside_graph : (t : Inside) (old : Table) (g : Graph) → table_of t ≡ old → old.graph ≡ Some g → option_copied t.graph ≡ Some g
+inside_graph t old g view has = ap (λ (x : Table). x.graph) view ∙ has
+
+module _ (d : Bool) (g : Graph) (t : Inside) (has : option_copied t.graph ≡ Some g) (e : is_listing t.bound.now ≡ d) where
+  pub was_done : IsDone (option_copied t.graph) t → IsDoneAs d g t
+  was_done h = subst (λ b. IsDoneAs b g t) e (subst (λ o. IsDone o t) has h)
+
+  pub now_done : IsDoneAs d g t → IsDone (option_copied t.graph) t
+  now_done h = subst (λ o. IsDone o t) (sym has) (subst (λ b. IsDoneAs b g t) (sym e) h)
+
+-- what expressions read of an assignment of an alternative
+pub within_is : (admitted : reading.Assignment → Bool) (q : Asked) (y : Typed) → q.late.now ≡ y.late → (here : reading.Assignment) → outcome_within admitted q here ≡ outcome_admitted admitted q.graph.now q.bound.now y here
+within_is admitted q y e here = ap (λ late. cond (admitted here) (outcome_numbered q.graph.now q.bound.now late here) None) e
 
 -- ---- the lines of rows that are listed as they come
 

@@ -149,15 +149,17 @@ impl<'g> RowTable<'g> {
             alloc,
             bound,
             typed: _,
+            graph: _,
             limit: _,
             form: _,
             sure: _,
             rows,
             listed,
+            done: _,
             finders: _,
+            reading: _,
             pushed,
             choice: _,
-            reading: _,
         } = self;
         if is_listing(bound) {
             return Ok(Listing {

@@ -17,20 +17,22 @@ use crate::finder::{Finder, put_column};
 use crate::held::Form;
 use crate::judging::{Checked, check_late};
 use crate::refusal::{More, RowRefusal};
-use gq_base::Memory;
-use gq_cells::Cells;
+use crate::tables::Tables;
+use gq_base::{Memory, Value};
+use gq_cells::{Cells, Source};
 use gq_expr::Assigned;
 use gq_group::{Choice, Chunk, ChunkRow};
-use gq_plan::{Bound, NamedExpr, Typed};
+use gq_plan::{Bound, Typed};
 use gq_store::Graph;
 
-/// What is asked of the assignments of an alternative whose rows are listed as they come, and the
-/// most rows that are kept.
+/// What is asked of each row where the rows are listed as they come, and the most rows that are
+/// kept.
 #[derive(Clone, Copy)]
 pub struct Asked<'g> {
     pub(crate) graph: &'g Graph,
     pub(crate) bound: &'g Bound,
-    pub(crate) typed: &'g Typed,
+    /// The numbers of the conjuncts that are left.
+    pub(crate) late: &'g [u32],
     pub(crate) limit: u32,
     pub(crate) form: Form,
 }
@@ -49,21 +51,31 @@ pub(crate) fn is_listing(bound: &Bound) -> bool
     !bound.distinct && bound.keys.is_empty()
 }
 
-/// How the values of columns are kept for an alternative in a graph, in the place of what was there.
+/// How the values of columns are kept for an alternative in a graph, in the place of what was
+/// there; where that was done, it stays.
 pub(crate) fn find_columns<'g>(
+    done: bool,
     cells: &mut Cells<'g>,
     finders: &mut Vec<Finder<'g>>,
-    columns: &'g [NamedExpr],
+    bound: &'g Bound,
     typed: &Typed,
     graph: &'g Graph,
 ) -> Result<(), Memory>
-    ensures finds { let exprs = column_exprs columns.now in
+    requires { let exprs = column_exprs bound.now.columns in
+        done ≡ true → AreFinders graph.now cells.old.sources exprs finders.old.items }
+    ensures finds { let exprs = column_exprs bound.now.columns in
         OnOk result (AreFinders graph.now cells.new.sources exprs finders.new.items) }
     ensures values { cells.new.values ≡ cells.old.values }
 {
+    if done {
+        return Ok(());
+    }
+    let tables = Tables { bound, typed };
+    let columns = bound.columns.as_slice();
+    let null = cells.add(Source::Value(Value::Null))?;
     finders.clear();
     'columns: for column in columns {
-        let finder = Finder::new(cells, &column.expr, typed, graph)?;
+        let finder = Finder::new(cells, null, &column.expr, &tables, graph)?;
         finders.push(finder)?;
     }
     Ok(())
@@ -105,7 +117,7 @@ impl<'g> Listed<'g> {
             self.old self.new result }
         ensures more { OnOk result (Extends self.old.cells.sources self.new.cells.sources) }
     {
-        match check_late(asked.graph, asked.bound, asked.typed, row) {
+        match check_late(asked.graph, asked.bound, asked.late, row) {
             Checked::Dropped => return Ok(false),
             Checked::Faulty(fault) => return Err(RowRefusal::Fault(fault)),
             Checked::Met => {}
@@ -186,23 +198,26 @@ impl<'g> Listed<'g> {
         asked: &Asked<'g>,
         choice: &mut Choice,
         chunk: &Chunk<'_, '_>,
+        typed: &Typed,
         admits: &A,
     ) -> Result<More, RowRefusal>
-        requires chunk { IsChunkOf asked.now.graph.now asked.now.typed.now chunk.now }
+        requires chunk { IsChunkOf asked.now.graph.now typed.now chunk.now }
+        requires late { asked.now.late.now ≡ typed.now.late }
         requires listing { IsListing asked.now }
         requires finders { Finding asked.now self.old.cells.sources finders.now }
         requires stands { StandsForSome (table_in asked.now self.old) }
         requires room { is_full_table (table_in asked.now self.old) ≡ false }
         requires begins { Begins chunk.now.groups.now true choice.old }
-        ensures { let q = asked.now in
-            let y = Some q.typed.now in
+        ensures pushes { let q = asked.now in
             let admitted = A.admitted admits.now in
+            let y = Some typed.now in
             let os = admitted_outcomes admitted q.graph.now q.bound.now y chunk.now in
             PushesAll os (table_in q self.old) (table_in q self.new) result }
+        ensures more { OnOk result (Extends self.old.cells.sources self.new.cells.sources) }
     {
         let mut found = true;
         'choices: while found {
-            let row = ChunkRow::new(asked.graph, asked.typed, chunk, choice.positions());
+            let row = ChunkRow::new(asked.graph, typed, chunk, choice.positions());
             match self.push_row(finders, asked, &row, admits) {
                 Ok(More::Go) => {}
                 Ok(More::Enough) => return Ok(More::Enough),

@@ -4,13 +4,15 @@ ghost use Rattle.gq_group.specs.Choices.{Begins};
 ghost use Rattle.gq_group.specs.Chunks.{IsChunkOf};
 ghost use Rattle.gq_group.specs.Groups.{choices};
 ghost use Rattle.gq_plan.specs.Assignments.{row_of};
+ghost use Rattle.gq_plan.specs.Marked.{Marked, ending};
 ghost use Rattle.gq_rows.specs.Chunks.{IsChunkIn, PushesAdmitted, PushesAll, PushesChunk};
 ghost use Rattle.gq_rows.specs.Chunks.{admitted_outcomes, counted};
 ghost use Rattle.gq_rows.specs.steps.Keeping.{HasForm};
 ghost use Rattle.gq_rows.specs.steps.Listed.{is_listing};
 ghost use Rattle.gq_rows.specs.steps.Resolving.{IsReading};
 ghost use Rattle.gq_rows.specs.Tables.{IsSameQuery, Pushes, StandsFor, StandsForSome};
-ghost use Rattle.gq_rows.specs.Tables.{is_full_table, outcome_admitted, outcome_read};
+ghost use Rattle.gq_rows.specs.Tables.{is_full_table, outcome_admitted, outcome_numbered};
+ghost use Rattle.gq_wide.specs.Rows.{read};
 
 use crate::admitting::{Admits, Everything};
 use crate::bar::are_sure;
@@ -22,10 +24,11 @@ use crate::refusal::{More, RowRefusal};
 use crate::resolved::Reading;
 use gq_cells::Cells;
 use gq_classes::Classes;
-use gq_expr::Assigned;
+use gq_expr::{Assigned, Fault};
 use gq_group::{Choice, Chunk, ChunkRow};
 use gq_plan::{Bound, Typed};
 use gq_store::Graph;
+use gq_wide::WideRow;
 use std::alloc::Global;
 use std::marker::Model;
 use std::mem;
@@ -40,19 +43,22 @@ pub struct RowTable<'g> {
     pub(crate) alloc: Global,
     pub(crate) bound: &'g Bound,
     pub(crate) typed: Option<&'g Typed>,
+    pub(crate) graph: Option<&'g Graph>,
     pub(crate) limit: u32,
     pub(crate) form: Form,
     // Each column and each key is sure to have a value.
     pub(crate) sure: bool,
     pub(crate) rows: Rows<'g>,
-    // The rows of a query without DISTINCT and without ORDER BY, and how their values are kept.
+    // The rows of a query without DISTINCT and without ORDER BY.
     pub(crate) listed: Listed<'g>,
+    // Whether the columns and the keys were looked up for the alternative: how the values of such
+    // rows are kept, or how those of other rows are evaluated.
+    pub(crate) done: bool,
     pub(crate) finders: Vec<Finder<'g>>,
-    // The chunks with a row that were pushed, the positions of the last one, and the columns and
-    // the keys as they were evaluated for it.
+    pub(crate) reading: Reading<'g>,
+    // The chunks with a row that were pushed, and the positions of the last one.
     pub(crate) pushed: u64,
     pub(crate) choice: Choice,
-    pub(crate) reading: Reading<'g>,
 }
 
 impl<'g> Model for RowTable<'g> {
@@ -99,12 +105,14 @@ impl<'g> RowTable<'g> {
         ensures bound { result.bound ≡ bound.now }
         ensures most { result.most ≡ limit }
         ensures alternative { result.alternative ≡ None }
+        ensures graph { result.graph ≡ None }
         ensures pushed { result.pushed ≡ 0 }
     {
         RowTable {
             alloc,
             bound,
             typed: None,
+            graph: None,
             limit,
             form: form_of(bound),
             sure: are_sure(bound),
@@ -119,18 +127,23 @@ impl<'g> RowTable<'g> {
                 cells: Cells::new(alloc),
                 count: 0,
             },
+            done: false,
             finders: Vec::new(alloc),
+            reading: Reading::new(alloc),
             pushed: 0,
             choice: Choice::new(alloc),
-            reading: Reading::new(alloc),
         }
     }
 
-    /// The assignments that follow are of this alternative. What is held stays.
-    pub fn start_alternative(&mut self, typed: &'g Typed)
-        ensures { self.new ≡ record self.old { alternative = Some typed.now } }
+    /// The assignments that follow are of this alternative, in this graph. What is held stays. It
+    /// takes no memory: columns and keys are looked up once, at the first push that follows.
+    pub fn start_alternative(&mut self, typed: &'g Typed, graph: &'g Graph)
+        ensures { self.new
+            ≡ record self.old { alternative = Some typed.now; graph = Some graph.now } }
     {
         self.typed = Some(typed);
+        self.graph = Some(graph);
+        self.done = false;
     }
 
     /// Takes the assignments of a chunk of the alternative that was started, by ascending
@@ -145,6 +158,7 @@ impl<'g> RowTable<'g> {
         graph: &'g Graph,
     ) -> Result<More, RowRefusal>
         requires started { IsSome self.old.alternative }
+        requires graph { self.old.graph ≡ Some graph.now }
         requires chunk { IsChunkIn graph.now self.old.alternative chunk.now }
         requires stands { StandsForSome self.old }
         requires room { is_full_table self.old ≡ false }
@@ -164,6 +178,7 @@ impl<'g> RowTable<'g> {
         admits: &A,
     ) -> Result<More, RowRefusal>
         requires started { IsSome self.old.alternative }
+        requires graph { self.old.graph ≡ Some graph.now }
         requires chunk { IsChunkIn graph.now self.old.alternative chunk.now }
         requires stands { StandsForSome self.old }
         requires room { is_full_table self.old ≡ false }
@@ -190,8 +205,43 @@ impl<'g> RowTable<'g> {
         answer
     }
 
-    // Takes the admitted assignments of the choices from the one that stands on, as the query's rows
-    // are held.
+    /// Takes a row that gives each variable a node, a relationship or nothing: it has no further
+    /// conjuncts. Its outcome is the given fault; where none is given, it is the first fault of its
+    /// columns and keys, or their values. It is called for the rows of queries with optional
+    /// clauses. After a refusal the table may only be dropped.
+    ///
+    /// It refuses with the fault of an outcome that is looked at, or where the kept rows would be
+    /// more than the limit. It takes no memory but that in which the table grows.
+    pub fn push_wide(
+        &mut self,
+        row: &WideRow,
+        fault: Option<Fault>,
+        graph: &'g Graph,
+    ) -> Result<More, RowRefusal>
+        requires started { IsSome self.old.alternative }
+        requires graph { self.old.graph ≡ Some graph.now }
+        requires stands { StandsForSome self.old }
+        requires room { is_full_table self.old ≡ false }
+        ensures pushes { let marked : Marked = record { row = read row.now; mark = fault } in
+            Pushes (Some (ending graph.now self.old.bound marked)) self.old self.new result }
+        ensures query { OnOk result (IsSameQuery self.old self.new) }
+        ensures pushed { OnOk result (self.new.pushed ≡ self.old.pushed) }
+    {
+        let Some(typed) = self.typed else {
+            unreachable!()
+        };
+        match fault {
+            Some(fault) => return Err(RowRefusal::Fault(fault)),
+            None => {}
+        }
+        if is_listing(self.bound) {
+            return self.push_alone(row, typed, graph);
+        }
+        self.push_judged(row, typed, graph)
+    }
+
+    // Takes the admitted assignments of the choices from the one that stands on, as the query's
+    // rows are held.
     fn push_found<A: Admits>(
         &mut self,
         choice: &mut Choice,
@@ -201,6 +251,7 @@ impl<'g> RowTable<'g> {
         admits: &A,
     ) -> Result<More, RowRefusal>
         requires chunk { IsChunkOf graph.now typed.now chunk.now }
+        requires graph { self.old.graph ≡ Some graph.now }
         requires stands { StandsForSome self.old }
         requires room { is_full_table self.old ≡ false }
         requires begins { Begins chunk.now.groups.now true choice.old }
@@ -214,13 +265,20 @@ impl<'g> RowTable<'g> {
         if is_listing(self.bound) {
             return self.push_listed(choice, chunk, typed, graph, admits);
         }
+        let done = self.done;
+        self.done = false;
         let mut reading = mem::replace(&mut self.reading, Reading::new(self.alloc));
-        let Ok(()) = reading.resolve(self.bound, typed, graph) else {
+        let Ok(()) = reading.resolve(done, self.bound, typed, graph) else {
             return Err(RowRefusal::Memory);
         };
-        let answer = self.push_choices(choice, chunk, &reading, typed, graph, admits);
-        self.reading = reading;
-        answer
+        match self.push_choices(choice, chunk, &reading, typed, graph, admits) {
+            Ok(more) => {
+                self.reading = reading;
+                self.done = true;
+                Ok(more)
+            }
+            Err(refusal) => Err(refusal),
+        }
     }
 
     // Takes the admitted assignments of the choices from the one that stands on, where the rows are
@@ -235,6 +293,7 @@ impl<'g> RowTable<'g> {
     ) -> Result<More, RowRefusal>
         requires listing { is_listing self.old.bound ≡ true }
         requires chunk { IsChunkOf graph.now typed.now chunk.now }
+        requires graph { self.old.graph ≡ Some graph.now }
         requires stands { StandsForSome self.old }
         requires room { is_full_table self.old ≡ false }
         requires begins { Begins chunk.now.groups.now true choice.old }
@@ -248,20 +307,31 @@ impl<'g> RowTable<'g> {
         let asked = Asked {
             graph,
             bound: self.bound,
-            typed,
+            late: typed.late.as_slice(),
             limit: self.limit,
             form: self.form,
         };
-        let columns = self.bound.columns.as_slice();
+        let done = self.done;
+        self.done = false;
         let cells = &mut self.listed.cells;
-        let Ok(()) = find_columns(cells, &mut self.finders, columns, typed, graph) else {
+        let Ok(()) = find_columns(done, cells, &mut self.finders, self.bound, typed, graph) else {
             return Err(RowRefusal::Memory);
         };
-        self.listed
-            .push_choices(self.finders.as_slice(), &asked, choice, chunk, admits)
+        let finders = self.finders.as_slice();
+        match self
+            .listed
+            .push_choices(finders, &asked, choice, chunk, typed, admits)
+        {
+            Ok(more) => {
+                self.done = true;
+                Ok(more)
+            }
+            Err(refusal) => Err(refusal),
+        }
     }
 
-    // Takes what expressions read of an assignment, where the rows are listed as they come.
+    // Takes what expressions read of a row, where the rows are listed as they come and no conjunct
+    // is left.
     fn push_alone<R: Assigned>(
         &mut self,
         row: &R,
@@ -269,30 +339,71 @@ impl<'g> RowTable<'g> {
         graph: &'g Graph,
     ) -> Result<More, RowRefusal>
         requires listing { is_listing self.old.bound ≡ true }
+        requires graph { self.old.graph ≡ Some graph.now }
         requires stands { StandsForSome self.old }
         requires room { is_full_table self.old ≡ false }
         ensures pushes { let here = R.assignment row.now in
-            Pushes (outcome_read graph.now self.old.bound typed.now here)
-            self.old self.new result }
+            Pushes (outcome_numbered graph.now self.old.bound [] here) self.old self.new result }
         ensures query { IsSameQuery self.old self.new }
         ensures pushed { self.new.pushed ≡ self.old.pushed }
     {
         let asked = Asked {
             graph,
             bound: self.bound,
-            typed,
+            late: &[],
             limit: self.limit,
             form: self.form,
         };
-        let columns = self.bound.columns.as_slice();
+        let done = self.done;
+        self.done = false;
         let cells = &mut self.listed.cells;
-        let Ok(()) = find_columns(cells, &mut self.finders, columns, typed, graph) else {
+        let Ok(()) = find_columns(done, cells, &mut self.finders, self.bound, typed, graph) else {
             return Err(RowRefusal::Memory);
         };
-        self.listed.push(self.finders.as_slice(), &asked, row)
+        match self.listed.push(self.finders.as_slice(), &asked, row) {
+            Ok(more) => {
+                self.done = true;
+                Ok(more)
+            }
+            Err(refusal) => Err(refusal),
+        }
     }
 
-    // Takes the admitted assignments of the choices from the one that stands on.
+    // Takes what expressions read of a row, where the rows are held as values and no conjunct is
+    // left.
+    fn push_judged<R: Assigned>(
+        &mut self,
+        row: &R,
+        typed: &'g Typed,
+        graph: &'g Graph,
+    ) -> Result<More, RowRefusal>
+        requires valued { is_listing self.old.bound ≡ false }
+        requires graph { self.old.graph ≡ Some graph.now }
+        requires stands { StandsForSome self.old }
+        requires room { is_full_table self.old ≡ false }
+        ensures pushes { let here = R.assignment row.now in
+            Pushes (outcome_numbered graph.now self.old.bound [] here) self.old self.new result }
+        ensures query { OnOk result (IsSameQuery self.old self.new) }
+        ensures pushed { OnOk result (self.new.pushed ≡ self.old.pushed) }
+    {
+        let done = self.done;
+        self.done = false;
+        let mut reading = mem::replace(&mut self.reading, Reading::new(self.alloc));
+        let Ok(()) = reading.resolve(done, self.bound, typed, graph) else {
+            return Err(RowRefusal::Memory);
+        };
+        match self.push(row, &reading, &[], graph) {
+            Ok(more) => {
+                self.reading = reading;
+                self.done = true;
+                Ok(more)
+            }
+            Err(refusal) => Err(refusal),
+        }
+    }
+
+    // Takes the admitted assignments of the choices from the one that stands on, where the rows are
+    // held as values.
     fn push_choices<A: Admits>(
         &mut self,
         choice: &mut Choice,
@@ -302,13 +413,15 @@ impl<'g> RowTable<'g> {
         graph: &'g Graph,
         admits: &A,
     ) -> Result<More, RowRefusal>
+        requires valued { is_listing self.old.bound ≡ false }
         requires chunk { IsChunkOf graph.now typed.now chunk.now }
         requires reading { IsReading graph.now self.old.bound reading.now }
         requires stands { StandsForSome self.old }
         requires room { is_full_table self.old ≡ false }
         requires begins { Begins chunk.now.groups.now true choice.old }
         ensures pushes { let y = Some typed.now in
-            let os = admitted_outcomes (A.admitted admits.now) graph.now self.old.bound y chunk.now in
+            let admitted = A.admitted admits.now in
+            let os = admitted_outcomes admitted graph.now self.old.bound y chunk.now in
             PushesAll os self.old self.new result }
         ensures query { OnOk result (IsSameQuery self.old self.new) }
         ensures pushed { OnOk result (self.new.pushed ≡ self.old.pushed) }
@@ -335,6 +448,7 @@ impl<'g> RowTable<'g> {
         graph: &'g Graph,
         admits: &A,
     ) -> Result<More, RowRefusal>
+        requires valued { is_listing self.old.bound ≡ false }
         requires reading { IsReading graph.now self.old.bound reading.now }
         requires stands { StandsForSome self.old }
         requires room { is_full_table self.old ≡ false }
@@ -347,33 +461,32 @@ impl<'g> RowTable<'g> {
         if !admits.admits(row) {
             return Ok(More::Go);
         }
-        self.push(row, reading, typed, graph)
+        self.push(row, reading, typed.late.as_slice(), graph)
     }
 
-    // Takes what expressions read of an assignment of an alternative.
+    // Takes what expressions read of a row, where the rows are held as values. Of the conjuncts
+    // those with these numbers are left.
     fn push<R: Assigned>(
         &mut self,
         row: &R,
         reading: &Reading<'g>,
-        typed: &'g Typed,
+        late: &'g [u32],
         graph: &'g Graph,
     ) -> Result<More, RowRefusal>
+        requires valued { is_listing self.old.bound ≡ false }
         requires reading { IsReading graph.now self.old.bound reading.now }
         requires stands { StandsForSome self.old }
         requires room { is_full_table self.old ≡ false }
         ensures pushes { let here = R.assignment row.now in
-            Pushes (outcome_read graph.now self.old.bound typed.now here)
+            Pushes (outcome_numbered graph.now self.old.bound late.now here)
             self.old self.new result }
         ensures query { IsSameQuery self.old self.new }
         ensures pushed { self.new.pushed ≡ self.old.pushed }
     {
-        if is_listing(self.bound) {
-            return self.push_alone(row, typed, graph);
-        }
         let question = Question {
             graph,
             bound: self.bound,
-            typed,
+            late,
             limit: self.limit,
             sure: self.sure,
             reading,

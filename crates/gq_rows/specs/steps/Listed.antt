@@ -1,5 +1,5 @@
 -- Rows that are held as cells, of a query without DISTINCT and without ORDER BY.
-use Rattle.std.specs.Prelude.{◌≡◌, ◌+◌, ◌<◌, ◌≤◌, ◌^◌, ◌&&◌, not, Bool, true, false, Option, Some, None, Result, Ok, Err, List, [], ◌++◌, length, map}
+use Rattle.std.specs.Prelude.{◌≡◌, ◌+◌, ◌<◌, ◌≤◌, ◌^◌, ◌&&◌, not, Bool, true, false, Option, Some, None, Result, Ok, Err, List, [], ◌++◌, length, map, if◌then◌else◌}
 use Rattle.std.specs.List.{All}
 use Rattle.gq_base.specs.Lists.{is_empty}
 use Rattle.gq_base.specs.Plain.{Graph}
@@ -13,7 +13,7 @@ use Rattle.gq_expr.specs.declared.expr.Expr.{Expr}
 use Rattle.gq_plan.specs.Outcomes.{Row}
 use Rattle.gq_plan.specs.declared.bound.Bound.{Bound}
 use Rattle.gq_plan.specs.declared.bound.NamedExpr.{NamedExpr}
-use Rattle.gq_rows.specs.Tables.{Held, Table, outcome_admitted, outcome_read}
+use Rattle.gq_rows.specs.Tables.{Held, Table, outcome_numbered}
 use Rattle.gq_rows.specs.steps.Finding.{IsFinder}
 use Rattle.gq_rows.specs.steps.Judged.{values_after}
 use Rattle.gq_rows.specs.steps.Keeping.{HasForm}
@@ -35,15 +35,15 @@ held_in l = record { columns = l.cells.values; keys = []; count = l.count; class
 
 -- a table of what is asked that holds it
 abbrev pub table_in : Asked → Listed → Table
-table_in q l = record { bound = q.bound.now; most = q.limit; alternative = Some q.typed.now; held = held_in l; pushed = 0 }
+table_in q l = record { bound = q.bound.now; most = q.limit; alternative = None; graph = None; held = held_in l; pushed = 0 }
 
 -- the outcome of what expressions read
 abbrev pub outcome_in : Asked → reading.Assignment → Option (Result Row Fault)
-outcome_in q here = outcome_read q.graph.now q.bound.now q.typed.now here
+outcome_in q here = outcome_numbered q.graph.now q.bound.now q.late.now here
 
 -- none, where it is not admitted
 abbrev pub outcome_within : (reading.Assignment → Bool) → Asked → reading.Assignment → Option (Result Row Fault)
-outcome_within admitted q here = outcome_admitted admitted q.graph.now q.bound.now q.typed.now here
+outcome_within admitted q here = if admitted here then outcome_in q here else None
 
 abbrev pub IsPlain : Form → Type 0
 IsPlain form.All = Unit {0}

@@ -1,6 +1,7 @@
 use Rattle.std.proofs.Common.{◌≡◌, false, length}
 use Rattle.gq_rows.specs.Tables.{StandsForSome, is_full_table}
 use Rattle.gq_rows.specs.steps.Choosing.{Came, choices_left}
+use Rattle.gq_rows.specs.steps.Finding.{Extends}
 use Rattle.gq_rows.specs.steps.Listed.{Finding, table_in}
 use Rattle.gq_rows.proofs.listed.Listed.push_choices.Given as goal
 
@@ -8,8 +9,9 @@ abbrev pub invariant-choices : goal.invariant-choices
 invariant-choices t l = record {
   room : is_full_table (table_in l.asked l.self) ≡ false;
   some : StandsForSome (table_in l.asked l.self);
+  more : Extends l.initial.self.cells.sources l.self.cells.sources;
   finders : Finding l.asked l.self.cells.sources l.finders;
-  came : Came (t.A.Admits.admitted l.admits) l.asked.graph.now l.asked.typed.now l.chunk (table_in l.asked l.initial.self) (table_in l.asked l.self) l.found l.choice;
+  came : Came (t.A.Admits.admitted l.admits) l.asked.graph.now l.typed l.chunk (table_in l.asked l.initial.self) (table_in l.asked l.self) l.found l.choice;
 }
 
 abbrev pub decreases-choices : goal.decreases-choices

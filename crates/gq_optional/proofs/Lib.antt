@@ -1,0 +1,11 @@
+pub mod Keyed
+pub mod Clauses
+pub mod Gathered
+pub mod Holding
+pub mod Made
+pub mod Pending
+pub mod Placed
+pub mod Stepped
+pub mod Turned
+pub mod Walked
+pub mod Walking

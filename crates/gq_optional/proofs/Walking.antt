@@ -1,0 +1,75 @@
+-- A walk from one row to the next: what is owed, and that it stays a walk.
+use Rattle.std.proofs.Common.{◌≡◌, ℕ, ◌∙◌, Bool, true, false, List, [], ◌∷◌, length, sym, ap, ap₂, subst, refl, Option, None, ◌++◌}
+use Rattle.std.proofs.lemmas.List.{length-map}
+use Rattle.gq_base.specs.Plain.{Graph}
+use Rattle.gq_expr.specs.declared.Fault.{Fault}
+use Rattle.gq_wide.specs.Clauses.{unmarked}
+use Rattle.gq_wide.specs.Rows.{Wide, read}
+use Rattle.gq_optional.specs.Walks.{owed_as}
+use Rattle.gq_optional.specs.declared.level.Level.{Level}
+use Rattle.gq_optional.specs.steps.Levels.{AreLevels, HasRows, IsAlike, IsLevel, StepsOn, clauses_of, last_mark, last_row, last_wide, made_by_all, still}
+use Rattle.gq_optional.proofs.Stepped.{last_alike}
+use Rattle.gq_optional.proofs.Walked.{last_is}
+
+-- as many levels as clauses
+pub as_many : (new old : List Level) → clauses_of new ≡ clauses_of old → length new ≡ length old
+as_many new old e = sym (length-map new (λ (l : Level). l.clause.now)) ∙ ap length e ∙ length-map old (λ (l : Level). l.clause.now)
+
+pub levels_moved : (w w' : Wide) (ls ls' : List Level) → w ≡ w' → ls ≡ ls' → AreLevels (length w.nodes) (length w.rels) ls → AreLevels (length w'.nodes) (length w'.rels) ls'
+levels_moved w w' ls ls' e f all = subst (λ (t : Wide × List Level). AreLevels (length t.0.nodes) (length t.0.rels) t.1) (λ i. (e i, f i)) all
+
+-- the row behind all clauses has the variables of that before them
+pub row_alike : (base r row : Wide) (ls : List Level) → r ≡ base → AreLevels (length r.nodes) (length r.rels) ls → row ≡ last_wide r ls → IsAlike row base
+row_alike base r row ls e all f =
+    let sized = last_alike (length r.nodes) (length r.rels) r ls refl refl all in
+    record {
+      nodes = ap (λ (w : Wide). length w.nodes) f ∙ sized.0 ∙ ap (λ (w : Wide). length w.nodes) e;
+      rels = ap (λ (w : Wide). length w.rels) f ∙ sized.1 ∙ ap (λ (w : Wide). length w.rels) e;
+    }
+
+-- neither a first row nor a further one
+pub owed_none : (g : Graph) (base : Wide) (ls : List Level) (fresh standing : Bool) → fresh ≡ false → standing ≡ false → owed_as g base ls fresh standing ≡ []
+owed_none g base ls fresh standing e f = ap₂ (λ a b. owed_as g base ls a b) e f
+
+module _ (g : Graph) (base : Wide) (ls slice new items : List Level) (row : Wide) (mark : Option Fault) (taken : slice ≡ ls) (put : items ≡ new) where
+  pub first_owed : (fresh standing : Bool) (r : Wide) → fresh ≡ true → r ≡ base
+      → made_by_all g (clauses_of slice) (unmarked (read r)) ≡ last_row (unmarked (read r)) new ∷ still g (read r) new
+      → row ≡ last_wide r new → mark ≡ last_mark None new
+      → owed_as g base ls fresh standing ≡ record { row = read row; mark = mark } ∷ still g (read base) items
+  first_owed fresh standing r begun same e f k =
+      ap (λ b. owed_as g base ls b standing) begun
+      ∙ ap (λ l. made_by_all g (clauses_of l) (unmarked (read base))) (sym taken)
+      ∙ ap (λ w. made_by_all g (clauses_of slice) (unmarked (read w))) (sym same)
+      ∙ e
+      ∙ ap (λ m. m ∷ still g (read r) new) (last_is r None new ∙ (λ i. record { row = read (sym f i); mark = sym k i }))
+      ∙ (λ i. record { row = read row; mark = mark } ∷ still g (read (same i)) (sym put i))
+
+  next_found : StepsOn g (read base) slice true new → row ≡ last_wide base new → mark ≡ last_mark None new
+      → still g (read base) ls ≡ record { row = read row; mark = mark } ∷ still g (read base) items
+  next_found e f k =
+      ap (still g (read base)) (sym taken) ∙ e
+      ∙ ap (λ m. m ∷ still g (read base) new) (last_is base None new ∙ (λ i. record { row = read (sym f i); mark = sym k i }))
+      ∙ ap (λ l. record { row = read row; mark = mark } ∷ still g (read base) l) (sym put)
+
+  pub next_owed : (fresh standing found : Bool) → fresh ≡ false → standing ≡ true → StepsOn g (read base) slice found new
+      → (found ≡ true → row ≡ last_wide base new) → (found ≡ true → mark ≡ last_mark None new) → found ≡ true
+      → owed_as g base ls fresh standing ≡ record { row = read row; mark = mark } ∷ owed_as g base items fresh found
+  next_owed true standing found e s step f k is = absurd (let x : ⊥ = cc in x)
+  next_owed false false found e s step f k is = absurd (let x : ⊥ = cc in x)
+  next_owed false true false e s step f k is = absurd (let x : ⊥ = cc in x)
+  next_owed false true true e s step f k is = next_found step (f is) (k is)
+
+  pub next_none : (fresh standing found : Bool) → fresh ≡ false → standing ≡ true → StepsOn g (read base) slice found new → found ≡ false
+      → owed_as g base ls fresh standing ≡ []
+  next_none true standing found e s step is = absurd (let x : ⊥ = cc in x)
+  next_none false false found e s step is = absurd (let x : ⊥ = cc in x)
+  next_none false true true e s step is = absurd (let x : ⊥ = cc in x)
+  next_none false true false e s step is = ap (still g (read base)) (sym taken) ∙ step
+
+pub alike_then : (a b c : Wide) → IsAlike a b → IsAlike b c → IsAlike a c
+alike_then a b c e f = record { nodes = e.nodes ∙ f.nodes; rels = e.rels ∙ f.rels }
+
+-- one more level behind others
+pub levels_pushed : (n m : ℕ) (ls : List Level) (l : Level) → AreLevels n m ls → IsLevel l → HasRows l → length l.row.nodes ≡ n → length l.row.rels ≡ m → AreLevels n m (ls ++ l ∷ [])
+levels_pushed n m [] l all level rows e f = ((level, rows), (e, f), tt)
+levels_pushed n m (k ∷ ls) l all level rows e f = (all.0, all.1, levels_pushed n m ls l all.2 level rows e f)

@@ -1,0 +1,15 @@
+use Rattle.std.proofs.Common.{◌≡◌, length}
+use Rattle.gq_optional.specs.steps.Levels.{HasRows, IsLevel, IsSameClause, left_of, pending}
+use Rattle.gq_wide.specs.Rows.{read}
+use Rattle.gq_optional.proofs.level.Level.go_on.Given as goal
+
+abbrev pub invariant-matches : goal.invariant-matches
+invariant-matches l = record {
+  level : IsLevel l.self;
+  rows : HasRows l.self;
+  same : IsSameClause l.initial.self l.self;
+  left : left_of l.graph (read l.before) l.initial.self ≡ left_of l.graph (read l.before) l.self;
+}
+
+abbrev pub decreases-matches : goal.decreases-matches
+decreases-matches l = length (pending (read l.before) l.self)

@@ -1,0 +1,64 @@
+use Rattle.std.proofs.Common.{◌≡◌, ◌∙◌, ap, length, refl, subst, sym, arith}
+use Rattle.std.proofs.lemmas.List.{with_items_is}
+use Rattle.std.specs.Vec.{with_items}
+use Rattle.gq_optional.specs.Walks.{AreShared, known_by}
+use Rattle.gq_optional.specs.steps.Levels.{clauses_of}
+use Rattle.gq_optional.proofs.Stepped.{levels_sized}
+use Rattle.gq_optional.proofs.Walking.{alike_then, as_many, next_none, next_owed, owed_none}
+use Rattle.gq_optional.proofs.walk.OptionalWalk.make_next.Goals as goal
+
+pub step_from-self-requires-clause-levels : goal.step_from-self-requires-clause-levels
+step_from-self-requires-clause-levels c =
+    let w = c.args.self.now in
+    levels_sized (length w.base.nodes) (length w.base.rels) w.row w.levels.items c.as_mut_slice.result.now c.requires.walk.row.nodes c.requires.walk.row.rels c.as_mut_slice.ensures.value c.requires.walk.levels
+
+pub returns-clause-walk : goal.returns-clause-walk
+returns-clause-walk c =
+    let w = c.args.self.now in
+    let step = c.step_from-self in
+    let new = step.new.levels in
+    let slice = c.as_mut_slice.ensures.value in
+    let long : length new ≡ w.levels.len = omega (arith, as_many new c.as_mut_slice.result.now step.ensures.clauses, ap length slice, w.levels.ok.0) in
+    let put = with_items_is w.levels new long in
+    record {
+      levels = levels_sized (length w.row.nodes) (length w.row.rels) w.base new _ (sym c.requires.walk.row.nodes) (sym c.requires.walk.row.rels) put step.ensures.levels;
+      shared = subst (AreShared (known_by w)) (sym (ap clauses_of put ∙ step.ensures.clauses ∙ ap clauses_of slice)) c.requires.walk.shared;
+      row = alike_then step.new.row w.row w.base step.ensures.wide c.requires.walk.row;
+    }
+
+pub returns-clause-next : goal.returns-clause-next
+returns-clause-next c =
+    let w = c.args.self.now in
+    let step = c.step_from-self in
+    let new = step.new.levels in
+    let slice = c.as_mut_slice.ensures.value in
+    let long : length new ≡ w.levels.len = omega (arith, as_many new c.as_mut_slice.result.now step.ensures.clauses, ap length slice, w.levels.ok.0) in
+    next_owed w.graph.now w.base w.levels.items c.as_mut_slice.result.now new _ step.new.row step.new.mark slice (with_items_is w.levels new long) w.fresh w.standing step.result c.requires.fresh c.requires.standing
+    step.ensures.next step.ensures.row step.ensures.mark
+
+pub returns-clause-none : goal.returns-clause-none
+returns-clause-none c =
+    let w = c.args.self.now in
+    let step = c.step_from-self in
+    next_none w.graph.now w.base w.levels.items c.as_mut_slice.result.now step.new.levels step.new.levels step.new.row step.new.mark c.as_mut_slice.ensures.value refl w.fresh w.standing step.result c.requires.fresh c.requires.standing
+    step.ensures.next
+
+pub returns-clause-over : goal.returns-clause-over
+returns-clause-over c over =
+    let w = c.args.self.now in
+    owed_none w.graph.now w.base (with_items w.levels c.step_from-self.new.levels).items w.fresh c.step_from-self.result c.requires.fresh over
+
+pub returns-clause-same : goal.returns-clause-same
+returns-clause-same c =
+    let w = c.args.self.now in
+    let step = c.step_from-self in
+    let new = step.new.levels in
+    let slice = c.as_mut_slice.ensures.value in
+    let long : length new ≡ w.levels.len = omega (arith, as_many new c.as_mut_slice.result.now step.ensures.clauses, ap length slice, w.levels.ok.0) in
+    record {
+      graph = refl;
+      first = refl;
+      clauses = ap clauses_of (with_items_is w.levels new long) ∙ step.ensures.clauses ∙ ap clauses_of slice;
+      nodes = refl;
+      rels = refl;
+    }

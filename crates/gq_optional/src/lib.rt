@@ -1,0 +1,15 @@
+//! Optional clauses: what their alternatives list, and the rows that they make of a row, one after
+//! another. The crate stands on the pipelines of `gq_pipe`, the builds of `gq_join` and the rows of
+//! `gq_wide`.
+#![tactic(auto)]
+
+mod clause;
+mod level;
+mod listing;
+mod looking;
+mod optionals;
+mod placing;
+mod walk;
+
+pub use optionals::{Optionals, RowShape};
+pub use walk::OptionalWalk;

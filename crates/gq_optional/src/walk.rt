@@ -1,0 +1,211 @@
+//! The rows that optional clauses make of a row, one after another.
+ghost use Rattle.std.specs.Prelude.{◌≡◌, ◌∷◌, ◌≤◌, [], None, drop, false, length, take, true};
+ghost use Rattle.gq_optional.specs.Walks.{IsAsWide, IsSameWalk, IsWalk, known_by, lists_by};
+ghost use Rattle.gq_optional.specs.Walks.{owed_by, parts_by, row_by};
+ghost use Rattle.gq_optional.specs.steps.Levels.{AreLevels, IsAlike, StepsOn, clauses_of};
+ghost use Rattle.gq_optional.specs.steps.Levels.{last_mark, last_row, last_wide, made_by_all};
+ghost use Rattle.gq_optional.specs.steps.Levels.{still};
+ghost use Rattle.gq_plan.specs.Marked.{Marked};
+ghost use Rattle.gq_wide.specs.Clauses.{after_clauses, unmarked};
+ghost use Rattle.gq_wide.specs.Rows.{read};
+
+use crate::level::Stage;
+use gq_expr::Fault;
+use gq_store::Graph;
+use gq_wide::WideRow;
+
+/// The rows that optional clauses make of a row, one after another, the last clause's deciding
+/// last.
+#[derive(Drop)]
+pub struct OptionalWalk<'w> {
+    pub(crate) graph: &'w Graph,
+    // How many node variables the clauses before have.
+    pub(crate) first: u32,
+    pub(crate) base: WideRow,
+    // The row that stands, and its mark.
+    pub(crate) row: WideRow,
+    pub(crate) mark: Option<Fault>,
+    pub(crate) levels: Vec<Stage<'w>>,
+    // Whether the first row is still to be made, and whether one stands.
+    pub(crate) fresh: bool,
+    pub(crate) standing: bool,
+}
+
+impl<'w> OptionalWalk<'w> {
+    /// Owes the rows that the clauses make of a row which no fault marks. It takes no memory.
+    pub fn begin(&mut self, base: &WideRow)
+        requires walk { IsWalk self.old }
+        requires wide { IsAsWide base.now self.old }
+        ensures walk { IsWalk self.new }
+        ensures owed { let w = self.old in
+            owed_by self.new ≡ after_clauses w.graph.now (known_by w) (parts_by w) (lists_by w)
+            (unmarked (read base.now)) }
+        ensures standing { self.new.standing ≡ false }
+        ensures same { IsSameWalk self.old self.new }
+    {
+        self.base.copy_from(base);
+        self.fresh = true;
+        self.standing = false;
+    }
+
+    /// Goes on to the next row that is owed, and answers whether there is one. It takes no memory.
+    #[tactic(auto, using(crate::proofs::Walking::owed_none))]
+    pub fn advance(&mut self) -> bool
+        requires walk { IsWalk self.old }
+        ensures walk { IsWalk self.new }
+        ensures next { result ≡ true → owed_by self.old ≡ row_by self.new ∷ owed_by self.new }
+        ensures none { result ≡ false → owed_by self.old ≡ [] }
+        ensures over { result ≡ false → owed_by self.new ≡ [] }
+        ensures standing { self.new.standing ≡ result }
+        ensures same { IsSameWalk self.old self.new }
+    {
+        if self.fresh {
+            self.make_first();
+            return true;
+        }
+        if self.standing {
+            return self.make_next();
+        }
+        false
+    }
+
+    // Makes the first row of the row that came.
+    fn make_first(&mut self)
+        requires walk { IsWalk self.old }
+        requires fresh { self.old.fresh ≡ true }
+        ensures walk { IsWalk self.new }
+        ensures next { owed_by self.old ≡ row_by self.new ∷ owed_by self.new }
+        ensures standing { self.new.standing ≡ true }
+        ensures fresh { self.new.fresh ≡ false }
+        ensures same { IsSameWalk self.old self.new }
+    {
+        self.fresh = false;
+        self.standing = true;
+        self.row.copy_from(&self.base);
+        self.mark = begin_from(
+            self.levels.as_mut_slice(),
+            0,
+            &mut self.row,
+            None,
+            self.graph,
+        );
+    }
+
+    // Makes the row behind the one that stands, and answers whether there is one.
+    fn make_next(&mut self) -> bool
+        requires walk { IsWalk self.old }
+        requires fresh { self.old.fresh ≡ false }
+        requires standing { self.old.standing ≡ true }
+        ensures walk { IsWalk self.new }
+        ensures next { result ≡ true → owed_by self.old ≡ row_by self.new ∷ owed_by self.new }
+        ensures none { result ≡ false → owed_by self.old ≡ [] }
+        ensures over { result ≡ false → owed_by self.new ≡ [] }
+        ensures standing { self.new.standing ≡ result }
+        ensures same { IsSameWalk self.old self.new }
+    {
+        self.standing = step_from(
+            self.levels.as_mut_slice(),
+            0,
+            &self.base,
+            &mut self.row,
+            &mut self.mark,
+            self.graph,
+        );
+        self.standing
+    }
+
+    /// The row that stands.
+    pub fn row(&self) -> &WideRow
+        ensures { read result.now ≡ (row_by self.now).row }
+    {
+        &self.row
+    }
+
+    /// The fault that marks it, if one does.
+    pub fn fault(&self) -> Option<Fault>
+        ensures { result ≡ (row_by self.now).mark }
+    {
+        self.mark
+    }
+}
+
+// Makes the first row of the row that stands, by the clauses from a depth on. The row that they
+// make stands afterwards; its mark is answered.
+fn begin_from(
+    levels: &mut [Stage<'_>],
+    depth: usize,
+    row: &mut WideRow,
+    mark: Option<Fault>,
+    graph: &Graph,
+) -> Option<Fault>
+    requires { AreLevels (length row.old.nodes) (length row.old.rels) (drop depth levels.old) }
+    ensures levels { let n = length row.old.nodes in
+        AreLevels n (length row.old.rels) (drop depth levels.new) }
+    ensures kept { take depth levels.new ≡ take depth levels.old }
+    ensures begins { let m : Marked = record { row = read row.old; mark = mark } in
+        made_by_all graph.now (clauses_of (drop depth levels.old)) m
+        ≡ last_row m (drop depth levels.new)
+        ∷ still graph.now (read row.old) (drop depth levels.new) }
+    ensures clauses { clauses_of (drop depth levels.new) ≡ clauses_of (drop depth levels.old) }
+    ensures row { row.new ≡ last_wide row.old (drop depth levels.new) }
+    ensures mark { result ≡ last_mark mark (drop depth levels.new) }
+{
+    if depth >= levels.len() {
+        return mark;
+    }
+    levels[depth].begin(row, mark, graph);
+    row.copy_from(levels[depth].row());
+    let mark = levels[depth].mark();
+    begin_from(levels, depth + 1, row, mark, graph)
+}
+
+// The row that comes to the clause at a depth.
+fn coming<'r>(levels: &'r [Stage<'_>], depth: usize, base: &'r WideRow) -> &'r WideRow
+    requires { depth ≤ length levels.now }
+    ensures { result.now ≡ last_wide base.now (take depth levels.now) }
+{
+    if depth == 0 {
+        return base;
+    }
+    levels[depth - 1].row()
+}
+
+// Goes on to the next row that the clauses from a depth on make, and answers whether there is one:
+// the last clause that has a further one makes it, and those behind it begin anew. The row stands
+// afterwards, with its mark.
+fn step_from(
+    levels: &mut [Stage<'_>],
+    depth: usize,
+    base: &WideRow,
+    row: &mut WideRow,
+    mark: &mut Option<Fault>,
+    graph: &Graph,
+) -> bool
+    requires levels { let n = length row.old.nodes in
+        AreLevels n (length row.old.rels) (drop depth levels.old) }
+    requires here { IsAlike row.old (last_wide base.now (take depth levels.old)) }
+    ensures levels { let n = length row.old.nodes in
+        AreLevels n (length row.old.rels) (drop depth levels.new) }
+    ensures kept { take depth levels.new ≡ take depth levels.old }
+    ensures next { let here = last_wide base.now (take depth levels.old) in
+        StepsOn graph.now (read here) (drop depth levels.old) result (drop depth levels.new) }
+    ensures clauses { clauses_of (drop depth levels.new) ≡ clauses_of (drop depth levels.old) }
+    ensures wide { IsAlike row.new row.old }
+    ensures row { result ≡ true → row.new ≡ last_wide base.now levels.new }
+    ensures mark { result ≡ true → mark.new ≡ last_mark None levels.new }
+{
+    if depth >= levels.len() {
+        return false;
+    }
+    if step_from(levels, depth + 1, base, row, mark, graph) {
+        return true;
+    }
+    row.copy_from(coming(levels, depth, base));
+    if !levels[depth].go_on(row, graph) {
+        return false;
+    }
+    row.copy_from(levels[depth].row());
+    let made = levels[depth].mark();
+    *mark = begin_from(levels, depth + 1, row, made, graph);
+    true
+}

@@ -1,0 +1,32 @@
+-- The outcome of a row that a fault may mark, and that has no further conjuncts.
+use Rattle.std.proofs.Common.{◌≡◌, ◌^◌, ◌<◌, false, Option, Some, None, Result, Err, [], refl, sym, ap}
+use Rattle.gq_base.specs.Plain.{Graph}
+use Rattle.gq_expr.specs.Reading as reading
+use Rattle.gq_expr.specs.declared.Fault.{Fault}
+use Rattle.gq_plan.specs.Marked.{ended, ending}
+use Rattle.gq_plan.specs.Outcomes.{Row, key_meanings, meanings_of, outcome_by, row_with}
+use Rattle.gq_plan.specs.declared.bound.Bound.{Bound}
+use Rattle.gq_rows.specs.Tables.{Pushes, StandsForSome, Table, is_full_table, outcome_numbered}
+use Rattle.gq_rows.specs.declared.refusal.RowRefusal.TheVariants as refusal
+use Rattle.gq_rows.specs.declared.table.RowTable.TheInside.{Inside}
+use Rattle.gq_rows.specs.steps.Inner.{held_by, table_of}
+use Rattle.gq_rows.specs.steps.Keeping.{HasForm, held_of}
+use Rattle.gq_rows.specs.steps.Listed.{held_in, is_listing}
+use Rattle.gq_rows.proofs.Standings.{pushed}
+
+-- a marked row ends with its fault
+pub marked_ends : (g : Graph) (b : Bound) (row : reading.Assignment) (mark : Option Fault) (f : Fault) → mark ≡ Some f → ending g b (record { row = row; mark = mark }) ≡ Err f
+unfolding ending
+marked_ends g b row mark f e = ap (λ m. ended m (row_with (meanings_of g row b.columns) (key_meanings g row b.keys))) e
+
+-- another row ends as one without conjuncts
+pub plain_ends : (g : Graph) (b : Bound) (row : reading.Assignment) (mark : Option Fault) → mark ≡ None → outcome_numbered g b [] row ≡ Some (ending g b (record { row = row; mark = mark }))
+unfolding ending outcome_by
+plain_ends g b row mark e = ap (λ m. Some (ended m (row_with (meanings_of g row b.columns) (key_meanings g row b.keys)))) (sym e)
+
+-- a table answers a fault that it looks at
+pub fault_pushed : (t : Inside) (old : Table) (x : Result Row Fault) (f : Fault) → table_of t ≡ old → t.limit < 2 ^ 32 → HasForm t.bound.now t.form → is_full_table old ≡ false → StandsForSome old → x ≡ Err f
+    → Pushes (Some x) old old (Err (refusal.Fault f))
+fault_pushed t old x f view small form_is room some e =
+    let h = held_by (is_listing t.bound.now) (held_in t.listed) (held_of t.rows) in
+    pushed (Some x) t old t.form h h (Err (refusal.Fault f)) view small form_is room some refl (ap Some e)
