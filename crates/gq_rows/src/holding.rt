@@ -10,7 +10,7 @@ ghost use Rattle.gq_rows.specs.steps.Listed.{AreFinders};
 
 use crate::finder::{Finder, Found, Way, find};
 use gq_base::Memory;
-use gq_group::{Chunk, ChunkRow, NodeHome};
+use gq_group::{Chunk, ChunkRow, NodeHome, Piece};
 use gq_plan::Typed;
 use gq_store::Graph;
 
@@ -31,8 +31,9 @@ pub(crate) fn hold_columns<'g>(
     ensures held { OnOk result (AreHeldIn graph.now typed.now chunk.now held.new.items) }
 {
     held.clear();
+    let many = has_many(chunk);
     'finders: for finder in finders {
-        let number = held_number(finder.way, graph, typed, chunk, positions);
+        let number = held_number(many, finder.way, graph, typed, chunk, positions);
         held.push(Finder {
             held: number,
             ..*finder
@@ -41,8 +42,25 @@ pub(crate) fn hold_columns<'g>(
     Ok(())
 }
 
-// The number that is found of a variable at each choice of a chunk, where it lives in a flat group.
+// Whether a chunk may have so many assignments that it pays to hold numbers.
+fn has_many(chunk: &Chunk<'_, '_>) -> bool {
+    let Some(group) = chunk.groups.last() else {
+        return false;
+    };
+    if group.current.is_some() {
+        return false;
+    }
+    match group.piece {
+        Piece::Span { low, high } => high.saturating_sub(low) >= 4,
+        Piece::List { ids, first: _ } => ids.len() >= 4,
+        Piece::Matches { rows, first: _ } => rows.len() >= 4,
+    }
+}
+
+// The number that is found of a variable at each choice of a chunk with many, where it lives in a
+// flat group.
 fn held_number(
+    many: bool,
     way: Way,
     graph: &Graph,
     typed: &Typed,
@@ -53,6 +71,9 @@ fn held_number(
     requires selected { AreSelected chunk.now.groups.now positions.now }
     ensures { IfSome result (IsHeldNumber graph.now typed.now chunk.now way) }
 {
+    if !many {
+        return None;
+    }
     if !is_flat(way, chunk) {
         return None;
     }
