@@ -7,7 +7,7 @@ use Rattle.std.proofs.lemmas.List.{map-append, take_more}
 use Rattle.std.proofs.lemmas.List.Elements.{All-append, All-cons}
 use Rattle.gq_base.specs.Plain.{Graph}
 use Rattle.gq_base.specs.Values.{Val}
-use Rattle.gq_cells.specs.Numbers.{IsNumber, number_val, source_val}
+use Rattle.gq_cells.specs.Numbers.{IsNumber, source_val}
 use Rattle.gq_cells.specs.declared.source.Source.{Source}
 use Rattle.gq_expr.specs.Meaning.{meaning}
 use Rattle.gq_expr.specs.Operators.{Outcome}
@@ -15,7 +15,7 @@ use Rattle.gq_expr.specs.Reading as reading
 use Rattle.gq_expr.specs.declared.expr.Expr.{Expr}
 use Rattle.gq_plan.specs.Outcomes.{then_with}
 use Rattle.gq_plan.specs.declared.bound.NamedExpr.{NamedExpr}
-use Rattle.gq_rows.specs.steps.Finding.{Extends, Finds, FindsBy, HasNumber, IsFinder, PutsColumn}
+use Rattle.gq_rows.specs.steps.Finding.{Extends, Finds, FindsBy, IsFinder, PutsColumn}
 use Rattle.gq_rows.specs.steps.Judged.{values_after}
 use Rattle.gq_rows.specs.steps.Listed.{AreFinders, PutsRow, column_exprs, meanings_found}
 use Rattle.gq_rows.specs.declared.finder.Finder.{Finder}

@@ -1,10 +1,11 @@
 //! How the value of a column is kept for an assignment: as the row or the load number of the
 //! column's variable, or else as the value itself.
-ghost use Rattle.std.specs.Prelude.{◌≡◌, ◌++◌, ◌∷◌, [], IfOk, OnOk};
+ghost use Rattle.std.specs.Prelude.{◌≡◌, ◌++◌, ◌∷◌, [], IfOk, None, OnOk};
 ghost use Rattle.gq_base.specs.Plain.{Graph as Plain};
 ghost use Rattle.gq_base.specs.Values.{val};
 ghost use Rattle.gq_expr.specs.Meaning.{meaning};
 ghost use Rattle.gq_rows.specs.steps.Finding.{Extends, IsFinder, IsFound, IsNullAt, PutsColumn};
+ghost use Rattle.gq_rows.specs.steps.Flat.{IsHeld};
 
 use crate::refusal::RowRefusal;
 use crate::resolved::{Reader, reader_of};
@@ -34,18 +35,20 @@ pub enum Way {
 }
 
 /// An expression, what tells the number that stands for its value, and the places of the source of
-/// such numbers and of the source of null, which is its value where its variable has nothing.
+/// such numbers and of the source of null, which is its value where its variable has nothing. While
+/// a chunk is taken it holds the number that all assignments of the chunk have, if that is known.
 #[derive(Clone, Copy)]
 pub struct Finder<'g> {
     pub(crate) expr: &'g Expr,
     pub(crate) way: Way,
     pub(crate) source: u32,
     pub(crate) null: u32,
+    pub(crate) held: Option<u32>,
 }
 
 /// What was found of a variable.
 #[derive(Clone, Copy)]
-enum Found {
+pub enum Found {
     /// The number that stands for the value.
     Number(u32),
     /// The variable has nothing.
@@ -66,6 +69,7 @@ impl<'g> Finder<'g> {
     ) -> Result<Finder<'g>, Memory>
         requires { IsNullAt cells.old.sources null }
         ensures expr { IfOk result (λ finder. finder.expr.now ≡ expr.now) }
+        ensures free { IfOk result (λ finder. finder.held ≡ None) }
         ensures finds { IfOk result (IsFinder graph.now cells.new.sources) }
         ensures more { OnOk result (Extends cells.old.sources cells.new.sources) }
         ensures values { cells.new.values ≡ cells.old.values }
@@ -88,6 +92,7 @@ impl<'g> Finder<'g> {
                     way,
                     source,
                     null,
+                    held: None,
                 })
             }
             Reader::Rel(property) => {
@@ -106,6 +111,7 @@ impl<'g> Finder<'g> {
                     way,
                     source,
                     null,
+                    held: None,
                 })
             }
         }
@@ -120,6 +126,7 @@ impl<'g> Finder<'g> {
     ) -> Result<Finder<'g>, Memory>
         requires { IsNullAt cells.old.sources null }
         ensures expr { IfOk result (λ finder. finder.expr.now ≡ expr.now) }
+        ensures free { IfOk result (λ finder. finder.held ≡ None) }
         ensures finds { (g : Plain) → IfOk result (IsFinder g cells.new.sources) }
         ensures more { OnOk result (Extends cells.old.sources cells.new.sources) }
         ensures values { cells.new.values ≡ cells.old.values }
@@ -138,6 +145,7 @@ impl<'g> Finder<'g> {
                         way,
                         source,
                         null,
+                        held: None,
                     });
                 }
             }
@@ -154,6 +162,7 @@ impl<'g> Finder<'g> {
                         way,
                         source,
                         null,
+                        held: None,
                     });
                 }
             }
@@ -164,12 +173,13 @@ impl<'g> Finder<'g> {
             way: Way::Value,
             source: 0,
             null,
+            held: None,
         })
     }
 }
 
-// What is found of the variable of a column.
-fn find<R: Assigned>(way: Way, row: &R) -> Found
+/// What is found of the variable of a column.
+pub(crate) fn find<R: Assigned>(way: Way, row: &R) -> Found
     ensures { IsFound way (R.assignment row.now) result }
 {
     match way {
@@ -222,6 +232,17 @@ fn put_evaluated<'g, R: Assigned>(
     }
 }
 
+// The number that is held, or else what is found.
+fn found_of<R: Assigned>(finder: &Finder<'_>, row: &R) -> Found
+    requires { IsHeld (R.assignment row.now) finder.now }
+    ensures { IsFound finder.now.way (R.assignment row.now) result }
+{
+    match finder.held {
+        Some(number) => Found::Number(number),
+        None => find(finder.way, row),
+    }
+}
+
 /// Appends the value of a column for a row.
 pub(crate) fn put_column<'g, R: Assigned>(
     cells: &mut Cells<'g>,
@@ -229,12 +250,13 @@ pub(crate) fn put_column<'g, R: Assigned>(
     graph: &'g Graph,
     row: &R,
 ) -> Result<(), RowRefusal>
-    requires { IsFinder graph.now cells.old.sources finder.now }
+    requires finder { IsFinder graph.now cells.old.sources finder.now }
+    requires held { IsHeld (R.assignment row.now) finder.now }
     ensures puts { PutsColumn (meaning graph.now (R.assignment row.now) finder.now.expr.now)
         cells.old.values cells.new.values result }
     ensures more { OnOk result (Extends cells.old.sources cells.new.sources) }
 {
-    match find(finder.way, row) {
+    match found_of(finder, row) {
         Found::Number(number) => match cells.put(finder.source, number) {
             Ok(()) => Ok(()),
             Err(Memory) => Err(RowRefusal::Memory),
