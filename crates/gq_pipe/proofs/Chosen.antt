@@ -45,7 +45,7 @@ use Rattle.gq_pipe.specs.steps.Cells.{build_in, cell_of, filled, has_cell, item_
 use Rattle.gq_pipe.specs.steps.Homes.{AreHomes, HasColumn, HasKeptColumn, HasMatch, IsFilling, IsHoused, column_group, filling_at, filling_of, is_forward, kept_of, leading_of, node_home, rel_home}
 use Rattle.gq_pipe.specs.steps.Keeps.{IsRange, IsTriedAt}
 use Rattle.gq_pipe.specs.steps.Levels.{Run, step_at, built_at, known, before}
-use Rattle.gq_pipe.specs.steps.Lists.{no_group, group_at, group_in, groups_in, rows_in, layout_in, Tiles, Stands}
+use Rattle.gq_pipe.specs.steps.Lists.{no_group, group_at, group_in, groups_in, rows_in, layout_in, Tiles, Stands, EarlierStand}
 use Rattle.gq_pipe.specs.steps.Moves.{IsRun, IsHeld, IsTried}
 use Rattle.gq_pipe.specs.declared.homes.Filling.{Filling}
 use Rattle.gq_pipe.specs.declared.places.GroupSteps.{GroupSteps}
@@ -98,7 +98,7 @@ join_reads catalog y k side keys fit = (and_parts _ _ (and_parts _ _ fit).1).0
 
 module _ (c : Run) (ss : List GroupSteps) (row : Assignment) (cs : List Cursor) (ms : List (List Bool)) (ch : Chunk) (ps : List ℕ) (runs : Runs (layout_in c ss) [] cs ms) (many : length cs ≡ length ss)
     (groups : AreStanding c ss row cs ms ch.groups.now (length ss)) (sel : AreSelected ch.groups.now ps)
-    (st : Stands c ss row (keys_of cs)) (fs : List Filling) (homes : AreHomes c ss (length ss) (length c.steps) fs ch.homes.now) (cols : AreCells c row fs ch) where
+    (st : EarlierStand c ss row (keys_of cs)) (fs : List Filling) (homes : AreHomes c ss (length ss) (length c.steps) fs ch.homes.now) (cols : AreCells c row fs ch) where
   -- the rows and load numbers there
   abbrev pub read : Assignment
   read = assignment_at c.graph c.typed ch ps
@@ -142,7 +142,7 @@ module _ (c : Run) (ss : List GroupSteps) (row : Assignment) (cs : List Cursor) 
     range = group_range c ss read i low s found pre long at
 
     met : Met c row read s
-    met = subst (λ n. Met c row read (group_at ss n)) long (both_stand c ss row read pre (omega (arith, low, long)) (stands_part c ss row cs i st) at)
+    met = subst (λ n. Met c row read (group_at ss n)) long (both_stand c ss row read pre (omega (arith, low, long)) (stands_part c ss row cs i low st) at)
 
     house : (e : ℕ) → s.first ≤ e → e < s.end → IsHoused fs ch.homes.now i (step_at c e)
     house e above below = (homes.done i e low (record { low = above; high = below })).1

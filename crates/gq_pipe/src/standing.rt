@@ -2,7 +2,7 @@
 ghost use Rattle.std.specs.Prelude.{◌≡◌, ℕ, length, []};
 ghost use Rattle.gq_bits.specs.Places.{is_marked};
 ghost use Rattle.gq_pipe.specs.steps.Chunks.{AreStanding, CanStand, IsGroupAt, marked_at};
-ghost use Rattle.gq_pipe.specs.steps.Lists.{layout_in, Stands};
+ghost use Rattle.gq_pipe.specs.steps.Lists.{layout_in, EarlierStand};
 ghost use Rattle.gq_pipe.specs.steps.Moves.{run_of};
 ghost use Rattle.gq_walks.specs.Running.{Runs, keys_of};
 
@@ -16,8 +16,8 @@ use gq_walks::{Cursor, State, Walker};
 
 /// Puts each group at the number at which the walker stands, if it stands.
 pub(crate) fn stand_groups<'g>(lists: &Lists<'g>, walker: &Walker, groups: &mut Vec<Group<'g>>)
-    requires stands { walker.now.state ≡ State.Standing → Stands (run_of lists.now.plan_run)
-        lists.now.groups.items lists.now.row (keys_of walker.now.cursors.items) }
+    requires stands { walker.now.state ≡ State.Standing → EarlierStand
+        (run_of lists.now.plan_run) lists.now.groups.items lists.now.row (keys_of walker.now.cursors.items) }
     requires runs { walker.now.state ≡ State.Standing →
         Runs (layout_in (run_of lists.now.plan_run) lists.now.groups.items) []
         walker.now.cursors.items walker.now.marks.items }
@@ -39,7 +39,7 @@ pub(crate) fn stand_groups<'g>(lists: &Lists<'g>, walker: &Walker, groups: &mut 
 
 // Puts each group at the number of its cursor.
 fn put_groups<'g>(lists: &Lists<'g>, walker: &Walker, groups: &mut Vec<Group<'g>>)
-    requires stands { Stands (run_of lists.now.plan_run) lists.now.groups.items lists.now.row
+    requires stands { EarlierStand (run_of lists.now.plan_run) lists.now.groups.items lists.now.row
         (keys_of walker.now.cursors.items) }
     requires runs { Runs (layout_in (run_of lists.now.plan_run) lists.now.groups.items) []
         walker.now.cursors.items walker.now.marks.items }
