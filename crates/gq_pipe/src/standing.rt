@@ -52,60 +52,56 @@ fn put_groups<'g>(lists: &Lists<'g>, walker: &Walker, groups: &mut Vec<Group<'g>
         (length lists.now.groups.items) }
 {
     for depth in 0..groups.len() {
-        groups[depth] = standing_group(
+        let group = &mut groups[depth];
+        put_group(
             &lists.plan_run,
             lists.groups[depth],
             &lists.row,
             walker.cursors[depth],
             &walker.marks[depth],
+            group,
         );
     }
 }
 
-// The group that stands at the number of its cursor.
-fn standing_group<'g>(
+// Puts a group at the number of its cursor. It is written in place: its marks are most of it.
+fn put_group<'g>(
     plan_run: &PlanRun<'g>,
-    group: GroupSteps,
+    steps: GroupSteps,
     row: &Assignment,
     cursor: Cursor,
     marks: &Marks,
-) -> Group<'g>
-    requires stands { CanStand (run_of plan_run.now) row.now group cursor }
+    group: &mut Group<'g>,
+)
+    requires stands { CanStand (run_of plan_run.now) row.now steps cursor }
     requires marks { length marks.now ≡ VECTOR }
-    ensures { IsGroupAt (run_of plan_run.now) row.now group cursor marks.now result }
+    ensures { IsGroupAt (run_of plan_run.now) row.now steps cursor marks.now group.new }
 {
-    let number = if group.flat {
+    let number = if steps.flat {
         cursor.key / VECTOR
     } else {
         cursor.key
     };
-    let piece = plan_run.piece(group.first, VECTOR * number, row);
-    let current = if group.flat {
+    group.piece = plan_run.piece(steps.first, VECTOR * number, row);
+    group.current = if steps.flat {
         Some(cursor.key % VECTOR)
     } else {
         None
     };
-    Group {
-        piece,
-        marks: marks_at(group.flat, cursor.key, marks),
-        current,
-        columns: 0,
-        kept: plan_run.kept(group.first),
-    }
+    group.kept = plan_run.kept(steps.first);
+    put_marks(steps.flat, cursor.key, marks, &mut group.marks);
 }
 
 // The marks of a group: in a flat one its current position alone is marked.
-fn marks_at(flat: bool, key: u32, marks: &Marks) -> Marks
+fn put_marks(flat: bool, key: u32, marks: &Marks, own: &mut Marks)
     requires { length marks.now ≡ VECTOR }
-    ensures { (p : ℕ) → is_marked result p ≡ marked_at flat key marks.now p }
+    ensures { (p : ℕ) → is_marked own.new p ≡ marked_at flat key marks.now p }
 {
     if flat {
-        let mut only = Marks::none();
-        only.set(key % VECTOR, true);
-        only
+        *own = Marks::none();
+        own.set(key % VECTOR, true);
     } else {
-        let mut all = Marks::first(VECTOR);
-        all.and(marks);
-        all
+        *own = Marks::first(VECTOR);
+        own.and(marks);
     }
 }

@@ -14,8 +14,8 @@ use Rattle.gq_pipe.proofs.standing.put_groups.Goals as goal
 found : {X : Type 0} (xs : List X) (i : _) (d x : X) → i < length xs → x ≡ slice_index_or xs i x → slice_index_or xs i d ≡ x
 found xs i d x low is = get_or_default xs i d x low ∙ sym is
 
-pub standing_group-requires-clause-stands : goal.standing_group-requires-clause-stands
-standing_group-requires-clause-stands c =
+pub put_group-requires-clause-stands : goal.put_group-requires-clause-stands
+put_group-requires-clause-stands c =
     let test = c.loop-depth-test.true in
     let many = c.loop-depth.invariant.0 in
     let low : c.loop-depth.depth < length c.args.lists.now.groups.items = omega (arith, test, many, c.requires.groups) in
@@ -24,8 +24,8 @@ standing_group-requires-clause-stands c =
     (subst (λ (s : GroupSteps). CanStand c' c.args.lists.now.row s (cursor_at c.args.walker.now.cursors.items c.loop-depth.depth)) (found c.args.lists.now.groups.items c.loop-depth.depth no_group c.index.result.now low c.index.ensures)
     (can_stand c' c.args.lists.now.groups.items c.args.lists.now.row c.args.walker.now.cursors.items c.args.walker.now.marks.items c.requires.stands c.requires.runs c.requires.cursors c.loop-depth.depth low))
 
-pub standing_group-requires-clause-marks : goal.standing_group-requires-clause-marks
-standing_group-requires-clause-marks c =
+pub put_group-requires-clause-marks : goal.put_group-requires-clause-marks
+put_group-requires-clause-marks c =
     let test = c.loop-depth-test.true in
     let many = c.loop-depth.invariant.0 in
     let low : c.loop-depth.depth < length c.args.lists.now.groups.items = omega (arith, test, many, c.requires.groups) in
@@ -40,10 +40,10 @@ loop-depth-preserved c =
     let low : c.loop-depth.depth < length c.args.lists.now.groups.items = omega (arith, test, many, c.requires.groups) in
     let c' = run_of c.args.lists.now.plan_run in
     let n = c.loop-depth.depth in (
-      length-set c.loop-depth.groups.items n c.standing_group.result ∙ many,
-      standing_more c' c.args.lists.now.groups.items c.args.lists.now.row c.args.walker.now.cursors.items c.args.walker.now.marks.items c.loop-depth.groups.items n c.standing_group.result (omega (arith, test, many)) c.loop-depth.invariant.1
-          (subst (λ (s : GroupSteps). IsGroupAt c' c.args.lists.now.row s (cursor_at c.args.walker.now.cursors.items n) (slice_index_or c.args.walker.now.marks.items n []) c.standing_group.result) (sym (found c.args.lists.now.groups.items n no_group c.index.result.now low c.index.ensures))
-          (subst (λ (x : Cursor). IsGroupAt c' c.args.lists.now.row c.index.result.now x (slice_index_or c.args.walker.now.marks.items n []) c.standing_group.result) (sym (found c.args.walker.now.cursors.items n no_cursor c.index-in-loop-depth.result.now (omega (arith, low, c.requires.cursors)) c.index-in-loop-depth.ensures))
-          (subst (λ (m : List Bool). IsGroupAt c' c.args.lists.now.row c.index.result.now c.index-in-loop-depth.result.now m c.standing_group.result) (sym (found c.args.walker.now.marks.items n [] c.index-in-loop-depth-2.result.now (omega (arith, low, c.requires.marks)) c.index-in-loop-depth-2.ensures))
-          c.standing_group.ensures))),
+      length-set c.loop-depth.groups.items n c.put_group.new.group ∙ many,
+      standing_more c' c.args.lists.now.groups.items c.args.lists.now.row c.args.walker.now.cursors.items c.args.walker.now.marks.items c.loop-depth.groups.items n c.put_group.new.group (omega (arith, test, many)) c.loop-depth.invariant.1
+          (subst (λ (s : GroupSteps). IsGroupAt c' c.args.lists.now.row s (cursor_at c.args.walker.now.cursors.items n) (slice_index_or c.args.walker.now.marks.items n []) c.put_group.new.group) (sym (found c.args.lists.now.groups.items n no_group c.index.result.now low c.index.ensures))
+          (subst (λ (x : Cursor). IsGroupAt c' c.args.lists.now.row c.index.result.now x (slice_index_or c.args.walker.now.marks.items n []) c.put_group.new.group) (sym (found c.args.walker.now.cursors.items n no_cursor c.index-in-loop-depth.result.now (omega (arith, low, c.requires.cursors)) c.index-in-loop-depth.ensures))
+          (subst (λ (m : List Bool). IsGroupAt c' c.args.lists.now.row c.index.result.now c.index-in-loop-depth.result.now m c.put_group.new.group) (sym (found c.args.walker.now.marks.items n [] c.index-in-loop-depth-2.result.now (omega (arith, low, c.requires.marks)) c.index-in-loop-depth-2.ensures))
+          c.put_group.ensures))),
     )
