@@ -75,16 +75,16 @@ way_is Forward = refl
 way_is Backward = refl
 
 -- what a step reads is known where it fits
-extend_reads : (catalog : Tables) (y : Typed) (k : Known) (column : Bool) (x from to : ℕ) (w : Direction) → fits_step catalog y (Extend column x from to w) k ≡ true → k.nodes from ≡ true
+pub extend_reads : (catalog : Tables) (y : Typed) (k : Known) (column : Bool) (x from to : ℕ) (w : Direction) → fits_step catalog y (Extend column x from to w) k ≡ true → k.nodes from ≡ true
 unfolding fits_step
 extend_reads catalog y k column x from to w fit = (and_parts (k.nodes from) _ (and_parts (not (k.rels x)) _ (and_parts _ _ fit).1).1).0
 
-close_reads : (catalog : Tables) (y : Typed) (k : Known) (column : Bool) (x from to : ℕ) (w : Direction) → fits_step catalog y (Close column x from to w) k ≡ true → k.nodes from ≡ true
+pub close_reads : (catalog : Tables) (y : Typed) (k : Known) (column : Bool) (x from to : ℕ) (w : Direction) → fits_step catalog y (Close column x from to w) k ≡ true → k.nodes from ≡ true
 unfolding fits_step
 close_reads catalog y k column x from to w fit = (and_parts (k.nodes from) _ (and_parts (not (k.rels x)) _ (and_parts _ _ fit).1).1).0
 
 -- numbers that agree at keys which are known twice
-same_values : (a k m : ℕ → Bool) (vs xs ys : List ℕ) → list_all (λ v. a v && k v) vs ≡ true → list_all (λ v. a v && m v) vs ≡ true → ((v : ℕ) → k v ≡ true → m v ≡ true → slice_index xs v ≡ slice_index ys v) → values_of vs xs ≡ values_of vs ys
+pub same_values : (a k m : ℕ → Bool) (vs xs ys : List ℕ) → list_all (λ v. a v && k v) vs ≡ true → list_all (λ v. a v && m v) vs ≡ true → ((v : ℕ) → k v ≡ true → m v ≡ true → slice_index xs v ≡ slice_index ys v) → values_of vs xs ≡ values_of vs ys
 same_values a k m [] xs ys h e same = refl
 same_values a k m (v ∷ vs) xs ys h e same =
     let hs = and_parts (a v && k v) (list_all (λ v. a v && k v) vs) h in
@@ -92,7 +92,7 @@ same_values a k m (v ∷ vs) xs ys h e same =
     ap₂ (λ (x : ℕ) (l : List ℕ). x ∷ l) (same v (and_parts (a v) (k v) hs.0).1 (and_parts (a v) (m v) es.0).1) (same_values a k m vs xs ys hs.1 es.1 same)
 
 -- the keys of a join are known where it fits
-join_reads : (catalog : Tables) (y : Typed) (k : Known) (side : Plan) (keys : List ℕ) → fits_step catalog y (Join side keys) k ≡ true → list_all (λ v. (after side none).nodes v && k.nodes v) keys ≡ true
+pub join_reads : (catalog : Tables) (y : Typed) (k : Known) (side : Plan) (keys : List ℕ) → fits_step catalog y (Join side keys) k ≡ true → list_all (λ v. (after side none).nodes v && k.nodes v) keys ≡ true
 unfolding fits_step
 join_reads catalog y k side keys fit = (and_parts _ _ (and_parts _ _ fit).1).0
 

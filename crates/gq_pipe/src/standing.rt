@@ -1,7 +1,8 @@
 //! The groups of the chunk that stands.
-ghost use Rattle.std.specs.Prelude.{◌≡◌, ℕ, length, []};
+ghost use Rattle.std.specs.Prelude.{◌≡◌, ℕ, length, true, []};
 ghost use Rattle.gq_bits.specs.Places.{is_marked};
-ghost use Rattle.gq_pipe.specs.steps.Chunks.{AreStanding, CanStand, IsGroupAt, marked_at};
+ghost use Rattle.gq_pipe.specs.steps.Chunks.{AreStanding, CanStand, IsGroupAt, ShowsNumber};
+ghost use Rattle.gq_pipe.specs.steps.Chunks.{StoodAt, marked_at};
 ghost use Rattle.gq_pipe.specs.steps.Lists.{layout_in, EarlierStand};
 ghost use Rattle.gq_pipe.specs.steps.Moves.{run_of};
 ghost use Rattle.gq_walks.specs.Running.{Runs, keys_of};
@@ -14,16 +15,25 @@ use gq_group::Group;
 use gq_plan::Assignment;
 use gq_walks::{Cursor, State, Walker};
 
-/// Puts each group at the number at which the walker stands, if it stands.
-pub(crate) fn stand_groups<'g>(lists: &Lists<'g>, walker: &Walker, groups: &mut Vec<Group<'g>>)
+/// Puts each group at the number at which the walker stands, if it stands. It is told whether the
+/// groups stood before: the first of them then stay as they are, up to one with another number.
+pub(crate) fn stand_groups<'g>(
+    lists: &Lists<'g>,
+    walker: &Walker,
+    stood: bool,
+    groups: &mut Vec<Group<'g>>,
+)
     requires stands { walker.now.state ≡ State.Standing → EarlierStand
-        (run_of lists.now.plan_run) lists.now.groups.items lists.now.row (keys_of walker.now.cursors.items) }
+        (run_of lists.now.plan_run) lists.now.groups.items lists.now.row
+        (keys_of walker.now.cursors.items) }
     requires runs { walker.now.state ≡ State.Standing →
         Runs (layout_in (run_of lists.now.plan_run) lists.now.groups.items) []
         walker.now.cursors.items walker.now.marks.items }
     requires cursors { length walker.now.cursors.items ≡ length lists.now.groups.items }
     requires marks { length walker.now.marks.items ≡ length lists.now.groups.items }
     requires groups { length groups.old.items ≡ length lists.now.groups.items }
+    requires stood { stood ≡ true →
+        StoodAt (run_of lists.now.plan_run) lists.now.groups.items groups.old.items }
     ensures count { length groups.new.items ≡ length groups.old.items }
     ensures standing { walker.now.state ≡ State.Standing → AreStanding
         (run_of lists.now.plan_run) lists.now.groups.items lists.now.row
@@ -31,14 +41,14 @@ pub(crate) fn stand_groups<'g>(lists: &Lists<'g>, walker: &Walker, groups: &mut 
         (length lists.now.groups.items) }
 {
     match walker.state {
-        State::Standing => put_groups(lists, walker, groups),
+        State::Standing => put_groups(lists, walker, stood, groups),
         State::Fresh => {}
         State::Done => {}
     }
 }
 
 // Puts each group at the number of its cursor.
-fn put_groups<'g>(lists: &Lists<'g>, walker: &Walker, groups: &mut Vec<Group<'g>>)
+fn put_groups<'g>(lists: &Lists<'g>, walker: &Walker, stood: bool, groups: &mut Vec<Group<'g>>)
     requires stands { EarlierStand (run_of lists.now.plan_run) lists.now.groups.items lists.now.row
         (keys_of walker.now.cursors.items) }
     requires runs { Runs (layout_in (run_of lists.now.plan_run) lists.now.groups.items) []
@@ -46,21 +56,37 @@ fn put_groups<'g>(lists: &Lists<'g>, walker: &Walker, groups: &mut Vec<Group<'g>
     requires cursors { length walker.now.cursors.items ≡ length lists.now.groups.items }
     requires marks { length walker.now.marks.items ≡ length lists.now.groups.items }
     requires groups { length groups.old.items ≡ length lists.now.groups.items }
+    requires stood { stood ≡ true →
+        StoodAt (run_of lists.now.plan_run) lists.now.groups.items groups.old.items }
     ensures count { length groups.new.items ≡ length groups.old.items }
     ensures standing { AreStanding (run_of lists.now.plan_run) lists.now.groups.items lists.now.row
         walker.now.cursors.items walker.now.marks.items groups.new.items
         (length lists.now.groups.items) }
 {
+    let mut same = stood;
     for depth in 0..groups.len() {
-        let group = &mut groups[depth];
-        put_group(
-            &lists.plan_run,
-            lists.groups[depth],
-            &lists.row,
-            walker.cursors[depth],
-            &walker.marks[depth],
-            group,
-        );
+        let steps = lists.groups[depth];
+        let cursor = walker.cursors[depth];
+        same = same && shows_number(&groups[depth], steps.flat, cursor.key);
+        if !same {
+            let group = &mut groups[depth];
+            let marks = &walker.marks[depth];
+            put_group(&lists.plan_run, steps, &lists.row, cursor, marks, group);
+        }
+    }
+}
+
+// Whether what a group shows of the number at which it stands is as for this one.
+fn shows_number(group: &Group<'_>, flat: bool, key: u32) -> bool
+    ensures { result ≡ true → ShowsNumber group.now flat key }
+{
+    let number = group.piece.first() / VECTOR;
+    if !flat {
+        return number == key;
+    }
+    match group.current {
+        Some(current) => number == key / VECTOR && current == key % VECTOR,
+        None => false,
     }
 }
 
