@@ -45,7 +45,7 @@ use Rattle.gq_pipe.specs.steps.Cells.{build_in, cell_of, filled, has_cell, item_
 use Rattle.gq_pipe.specs.steps.Homes.{AreHomes, HasColumn, HasKeptColumn, HasMatch, IsFilling, IsHoused, column_group, filling_at, filling_of, is_forward, kept_of, leading_of, node_home, rel_home}
 use Rattle.gq_pipe.specs.steps.Keeps.{IsRange, IsTriedAt}
 use Rattle.gq_pipe.specs.steps.Levels.{Run, step_at, built_at, known, before}
-use Rattle.gq_pipe.specs.steps.Lists.{no_group, group_at, group_in, groups_in, rows_in, layout_in, Tiles, Stands}
+use Rattle.gq_pipe.specs.steps.Lists.{no_group, group_at, group_in, groups_in, rows_in, layout_in, Tiles, Stands, EarlierStand}
 use Rattle.gq_pipe.specs.steps.Moves.{IsRun, IsHeld, IsTried}
 use Rattle.gq_pipe.specs.declared.homes.Filling.{Filling}
 use Rattle.gq_pipe.specs.declared.places.GroupSteps.{GroupSteps}
@@ -75,16 +75,16 @@ way_is Forward = refl
 way_is Backward = refl
 
 -- what a step reads is known where it fits
-extend_reads : (catalog : Tables) (y : Typed) (k : Known) (column : Bool) (x from to : ℕ) (w : Direction) → fits_step catalog y (Extend column x from to w) k ≡ true → k.nodes from ≡ true
+pub extend_reads : (catalog : Tables) (y : Typed) (k : Known) (column : Bool) (x from to : ℕ) (w : Direction) → fits_step catalog y (Extend column x from to w) k ≡ true → k.nodes from ≡ true
 unfolding fits_step
 extend_reads catalog y k column x from to w fit = (and_parts (k.nodes from) _ (and_parts (not (k.rels x)) _ (and_parts _ _ fit).1).1).0
 
-close_reads : (catalog : Tables) (y : Typed) (k : Known) (column : Bool) (x from to : ℕ) (w : Direction) → fits_step catalog y (Close column x from to w) k ≡ true → k.nodes from ≡ true
+pub close_reads : (catalog : Tables) (y : Typed) (k : Known) (column : Bool) (x from to : ℕ) (w : Direction) → fits_step catalog y (Close column x from to w) k ≡ true → k.nodes from ≡ true
 unfolding fits_step
 close_reads catalog y k column x from to w fit = (and_parts (k.nodes from) _ (and_parts (not (k.rels x)) _ (and_parts _ _ fit).1).1).0
 
 -- numbers that agree at keys which are known twice
-same_values : (a k m : ℕ → Bool) (vs xs ys : List ℕ) → list_all (λ v. a v && k v) vs ≡ true → list_all (λ v. a v && m v) vs ≡ true → ((v : ℕ) → k v ≡ true → m v ≡ true → slice_index xs v ≡ slice_index ys v) → values_of vs xs ≡ values_of vs ys
+pub same_values : (a k m : ℕ → Bool) (vs xs ys : List ℕ) → list_all (λ v. a v && k v) vs ≡ true → list_all (λ v. a v && m v) vs ≡ true → ((v : ℕ) → k v ≡ true → m v ≡ true → slice_index xs v ≡ slice_index ys v) → values_of vs xs ≡ values_of vs ys
 same_values a k m [] xs ys h e same = refl
 same_values a k m (v ∷ vs) xs ys h e same =
     let hs = and_parts (a v && k v) (list_all (λ v. a v && k v) vs) h in
@@ -92,13 +92,13 @@ same_values a k m (v ∷ vs) xs ys h e same =
     ap₂ (λ (x : ℕ) (l : List ℕ). x ∷ l) (same v (and_parts (a v) (k v) hs.0).1 (and_parts (a v) (m v) es.0).1) (same_values a k m vs xs ys hs.1 es.1 same)
 
 -- the keys of a join are known where it fits
-join_reads : (catalog : Tables) (y : Typed) (k : Known) (side : Plan) (keys : List ℕ) → fits_step catalog y (Join side keys) k ≡ true → list_all (λ v. (after side none).nodes v && k.nodes v) keys ≡ true
+pub join_reads : (catalog : Tables) (y : Typed) (k : Known) (side : Plan) (keys : List ℕ) → fits_step catalog y (Join side keys) k ≡ true → list_all (λ v. (after side none).nodes v && k.nodes v) keys ≡ true
 unfolding fits_step
 join_reads catalog y k side keys fit = (and_parts _ _ (and_parts _ _ fit).1).0
 
 module _ (c : Run) (ss : List GroupSteps) (row : Assignment) (cs : List Cursor) (ms : List (List Bool)) (ch : Chunk) (ps : List ℕ) (runs : Runs (layout_in c ss) [] cs ms) (many : length cs ≡ length ss)
     (groups : AreStanding c ss row cs ms ch.groups.now (length ss)) (sel : AreSelected ch.groups.now ps)
-    (st : Stands c ss row (keys_of cs)) (fs : List Filling) (homes : AreHomes c ss (length ss) (length c.steps) fs ch.homes.now) (cols : AreCells c row fs ch) where
+    (st : EarlierStand c ss row (keys_of cs)) (fs : List Filling) (homes : AreHomes c ss (length ss) (length c.steps) fs ch.homes.now) (cols : AreCells c row fs ch) where
   -- the rows and load numbers there
   abbrev pub read : Assignment
   read = assignment_at c.graph c.typed ch ps
@@ -142,7 +142,7 @@ module _ (c : Run) (ss : List GroupSteps) (row : Assignment) (cs : List Cursor) 
     range = group_range c ss read i low s found pre long at
 
     met : Met c row read s
-    met = subst (λ n. Met c row read (group_at ss n)) long (both_stand c ss row read pre (omega (arith, low, long)) (stands_part c ss row cs i st) at)
+    met = subst (λ n. Met c row read (group_at ss n)) long (both_stand c ss row read pre (omega (arith, low, long)) (stands_part c ss row cs i low st) at)
 
     house : (e : ℕ) → s.first ≤ e → e < s.end → IsHoused fs ch.homes.now i (step_at c e)
     house e above below = (homes.done i e low (record { low = above; high = below })).1

@@ -1,6 +1,5 @@
 -- The chunk of a pipeline that stands.
 use Rattle.std.proofs.Common.{◌≡◌, ℕ, ◌<◌, ◌≤◌, Bool, true, false, List, [], ◌∷◌, map, length, refl, sym, ap, ap₂, ◌∙◌, subst, true≢false}
-use Rattle.std.proofs.lemmas.List.{length-map}
 use Rattle.std.proofs.lemmas.List.FromFn.{length-map-range_with_len}
 use Rattle.gq_group.specs.Chunks.{IsChunkOf, assignment_at, chunk_meaning}
 use Rattle.gq_group.specs.Groups as group
@@ -15,7 +14,6 @@ use Rattle.gq_plan.specs.Plans.{steps}
 use Rattle.gq_plan.specs.Rows.{assigned}
 use Rattle.gq_plan.specs.declared.assignment.Assignment.{Assignment}
 use Rattle.gq_walks.specs.Running.{Runs, chunk_of, keys_of}
-use Rattle.gq_walks.specs.declared.walker.Cursor.{Cursor}
 use Rattle.gq_walks.specs.declared.walker.State.{State}
 use Rattle.gq_walks.specs.declared.walker.State.TheVariants.{Fresh, Standing, Done}
 use Rattle.gq_pipe.specs.Bound.{binds_all}
@@ -25,16 +23,16 @@ use Rattle.gq_pipe.specs.steps.Chunks.{AreStanding}
 use Rattle.gq_pipe.specs.steps.Homes.{AreHomes}
 use Rattle.gq_pipe.specs.steps.Given.{bound_by, given_plan}
 use Rattle.gq_pipe.specs.steps.Levels.{Run}
-use Rattle.gq_pipe.specs.steps.Lists.{layout_in, Stands}
-use Rattle.gq_pipe.specs.steps.Moves.{run_of, IsHeld}
+use Rattle.gq_pipe.specs.steps.Lists.{layout_in, EarlierStand}
+use Rattle.gq_pipe.specs.steps.Moves.{run_of}
 use Rattle.gq_pipe.specs.steps.Search.{has_chunk, layout_of_lists, machine_of, rest_of, walked, IsSearch}
 use Rattle.gq_pipe.specs.declared.places.GroupSteps.{GroupSteps}
 use Rattle.gq_pipe.specs.declared.pipeline.Pipeline.TheInside.{Inside}
 use Rattle.gq_pipe.proofs.Assigned.{whole_assigned}
-use Rattle.gq_pipe.proofs.Binding.{after_all, looks_given}
+use Rattle.gq_pipe.proofs.Binding.{looks_given}
 use Rattle.gq_pipe.proofs.Chunking.{is_chunk_of, chunk_binds}
 use Rattle.gq_pipe.proofs.Rebinding.{bound_given}
-use Rattle.gq_pipe.proofs.Standings.{all_held}
+use Rattle.gq_pipe.proofs.Joined.{IsLow, low_after, low_none}
 use Rattle.gq_pipe.specs.Serving.{HasCells, Serves}
 use Rattle.gq_pool.specs.Slots.{Holds}
 use Rattle.gq_pipe.specs.Shown.{AreShown}
@@ -68,8 +66,8 @@ module _ (p : Inside) (inv : IsSearch p) (now : (rest_of p).standing ≡ true) (
   state_is : p.walker.state ≡ Standing
   state_is = is_standing p.walker.state now
 
-  st : Stands c ss p.lists.row (keys_of p.walker.cursors.items)
-  st = stands_now p.walker.state p.walker.cursors.items (Stands c ss p.lists.row) state_is inv.stands
+  st : EarlierStand c ss p.lists.row (keys_of p.walker.cursors.items)
+  st = stands_now p.walker.state p.walker.cursors.items (EarlierStand c ss p.lists.row) state_is inv.stands
 
   runs : Runs (layout_in c ss) Rattle.std.proofs.Common.[] p.walker.cursors.items p.walker.marks.items
   runs = inv.sound.standing state_is
@@ -101,11 +99,11 @@ module _ (p : Inside) (inv : IsSearch p) (now : (rest_of p).standing ≡ true) (
 
   -- ---- as the plan binds it
 
-  held : IsHeld c p.lists.row (after (steps c.steps) none)
-  held = subst (IsHeld c p.lists.row) (sym (after_all c)) (all_held c ss p.lists.row (keys_of p.walker.cursors.items) (length-map p.walker.cursors.items (λ (u : Cursor). u.key) ∙ inv.sound.groups) st)
+  low : IsLow c.typed (after (steps c.steps) none)
+  low = low_after c.graph.catalog c.typed (steps c.steps) none st.runs.fits (low_none c.typed)
 
   one_bound : (row : Assignment) → bound_by c.typed (given_plan p.lists.plan_run) (given c.typed row (steps c.steps) nothing) ≡ given c.typed row (given_plan p.lists.plan_run) nothing
-  one_bound row = bound_given c.typed (given_plan p.lists.plan_run) (steps c.steps) row inv.plan.bound held.nodes held.rels
+  one_bound row = bound_given c.typed (given_plan p.lists.plan_run) (steps c.steps) row inv.plan.bound low.nodes low.rels
 
   pub binds_is : map (λ row. given (rest_of p).source.typed row (plan_in (rest_of p).source) nothing) (chunk_meaning (rest_of p).source.graph (rest_of p).source.typed ch) ≡ (rest_of p).chunk
   binds_is =

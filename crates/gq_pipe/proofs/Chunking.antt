@@ -36,7 +36,7 @@ use Rattle.gq_pipe.specs.steps.Chunks.{AreStanding, HasKept, IsGroupAt, KeepsOf,
 use Rattle.gq_pipe.specs.steps.Cells.{has_cell, marks_in}
 use Rattle.gq_pipe.specs.steps.Homes.{AreHomes, InGroup, IsHoused, column_group, filling_at, is_forward, node_home, rel_home}
 use Rattle.gq_pipe.specs.steps.Levels.{Run, step_at, built_at, known, before}
-use Rattle.gq_pipe.specs.steps.Lists.{group_at, groups_in, rows_in, layout_in, Tiles, Stands}
+use Rattle.gq_pipe.specs.steps.Lists.{group_at, groups_in, rows_in, layout_in, Tiles, EarlierStand}
 use Rattle.gq_pipe.specs.declared.homes.Filling.{Filling}
 use Rattle.gq_pipe.specs.declared.places.GroupSteps.{GroupSteps}
 use Rattle.gq_pipe.proofs.Binding.{fits_at}
@@ -64,7 +64,7 @@ map_map : {X Y Z : Type 0} (f : Y → Z) (h : X → Y) (xs : List X) → map f (
 map_map f h [] = refl
 map_map f h (x ∷ xs) = ap (λ l. f (h x) ∷ l) (map_map f h xs)
 
-module _ (c : Run) (ss : List GroupSteps) (row : Assignment) (cs : List Cursor) (ms : List (List Bool)) (ch : Chunk) (st : Stands c ss row (keys_of cs)) (runs : Runs (layout_in c ss) [] cs ms) (many : length cs ≡ length ss)
+module _ (c : Run) (ss : List GroupSteps) (row : Assignment) (cs : List Cursor) (ms : List (List Bool)) (ch : Chunk) (st : EarlierStand c ss row (keys_of cs)) (runs : Runs (layout_in c ss) [] cs ms) (many : length cs ≡ length ss)
     (marks : length ms ≡ length ss) (count : length ch.groups.now ≡ length ss) (groups : AreStanding c ss row cs ms ch.groups.now (length ss))
     (fs : List Filling) (homes : AreHomes c ss (length ss) (length c.steps) fs ch.homes.now) (cols : AreCells c row fs ch) where
   abbrev read_at : List ℕ → Assignment
@@ -362,7 +362,7 @@ module _ (c : Run) (ss : List GroupSteps) (row : Assignment) (cs : List Cursor) 
         behind i e low there none = by (cases_eq e (group_at ss i).first)
           where
             by : (e ≡ (group_at ss i).first) ⊎ (e ≡ (group_at ss i).first → ⊥) → (group_at ss i).first < e
-            by (inl first) = absurd (true≢false (sym (group_makes c ss row i low (group_at ss i) (get_or_default ss i Rattle.gq_pipe.specs.steps.Lists.no_group (group_at ss i) low) (prefix cs i) (length-keys cs i (omega (arith, low, many))) (stands_part c ss row cs i st)) ∙ ap (λ n. makes_group (step_at c n)) (sym first) ∙ none))
+            by (inl first) = absurd (true≢false (sym (group_makes c ss row i low (group_at ss i) (get_or_default ss i Rattle.gq_pipe.specs.steps.Lists.no_group (group_at ss i) low) (prefix cs i) (length-keys cs i (omega (arith, low, many))) (stands_part c ss row cs i low st)) ∙ ap (λ n. makes_group (step_at c n)) (sym first) ∙ none))
             by (inr other) = let above = there.low in omega (arith, above, other)
 
         bound : (e i : ℕ) → e < length c.steps → (low : i < length ss) → InGroup ss i e → (s : Step) → step_at c e ≡ s → IsHoused fs ch.homes.now i s → (known c e).rels x ≡ false → (after_step s (known c e)).rels x ≡ true → IsEdge c.graph (rel_table c.typed x) (edge_at ch ps x)

@@ -26,6 +26,7 @@ pub mod Cutting
 pub mod Resting
 pub mod Agreeing
 pub mod Standings
+pub mod Staying
 pub mod Sources
 pub mod Served
 pub mod Reading

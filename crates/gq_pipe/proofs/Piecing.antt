@@ -23,7 +23,7 @@ use Rattle.gq_walks.proofs.Runs.{length-keys}
 use Rattle.gq_group.specs.declared.group.Group.{Group}
 use Rattle.gq_pipe.specs.steps.Chunks.{AreStanding, CanStand, HasGroup, IsGroupAt, list_of, matches_in}
 use Rattle.gq_pipe.specs.steps.Levels.{Run, step_at, built_at, known, before}
-use Rattle.gq_pipe.specs.steps.Lists.{no_group, group_at, flat_in, layout_in, Stands}
+use Rattle.gq_pipe.specs.steps.Lists.{no_group, group_at, flat_in, layout_in, Stands, EarlierStand}
 use Rattle.gq_pipe.specs.steps.Moves.{IsRun, IsHeld}
 use Rattle.gq_pipe.specs.steps.Tries.{tries}
 use Rattle.gq_pipe.specs.declared.places.GroupSteps.{GroupSteps}
@@ -67,7 +67,7 @@ module _ (c : Run) (run : IsRun c) (d : ℕ) (low : d < length c.steps) (row : A
       go (NoLoop x) is h = absurd (true≢false (sym h ∙ ap makes_group is))
 
 -- where a walker stands, each group has a piece at the number of its cursor
-module _ (c : Run) (ss : List GroupSteps) (row : Assignment) (cs : List Cursor) (ms : List (List Bool)) (st : Stands c ss row (keys_of cs)) (runs : Runs (layout_in c ss) [] cs ms) (many : length cs ≡ length ss) (i : ℕ) (low : i < length ss) where
+module _ (c : Run) (ss : List GroupSteps) (row : Assignment) (cs : List Cursor) (ms : List (List Bool)) (st : EarlierStand c ss row (keys_of cs)) (runs : Runs (layout_in c ss) [] cs ms) (many : length cs ≡ length ss) (i : ℕ) (low : i < length ss) where
   abbrev s : GroupSteps
   s = group_at ss i
 
@@ -75,7 +75,7 @@ module _ (c : Run) (ss : List GroupSteps) (row : Assignment) (cs : List Cursor) 
   pre = prefix cs i
 
   at : Stands c ss row pre
-  at = stands_part c ss row cs i st
+  at = stands_part c ss row cs i low st
 
   long : length pre ≡ i
   long = length-keys cs i (omega (arith, low, many))

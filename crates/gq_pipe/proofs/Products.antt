@@ -18,7 +18,7 @@ use Rattle.gq_walks.specs.declared.walker.Cursor.{Cursor}
 use Rattle.gq_walks.proofs.Runs.{live-flat}
 use Rattle.gq_pipe.specs.steps.Chunks.{AreStanding, HasGroup, IsGroupAt, list_of, part}
 use Rattle.gq_pipe.specs.steps.Levels.{Run, step_at}
-use Rattle.gq_pipe.specs.steps.Lists.{group_at, layout_in, Stands}
+use Rattle.gq_pipe.specs.steps.Lists.{group_at, layout_in, EarlierStand}
 use Rattle.gq_pipe.specs.declared.places.GroupSteps.{GroupSteps}
 use Rattle.gq_pipe.proofs.Piecing.{group_here, list_size, flat_here, piece_inside}
 use Rattle.gq_pipe.proofs.Standings.{prefix_more}
@@ -69,7 +69,7 @@ abbrev pub shift : (ℕ → ℕ) → ℕ → List ℕ → List ℕ
 shift f i [] = []
 shift f i (p ∷ ps) = (f i + p) ∷ shift f (i + 1) ps
 
-module _ (c : Run) (ss : List GroupSteps) (row : Assignment) (cs : List Cursor) (ms : List (List Bool)) (gs : List Group) (st : Stands c ss row (keys_of cs)) (runs : Runs (layout_in c ss) [] cs ms) (many : length cs ≡ length ss)
+module _ (c : Run) (ss : List GroupSteps) (row : Assignment) (cs : List Cursor) (ms : List (List Bool)) (gs : List Group) (st : EarlierStand c ss row (keys_of cs)) (runs : Runs (layout_in c ss) [] cs ms) (many : length cs ≡ length ss)
     (marks : length ms ≡ length ss) (count : length gs ≡ length ss) (groups : AreStanding c ss row cs ms gs (length ss)) where
   -- where the piece of a group begins
   abbrev pub first_at : ℕ → ℕ

@@ -1,44 +1,44 @@
 -- What the columns of a chunk that stands are filled from.
-use Rattle.std.proofs.Common.{◌≡◌, ◌∙◌, ℕ, ◌*◌, ◌<◌, Some, [], length, slice_get, sym, subst}
+use Rattle.std.proofs.Common.{◌≡◌, ℕ, ◌*◌, ◌<◌, Some, [], length, slice_get, refl, sym, subst}
 use Rattle.std.specs.Prelude.{slice_index_or}
 use Rattle.std.specs.List.{AllByRecursion}
-use Rattle.std.proofs.lemmas.List.{length-map}
+use Rattle.std.proofs.lemmas.List.{get_or_default}
 use Rattle.gq_bits.specs.declared.TheConstants.{VECTOR}
 use Rattle.gq_group.specs.Chunks.{items_in}
 use Rattle.gq_group.specs.Pieces.{items_of}
 use Rattle.gq_group.specs.declared.home.NodeHome.TheVariants.{Column}
 use Rattle.gq_walks.specs.Layouts.{piece_of}
-use Rattle.gq_walks.specs.Running.{cursor_at, keys_of}
-use Rattle.gq_walks.specs.declared.walker.Cursor.{Cursor}
+use Rattle.gq_walks.specs.Running.{cursor_at, keys_of, prefix}
 use Rattle.gq_walks.specs.declared.walker.State.TheVariants.{Standing}
 use Rattle.gq_pipe.specs.Built.{HasBuild}
 use Rattle.gq_pipe.specs.steps.Cells.{CanKeep, HasMatches, build_in, item_in}
 use Rattle.gq_pipe.specs.steps.Chunks.{HasGroup, IsPieceOf}
 use Rattle.gq_pipe.specs.steps.Homes.{IsColumnOf, IsFilling, filling_at, node_home}
 use Rattle.gq_pipe.specs.steps.Levels.{Run, known}
-use Rattle.gq_pipe.specs.steps.Lists.{Stands, group_at}
+use Rattle.gq_pipe.specs.steps.Lists.{EarlierStand, no_group, group_at}
 use Rattle.gq_pipe.specs.steps.Moves.{run_of, IsRun}
 use Rattle.gq_pipe.specs.steps.Search.{IsSearch}
 use Rattle.gq_pipe.specs.declared.homes.Filling.{Filling}
 use Rattle.gq_pipe.specs.declared.homes.Filling.TheVariants.{Led, Kept}
 use Rattle.gq_pipe.specs.declared.pipeline.Pipeline.TheInside.{Inside}
+use Rattle.gq_pipe.proofs.Here.{group_held}
 use Rattle.gq_pipe.proofs.Matched.{build_of, keeps_node, piece_rows, row_kept}
 use Rattle.gq_pipe.proofs.Resting.{stands_now}
-use Rattle.gq_pipe.proofs.Standings.{all_held}
+use Rattle.gq_pipe.proofs.Standings.{stands_part}
 
 module _ (p : Inside) (inv : IsSearch p) (now : p.walker.state ≡ Standing) where
   abbrev c : Run
   c = run_of p.lists.plan_run
 
-  st : Stands c p.lists.groups.items p.lists.row (keys_of p.walker.cursors.items)
-  st = stands_now p.walker.state p.walker.cursors.items (Stands c p.lists.groups.items p.lists.row) now inv.stands
+  st : EarlierStand c p.lists.groups.items p.lists.row (keys_of p.walker.cursors.items)
+  st = stands_now p.walker.state p.walker.cursors.items (EarlierStand c p.lists.groups.items p.lists.row) now inv.stands
 
   pub run_there : IsRun c
   run_there = st.runs
 
   pub row_there : length p.lists.row.nodes ≡ length c.typed.nodes
   row_there =
-      (all_held c p.lists.groups.items p.lists.row (keys_of p.walker.cursors.items) (length-map p.walker.cursors.items (λ (c : Cursor). c.key) ∙ inv.sound.groups) st).node_count
+      (group_held c p.lists.groups.items p.lists.row 0 inv.sound.some (group_at p.lists.groups.items 0) (get_or_default p.lists.groups.items 0 no_group (group_at p.lists.groups.items 0) inv.sound.some) (prefix p.walker.cursors.items 0) refl (stands_part c p.lists.groups.items p.lists.row p.walker.cursors.items 0 inv.sound.some st)).node_count
 
   pub fillings_there : (m : ℕ) → m < length p.housing.fillings.items → IsFilling c p.lists.groups.items (known c (length c.steps)) p.housing.homes m (filling_at p.housing.fillings.items m)
   fillings_there m low = inv.chunk.homes.fillings m low

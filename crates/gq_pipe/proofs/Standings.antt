@@ -1,7 +1,7 @@
 -- Groups that stand at their numbers: each of them, and what is known alike of two assignments with which they stand.
-use Rattle.std.proofs.Common.{◌≡◌, ℕ, zero, suc, ◌+◌, ◌<◌, ◌≤◌, Bool, true, cond, Some, None, List, [], ◌∷◌, ◌++◌, length, take, drop, refl, sym, ap, ◌∙◌, subst, arith}
+use Rattle.std.proofs.Common.{◌≡◌, ℕ, zero, suc, ◌+◌, ◌-◌, ◌<◌, ◌≤◌, Bool, true, cond, Some, None, List, [], ◌∷◌, ◌++◌, length, take, drop, refl, sym, ap, ◌∙◌, subst, arith}
 use Rattle.std.specs.Prelude.{slice_index, slice_index_or}
-use Rattle.std.proofs.lemmas.List.{append_assoc, append-nil, take_more, map_push, take-append-drop}
+use Rattle.std.proofs.lemmas.List.{append_assoc, append-nil, take_all, take-map, take_more, map_push, take-append-drop}
 use Rattle.gq_base.specs.declared.NodeId.{NodeId}
 use Rattle.gq_plan.specs.Covers.{after_step, fits_step}
 use Rattle.gq_plan.specs.Known.{Known, none}
@@ -13,7 +13,7 @@ use Rattle.gq_walks.specs.Layouts.{Layout}
 use Rattle.gq_walks.specs.Running.{cursor_at, keys_of, prefix, IsGroup, Runs}
 use Rattle.gq_walks.specs.declared.walker.Cursor.{Cursor}
 use Rattle.gq_pipe.specs.steps.Levels.{Run, step_at, known}
-use Rattle.gq_pipe.specs.steps.Lists.{group_at, group_in, groups_in, flat_in, rows_in, Tiles, IsAtStep, Chain, Stands}
+use Rattle.gq_pipe.specs.steps.Lists.{group_at, group_in, groups_in, flat_in, rows_in, Tiles, IsAtStep, Chain, Stands, EarlierStand}
 use Rattle.gq_pipe.specs.steps.Moves.{IsRun}
 use Rattle.gq_pipe.specs.declared.places.GroupSteps.{GroupSteps}
 use Rattle.gq_pipe.proofs.Binding.{looks}
@@ -50,18 +50,32 @@ chain_part c rows flat row i d [] k a (m ∷ pre) more h = absurd h
 chain_part c rows flat row i d (s ∷ ss) k a (m ∷ pre) more h =
     (h.0, chain_part c rows flat row (i + 1) s.end ss (known_with (flat i) (group_in c.steps s) k) (with_group c.graph c.typed rows flat i (group_in c.steps s) a m) pre more h.1)
 
-pub stands_part : (c : Run) (ss : List GroupSteps) (row : Assignment) (cs : List Cursor) (i : ℕ) → Stands c ss row (keys_of cs) → Stands c ss row (prefix cs i)
-stands_part c ss row cs i s =
-    let all : keys_of cs ≡ prefix cs i ++ keys_of (drop i cs) = ap keys_of (sym (take-append-drop i cs)) ∙ keys_both (take i cs) (drop i cs) in
-    record {
-      runs = s.runs;
-      grouped = s.grouped;
-      chain = chain_part c (rows_in c ss) (flat_in ss) row 0 0 ss none nothing (prefix cs i) (keys_of (drop i cs)) (subst (Chain c (rows_in c ss) (flat_in ss) row 0 0 ss none nothing) all s.chain);
-    }
-  where
-    keys_both : (as' bs : List Cursor) → keys_of (as' ++ bs) ≡ keys_of as' ++ keys_of bs
-    keys_both [] bs = refl
-    keys_both (a ∷ as') bs = ap (λ l. a.key ∷ l) (keys_both as' bs)
+-- the first groups of those that stand do
+stands_start : (c : Run) (ss : List GroupSteps) (row : Assignment) (pre : List ℕ) (i : ℕ) → Stands c ss row pre → Stands c ss row (take i pre)
+stands_start c ss row pre i s = record {
+  runs = s.runs;
+  grouped = s.grouped;
+  chain = chain_part c (rows_in c ss) (flat_in ss) row 0 0 ss none nothing (take i pre) (drop i pre) (subst (Chain c (rows_in c ss) (flat_in ss) row 0 0 ss none nothing) (sym (take-append-drop i pre)) s.chain);
+}
+
+take_less : {X : Type 0} (i n : ℕ) (xs : List X) → i ≤ n → take i (take n xs) ≡ take i xs
+take_less zero n xs low = refl
+take_less (suc i) zero xs low = absurd (omega (arith, low))
+take_less (suc i) (suc n) [] low = refl
+take_less (suc i) (suc n) (x ∷ xs) low = ap (λ l. x ∷ l) (take_less i n xs (omega (arith, low)))
+
+-- where the groups but the last one stand, the groups before any one do
+pub stands_part : (c : Run) (ss : List GroupSteps) (row : Assignment) (cs : List Cursor) (i : ℕ) → i < length ss → EarlierStand c ss row (keys_of cs) → Stands c ss row (prefix cs i)
+stands_part c ss row cs i low s =
+    subst (Stands c ss row) (take_less i (length ss - 1) (keys_of cs) (omega (arith, low)) ∙ take-map (λ (c : Cursor). c.key) i cs)
+    (stands_start c ss row (take (length ss - 1) (keys_of cs)) i s)
+
+pub stand_early : (c : Run) (ss : List GroupSteps) (row : Assignment) (pre : List ℕ) → Stands c ss row pre → EarlierStand c ss row pre
+stand_early c ss row pre s = stands_start c ss row pre (length ss - 1) s
+
+-- numbers of groups but the last one are all of those
+pub stands_at : (c : Run) (ss : List GroupSteps) (row : Assignment) (depth : ℕ) → depth < length ss → (pre : List ℕ) → length pre ≡ depth → EarlierStand c ss row pre → Stands c ss row pre
+stands_at c ss row depth inside pre long s = subst (Stands c ss row) (take_all (length ss - 1) pre (omega (arith, inside, long))) s
 
 -- ---- two assignments with which the first groups stand
 

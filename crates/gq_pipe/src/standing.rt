@@ -1,8 +1,9 @@
 //! The groups of the chunk that stands.
-ghost use Rattle.std.specs.Prelude.{◌≡◌, ℕ, length, []};
+ghost use Rattle.std.specs.Prelude.{◌≡◌, ℕ, length, true, []};
 ghost use Rattle.gq_bits.specs.Places.{is_marked};
-ghost use Rattle.gq_pipe.specs.steps.Chunks.{AreStanding, CanStand, IsGroupAt, marked_at};
-ghost use Rattle.gq_pipe.specs.steps.Lists.{layout_in, Stands};
+ghost use Rattle.gq_pipe.specs.steps.Chunks.{AreStanding, CanStand, IsGroupAt, ShowsNumber};
+ghost use Rattle.gq_pipe.specs.steps.Chunks.{StoodAt, marked_at};
+ghost use Rattle.gq_pipe.specs.steps.Lists.{layout_in, EarlierStand};
 ghost use Rattle.gq_pipe.specs.steps.Moves.{run_of};
 ghost use Rattle.gq_walks.specs.Running.{Runs, keys_of};
 
@@ -14,16 +15,25 @@ use gq_group::Group;
 use gq_plan::Assignment;
 use gq_walks::{Cursor, State, Walker};
 
-/// Puts each group at the number at which the walker stands, if it stands.
-pub(crate) fn stand_groups<'g>(lists: &Lists<'g>, walker: &Walker, groups: &mut Vec<Group<'g>>)
-    requires stands { walker.now.state ≡ State.Standing → Stands (run_of lists.now.plan_run)
-        lists.now.groups.items lists.now.row (keys_of walker.now.cursors.items) }
+/// Puts each group at the number at which the walker stands, if it stands. It is told whether the
+/// groups stood before: the first of them then stay as they are, up to one with another number.
+pub(crate) fn stand_groups<'g>(
+    lists: &Lists<'g>,
+    walker: &Walker,
+    stood: bool,
+    groups: &mut Vec<Group<'g>>,
+)
+    requires stands { walker.now.state ≡ State.Standing → EarlierStand
+        (run_of lists.now.plan_run) lists.now.groups.items lists.now.row
+        (keys_of walker.now.cursors.items) }
     requires runs { walker.now.state ≡ State.Standing →
         Runs (layout_in (run_of lists.now.plan_run) lists.now.groups.items) []
         walker.now.cursors.items walker.now.marks.items }
     requires cursors { length walker.now.cursors.items ≡ length lists.now.groups.items }
     requires marks { length walker.now.marks.items ≡ length lists.now.groups.items }
     requires groups { length groups.old.items ≡ length lists.now.groups.items }
+    requires stood { stood ≡ true →
+        StoodAt (run_of lists.now.plan_run) lists.now.groups.items groups.old.items }
     ensures count { length groups.new.items ≡ length groups.old.items }
     ensures standing { walker.now.state ≡ State.Standing → AreStanding
         (run_of lists.now.plan_run) lists.now.groups.items lists.now.row
@@ -31,81 +41,93 @@ pub(crate) fn stand_groups<'g>(lists: &Lists<'g>, walker: &Walker, groups: &mut 
         (length lists.now.groups.items) }
 {
     match walker.state {
-        State::Standing => put_groups(lists, walker, groups),
+        State::Standing => put_groups(lists, walker, stood, groups),
         State::Fresh => {}
         State::Done => {}
     }
 }
 
 // Puts each group at the number of its cursor.
-fn put_groups<'g>(lists: &Lists<'g>, walker: &Walker, groups: &mut Vec<Group<'g>>)
-    requires stands { Stands (run_of lists.now.plan_run) lists.now.groups.items lists.now.row
+fn put_groups<'g>(lists: &Lists<'g>, walker: &Walker, stood: bool, groups: &mut Vec<Group<'g>>)
+    requires stands { EarlierStand (run_of lists.now.plan_run) lists.now.groups.items lists.now.row
         (keys_of walker.now.cursors.items) }
     requires runs { Runs (layout_in (run_of lists.now.plan_run) lists.now.groups.items) []
         walker.now.cursors.items walker.now.marks.items }
     requires cursors { length walker.now.cursors.items ≡ length lists.now.groups.items }
     requires marks { length walker.now.marks.items ≡ length lists.now.groups.items }
     requires groups { length groups.old.items ≡ length lists.now.groups.items }
+    requires stood { stood ≡ true →
+        StoodAt (run_of lists.now.plan_run) lists.now.groups.items groups.old.items }
     ensures count { length groups.new.items ≡ length groups.old.items }
     ensures standing { AreStanding (run_of lists.now.plan_run) lists.now.groups.items lists.now.row
         walker.now.cursors.items walker.now.marks.items groups.new.items
         (length lists.now.groups.items) }
 {
+    let mut same = stood;
     for depth in 0..groups.len() {
-        groups[depth] = standing_group(
-            &lists.plan_run,
-            lists.groups[depth],
-            &lists.row,
-            walker.cursors[depth],
-            &walker.marks[depth],
-        );
+        let steps = lists.groups[depth];
+        let cursor = walker.cursors[depth];
+        same = same && shows_number(&groups[depth], steps.flat, cursor.key);
+        if !same {
+            let group = &mut groups[depth];
+            let marks = &walker.marks[depth];
+            put_group(&lists.plan_run, steps, &lists.row, cursor, marks, group);
+        }
     }
 }
 
-// The group that stands at the number of its cursor.
-fn standing_group<'g>(
+// Whether what a group shows of the number at which it stands is as for this one.
+fn shows_number(group: &Group<'_>, flat: bool, key: u32) -> bool
+    ensures { result ≡ true → ShowsNumber group.now flat key }
+{
+    let number = group.piece.first() / VECTOR;
+    if !flat {
+        return number == key;
+    }
+    match group.current {
+        Some(current) => number == key / VECTOR && current == key % VECTOR,
+        None => false,
+    }
+}
+
+// Puts a group at the number of its cursor. It is written in place: its marks are most of it.
+fn put_group<'g>(
     plan_run: &PlanRun<'g>,
-    group: GroupSteps,
+    steps: GroupSteps,
     row: &Assignment,
     cursor: Cursor,
     marks: &Marks,
-) -> Group<'g>
-    requires stands { CanStand (run_of plan_run.now) row.now group cursor }
+    group: &mut Group<'g>,
+)
+    requires stands { CanStand (run_of plan_run.now) row.now steps cursor }
     requires marks { length marks.now ≡ VECTOR }
-    ensures { IsGroupAt (run_of plan_run.now) row.now group cursor marks.now result }
+    ensures { IsGroupAt (run_of plan_run.now) row.now steps cursor marks.now group.new }
 {
-    let number = if group.flat {
+    let number = if steps.flat {
         cursor.key / VECTOR
     } else {
         cursor.key
     };
-    let piece = plan_run.piece(group.first, VECTOR * number, row);
-    let current = if group.flat {
+    group.piece = plan_run.piece(steps.first, VECTOR * number, row);
+    group.current = if steps.flat {
         Some(cursor.key % VECTOR)
     } else {
         None
     };
-    Group {
-        piece,
-        marks: marks_at(group.flat, cursor.key, marks),
-        current,
-        columns: 0,
-        kept: plan_run.kept(group.first),
-    }
+    group.kept = plan_run.kept(steps.first);
+    put_marks(steps.flat, cursor.key, marks, &mut group.marks);
 }
 
 // The marks of a group: in a flat one its current position alone is marked.
-fn marks_at(flat: bool, key: u32, marks: &Marks) -> Marks
+fn put_marks(flat: bool, key: u32, marks: &Marks, own: &mut Marks)
     requires { length marks.now ≡ VECTOR }
-    ensures { (p : ℕ) → is_marked result p ≡ marked_at flat key marks.now p }
+    ensures { (p : ℕ) → is_marked own.new p ≡ marked_at flat key marks.now p }
 {
     if flat {
-        let mut only = Marks::none();
-        only.set(key % VECTOR, true);
-        only
+        *own = Marks::none();
+        own.set(key % VECTOR, true);
     } else {
-        let mut all = Marks::first(VECTOR);
-        all.and(marks);
-        all
+        *own = Marks::first(VECTOR);
+        own.and(marks);
     }
 }

@@ -1,5 +1,5 @@
 -- The groups of the chunk that stands: the piece of each group's whole list, and the marks of its positions.
-use Rattle.std.specs.Prelude.{◌≡◌, ◌<◌, ◌≤◌, ◌+◌, ◌*◌, ◌^◌, ◌%◌, ◌==◌, ℕ, Bool, true, false, Option, Some, None, List, [], length, take, drop, slice_get, slice_index, slice_index_or}
+use Rattle.std.specs.Prelude.{◌≡◌, ◌<◌, ◌≤◌, ◌+◌, ◌*◌, ◌/◌, ◌^◌, ◌%◌, ◌==◌, ℕ, Bool, true, false, Option, Some, None, List, [], length, take, drop, slice_get, slice_index, slice_index_or}
 use Rattle.std.specs.List.{range_with_len}
 use Rattle.gq_bits.specs.declared.TheConstants.{VECTOR}
 use Rattle.gq_base.specs.Valid.{row_count}
@@ -14,13 +14,13 @@ use Rattle.gq_plan.specs.Rows.{node_table, rel_table}
 use Rattle.gq_plan.specs.declared.assignment.Assignment.{Assignment}
 use Rattle.gq_store.specs.Neighbours.{neighbours}
 use Rattle.gq_walks.specs.Layouts.{piece_of}
-use Rattle.gq_walks.specs.Running.{cursor_at}
+use Rattle.gq_walks.specs.Running.{Runs, cursor_at, keys_of}
 use Rattle.gq_walks.specs.declared.walker.Cursor.{Cursor}
 use Rattle.gq_law_groups.specs.Groups.{makes_group}
 use Rattle.gq_pipe.specs.steps.Levels.{Run, step_at, known}
 use Rattle.gq_pipe.specs.steps.Moves.{IsRun, IsHeld}
 use Rattle.gq_pipe.specs.Shown.{HasForm}
-use Rattle.gq_pipe.specs.steps.Lists.{group_at}
+use Rattle.gq_pipe.specs.steps.Lists.{group_at, layout_in, EarlierStand}
 use Rattle.gq_pipe.specs.declared.places.GroupSteps.{GroupSteps}
 
 abbrev pub matches_in : Option Held → Assignment → List ℕ
@@ -80,6 +80,21 @@ pub record HasGroup (c : Run) (row : Assignment) (s : GroupSteps) (cursor : Curs
 -- the groups before one stand at the numbers of their cursors
 abbrev pub AreStanding : Run → List GroupSteps → Assignment → List Cursor → List (List Bool) → List Group → ℕ → Type 0
 AreStanding c ss row cursors marks gs n = (i : ℕ) → i < n → HasGroup c row (group_at ss i) (cursor_at cursors i) (slice_index_or marks i []) gs i
+
+-- groups stand at the numbers of some cursors
+pub record StoodAt (c : Run) (ss : List GroupSteps) (gs : List Group) : Type 0 where
+  pub row : Assignment
+  pub cursors : List Cursor
+  pub marks : List (List Bool)
+  pub many : length cursors ≡ length ss
+  pub stands : EarlierStand c ss row (keys_of cursors)
+  pub runs : Runs (layout_in c ss) [] cursors marks
+  pub groups : AreStanding c ss row cursors marks gs (length ss)
+
+-- what a group shows of the number at which it stands is as for this one
+pub record ShowsNumber (g : Group) (flat : Bool) (key : ℕ) : Type 0 where
+  pub piece : first_of g.piece / VECTOR ≡ piece_of flat key
+  pub current : flat ≡ true → g.current ≡ Some (key % VECTOR)
 
 -- a group has a piece at the number of its cursor
 pub record CanStand (c : Run) (row : Assignment) (s : GroupSteps) (cursor : Cursor) : Type 0 where
