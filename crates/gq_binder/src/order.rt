@@ -16,7 +16,7 @@ use crate::refusal::BindRefusal;
 use gq_base::{Memory, Text};
 use gq_scopes::{Column, Copying, Pattern, Scope, copy_text, next};
 use gq_syntax::{Ast, Query, Sort};
-use gq_trees::{CallForm, Check, Renamed, first_refused, is_made_of, resolve_part};
+use gq_trees::{CallForm, Check, ColumnExprs, Renamed, first_refused, resolve_part};
 use std::alloc::Global;
 
 /// With DISTINCT, an item of ORDER BY is not made of columns. Here alone calls are compared as they
@@ -46,10 +46,11 @@ fn first_out_of_scope(
 ) -> Result<(), BindRefusal>
     ensures { Checks (out_of_scope_from 1 (column_exprs columns.now) scope.now order.now) result }
 {
+    let exprs = ColumnExprs::of(alloc, columns)?;
     let mut copying = Copying::new();
     let mut item = 1;
     for sort in order {
-        if !is_made(alloc, &mut copying, columns, scope, &sort.tree)? {
+        if !is_made(alloc, &mut copying, &exprs, scope, &sort.tree)? {
             return Err(BindRefusal::OrderOutOfScope { item });
         }
         item = next(item)?;
@@ -61,15 +62,15 @@ fn first_out_of_scope(
 fn is_made(
     alloc: Global,
     copying: &mut Copying,
-    columns: &[Column],
+    columns: &ColumnExprs<'_>,
     scope: &Scope<'_>,
     tree: &Ast,
 ) -> Result<bool, Memory>
     ensures { IfOk result (λ b.
-        b ≡ refusals.is_made (column_exprs columns.now) (resolved as_lists scope.now tree.now)) }
+        b ≡ refusals.is_made columns.now (resolved as_lists scope.now tree.now)) }
 {
     match resolve_part(alloc, copying, CallForm::Lists, scope, tree)? {
-        Some(expr) => Ok(is_made_of(columns, &expr)),
+        Some(expr) => Ok(columns.make(&expr)),
         None => Ok(true),
     }
 }

@@ -1,21 +1,25 @@
 -- What a walk over an expression gives, with the expression opened by one level: so whether two expressions are the same,
 -- and whether one is made of columns.
 use Rattle.std.proofs.Common.{◌≡◌, ◌∙◌, ap, ap₂, refl, sym, subst, Bool, true, false, ◌&&◌, ◌||◌}
-use Rattle.std.proofs.Common.{ℕ, zero, suc, ◌+◌, ◌<◌, ◌≤◌, max, arith, Option, Some, None}
+use Rattle.std.proofs.Common.{ℕ, zero, suc, ◌+◌, ◌-◌, ◌^◌, ◌<◌, ◌≤◌, max, min, arith, Option, Some, None}
 use Rattle.std.proofs.Common.{List, [], ◌∷◌, length, map, get_or, drop}
 use Rattle.std.specs.Prelude.{slice_get}
 use Rattle.std.specs.Option.{option_map, option_and_then}
 use Rattle.std.specs.List.{list_any, list_all}
 use Rattle.std.specs.Cmp.Lexicographic.{pointwise}
+use Rattle.std.proofs.Math.Bool.{and_comm}
+use Rattle.std.proofs.lemmas.Bool.{and_parts}
 use Rattle.std.proofs.lemmas.List.{drop_more, drop_all}
 use Rattle.gq_expr.specs.steps.Parts.{operand_with}
 use Rattle.gq_expr.specs.declared.Operand.{Operand}
 use Rattle.gq_expr.specs.declared.Expr.{Expr, Expr-F, out-Expr, map-Expr, fold-Expr, fold_out-Expr}
 use Rattle.gq_expr.specs.declared.expr.Expr.TheShapes.{former-Expr-Test-1}
+use Rattle.gq_expr.specs.declared.Expr.TheVariants as expr
 use Rattle.gq_expr.specs.declared.Tester.{Tester}
 use Rattle.gq_expr.specs.declared.Tester.TheVariants as tester
 use Rattle.gq_trees.specs.Operands.{list_places, term_places, test_places, places, at_places}
 use Rattle.gq_trees.specs.Operands.{Step, walk_step, walk}
+use Rattle.gq_trees.specs.steps.Depths.{deepest, depth, told_depth}
 use Rattle.gq_trees.specs.MadeOf.{agrees, same_step, same_head, same_expr}
 use Rattle.gq_trees.specs.MadeOf.{is_made_alone, if_there, made_step, is_made_of}
 
@@ -64,23 +68,12 @@ walk_out {A} step e =
 
 -- ---- the depth of an expression, by which a recursion over its operands ends
 
-abbrev deepest : List (Option ℕ) → ℕ
-deepest [] = 0
-deepest (None ∷ ns) = deepest ns
-deepest (Some n ∷ ns) = max n (deepest ns)
-
-abbrev below : Step ℕ
-below e ns = suc (deepest ns)
-
-unfoldable pub depth : Expr → ℕ
-depth = walk below
-
-abbrev depth_of : List (Option Expr) → ℕ
+abbrev pub depth_of : List (Option Expr) → ℕ
 depth_of ps = deepest (map (option_map depth) ps)
 
-depth_out : (e : Expr) → depth e ≡ suc (depth_of (places (out-Expr e)))
+pub depth_out : (e : Expr) → depth e ≡ suc (depth_of (places (out-Expr e)))
 unfolding depth
-depth_out e = walk_out below e
+depth_out e = walk_out _ e
 
 abbrev Fits : ℕ → Option Expr → Type 0
 Fits n None = Unit {0}
@@ -133,6 +126,57 @@ same_out d e =
     ap (λ (t : Expr → Bool). t e) (walk_out same_step d)
     ∙ ap (λ b. same_head (out-Expr d) (out-Expr e) && b) (agree (places (out-Expr d)) (places (out-Expr e)))
 
+-- ---- the same expressions are as deep
+
+-- operands that are the same place by place are as deep, where those up to this depth are that are the same
+places_deep : (n : ℕ) → ((d e : Expr) → depth d ≤ n → same_expr d e ≡ true → depth d ≡ depth e)
+    → (ps qs : List (Option Expr)) → depth_of ps ≤ n → pointwise same_place ps qs ≡ true → depth_of ps ≡ depth_of qs
+places_deep n known [] [] low same = refl
+places_deep n known [] (q ∷ qs) low same = cc same
+places_deep n known (p ∷ ps) [] low same = cc same
+places_deep n known (None ∷ ps) (None ∷ qs) low same = places_deep n known ps qs low same
+places_deep n known (None ∷ ps) (Some e ∷ qs) low same = cc same
+places_deep n known (Some d ∷ ps) (None ∷ qs) low same = cc same
+places_deep n known (Some d ∷ ps) (Some e ∷ qs) low same =
+    let both = and_parts (same_expr d e) (pointwise same_place ps qs) same in
+    let here = known d e (omega (arith, low)) both.0 in
+    let rest = places_deep n known ps qs (omega (arith, low)) both.1 in
+    ap₂ max here rest
+
+deep_to : (n : ℕ) (d e : Expr) → depth d ≤ n → same_expr d e ≡ true → depth d ≡ depth e
+deep_to zero d e low same = let here = depth_out d in absurd (omega (arith, low, here))
+deep_to (suc n) d e low same =
+    let here = depth_out d in
+    let both = and_parts (same_head (out-Expr d) (out-Expr e)) (pointwise same_place (places (out-Expr d)) (places (out-Expr e))) (sym (same_out d e) ∙ same) in
+    here ∙ ap suc (places_deep n (deep_to n) (places (out-Expr d)) (places (out-Expr e)) (omega (arith, low, here)) both.1) ∙ sym (depth_out e)
+
+-- an expression is not the same as one of another depth
+pub deep_apart : (d e : Expr) → (told_depth e ≡ told_depth d → ⊥) → same_expr d e ≡ false
+deep_apart d e apart = by (same_expr d e) refl
+  where
+    by : (b : Bool) → same_expr d e ≡ b → same_expr d e ≡ false
+    by false is = is
+    by true is = absurd (apart (ap (λ n. min n (2 ^ 64 - 1)) (sym (deep_to (depth d) d e (omega arith) is))))
+
+counted : (most d n m : ℕ) → n ≡ min d most → m ≡ min (n + 1) most → m ≡ min (suc d) most
+counted most d n m is next = omega (arith, is, next)
+
+-- an expression is one level deeper than its deepest operand, as it is counted
+pub told_out : (e : Expr) (n m : ℕ) → n ≡ min (depth_of (places (out-Expr e))) (2 ^ 64 - 1) → m ≡ min (n + 1) (2 ^ 64 - 1) → m ≡ told_depth e
+told_out e n m is next = counted (2 ^ 64 - 1) (depth_of (places (out-Expr e))) n m is next ∙ ap (λ k. min k (2 ^ 64 - 1)) (sym (depth_out e))
+
+-- an expression without operands is one level deep
+leaf : (e : Expr) → places (out-Expr e) ≡ [] → 1 ≡ told_depth e
+leaf e none = let one : depth e ≡ 1 = depth_out e ∙ ap (λ ps. suc (depth_of ps)) none in ap (λ n. min n (2 ^ 64 - 1)) (sym one)
+
+pub node_depth : (v : ℕ) → 1 ≡ told_depth (expr.Node v)
+unfolding out-Expr denote.Hole.Carrier.out
+node_depth v = leaf (expr.Node v) refl
+
+pub rel_depth : (x : ℕ) → 1 ≡ told_depth (expr.Rel x)
+unfolding out-Expr denote.Hole.Carrier.out
+rel_depth x = leaf (expr.Rel x) refl
+
 -- ---- when an expression is made of columns
 
 abbrev pub made_place : List Expr → Option Expr → Bool
@@ -181,6 +225,10 @@ module _ (ps qs : List (Option Expr)) where
   pub same_end : (n : ℕ) → length ps ≤ n → length qs ≤ n → from n ≡ true
   same_end n h k = ap₂ (pointwise same_place) (drop_all n ps h) (drop_all n qs k)
 
+and_true : (a : Bool) → (a && true) ≡ a
+and_true true = refl
+and_true false = refl
+
 and_false : (a : Bool) → (a && false) ≡ false
 and_false true = refl
 and_false false = refl
@@ -211,13 +259,29 @@ module _ (columns : List Expr) (ps : List (Option Expr)) where
   pub made_end : (n : ℕ) → length ps ≤ n → made_from n ≡ true
   made_end n h = ap (list_all (made_place columns)) (drop_all n ps h)
 
--- what is no column, and is made of columns besides its operands, is made of them where these are
-pub made_is : (columns : List Expr) (e : Expr) (b : Bool) → list_any (same_expr e) columns ≡ false
-    → is_made_alone columns (out-Expr e) ≡ true
-    → list_all (made_place columns) (places (out-Expr e)) ≡ b → b ≡ is_made_of columns e
-made_is columns e b column alone operands =
-    let rest : Bool = list_all (made_place columns) (places (out-Expr e)) in
-    sym (made_out columns e ∙ ap₂ (λ x y. x || (y && rest)) column alone ∙ operands)
+-- the depths of operands from a place on
+module _ (ps : List (Option Expr)) where
+  pub deep_at : (i : ℕ) → i < length ps → depth_of (drop i ps) ≡ depth_of (get_or ps i None ∷ drop (i + 1) ps)
+  deep_at i h = ap depth_of (drop_more ps i None h)
+
+  deep_end : (n : ℕ) → length ps ≤ n → depth_of (drop n ps) ≡ 0
+  deep_end n h = ap depth_of (drop_all n ps h)
+
+  -- where no place is left
+  pub told_end : (most i n : ℕ) → length ps ≤ i → max n (min (depth_of (drop i ps)) most) ≡ min (depth_of ps) most → n ≡ min (depth_of ps) most
+  told_end most i n over is = let end = deep_end i over in omega (arith, end, is)
+
+  pub all_end : (columns : List Expr) (i : ℕ) (b : Bool) → length ps ≤ i → (b && list_all (made_place columns) (drop i ps)) ≡ list_all (made_place columns) ps
+      → b ≡ list_all (made_place columns) ps
+  all_end columns i b over is = sym (and_true b) ∙ ap (λ c. b && c) (sym (ap (list_all (made_place columns)) (drop_all i ps over))) ∙ is
+
+-- what an expression is, where it is a column or not, where its operands are made of columns or not
+pub made_told : (columns : List Expr) (e : Expr) (column alone parts : Bool) → column ≡ list_any (same_expr e) columns
+    → alone ≡ is_made_alone columns (out-Expr e) → parts ≡ list_all (made_place columns) (places (out-Expr e))
+    → (column || (parts && alone)) ≡ is_made_of columns e
+made_told columns e column alone parts is level operands =
+    ap₂ (λ c p. c || p) is (ap₂ (λ p a. p && a) operands level
+    ∙ and_comm (list_all (made_place columns) (places (out-Expr e))) (is_made_alone columns (out-Expr e))) ∙ sym (made_out columns e)
 
 pub ruleset sameness = (same_out, same_at, same_end)
 

@@ -1,4 +1,5 @@
 pub mod Conjuncts
+pub mod Depths
 pub mod Places
 pub mod Trees
 pub mod Uses

@@ -20,7 +20,7 @@ mod uses;
 pub use calls::CallForm;
 pub use conjuncts::{Conjuncts, conjuncts_of};
 pub use exists::push_paths;
-pub use made::is_made_of;
+pub use made::ColumnExprs;
 pub use path_tests::{NamedTest, PathTest, test_of};
 pub use renames::Renamed;
 pub use resolution::{resolve, resolve_part};

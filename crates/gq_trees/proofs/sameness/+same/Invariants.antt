@@ -2,7 +2,8 @@ use Rattle.std.proofs.Common.{◌≡◌, drop}
 use Rattle.std.specs.Cmp.Lexicographic.{pointwise}
 use Rattle.gq_expr.specs.declared.Expr.{out-Expr}
 use Rattle.gq_trees.specs.Operands.{places}
-use Rattle.gq_trees.proofs.Walks.{depth, same_place}
+use Rattle.gq_trees.proofs.Walks.{same_place}
+use Rattle.gq_trees.specs.steps.Depths.{depth}
 use Rattle.gq_trees.proofs.sameness.+same.Given as goal
 
 abbrev pub decreases-same : goal.decreases-same
