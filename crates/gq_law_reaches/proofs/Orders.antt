@@ -115,7 +115,7 @@ module _ (test : MapEntry → NamedExpr) (p : Pattern) where
   at_one false true k w one l r = (r, tt)
   at_one false false k w one l r = absurd (true≢false (sym one))
 
-  knows_on : (left right : Bool) (k : ℕ → Bool) (w : TrailPattern) → (left || right) ≡ true → k w.left ≡ left → k w.right ≡ right
+  pub knows_on : (left right : Bool) (k : ℕ → Bool) (w : TrailPattern) → (left || right) ≡ true → k w.left ≡ left → k w.right ≡ right
       → (v : ℕ) → knows_more (part_of test p left right w).both (part_of test p left right w).to k v ≡ (nat_eq v w.left || (nat_eq v w.right || k v))
   knows_on true true k w one l r v = both (cases_eq v w.left) (cases_eq v w.right)
     where
