@@ -1,0 +1,3 @@
+mod Judging
+pub mod Making
+pub mod Walked

@@ -1,0 +1,28 @@
+//! The laws of the core of a query with trails.
+ghost use Rattle.gq_law_cores.specs.Made.{AlternativesPartContinued, EachPlanMakesContinued};
+ghost use Rattle.gq_law_cores.specs.Made.{TrailsContinue, TrailsMakeMatches};
+
+/// A law for the crates above: in a valid graph, whatever is made of the rows by which assignments
+/// are continued, a plan that covers an alternative of the core makes it by the late conjuncts
+/// alone, as the core's matches that lie in the alternative make it. It does nothing.
+pub fn each_plan_makes_continued()
+    ensures { EachPlanMakesContinued }
+{}
+
+/// A law for the crates above: in a valid graph, the core's matches that lie in the alternatives,
+/// alternative by alternative, make what all matches of the core make. It does nothing.
+pub fn alternatives_part_continued()
+    ensures { AlternativesPartContinued }
+{}
+
+/// A law for the crates above: a conjunct that reads variables of the core alone means for each row
+/// by which trails continue a match of the core what it means for the match. It does nothing.
+pub fn trails_continue()
+    ensures { TrailsContinue }
+{}
+
+/// A law for the crates above: in a valid graph, where no trail is longer than 16, the core's
+/// matches, continued by trails, make what the matches of the query make. It does nothing.
+pub fn trails_make_matches()
+    ensures { TrailsMakeMatches }
+{}

@@ -1,0 +1,9 @@
+//! The laws that plans of the core of a query with trails, and trails that are walked from the
+//! core's matches, make what the matches of the query make. The crate does nothing at run time.
+#![tactic(auto)]
+
+mod law;
+
+pub use law::{
+    alternatives_part_continued, each_plan_makes_continued, trails_continue, trails_make_matches,
+};
