@@ -1,3 +1,4 @@
 mod Judging
 pub mod Making
 pub mod Walked
+mod WorkedCores
