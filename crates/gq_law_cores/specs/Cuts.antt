@@ -1,8 +1,9 @@
 -- The patterns of a query with trails, read from left to right: a path is cut at its trails into pieces, and the variables of the core
 -- are numbered first (this project's profile).
-use Rattle.std.specs.Prelude.{ℕ, suc, nat_eq, nat_lt, not, Bool, true, false, Option, Some, None, List, [], ◌∷◌, ◌++◌, map, filter, length, slice_get, unwrap_or}
-use Rattle.std.specs.List.{position, range_with_len}
+use Rattle.std.specs.Prelude.{ℕ, suc, nat_eq, nat_lt, not, Bool, true, false, Option, Some, None, List, [], ◌∷◌, ◌++◌, map, filter, length, slice_get, unwrap_or, if◌then◌else◌, ◌≤◌}
+use Rattle.std.specs.List.{AllByRecursion, range_with_len}
 use Rattle.gq_law_reaches.specs.Core.{core_nodes, core_pattern}
+use Rattle.gq_law_reaches.specs.Cores.{IsCored}
 use Rattle.gq_law_reaches.specs.Reaches.{TrailPattern, Trailed, without_trails}
 use Rattle.gq_plan.specs.Soundness.{has_number}
 use Rattle.gq_plan.specs.declared.PathPart.{PathPart}
@@ -93,7 +94,8 @@ core_first q =
 
 -- where a variable stands in an order
 abbrev pub placed_in : List ℕ → ℕ → ℕ
-placed_in order v = unwrap_or (position (nat_eq v) order) v
+placed_in [] v = 0
+placed_in (w ∷ ws) v = if nat_eq v w then 0 else suc (placed_in ws v)
 
 abbrev pub variable_in : List ℕ → Variable → Variable
 variable_in order (node v) = node (placed_in order v)
@@ -137,3 +139,11 @@ scope_in order p = record { columns = []; nodes = listed_in None p.names order; 
 -- the pattern of the core: its paths are the pieces all of whose variables are in the core
 abbrev pub core_of : ℕ → Pattern → Pattern
 core_of k p = record (core_pattern k p) { paths = filter (λ (x : PathPart). nat_lt x.first k) p.paths }
+
+-- ---- the law
+
+-- where no trail is empty, the core's variables are the first, each other variable is an end of a trail, and so on
+abbrev pub CutsAreCored : Type 0
+CutsAreCored =
+    (clauses : List Clause) → AllByRecursion (λ (t : TrailPattern). 1 ≤ t.low) (trailed_of clauses).trails
+    → IsCored (core_size clauses) (cored_of clauses)

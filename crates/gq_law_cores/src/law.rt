@@ -1,4 +1,5 @@
 //! The laws of the core of a query with trails.
+ghost use Rattle.gq_law_cores.specs.Cuts.{CutsAreCored};
 ghost use Rattle.gq_law_cores.specs.Made.{AlternativesPartContinued, EachPlanMakesContinued};
 ghost use Rattle.gq_law_cores.specs.Made.{TrailsContinue, TrailsMakeMatches};
 
@@ -25,4 +26,11 @@ pub fn trails_continue()
 /// matches, continued by trails, make what the matches of the query make. It does nothing.
 pub fn trails_make_matches()
     ensures { TrailsMakeMatches }
+{}
+
+/// A law for the crates above: where paths are cut at their trails and the variables of the core are
+/// numbered first, the trails of which none is empty are walked from the core to all other
+/// variables. It does nothing.
+pub fn cuts_are_cored()
+    ensures { CutsAreCored }
 {}

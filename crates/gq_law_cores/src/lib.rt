@@ -5,5 +5,6 @@
 mod law;
 
 pub use law::{
-    alternatives_part_continued, each_plan_makes_continued, trails_continue, trails_make_matches,
+    alternatives_part_continued, cuts_are_cored, each_plan_makes_continued, trails_continue,
+    trails_make_matches,
 };

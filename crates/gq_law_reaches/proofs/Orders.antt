@@ -33,7 +33,7 @@ in_front : (x z : Bool) → z ≡ true → (x || z) ≡ true
 in_front true z e = refl
 in_front false z e = e
 
-grown_keeps : (ws : List TrailPattern) (core bound : List ℕ) (v : ℕ) → has_number core v ≡ true → has_number (grown core bound ws) v ≡ true
+pub grown_keeps : (ws : List TrailPattern) (core bound : List ℕ) (v : ℕ) → has_number core v ≡ true → has_number (grown core bound ws) v ≡ true
 grown_keeps [] core bound v e = e
 grown_keeps (w ∷ ws) core bound v e =
     go (has_number bound w.left || has_number bound w.right) (grown_keeps ws core (w.left ∷ w.right ∷ bound) v e)
