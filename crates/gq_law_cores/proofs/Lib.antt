@@ -3,5 +3,6 @@ mod Judging
 pub mod Making
 pub mod Ordering
 pub mod Reading
+pub mod Starting
 pub mod Walked
 mod WorkedCores

@@ -2,6 +2,7 @@
 ghost use Rattle.gq_law_cores.specs.Cuts.{CutsAreCored};
 ghost use Rattle.gq_law_cores.specs.Made.{AlternativesPartContinued, EachPlanMakesContinued};
 ghost use Rattle.gq_law_cores.specs.Made.{TrailsContinue, TrailsMakeMatches};
+ghost use Rattle.gq_law_cores.specs.Walking.{CoresCanTrek, OwedAreTrailRows, PartsHaveLength};
 
 /// A law for the crates above: in a valid graph, whatever is made of the rows by which assignments
 /// are continued, a plan that covers an alternative of the core makes it by the late conjuncts
@@ -33,4 +34,22 @@ pub fn trails_make_matches()
 /// variables. It does nothing.
 pub fn cuts_are_cored()
     ensures { CutsAreCored }
+{}
+
+/// A law for the crates above: trails can be walked from each row that has what a match of the core
+/// has. It does nothing.
+pub fn cores_can_trek()
+    ensures { CoresCanTrek }
+{}
+
+/// A law for the crates above: what a walker of all trails owes at such a row are the rows by which
+/// the trails continue the match. It does nothing.
+pub fn owed_are_trail_rows()
+    ensures { OwedAreTrailRows }
+{}
+
+/// A law for the crates above: trails of at least one and at most 16 relationships have lengths for
+/// which a walker of all trails can make room. It does nothing.
+pub fn parts_have_length()
+    ensures { PartsHaveLength }
 {}

@@ -36,7 +36,7 @@ module _ {X : Type 0} where
       ap₂ ◌&&◌ (ap (λ o. test o x) (ap get here ∙ at 0 (omega arith)) ∙ is y x)
       (numbered_same test same is get (i + 1) ys xs (omega arith) (λ j low. let next : i + 1 + j ≡ i + suc j = omega arith in ap get next ∙ at (suc j) (omega arith)))
 
-  numbered_items : (i : ℕ) (xs : List X) → map (λ (b : ℕ × X). b.1) (numbered i xs) ≡ xs
+  pub numbered_items : (i : ℕ) (xs : List X) → map (λ (b : ℕ × X). b.1) (numbered i xs) ≡ xs
   numbered_items i [] = refl
   numbered_items i (x ∷ xs) = ap (λ l. x ∷ l) (numbered_items (i + 1) xs)
 
