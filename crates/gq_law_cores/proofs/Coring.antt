@@ -20,10 +20,11 @@ use Rattle.gq_scopes.specs.steps.Variables.{IsThere}
 use Rattle.gq_law_reaches.specs.Core.{core_nodes, first_core, from_first, grown, joined_nodes, right_at}
 use Rattle.gq_law_reaches.specs.Cores.{IsCored, is_end}
 use Rattle.gq_law_reaches.specs.Reaches.{TrailPattern, Trailed}
+use Rattle.gq_law_answers.proofs.Laws.{both_then}
 use Rattle.gq_law_reaches.proofs.Orders.{grown_keeps}
 use Rattle.gq_law_cores.specs.Cuts.{CutsAreCored, core_first, core_size, cored_of, listed_in, numbered_in, pattern_in, placed_in, trailed_of, variable_in}
 use Rattle.gq_law_cores.proofs.Ordering.{first_is, firsts, firsts_few, has_filter, order_length, placed_apart, placed_first, placed_onto, range_has}
-use Rattle.gq_law_cores.proofs.Reading.{IsRead, is_met, trailed_read}
+use Rattle.gq_law_cores.proofs.Reading.{IsRead, has_items, is_met, trailed_read}
 
 -- ---- lists
 
@@ -236,7 +237,7 @@ module _ (q : Trailed) (read : IsRead q) where
   abbrev core : List ℕ
   core = grown (first_core q) (first_core q) q.trails
 
-  abbrev is_core : ℕ → Bool
+  abbrev pub is_core : ℕ → Bool
   is_core = has_number core
 
   abbrev place : ℕ → ℕ
@@ -292,6 +293,28 @@ module _ (q : Trailed) (read : IsRead q) where
       go false true c h none = absurd (none refl)
       go false false c h none = h
 
+  -- ---- pieces
+
+  firsts_in : (xs : List PathPart) → AllByRecursion (λ (x : PathPart). has_items x.rels ≡ true → has_number (flat_map (joined_nodes p) xs) x.first ≡ true) xs
+  firsts_in [] = tt
+  firsts_in (x ∷ xs) = (
+    λ some. list_any-append (nat_eq x.first) (joined_nodes p x) (flat_map (joined_nodes p) xs) ∙ or_left _ _ (here x.rels x.first some),
+    each_then (λ (z : PathPart). has_items z.rels ≡ true → has_number (flat_map (joined_nodes p) xs) z.first ≡ true) (λ (z : PathPart). has_items z.rels ≡ true → has_number (flat_map (joined_nodes p) (x ∷ xs)) z.first ≡ true)
+        (λ z h some. list_any-append (nat_eq z.first) (joined_nodes p x) (flat_map (joined_nodes p) xs) ∙ or_right _ _ (h some)) xs (firsts_in xs),
+  )
+    where
+      here : (ys : List ℕ) (first : ℕ) → has_items ys ≡ true → has_number (from_first first ys p.rels) first ≡ true
+      here [] first some = absurd (true≢false (sym some))
+      here (y ∷ ys) first some = or_left (nat_eq first first) (has_number (rights p (y ∷ ys)) first) (eq-eqb first first refl)
+
+  -- the first variable of a piece with a relationship is in the core
+  firsts_core : AllByRecursion (λ (x : PathPart). (x.first < n) × (has_items x.rels ≡ true → is_core x.first ≡ true)) p.paths
+  firsts_core =
+      both_then (λ (x : PathPart). x.first < n) (λ (x : PathPart). has_items x.rels ≡ true → has_number (flat_map (joined_nodes p) p.paths) x.first ≡ true)
+      (λ (x : PathPart). (x.first < n) × (has_items x.rels ≡ true → is_core x.first ≡ true))
+      (λ x low h. (low, λ some. grows x.first (list_any-append (nat_eq x.first) (flat_map (joined_nodes p) p.paths) q.alone ∙ or_left _ _ (h some))))
+      p.paths read.holds.starts (firsts_in p.paths)
+
   -- ---- numbered anew
 
   abbrev q' : Trailed
@@ -300,7 +323,7 @@ module _ (q : Trailed) (read : IsRead q) where
   abbrev p' : Pattern
   p' = pattern_in (core_first q) p
 
-  names : length p'.names ≡ n
+  pub names : length p'.names ≡ n
   names = length-map (core_first q) _ ∙ order_length is_core n
 
   core_moved : grown (first_core q') (first_core q') q'.trails ≡ map place core
@@ -309,13 +332,13 @@ module _ (q : Trailed) (read : IsRead q) where
       (ap (λ l. l ++ map place q.alone) (pieces_alike place p.rels p p' refl refl p.paths) ∙ sym (map-append place (flat_map (joined_nodes p) p.paths) q.alone))
       ∙ grown_alike place n apart q.trails (first_core q) (first_core q) read.holds.ends first_low
 
-  few : k ≤ n
+  pub few : k ≤ n
   few = firsts_few is_core n
 
-  among : (v : ℕ) → v < n → is_core v ≡ nat_lt (place v) k
+  pub among : (v : ℕ) → v < n → is_core v ≡ nat_lt (place v) k
   among v low = sym (first_is is_core n v low) ∙ (placed_first is_core n v low).0
 
-  lower : (v : ℕ) → v < n → place v < n
+  pub lower : (v : ℕ) → v < n → place v < n
   lower v low = (placed_first is_core n v low).1
 
   cored : (u : ℕ) → has_number (core_nodes q') u ≡ nat_lt u k
@@ -349,6 +372,31 @@ module _ (q : Trailed) (read : IsRead q) where
       go : (v : Variable) → IsThere n (length (all_ends p)) v → variable_in (core_first q) v ≡ node u → u < n
       go (node v) there is = let same : place v ≡ u = cc in subst (λ z. z < n) same (lower v there)
       go (rel x) there is = absurd (cc is)
+
+  -- so a piece that has a variable of the core begins there, and one that begins elsewhere has no relationship
+  pub piece_core : AllByRecursion (λ (x : PathPart). (w : ℕ) → has_number (walk (all_ends p) x) w ≡ true → nat_lt (place w) k ≡ true → nat_lt (place x.first) k ≡ true) p.paths
+  piece_core =
+      each_then (λ (x : PathPart). (x.first < n) × (has_items x.rels ≡ true → is_core x.first ≡ true))
+      (λ (x : PathPart). (w : ℕ) → has_number (walk (all_ends p) x) w ≡ true → nat_lt (place w) k ≡ true → nat_lt (place x.first) k ≡ true)
+      (λ x h w has inner. go x.rels x.first h.0 h.1 w has inner) p.paths firsts_core
+    where
+      go : (ys : List ℕ) (first : ℕ) → first < n → (has_items ys ≡ true → is_core first ≡ true) → (w : ℕ) → has_number (first ∷ rights_of (map (slice_get (all_ends p)) ys)) w ≡ true
+          → nat_lt (place w) k ≡ true → nat_lt (place first) k ≡ true
+      go [] first low h w has inner = ap (λ u. nat_lt (place u) k) (sym (eqb-true w first (either (nat_eq w first) has))) ∙ inner
+        where
+          either : (b : Bool) → (b || false) ≡ true → b ≡ true
+          either true e = refl
+          either false e = e
+      go (y ∷ ys) first low h w has inner = sym (among first low) ∙ h refl
+
+  pub joined_first : AllByRecursion (λ (x : PathPart). nat_lt (place x.first) k ≡ false → x.rels ≡ []) p.paths
+  joined_first =
+      each_then (λ (x : PathPart). (x.first < n) × (has_items x.rels ≡ true → is_core x.first ≡ true)) (λ (x : PathPart). nat_lt (place x.first) k ≡ false → x.rels ≡ [])
+      (λ x h out. go x.rels x.first h.0 h.1 out) p.paths firsts_core
+    where
+      go : (ys : List ℕ) (first : ℕ) → first < n → (has_items ys ≡ true → is_core first ≡ true) → nat_lt (place first) k ≡ false → ys ≡ []
+      go [] first low h out = refl
+      go (y ∷ ys) first low h out = absurd (true≢false (sym (sym (among first low) ∙ h refl) ∙ out))
 
   pub is_cored : AllByRecursion (λ (t : TrailPattern). 1 ≤ t.low) q.trails → IsCored k q'
   is_cored some = record {

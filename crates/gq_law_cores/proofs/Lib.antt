@@ -3,6 +3,7 @@ mod Judging
 pub mod Making
 pub mod Ordering
 pub mod Reading
+pub mod Shaping
 pub mod Starting
 pub mod Walked
 mod WorkedCores

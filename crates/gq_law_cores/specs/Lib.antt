@@ -1,4 +1,5 @@
 pub mod Cuts
 pub mod Made
+pub mod Shaped
 pub mod Typing
 pub mod Walking

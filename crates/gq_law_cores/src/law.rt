@@ -2,6 +2,7 @@
 ghost use Rattle.gq_law_cores.specs.Cuts.{CutsAreCored};
 ghost use Rattle.gq_law_cores.specs.Made.{AlternativesPartContinued, EachPlanMakesContinued};
 ghost use Rattle.gq_law_cores.specs.Made.{TrailsContinue, TrailsMakeMatches};
+ghost use Rattle.gq_law_cores.specs.Shaped.{CoresAreSound};
 ghost use Rattle.gq_law_cores.specs.Walking.{CoresCanTrek, OwedAreTrailRows, PartsHaveLength};
 
 /// A law for the crates above: in a valid graph, whatever is made of the rows by which assignments
@@ -52,4 +53,10 @@ pub fn owed_are_trail_rows()
 /// which a walker of all trails can make room. It does nothing.
 pub fn parts_have_length()
     ensures { PartsHaveLength }
+{}
+
+/// A law for the crates above: an alternative of a query's core is sound where its tests fit. It does
+/// nothing.
+pub fn cores_are_sound()
+    ensures { CoresAreSound }
 {}
