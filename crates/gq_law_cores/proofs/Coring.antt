@@ -282,7 +282,7 @@ module _ (q : Trailed) (read : IsRead q) where
       (in_pieces p x r e p.paths read.shape.joins (ap (λ l. has_number l x) read.shape.every_rel ∙ range_has (length (all_ends p)) x ∙ grind (arith, nat_tests, there))) in
       (grows r.left both.0, grows r.right both.1)
 
-  outside : (v : ℕ) → v < n → is_core v ≡ false → list_any (is_end v) q.trails ≡ true
+  pub outside : (v : ℕ) → v < n → is_core v ≡ false → list_any (is_end v) q.trails ≡ true
   outside v low out =
       go (has_number (flat_map (joined_nodes p) p.paths) v) (has_number q.alone v) (list_any (is_end v) q.trails)
       (some_piece p v q.alone q.trails p.paths read.holds.met (read.shape.every_node v (omega arith) low))

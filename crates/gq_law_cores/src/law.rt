@@ -1,7 +1,9 @@
 //! The laws of the core of a query with trails.
 ghost use Rattle.gq_law_cores.specs.Cuts.{CutsAreCored};
+ghost use Rattle.gq_law_cores.specs.Entries.{EntryTestsAreTests};
 ghost use Rattle.gq_law_cores.specs.Made.{AlternativesPartContinued, EachPlanMakesContinued};
 ghost use Rattle.gq_law_cores.specs.Made.{TrailsContinue, TrailsMakeMatches};
+ghost use Rattle.gq_law_cores.specs.Plain.{PlainCuts};
 ghost use Rattle.gq_law_cores.specs.Shaped.{CoresAreSound};
 ghost use Rattle.gq_law_cores.specs.Walking.{CoresCanTrek, OwedAreTrailRows, PartsHaveLength};
 
@@ -59,4 +61,16 @@ pub fn parts_have_length()
 /// nothing.
 pub fn cores_are_sound()
     ensures { CoresAreSound }
+{}
+
+/// A law for the crates above: without trails the patterns of a query are as they are read, and all
+/// of them are its core. It does nothing.
+pub fn plain_cuts_change_nothing()
+    ensures { PlainCuts }
+{}
+
+/// A law for the crates above: the test of a map entry passes in a row exactly where the entry holds
+/// there. It does nothing.
+pub fn entry_tests_are_tests()
+    ensures { EntryTestsAreTests }
 {}
