@@ -8,4 +8,5 @@ pub mod Reading
 pub mod Shaping
 pub mod Starting
 pub mod Walked
+mod Whole
 mod WorkedCores

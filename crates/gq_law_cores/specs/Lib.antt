@@ -5,3 +5,4 @@ pub mod Plain
 pub mod Shaped
 pub mod Typing
 pub mod Walking
+pub mod Whole

@@ -6,6 +6,8 @@ ghost use Rattle.gq_law_cores.specs.Made.{TrailsContinue, TrailsMakeMatches};
 ghost use Rattle.gq_law_cores.specs.Plain.{PlainCuts};
 ghost use Rattle.gq_law_cores.specs.Shaped.{CoresAreSound};
 ghost use Rattle.gq_law_cores.specs.Walking.{CoresCanTrek, OwedAreTrailRows, PartsHaveLength};
+ghost use Rattle.gq_law_cores.specs.Whole.{AlternativesPartTrails, EachPlanMakesTrails};
+ghost use Rattle.gq_law_cores.specs.Whole.{PlainTrailMatches};
 
 /// A law for the crates above: in a valid graph, whatever is made of the rows by which assignments
 /// are continued, a plan that covers an alternative of the core makes it by the late conjuncts
@@ -73,4 +75,24 @@ pub fn plain_cuts_change_nothing()
 /// there. It does nothing.
 pub fn entry_tests_are_tests()
     ensures { EntryTestsAreTests }
+{}
+
+/// A law for the crates above: in a valid graph, a plan that covers an alternative of the core of a
+/// bound query with trails makes of its own assignments, continued by the trails, by the late
+/// conjuncts alone, what the core's matches that lie in the alternative make. It does nothing.
+pub fn each_plan_makes_trails()
+    ensures { EachPlanMakesTrails }
+{}
+
+/// A law for the crates above: in a valid graph, the core's matches that lie in the alternatives,
+/// continued by the trails, alternative by alternative, make what the matches of the query make. It
+/// does nothing.
+pub fn alternatives_part_trails()
+    ensures { AlternativesPartTrails }
+{}
+
+/// A law for the crates above: the matches of a query without trails are those of its patterns. It
+/// does nothing.
+pub fn plain_trail_matches_are_matches()
+    ensures { PlainTrailMatches }
 {}
