@@ -1,6 +1,6 @@
 -- Patterns that are read with their paths cut at trails, numbered with the core's variables first: these are the first, relationships
 -- without star join them, and each other variable is an end of a trail.
-use Rattle.std.proofs.Common.{◌≡◌, ℕ, zero, suc, ◌+◌, ◌<◌, ◌≤◌, Bool, true, false, not, ◌&&◌, ◌||◌, cond, nat_eq, nat_lt, Option, Some, None, List, [], ◌∷◌, ◌++◌, map, filter, flat_map, length, slice_get, ◌⊎◌, inl, inr, refl, sym, ap, ap₂, ◌∙◌, subst, arith, true≢false}
+use Rattle.std.proofs.Common.{◌≡◌, ℕ, zero, suc, ◌<◌, ◌≤◌, Bool, true, false, ◌&&◌, ◌||◌, cond, nat_eq, nat_lt, Option, Some, None, List, [], ◌∷◌, ◌++◌, map, flat_map, length, slice_get, ◌⊎◌, inl, inr, refl, sym, ap, ap₂, ◌∙◌, subst, arith, true≢false}
 use Rattle.std.specs.List.{AllByRecursion, list_any, range_with_len}
 use Rattle.std.specs.Option.{option_map}
 use Rattle.std.proofs.lemmas.Bool.{and_parts, cases_eq, eq-eqb, eqb-true, le-ltb, ne_eqb, or_cases, or_left, or_right}
@@ -8,7 +8,7 @@ use Rattle.std.proofs.lemmas.Bool.Decides.{nat_tests}
 use Rattle.std.proofs.lemmas.List.{length-map, map-append}
 use Rattle.std.proofs.lemmas.List.Folds.{list_any-append}
 use Rattle.std.proofs.lemmas.Option.{slice_get-map, slice_get_within}
-use Rattle.gq_alternatives.proofs.Shapes.{Ends, linked, path_ends, rights_of, walk}
+use Rattle.gq_alternatives.proofs.Shapes.{linked, path_ends, rights_of, walk}
 use Rattle.gq_alternatives.proofs.ShapesOfPatterns.{all_ends, ends_of}
 use Rattle.gq_plan.proofs.Each.{each_append, each_flat_map, each_map, each_then}
 use Rattle.gq_plan.specs.Soundness.{has_number}
@@ -22,8 +22,8 @@ use Rattle.gq_law_reaches.specs.Cores.{IsCored, is_end}
 use Rattle.gq_law_reaches.specs.Reaches.{TrailPattern, Trailed}
 use Rattle.gq_law_answers.proofs.Laws.{both_then}
 use Rattle.gq_law_reaches.proofs.Orders.{grown_keeps}
-use Rattle.gq_law_cores.specs.Cuts.{CutsAreCored, core_first, core_size, cored_of, listed_in, numbered_in, pattern_in, placed_in, trailed_of, variable_in}
-use Rattle.gq_law_cores.proofs.Ordering.{first_is, firsts, firsts_few, has_filter, order_length, placed_apart, placed_first, placed_onto, range_has}
+use Rattle.gq_law_cores.specs.Cuts.{CutsAreCored, core_first, core_size, cored_of, numbered_in, pattern_in, placed_in, trailed_of, variable_in}
+use Rattle.gq_law_cores.proofs.Ordering.{first_is, firsts_few, has_filter, order_length, placed_apart, placed_first, placed_onto, range_has}
 use Rattle.gq_law_cores.proofs.Reading.{IsRead, has_items, is_met, trailed_read}
 
 -- ---- lists

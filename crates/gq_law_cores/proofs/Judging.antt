@@ -1,8 +1,8 @@
 -- What conjuncts leave of a row by which an assignment is continued: where the conjuncts that an alternative tests are true of the
 -- assignment, the others alone judge the row; and where one of them is not, nothing is left of it.
-use Rattle.std.proofs.Common.{◌≡◌, ℕ, zero, suc, ◌+◌, Bool, true, false, not, ◌&&◌, ◌||◌, cond, Option, Some, None, Result, Ok, Err, List, [], ◌∷◌, ◌++◌, map, filter, flat_map, slice_get, refl, sym, ap, ap₂, ◌∙◌, arith, add-zero, true≢false}
+use Rattle.std.proofs.Common.{◌≡◌, ℕ, zero, suc, ◌+◌, Bool, true, false, not, ◌&&◌, ◌||◌, cond, Option, Some, Result, Ok, Err, List, [], ◌∷◌, ◌++◌, map, filter, flat_map, slice_get, refl, sym, ap, ap₂, ◌∙◌, arith, add-zero, true≢false}
 use Rattle.std.specs.List.{list_all, list_any}
-use Rattle.std.proofs.lemmas.Bool.{and_parts, or_left, or_right}
+use Rattle.std.proofs.lemmas.Bool.{and_parts, or_right}
 use Rattle.gq_base.specs.Plain.{Graph}
 use Rattle.gq_base.specs.Values.{null, flag, int, str, node, rel}
 use Rattle.gq_expr.specs.Kinds.{can_fault}
@@ -15,7 +15,7 @@ use Rattle.gq_law_answers.proofs.LateOutcomes as safe
 use Rattle.gq_plan.proofs.Marks.{dropped_row}
 use Rattle.gq_plan.specs.Assignments.{Assignment, row_of}
 use Rattle.gq_plan.specs.Conditions.{passes}
-use Rattle.gq_plan.specs.Marked.{Marked, fault_in, marked, no_fault}
+use Rattle.gq_plan.specs.Marked.{fault_in, marked, no_fault}
 use Rattle.gq_plan.specs.Meaning.{found}
 use Rattle.gq_plan.specs.Outcomes.{behind_condition, behind_conditions, drops, meanings_of}
 use Rattle.gq_plan.specs.declared.NamedExpr.{NamedExpr}

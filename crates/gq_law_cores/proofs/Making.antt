@@ -1,6 +1,6 @@
 -- Whatever is made of the rows by which assignments are continued: of an alternative's own assignments, by its late conjuncts alone, as of
 -- the matches that lie in it; and of all alternatives together as of all matches.
-use Rattle.std.proofs.Common.{◌≡◌, ℕ, ◌+◌, Bool, true, false, not, ◌&&◌, cond, Result, List, [], ◌∷◌, ◌++◌, map, filter, flat_map, length, slice_get, IsTrue, IsPermutation, All, refl, sym, ap, ◌∙◌, subst, arith}
+use Rattle.std.proofs.Common.{◌≡◌, ℕ, ◌+◌, Bool, true, false, ◌&&◌, cond, Result, List, [], ◌∷◌, ◌++◌, map, filter, flat_map, length, slice_get, IsTrue, IsPermutation, All, refl, sym, ap, ◌∙◌, subst, arith}
 use Rattle.std.specs.List.{AllByRecursion, list_all, list_any}
 use Rattle.std.proofs.lemmas.Bool.{and_parts}
 use Rattle.std.proofs.lemmas.List.Elements.{recursion_from_All, All-from_recursion}
@@ -34,11 +34,9 @@ use Rattle.gq_plan.proofs.Products.{IsSized, each_sized, same_assignment, same_a
 use Rattle.gq_plan.specs.Allowed.{lies_in}
 use Rattle.gq_plan.specs.Assignments.{Assignment, assignments, row_of}
 use Rattle.gq_plan.specs.Conditions.{passes}
-use Rattle.gq_plan.specs.Covers.{Covers}
 use Rattle.gq_plan.specs.Marked.{Marked, marked}
 use Rattle.gq_plan.specs.Meaning as plan
 use Rattle.gq_plan.specs.Outcomes.{Row, late_conjuncts, drops, meanings_of}
-use Rattle.gq_plan.specs.Plans.{Plan}
 use Rattle.gq_plan.specs.Soundness.{IsSound, kinds_for}
 use Rattle.gq_plan.specs.declared.Bound.{Bound}
 use Rattle.gq_plan.specs.declared.NamedExpr.{NamedExpr}

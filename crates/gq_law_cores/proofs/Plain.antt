@@ -1,16 +1,16 @@
 -- Without trails, patterns are read as they are without cuts, and numbering the core's variables first changes nothing.
-use Rattle.std.proofs.Common.{◌≡◌, ℕ, zero, suc, ◌+◌, ◌<◌, ◌≤◌, Bool, true, false, not, cond, nat_eq, nat_lt, Option, Some, None, unwrap_or, List, [], ◌∷◌, ◌++◌, map, filter, length, slice_get, take, refl, sym, ap, ap₂, ◌∙◌, subst, arith, append-nil, append_assoc, zero-add, true≢false}
+use Rattle.std.proofs.Common.{◌≡◌, ℕ, zero, suc, ◌+◌, ◌<◌, ◌≤◌, Bool, true, false, not, cond, nat_lt, Option, Some, None, unwrap_or, List, [], ◌∷◌, ◌++◌, map, filter, length, slice_get, take, refl, sym, ap, ap₂, ◌∙◌, subst, arith, append-nil, append_assoc, zero-add, true≢false}
 use Rattle.std.specs.List.{AllByRecursion, list_any, range_with_len}
 use Rattle.std.proofs.lemmas.Bool.{eq-eqb, lt-ltb, ne_eqb}
 use Rattle.std.proofs.lemmas.List.{length_push}
 use Rattle.std.proofs.lemmas.List.FromFn.{length-range_with_len}
 use Rattle.gq_alternatives.proofs.Searches.{filter_same}
-use Rattle.gq_alternatives.proofs.ShapesOfPatterns.{all_ends, ends_of, node_cases, node_rels}
+use Rattle.gq_alternatives.proofs.ShapesOfPatterns.{all_ends, node_cases, node_rels}
 use Rattle.gq_binder.proofs.Patterns.{names_counted}
 use Rattle.gq_law_answers.proofs.Matched.{filter_all}
 use Rattle.gq_law_reaches.specs.Core.{core_nodes, is_core_entry}
 use Rattle.gq_law_reaches.specs.Cores.{is_end}
-use Rattle.gq_law_reaches.specs.Reaches.{TrailPattern, Trailed, without_trails}
+use Rattle.gq_law_reaches.specs.Reaches.{Trailed, without_trails}
 use Rattle.gq_plan.proofs.Each.{each_append, each_below, each_then}
 use Rattle.gq_plan.specs.Soundness.{has_number}
 use Rattle.gq_plan.specs.declared.PathPart.{PathPart}
@@ -24,7 +24,7 @@ use Rattle.gq_syntax.specs.declared.Hop.{Hop}
 use Rattle.gq_syntax.specs.declared.NodePart.{NodePart}
 use Rattle.gq_syntax.specs.declared.Path.{Path}
 use Rattle.gq_syntax.specs.declared.Range.{Range}
-use Rattle.gq_law_cores.specs.Cuts.{alone_in, core_first, core_of, core_size, cored_of, in_pattern, listed_in, numbered_in, pattern_in, piece_behind, placed_in, trailed_of, variable_in, with_clauses, with_hop, with_hops, with_path, with_paths}
+use Rattle.gq_law_cores.specs.Cuts.{alone_in, core_first, core_of, core_size, cored_of, in_pattern, listed_in, pattern_in, piece_behind, placed_in, trailed_of, variable_in, with_clauses, with_hop, with_hops, with_path, with_paths}
 use Rattle.gq_law_cores.specs.Plain.{HaveNoTrail, PlainCuts}
 use Rattle.gq_law_cores.proofs.Coring.{is_core, outside}
 use Rattle.gq_law_cores.proofs.Ordering.{range_has}

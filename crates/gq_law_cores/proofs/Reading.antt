@@ -5,13 +5,13 @@ use Rattle.std.specs.List.{AllByRecursion, list_any, range_with_len}
 use Rattle.std.proofs.lemmas.Bool.{eq-eqb, or_left, or_right}
 use Rattle.std.proofs.lemmas.List.{length-map, length_push}
 use Rattle.std.proofs.lemmas.List.Folds.{list_any-append}
-use Rattle.gq_alternatives.proofs.Shapes.{IsShape, end_of, first_passed, path_ends, run, shape_path}
+use Rattle.gq_alternatives.proofs.Shapes.{end_of, first_passed, path_ends, run, shape_path}
 use Rattle.gq_alternatives.proofs.ShapesOfPatterns.{HasShape, IsOpen, all_ends, ends_of, node_cases, node_open, node_paths, node_rels, node_shape, rel_open, rel_passed}
 use Rattle.gq_plan.proofs.Each.{each_append, each_then}
 use Rattle.gq_plan.specs.Soundness.{has_number}
 use Rattle.gq_plan.specs.declared.PathPart.{PathPart}
 use Rattle.gq_scopes.proofs.RangeLemmas.{range_more}
-use Rattle.gq_scopes.specs.Patterns.{NodePattern, Pattern, RelPattern, no_pattern, node_again, node_new, variable_of, with_node, with_part, with_rel}
+use Rattle.gq_scopes.specs.Patterns.{NodePattern, Pattern, RelPattern, no_pattern, variable_of, with_node, with_part, with_rel}
 use Rattle.gq_syntax.specs.declared.Clause.{Clause}
 use Rattle.gq_syntax.specs.declared.Hop.{Hop}
 use Rattle.gq_syntax.specs.declared.NodePart.{NodePart}

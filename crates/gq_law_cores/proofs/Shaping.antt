@@ -1,6 +1,6 @@
 -- The pattern of a query's core has a shape: its paths are pieces of joined relationships, which together have each of its variables.
-use Rattle.std.proofs.Common.{◌≡◌, ℕ, zero, suc, ◌+◌, ◌<◌, ◌≤◌, Bool, true, false, ◌&&◌, ◌||◌, cond, nat_eq, nat_lt, Option, Some, None, List, [], ◌∷◌, ◌++◌, map, filter, flat_map, length, slice_get, take, ◌⊎◌, inl, inr, refl, sym, ap, ap₂, ◌∙◌, subst, arith, true≢false}
-use Rattle.std.specs.List.{AllByRecursion, list_any, range_with_len}
+use Rattle.std.proofs.Common.{◌≡◌, ℕ, suc, ◌+◌, ◌<◌, ◌≤◌, Bool, true, false, ◌||◌, cond, nat_eq, nat_lt, Option, Some, None, List, [], ◌∷◌, ◌++◌, map, filter, flat_map, length, slice_get, ◌⊎◌, inl, inr, refl, sym, ap, ap₂, ◌∙◌, subst, arith, true≢false}
+use Rattle.std.specs.List.{AllByRecursion, range_with_len}
 use Rattle.std.specs.Option.{option_map}
 use Rattle.std.proofs.lemmas.Bool.{and_from, and_parts, cases_lt, eq-eqb, eqb-true, or_cases, or_left, or_right}
 use Rattle.std.proofs.lemmas.Bool.Decides.{nat_tests}
@@ -11,11 +11,10 @@ use Rattle.std.proofs.lemmas.Map.Steps.{le-length_from_below}
 use Rattle.std.proofs.lemmas.Option.{slice_get-map}
 use Rattle.gq_base.specs.Catalogs.{Tables}
 use Rattle.gq_alternatives.specs.Alternatives.{typed_of}
-use Rattle.gq_alternatives.proofs.Shapes.{Ends, IsShape, linked, path_ends, rights_of, walk}
-use Rattle.gq_alternatives.proofs.ShapesOfPatterns.{HasShape, IsShaped, all_ends, ends_of, node_cases}
+use Rattle.gq_alternatives.proofs.Shapes.{Ends, linked, path_ends, rights_of, walk}
+use Rattle.gq_alternatives.proofs.ShapesOfPatterns.{IsShaped, all_ends, ends_of, node_cases}
 use Rattle.gq_alternatives.proofs.SoundPatterns.{pattern_sound}
 use Rattle.gq_plan.proofs.Each.{each_kept, each_map, each_then}
-use Rattle.gq_plan.proofs.Permuted.{list_any_map}
 use Rattle.gq_plan.specs.Soundness.{EndsFit, IsPair, IsSound, has_number}
 use Rattle.gq_plan.specs.declared.Typed.{Typed}
 use Rattle.gq_plan.specs.declared.PathPart.{PathPart}
@@ -31,7 +30,7 @@ use Rattle.gq_syntax.specs.declared.Range.{Range}
 use Rattle.gq_law_reaches.specs.Core.{core_nodes, is_core_entry}
 use Rattle.gq_law_reaches.specs.Reaches.{Trailed, without_trails}
 use Rattle.gq_law_reaches.proofs.Cored.{take_length}
-use Rattle.gq_law_cores.specs.Cuts.{alone_in, core_first, core_of, core_size, cored_of, in_pattern, numbered_in, pattern_in, piece_behind, placed_in, trailed_of, variable_in, with_clauses, with_hop, with_hops, with_path, with_paths}
+use Rattle.gq_law_cores.specs.Cuts.{alone_in, core_first, core_of, core_size, cored_of, in_pattern, pattern_in, piece_behind, placed_in, trailed_of, variable_in, with_clauses, with_hop, with_hops, with_path, with_paths}
 use Rattle.gq_law_cores.specs.Shaped.{CoresAreSound, core_pattern_of}
 use Rattle.gq_law_cores.specs.Typing.{core_typed}
 use Rattle.gq_law_cores.proofs.Coring.{few, is_core, joined_first, lower, names, piece_core}

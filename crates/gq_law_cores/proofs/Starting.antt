@@ -1,5 +1,5 @@
 -- A match of a query's core as a row: trails can be walked from it, and the program's walker owes there the rows that trails make.
-use Rattle.std.proofs.Common.{◌≡◌, ℕ, zero, suc, ◌+◌, ◌<◌, ◌≤◌, Bool, true, false, ◌&&◌, ◌||◌, cond, nat_eq, nat_lt, Option, Some, None, List, [], ◌∷◌, ◌++◌, map, length, slice_get, ◌⊎◌, inl, inr, refl, sym, ap, ap₂, ◌∙◌, subst, arith, true≢false}
+use Rattle.std.proofs.Common.{◌≡◌, ℕ, suc, ◌+◌, ◌<◌, ◌≤◌, Bool, true, false, ◌||◌, cond, nat_eq, nat_lt, Option, Some, None, List, [], ◌∷◌, ◌++◌, map, length, slice_get, ◌⊎◌, inl, inr, refl, sym, ap, ap₂, ◌∙◌, subst, arith, true≢false}
 use Rattle.std.specs.List.{AllByRecursion, list_all}
 use Rattle.std.proofs.lemmas.Bool.{and_parts, cases_eq, eq-eqb, ne_eqb}
 use Rattle.std.proofs.lemmas.List.Elements.{All-from_recursion}
@@ -10,7 +10,7 @@ use Rattle.gq_alternatives.specs.Alternatives.{Reading, typed_rels}
 use Rattle.gq_law_plans.proofs.Lookups.{bound}
 use Rattle.gq_law_reaches.specs.Core.{begin_of, core_nodes, numbered, part_of, parts_from, patterns_of, trail_parts}
 use Rattle.gq_law_reaches.specs.Cores.{AreReached}
-use Rattle.gq_law_reaches.specs.Reaches.{TrailPattern, Trailed, rels_in}
+use Rattle.gq_law_reaches.specs.Reaches.{TrailPattern, rels_in}
 use Rattle.gq_law_reaches.proofs.Cored.{numbered_items}
 use Rattle.gq_law_reaches.proofs.Filled.{numbers_bound}
 use Rattle.gq_law_reaches.proofs.Orders.{core_reaches, ends_from}
@@ -21,7 +21,7 @@ use Rattle.gq_plan.specs.Meaning.{Partial, found, row}
 use Rattle.gq_plan.specs.Soundness.{has_number}
 use Rattle.gq_plan.specs.declared.NamedExpr.{NamedExpr}
 use Rattle.gq_scopes.specs.Patterns.{MapEntry, Pattern, RelPattern}
-use Rattle.gq_trails.specs.Trekking.{AreInTurn, AreNodes, CanTrek, HasLength, partial_of, patterns_from, patterns_in, placed_from}
+use Rattle.gq_trails.specs.Trekking.{AreInTurn, AreNodes, HasLength, partial_of, patterns_from, patterns_in, placed_from}
 use Rattle.gq_wide.specs.Rows.{Wide, item_at}
 use Rattle.gq_law_cores.specs.Walking.{CoresCanTrek, IsCoreRow, OwedAreTrailRows, PartsHaveLength}
 

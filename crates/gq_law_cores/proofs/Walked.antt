@@ -1,5 +1,5 @@
 -- The rows by which trails continue the core's matches: what they keep of a match, and that they make what the matches of the query make.
-use Rattle.std.proofs.Common.{◌≡◌, ℕ, zero, suc, ◌+◌, ◌<◌, ◌≤◌, Bool, true, false, ◌||◌, cond, nat_eq, nat_lt, Option, Some, None, Result, List, [], ◌∷◌, map, flat_map, length, slice_get, IsPermutation, refl, sym, ap, ap₂, ◌∙◌, subst, arith, zero-add}
+use Rattle.std.proofs.Common.{◌≡◌, ℕ, zero, suc, ◌+◌, ◌<◌, ◌≤◌, Bool, true, false, cond, nat_eq, nat_lt, Option, Some, None, Result, List, [], ◌∷◌, map, flat_map, length, slice_get, IsPermutation, refl, sym, ap, ◌∙◌, subst, arith, zero-add}
 use Rattle.std.specs.List.{AllByRecursion, range_with_len}
 use Rattle.std.proofs.lemmas.Bool.{eq-eqb, lt-ltb, ne_eqb, or_parts}
 use Rattle.std.proofs.lemmas.Bool.Decides.{nat_tests}
@@ -15,7 +15,7 @@ use Rattle.gq_alternatives.proofs.Searches.{flat_map_flat_map}
 use Rattle.gq_law_answers.proofs.Matched.{flat_map_same_on}
 use Rattle.gq_law_plans.proofs.Lookups.{bound, eqb_swap, read_at, read_length}
 use Rattle.gq_law_plans.proofs.Reordered.{permuted_flat_map}
-use Rattle.gq_law_reaches.specs.Bags.{assigned, reach_of}
+use Rattle.gq_law_reaches.specs.Bags.{reach_of}
 use Rattle.gq_law_reaches.specs.Core.{begin_of, continued, core_nodes, core_pattern, numbered, patterns_of, trail_parts}
 use Rattle.gq_law_reaches.specs.Cores.{IsCored}
 use Rattle.gq_law_reaches.specs.Reaches.{Reach, Trailed, reaches}

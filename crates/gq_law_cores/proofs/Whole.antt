@@ -1,6 +1,5 @@
 -- Plans of the alternatives of a query's core, continued by trails, make what the matches of the query make.
-use Rattle.std.proofs.Common.{◌≡◌, ℕ, ◌≤◌, Result, List, [], filter, flat_map, map, IsPermutation, refl, sym, ap, ap₂, ◌∙◌, subst}
-use Rattle.std.specs.List.{AllByRecursion}
+use Rattle.std.proofs.Common.{◌≡◌, ℕ, ◌≤◌, List, [], map, IsPermutation, refl, sym, ap₂, ◌∙◌, subst}
 use Rattle.std.proofs.lemmas.List.Sorted.{IsPermutation-trans}
 use Rattle.gq_base.specs.Plain.{Graph}
 use Rattle.gq_alternatives.specs.Matches.{pattern_matches}
@@ -8,7 +7,7 @@ use Rattle.gq_binder.specs.Columns.{entry_test}
 use Rattle.gq_law_reaches.specs.Bags.{AreShort}
 use Rattle.gq_law_reaches.specs.Core.{core_pattern}
 use Rattle.gq_law_reaches.specs.Cores.{IsCored}
-use Rattle.gq_law_reaches.specs.Reaches.{Reach, TrailPattern, Trailed, reach_choices, reaches, without_trails}
+use Rattle.gq_law_reaches.specs.Reaches.{Reach, TrailPattern, reach_choices, reaches, without_trails}
 use Rattle.gq_law_reaches.proofs.Untrailed.{plain_reaches}
 use Rattle.gq_plan.proofs.Each.{each_map, each_then}
 use Rattle.gq_plan.specs.Marked.{made_of}

@@ -1,16 +1,15 @@
 -- Cores of queries with trails by computation: which variables they have, how trails are walked, and which pieces the alternatives have.
 -- What each query gives is worked out by hand.
 use Prim.Native.String.{String}
-use Rattle.std.proofs.Common.{◌≡◌, refl, ℕ, Bool, true, false, Option, Some, None, List, [], ◌∷◌, map, codes, pos, length}
+use Rattle.std.proofs.Common.{◌≡◌, refl, ℕ, Bool, true, false, Some, None, List, [], ◌∷◌, map, codes, pos, length}
 use Rattle.gq_base.specs.declared.Literal.TheVariants as literal
 use Rattle.gq_base.specs.declared.direction.Direction.{Direction}
 use Rattle.gq_base.specs.declared.direction.Direction.TheVariants.{Forward, Backward}
 use Rattle.gq_binder.specs.Columns.{entry_test}
 use Rattle.gq_law_reaches.specs.Core.{core_nodes, trail_parts}
-use Rattle.gq_law_reaches.specs.Reaches.{Trailed}
 use Rattle.gq_law_trails.specs.declared.TrailPart.{TrailPart}
 use Rattle.gq_plan.specs.declared.PathPart.{PathPart}
-use Rattle.gq_scopes.specs.Patterns.{MapEntry, Pattern, pattern_of}
+use Rattle.gq_scopes.specs.Patterns.{pattern_of}
 use Rattle.gq_syntax.specs.declared.Arrow.{Arrow}
 use Rattle.gq_syntax.specs.declared.Arrow.TheVariants as arrow
 use Rattle.gq_syntax.specs.declared.Clause.{Clause}

@@ -1,5 +1,5 @@
 -- The matches of a query's core, continued by its trails, are as a bag the matches of the query.
-use Rattle.std.proofs.Common.{◌≡◌, ℕ, ◌<◌, Bool, true, false, ◌&&◌, nat_lt, List, [], ◌∷◌, Some, map, flat_map, length, reverse, refl, sym, ap, ap₂, ◌∙◌, arith, subst, IsPermutation}
+use Rattle.std.proofs.Common.{◌≡◌, ℕ, true, ◌&&◌, nat_lt, List, [], ◌∷◌, map, length, reverse, refl, sym, ap, ap₂, ◌∙◌, arith, subst}
 use Rattle.std.specs.List.{AllByRecursion, list_all}
 use Rattle.std.proofs.lemmas.List.{reverse-reverse}
 use Rattle.gq_base.specs.Plain.{Graph}
@@ -27,11 +27,11 @@ use Rattle.gq_law_reaches.specs.Bags.{ContinuedAreReaches, reach_of}
 use Rattle.gq_law_reaches.specs.Core.{begin_of, continued, core_nodes, core_pattern, parts_from, patterns_of, trail_parts}
 use Rattle.gq_law_reaches.specs.Cores.{AreReached, IsCored}
 use Rattle.gq_law_reaches.specs.Reaches.{Reach, TrailPattern, Trailed, is_reach, reaches}
-use Rattle.gq_law_reaches.specs.Turned.{AreTests, binds, turned_all}
+use Rattle.gq_law_reaches.specs.Turned.{AreTests, turned_all}
 use Rattle.gq_law_reaches.proofs.Choices.{IsChosen, each_reach, reach_hits, same_reach, same_reach_is, same_reach_refl, same_rels, same_rels_is, same_rels_refl}
 use Rattle.gq_law_reaches.proofs.Cored.{take_length}
 use Rattle.gq_law_reaches.proofs.Cores.{cores_to_reaches}
-use Rattle.gq_law_reaches.proofs.Filled.{AreNew, IsBehind, each_behind, filled, known_behind, new_from, numbers_bound, numbers_found}
+use Rattle.gq_law_reaches.proofs.Filled.{IsBehind, each_behind, filled, known_behind, new_from, numbers_bound, numbers_found}
 use Rattle.gq_law_reaches.proofs.Orders.{binds_from, core_reaches, ends_from}
 use Rattle.gq_law_reaches.proofs.Whole.{IsFilled, assigned_nodes, assigned_rels, assigned_same}
 

@@ -1,5 +1,5 @@
 -- How often nodes, relationships and lists stand among all choices: once, where they are of the graph and no list is too long.
-use Rattle.std.proofs.Common.{◌≡◌, ℕ, suc, ◌+◌, ◌≤◌, Bool, true, false, ◌&&◌, cond, nat_eq, nat_le, nat_lt, List, [], ◌∷◌, map, filter, length, slice_get, ◌⊎◌, inl, inr, refl, sym, ap, ap₂, ◌∙◌, arith, true≢false}
+use Rattle.std.proofs.Common.{◌≡◌, ℕ, suc, ◌+◌, ◌≤◌, Bool, true, false, ◌&&◌, cond, nat_eq, nat_le, nat_lt, List, [], ◌∷◌, map, length, slice_get, ◌⊎◌, inl, inr, refl, sym, ap, ap₂, ◌∙◌, arith, true≢false}
 use Rattle.std.specs.List.{AllByRecursion, list_all, range_with_len}
 use Rattle.std.proofs.lemmas.Bool.{and_from, and_parts, cases_eq, eq-eqb, ne_eqb}
 use Rattle.std.proofs.lemmas.Bool.Decides.{nat_tests}
@@ -12,7 +12,7 @@ use Rattle.gq_law_plans.proofs.Wholes.{rel_self}
 use Rattle.gq_law_trails.proofs.Numbering.{assignment_hits, list_hits, rel_hits}
 use Rattle.gq_law_trails.specs.Real.{is_real}
 use Rattle.gq_law_trails.specs.Walks.{chained}
-use Rattle.gq_plan.proofs.Counts.{bit, hits, total, total_map, total_flat_map, total_filter, total_none, total_same, hits_and_const, hits_at, hits_const_and, hits_range, cond_and}
+use Rattle.gq_plan.proofs.Counts.{bit, hits, total_map, total_flat_map, total_filter, total_none, total_same, hits_and_const, hits_at, hits_const_and, hits_range, cond_and}
 use Rattle.gq_plan.proofs.Each.{each_flat_map, each_kept, each_map, each_of, each_then}
 use Rattle.gq_plan.proofs.Products.{IsSized, each_sized, each_tuple, same_assignment, same_assignment_is, same_assignment_refl, same_list, same_list_is, same_list_refl, same_rel_is}
 use Rattle.gq_plan.specs.Assignments.{Assignment, all_rels, assignments, is_rel, same_rel, tuples}
