@@ -29,6 +29,7 @@ class Social : public Graph {
   void triangle(Reply&, const Parameters&) const;
   void close_triangles(Reply&, Front&, uint32_t a, uint32_t first, const std::vector<uint32_t>& back) const;
   void no_path(Reply&, const Parameters&) const;
+  void each_or_null(Reply&, const Parameters&) const;
   void single_hop(Reply&, const Parameters&) const;
   void same_town(Reply&, const Parameters&) const;
   void liked_authors(Reply&, const Parameters&) const;
@@ -63,6 +64,7 @@ inline Social::Social(const std::string& folder)
       {"two_lists_limit", [this](Reply& out, const Parameters& given) { two_lists_limit(out, given); }},
       {"triangle", [this](Reply& out, const Parameters& given) { triangle(out, given); }},
       {"no_path", [this](Reply& out, const Parameters& given) { no_path(out, given); }},
+      {"each_or_null", [this](Reply& out, const Parameters& given) { each_or_null(out, given); }},
       {"single_hop", [this](Reply& out, const Parameters& given) { single_hop(out, given); }},
       {"same_town", [this](Reply& out, const Parameters& given) { same_town(out, given); }},
       {"liked_authors", [this](Reply& out, const Parameters& given) { liked_authors(out, given); }},

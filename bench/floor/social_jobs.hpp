@@ -70,6 +70,27 @@ inline void Social::no_path(Reply& out, const Parameters& given) const {
   }
 }
 
+// Lists whom each knows of this age, found from the side of these, then goes through all.
+inline void Social::each_or_null(Reply& out, const Parameters& given) const {
+  const Lists& from = knows.backward;
+  Ends found;
+  for (uint32_t b = 0; b < people.rows; b++) {
+    if (age.nulls[b] || age.values[b] != given[0]) continue;
+    for (uint32_t at = from.begin(b); at < from.end(b); at++) found.push(from.neighbours[at], b);
+  }
+  const Lists known(people.rows, found.sources, found.targets);
+  Front front;
+  for (uint32_t p = 0; p < people.rows; p++) {
+    front.cut(0);
+    front.number(person_id[p]);
+    for (uint32_t at = known.begin(p); at < known.end(p); at++) out.row(front, person_id[known.neighbours[at]]);
+    if (known.begin(p) != known.end(p)) continue;
+    out.front(front);
+    out.null();
+    out.end();
+  }
+}
+
 // A relationship from a node to itself stands in both lists of the node, and counts once.
 inline void Social::undirected_hop(Reply& out, const Parameters& given) const {
   const Lists &to = knows.forward, &from = knows.backward;

@@ -64,6 +64,10 @@ def hops(hundredth, tenth):
               "MATCH (p:Person) WHERE NOT exists((p)-[:KNOWS]->(:Person {age: 30})) RETURN p.id",
               "SELECT p.id FROM person p WHERE NOT EXISTS (SELECT 1 FROM knows k JOIN person q ON q.id = k.dst "
               "WHERE k.src = p.id AND q.age = 30)", "i", (30,)),
+        Query("each_or_null", "whom each knows of an age, or null",
+              "MATCH (p:Person) OPTIONAL MATCH (p)-[:KNOWS]->(q:Person {age: 30}) RETURN p.id, q.id",
+              "SELECT p.id, f.dst FROM person p LEFT JOIN (SELECT k.src, k.dst FROM person q JOIN knows k ON k.dst = q.id "
+              "WHERE q.age = 30) f ON f.src = p.id", "ii", (30,)),
     ]
 
 

@@ -7,8 +7,8 @@ from collections.abc import Iterable
 from dataclasses import dataclass, field
 
 WORDS = (
-    "MATCH WHERE RETURN DISTINCT ORDER BY ASC DESC SKIP LIMIT AS AND OR XOR NOT IN IS NULL TRUE FALSE STARTS ENDS WITH "
-    "CONTAINS"
+    "MATCH OPTIONAL WHERE RETURN DISTINCT ORDER BY ASC DESC SKIP LIMIT AS AND OR XOR NOT IN IS NULL TRUE FALSE STARTS "
+    "ENDS WITH CONTAINS"
 ).split()
 FUNCTIONS = ("coalesce(", "type(")
 META = (":schema;", ":plan ", ":profile ")

@@ -116,6 +116,7 @@ class Completion(unittest.TestCase):
             "MAT": ["MATCH"],
             "mat": ["match"],
             "MATCH (s)\nWHE": ["WHERE"],
+            "MATCH (s) OP": ["OPTIONAL"],
             "MATCH (s) RETURN s.name, co": ["contains", "coalesce("],
             ":sch": [":schema;"],
             ".t": [".timing "],

@@ -1,10 +1,9 @@
 -- The columns, conjuncts and keys of a query whose names and calls are known stand for expressions.
-use Rattle.std.proofs.Common.{◌≡◌, ◌∙◌, sym, refl, ap, ap₂, subst, ℕ, suc, Bool, true, false, not, ◌||◌, List, [], ◌∷◌, ◌++◌, map, filter, flat_map, Option, Some, None, if◌then◌else◌}
+use Rattle.std.proofs.Common.{◌≡◌, ◌∙◌, sym, refl, ap, ap₂, subst, ℕ, suc, Bool, true, false, List, [], ◌∷◌, ◌++◌, map, filter, flat_map, length, Option, Some, None, if◌then◌else◌}
 use Rattle.gq_base.proofs.OptionLaws.{or_first, or_second}
 use Rattle.std.specs.Prelude.{All, filter_map, unwrap_or}
-use Rattle.std.specs.List.{AllByRecursion, cons_option, list_any}
+use Rattle.std.specs.List.{AllByRecursion, cons_option}
 use Rattle.std.specs.Option.{option_map, option_or}
-use Rattle.std.proofs.lemmas.Bool.{false≢true}
 use Rattle.std.proofs.lemmas.List.Elements.{All-from_recursion, filter-append, filter_map-append}
 use Rattle.gq_base.specs.Lists.{with_first}
 use Rattle.gq_alternatives.proofs.Shapes.{each_left, each_right}
@@ -29,12 +28,13 @@ use Rattle.gq_syntax.specs.declared.Sort.{Sort}
 use Rattle.gq_binder.proofs.NameLemmas.{first_in_append}
 use Rattle.gq_binder.proofs.TestLemmas.{IsRight, seen_known, tests_known}
 use Rattle.gq_binder.proofs.Known.{IsKnown, IsKnownColumn, mapped, refused_use, known_tree}
-use Rattle.gq_binder.specs.Columns.{Scoped, scoped_in, conditions_from, conditions, conjuncts, columns, columns_in, column_of, star_columns, firsts_behind, item_column, sort_scope, column_expr, sort_expr}
+use Rattle.gq_binder.specs.Columns.{Scoped, scoped_in, conditions_from, conditions, conjuncts, columns, columns_in, column_of, star_columns, firsts_behind, item_column, optional_conditions, sort_scope, column_expr, sort_expr, whole_pattern}
+use Rattle.gq_binder.specs.Optionals.{clause_conjuncts, optional_conjuncts}
 use Rattle.gq_binder.specs.Tested.{seen_elsewhere, tests}
 use Rattle.gq_binder.specs.steps.Parts.{known_conjuncts, known_seen}
 use Rattle.gq_plan.specs.declared.NamedExpr.{NamedExpr}
 use Rattle.gq_scopes.specs.PathPatterns.{shared_names}
-use Rattle.gq_binder.specs.Refusals.{first_in, items_in, seen, sorts_in}
+use Rattle.gq_binder.specs.Refusals.{first_in, items_in, others, seen, sort_trees, sorts_in}
 
 -- ---- what the checks say of each expression
 
@@ -71,7 +71,7 @@ all_right (e ∷ es) v o =
 
 -- the expressions of a query in text order, with its functions known
 abbrev pub known_expressions : Query → List ℕ → List Scoped
-known_expressions query text = conditions query ++ (items_in (scope_of (pattern_of query.clauses)) query.items ++ sorts_in (sort_scope functions text query) query.order)
+known_expressions query text = conditions query ++ others text query
 
 -- all names and calls of a query are known
 pub record IsNamed (query : Query) (text : List ℕ) : Type 0 where
@@ -82,28 +82,34 @@ pub record IsNamed (query : Query) (text : List ℕ) : Type 0 where
 
 module _ (query : Query) (text : List ℕ) (named : IsNamed query text) where
   abbrev items : List Scoped
-  items = items_in (scope_of (pattern_of query.clauses)) query.items
+  items = items_in (scope_of (whole_pattern query)) query.items
 
   abbrev sorts : List Scoped
-  sorts = sorts_in (sort_scope functions text query) query.order
+  sorts = sort_trees text query
 
-  expressions_fine : AllByRecursion IsFine (conditions query ++ (items ++ sorts))
-  expressions_fine = all_fine (conditions query ++ (items ++ sorts)) named.variables named.functions named.counts
+  expressions_fine : AllByRecursion IsFine (conditions query ++ others text query)
+  expressions_fine = all_fine (conditions query ++ others text query) named.variables named.functions named.counts
 
   conditions_fine : AllByRecursion IsFine (conditions query)
-  conditions_fine = each_left IsFine (conditions query) (items ++ sorts) expressions_fine
+  conditions_fine = each_left IsFine (conditions query) (others text query) expressions_fine
+
+  others_fine : AllByRecursion IsFine (optional_conditions query ++ (items ++ sorts))
+  others_fine = each_right IsFine (conditions query) (others text query) expressions_fine
+
+  optional_fine : AllByRecursion IsFine (optional_conditions query)
+  optional_fine = each_left IsFine (optional_conditions query) (items ++ sorts) others_fine
 
   items_fine : AllByRecursion IsFine items
-  items_fine = each_left IsFine items sorts (each_right IsFine (conditions query) (items ++ sorts) expressions_fine)
+  items_fine = each_left IsFine items sorts (each_right IsFine (optional_conditions query) (items ++ sorts) others_fine)
 
   sorts_fine : AllByRecursion IsFine sorts
-  sorts_fine = each_right IsFine items sorts (each_right IsFine (conditions query) (items ++ sorts) expressions_fine)
+  sorts_fine = each_right IsFine items sorts (each_right IsFine (optional_conditions query) (items ++ sorts) others_fine)
 
   -- nor does a check of the names in paths refuse one of the conditions
   conditions_right : AllByRecursion IsRight (conditions query)
   conditions_right =
-      all_right (conditions query) (or_first (first_in unknown_name (conditions query)) (first_in unknown_name (items ++ sorts)) (sym (first_in_append unknown_name (conditions query) (items ++ sorts)) ∙ named.variables))
-      (or_first (first_in of_other_form (conditions query)) (first_in of_other_form (items ++ sorts)) (sym (first_in_append of_other_form (conditions query) (items ++ sorts)) ∙ named.forms))
+      all_right (conditions query) (or_first (first_in unknown_name (conditions query)) (first_in unknown_name (others text query)) (sym (first_in_append unknown_name (conditions query) (others text query)) ∙ named.variables))
+      (or_first (first_in of_other_form (conditions query)) (first_in of_other_form (others text query)) (sym (first_in_append of_other_form (conditions query) (others text query)) ∙ named.forms))
 
 -- ---- lists of known parts
 
@@ -144,7 +150,7 @@ star_known p false = tt
 each_column : (query : Query) (text : List ℕ) → IsNamed query text → AllByRecursion IsKnownColumn (columns functions text query)
 unfolding columns_in
 each_column query text named =
-    let p : Pattern = pattern_of query.clauses in
+    let p : Pattern = whole_pattern query in
     each_append IsKnownColumn (if query.star then star_columns p else []) (map (item_column functions text (scope_of p)) query.items)
     (star_known p query.star) (items_known p text query.items (items_fine query text named))
 
@@ -280,12 +286,44 @@ listed text (c ∷ cs) h =
     ∙ filter_map-append (conjunct_expr text) (filter is_value (split_of c)) (filter is_value (flat_map split_of cs))
     ∙ ap₂ ◌++◌ (sym (ap (λ o. unwrap_or o []) (all_there (conjunct_expr text) (filter is_value (split_of c)) (known_values text (split_of c) h.0)))) (listed text cs h.1)
 
+listed_there : (text : List ℕ) (cs : List Scoped) → AllByRecursion (IsSplitKnown text) cs → all_some (values_of text (flat_map split_of cs)) ≡ Some (known_conjuncts text cs)
+listed_there text cs h =
+    all_there (conjunct_expr text) (filter is_value (flat_map split_of cs)) (known_values text (flat_map split_of cs) (each_conjunct text cs h))
+    ∙ ap Some (listed text cs h)
+
+conditions_known : (query : Query) (text : List ℕ) → IsNamed query text → AllByRecursion (IsSplitKnown text) (conditions query)
+conditions_known query text named = each_condition text (conditions query) (conditions_fine query text named) (placed 0 no_pattern query.clauses)
+
 pub conjuncts_there : (query : Query) (text : List ℕ) → IsNamed query text → all_some (values_of text (conjuncts query)) ≡ Some (known_conjuncts text (conditions query))
 unfolding conjuncts
-conjuncts_there query text named =
-    let each = each_condition text (conditions query) (conditions_fine query text named) (placed 0 no_pattern query.clauses) in
-    all_there (conjunct_expr text) (filter is_value (flat_map split_of (conditions query))) (known_values text (flat_map split_of (conditions query)) (each_conjunct text (conditions query) each))
-    ∙ ap Some (listed text (conditions query) each)
+conjuncts_there query text named = listed_there text (conditions query) (conditions_known query text named)
+
+-- ---- OPTIONAL MATCH clauses
+
+optional_known : (query : Query) (text : List ℕ) → IsNamed query text → AllByRecursion (IsSplitKnown text) (optional_conditions query)
+optional_known query text named =
+    each_condition text (optional_conditions query) (optional_fine query text named) (placed (length query.clauses) (pattern_of query.clauses) query.optionals)
+
+pub optional_there : (query : Query) (text : List ℕ) → IsNamed query text → all_some (values_of text (optional_conjuncts query)) ≡ Some (known_conjuncts text (optional_conditions query))
+unfolding optional_conjuncts
+optional_there query text named = listed_there text (optional_conditions query) (optional_known query text named)
+
+-- the conjuncts of each clause behind some patterns stand for expressions
+abbrev pub AreThere : List ℕ → ℕ → Pattern → List Clause → Type 0
+AreThere text number p [] = Unit {0}
+AreThere text number p (c ∷ cs) =
+    (all_some (values_of text (clause_conjuncts (with_paths number c.paths p) c)) ≡ Some (known_conjuncts text (scoped_in (scope_of (with_paths number c.paths p)) c.filter)))
+    × AreThere text (suc number) (with_paths number c.paths p) cs
+
+clauses_there : (text : List ℕ) (number : ℕ) (p : Pattern) (cs : List Clause) → AllByRecursion (IsSplitKnown text) (conditions_from number p cs) → AreThere text number p cs
+clauses_there text number p [] h = tt
+clauses_there text number p (c ∷ cs) h =
+    let q : Pattern = with_paths number c.paths p in
+    let own : List Scoped = scoped_in (scope_of q) c.filter in
+    (listed_there text own (each_left (IsSplitKnown text) own (conditions_from (suc number) q cs) h), clauses_there text (suc number) q cs (each_right (IsSplitKnown text) own (conditions_from (suc number) q cs) h))
+
+pub each_clause_there : (query : Query) (text : List ℕ) → IsNamed query text → AreThere text (length query.clauses) (pattern_of query.clauses) query.optionals
+each_clause_there query text named = clauses_there text (length query.clauses) (pattern_of query.clauses) query.optionals (optional_known query text named)
 
 -- ---- tests
 
@@ -297,12 +335,10 @@ each_valued text [] h = tt
 each_valued text (c ∷ cs) h =
     ((filter_map (conjunct_expr text) (filter is_value (split_of c)), all_there (conjunct_expr text) (filter is_value (split_of c)) (known_values text (split_of c) h.0)), each_valued text cs h.1)
 
-pub tests_there : (query : Query) (text : List ℕ) → IsNamed query text
-    → known_seen text (conditions query) ++ flat_map seen_elsewhere (items_in (scope_of (pattern_of query.clauses)) query.items ++ sorts_in (sort_scope functions text query) query.order) ≡ seen text query
+pub tests_there : (query : Query) (text : List ℕ) → IsNamed query text → known_seen text (conditions query) ++ flat_map seen_elsewhere (others text query) ≡ seen text query
 unfolding seen
 tests_there query text named =
-    ap (λ l. l ++ flat_map seen_elsewhere (items_in (scope_of (pattern_of query.clauses)) query.items ++ sorts_in (sort_scope functions text query) query.order))
-    (seen_known text (conditions query) (each_valued text (conditions query) (each_condition text (conditions query) (conditions_fine query text named) (placed 0 no_pattern query.clauses))))
+    ap (λ l. l ++ flat_map seen_elsewhere (others text query)) (seen_known text (conditions query) (each_valued text (conditions query) (conditions_known query text named)))
 
 pub tests_named : (query : Query) (text : List ℕ) → IsNamed query text → AllByRecursion (λ t. AllByRecursion (λ n. is_there (find_name t.names n) ≡ true) (shared_names t.test.path)) (tests text query)
 tests_named query text named = tests_known text query (conditions_right query text named)

@@ -1,29 +1,30 @@
 -- What the checks find in the parts of a query is its first refusal; a query that they pass is bound by its parts.
-use Rattle.std.proofs.Common.{◌≡◌, ◌∙◌, sym, refl, ap, ap₂, subst, ℕ, ◌+◌, Bool, true, false, not, ◌||◌, length, List, [], ◌∷◌, ◌++◌, map, All, Option, Some, None, Err, if◌then◌else◌}
+use Rattle.std.proofs.Common.{◌≡◌, ◌∙◌, sym, refl, ap, subst, ℕ, ◌+◌, length, List, [], ◌∷◌, ◌++◌, map, All, Option, Some, None, Err}
 use Rattle.gq_base.proofs.OptionLaws.{or_none}
 use Rattle.std.specs.Prelude.{filter_map, flat_map}
 use Rattle.std.specs.List.{AllZip}
 use Rattle.std.specs.Option.{option_map, option_or}
 use Rattle.gq_alternatives.specs.Alternatives.{Choice, alternatives, pattern_alternatives}
 use Rattle.gq_base.specs.Catalogs.{Tables}
-use Rattle.gq_base.specs.Lists.{is_empty}
-use Rattle.gq_binder.proofs.Accepted.{IsNamed, known_expressions, columns_there, keys_there, conjuncts_there, tests_named, tests_there}
+use Rattle.gq_binder.proofs.Accepted.{IsNamed, known_expressions, columns_there, keys_there, conjuncts_there, optional_there, tests_named, tests_there}
+use Rattle.gq_binder.proofs.Clauses.{clauses_bound, clauses_placed, own_are}
 use Rattle.gq_binder.proofs.TestLemmas.{IsWholeTest, parts_given, tests_whole, zip_parts}
 use Rattle.gq_binder.proofs.NameLemmas.{first_again, first_other_form, first_variable, first_function, first_arguments, sorts_same}
-use Rattle.gq_binder.proofs.Patterns.{node_names_there}
+use Rattle.gq_binder.proofs.Patterns.{names_there}
 use Rattle.gq_binder.proofs.RefusalLemmas.{first_then, first_append, same_behind}
 use Rattle.gq_binder.proofs.SoundAlternatives.{each_none, is_bound, reads_listed, tests_sound}
 use Rattle.gq_binder.specs.Binding.{Answers, IsBound}
 use Rattle.gq_binder.specs.steps.Checks.{IsOfQuery}
-use Rattle.gq_binder.specs.Columns.{conditions, columns, entry_test, sort_scope}
+use Rattle.gq_binder.specs.Columns.{conditions, columns, optional_conditions, sort_scope, whole_pattern}
 use Rattle.gq_binder.specs.steps.Names.{FirstNames, no_names, with_expressions}
 use Rattle.gq_binder.specs.Tested.{IsTested, SharedTest, seen_elsewhere, tests}
-use Rattle.gq_binder.specs.steps.Parts.{exists_part, known_conjuncts, known_seen, parts_of, ambiguous_in, reads_in, checks_in, bound_in}
-use Rattle.gq_binder.specs.Refusals.{first_of_all, not_built, unknown_variable, variable_conflict, relationship_repeated, column_repeated, nothing_to_return, order_out_of_scope, ambiguous_order_name, function_unknown, argument_count, over_limit, max_columns, max_alternatives, alternatives_in, path_conflict, path_repeated, paths_of, too_many_patterns, too_many_reads, all_reads, first_refusal, checks_of, too_many_alternatives, exists_place, expressions, first_in, items_in, seen, sorts_in}
+use Rattle.gq_binder.specs.steps.Parts.{clause_reads, clauses_parts, exists_part, known_conjuncts, known_seen, own_patterns, parts_of, ambiguous_in, reads_in, checks_in, bound_in}
+use Rattle.gq_binder.specs.Refusals.{first_of_all, not_built, unknown_variable, variable_conflict, relationship_repeated, column_repeated, nothing_to_return, order_out_of_scope, ambiguous_order_name, function_unknown, argument_count, over_limit, max_columns, max_alternatives, alternatives_in, alternatives_of, each_alone, others, path_conflict, path_repeated, paths_of, too_many_patterns, too_many_reads, all_reads, first_refusal, checks_of, too_many_alternatives, exists_place, expressions, first_in, seen}
+use Rattle.gq_binder.specs.declared.optionals.ClauseParts.{ClauseParts}
 use Rattle.gq_binder.specs.declared.parts.QueryParts.{QueryParts}
 use Rattle.gq_binder.specs.declared.refusal.BindRefusal.{BindRefusal}
 use Rattle.gq_binder.specs.declared.refusal.BindRefusal.TheVariants as refusal
-use Rattle.gq_plan.specs.Reads.{Read}
+use Rattle.gq_plan.specs.Reads.{Read, property}
 use Rattle.gq_scopes.specs.Patterns.{Name, Pattern, pattern_of}
 use Rattle.gq_trees.specs.Renames.{ambiguous_name}
 use Rattle.gq_trees.specs.Resolving.{functions}
@@ -38,7 +39,7 @@ none_of f (Some n) e = cc e
 
 module _ (query : Query) (text : List ℕ) where
   abbrev p : Pattern
-  p = pattern_of query.clauses
+  p = whole_pattern query
 
   abbrev names : FirstNames
   names = with_expressions no_names (known_expressions query text)
@@ -55,7 +56,7 @@ module _ (query : Query) (text : List ℕ) where
   -- the checks before those of numbers
   abbrev early : List (Option BindRefusal)
   early =
-      not_built query p
+      not_built p
       ∷ option_map refusal.UnknownVariable names.variable
       ∷ variable_conflict p
       ∷ option_map refusal.VariableConflict names.other_form
@@ -68,34 +69,45 @@ module _ (query : Query) (text : List ℕ) where
       ∷ option_map refusal.UnknownFunction names.function
       ∷ option_map refusal.ArgumentCount names.arguments ∷ []
 
-  abbrev numbers : List Read → List SharedTest → List (Option BindRefusal)
-  numbers reads ts =
+  abbrev numbers : List Read → List SharedTest → List Pattern → List (Option BindRefusal)
+  numbers reads ts ps =
       too_many_patterns p (paths_of ts)
-      ∷ too_many_reads reads p ts
+      ∷ too_many_reads reads p ts ps
       ∷ over_limit max_columns (length (columns functions text query)) refusal.TooManyColumns ∷ []
 
+  abbrev clauses : List ClauseParts
+  clauses = clauses_parts text (length query.clauses) (pattern_of query.clauses) query.optionals
+
   abbrev listed_reads : List Read
-  listed_reads = reads_in (map (entry_test text) p.entries) ++ reads_in (known_conjuncts text (conditions query))
+  listed_reads = map (λ e. property e.variable e.entry.key) p.entries ++ (reads_in (known_conjuncts text (conditions query)) ++ clause_reads clauses)
 
   abbrev listed_tests : List SharedTest
-  listed_tests = known_seen text (conditions query) ++ flat_map seen_elsewhere (items_in (scope_of p) query.items ++ sorts_in (sort_scope functions text query) query.order)
+  listed_tests = known_seen text (conditions query) ++ flat_map seen_elsewhere (others text query)
 
   abbrev all_tests : List SharedTest
   all_tests = seen text query
 
+  abbrev all_numbers : List (Option BindRefusal)
+  all_numbers = numbers (all_reads query) all_tests (each_alone query)
+
+  own : own_patterns clauses ≡ each_alone query
+  own = own_are text (length query.clauses) (pattern_of query.clauses) query.optionals
+
   -- where all names and calls are known, the conjuncts read what the conditions read, and the tests are those of the conditions
-  same_reads : first_of_all (early ++ numbers listed_reads listed_tests) ≡ first_of_all (early ++ numbers (all_reads query) all_tests)
+  same_reads : first_of_all (early ++ numbers listed_reads listed_tests (own_patterns clauses)) ≡ first_of_all (early ++ all_numbers)
   same_reads =
-      same_behind early (numbers listed_reads listed_tests) (numbers (all_reads query) all_tests) (λ passed.
+      same_behind early (numbers listed_reads listed_tests (own_patterns clauses)) all_numbers (λ passed.
       let named : IsNamed query text = named_by passed.1.0 passed.1.1.1.0 passed.1.1.1.1.1.1.1.1.1.1.0 passed.1.1.1.1.1.1.1.1.1.1.1.0 in
-      ap₂ (λ reads ts. first_of_all (numbers reads ts)) (reads_listed query text (known_conjuncts text (conditions query)) (conjuncts_there query text named)) (tests_there query text named))
+      let reads : listed_reads ≡ all_reads query = reads_listed query text (known_conjuncts text (conditions query)) (known_conjuncts text (optional_conditions query)) (conjuncts_there query text named) (optional_there query text named) refl in
+      let ts : listed_tests ≡ all_tests = tests_there query text named in
+      λ i. first_of_all (numbers (reads i) (ts i) (own i)))
 
   -- the expressions that are gone through are those of the definition
   same_expressions : known_expressions query text ≡ expressions text query
   unfolding expressions
   same_expressions = refl
 
-  same_checks : first_of_all (early ++ numbers (all_reads query) all_tests) ≡ first_of_all (checks_of query text)
+  same_checks : first_of_all (early ++ all_numbers) ≡ first_of_all (checks_of query text)
   same_checks =
       let unknown : option_map refusal.UnknownVariable names.variable ≡ unknown_variable text query =
       ap (option_map refusal.UnknownVariable) (first_variable (known_expressions query text) ∙ ap (first_in unknown_name) same_expressions) in
@@ -111,7 +123,7 @@ module _ (query : Query) (text : List ℕ) where
       ap (option_map refusal.ArgumentCount) (first_arguments (known_expressions query text) ∙ ap (first_in (λ _. wrong_count)) same_expressions) in
       λ i.
       first_of_all
-      (not_built query p
+      (not_built p
       ∷ unknown i
       ∷ variable_conflict p
       ∷ form i
@@ -123,7 +135,7 @@ module _ (query : Query) (text : List ℕ) where
       ∷ ambiguous i
       ∷ function i
       ∷ count i
-      ∷ numbers (all_reads query) all_tests)
+      ∷ all_numbers)
 
   abbrev found : Option BindRefusal
   found = first_of_all (checks_in text query (parts_of text query))
@@ -135,12 +147,16 @@ module _ (query : Query) (text : List ℕ) where
   named_parts : found ≡ None → IsNamed query text
   unfolding parts_of
   named_parts e =
-      let passed = each_none (early ++ numbers listed_reads listed_tests) e in
+      let passed = each_none (early ++ numbers listed_reads listed_tests (own_patterns clauses)) e in
       named_by passed.1.0 passed.1.1.1.0 passed.1.1.1.1.1.1.1.1.1.1.0 passed.1.1.1.1.1.1.1.1.1.1.1.0
 
-  pattern_is : (parts_of text query).pattern ≡ p
+  matched_is : (parts_of text query).matched ≡ pattern_of query.clauses
   unfolding parts_of
-  pattern_is = refl
+  matched_is = refl
+
+  own_is : own_patterns (parts_of text query).optionals ≡ each_alone query
+  unfolding parts_of
+  own_is = own
 
   tests_are : (parts_of text query).exists ≡ listed_tests
   unfolding parts_of
@@ -171,27 +187,34 @@ module _ (query : Query) (text : List ℕ) where
     refused_early parts e is h =
         answered e (λ q. refusal_is ∙ ap (λ o. option_or o last) (sym (ap (λ ps. first_of_all (checks_in text query ps)) is) ∙ h q))
 
-    abbrev many : Pattern → List SharedTest → Option BindRefusal
-    many pattern ts = over_limit max_alternatives (length (pattern_alternatives catalog pattern) + alternatives_in catalog (paths_of ts)) refusal.TooManyAlternatives
+    abbrev many : Pattern → List Pattern → List SharedTest → Option BindRefusal
+    many matched ps ts =
+        over_limit max_alternatives (length (pattern_alternatives catalog matched) + (alternatives_of catalog ps + alternatives_in catalog (paths_of ts))) refusal.TooManyAlternatives
+
+    abbrev many_in : QueryParts → Option BindRefusal
+    many_in parts = many parts.matched (own_patterns parts.optionals) parts.exists
 
     module _ (parts : QueryParts) (is : parts ≡ parts_of text query) (passed : first_of_all (checks_in text query parts) ≡ None) where
       passes : found ≡ None
       passes = sym (ap (λ ps. first_of_all (checks_in text query ps)) is) ∙ passed
 
-      pattern_so : parts.pattern ≡ p
-      pattern_so = ap (λ (ps : QueryParts). ps.pattern) is ∙ pattern_is
+      matched_so : parts.matched ≡ pattern_of query.clauses
+      matched_so = ap (λ (ps : QueryParts). ps.matched) is ∙ matched_is
+
+      own_so : own_patterns parts.optionals ≡ each_alone query
+      own_so = ap (λ (ps : QueryParts). own_patterns ps.optionals) is ∙ own_is
 
       tests_so : parts.exists ≡ seen text query
       tests_so = ap (λ (ps : QueryParts). ps.exists) is ∙ tests_are ∙ tests_there query text (named_parts passes)
 
-      rest : first_refusal query text catalog ≡ option_or (many parts.pattern parts.exists) place
-      rest = refusal_is ∙ ap (λ o. option_or o last) passes ∙ sym (ap (λ o. option_or o place) (ap₂ many pattern_so tests_so))
+      rest : first_refusal query text catalog ≡ option_or (many_in parts) place
+      rest = refusal_is ∙ ap (λ o. option_or o last) passes ∙ sym (λ i. option_or (many (matched_so i) (own_so i) (tests_so i)) place)
 
       -- the number of alternatives refuses it
-      pub refused_many : (e : BindRefusal) → (IsOfQuery e → many parts.pattern parts.exists ≡ Some e) → Answers query text catalog (Err e)
+      pub refused_many : (e : BindRefusal) → (IsOfQuery e → many_in parts ≡ Some e) → Answers query text catalog (Err e)
       refused_many e h = answered e (λ q. rest ∙ ap (λ o. option_or o place) (h q))
 
-      module _ (few : many parts.pattern parts.exists ≡ None) where
+      module _ (few : many_in parts ≡ None) where
         last_rest : first_refusal query text catalog ≡ place
         last_rest = rest ∙ ap (λ o. option_or o place) few
 
@@ -216,14 +239,15 @@ module _ (query : Query) (text : List ℕ) where
           refl
           (subst (AllZip (IsTested text catalog) (tests text query)) (sym (ap (filter_map (exists_part text catalog)) (tests_there query text named) ∙ parts_given text catalog query))
           (zip_parts text catalog (tests text query) (tests_named query text named) (tests_sound query text catalog accepted)))
-          refl
-          (node_names_there text query stands)
+          (clauses_bound text catalog query accepted named)
+          (clauses_placed text catalog query accepted stands)
+          (names_there text query stands)
 
       -- no check refuses it
-      pub accepted : (choices : List Choice) → StandsIn text query → many parts.pattern parts.exists ≡ None → exists_place parts.exists ≡ None → choices ≡ pattern_alternatives catalog parts.pattern → IsBound query text catalog (bound_in text catalog query parts choices)
+      pub accepted : (choices : List Choice) → StandsIn text query → many_in parts ≡ None → exists_place parts.exists ≡ None → choices ≡ pattern_alternatives catalog parts.matched → IsBound query text catalog (bound_in text catalog query parts choices)
       accepted choices stands few placed all =
           subst (λ ps. IsBound query text catalog (bound_in text catalog query ps choices)) (sym is)
-          (subst (λ cs. IsBound query text catalog (bound_in text catalog query (parts_of text query) cs)) (sym (all ∙ ap (pattern_alternatives catalog) pattern_so))
+          (subst (λ cs. IsBound query text catalog (bound_in text catalog query (parts_of text query) cs)) (sym (all ∙ ap (pattern_alternatives catalog) matched_so))
           (bound_by_parts stands (last_rest few ∙ sym (ap exists_place tests_so) ∙ placed) (named_parts passes)))
 
     -- a refusal that is no want of memory
@@ -234,4 +258,4 @@ module _ (query : Query) (text : List ℕ) where
 -- each path that the parts of a query test begins and ends between characters
 pub parts_whole : (text : List ℕ) (query : Query) → StandsIn text query → All (IsWholeTest text) (parts_of text query).exists
 unfolding parts_of
-parts_whole text query stands = tests_whole text query (items_in (scope_of (pattern_of query.clauses)) query.items ++ sorts_in (sort_scope functions text query) query.order) stands
+parts_whole text query stands = tests_whole text query (others text query) stands

@@ -1,5 +1,6 @@
 pub mod Accepted
 pub mod Checked
+pub mod Clauses
 pub mod Known
 pub mod MetLemmas
 pub mod NameLemmas

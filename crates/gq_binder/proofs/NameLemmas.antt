@@ -1,5 +1,5 @@
 -- The first refused names and calls of some expressions and then others, and in two scopes.
-use Rattle.std.proofs.Common.{◌≡◌, ◌∙◌, ap, ap₂, refl, sym, Bool, true, false, ◌||◌, List, [], ◌∷◌, ◌++◌, Option}
+use Rattle.std.proofs.Common.{◌≡◌, ◌∙◌, ap, ap₂, refl, sym, List, [], ◌∷◌, ◌++◌, Option}
 use Rattle.gq_syntax.specs.declared.Sort.{Sort}
 use Rattle.gq_base.proofs.OptionLaws.{or_assoc, or_none}
 use Rattle.std.specs.Option.{option_or}

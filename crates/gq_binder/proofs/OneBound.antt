@@ -1,5 +1,5 @@
 -- A query that stands in a text is bound in one way over a catalogue.
-use Rattle.std.proofs.Common.{◌≡◌, ℕ, true, Option, Some, None, List, [], ◌∷◌, length, map, refl, sym, ap, ap₂, ◌∙◌, arith, eqb-true}
+use Rattle.std.proofs.Common.{◌≡◌, ℕ, suc, true, Option, Some, None, List, [], ◌∷◌, length, map, refl, sym, ap, ap₂, ◌∙◌, arith, eqb-true}
 use Rattle.std.specs.List.{AllZip}
 use Rattle.gq_binder.specs.Tested.{IsTested, ScopedTest, tests}
 use Rattle.gq_plan.specs.declared.ExistsPart.{ExistsPart}
@@ -7,11 +7,14 @@ use Rattle.gq_base.specs.Catalogs.{Tables}
 use Rattle.gq_base.specs.Lists.{is_empty, with_first}
 use Rattle.gq_plan.specs.declared.Bound.{Bound}
 use Rattle.gq_plan.specs.declared.NamedExpr.{NamedExpr}
+use Rattle.gq_plan.specs.declared.OptionalPart.{OptionalPart}
 use Rattle.gq_plan.specs.declared.Typed.{Typed}
 use Rattle.gq_alternatives.specs.Alternatives.{alternatives, typed_of}
 use Rattle.gq_binder.specs.Binding.{IsBound}
+use Rattle.gq_binder.specs.Optionals.{AreOptional, IsOptional}
 use Rattle.gq_binder.specs.Columns.{Resolves, entry_test, sort_expr, sort_scope}
-use Rattle.gq_scopes.specs.Patterns.{Pattern, pattern_of}
+use Rattle.gq_scopes.specs.Patterns.{Pattern, pattern_of, with_paths}
+use Rattle.gq_syntax.specs.declared.Clause.{Clause}
 use Rattle.gq_syntax.specs.declared.Query.{Query}
 use Rattle.gq_trees.specs.Resolving.{all_some, functions}
 
@@ -42,6 +45,25 @@ same_parts text catalog (t ∷ ts) [] ys x y = absurd x
 same_parts text catalog (t ∷ ts) (a ∷ xs) [] x y = absurd y
 same_parts text catalog (t ∷ ts) (a ∷ xs) (b ∷ ys) x y = ap₂ ◌∷◌ (same_part text catalog t a b x.0 y.0) (same_parts text catalog ts xs ys x.1 y.1)
 
+same_optional : (text : List ℕ) (catalog : Tables) (number : ℕ) (p : Pattern) (c : Clause) (a b : OptionalPart) → IsOptional text catalog number p c a → IsOptional text catalog number p c b → a ≡ b
+same_optional text catalog number p c a b x y =
+    let nodes : a.nodes ≡ b.nodes = x.nodes ∙ sym y.nodes in
+    let rels : a.rels ≡ b.rels = x.rels ∙ sym y.rels in
+    let conjuncts : a.conjuncts ≡ b.conjuncts = one_some _ _ (sym x.conjuncts ∙ y.conjuncts) in
+    let alternatives : a.alternatives ≡ b.alternatives = x.alternatives ∙ sym y.alternatives in
+    let e : ◌≡◌ {A = OptionalPart} (record { nodes = a.nodes; rels = a.rels; conjuncts = a.conjuncts; alternatives = a.alternatives })
+    (record { nodes = b.nodes; rels = b.rels; conjuncts = b.conjuncts; alternatives = b.alternatives }) = cc (nodes, rels, conjuncts, alternatives) in
+    e
+
+same_optionals : (text : List ℕ) (catalog : Tables) (number : ℕ) (p : Pattern) (cs : List Clause) (xs ys : List OptionalPart) → AreOptional text catalog number p cs xs → AreOptional text catalog number p cs ys → xs ≡ ys
+same_optionals text catalog number p [] [] [] x y = refl
+same_optionals text catalog number p [] [] (b ∷ ys) x y = absurd y
+same_optionals text catalog number p [] (a ∷ xs) ys x y = absurd x
+same_optionals text catalog number p (c ∷ cs) [] ys x y = absurd x
+same_optionals text catalog number p (c ∷ cs) (a ∷ xs) [] x y = absurd y
+same_optionals text catalog number p (c ∷ cs) (a ∷ xs) (b ∷ ys) x y =
+    ap₂ ◌∷◌ (same_optional text catalog number p c a b x.0 y.0) (same_optionals text catalog (suc number) (with_paths number c.paths p) cs xs ys x.1 y.1)
+
 pub same_bound : (query : Query) (text : List ℕ) (catalog : Tables) (b c : Bound) → IsBound query text catalog b → IsBound query text catalog c → b ≡ c
 same_bound query text catalog b c x y =
     let conjuncts : b.conjuncts ≡ c.conjuncts = one_some _ _ (sym x.resolves.conjuncts ∙ y.resolves.conjuncts) in
@@ -49,7 +71,7 @@ same_bound query text catalog b c x y =
     x.alternatives ∙ ap (typed_with query text catalog) conjuncts ∙ sym y.alternatives in
     let columns : b.columns ≡ c.columns = one_some _ _ (sym x.resolves.columns ∙ y.resolves.columns) in
     let patterns : b.patterns ≡ c.patterns = same_parts text catalog (tests text query) b.patterns c.patterns x.tested y.tested in
-    let optionals : b.optionals ≡ c.optionals = x.optionals ∙ sym y.optionals in
+    let optionals : b.optionals ≡ c.optionals = same_optionals text catalog (length query.clauses) (pattern_of query.clauses) query.optionals b.optionals c.optionals x.optionals y.optionals in
     let keys : b.keys ≡ c.keys = one_some _ _ (sym x.resolves.keys ∙ y.resolves.keys) in
     let nodes : b.node_names ≡ c.node_names = x.resolves.node_names ∙ sym y.resolves.node_names in
     let rels : b.rel_names ≡ c.rel_names = x.resolves.rel_names ∙ sym y.resolves.rel_names in

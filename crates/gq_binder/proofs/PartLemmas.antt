@@ -3,11 +3,12 @@ use Rattle.std.proofs.Common.{◌≡◌, ◌∙◌, ℕ, suc, ◌+◌, ◌<◌, 
 use Rattle.std.specs.Prelude.{unwrap_or}
 use Rattle.std.proofs.lemmas.Grind.{flat_map-append}
 use Rattle.gq_binder.proofs.NameLemmas.{with_expressions_append}
-use Rattle.gq_binder.specs.Columns.{Scoped, columns_in, conditions, conditions_from, entry_test, scoped_in}
+use Rattle.gq_binder.specs.Columns.{Scoped, columns_in, conditions, conditions_from, entry_test, optional_conditions, scoped_in, whole_pattern}
 use Rattle.gq_binder.specs.steps.Names.{FirstNames, no_names, with_expressions}
 use Rattle.gq_binder.specs.Tested.{SharedTest, seen_elsewhere, stray_test}
-use Rattle.gq_binder.specs.steps.Parts.{known_conjuncts, known_seen, known_seen_in, known_tests_of, parts_of}
-use Rattle.gq_binder.specs.Refusals.{items_in, sorts_in}
+use Rattle.gq_binder.specs.declared.optionals.ClauseParts.{ClauseParts}
+use Rattle.gq_binder.specs.steps.Parts.{clause_parts, clauses_parts, known_conjuncts, known_seen, known_seen_in, known_tests_of, parts_of}
+use Rattle.gq_binder.specs.Refusals.{items_in, others, sorts_in}
 use Rattle.gq_plan.specs.declared.NamedExpr.{NamedExpr}
 use Rattle.gq_trees.specs.Conjuncts.{values_of}
 use Rattle.gq_scopes.specs.Patterns.{Pattern, pattern_of, with_clauses, with_paths}
@@ -74,35 +75,75 @@ module _ (clauses : List Clause) (at : ℕ) (more : at < length clauses) (c : Cl
         → new ++ known_seen text (conditions_from next q (drop (at + 1) clauses)) ≡ whole
     next_seen text = next_listed (known_seen_in text)
 
--- the parts of a query, made one after another
+    pub next_elsewhere : (old new whole : List SharedTest) → new ≡ old ++ flat_map seen_elsewhere (scoped_in (scope_of q) c.filter) → old ++ flat_map seen_elsewhere (conditions_from number p (drop at clauses)) ≡ whole
+        → new ++ flat_map seen_elsewhere (conditions_from next q (drop (at + 1) clauses)) ≡ whole
+    next_elsewhere = next_listed seen_elsewhere
+
+    pub next_clauses : (text : List ℕ) (old new whole : List ClauseParts) (k : ClauseParts) → new ≡ old ++ k ∷ [] → k ≡ clause_parts text number p c → old ++ clauses_parts text number p (drop at clauses) ≡ whole
+        → new ++ clauses_parts text next q (drop (at + 1) clauses) ≡ whole
+    next_clauses text old new whole k pushed is_k h =
+        (λ i. pushed i ++ clauses_parts text (counted i) (is_q i) (drop (at + 1) clauses))
+        ∙ (λ i. (old ++ is_k i ∷ []) ++ clauses_parts text (suc number) (with_paths number c.paths p) (drop (at + 1) clauses))
+        ∙ append_assoc old (clause_parts text number p c ∷ []) (clauses_parts text (suc number) (with_paths number c.paths p) (drop (at + 1) clauses))
+        ∙ sym (ap (λ cs. old ++ clauses_parts text number p cs) cut)
+        ∙ h
+
+-- ---- the parts of a query, made one after another
+
 -- what stands elsewhere does not ask for the columns
 same_elsewhere : (s r : Scope) → s.nodes ≡ r.nodes → (order : List Sort) → flat_map seen_elsewhere (sorts_in s order) ≡ flat_map seen_elsewhere (sorts_in r order)
 same_elsewhere s r e [] = refl
 same_elsewhere s r e (o ∷ os) = ap₂ (λ ns l. map (stray_test ns) (paths_in o.tree) ++ l) e (same_elsewhere s r e os)
 
-pub parts_made : (query : Query) (text : List ℕ) (p : Pattern) (names after : FirstNames) (cs : List Column) (es ts : List NamedExpr) (ps qs : List SharedTest)
-    → p ≡ pattern_of query.clauses → names ≡ with_expressions no_names (conditions query) → es ≡ known_conjuncts text (conditions query) → ps ≡ known_seen text (conditions query)
-    → qs ≡ ps ++ (flat_map seen_elsewhere (items_in (scope_of p) query.items) ++ flat_map seen_elsewhere (sorts_in (scope_of p) query.order))
-    → cs ≡ columns_in functions text p query → ts ≡ map (entry_test text) p.entries
-    → after ≡ with_expressions (with_expressions names (items_in (scope_of p) query.items)) (sorts_in (record (scope_of p) { columns = columns_in functions text p query }) query.order)
-    → record { pattern = p; names = after; columns = cs; conjuncts = es; exists = qs; tests = ts } ≡ parts_of text query
-unfolding parts_of
-parts_made query text p names after cs es ts ps qs is_p is_names is_es is_ps is_qs is_cs is_ts is_after =
-    let items : Pattern → List Scoped = λ q. items_in (scope_of q) query.items in
-    let sorts : Pattern → List Scoped = λ q. sorts_in (record (scope_of q) { columns = columns_in functions text q query }) query.order in
-    let q : Pattern = pattern_of query.clauses in
-    let all : after ≡ with_expressions no_names (conditions query ++ (items q ++ sorts q)) =
-    is_after
-    ∙ (λ i. with_expressions (with_expressions (is_names i) (items (is_p i))) (sorts (is_p i)))
-    ∙ sym (with_expressions_append (with_expressions no_names (conditions query)) (items q) (sorts q))
-    ∙ sym (with_expressions_append no_names (conditions query) (items q ++ sorts q)) in
-    let columns : cs ≡ columns_in functions text q query = is_cs ∙ ap (λ r. columns_in functions text r query) is_p in
-    let tests : ts ≡ map (entry_test text) q.entries = is_ts ∙ ap (λ (r : Pattern). map (entry_test text) r.entries) is_p in
-    let others : Pattern → List SharedTest = λ r. flat_map seen_elsewhere (items r) ++ flat_map seen_elsewhere (sorts_in (scope_of r) query.order) in
-    let exists : qs ≡ known_seen text (conditions query) ++ flat_map seen_elsewhere (items q ++ sorts q) =
-    is_qs
-    ∙ (λ i. is_ps i ++ others (is_p i))
-    ∙ ap (λ l. known_seen text (conditions query) ++ l)
-    (ap (λ l. flat_map seen_elsewhere (items q) ++ l) (same_elsewhere (scope_of q) (record (scope_of q) { columns = columns_in functions text q query }) refl query.order)
-    ∙ sym (flat_map-append seen_elsewhere (items q) (sorts q))) in
-    λ i. record { pattern = is_p i; names = all i; columns = columns i; conjuncts = is_es i; exists = exists i; tests = tests i }
+module _ (query : Query) (text : List ℕ) (matched p : Pattern) (is_matched : matched ≡ pattern_of query.clauses) (is_p : p ≡ whole_pattern query) where
+  abbrev items : Pattern → List Scoped
+  items q = items_in (scope_of q) query.items
+
+  abbrev sorts : Pattern → List Scoped
+  sorts q = sorts_in (record (scope_of q) { columns = columns_in functions text q query }) query.order
+
+  behind : optional_conditions query ++ (items p ++ sorts p) ≡ others text query
+  behind i = optional_conditions query ++ (items (is_p i) ++ sorts (is_p i))
+
+  names_made : (old mid new : FirstNames) → old ≡ with_expressions no_names (conditions query) → mid ≡ with_expressions old (optional_conditions query)
+      → new ≡ with_expressions (with_expressions mid (items p)) (sorts p)
+      → new ≡ with_expressions no_names (conditions query ++ others text query)
+  names_made old mid new is_old is_mid is_new =
+      is_new
+      ∙ sym (with_expressions_append mid (items p) (sorts p))
+      ∙ ap (λ n. with_expressions n (items p ++ sorts p)) is_mid
+      ∙ sym (with_expressions_append old (optional_conditions query) (items p ++ sorts p))
+      ∙ (λ i. with_expressions (is_old i) (behind i))
+      ∙ sym (with_expressions_append no_names (conditions query) (others text query))
+
+  abbrev last : List SharedTest
+  last = flat_map seen_elsewhere (items p) ++ flat_map seen_elsewhere (sorts_in (scope_of p) query.order)
+
+  last_is : last ≡ flat_map seen_elsewhere (items p ++ sorts p)
+  last_is =
+      ap (λ l. flat_map seen_elsewhere (items p) ++ l) (same_elsewhere (scope_of p) (record (scope_of p) { columns = columns_in functions text p query }) refl query.order)
+      ∙ sym (flat_map-append seen_elsewhere (items p) (sorts p))
+
+  seen_made : (old mid new : List SharedTest) → old ≡ known_seen text (conditions query) → mid ≡ old ++ flat_map seen_elsewhere (optional_conditions query) → new ≡ mid ++ last
+      → new ≡ known_seen text (conditions query) ++ flat_map seen_elsewhere (others text query)
+  seen_made old mid new is_old is_mid is_new =
+      is_new
+      ∙ ap (λ l. l ++ last) is_mid
+      ∙ append_assoc old (flat_map seen_elsewhere (optional_conditions query)) last
+      ∙ (λ i. is_old i ++ (flat_map seen_elsewhere (optional_conditions query) ++ last_is i))
+      ∙ ap (λ l. known_seen text (conditions query) ++ l) (sym (flat_map-append seen_elsewhere (optional_conditions query) (items p ++ sorts p)) ∙ ap (flat_map seen_elsewhere) behind)
+
+  pub parts_made : (names mid after : FirstNames) (cs : List Column) (es ts : List NamedExpr) (ps qs rs : List SharedTest) (os : List ClauseParts)
+      → names ≡ with_expressions no_names (conditions query) → es ≡ known_conjuncts text (conditions query) → ps ≡ known_seen text (conditions query)
+      → mid ≡ with_expressions names (optional_conditions query) → qs ≡ ps ++ flat_map seen_elsewhere (optional_conditions query)
+      → os ≡ clauses_parts text (length query.clauses) (pattern_of query.clauses) query.optionals
+      → cs ≡ columns_in functions text p query → ts ≡ map (entry_test text) matched.entries
+      → after ≡ with_expressions (with_expressions mid (items p)) (sorts p) → rs ≡ qs ++ last
+      → record { pattern = p; matched = matched; names = after; columns = cs; conjuncts = es; exists = rs; tests = ts; optionals = os } ≡ parts_of text query
+  unfolding parts_of
+  parts_made names mid after cs es ts ps qs rs os is_names is_es is_ps is_mid is_qs is_os is_cs is_ts is_after is_rs =
+      let all : after ≡ with_expressions no_names (conditions query ++ others text query) = names_made names mid after is_names is_mid is_after in
+      let columns : cs ≡ columns_in functions text (whole_pattern query) query = is_cs ∙ ap (λ r. columns_in functions text r query) is_p in
+      let tests : ts ≡ map (entry_test text) (pattern_of query.clauses).entries = is_ts ∙ ap (λ (r : Pattern). map (entry_test text) r.entries) is_matched in
+      let exists : rs ≡ known_seen text (conditions query) ++ flat_map seen_elsewhere (others text query) = seen_made ps qs rs is_ps is_qs is_rs in
+      λ i. record { pattern = is_p i; matched = is_matched i; names = all i; columns = columns i; conjuncts = is_es i; exists = exists i; tests = tests i; optionals = is_os i }

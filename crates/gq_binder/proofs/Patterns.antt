@@ -1,6 +1,6 @@
--- What the patterns of a query that stands in a text have: a node, a name for each node variable, and entries whose
--- values begin and end between characters.
-use Rattle.std.proofs.Common.{◌≡◌, ℕ, suc, ◌<◌, List, [], ◌∷◌, ◌++◌, length, All, refl, arith}
+-- What the patterns of a query that stands in a text have: a node, a name for each variable, and entries whose values begin
+-- and end between characters.
+use Rattle.std.proofs.Common.{◌≡◌, ℕ, suc, ◌<◌, List, [], ◌∷◌, ◌++◌, length, All, append_assoc, append-nil, refl, sym, ap, ◌∙◌, ◌≤◌, arith}
 use Rattle.gq_plan.specs.declared.variable.Variable.TheVariants.{Node as node, Rel as rel}
 use Rattle.gq_plan.specs.declared.variable.Variable.{Variable}
 use Rattle.std.specs.Prelude.{Bool, true, false, Option, Some, None, if◌then◌else◌}
@@ -17,6 +17,8 @@ use Rattle.gq_syntax.specs.declared.NodePart.{NodePart}
 use Rattle.gq_syntax.specs.declared.Path.{Path}
 use Rattle.gq_syntax.specs.declared.Query.{Query}
 use Rattle.gq_syntax.specs.declared.RelPart.{RelPart}
+use Rattle.gq_binder.specs.Columns.{whole_pattern}
+use Rattle.gq_binder.specs.Optionals.{alone}
 use Rattle.gq_alternatives.proofs.ShapesOfPatterns.{clauses_grow, hops_grow, node_cases, paths_grow}
 use Rattle.gq_scopes.specs.PathPatterns.{named_first, path_pattern, with_name, with_names}
 use Rattle.gq_scopes.specs.Patterns.{MapEntry, Name, Pattern, called, is_called, entries_of, no_pattern, node_again, node_new, pattern_of, variable_of, with_clauses, with_hops, with_node, with_part, with_path, with_paths, with_rel}
@@ -85,6 +87,58 @@ names_counted cs =
     clauses_kept Counted Any Any (λ v part p n h. h) (λ part p n h. pushed p.node_names p.names (called p.unnamed part.name) part.name h) (λ clause left right part p n h. h) (λ part p h. h)
     0 cs no_pattern (any_clauses cs) refl
 
+-- those of all clauses too
+pub whole_counted : (q : Query) → length (whole_pattern q).node_names ≡ length (whole_pattern q).names
+whole_counted q =
+    clauses_kept Counted Any Any (λ v part p n h. h) (λ part p n h. pushed p.node_names p.names (called p.unnamed part.name) part.name h) (λ clause left right part p n h. h) (λ part p h. h)
+    (length q.clauses) q.optionals (pattern_of q.clauses) (any_clauses q.optionals) (names_counted q.clauses)
+
+-- and so has each relationship variable
+abbrev RelsCounted : Pattern → Type 0
+RelsCounted p = length p.rel_names ≡ length p.rels
+
+rel_counted : (clause left right : ℕ) (part : RelPart) (p : Pattern) → RelsCounted p → RelsCounted (with_rel clause left right part p)
+rel_counted clause left right part p h = pushed p.rel_names p.rels (called p.unnamed part.name) (record { clause = clause; left = left; right = right; part = part }) h
+
+rels_kept : (number : ℕ) (cs : List Clause) (p : Pattern) → RelsCounted p → RelsCounted (with_clauses number cs p)
+rels_kept number cs p h =
+    clauses_kept RelsCounted Any Any (λ v part p n h. h) (λ part p n h. h) (λ clause left right part p n h. rel_counted clause left right part p h) (λ part p h. h)
+    number cs p (any_clauses cs) h
+
+rels_named : (cs : List Clause) → RelsCounted (pattern_of cs)
+unfolding pattern_of
+rels_named cs = rels_kept 0 cs no_pattern refl
+
+pub whole_rels_counted : (q : Query) → length (whole_pattern q).rel_names ≡ length (whole_pattern q).rels
+whole_rels_counted q = rels_kept (length q.clauses) q.optionals (pattern_of q.clauses) (rels_named q.clauses)
+
+-- ---- clauses only add
+
+-- the entries of maps begin with those that were there
+abbrev BeginsWith : List MapEntry → Pattern → Type 0
+BeginsWith es p = (more : List MapEntry) × (p.entries ≡ es ++ more)
+
+begins_more : (es : List MapEntry) (p : Pattern) (v : Variable) (name : Name) (new : List Entry) → BeginsWith es p
+    → (more : List MapEntry) × (p.entries ++ entries_of v name new ≡ es ++ more)
+begins_more es p v name new h = (h.0 ++ entries_of v name new, ap (λ l. l ++ entries_of v name new) h.1 ∙ append_assoc es h.0 (entries_of v name new))
+
+pub entries_begin : (number : ℕ) (cs : List Clause) (p : Pattern) → (more : List MapEntry) × ((with_clauses number cs p).entries ≡ p.entries ++ more)
+entries_begin number cs p =
+    clauses_kept (BeginsWith p.entries) Any Any (λ v part q n h. begins_more p.entries q (node v) (called q.unnamed part.name) part.map h)
+    (λ part q n h. begins_more p.entries q (node (length q.names)) (called q.unnamed part.name) part.map h)
+    (λ clause left right part q n h. begins_more p.entries q (rel (length q.rels)) (called q.unnamed part.name) part.map h) (λ part q h. h)
+    number cs p (any_clauses cs) ([], sym (append-nil p.entries))
+
+-- and there are no fewer node patterns
+pub nodes_grow : (number : ℕ) (cs : List Clause) (p : Pattern) → length p.nodes ≤ length (with_clauses number cs p).nodes
+nodes_grow number cs p =
+    clauses_kept (λ q. length p.nodes ≤ length q.nodes) Any Any (λ v part q n h. one_longer q v part h) (λ part q n h. one_longer q (length q.names) part h)
+    (λ clause left right part q n h. h) (λ part q h. h)
+    number cs p (any_clauses cs) (omega arith)
+  where
+    one_longer : (q : Pattern) (v : ℕ) (part : NodePart) → length p.nodes ≤ length q.nodes → length p.nodes ≤ length (q.nodes ++ record { variable = v; part = part } ∷ [])
+    one_longer q v part h = omega (arith, length_push q.nodes (record { variable = v; part = part }))
+
 -- ---- there is a node
 
 node_there : (part : NodePart) (p : Pattern) → 0 < length (with_node part p).names
@@ -107,13 +161,15 @@ clauses_there text (c ∷ cs) h all =
     let grown = (clauses_grow 1 cs (with_paths 0 c.paths no_pattern)).names in
     omega (arith, grown, clause_there 0 c.paths no_pattern (All-head (IsWholeClause text) c cs all).begins)
 
-names_there : (text : List ℕ) (q : Query) → StandsIn text q → 0 < length (pattern_of q.clauses).names
+-- a query that stands in a text has a node variable
+pub names_there : (text : List ℕ) (q : Query) → StandsIn text q → 0 < length (pattern_of q.clauses).names
 unfolding pattern_of
 names_there text q stands = clauses_there text q.clauses stands.begins stands.clauses
 
--- a query that stands in a text has a node variable
-pub node_names_there : (text : List ℕ) (q : Query) → StandsIn text q → 0 < length (pattern_of q.clauses).node_names
-node_names_there text q stands = let counted = names_counted q.clauses in omega (arith, names_there text q stands)
+-- and so has a clause with a path
+pub alone_there : (c : Clause) → 0 < length c.paths → 0 < length (alone c).names
+unfolding pattern_of
+alone_there c begins = clause_there 0 c.paths no_pattern begins
 
 -- ---- the values of entries
 
@@ -180,3 +236,11 @@ module _ (text : List ℕ) where
       (λ part p n h. more (node (length p.names)) (called p.unnamed part.name) p.entries part.map n h)
       (λ clause left right part p n h. more (rel (length p.rels)) (called p.unnamed part.name) p.entries part.map n h) (λ part p h. h)
       0 q.clauses no_pattern (clauses_whole q.clauses stands.clauses) (All-nil IsWholeMap)
+
+  pub alone_entries_whole : (c : Clause) → IsWholeClause text c → All IsWholeMap (alone c).entries
+  unfolding pattern_of
+  alone_entries_whole c w =
+      clauses_kept Entries NodeMap RelMap (λ v part p n h. more (node v) (called p.unnamed part.name) p.entries part.map n h)
+      (λ part p n h. more (node (length p.names)) (called p.unnamed part.name) p.entries part.map n h)
+      (λ clause left right part p n h. more (rel (length p.rels)) (called p.unnamed part.name) p.entries part.map n h) (λ part p h. h)
+      0 (c ∷ []) no_pattern (paths_whole c.paths w.paths, tt) (All-nil IsWholeMap)

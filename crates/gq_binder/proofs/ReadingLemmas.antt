@@ -11,10 +11,14 @@ use Rattle.gq_scopes.specs.Patterns.{Pattern}
 pub counted : (qs ps rs : List Read) → rs ≡ with_reads (with_reads [] qs) ps → length rs ≡ length (distinct (qs ++ ps))
 counted qs ps rs e = ap length (e ∙ sym (with_reads_append [] qs ps) ∙ sym (distinct_taken (qs ++ ps)))
 
--- so are those of three parts, and of one
-pub counted_more : (qs ps os rs : List Read) → rs ≡ with_reads (with_reads (with_reads [] qs) ps) os → length rs ≡ length (distinct ((qs ++ ps) ++ os))
-counted_more qs ps os rs e =
-    ap length (e ∙ sym (ap (λ l. with_reads l os) (with_reads_append [] qs ps)) ∙ sym (with_reads_append [] (qs ++ ps) os) ∙ sym (distinct_taken ((qs ++ ps) ++ os)))
+-- so are those of several parts, and of one
+pub counted_parts : (ks bs cs ds rs : List Read) → rs ≡ with_reads (with_reads (with_reads (with_reads [] ks) bs) cs) ds → length rs ≡ length (distinct ((ks ++ (bs ++ cs)) ++ ds))
+counted_parts ks bs cs ds rs e =
+    ap length
+    (e
+    ∙ ap (λ l. with_reads l ds) (sym (with_reads_append (with_reads [] ks) bs cs) ∙ sym (with_reads_append [] ks (bs ++ cs)))
+    ∙ sym (with_reads_append [] (ks ++ (bs ++ cs)) ds)
+    ∙ sym (distinct_taken ((ks ++ (bs ++ cs)) ++ ds)))
 
 pub counted_alone : (qs rs : List Read) → rs ≡ with_reads [] qs → length rs ≡ length (distinct qs)
 counted_alone qs rs e = ap length (e ∙ sym (distinct_taken qs))

@@ -25,12 +25,12 @@ pub first_then : {A : Type 0} (x : Option A) (xs : List (Option A)) → first_of
 first_then None xs = refl
 first_then (Some x) xs = refl
 
-pub ruleset firsts = (first_then, or_none)
-
 pub first_append : {A : Type 0} (xs ys : List (Option A)) → first_of_all (xs ++ ys) ≡ option_or (first_of_all xs) (first_of_all ys)
 first_append [] ys = refl
 first_append (None ∷ xs) ys = first_append xs ys
 first_append (Some x ∷ xs) ys = refl
+
+pub ruleset firsts = (first_then, first_append, or_none)
 
 -- what stands behind checks counts where all of these pass
 pub same_behind : {A : Type 0} (os xs ys : List (Option A)) → (AllByRecursion (λ o. o ≡ None) os → first_of_all xs ≡ first_of_all ys) → first_of_all (os ++ xs) ≡ first_of_all (os ++ ys)
@@ -81,6 +81,13 @@ within_more n rest xs ys r e = go (nat_lt n (length xs)) refl e
 -- where they are beyond it, they are so with the rest
 pub beyond_more : (n rest : ℕ) (xs : List Choice) (r : BindRefusal) → None ≡ at_most n xs → over_limit n (length xs + rest) r ≡ Some r
 beyond_more n rest xs r e = over_now n (length xs) rest r (beyond n xs r e)
+
+-- where several took so many of a limit and passed, what stays of it limits the rest; where they did not, it is passed with the rest
+pub over_spent : (left k stays rest : ℕ) (r : BindRefusal) → left ≡ k + stays → over_limit left (k + rest) r ≡ over_limit stays rest r
+over_spent left k stays rest r e = let low : k ≤ left = omega arith in let same : left - k ≡ stays = omega arith in over_taken left k rest r low ∙ ap (λ n. over_limit n rest r) same
+
+pub over_more : (left k rest : ℕ) (r : BindRefusal) → over_limit left k r ≡ Some r → over_limit left (k + rest) r ≡ Some r
+over_more left k rest r e = over_now left k rest r e
 
 -- to look for the names that AS gives away is to look for ambiguous names
 pub ambiguous_is : (s : Scope) (items : List Item) (names : List Name) (es : List Scoped) → names ≡ renamed_names s items → first_in (λ _. renamed_name names) es ≡ first_in (λ _. ambiguous_name s items) es

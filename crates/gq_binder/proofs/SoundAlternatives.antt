@@ -4,13 +4,14 @@ use Rattle.gq_plan.specs.declared.variable.Variable.TheVariants.{Node as node, R
 use Rattle.gq_plan.specs.declared.variable.Variable.{Variable}
 use Rattle.std.specs.Prelude.{All}
 use Rattle.std.specs.List.{AllByRecursion, AllZip}
-use Rattle.std.specs.Option.{option_map}
+use Rattle.std.specs.Option.{option_map, option_or}
 use Rattle.std.proofs.lemmas.Bool.{ltb-false, not-true, or_left}
 use Rattle.std.proofs.lemmas.Grind.{flat_map-append}
-use Rattle.std.proofs.lemmas.List.{length-map}
+use Rattle.std.proofs.lemmas.List.{length-map, map-append}
 use Rattle.std.proofs.lemmas.List.Elements.{All-from_recursion, filter-append}
-use Rattle.std.proofs.lemmas.List.Folds.{flat_map-map, list_any-append}
+use Rattle.std.proofs.lemmas.List.Folds.{list_any-append}
 use Rattle.std.proofs.lemmas.Option.{same_Some}
+use Rattle.gq_base.proofs.OptionLaws.{or_first, or_second}
 use Rattle.gq_base.specs.Catalogs.{Tables}
 use Rattle.gq_base.specs.Lists.{with_first}
 use Rattle.gq_base.specs.declared.CompareOp.{CompareOp}
@@ -23,7 +24,7 @@ use Rattle.gq_expr.specs.declared.Expr.{Expr}
 use Rattle.gq_expr.specs.declared.Expr.TheVariants as expr
 use Rattle.gq_expr.specs.declared.Kinds.{Kinds}
 use Rattle.gq_plan.proofs.Each.{each_of, each_then, each_map, each_append, each_kept}
-use Rattle.gq_plan.specs.Reads.{Read, reads, is_property, property, properties, distinct, same_read}
+use Rattle.gq_plan.specs.Reads.{Read, properties_of, reads, is_property, property, properties, distinct, same_read}
 use Rattle.gq_plan.specs.Soundness.{max_variables, max_reads, IsSound, HasVariable, kinds_for, kinds_of, test_reads}
 use Rattle.gq_plan.specs.declared.Bound.{Bound}
 use Rattle.gq_plan.specs.declared.NamedExpr.{NamedExpr}
@@ -31,6 +32,7 @@ use Rattle.gq_plan.specs.declared.Typed.{Typed}
 use Rattle.gq_syntax.specs.declared.Ast.{Ast}
 use Rattle.gq_syntax.specs.declared.Clause.{Clause}
 use Rattle.gq_syntax.specs.declared.Query.{Query}
+use Rattle.gq_wide.specs.Placed.{IsPlaced}
 use Rattle.gq_alternatives.proofs.Shapes.{each_left, each_right}
 use Rattle.gq_alternatives.proofs.ShapesOfPatterns.{Grows, grows_same, grows_then, clauses_grow, IsShaped, ends_of, pattern_shaped}
 use Rattle.gq_trees.proofs.ConditionReads.{IsRead, conjuncts_read}
@@ -45,15 +47,18 @@ use Rattle.gq_syntax.specs.declared.Path.{Path}
 use Rattle.gq_trees.specs.Conjuncts.{conjunct_expr, is_value, values_of}
 use Rattle.gq_trees.specs.Places.{strays}
 use Rattle.gq_scopes.specs.Patterns.{Name, MapEntry, Pattern, no_pattern, pattern_of, with_paths, with_clauses}
-use Rattle.gq_trees.specs.Resolving.{Conjunct, functions, all_some, resolved, split}
+use Rattle.gq_trees.specs.Resolving.{Conjunct, functions, all_some, split}
 use Rattle.gq_scopes.specs.Scopes.{Scope, scope_of}
 use Rattle.gq_scopes.specs.steps.Variables.{IsThere}
 use Rattle.gq_lexer.specs.Sources.{source_text}
-use Rattle.gq_binder.proofs.Patterns.{names_counted}
+use Rattle.gq_binder.proofs.PartLemmas.{known_conjuncts_append}
+use Rattle.gq_binder.proofs.Patterns.{entries_begin, nodes_grow, whole_counted, whole_rels_counted}
+use Rattle.gq_binder.proofs.RefusalLemmas.{first_append}
 use Rattle.gq_binder.specs.Binding.{IsBound}
-use Rattle.gq_binder.specs.Columns.{Scoped, scoped_in, conditions_from, conditions, conjuncts, property_of, entry_expr, entry_test, Resolves, HasAlternatives}
-use Rattle.gq_binder.specs.steps.Parts.{named_part, reads_in}
-use Rattle.gq_binder.specs.Refusals.{first_of_all, over_limit, all_reads, known_reads, first_refusal, checks_of, nodes_in, path_reads, paths_of, reads_alone, rels_in, seen, sort_trees, items_in, too_many_alternatives, exists_place}
+use Rattle.gq_binder.specs.Columns.{Scoped, scoped_in, conditions_from, conditions, conjuncts, optional_conditions, property_of, entry_expr, entry_test, whole_pattern, Resolves, HasAlternatives}
+use Rattle.gq_binder.specs.Optionals.{AreOptional, optional_conjuncts}
+use Rattle.gq_binder.specs.steps.Parts.{clause_reads, clauses_parts, known_conjuncts, named_part, reads_in}
+use Rattle.gq_binder.specs.Refusals.{first_of_all, over_limit, all_reads, known_reads, first_refusal, checks_of, each_alone, maps_alone, nodes_in, others, path_reads, paths_of, reads_alone, rels_in, seen, too_many_alternatives, exists_place}
 use Rattle.gq_binder.specs.Tested.{IsTested, ScopedTest, SharedTest, scoped_tests, seen_elsewhere, seen_in, shared_test, stray_test, tests}
 use Rattle.gq_binder.specs.declared.refusal.BindRefusal.{BindRefusal}
 use Rattle.gq_binder.specs.declared.refusal.BindRefusal.TheVariants as refusal
@@ -65,7 +70,7 @@ each_none [] e = tt
 each_none (None ∷ os) e = (refl, each_none os e)
 each_none (Some x ∷ os) e = cc e
 
-within_limit : (limit number : ℕ) (refused : BindRefusal) → over_limit limit number refused ≡ None → number ≤ limit
+pub within_limit : (limit number : ℕ) (refused : BindRefusal) → over_limit limit number refused ≡ None → number ≤ limit
 within_limit limit number refused e = go (nat_lt limit number) refl e
   where
     go : (b : Bool) → nat_lt limit number ≡ b → (if b then Some refused else None) ≡ None → number ≤ limit
@@ -73,20 +78,26 @@ within_limit limit number refused e = go (nat_lt limit number) refl e
     go false is e = ltb-false limit number is
 
 -- what the numbers of an accepted query are
-record IsSmall (query : Query) (text : List ℕ) : Type 0 where
-  nodes : length (pattern_of query.clauses).nodes + nodes_in (paths_of (seen text query)) ≤ max_variables
-  rels : length (pattern_of query.clauses).rels + rels_in (paths_of (seen text query)) ≤ max_variables
-  reads : length (distinct (all_reads query ++ path_reads (length (pattern_of query.clauses).names) (length (pattern_of query.clauses).rels) (seen text query))) ≤ max_reads
-  alone : first_of_all (map reads_alone (seen text query)) ≡ None
+pub record IsSmall (query : Query) (text : List ℕ) : Type 0 where
+  pub nodes : length (whole_pattern query).nodes + nodes_in (paths_of (seen text query)) ≤ max_variables
+  pub rels : length (whole_pattern query).rels + rels_in (paths_of (seen text query)) ≤ max_variables
+  pub reads : length (distinct (all_reads query ++ path_reads (length (whole_pattern query).names) (length (whole_pattern query).rels) (seen text query))) ≤ max_reads
+  pub clauses : first_of_all (map maps_alone (each_alone query)) ≡ None
+  pub alone : first_of_all (map reads_alone (seen text query)) ≡ None
 
-first_none : (o : Option BindRefusal) (os : List (Option BindRefusal)) → first_of_all (o ∷ os) ≡ None → (o ≡ None) × (first_of_all os ≡ None)
+pub first_none : (o : Option BindRefusal) (os : List (Option BindRefusal)) → first_of_all (o ∷ os) ≡ None → (o ≡ None) × (first_of_all os ≡ None)
 first_none None os e = (refl, e)
 first_none (Some x) os e = cc e
 
-accepted_small : (query : Query) (text : List ℕ) (catalog : Tables) → first_refusal query text catalog ≡ None → IsSmall query text
+both_none : (xs ys : List (Option BindRefusal)) → first_of_all (xs ++ ys) ≡ None → (first_of_all xs ≡ None) × (first_of_all ys ≡ None)
+both_none xs ys e =
+    let parted : option_or (first_of_all xs) (first_of_all ys) ≡ None = sym (first_append xs ys) ∙ e in
+    (or_first (first_of_all xs) (first_of_all ys) parted, or_second (first_of_all xs) (first_of_all ys) parted)
+
+pub accepted_small : (query : Query) (text : List ℕ) (catalog : Tables) → first_refusal query text catalog ≡ None → IsSmall query text
 unfolding first_refusal
 accepted_small query text catalog accepted =
-    let p : Pattern = pattern_of query.clauses in
+    let p : Pattern = whole_pattern query in
     let ts : List SharedTest = seen text query in
     let nodes : ℕ = length p.nodes + nodes_in (paths_of ts) in
     let rels : ℕ = length p.rels + rels_in (paths_of ts) in
@@ -94,12 +105,14 @@ accepted_small query text catalog accepted =
     let checks = each_none (checks_of query text ++ too_many_alternatives text query catalog ∷ exists_place (seen text query) ∷ []) accepted in
     let patterns =
     each_none (over_limit max_variables nodes refusal.TooManyPatterns ∷ over_limit max_variables rels refusal.TooManyPatterns ∷ []) checks.1.1.1.1.1.1.1.1.1.1.1.1.0 in
-    let read = first_none (over_limit max_reads all refusal.TooManyReads) (map reads_alone ts) checks.1.1.1.1.1.1.1.1.1.1.1.1.1.0 in
+    let read = first_none (over_limit max_reads all refusal.TooManyReads) (map maps_alone (each_alone query) ++ map reads_alone ts) checks.1.1.1.1.1.1.1.1.1.1.1.1.1.0 in
+    let own = both_none (map maps_alone (each_alone query)) (map reads_alone ts) read.1 in
     record {
       nodes = within_limit max_variables nodes refusal.TooManyPatterns patterns.0;
       rels = within_limit max_variables rels refusal.TooManyPatterns patterns.1.0;
       reads = within_limit max_reads all refusal.TooManyReads read.0;
-      alone = read.1;
+      clauses = own.0;
+      alone = own.1;
     }
 
 -- ---- conditions stand in scopes of patterns so far
@@ -219,11 +232,33 @@ entries_listed : (text : List ℕ) (es : List MapEntry) → reads_in (map (entry
 entries_listed text [] = refl
 entries_listed text (e ∷ es) = ap₂ ◌++◌ (ap properties (entry_reads e)) (entries_listed text es)
 
-pub reads_listed : (query : Query) (text : List ℕ) (es : List NamedExpr) → all_some (values_of text (conjuncts query)) ≡ Some es
-    → reads_in (map (entry_test text) (pattern_of query.clauses).entries) ++ reads_in es ≡ all_reads query
+-- what the expressions of conjuncts read is what their conjuncts of values read
+listed_reads : (text : List ℕ) (cs : List Conjunct) (es : List NamedExpr) → all_some (values_of text cs) ≡ Some es
+    → reads_in es ≡ properties (flat_map (λ c. known_reads c.expr) (filter is_value cs))
+listed_reads text cs es e = sym (properties_listed es) ∙ ap properties (values_read text (filter is_value cs) es e)
+
+-- what the conjuncts of clauses read, clause by clause
+reads_more : (xs ys : List NamedExpr) → reads_in (xs ++ ys) ≡ reads_in xs ++ reads_in ys
+reads_more xs ys = flat_map-append (λ e. properties_of e.expr) xs ys
+
+clauses_listed : (text : List ℕ) (number : ℕ) (p : Pattern) (cs : List Clause)
+    → clause_reads (clauses_parts text number p cs) ≡ reads_in (known_conjuncts text (conditions_from number p cs))
+clauses_listed text number p [] = refl
+clauses_listed text number p (c ∷ cs) =
+    let q : Pattern = with_paths number c.paths p in
+    let own : List Scoped = scoped_in (scope_of q) c.filter in
+    let rest : List Scoped = conditions_from (suc number) q cs in
+    ap (λ l. reads_in (known_conjuncts text own) ++ l) (clauses_listed text (suc number) q cs)
+    ∙ sym (reads_more (known_conjuncts text own) (known_conjuncts text rest))
+    ∙ ap reads_in (sym (known_conjuncts_append text own rest))
+
+pub reads_listed : (query : Query) (text : List ℕ) (es os : List NamedExpr) → all_some (values_of text (conjuncts query)) ≡ Some es
+    → all_some (values_of text (optional_conjuncts query)) ≡ Some os → known_conjuncts text (optional_conditions query) ≡ os
+    → map entry_read (whole_pattern query).entries ++ (reads_in es ++ clause_reads (clauses_parts text (length query.clauses) (pattern_of query.clauses) query.optionals)) ≡ all_reads query
 unfolding all_reads
-reads_listed query text es e =
-    ap₂ ◌++◌ (entries_listed text (pattern_of query.clauses).entries) (sym (properties_listed es) ∙ ap properties (conjuncts_known query text es e).same)
+reads_listed query text es os e d is =
+    ap₂ (λ a b. map entry_read (whole_pattern query).entries ++ (a ++ b)) (listed_reads text (conjuncts query) es e)
+    (clauses_listed text (length query.clauses) (pattern_of query.clauses) query.optionals ∙ ap reads_in is ∙ listed_reads text (optional_conjuncts query) os d)
 
 property_safe : (kinds : Kinds) (v : Variable) (name : Name) → (may kinds (property_of v name)).faults ≡ false
 property_safe kinds (node v) name = ap (λ m. m.faults) (may_NodeProperty kinds v name)
@@ -254,6 +289,19 @@ among_more rs ss more h =
     each_then (λ r. is_among ss r ≡ true) (λ r. is_among (ss ++ more) r ≡ true)
     (λ r k. list_any-append (same_read r) ss more ∙ or_left (is_among ss r) (is_among more r) k) rs h
 
+-- what is among some is among these with others between and behind them
+among_wider : (bs ms cs ds : List Read) (r : Read) → is_among (bs ++ cs) r ≡ true → is_among ((bs ++ ms) ++ (cs ++ ds)) r ≡ true
+among_wider bs ms cs ds r h =
+    list_any-append (same_read r) (bs ++ ms) (cs ++ ds)
+    ∙ ap₂ ◌||◌ (list_any-append (same_read r) bs ms) (list_any-append (same_read r) cs ds)
+    ∙ go (is_among bs r) (is_among ms r) (is_among cs r) (is_among ds r) (sym (list_any-append (same_read r) bs cs) ∙ h)
+  where
+    go : (a m c d : Bool) → (a || c) ≡ true → ((a || m) || (c || d)) ≡ true
+    go true m c d e = refl
+    go false true c d e = refl
+    go false false true d e = refl
+    go false false false d e = cc e
+
 module _ (catalog : Tables) (query : Query) (text : List ℕ) (es : List NamedExpr) (known : ReadsConditions query es) (c : Choice) where
   abbrev p : Pattern
   p = pattern_of query.clauses
@@ -279,12 +327,21 @@ module _ (catalog : Tables) (query : Query) (text : List ℕ) (es : List NamedEx
       (subst (λ m. AllByRecursion (λ e. IsThere (length p.names) m e.variable) p.entries) (length-map p.rels ends_of) shaped.shape.there))
       (each_some (λ r. IsThere (length p.names) (length p.rels) r.variable) named_reads stays_test es known.there))
 
+  own_among : AllAmong (properties (test_reads y)) (map entry_read p.entries ++ properties (flat_map (λ c. known_reads c.expr) (filter is_value (conjuncts query))))
+  own_among =
+      subst (λ rs. AllAmong (properties rs) (map entry_read p.entries ++ properties (flat_map (λ c. known_reads c.expr) (filter is_value (conjuncts query))))) (sym tests_read)
+      (subst (λ rs. AllAmong (properties (map entry_read p.entries ++ flat_map named_reads (filter stays_test es))) (map entry_read p.entries ++ properties rs)) known.same
+      (properties_among (map entry_read p.entries) (flat_map named_reads (filter stays_test es)) (flat_map named_reads es) (some_among named_reads stays_test es)))
+
   reads_among : AllAmong (properties (test_reads y)) (all_reads query)
   unfolding all_reads
   reads_among =
-      subst (λ rs. AllAmong (properties rs) (all_reads query)) (sym tests_read)
-      (subst (λ rs. AllAmong (properties (map entry_read p.entries ++ flat_map named_reads (filter stays_test es))) (map entry_read p.entries ++ properties rs)) known.same
-      (properties_among (map entry_read p.entries) (flat_map named_reads (filter stays_test es)) (flat_map named_reads es) (some_among named_reads stays_test es)))
+      let conditions : List Read = properties (flat_map (λ c. known_reads c.expr) (filter is_value (conjuncts query))) in
+      let more = entries_begin (length query.clauses) query.optionals p in
+      subst (λ es. AllAmong (properties (test_reads y)) (map entry_read es ++ (conditions ++ properties (flat_map (λ c. known_reads c.expr) (filter is_value (optional_conjuncts query)))))) (sym more.1)
+      (subst (λ rs. AllAmong (properties (test_reads y)) (rs ++ (conditions ++ properties (flat_map (λ c. known_reads c.expr) (filter is_value (optional_conjuncts query)))))) (sym (map-append entry_read p.entries more.0))
+      (each_then (λ r. is_among (map entry_read p.entries ++ conditions) r ≡ true) _
+      (λ r. among_wider (map entry_read p.entries) (map entry_read more.0) conditions (properties (flat_map (λ c. known_reads c.expr) (filter is_value (optional_conjuncts query)))) r) (properties (test_reads y)) own_among))
 
   tests_safe : AllByRecursion (λ t. can_fault (kinds_of catalog y) t.expr ≡ false) y.tests
   unfolding typed_of
@@ -300,29 +357,28 @@ module _ (catalog : Tables) (query : Query) (text : List ℕ) (es : List NamedEx
       let shaped : IsShaped p = pattern_shaped query.clauses in
       let nodes : length p.names ≡ length c.tables = sym h.0.table_count in
       let rels : length p.rels ≡ length (typed_rels p.rels c.readings) = sym (typed_count p.rels c.readings h.0.reading_count) in
-      let more : List Read = path_reads (length p.names) (length p.rels) (seen text query) in
+      let more : List Read = path_reads (length (whole_pattern query).names) (length (whole_pattern query).rels) (seen text query) in
       let fewer : length (distinct (properties (test_reads y))) ≤ length (distinct (all_reads query ++ more)) =
       distinct_fewer (properties (test_reads y)) (all_reads query ++ more) (among_more (properties (test_reads y)) (all_reads query) more reads_among) in
       let few : length (distinct (all_reads query ++ more)) ≤ max_reads = small.reads in
-      let few_nodes : length p.nodes + nodes_in (paths_of (seen text query)) ≤ max_variables = small.nodes in
-      let few_rels : length p.rels + rels_in (paths_of (seen text query)) ≤ max_variables = small.rels in
+      let few_nodes : length (whole_pattern query).nodes + nodes_in (paths_of (seen text query)) ≤ max_variables = small.nodes in
+      let few_rels : length (whole_pattern query).rels + rels_in (paths_of (seen text query)) ≤ max_variables = small.rels in
+      let more_nodes : length p.nodes ≤ length (whole_pattern query).nodes = nodes_grow (length query.clauses) query.optionals p in
+      let more_rels : length p.rels ≤ length (whole_pattern query).rels = (clauses_grow (length query.clauses) query.optionals p).rels in
       pattern_sound catalog p (map (entry_test text) p.entries) es c shaped (omega arith) (omega arith) h.0 h.1
       (All-from_recursion (λ r. HasVariable y r.variable) (test_reads y)
       (each_then (λ r. IsThere (length p.names) (length p.rels) r.variable) (λ r. HasVariable y r.variable) (λ r there. has_variable y (length p.names) (length p.rels) r.variable nodes rels there) (test_reads y) (names_there shaped)))
       (omega arith)
       (All-from_recursion (λ t. can_fault (kinds_of catalog y) t.expr ≡ false) y.tests tests_safe)
 
--- ---- the alternatives of a path by itself
+-- ---- the alternatives of patterns by themselves
 
-module _ (catalog : Tables) (text : List ℕ) (path : Path) where
-  abbrev own : Pattern
-  own = path_pattern path
-
+module _ (catalog : Tables) (text : List ℕ) (own : Pattern) (shaped : IsShaped own) where
   abbrev entries : List NamedExpr
-  entries = map (entry_test text) (path_pattern path).entries
+  entries = map (entry_test text) own.entries
 
-  abbrev made : Choice → Typed
-  made c = typed_of catalog (path_pattern path) (map (entry_test text) (path_pattern path).entries) [] c
+  abbrev pub made : Choice → Typed
+  made c = typed_of catalog own (map (entry_test text) own.entries) [] c
 
   own_tests : (c : Choice) → (made c).tests ≡ entries
   unfolding typed_of
@@ -336,21 +392,17 @@ module _ (catalog : Tables) (text : List ℕ) (path : Path) where
   unfolding named_reads
   own_properties c = ap (λ ts. properties (flat_map named_reads ts)) (own_tests c) ∙ properties_listed entries ∙ entries_listed text own.entries
 
-  own_sound : suc (length path.hops) ≤ max_variables → length path.hops ≤ max_variables → length (distinct (map entry_read own.entries)) ≤ max_reads
+  own_sound : length own.nodes ≤ max_variables → length own.rels ≤ max_variables → length (distinct (map entry_read own.entries)) ≤ max_reads
       → (c : Choice) → IsChoice catalog (length own.names) (length own.rels) c × (agrees catalog own c ≡ true) → IsSound catalog (made c)
   unfolding typed_of
   own_sound few_nodes few_rels few c h =
-      let shaped : IsShaped own = path_pattern_shaped path in
-      let counted : IsCounted path own = path_pattern_counted path in
-      let many_nodes : length own.nodes ≡ suc (length path.hops) = counted.nodes in
-      let many_rels : length own.rels ≡ length path.hops = counted.rels in
       let nodes : length own.names ≡ length c.tables = sym h.0.table_count in
       let rels : length own.rels ≡ length (typed_rels own.rels c.readings) = sym (typed_count own.rels c.readings h.0.reading_count) in
       let there : AllThere (length own.names) (length own.rels) (map entry_read own.entries) =
       each_map (λ e. IsThere (length own.names) (length own.rels) e.variable) (λ r. IsThere (length own.names) (length own.rels) r.variable) entry_read (λ e h. h) own.entries
       (subst (λ m. AllByRecursion (λ e. IsThere (length own.names) m e.variable) own.entries) (length-map own.rels ends_of) shaped.shape.there) in
       let kinds : Kinds = kinds_of catalog (made c) in
-      pattern_sound catalog own entries [] c shaped (omega arith) (omega arith) h.0 h.1
+      pattern_sound catalog own entries [] c shaped few_nodes few_rels h.0 h.1
       (All-from_recursion (λ r. HasVariable (made c) r.variable) (test_reads (made c))
       (subst (AllByRecursion (λ r. HasVariable (made c) r.variable)) (sym (own_reads c))
       (each_then (λ r. IsThere (length own.names) (length own.rels) r.variable) (λ r. HasVariable (made c) r.variable) (λ r k. has_variable (made c) (length own.names) (length own.rels) r.variable nodes rels k)
@@ -360,28 +412,51 @@ module _ (catalog : Tables) (text : List ℕ) (path : Path) where
       (subst (AllByRecursion (λ t. can_fault kinds t.expr ≡ false)) (sym (own_tests c))
       (each_map (λ e. Unit {0}) (λ t. can_fault kinds t.expr ≡ false) (entry_test text) (λ e _. entry_safe kinds e) own.entries (each_of (λ e. Unit {0}) (λ e. tt) own.entries))))
 
-  pub path_sound : suc (length path.hops) ≤ max_variables → length path.hops ≤ max_variables → length (distinct (map entry_read own.entries)) ≤ max_reads
+  pub each_sound : length own.nodes ≤ max_variables → length own.rels ≤ max_variables → length (distinct (map entry_read own.entries)) ≤ max_reads
       → All (IsSound catalog) (map made (pattern_alternatives catalog own))
-  path_sound few_nodes few_rels few =
+  each_sound few_nodes few_rels few =
       All-from_recursion (IsSound catalog) (map made (pattern_alternatives catalog own))
       (each_map (λ c. IsChoice catalog (length own.names) (length own.rels) c × (agrees catalog own c ≡ true)) (IsSound catalog) made (own_sound few_nodes few_rels few)
       (pattern_alternatives catalog own) (each_alternative catalog own))
 
-  each_counted : (P : ℕ → Type 0) → P (length own.names) → All (λ y. P (length y.nodes)) (map made (pattern_alternatives catalog own))
+  -- each has the variables of the patterns
+  pub each_counted : (P : ℕ → Type 0) → P (length own.names) → All (λ y. P (length y.nodes)) (map made (pattern_alternatives catalog own))
   unfolding typed_of
   each_counted P h =
       All-from_recursion (λ (y : Typed). P (length y.nodes)) (map made (pattern_alternatives catalog own))
       (each_map (λ c. IsChoice catalog (length own.names) (length own.rels) c × (agrees catalog own c ≡ true)) (λ (y : Typed). P (length y.nodes)) made (λ c k. subst P (sym k.0.table_count) h)
       (pattern_alternatives catalog own) (each_alternative catalog own))
 
-  pub path_nodes : All (λ y. 0 < length y.nodes) (map made (pattern_alternatives catalog own))
-  path_nodes = each_counted (λ n. 0 < n) (path_pattern_named path).one
+  pub each_related : (P : ℕ → Type 0) → P (length own.rels) → All (λ y. P (length y.rels)) (map made (pattern_alternatives catalog own))
+  unfolding typed_of
+  each_related P h =
+      All-from_recursion (λ (y : Typed). P (length y.rels)) (map made (pattern_alternatives catalog own))
+      (each_map (λ c. IsChoice catalog (length own.names) (length own.rels) c × (agrees catalog own c ≡ true)) (λ (y : Typed). P (length y.rels)) made
+      (λ c k. subst P (sym (typed_count own.rels c.readings k.0.reading_count)) h)
+      (pattern_alternatives catalog own) (each_alternative catalog own))
 
-  pub path_wide : (ns : List ℕ) → length ns ≤ length (shared_names path) → All (λ y. length ns ≤ length y.nodes) (map made (pattern_alternatives catalog own))
+-- ---- the alternatives of a path by itself
+
+module _ (catalog : Tables) (text : List ℕ) (path : Path) where
+  abbrev path_made : Choice → Typed
+  path_made c = typed_of catalog (path_pattern path) (map (entry_test text) (path_pattern path).entries) [] c
+
+  pub path_sound : suc (length path.hops) ≤ max_variables → length path.hops ≤ max_variables → length (distinct (map entry_read (path_pattern path).entries)) ≤ max_reads
+      → All (IsSound catalog) (map path_made (pattern_alternatives catalog (path_pattern path)))
+  path_sound few_nodes few_rels few =
+      let counted : IsCounted path (path_pattern path) = path_pattern_counted path in
+      let many_nodes : length (path_pattern path).nodes ≡ suc (length path.hops) = counted.nodes in
+      let many_rels : length (path_pattern path).rels ≡ length path.hops = counted.rels in
+      each_sound catalog text (path_pattern path) (path_pattern_shaped path) (omega arith) (omega arith) few
+
+  pub path_nodes : All (λ y. 0 < length y.nodes) (map path_made (pattern_alternatives catalog (path_pattern path)))
+  path_nodes = each_counted catalog text (path_pattern path) (path_pattern_shaped path) (λ n. 0 < n) (path_pattern_named path).one
+
+  pub path_wide : (ns : List ℕ) → length ns ≤ length (shared_names path) → All (λ y. length ns ≤ length y.nodes) (map path_made (pattern_alternatives catalog (path_pattern path)))
   path_wide ns few =
       let named : HasVariables path (path_pattern path) = path_pattern_named path in
       let shared : length (shared_names path) ≤ length (path_pattern path).names = named.shared in
-      each_counted (λ n. length ns ≤ n) (omega (arith, few, shared))
+      each_counted catalog text (path_pattern path) (path_pattern_shaped path) (λ n. length ns ≤ n) (omega (arith, few, shared))
 
 -- each test of an accepted query is small
 abbrev IsSmallTest : SharedTest → Type 0
@@ -415,14 +490,14 @@ all_small : (query : Query) (text : List ℕ) → AllByRecursion IsSmallTest (se
 unfolding seen tests
 all_small query text h =
     conditions_small text (conditions query)
-    (each_left IsSmallTest (flat_map (seen_in text) (conditions query)) (flat_map seen_elsewhere (items_in (scope_of (pattern_of query.clauses)) query.items ++ sort_trees text query)) h)
+    (each_left IsSmallTest (flat_map (seen_in text) (conditions query)) (flat_map seen_elsewhere (others text query)) h)
 
 pub tests_sound : (query : Query) (text : List ℕ) (catalog : Tables) → first_refusal query text catalog ≡ None
     → AllByRecursion (λ t. All (IsSound catalog) (named_part text catalog (shared_test t) t.name).alternatives) (tests text query)
 tests_sound query text catalog accepted =
     let small : IsSmall query text = accepted_small query text catalog accepted in
     each_then (λ t. IsSmallTest (shared_test t)) (λ t. All (IsSound catalog) (named_part text catalog (shared_test t) t.name).alternatives) (λ t h. path_sound catalog text t.test.path h.0 h.1.0 h.1.1) (tests text query)
-    (all_small query text (each_small (seen text query) (length (pattern_of query.clauses).nodes) (length (pattern_of query.clauses).rels) small.nodes small.rels small.alone))
+    (all_small query text (each_small (seen text query) (length (whole_pattern query).nodes) (length (whole_pattern query).rels) small.nodes small.rels small.alone))
 
 -- the alternatives of a bound query are sound
 pub alternatives_sound : (query : Query) (text : List ℕ) (catalog : Tables) (bound : Bound) → first_refusal query text catalog ≡ None → Resolves query text bound → HasAlternatives query text catalog bound
@@ -436,30 +511,51 @@ alternatives_sound query text catalog bound accepted resolves has =
     (λ c h. choice_sound catalog query text bound.conjuncts (conjuncts_known query text bound.conjuncts resolves.conjuncts) c (accepted_small query text catalog accepted) h)
     (alternatives query catalog) (each_alternative catalog p)))
 
--- and have as many nodes as the query has node variables
-nodes_counted : (query : Query) (text : List ℕ) (catalog : Tables) (bound : Bound) → Resolves query text bound → HasAlternatives query text catalog bound
-    → All (λ y. length y.nodes ≡ length bound.node_names) bound.alternatives
-unfolding typed_of
-nodes_counted query text catalog bound resolves has =
-    let p : Pattern = pattern_of query.clauses in
-    let make : Choice → Typed = typed_of catalog p (map (entry_test text) p.entries) bound.conjuncts in
-    let Counted : Typed → Type 0 = λ y. length y.nodes ≡ length bound.node_names in
-    let names : length p.names ≡ length bound.node_names = sym (names_counted query.clauses) ∙ ap length (sym resolves.node_names) in
-    subst (All Counted) (sym has)
-    (All-from_recursion Counted (map make (alternatives query catalog))
-    (each_map (λ c. IsChoice catalog (length p.names) (length p.rels) c × (agrees catalog p c ≡ true)) Counted make (λ c h. h.0.table_count ∙ names) (alternatives query catalog) (each_alternative catalog p)))
+-- and have the variables of the MATCH clauses
+module _ (query : Query) (text : List ℕ) (catalog : Tables) (bound : Bound) (has : HasAlternatives query text catalog bound) where
+  abbrev matched : Pattern
+  matched = pattern_of query.clauses
 
--- so a query that no check refuses, with its names resolved and its alternatives, is bound
+  abbrev match_made : Choice → Typed
+  match_made c = typed_of catalog (pattern_of query.clauses) (map (entry_test text) (pattern_of query.clauses).entries) bound.conjuncts c
+
+  nodes_counted : All (λ y. length y.nodes ≡ length matched.names) bound.alternatives
+  unfolding typed_of
+  nodes_counted =
+      subst (All (λ y. length y.nodes ≡ length matched.names)) (sym has)
+      (All-from_recursion (λ (y : Typed). length y.nodes ≡ length matched.names) (map match_made (alternatives query catalog))
+      (each_map (λ c. IsChoice catalog (length matched.names) (length matched.rels) c × (agrees catalog matched c ≡ true)) (λ (y : Typed). length y.nodes ≡ length matched.names) match_made
+      (λ c h. h.0.table_count) (alternatives query catalog) (each_alternative catalog matched)))
+
+  rels_counted : All (λ y. length y.rels ≡ length matched.rels) bound.alternatives
+  unfolding typed_of
+  rels_counted =
+      subst (All (λ y. length y.rels ≡ length matched.rels)) (sym has)
+      (All-from_recursion (λ (y : Typed). length y.rels ≡ length matched.rels) (map match_made (alternatives query catalog))
+      (each_map (λ c. IsChoice catalog (length matched.names) (length matched.rels) c × (agrees catalog matched c ≡ true)) (λ (y : Typed). length y.rels ≡ length matched.rels) match_made
+      (λ c h. typed_count matched.rels c.readings h.0.reading_count) (alternatives query catalog) (each_alternative catalog matched)))
+
+-- so a query that no check refuses, with its names resolved, its alternatives and its clauses, is bound
 pub is_bound : (query : Query) (text : List ℕ) (catalog : Tables) (bound : Bound) → first_refusal query text catalog ≡ None → Resolves query text bound → HasAlternatives query text catalog bound
-    → AllZip (IsTested text catalog) (tests text query) bound.patterns → bound.optionals ≡ [] → 0 < length (pattern_of query.clauses).node_names
+    → AllZip (IsTested text catalog) (tests text query) bound.patterns
+    → AreOptional text catalog (length query.clauses) (pattern_of query.clauses) query.optionals bound.optionals
+    → All (IsPlaced (length (whole_pattern query).names) (length (whole_pattern query).rels) catalog) bound.optionals → 0 < length (pattern_of query.clauses).names
     → IsBound query text catalog bound
-is_bound query text catalog bound accepted resolves has tested plain begins = record {
-  accepted = accepted;
-  resolves = resolves;
-  alternatives = has;
-  tested = tested;
-  optionals = plain;
-  sound = alternatives_sound query text catalog bound accepted resolves has;
-  has_node = subst (λ names. 0 < length names) (sym resolves.node_names) begins;
-  node_counts = nodes_counted query text catalog bound resolves has;
-}
+is_bound query text catalog bound accepted resolves has tested optionals placed begins =
+    let nodes : length (whole_pattern query).names ≡ length bound.node_names = sym (whole_counted query) ∙ ap length (sym resolves.node_names) in
+    let rels : length (whole_pattern query).rels ≡ length bound.rel_names = sym (whole_rels_counted query) ∙ ap length (sym resolves.rel_names) in
+    let grown : Grows (pattern_of query.clauses) (whole_pattern query) = clauses_grow (length query.clauses) query.optionals (pattern_of query.clauses) in
+    record {
+      accepted = accepted;
+      resolves = resolves;
+      alternatives = has;
+      tested = tested;
+      optionals = optionals;
+      placed = subst (λ n. All (IsPlaced n (length bound.rel_names) catalog) bound.optionals) nodes (subst (λ m. All (IsPlaced (length (whole_pattern query).names) m catalog) bound.optionals) rels placed);
+      sound = alternatives_sound query text catalog bound accepted resolves has;
+      has_node = begins;
+      node_counts = nodes_counted query text catalog bound has;
+      rel_counts = rels_counted query text catalog bound has;
+      node_width = subst (λ n. length (pattern_of query.clauses).names ≤ n) nodes grown.names;
+      rel_width = subst (λ n. length (pattern_of query.clauses).rels ≤ n) rels grown.rels;
+    }

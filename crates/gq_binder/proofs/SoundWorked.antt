@@ -1,5 +1,6 @@
 -- A small query that is bound, by computation and the law that its alternatives are sound.
 use Rattle.std.proofs.Common.{◌≡◌, refl, ℕ, true, false, Some, None, List, [], ◌∷◌, ◌++◌, codes, pos, arith}
+use Rattle.std.proofs.lemmas.List.Elements.{All-nil}
 use Rattle.gq_base.specs.Catalogs.{Tables}
 use Rattle.gq_base.specs.declared.CompareOp.TheVariants as compare
 use Rattle.gq_base.specs.declared.Kind.TheVariants as kind
@@ -14,6 +15,7 @@ use Rattle.gq_alternatives.specs.Alternatives.{choices, pattern_alternatives, ty
 use Rattle.gq_binder.proofs.SoundAlternatives.{is_bound}
 use Rattle.gq_binder.specs.Binding.{IsBound}
 use Rattle.gq_binder.specs.Columns.{conjuncts, columns_in}
+use Rattle.gq_binder.specs.Optionals.{optional_conjuncts}
 use Rattle.gq_binder.specs.Refusals.{expressions, all_reads, first_refusal, seen}
 use Rattle.gq_binder.specs.Tested.{tests}
 use Rattle.gq_scopes.specs.Patterns.{pattern_of}
@@ -80,7 +82,7 @@ bound = record {
 }
 
 accepted : first_refusal query text catalog ≡ None
-unfolding first_refusal expressions all_reads columns_in pattern_of pattern_alternatives choices tuples conjuncts seen
+unfolding first_refusal expressions all_reads columns_in pattern_of pattern_alternatives choices tuples conjuncts optional_conjuncts seen
 accepted = refl
 
 is_bound_so : IsBound query text catalog bound
@@ -88,4 +90,4 @@ unfolding conjuncts columns_in pattern_of pattern_alternatives choices tuples ty
 is_bound_so =
     is_bound query text catalog bound accepted
     (record { node_names = refl; rel_names = refl; columns = refl; conjuncts = refl; keys = refl; distinct = refl; skip = refl; limit = refl })
-    refl tt refl (omega arith)
+    refl tt tt (All-nil _) (omega arith)

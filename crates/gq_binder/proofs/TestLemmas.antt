@@ -1,6 +1,6 @@
 -- The tests of paths of an accepted query: they stand in its text, their paths name node variables that they see, and the parts that
 -- they give are theirs.
-use Rattle.std.proofs.Common.{◌≡◌, ◌∙◌, ℕ, suc, ◌≤◌, append-nil, arith, length, true, List, [], ◌∷◌, ◌++◌, map, flat_map, Option, Some, None, All, IfSome, refl, sym, ap, ap₂, subst}
+use Rattle.std.proofs.Common.{◌≡◌, ◌∙◌, ℕ, suc, ◌≤◌, append-nil, arith, length, true, List, [], ◌∷◌, ◌++◌, map, flat_map, Option, Some, None, All, IfSome, refl, sym, ap, ap₂}
 use Rattle.std.specs.Prelude.{filter_map}
 use Rattle.std.specs.List.{AllByRecursion, AllZip, cons_option}
 use Rattle.std.specs.Option.{option_map, option_or}
@@ -14,7 +14,7 @@ use Rattle.gq_plan.specs.declared.ExistsPart.{ExistsPart}
 use Rattle.gq_plan.specs.declared.NamedExpr.{NamedExpr}
 use Rattle.gq_lexer.specs.Sources.{source_text}
 use Rattle.gq_scopes.specs.PathPatterns.{shared_names}
-use Rattle.gq_scopes.specs.Patterns.{Name, Pattern, find_name, no_pattern, pattern_of, with_paths}
+use Rattle.gq_scopes.specs.Patterns.{Name, Pattern, find_name, no_pattern, with_paths}
 use Rattle.gq_scopes.specs.Scopes.{Scope, is_there, scope_of}
 use Rattle.gq_syntax.specs.Spans.{IsWholeTree}
 use Rattle.gq_syntax.specs.steps.Spans.{IsWholeClause, IsWholePath, StandsIn}
@@ -31,7 +31,7 @@ use Rattle.gq_trees.specs.Resolving.{Conjunct, all_some, functions, split}
 use Rattle.gq_trees.specs.Uses.{Use, conflict_in, first_name, of_other_form, unknown_in, unknown_name, uses}
 use Rattle.gq_binder.specs.Columns.{Scoped, conditions, conditions_from, scoped_in}
 use Rattle.gq_binder.proofs.SoundAlternatives.{path_nodes, path_wide}
-use Rattle.gq_binder.specs.Refusals.{items_in, seen, sort_trees}
+use Rattle.gq_binder.specs.Refusals.{others, seen}
 use Rattle.gq_binder.specs.Tested.{IsTested, ScopedTest, SharedTest, scoped_tests, seen_elsewhere, seen_in, shared, shared_test, stray_test, tests}
 use Rattle.gq_binder.specs.steps.Parts.{exists_part, known_seen, known_seen_in, known_tests_of, named_part, shared_in, where_known}
 
@@ -199,7 +199,7 @@ module _ (text : List ℕ) (catalog : Tables) where
   pub parts_given : (query : Query) → parts (seen text query) ≡ map (part_of text catalog) (tests text query)
   unfolding seen tests
   parts_given query =
-      let es : List Scoped = items_in (scope_of (pattern_of query.clauses)) query.items ++ sort_trees text query in
+      let es : List Scoped = others text query in
       filter_map-append (exists_part text catalog) (flat_map (seen_in text) (conditions query)) (flat_map seen_elsewhere es)
       ∙ ap₂ ◌++◌ (conditions_give (conditions query)) (others_give es)
       ∙ append-nil (map (part_of text catalog) (flat_map (scoped_tests text) (conditions query)))

@@ -8,6 +8,7 @@ use Rattle.gq_syntax.specs.declared.NodePart.{NodePart}
 use Rattle.gq_syntax.specs.declared.Query.{Query}
 use Rattle.gq_syntax.specs.declared.RelPart.{RelPart}
 use Rattle.gq_scopes.specs.Patterns.{pattern_of}
+use Rattle.gq_binder.specs.Columns.{whole_pattern}
 use Rattle.gq_binder.specs.Refusals.{not_built, variable_conflict, relationship_repeated, column_repeated, nothing_to_return, too_many_patterns}
 use Rattle.gq_binder.specs.declared.refusal.BindRefusal.{BindRefusal}
 use Rattle.gq_binder.specs.declared.refusal.BindRefusal.TheVariants as refusal
@@ -32,20 +33,27 @@ abbrev star : List Clause → Query
 star clauses = record { clauses = clauses; optionals = []; star = true; items = []; distinct = false; order = []; skip = None; limit = None }
 
 abbrev built : Query → Option BindRefusal
-built query = not_built query (pattern_of query.clauses)
+built query = not_built (whole_pattern query)
 
--- ()-[]->() alone, ()-[:KNOWS*2]->(), and () with OPTIONAL MATCH (b) behind it
+-- ()-[]->() alone, ()-[:KNOWS*2]->(), () with OPTIONAL MATCH (b) behind it, and with OPTIONAL MATCH ()-[:KNOWS*2]->()
 all_built : built (star (one_path unnamed (hop (rel None) unnamed ∷ []))) ≡ None
 unfolding pattern_of
 all_built = refl
 
-trail : built (star (one_path unnamed (hop (record { name = None; kinds = codes "KNOWS" ∷ []; map = []; arrow = arrow.Right; trail = Some (record { low = 2; high = 2 }); at = 0 }) unnamed ∷ []))) ≡ Some refusal.NotBuilt
+abbrev two_known : List Hop
+two_known = hop (record { name = None; kinds = codes "KNOWS" ∷ []; map = []; arrow = arrow.Right; trail = Some (record { low = 2; high = 2 }); at = 0 }) unnamed ∷ []
+
+trail : built (star (one_path unnamed two_known)) ≡ Some refusal.NotBuilt
 unfolding pattern_of
 trail = refl
 
-optional : built (record (star (one_path unnamed [])) { optionals = one_path (node "b") [] }) ≡ Some refusal.NotBuilt
+optional : built (record (star (one_path unnamed [])) { optionals = one_path (node "b") [] }) ≡ None
 unfolding pattern_of
 optional = refl
+
+optional_trail : built (record (star (one_path unnamed [])) { optionals = one_path unnamed two_known }) ≡ Some refusal.NotBuilt
+unfolding pattern_of
+optional_trail = refl
 
 -- (a)-[a]->(b)
 conflict : variable_conflict (pattern_of (one_path (node "a") (hop (rel (Some (codes "a"))) (node "b") ∷ []))) ≡ Some (refusal.VariableConflict (codes "a"))

@@ -1,6 +1,7 @@
 -- What a query lists, tests and sorts by: its columns, conjuncts, keys and map entries, and when a bound query has them
--- (openCypher 9; what a column without AS is called is this project's profile).
-use Rattle.std.specs.Prelude.{◌≡◌, ℕ, suc, Option, Some, None, List, [], ◌∷◌, ◌++◌, map, flat_map, codes, unwrap_or, if◌then◌else◌}
+-- (openCypher 9; what a column without AS is called is this project's profile). Columns and keys see the variables of all
+-- clauses, also of those behind OPTIONAL.
+use Rattle.std.specs.Prelude.{◌≡◌, ℕ, suc, Option, Some, None, List, [], ◌∷◌, ◌++◌, map, flat_map, length, codes, unwrap_or, if◌then◌else◌}
 use Rattle.gq_plan.specs.declared.variable.Variable.TheVariants.{Node as node, Rel as rel}
 use Rattle.gq_plan.specs.declared.variable.Variable.{Variable}
 use Rattle.std.specs.List.{list_any}
@@ -19,11 +20,15 @@ use Rattle.gq_syntax.specs.declared.Query.{Query}
 use Rattle.gq_syntax.specs.declared.Sort.{Sort}
 use Rattle.gq_alternatives.specs.Alternatives.{alternatives, typed_of}
 use Rattle.gq_trees.specs.Conjuncts.{values_of}
-use Rattle.gq_scopes.specs.Patterns.{Name, MapEntry, NamedVariable, Pattern, no_pattern, pattern_of, with_paths, is_same_name}
+use Rattle.gq_scopes.specs.Patterns.{Name, MapEntry, NamedVariable, Pattern, no_pattern, pattern_of, with_clauses, with_paths, is_same_name}
 use Rattle.gq_trees.specs.Resolving.{Calls, Conjunct, functions, resolved, split, all_some}
 use Rattle.gq_scopes.specs.Scopes.{Scope, scope_of}
 use Rattle.gq_lexer.specs.Sources.{source_text}
 use Rattle.gq_scopes.specs.declared.Column.{Column}
+
+-- the patterns of all clauses: those of MATCH, and behind them those of OPTIONAL MATCH
+abbrev pub whole_pattern : Query → Pattern
+whole_pattern query = with_clauses (length query.clauses) query.optionals (pattern_of query.clauses)
 
 -- a tree and what it may name
 pub record Scoped : Type 0 where
@@ -40,10 +45,15 @@ conditions_from number p [] = []
 conditions_from number p (c ∷ cs) =
     scoped_in (scope_of (with_paths number c.paths p)) c.filter ++ conditions_from (suc number) (with_paths number c.paths p) cs
 
+-- those of MATCH clauses
 abbrev pub conditions : Query → List Scoped
 conditions query = conditions_from 0 no_pattern query.clauses
 
--- the conjuncts of all conditions, in text order
+-- those of OPTIONAL MATCH clauses, which stand behind the others
+abbrev pub optional_conditions : Query → List Scoped
+optional_conditions query = conditions_from (length query.clauses) (pattern_of query.clauses) query.optionals
+
+-- the conjuncts of the conditions of MATCH clauses, in text order
 unfoldable pub conjuncts : Query → List Conjunct
 conjuncts query = flat_map (λ c. (split functions c.scope c.tree).conjuncts) (conditions query)
 
@@ -84,11 +94,11 @@ columns_in calls text p query =
 
 -- the columns of a query
 abbrev pub columns : Calls → List ℕ → Query → List Column
-columns calls text query = columns_in calls text (pattern_of query.clauses) query
+columns calls text query = columns_in calls text (whole_pattern query) query
 
 -- what ORDER BY may name: columns, then variables
 abbrev pub sort_scope : Calls → List ℕ → Query → Scope
-sort_scope calls text query = record (scope_of (pattern_of query.clauses)) { columns = columns calls text query }
+sort_scope calls text query = record (scope_of (whole_pattern query)) { columns = columns calls text query }
 
 -- a property of a map entry's variable equals the entry's literal
 abbrev pub entry_expr : MapEntry → Expr
@@ -106,8 +116,8 @@ sort_expr scope s = option_map (λ e. record { expr = e; down = s.down }) (resol
 
 -- a bound query has the names, columns, conjuncts and keys of a query, which stands in a text
 pub record Resolves (query : Query) (text : List ℕ) (bound : Bound) : Type 0 where
-  pub node_names : bound.node_names ≡ (pattern_of query.clauses).node_names
-  pub rel_names : bound.rel_names ≡ (pattern_of query.clauses).rel_names
+  pub node_names : bound.node_names ≡ (whole_pattern query).node_names
+  pub rel_names : bound.rel_names ≡ (whole_pattern query).rel_names
   pub columns : all_some (map column_expr (columns functions text query)) ≡ Some bound.columns
   pub conjuncts : all_some (values_of text (conjuncts query)) ≡ Some bound.conjuncts
   pub keys : all_some (map (sort_expr (sort_scope functions text query)) query.order) ≡ Some bound.keys
@@ -115,7 +125,7 @@ pub record Resolves (query : Query) (text : List ℕ) (bound : Bound) : Type 0 w
   pub skip : bound.skip ≡ unwrap_or query.skip 0
   pub limit : bound.limit ≡ query.limit
 
--- a bound query has the alternatives of a query, with their tests, late conjuncts and pairs
+-- a bound query has the alternatives of a query's MATCH clauses, with their tests, late conjuncts and pairs
 abbrev pub HasAlternatives : Query → List ℕ → Tables → Bound → Type 0
 HasAlternatives query text catalog bound =
     let p : Pattern = pattern_of query.clauses in

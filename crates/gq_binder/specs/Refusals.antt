@@ -1,13 +1,13 @@
 -- Why a query cannot be bound: it has a form that is not built yet, or else the first of fourteen checks that applies,
--- with its first place in the text: in its patterns, and then in the paths of its expressions (this project's profile).
-use Rattle.std.specs.Prelude.{ℕ, suc, nat_eq, nat_lt, Bool, true, false, not, is_some, ◌+◌, slice_get, unwrap_or, ◌&&◌, ◌||◌, Option, Some, None, List, [], ◌∷◌, ◌++◌, map, filter, flat_map, length, if◌then◌else◌}
+-- with its first place in the text: in its patterns, and then in the paths of its expressions (this project's profile). The
+-- checks look at all clauses alike, those behind OPTIONAL too.
+use Rattle.std.specs.Prelude.{ℕ, suc, nat_eq, nat_lt, Bool, true, false, not, is_some, ◌+◌, slice_get, unwrap_or, ◌&&◌, Option, Some, None, List, [], ◌∷◌, ◌++◌, map, filter, flat_map, length, if◌then◌else◌}
 use Rattle.gq_plan.specs.declared.variable.Variable.TheVariants.{Node as node, Rel as rel}
 use Rattle.gq_plan.specs.declared.variable.Variable.{Variable}
 use Rattle.std.specs.List.{list_any}
 use Rattle.std.specs.Option.{option_map, option_or}
 use Rattle.std.specs.Cmp.Lexicographic.{pointwise}
 use Rattle.gq_base.specs.Catalogs.{Tables}
-use Rattle.gq_base.specs.Lists.{is_empty}
 use Rattle.gq_expr.specs.declared.Expr.{Expr}
 use Rattle.gq_plan.specs.Reads.{Read, property, reads, properties, distinct}
 use Rattle.gq_plan.specs.Soundness.{max_variables, max_reads}
@@ -15,11 +15,12 @@ use Rattle.gq_syntax.specs.declared.Item.{Item}
 use Rattle.gq_syntax.specs.declared.Query.{Query}
 use Rattle.gq_syntax.specs.declared.Sort.{Sort}
 use Rattle.gq_alternatives.specs.Alternatives.{alternatives, pattern_alternatives}
-use Rattle.gq_binder.specs.Columns.{Scoped, conditions, conjuncts, columns, sort_scope}
+use Rattle.gq_binder.specs.Columns.{Scoped, conditions, conjuncts, columns, optional_conditions, sort_scope, whole_pattern}
+use Rattle.gq_binder.specs.Optionals.{alone, optional_conjuncts}
 use Rattle.gq_trees.specs.Conjuncts.{is_value}
 use Rattle.gq_trees.specs.MadeOf.{column_exprs, is_made_of}
 use Rattle.gq_trees.specs.Renames.{ambiguous_name}
-use Rattle.gq_scopes.specs.Patterns.{MapEntry, Name, NamedVariable, Pattern, pattern_of, is_same_name}
+use Rattle.gq_scopes.specs.Patterns.{MapEntry, Name, NamedVariable, Pattern, is_same_name}
 use Rattle.gq_binder.specs.Tested.{SharedTest, seen_elsewhere, seen_in}
 use Rattle.gq_scopes.specs.PathPatterns.{path_pattern}
 use Rattle.gq_syntax.specs.declared.Path.{Path}
@@ -46,20 +47,21 @@ sorts_in scope order = map (λ s. record { scope = scope; tree = s.tree }) order
 abbrev pub sort_trees : List ℕ → Query → List Scoped
 sort_trees text query = sorts_in (sort_scope functions text query) query.order
 
+-- those behind the conditions of MATCH clauses: the conditions of OPTIONAL MATCH clauses, the items, and those of ORDER BY
+abbrev pub others : List ℕ → Query → List Scoped
+others text query = optional_conditions query ++ (items_in (scope_of (whole_pattern query)) query.items ++ sort_trees text query)
+
 unfoldable pub expressions : List ℕ → Query → List Scoped
-expressions text query = conditions query ++ (items_in (scope_of (pattern_of query.clauses)) query.items ++ sort_trees text query)
+expressions text query = conditions query ++ others text query
 
 -- ---- forms that are not built yet
 
 abbrev pub has_trail : Pattern → Bool
 has_trail p = list_any (λ r. is_some r.part.trail) p.rels
 
--- a query with these patterns has a form that is spelled and has no bound form yet: a clause behind OPTIONAL, or a trail
-abbrev pub has_form_to_come : Query → Pattern → Bool
-has_form_to_come query p = not (is_empty query.optionals) || has_trail p
-
-abbrev pub not_built : Query → Pattern → Option BindRefusal
-not_built query p = if has_form_to_come query p then Some refusal.NotBuilt else None
+-- patterns have a form that is spelled and has no bound form yet: a trail
+abbrev pub not_built : Pattern → Option BindRefusal
+not_built p = if has_trail p then Some refusal.NotBuilt else None
 
 -- ---- names
 
@@ -141,7 +143,7 @@ order_out_of_scope text query =
 
 abbrev pub ambiguous_order_name : List ℕ → Query → Option BindRefusal
 ambiguous_order_name text query =
-    option_map refusal.AmbiguousOrderName (first_in (λ _. ambiguous_name (scope_of (pattern_of query.clauses)) query.items) (sort_trees text query))
+    option_map refusal.AmbiguousOrderName (first_in (λ _. ambiguous_name (scope_of (whole_pattern query)) query.items) (sort_trees text query))
 
 -- ---- calls
 
@@ -155,9 +157,7 @@ argument_count text query = option_map refusal.ArgumentCount (first_in (λ _. wr
 
 -- those of a query, wherever they stand
 unfoldable pub seen : List ℕ → Query → List SharedTest
-seen text query =
-    flat_map (seen_in text) (conditions query)
-    ++ flat_map seen_elsewhere (items_in (scope_of (pattern_of query.clauses)) query.items ++ sort_trees text query)
+seen text query = flat_map (seen_in text) (conditions query) ++ flat_map seen_elsewhere (others text query)
 
 -- ---- numbers
 
@@ -193,11 +193,12 @@ abbrev pub known_reads : Option Expr → List Read
 known_reads None = []
 known_reads (Some e) = reads e
 
--- what the pattern's maps and the conjuncts of values read
+-- what the maps of all patterns and the conjuncts of values of all conditions read
 unfoldable pub all_reads : Query → List Read
 all_reads query =
-    map (λ e. property e.variable e.entry.key) (pattern_of query.clauses).entries
-    ++ properties (flat_map (λ c. known_reads c.expr) (filter is_value (conjuncts query)))
+    map (λ e. property e.variable e.entry.key) (whole_pattern query).entries
+    ++ (properties (flat_map (λ c. known_reads c.expr) (filter is_value (conjuncts query)))
+    ++ properties (flat_map (λ c. known_reads c.expr) (filter is_value (optional_conjuncts query))))
 
 -- a variable of a path's pattern among those of the query: a shared one is the query's, and the others come behind so many
 abbrev pub placed : List ℕ → ℕ → ℕ → Variable → Variable
@@ -215,22 +216,33 @@ path_reads n m (t ∷ ts) =
     entries_read t.nodes n m (path_pattern t.test.path).entries
     ++ path_reads (n + length (path_pattern t.test.path).names) (m + length (path_pattern t.test.path).rels) ts
 
--- the maps of a path by itself read too much, which is among what all read
-abbrev pub reads_alone : SharedTest → Option BindRefusal
-reads_alone t = over_limit max_reads (length (distinct (map (λ e. property e.variable e.entry.key) (path_pattern t.test.path).entries))) refusal.TooManyReads
+-- the maps of patterns by themselves read too much
+abbrev pub maps_alone : Pattern → Option BindRefusal
+maps_alone p = over_limit max_reads (length (distinct (map (λ e. property e.variable e.entry.key) p.entries))) refusal.TooManyReads
 
--- these, and what the maps of the paths read
-abbrev pub too_many_reads : List Read → Pattern → List SharedTest → Option BindRefusal
-too_many_reads rs p ts =
-    first_of_all (over_limit max_reads (length (distinct (rs ++ path_reads (length p.names) (length p.rels) ts))) refusal.TooManyReads ∷ map reads_alone ts)
+-- so do those of a path
+abbrev pub reads_alone : SharedTest → Option BindRefusal
+reads_alone t = maps_alone (path_pattern t.test.path)
+
+-- the patterns of OPTIONAL MATCH clauses, each by itself
+abbrev pub each_alone : Query → List Pattern
+each_alone query = map alone query.optionals
+
+-- these, and what the maps of the paths read; or the maps of an OPTIONAL MATCH clause or of a path by themselves, which are among
+-- them
+abbrev pub too_many_reads : List Read → Pattern → List SharedTest → List Pattern → Option BindRefusal
+too_many_reads rs p ts clauses =
+    first_of_all
+    (over_limit max_reads (length (distinct (rs ++ path_reads (length p.names) (length p.rels) ts))) refusal.TooManyReads
+    ∷ (map maps_alone clauses ++ map reads_alone ts))
 
 -- whether all its forms are built, and the checks that ask no catalogue, in their order
 abbrev pub checks_of : Query → List ℕ → List (Option BindRefusal)
 checks_of query text =
-    let p : Pattern = pattern_of query.clauses in
+    let p : Pattern = whole_pattern query in
     let cs : List Column = columns functions text query in
     let ts : List SharedTest = seen text query in
-    not_built query p
+    not_built p
     ∷ unknown_variable text query
     ∷ variable_conflict p
     ∷ path_conflict text query
@@ -243,7 +255,7 @@ checks_of query text =
     ∷ function_unknown text query
     ∷ argument_count text query
     ∷ too_many_patterns p (paths_of ts)
-    ∷ too_many_reads (all_reads query) p ts
+    ∷ too_many_reads (all_reads query) p ts (each_alone query)
     ∷ over_limit max_columns (length cs) refusal.TooManyColumns ∷ []
 
 -- how many alternatives the paths have
@@ -251,14 +263,21 @@ abbrev pub alternatives_in : Tables → List Path → ℕ
 alternatives_in catalog [] = 0
 alternatives_in catalog (p ∷ ps) = length (pattern_alternatives catalog (path_pattern p)) + alternatives_in catalog ps
 
--- how many alternatives there are
+-- how many patterns have, each by itself
+abbrev pub alternatives_of : Tables → List Pattern → ℕ
+alternatives_of catalog [] = 0
+alternatives_of catalog (p ∷ ps) = length (pattern_alternatives catalog p) + alternatives_of catalog ps
+
+-- how many alternatives there are: those of the MATCH clauses, of the OPTIONAL MATCH clauses, and of the paths
 abbrev pub too_many_alternatives : List ℕ → Query → Tables → Option BindRefusal
 too_many_alternatives text query catalog =
-    over_limit max_alternatives (length (alternatives query catalog) + alternatives_in catalog (paths_of (seen text query))) refusal.TooManyAlternatives
+    over_limit max_alternatives
+    (length (alternatives query catalog) + (alternatives_of catalog (each_alone query) + alternatives_in catalog (paths_of (seen text query))))
+    refusal.TooManyAlternatives
 
 -- ---- where an EXISTS stands
 
--- it is no test: it stands elsewhere than as a whole conjunct of a condition
+-- it is no test: it stands elsewhere than as a whole conjunct of the condition of a MATCH clause
 abbrev pub is_misplaced : SharedTest → Bool
 is_misplaced t = not (is_some t.name)
 

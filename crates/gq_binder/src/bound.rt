@@ -1,14 +1,15 @@
 //! The bound form of a query, or why it has none.
 ghost use Rattle.std.specs.Prelude.{◌≡◌, [], map, filter_map, IfOk};
-ghost use Rattle.gq_alternatives.specs.Alternatives.{typed_of};
+ghost use Rattle.gq_alternatives.specs.Alternatives.{pattern_alternatives, typed_of};
 ghost use Rattle.gq_binder.specs.Binding.{Answers};
 ghost use Rattle.gq_binder.specs.Columns.{sort_expr};
-ghost use Rattle.gq_binder.specs.steps.Parts.{bound_in, exists_part};
+ghost use Rattle.gq_binder.specs.steps.Parts.{bound_in, exists_part, own_patterns};
 ghost use Rattle.gq_binder.specs.Refusals.{first_refusal};
 ghost use Rattle.gq_syntax.specs.Spans.{SpelledQuery};
 
 use crate::checks::{Alternatives, check, exists_place, few_alternatives};
 use crate::columns::known_columns;
+use crate::optionals::optional_parts;
 use crate::parts::{QueryParts, parts_of};
 use crate::refusal::BindRefusal;
 use gq_alternatives::{Choice, typed};
@@ -67,24 +68,32 @@ fn bound_of(
     parts: QueryParts<'_>,
     all: Alternatives,
 ) -> Result<Bound, Memory>
-    requires { all.patterns ≡ filter_map (exists_part text.now catalog.now) parts.exists }
+    requires patterns { all.patterns ≡ filter_map (exists_part text.now catalog.now) parts.exists }
+    requires optionals { all.optionals
+        ≡ map (pattern_alternatives catalog.now) (own_patterns parts.optionals) }
     ensures { IfOk result (λ b.
         b ≡ bound_in text.now catalog.now query.now parts.entry all.choices) }
 {
-    let Alternatives { choices, patterns } = all;
+    let Alternatives {
+        choices,
+        optionals,
+        patterns,
+    } = all;
     let mut bound = without_lists(alloc, catalog, query, &parts, choices.as_slice())?;
     bound.patterns = patterns;
     let QueryParts {
         columns,
         conjuncts,
+        optionals: clauses,
         ..
     } = parts;
+    bound.optionals = optional_parts(alloc, catalog, clauses, optionals.as_slice())?;
     bound.columns = known_columns(alloc, columns)?;
     bound.conjuncts = conjuncts;
     Ok(bound)
 }
 
-// The bound form but for its columns and conjuncts.
+// The bound form but for its columns, conjuncts, tests of paths and OPTIONAL MATCH clauses.
 fn without_lists(
     alloc: Global,
     catalog: &Catalog,
@@ -97,14 +106,16 @@ fn without_lists(
           columns = [];
           conjuncts = [];
           patterns = [];
+          optionals = [];
         }) }
 {
     let pattern = &parts.pattern;
+    let matched = &parts.matched;
     let scope = pattern.scope(parts.columns.as_slice())?;
     let keys = known_keys(alloc, &scope, query.order.as_slice())?;
     let tests = parts.tests.as_slice();
     let conjuncts = parts.conjuncts.as_slice();
-    let alternatives = all_typed(alloc, catalog, pattern, tests, conjuncts, choices)?;
+    let alternatives = all_typed(alloc, catalog, matched, tests, conjuncts, choices)?;
     Ok(Bound {
         node_names: copy_texts(alloc, pattern.node_names())?,
         rel_names: copy_texts(alloc, pattern.rel_names())?,
@@ -141,8 +152,9 @@ fn known_keys(alloc: Global, scope: &Scope<'_>, order: &[Sort]) -> Result<List<S
 
 // Each alternative has its own copies of its tests: so many parts of expressions and bytes of texts in them, for all
 // alternatives of one query. With 512 alternatives it is 2,048 for each.
-const MOST_TESTS: usize = 1_048_576;
+pub const MOST_TESTS: usize = 1_048_576;
 
+/// The typed forms of choices for these patterns, with these tests of maps and these conjuncts.
 pub fn all_typed(
     alloc: Global,
     catalog: &Catalog,
@@ -155,17 +167,33 @@ pub fn all_typed(
         ys ≡ map (typed_of catalog.now pattern.now entries.now conjuncts.now) choices.now) }
 {
     let mut copying = Copying::of(MOST_TESTS);
+    typed_out_of(
+        alloc,
+        &mut copying,
+        catalog,
+        pattern,
+        entries,
+        conjuncts,
+        choices,
+    )
+}
+
+/// The same, out of what may still be copied.
+pub fn typed_out_of(
+    alloc: Global,
+    copying: &mut Copying,
+    catalog: &Catalog,
+    pattern: &Pattern<'_>,
+    entries: &[NamedExpr],
+    conjuncts: &[NamedExpr],
+    choices: &[Choice],
+) -> Result<List<Typed>, Memory>
+    ensures { IfOk result (λ ys.
+        ys ≡ map (typed_of catalog.now pattern.now entries.now conjuncts.now) choices.now) }
+{
     let mut all = List::new(alloc);
     for choice in choices {
-        let alternative = typed(
-            alloc,
-            &mut copying,
-            catalog,
-            pattern,
-            entries,
-            conjuncts,
-            choice,
-        )?;
+        let alternative = typed(alloc, copying, catalog, pattern, entries, conjuncts, choice)?;
         all.push(alternative)?;
     }
     Ok(all)

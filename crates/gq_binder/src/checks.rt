@@ -5,11 +5,13 @@ ghost use Rattle.std.specs.Prelude.{nat_lt};
 ghost use Rattle.std.specs.Option.{option_map};
 ghost use Rattle.gq_alternatives.specs.Alternatives.{pattern_alternatives};
 ghost use Rattle.gq_binder.specs.steps.Checks.{Checks};
-ghost use Rattle.gq_binder.specs.steps.Parts.{checks_in, exists_part, reads_in};
+ghost use Rattle.gq_binder.specs.steps.Parts.{checks_in, clause_reads, exists_part, own_patterns};
+ghost use Rattle.gq_binder.specs.steps.Parts.{parts_reads, reads_in};
 ghost use Rattle.gq_binder.specs.Refusals as refusals;
 ghost use Rattle.gq_binder.specs.Refusals.{first_of_all, first_behind, conflicting, repeating};
 ghost use Rattle.gq_binder.specs.Refusals.{nothing, over_limit, max_alternatives, max_columns};
-ghost use Rattle.gq_binder.specs.Refusals.{alternatives_in, entries_read, nodes_in, paths_of};
+ghost use Rattle.gq_binder.specs.Refusals.{alternatives_in, alternatives_of, entries_read};
+ghost use Rattle.gq_binder.specs.Refusals.{nodes_in, paths_of};
 ghost use Rattle.gq_binder.specs.Refusals.{rels_in};
 ghost use Rattle.gq_binder.specs.declared.refusal.BindRefusal.TheVariants as refusal;
 ghost use Rattle.gq_plan.specs.Reads.{distinct, property, with_reads};
@@ -19,6 +21,7 @@ ghost use Rattle.gq_syntax.specs.Spans.{IsWholeTree};
 ghost use Rattle.gq_syntax.specs.steps.Spans.{IsWholePath};
 
 use crate::met::Met;
+use crate::optionals::{ClauseParts, clause_choices};
 use crate::order::{ambiguous_order_name, order_out_of_scope};
 use crate::parts::QueryParts;
 use crate::path_tests::{SharedTest, exists_parts};
@@ -53,7 +56,7 @@ pub fn check(
 {
     let pattern = &parts.pattern;
     let columns = parts.columns.as_slice();
-    not_built(query, parts)?;
+    not_built(pattern)?;
     parts.names.unknown_variable(alloc)?;
     variable_conflict(alloc, pattern.named())?;
     parts.names.path_conflict(alloc)?;
@@ -70,23 +73,15 @@ pub fn check(
     too_many_columns(columns)
 }
 
-/// The query has a form that is not built yet.
-fn not_built(query: &Query, parts: &QueryParts<'_>) -> Result<(), BindRefusal>
-    ensures { Checks
-        (refusals.not_built query.now parts.now.pattern) result }
+/// The patterns have a form that is not built yet.
+fn not_built(pattern: &Pattern<'_>) -> Result<(), BindRefusal>
+    ensures { Checks (refusals.not_built pattern.now) result }
 {
-    if has_form_to_come(query, &parts.pattern) {
+    if has_trail(pattern) {
         Err(BindRefusal::NotBuilt)
     } else {
         Ok(())
     }
-}
-
-// Whether a query has a clause behind OPTIONAL, or a trail.
-fn has_form_to_come(query: &Query, pattern: &Pattern<'_>) -> bool
-    ensures { result ≡ refusals.has_form_to_come query.now pattern.now }
-{
-    !query.optionals.as_slice().is_empty() || has_trail(pattern)
 }
 
 fn has_trail(pattern: &Pattern<'_>) -> bool
@@ -204,27 +199,30 @@ fn has_many_rels(own: usize, tests: &[SharedTest<'_>]) -> bool
 #[tactic(auto, using(crate::proofs::RefusalLemmas::firsts))]
 fn too_many_reads(alloc: Global, parts: &QueryParts<'_>) -> Result<(), BindRefusal>
     ensures { Checks (refusals.too_many_reads
-        (reads_in parts.now.tests ++ reads_in parts.now.conjuncts) parts.now.pattern
-        parts.now.exists) result }
+        (parts_reads parts.now) parts.now.pattern parts.now.exists
+        (own_patterns parts.now.optionals)) result }
 {
     if count_all_reads(alloc, parts)? > MAX_READS {
         return Err(BindRefusal::TooManyReads);
     }
+    many_clause_reads(alloc, parts.optionals.as_slice())?;
     many_reads_alone(alloc, parts.exists.as_slice())
 }
 
-// How many different properties of variables all maps and the conjuncts of values read.
-#[tactic(auto, using(crate::proofs::ReadingLemmas::counted_more))]
-fn count_all_reads(alloc: Global, parts: &QueryParts<'_>) -> Result<usize, Memory>
+// How many different properties of variables all maps and the conjuncts of values of all clauses
+// read.
+#[tactic(auto, using(crate::proofs::ReadingLemmas::counted_parts))]
+fn count_all_reads<'p>(alloc: Global, parts: &'p QueryParts<'p>) -> Result<usize, Memory>
     ensures { let pattern = parts.now.pattern in
         let paths = refusals.path_reads (length pattern.names) (length pattern.rels)
         parts.now.exists in
-        let all = (reads_in parts.now.tests ++ reads_in parts.now.conjuncts) ++ paths in
+        let all = parts_reads parts.now ++ paths in
         IfOk result (λ n. n ≡ length (distinct all)) }
 {
     let mut reads = PropertyReads::new(alloc);
-    add_reads(&mut reads, parts.tests.as_slice())?;
+    add_maps(&mut reads, &parts.pattern)?;
     add_reads(&mut reads, parts.conjuncts.as_slice())?;
+    add_clause_reads(&mut reads, parts.optionals.as_slice())?;
     add_path_reads(alloc, &mut reads, &parts.pattern, parts.exists.as_slice())?;
     Ok(reads.len())
 }
@@ -322,7 +320,24 @@ fn reads_alone(alloc: Global, test: &SharedTest<'_>) -> Result<(), BindRefusal>
     ensures { Checks (refusals.reads_alone test.now) result }
 {
     let path = test.pattern(alloc)?;
-    if count_reads(alloc, path.entries())? > MAX_READS {
+    maps_alone(alloc, &path)
+}
+
+// The maps of an OPTIONAL MATCH clause by itself read too much.
+fn many_clause_reads(alloc: Global, clauses: &[ClauseParts<'_>]) -> Result<(), BindRefusal>
+    ensures { Checks
+        (first_of_all (map refusals.maps_alone (own_patterns clauses.now))) result }
+{
+    for clause in clauses {
+        maps_alone(alloc, &clause.pattern)?;
+    }
+    Ok(())
+}
+
+fn maps_alone(alloc: Global, pattern: &Pattern<'_>) -> Result<(), BindRefusal>
+    ensures { Checks (refusals.maps_alone pattern.now) result }
+{
+    if count_reads(alloc, pattern.entries())? > MAX_READS {
         Err(BindRefusal::TooManyReads)
     } else {
         Ok(())
@@ -338,6 +353,14 @@ fn count_reads(alloc: Global, entries: &[MapEntry<'_>]) -> Result<usize, Memory>
     let mut reads = PropertyReads::new(alloc);
     add_own(&mut reads, entries)?;
     Ok(reads.len())
+}
+
+// Takes what all maps of patterns read.
+fn add_maps<'e>(reads: &mut PropertyReads<'e>, pattern: &'e Pattern<'e>) -> Result<(), Memory>
+    ensures { OnOk result (reads.new ≡ with_reads reads.old
+        (map (λ e. property e.variable e.entry.key) pattern.now.entries)) }
+{
+    add_own(reads, pattern.entries())
 }
 
 fn add_own<'e>(reads: &mut PropertyReads<'e>, entries: &[MapEntry<'e>]) -> Result<(), Memory>
@@ -359,6 +382,19 @@ fn add_reads<'e>(reads: &mut PropertyReads<'e>, exprs: &'e [NamedExpr]) -> Resul
     Ok(())
 }
 
+// Takes what the conjuncts of OPTIONAL MATCH clauses read.
+fn add_clause_reads<'e>(
+    reads: &mut PropertyReads<'e>,
+    clauses: &'e [ClauseParts<'e>],
+) -> Result<(), Memory>
+    ensures { OnOk result (reads.new ≡ with_reads reads.old (clause_reads clauses.now)) }
+{
+    for clause in clauses {
+        add_reads(reads, clause.conjuncts.as_slice())?;
+    }
+    Ok(())
+}
+
 /// There are too many columns.
 fn too_many_columns(columns: &[Column]) -> Result<(), BindRefusal>
     ensures { Checks (over_limit max_columns (length columns.now) refusal.TooManyColumns) result }
@@ -370,15 +406,17 @@ fn too_many_columns(columns: &[Column]) -> Result<(), BindRefusal>
     }
 }
 
-/// The alternatives of a query's patterns, and the parts that its tests of paths give.
+/// The alternatives of a query's MATCH clauses, those of each OPTIONAL MATCH clause by itself, and the
+/// parts that its tests of paths give.
 #[derive(Drop)]
 pub struct Alternatives {
     pub choices: List<Choice>,
+    pub optionals: List<List<Choice>>,
     pub patterns: List<ExistsPart>,
 }
 
-/// The alternatives of a query's patterns and of the paths of its tests, unless there are too many.
-#[tactic(auto, using(crate::proofs::RefusalLemmas::within, crate::proofs::RefusalLemmas::within_more, crate::proofs::RefusalLemmas::beyond_more))]
+/// The alternatives of a query's clauses and of the paths of its tests, unless there are too many.
+#[tactic(auto, using(crate::proofs::RefusalLemmas::within, crate::proofs::RefusalLemmas::within_more, crate::proofs::RefusalLemmas::beyond_more, crate::proofs::RefusalLemmas::over_spent, crate::proofs::RefusalLemmas::over_more))]
 pub fn few_alternatives(
     alloc: Global,
     text: &[u8],
@@ -387,23 +425,31 @@ pub fn few_alternatives(
 ) -> Result<Alternatives, BindRefusal>
     requires { All (λ t. IfSome t.name (λ _. IsWholePath text.now t.test.path)) parts.now.exists }
     ensures few { Checks (over_limit max_alternatives
-        (length (pattern_alternatives catalog.now parts.now.pattern)
-        + alternatives_in catalog.now (paths_of parts.now.exists)) refusal.TooManyAlternatives)
+        (length (pattern_alternatives catalog.now parts.now.matched)
+        + (alternatives_of catalog.now (own_patterns parts.now.optionals)
+        + alternatives_in catalog.now (paths_of parts.now.exists))) refusal.TooManyAlternatives)
         result }
     ensures choices { IfOk result (λ all.
-        all.choices ≡ pattern_alternatives catalog.now parts.now.pattern) }
+        all.choices ≡ pattern_alternatives catalog.now parts.now.matched) }
+    ensures optionals { IfOk result (λ all. all.optionals
+        ≡ map (pattern_alternatives catalog.now) (own_patterns parts.now.optionals)) }
     ensures patterns { IfOk result (λ all. all.patterns
         ≡ filter_map (exists_part text.now catalog.now) parts.now.exists) }
 {
-    let Some(choices) = choices_of(alloc, catalog, &parts.pattern, MAX_ALTERNATIVES)? else {
+    let Some(choices) = choices_of(alloc, catalog, &parts.matched, MAX_ALTERNATIVES)? else {
         return Err(BindRefusal::TooManyAlternatives);
     };
-    let left = MAX_ALTERNATIVES - choices.len();
+    let mut left = MAX_ALTERNATIVES - choices.len();
+    let optionals = clause_choices(alloc, catalog, parts.optionals.as_slice(), &mut left)?;
     let patterns = exists_parts(alloc, text, catalog, parts.exists.as_slice(), left)?;
-    Ok(Alternatives { choices, patterns })
+    Ok(Alternatives {
+        choices,
+        optionals,
+        patterns,
+    })
 }
 
-/// An EXISTS is no test: it stands elsewhere than as a whole conjunct of a condition.
+/// An EXISTS is no test: it stands elsewhere than as a whole conjunct of a MATCH clause's condition.
 pub fn exists_place(exists: &[SharedTest<'_>]) -> Result<(), BindRefusal>
     ensures { Checks (refusals.exists_place exists.now) result }
 {

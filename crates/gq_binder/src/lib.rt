@@ -9,6 +9,7 @@ mod columns;
 mod entries;
 mod met;
 mod names;
+mod optionals;
 mod order;
 mod parts;
 mod path_tests;

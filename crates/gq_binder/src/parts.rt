@@ -1,9 +1,11 @@
 //! The parts of a query that its checks and its bound form share, each made once.
 ghost use Rattle.std.specs.Prelude.{◌≡◌, ◌++◌, ◌∷◌, [], flat_map, map, All, IfOk, IfSome};
-ghost use Rattle.std.specs.Prelude.{OnOk};
-ghost use Rattle.gq_binder.specs.Columns.{columns_in, conditions_from, entry_test, scoped_in};
+ghost use Rattle.std.specs.Prelude.{OnOk, length};
+ghost use Rattle.gq_binder.specs.Columns.{columns_in, conditions_from, entry_test};
+ghost use Rattle.gq_binder.specs.Columns.{optional_conditions, scoped_in, whole_pattern};
 ghost use Rattle.gq_binder.specs.steps.Names.{no_names, with_expressions};
-ghost use Rattle.gq_binder.specs.steps.Parts.{known_conjuncts, known_seen, known_tests_of, parts_of};
+ghost use Rattle.gq_binder.specs.steps.Parts.{clauses_parts, known_conjuncts, known_seen};
+ghost use Rattle.gq_binder.specs.steps.Parts.{known_tests_of, parts_of};
 ghost use Rattle.gq_binder.specs.Refusals.{items_in, sorts_in};
 ghost use Rattle.gq_binder.specs.Tested.{seen_elsewhere};
 ghost use Rattle.gq_scopes.specs.Patterns.{no_pattern, pattern_of, with_clauses};
@@ -15,24 +17,28 @@ ghost use Rattle.gq_syntax.specs.steps.Spans.{IsWholeClause, IsWholeEntry, Stand
 use crate::columns::columns_of;
 use crate::entries::entry_tests;
 use crate::names::FirstNames;
+use crate::optionals::{ClauseParts, read_optionals};
 use crate::path_tests::{SharedTest, push_in_items, push_in_sorts, push_strays_of, push_tests};
 use gq_base::{List, Memory};
 use gq_plan::NamedExpr;
-use gq_scopes::{Column, Pattern, Scope, next};
+use gq_scopes::{Column, MapEntry, Pattern, Scope, next, number};
 use gq_syntax::{Ast, Clause, Query};
 use gq_trees::{CallForm, conjuncts_of};
 use std::alloc::Global;
 
-/// The parts of a query: its patterns, the first names that the checks of names refuse, its
-/// columns, the conjuncts of its conditions, its EXISTS, and the tests of the maps of its patterns.
+/// The parts of a query: the patterns of all clauses, and those of its MATCH clauses, the first names
+/// that the checks of names refuse, its columns, the conjuncts of its MATCH clauses' conditions, its
+/// EXISTS, the tests of the maps of its MATCH clauses, and its OPTIONAL MATCH clauses.
 #[derive(Drop)]
 pub struct QueryParts<'q> {
     pub pattern: Pattern<'q>,
+    pub matched: Pattern<'q>,
     pub names: FirstNames<'q>,
     pub columns: List<Column>,
     pub conjuncts: List<NamedExpr>,
     pub exists: List<SharedTest<'q>>,
     pub tests: List<NamedExpr>,
+    pub optionals: List<ClauseParts<'q>>,
 }
 
 /// The parts of a query that stands in a text.
@@ -40,57 +46,105 @@ pub fn parts_of<'q>(alloc: Global, text: &[u8], query: &'q Query) -> Result<Quer
     requires { StandsIn text.now query.now }
     ensures { IfOk result (λ parts. parts ≡ parts_of text.now query.now) }
 {
-    let conditions = conditions_of(alloc, text, query.clauses.as_slice())?;
     let Conditions {
-        pattern,
+        pattern: matched,
         mut names,
         conjuncts,
         mut exists,
-    } = conditions;
-    let lists = lists_of(alloc, text, query, &pattern, &mut names)?;
-    push_elsewhere(alloc, query, &pattern, &mut exists)?;
+    } = conditions_of(alloc, text, query.clauses.as_slice())?;
+    let whole = optionals_of(alloc, text, query, &mut names, &mut exists)?;
+    let lists = lists_of(
+        alloc,
+        text,
+        query,
+        &whole.pattern,
+        matched.entries(),
+        &mut names,
+        &mut exists,
+    )?;
     Ok(QueryParts {
-        pattern,
+        pattern: whole.pattern,
+        matched,
         names,
         columns: lists.columns,
         conjuncts,
         exists,
         tests: lists.tests,
+        optionals: whole.clauses,
     })
 }
 
-// The columns of a query, and the tests of the maps of its patterns.
+// The patterns of all clauses of a query, and its OPTIONAL MATCH clauses.
+#[derive(Drop)]
+struct Whole<'q> {
+    pattern: Pattern<'q>,
+    clauses: List<ClauseParts<'q>>,
+}
+
+// Reads the OPTIONAL MATCH clauses of a query, whose MATCH clauses were read.
+fn optionals_of<'q>(
+    alloc: Global,
+    text: &[u8],
+    query: &'q Query,
+    names: &mut FirstNames<'q>,
+    exists: &mut List<SharedTest<'q>>,
+) -> Result<Whole<'q>, Memory>
+    requires { All (IsWholeClause text.now) query.now.optionals }
+    ensures pattern { IfOk result (λ whole. whole.pattern ≡ whole_pattern query.now) }
+    ensures names { OnOk result (names.new
+        ≡ with_expressions names.old (optional_conditions query.now)) }
+    ensures exists { OnOk result (exists.new
+        ≡ exists.old ++ flat_map seen_elsewhere (optional_conditions query.now)) }
+    ensures clauses { IfOk result (λ whole. whole.clauses
+        ≡ clauses_parts text.now (length query.now.clauses) (pattern_of query.now.clauses)
+        query.now.optionals) }
+{
+    let first = number(query.clauses.len())?;
+    let mut pattern = Pattern::of(alloc, query.clauses.as_slice())?;
+    let optionals = query.optionals.as_slice();
+    let clauses = read_optionals(alloc, text, optionals, first, &mut pattern, names, exists)?;
+    Ok(Whole { pattern, clauses })
+}
+
+// The columns of a query, and the tests of the maps of its MATCH clauses.
 #[derive(Drop)]
 struct Lists {
     columns: List<Column>,
     tests: List<NamedExpr>,
 }
 
-// Reads the items and sort items of a query with these patterns.
+// Reads the items and sort items of a query with these patterns, and appends their EXISTS. The entries
+// are those of the maps of its MATCH clauses.
 fn lists_of<'q>(
     alloc: Global,
     text: &[u8],
     query: &'q Query,
     pattern: &Pattern<'_>,
+    entries: &[MapEntry<'_>],
     names: &mut FirstNames<'q>,
+    exists: &mut List<SharedTest<'q>>,
 ) -> Result<Lists, Memory>
     requires items { All (λ item. IsWholeTree text.now item.tree) query.now.items }
-    requires entries { All (λ e. IsWholeEntry text.now e.entry) pattern.now.entries }
+    requires entries { All (λ e. IsWholeEntry text.now e.entry) entries.now }
     ensures columns { IfOk result (λ lists. lists.columns
         ≡ columns_in functions text.now pattern.now query.now) }
     ensures tests { IfOk result (λ lists. lists.tests
-        ≡ map (entry_test text.now) pattern.now.entries) }
+        ≡ map (entry_test text.now) entries.now) }
     ensures names { OnOk result (names.new
         ≡ with_expressions (with_expressions names.old
         (items_in (scope_of pattern.now) query.now.items))
         (sorts_in (record (scope_of pattern.now) {
           columns = columns_in functions text.now pattern.now query.now;
         }) query.now.order)) }
+    ensures exists { OnOk result (exists.new ≡ exists.old ++ (
+        flat_map seen_elsewhere (items_in (scope_of pattern.now) query.now.items)
+        ++ flat_map seen_elsewhere (sorts_in (scope_of pattern.now) query.now.order))) }
 {
     let columns = columns_of(alloc, CallForm::Functions, text, pattern, query)?;
-    let tests = entry_tests(alloc, text, pattern.entries())?;
+    let tests = entry_tests(alloc, text, entries)?;
     names.read_items(&pattern.scope(&[])?, query.items.as_slice());
     names.read_sorts(&pattern.scope(columns.as_slice())?, query.order.as_slice());
+    push_elsewhere(alloc, query, pattern, exists)?;
     Ok(Lists { columns, tests })
 }
 

@@ -102,8 +102,8 @@ pub fn push_strays_of<'q>(
     push_untested(alloc, scope, all, found)
 }
 
-// Appends the EXISTS of an expression that is no condition.
-fn push_all_of<'q>(
+/// Appends the EXISTS of an expression that is no condition of a MATCH clause.
+pub fn push_all_of<'q>(
     alloc: Global,
     scope: &Scope<'_>,
     all: &mut List<SharedTest<'q>>,

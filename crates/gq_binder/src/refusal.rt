@@ -8,7 +8,7 @@ use gq_base::{Memory, Text};
 /// text.
 #[derive(Debug, Drop)]
 pub enum BindRefusal {
-    /// The query has a form that can be written and not yet bound: a clause behind OPTIONAL, or a trail.
+    /// The query has a form that can be written and not yet bound: a trail.
     NotBuilt,
     /// An expression, or a path in one, names what its scope does not have.
     UnknownVariable { name: Text },
@@ -35,9 +35,11 @@ pub enum BindRefusal {
     TooManyReads,
     /// More than 64 columns.
     TooManyColumns,
-    /// More than 512 alternatives, with those of the paths that are tested.
+    /// More than 512 alternatives, those of the MATCH clauses and of each OPTIONAL MATCH clause by itself together, with
+    /// those of the paths that are tested.
     TooManyAlternatives,
-    /// An EXISTS stands elsewhere than as a whole conjunct of a WHERE clause, alone or inside parentheses and NOTs alone.
+    /// An EXISTS stands elsewhere than as a whole conjunct of a MATCH clause's WHERE, alone or inside parentheses and NOTs
+    /// alone.
     ExistsPlace,
     /// There was not enough memory.
     Memory,

@@ -63,6 +63,10 @@ impl Column {
         requires { row < length self.now }
         ensures { result ≡ cell_at self.now row }
     {
+        if self.kept.len() > self.present.len() as usize {
+            // No row is null, so each cell stands at its row.
+            return Some(self.kept[row as usize]);
+        }
         if self.present.get(row) {
             Some(self.kept[self.present.rank(row) as usize])
         } else {

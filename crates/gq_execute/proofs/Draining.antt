@@ -1,24 +1,27 @@
 -- What a table has taken, and what a pipeline has spent, when the pipeline's chunks are drained into the table.
-use Rattle.std.proofs.Common.{◌≡◌, ◌≢◌, ◌∙◌, ◌+◌, ◌-◌, ◌^◌, ◌<◌, ℕ, ap, refl, sym, subst, Bool, true, false, cond, Some, List, [], ◌∷◌, ◌++◌, append_assoc, append-nil, length, map, min, Result, Err, inl, inr, arith, length-append}
+use Rattle.std.proofs.Common.{◌≡◌, ◌≢◌, ◌∙◌, ap₂, ◌+◌, ◌-◌, ◌^◌, ◌<◌, ℕ, ap, refl, sym, subst, Bool, true, false, cond, Some, List, [], ◌∷◌, ◌++◌, append_assoc, append-nil, length, map, min, Result, Err, inl, inr, arith, length-append}
 use Rattle.std.specs.Prelude.{Option, IsPermutation, filter, flat_map}
 use Rattle.std.proofs.lemmas.Grind.{flat_map-append}
 use Rattle.std.proofs.lemmas.List.{length-map, map-append}
-use Rattle.std.proofs.lemmas.List.Elements.{filter-append}
 use Rattle.std.proofs.lemmas.List.Sorted.{IsPermutation-append_left, IsPermutation-append_right, IsPermutation-map, IsPermutation-refl, IsPermutation-sym, IsPermutation-trans, length_permutation}
 use Rattle.gq_base.specs.Plain.{Graph}
+use Rattle.gq_expr.specs.Reading as reading
 use Rattle.gq_expr.specs.declared.Fault.{Fault}
 use Rattle.gq_group.specs.Chunks.{IsChunkOf, assignment_at}
 use Rattle.gq_group.specs.Groups.{choices}
 use Rattle.gq_group.specs.declared.chunk.Chunk.{Chunk}
+use Rattle.gq_law_answers.proofs.Made.{plain_late_rows}
 use Rattle.gq_law_plans.proofs.Reordered.{permuted_flat_map}
 use Rattle.gq_pipe.specs.Progress.{Source}
 use Rattle.gq_pipe.specs.Rest.{Rest}
 use Rattle.gq_pipe.specs.Spending.{up_to_most}
 use Rattle.gq_plan.specs.Assignments.{Assignment, row_of}
-use Rattle.gq_plan.specs.Meaning.{Partial, found, whole}
+use Rattle.gq_plan.specs.Marked.{Marked, ending, made_of, marked, marks}
+use Rattle.gq_plan.specs.Meaning.{Partial, whole}
 use Rattle.gq_plan.specs.Rows.{assigned}
-use Rattle.gq_plan.specs.Outcomes.{Row, late_conjuncts, outcome_by}
+use Rattle.gq_plan.specs.Outcomes.{Row, late_conjuncts, late_outcomes, meanings_of}
 use Rattle.gq_plan.specs.declared.Bound.{Bound}
+use Rattle.gq_plan.specs.declared.NamedExpr.{NamedExpr}
 use Rattle.gq_plan.specs.declared.typed.Typed.{Typed}
 use Rattle.std.specs.List.{Contains}
 use Rattle.gq_rows.specs.Answers.{kept, looked_at, rows_in}
@@ -29,7 +32,7 @@ use Rattle.gq_rows.specs.declared.refusal.More.{More}
 use Rattle.gq_rows.specs.declared.refusal.RowRefusal.{RowRefusal}
 use Rattle.gq_rows.specs.declared.refusal.RowRefusal.TheVariants as row_refusal
 use Rattle.gq_execute.specs.Refusals.{of_rows}
-use Rattle.gq_execute.specs.steps.Taking.{Admission, Counted, Cut, HasRun, MeetsFault, MeetsMany, Pushed, Takes, TakesAll, outcomes_by, owed_by}
+use Rattle.gq_execute.specs.steps.Taking.{Admission, Counted, Cut, HasRun, Later, MeetsFault, MeetsMany, Pushed, Takes, TakesAll, if_admitted, outcomes_by, owed_by}
 
 -- what is made of the items that pass is made of each, or nothing
 pub filtered : {A B : Type 0} (f : A → List B) (p : A → Bool) (xs : List A) → flat_map f (filter p xs) ≡ flat_map (λ x. cond (p x) (f x) []) xs
@@ -40,29 +43,56 @@ filtered f p (x ∷ xs) = go (p x) (filtered f p xs)
     go true more = ap (λ l. f x ++ l) more
     go false more = more
 
-module _ (admitted : Admission) (g : Graph) (b : Bound) (y : Typed) where
-  abbrev found_of : Assignment → List (Result Row Fault)
-  found_of t = found (outcome_by g b (late_conjuncts b y) (row_of t))
+-- ---- rows that are admitted
 
-  abbrev passes : Assignment → Bool
-  passes t = admitted (row_of t)
+module _ (g : Graph) (admitted : reading.Assignment → Bool) (later : Marked → List (Result Row Fault)) where
+  abbrev only : Marked → List (Result Row Fault)
+  only m = cond (admitted m.row) (later m) []
 
-  -- the outcomes of some assignments, and of more
-  pub outcomes_append : (ts us : List Assignment) → outcomes_by admitted g b y (ts ++ us) ≡ outcomes_by admitted g b y ts ++ outcomes_by admitted g b y us
-  outcomes_append ts us = ap (flat_map found_of) (filter-append passes ts us) ∙ flat_map-append found_of (filter passes ts) (filter passes us)
+  -- a row that is left goes on where it is admitted
+  admitted_marks : (row : reading.Assignment) (b : Bool) → admitted row ≡ b → (ms : List (Option Fault))
+      → flat_map only (map (λ m. record { row = row; mark = m }) ms) ≡ cond b (flat_map later (map (λ m. record { row = row; mark = m }) ms)) []
+  admitted_marks row true e [] = refl
+  admitted_marks row false e [] = refl
+  admitted_marks row true e (m ∷ ms) = ap₂ (λ b l. cond b (later (record { row = row; mark = m })) [] ++ l) e (admitted_marks row true e ms)
+  admitted_marks row false e (m ∷ ms) = ap₂ (λ b l. cond b (later (record { row = row; mark = m })) [] ++ l) e (admitted_marks row false e ms)
+
+  admitted_row : (conjuncts : List NamedExpr) (row : reading.Assignment) → flat_map only (marked g conjuncts row) ≡ cond (admitted row) (flat_map later (marked g conjuncts row)) []
+  unfolding marked
+  admitted_row conjuncts row = admitted_marks row (admitted row) refl (marks (meanings_of g row conjuncts))
+
+  -- so it may be left out first
+  admitted_first : (conjuncts : List NamedExpr) (xs : List Assignment) → made_of g conjuncts only xs ≡ made_of g conjuncts later (filter (λ t. admitted (row_of t)) xs)
+  admitted_first conjuncts xs =
+      (λ i. flat_map (λ (t : Assignment). admitted_row conjuncts (row_of t) i) xs) ∙ sym (filtered (λ t. flat_map later (marked g conjuncts (row_of t))) (λ t. admitted (row_of t)) xs)
+
+-- the late outcomes of those of some assignments that are admitted
+late_of_admitted : (admitted : Admission) (g : Graph) (b : Bound) (y : Typed) (ts : List Assignment)
+    → late_outcomes g b y (filter (λ t. admitted (row_of t)) ts) ≡ outcomes_by (if_admitted admitted g) g b y ts
+late_of_admitted admitted g b y ts =
+    sym (plain_late_rows g b y (filter (λ t. admitted (row_of t)) ts)) ∙ sym (admitted_first g admitted (λ m. ending g b m ∷ []) (late_conjuncts b y) ts)
+
+-- ---- the outcomes of assignments
+
+module _ (later : Later) (g : Graph) (b : Bound) (y : Typed) where
+  abbrev given : Assignment → List (Result Row Fault)
+  given t = flat_map (later b) (marked g (late_conjuncts b y) (row_of t))
+
+  -- of some and of more
+  pub outcomes_append : (ts us : List Assignment) → outcomes_by later g b y (ts ++ us) ≡ outcomes_by later g b y ts ++ outcomes_by later g b y us
+  outcomes_append ts us = flat_map-append given ts us
 
   -- in another order
-  pub outcomes_bag : (ts us : List Assignment) → IsPermutation ts us → IsPermutation (outcomes_by admitted g b y ts) (outcomes_by admitted g b y us)
-  outcomes_bag ts us bag =
-      let each : Assignment → List (Result Row Fault) = λ t. cond (passes t) (found_of t) [] in
-      subst (λ l. IsPermutation l (outcomes_by admitted g b y us)) (sym (filtered found_of passes ts))
-      (subst (IsPermutation (flat_map each ts)) (sym (filtered found_of passes us)) (permuted_flat_map each ts us bag))
+  pub outcomes_bag : (ts us : List Assignment) → IsPermutation ts us → IsPermutation (outcomes_by later g b y ts) (outcomes_by later g b y us)
+  outcomes_bag ts us bag = permuted_flat_map given ts us bag
 
-  -- of a chunk that is told by another bound query and a table of the same
-  pub outcomes_here : (b' : Bound) (o : Option Typed) (c : Chunk) → b' ≡ b → o ≡ Some y → admitted_outcomes admitted g b' o c ≡ outcomes_by admitted g b y (assignments_of g y c)
-  outcomes_here b' o c same started = ap (λ q. admitted_outcomes admitted g q o c) same ∙ ap (λ p. admitted_outcomes admitted g b p c) started
+-- of a chunk that is told by another bound query and a table of the same
+outcomes_here : (admitted : Admission) (g : Graph) (b : Bound) (y : Typed) (b' : Bound) (o : Option Typed) (c : Chunk) → b' ≡ b → o ≡ Some y
+    → admitted_outcomes admitted g b' o c ≡ outcomes_by (if_admitted admitted g) g b y (assignments_of g y c)
+outcomes_here admitted g b y b' o c same started =
+    ap (λ q. admitted_outcomes admitted g q o c) same ∙ ap (λ p. admitted_outcomes admitted g b p c) started ∙ late_of_admitted admitted g b y (assignments_of g y c)
 
-module _ (admitted : Admission) (g : Graph) (old : Table) (begun : Rest) where
+module _ (later : Later) (g : Graph) (old : Table) (begun : Rest) where
   abbrev b : Bound
   b = old.bound
 
@@ -70,21 +100,21 @@ module _ (admitted : Admission) (g : Graph) (old : Table) (begun : Rest) where
   y = begun.source.typed
 
   abbrev os : List (Result Row Fault)
-  os = outcomes_by admitted g b y (owed_by y begun)
+  os = outcomes_by later g b y (owed_by y begun)
 
   -- nothing was taken yet
-  pub pushed_none : Pushed admitted g old old begun begun
+  pub pushed_none : Pushed later g old old begun begun
   pushed_none = record {
     taken = [];
     bag = IsPermutation-refl (owed_by y begun);
     stands = λ before h. subst (λ l. Stands l old) (sym (append-nil before)) h;
   }
 
-  module _ (mid : Table) (now after : Rest) (came : Pushed admitted g old mid begun now) (bound : mid.bound ≡ old.bound) (most : mid.most ≡ old.most) (c : Chunk)
+  module _ (mid : Table) (now after : Rest) (came : Pushed later g old mid begun now) (bound : mid.bound ≡ old.bound) (most : mid.most ≡ old.most) (c : Chunk)
       (next : IsPermutation now.owed (after.chunk ++ after.owed)) (chunk_bag : IsPermutation (assignments_of g y c) (map (whole y) after.chunk)) where
     -- the outcomes of the chunk, and the assignments that were taken with it
     abbrev here : List (Result Row Fault)
-    here = outcomes_by admitted g b y (assignments_of g y c)
+    here = outcomes_by later g b y (assignments_of g y c)
 
     abbrev taken : List Assignment
     taken = came.taken ++ assignments_of g y c
@@ -102,24 +132,24 @@ module _ (admitted : Admission) (g : Graph) (old : Table) (begun : Rest) where
         (IsPermutation-trans _ _ _ came.bag (IsPermutation-append_right came.taken (owed_by y now) (assignments_of g y c ++ owed_by y after) parted))
 
     -- the outcomes that were taken, and those of the chunk
-    more_taken : (before : List (Result Row Fault)) → (before ++ outcomes_by admitted g b y came.taken) ++ here ≡ before ++ outcomes_by admitted g b y taken
+    more_taken : (before : List (Result Row Fault)) → (before ++ outcomes_by later g b y came.taken) ++ here ≡ before ++ outcomes_by later g b y taken
     more_taken before =
-        append_assoc before (outcomes_by admitted g b y came.taken) here
-        ∙ ap (λ l. before ++ l) (sym (outcomes_append admitted g b y came.taken (assignments_of g y c)))
+        append_assoc before (outcomes_by later g b y came.taken) here
+        ∙ ap (λ l. before ++ l) (sym (outcomes_append later g b y came.taken (assignments_of g y c)))
 
     abbrev cut_here : Cut os
     cut_here = record {
-      pushed = outcomes_by admitted g b y taken;
-      left = outcomes_by admitted g b y (owed_by y after);
-      bag = subst (IsPermutation os) (outcomes_append admitted g b y taken (owed_by y after)) (outcomes_bag admitted g b y (owed_by y begun) (taken ++ owed_by y after) bag);
+      pushed = outcomes_by later g b y taken;
+      left = outcomes_by later g b y (owed_by y after);
+      bag = subst (IsPermutation os) (outcomes_append later g b y taken (owed_by y after)) (outcomes_bag later g b y (owed_by y begun) (taken ++ owed_by y after) bag);
     }
 
     -- the chunk's outcomes went into the table
-    pub pushed_more : (new : Table) → chunks.TakesWhole here mid new → Pushed admitted g old new begun after
+    pub pushed_more : (new : Table) → chunks.TakesWhole here mid new → Pushed later g old new begun after
     pushed_more new takes = record {
       taken = taken;
       bag = bag;
-      stands = λ before h. subst (λ l. Stands l new) (more_taken before) (takes (before ++ outcomes_by admitted g b y came.taken) (came.stands before h));
+      stands = λ before h. subst (λ l. Stands l new) (more_taken before) (takes (before ++ outcomes_by later g b y came.taken) (came.stands before h));
     }
 
     -- one of them is a fault that is looked at
@@ -128,7 +158,7 @@ module _ (admitted : Admission) (g : Graph) (old : Table) (begun : Rest) where
       cut = cut_here;
       seen = λ before h.
           subst (λ l. Contains (looked_at old.bound l) (Err f)) (more_taken before)
-          (subst (λ q. Contains (looked_at q ((before ++ outcomes_by admitted g b y came.taken) ++ here)) (Err f)) bound (faulty.seen (before ++ outcomes_by admitted g b y came.taken) (came.stands before h)));
+          (subst (λ q. Contains (looked_at q ((before ++ outcomes_by later g b y came.taken) ++ here)) (Err f)) bound (faulty.seen (before ++ outcomes_by later g b y came.taken) (came.stands before h)));
     }
 
     -- too many rows are kept with them
@@ -137,8 +167,8 @@ module _ (admitted : Admission) (g : Graph) (old : Table) (begun : Rest) where
       cut = cut_here;
       many = λ before h.
           subst (λ l. old.most < kept old.bound (rows_in l)) (more_taken before)
-          (subst (λ q. old.most < kept q (rows_in ((before ++ outcomes_by admitted g b y came.taken) ++ here))) bound
-          (subst (λ m. m < kept mid.bound (rows_in ((before ++ outcomes_by admitted g b y came.taken) ++ here))) most (over (before ++ outcomes_by admitted g b y came.taken) (came.stands before h))));
+          (subst (λ q. old.most < kept q (rows_in ((before ++ outcomes_by later g b y came.taken) ++ here))) bound
+          (subst (λ m. m < kept mid.bound (rows_in ((before ++ outcomes_by later g b y came.taken) ++ here))) most (over (before ++ outcomes_by later g b y came.taken) (came.stands before h))));
     }
 
     -- so each refusal of the table is one of what was owed
@@ -158,15 +188,15 @@ module _ (admitted : Admission) (g : Graph) (old : Table) (begun : Rest) where
     }
 
   -- nothing is owed any more
-  pub all_taken : (new : Table) (now : Rest) → Pushed admitted g old new begun now → new.bound ≡ old.bound → new.most ≡ old.most → now.owed ≡ [] → Takes os old new
+  pub all_taken : (new : Table) (now : Rest) → Pushed later g old new begun now → new.bound ≡ old.bound → new.most ≡ old.most → now.owed ≡ [] → Takes os old new
   all_taken new now came bound most none =
       let all : IsPermutation (owed_by y begun) came.taken =
       subst (IsPermutation (owed_by y begun)) (ap (λ l. came.taken ++ map (whole y) l) none ∙ append-nil came.taken) came.bag in
       record {
         cut = record {
-          pushed = outcomes_by admitted g b y came.taken;
+          pushed = outcomes_by later g b y came.taken;
           left = [];
-          bag = subst (IsPermutation os) (sym (append-nil (outcomes_by admitted g b y came.taken))) (outcomes_bag admitted g b y (owed_by y begun) came.taken all);
+          bag = subst (IsPermutation os) (sym (append-nil (outcomes_by later g b y came.taken))) (outcomes_bag later g b y (owed_by y begun) came.taken all);
         };
         alike = record { bound = bound; most = most };
         stands = came.stands;
@@ -191,8 +221,17 @@ bag_here g y s c here graph typed h =
 
 -- what a table answers to it
 pub pushes_here : (admitted : Admission) (g : Graph) (b : Bound) (y : Typed) (mid new : Table) (c : Chunk) (r : Result More RowRefusal) → mid.bound ≡ b → mid.alternative ≡ Some y
-    → chunks.PushesAdmitted admitted g c mid new r → chunks.PushesAll (outcomes_by admitted g b y (assignments_of g y c)) mid new r
+    → chunks.PushesAdmitted admitted g c mid new r → chunks.PushesAll (outcomes_by (if_admitted admitted g) g b y (assignments_of g y c)) mid new r
 pushes_here admitted g b y mid new c r same started h = subst (λ os. chunks.PushesAll os mid new r) (outcomes_here admitted g b y mid.bound mid.alternative c same started) h
+
+pub chunk_of : (g : Graph) (y : Typed) (s : Source) (c : Chunk) → s.graph ≡ g → s.typed ≡ y → IsChunkOf s.graph s.typed c → IsChunkOf g y c
+chunk_of g y s c graph typed h = subst (λ z. IsChunkOf g z c) typed (subst (λ k. IsChunkOf k s.typed c) graph h)
+
+-- what a table answers to its outcomes, told of the query and of the alternative that were begun with
+pub rows_here : (later : Later) (g : Graph) (b : Bound) (y z : Typed) (c : Chunk) (mid new : Table) (r : Result More RowRefusal) → mid.bound ≡ b → z ≡ y
+    → chunks.PushesAll (outcomes_by later g mid.bound z (assignments_of g z c)) mid new r → chunks.PushesAll (outcomes_by later g b y (assignments_of g y c)) mid new r
+rows_here later g b y z c mid new r same typed h =
+    subst (λ q. chunks.PushesAll (outcomes_by later g q y (assignments_of g y c)) mid new r) same (subst (λ v. chunks.PushesAll (outcomes_by later g mid.bound v (assignments_of g v c)) mid new r) typed h)
 
 -- less is owed after it
 pub less_owed : (old chunk new : List Partial) → IsPermutation old (chunk ++ new) → chunk ≢ [] → length new < length old
@@ -225,7 +264,7 @@ module _ (old : Table) (begun : Rest) where
   counted_none fresh = record {
     count = 0;
     chunks = fresh;
-    pushed = λ before h. h ∙ (let e : up_to_most before ≡ up_to_most (before + 0) = omega arith in e);
+    pushed = λ _ before h. h ∙ (let e : up_to_most before ≡ up_to_most (before + 0) = omega arith in e);
     keys = omega arith;
     most = omega arith;
     none = λ e. refl;
@@ -233,7 +272,7 @@ module _ (old : Table) (begun : Rest) where
 
   -- one more chunk
   module _ (mid new : Table) (now after : Rest) (came : Counted old mid begun now) (next : IsPermutation now.owed (after.chunk ++ after.owed)) (some : after.chunk ≢ [])
-      (key : now.keys ≡ after.key ∷ after.keys) (chunk : after.chunks ≡ min (now.chunks + 1) (2 ^ 64 - 1)) (count : new.pushed ≡ min (mid.pushed + 1) (2 ^ 64 - 1)) where
+      (key : now.keys ≡ after.key ∷ after.keys) (chunk : after.chunks ≡ min (now.chunks + 1) (2 ^ 64 - 1)) (count : old.bound.optionals ≡ [] → new.pushed ≡ min (mid.pushed + 1) (2 ^ 64 - 1)) where
     longer : (more : List Partial) → more ≢ [] → 0 < length more
     longer [] h = absurd (h refl)
     longer (a ∷ rest) h = omega arith
@@ -242,8 +281,8 @@ module _ (old : Table) (begun : Rest) where
     counted_more = record {
       count = came.count + 1;
       chunks = chunk ∙ ap (λ n. min (n + 1) (2 ^ 64 - 1)) came.chunks ∙ one_counted came.count;
-      pushed = λ before h.
-          count ∙ ap (λ n. min (n + 1) (2 ^ 64 - 1)) (came.pushed before h) ∙ one_counted (before + came.count)
+      pushed = λ none before h.
+          count none ∙ ap (λ n. min (n + 1) (2 ^ 64 - 1)) (came.pushed none before h) ∙ one_counted (before + came.count)
           ∙ (let e : up_to_most (before + came.count + 1) ≡ up_to_most (before + (came.count + 1)) = omega arith in e);
       keys = omega (arith, came.keys, ap length key);
       most = omega (arith, came.most, length_permutation _ _ next, length-append after.chunk after.owed, longer after.chunk some);

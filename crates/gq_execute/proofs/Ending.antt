@@ -1,8 +1,8 @@
--- How a query with tests of paths ends: no turn comes, a test is refused, or tests are made and turns taken.
-use Rattle.std.proofs.Common.{◌≡◌, ◌∙◌, ap, refl, sym, subst, ℕ, suc, ◌≤◌, Bool, true, false, cond, ◌&&◌, ◌||◌, IsTrue, Some, slice_get, List, [], ◌∷◌, ◌++◌, flat_map, length, map, arith, Err, inl, inr, true≢false}
+-- How a query ends: no turn comes, a test or an optional clause is refused, or all is made and turns are taken.
+use Rattle.std.proofs.Common.{◌≡◌, ◌∙◌, ap, ap₂, append_assoc, refl, sym, subst, ℕ, suc, ◌≤◌, Bool, true, false, cond, ◌&&◌, ◌||◌, IsTrue, Some, slice_get, List, [], ◌∷◌, ◌++◌, flat_map, length, arith, Err, inl, inr, true≢false}
 use Rattle.std.specs.Prelude.{◌⊎◌, ◌↔◌, nat_eq}
 use Rattle.std.specs.List.{AllZip}
-use Rattle.std.proofs.lemmas.Bool.{eqb-true}
+use Rattle.std.proofs.lemmas.Bool.{and_right, eqb-true, or_left, or_right}
 use Rattle.std.proofs.lemmas.Bool.Decides.{nat_tests}
 use Rattle.gq_base.specs.Lists.{is_empty}
 use Rattle.gq_base.specs.Plain.{Graph}
@@ -11,23 +11,23 @@ use Rattle.gq_binder.specs.Binding.{IsBound}
 use Rattle.gq_pipe.specs.declared.pipeline.Spent.{Spent}
 use Rattle.gq_plan.specs.declared.Bound.{Bound}
 use Rattle.gq_plan.specs.declared.ExistsPart.{ExistsPart}
-use Rattle.gq_plan.specs.declared.Typed.{Typed}
 use Rattle.gq_rows.specs.Answers.{cut_of}
-use Rattle.gq_rows.specs.Tables.{StandsFor, Table, is_full, is_full_table}
+use Rattle.gq_rows.specs.Tables.{Table, is_full, is_full_table}
 use Rattle.gq_syntax.specs.declared.Query.{Query}
-use Rattle.gq_execute.specs.Answering.{Replies, RepliesToEach, question}
-use Rattle.gq_execute.specs.Replies.{Question, has_heavy_test, has_turns, some_many_keys, tests_of}
-use Rattle.gq_execute.specs.Spending.{IsSpentOn, tests_made}
+use Rattle.gq_execute.specs.Answering.{RepliesToEach, question}
+use Rattle.gq_execute.specs.Replies.{Question, has_heavy_clause, has_heavy_test, has_turns, some_many_keys, tests_of}
+use Rattle.gq_execute.specs.Spending.{IsSpentOn, IsSpentOnClause}
 use Rattle.gq_execute.specs.declared.refusal.AnswerRefusal.{AnswerRefusal}
 use Rattle.gq_execute.specs.declared.refusal.AnswerRefusal.TheVariants as refusal
-use Rattle.gq_execute.specs.declared.settings.Order.{Order}
 use Rattle.gq_execute.specs.declared.settings.Settings.{Settings}
-use Rattle.gq_execute.specs.declared.testing.Test.{Test}
 use Rattle.gq_execute.specs.steps.Answering.{AnswersWith, FillsWith, IsFresh}
-use Rattle.gq_execute.specs.steps.Testing.{AreTestsOf, RefusesTest, RefusesTests, spent_on}
+use Rattle.gq_execute.specs.declared.prepared.Prepared.{Prepared}
+use Rattle.gq_execute.specs.steps.Clauses.{AreSpentOn, some_heavy_clause}
+use Rattle.gq_execute.specs.steps.Prepared.{AreSpentOnTests, IsPrepared, RefusesBefore}
+use Rattle.gq_execute.specs.steps.Testing.{RefusesTest, RefusesTests, SomeHasMany, spent_on}
 use Rattle.gq_execute.proofs.Going.{came_start, spends_none}
 use Rattle.gq_execute.proofs.Parted.{bound_parted, heavy_tests, light_tests}
-use Rattle.gq_execute.proofs.Replying.{none_full, none_there, test_permitted, turns_come}
+use Rattle.gq_execute.proofs.Replying.{before_permitted, none_full, none_there, turns_come}
 
 module _ (g : Graph) (b : Bound) (settings : Settings) (t : Table) (real : IsTrue (is_valid g)) (fresh : IsFresh b settings t) where
   -- a query that is bound so
@@ -58,6 +58,8 @@ module _ (g : Graph) (b : Bound) (settings : Settings) (t : Table) (real : IsTru
     nothing_done = record {
       tested = [];
       on_tests = λ query text is. subst (λ v. AllZip (IsSpentOn g settings.order) (cond v b.patterns []) []) (sym (no_turns query text is)) tt;
+      listed = [];
+      on_clauses = λ query text is. subst (λ v. AllZip (IsSpentOnClause g settings.order) (cond v b.optionals []) []) (sym (no_turns query text is)) tt;
       own = [];
       fills = record {
         turns = 0;
@@ -66,6 +68,7 @@ module _ (g : Graph) (b : Bound) (settings : Settings) (t : Table) (real : IsTru
       };
       all = refl;
       light = λ query text is. ap (λ v. v && some_many_keys g settings.rows (tests_of query) b.patterns) (no_turns query text is);
+      light_clauses = λ query text is. ap (λ v. v && some_heavy_clause g settings.order settings.rows b.optionals) (no_turns query text is);
     }
 
   -- ---- a turn comes
@@ -74,22 +77,33 @@ module _ (g : Graph) (b : Bound) (settings : Settings) (t : Table) (real : IsTru
     has_come : (query : Query) (text : List ℕ) → IsBound query text g.catalog b → has_turns (asked query) ≡ true
     has_come query text is = turns_come (asked query) (bound_parted (asked query) text real is) t.held fresh.none (full_here false room) some
 
-    -- a test is refused
-    pub test_refused : (e : AnswerRefusal) → RefusesTests g settings.rows b.patterns e → RepliesToEach g b settings (Err e)
-    test_refused (refusal.TooManyRows most) h query text is = (h.0, test_permitted (asked query) (heavy_tests (asked query) text real is (has_come query text is) h.1))
-    test_refused (refusal.Fault f) h query text is = absurd h
-    test_refused refusal.Memory h query text is = tt
+    heavy_before : (query : Query) (text : List ℕ) → IsBound query text g.catalog b
+        → SomeHasMany g settings.rows b.patterns ⊎ (some_heavy_clause g settings.order settings.rows b.optionals ≡ true)
+        → (has_heavy_test (asked query) || has_heavy_clause (asked query)) ≡ true
+    heavy_before query text is (inl many) = or_left (has_heavy_test (asked query)) (has_heavy_clause (asked query)) (heavy_tests (asked query) text real is (has_come query text is) many)
+    heavy_before query text is (inr heavy) = or_right (has_heavy_test (asked query)) (has_heavy_clause (asked query)) (ap₂ ◌&&◌ (has_come query text is) heavy)
 
-    -- tests were made, and turns taken
-    pub all_done : (new : Table) (tests : List Test) (own spent : List Spent) → AreTestsOf g settings.rows b.patterns tests → AllZip (IsSpentOn g settings.order) b.patterns (spent_on tests)
-        → FillsWith g b settings new own → spent ≡ flat_map (λ s. s) (spent_on tests) ++ own → AnswersWith g b settings new spent
-    all_done new tests own spent are on fills all = record {
-      tested = spent_on tests;
-      on_tests = λ query text is. subst (λ v. AllZip (IsSpentOn g settings.order) (cond v b.patterns []) (spent_on tests)) (sym (has_come query text is)) on;
+    -- a test or an optional clause is refused
+    pub before_refused : (e : AnswerRefusal) → RefusesBefore g settings b e → RepliesToEach g b settings (Err e)
+    before_refused (refusal.TooManyRows most) h query text is = (h.0, before_permitted (asked query) (heavy_before query text is h.1))
+    before_refused (refusal.Fault f) h query text is = absurd h
+    before_refused refusal.Memory h query text is = tt
+
+    -- all was made, and turns were taken
+    pub all_done : (new : Table) (p : Prepared) (own spent : List Spent) → IsPrepared g settings.rows b p → some_heavy_clause g settings.order settings.rows b.optionals ≡ false
+        → AreSpentOnTests g settings.order b.patterns p.tests.all → AreSpentOn g settings.order b.optionals p.optionals.spent
+        → FillsWith g b settings new own → spent ≡ (flat_map (λ s. s) (spent_on p.tests.all) ++ p.optionals.spent) ++ own → AnswersWith g b settings new spent
+    all_done new p own spent is_ready light on on_clauses fills all = record {
+      tested = spent_on p.tests.all;
+      on_tests = λ query text is. subst (λ v. AllZip (IsSpentOn g settings.order) (cond v b.patterns []) (spent_on p.tests.all)) (sym (has_come query text is)) on;
+      listed = on_clauses.listed;
+      on_clauses = λ query text is. subst (λ v. AllZip (IsSpentOnClause g settings.order) (cond v b.optionals []) on_clauses.listed) (sym (has_come query text is)) on_clauses.each;
       own = own;
       fills = fills;
-      all = all;
-      light = λ query text is. light_tests (asked query) text real is tests are;
+      all = all ∙ append_assoc (flat_map (λ s. s) (spent_on p.tests.all)) p.optionals.spent own
+          ∙ ap (λ l. flat_map (λ s. s) (spent_on p.tests.all) ++ (l ++ own)) on_clauses.all;
+      light = λ query text is. light_tests (asked query) text real is p.tests.all is_ready.tests;
+      light_clauses = λ query text is. ap (λ v. has_turns (asked query) && v) light ∙ and_right (has_turns (asked query)) false refl;
     }
 
 -- a refusal of a part's test is one of the tests

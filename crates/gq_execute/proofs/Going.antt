@@ -1,6 +1,6 @@
 -- Each step of answering a query leads on, or to a reply that is permitted.
 use Rattle.std.proofs.Common.{◌≡◌, ℕ, zero, suc, ◌+◌, ◌<◌, ◌≤◌, get_or, Bool, true, false, Some, List, [], ◌∷◌, ◌++◌, length, take, drop, slice_get, Result, Err, inl, inr, refl, sym, ap, ap₂, ◌∙◌, append-nil, subst, arith, true≢false}
-use Rattle.std.specs.Prelude.{◌⊎◌, flat_map}
+use Rattle.std.specs.Prelude.{◌⊎◌, ◌||◌, flat_map}
 use Rattle.std.specs.List.{AllZip, fold}
 use Rattle.std.proofs.lemmas.Grind.{flat_map-append}
 use Rattle.gq_pipe.specs.Spending.{up_to_most}
@@ -20,10 +20,11 @@ use Rattle.gq_execute.specs.declared.settings.Order.{Order}
 use Rattle.gq_execute.specs.declared.settings.Settings.{Settings}
 use Rattle.gq_execute.specs.Answering.{Replies}
 use Rattle.gq_execute.specs.steps.Answering.{AreParted, Came, MakeOutcomes, Drains, IsFresh, Reached, Runs, Spends, SpendsTurn}
-use Rattle.gq_execute.specs.Replies.{Question, IsPermitted, Rows, TooManyRows, has_heavy_test, has_large_part, has_turn}
-use Rattle.gq_execute.specs.Spending.{AreSpent, IsSpentOn, IsTurn, Turn, own_chunks, tests_made, with_turns}
+use Rattle.gq_execute.specs.Replies.{Question, IsPermitted, Rows, TooManyRows, has_heavy_clause, has_heavy_test, has_large_part, has_turn}
+use Rattle.gq_execute.specs.Spending.{AreSpent, IsSpentOn, IsSpentOnClause, IsTurn, Turn, clauses_made, own_chunks, tests_made, with_turns}
+use Rattle.gq_optional.specs.Spending.{Listing, spent_on_each}
 use Rattle.gq_rows.specs.Chunks.{Stands}
-use Rattle.gq_execute.specs.steps.Taking.{Admission, MeetsMany, Takes, outcomes_by}
+use Rattle.gq_execute.specs.steps.Taking.{Later, MeetsMany, Takes, outcomes_by}
 use Rattle.gq_execute.specs.declared.refusal.AnswerRefusal.{AnswerRefusal}
 use Rattle.gq_execute.specs.declared.refusal.AnswerRefusal.TheVariants as refusal
 use Rattle.gq_execute.proofs.Replying.{reached_start, reached_next, reached_more, fault_permitted, many_permitted, rows_permitted, heavy_permitted, rows_of, turn_comes, turned_all}
@@ -60,7 +61,7 @@ take_at (z ∷ ys) (suc k) y e = ap (λ l. z ∷ l) (take_at ys k y e)
 
 -- ---- the turn of an alternative
 
-module _ (a : Question) (parted : AreParted a) (admitted : Admission) (makes : MakeOutcomes a admitted) (k : ℕ) (y : Typed) (old : Table) (here : slice_get a.bound.alternatives k ≡ Some y)
+module _ (a : Question) (parted : AreParted a) (becomes : Later) (makes : MakeOutcomes a becomes) (k : ℕ) (y : Typed) (old : Table) (here : slice_get a.bound.alternatives k ≡ Some y)
     (came : Came a (take k a.bound.alternatives) old) (room : is_full_table old ≡ false) where
   abbrev begun : List Typed
   begun = take (suc k) a.bound.alternatives
@@ -78,17 +79,17 @@ module _ (a : Question) (parted : AreParted a) (admitted : Admission) (makes : M
       (full_told a old false came.bound room) refl
 
   -- the alternative is begun: the outcomes of its plan are left
-  started : (Meets : List (Result Row Fault) → Type 0) (run : Runs admitted a.graph a.bound a.order old.most y Meets) → Reached a begun came.pushed (outcomes_by admitted a.graph a.bound y (meaning a.graph y run.plan))
+  started : (Meets : List (Result Row Fault) → Type 0) (run : Runs becomes a.graph a.bound a.order old.most y Meets) → Reached a begun came.pushed (outcomes_by becomes a.graph a.bound y (meaning a.graph y run.plan))
   started Meets run =
       let light : has_large_part a.graph a.order a.most y ≡ false = ap (λ m. has_large_part a.graph a.order m y) (sym came.most) ∙ run.light in
-      subst (λ ys. Reached a ys came.pushed (outcomes_by admitted a.graph a.bound y (meaning a.graph y run.plan))) (sym (take_at a.bound.alternatives k y here))
+      subst (λ ys. Reached a ys came.pushed (outcomes_by becomes a.graph a.bound y (meaning a.graph y run.plan))) (sym (take_at a.bound.alternatives k y here))
       (reached_next a (take k a.bound.alternatives) came.pushed y _ (IsPermutation-sym _ _ (makes k y here run.plan run.covers)) light has_come reached)
 
   stood : Stands came.pushed old
   stood = told a old came.pushed came.bound came.most came.stands
 
   -- its outcomes went into the table
-  pub turn_came : (new : Table) → Runs admitted a.graph a.bound a.order old.most y (λ os. Takes os old new) → Came a begun new
+  pub turn_came : (new : Table) → Runs becomes a.graph a.bound a.order old.most y (λ os. Takes os old new) → Came a begun new
   turn_came new run =
       let t = run.meets in
       let bound : new.bound ≡ a.bound = t.alike.bound ∙ came.bound in
@@ -104,14 +105,14 @@ module _ (a : Question) (parted : AreParted a) (admitted : Admission) (makes : M
       }
 
   -- or stopped it
-  pub turn_stopped : (new : Table) (e : AnswerRefusal) → Drains admitted a.graph a.bound a.order y old new (Err e) → Replies a (Err e)
+  pub turn_stopped : (new : Table) (e : AnswerRefusal) → Drains becomes a.graph a.bound a.order y old new (Err e) → Replies a (Err e)
   turn_stopped new (refusal.Fault f) run =
       let t = run.meets in
       fault_permitted a parted begun later (came.pushed ++ t.cut.pushed) t.cut.left (sym (take-append-drop (suc k) a.bound.alternatives))
       (reached_more a begun came.pushed _ t.cut.pushed t.cut.left t.cut.bag (started _ run)) f (rw (← came.bound) (t.seen came.pushed stood))
   turn_stopped new (refusal.TooManyRows most) (is, why) = (is ∙ came.most, many why)
     where
-      many : (has_large_part a.graph a.order old.most y ≡ true) ⊎ Runs admitted a.graph a.bound a.order old.most y (λ os. MeetsMany os old) → IsPermitted a TooManyRows
+      many : (has_large_part a.graph a.order old.most y ≡ true) ⊎ Runs becomes a.graph a.bound a.order old.most y (λ os. MeetsMany os old) → IsPermitted a TooManyRows
       many (inl heavy) =
           heavy_permitted a parted (take k a.bound.alternatives) later y came.pushed old.held (split_at a.bound.alternatives k y here) reached came.stands
           (full_told a old false came.bound room) (ap (λ m. has_large_part a.graph a.order m y) (sym came.most) ∙ heavy)
@@ -138,7 +139,7 @@ module _ (a : Question) (parted : AreParted a) (k : ℕ) (t : Table) (came : Cam
   done (inr all) (inr none) = inr (none, past a.bound.alternatives k all)
 
   -- its lines are permitted
-  pub finished : (lines : List (List Val)) → ((os : List (Result Row Fault)) → Stands os t → Answers t.bound os lines) → has_heavy_test a ≡ false → IsPermitted a (Rows lines)
+  pub finished : (lines : List (List Val)) → ((os : List (Result Row Fault)) → Stands os t → Answers t.bound os lines) → (has_heavy_test a || has_heavy_clause a) ≡ false → IsPermitted a (Rows lines)
   finished lines answers light =
       rows_permitted a parted (take k a.bound.alternatives) (drop k a.bound.alternatives) came.pushed came.left (sym (take-append-drop k a.bound.alternatives)) came.at t.held lines came.stands (done end came.done)
       (rw (← came.bound) (answers came.pushed (told a t came.pushed came.bound came.most came.stands))) light
@@ -148,16 +149,19 @@ module _ (a : Question) (parted : AreParted a) (k : ℕ) (t : Table) (came : Cam
   turns_taken =
       turned_all a parted (take k a.bound.alternatives) (drop k a.bound.alternatives) came.pushed came.left (sym (take-append-drop k a.bound.alternatives)) came.at t.held came.stands (done end came.done)
 
-  -- so what was spent in their turns, and before them on tests, is what all pipelines spent
-  pub spent_all : (tested : List (List Spent)) (own spent : List Spent) (pushed : ℕ) → pushed ≡ t.pushed → Spends a.graph a.bound a.order (take k a.bound.alternatives) t own
-      → AllZip (IsSpentOn a.graph a.order) (tests_made a) tested → spent ≡ flat_map (λ s. s) tested ++ own → AreSpent a spent pushed
-  spent_all tested own spent pushed same spends on_tests all = record {
+  -- so what was spent in their turns, and before them on tests and optional clauses, is what all pipelines spent
+  pub spent_all : (tested : List (List Spent)) (listed : List (List Listing)) (own spent : List Spent) (pushed : ℕ) → pushed ≡ t.pushed
+      → Spends a.graph a.bound a.order (take k a.bound.alternatives) t own → AllZip (IsSpentOn a.graph a.order) (tests_made a) tested
+      → AllZip (IsSpentOnClause a.graph a.order) (clauses_made a) listed → spent ≡ flat_map (λ s. s) tested ++ (flat_map spent_on_each listed ++ own) → AreSpent a spent pushed
+  spent_all tested listed own spent pushed same spends on_tests on_clauses all = record {
     tested = tested;
     on_tests = on_tests;
+    listed = listed;
+    on_clauses = on_clauses;
     turns = spends.turns;
     each = subst (λ ys. AllZip (IsTurn a.graph a.bound a.order) ys spends.turns) (sym turns_taken) spends.each;
-    all = all ∙ ap (λ l. flat_map (λ s. s) tested ++ l) spends.all;
-    chunks = same ∙ spends.chunks;
+    all = all ∙ ap (λ l. flat_map (λ s. s) tested ++ (flat_map spent_on_each listed ++ l)) spends.all;
+    chunks = λ none. same ∙ spends.chunks none;
   }
 
 -- an empty table stands for no outcomes
@@ -166,8 +170,8 @@ fresh_stands b settings t fresh =
     subst (λ m. StandsFor t.bound m [] t.held) (sym fresh.most) (subst (λ q. StandsFor q settings.rows [] t.held) (sym fresh.bound) fresh.none)
 
 -- what a table stands for when an alternative went into it
-pub taken_more : (admitted : Admission) (g : Graph) (b : Bound) (order : Order) (y : Typed) (old new : Table) → StandsForSome old → Runs admitted g b order old.most y (λ os. Takes os old new) → StandsForSome new
-taken_more admitted g b order y old new some run = (some.0 ++ run.meets.cut.pushed, run.meets.stands some.0 some.1)
+pub taken_more : (becomes : Later) (g : Graph) (b : Bound) (order : Order) (y : Typed) (old new : Table) → StandsForSome old → Runs becomes g b order old.most y (λ os. Takes os old new) → StandsForSome new
+taken_more becomes g b order y old new some run = (some.0 ++ run.meets.cut.pushed, run.meets.stands some.0 some.1)
 
 -- the alternative of a number
 pub item_at : {X : Type 0} (ys : List X) (k : ℕ) (y : X) → k < length ys → y ≡ get_or ys k y → slice_get ys k ≡ Some y
@@ -176,24 +180,24 @@ item_at (z ∷ ys) zero y lt e = ap Some (sym e)
 item_at (z ∷ ys) (suc k) y lt e = item_at ys k y (omega (arith, lt)) e
 
 -- a turn was taken
-pub turn_taken : (a : Question) → AreParted a → (admitted : Admission) → MakeOutcomes a admitted → (k : ℕ) (y : Typed) (old new : Table) → slice_get a.bound.alternatives k ≡ Some y → Came a (take k a.bound.alternatives) old → is_full_table old ≡ false
-    → Runs admitted a.graph old.bound a.order old.most y (λ os. Takes os old new) → Came a (take (k + 1) a.bound.alternatives) new
-turn_taken a parted admitted makes k y old new here came room run =
+pub turn_taken : (a : Question) → AreParted a → (becomes : Later) → MakeOutcomes a becomes → (k : ℕ) (y : Typed) (old new : Table) → slice_get a.bound.alternatives k ≡ Some y → Came a (take k a.bound.alternatives) old → is_full_table old ≡ false
+    → Runs becomes a.graph old.bound a.order old.most y (λ os. Takes os old new) → Came a (take (k + 1) a.bound.alternatives) new
+turn_taken a parted becomes makes k y old new here came room run =
     let same : suc k ≡ k + 1 = omega arith in
     subst (λ n. Came a (take n a.bound.alternatives) new) same
-    (turn_came a parted admitted makes k y old here came room new (subst (λ b. Runs admitted a.graph b a.order old.most y (λ os. Takes os old new)) came.bound run))
+    (turn_came a parted becomes makes k y old here came room new (subst (λ b. Runs becomes a.graph b a.order old.most y (λ os. Takes os old new)) came.bound run))
 
 -- or it was stopped
-pub turn_ended : (a : Question) → AreParted a → (admitted : Admission) → MakeOutcomes a admitted → (k : ℕ) (y : Typed) (old new : Table) → slice_get a.bound.alternatives k ≡ Some y → Came a (take k a.bound.alternatives) old → is_full_table old ≡ false
-    → (e : AnswerRefusal) → Drains admitted a.graph old.bound a.order y old new (Err e) → Replies a (Err e)
-turn_ended a parted admitted makes k y old new here came room e h =
-    turn_stopped a parted admitted makes k y old here came room new e (subst (λ b. Drains admitted a.graph b a.order y old new (Err e)) came.bound h)
+pub turn_ended : (a : Question) → AreParted a → (becomes : Later) → MakeOutcomes a becomes → (k : ℕ) (y : Typed) (old new : Table) → slice_get a.bound.alternatives k ≡ Some y → Came a (take k a.bound.alternatives) old → is_full_table old ≡ false
+    → (e : AnswerRefusal) → Drains becomes a.graph old.bound a.order y old new (Err e) → Replies a (Err e)
+turn_ended a parted becomes makes k y old new here came room e h =
+    turn_stopped a parted becomes makes k y old here came room new e (subst (λ b. Drains becomes a.graph b a.order y old new (Err e)) came.bound h)
 
 -- ---- what was spent
 
 -- in no turn
 pub spends_none : (g : Graph) (b : Bound) (settings : Settings) (t : Table) → IsFresh b settings t → Spends g b settings.order [] t []
-spends_none g b settings t fresh = record { turns = []; each = tt; all = refl; chunks = fresh.pushed }
+spends_none g b settings t fresh = record { turns = []; each = tt; all = refl; chunks = λ none. fresh.pushed }
 
 zip_more : {X Y : Type 0} (R : X → Y → Type 0) (xs : List X) (ys : List Y) (x : X) (y : Y) → AllZip R xs ys → R x y → AllZip R (xs ++ x ∷ []) (ys ++ y ∷ [])
 zip_more R [] [] x y zip here = (here, tt)
@@ -219,5 +223,5 @@ spends_more g b order ys k y old new spent more here same spends turn =
       all =
           ap₂ (λ l m. l ++ m) spends.all (turn.all ∙ sym (append-nil _))
           ∙ sym (flat_map-append (λ (t : Turn). t.sides ++ t.own ∷ []) spends.turns (turn.turn ∷ []));
-      chunks = turn.chunks (own_chunks spends.turns) spends.chunks ∙ ap up_to_most (sym (chunks_more 0 spends.turns turn.turn));
+      chunks = λ none. turn.chunks (ap (λ (q : Bound). q.optionals) same ∙ none) (own_chunks spends.turns) (spends.chunks none) ∙ ap up_to_most (sym (chunks_more 0 spends.turns turn.turn));
     }

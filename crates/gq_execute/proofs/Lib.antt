@@ -1,11 +1,17 @@
 pub mod Begins
+pub mod Chosen
+pub mod Copying
 pub mod Costing
 pub mod Covering
 pub mod Draining
 pub mod Ending
 pub mod Going
+pub mod Judging
+pub mod Listing
+pub mod Making
 pub mod OneReply
 pub mod Parted
 pub mod Parting
+pub mod Pushing
 pub mod Replying
 pub mod Turning

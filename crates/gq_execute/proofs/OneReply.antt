@@ -10,7 +10,7 @@ use Rattle.gq_plan.specs.Outcomes.{Row}
 use Rattle.gq_law_plans.proofs.Reordered.{permuted_flat_map}
 use Rattle.gq_rows.proofs.Bags.{kept_bag}
 use Rattle.gq_rows.specs.Answers.{cut_of, first_of, row_in, rows_in}
-use Rattle.gq_execute.specs.Replies.{Question, Rows, Faulted, TooManyRows, IsPermitted, has_heavy_test, is_too_many, some_heavy}
+use Rattle.gq_execute.specs.Replies.{Question, Rows, Faulted, TooManyRows, IsPermitted, has_heavy_clause, has_heavy_test, is_too_many, some_heavy}
 
 -- rows have no fault among them
 no_fault : (f : Fault) (rs : List Row) → Contains {X = Result Row Fault} (map Ok rs) (Err f) → ⊥
@@ -22,7 +22,7 @@ module _ (a : Question) where
   -- two listings are one bag
   one_bag : (xs ys : List (Result Row Fault)) → IsPermutation xs ys → is_too_many a xs ≡ is_too_many a ys
   one_bag xs ys same =
-      ap (λ n. nat_lt a.most n || (some_heavy a 0 a.bound.alternatives || has_heavy_test a)) (kept_bag a.bound (rows_in xs) (rows_in ys) (permuted_flat_map row_in xs ys same))
+      ap (λ n. nat_lt a.most n || (some_heavy a 0 a.bound.alternatives || (has_heavy_test a || has_heavy_clause a))) (kept_bag a.bound (rows_in xs) (rows_in ys) (permuted_flat_map row_in xs ys same))
 
   module _ (lines : List (List Val)) (rows : IsPermitted a (Rows lines)) where
     -- so rows and too many rows are never both permitted

@@ -1,13 +1,12 @@
 -- The alternatives of a bound query part its outcomes, where its tests admit their rows.
-use Rattle.std.proofs.Common.{◌≡◌, ◌∙◌, ap, ap₂, refl, sym, subst, ℕ, zero, suc, Bool, true, false, cond, ◌&&◌, ◌||◌, not, Option, Some, None, List, [], ◌∷◌, ◌++◌, flat_map, map, slice_get, Result, IsTrue}
-use Rattle.std.specs.Prelude.{filter, filter_map, IsPermutation}
-use Rattle.std.specs.List.{AllZip, cons_option, list_all}
+use Rattle.std.proofs.Common.{◌≡◌, ◌∙◌, ap, ap₂, refl, sym, subst, ℕ, zero, suc, Bool, true, false, cond, ◌&&◌, ◌||◌, not, Option, Some, None, List, [], ◌∷◌, ◌++◌, flat_map, map, slice_get, IsTrue}
+use Rattle.std.specs.Prelude.{filter_map}
+use Rattle.std.specs.List.{AllZip, cons_option}
 use Rattle.std.specs.Option.{option_map}
 use Rattle.std.proofs.Math.Bool.{or-true}
 use Rattle.std.proofs.lemmas.Bool.{and_right}
 use Rattle.std.proofs.lemmas.List.{map-append}
 use Rattle.std.proofs.lemmas.Simd.{map-map}
-use Rattle.std.proofs.lemmas.Option.{get_or_from_slice_get, slice_get_within}
 use Rattle.gq_alternatives.specs.Tested.{exists_value}
 use Rattle.gq_base.specs.Plain.{Graph}
 use Rattle.gq_base.specs.Valid.{is_valid}
@@ -18,21 +17,9 @@ use Rattle.gq_binder.specs.Tested.{IsTested, ScopedTest, all_met, is_met, scoped
 use Rattle.gq_exists.proofs.Asked.{exists_by_keys, few_counted, many_counted, matched_few, matched_many}
 use Rattle.gq_exists.specs.Made.{some_stand_on}
 use Rattle.gq_expr.specs.Reading as reading
-use Rattle.gq_expr.specs.declared.Fault.{Fault}
-use Rattle.gq_law_answers.proofs.Made.{alternatives_part_rows, each_plan_makes_rows, plain_late_rows}
-use Rattle.gq_law_answers.specs.Answered.{lying}
-use Rattle.gq_law_answers.specs.Made.{MakesRows}
+use Rattle.gq_law_answers.proofs.Made.{alternatives_part_rows}
 use Rattle.gq_lexer.specs.Sources.{source_text}
-use Rattle.gq_plan.specs.Assignments.{Assignment, row_of}
-use Rattle.gq_plan.specs.Covers.{Covers}
-use Rattle.gq_plan.specs.Marked.{Marked, ending, made_of, marked, marks}
-use Rattle.gq_plan.specs.Meaning.{meaning}
-use Rattle.gq_plan.specs.Outcomes.{Row, late_conjuncts, late_outcomes, meanings_of}
-use Rattle.gq_plan.specs.Plans.{Plan}
-use Rattle.gq_plan.specs.declared.Bound.{Bound}
 use Rattle.gq_plan.specs.declared.ExistsPart.{ExistsPart}
-use Rattle.gq_plan.specs.declared.NamedExpr.{NamedExpr}
-use Rattle.gq_plan.specs.declared.Typed.{Typed}
 use Rattle.gq_syntax.specs.declared.Path.{Path}
 use Rattle.gq_syntax.specs.declared.Query.{Query}
 use Rattle.gq_trees.specs.Conjuncts.{NamedTest, named_test}
@@ -40,58 +27,9 @@ use Rattle.gq_trees.specs.Conjuncts as trees
 use Rattle.gq_trees.specs.PathTests.{PathTest}
 use Rattle.gq_trees.specs.Resolving.{Conjunct, functions, split}
 use Rattle.gq_execute.specs.Replies.{Question, has_heavy_test, has_many_keys, has_turns, later_of, shared_nodes, some_many_keys, tests_of}
-use Rattle.gq_execute.specs.Answering.{question}
-use Rattle.gq_execute.specs.declared.settings.Settings.{Settings}
 use Rattle.gq_execute.specs.declared.testing.Test.{Test}
-use Rattle.gq_execute.specs.steps.Answering.{AreParted, MakeOutcomes}
-use Rattle.gq_execute.specs.steps.Taking.{Admission, outcomes_by}
+use Rattle.gq_execute.specs.steps.Answering.{AreParted}
 use Rattle.gq_execute.specs.steps.Testing.{AreTestsOf, HasManyKeys, IsTestOf, SomeHasMany, admitted_by, passes_test}
-use Rattle.gq_execute.proofs.Draining.{filtered}
-
--- ---- rows that tests admit
-
-module _ (g : Graph) (ts : List ScopedTest) (parts : List ExistsPart) (later : Marked → List (Result Row Fault)) where
-  abbrev met : reading.Assignment → Bool
-  met row = all_met g ts parts row
-
-  -- a row that is left goes on where the tests are true of it
-  met_marks : (row : reading.Assignment) (b : Bool) → met row ≡ b → (ms : List (Option Fault))
-      → flat_map (where_met g ts parts later) (map (λ m. record { row = row; mark = m }) ms) ≡ cond b (flat_map later (map (λ m. record { row = row; mark = m }) ms)) []
-  met_marks row true e [] = refl
-  met_marks row false e [] = refl
-  met_marks row true e (m ∷ ms) = ap₂ (λ b l. cond b (later (record { row = row; mark = m })) [] ++ l) e (met_marks row true e ms)
-  met_marks row false e (m ∷ ms) = ap₂ (λ b l. cond b (later (record { row = row; mark = m })) [] ++ l) e (met_marks row false e ms)
-
-  met_row : (conjuncts : List NamedExpr) (row : reading.Assignment) → flat_map (where_met g ts parts later) (marked g conjuncts row) ≡ cond (met row) (flat_map later (marked g conjuncts row)) []
-  unfolding marked
-  met_row conjuncts row = met_marks row (met row) refl (marks (meanings_of g row conjuncts))
-
-  made_where : (conjuncts : List NamedExpr) (xs : List Assignment) → made_of g conjuncts (where_met g ts parts later) xs ≡ made_of g conjuncts later (filter (λ t. met (row_of t)) xs)
-  made_where conjuncts xs =
-      (λ i. flat_map (λ (t : Assignment). met_row conjuncts (row_of t) i) xs) ∙ sym (filtered (λ t. flat_map later (marked g conjuncts (row_of t))) (λ t. met (row_of t)) xs)
-
--- ---- the alternatives
-
-module _ (a : Question) (text : List ℕ) (real : IsTrue (is_valid a.graph)) (is : IsBound a.query text a.graph.catalog a.bound)
-    (admitted : Admission) (means : (row : reading.Assignment) → admitted row ≡ all_met a.graph (tests_of a.query) a.bound.patterns row) where
-  abbrev plainly : Marked → List (Result Row Fault)
-  plainly m = ending a.graph a.bound m ∷ []
-
-  -- the outcomes of an alternative's own rows
-  made_late : (y : Typed) (xs : List Assignment) → made_of a.graph (late_conjuncts a.bound y) (later_of a) xs ≡ outcomes_by admitted a.graph a.bound y xs
-  made_late y xs =
-      made_where a.graph (tests_of a.query) a.bound.patterns plainly (late_conjuncts a.bound y) xs
-      ∙ plain_late_rows a.graph a.bound y (filter (λ t. all_met a.graph (tests_of a.query) a.bound.patterns (row_of t)) xs)
-      ∙ (λ i. late_outcomes a.graph a.bound y (filter (λ t. sym (means (row_of t)) i) xs))
-
-  makes : (k : ℕ) (y : Typed) → slice_get a.bound.alternatives k ≡ Some y → MakesRows a.graph a.query a.bound (later_of a) y
-  makes k y e =
-      subst (MakesRows a.graph a.query a.bound (later_of a)) (get_or_from_slice_get a.bound.alternatives k y y e)
-      (each_plan_makes_rows a.graph a.query text a.bound (later_of a) real is k y (slice_get_within a.bound.alternatives k y e))
-
-  pub outcomes_made : MakeOutcomes a admitted
-  outcomes_made k y e p covers =
-      subst (λ l. IsPermutation l (made_of a.graph a.bound.conjuncts (later_of a) (lying a.query a.graph y))) (made_late y (meaning a.graph y p)) (makes k y e p covers)
 
 pub bound_parted : (a : Question) (text : List ℕ) → IsTrue (is_valid a.graph) → IsBound a.query text a.graph.catalog a.bound → AreParted a
 bound_parted a text real is = alternatives_part_rows a.graph a.query text a.bound (later_of a) real is
@@ -228,10 +166,3 @@ module _ (a : Question) (text : List ℕ) (real : IsTrue (is_valid a.graph)) (is
   heavy_tests turns has =
       ap (λ b. b && some_many_keys a.graph a.most (tests_of a.query) a.bound.patterns) turns
       ∙ many_asked ∙ some_many a.graph a.most text real (named.tests text a.query) a.bound.patterns is.tested has.number has.part has.there has.has
-
--- so plans make the outcomes of such a question
-pub made_here : (g : Graph) (query : Query) (b : Bound) (settings : Settings) (text : List ℕ) (tests : List Test) → IsTrue (is_valid g) → IsBound query text g.catalog b → AreTestsOf g settings.rows b.patterns tests
-    → MakeOutcomes (question g query b settings) (admitted_by tests)
-made_here g query b settings text tests real is are =
-    let a : Question = question g query b settings in
-    outcomes_made a text real is (admitted_by tests) (admitted_means a text real is tests are)

@@ -15,7 +15,7 @@ use Rattle.gq_plan.specs.Outcomes.{Row}
 use Rattle.gq_plan.specs.declared.Typed.{Typed}
 use Rattle.gq_rows.specs.Answers.{Answers, rows_in, cut_of, first_of, looked_at, kept}
 use Rattle.gq_rows.specs.Tables.{Held, StandsFor, is_full}
-use Rattle.gq_execute.specs.Replies.{Question, all_outcomes, outcomes_in, has_turn, has_large_part, some_heavy, has_heavy_test, has_turns, Rows, Faulted, TooManyRows, IsPermitted}
+use Rattle.gq_execute.specs.Replies.{Question, all_outcomes, outcomes_in, has_turn, has_large_part, some_heavy, has_heavy_clause, has_heavy_test, has_turns, Rows, Faulted, TooManyRows, IsPermitted}
 use Rattle.gq_execute.specs.Spending.{with_turns}
 use Rattle.gq_execute.specs.steps.Answering.{AreParted, Reached}
 use Rattle.gq_rows.proofs.Listings.{looked_front, rows_append, kept_grows, kept_few, full_enough, full_looked, open_few, few_rows}
@@ -198,7 +198,7 @@ module _ (a : Question) (parted : AreParted a) (begun later : List Typed) (pushe
 
   -- the rows, once as many are held as are looked at, or nothing is left
   pub rows_permitted : (held : Held) (lines : List (List Val)) → StandsFor a.bound a.most pushed held → (is_full (cut_of a.bound) held ≡ true) ⊎ ((left ≡ []) × (later ≡ []))
-      → Answers a.bound pushed lines → has_heavy_test a ≡ false → IsPermitted a (Rows lines)
+      → Answers a.bound pushed lines → (has_heavy_test a || has_heavy_clause a) ≡ false → IsPermitted a (Rows lines)
   rows_permitted held lines stands done answers light = record {
     listing = listing;
     as_a_bag = listing_bag;
@@ -214,7 +214,7 @@ pub heavy_permitted : (a : Question) → AreParted a → (begun later : List Typ
 heavy_permitted a parted begun later y pushed held are at stands room heavy = record {
   listing = listing a parted begun (y ∷ later) pushed [] are at;
   as_a_bag = listing_bag a parted begun (y ∷ later) pushed [] are at;
-  permits = ap (λ b. nat_lt a.most (kept a.bound (rows_in (listing a parted begun (y ∷ later) pushed [] are at))) || (b || has_heavy_test a)) (ap (some_heavy a 0) are ∙ heavy_append a 0 begun (y ∷ later) ∙ here) ∙ or-true _;
+  permits = ap (λ b. nat_lt a.most (kept a.bound (rows_in (listing a parted begun (y ∷ later) pushed [] are at))) || (b || (has_heavy_test a || has_heavy_clause a))) (ap (some_heavy a 0) are ∙ heavy_append a 0 begun (y ∷ later) ∙ here) ∙ or-true _;
 }
   where
     here : (some_heavy a 0 begun || some_heavy a (0 + rows_of a begun) (y ∷ later)) ≡ true
@@ -224,9 +224,9 @@ heavy_permitted a parted begun later y pushed held are at stands room heavy = re
         (ap₂ ◌&&◌ (ap (has_turn (cut_of a.bound)) zero_rows ∙ turn_comes a parted begun (y ∷ later) pushed [] are at held stands room refl) heavy)
         ∙ or-true (some_heavy a 0 begun)
 
--- the path of a test has too many keys
-pub test_permitted : (a : Question) → has_heavy_test a ≡ true → IsPermitted a TooManyRows
-test_permitted a heavy = record {
+-- the path of a test has too many keys, or an optional clause too many matches
+pub before_permitted : (a : Question) → (has_heavy_test a || has_heavy_clause a) ≡ true → IsPermitted a TooManyRows
+before_permitted a heavy = record {
   listing = all_outcomes a;
   as_a_bag = IsPermutation-refl (all_outcomes a);
   permits =

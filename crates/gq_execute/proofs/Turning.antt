@@ -27,7 +27,7 @@ use Rattle.gq_execute.specs.Planned.{IsPlanIn, sizes}
 use Rattle.gq_execute.specs.Spending.{IsTurn}
 use Rattle.gq_execute.specs.steps.Answering.{Drains, Runs}
 use Rattle.gq_execute.specs.Replies.{has_large_part}
-use Rattle.gq_execute.specs.steps.Taking.{Admission, Cut, HasRun, MeetsFault, MeetsMany, Takes, TakesAll, outcomes_by, owed_outcomes}
+use Rattle.gq_execute.specs.steps.Taking.{Cut, HasRun, Later, MeetsFault, MeetsMany, Takes, TakesAll, outcomes_by, owed_outcomes}
 use Rattle.gq_execute.specs.declared.refusal.AnswerRefusal.{AnswerRefusal}
 use Rattle.gq_execute.specs.declared.refusal.AnswerRefusal.TheVariants as refusal
 use Rattle.gq_execute.specs.declared.settings.Order.{Order}
@@ -35,12 +35,12 @@ use Rattle.gq_execute.proofs.Draining.{outcomes_bag}
 
 -- ---- what goes into the table
 
-module _ (admitted : Admission) (g : Graph) (order : Order) (y : Typed) (old new : Table) (p : Plan) (covers : Covers g.catalog y p) (light : has_large_part g order old.most y ≡ false) where
+module _ (becomes : Later) (g : Graph) (order : Order) (y : Typed) (old new : Table) (p : Plan) (covers : Covers g.catalog y p) (light : has_large_part g order old.most y ≡ false) where
   abbrev started : Table
-  started = record { bound = old.bound; most = old.most; alternative = Some y; held = old.held; pushed = old.pushed }
+  started = record { bound = old.bound; most = old.most; alternative = Some y; graph = Some g; held = old.held; pushed = old.pushed }
 
   abbrev os : List (Result Row Fault)
-  os = outcomes_by admitted g old.bound y (meaning g y p)
+  os = outcomes_by becomes g old.bound y (meaning g y p)
 
   -- what is taken of the same outcomes in another order
   abbrev recut : (here : List (Result Row Fault)) → IsPermutation os here → Cut here → Cut os
@@ -48,33 +48,33 @@ module _ (admitted : Admission) (g : Graph) (order : Order) (y : Typed) (old new
 
   module _ (start : Table) (pipeline : Rest) (is : start ≡ started) (typed : pipeline.source.typed ≡ y) (owed : IsPermutation (map (whole y) pipeline.owed) (meaning g y p)) where
     -- a pipeline of this plan owes these outcomes
-    owed_same : owed_outcomes admitted g start pipeline ≡ outcomes_by admitted g old.bound y (map (whole y) pipeline.owed)
-    owed_same = ap (λ (t : Table). owed_outcomes admitted g t pipeline) is ∙ ap (λ z. outcomes_by admitted g old.bound z (map (whole z) pipeline.owed)) typed
+    owed_same : owed_outcomes becomes g start pipeline ≡ outcomes_by becomes g old.bound y (map (whole y) pipeline.owed)
+    owed_same = ap (λ (t : Table). owed_outcomes becomes g t pipeline) is ∙ ap (λ z. outcomes_by becomes g old.bound z (map (whole z) pipeline.owed)) typed
 
-    owed_bag : IsPermutation os (owed_outcomes admitted g start pipeline)
+    owed_bag : IsPermutation os (owed_outcomes becomes g start pipeline)
     owed_bag =
         subst (IsPermutation os) (sym owed_same)
-        (outcomes_bag admitted g old.bound y (meaning g y p) (map (whole y) pipeline.owed) (IsPermutation-sym _ _ owed))
+        (outcomes_bag becomes g old.bound y (meaning g y p) (map (whole y) pipeline.owed) (IsPermutation-sym _ _ owed))
 
     -- what it hands out went into the table
-    pub turned : Takes (owed_outcomes admitted g start pipeline) start new → Runs admitted g old.bound order old.most y (λ os. Takes os old new)
+    pub turned : Takes (owed_outcomes becomes g start pipeline) start new → Runs becomes g old.bound order old.most y (λ os. Takes os old new)
     turned takes =
-        let t = subst (λ (s : Table). Takes (owed_outcomes admitted g start pipeline) s new) is takes in
+        let t = subst (λ (s : Table). Takes (owed_outcomes becomes g start pipeline) s new) is takes in
         record {
           plan = p;
           covers = covers;
           light = light;
-          meets = record { cut = recut (owed_outcomes admitted g start pipeline) owed_bag t.cut; alike = record { bound = t.alike.bound; most = t.alike.most }; stands = t.stands; done = t.done };
+          meets = record { cut = recut (owed_outcomes becomes g start pipeline) owed_bag t.cut; alike = record { bound = t.alike.bound; most = t.alike.most }; stands = t.stands; done = t.done };
         }
 
     -- or it was stopped
-    pub turn_stops : (e : AnswerRefusal) → TakesAll (owed_outcomes admitted g start pipeline) start new (Err e) → Drains admitted g old.bound order y old new (Err e)
+    pub turn_stops : (e : AnswerRefusal) → TakesAll (owed_outcomes becomes g start pipeline) start new (Err e) → Drains becomes g old.bound order y old new (Err e)
     turn_stops (refusal.Fault f) takes =
-        let t = subst (λ (s : Table). MeetsFault (owed_outcomes admitted g start pipeline) s f) is takes in
-        record { plan = p; covers = covers; light = light; meets = record { cut = recut (owed_outcomes admitted g start pipeline) owed_bag t.cut; seen = t.seen } }
+        let t = subst (λ (s : Table). MeetsFault (owed_outcomes becomes g start pipeline) s f) is takes in
+        record { plan = p; covers = covers; light = light; meets = record { cut = recut (owed_outcomes becomes g start pipeline) owed_bag t.cut; seen = t.seen } }
     turn_stops (refusal.TooManyRows most) takes =
-        let t = subst (λ (s : Table). MeetsMany (owed_outcomes admitted g start pipeline) s) is takes.1 in
-        (takes.0 ∙ ap (λ (s : Table). s.most) is, inr (record { plan = p; covers = covers; light = light; meets = record { cut = recut (owed_outcomes admitted g start pipeline) owed_bag t.cut; many = t.many } }))
+        let t = subst (λ (s : Table). MeetsMany (owed_outcomes becomes g start pipeline) s) is takes.1 in
+        (takes.0 ∙ ap (λ (s : Table). s.most) is, inr (record { plan = p; covers = covers; light = light; meets = record { cut = recut (owed_outcomes becomes g start pipeline) owed_bag t.cut; many = t.many } }))
     turn_stops refusal.Memory takes = tt
 
 -- ---- what is spent
@@ -91,7 +91,7 @@ flat_runs (Then (Keep i) p) h = flat_runs p h
 flat_runs (Then (Differ i) p) h = flat_runs p h
 flat_runs (Then (NoLoop x) p) h = flat_runs p h
 
-runs_sides : (p : Plan) → list_all is_flat (sides p) ≡ true → runs_of p ≡ sides p
+pub runs_sides : (p : Plan) → list_all is_flat (sides p) ≡ true → runs_of p ≡ sides p
 unfolding runs_of sides
 runs_sides Done h = refl
 runs_sides (Then (Scan v) p) h = runs_sides p h
@@ -131,11 +131,11 @@ module _ (g : Graph) (y : Typed) (p : Plan) (old new : Table) (begun now : Rest)
       go (inl full) = absurd (true≢false (sym full ∙ ap (λ c. is_full c new.held) uncut))
       go (inr all) = counted ∙ ap up_to_most (all ∙ ap length (keys flat))
 
-  -- the table counts its chunks
-  pub own_counted : (before : ℕ) → old.pushed ≡ up_to_most before → new.pushed ≡ up_to_most (before + own.chunks)
-  own_counted before h =
+  -- the table counts its chunks, where there are no optional clauses
+  pub own_counted : old.bound.optionals ≡ [] → (before : ℕ) → old.pushed ≡ up_to_most before → new.pushed ≡ up_to_most (before + own.chunks)
+  own_counted none before h =
       let e : up_to_most (before + run.count) ≡ up_to_most (before + own.chunks) = omega (arith, counted) in
-      run.pushed before h ∙ e
+      run.pushed none before h ∙ e
 
 -- the turn of an alternative, whose plan has side plans without joins
 pub turn_spent : (g : Graph) (b : Bound) (order : Order) (y : Typed) (p : Plan) (costs : List (Option ℕ)) (ss : List Spent) (own : Spent) → IsPlanIn order g.catalog (sizes g) y p costs

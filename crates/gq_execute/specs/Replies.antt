@@ -8,19 +8,23 @@ use Rattle.gq_base.specs.Lists.{is_empty}
 use Rattle.gq_base.specs.Values.{Val}
 use Rattle.gq_base.specs.declared.NodeId.{NodeId}
 use Rattle.gq_alternatives.specs.Matches.{matches, pattern_matches}
+use Rattle.gq_binder.specs.Optionals.{clause_matches, known_first}
 use Rattle.gq_binder.specs.Tested.{ScopedTest, tests, where_met}
 use Rattle.gq_expr.specs.declared.Fault.{Fault}
-use Rattle.gq_law_answers.specs.Answered.{lying}
+use Rattle.gq_law_answers.specs.Answered.{allowed, lying}
 use Rattle.gq_plan.specs.Keys.{different, key_of}
+use Rattle.gq_plan.specs.Assignments.{Assignment}
 use Rattle.gq_plan.specs.Marked.{Marked, ending, made_of}
 use Rattle.gq_plan.specs.Outcomes.{Row}
 use Rattle.gq_plan.specs.Parts.{Part, given_parts, greedy_parts, part_assignments}
 use Rattle.gq_plan.specs.declared.Bound.{Bound}
 use Rattle.gq_plan.specs.declared.ExistsPart.{ExistsPart}
+use Rattle.gq_plan.specs.declared.bound.OptionalPart.{OptionalPart}
 use Rattle.gq_plan.specs.declared.Typed.{Typed}
 use Rattle.gq_scopes.specs.PathPatterns.{path_pattern}
 use Rattle.gq_rows.specs.Answers.{Answers, cut_of, kept, looked_at, rows_in}
 use Rattle.gq_syntax.specs.declared.Query.{Query}
+use Rattle.gq_wide.specs.Clauses.{after_clauses}
 use Rattle.gq_execute.specs.declared.settings.Order.{Order}
 use Rattle.gq_execute.specs.declared.settings.Order.TheVariants as order
 
@@ -42,9 +46,16 @@ parts_by order.Least y = greedy_parts y
 abbrev pub tests_of : Query → List ScopedTest
 tests_of query = tests [] query
 
--- what becomes of a row that the other conjuncts leave: its outcome, where all tests are true of it
+-- the outcomes of what the optional clauses make of a row, each with its matches; these variables stood before them
+abbrev pub outcomes_behind : Graph → Bound → List ℕ → List (List Assignment) → Marked → List (Result Row Fault)
+outcomes_behind g b known mss m = map (ending g b) (after_clauses g known b.optionals mss m)
+
+abbrev pub behind_optionals : Question → Marked → List (Result Row Fault)
+behind_optionals a = outcomes_behind a.graph a.bound (known_first a.query) (map (clause_matches a.graph) a.query.optionals)
+
+-- what becomes of a row that the other conjuncts leave: its outcomes, where all tests are true of it
 abbrev pub later_of : Question → Marked → List (Result Row Fault)
-later_of a = where_met a.graph (tests_of a.query) a.bound.patterns (λ m. ending a.graph a.bound m ∷ [])
+later_of a = where_met a.graph (tests_of a.query) a.bound.patterns (behind_optionals a)
 
 -- the outcomes of all matches, and those of the matches that lie in an alternative
 abbrev pub all_outcomes : Question → List (Result Row Fault)
@@ -92,11 +103,23 @@ some_many_keys g most (t ∷ ts) (part ∷ parts) = has_many_keys g most t part 
 abbrev pub has_heavy_test : Question → Bool
 has_heavy_test a = has_turns a && some_many_keys a.graph a.most (tests_of a.query) a.bound.patterns
 
--- too many rows are kept of a listing, or a part has too many assignments, or a test's path too many shared nodes
+-- an alternative of an optional clause has more matches than this, or some part of it more assignments
+abbrev pub is_heavy_in : Graph → Order → ℕ → Typed → Bool
+is_heavy_in g order most y = nat_lt most (length (allowed g y)) || has_large_part g order most y
+
+unfoldable pub is_heavy_clause : Graph → Order → ℕ → OptionalPart → Bool
+is_heavy_clause g order most part = list_any (is_heavy_in g order most) part.alternatives
+
+-- this is so of some optional clause, where some alternative's turn comes
+abbrev pub has_heavy_clause : Question → Bool
+has_heavy_clause a = has_turns a && list_any (is_heavy_clause a.graph a.order a.most) a.bound.optionals
+
+-- too many rows are kept of a listing, or a part has too many assignments, or a test's path too many shared nodes, or an optional
+-- clause too many matches
 abbrev pub is_too_many : Question → List (Result Row Fault) → Bool
 is_too_many a listing =
     nat_lt a.most (kept a.bound (rows_in listing))
-    || (some_heavy a 0 a.bound.alternatives || has_heavy_test a)
+    || (some_heavy a 0 a.bound.alternatives || (has_heavy_test a || has_heavy_clause a))
 
 -- the lines of an answer, each with the values of its columns; or why there are none
 pub data Reply : Type 0 where

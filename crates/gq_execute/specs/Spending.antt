@@ -4,6 +4,7 @@ use Rattle.std.specs.List.{AllZip}
 use Rattle.gq_base.specs.Plain.{Graph}
 use Rattle.gq_binder.specs.Binding.{IsBound}
 use Rattle.gq_exists.specs.Spending.{HasSpentEach}
+use Rattle.gq_optional.specs.Spending.{Listing, spent_on_each}
 use Rattle.gq_pipe.specs.Spending.{HasOneEach, HasSpent, HasSpentAll, up_to_most}
 use Rattle.gq_pipe.specs.declared.pipeline.Spent.{Spent}
 use Rattle.gq_plan.specs.Covers.{Covers}
@@ -11,6 +12,7 @@ use Rattle.gq_plan.specs.Parts.{sides}
 use Rattle.gq_plan.specs.Plans.{Plan}
 use Rattle.gq_plan.specs.declared.Bound.{Bound}
 use Rattle.gq_plan.specs.declared.ExistsPart.{ExistsPart}
+use Rattle.gq_plan.specs.declared.bound.OptionalPart.{OptionalPart}
 use Rattle.gq_plan.specs.declared.Typed.{Typed}
 use Rattle.gq_rows.specs.Answers.{cut_of, rows_in}
 use Rattle.gq_syntax.specs.declared.Query.{Query}
@@ -65,15 +67,36 @@ pub record IsSpentOn (g : Graph) (order : Order) (part : ExistsPart) (spent : Li
 abbrev pub tests_made : Question → List ExistsPart
 tests_made a = if has_turns a then a.bound.patterns else []
 
--- what all pipelines spent: those of the tests of paths, and behind them those of the alternatives whose turn comes; the chunks
--- with a row that were pushed are those of the alternatives' own pipelines
+-- what was spent to list the matches of an alternative of an optional clause: on pipelines of its plan, which covers it; those of
+-- the side plans and its own all hand out all
+pub record IsSpentOnListing (g : Graph) (order : Order) (y : Typed) (l : Listing) : Type 0 where
+  pub plan : Plan
+  pub costs : List (Option ℕ)
+  pub planned : IsPlanIn order g.catalog (sizes g) y plan costs
+  pub covers : Covers g.catalog y plan
+  pub sides : AllZip (HasSpentAll g y) (sides plan) l.sides
+  pub own : HasSpentAll g y plan l.own
+
+-- what was spent on an optional clause, alternative by alternative
+abbrev pub IsSpentOnClause : Graph → Order → OptionalPart → List Listing → Type 0
+IsSpentOnClause g order part listings = AllZip (IsSpentOnListing g order) part.alternatives listings
+
+-- the optional clauses whose matches are listed: all of them, where some alternative's turn comes
+abbrev pub clauses_made : Question → List OptionalPart
+clauses_made a = if has_turns a then a.bound.optionals else []
+
+-- what all pipelines spent: those of the tests of paths, behind them those of the optional clauses, clause by clause, and behind
+-- these those of the alternatives whose turn comes; without optional clauses, the chunks with a row that were pushed are those of
+-- the alternatives' own pipelines
 pub record AreSpent (a : Question) (spent : List Spent) (pushed : ℕ) : Type 0 where
   pub tested : List (List Spent)
   pub on_tests : AllZip (IsSpentOn a.graph a.order) (tests_made a) tested
+  pub listed : List (List Listing)
+  pub on_clauses : AllZip (IsSpentOnClause a.graph a.order) (clauses_made a) listed
   pub turns : List Turn
   pub each : AllZip (IsTurn a.graph a.bound a.order) (with_turns a 0 a.bound.alternatives) turns
-  pub all : spent ≡ flat_map (λ s. s) tested ++ spent_in turns
-  pub chunks : pushed ≡ up_to_most (own_chunks turns)
+  pub all : spent ≡ flat_map (λ s. s) tested ++ (flat_map spent_on_each listed ++ spent_in turns)
+  pub chunks : a.bound.optionals ≡ [] → pushed ≡ up_to_most (own_chunks turns)
 
 -- the same for each query that is bound so
 abbrev pub SpendsToEach : Graph → Bound → Settings → Result Answer AnswerRefusal → Type 0

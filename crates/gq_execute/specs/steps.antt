@@ -1,4 +1,9 @@
 pub mod Answering
+pub mod Behind
+pub mod Clauses
+pub mod Copied
 pub mod Costing
+pub mod Late
+pub mod Prepared
 pub mod Taking
 pub mod Testing

@@ -1,25 +1,30 @@
-//! Answers a query alternative by alternative: the pipelines of the plan of each one run, and the
-//! chunks that its own hands out go into one table of rows.
-ghost use Rattle.std.specs.Prelude.{◌≡◌, ◌≤◌, ◌<◌, false, length, All, IfOk, IsSome, OnOk};
+//! Answers a query alternative by alternative: the pipelines of the plan of each one run, and what
+//! its own hands out goes into one table of rows, behind the optional clauses where there are some.
+ghost use Rattle.std.specs.Prelude.{◌≡◌, ◌≤◌, ◌<◌, false, length, All, IfOk, IsSome, OnOk, Some};
 ghost use Rattle.gq_execute.specs.Answering.{RepliesToEach, lines_in};
 ghost use Rattle.gq_execute.specs.Planned.{sizes};
 ghost use Rattle.gq_execute.specs.Spending.{SpendsToEach};
 ghost use Rattle.gq_execute.specs.steps.Answering.{AnswersAll, Drains, Fills, IsFresh};
 ghost use Rattle.gq_execute.specs.steps.Answering.{SpendsTurn};
-ghost use Rattle.gq_execute.specs.steps.Taking.{HasRun, IsRunOf, TakesAll, owed_outcomes};
-ghost use Rattle.gq_execute.specs.steps.Testing.{AreTestsOf, admitted_by};
+ghost use Rattle.gq_execute.specs.steps.Prepared.{IsPrepared, later_by};
+ghost use Rattle.gq_execute.specs.steps.Taking.{HasRun, IsRunOf, TakesAll, if_admitted};
+ghost use Rattle.gq_execute.specs.steps.Taking.{owed_outcomes};
+ghost use Rattle.gq_execute.specs.steps.Testing.{admitted_by};
 ghost use Rattle.gq_group.specs.Groups.{choices};
 ghost use Rattle.gq_pipe.specs.Serving.{Serves};
 ghost use Rattle.gq_plan.specs.Soundness.{IsSound};
 ghost use Rattle.gq_pool.specs.Pool.{spare_of};
 ghost use Rattle.gq_rows.specs.Chunks.{IsChunkIn, PushesAdmitted, counted};
 ghost use Rattle.gq_rows.specs.Tables.{IsSameQuery, StandsForSome, is_full_table};
+ghost use Rattle.gq_wide.specs.Placed.{IsPlaced};
 
+use crate::behind::drain_behind;
 use crate::found::Answer;
 use crate::planning::{plan_for, stats_of};
+use crate::prepared::{Prepared, prepare};
 use crate::refusal::AnswerRefusal;
 use crate::settings::Settings;
-use crate::testing::{Tests, append, tests_of};
+use crate::testing::{Tests, append};
 use gq_base::{List, Memory};
 use gq_group::Chunk;
 use gq_order::Stats;
@@ -38,6 +43,7 @@ fn push<'g>(
     tests: &Tests<'_>,
 ) -> Result<More, RowRefusal>
     requires started { IsSome table.old.alternative }
+    requires graph { table.old.graph ≡ Some graph.now }
     requires chunk { IsChunkIn graph.now table.old.alternative chunk.now }
     requires stands { StandsForSome table.old }
     requires room { is_full_table table.old ≡ false }
@@ -67,8 +73,8 @@ fn drain<'g>(
     requires serves { Serves pipeline.old pool.old }
     requires stands { StandsForSome table.old }
     requires room { is_full_table table.old ≡ false }
-    ensures takes { let admitted = admitted_by tests.now.all in
-        TakesAll (owed_outcomes admitted graph.now table.old pipeline.old)
+    ensures takes { let later = if_admitted (admitted_by tests.now.all) graph.now in
+        TakesAll (owed_outcomes later graph.now table.old pipeline.old)
         table.old table.new result }
     ensures ran { OnOk result (HasRun table.old table.new pipeline.old pipeline.new) }
     ensures columns { pipeline.new.columns ≡ pipeline.old.columns }
@@ -86,6 +92,39 @@ fn drain<'g>(
     Ok(())
 }
 
+// Pushes what a pipeline owes: the outcomes of its rows, each behind the optional clauses.
+fn drain_all<'g>(
+    alloc: Global,
+    graph: &'g Graph,
+    prepared: &Prepared<'_>,
+    typed: &Typed,
+    pipeline: &mut Pipeline<'_>,
+    pool: &mut VectorPool,
+    table: &mut RowTable<'g>,
+) -> Result<(), AnswerRefusal>
+    requires prepared { IsPrepared graph.now table.old.most table.old.bound prepared.now }
+    requires run { IsRunOf graph.now table.old pipeline.old }
+    requires typed { pipeline.old.source.typed ≡ typed.now }
+    requires nodes { length typed.now.nodes ≤ length table.old.bound.node_names }
+    requires rels { length typed.now.rels ≤ length table.old.bound.rel_names }
+    requires fresh { pipeline.old.chunks ≡ 0 }
+    requires serves { Serves pipeline.old pool.old }
+    requires stands { StandsForSome table.old }
+    requires room { is_full_table table.old ≡ false }
+    ensures takes { let later = later_by graph.now prepared.now in
+        TakesAll (owed_outcomes later graph.now table.old pipeline.old)
+        table.old table.new result }
+    ensures ran { OnOk result (HasRun table.old table.new pipeline.old pipeline.new) }
+    ensures columns { pipeline.new.columns ≡ pipeline.old.columns }
+    ensures serves { Serves pipeline.new pool.new }
+    ensures slots { pool.new.out ≡ pool.old.out }
+{
+    if prepared.bound.optionals.is_empty() {
+        return drain(graph, &prepared.tests, pipeline, pool, table);
+    }
+    drain_behind(alloc, graph, prepared, typed, pipeline, pool, table)
+}
+
 // Takes the turn of an alternative: runs its plan, and pushes what the plan makes. Answers what its
 // pipelines spent.
 fn take_turn<'g>(
@@ -93,20 +132,23 @@ fn take_turn<'g>(
     graph: &'g Graph,
     stats: &Stats,
     typed: &'g Typed,
-    tests: &Tests<'_>,
+    prepared: &Prepared<'_>,
     table: &mut RowTable<'g>,
     pool: &mut VectorPool,
     settings: &Settings,
 ) -> Result<List<Spent>, AnswerRefusal>
     requires sound { IsSound graph.now.catalog typed.now }
     requires begins { 0 < length typed.now.nodes }
+    requires prepared { IsPrepared graph.now table.old.most table.old.bound prepared.now }
+    requires nodes { length typed.now.nodes ≤ length table.old.bound.node_names }
+    requires rels { length typed.now.rels ≤ length table.old.bound.rel_names }
     requires stats { stats.now ≡ sizes graph.now }
     requires stands { StandsForSome table.old }
     requires room { is_full_table table.old ≡ false }
     requires most { settings.now.rows ≡ table.old.most }
     requires slots { 112 ≤ spare_of pool.old }
-    ensures drains { let admitted = admitted_by tests.now.all in
-        Drains admitted graph.now table.old.bound settings.now.order typed.now
+    ensures drains { let later = later_by graph.now prepared.now in
+        Drains later graph.now table.old.bound settings.now.order typed.now
         table.old table.new result }
     ensures spends { IfOk result
         (SpendsTurn graph.now settings.now.order typed.now table.old table.new) }
@@ -120,8 +162,8 @@ fn take_turn<'g>(
         Err(refusal) => return Err(AnswerRefusal::from(refusal)),
     };
     let mut pipeline = Pipeline::start(alloc, graph, &builds, plan, typed, pool)?;
-    table.start_alternative(typed);
-    let drained = drain(graph, tests, &mut pipeline, pool, table);
+    table.start_alternative(typed, graph);
+    let drained = drain_all(alloc, graph, prepared, typed, &mut pipeline, pool, table);
     let own = pipeline.finish(pool);
     match drained {
         Ok(()) => {}
@@ -139,7 +181,7 @@ fn take_turns<'g>(
     graph: &'g Graph,
     stats: &Stats,
     bound: &'g Bound,
-    tests: &Tests<'_>,
+    prepared: &Prepared<'_>,
     table: &mut RowTable<'g>,
     pool: &mut VectorPool,
     settings: &Settings,
@@ -147,7 +189,11 @@ fn take_turns<'g>(
     requires sound { All (IsSound graph.now.catalog) bound.now.alternatives }
     requires begins { All (λ y. 0 < length y.nodes) bound.now.alternatives }
     requires stats { stats.now ≡ sizes graph.now }
-    requires tests { AreTestsOf graph.now settings.now.rows bound.now.patterns tests.now.all }
+    requires prepared { IsPrepared graph.now settings.now.rows bound.now prepared.now }
+    requires nodes { let few = length bound.now.node_names in
+        All (λ y. length y.nodes ≤ few) bound.now.alternatives }
+    requires rels { let few = length bound.now.rel_names in
+        All (λ y. length y.rels ≤ few) bound.now.alternatives }
     requires fresh { IsFresh bound.now settings.now table.old }
     requires slots { 112 ≤ spare_of pool.old }
     ensures fills { Fills graph.now bound.now settings.now table.new result }
@@ -161,7 +207,7 @@ fn take_turns<'g>(
         if table.enough() {
             return Ok(spent);
         }
-        match take_turn(alloc, graph, stats, typed, tests, table, pool, settings) {
+        match take_turn(alloc, graph, stats, typed, prepared, table, pool, settings) {
             Ok(turn) => append(&mut spent, turn)?,
             Err(refusal) => return Err(refusal),
         }
@@ -169,8 +215,8 @@ fn take_turns<'g>(
     Ok(spent)
 }
 
-// Makes the tests, and takes the turns of the alternatives; where no turn comes, it does neither.
-// Answers what the pipelines spent.
+// Makes the tests, lists the matches of the optional clauses, and takes the turns of the
+// alternatives; where no turn comes, it does nothing of this. Answers what the pipelines spent.
 fn fill<'g>(
     alloc: Global,
     graph: &'g Graph,
@@ -185,6 +231,12 @@ fn fill<'g>(
         All (λ p. sound p.alternatives) bound.now.patterns }
     requires tests_begin { let begin = All (λ y. 0 < length y.nodes) in
         All (λ p. begin p.alternatives) bound.now.patterns }
+    requires placed { let placed = IsPlaced (length bound.now.node_names) (length bound.now.rel_names) in
+        All (placed graph.now.catalog) bound.now.optionals }
+    requires nodes { let few = length bound.now.node_names in
+        All (λ y. length y.nodes ≤ few) bound.now.alternatives }
+    requires rels { let few = length bound.now.rel_names in
+        All (λ y. length y.rels ≤ few) bound.now.alternatives }
     requires fresh { IsFresh bound.now settings.now table.old }
     requires slots { 112 ≤ spare_of pool.old }
     ensures answers { AnswersAll graph.now bound.now settings.now table.new result }
@@ -197,16 +249,17 @@ fn fill<'g>(
         return Ok(List::new(alloc));
     }
     let stats = stats_of(alloc, graph)?;
-    let parts = bound.patterns.as_slice();
-    let tests = match tests_of(alloc, graph, &stats, parts, pool, settings) {
-        Ok(tests) => tests,
+    let prepared = match prepare(alloc, graph, &stats, bound, pool, settings) {
+        Ok(prepared) => prepared,
         Err(refusal) => return Err(refusal),
     };
-    let turns = match take_turns(alloc, graph, &stats, bound, &tests, table, pool, settings) {
+    let turns = match take_turns(
+        alloc, graph, &stats, bound, &prepared, table, pool, settings,
+    ) {
         Ok(turns) => turns,
         Err(refusal) => return Err(refusal),
     };
-    let mut spent = tests.into_spent(alloc)?;
+    let mut spent = prepared.into_spent(alloc)?;
     append(&mut spent, turns)?;
     Ok(spent)
 }
@@ -218,10 +271,12 @@ fn fill<'g>(
 /// window of an arrangement of its rows; a fault is one of an outcome that is looked at;
 /// `TooManyRows` comes where more rows than `settings.rows` would be kept, or where a part of an
 /// alternative whose turn comes has more assignments, or the path of a test more different nodes
-/// that it shares with the query. `Memory` may come at any time.
+/// that it shares with the query, or an alternative of an optional clause more matches, or a part of
+/// it more assignments. `Memory` may come at any time.
 ///
-/// The rows are made of the chunks that the pipelines hand out, and of no others. All pipelines
-/// take their slots from the pool, which has as many free afterwards, at a refusal too.
+/// The rows are made of the chunks that the pipelines hand out, and of no others; behind optional
+/// clauses, of what these make of the assignments of the chunks. All pipelines take their slots from
+/// the pool, which has as many free afterwards, at a refusal too.
 pub fn answer<'g>(
     alloc: Global,
     graph: &'g Graph,
@@ -235,6 +290,12 @@ pub fn answer<'g>(
         All (λ p. sound p.alternatives) bound.now.patterns }
     requires tests_begin { let begin = All (λ y. 0 < length y.nodes) in
         All (λ p. begin p.alternatives) bound.now.patterns }
+    requires placed { let placed = IsPlaced (length bound.now.node_names) (length bound.now.rel_names) in
+        All (placed graph.now.catalog) bound.now.optionals }
+    requires nodes { let few = length bound.now.node_names in
+        All (λ y. length y.nodes ≤ few) bound.now.alternatives }
+    requires rels { let few = length bound.now.rel_names in
+        All (λ y. length y.rels ≤ few) bound.now.alternatives }
     requires slots { 112 ≤ spare_of pool.old }
     ensures permitted { RepliesToEach graph.now bound.now settings.now (lines_in result) }
     ensures spends { SpendsToEach graph.now bound.now settings.now result }

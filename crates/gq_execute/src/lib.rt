@@ -1,12 +1,17 @@
 //! Executes a bound query over a stored graph: it is answered as openCypher's meaning permits, with
 //! its rows or with why it has none. The crate stands on the plans of `gq_order`, the assignments
-//! of `gq_pipe` and the lines of `gq_rows`, and on the laws of `gq_law_answers`, by which these are
-//! of all matches of the query.
+//! of `gq_pipe`, the optional clauses of `gq_optional` and the lines of `gq_rows`, and on the laws
+//! of `gq_law_answers` and `gq_law_clauses`, by which these are of all matches of the query.
 #![tactic(auto)]
 
 mod answering;
+mod behind;
+mod clauses;
+mod copied;
 mod found;
+mod late;
 mod planning;
+mod prepared;
 mod refusal;
 mod settings;
 mod testing;

@@ -3,6 +3,7 @@ ghost use Rattle.std.specs.Prelude.{◌≡◌, ◌<◌, [], true, length, map, A
 ghost use Rattle.std.specs.List.{AllZip, list_all};
 ghost use Rattle.gq_execute.specs.Planned.{ArePlansIn, IsPlanIn, sizes};
 ghost use Rattle.gq_execute.specs.Replies.{parts_by};
+ghost use Rattle.gq_execute.specs.steps.Clauses.{IsPlanned};
 ghost use Rattle.gq_execute.specs.steps.Costing.{last_cost};
 ghost use Rattle.gq_pipe.specs.steps.Cuts.{begins};
 ghost use Rattle.gq_plan.specs.Covers.{Covers};
@@ -175,6 +176,8 @@ pub(crate) fn plans_in(
         AllZip (Covers graph.now.catalog) alternatives.now (map plan_of made.plans)) }
     ensures begins { IfOk result (λ made.
         All (λ p. begins (plan_of p) ≡ true) made.plans) }
+    ensures each { IfOk result (λ made.
+        AllZip (IsPlanned order graph.now) alternatives.now (map plan_of made.plans)) }
 {
     let _ = graph.catalog();
     let mut plans = List::new(alloc);

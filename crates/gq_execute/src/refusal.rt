@@ -13,7 +13,8 @@ use gq_rows::RowRefusal;
 pub enum AnswerRefusal {
     /// An outcome that is looked at is this fault.
     Fault(Fault),
-    /// More rows would be kept than this limit, or a part that is joined has more assignments.
+    /// More rows would be kept than this limit, or a part that is joined has more assignments, or
+    /// the path of a test more different keys, or an alternative of an optional clause more matches.
     TooManyRows { limit: u32 },
     /// There was not enough memory.
     Memory,

@@ -17,6 +17,7 @@ pub enum Order {
 pub struct Settings {
     /// The order of the plans.
     pub order: Order,
-    /// The most rows that are kept, and the most assignments that a part may have.
+    /// The most rows that are kept, and the most assignments that a part may have, keys the path
+    /// of a test, and matches an alternative of an optional clause.
     pub rows: u32,
 }

@@ -65,6 +65,13 @@ impl<'q> Tests<'q> {
         self.all.is_empty()
     }
 
+    /// Whether a row passes all of them.
+    pub(crate) fn pass<R: Assigned>(&self, row: &R) -> bool
+        ensures { result ≡ admitted_by self.now.all (R.assignment row.now) }
+    {
+        all_admit(self.all.as_slice(), row)
+    }
+
     /// What was spent to find the keys, test by test.
     pub(crate) fn into_spent(self, alloc: Global) -> Result<List<Spent>, Memory>
         ensures { IfOk result (λ spent. spent ≡ flat_map (λ s. s) (spent_on self.entry.all)) }

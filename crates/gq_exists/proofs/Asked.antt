@@ -29,7 +29,7 @@ use Rattle.gq_exists.specs.Different.{AreDifferent, HasMany, HasNoMore}
 use Rattle.gq_exists.specs.Made.{keys_of, some_stand_on, stands_on}
 use Rattle.gq_exists.proofs.Filling.{bag_same, unique}
 use Rattle.gq_exists.proofs.Gathered.{AllKeys, Same, Within, all_among, apart_push, many_more, none_same, or_left, or_right}
-use Rattle.gq_exists.proofs.Paths.{same_is, same_refl}
+use Rattle.gq_exists.proofs.Fronts.{same_is, same_refl}
 
 -- ---- keys that are the same
 

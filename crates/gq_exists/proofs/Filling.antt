@@ -1,6 +1,5 @@
 -- The keys of what pipelines hand out, chunk by chunk, and where no further key can differ.
 use Rattle.std.proofs.Common.{◌≡◌, ◌≢◌, ◌∙◌, ap, ap₂, refl, sym, subst, ℕ, ◌<◌, Bool, true, false, ◌||◌, ◌&&◌, nat_eq, List, [], ◌∷◌, ◌++◌, length, map, take, Result, Ok, Err, arith, length-append, append_assoc, append-nil, true≢false}
-use Rattle.std.specs.HashSet.{HashSet}
 use Rattle.std.specs.Prelude.{IsPermutation}
 use Rattle.std.proofs.lemmas.Bool.{and_parts, eqb-true}
 use Rattle.std.proofs.lemmas.List.{map-append}
@@ -29,12 +28,11 @@ use Rattle.gq_exists.specs.Different.{AreDifferent, HasMany, HasNoMore}
 use Rattle.gq_exists.specs.Made.{IsRefusal}
 use Rattle.gq_exists.specs.declared.gathering.Gathering.{Gathering}
 use Rattle.gq_exists.specs.declared.keys.Keys.{Keys}
-use Rattle.gq_exists.specs.declared.keys.Link.{Link}
 use Rattle.gq_exists.specs.steps.Gathered.{Gathers, IsGathering, Stands, TakesOn, key_at, keys_at}
-use Rattle.gq_exists.specs.steps.Levels.{keys_from, keys_in, links_of, roots}
+use Rattle.gq_exists.specs.steps.Stored.{keys_in}
 use Rattle.gq_exists.specs.steps.Running.{made_keys, owed_keys}
 use Rattle.gq_exists.proofs.Gathered.{AllKeys, Same, Within, alike, came_none, or_left, or_right, same_behind, stops, then}
-use Rattle.gq_exists.proofs.Paths.{same_is}
+use Rattle.gq_exists.proofs.Fronts.{same_is}
 
 -- ---- bags
 
@@ -69,15 +67,10 @@ pub zero_has : (n : ℕ) → n ≡ 0 → (ms : List plain.Assignment) → ms ≢
 zero_has n z [] some q e = absurd (some refl)
 zero_has n z (m ∷ ms) some q e = or_left (same_nodes q (key_of n m)) (has_key q (map (key_of n) ms)) (ap (λ k. same_nodes q (take k m.nodes)) z ∙ e)
 
-full_has : {S : Type 0} (any : Bool) (levels : List (HashSet Link S)) → any ≡ true → length levels ≡ 0 → has_key [] (keys_from (roots any) (links_of levels)) ≡ true
-full_has true [] a e = refl
-full_has false levels a e = absurd (true≢false (sym a))
-full_has true (l ∷ levels) a e = absurd (omega (arith, e))
-
 -- where the key without nodes came, nothing else can come
-pub full_takes : (a : Gathering) → IsGathering a → (nat_eq a.width 0 && a.keys.any) ≡ true → (ms : List plain.Assignment) → TakesOn (map (key_of a.width) ms) a a
+pub full_takes : (a : Gathering) → IsGathering a → (nat_eq a.width 0 && has_key [] (keys_in a.keys)) ≡ true → (ms : List plain.Assignment) → TakesOn (map (key_of a.width) ms) a a
 full_takes a is full ms =
-    let parts = and_parts (nat_eq a.width 0) a.keys.any full in
+    let parts = and_parts (nat_eq a.width 0) (has_key [] (keys_in a.keys)) full in
     let zero_wide : a.width ≡ 0 = eqb-true a.width 0 parts.0 in
     record {
       is = is;
@@ -88,7 +81,7 @@ full_takes a is full ms =
             s.same q
             ∙ absorbed came (map (key_of a.width) ms)
             (λ k e.
-            ap (λ l. has_key l came) (same_is k [] (zero_any a.width zero_wide ms k e)) ∙ sym (s.same []) ∙ full_has a.keys.any a.keys.levels.items parts.1 (is.wide ∙ zero_wide)) q;
+            ap (λ l. has_key l came) (same_is k [] (zero_any a.width zero_wide ms k e)) ∙ sym (s.same []) ∙ parts.1) q;
         apart = s.apart;
         few = s.few;
       };
@@ -167,6 +160,11 @@ module _ (y : Typed) (begun : Rest) (old : Gathering) where
         still : (ps : List Partial) → ps ≢ [] → map (whole y) ps ≢ []
         still [] h e = h refl
         still (p ∷ ps) h e = absurd (omega (arith, ap length e))
+
+-- a chunk that means something has some choice
+pub some_choices : (y : Typed) (n : ℕ) (c : Chunk) (chunk : List Partial) → keys_at y n c (choices c.groups.now) ≡ map (key_of n) (map (whole y) chunk) → chunk ≢ [] → choices c.groups.now ≢ []
+some_choices y n c [] is some none = some refl
+some_choices y n c (a ∷ chunk) is some none = absurd (omega (arith, ap length (sym (ap (keys_at y n c) none) ∙ is)))
 
 -- ---- alternatives
 

@@ -1,5 +1,6 @@
 -- Keys that come one after another: what is gathered of them, and where they are too many.
-use Rattle.std.proofs.Common.{◌≡◌, ◌∙◌, ap, refl, sym, subst, ℕ, ◌<◌, ◌≤◌, Bool, true, false, ◌||◌, List, [], ◌∷◌, ◌++◌, length, Result, Ok, Err, arith, length-append, append_assoc, append-nil, true≢false}
+use Rattle.std.proofs.Common.{◌≡◌, ◌∙◌, ap, refl, sym, subst, ℕ, ◌<◌, ◌≤◌, Bool, true, false, cond, ◌||◌, List, [], ◌∷◌, ◌++◌, length, Result, Ok, Err, append_assoc, append-nil, true≢false}
+use Rattle.std.specs.Prelude.{OnOk}
 use Rattle.std.specs.List.{AllByRecursion}
 use Rattle.std.proofs.lemmas.List.Folds.{list_any-append}
 use Rattle.gq_base.specs.declared.NodeId.{NodeId}
@@ -11,8 +12,9 @@ use Rattle.gq_exists.specs.Different.{AreDifferent, HasMany}
 use Rattle.gq_exists.specs.declared.gathering.Gathering.{Gathering}
 use Rattle.gq_exists.specs.declared.keys.Keys.{Keys}
 use Rattle.gq_exists.specs.steps.Gathered.{Gathers, IsGathering, Stands, TakesOn}
-use Rattle.gq_exists.specs.steps.Levels.{keys_in}
-use Rattle.gq_exists.proofs.Paths.{same_is, same_refl}
+use Rattle.gq_exists.specs.steps.Levels.{with_key}
+use Rattle.gq_exists.specs.steps.Stored.{keys_in}
+use Rattle.gq_exists.proofs.Fronts.{same_is, same_refl}
 
 abbrev pub AllKeys : Type 0
 AllKeys = List (List NodeId)
@@ -31,6 +33,11 @@ or_left a b e = ap (λ c. c || b) e
 pub or_right : (a b : Bool) → b ≡ true → (a || b) ≡ true
 or_right true b e = refl
 or_right false b e = e
+
+-- what follows from a fact on success does on success
+pub on_ok : {U E A B : Type 0} (r : Result U E) → (A → B) → OnOk r A → OnOk r B
+on_ok (Ok u) f a = f a
+on_ok (Err e) f a = a
 
 -- ---- keys apart
 
@@ -60,43 +67,43 @@ apart_push (k ∷ ks) key a h = (each_append (λ l. same_nodes k l ≡ false) ks
 
 -- ---- one key
 
-module _ (limit : ℕ) (key : List NodeId) (came : AllKeys) (k : Keys) (s : Stands limit came k) where
-  with_one : (q : List NodeId) → has_key q (came ++ key ∷ []) ≡ (has_key q (keys_in k) || (same_nodes q key || false))
+module _ (limit : ℕ) (key : List NodeId) (came : AllKeys) (k new : Keys) (s : Stands limit came k) (is : keys_in new ≡ with_key (keys_in k) key) where
+  abbrev old : AllKeys
+  old = keys_in k
+
+  with_one : (q : List NodeId) → has_key q (came ++ key ∷ []) ≡ (has_key q old || (same_nodes q key || false))
   with_one q = list_any-append (same_nodes q) came (key ∷ []) ∙ ap (λ b. b || (same_nodes q key || false)) (sym (s.same q))
 
-  pub stands_known : has_key key (keys_in k) ≡ true → Stands limit (came ++ key ∷ []) k
-  stands_known there = record {
-    same = λ q. go q (same_nodes q key) refl ∙ sym (with_one q);
-    apart = s.apart;
-    few = s.few;
-  }
+  same_with : (q : List NodeId) → has_key q (keys_in new) ≡ has_key q (came ++ key ∷ [])
+  same_with q = ap (has_key q) is ∙ go (has_key key old) refl (same_nodes q key) refl ∙ sym (with_one q)
     where
-      go : (q : List NodeId) (b : Bool) → same_nodes q key ≡ b → has_key q (keys_in k) ≡ (has_key q (keys_in k) || (same_nodes q key || false))
-      go q true e =
-          let yes : has_key q (keys_in k) ≡ true = ap (λ x. has_key x (keys_in k)) (same_is q key e) ∙ there in
-          yes ∙ sym (or_left (has_key q (keys_in k)) (same_nodes q key || false) yes)
-      go q false e = (let h : has_key q (keys_in k) ≡ (has_key q (keys_in k) || false) = by (has_key q (keys_in k)) in h) ∙ ap (λ b. has_key q (keys_in k) || (b || false)) (sym e)
-        where
-          by : (b : Bool) → b ≡ (b || false)
-          by true = refl
-          by false = refl
+      as_false : (b : Bool) → b ≡ (b || (false || false))
+      as_false true = refl
+      as_false false = refl
 
-  pub many_with : has_key key (keys_in k) ≡ false → limit ≤ length (keys_in k) → HasMany limit (came ++ key ∷ [])
-  many_with new full = record {
-    some = key ∷ keys_in k;
-    apart = (none_same key (keys_in k) new, s.apart);
-    among = (
-      with_one key ∙ or_right (has_key key (keys_in k)) (same_nodes key key || false) (or_left (same_nodes key key) false (same_refl key)),
-      all_among (keys_in k) (came ++ key ∷ []) (λ q e. with_one q ∙ or_left (has_key q (keys_in k)) (same_nodes q key || false) e),
-    );
-    many = omega (arith, full);
-  }
+      go : (known : Bool) → has_key key old ≡ known → (b : Bool) → same_nodes q key ≡ b → has_key q (cond known old (old ++ key ∷ [])) ≡ (has_key q old || (b || false))
+      go true there true e =
+          let yes : has_key q old ≡ true = ap (λ x. has_key x old) (same_is q key e) ∙ there in
+          yes ∙ sym (or_left (has_key q old) (true || false) yes)
+      go true there false e = as_false (has_key q old)
+      go false none b e = list_any-append (same_nodes q) old (key ∷ []) ∙ ap (λ c. has_key q old || (c || false)) e
 
-  pub stands_new : (new : Keys) → has_key key (keys_in k) ≡ false → length (keys_in k) < limit → keys_in new ≡ keys_in k ++ key ∷ [] → Stands limit (came ++ key ∷ []) new
-  stands_new new none room is = record {
-    same = λ q. ap (has_key q) is ∙ list_any-append (same_nodes q) (keys_in k) (key ∷ []) ∙ sym (with_one q);
-    apart = subst AreDifferent (sym is) (apart_push (keys_in k) key s.apart (none_same key (keys_in k) none));
-    few = omega (arith, room, ap length is, length-append (keys_in k) (key ∷ []));
+  apart_with : AreDifferent (keys_in new)
+  apart_with = subst AreDifferent (sym is) (go (has_key key old) refl)
+    where
+      go : (known : Bool) → has_key key old ≡ known → AreDifferent (cond known old (old ++ key ∷ []))
+      go true there = s.apart
+      go false none = apart_push old key s.apart (none_same key old none)
+
+  pub stands_with : length (keys_in new) ≤ limit → Stands limit (came ++ key ∷ []) new
+  stands_with few = record { same = same_with; apart = apart_with; few = few }
+
+  pub many_with : limit < length (keys_in new) → HasMany limit (came ++ key ∷ [])
+  many_with many = record {
+    some = keys_in new;
+    apart = apart_with;
+    among = all_among (keys_in new) (came ++ key ∷ []) (λ q e. sym (same_with q) ∙ e);
+    many = many;
   }
 
 -- ---- more keys

@@ -1,8 +1,11 @@
 pub mod Asked
+mod Choosing
 pub mod Filling
+mod Fronts
 pub mod Gathered
+mod Marked
 pub mod Missing
-mod Paths
 mod Settling
+mod Singles
 pub mod Spent
 pub mod Taking

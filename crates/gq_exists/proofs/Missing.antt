@@ -8,9 +8,9 @@ use Rattle.gq_base.specs.declared.NodeId.{NodeId}
 use Rattle.gq_plan.specs.Allowed.{at_same}
 use Rattle.gq_plan.specs.Assignments.{same_node}
 use Rattle.gq_plan.specs.Keys.{same_nodes}
-use Rattle.gq_exists.specs.declared.keys.Link.{Link}
+use Rattle.gq_exists.specs.declared.paths.Link.{Link}
 use Rattle.gq_exists.specs.steps.Levels.{AreLevels, is_path, is_path_at, link, place, roots, same_link}
-use Rattle.gq_exists.proofs.Paths.{absent, all, has_path}
+use Rattle.gq_exists.proofs.Fronts.{absent, all, has_path}
 
 -- the nodes are these
 abbrev Are : List (Option NodeId) → List NodeId → Bool

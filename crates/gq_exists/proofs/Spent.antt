@@ -1,6 +1,6 @@
 -- What pipelines spend that run for keys.
 use Rattle.std.proofs.Common.{◌≡◌, ◌≢◌, ◌∙◌, ap, refl, sym, subst, ℕ, zero, suc, ◌+◌, ◌-◌, ◌^◌, ◌<◌, min, Bool, true, false, ◌&&◌, nat_eq, List, [], ◌∷◌, ◌++◌, length, map, arith, length-append, append_assoc, append-nil, true≢false}
-use Rattle.std.specs.Prelude.{IsPermutation, OnOk, Result, Ok, Err}
+use Rattle.std.specs.Prelude.{IsPermutation}
 use Rattle.std.proofs.lemmas.Bool.Decides.{nat_tests}
 use Rattle.std.proofs.lemmas.List.{length-map}
 use Rattle.std.proofs.lemmas.List.Sorted.{length_permutation}
@@ -20,9 +20,12 @@ use Rattle.gq_plan.specs.declared.typed.Typed.{Typed}
 use Rattle.std.specs.HashSet.{HashSet}
 use Rattle.gq_exists.specs.Spending.{GoesOn, HasSpentEach, HasSpentFor, one_chunk}
 use Rattle.gq_exists.specs.declared.gathering.Gathering.{Gathering}
-use Rattle.gq_exists.specs.declared.keys.Link.{Link}
+use Rattle.gq_exists.specs.declared.paths.Link.{Link}
 use Rattle.gq_exists.specs.steps.Gathered.{IsGathering, TakesOn}
-use Rattle.gq_exists.specs.steps.Levels.{keys_from, keys_in, links_of, roots}
+use Rattle.gq_exists.specs.declared.keys.Keys.{Keys}
+use Rattle.gq_exists.specs.declared.keys.Keys.TheVariants as keys
+use Rattle.gq_exists.specs.steps.Levels.{keys_from, links_of, roots}
+use Rattle.gq_exists.specs.steps.Stored.{IsWide, keys_in}
 use Rattle.gq_exists.specs.steps.Running.{Counted, Ended, HasRun, HasSpentMore, HasSpentOne, SpendsEach, is_full_at, made_keys, one_of}
 use Rattle.gq_exists.proofs.Filling.{begun, zero_has}
 
@@ -130,14 +133,19 @@ has_some : (n : ℕ) → n ≡ 0 → (ms : List plain.Assignment) → has_key []
 has_some n z [] = refl
 has_some n z (m ∷ ms) = zero_has n z (m ∷ ms) (λ e. absurd (omega (arith, ap length e))) [] refl
 
+-- where keys have no nodes and that without any is not among them there are none
+no_keys : (w : ℕ) (k : Keys) → IsWide w k → w ≡ 0 → has_key [] (keys_in k) ≡ false → keys_in k ≡ []
+no_keys w (keys.Rows r) wide z none = absurd (omega (arith, wide, z))
+no_keys w (keys.Paths p) wide z none =
+    let is = no_levels p.any p.levels.items (sym wide ∙ z) in
+    is ∙ ap roots (sym (has_root p.any) ∙ ap (has_key []) (sym is) ∙ none)
+
 -- where keys have no nodes and none came, one stands behind a plan that makes something
-stands_now : (g : Graph) (y : Typed) (p : code.Plan) (old mid : Gathering) → IsGathering old → old.width ≡ 0 → old.keys.any ≡ false → TakesOn (made_keys g y old.width p) old mid
-    → mid.keys.any ≡ some_rows (meaning g y (plan_of p))
+stands_now : (g : Graph) (y : Typed) (p : code.Plan) (old mid : Gathering) → IsGathering old → old.width ≡ 0 → has_key [] (keys_in old.keys) ≡ false → TakesOn (made_keys g y old.width p) old mid
+    → has_key [] (keys_in mid.keys) ≡ some_rows (meaning g y (plan_of p))
 stands_now g y p old mid is z none took =
-    let empty : keys_in old.keys ≡ [] = no_levels old.keys.any old.keys.levels.items (is.wide ∙ z) ∙ ap roots none in
-    let here = took.stands [] (begun old empty) in
-    sym (has_root mid.keys.any) ∙ ap (has_key []) (sym (no_levels mid.keys.any mid.keys.levels.items (took.is.wide ∙ took.width ∙ z))) ∙ here.same []
-    ∙ has_some old.width z (meaning g y (plan_of p))
+    let here = took.stands [] (begun old (no_keys old.width old.keys is.wide z none)) in
+    here.same [] ∙ has_some old.width z (meaning g y (plan_of p))
 
 not_zero : (w : ℕ) → nat_eq (suc w) 0 ≡ false
 not_zero w = grind (arith, nat_tests)
@@ -165,9 +173,9 @@ module _ (g : Graph) (y : Typed) (p : code.Plan) (ys : List Typed) (ps : List co
     each =
         subst (λ b. SpendsEach b old.width g (y ∷ ys) (plan_of p ∷ map plan_of ps) (one.own ∷ more.more)) (sym room) (
           one.is,
-          goes_on old.width mid.keys.any (meaning g y (plan_of p)) more.more
-              (λ z. stands_now g y p old mid is z (full_false old.width old.keys.any room z) took)
-              (subst (λ w. SpendsEach (nat_eq w 0 && mid.keys.any) w g ys (map plan_of ps) more.more) took.width more.each),
+          goes_on old.width (has_key [] (keys_in mid.keys)) (meaning g y (plan_of p)) more.more
+              (λ z. stands_now g y p old mid is z (full_false old.width (has_key [] (keys_in old.keys)) room z) took)
+              (subst (λ w. SpendsEach (nat_eq w 0 && has_key [] (keys_in mid.keys)) w g ys (map plan_of ps) more.more) took.width more.each),
         );
   }
 
@@ -189,8 +197,3 @@ no_plans false width g (y ∷ ys) (p ∷ ps) e = absurd (omega (arith, ap length
 pub full_none : (full : Bool) (width : ℕ) (g : Graph) (ys : List Typed) (ps : List Plan) → full ≡ true → SpendsEach full width g ys ps []
 full_none true width g ys ps e = refl
 full_none false width g ys ps e = absurd (true≢false (sym e))
-
--- what follows from a fact on success does on success
-pub on_ok : {U E A B : Type 0} (r : Result U E) → (A → B) → OnOk r A → OnOk r B
-on_ok (Ok u) f a = f a
-on_ok (Err e) f a = a

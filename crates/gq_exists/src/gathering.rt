@@ -1,12 +1,14 @@
 //! Keys that are gathered from chunks.
-ghost use Rattle.std.specs.Prelude.{◌≡◌, ◌≤◌, ◌∷◌, ◌&&◌, [], IfOk, OnOk, length, nat_eq};
+ghost use Rattle.std.specs.Prelude.{◌≡◌, ◌≢◌, ◌≤◌, ◌∷◌, ◌&&◌, [], IfOk, OnOk, length, nat_eq};
 ghost use Rattle.gq_exists.specs.steps.Gathered.{Gathers, IsGathering, key_at, keys_at};
-ghost use Rattle.gq_exists.specs.steps.Levels.{keys_in};
+ghost use Rattle.gq_exists.specs.steps.Settled.{IsItem};
+ghost use Rattle.gq_exists.specs.steps.Stored.{keys_in};
 ghost use Rattle.gq_group.specs.Chunks.{IsChunk};
 ghost use Rattle.gq_group.specs.Groups.{AreSelected, choices};
+ghost use Rattle.gq_plan.specs.Keys.{has_key};
 
 use crate::keys::Keys;
-use crate::settled::are_settled;
+use crate::settled::{are_settled, item_group};
 use gq_base::{Memory, NodeId};
 use gq_group::{Choice, Chunk};
 use gq_join::JoinRefusal;
@@ -35,9 +37,10 @@ impl Gathering {
 
     /// Whether no further key can differ from those that came: each has no nodes, and there is one.
     pub(crate) fn is_full(&self) -> bool
-        ensures { result ≡ (nat_eq self.now.width 0 && self.now.keys.any) }
+        requires { IsGathering self.now }
+        ensures { result ≡ (nat_eq self.now.width 0 && has_key [] (keys_in self.now.keys)) }
     {
-        self.width == 0 && self.keys.any
+        self.width == 0 && self.keys.has(&[])
     }
 
     // Takes a key.
@@ -46,13 +49,10 @@ impl Gathering {
         requires wide { length key.now ≡ self.old.width }
         ensures { Gathers (key.now ∷ []) self.old self.new result }
     {
-        if self.keys.has(key) {
-            return Ok(());
-        }
-        if self.keys.len() >= self.limit as usize {
+        self.keys.insert(key)?;
+        if self.keys.len() > self.limit as usize {
             return Err(JoinRefusal::TooManyRows { limit: self.limit });
         }
-        self.keys.insert(key)?;
         Ok(())
     }
 
@@ -101,8 +101,39 @@ impl Gathering {
         Ok(())
     }
 
-    /// Takes the keys of a chunk of an alternative. Where all choices have the same key the first
-    /// of them is taken alone.
+    // Takes the keys of one node each at all choices of a chunk, of which there are some: one key
+    // for each selected position of the group in whose items the first variable lives.
+    fn take_items(
+        &mut self,
+        chunk: &Chunk<'_, '_>,
+        group: u32,
+        typed: &Typed,
+    ) -> Result<(), JoinRefusal>
+        requires is { IsGathering self.old }
+        requires one { self.old.width ≡ 1 }
+        requires chunk { IsChunk chunk.now }
+        requires some { choices chunk.now.groups.now ≢ [] }
+        requires item { IsItem chunk.now group }
+        requires wide { 1 ≤ length typed.now.nodes }
+        ensures { let all = keys_at typed.now 1 chunk.now (choices chunk.now.groups.now) in
+            Gathers all self.old self.new result }
+    {
+        let table = typed.nodes.as_slice()[0];
+        let here = chunk.group(group);
+        let mut next = here.next_selected(0);
+        'positions: while let Some(position) = next {
+            let row = here.piece.item(position);
+            match self.take(&[NodeId { table, row }]) {
+                Ok(()) => {}
+                Err(refusal) => return Err(refusal),
+            }
+            next = here.next_selected(position + 1);
+        }
+        Ok(())
+    }
+
+    /// Takes the keys of a chunk of an alternative, which has some choice. Where all choices have
+    /// the same key the first of them is taken alone, and keys of one node by positions.
     pub(crate) fn take_chunk(
         &mut self,
         key: &mut Vec<NodeId>,
@@ -112,11 +143,17 @@ impl Gathering {
     ) -> Result<(), JoinRefusal>
         requires is { IsGathering self.old }
         requires chunk { IsChunk chunk.now }
+        requires some { choices chunk.now.groups.now ≢ [] }
         requires wide { self.old.width ≤ length typed.now.nodes }
         ensures { let all = keys_at typed.now self.old.width chunk.now
             (choices chunk.now.groups.now) in
             Gathers all self.old self.new result }
     {
+        if self.width == 1 {
+            if let Some(group) = item_group(chunk) {
+                return self.take_items(chunk, group, typed);
+            }
+        }
         if !are_settled(chunk, self.width) {
             return self.take_each(key, choice, chunk, typed);
         }

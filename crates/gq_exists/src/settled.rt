@@ -1,6 +1,6 @@
-//! Which variables have the same node in all choices of a chunk.
-ghost use Rattle.std.specs.Prelude.{◌≡◌, ◌<◌, ℕ, true};
-ghost use Rattle.gq_exists.specs.steps.Settled.{IsFlat, IsSettled};
+//! Which variables have the same node in all choices of a chunk, and where the first one lives.
+ghost use Rattle.std.specs.Prelude.{◌≡◌, ◌<◌, ℕ, IfSome, true};
+ghost use Rattle.gq_exists.specs.steps.Settled.{IsFlat, IsItem, IsSettled};
 
 use gq_group::{Chunk, NodeHome};
 
@@ -36,5 +36,17 @@ fn is_flat(chunk: &Chunk<'_, '_>, group: u32) -> bool
     match chunk.groups.get(group as usize) {
         None => false,
         Some(group) => group.current.is_some(),
+    }
+}
+
+/// The group in whose items the first variable lives, if it lives in items.
+pub(crate) fn item_group(chunk: &Chunk<'_, '_>) -> Option<u32>
+    ensures { IfSome result (IsItem chunk.now) }
+{
+    match chunk.homes.nodes.get(0) {
+        None => None,
+        Some(NodeHome::Nowhere) => None,
+        Some(NodeHome::Item { group }) => Some(*group),
+        Some(NodeHome::Column { .. }) => None,
     }
 }

@@ -1,27 +1,31 @@
-//! How many alternatives a query has, and how many the path of each of its tests.
+//! How many alternatives a query has, and how many each part of it that has alternatives of its own:
+//! the path of each of its tests, and each of its OPTIONAL MATCH clauses.
 
-ghost use Rattle.std.specs.Prelude.{◌+◌, ◌<◌, ◌^◌, flat_map, length};
+ghost use Rattle.std.specs.Prelude.{◌+◌, ◌++◌, ◌<◌, ◌^◌, flat_map, length};
 ghost use Rattle.std.specs.List.{range_with_len};
 ghost use Rattle.gq_io.specs.Causes.{HasCause};
 ghost use Rattle.gq_io.specs.Putting.{Puts};
-ghost use Rattle.gq_explain.specs.Plans.{counts_text, test_at, test_line, tests_text};
+ghost use Rattle.gq_explain.specs.Plans.{counts_text, optional_at, optionals_text, part_line};
+ghost use Rattle.gq_explain.specs.Plans.{test_at, tests_text};
 
 use crate::pieces::{Piece, put_pieces};
 use gq_io::{Batch, Failed, Sink};
 use gq_plan::Bound;
 
-fn put_test<O: Sink>(
+// Puts the line of a part: its word, its number, and how many alternatives it has.
+fn put_part<O: Sink>(
     batch: &mut Batch,
     out: &mut O,
+    word: &str,
     number: usize,
     count: usize,
 ) -> Result<(), Failed>
     ensures bytes { Puts (O.taken out.old) (O.taken out.new) batch.old batch.new
-        (test_line number count) result }
+        (part_line word.now number count) result }
     ensures cause { HasCause (O.faults out.old) (O.faults out.new) result }
 {
     let line = [
-        Piece::Plain("exists "),
+        Piece::Plain(word),
         Piece::Number(number),
         Piece::Plain(" alternatives "),
         Piece::Number(count),
@@ -44,7 +48,7 @@ fn put_test_at<O: Sink>(
     let Some(part) = bound.patterns.get(at) else {
         return put_pieces(batch, out, &[]);
     };
-    put_test(batch, out, at + 1, part.alternatives.len())
+    put_part(batch, out, "exists ", at + 1, part.alternatives.len())
 }
 
 fn put_tests<O: Sink>(batch: &mut Batch, out: &mut O, bound: &Bound) -> Result<(), Failed>
@@ -58,7 +62,46 @@ fn put_tests<O: Sink>(batch: &mut Batch, out: &mut O, bound: &Bound) -> Result<(
     Ok(())
 }
 
-/// Puts how many alternatives a query has, and how many the path of each of its tests.
+fn put_optional_at<O: Sink>(
+    batch: &mut Batch,
+    out: &mut O,
+    bound: &Bound,
+    at: usize,
+) -> Result<(), Failed>
+    requires { at + 1 < 2 ^ 64 }
+    ensures bytes { Puts (O.taken out.old) (O.taken out.new) batch.old batch.new
+        (optional_at bound.now at) result }
+    ensures cause { HasCause (O.faults out.old) (O.faults out.new) result }
+{
+    let Some(part) = bound.optionals.get(at) else {
+        return put_pieces(batch, out, &[]);
+    };
+    put_part(batch, out, "optional ", at + 1, part.alternatives.len())
+}
+
+fn put_optionals<O: Sink>(batch: &mut Batch, out: &mut O, bound: &Bound) -> Result<(), Failed>
+    ensures bytes { Puts (O.taken out.old) (O.taken out.new) batch.old batch.new
+        (optionals_text bound.now) result }
+    ensures cause { HasCause (O.faults out.old) (O.faults out.new) result }
+{
+    for at in 0..bound.optionals.len() {
+        put_optional_at(batch, out, bound, at)?;
+    }
+    Ok(())
+}
+
+// Puts the lines of all parts.
+#[tactic(auto, using(crate::proofs::Chains::both_put, crate::proofs::Chains::one_broke))]
+fn put_parts<O: Sink>(batch: &mut Batch, out: &mut O, bound: &Bound) -> Result<(), Failed>
+    ensures bytes { Puts (O.taken out.old) (O.taken out.new) batch.old batch.new
+        (tests_text bound.now ++ optionals_text bound.now) result }
+    ensures cause { HasCause (O.faults out.old) (O.faults out.new) result }
+{
+    put_tests(batch, out, bound)?;
+    put_optionals(batch, out, bound)
+}
+
+/// Puts how many alternatives a query has, and how many each part of it.
 pub(crate) fn put_counts<O: Sink>(
     batch: &mut Batch,
     out: &mut O,
@@ -74,5 +117,5 @@ pub(crate) fn put_counts<O: Sink>(
         Piece::Plain("\n"),
     ];
     put_pieces(batch, out, &count)?;
-    put_tests(batch, out, bound)
+    put_parts(batch, out, bound)
 }

@@ -52,7 +52,7 @@ agrees_asked (b ∷ bs) (v ∷ vs) (k ∷ ts) (q ∷ rs) row e t r = go b (agree
 
 -- ---- what is looked for
 
-place_range : (a n j : ℕ) → j < n → place_of (range_with_len a n) (a + j) ≡ j
+pub place_range : (a n j : ℕ) → j < n → place_of (range_with_len a n) (a + j) ≡ j
 place_range a zero j low = absurd (omega (arith, low))
 place_range a (suc n) zero low = rw (eq-eqb a (a + 0) (omega arith)) refl
 place_range a (suc n) (suc j) low = go (nat_eq a (a + suc j)) (ne a (a + suc j) (omega arith)) (subst (λ p. place_of (range_with_len (a + 1) n) p ≡ j) (let e : (a + 1) + j ≡ a + suc j = omega arith in e) (place_range (a + 1) n j (omega (arith, low))))

@@ -1,4 +1,7 @@
 pub mod Keyed
+pub mod Clauses
+pub mod Gathered
+pub mod Holding
 pub mod Made
 pub mod Pending
 pub mod Placed

@@ -1,5 +1,5 @@
 -- A walk from one row to the next: what is owed, and that it stays a walk.
-use Rattle.std.proofs.Common.{◌≡◌, ◌∙◌, Bool, true, false, List, [], ◌∷◌, length, sym, ap, ap₂, subst, refl, Option, None}
+use Rattle.std.proofs.Common.{◌≡◌, ℕ, ◌∙◌, Bool, true, false, List, [], ◌∷◌, length, sym, ap, ap₂, subst, refl, Option, None, ◌++◌}
 use Rattle.std.proofs.lemmas.List.{length-map}
 use Rattle.gq_base.specs.Plain.{Graph}
 use Rattle.gq_expr.specs.declared.Fault.{Fault}
@@ -7,7 +7,7 @@ use Rattle.gq_wide.specs.Clauses.{unmarked}
 use Rattle.gq_wide.specs.Rows.{Wide, read}
 use Rattle.gq_optional.specs.Walks.{owed_as}
 use Rattle.gq_optional.specs.declared.level.Level.{Level}
-use Rattle.gq_optional.specs.steps.Levels.{AreLevels, IsAlike, StepsOn, clauses_of, last_mark, last_row, last_wide, made_by_all, still}
+use Rattle.gq_optional.specs.steps.Levels.{AreLevels, HasRows, IsAlike, IsLevel, StepsOn, clauses_of, last_mark, last_row, last_wide, made_by_all, still}
 use Rattle.gq_optional.proofs.Stepped.{last_alike}
 use Rattle.gq_optional.proofs.Walked.{last_is}
 
@@ -68,3 +68,8 @@ module _ (g : Graph) (base : Wide) (ls slice new items : List Level) (row : Wide
 
 pub alike_then : (a b c : Wide) → IsAlike a b → IsAlike b c → IsAlike a c
 alike_then a b c e f = record { nodes = e.nodes ∙ f.nodes; rels = e.rels ∙ f.rels }
+
+-- one more level behind others
+pub levels_pushed : (n m : ℕ) (ls : List Level) (l : Level) → AreLevels n m ls → IsLevel l → HasRows l → length l.row.nodes ≡ n → length l.row.rels ≡ m → AreLevels n m (ls ++ l ∷ [])
+levels_pushed n m [] l all level rows e f = ((level, rows), (e, f), tt)
+levels_pushed n m (k ∷ ls) l all level rows e f = (all.0, all.1, levels_pushed n m ls l all.2 level rows e f)

@@ -1,2 +1,4 @@
+pub mod Made
+pub mod Spending
 pub mod Walks
 pub mod steps

@@ -1,5 +1,5 @@
--- What is owed by a walk over the rows that optional clauses make of a row, and which row stands.
-use Rattle.std.specs.Prelude.{◌≡◌, ℕ, ◌++◌, Bool, true, false, List, [], ◌∷◌, map, length}
+-- Optional clauses that are held, and walks over the rows that they make of a row: what is owed, and which row stands.
+use Rattle.std.specs.Prelude.{◌≡◌, ℕ, ◌++◌, Bool, true, false, All, List, [], ◌∷◌, map, length}
 use Rattle.std.specs.List.{range_with_len}
 use Rattle.gq_base.specs.Plain.{Graph}
 use Rattle.gq_plan.specs.Assignments as plain
@@ -10,9 +10,10 @@ use Rattle.gq_wide.specs.Rows.{Wide, read}
 use Rattle.gq_plan.specs.declared.bound.OptionalPart.{OptionalPart}
 use Rattle.gq_optional.specs.declared.clause.Clause.{Clause}
 use Rattle.gq_optional.specs.declared.level.Level.{Level}
+use Rattle.gq_optional.specs.declared.optionals.Optionals.{Optionals}
 use Rattle.gq_optional.specs.declared.walk.OptionalWalk.{OptionalWalk}
 use Rattle.gq_optional.specs.steps.Levels.{AreLevels, IsAlike, clauses_of, made_by_all, still}
-use Rattle.gq_optional.specs.steps.Listed.{list_of}
+use Rattle.gq_optional.specs.steps.Listed.{IsClause, list_of}
 
 -- ---- clauses
 
@@ -26,6 +27,18 @@ lists_of cs = map list_of cs
 abbrev pub AreShared : List ℕ → List Clause → Type 0
 AreShared known [] = Unit {0}
 AreShared known (c ∷ cs) = (c.shared ≡ map (has_number known) c.part.now.nodes) × AreShared (known ++ c.part.now.nodes) cs
+
+-- the clauses of a query, and what is held of each of them
+abbrev pub parts_in : Optionals → List OptionalPart
+parts_in o = parts_of o.clauses
+
+abbrev pub lists_in : Optionals → List (List plain.Assignment)
+lists_in o = lists_of o.clauses
+
+-- their variables are those of rows of this shape, and each shares those that are known before it
+pub record IsOptionals (o : Optionals) : Type 0 where
+  pub clauses : All (IsClause o.shape.nodes o.shape.rels) o.clauses
+  pub shared : AreShared (range_with_len 0 o.shape.first) o.clauses
 
 -- the variables that are known before all clauses of a walk, the clauses, and what each of them lists
 abbrev pub known_by : OptionalWalk → List ℕ

@@ -1,3 +1,4 @@
 pub mod Levels
 pub mod Listed
 pub mod Looked
+pub mod Making

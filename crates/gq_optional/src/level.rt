@@ -1,19 +1,23 @@
 //! One optional clause at work: the rows that it makes of a row, one after another.
-ghost use Rattle.std.specs.Prelude.{◌≡◌, ◌∷◌, ◌<◌, [], Some, length};
+ghost use Rattle.std.specs.Prelude.{◌≡◌, ◌∷◌, ◌<◌, [], IfOk, Some, length};
 ghost use Rattle.gq_optional.specs.steps.Levels.{Finds, GoesOn, HasRows, IsAsWide, IsLevel};
 ghost use Rattle.gq_optional.specs.steps.Levels.{IsSameClause, agreeing_in, left_of, made_by};
 ghost use Rattle.gq_optional.specs.steps.Levels.{matches_left, now_at, pending};
-ghost use Rattle.gq_optional.specs.steps.Listed.{IsWhole, match_at};
+ghost use Rattle.gq_optional.specs.steps.Listed.{IsClause, IsWhole, match_at};
+ghost use Rattle.gq_optional.specs.steps.Looked.{count_shared};
 ghost use Rattle.gq_plan.specs.Marked.{Marked};
 ghost use Rattle.gq_wide.specs.Clauses.{unmarked, with_match};
 ghost use Rattle.gq_wide.specs.Rows.{read};
 
 use crate::clause::{Clause, Matches};
 use crate::looking::rows_of;
+use crate::optionals::RowShape;
 use crate::placing::{place_nodes, place_rels};
+use gq_base::Memory;
 use gq_expr::Fault;
 use gq_store::Graph;
 use gq_wide::{Verdict, WideRow, judge};
+use std::alloc::Global;
 use std::marker::Model;
 
 /// An optional clause, the row that it made last, and what is left to be looked at.
@@ -198,6 +202,33 @@ impl<'w> Model for Stage<'w> {
 }
 
 impl<'w> Stage<'w> {
+    /// A clause that has made no row, for rows of this shape.
+    pub(crate) fn new(
+        alloc: Global,
+        clause: &'w Clause<'w>,
+        shape: RowShape,
+    ) -> Result<Stage<'w>, Memory>
+        requires { IsClause shape.nodes shape.rels clause.now }
+        ensures level { IfOk result IsLevel }
+        ensures rows { IfOk result HasRows }
+        ensures nodes { IfOk result (λ l. length l.row.nodes ≡ shape.nodes) }
+        ensures rels { IfOk result (λ l. length l.row.rels ≡ shape.rels) }
+        ensures clause { IfOk result (λ l. l.clause.now ≡ clause.now) }
+    {
+        let key = key_space(alloc, clause.shared.as_slice())?;
+        let row = WideRow::new(alloc, shape.nodes, shape.rels)?;
+        let level = Level {
+            clause,
+            at: 0,
+            rows: &[],
+            next: 0,
+            key,
+            row,
+            mark: None,
+        };
+        Ok(Stage { level })
+    }
+
     /// Makes the first row of a row that comes to the clause.
     pub(crate) fn begin(&mut self, before: &WideRow, mark: Option<Fault>, graph: &Graph)
         requires level { IsLevel self.old }
@@ -238,4 +269,17 @@ impl<'w> Stage<'w> {
     {
         self.level.mark
     }
+}
+
+// Work space for a look-up by the variables that are shared.
+fn key_space(alloc: Global, shared: &[bool]) -> Result<Vec<u32>, Memory>
+    ensures { IfOk result (λ key. length key.items ≡ count_shared shared.now) }
+{
+    let mut key = Vec::new(alloc);
+    'shared: for place in 0..shared.len() {
+        if shared[place] {
+            key.push(0)?;
+        }
+    }
+    Ok(key)
 }

@@ -5,8 +5,11 @@
 
 mod clause;
 mod level;
+mod listing;
 mod looking;
+mod optionals;
 mod placing;
 mod walk;
 
+pub use optionals::{Optionals, RowShape};
 pub use walk::OptionalWalk;

@@ -14,7 +14,8 @@ use gq_expr::Fault;
 use gq_store::Graph;
 use gq_wide::WideRow;
 
-/// The rows that optional clauses make of a row, one after another: the last clause's deciding last.
+/// The rows that optional clauses make of a row, one after another, the last clause's deciding
+/// last.
 #[derive(Drop)]
 pub struct OptionalWalk<'w> {
     pub(crate) graph: &'w Graph,
@@ -138,7 +139,8 @@ fn begin_from(
     graph: &Graph,
 ) -> Option<Fault>
     requires { AreLevels (length row.old.nodes) (length row.old.rels) (drop depth levels.old) }
-    ensures levels { AreLevels (length row.old.nodes) (length row.old.rels) (drop depth levels.new) }
+    ensures levels { let n = length row.old.nodes in
+        AreLevels n (length row.old.rels) (drop depth levels.new) }
     ensures kept { take depth levels.new ≡ take depth levels.old }
     ensures begins { let m : Marked = record { row = read row.old; mark = mark } in
         made_by_all graph.now (clauses_of (drop depth levels.old)) m
@@ -179,9 +181,11 @@ fn step_from(
     mark: &mut Option<Fault>,
     graph: &Graph,
 ) -> bool
-    requires levels { AreLevels (length row.old.nodes) (length row.old.rels) (drop depth levels.old) }
+    requires levels { let n = length row.old.nodes in
+        AreLevels n (length row.old.rels) (drop depth levels.old) }
     requires here { IsAlike row.old (last_wide base.now (take depth levels.old)) }
-    ensures levels { AreLevels (length row.old.nodes) (length row.old.rels) (drop depth levels.new) }
+    ensures levels { let n = length row.old.nodes in
+        AreLevels n (length row.old.rels) (drop depth levels.new) }
     ensures kept { take depth levels.new ≡ take depth levels.old }
     ensures next { let here = last_wide base.now (take depth levels.old) in
         StepsOn graph.now (read here) (drop depth levels.old) result (drop depth levels.new) }

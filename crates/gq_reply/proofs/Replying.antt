@@ -4,7 +4,7 @@ use Rattle.std.specs.List.{AllByRecursion, AllZip}
 use Rattle.std.proofs.lemmas.List.{length-map}
 use Rattle.std.proofs.lemmas.List.Elements.{All-from_recursion}
 use Rattle.std.proofs.lemmas.Slice.Zip.{AllZip-long}
-use Rattle.std.specs.Prelude.{◌<◌, All, ◌++◌, codes, decimal, IfOk, Result}
+use Rattle.std.specs.Prelude.{◌<◌, ◌≤◌, All, ◌++◌, codes, decimal, IfOk, Result}
 use Rattle.gq_base.specs.Catalogs.{Tables}
 use Rattle.gq_base.specs.declared.literal.Literal.{Literal}
 use Rattle.gq_binder.specs.Binding.{Answers, IsBound}
@@ -279,6 +279,13 @@ columns_long (y ∷ ys) (p ∷ ps) same = let less : length ps ≡ length ys = o
 -- the alternatives of a bound query have node variables
 pub begun : (query : Query) (text : List ℕ) (catalog : Tables) (bound : Bound) → IsBound query text catalog bound → All (λ y. 0 < length y.nodes) bound.alternatives
 begun query text catalog bound is = λ k d lt. omega (arith, is.has_node, is.node_counts k d lt)
+
+-- they have no more variables than the query has
+pub nodes_fit : (query : Query) (text : List ℕ) (catalog : Tables) (bound : Bound) → IsBound query text catalog bound → All (λ y. length y.nodes ≤ length bound.node_names) bound.alternatives
+nodes_fit query text catalog bound is = λ k d lt. omega (arith, is.node_width, is.node_counts k d lt)
+
+pub rels_fit : (query : Query) (text : List ℕ) (catalog : Tables) (bound : Bound) → IsBound query text catalog bound → All (λ y. length y.rels ≤ length bound.rel_names) bound.alternatives
+rels_fit query text catalog bound is = λ k d lt. omega (arith, is.rel_width, is.rel_counts k d lt)
 
 -- what is so of each test of a path is so of the parts of a bound query
 zip_each : (P : ExistsPart → Type 0) (text : List ℕ) (catalog : Tables) → ((t : ScopedTest) (part : ExistsPart) → IsTested text catalog t part → P part)

@@ -9,6 +9,7 @@ ghost use Rattle.gq_reply.specs.Replies.{context_of};
 ghost use Rattle.gq_reply.specs.ReplyTexts.{fault_text, many_text, rows_text};
 ghost use Rattle.gq_reply.specs.steps.Steps.{Asks, answer_text};
 ghost use Rattle.gq_session.specs.Sessions.{span_of};
+ghost use Rattle.gq_wide.specs.Placed.{IsPlaced};
 
 use crate::replier::{Form, Replier};
 use crate::spent::write_spent;
@@ -101,6 +102,13 @@ impl Replier<'_> {
             All (λ p. sound p.alternatives) bound.now.patterns }
         requires tests_begin { let begin = All (λ y. 0 < length y.nodes) in
             All (λ p. begin p.alternatives) bound.now.patterns }
+        requires placed {
+            let placed = IsPlaced (length bound.now.node_names) (length bound.now.rel_names) in
+            All (placed self.now.graph.now.catalog) bound.now.optionals }
+        requires nodes { let most = length bound.now.node_names in
+            All (λ y. length y.nodes ≤ most) bound.now.alternatives }
+        requires rels { let most = length bound.now.rel_names in
+            All (λ y. length y.rels ≤ most) bound.now.alternatives }
         requires slots { 112 ≤ spare_of pool.old }
         ensures asks { Asks (context_of self.now) profiled bound.now
             (span_of O.taken O.faults out.old out.new) result }

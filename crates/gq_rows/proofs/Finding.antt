@@ -7,7 +7,7 @@ use Rattle.std.proofs.lemmas.List.{map-append, take_more}
 use Rattle.std.proofs.lemmas.List.Elements.{All-append, All-cons}
 use Rattle.gq_base.specs.Plain.{Graph}
 use Rattle.gq_base.specs.Values.{Val}
-use Rattle.gq_cells.specs.Numbers.{IsNumber, number_val, source_val}
+use Rattle.gq_cells.specs.Numbers.{IsNumber, source_val}
 use Rattle.gq_cells.specs.declared.source.Source.{Source}
 use Rattle.gq_expr.specs.Meaning.{meaning}
 use Rattle.gq_expr.specs.Operators.{Outcome}
@@ -15,7 +15,7 @@ use Rattle.gq_expr.specs.Reading as reading
 use Rattle.gq_expr.specs.declared.expr.Expr.{Expr}
 use Rattle.gq_plan.specs.Outcomes.{then_with}
 use Rattle.gq_plan.specs.declared.bound.NamedExpr.{NamedExpr}
-use Rattle.gq_rows.specs.steps.Finding.{Extends, Finds, FindsBy, HasNumber, IsFinder, PutsColumn}
+use Rattle.gq_rows.specs.steps.Finding.{Extends, Finds, FindsBy, IsFinder, PutsColumn}
 use Rattle.gq_rows.specs.steps.Judged.{values_after}
 use Rattle.gq_rows.specs.steps.Listed.{AreFinders, PutsRow, column_exprs, meanings_found}
 use Rattle.gq_rows.specs.declared.finder.Finder.{Finder}
@@ -56,7 +56,7 @@ module _ (g : Graph) (old new : List Source) (more : Extends old new) where
   stays_by place e (way.Rel r) h = record { source = h.source; at = more place h.source h.at; number = h.number; means = h.means }
 
   pub stays : (f : Finder) → IsFinder g old f → IsFinder g new f
-  stays f h = stays_by f.source f.expr.now f.way h
+  stays f h = record { finds = stays_by f.source f.expr.now f.way h.finds; none = more f.null _ h.none; nothing = h.nothing }
 
   pub stay : (fs : List Finder) → All (IsFinder g old) fs → All (IsFinder g new) fs
   stay fs h k d lt = stays (get_or fs k d) (h k d lt)
@@ -87,25 +87,6 @@ module _ (g : Graph) (here : reading.Assignment) (fs : List Finder) (f d : Finde
   broke os old (refusal.Fault e) same p = sym same ∙ left ∙ ap (λ o. then_with o (λ v. values_after (acc ++ v ∷ []) rest)) p
   broke os old (refusal.TooManyRows l) same p = absurd p
   broke os old refusal.Memory same p = tt
-
--- ---- a number that was found
-
--- the source at a place has the number, which stands for the value
-pub record Taken (g : Graph) (sources : List Source) (place : ℕ) (e : Expr) (here : reading.Assignment) (n : ℕ) : Type 0 where
-  pub number : IsNumber (slice_get sources place) n
-  pub means : meaning g here e ≡ Ok (number_val (slice_get sources place) n)
-
-taken_at : (g : Graph) (sources : List Source) (place : ℕ) (e : Expr) (here : reading.Assignment) (n : ℕ) (s : Source) → slice_get sources place ≡ Some s → IsNumber (Some s) n → meaning g here e ≡ Ok (source_val s n)
-    → Taken g sources place e here n
-taken_at g sources place e here n s at number means = record {
-  number = subst (λ o. IsNumber o n) (sym at) number;
-  means = means ∙ ap (λ o. Ok (number_val o n)) (sym at);
-}
-
-pub taken : (g : Graph) (sources : List Source) (place : ℕ) (e : Expr) (w : Way) (here : reading.Assignment) (n : ℕ) → FindsBy g sources place e w → HasNumber w here n → Taken g sources place e here n
-taken g sources place e way.Value here n f h = absurd h
-taken g sources place e (way.Node r) here n f h = taken_at g sources place e here n f.source f.at (f.number here n h) (f.means here n h)
-taken g sources place e (way.Rel r) here n f h = taken_at g sources place e here n f.source f.at (f.number here n h) (f.means here n h)
 
 -- ---- the finders of an alternative
 

@@ -56,6 +56,7 @@ module _ (g : Graph) (name : List ℕ) (p : Property) where
     place = omega (arith, place, ap length (ap node_fields_of is));
     cells = λ here row at.
         meaning_NodeProperty g here p.variable name ∙ ap (λ o. Ok (property_at (node_property g) o name)) at ∙ ap Ok (node_named t row is found);
+    nothing = λ here at. meaning_NodeProperty g here p.variable name ∙ ap (λ o. Ok (property_at (node_property g) o name)) at;
   }
 
   pub reads_rel : (t : RelTable) → p.table < length g.catalog.rels → slice_get g.catalog.rels p.table ≡ Some t → find_field t.fields name ≡ Some p.place → p.place < length t.fields
@@ -65,6 +66,7 @@ module _ (g : Graph) (name : List ℕ) (p : Property) where
     place = omega (arith, place, ap length (ap rel_fields_of is));
     cells = λ here number at.
         meaning_RelProperty g here p.variable name ∙ ap (λ o. Ok (property_at (rel_property g) o name)) at ∙ ap Ok (rel_named t number is found);
+    nothing = λ here at. meaning_RelProperty g here p.variable name ∙ ap (λ o. Ok (property_at (rel_property g) o name)) at;
   }
 
 -- ---- what resolved columns and keys mean

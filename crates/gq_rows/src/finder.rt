@@ -1,17 +1,18 @@
 //! How the value of a column is kept for an assignment: as the row or the load number of the
 //! column's variable, or else as the value itself.
-ghost use Rattle.std.specs.Prelude.{◌≡◌, ◌++◌, ◌∷◌, [], IfOk, IfSome, OnOk};
+ghost use Rattle.std.specs.Prelude.{◌≡◌, ◌++◌, ◌∷◌, [], IfOk, None, OnOk};
 ghost use Rattle.gq_base.specs.Plain.{Graph as Plain};
 ghost use Rattle.gq_base.specs.Values.{val};
 ghost use Rattle.gq_expr.specs.Meaning.{meaning};
-ghost use Rattle.gq_rows.specs.steps.Finding.{Extends, HasNumber, IsFinder, PutsColumn};
+ghost use Rattle.gq_rows.specs.steps.Finding.{Extends, IsFinder, IsFound, IsNullAt, PutsColumn};
+ghost use Rattle.gq_rows.specs.steps.Flat.{IsHeld};
 
 use crate::refusal::RowRefusal;
 use crate::resolved::{Reader, reader_of};
+use crate::tables::Tables;
 use gq_base::{Memory, Value};
 use gq_cells::{Cells, Source};
 use gq_expr::{Assigned, Expr, eval};
-use gq_plan::Typed;
 use gq_store::Graph;
 
 /// The rows below a count, or the load numbers, that a variable may have in a table.
@@ -33,31 +34,48 @@ pub enum Way {
     Rel(Range),
 }
 
-/// An expression, what tells the number that stands for its value, and the place of the source of
-/// such numbers.
+/// An expression, what tells the number that stands for its value, and the places of the source of
+/// such numbers and of the source of null, which is its value where its variable has nothing. While
+/// a chunk is taken it holds the number that all assignments of the chunk have, if that is known.
 #[derive(Clone, Copy)]
 pub struct Finder<'g> {
     pub(crate) expr: &'g Expr,
     pub(crate) way: Way,
     pub(crate) source: u32,
+    pub(crate) null: u32,
+    pub(crate) held: Option<u32>,
+}
+
+/// What was found of a variable.
+#[derive(Clone, Copy)]
+pub enum Found {
+    /// The number that stands for the value.
+    Number(u32),
+    /// The variable has nothing.
+    Null,
+    /// Neither: the value is to be evaluated.
+    Other,
 }
 
 impl<'g> Finder<'g> {
     /// How an expression's values are kept for an alternative in a graph. Its source goes to the
-    /// others.
+    /// others, among which is that of null.
     pub(crate) fn new(
         cells: &mut Cells<'g>,
+        null: u32,
         expr: &'g Expr,
-        typed: &Typed,
+        tables: &Tables<'_>,
         graph: &'g Graph,
     ) -> Result<Finder<'g>, Memory>
+        requires { IsNullAt cells.old.sources null }
         ensures expr { IfOk result (λ finder. finder.expr.now ≡ expr.now) }
+        ensures free { IfOk result (λ finder. finder.held ≡ None) }
         ensures finds { IfOk result (IsFinder graph.now cells.new.sources) }
         ensures more { OnOk result (Extends cells.old.sources cells.new.sources) }
         ensures values { cells.new.values ≡ cells.old.values }
     {
-        match reader_of(expr, typed, graph) {
-            Reader::Plain => Finder::plain(cells, expr, typed),
+        match reader_of(expr, tables, graph) {
+            Reader::Plain => Finder::plain(cells, null, expr, tables),
             Reader::Node(property) => {
                 let source = cells.add(Source::NodeProperty {
                     graph,
@@ -69,7 +87,13 @@ impl<'g> Finder<'g> {
                     table: property.table,
                     count: graph.node_count(property.table),
                 });
-                Ok(Finder { expr, way, source })
+                Ok(Finder {
+                    expr,
+                    way,
+                    source,
+                    null,
+                    held: None,
+                })
             }
             Reader::Rel(property) => {
                 let source = cells.add(Source::RelProperty {
@@ -82,39 +106,64 @@ impl<'g> Finder<'g> {
                     table: property.table,
                     count: graph.rel_count(property.table),
                 });
-                Ok(Finder { expr, way, source })
+                Ok(Finder {
+                    expr,
+                    way,
+                    source,
+                    null,
+                    held: None,
+                })
             }
         }
     }
 
     // The same of an expression that is no property.
-    fn plain(cells: &mut Cells<'g>, expr: &'g Expr, typed: &Typed) -> Result<Finder<'g>, Memory>
+    fn plain(
+        cells: &mut Cells<'g>,
+        null: u32,
+        expr: &'g Expr,
+        tables: &Tables<'_>,
+    ) -> Result<Finder<'g>, Memory>
+        requires { IsNullAt cells.old.sources null }
         ensures expr { IfOk result (λ finder. finder.expr.now ≡ expr.now) }
+        ensures free { IfOk result (λ finder. finder.held ≡ None) }
         ensures finds { (g : Plain) → IfOk result (IsFinder g cells.new.sources) }
         ensures more { OnOk result (Extends cells.old.sources cells.new.sources) }
         ensures values { cells.new.values ≡ cells.old.values }
     {
         match expr {
             Expr::Node(variable) => {
-                if let Some(table) = typed.nodes.get(*variable as usize) {
-                    let source = cells.add(Source::Node(*table))?;
+                if let Some(table) = tables.of_node(*variable) {
+                    let source = cells.add(Source::Node(table))?;
                     let way = Way::Node(Range {
                         variable: *variable,
-                        table: *table,
+                        table,
                         count: u32::MAX,
                     });
-                    return Ok(Finder { expr, way, source });
+                    return Ok(Finder {
+                        expr,
+                        way,
+                        source,
+                        null,
+                        held: None,
+                    });
                 }
             }
             Expr::Rel(variable) => {
-                if let Some(rel) = typed.rels.get(*variable as usize) {
-                    let source = cells.add(Source::Rel(rel.table))?;
+                if let Some(table) = tables.of_rel(*variable) {
+                    let source = cells.add(Source::Rel(table))?;
                     let way = Way::Rel(Range {
                         variable: *variable,
-                        table: rel.table,
+                        table,
                         count: u32::MAX,
                     });
-                    return Ok(Finder { expr, way, source });
+                    return Ok(Finder {
+                        expr,
+                        way,
+                        source,
+                        null,
+                        held: None,
+                    });
                 }
             }
             _ => {}
@@ -123,32 +172,34 @@ impl<'g> Finder<'g> {
             expr,
             way: Way::Value,
             source: 0,
+            null,
+            held: None,
         })
     }
 }
 
-// The number that stands for the value of a column, where there is one.
-fn find<R: Assigned>(way: Way, row: &R) -> Option<u32>
-    ensures { IfSome result (HasNumber way (R.assignment row.now)) }
+/// What is found of the variable of a column.
+pub(crate) fn find<R: Assigned>(way: Way, row: &R) -> Found
+    ensures { IsFound way (R.assignment row.now) result }
 {
     match way {
-        Way::Value => None,
-        Way::Node(range) => {
-            let node = row.node(range.variable)?;
-            if node.table == range.table && node.row < range.count {
-                Some(node.row)
+        Way::Value => Found::Other,
+        Way::Node(range) => match row.node(range.variable) {
+            None => Found::Null,
+            Some(node) => if node.table == range.table && node.row < range.count {
+                Found::Number(node.row)
             } else {
-                None
-            }
-        }
-        Way::Rel(range) => {
-            let rel = row.rel(range.variable)?;
-            if rel.table == range.table && rel.row < range.count {
-                Some(rel.row)
+                Found::Other
+            },
+        },
+        Way::Rel(range) => match row.rel(range.variable) {
+            None => Found::Null,
+            Some(rel) => if rel.table == range.table && rel.row < range.count {
+                Found::Number(rel.row)
             } else {
-                None
-            }
-        }
+                Found::Other
+            },
+        },
     }
 }
 
@@ -161,29 +212,59 @@ fn put_value<'g>(cells: &mut Cells<'g>, value: Value<'g>) -> Result<(), Memory>
     cells.put(source, 0)
 }
 
-/// Appends the value of a column for an assignment.
+// Evaluates an expression, and appends its value.
+fn put_evaluated<'g, R: Assigned>(
+    cells: &mut Cells<'g>,
+    expr: &'g Expr,
+    graph: &'g Graph,
+    row: &R,
+) -> Result<(), RowRefusal>
+    ensures puts { PutsColumn (meaning graph.now (R.assignment row.now) expr.now)
+        cells.old.values cells.new.values result }
+    ensures more { OnOk result (Extends cells.old.sources cells.new.sources) }
+{
+    match eval(expr, graph, row) {
+        Ok(value) => match put_value(cells, value) {
+            Ok(()) => Ok(()),
+            Err(Memory) => Err(RowRefusal::Memory),
+        },
+        Err(fault) => Err(RowRefusal::Fault(fault)),
+    }
+}
+
+// The number that is held, or else what is found.
+fn found_of<R: Assigned>(finder: &Finder<'_>, row: &R) -> Found
+    requires { IsHeld (R.assignment row.now) finder.now }
+    ensures { IsFound finder.now.way (R.assignment row.now) result }
+{
+    match finder.held {
+        Some(number) => Found::Number(number),
+        None => find(finder.way, row),
+    }
+}
+
+/// Appends the value of a column for a row.
 pub(crate) fn put_column<'g, R: Assigned>(
     cells: &mut Cells<'g>,
     finder: &Finder<'g>,
     graph: &'g Graph,
     row: &R,
 ) -> Result<(), RowRefusal>
-    requires { IsFinder graph.now cells.old.sources finder.now }
+    requires finder { IsFinder graph.now cells.old.sources finder.now }
+    requires held { IsHeld (R.assignment row.now) finder.now }
     ensures puts { PutsColumn (meaning graph.now (R.assignment row.now) finder.now.expr.now)
         cells.old.values cells.new.values result }
     ensures more { OnOk result (Extends cells.old.sources cells.new.sources) }
 {
-    if let Some(number) = find(finder.way, row) {
-        return match cells.put(finder.source, number) {
-            Ok(()) => Ok(()),
-            Err(Memory) => Err(RowRefusal::Memory),
-        };
-    }
-    match eval(finder.expr, graph, row) {
-        Ok(value) => match put_value(cells, value) {
+    match found_of(finder, row) {
+        Found::Number(number) => match cells.put(finder.source, number) {
             Ok(()) => Ok(()),
             Err(Memory) => Err(RowRefusal::Memory),
         },
-        Err(fault) => Err(RowRefusal::Fault(fault)),
+        Found::Null => match cells.put(finder.null, 0) {
+            Ok(()) => Ok(()),
+            Err(Memory) => Err(RowRefusal::Memory),
+        },
+        Found::Other => put_evaluated(cells, finder.expr, graph, row),
     }
 }

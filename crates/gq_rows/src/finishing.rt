@@ -157,6 +157,7 @@ impl<'g> RowTable<'g> {
             listed,
             done: _,
             finders: _,
+            held: _,
             reading: _,
             pushed,
             choice: _,

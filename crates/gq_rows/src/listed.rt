@@ -7,8 +7,9 @@ ghost use Rattle.gq_plan.specs.Assignments.{row_of};
 ghost use Rattle.gq_rows.specs.Chunks.{PushesAll, admitted_outcomes};
 ghost use Rattle.gq_rows.specs.Tables.{Pushes, StandsForSome, is_full_table};
 ghost use Rattle.gq_rows.specs.steps.Finding.{Extends, IsFinder};
+ghost use Rattle.gq_rows.specs.steps.Flat.{AreHeldIn, IsHeld};
 ghost use Rattle.gq_rows.specs.steps.Keeping.{TellsFull};
-ghost use Rattle.gq_rows.specs.steps.Listed.{AddsIn, AreFinders, Finding, IsListing, PutsRow};
+ghost use Rattle.gq_rows.specs.steps.Listed.{AddsIn, AreFreeFinders, Finding, IsListing, PutsRow};
 ghost use Rattle.gq_rows.specs.steps.Listed.{column_exprs, held_in, is_listing, meanings_found};
 ghost use Rattle.gq_rows.specs.steps.Listed.{outcome_in, outcome_within, table_in};
 
@@ -17,11 +18,12 @@ use crate::finder::{Finder, put_column};
 use crate::held::Form;
 use crate::judging::{Checked, check_late};
 use crate::refusal::{More, RowRefusal};
-use gq_base::Memory;
-use gq_cells::Cells;
+use crate::tables::Tables;
+use gq_base::{Memory, Value};
+use gq_cells::{Cells, Source};
 use gq_expr::Assigned;
 use gq_group::{Choice, Chunk, ChunkRow};
-use gq_plan::{Bound, NamedExpr, Typed};
+use gq_plan::{Bound, Typed};
 use gq_store::Graph;
 
 /// What is asked of each row where the rows are listed as they come, and the most rows that are
@@ -56,22 +58,25 @@ pub(crate) fn find_columns<'g>(
     done: bool,
     cells: &mut Cells<'g>,
     finders: &mut Vec<Finder<'g>>,
-    columns: &'g [NamedExpr],
+    bound: &'g Bound,
     typed: &Typed,
     graph: &'g Graph,
 ) -> Result<(), Memory>
-    requires { let exprs = column_exprs columns.now in
-        done ≡ true → AreFinders graph.now cells.old.sources exprs finders.old.items }
-    ensures finds { let exprs = column_exprs columns.now in
-        OnOk result (AreFinders graph.now cells.new.sources exprs finders.new.items) }
+    requires { let exprs = column_exprs bound.now.columns in
+        done ≡ true → AreFreeFinders graph.now cells.old.sources exprs finders.old.items }
+    ensures finds { let exprs = column_exprs bound.now.columns in
+        OnOk result (AreFreeFinders graph.now cells.new.sources exprs finders.new.items) }
     ensures values { cells.new.values ≡ cells.old.values }
 {
     if done {
         return Ok(());
     }
+    let tables = Tables { bound, typed };
+    let columns = bound.columns.as_slice();
+    let null = cells.add(Source::Value(Value::Null))?;
     finders.clear();
     'columns: for column in columns {
-        let finder = Finder::new(cells, &column.expr, typed, graph)?;
+        let finder = Finder::new(cells, null, &column.expr, &tables, graph)?;
         finders.push(finder)?;
     }
     Ok(())
@@ -84,7 +89,8 @@ fn put_row<'g, R: Assigned>(
     graph: &'g Graph,
     row: &R,
 ) -> Result<(), RowRefusal>
-    requires { All (IsFinder graph.now cells.old.sources) finders.now }
+    requires finders { All (IsFinder graph.now cells.old.sources) finders.now }
+    requires held { All (IsHeld (R.assignment row.now)) finders.now }
     ensures puts { PutsRow (meanings_found graph.now (R.assignment row.now) finders.now)
         cells.old.values cells.new.values result }
     ensures more { OnOk result (Extends cells.old.sources cells.new.sources) }
@@ -109,6 +115,7 @@ impl<'g> Listed<'g> {
         requires few { self.old.count < 2 ^ 40 }
         requires keyless { asked.now.bound.now.keys ≡ [] }
         requires finders { Finding asked.now self.old.cells.sources finders.now }
+        requires held { All (IsHeld (R.assignment row.now)) finders.now }
         ensures adds { AddsIn asked.now (outcome_in asked.now (R.assignment row.now))
             self.old self.new result }
         ensures more { OnOk result (Extends self.old.cells.sources self.new.cells.sources) }
@@ -152,6 +159,7 @@ impl<'g> Listed<'g> {
     ) -> Result<More, RowRefusal>
         requires listing { IsListing asked.now }
         requires finders { Finding asked.now self.old.cells.sources finders.now }
+        requires held { All (IsHeld (R.assignment row.now)) finders.now }
         requires stands { StandsForSome (table_in asked.now self.old) }
         requires room { is_full_table (table_in asked.now self.old) ≡ false }
         ensures pushes { Pushes (outcome_in asked.now (R.assignment row.now))
@@ -174,6 +182,7 @@ impl<'g> Listed<'g> {
     ) -> Result<More, RowRefusal>
         requires listing { IsListing asked.now }
         requires finders { Finding asked.now self.old.cells.sources finders.now }
+        requires held { All (IsHeld (row_of row.now)) finders.now }
         requires stands { StandsForSome (table_in asked.now self.old) }
         requires room { is_full_table (table_in asked.now self.old) ≡ false }
         ensures pushes { let admitted = A.admitted admits.now in
@@ -201,6 +210,7 @@ impl<'g> Listed<'g> {
         requires late { asked.now.late.now ≡ typed.now.late }
         requires listing { IsListing asked.now }
         requires finders { Finding asked.now self.old.cells.sources finders.now }
+        requires held { AreHeldIn asked.now.graph.now typed.now chunk.now finders.now }
         requires stands { StandsForSome (table_in asked.now self.old) }
         requires room { is_full_table (table_in asked.now self.old) ≡ false }
         requires begins { Begins chunk.now.groups.now true choice.old }

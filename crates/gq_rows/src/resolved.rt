@@ -6,13 +6,14 @@ ghost use Rattle.gq_expr.specs.declared.expr.Expr.TheVariants.{NodeProperty, Rel
 ghost use Rattle.gq_rows.specs.steps.Resolving.{AreResolved, IsReader, IsReading, IsResolved};
 ghost use Rattle.gq_rows.specs.steps.Resolving.{ReadsNode, ReadsRel};
 
+use crate::tables::Tables;
 use gq_base::{Memory, Text, Value, find_field};
 use gq_expr::{Assigned, Expr, Fault, eval};
 use gq_plan::{Bound, NamedExpr, SortExpr, Typed};
 use gq_store::Graph;
 use std::alloc::Global;
 
-/// A property of a variable, by its place in the table that an alternative gives the variable.
+/// A property of a variable, by its place in a table.
 #[derive(Clone, Copy)]
 pub struct Property {
     pub(crate) variable: u32,
@@ -40,13 +41,13 @@ pub struct Resolved<'g> {
 
 impl<'g> Resolved<'g> {
     // An expression in a graph, for an alternative.
-    fn new(expr: &'g Expr, typed: &Typed, graph: &Graph) -> Resolved<'g>
+    fn new(expr: &'g Expr, tables: &Tables<'_>, graph: &Graph) -> Resolved<'g>
         ensures expr { result.expr.now ≡ expr.now }
         ensures reads { IsResolved graph.now result }
     {
         Resolved {
             expr,
-            reader: reader_of(expr, typed, graph),
+            reader: reader_of(expr, tables, graph),
         }
     }
 
@@ -74,7 +75,7 @@ fn read_node<'g, R: Assigned>(
     ensures { outcome result ≡ meaning graph.now (R.assignment row.now) expr.now }
 {
     let Some(node) = row.node(property.variable) else {
-        return eval(expr, graph, row);
+        return Ok(Value::Null);
     };
     if node.table != property.table || node.row >= graph.node_count(property.table) {
         return eval(expr, graph, row);
@@ -93,7 +94,7 @@ fn read_rel<'g, R: Assigned>(
     ensures { outcome result ≡ meaning graph.now (R.assignment row.now) expr.now }
 {
     let Some(rel) = row.rel(property.variable) else {
-        return eval(expr, graph, row);
+        return Ok(Value::Null);
     };
     if rel.table != property.table || rel.row >= graph.rel_count(property.table) {
         return eval(expr, graph, row);
@@ -102,24 +103,23 @@ fn read_rel<'g, R: Assigned>(
 }
 
 /// How an expression is evaluated for an alternative in a graph.
-pub(crate) fn reader_of(expr: &Expr, typed: &Typed, graph: &Graph) -> Reader
+pub(crate) fn reader_of(expr: &Expr, tables: &Tables<'_>, graph: &Graph) -> Reader
     ensures { IsReader graph.now expr.now result }
 {
     match expr {
-        Expr::NodeProperty(variable, name) => node_reader(*variable, name, typed, graph),
-        Expr::RelProperty(variable, name) => rel_reader(*variable, name, typed, graph),
+        Expr::NodeProperty(variable, name) => node_reader(*variable, name, tables, graph),
+        Expr::RelProperty(variable, name) => rel_reader(*variable, name, tables, graph),
         _ => Reader::Plain,
     }
 }
 
-fn node_reader(variable: u32, name: &Text, typed: &Typed, graph: &Graph) -> Reader
+fn node_reader(variable: u32, name: &Text, tables: &Tables<'_>, graph: &Graph) -> Reader
     ensures { IsReader graph.now (NodeProperty variable name.now) result }
 {
     let catalog = graph.catalog();
-    let Some(table) = typed.nodes.get(variable as usize) else {
+    let Some(table) = tables.of_node(variable) else {
         return Reader::Plain;
     };
-    let table = *table;
     if table >= catalog.node_tables() {
         return Reader::Plain;
     }
@@ -133,14 +133,13 @@ fn node_reader(variable: u32, name: &Text, typed: &Typed, graph: &Graph) -> Read
     }
 }
 
-fn rel_reader(variable: u32, name: &Text, typed: &Typed, graph: &Graph) -> Reader
+fn rel_reader(variable: u32, name: &Text, tables: &Tables<'_>, graph: &Graph) -> Reader
     ensures { IsReader graph.now (RelProperty variable name.now) result }
 {
     let catalog = graph.catalog();
-    let Some(rel) = typed.rels.get(variable as usize) else {
+    let Some(table) = tables.of_rel(variable) else {
         return Reader::Plain;
     };
-    let table = rel.table;
     if table >= catalog.rel_tables() {
         return Reader::Plain;
     }
@@ -190,8 +189,9 @@ impl<'g> Reading<'g> {
         }
         self.columns.clear();
         self.keys.clear();
-        resolve_columns(&mut self.columns, bound.columns.as_slice(), typed, graph)?;
-        resolve_keys(&mut self.keys, bound.keys.as_slice(), typed, graph)?;
+        let tables = Tables { bound, typed };
+        resolve_columns(&mut self.columns, bound.columns.as_slice(), &tables, graph)?;
+        resolve_keys(&mut self.keys, bound.keys.as_slice(), &tables, graph)?;
         Ok(())
     }
 }
@@ -199,7 +199,7 @@ impl<'g> Reading<'g> {
 fn resolve_columns<'g>(
     all: &mut Vec<Resolved<'g>>,
     columns: &'g [NamedExpr],
-    typed: &Typed,
+    tables: &Tables<'_>,
     graph: &Graph,
 ) -> Result<(), Memory>
     requires { all.old.items ≡ [] }
@@ -207,7 +207,7 @@ fn resolve_columns<'g>(
         OnOk result (AreResolved graph.now exprs all.new.items) }
 {
     'columns: for column in columns {
-        all.push(Resolved::new(&column.expr, typed, graph))?;
+        all.push(Resolved::new(&column.expr, tables, graph))?;
     }
     Ok(())
 }
@@ -215,7 +215,7 @@ fn resolve_columns<'g>(
 fn resolve_keys<'g>(
     all: &mut Vec<Resolved<'g>>,
     keys: &'g [SortExpr],
-    typed: &Typed,
+    tables: &Tables<'_>,
     graph: &Graph,
 ) -> Result<(), Memory>
     requires { all.old.items ≡ [] }
@@ -223,7 +223,7 @@ fn resolve_keys<'g>(
         OnOk result (AreResolved graph.now exprs all.new.items) }
 {
     'keys: for key in keys {
-        all.push(Resolved::new(&key.expr, typed, graph))?;
+        all.push(Resolved::new(&key.expr, tables, graph))?;
     }
     Ok(())
 }

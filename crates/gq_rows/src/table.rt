@@ -18,6 +18,7 @@ use crate::admitting::{Admits, Everything};
 use crate::bar::are_sure;
 use crate::finder::Finder;
 use crate::held::{Form, Rows};
+use crate::holding::hold_columns;
 use crate::judging::Question;
 use crate::listed::{Asked, Listed, find_columns, is_listing};
 use crate::refusal::{More, RowRefusal};
@@ -55,6 +56,8 @@ pub struct RowTable<'g> {
     // rows are kept, or how those of other rows are evaluated.
     pub(crate) done: bool,
     pub(crate) finders: Vec<Finder<'g>>,
+    // The finders as they were for the last chunk.
+    pub(crate) held: Vec<Finder<'g>>,
     pub(crate) reading: Reading<'g>,
     // The chunks with a row that were pushed, and the positions of the last one.
     pub(crate) pushed: u64,
@@ -129,6 +132,7 @@ impl<'g> RowTable<'g> {
             },
             done: false,
             finders: Vec::new(alloc),
+            held: Vec::new(alloc),
             reading: Reading::new(alloc),
             pushed: 0,
             choice: Choice::new(alloc),
@@ -313,15 +317,19 @@ impl<'g> RowTable<'g> {
         };
         let done = self.done;
         self.done = false;
-        let columns = self.bound.columns.as_slice();
         let cells = &mut self.listed.cells;
-        let Ok(()) = find_columns(done, cells, &mut self.finders, columns, typed, graph) else {
+        let Ok(()) = find_columns(done, cells, &mut self.finders, self.bound, typed, graph) else {
             return Err(RowRefusal::Memory);
         };
+        let held = &mut self.held;
         let finders = self.finders.as_slice();
+        let Ok(()) = hold_columns(held, finders, graph, typed, chunk, choice.positions()) else {
+            return Err(RowRefusal::Memory);
+        };
+        let held = self.held.as_slice();
         match self
             .listed
-            .push_choices(finders, &asked, choice, chunk, typed, admits)
+            .push_choices(held, &asked, choice, chunk, typed, admits)
         {
             Ok(more) => {
                 self.done = true;
@@ -357,9 +365,8 @@ impl<'g> RowTable<'g> {
         };
         let done = self.done;
         self.done = false;
-        let columns = self.bound.columns.as_slice();
         let cells = &mut self.listed.cells;
-        let Ok(()) = find_columns(done, cells, &mut self.finders, columns, typed, graph) else {
+        let Ok(()) = find_columns(done, cells, &mut self.finders, self.bound, typed, graph) else {
             return Err(RowRefusal::Memory);
         };
         match self.listed.push(self.finders.as_slice(), &asked, row) {

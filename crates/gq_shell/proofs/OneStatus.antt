@@ -146,8 +146,8 @@ module _ (words : List (List ℕ)) (files : Names) (input : List ℕ) where
   no_load : (Says : Context → List ℕ → Type 0) (refusal : LoadRefusal) → IsNotLoaded words (Some files) refusal → OnInput Says → ⊥
   no_load Says refusal not over =
       let same : over.path ≡ not.path = paths Says over not.read not.given not.path not.from in
-      let both : ◌≡◌ {A = Result Graph LoadRefusal} (Err refusal) (Ok over.told.0) =
-      sym not.told ∙ subst (λ p. load_of p files standard ≡ Ok over.told.0) same over.told.1 in
+      let both : ◌≡◌ {A = Result Graph LoadRefusal} (Err refusal) (Ok over.graph) =
+      sym not.told ∙ subst (λ p. load_of p files standard ≡ Ok over.graph) same over.loads in
       cc both
 
   no_input : (Says : Context → List ℕ → Type 0) (read : Words) (given : IsRead words read) (size : ℕ) → read.source ≡ source.Sample size → OnInput Says → ⊥
@@ -165,7 +165,7 @@ module _ (words : List (List ℕ)) (files : Names) (input : List ℕ) where
     sampled : (t : Tone) (text : List ℕ) → s ≡ status_of (Ok t) → OnSample words (λ c. IsQuiz c t text) → Sort s
 
   narrow : (Says Less : Context → List ℕ → Type 0) → ((c : Context) (text : List ℕ) → Says c text → Less c text) → OnInput Says → OnInput Less
-  narrow Says Less go over = record { read = over.read; given = over.given; path = over.path; from = over.from; told = (over.told.0, over.told.1, go _ _ over.told.2) }
+  narrow Says Less go over = record { read = over.read; given = over.given; path = over.path; from = over.from; graph = over.graph; loads = over.loads; says = go _ _ over.says }
 
   replaced : (Says Less : Context → Type 0) → ((c : Context) → Says c → Less c) → OnSample words Says → OnSample words Less
   replaced Says Less go sample = record { read = sample.read; given = sample.given; size = sample.size; from = sample.from; says = go _ sample.says }
@@ -211,23 +211,23 @@ module _ (words : List (List ℕ)) (files : Names) (input : List ℕ) where
       (one : OnInput (λ c i. (¬ session.IsTooLong long most i) × ((behind : List Param) × Replies (IsTurn c) [] behind (session.statements i) t text)))
       (other : OnInput (λ c i. (¬ session.IsTooLong long most i) × ((behind : List Param) × Replies (IsTurn c) [] behind (session.statements i) t' text'))) where
     abbrev graph : Graph
-    graph = one.told.0
+    graph = one.graph
 
     loads : load_of other.path files standard ≡ Ok graph
-    loads = subst (λ p. load_of p files standard ≡ Ok graph) (paths _ one other.read other.given other.path other.from) one.told.1
+    loads = subst (λ p. load_of p files standard ≡ Ok graph) (paths _ one other.read other.given other.path other.from) one.loads
 
-    same : other.told.0 ≡ graph
-    same = let both : ◌≡◌ {A = Result Graph LoadRefusal} (Ok other.told.0) (Ok graph) = sym other.told.1 ∙ loads in cc both
+    same : other.graph ≡ graph
+    same = let both : ◌≡◌ {A = Result Graph LoadRefusal} (Ok other.graph) (Ok graph) = sym other.loads ∙ loads in cc both
 
     settings : settings_of other.read ≡ settings_of one.read
     settings = same_settings _ other.read one.read other.given.means one.given.means
 
     abbrev behind' : List Param
-    behind' = other.told.2.1.0
+    behind' = other.says.1.0
 
     replied : Replies (IsTurn (full graph (settings_of one.read))) [] behind' (session.statements input) t' text'
     replied = subst (λ k. Replies (IsTurn (full graph k)) [] behind' (session.statements input) t' text') settings
-        (subst (λ g. Replies (IsTurn (full g (settings_of other.read))) [] behind' (session.statements input) t' text') same other.told.2.1.1)
+        (subst (λ g. Replies (IsTurn (full g (settings_of other.read))) [] behind' (session.statements input) t' text') same other.says.1.1)
 
     two_ends : Only s s'
     two_ends =
@@ -237,9 +237,11 @@ module _ (words : List (List ℕ)) (files : Names) (input : List ℕ) where
           given = one.given;
           path = one.path;
           from = one.from;
-          told = (graph, one.told.1, opened (full graph (settings_of one.read)) (session.statements input) asks);
+          graph = graph;
+          loads = one.loads;
+          says = opened (full graph (settings_of one.read)) (session.statements input) asks;
         }))))
-        (tones_agree graph (settings_of one.read) Full Full [] one.told.2.1.0 behind' (session.statements input) t t' text text' one.told.2.1.1 replied)
+        (tones_agree graph (settings_of one.read) Full Full [] one.says.1.0 behind' (session.statements input) t t' text text' one.says.1.1 replied)
 
   -- two ends of the questions
   module _ (s s' : Status) (t t' : Tone) (text text' : List ℕ) (is : s ≡ status_of (Ok t)) (is' : s' ≡ status_of (Ok t'))
@@ -278,11 +280,11 @@ module _ (words : List (List ℕ)) (files : Names) (input : List ℕ) where
   one_by s s' (too_long is o) (misused is' m) = absurd (not_misused words o.read m o.given)
   one_by s s' (too_long is o) (unloaded refusal is' n) = absurd (no_load _ refusal n o)
   one_by s s' (too_long is o) (too_long is' o') = inl (is ∙ sym is')
-  one_by s s' (too_long is o) (answered t text is' o') = absurd (o'.told.2.0 o.told.2)
+  one_by s s' (too_long is o) (answered t text is' o') = absurd (o'.says.0 o.says)
   one_by s s' (too_long is o) (sampled t text' is' o') = absurd (no_input _ o'.read o'.given o'.size o'.from o)
   one_by s s' (answered t text is o) (misused is' m) = absurd (not_misused words o.read m o.given)
   one_by s s' (answered t text is o) (unloaded refusal is' n) = absurd (no_load _ refusal n o)
-  one_by s s' (answered t text is o) (too_long is' o') = absurd (o.told.2.0 o'.told.2)
+  one_by s s' (answered t text is o) (too_long is' o') = absurd (o.says.0 o'.says)
   one_by s s' (answered t text is o) (answered t' text' is' o') = two_ends s s' t t' text text' is is' o o'
   one_by s s' (answered t text is o) (sampled t' text' is' o') = absurd (no_input _ o'.read o'.given o'.size o'.from o)
   one_by s s' (sampled t replies is o) (misused is' m) = absurd (not_misused words o.read m o.given)

@@ -1,5 +1,5 @@
 -- From the parts of a run to the whole run.
-use Rattle.std.proofs.Common.{◌≡◌, ℕ, ◌≤◌, List, [], codes, Some, None, refl, sym, ◌∙◌, subst, arith, inl, inr}
+use Rattle.std.proofs.Common.{◌≡◌, ℕ, ◌≤◌, List, [], codes, Some, None, refl, sym, ◌∙◌, subst, append-nil, arith, inl, inr}
 use Rattle.std.specs.Prelude.{Option, IfSome, Result, Ok, Err}
 use Rattle.std.specs.Io.KnownBytes.{Appends, IsAtEnd, Keeps}
 use Rattle.std.specs.Borrow.{Bor}
@@ -18,16 +18,18 @@ use Rattle.gq_loader.specs.declared.refusal.LoadRefusal.{LoadRefusal}
 use Rattle.gq_loader.specs.declared.refusal.LoadRefusal.TheVariants as refused
 use Rattle.gq_loader.specs.declared.refusal.LoadStop.{LoadStop}
 use Rattle.gq_loader.specs.declared.refusal.LoadStop.TheVariants as load
-use Rattle.gq_reply.specs.Replies.{Context, IsTurn}
+use Rattle.gq_reply.specs.Replies.{Context, IsTurn, memory_line}
 use Rattle.gq_sample.specs.Questions.{questions}
 use Rattle.gq_session.specs.Replies as replies
 use Rattle.gq_session.specs.Sessions.{Session, Span}
+use Rattle.gq_session.specs.Sessions as sessions
+use Rattle.gq_session.proofs.Completeness.{complete}
 use Rattle.gq_session.specs.Whole as session
 use Rattle.gq_session.specs.declared.answering.Tone.{Tone}
 use Rattle.gq_session.specs.declared.answering.Tone.TheVariants as tone
 use Rattle.gq_session.specs.declared.run.Stop.{Stop}
 use Rattle.gq_session.specs.declared.run.Stop.TheVariants as stop
-use Rattle.gq_shell.specs.Claim.{AnswersEnded, EatsAll, Ends, IsPath, IsQuiz, Outside, Over, Permits, Runs, WroteFront, full, long, most, settings_of, short, usage_text}
+use Rattle.gq_shell.specs.Claim.{AnswersEnded, EatsAll, Ends, IsPath, IsQuiz, Outside, Over, Permits, Runs, WroteFront, full, long, most, settings_of, short, usage_text, with_eaten}
 use Rattle.gq_shell.specs.LoadLines.{load_line}
 use Rattle.gq_shell.specs.Questions.{IsNumbered}
 use Rattle.gq_shell.specs.steps.Statuses.{status_of}
@@ -86,29 +88,24 @@ served graph settings behind n input out result answer size is read whole = inr 
 })
 
 module _ (words : List (List ℕ)) (o : Outside) where
-  -- a run that read no input
-  unread : (answer : Status) → o.unread ≡ o.left → Ends words o [] answer → Runs words o answer
-  unread answer same ends = record { eaten = []; ate = rw same (Consumes-none o.left); few = grind arith; ends = ends }
-
   -- there was not enough memory, and nothing was written
-  pub exit_memory : (answer : Status) → answer ≡ status.Memory → o.unread ≡ o.left → Keeps o.taken o.took → Runs words o answer
-  exit_memory answer is same kept = rw is (unread status.Memory same (inl (kept, refl)))
+  for_memory : (answer : Status) → answer ≡ status.Memory → Keeps o.taken o.took → Ends words o [] answer
+  for_memory answer is kept = rw is (inl (kept, refl))
 
   broken_line : (answer s : Status) (text : List ℕ) → Permits words o.held o.left s text → answer ≡ status.WriteFault → AppendsFront o.taken o.took text → Rose o.out_faults.before o.out_faults.now
-      → o.unread ≡ o.left → Runs words o answer
-  broken_line answer s text permitted is front rose same =
-      rw is (unread status.WriteFault same (record { answer = s; text = text; permitted = permitted; moved = front }, rose))
+      → Ends words o [] answer
+  broken_line answer s text permitted is front rose = rw is (record { answer = s; text = text; permitted = permitted; moved = front }, rose)
 
-  pub exit_misused : (answer : Status) → IsMisused words → o.unread ≡ o.left → Told usage_text status.Usage (out_of o) answer → Runs words o answer
-  exit_misused answer misused same (inl (is, moved)) = rw is (unread status.Usage same (record { text = usage_text; permitted = (misused, refl); moved = moved }, refl))
-  exit_misused answer misused same (inr (is, front, rose)) = broken_line answer status.Usage usage_text (misused, refl) is front rose same
+  misused : (answer : Status) → IsMisused words → Told usage_text status.Usage (out_of o) answer → Ends words o [] answer
+  misused answer wrong (inl (is, moved)) = rw is (record { text = usage_text; permitted = (wrong, refl); moved = moved }, refl)
+  misused answer wrong (inr (is, front, rose)) = broken_line answer status.Usage usage_text (wrong, refl) is front rose
 
   module _ (read : Words) (given : IsRead words read) where
     module _ (path : List ℕ) (from : IsPath path read.source) where
-      exit_line : (answer : Status) (e : LoadRefusal) → IfSome o.held (λ files. load_of path files standard ≡ Err e)
-          → ((name : List ℕ) → e ≡ refused.NoFile name → Rose o.files_misses.before o.files_misses.now) → o.unread ≡ o.left
-          → Told (load_line e) status.NotLoaded (out_of o) answer → Runs words o answer
-      exit_line answer e meant missed same (inl (is, moved)) = rw is (unread status.NotLoaded same (
+      by_line : (answer : Status) (e : LoadRefusal) → IfSome o.held (λ files. load_of path files standard ≡ Err e)
+          → ((name : List ℕ) → e ≡ refused.NoFile name → Rose o.files_misses.before o.files_misses.now)
+          → Told (load_line e) status.NotLoaded (out_of o) answer → Ends words o [] answer
+      by_line answer e meant missed (inl (is, moved)) = rw is (
         record {
           refusal = e;
           permitted = record { read = read; given = given; path = path; from = from; told = meant };
@@ -116,22 +113,20 @@ module _ (words : List (List ℕ)) (o : Outside) where
           moved = moved;
         },
         refl,
-      ))
-      exit_line answer e meant missed same (inr (is, front, rose)) =
-          broken_line answer status.NotLoaded (load_line e) (e, record { read = read; given = given; path = path; from = from; told = meant }, refl) is front rose same
+      )
+      by_line answer e meant missed (inr (is, front, rose)) =
+          broken_line answer status.NotLoaded (load_line e) (e, record { read = read; given = given; path = path; from = from; told = meant }, refl) is front rose
 
       -- the load gave no graph
-      pub exit_refused : (answer : Status) (graph : Result Graph LoadStop) (e : LoadStop)
+      not_loaded : (answer : Status) (graph : Result Graph LoadStop) (e : LoadStop)
           → graph ≡ Err e → Answers o.held (λ files. load_of path files standard) graph
           → ByFault o.files_faults.before o.files_faults.now graph → ByMiss o.files_misses.before o.files_misses.now graph
-          → o.unread ≡ o.left → EndsLoad e (out_of o) answer → Runs words o answer
-      exit_refused answer graph (load.Refused e) is loads fault miss same ends =
+          → EndsLoad e (out_of o) answer → Ends words o [] answer
+      not_loaded answer graph (load.Refused e) is loads fault miss ends =
           let meant : IfSome o.held (λ files. load_of path files standard ≡ Err e) = rw is at loads in
-          exit_line answer e meant (λ name no. miss.missed name (subst (λ r. graph ≡ Err (load.Refused r)) no is)) same ends
-      exit_refused answer graph (load.ReadFault name) is loads fault miss same (kept, ends) =
-          rw ends (unread status.ReadFault same (inl ((kept, refl), fault.failed name is)))
-      exit_refused answer graph load.Memory is loads fault miss same (kept, ends) =
-          exit_memory answer ends same kept
+          by_line answer e meant (λ name no. miss.missed name (subst (λ r. graph ≡ Err (load.Refused r)) no is)) ends
+      not_loaded answer graph (load.ReadFault name) is loads fault miss (kept, ends) = rw ends (inl ((kept, refl), fault.failed name is))
+      not_loaded answer graph load.Memory is loads fault miss (kept, ends) = for_memory answer ends kept
 
       module _ (graph : Graph) (loads : IfSome o.held (λ files. load_of path files standard ≡ Ok graph)) where
         abbrev here : Context
@@ -140,9 +135,8 @@ module _ (words : List (List ℕ)) (o : Outside) where
         -- what holds of the input where it is told holds of the run
         over : (held : Option Names) (left : Option (List ℕ)) (Says : Context → List ℕ → Type 0) → IfSome held (λ files. load_of path files standard ≡ Ok graph)
             → ((text : List ℕ) → left ≡ Some text → Says here text) → Over words held left Says
-        over None left Says is says = record { read = read; given = given; path = path; from = from; told = tt }
-        over (Some files) None Says is says = record { read = read; given = given; path = path; from = from; told = (graph, is, tt) }
-        over (Some files) (Some input) Says is says = record { read = read; given = given; path = path; from = from; told = (graph, is, says input refl) }
+        over held None Says is says = record { read = read; given = given; path = path; from = from; graph = graph; loads = is; says = tt }
+        over held (Some input) Says is says = record { read = read; given = given; path = path; from = from; graph = graph; loads = is; says = says input refl }
 
         abbrev May : Result Tone Stop → List ℕ → List ℕ → Type 0
         May result text input = session.Permits (IsTurn here) [] long most input result text
@@ -218,15 +212,6 @@ module _ (words : List (List ℕ)) (o : Outside) where
         ended behind (Err stop.Read) read whole = not_read behind read
         ended behind (Err stop.Write) read whole = (broke behind o.left refl read whole, read.ends.1)
 
-        pub exit_served : (answer : Status) → Served graph (settings_of read) (input_of o) (out_of o) answer → Runs words o answer
-        exit_served answer (inl (is, same, kept)) = exit_memory answer is same kept
-        exit_served answer (inr served) = rw served.is (record {
-          eaten = served.read.eaten;
-          ate = served.read.took;
-          few = served.read.few;
-          ends = ended served.behind served.result served.read served.whole;
-        })
-
     module _ (size : ℕ) (from : read.source ≡ source.Sample size) where
       -- nothing of the input was eaten
       eaten_none : EatsAll words o []
@@ -243,7 +228,86 @@ module _ (words : List (List ℕ)) (o : Outside) where
       part_shown tone.Refused text says moved = record { answer = status.Refused; text = text; permitted = inr (record { read = read; given = given; size = size; from = from; says = says }); moved = moved }
       part_shown tone.Memory text says moved = record { answer = status.Memory; text = text; permitted = inr (record { read = read; given = given; size = size; from = from; says = says }); moved = moved }
 
+      quizzed : (answer : Status) → Quizzed size (settings_of read) (out_of o) answer → Ends words o [] answer
+      quizzed answer (inl (is, kept)) = for_memory answer is kept
+      quizzed answer (inr (inl (t, behind, is, wrote))) = rw is (shown t behind wrote)
+      quizzed answer (inr (inr (is, front, rose))) = rw is (part_shown front.tone front.text (front.after, front.replies) front.moved, rose)
+
+-- ---- the run, over the input as far as it is told and over what was eaten
+
+-- each statement has a reply
+has_reply : (c : Context) (params : List Param) (statement : List ℕ) → (t : Tone) × (reply : List ℕ) × (after : List Param) × IsTurn c params statement t reply after
+has_reply c params statement = (tone.Memory, memory_line, params, (refl, refl))
+
+-- a session that ate so much is one over an input that is just that
+module _ (c : Context) (behind : List Param) (out : Span) where
+  abbrev HadOver : Span → Result Tone Stop → Type 0
+  HadOver input result = Session (IsTurn c) [] behind long most input out result
+
+  abbrev only_eaten : Span → List ℕ → Span
+  only_eaten input eaten = record input { old = Some eaten; new = Some [] }
+
+  ends_at_end : (input : Span) (result : Result Tone Stop) (eaten : List ℕ) → sessions.Ends (IsTurn c) [] behind long most eaten input out result
+      → sessions.Ends (IsTurn c) [] behind long most eaten (only_eaten input eaten) out result
+  ends_at_end input (Ok t) eaten (alive, end, wrote) = (alive, refl, wrote)
+  ends_at_end input (Err stop.Read) eaten h = h
+  ends_at_end input (Err stop.TooLong) eaten h = h
+  ends_at_end input (Err stop.Write) eaten (inl part, rose) = (inl part, rose)
+  ends_at_end input (Err stop.Write) eaten (inr (end, part), rose) = (inr (refl, part), rose)
+
+  had_alike : (input : Span) (result : Result Tone Stop) (read : HadOver input result) → HadOver (only_eaten input read.eaten) result
+  had_alike input result read = record {
+    eaten = read.eaten;
+    took = sym (append-nil read.eaten);
+    few = read.few;
+    ends = ends_at_end input result read.eaten read.ends;
+    input_later = read.input_later;
+    out_later = read.out_later;
+  }
+
+module _ (words : List (List ℕ)) (o : Outside) where
+  abbrev alike : List ℕ → Outside
+  alike eaten = with_eaten o eaten
+
+  -- a run that read no input
+  unread : (answer : Status) → o.unread ≡ o.left → Ends words o [] answer → Ends words (alike []) [] answer → Runs words o answer
+  unread answer same ends also = record { eaten = []; ate = rw same (Consumes-none o.left); few = grind arith; ends = ends; ends_alike = also }
+
+  pub exit_memory : (answer : Status) → answer ≡ status.Memory → o.unread ≡ o.left → Keeps o.taken o.took → Runs words o answer
+  exit_memory answer is same kept = unread answer same (for_memory words o answer is kept) (for_memory words (alike []) answer is kept)
+
+  pub exit_misused : (answer : Status) → IsMisused words → o.unread ≡ o.left → Told usage_text status.Usage (out_of o) answer → Runs words o answer
+  exit_misused answer wrong same line = unread answer same (misused words o answer wrong line) (misused words (alike []) answer wrong line)
+
+  module _ (read : Words) (given : IsRead words read) where
+    module _ (path : List ℕ) (from : IsPath path read.source) where
+      -- the load gave no graph
+      pub exit_refused : (answer : Status) (graph : Result Graph LoadStop) (e : LoadStop)
+          → graph ≡ Err e → Answers o.held (λ files. load_of path files standard) graph
+          → ByFault o.files_faults.before o.files_faults.now graph → ByMiss o.files_misses.before o.files_misses.now graph
+          → o.unread ≡ o.left → EndsLoad e (out_of o) answer → Runs words o answer
+      exit_refused answer graph e is loads fault miss same ends =
+          unread answer same (not_loaded words o read given path from answer graph e is loads fault miss ends)
+          (not_loaded words (alike []) read given path from answer graph e is loads fault miss ends)
+
+      module _ (graph : Graph) (loads : IfSome o.held (λ files. load_of path files standard ≡ Ok graph)) where
+        abbrev asked : Context
+        asked = full graph (settings_of read)
+
+        pub exit_served : (answer : Status) → Served graph (settings_of read) (input_of o) (out_of o) answer → Runs words o answer
+        unfolding had_alike
+        exit_served answer (inl (is, same, kept)) = exit_memory answer is same kept
+        exit_served answer (inr served) =
+            let also = had_alike asked served.behind (out_of o) (input_of o) served.result served.read in
+            let all = complete (IsTurn asked) (has_reply asked) [] served.behind long most (input_of (alike served.read.eaten)) (out_of o) served.result also in
+            rw served.is (record {
+              eaten = served.read.eaten;
+              ate = served.read.took;
+              few = served.read.few;
+              ends = ended words o read given path from graph loads served.behind served.result served.read served.whole;
+              ends_alike = ended words (alike served.read.eaten) read given path from graph loads served.behind served.result also all;
+            })
+
+    module _ (size : ℕ) (from : read.source ≡ source.Sample size) where
       pub exit_quizzed : (answer : Status) → o.unread ≡ o.left → Quizzed size (settings_of read) (out_of o) answer → Runs words o answer
-      exit_quizzed answer same (inl (is, kept)) = exit_memory answer is same kept
-      exit_quizzed answer same (inr (inl (t, behind, is, wrote))) = rw is (unread (status_of (Ok t)) same (shown t behind wrote))
-      exit_quizzed answer same (inr (inr (is, front, rose))) = rw is (unread status.WriteFault same (part_shown front.tone front.text (front.after, front.replies) front.moved, rose))
+      exit_quizzed answer same said = unread answer same (quizzed words o read given size from answer said) (quizzed words (alike []) read given size from answer said)

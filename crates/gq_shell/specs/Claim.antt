@@ -82,14 +82,15 @@ pub record IsNotLoaded (words : List (List ℕ)) (held : Option Names) (refusal 
   pub from : IsPath path read.source
   pub told : IfSome held (λ files. load_of path files standard ≡ Err refusal)
 
--- the words name a manifest, the files give a graph where they are told, and the input is read over it where it is told
+-- the words name a manifest, and the input is read, where it is told, over some graph, which is that of the files where they are told
 pub record Over (words : List (List ℕ)) (held : Option Names) (left : Option (List ℕ)) (Says : Context → List ℕ → Type 0) : Type 0 where
   pub read : Words
   pub given : IsRead words read
   pub path : List ℕ
   pub from : IsPath path read.source
-  pub told : IfSome held (λ files. (graph : Graph) × (load_of path files standard ≡ Ok graph)
-      × IfSome left (λ input. Says (full graph (settings_of read)) input))
+  pub graph : Graph
+  pub loads : IfSome held (λ files. load_of path files standard ≡ Ok graph)
+  pub says : IfSome left (λ input. Says (full graph (settings_of read)) input)
 
 -- the words ask for the sample graph
 pub record OnSample (words : List (List ℕ)) (Says : Context → Type 0) : Type 0 where
@@ -207,12 +208,18 @@ Ends words o eaten status.Usage = Wrote words o.held o.left status.Usage o.taken
 Ends words o eaten status.NotLoaded = RefusedLoad words o × (eaten ≡ [])
 Ends words o eaten status.TooLong = Wrote words o.held o.left status.TooLong o.taken o.took
 
--- the run: how it ended, and how much of the input it ate
+-- the same, but that the input is told, and is just what was eaten
+abbrev pub with_eaten : Outside → List ℕ → Outside
+with_eaten o eaten = record o { left = Some eaten; unread = Some [] }
+
+-- the run: how much of the input it ate, and how it ended, over the input as far as that is told and over an input that is just
+-- what was eaten; so what was written follows from what was eaten, also where nothing is told of the input
 pub record Runs (words : List (List ℕ)) (outside : Outside) (answer : Status) : Type 0 where
   pub eaten : List ℕ
   pub ate : Consumes outside.left outside.unread eaten
   pub few : length eaten ≤ most + 1
   pub ends : Ends words outside eaten answer
+  pub ends_alike : Ends words (with_eaten outside eaten) eaten answer
 
 -- ---- the same in short, where all is told and nothing fails
 

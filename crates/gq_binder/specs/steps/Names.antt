@@ -1,5 +1,5 @@
 -- The first names and calls that the checks of names refuse among expressions, and whether one has an EXISTS.
-use Rattle.std.specs.Prelude.{Bool, false, ◌||◌, Option, None, List, [], ◌∷◌}
+use Rattle.std.specs.Prelude.{Option, None, List, [], ◌∷◌}
 use Rattle.std.specs.Option.{option_or}
 use Rattle.gq_binder.specs.Columns.{Scoped}
 use Rattle.gq_trees.specs.Checks.{check_of}

@@ -1,18 +1,22 @@
 -- What the checks and the bound form of a query share, what each check finds in it, and the bound form that it gives.
-use Rattle.std.specs.Prelude.{ℕ, true, Option, Some, None, List, [], ◌∷◌, ◌++◌, map, flat_map, filter_map, length, unwrap_or, if◌then◌else◌}
+use Rattle.std.specs.Prelude.{ℕ, suc, true, Option, Some, None, List, [], ◌∷◌, ◌++◌, map, flat_map, filter_map, length, unwrap_or, if◌then◌else◌}
 use Rattle.std.specs.Option.{option_map}
 use Rattle.gq_base.specs.Catalogs.{Tables}
-use Rattle.gq_plan.specs.Reads.{Read, properties_of}
+use Rattle.gq_plan.specs.Reads.{Read, properties_of, property}
 use Rattle.gq_plan.specs.declared.Bound.{Bound}
 use Rattle.gq_plan.specs.declared.ExistsPart.{ExistsPart}
 use Rattle.gq_plan.specs.declared.NamedExpr.{NamedExpr}
+use Rattle.gq_plan.specs.declared.OptionalPart.{OptionalPart}
 use Rattle.gq_base.specs.declared.Literal.TheVariants as literal
 use Rattle.gq_expr.specs.declared.Expr.TheVariants as expr
+use Rattle.gq_syntax.specs.declared.Clause.{Clause}
 use Rattle.gq_syntax.specs.declared.Query.{Query}
 use Rattle.gq_alternatives.specs.Alternatives.{Choice, pattern_alternatives, typed_of}
-use Rattle.gq_binder.specs.Columns.{Scoped, conditions, columns, columns_in, column_expr, entry_test, sort_expr, sort_scope}
+use Rattle.gq_binder.specs.Columns.{Scoped, conditions, columns, columns_in, column_expr, entry_test, scoped_in, sort_expr, whole_pattern}
+use Rattle.gq_binder.specs.Optionals.{alone, node_seats, rel_seats}
 use Rattle.gq_binder.specs.steps.Names.{no_names, with_expressions}
-use Rattle.gq_binder.specs.Refusals.{items_in, sorts_in, first_in, not_built, variable_conflict, relationship_repeated, column_repeated, nothing_to_return, out_of_scope_from, too_many_patterns, too_many_reads, paths_of, over_limit, max_columns}
+use Rattle.gq_binder.specs.Refusals.{sorts_in, first_in, not_built, others, variable_conflict, relationship_repeated, column_repeated, nothing_to_return, out_of_scope_from, too_many_patterns, too_many_reads, paths_of, over_limit, max_columns}
+use Rattle.gq_binder.specs.declared.optionals.ClauseParts.{ClauseParts}
 use Rattle.gq_binder.specs.declared.parts.QueryParts.{QueryParts}
 use Rattle.gq_binder.specs.declared.refusal.BindRefusal.{BindRefusal}
 use Rattle.gq_binder.specs.declared.refusal.BindRefusal.TheVariants as refusal
@@ -21,7 +25,7 @@ use Rattle.gq_trees.specs.Conjuncts.{NamedTest, tests_of, values_of}
 use Rattle.gq_trees.specs.MadeOf.{column_exprs}
 use Rattle.gq_trees.specs.Places.{strays}
 use Rattle.gq_scopes.specs.PathPatterns.{path_pattern, shared_names}
-use Rattle.gq_scopes.specs.Patterns.{Name, Pattern, find_name, pattern_of}
+use Rattle.gq_scopes.specs.Patterns.{Name, Pattern, find_name, pattern_of, with_paths}
 use Rattle.gq_trees.specs.Renames.{ambiguous_name}
 use Rattle.gq_trees.specs.Resolving.{Conjunct, as_lists, functions, split, all_some}
 use Rattle.gq_scopes.specs.Scopes.{scope_of}
@@ -51,20 +55,33 @@ known_seen_in text c = known_tests_of text c ++ map (stray_test c.scope.nodes) (
 abbrev pub known_seen : List ℕ → List Scoped → List SharedTest
 known_seen text cs = flat_map (known_seen_in text) cs
 
+-- what is shared of an OPTIONAL MATCH clause behind these patterns
+abbrev pub clause_parts : List ℕ → ℕ → Pattern → Clause → ClauseParts
+clause_parts text number before c = record {
+  pattern = alone c;
+  nodes = node_seats before c;
+  rels = rel_seats before c;
+  conjuncts = known_conjuncts text (scoped_in (scope_of (with_paths number c.paths before)) c.filter);
+  tests = map (entry_test text) (alone c).entries;
+}
+
+abbrev pub clauses_parts : List ℕ → ℕ → Pattern → List Clause → List ClauseParts
+clauses_parts text number before [] = []
+clauses_parts text number before (c ∷ cs) =
+    clause_parts text number before c ∷ clauses_parts text (suc number) (with_paths number c.paths before) cs
+
 -- the parts of a query that stands in a text
 unfoldable pub parts_of : List ℕ → Query → QueryParts
-parts_of text query =
-    let p : Pattern = pattern_of query.clauses in
-    record {
-      pattern = p;
-      names = with_expressions no_names
-          (conditions query ++ (items_in (scope_of p) query.items ++ sorts_in (sort_scope functions text query) query.order));
-      columns = columns functions text query;
-      conjuncts = known_conjuncts text (conditions query);
-      exists = known_seen text (conditions query)
-          ++ flat_map seen_elsewhere (items_in (scope_of p) query.items ++ sorts_in (sort_scope functions text query) query.order);
-      tests = map (entry_test text) p.entries;
-    }
+parts_of text query = record {
+  pattern = whole_pattern query;
+  matched = pattern_of query.clauses;
+  names = with_expressions no_names (conditions query ++ others text query);
+  columns = columns functions text query;
+  conjuncts = known_conjuncts text (conditions query);
+  exists = known_seen text (conditions query) ++ flat_map seen_elsewhere (others text query);
+  tests = map (entry_test text) (pattern_of query.clauses).entries;
+  optionals = clauses_parts text (length query.clauses) (pattern_of query.clauses) query.optionals;
+}
 
 -- with DISTINCT, an item of ORDER BY is not made of columns
 abbrev pub out_of_scope_in : List ℕ → Query → Pattern → Option BindRefusal
@@ -84,10 +101,23 @@ ambiguous_in query p =
 abbrev pub reads_in : List NamedExpr → List Read
 reads_in es = flat_map (λ e. properties_of e.expr) es
 
+-- what the conjuncts of OPTIONAL MATCH clauses read
+abbrev pub clause_reads : List ClauseParts → List Read
+clause_reads cs = flat_map (λ c. reads_in c.conjuncts) cs
+
+-- what is read of all variables, but for those of paths
+abbrev pub parts_reads : QueryParts → List Read
+parts_reads parts =
+    map (λ e. property e.variable e.entry.key) parts.pattern.entries ++ (reads_in parts.conjuncts ++ clause_reads parts.optionals)
+
+-- the patterns of OPTIONAL MATCH clauses, each by itself
+abbrev pub own_patterns : List ClauseParts → List Pattern
+own_patterns cs = map (λ c. c.pattern) cs
+
 -- what each check but the last finds, in their order
 abbrev pub checks_in : List ℕ → Query → QueryParts → List (Option BindRefusal)
 checks_in text query parts =
-    not_built query parts.pattern
+    not_built parts.pattern
     ∷ option_map refusal.UnknownVariable parts.names.variable
     ∷ variable_conflict parts.pattern
     ∷ option_map refusal.VariableConflict parts.names.other_form
@@ -100,7 +130,7 @@ checks_in text query parts =
     ∷ option_map refusal.UnknownFunction parts.names.function
     ∷ option_map refusal.ArgumentCount parts.names.arguments
     ∷ too_many_patterns parts.pattern (paths_of parts.exists)
-    ∷ too_many_reads (reads_in parts.tests ++ reads_in parts.conjuncts) parts.pattern parts.exists
+    ∷ too_many_reads (parts_reads parts) parts.pattern parts.exists (own_patterns parts.optionals)
     ∷ over_limit max_columns (length parts.columns) refusal.TooManyColumns ∷ []
 
 -- the part of a bound query that a test of this name gives
@@ -118,6 +148,15 @@ named_part text catalog t name =
 abbrev pub exists_part : List ℕ → Tables → SharedTest → Option ExistsPart
 exists_part text catalog t = option_map (named_part text catalog t) t.name
 
+-- the part of a bound query that an OPTIONAL MATCH clause gives
+abbrev pub optional_part : Tables → ClauseParts → OptionalPart
+optional_part catalog c = record {
+  nodes = c.nodes;
+  rels = c.rels;
+  conjuncts = c.conjuncts;
+  alternatives = map (typed_of catalog c.pattern c.tests []) (pattern_alternatives catalog c.pattern);
+}
+
 -- the bound form that the parts of a query give, with what stands for an expression
 abbrev pub bound_in : List ℕ → Tables → Query → QueryParts → List Choice → Bound
 bound_in text catalog query parts choices = record {
@@ -126,10 +165,10 @@ bound_in text catalog query parts choices = record {
   columns = filter_map column_expr parts.columns;
   conjuncts = parts.conjuncts;
   patterns = filter_map (exists_part text catalog) parts.exists;
-  optionals = [];
+  optionals = map (optional_part catalog) parts.optionals;
   keys = filter_map (sort_expr (record (scope_of parts.pattern) { columns = parts.columns })) query.order;
   distinct = query.distinct;
   skip = unwrap_or query.skip 0;
   limit = query.limit;
-  alternatives = map (typed_of catalog parts.pattern parts.tests parts.conjuncts) choices;
+  alternatives = map (typed_of catalog parts.matched parts.tests parts.conjuncts) choices;
 }

@@ -16,9 +16,10 @@ use Rattle.gq_rows.specs.Tables.{StandsFor, Table, is_full_table}
 use Rattle.gq_syntax.specs.declared.Query.{Query}
 use Rattle.gq_base.specs.Plain.{Graph}
 use Rattle.gq_execute.specs.Answering.{question, RepliesToEach}
-use Rattle.gq_execute.specs.Replies.{Question, all_outcomes, has_heavy_test, has_large_part, outcomes_in, some_heavy}
-use Rattle.gq_execute.specs.Spending.{IsSpentOn, IsTurn, Turn, own_chunks, spent_in, tests_made, with_turns}
-use Rattle.gq_execute.specs.steps.Taking.{Admission, MeetsFault, MeetsMany, Takes, outcomes_by}
+use Rattle.gq_execute.specs.Replies.{Question, all_outcomes, has_heavy_clause, has_heavy_test, has_large_part, outcomes_in, some_heavy}
+use Rattle.gq_execute.specs.Spending.{IsSpentOn, IsSpentOnClause, IsTurn, Turn, clauses_made, own_chunks, spent_in, tests_made, with_turns}
+use Rattle.gq_optional.specs.Spending.{Listing, spent_on_each}
+use Rattle.gq_execute.specs.steps.Taking.{Later, MeetsFault, MeetsMany, Takes, outcomes_by}
 use Rattle.gq_execute.specs.declared.refusal.AnswerRefusal.{AnswerRefusal}
 use Rattle.gq_execute.specs.declared.refusal.AnswerRefusal.TheVariants as refusal
 use Rattle.gq_execute.specs.declared.settings.Order.{Order}
@@ -28,11 +29,11 @@ use Rattle.gq_execute.specs.declared.settings.Settings.{Settings}
 abbrev pub AreParted : Question → Type 0
 AreParted a = IsPermutation (flat_map (outcomes_in a) a.bound.alternatives) (all_outcomes a)
 
--- each plan that covers an alternative makes the outcomes of those that lie in it, where these rows are admitted
-abbrev pub MakeOutcomes : Question → Admission → Type 0
-MakeOutcomes a admitted =
+-- each plan that covers an alternative makes the outcomes of those that lie in it, where this becomes of rows
+abbrev pub MakeOutcomes : Question → Later → Type 0
+MakeOutcomes a later =
     (k : ℕ) (y : Typed) → slice_get a.bound.alternatives k ≡ Some y → (p : Plan) → Covers a.graph.catalog y p
-    → IsPermutation (outcomes_by admitted a.graph a.bound y (meaning a.graph y p)) (outcomes_in a y)
+    → IsPermutation (outcomes_by later a.graph a.bound y (meaning a.graph y p)) (outcomes_in a y)
 
 -- these alternatives were begun, since their turn came: the outcomes in them are those that were pushed and those that are
 -- left, and none is heavy
@@ -52,33 +53,33 @@ pub record Came (a : Question) (begun : List Typed) (table : Table) : Type 0 whe
   pub done : (is_full_table table ≡ true) ⊎ (left ≡ [])
 
 -- an alternative has no large part, and its plan, which covers it, makes outcomes that meet a property
-pub record Runs (admitted : Admission) (g : Graph) (b : Bound) (order : Order) (most : ℕ) (y : Typed) (Meets : List (Result Row Fault) → Type 0) : Type 0 where
+pub record Runs (later : Later) (g : Graph) (b : Bound) (order : Order) (most : ℕ) (y : Typed) (Meets : List (Result Row Fault) → Type 0) : Type 0 where
   pub plan : Plan
   pub covers : Covers g.catalog y plan
   pub light : has_large_part g order most y ≡ false
-  pub meets : Meets (outcomes_by admitted g b y (meaning g y plan))
+  pub meets : Meets (outcomes_by later g b y (meaning g y plan))
 
 -- how the turn of an alternative ends: its outcomes went into the table, or one of them or a large part stopped it
-abbrev pub Drains : Admission → Graph → Bound → Order → Typed → Table → Table → Result (List Spent) AnswerRefusal → Type 0
-Drains admitted g b order y old new (Ok _) = Runs admitted g b order old.most y (λ os. Takes os old new)
-Drains admitted g b order y old new (Err (refusal.Fault f)) = Runs admitted g b order old.most y (λ os. MeetsFault os old f)
-Drains admitted g b order y old new (Err (refusal.TooManyRows most)) =
-    (most ≡ old.most) × ((has_large_part g order old.most y ≡ true) ⊎ Runs admitted g b order old.most y (λ os. MeetsMany os old))
-Drains admitted g b order y old new (Err refusal.Memory) = Unit {0}
+abbrev pub Drains : Later → Graph → Bound → Order → Typed → Table → Table → Result (List Spent) AnswerRefusal → Type 0
+Drains later g b order y old new (Ok _) = Runs later g b order old.most y (λ os. Takes os old new)
+Drains later g b order y old new (Err (refusal.Fault f)) = Runs later g b order old.most y (λ os. MeetsFault os old f)
+Drains later g b order y old new (Err (refusal.TooManyRows most)) =
+    (most ≡ old.most) × ((has_large_part g order old.most y ≡ true) ⊎ Runs later g b order old.most y (λ os. MeetsMany os old))
+Drains later g b order y old new (Err refusal.Memory) = Unit {0}
 
--- what was spent in the turn of an alternative, whose chunks the table counted
+-- what was spent in the turn of an alternative, whose chunks the table counted where there are no optional clauses
 pub record SpendsTurn (g : Graph) (order : Order) (y : Typed) (old new : Table) (spent : List Spent) : Type 0 where
   pub turn : Turn
   pub is : IsTurn g old.bound order y turn
   pub all : spent ≡ turn.sides ++ turn.own ∷ []
-  pub chunks : (before : ℕ) → old.pushed ≡ up_to_most before → new.pushed ≡ up_to_most (before + turn.own.chunks)
+  pub chunks : old.bound.optionals ≡ [] → (before : ℕ) → old.pushed ≡ up_to_most before → new.pushed ≡ up_to_most (before + turn.own.chunks)
 
 -- what was spent in the turns of these alternatives
 pub record Spends (g : Graph) (b : Bound) (order : Order) (ys : List Typed) (table : Table) (spent : List Spent) : Type 0 where
   pub turns : List Turn
   pub each : AllZip (IsTurn g b order) ys turns
   pub all : spent ≡ spent_in turns
-  pub chunks : table.pushed ≡ up_to_most (own_chunks turns)
+  pub chunks : b.optionals ≡ [] → table.pushed ≡ up_to_most (own_chunks turns)
 
 -- an empty table for a query
 pub record IsFresh (b : Bound) (settings : Settings) (table : Table) : Type 0 where
@@ -103,16 +104,21 @@ abbrev pub Fills : Graph → Bound → Settings → Table → Result (List Spent
 Fills g bound settings table (Ok spent) = FillsWith g bound settings table spent
 Fills g bound settings table (Err refused) = RepliesToEach g bound settings (Err refused)
 
--- what was spent in the turns, and before them on the tests, of which none has too many keys
+-- what was spent in the turns, and before them on the tests and on the optional clauses, of which none has too many keys or matches
 pub record AnswersWith (g : Graph) (bound : Bound) (settings : Settings) (table : Table) (spent : List Spent) : Type 0 where
   pub tested : List (List Spent)
   pub on_tests : (query : Query) (text : List ℕ) → IsBound query text g.catalog bound
       → AllZip (IsSpentOn g settings.order) (tests_made (question g query bound settings)) tested
+  pub listed : List (List Listing)
+  pub on_clauses : (query : Query) (text : List ℕ) → IsBound query text g.catalog bound
+      → AllZip (IsSpentOnClause g settings.order) (clauses_made (question g query bound settings)) listed
   pub own : List Spent
   pub fills : FillsWith g bound settings table own
-  pub all : spent ≡ flat_map (λ s. s) tested ++ own
+  pub all : spent ≡ flat_map (λ s. s) tested ++ (flat_map spent_on_each listed ++ own)
   pub light : (query : Query) (text : List ℕ) → IsBound query text g.catalog bound
       → has_heavy_test (question g query bound settings) ≡ false
+  pub light_clauses : (query : Query) (text : List ℕ) → IsBound query text g.catalog bound
+      → has_heavy_clause (question g query bound settings) ≡ false
 
 abbrev pub AnswersAll : Graph → Bound → Settings → Table → Result (List Spent) AnswerRefusal → Type 0
 AnswersAll g bound settings table (Ok spent) = AnswersWith g bound settings table spent

@@ -1,9 +1,10 @@
 -- What a table of rows takes of the outcomes of the chunks that are pushed to it one after another, and where it stops.
-use Rattle.std.specs.Prelude.{◌≡◌, ◌⊎◌, ◌<◌, ◌≤◌, ◌+◌, ℕ, Bool, true, Some, Result, Ok, Err, List, [], ◌++◌, IsPermutation, filter, length, map}
+use Rattle.std.specs.Prelude.{◌≡◌, ◌⊎◌, ◌<◌, ◌≤◌, ◌+◌, ℕ, Bool, true, Some, Result, Ok, Err, List, [], ◌∷◌, ◌++◌, IsPermutation, flat_map, length, map, if◌then◌else◌}
 use Rattle.std.specs.List.{Contains}
 use Rattle.gq_expr.specs.Reading as reading
 use Rattle.gq_expr.specs.declared.Fault.{Fault}
-use Rattle.gq_plan.specs.Outcomes.{Row, late_outcomes}
+use Rattle.gq_plan.specs.Marked.{Marked, ending, made_of, marked}
+use Rattle.gq_plan.specs.Outcomes.{Row, late_conjuncts}
 use Rattle.gq_base.specs.Plain.{Graph}
 use Rattle.gq_pipe.specs.Bound.{binds_all}
 use Rattle.gq_pipe.specs.Progress.{plan_in}
@@ -16,6 +17,7 @@ use Rattle.gq_plan.specs.declared.Typed.{Typed}
 use Rattle.gq_rows.specs.Answers.{kept, looked_at, rows_in}
 use Rattle.gq_rows.specs.Chunks.{Stands}
 use Rattle.gq_rows.specs.Tables.{Table, is_full_table}
+use Rattle.gq_execute.specs.Replies.{outcomes_behind}
 use Rattle.gq_execute.specs.declared.refusal.AnswerRefusal.{AnswerRefusal}
 use Rattle.gq_execute.specs.declared.refusal.AnswerRefusal.TheVariants as refusal
 
@@ -56,10 +58,11 @@ TakesAll os old new (Err (refusal.Fault f)) = MeetsFault os old f
 TakesAll os old new (Err (refusal.TooManyRows most)) = (most ≡ old.most) × MeetsMany os old
 TakesAll os old new (Err refusal.Memory) = Unit {0}
 
--- a pipeline over this graph runs the alternative that was started, and its plan binds all variables
+-- a pipeline over this graph runs the alternative that was started for it, and its plan binds all variables
 pub record IsRunOf (g : Graph) (table : Table) (pipeline : Rest) : Type 0 where
   pub graph : pipeline.source.graph ≡ g
   pub alternative : table.alternative ≡ Some pipeline.source.typed
+  pub started : table.graph ≡ Some g
   pub complete : binds_all pipeline.source.typed (plan_in pipeline.source) ≡ true
 
 -- the assignments that a pipeline of an alternative owes
@@ -70,29 +73,46 @@ owed_by y pipeline = map (whole y) pipeline.owed
 abbrev pub Admission : Type 0
 Admission = reading.Assignment → Bool
 
--- the outcomes of those assignments that are admitted
-abbrev pub outcomes_by : Admission → Graph → Bound → Typed → List Assignment → List (Result Row Fault)
-outcomes_by admitted g b y ts = late_outcomes g b y (filter (λ t. admitted (row_of t)) ts)
+-- what becomes of a row of a query that its conjuncts leave
+abbrev pub Later : Type 0
+Later = Bound → Marked → List (Result Row Fault)
+
+-- its one outcome, where it is admitted
+abbrev pub if_admitted : Admission → Graph → Later
+if_admitted admitted g b m = if admitted m.row then ending g b m ∷ [] else []
+
+-- its outcomes behind the optional clauses, each of which lists these matches, where it is admitted; these variables stood before
+-- the clauses
+abbrev pub if_admitted_behind : Admission → Graph → List ℕ → List (List Assignment) → Later
+if_admitted_behind admitted g known mss b m = if admitted m.row then outcomes_behind g b known mss m else []
+
+-- the outcomes of assignments: of the conjuncts only the late ones of the alternative are looked at
+abbrev pub outcomes_by : Later → Graph → Bound → Typed → List Assignment → List (Result Row Fault)
+outcomes_by later g b y ts = made_of g (late_conjuncts b y) (later b) ts
+
+-- those of one
+abbrev pub given_by : Later → Graph → Bound → Typed → Assignment → List (Result Row Fault)
+given_by later g b y t = flat_map (later b) (marked g (late_conjuncts b y) (row_of t))
 
 -- the outcomes of what a pipeline owes
-abbrev pub owed_outcomes : Admission → Graph → Table → Rest → List (Result Row Fault)
-owed_outcomes admitted g table pipeline =
+abbrev pub owed_outcomes : Later → Graph → Table → Rest → List (Result Row Fault)
+owed_outcomes later g table pipeline =
     let y = pipeline.source.typed in
-    outcomes_by admitted g table.bound y (owed_by y pipeline)
+    outcomes_by later g table.bound y (owed_by y pipeline)
 
 -- how far a pipeline has come: the outcomes of these assignments went into the table
-pub record Pushed (admitted : Admission) (g : Graph) (old new : Table) (begun now : Rest) : Type 0 where
+pub record Pushed (later : Later) (g : Graph) (old new : Table) (begun now : Rest) : Type 0 where
   pub taken : List Assignment
   pub bag : IsPermutation (owed_by begun.source.typed begun) (taken ++ owed_by begun.source.typed now)
   pub stands : (before : List (Result Row Fault)) → Stands before old
-      → Stands (before ++ outcomes_by admitted g old.bound begun.source.typed taken) new
+      → Stands (before ++ outcomes_by later g old.bound begun.source.typed taken) new
 
--- so many chunks were handed out, and the table counted as many: one for each key that was owed and is not any more, each
--- with an assignment
+-- so many chunks were handed out: one for each key that was owed and is not any more, each with an assignment; without optional
+-- clauses the table counted as many
 pub record Counted (old new : Table) (begun now : Rest) : Type 0 where
   pub count : ℕ
   pub chunks : now.chunks ≡ up_to_most count
-  pub pushed : (before : ℕ) → old.pushed ≡ up_to_most before → new.pushed ≡ up_to_most (before + count)
+  pub pushed : old.bound.optionals ≡ [] → (before : ℕ) → old.pushed ≡ up_to_most before → new.pushed ≡ up_to_most (before + count)
   pub keys : length begun.keys ≡ count + length now.keys
   pub most : count + length now.owed ≤ length begun.owed
   pub none : count ≡ 0 → now.owed ≡ begun.owed
@@ -101,7 +121,7 @@ pub record Counted (old new : Table) (begun now : Rest) : Type 0 where
 pub record HasRun (old new : Table) (begun now : Rest) : Type 0 where
   pub count : ℕ
   pub chunks : now.chunks ≡ up_to_most count
-  pub pushed : (before : ℕ) → old.pushed ≡ up_to_most before → new.pushed ≡ up_to_most (before + count)
+  pub pushed : old.bound.optionals ≡ [] → (before : ℕ) → old.pushed ≡ up_to_most before → new.pushed ≡ up_to_most (before + count)
   pub keys : (is_full_table new ≡ true) ⊎ (count ≡ length begun.keys)
   pub most : count ≤ length begun.owed
   pub none : count ≡ 0 → begun.owed ≡ []

@@ -12,7 +12,7 @@ use Rattle.gq_plan.specs.declared.typed.Typed.{Typed}
 use Rattle.gq_exists.specs.Different.{AreDifferent, HasMany}
 use Rattle.gq_exists.specs.declared.gathering.Gathering.{Gathering}
 use Rattle.gq_exists.specs.declared.keys.Keys.{Keys}
-use Rattle.gq_exists.specs.steps.Levels.{AreKeys, keys_in}
+use Rattle.gq_exists.specs.steps.Stored.{AreKeys, IsWide, keys_in}
 
 -- ---- the keys of a chunk
 
@@ -28,7 +28,7 @@ keys_at y n c pss = map (key_at y n c) pss
 -- keys of so many nodes each
 pub record IsGathering (g : Gathering) : Type 0 where
   pub are : AreKeys g.keys
-  pub wide : length g.keys.levels.items ≡ g.width
+  pub wide : IsWide g.width g.keys
 
 -- they are those that came, each once, and not too many
 pub record Stands (limit : ℕ) (came : List (List NodeId)) (k : Keys) : Type 0 where

@@ -4,8 +4,9 @@ use Rattle.std.specs.Prelude.{◌≡◌, ℕ, ◌<◌, nat_eq, nat_lt, Bool, tru
 use Rattle.std.specs.HashSet.{HashSet}
 use Rattle.std.specs.List.{AllByRecursion, list_any, position_or_len}
 use Rattle.gq_base.specs.declared.NodeId.{NodeId}
-use Rattle.gq_exists.specs.declared.keys.Keys.{Keys}
-use Rattle.gq_exists.specs.declared.keys.Link.{Link}
+use Rattle.gq_plan.specs.Keys.{has_key}
+use Rattle.gq_exists.specs.declared.paths.Link.{Link}
+use Rattle.gq_exists.specs.declared.paths.Paths.{Paths}
 
 -- ---- links
 
@@ -37,8 +38,12 @@ abbrev pub roots : Bool → List (List NodeId)
 roots true = [] ∷ []
 roots false = []
 
-abbrev pub keys_in : Keys → List (List NodeId)
-keys_in k = keys_from (roots k.any) (links_of k.levels.items)
+abbrev pub paths_in : Paths → List (List NodeId)
+paths_in p = keys_from (roots p.any) (links_of p.levels.items)
+
+-- lists with one more, unless it is among them
+abbrev pub with_key : List (List NodeId) → List NodeId → List (List NodeId)
+with_key keys key = if has_key key keys then keys else keys ++ key ∷ []
 
 -- ---- what stands
 
@@ -55,8 +60,8 @@ abbrev pub AreLevels : ℕ → List (List Link) → Type 0
 AreLevels fronts [] = Unit {0}
 AreLevels fronts (links ∷ levels) = AllByRecursion (λ l. l.front < fronts) links × IsOnce links × AreLevels (length links) levels
 
-abbrev pub AreKeys : Keys → Type 0
-AreKeys k = AreLevels (length (roots k.any)) (links_of k.levels.items)
+abbrev pub ArePaths : Paths → Type 0
+ArePaths p = AreLevels (length (roots p.any)) (links_of p.levels.items)
 
 -- ---- what calls tell
 

@@ -5,13 +5,14 @@ use Rattle.gq_base.specs.declared.NodeId.{NodeId}
 use Rattle.gq_pipe.specs.Rest.{Rest}
 use Rattle.gq_pipe.specs.Spending.{up_to_most}
 use Rattle.gq_pipe.specs.declared.pipeline.Spent.{Spent}
-use Rattle.gq_plan.specs.Keys.{key_of}
+use Rattle.gq_plan.specs.Keys.{has_key, key_of}
 use Rattle.gq_plan.specs.Meaning.{meaning, whole}
 use Rattle.gq_plan.specs.Plans.{Plan, plan_of}
 use Rattle.gq_plan.specs.declared.plan.Plan as code
 use Rattle.gq_plan.specs.declared.typed.Typed.{Typed}
 use Rattle.gq_exists.specs.Spending.{HasSpentEach, HasSpentFor}
 use Rattle.gq_exists.specs.declared.gathering.Gathering.{Gathering}
+use Rattle.gq_exists.specs.steps.Stored.{keys_in}
 
 -- the keys of the assignments that a pipeline owes
 abbrev pub owed_keys : Typed → ℕ → Rest → List (List NodeId)
@@ -57,7 +58,7 @@ pub record HasSpentOne (width : ℕ) (g : Graph) (y : Typed) (p : Plan) (old new
 
 -- no further key can differ
 abbrev pub is_full_at : Gathering → Bool
-is_full_at g = nat_eq g.width 0 && g.keys.any
+is_full_at g = nat_eq g.width 0 && has_key [] (keys_in g.keys)
 
 -- where that is so no pipeline ran, else those of the alternatives did
 abbrev pub SpendsEach : Bool → ℕ → Graph → List Typed → List Plan → List Spent → Type 0

@@ -1,14 +1,18 @@
 -- What it means that the number of a column's variable stands for the column's value.
-use Rattle.std.specs.Prelude.{◌≡◌, ℕ, ◌<◌, Some, Result, Ok, Err, List, [], ◌∷◌, ◌++◌, slice_get}
+use Rattle.std.specs.Prelude.{◌≡◌, ℕ, ◌<◌, Some, None, Result, Ok, Err, List, [], ◌∷◌, ◌++◌, slice_get}
 use Rattle.gq_base.specs.Plain.{Graph}
-use Rattle.gq_base.specs.Values.{Val}
+use Rattle.gq_base.specs.Values.{Val, null}
+use Rattle.gq_base.specs.declared.value.Value.TheVariants as value
 use Rattle.gq_cells.specs.Numbers.{IsNumber, source_val}
 use Rattle.gq_cells.specs.declared.source.Source.{Source}
+use Rattle.gq_cells.specs.declared.source.Source.TheVariants as source
 use Rattle.gq_expr.specs.Meaning.{meaning}
 use Rattle.gq_expr.specs.Operators.{Outcome}
 use Rattle.gq_expr.specs.Reading as reading
 use Rattle.gq_expr.specs.declared.expr.Expr.{Expr}
 use Rattle.gq_rows.specs.declared.finder.Finder.{Finder}
+use Rattle.gq_rows.specs.declared.finder.Found.{Found}
+use Rattle.gq_rows.specs.declared.finder.Found.TheVariants as found
 use Rattle.gq_rows.specs.declared.finder.Range.{Range}
 use Rattle.gq_rows.specs.declared.finder.Way.{Way}
 use Rattle.gq_rows.specs.declared.finder.Way.TheVariants as way
@@ -34,6 +38,17 @@ HasNumber way.Value here n = ⊥
 HasNumber (way.Node r) here n = HasRow r here n
 HasNumber (way.Rel r) here n = HasLoad r here n
 
+-- the variable has nothing
+abbrev pub HasNothing : Way → reading.Assignment → Type 0
+HasNothing way.Value here = ⊥
+HasNothing (way.Node r) here = here.nodes r.variable ≡ None
+HasNothing (way.Rel r) here = here.rels r.variable ≡ None
+
+abbrev pub IsFound : Way → reading.Assignment → Found → Type 0
+IsFound w here (found.Number n) = HasNumber w here n
+IsFound w here found.Null = HasNothing w here
+IsFound w here found.Other = Unit {0}
+
 -- the source at the place has each number that may be found, and it stands for the value of the expression
 pub record Finds (g : Graph) (sources : List Source) (place : ℕ) (e : Expr) (Has : reading.Assignment → ℕ → Type 0) : Type 0 where
   pub source : Source
@@ -46,8 +61,15 @@ FindsBy g sources place e way.Value = Unit {0}
 FindsBy g sources place e (way.Node r) = Finds g sources place e (HasRow r)
 FindsBy g sources place e (way.Rel r) = Finds g sources place e (HasLoad r)
 
-abbrev pub IsFinder : Graph → List Source → Finder → Type 0
-IsFinder g sources f = FindsBy g sources f.source f.expr.now f.way
+-- the source of null stands at the place
+abbrev pub IsNullAt : List Source → ℕ → Type 0
+IsNullAt sources place = slice_get sources place ≡ Some (source.Value value.Null)
+
+-- the numbers that are found stand for the value of the expression, which is null where the variable has nothing
+pub record IsFinder (g : Graph) (sources : List Source) (f : Finder) : Type 0 where
+  pub finds : FindsBy g sources f.source f.expr.now f.way
+  pub none : IsNullAt sources f.null
+  pub nothing : (here : reading.Assignment) → HasNothing f.way here → meaning g here f.expr.now ≡ Ok null
 
 -- what a call tells that appends the value of an expression
 abbrev pub PutsColumn : Outcome → List Val → List Val → Result (Unit {0}) RowRefusal → Type 0

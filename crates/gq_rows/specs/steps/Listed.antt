@@ -15,6 +15,7 @@ use Rattle.gq_plan.specs.declared.bound.Bound.{Bound}
 use Rattle.gq_plan.specs.declared.bound.NamedExpr.{NamedExpr}
 use Rattle.gq_rows.specs.Tables.{Held, Table, outcome_numbered}
 use Rattle.gq_rows.specs.steps.Finding.{IsFinder}
+use Rattle.gq_rows.specs.steps.Flat.{AreFree}
 use Rattle.gq_rows.specs.steps.Judged.{values_after}
 use Rattle.gq_rows.specs.steps.Keeping.{HasForm}
 use Rattle.gq_rows.specs.declared.finder.Finder.{Finder}
@@ -61,6 +62,10 @@ pub record IsListing (q : Asked) : Type 0 where
 pub record AreFinders (g : Graph) (sources : List Source) (es : List Expr) (fs : List Finder) : Type 0 where
   pub exprs : map (λ (f : Finder). f.expr.now) fs ≡ es
   pub finders : All (IsFinder g sources) fs
+
+-- the same, and they hold no number
+abbrev pub AreFreeFinders : Graph → List Source → List Expr → List Finder → Type 0
+AreFreeFinders g sources es fs = AreFinders g sources es fs × AreFree fs
 
 -- the expressions of the columns
 abbrev pub column_exprs : List NamedExpr → List Expr

@@ -1,12 +1,9 @@
 use Rattle.std.proofs.Common.{◌≡◌, ◌∙◌, ◌++◌, ap, false, inl, inr, subst, sym, true}
 use Rattle.std.specs.Prelude.{◌⊎◌}
-use Rattle.std.specs.List.{AllZip}
 use Rattle.gq_base.specs.Lists.{is_empty}
 use Rattle.gq_rows.specs.Tables.{is_full_table}
-use Rattle.gq_execute.specs.Spending.{IsSpentOn}
 use Rattle.gq_execute.specs.steps.Answering.{AnswersWith}
-use Rattle.gq_execute.specs.steps.Testing.{AreTestsOf, RefusesTests, spent_on}
-use Rattle.gq_execute.proofs.Ending.{all_done, empty_tells, nothing_done, test_refused}
+use Rattle.gq_execute.proofs.Ending.{all_done, before_refused, empty_tells, nothing_done}
 use Rattle.gq_execute.proofs.answering.fill.Goals as goal
 use Rattle.gq_execute.proofs.answering.fill.Goals.{then-is_empty-via-then-is_empty, then-is_empty-via-else-is_empty+then-enough}
 
@@ -26,8 +23,7 @@ returns-in-Err-clause-answers c =
     let settings = c.args.settings.now in
     let some : is_empty b.alternatives ≡ false = empty_tells b.alternatives c.is_empty.result c.is_empty.ensures ∙ c.if-is_empty.false in
     let room : is_full_table c.args.table.now ≡ false = sym c.enough.ensures ∙ c.if-enough.false in
-    test_refused g b settings c.args.table.now c.catalog.ensures.valid c.requires.fresh some room c.in-Err.refusal
-    (subst (λ parts. RefusesTests g settings.rows parts c.in-Err.refusal) c.as_slice-parts.ensures c.in-Err.ensures.refused)
+    before_refused g b settings c.args.table.now c.catalog.ensures.valid c.requires.fresh some room c.in-Err.refusal c.in-Err.ensures.refused
 
 pub returns-clause-answers : goal.returns-clause-answers
 returns-clause-answers c =
@@ -36,8 +32,7 @@ returns-clause-answers c =
     let settings = c.args.settings.now in
     let some : is_empty b.alternatives ≡ false = empty_tells b.alternatives c.is_empty.result c.is_empty.ensures ∙ c.if-is_empty.false in
     let room : is_full_table c.args.table.now ≡ false = sym c.enough.ensures ∙ c.if-enough.false in
-    let tests = c.in-Ok.tests.all in
-    all_done g b settings c.args.table.now c.catalog.ensures.valid c.requires.fresh some room c.take_turns.new.table tests c.in-Ok-take_turns.turns c.append.new.spent
-    (subst (λ parts. AreTestsOf g settings.rows parts tests) c.as_slice-parts.ensures c.in-Ok.ensures.tests)
-    (subst (λ parts. AllZip (IsSpentOn g settings.order) parts (spent_on tests)) c.as_slice-parts.ensures c.in-Ok.ensures.spent) c.in-Ok-take_turns.ensures.fills
+    let made = c.in-Ok.ensures in
+    all_done g b settings c.args.table.now c.catalog.ensures.valid c.requires.fresh some room c.take_turns.new.table c.in-Ok.prepared c.in-Ok-take_turns.turns c.append.new.spent
+    made.prepared made.light made.tested made.spent c.in-Ok-take_turns.ensures.fills
     (c.in_ok-append.ensures ∙ ap (λ l. l ++ c.in-Ok-take_turns.turns) c.in_ok-spent.ensures)

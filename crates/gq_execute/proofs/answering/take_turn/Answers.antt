@@ -14,7 +14,7 @@ use Rattle.gq_execute.proofs.Begins.{plan_begins}
 use Rattle.gq_execute.proofs.Parting.{sides_light, sides_refused}
 use Rattle.gq_pipe.proofs.Assigned.{covers_bind_all}
 use Rattle.gq_execute.proofs.Turning.{own_counted, own_keys, own_spent, turn_spent, turn_stops, turned}
-use Rattle.gq_execute.specs.steps.Testing.{admitted_by}
+use Rattle.gq_execute.specs.steps.Prepared.{later_by}
 use Rattle.gq_execute.proofs.answering.take_turn.Goals as goal
 
 pub plan_for-requires-clause-nodes : goal.plan_for-requires-clause-nodes
@@ -35,18 +35,19 @@ start-requires-clause-room c =
 
 pub returns-in-Err : goal.returns-in-Err
 returns-in-Err c = record {
-  drains = rw c.from.ensures (sides_refused (admitted_by c.args.tests.now.all) c.args.graph.now c.args.settings.now.order c.args.typed.now c.args.table.now.bound c.args.table.now c.args.table.now (plan_of c.in_ok-planned.planned.plan)
+  drains = rw c.from.ensures (sides_refused (later_by c.args.graph.now c.args.prepared.now) c.args.graph.now c.args.settings.now.order c.args.typed.now c.args.table.now.bound c.args.table.now c.args.table.now (plan_of c.in_ok-planned.planned.plan)
       c.catalog.ensures.valid c.requires.sound c.in_ok-planned.ensures.parts c.in_ok-planned.ensures.alone c.requires.most c.in-Err.refusal c.in-Err.ensures.refused);
   spends = tt;
   slots = c.make_builds.ensures.pool;
 }
 
-pub drain-drained-requires-clause-run : goal.drain-drained-requires-clause-run
-drain-drained-requires-clause-run c =
+pub drain_all-drained-requires-clause-run : goal.drain_all-drained-requires-clause-run
+drain_all-drained-requires-clause-run c =
     let p = c.in_ok-pipeline.ensures in
     record {
       graph = ap (λ (s : Source). s.graph) p.source;
       alternative = ap (λ (t : Table). t.alternative) c.start_alternative.ensures ∙ ap (λ (s : Source). Some s.typed) (sym p.source);
+      started = ap (λ (t : Table). t.graph) c.start_alternative.ensures;
       complete = ap (λ (s : Source). binds_all s.typed (plan_in s)) p.source ∙ ap (binds_all c.args.typed.now) (sym (plan_is c.in_ok-planned.planned.plan)) ∙ covers_bind_all _ _ _ c.in_ok-planned.ensures.covers;
     }
 
@@ -58,7 +59,7 @@ returns-in-Err-drained-clause-drains c =
     let plan = plan_of c.in_ok-planned.planned.plan in
     let few = ap (λ m. sides_within g y m plan) (sym c.requires.most) ∙ c.in-Ok.ensures.few in
     let light = sides_light g c.args.settings.now.order y c.args.table.now.most plan c.catalog.ensures.valid c.requires.sound c.in_ok-planned.ensures.parts c.in_ok-planned.ensures.alone few in
-    turn_stops (admitted_by c.args.tests.now.all) g c.args.settings.now.order y c.args.table.now c.drain-drained.new.table plan c.in_ok-planned.ensures.covers light c.start_alternative.new.self c.in_ok-pipeline.pipeline
+    turn_stops (later_by c.args.graph.now c.args.prepared.now) g c.args.settings.now.order y c.args.table.now c.drain_all-drained.new.table plan c.in_ok-planned.ensures.covers light c.start_alternative.new.self c.in_ok-pipeline.pipeline
     c.start_alternative.ensures (ap (λ (s : Source). s.typed) p.source) p.meaning c.in-Err-drained.refusal c.in-Err-drained.ensures.takes
 
 pub returns-clause-drains : goal.returns-clause-drains
@@ -69,7 +70,7 @@ returns-clause-drains c =
     let plan = plan_of c.in_ok-planned.planned.plan in
     let few = ap (λ m. sides_within g y m plan) (sym c.requires.most) ∙ c.in-Ok.ensures.few in
     let light = sides_light g c.args.settings.now.order y c.args.table.now.most plan c.catalog.ensures.valid c.requires.sound c.in_ok-planned.ensures.parts c.in_ok-planned.ensures.alone few in
-    turned (admitted_by c.args.tests.now.all) g c.args.settings.now.order y c.args.table.now c.drain-drained.new.table plan c.in_ok-planned.ensures.covers light c.start_alternative.new.self c.in_ok-pipeline.pipeline
+    turned (later_by c.args.graph.now c.args.prepared.now) g c.args.settings.now.order y c.args.table.now c.drain_all-drained.new.table plan c.in_ok-planned.ensures.covers light c.start_alternative.new.self c.in_ok-pipeline.pipeline
     c.start_alternative.ensures (ap (λ (s : Source). s.typed) p.source) p.meaning c.in-Ok-drained.ensures.takes
 
 pub returns-clause-spends : goal.returns-clause-spends
@@ -82,19 +83,19 @@ returns-clause-spends c =
     let costs = c.in_ok-planned.planned.costs in
     let made = c.in_ok-planned.ensures in
     let start = c.start_alternative.new.self in
-    let new = c.drain-drained.new.table in
+    let new = c.drain_all-drained.new.table in
     let begun = c.in_ok-pipeline.pipeline in
-    let now = c.drain-drained.new.pipeline in
+    let now = c.drain_all-drained.new.pipeline in
     let own = c.finish-own.result in
     let ends = c.in-Ok-drained.ensures in
     let same_bound = ends.takes.alike.bound ∙ ap (λ (t : Table). t.bound) c.start_alternative.ensures in
     record {
       turn = record { sides = c.in-Ok.builds.spent; own = own };
       is = turn_spent g c.args.table.now.bound order y plan costs c.in-Ok.builds.spent own (subst (λ (s : Stats). IsPlanIn order g.catalog s y plan costs) c.requires.stats made.plan) made.covers made.alone c.in-Ok.ensures.spent
-          (own_spent g y plan start new begun now own p.meaning p.keys p.columns ends.ran c.drain-drained.ensures.columns c.finish-own.ensures.chunks c.finish-own.ensures.columns)
-          (λ uncut. own_keys g y plan start new begun now own p.meaning p.keys p.columns ends.ran c.drain-drained.ensures.columns c.finish-own.ensures.chunks c.finish-own.ensures.columns (ap cut_of same_bound ∙ uncut));
+          (own_spent g y plan start new begun now own p.meaning p.keys p.columns ends.ran c.drain_all-drained.ensures.columns c.finish-own.ensures.chunks c.finish-own.ensures.columns)
+          (λ uncut. own_keys g y plan start new begun now own p.meaning p.keys p.columns ends.ran c.drain_all-drained.ensures.columns c.finish-own.ensures.chunks c.finish-own.ensures.columns (ap cut_of same_bound ∙ uncut));
       all = c.in_ok-push.ensures.pushed ∙ ap (λ l. l ++ own ∷ []) c.into_spent-spent.ensures;
-      chunks = λ before h.
-          own_counted g y plan start new begun now own p.meaning p.keys p.columns ends.ran c.drain-drained.ensures.columns c.finish-own.ensures.chunks c.finish-own.ensures.columns before
+      chunks = λ none before h.
+          own_counted g y plan start new begun now own p.meaning p.keys p.columns ends.ran c.drain_all-drained.ensures.columns c.finish-own.ensures.chunks c.finish-own.ensures.columns (ap (λ (t : Table). t.bound.optionals) c.start_alternative.ensures ∙ none) before
           (ap (λ (t : Table). t.pushed) c.start_alternative.ensures ∙ h);
     }

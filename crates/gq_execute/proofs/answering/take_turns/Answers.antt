@@ -1,8 +1,9 @@
 use Rattle.std.proofs.Common.{◌∙◌, ◌<◌, ap, refl, sym, subst, length, get_or, arith, inl, inr}
 use Rattle.gq_execute.specs.Answering.{question}
 use Rattle.gq_execute.proofs.Going.{came_start, fresh_stands, item_at, spends_more, spends_none, taken_more, turn_ended, turn_taken}
-use Rattle.gq_execute.proofs.Parted.{bound_parted, made_here}
-use Rattle.gq_execute.specs.steps.Testing.{admitted_by}
+use Rattle.gq_execute.proofs.Making.{made_here}
+use Rattle.gq_execute.proofs.Parted.{bound_parted}
+use Rattle.gq_execute.specs.steps.Prepared.{later_by}
 use Rattle.gq_execute.proofs.answering.take_turns.Goals as goal
 
 pub alternatives-init : goal.alternatives-init
@@ -29,12 +30,12 @@ alternatives-preserved c =
       stats = i.stats;
       bound = run.meets.alike.bound ∙ i.bound;
       most = run.meets.alike.most ∙ i.most;
-      some = taken_more (admitted_by c.args.tests.now.all) _ _ _ y old new i.some run;
+      some = taken_more (later_by c.args.graph.now c.args.prepared.now) _ _ _ y old new i.some run;
       slots = c.in-Ok.ensures.slots ∙ i.slots;
       spends = rw c.in_ok-append-in-Ok.ensures (spends_more c.args.graph.now c.args.bound.now c.args.settings.now.order c.args.bound.now.alternatives c.alternatives.typed-index y old new c.alternatives.spent c.in-Ok.turn here i.bound i.spends c.in-Ok.ensures.spends);
       came = λ query text is.
-          turn_taken (question c.args.graph.now query c.args.bound.now c.args.settings.now) (bound_parted (question c.args.graph.now query c.args.bound.now c.args.settings.now) text c.catalog.ensures.valid is) (admitted_by c.args.tests.now.all)
-          (made_here c.args.graph.now query c.args.bound.now c.args.settings.now text c.args.tests.now.all c.catalog.ensures.valid is c.requires.tests)
+          turn_taken (question c.args.graph.now query c.args.bound.now c.args.settings.now) (bound_parted (question c.args.graph.now query c.args.bound.now c.args.settings.now) text c.catalog.ensures.valid is) (later_by c.args.graph.now c.args.prepared.now)
+          (made_here c.args.graph.now query c.args.bound.now c.args.settings.now text c.args.prepared.now c.catalog.ensures.valid is c.requires.prepared)
           c.alternatives.typed-index y old new here (i.came query text is) (sym c.enough.ensures ∙ c.if-enough.false) run;
     }
 
@@ -60,8 +61,8 @@ returns-in-Err c =
     (c.typed-item.is ∙ ap (λ ys. get_or ys c.alternatives.typed-index y) c.as_slice-typed-items.ensures) in
     record {
       fills = λ query text is.
-          turn_ended (question c.args.graph.now query c.args.bound.now c.args.settings.now) (bound_parted (question c.args.graph.now query c.args.bound.now c.args.settings.now) text c.catalog.ensures.valid is) (admitted_by c.args.tests.now.all)
-          (made_here c.args.graph.now query c.args.bound.now c.args.settings.now text c.args.tests.now.all c.catalog.ensures.valid is c.requires.tests)
+          turn_ended (question c.args.graph.now query c.args.bound.now c.args.settings.now) (bound_parted (question c.args.graph.now query c.args.bound.now c.args.settings.now) text c.catalog.ensures.valid is) (later_by c.args.graph.now c.args.prepared.now)
+          (made_here c.args.graph.now query c.args.bound.now c.args.settings.now text c.args.prepared.now c.catalog.ensures.valid is c.requires.prepared)
           c.alternatives.typed-index y c.alternatives.table c.take_turn.new.table here (i.came query text is) (sym c.enough.ensures ∙ c.if-enough.false) c.in-Err.refusal c.in-Err.ensures.drains;
       stands = tt;
       bound = tt;

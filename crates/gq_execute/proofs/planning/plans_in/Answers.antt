@@ -1,4 +1,4 @@
-use Rattle.std.proofs.Common.{◌≡◌, ◌∙◌, ◌<◌, ◌++◌, ◌∷◌, [], ap, length, subst, sym, true}
+use Rattle.std.proofs.Common.{◌≡◌, ◌∙◌, ◌<◌, ap, length, subst, sym, true}
 use Rattle.std.specs.List.{All}
 use Rattle.std.proofs.lemmas.List.Elements.{All-push}
 use Rattle.std.proofs.lemmas.List.FromFn.{length-map-range_with_len}
@@ -11,6 +11,7 @@ use Rattle.gq_plan.specs.declared.typed.Typed.{Typed}
 use Rattle.gq_execute.proofs.Begins.{plan_begins}
 use Rattle.gq_execute.proofs.Covering.{planned_more, zip_more}
 use Rattle.gq_execute.specs.Planned.{IsPlanIn}
+use Rattle.gq_execute.specs.steps.Clauses.{IsPlanned}
 use Rattle.gq_execute.proofs.planning.plans_in.Goals as goal
 
 pub plan_for-requires-clause-nodes : goal.plan_for-requires-clause-nodes
@@ -34,5 +35,7 @@ alternatives-preserved c =
     record {
       plans = planned_more c.args.order g ys _ _ _ _ _ _ _ _ i.plans low is c.in_ok-push.ensures.pushed c.in_ok-push-2.ensures.pushed planned;
       begins = subst (All (λ (q : code.Plan). begins (plan_of q) ≡ true)) (sym c.in_ok-push.ensures.pushed) (All-push (λ (q : code.Plan). begins (plan_of q) ≡ true) _ made.plan i.begins first);
+      each = zip_more (IsPlanned c.args.order g) plan_of ys _ _ _ _ _ i.each low is c.in_ok-push.ensures.pushed
+          (record { costs = made.costs; planned = planned; covers = p.covers; parts = p.parts; alone = p.alone });
       covers = zip_more (Covers g.catalog) plan_of ys _ _ _ _ _ i.covers low is c.in_ok-push.ensures.pushed p.covers;
     }

@@ -11,9 +11,9 @@ use Rattle.gq_plan.specs.declared.plan.Plan as code
 use Rattle.gq_exists.specs.steps.Gathered.{Gathers}
 use Rattle.gq_exists.specs.steps.Running.{made_keys}
 use Rattle.gq_exists.proofs.Filling.{each_keys, full_takes}
-use Rattle.gq_exists.proofs.Gathered.{stops, then}
+use Rattle.gq_exists.proofs.Gathered.{on_ok, stops, then}
 use Rattle.gq_exists.specs.steps.Running.{HasSpentMore, is_full_at}
-use Rattle.gq_exists.proofs.Spent.{each_spent, full_none, none_spent, on_ok}
+use Rattle.gq_exists.proofs.Spent.{each_spent, full_none, none_spent}
 use Rattle.gq_exists.proofs.key_set.+run_each.Goals as goal
 
 pub returns-then-is_full-clause-gathers : goal.returns-then-is_full-clause-gathers

@@ -5,7 +5,7 @@ use Rattle.gq_pipe.specs.Progress.{Source, plan_in}
 use Rattle.gq_plan.specs.Keys.{key_of}
 use Rattle.gq_plan.specs.Meaning.{whole}
 use Rattle.gq_exists.specs.steps.Gathered.{keys_at}
-use Rattle.gq_exists.proofs.Filling.{chunk_keys, filled_all, filled_first, filled_more, filled_none, filled_stops, less_owed}
+use Rattle.gq_exists.proofs.Filling.{chunk_keys, filled_all, filled_first, filled_more, filled_none, filled_stops, less_owed, some_choices}
 use Rattle.gq_pipe.specs.Rest.{counted}
 use Rattle.gq_exists.proofs.Spent.{counted_more, counted_none, run_first, run_out}
 use Rattle.gq_exists.proofs.key_set.fill.Goals as goal
@@ -18,6 +18,11 @@ here c w =
     let same = c.advance.ensures.source ∙ c.chunks.invariant.source in
     let complete = ap (λ (s : Source). binds_all s.typed (plan_in s)) same ∙ ap (λ z. binds_all z (plan_in begun)) c.requires.typed ∙ c.requires.complete in
     chunk_keys c.args.typed.now w c.advance.new.self.source c.chunk-chunk.result c.advance.new.self.chunk (ap (λ (s : Source). s.typed) same ∙ c.requires.typed) (c.chunk-chunk.ensures.whole complete)
+
+pub take_chunk-requires-clause-some : goal.take_chunk-requires-clause-some
+take_chunk-requires-clause-some c =
+    let w = c.chunks.gathering.width in
+    some_choices c.args.typed.now w c.chunk-chunk.result c.advance.new.self.chunk (here (goal.at.take_chunk-requires-clause-some c).After-chunk-chunk w) (c.advance.ensures.some c.chunks-test.true)
 
 pub chunks-init : goal.chunks-init
 chunks-init c = record {

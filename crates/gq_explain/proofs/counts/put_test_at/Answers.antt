@@ -1,4 +1,4 @@
 use Rattle.gq_explain.proofs.counts.put_test_at.Goals as goal
 
 pub returns-clause-bytes : goal.returns-clause-bytes
-returns-clause-bytes g c = rw (← c.in-Some.ensures.value, ← c.len.ensures) c.put_test.ensures.bytes
+returns-clause-bytes g c = rw (← c.in-Some.ensures.value, ← c.len.ensures) c.put_part.ensures.bytes

@@ -1,14 +1,18 @@
 use Rattle.std.proofs.Common.{◌∙◌, refl, subst, sym}
 use Rattle.gq_rows.specs.steps.Finding.{IsFinder}
+use Rattle.gq_rows.specs.steps.Flat.{IsHeld}
 use Rattle.gq_rows.specs.steps.Listed.{meanings_found}
 use Rattle.gq_rows.proofs.Finding.{broke, extends_again, extends_self, put, stay}
 use Rattle.gq_rows.proofs.listed.put_row.Goals as goal
 
 pub finders-init : goal.finders-init
-finders-init g c = record { after = refl; finders = c.requires; more = extends_self c.args.cells.now.sources }
+finders-init g c = record { after = refl; finders = c.requires.finders; more = extends_self c.args.cells.now.sources }
 
-pub put_column-requires : goal.put_column-requires
-put_column-requires g c = subst (IsFinder c.args.graph.now c.finders.cells.sources) (sym c.finder-item.is) (c.finders.invariant.finders c.finders.finder-index _ c.finders-test.true)
+pub put_column-requires-clause-held : goal.put_column-requires-clause-held
+put_column-requires-clause-held g c = subst (IsHeld (g.R.Assigned.assignment c.args.row.now)) (sym c.finder-item.is) (c.requires.held c.finders.finder-index _ c.finders-test.true)
+
+pub put_column-requires-clause-finder : goal.put_column-requires-clause-finder
+put_column-requires-clause-finder g c = subst (IsFinder c.args.graph.now c.finders.cells.sources) (sym c.finder-item.is) (c.finders.invariant.finders c.finders.finder-index _ c.finders-test.true)
 
 pub finders-preserved : goal.finders-preserved
 finders-preserved g c =

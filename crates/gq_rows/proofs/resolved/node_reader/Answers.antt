@@ -8,7 +8,7 @@ use Rattle.gq_rows.proofs.resolved.node_reader.Goals as goal
 pub overflow_cast-result : goal.overflow_cast-result
 overflow_cast-result c =
     let g = c.args.graph.now in
-    let at = c.in-Some.table.now in
+    let at = c.in-Some.table in
     let table = c.node_table.result.now in
     let is : slice_get g.catalog.nodes at ≡ Some table = ap (λ (t : Tables). slice_get t.nodes at) (sym c.catalog-catalog.ensures.value) ∙ sym c.node_table.ensures in
     omega (arith, node_fields_few g at table c.catalog-catalog.ensures.valid is, c.in-Some-find_field.ensures.within, ap length c.as_slice.ensures)
@@ -16,7 +16,7 @@ overflow_cast-result c =
 pub returns-in-Some-find_field : goal.returns-in-Some-find_field
 returns-in-Some-find_field c =
     let g = c.args.graph.now in
-    let at = c.in-Some.table.now in
+    let at = c.in-Some.table in
     let table = c.node_table.result.now in
     let is : slice_get g.catalog.nodes at ≡ Some table = ap (λ (t : Tables). slice_get t.nodes at) (sym c.catalog-catalog.ensures.value) ∙ sym c.node_table.ensures in
     let within : at < length g.catalog.nodes = omega (arith, c.if-table-node_tables.false, c.node_tables.ensures, ap (λ (t : Tables). length t.nodes) c.catalog-catalog.ensures.value) in

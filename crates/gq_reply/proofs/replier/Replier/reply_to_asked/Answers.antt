@@ -1,6 +1,6 @@
 use Rattle.std.proofs.Common.{Err, subst}
 use Rattle.gq_binder.specs.Binding.{Answers}
-use Rattle.gq_reply.proofs.Replying.{begun, may_reply, refusal_is, replied, replied_as, tests_begin, tests_sound, unbound}
+use Rattle.gq_reply.proofs.Replying.{begun, may_reply, nodes_fit, refusal_is, rels_fit, replied, replied_as, tests_begin, tests_sound, unbound}
 use Rattle.gq_reply.specs.Replies.{asked_by}
 use Rattle.gq_reply.proofs.replier.Replier.reply_to_asked.Goals as goal
 
@@ -12,6 +12,15 @@ reply_to_query-requires-clause-tests_sound g c = tests_sound _ _ _ _ (rw c.catal
 
 pub reply_to_query-requires-clause-tests_begin : goal.reply_to_query-requires-clause-tests_begin
 reply_to_query-requires-clause-tests_begin g c = tests_begin _ _ _ _ (rw c.catalog.ensures.value at c.in-Ok.ensures)
+
+pub reply_to_query-requires-clause-placed : goal.reply_to_query-requires-clause-placed
+reply_to_query-requires-clause-placed g c = let is = rw c.catalog.ensures.value at c.in-Ok.ensures in is.placed
+
+pub reply_to_query-requires-clause-nodes : goal.reply_to_query-requires-clause-nodes
+reply_to_query-requires-clause-nodes g c = nodes_fit _ _ _ _ (rw c.catalog.ensures.value at c.in-Ok.ensures)
+
+pub reply_to_query-requires-clause-rels : goal.reply_to_query-requires-clause-rels
+reply_to_query-requires-clause-rels g c = rels_fit _ _ _ _ (rw c.catalog.ensures.value at c.in-Ok.ensures)
 
 pub returns-in-Ok-clause-replies : goal.returns-in-Ok-clause-replies
 returns-in-Ok-clause-replies g c = λ params spelled.

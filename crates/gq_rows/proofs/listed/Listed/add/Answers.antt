@@ -9,8 +9,8 @@ returns-in-Dropped-clause-adds g c = (when_dropped _ _ _ _ (sym c.in-Dropped.is 
 pub returns-in-Faulty-clause-adds : goal.returns-in-Faulty-clause-adds
 returns-in-Faulty-clause-adds g c = when_faulty _ _ _ _ _ (sym c.in-Faulty.is ∙ c.check_late.ensures)
 
-pub put_row-requires : goal.put_row-requires
-put_row-requires g c = c.requires.finders.finders
+pub put_row-requires-clause-finders : goal.put_row-requires-clause-finders
+put_row-requires-clause-finders g c = c.requires.finders.finders
 
 pub returns-in-Err-clause-adds : goal.returns-in-Err-clause-adds
 returns-in-Err-clause-adds g c =

@@ -1,17 +1,16 @@
-use Rattle.std.proofs.Common.{[], None, Ok, Err, ap, subst, sym, false, true}
+use Rattle.std.proofs.Common.{[], None, Ok, Err, ap, subst, false, true}
 use Rattle.gq_plan.specs.declared.bound.Bound.{Bound}
 use Rattle.gq_rows.specs.Tables.{Pushes, Table, outcome_numbered}
 use Rattle.gq_rows.specs.steps.Inner.{table_of}
-use Rattle.gq_rows.specs.steps.Listed.{AreFinders, column_exprs}
+use Rattle.gq_rows.specs.steps.Listed.{column_exprs}
 use Rattle.gq_rows.proofs.Finding.{stay_found}
 use Rattle.gq_rows.proofs.ListedRows.{inside_graph, inside_listing, now_done, pushed_listed, room_listed, stands_listed, was_done}
 use Rattle.gq_rows.proofs.table.RowTable.push_alone.Goals as goal
 
 pub find_columns-requires : goal.find_columns-requires
 find_columns-requires g c = λ e.
-    subst (λ cs. AreFinders c.args.graph.now c.self.inside.listed.cells.sources (column_exprs cs) c.self.inside.finders.items) (sym c.as_slice-columns.ensures)
-    (was_done true c.args.graph.now c.self.inside (inside_graph c.self.inside c.args.self.now c.args.graph.now c.self.view_is c.requires.graph)
-    (inside_listing c.self.inside c.args.self.now c.self.view_is c.requires.listing) (c.self.invariant.done e))
+    was_done true c.args.graph.now c.self.inside (inside_graph c.self.inside c.args.self.now c.args.graph.now c.self.view_is c.requires.graph)
+    (inside_listing c.self.inside c.args.self.now c.self.view_is c.requires.listing) (c.self.invariant.done e)
 
 pub push-requires-clause-stands : goal.push-requires-clause-stands
 push-requires-clause-stands g c = stands_listed c.self.inside c.args.self.now c.self.view_is (inside_listing c.self.inside c.args.self.now c.self.view_is c.requires.listing) (record c.self.inside.listed { cells = c.find_columns.new.cells }) (ap (λ vs. record { columns = vs; keys = []; count = c.self.inside.listed.count; classes = []; bar = None }) c.in-Ok.ensures.values) c.requires.stands
@@ -30,8 +29,7 @@ invariant_of-self-in-Ok-push g c =
       done = λ e.
           now_done true c.args.graph.now new (inside_graph t c.args.self.now c.args.graph.now c.self.view_is c.requires.graph)
           (inside_listing t c.args.self.now c.self.view_is c.requires.listing)
-          (stay_found c.args.graph.now c.find_columns.new.cells.sources c.push.new.self.cells.sources c.in-Ok-push.ensures.more (column_exprs t.bound.now.columns) c.find_columns.new.finders.items
-          (subst (λ cs. AreFinders c.args.graph.now c.find_columns.new.cells.sources (column_exprs cs) c.find_columns.new.finders.items) c.as_slice-columns.ensures c.in-Ok.ensures.finds));
+          (stay_found c.args.graph.now c.find_columns.new.cells.sources c.push.new.self.cells.sources c.in-Ok-push.ensures.more (column_exprs t.bound.now.columns) c.find_columns.new.finders.items c.in-Ok.ensures.finds.0, c.in-Ok.ensures.finds.1);
     }
 
 pub returns-in-Err-clause-pushes : goal.returns-in-Err-clause-pushes

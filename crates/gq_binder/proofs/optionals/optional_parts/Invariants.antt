@@ -1,0 +1,10 @@
+use Rattle.std.proofs.Common.{◌≡◌, ◌++◌, drop, map}
+use Rattle.gq_alternatives.specs.Alternatives.{pattern_alternatives}
+use Rattle.gq_binder.specs.steps.Parts.{optional_part, own_patterns}
+use Rattle.gq_binder.proofs.optionals.optional_parts.Given as goal
+
+abbrev pub invariant-loop-clause : goal.invariant-loop-clause
+invariant-loop-clause l = record {
+  parts : l.parts ++ map (optional_part l.catalog) l.clause-iterator.rest.items ≡ map (optional_part l.catalog) l.fn.clauses;
+  choices : drop l.at l.choices ≡ map (pattern_alternatives l.catalog) (own_patterns l.clause-iterator.rest.items);
+}

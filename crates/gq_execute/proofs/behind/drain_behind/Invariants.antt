@@ -1,0 +1,25 @@
+use Rattle.std.proofs.Common.{◌≡◌, false, length}
+use Rattle.gq_pipe.specs.Serving.{Serves}
+use Rattle.gq_rows.specs.Tables.{IsSameQuery, StandsForSome, is_full_table}
+use Rattle.gq_execute.specs.steps.Behind.{IsBehind}
+use Rattle.gq_execute.specs.steps.Prepared.{later_by}
+use Rattle.gq_execute.specs.steps.Taking.{Counted, IsRunOf, Pushed}
+use Rattle.gq_execute.proofs.behind.drain_behind.Given as goal
+
+abbrev pub invariant-chunks : goal.invariant-chunks
+invariant-chunks l = record {
+  behind : IsBehind l.graph l.initial.table.bound l.typed l.prepared l.behind;
+  run : IsRunOf l.graph l.table l.pipeline;
+  same : IsSameQuery l.initial.table l.table;
+  source : l.pipeline.source ≡ l.initial.pipeline.source;
+  columns : l.pipeline.columns ≡ l.initial.pipeline.columns;
+  serves : Serves l.pipeline l.pool;
+  slots : l.pool.out ≡ l.initial.pool.out;
+  room : is_full_table l.table ≡ false;
+  some : StandsForSome l.table;
+  came : Pushed (later_by l.graph l.prepared) l.graph l.initial.table l.table l.initial.pipeline l.pipeline;
+  counted : Counted l.initial.table l.table l.initial.pipeline l.pipeline;
+}
+
+abbrev pub decreases-chunks : goal.decreases-chunks
+decreases-chunks l = length l.pipeline.owed

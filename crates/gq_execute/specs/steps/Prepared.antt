@@ -1,0 +1,56 @@
+-- What is made before the first alternative whose turn comes, and why it is not.
+use Rattle.std.specs.Prelude.{◌≡◌, ◌⊎◌, ◌<◌, ◌^◌, ℕ, true, List, [], ◌∷◌, length}
+use Rattle.std.specs.List.{AllZip, range_with_len}
+use Rattle.gq_base.specs.Plain.{Graph}
+use Rattle.gq_plan.specs.declared.Bound.{Bound}
+use Rattle.gq_optional.specs.Walks.{IsOptionals, lists_in, parts_in}
+use Rattle.gq_plan.specs.declared.ExistsPart.{ExistsPart}
+use Rattle.gq_plan.specs.declared.Typed.{Typed}
+use Rattle.gq_execute.specs.Spending.{IsSpentOn}
+use Rattle.gq_execute.specs.declared.prepared.Prepared.{Prepared}
+use Rattle.gq_execute.specs.declared.refusal.AnswerRefusal.{AnswerRefusal}
+use Rattle.gq_execute.specs.declared.refusal.AnswerRefusal.TheVariants as refusal
+use Rattle.gq_execute.specs.declared.settings.Order.{Order}
+use Rattle.gq_execute.specs.declared.settings.Settings.{Settings}
+use Rattle.gq_execute.specs.declared.testing.Test.{Test}
+use Rattle.gq_execute.specs.steps.Clauses.{AreOfPlans, some_heavy_clause}
+use Rattle.gq_execute.specs.steps.Taking.{Later, if_admitted_behind}
+use Rattle.gq_execute.specs.steps.Testing.{AreTestsOf, SomeHasMany, admitted_by, spent_on}
+
+-- how many node variables the first of some alternatives has
+abbrev pub first_nodes : List Typed → ℕ
+first_nodes [] = 0
+first_nodes (y ∷ ys) = length y.nodes
+
+-- the tests of a query and the matches of its optional clauses
+pub record IsPrepared (g : Graph) (most : ℕ) (b : Bound) (p : Prepared) : Type 0 where
+  pub bound : p.bound.now ≡ b
+  pub tests : AreTestsOf g most b.patterns p.tests.all
+  pub is : IsOptionals p.optionals
+  pub shape : p.optionals.shape ≡ p.shape
+  pub nodes : p.optionals.shape.nodes ≡ length b.node_names
+  pub rels : p.optionals.shape.rels ≡ length b.rel_names
+  pub few_nodes : length b.node_names < 2 ^ 32
+  pub few_rels : length b.rel_names < 2 ^ 32
+  pub first : p.optionals.shape.first ≡ first_nodes b.alternatives
+  pub parts : parts_in p.optionals ≡ b.optionals
+  pub listed : AreOfPlans g b.optionals (lists_in p.optionals)
+
+-- the variables that stand before the optional clauses
+abbrev pub known_by : Prepared → List ℕ
+known_by p = range_with_len 0 p.optionals.shape.first
+
+-- what becomes of a row: where the tests admit it, it goes behind the optional clauses
+abbrev pub later_by : Graph → Prepared → Later
+later_by g p = if_admitted_behind (admitted_by p.tests.all) g (known_by p) (lists_in p.optionals)
+
+-- what was spent on tests
+abbrev pub AreSpentOnTests : Graph → Order → List ExistsPart → List Test → Type 0
+AreSpentOnTests g order parts tests = AllZip (IsSpentOn g order) parts (spent_on tests)
+
+-- why it is not made: a test has too many keys, or an optional clause is heavy; want of memory is free
+abbrev pub RefusesBefore : Graph → Settings → Bound → AnswerRefusal → Type 0
+RefusesBefore g settings b (refusal.TooManyRows limit) =
+    (limit ≡ settings.rows) × (SomeHasMany g settings.rows b.patterns ⊎ (some_heavy_clause g settings.order settings.rows b.optionals ≡ true))
+RefusesBefore g settings b (refusal.Fault fault) = ⊥
+RefusesBefore g settings b refusal.Memory = Unit {0}
