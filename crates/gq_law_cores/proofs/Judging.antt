@@ -20,7 +20,7 @@ use Rattle.gq_plan.specs.Meaning.{found}
 use Rattle.gq_plan.specs.Outcomes.{behind_condition, behind_conditions, drops, meanings_of}
 use Rattle.gq_plan.specs.declared.NamedExpr.{NamedExpr}
 use Rattle.gq_law_cores.specs.Made.{Agrees}
-use Rattle.gq_law_cores.specs.Typing.{is_early, others_from}
+use Rattle.gq_law_cuts.specs.Typing.{is_early, others_from}
 
 abbrev is_true : Outcome → Bool
 is_true (Ok (flag b)) = b

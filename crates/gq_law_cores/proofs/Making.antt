@@ -43,7 +43,8 @@ use Rattle.gq_plan.specs.declared.NamedExpr.{NamedExpr}
 use Rattle.gq_plan.specs.declared.Typed.{Typed}
 use Rattle.gq_scopes.specs.Patterns.{Pattern}
 use Rattle.gq_law_cores.specs.Made.{Agrees, AlternativesPartContinued, Continues, EachPlanMakesContinued, MakesContinued, made_by}
-use Rattle.gq_law_cores.specs.Typing.{HasCores, core_typed, is_early}
+use Rattle.gq_law_cores.specs.Typing.{HasCores}
+use Rattle.gq_law_cuts.specs.Typing.{core_typed, is_early}
 use Rattle.gq_law_cores.proofs.Judging.{judged_others, nothing_left, numbered, others, passes_too}
 
 -- ---- lists

@@ -35,7 +35,7 @@ use Rattle.gq_plan.specs.Outcomes.{Row}
 use Rattle.gq_plan.specs.declared.NamedExpr.{NamedExpr}
 use Rattle.gq_scopes.specs.Patterns.{MapEntry, Pattern}
 use Rattle.gq_law_cores.specs.Made.{Agrees, TrailsContinue, TrailsMakeMatches, made_by, trail_rows}
-use Rattle.gq_law_cores.specs.Typing.{stays_in}
+use Rattle.gq_law_cuts.specs.Typing.{stays_in}
 
 -- ---- items with their numbers are looked up as they are read
 

@@ -8,7 +8,8 @@ use Rattle.gq_expr.specs.Meaning.{meaning}
 use Rattle.gq_expr.specs.Reading as reading
 use Rattle.gq_expr.specs.declared.Fault.{Fault}
 use Rattle.gq_alternatives.specs.Matches.{pattern_matches}
-use Rattle.gq_law_cores.specs.Typing.{HasCores, stays_in}
+use Rattle.gq_law_cores.specs.Typing.{HasCores}
+use Rattle.gq_law_cuts.specs.Typing.{stays_in}
 use Rattle.gq_law_reaches.specs.Bags.{AreShort}
 use Rattle.gq_law_reaches.specs.Core.{begin_of, core_pattern, patterns_of, trail_parts}
 use Rattle.gq_law_reaches.specs.Cores.{IsCored}

@@ -17,11 +17,12 @@ use Rattle.gq_plan.specs.Outcomes.{Row}
 use Rattle.gq_plan.specs.declared.Bound.{Bound}
 use Rattle.gq_scopes.specs.Patterns.{pattern_of}
 use Rattle.gq_syntax.specs.declared.Clause.{Clause}
-use Rattle.gq_law_cores.specs.Cuts.{core_size, cored_of, trailed_of}
+use Rattle.gq_law_cuts.specs.Cuts.{core_size, cored_of, trailed_of}
 use Rattle.gq_law_cores.specs.Made.{MakesContinued, made_by, trail_rows}
-use Rattle.gq_law_cores.specs.Plain.{HaveNoTrail}
-use Rattle.gq_law_cores.specs.Shaped.{core_pattern_of}
-use Rattle.gq_law_cores.specs.Typing.{HasCores, stays_in}
+use Rattle.gq_law_cuts.specs.Plain.{HaveNoTrail}
+use Rattle.gq_law_cuts.specs.Shaped.{core_pattern_of}
+use Rattle.gq_law_cores.specs.Typing.{HasCores}
+use Rattle.gq_law_cuts.specs.Typing.{stays_in}
 
 -- no trail is empty, or longer than 16
 abbrev pub HaveLengths : List Clause → Type 0

@@ -1,10 +1,7 @@
 //! The laws of the core of a query with trails.
-ghost use Rattle.gq_law_cores.specs.Cuts.{CutsAreCored};
 ghost use Rattle.gq_law_cores.specs.Entries.{EntryTestsAreTests};
 ghost use Rattle.gq_law_cores.specs.Made.{AlternativesPartContinued, EachPlanMakesContinued};
 ghost use Rattle.gq_law_cores.specs.Made.{TrailsContinue, TrailsMakeMatches};
-ghost use Rattle.gq_law_cores.specs.Plain.{PlainCuts};
-ghost use Rattle.gq_law_cores.specs.Shaped.{CoresAreSound};
 ghost use Rattle.gq_law_cores.specs.Walking.{CoresCanTrek, OwedAreTrailRows, PartsHaveLength};
 ghost use Rattle.gq_law_cores.specs.Whole.{AlternativesPartTrails, EachPlanMakesTrails};
 ghost use Rattle.gq_law_cores.specs.Whole.{PlainTrailMatches};
@@ -34,13 +31,6 @@ pub fn trails_make_matches()
     ensures { TrailsMakeMatches }
 {}
 
-/// A law for the crates above: where paths are cut at their trails and the variables of the core are
-/// numbered first, the trails of which none is empty are walked from the core to all other
-/// variables. It does nothing.
-pub fn cuts_are_cored()
-    ensures { CutsAreCored }
-{}
-
 /// A law for the crates above: trails can be walked from each row that has what a match of the core
 /// has. It does nothing.
 pub fn cores_can_trek()
@@ -57,18 +47,6 @@ pub fn owed_are_trail_rows()
 /// which a walker of all trails can make room. It does nothing.
 pub fn parts_have_length()
     ensures { PartsHaveLength }
-{}
-
-/// A law for the crates above: an alternative of a query's core is sound where its tests fit. It does
-/// nothing.
-pub fn cores_are_sound()
-    ensures { CoresAreSound }
-{}
-
-/// A law for the crates above: without trails the patterns of a query are as they are read, and all
-/// of them are its core. It does nothing.
-pub fn plain_cuts_change_nothing()
-    ensures { PlainCuts }
 {}
 
 /// A law for the crates above: the test of a map entry passes in a row exactly where the entry holds

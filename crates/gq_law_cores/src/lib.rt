@@ -5,8 +5,7 @@
 mod law;
 
 pub use law::{
-    alternatives_part_continued, alternatives_part_trails, cores_are_sound, cores_can_trek,
-    cuts_are_cored, each_plan_makes_continued, each_plan_makes_trails, entry_tests_are_tests,
-    owed_are_trail_rows, parts_have_length, plain_cuts_change_nothing,
-    plain_trail_matches_are_matches, trails_continue, trails_make_matches,
+    alternatives_part_continued, alternatives_part_trails, cores_can_trek,
+    each_plan_makes_continued, each_plan_makes_trails, entry_tests_are_tests, owed_are_trail_rows,
+    parts_have_length, plain_trail_matches_are_matches, trails_continue, trails_make_matches,
 };

@@ -20,11 +20,10 @@ use Rattle.gq_scopes.specs.steps.Variables.{IsThere}
 use Rattle.gq_law_reaches.specs.Core.{core_nodes, first_core, from_first, grown, joined_nodes, right_at}
 use Rattle.gq_law_reaches.specs.Cores.{IsCored, is_end}
 use Rattle.gq_law_reaches.specs.Reaches.{TrailPattern, Trailed}
-use Rattle.gq_law_answers.proofs.Laws.{both_then}
 use Rattle.gq_law_reaches.proofs.Orders.{grown_keeps}
-use Rattle.gq_law_cores.specs.Cuts.{CutsAreCored, core_first, core_size, cored_of, numbered_in, pattern_in, placed_in, trailed_of, variable_in}
-use Rattle.gq_law_cores.proofs.Ordering.{first_is, firsts_few, has_filter, order_length, placed_apart, placed_first, placed_onto, range_has}
-use Rattle.gq_law_cores.proofs.Reading.{IsRead, has_items, is_met, trailed_read}
+use Rattle.gq_law_cuts.specs.Cuts.{CutsAreCored, core_first, core_size, cored_of, numbered_in, pattern_in, placed_in, trailed_of, variable_in}
+use Rattle.gq_law_cuts.proofs.Ordering.{first_is, firsts_few, has_filter, order_length, placed_apart, placed_first, placed_onto, range_has}
+use Rattle.gq_law_cuts.proofs.Reading.{IsRead, has_items, is_met, trailed_read}
 
 -- ---- lists
 
@@ -36,6 +35,10 @@ each_got P (y ∷ xs) (suc i) x h e = each_got P xs i x h.1 e
 each_by_number : {X : Type 0} (P : X → Type 0) (xs : List X) → ((i : ℕ) (x : X) → slice_get xs i ≡ Some x → P x) → AllByRecursion P xs
 each_by_number P [] h = tt
 each_by_number P (x ∷ xs) h = (h 0 x refl, each_by_number P xs (λ i y e. h (suc i) y e))
+
+both_then : {X : Type 0} (P Q R : X → Type 0) → ((x : X) → P x → Q x → R x) → (xs : List X) → AllByRecursion P xs → AllByRecursion Q xs → AllByRecursion R xs
+both_then P Q R step [] h k = tt
+both_then P Q R step (x ∷ xs) h k = (step x h.0 k.0, both_then P Q R step xs h.1 k.1)
 
 -- ---- the core's variables, as they are read
 

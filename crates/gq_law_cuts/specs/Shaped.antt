@@ -10,8 +10,8 @@ use Rattle.gq_plan.specs.declared.NamedExpr.{NamedExpr}
 use Rattle.gq_plan.specs.declared.Typed.{Typed}
 use Rattle.gq_scopes.specs.Patterns.{Pattern}
 use Rattle.gq_syntax.specs.declared.Clause.{Clause}
-use Rattle.gq_law_cores.specs.Cuts.{core_of, core_size, cored_of}
-use Rattle.gq_law_cores.specs.Typing.{core_typed}
+use Rattle.gq_law_cuts.specs.Cuts.{core_of, core_size, cored_of}
+use Rattle.gq_law_cuts.specs.Typing.{core_typed}
 
 -- the tests of an alternative read its variables alone, not too many properties of them, and cannot fault
 pub record AreFit (catalog : Tables) (y : Typed) : Type 0 where

@@ -5,18 +5,19 @@ use Rattle.std.proofs.Common.{◌≡◌, refl, ℕ, Bool, true, false, Some, Non
 use Rattle.gq_base.specs.declared.Literal.TheVariants as literal
 use Rattle.gq_base.specs.declared.direction.Direction.{Direction}
 use Rattle.gq_base.specs.declared.direction.Direction.TheVariants.{Forward, Backward}
-use Rattle.gq_binder.specs.Columns.{entry_test}
+use Rattle.gq_expr.specs.declared.Expr.TheVariants as expr
+use Rattle.gq_plan.specs.declared.NamedExpr.{NamedExpr}
 use Rattle.gq_law_reaches.specs.Core.{core_nodes, trail_parts}
 use Rattle.gq_law_trails.specs.declared.TrailPart.{TrailPart}
 use Rattle.gq_plan.specs.declared.PathPart.{PathPart}
-use Rattle.gq_scopes.specs.Patterns.{pattern_of}
+use Rattle.gq_scopes.specs.Patterns.{MapEntry, pattern_of}
 use Rattle.gq_syntax.specs.declared.Arrow.{Arrow}
 use Rattle.gq_syntax.specs.declared.Arrow.TheVariants as arrow
 use Rattle.gq_syntax.specs.declared.Clause.{Clause}
 use Rattle.gq_syntax.specs.declared.Hop.{Hop}
 use Rattle.gq_syntax.specs.declared.NodePart.{NodePart}
 use Rattle.gq_syntax.specs.declared.Path.{Path}
-use Rattle.gq_law_cores.specs.Cuts.{core_first, core_of, core_size, cored_of, scope_in, trailed_of}
+use Rattle.gq_law_cuts.specs.Cuts.{core_first, core_of, core_size, cored_of, scope_in, trailed_of}
 
 -- ---- patterns
 
@@ -36,6 +37,10 @@ path first hops = record { first = first; hops = hops }
 abbrev clause : List Path → Clause
 clause paths = record { paths = paths; filter = None }
 
+-- what maps test plays no part here
+abbrev any_test : MapEntry → NamedExpr
+any_test e = record { name = e.called; expr = expr.Literal e.entry.value }
+
 -- each trail, without its type and its tests
 record Walked : Type 0 where
   from : ℕ
@@ -48,7 +53,7 @@ is_forward Forward = true
 is_forward Backward = false
 
 abbrev walked : List Clause → List Walked
-walked clauses = map (λ (p : TrailPart). record { from = p.from; to = p.to; along = is_forward p.way; both = p.both }) (trail_parts (entry_test []) (cored_of clauses))
+walked clauses = map (λ (p : TrailPart). record { from = p.from; to = p.to; along = is_forward p.way; both = p.both }) (trail_parts any_test (cored_of clauses))
 
 abbrev pieces : List Clause → List PathPart
 pieces clauses = (core_of (core_size clauses) (cored_of clauses).pattern).paths

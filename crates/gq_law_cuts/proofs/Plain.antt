@@ -6,8 +6,6 @@ use Rattle.std.proofs.lemmas.List.{length_push}
 use Rattle.std.proofs.lemmas.List.FromFn.{length-range_with_len}
 use Rattle.gq_alternatives.proofs.Searches.{filter_same}
 use Rattle.gq_alternatives.proofs.ShapesOfPatterns.{all_ends, node_cases, node_rels}
-use Rattle.gq_binder.proofs.Patterns.{names_counted}
-use Rattle.gq_law_answers.proofs.Matched.{filter_all}
 use Rattle.gq_law_reaches.specs.Core.{core_nodes, is_core_entry}
 use Rattle.gq_law_reaches.specs.Cores.{is_end}
 use Rattle.gq_law_reaches.specs.Reaches.{Trailed, without_trails}
@@ -24,11 +22,11 @@ use Rattle.gq_syntax.specs.declared.Hop.{Hop}
 use Rattle.gq_syntax.specs.declared.NodePart.{NodePart}
 use Rattle.gq_syntax.specs.declared.Path.{Path}
 use Rattle.gq_syntax.specs.declared.Range.{Range}
-use Rattle.gq_law_cores.specs.Cuts.{alone_in, core_first, core_of, core_size, cored_of, in_pattern, listed_in, pattern_in, piece_behind, placed_in, trailed_of, variable_in, with_clauses, with_hop, with_hops, with_path, with_paths}
-use Rattle.gq_law_cores.specs.Plain.{HaveNoTrail, PlainCuts}
-use Rattle.gq_law_cores.proofs.Coring.{is_core, outside}
-use Rattle.gq_law_cores.proofs.Ordering.{range_has}
-use Rattle.gq_law_cores.proofs.Reading.{IsRead, trailed_read}
+use Rattle.gq_law_cuts.specs.Cuts.{alone_in, core_first, core_of, core_size, cored_of, in_pattern, listed_in, pattern_in, piece_behind, placed_in, trailed_of, variable_in, with_clauses, with_hop, with_hops, with_path, with_paths}
+use Rattle.gq_law_cuts.specs.Plain.{HaveNoTrail, PlainCuts}
+use Rattle.gq_law_cuts.proofs.Coring.{is_core, outside}
+use Rattle.gq_law_cuts.proofs.Ordering.{range_has}
+use Rattle.gq_law_cuts.proofs.Reading.{IsRead, trailed_read}
 
 -- ---- patterns are read as they are without cuts
 
@@ -146,6 +144,38 @@ pattern_named : (clauses : List Clause) → Named (pattern_of clauses)
 unfolding pattern_of
 pattern_named clauses = clauses_named 0 clauses no_pattern tt
 
+-- ---- each variable has a name
+
+abbrev Counted : Pattern → Type 0
+Counted p = length p.node_names ≡ length p.names
+
+node_counted : (part : NodePart) (p : Pattern) → Counted p → Counted (with_node part p)
+node_counted part p h =
+    node_cases Counted part p (λ v low is. h)
+    (λ is.
+    let names : length (p.names ++ part.name ∷ []) ≡ length p.names + 1 = length_push p.names part.name in
+    let called : length (p.node_names ++ plain.called p.unnamed part.name ∷ []) ≡ length p.node_names + 1 = length_push p.node_names (plain.called p.unnamed part.name) in
+    omega (arith, names, called, h))
+
+hops_counted : (clause at : ℕ) (hs : List Hop) (p : Pattern) → Counted p → Counted (plain.with_hops clause at hs p)
+hops_counted clause at [] p h = h
+hops_counted clause at (x ∷ hs) p h =
+    let w : ℕ = variable_of p x.node in
+    hops_counted clause w hs (with_node x.node (with_rel clause at w x.rel p)) (node_counted x.node (with_rel clause at w x.rel p) h)
+
+paths_counted : (clause : ℕ) (paths : List Path) (p : Pattern) → Counted p → Counted (plain.with_paths clause paths p)
+paths_counted clause [] p h = h
+paths_counted clause (path ∷ paths) p h =
+    paths_counted clause paths (plain.with_path clause path p) (hops_counted clause (variable_of p path.first) path.hops (with_node path.first p) (node_counted path.first p h))
+
+clauses_counted : (number : ℕ) (cs : List Clause) (p : Pattern) → Counted p → Counted (plain.with_clauses number cs p)
+clauses_counted number [] p h = h
+clauses_counted number (c ∷ cs) p h = clauses_counted (suc number) cs (plain.with_paths number c.paths p) (paths_counted number c.paths p h)
+
+names_counted : (clauses : List Clause) → Counted (pattern_of clauses)
+unfolding pattern_of
+names_counted clauses = clauses_counted 0 clauses no_pattern refl
+
 -- ---- the order of first appearance changes nothing
 
 placed_range : (a n j : ℕ) → j < n → placed_in (range_with_len a n) (a + j) ≡ j
@@ -171,6 +201,10 @@ map_same f (x ∷ xs) h = ap₂ ◌∷◌ h.0 (map_same f xs h.1)
 filter_none : {X : Type 0} (xs : List X) → filter (λ x. false) xs ≡ []
 filter_none [] = refl
 filter_none (x ∷ xs) = filter_none xs
+
+filter_all : {X : Type 0} (xs : List X) → filter (λ x. true) xs ≡ xs
+filter_all [] = refl
+filter_all (x ∷ xs) = ap (λ l. x ∷ l) (filter_all xs)
 
 kept_all : {X : Type 0} (f : X → Bool) (xs : List X) → AllByRecursion (λ x. f x ≡ true) xs → filter f xs ≡ xs
 kept_all f xs h = filter_same f (λ x. true) xs h ∙ filter_all xs

@@ -19,7 +19,7 @@ use Rattle.gq_syntax.specs.declared.Path.{Path}
 use Rattle.gq_syntax.specs.declared.Range.{Range}
 use Rattle.gq_law_reaches.specs.Cores.{is_end}
 use Rattle.gq_law_reaches.specs.Reaches.{TrailPattern, Trailed, without_trails}
-use Rattle.gq_law_cores.specs.Cuts.{alone_in, in_pattern, piece_behind, trail_of, trailed_of, with_clauses, with_hop, with_hops, with_path, with_paths, with_trail}
+use Rattle.gq_law_cuts.specs.Cuts.{alone_in, in_pattern, piece_behind, trail_of, trailed_of, with_clauses, with_hop, with_hops, with_path, with_paths, with_trail}
 
 -- ---- what holds
 

@@ -6,7 +6,7 @@ use Rattle.gq_scopes.specs.Patterns.{pattern_of}
 use Rattle.gq_syntax.specs.declared.Clause.{Clause}
 use Rattle.gq_syntax.specs.declared.Hop.{Hop}
 use Rattle.gq_syntax.specs.declared.Path.{Path}
-use Rattle.gq_law_cores.specs.Cuts.{core_of, core_size, cored_of}
+use Rattle.gq_law_cuts.specs.Cuts.{core_of, core_size, cored_of}
 
 -- no relationship of clauses is a trail
 abbrev pub HaveNoTrail : List Clause → Type 0

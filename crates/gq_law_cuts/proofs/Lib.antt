@@ -1,0 +1,6 @@
+pub mod Coring
+pub mod Ordering
+pub mod Plain
+pub mod Reading
+pub mod Shaping
+mod WorkedCores

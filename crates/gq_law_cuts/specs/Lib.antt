@@ -1,0 +1,4 @@
+pub mod Cuts
+pub mod Plain
+pub mod Shaped
+pub mod Typing
