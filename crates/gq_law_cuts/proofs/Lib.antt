@@ -1,6 +1,7 @@
 pub mod Coring
 pub mod Ordering
 pub mod Plain
+mod PlainTyping
 pub mod Reading
 pub mod Shaping
 mod WorkedCores

@@ -1,6 +1,6 @@
 //! The laws of patterns whose paths are cut at their trails.
 ghost use Rattle.gq_law_cuts.specs.Cuts.{CutsAreCored};
-ghost use Rattle.gq_law_cuts.specs.Plain.{PlainCuts};
+ghost use Rattle.gq_law_cuts.specs.Plain.{PlainCuts, PlainTyped};
 ghost use Rattle.gq_law_cuts.specs.Shaped.{CoresAreSound};
 
 /// A law for the crates above: where paths are cut at their trails and the variables of the core are
@@ -20,4 +20,10 @@ pub fn cores_are_sound()
 /// of them are its core. It does nothing.
 pub fn plain_cuts_change_nothing()
     ensures { PlainCuts }
+{}
+
+/// A law for the crates above: where all conjuncts stay in the core, its alternatives are as those of
+/// the pattern. It does nothing.
+pub fn plain_alternatives_change_nothing()
+    ensures { PlainTyped }
 {}

@@ -4,4 +4,6 @@
 
 mod law;
 
-pub use law::{cores_are_sound, cuts_are_cored, plain_cuts_change_nothing};
+pub use law::{
+    cores_are_sound, cuts_are_cored, plain_alternatives_change_nothing, plain_cuts_change_nothing,
+};
