@@ -4,3 +4,4 @@ pub mod Making
 pub mod Starting
 pub mod Walked
 mod Whole
+mod WorkedWhole
