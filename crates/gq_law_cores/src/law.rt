@@ -49,8 +49,8 @@ pub fn parts_have_length()
     ensures { PartsHaveLength }
 {}
 
-/// A law for the crates above: the test of a map entry passes in a row exactly where the entry holds
-/// there. It does nothing.
+/// A law for the crates above: the test of a map entry passes in a row exactly where the entry
+/// holds there. It does nothing.
 pub fn entry_tests_are_tests()
     ensures { EntryTestsAreTests }
 {}

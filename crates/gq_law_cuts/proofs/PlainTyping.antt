@@ -1,5 +1,5 @@
 -- Where all conjuncts stay in the core, its alternatives are as those of the pattern.
-use Rattle.std.proofs.Common.{◌≡◌, ℕ, suc, Bool, true, false, not, ◌&&◌, cond, List, [], ◌∷◌, ◌++◌, filter, refl, ap, ap₂, ◌∙◌}
+use Rattle.std.proofs.Common.{◌≡◌, ℕ, suc, Bool, true, false, not, ◌&&◌, cond, List, [], ◌∷◌, refl, ap, ap₂, ◌∙◌}
 use Rattle.std.specs.List.{AllByRecursion}
 use Rattle.gq_expr.specs.Kinds.{can_fault}
 use Rattle.gq_expr.specs.declared.Kinds.{Kinds}

@@ -1,5 +1,5 @@
-//! What the core of a query with trails is, as the text says, and the laws that trails lead from it to
-//! all other variables, and that its alternatives are sound. The crate does nothing at run time.
+//! What the core of a query with trails is, as the text says, and the laws that trails lead from it
+//! to all other variables, and that its alternatives are sound. The crate does nothing at run time.
 #![tactic(auto)]
 
 mod law;
