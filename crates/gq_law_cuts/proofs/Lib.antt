@@ -3,5 +3,6 @@ pub mod Ordering
 pub mod Plain
 mod PlainTyping
 pub mod Reading
+mod Renumbering
 pub mod Shaping
 mod WorkedCores

@@ -17,7 +17,7 @@ use Rattle.gq_syntax.specs.declared.Clause.{Clause}
 use Rattle.gq_syntax.specs.declared.Hop.{Hop}
 use Rattle.gq_syntax.specs.declared.NodePart.{NodePart}
 use Rattle.gq_syntax.specs.declared.Path.{Path}
-use Rattle.gq_law_cuts.specs.Cuts.{core_first, core_of, core_size, cored_of, scope_in, trailed_of}
+use Rattle.gq_law_cuts.specs.Cuts.{core_first, core_of, core_size, cored_of, trailed_of}
 
 -- ---- patterns
 
@@ -164,8 +164,7 @@ chain_unnamed : (trailed_of chain).pattern.unnamed ≡ 2
 unfolding trailed_of
 chain_unnamed = refl
 
--- ---- MATCH (x)-[:KNOWS*2]->(y)-[:KNOWS]->(z) MATCH (z)-[:LIVES_IN]->(c): the first clause's conditions may name x, y and z, of which x
--- is the last of all
+-- ---- MATCH (x)-[:KNOWS*2]->(y)-[:KNOWS]->(z) MATCH (z)-[:LIVES_IN]->(c): x stands first in the text, and comes last
 
 abbrev later_clause : List Clause
 later_clause =
@@ -175,11 +174,6 @@ later_clause =
 later_order : core_first (trailed_of later_clause) ≡ 1 ∷ 2 ∷ 3 ∷ 0 ∷ []
 unfolding trailed_of
 later_order = refl
-
-later_scope : (scope_in (1 ∷ 2 ∷ 3 ∷ 0 ∷ []) (trailed_of (clause (path (node "x") (trailed "KNOWS" arrow.Right 2 2 "y" ∷ joined "KNOWS" arrow.Right "z" ∷ []) ∷ []) ∷ [])).pattern).nodes
-    ≡ Some (codes "y") ∷ Some (codes "z") ∷ None ∷ Some (codes "x") ∷ []
-unfolding trailed_of
-later_scope = refl
 
 -- ---- (a)-[:KNOWS]->(b), (c): without trails the patterns and their numbers are as they are read, and the core is all
 

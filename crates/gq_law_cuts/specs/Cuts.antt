@@ -10,7 +10,6 @@ use Rattle.gq_plan.specs.declared.PathPart.{PathPart}
 use Rattle.gq_plan.specs.declared.variable.Variable.{Variable}
 use Rattle.gq_plan.specs.declared.variable.Variable.TheVariants.{Node as node, Rel as rel}
 use Rattle.gq_scopes.specs.Patterns.{MapEntry, NamedVariable, NodePattern, Pattern, RelPattern, no_pattern, variable_of, with_node, with_part, with_rel}
-use Rattle.gq_scopes.specs.Scopes.{Scope}
 use Rattle.gq_syntax.specs.declared.Arrow.{Arrow}
 use Rattle.gq_syntax.specs.declared.Arrow.TheVariants as arrow
 use Rattle.gq_syntax.specs.declared.Clause.{Clause}
@@ -129,10 +128,6 @@ cored_of clauses = numbered_in (core_first (trailed_of clauses)) (trailed_of cla
 
 unfoldable pub core_size : List Clause → ℕ
 core_size clauses = length (core_nodes (trailed_of clauses))
-
--- what the conditions of the first clauses may name: of all variables of the query, those of these clauses
-abbrev pub scope_in : List ℕ → Pattern → Scope
-scope_in order p = record { columns = []; nodes = listed_in None p.names order; rels = map (λ (r : RelPattern). r.part.name) p.rels }
 
 -- ---- the core
 

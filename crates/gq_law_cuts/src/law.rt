@@ -1,6 +1,7 @@
 //! The laws of patterns whose paths are cut at their trails.
 ghost use Rattle.gq_law_cuts.specs.Cuts.{CutsAreCored};
 ghost use Rattle.gq_law_cuts.specs.Plain.{PlainCuts, PlainTyped};
+ghost use Rattle.gq_law_cuts.specs.Renumbered.{RenumberedMeans};
 ghost use Rattle.gq_law_cuts.specs.Shaped.{CoresAreSound};
 
 /// A law for the crates above: where paths are cut at their trails and the variables of the core
@@ -26,4 +27,10 @@ pub fn plain_cuts_change_nothing()
 /// of the pattern. It does nothing.
 pub fn plain_alternatives_change_nothing()
     ensures { PlainTyped }
+{}
+
+/// A law for the crates above: an expression whose node variables are numbered anew means in a row
+/// what it meant where each variable has what the row has at its place. It does nothing.
+pub fn renumbered_expressions_mean_the_same()
+    ensures { RenumberedMeans }
 {}

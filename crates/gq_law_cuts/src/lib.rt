@@ -6,4 +6,5 @@ mod law;
 
 pub use law::{
     cores_are_sound, cuts_are_cored, plain_alternatives_change_nothing, plain_cuts_change_nothing,
+    renumbered_expressions_mean_the_same,
 };
