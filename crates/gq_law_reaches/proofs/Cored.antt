@@ -36,11 +36,11 @@ module _ {X : Type 0} where
       ap₂ ◌&&◌ (ap (λ o. test o x) (ap get here ∙ at 0 (omega arith)) ∙ is y x)
       (numbered_same test same is get (i + 1) ys xs (omega arith) (λ j low. let next : i + 1 + j ≡ i + suc j = omega arith in ap get next ∙ at (suc j) (omega arith)))
 
-  numbered_items : (i : ℕ) (xs : List X) → map (λ (b : ℕ × X). b.1) (numbered i xs) ≡ xs
+  pub numbered_items : (i : ℕ) (xs : List X) → map (λ (b : ℕ × X). b.1) (numbered i xs) ≡ xs
   numbered_items i [] = refl
   numbered_items i (x ∷ xs) = ap (λ l. x ∷ l) (numbered_items (i + 1) xs)
 
-  numbered_bound : (i : ℕ) (xs : List X) (v : ℕ) → bound (numbered i xs) v ≡ list_any (λ w. nat_eq v w) (range_with_len i (length xs))
+  pub numbered_bound : (i : ℕ) (xs : List X) (v : ℕ) → bound (numbered i xs) v ≡ list_any (λ w. nat_eq v w) (range_with_len i (length xs))
   numbered_bound i [] v = refl
   numbered_bound i (x ∷ xs) v = ap (λ b. nat_eq v i || b) (numbered_bound (i + 1) xs v)
 
@@ -50,7 +50,7 @@ module _ {X : Type 0} where
   take_at (suc k) (x ∷ xs) zero low = refl
   take_at (suc k) (x ∷ xs) (suc j) low = take_at k xs j (omega arith)
 
-  take_length : (k : ℕ) (xs : List X) → k ≤ length xs → length (take k xs) ≡ k
+  pub take_length : (k : ℕ) (xs : List X) → k ≤ length xs → length (take k xs) ≡ k
   take_length zero xs low = refl
   take_length (suc k) [] low = absurd (omega arith)
   take_length (suc k) (x ∷ xs) low = ap suc (take_length k xs (omega arith))

@@ -1,7 +1,10 @@
+pub mod Bags
+pub mod Choices
 pub mod Continuing
 pub mod Cored
 pub mod Cores
 pub mod Ends
+pub mod Filled
 pub mod Held
 pub mod Lying
 pub mod Meant
@@ -12,3 +15,4 @@ pub mod Reached
 pub mod Reals
 pub mod Turning
 pub mod Untrailed
+pub mod Whole

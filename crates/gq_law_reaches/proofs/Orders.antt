@@ -33,7 +33,7 @@ in_front : (x z : Bool) → z ≡ true → (x || z) ≡ true
 in_front true z e = refl
 in_front false z e = e
 
-grown_keeps : (ws : List TrailPattern) (core bound : List ℕ) (v : ℕ) → has_number core v ≡ true → has_number (grown core bound ws) v ≡ true
+pub grown_keeps : (ws : List TrailPattern) (core bound : List ℕ) (v : ℕ) → has_number core v ≡ true → has_number (grown core bound ws) v ≡ true
 grown_keeps [] core bound v e = e
 grown_keeps (w ∷ ws) core bound v e =
     go (has_number bound w.left || has_number bound w.right) (grown_keeps ws core (w.left ∷ w.right ∷ bound) v e)
@@ -115,7 +115,7 @@ module _ (test : MapEntry → NamedExpr) (p : Pattern) where
   at_one false true k w one l r = (r, tt)
   at_one false false k w one l r = absurd (true≢false (sym one))
 
-  knows_on : (left right : Bool) (k : ℕ → Bool) (w : TrailPattern) → (left || right) ≡ true → k w.left ≡ left → k w.right ≡ right
+  pub knows_on : (left right : Bool) (k : ℕ → Bool) (w : TrailPattern) → (left || right) ≡ true → k w.left ≡ left → k w.right ≡ right
       → (v : ℕ) → knows_more (part_of test p left right w).both (part_of test p left right w).to k v ≡ (nat_eq v w.left || (nat_eq v w.right || k v))
   knows_on true true k w one l r v = both (cases_eq v w.left) (cases_eq v w.right)
     where

@@ -21,11 +21,11 @@ use Rattle.gq_plan.specs.declared.NamedExpr.{NamedExpr}
 
 -- ---- the core
 
-abbrev right_at : Option RelPattern → List ℕ
+abbrev pub right_at : Option RelPattern → List ℕ
 right_at None = []
 right_at (Some r) = r.right ∷ []
 
-abbrev from_first : ℕ → List ℕ → List RelPattern → List ℕ
+abbrev pub from_first : ℕ → List ℕ → List RelPattern → List ℕ
 from_first first [] rels = []
 from_first first (x ∷ xs) rels = first ∷ flat_map (λ y. right_at (slice_get rels y)) (x ∷ xs)
 

@@ -1,3 +1,4 @@
+pub mod Bags
 pub mod Continued
 pub mod Core
 pub mod Cores

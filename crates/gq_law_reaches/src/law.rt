@@ -1,4 +1,5 @@
 //! The laws between the matches of a query with trails and trails that are walked.
+ghost use Rattle.gq_law_reaches.specs.Bags.{ContinuedAreReaches};
 ghost use Rattle.gq_law_reaches.specs.Continued.{CoreContinued, CoreContinuedAsMeant};
 ghost use Rattle.gq_law_reaches.specs.Continued.{MatchesPart, PairsAreDistinct, PlainReaches};
 ghost use Rattle.gq_law_reaches.specs.Cores.{CoresContinuedToReaches};
@@ -107,4 +108,11 @@ pub fn chains_lie_in()
 /// query, and else not at all. It does nothing.
 pub fn trails_reach_the_matches()
     ensures { CoresContinuedToReaches }
+{}
+
+/// A law for the crates above: in a valid graph, where a query's core has its first variables and no
+/// trail is longer than 16, the core's matches that the trails continue are as a bag the matches of
+/// the query. It does nothing.
+pub fn continued_matches_are_the_matches()
+    ensures { ContinuedAreReaches }
 {}

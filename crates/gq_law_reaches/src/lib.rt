@@ -6,8 +6,9 @@
 mod law;
 
 pub use law::{
-    chains_lie_in, cores_are_continued_as_meant, cores_are_continued_as_trails,
-    cores_are_continued_once, cores_are_continued_to_reaches, ends_are_nodes, ends_are_outer,
-    ends_fit_as_matched, matches_part_at_the_core, pairs_are_distinct, plain_reaches_are_matches,
-    trails_are_asked_as_held, trails_reach_the_matches, turned_lists_differ_alike,
+    chains_lie_in, continued_matches_are_the_matches, cores_are_continued_as_meant,
+    cores_are_continued_as_trails, cores_are_continued_once, cores_are_continued_to_reaches,
+    ends_are_nodes, ends_are_outer, ends_fit_as_matched, matches_part_at_the_core,
+    pairs_are_distinct, plain_reaches_are_matches, trails_are_asked_as_held,
+    trails_reach_the_matches, turned_lists_differ_alike,
 };

@@ -1,0 +1,5 @@
+pub mod Cuts
+pub mod Plain
+pub mod Renumbered
+pub mod Shaped
+pub mod Typing
