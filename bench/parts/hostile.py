@@ -158,4 +158,25 @@ def texts():
     yield Hostile("texts", "a long name", "loop", f"MATCH (`{'a' * 65000}`) RETURN 1")
 
 
-KINDS = {"pairs": pairs, "paths": paths, "cycles": cycles, "copies": copies, "rows": rows, "names": names, "texts": texts}
+def optional():
+    """Clauses behind OPTIONAL: many, with long conditions and maps, of many alternatives, and such as contradict themselves."""
+    yield Hostile("optional", "clauses", "loop", filled("MATCH(a)", "OPTIONAL MATCH(a)", " RETURN 1", ""))
+    yield Hostile("optional", "clauses with conditions", "loop",
+                  filled("MATCH(a)", "OPTIONAL MATCH(b#)WHERE b#.x=a.x", " RETURN 1", " "))
+    clauses = "".join(f" OPTIONAL MATCH (v{at}) WHERE v{at}.x=v0.x" + " AND 1=1" * 300 for at in range(1, 24))
+    yield Hostile("optional", "23 clauses, 300 conjuncts each", "loop", f"MATCH (v0){clauses} RETURN 1", answered=True)
+    eight = "MATCH " + ", ".join(["()"] * 8)  # 256 alternatives over two tables
+    yield Hostile("optional", "8 nodes, a long condition", "two",
+                  filled(f"MATCH (a) OPTIONAL {eight} WHERE ", "1=1", " RETURN 1", " AND "))
+    path = "-->".join(["()"] * 14) + "--()" * 7 + "--(b {"  # 256 alternatives over one table
+    yield Hostile("optional", "a path of 22, a map", "loop", filled(f"MATCH (a) OPTIONAL MATCH {path}", "x:1", "}) RETURN 1"))
+    clauses = "".join(f" OPTIONAL MATCH (v0)--(v{at})" for at in range(1, 4))
+    yield Hostile("optional", "3 clauses of 128 alternatives", "complete", f"MATCH (v0:N0){clauses} RETURN 1", answered=True)
+    yield Hostile("optional", "its plan", "complete", f":plan MATCH (v0:N0){clauses} RETURN 1", answered=True)
+    for catalogue in STUDIED:
+        text = f"MATCH (v30) OPTIONAL {match([round_trip(21)], '--')}"
+        yield Hostile("optional", "a cycle of 21 undirected", catalogue, text)
+
+
+KINDS = {"pairs": pairs, "paths": paths, "cycles": cycles, "copies": copies, "rows": rows, "names": names, "texts": texts,
+         "optional": optional}
