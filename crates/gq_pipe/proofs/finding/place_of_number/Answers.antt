@@ -24,8 +24,7 @@ middle_high c = let h = c.loop-low-test.true in omega (arith, h)
 
 pub returns-then-found-number : goal.returns-then-found-number
 returns-then-found-number c =
-    let w = (goal.at.returns-then-found-number c).After-edge_number-found in
-    (
+    let w = (goal.at.returns-then-found-number c).After-edge_number-found in (
       (let low = c.loop-low.invariant.first_low in omega (arith, low, low_middle w)),
       (let high = c.loop-low.invariant.high_end in omega (arith, high, middle_high w)),
       only_there c.args.part.row (near_ends c.args.graph.now c.args.part.table c.args.part.direction) c.args.part.low c.args.part.high c.args.number (middle w) (at w ∙ ap Some c.if-found-number.true),
