@@ -76,9 +76,6 @@ module _ (c : Run) (run : IsRun c) (group : GroupSteps) (range : IsRange c group
   pub list_count : length (tries c.graph c.typed (built_at c group.first) (step_at c group.first) (before c old group.first)) ≡ length (neighbours c.graph (rel_table c.typed f.rel) f.direction (slice_index old.nodes f.from))
   list_count = extend_count c run group.first depth old held false f.rel f.from f.to f.direction is
 
-  pub listing_node : f.to < length old.nodes
-  listing_node = let can = can_list.follow in omega (arith, can.to, can.sized.nodes)
-
   module _ (ids : List ℕ) (first count : ℕ) where
     abbrev put : ℕ → Assignment
     put j = with_row f.to (slice_index ids j) old

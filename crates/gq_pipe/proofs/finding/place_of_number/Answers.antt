@@ -1,8 +1,8 @@
-use Rattle.std.proofs.Common.{◌≡◌, ◌<◌, ◌≤◌, ◌+◌, ◌-◌, ◌/◌, ℕ, List, Some, length, slice_get, sym, ap, ◌∙◌, arith}
+use Rattle.std.proofs.Common.{◌≡◌, ◌<◌, ◌≤◌, ◌+◌, ◌-◌, ◌/◌, ℕ, Some, length, slice_get, sym, ap, ◌∙◌, arith}
 use Rattle.gq_base.specs.Plain.{Graph}
 use Rattle.gq_base.specs.declared.direction.Direction.{Direction}
 use Rattle.gq_store.specs.Neighbours.{near_ends, neighbours, numbers}
-use Rattle.gq_pipe.proofs.Ascending.{narrowed_down, narrowed_from, narrowed_none, narrowed_up, only_there}
+use Rattle.gq_pipe.proofs.Ascending.{narrowed_down, narrowed_none, narrowed_up, only_there}
 use Rattle.gq_pipe.proofs.Following.{as_many, get_some}
 use Rattle.gq_pipe.proofs.finding.place_of_number.Goals as goal
 use Rattle.gq_pipe.proofs.finding.place_of_number.Goals.{After-edge_number-found}
