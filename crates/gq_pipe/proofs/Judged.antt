@@ -1,24 +1,28 @@
--- A group that makes something of a place makes it whichever load number is written, where rows alone decide its tests.
-use Rattle.std.proofs.Common.{◌≡◌, ◌≢◌, inr, ℕ, suc, ◌+◌, ◌^◌, ◌<◌, ◌≤◌, Bool, true, false, Some, length, refl, sym, ap, ◌∙◌, subst, arith}
+-- A group that makes something of a place makes it with the load number there, where rows alone decide its tests, or that number does.
+use Rattle.std.proofs.Common.{◌≡◌, ◌≢◌, inr, ℕ, suc, ◌+◌, ◌^◌, ◌<◌, ◌≤◌, ◌==◌, Bool, true, false, not, Some, length, refl, sym, ap, ◌∙◌, subst, arith}
 use Rattle.std.specs.Prelude.{slice_get, slice_index}
+use Rattle.gq_plan.specs.Conditions.{differs}
+use Rattle.gq_plan.specs.Meaning.{holds}
 use Rattle.gq_plan.specs.Plans.{Step, Scan, Extend, Close, Join, Keep, Differ, NoLoop}
-use Rattle.gq_plan.specs.Rows.{rel_table}
+use Rattle.gq_plan.specs.Rows.{as_read, rel_table}
 use Rattle.gq_plan.specs.declared.assignment.Assignment.{Assignment}
-use Rattle.gq_store.specs.Neighbours.{near_rows, neighbours, opposite}
+use Rattle.gq_store.specs.Neighbours.{near_rows, neighbours, numbers, opposite}
 use Rattle.gq_walks.specs.Layouts.{has_one}
+use Rattle.gq_pipe.specs.steps.Differing.{IsPairTest, other_of, pair_of}
 use Rattle.gq_pipe.specs.steps.Keeps.{IsJudged, IsRange, IsTriedAt}
 use Rattle.gq_pipe.specs.steps.Levels.{Run, step_at, known}
 use Rattle.gq_pipe.specs.steps.Moves.{IsRun, IsHeld, IsTried}
-use Rattle.gq_pipe.specs.steps.Outcomes.{CanFollow, passes_at, tested, with_number, with_row}
+use Rattle.gq_pipe.specs.steps.Outcomes.{CanFollow, differs_at, passes_at, tested, with_number, with_row}
 use Rattle.gq_pipe.specs.steps.RowTests.{IsRowTest, ReadsRows, test_of}
 use Rattle.gq_pipe.specs.declared.follow.Hop.{Hop}
 use Rattle.gq_pipe.specs.declared.places.GroupSteps.{GroupSteps}
 use Rattle.gq_pipe.specs.declared.plan_run.Follow.{Follow}
 use Rattle.gq_pipe.specs.declared.plan_run.Tried.TheVariants.{Made}
+use Rattle.gq_pipe.proofs.Apart.{differs_by}
 use Rattle.gq_pipe.proofs.Going.{IsGoing, begins, ends, made_first, tried_made, tried_missed}
 use Rattle.gq_pipe.proofs.Hopping.{hop_there}
 use Rattle.gq_pipe.proofs.Stepping.{follows}
-use Rattle.gq_pipe.proofs.Testing.{keep_tried}
+use Rattle.gq_pipe.proofs.Testing.{differ_tried, keep_tried}
 use Rattle.gq_pipe.proofs.Tried.{extend_can, extend_goes, extend_parts, extend_tried}
 
 -- what was tried is judged
@@ -35,9 +39,19 @@ keep_of (Join side keys) i is = cc
 keep_of (Differ p) i is = cc
 keep_of (NoLoop x) i is = cc
 
--- with some load number, the steps of a group up to one make something of a place
+pub differ_of : (s : Step) (i : ℕ) → pair_of s ≡ Some i → s ≡ Differ i
+differ_of (Differ j) i is = let same : j ≡ i = cc in ap Differ same
+differ_of (Scan v) i is = cc
+differ_of (Extend column x from to way) i is = cc
+differ_of (Close column x from to way) i is = cc
+differ_of (Join side keys) i is = cc
+differ_of (Keep t) i is = cc
+differ_of (NoLoop x) i is = cc
+
+-- with the load number of the relationship at a place, the steps of a group up to one make something of it
 pub record IsGoingBy (c : Run) (group : GroupSteps) (place : ℕ) (old : Assignment) (f : Follow) (d : ℕ) (row : Assignment) : Type 0 where
   pub number : ℕ
+  pub numbered : slice_get (numbers c.graph (rel_table c.typed f.rel) f.direction (slice_index old.nodes f.from)) place ≡ Some number
   pub going : IsGoing c group place old d (with_number f.rel number row)
 
 module _ (c : Run) (run : IsRun c) (group : GroupSteps) (range : IsRange c group) (place : ℕ) (old : Assignment) (held : IsHeld c old (known c group.first)) (f : Follow) (reads : ReadsRows c group f) where
@@ -62,36 +76,44 @@ module _ (c : Run) (run : IsRun c) (group : GroupSteps) (range : IsRange c group
       let next : suc group.first ≡ group.first + 1 = omega arith in
       record {
         number = hop.0;
+        numbered = hop.1.number;
         going = subst (λ d. IsGoing c group place old d exact) next (made_first c group range place old group.first old exact (begins c group range place old held) refl made);
       }
 
-  module _ (d : ℕ) (row : Assignment) (g : IsGoingBy c group place old f d row) (above : group.first < d) (below : d < group.end) (told : Bool) (is : (i : ℕ) → test_of (step_at c d) ≡ Some i → told ≡ passes_at c.graph c.typed row i) where
+  module _ (d : ℕ) (row : Assignment) (g : IsGoingBy c group place old f d row) (above : group.first < d) (below : d < group.end) where
     abbrev exact : Assignment
     exact = with_number f.rel g.number row
 
-    test : IsRowTest c d
-    test = reads.tests d above below
+    low : d < length c.steps
+    low = let inside = range.inside in omega arith
 
-    tried : IsTried c d 0 exact exact (tested 0 told)
-    tried =
-        let same : passes_at c.graph c.typed exact test.test ≡ told = test.reads exact row refl ∙ sym (is test.test test.is) in
-        let low : d < length c.steps = (let inside = range.inside in omega arith) in
+    -- a test that rows alone decide
+    pub row_tried : (test : IsRowTest c d) (told : Bool) → passes_at c.graph c.typed row test.test ≡ told → IsTried c d 0 exact exact (tested 0 told)
+    row_tried test told is =
+        let same : passes_at c.graph c.typed exact test.test ≡ told = test.reads exact row refl ∙ is in
         subst (λ b. IsTried c d 0 exact exact (tested 0 b)) same (keep_tried c run d low exact g.going.held test.test (keep_of (step_at c d) test.test test.is) 0)
+
+    -- a relationship that has to differ from another one
+    pub pair_tried : (test : IsPairTest c d f.rel) (told : Bool) → not (g.number == slice_index row.rels (other_of f.rel test.pair)) ≡ told → IsTried c d 0 exact exact (tested 0 told)
+    pair_tried test told is =
+        let same : differs_at c.typed exact test.number ≡ told = ap (holds (differs (as_read c.typed exact))) test.there ∙ differs_by c.typed f.rel test.pair test.with row g.number g.going.held.rel_count can_follow.rel ∙ is in
+        subst (λ b. IsTried c d 0 exact exact (tested 0 b)) same (differ_tried c run d low exact g.going.held test.number (differ_of (step_at c d) test.number test.is) 0)
 
     far : d ≢ group.first
     far = λ e. omega (arith, e, above)
 
-    pub next_going : told ≡ true → IsGoingBy c group place old f (d + 1) row
-    next_going on =
+    pub next_going : IsTried c d 0 exact exact (tested 0 true) → IsGoingBy c group place old f (d + 1) row
+    next_going tried =
         let next : suc d ≡ d + 1 = omega arith in
         record {
           number = g.number;
+          numbered = g.numbered;
           going = subst (λ n. IsGoing c group place old n exact) next
-              (tried_made c group range place old d 0 exact exact g.going below (λ e. absurd (far e)) (λ e. refl) (inr far) (subst (λ b. IsTried c d 0 exact exact (tested 0 b)) on tried));
+              (tried_made c group range place old d 0 exact exact g.going below (λ e. absurd (far e)) (λ e. refl) (inr far) tried);
         }
 
-    pub next_missed : told ≡ false → IsTriedAt c group place old false exact
-    next_missed off = tried_missed c group range place old d 0 exact exact g.going below (λ e. absurd (far e)) (λ e. refl) (inr far) (subst (λ b. IsTried c d 0 exact exact (tested 0 b)) off tried)
+    pub next_missed : IsTried c d 0 exact exact (tested 0 false) → IsTriedAt c group place old false exact
+    next_missed tried = tried_missed c group range place old d 0 exact exact g.going below (λ e. absurd (far e)) (λ e. refl) (inr far) tried
 
   pub all_going : (d : ℕ) (row : Assignment) (g : IsGoingBy c group place old f d row) → group.end ≤ d → IsTriedAt c group place old true (with_number f.rel g.number row)
   all_going d row g high = ends c group range place old (with_number f.rel g.number row) d g.going high

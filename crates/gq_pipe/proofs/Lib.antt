@@ -1,7 +1,9 @@
+pub mod Ascending
 pub mod Assigned
 pub mod Binding
 pub mod Brings
 pub mod Brought
+pub mod Apart
 pub mod Following
 pub mod Joined
 pub mod Joining

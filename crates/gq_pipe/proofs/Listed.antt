@@ -1,6 +1,6 @@
--- Places of a list that conditions keep, one condition after another, where rows alone decide them.
-use Rattle.std.proofs.Common.{◌≡◌, ◌⊎◌, inl, inr, ℕ, ◌+◌, ◌-◌, ◌^◌, ◌<◌, ◌≤◌, Bool, true, false, ◌&&◌, nat_lt, Some, List, length, drop, get_or, refl, sym, ap, ◌∙◌, subst, arith}
-use Rattle.std.specs.Prelude.{All, slice_get, slice_index, slice_range}
+-- Places of a list that a group keeps, one test after another, where rows or the load number there alone decide them.
+use Rattle.std.proofs.Common.{◌≡◌, ◌⊎◌, inl, inr, ℕ, ◌+◌, ◌-◌, ◌^◌, ◌<◌, ◌≤◌, Bool, true, false, ◌&&◌, not, nat_lt, Option, Some, None, List, length, drop, get_or, refl, sym, ap, ◌∙◌, subst, arith}
+use Rattle.std.specs.Prelude.{All, IfSome, slice_get, slice_index, slice_range}
 use Rattle.std.proofs.lemmas.Bool.{and_parts, cases_lt, le-ltb, lt-ltb, ltb-true, false≢true}
 use Rattle.std.proofs.lemmas.List.{get_or-take, get_or-drop, length-take, length-drop}
 use Rattle.std.proofs.lemmas.Option.{slice_get-get_or}
@@ -8,18 +8,21 @@ use Rattle.gq_bits.specs.Places.{is_marked}
 use Rattle.gq_bits.specs.declared.TheConstants.{VECTOR}
 use Rattle.gq_plan.specs.Plans.{Extend}
 use Rattle.gq_plan.specs.Rows.{rel_table}
+use Rattle.gq_plan.specs.declared.typed.RelPair.{RelPair}
 use Rattle.gq_plan.specs.declared.assignment.Assignment.{Assignment}
-use Rattle.gq_store.specs.Neighbours.{near_rows, neighbours, opposite}
+use Rattle.gq_store.specs.Neighbours.{near_rows, neighbours, numbers, opposite}
+use Rattle.gq_pipe.specs.steps.Candidates.{is_row, leads_to}
+use Rattle.gq_pipe.specs.steps.Differing.{other_of, pair_of}
 use Rattle.gq_pipe.specs.steps.Filters.{FiltersList, is_listed_step}
 use Rattle.gq_pipe.specs.steps.Keeps.{makes_one, IsRange, IsSifted}
 use Rattle.gq_pipe.specs.steps.Levels.{Run, step_at, built_at, before, known}
-use Rattle.gq_pipe.specs.steps.Moves.{IsRun, IsHeld}
-use Rattle.gq_pipe.specs.steps.Outcomes.{CanList, passes_at, with_row}
+use Rattle.gq_pipe.specs.steps.Moves.{IsRun, IsHeld, IsTried}
+use Rattle.gq_pipe.specs.steps.Outcomes.{CanList, passes_at, tested, with_number, with_row}
 use Rattle.gq_pipe.specs.steps.RowTests.{test_of}
 use Rattle.gq_pipe.specs.steps.Tries.{tries}
 use Rattle.gq_pipe.specs.declared.places.GroupSteps.{GroupSteps}
 use Rattle.gq_pipe.specs.declared.plan_run.Follow.{Follow}
-use Rattle.gq_pipe.proofs.Judged.{IsGoingBy, all_going, can_follow, first_going, judged, next_going, next_missed}
+use Rattle.gq_pipe.proofs.Judged.{IsGoingBy, all_going, can_follow, first_going, judged, keep_of, next_going, next_missed, pair_tried, row_tried}
 use Rattle.gq_pipe.proofs.Piecing.{listed_is}
 use Rattle.gq_pipe.proofs.Tried.{extend_count, extend_goes}
 
@@ -73,9 +76,6 @@ module _ (c : Run) (run : IsRun c) (group : GroupSteps) (range : IsRange c group
   pub list_count : length (tries c.graph c.typed (built_at c group.first) (step_at c group.first) (before c old group.first)) ≡ length (neighbours c.graph (rel_table c.typed f.rel) f.direction (slice_index old.nodes f.from))
   list_count = extend_count c run group.first depth old held false f.rel f.from f.to f.direction is
 
-  pub listing_node : f.to < length old.nodes
-  listing_node = let can = can_list.follow in omega (arith, can.to, can.sized.nodes)
-
   module _ (ids : List ℕ) (first count : ℕ) where
     abbrev put : ℕ → Assignment
     put j = with_row f.to (slice_index ids j) old
@@ -102,35 +102,58 @@ module _ (c : Run) (run : IsRun c) (group : GroupSteps) (range : IsRange c group
         dropped = λ j low off. absurd (false≢true (sym off ∙ all j ∙ lt-ltb j count low));
       }
 
+    pub other_low : (d : ℕ) → group.first < d → d < group.end → (number : ℕ) → pair_of (step_at c d) ≡ Some number → IfSome (slice_get c.typed.pairs number) (λ pair. other_of f.rel pair < length old.rels)
+    other_low d above low number is = elim (filters.reads.tests d above low) [
+      | inl test ↦ (let none : pair_of (step_at c d) ≡ None = ap pair_of (keep_of (step_at c d) test.test test.is) in cc)
+      | inr test ↦
+          (let same : test.number ≡ number = cc in
+          let there : slice_get c.typed.pairs number ≡ Some test.pair = ap (λ n. slice_get c.typed.pairs n) (sym same) ∙ test.there in
+          let inside : other_of f.rel test.pair < length c.typed.rels = test.with.low in
+          let many : length old.rels ≡ length c.typed.rels = held.rel_count in
+          let within : other_of f.rel test.pair < length old.rels = omega (arith, inside, many) in
+          subst (λ (o : Option RelPair). IfSome o (λ pair. other_of f.rel pair < length old.rels)) (sym there) within)
+    ]
+
     module _ (d : ℕ) (above : group.first < d) (low : d < group.end) where
-      abbrev test : ℕ
-      test = (filters.reads.tests d above low).test
+      abbrev Going : ℕ → Type 0
+      Going j = IsGoingBy c group (first + j) old f d (put j)
 
-      told_is : (row : Assignment) (told : Bool) → passes_at c.graph c.typed row test ≡ told → (i : ℕ) → test_of (step_at c d) ≡ Some i → told ≡ passes_at c.graph c.typed row i
-      told_is row told is_told i e =
-          (let t = (filters.reads.tests d above low).is in
-          let same : test ≡ i = cc in
-          sym is_told ∙ ap (passes_at c.graph c.typed row) same)
+      abbrev IsTold : (j : ℕ) → Going j → Bool → Type 0
+      IsTold j g told = IsTried c d 0 (with_number f.rel g.number (put j)) (with_number f.rel g.number (put j)) (tested 0 told)
 
-      pub listing_next : (before after : List Bool) → Listing d before
-          → ((i : ℕ) → test_of (step_at c d) ≡ Some i → (j : ℕ) → is_marked after j ≡ (is_marked before j && passes_at c.graph c.typed (put j) i)) → Listing (d + 1) after
-      listing_next before after l kept = record {
+      -- the step keeps the marked places at which its test is true
+      listing_by : (before after : List Bool) → Listing d before → (verdict : ℕ → Bool) → ((j : ℕ) → is_marked after j ≡ (is_marked before j && verdict j))
+          → ((j : ℕ) (g : Going j) (told : Bool) → verdict j ≡ told → IsTold j g told) → Listing (d + 1) after
+      listing_by before after l verdict each tried = record {
         below = λ j on. l.below j (parts j on).0;
-        going = λ j on. next_going c run group range (first + j) old held f filters.reads d (put j) (l.going j (parts j on).0) above low true (told_is (put j) true (parts j on).1) refl;
-        dropped = λ j inside off. drops j inside (is_marked before j) refl (passes_at c.graph c.typed (put j) test) refl (sym (each j) ∙ off);
+        going = λ j on. let g = l.going j (parts j on).0 in next_going c run group range (first + j) old held f filters.reads d (put j) g above low (tried j g true (parts j on).1);
+        dropped = λ j inside off. drops j inside (is_marked before j) refl (verdict j) refl (sym (each j) ∙ off);
       }
         where
-          each : (j : ℕ) → is_marked after j ≡ (is_marked before j && passes_at c.graph c.typed (put j) test)
-          each j = kept test (filters.reads.tests d above low).is j
+          parts : (j : ℕ) → is_marked after j ≡ true → (is_marked before j ≡ true) × (verdict j ≡ true)
+          parts j on = and_parts (is_marked before j) (verdict j) (sym (each j) ∙ on)
 
-          parts : (j : ℕ) → is_marked after j ≡ true → (is_marked before j ≡ true) × (passes_at c.graph c.typed (put j) test ≡ true)
-          parts j on = and_parts (is_marked before j) (passes_at c.graph c.typed (put j) test) (sym (each j) ∙ on)
-
-          drops : (j : ℕ) → j < count → (b : Bool) → is_marked before j ≡ b → (p : Bool) → passes_at c.graph c.typed (put j) test ≡ p → (is_marked before j && passes_at c.graph c.typed (put j) test) ≡ false → makes_one c group (first + j) old ≡ false
+          drops : (j : ℕ) → j < count → (b : Bool) → is_marked before j ≡ b → (p : Bool) → verdict j ≡ p → (is_marked before j && verdict j) ≡ false → makes_one c group (first + j) old ≡ false
           drops j inside false is_b p is_p off = l.dropped j inside is_b
           drops j inside true is_b false is_p off =
-              sym (judged c group (first + j) old false _ (next_missed c run group range (first + j) old held f filters.reads d (put j) (l.going j is_b) above low false (told_is (put j) false is_p) refl)).answer
+              (let g = l.going j is_b in sym (judged c group (first + j) old false _ (next_missed c run group range (first + j) old held f filters.reads d (put j) g above low (tried j g false is_p))).answer)
           drops j inside true is_b true is_p off = cc
+
+      abbrev list_numbers : List ℕ
+      list_numbers = numbers c.graph (rel_table c.typed f.rel) f.direction (slice_index old.nodes f.from)
+
+      pub listing_next : (before after : List Bool) → Listing d before
+          → ((i : ℕ) → test_of (step_at c d) ≡ Some i → (j : ℕ) → is_marked after j ≡ (is_marked before j && passes_at c.graph c.typed (put j) i))
+          → ((number : ℕ) → pair_of (step_at c d) ≡ Some number → (pair : RelPair) → slice_get c.typed.pairs number ≡ Some pair
+          → (j : ℕ) → is_marked after j ≡ (is_marked before j && not (leads_to list_numbers (first + j) (slice_index old.rels (other_of f.rel pair))))) → Listing (d + 1) after
+      listing_next before after l tests pairs = elim (filters.reads.tests d above low) [
+        | inl test ↦ listing_by before after l (λ j. passes_at c.graph c.typed (put j) test.test) (tests test.test test.is)
+            (λ j g told is. row_tried c run group range (first + j) old held f filters.reads d (put j) g above low test told is)
+        | inr test ↦
+            (let other : ℕ = slice_index old.rels (other_of f.rel test.pair) in
+            listing_by before after l (λ j. not (leads_to list_numbers (first + j) other)) (pairs test.number test.is test.pair test.there)
+            (λ j g told is. pair_tried c run group range (first + j) old held f filters.reads d (put j) g above low test told (ap (λ o. not (is_row other o)) (sym g.numbered) ∙ is)))
+      ]
 
     pub listed : (d : ℕ) (marks : List Bool) → length marks ≡ VECTOR → Listing d marks → group.end ≤ d → IsSifted c group first count old old marks
     listed d marks long l high = record {

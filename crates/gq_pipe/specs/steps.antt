@@ -4,6 +4,7 @@ pub mod Candidates
 pub mod Cells
 pub mod Chunks
 pub mod Cuts
+pub mod Differing
 pub mod Filled
 pub mod Filters
 pub mod Given

@@ -1,18 +1,22 @@
 //! The places of a scan or of a list that conditions keep, a piece at a time.
 ghost use Rattle.std.specs.Prelude.{◌≡◌, ◌+◌, ◌≤◌, ◌<◌, ◌^◌, ◌&&◌, ℕ, length, false, true, IfSome, IsTrue};
-ghost use Rattle.std.specs.Prelude.{Some, slice_index, slice_range};
+ghost use Rattle.std.specs.Prelude.{Some, not, slice_get, slice_index, slice_range};
 ghost use Rattle.gq_base.specs.Valid.{row_count};
 ghost use Rattle.gq_bits.specs.Places.{is_marked};
 ghost use Rattle.gq_filter.specs.Rows.{count_in, row_in};
 ghost use Rattle.gq_plan.specs.Rows.{node_table, rel_table};
-ghost use Rattle.gq_store.specs.Neighbours.{neighbours};
+ghost use Rattle.gq_plan.specs.declared.typed.RelPair.{RelPair};
+ghost use Rattle.gq_store.specs.Neighbours.{neighbours, numbers};
+ghost use Rattle.gq_pipe.specs.steps.Candidates.{leads_to};
+ghost use Rattle.gq_pipe.specs.steps.Differing.{other_of, pair_of};
 ghost use Rattle.gq_pipe.specs.steps.Filters.{Filters, FiltersList, Scans, is_listed_step};
 ghost use Rattle.gq_pipe.specs.steps.Keeps.{IsRange, IsSifted};
 ghost use Rattle.gq_pipe.specs.steps.Levels.{known, step_at};
 ghost use Rattle.gq_pipe.specs.steps.Moves.{run_of, steps_in, IsRun, IsHeld};
-ghost use Rattle.gq_pipe.specs.steps.Outcomes.{passes_at, with_row};
+ghost use Rattle.gq_pipe.specs.steps.Outcomes.{CanFollow, passes_at, with_row};
 ghost use Rattle.gq_pipe.specs.steps.RowTests.{test_of};
 
+use crate::differing::other_of;
 use crate::places::GroupSteps;
 use crate::plan_run::{Follow, PlanRun};
 use gq_bits::{Marks, VECTOR};
@@ -125,10 +129,56 @@ impl PlanRun<'_> {
         let list = self.list(follow, row);
         let ids = part_of(list, first, count);
         for depth in group.first + 1..group.end {
-            self.keep_rows(depth, follow.to, Rows::List(ids), row, &mut marks);
+            self.keep_places(depth, follow, first, ids, row, &mut marks);
         }
         let _whole = marks.word(0);
         marks
+    }
+
+    // Keeps the marked places of a part of a list, from one place on, that the step at a depth asks
+    // for: a condition is true at their row, or their relationship differs from another one.
+    fn keep_places(
+        &self,
+        depth: usize,
+        follow: Follow,
+        first: u32,
+        ids: &[u32],
+        row: &mut Assignment,
+        marks: &mut Marks,
+    )
+        requires run { IsRun (run_of self.now) }
+        requires depth { depth < length (steps_in self.now) }
+        requires can { CanFollow self.now.graph.now self.now.typed.now row.old follow }
+        requires few { length ids.now ≤ VECTOR }
+        requires fits { first + length ids.now < 2 ^ 32 }
+        requires inside { let table = rel_table self.now.typed.now follow.rel in first + length
+            ids.now ≤ length (neighbours self.now.graph.now table follow.direction
+            (slice_index row.old.nodes follow.from)) }
+        requires others { (number : ℕ) → pair_of (step_at (run_of self.now) depth) ≡ Some number →
+            IfSome (slice_get self.now.typed.now.pairs number) (λ pair. other_of follow.rel pair
+            < length row.old.rels) }
+        requires within { (j : ℕ) → length ids.now ≤ j → is_marked marks.old j ≡ false }
+        ensures tests { (i : ℕ) → test_of (step_at (run_of self.now) depth) ≡ Some i → (j : ℕ)
+            → is_marked marks.new j ≡ (is_marked marks.old j && passes_at self.now.graph.now
+            self.now.typed.now (with_row follow.to (slice_index ids.now j) row.old) i) }
+        ensures pairs { let table = rel_table self.now.typed.now follow.rel in let list = numbers
+            self.now.graph.now table follow.direction (slice_index row.old.nodes follow.from) in
+            (number : ℕ) → pair_of (step_at (run_of self.now) depth) ≡ Some number →
+            (pair : RelPair) → slice_get self.now.typed.now.pairs number ≡ Some pair → (j : ℕ)
+            → is_marked marks.new j ≡ (is_marked marks.old j && not (leads_to list (first + j)
+            (slice_index row.old.rels (other_of follow.rel pair)))) }
+        ensures row { row.new ≡ row.old }
+    {
+        match self.pair_at(depth) {
+            None => self.keep_rows(depth, follow.to, Rows::List(ids), row, marks),
+            Some(number) => match self.typed.pairs.get(number as usize) {
+                None => {}
+                Some(pair) => {
+                    let other = row.rels.as_slice()[other_of(follow.rel, *pair) as usize];
+                    self.drop_number(follow, first, ids.len() as u32, other, row, marks);
+                }
+            },
+        }
     }
 
     // Keeps the marked places at whose row the condition is true that the step at a depth asks for:

@@ -1,5 +1,6 @@
-//! Groups that follow relationships, and whose tests rows alone decide.
-ghost use Rattle.std.specs.Prelude.{◌≡◌, ◌<◌, length, IfSome, IsTrue};
+//! Groups that follow relationships, and whose tests rows alone decide, or those relationships do.
+ghost use Rattle.std.specs.Prelude.{◌≡◌, ◌<◌, ◌⊎◌, length, IfSome, IsTrue};
+ghost use Rattle.gq_pipe.specs.steps.Differing.{IsPairTest};
 ghost use Rattle.gq_pipe.specs.steps.Keeps.{IsRange};
 ghost use Rattle.gq_pipe.specs.steps.Levels.{step_at};
 ghost use Rattle.gq_pipe.specs.steps.Moves.{run_of, steps_in, IsRun};
@@ -11,7 +12,7 @@ use gq_plan::Step;
 
 impl PlanRun<'_> {
     /// How a group follows a relationship to a node that was not bound, where rows alone decide its
-    /// tests.
+    /// tests, or they ask that this relationship differs from another one.
     pub(crate) fn reads_rows(&self, group: GroupSteps) -> Option<Follow>
         requires run { IsRun (run_of self.now) }
         requires steps { IsRange (run_of self.now) group }
@@ -19,7 +20,7 @@ impl PlanRun<'_> {
     {
         let follow = self.extends(group.first)?;
         for depth in group.first + 1..group.end {
-            if !self.is_row_test(depth) {
+            if !self.is_list_test(depth, follow.rel) {
                 return None;
             }
         }
@@ -45,6 +46,21 @@ impl PlanRun<'_> {
                 direction,
             } => Some(following(*rel, *from, *to, *direction)),
             _ => None,
+        }
+    }
+
+    // Whether the step at a depth is a test that rows alone decide, or asks that a relationship
+    // variable differs from another one.
+    fn is_list_test(&self, depth: usize, rel: u32) -> bool
+        requires run { IsRun (run_of self.now) }
+        requires depth { depth < length (steps_in self.now) }
+        ensures { IsTrue result → IsRowTest (run_of self.now) depth
+            ⊎ IsPairTest (run_of self.now) depth rel }
+    {
+        if self.is_row_test(depth) {
+            true
+        } else {
+            self.is_pair_test(depth, rel)
         }
     }
 

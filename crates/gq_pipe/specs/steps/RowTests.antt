@@ -1,7 +1,8 @@
--- Groups whose tests rows alone decide.
-use Rattle.std.specs.Prelude.{◌≡◌, ℕ, ◌<◌, Bool, Option, Some, None}
+-- Groups whose tests rows alone decide, or the relationship that they follow.
+use Rattle.std.specs.Prelude.{◌≡◌, ◌⊎◌, ℕ, ◌<◌, Bool, Option, Some, None}
 use Rattle.gq_plan.specs.Plans.{Step, Extend, Keep}
 use Rattle.gq_plan.specs.declared.assignment.Assignment.{Assignment}
+use Rattle.gq_pipe.specs.steps.Differing.{IsPairTest}
 use Rattle.gq_pipe.specs.steps.Levels.{Run, step_at}
 use Rattle.gq_pipe.specs.steps.Outcomes.{passes_at}
 use Rattle.gq_pipe.specs.declared.places.GroupSteps.{GroupSteps}
@@ -22,7 +23,7 @@ pub record IsRowTest (c : Run) (d : ℕ) : Type 0 where
   pub is : test_of (step_at c d) ≡ Some test
   pub reads : (old new : Assignment) → old.nodes ≡ new.nodes → passes_at c.graph c.typed old test ≡ passes_at c.graph c.typed new test
 
--- a group follows a relationship to a node that was not bound, and its other steps are such tests
+-- a group follows a relationship to a node that was not bound, and its other steps are such tests, or ask that this relationship differs from another one
 pub record ReadsRows (c : Run) (group : GroupSteps) (f : Follow) : Type 0 where
   pub extends : Extends c group.first f
-  pub tests : (d : ℕ) → group.first < d → d < group.end → IsRowTest c d
+  pub tests : (d : ℕ) → group.first < d → d < group.end → IsRowTest c d ⊎ IsPairTest c d f.rel

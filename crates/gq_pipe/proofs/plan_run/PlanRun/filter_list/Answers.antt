@@ -1,21 +1,33 @@
 use Rattle.std.proofs.Common.{◌≡◌, ◌<◌, ◌≤◌, ◌+◌, ◌&&◌, ℕ, Some, ap, refl, sym, subst, ◌∙◌, arith, length}
-use Rattle.std.specs.Prelude.{slice_index}
+use Rattle.std.specs.Prelude.{Bool, IfSome, List, not, slice_get, slice_index}
 use Rattle.gq_bits.specs.Places.{is_marked}
+use Rattle.gq_plan.specs.Rows.{rel_table}
+use Rattle.gq_plan.specs.declared.typed.RelPair.{RelPair}
+use Rattle.gq_store.specs.Neighbours.{neighbours, numbers}
 use Rattle.gq_plan.specs.declared.assignment.Assignment.{Assignment}
+use Rattle.gq_pipe.specs.steps.Candidates.{leads_to}
+use Rattle.gq_pipe.specs.steps.Differing.{other_of, pair_of}
 use Rattle.gq_pipe.specs.steps.Keeps.{IsSifted}
-use Rattle.gq_pipe.specs.steps.Levels.{step_at}
+use Rattle.gq_pipe.specs.steps.Levels.{Run, step_at}
 use Rattle.gq_pipe.specs.steps.Moves.{run_of}
-use Rattle.gq_pipe.specs.steps.Outcomes.{passes_at, with_row}
+use Rattle.gq_pipe.specs.steps.Outcomes.{CanFollow, passes_at, with_row}
 use Rattle.gq_pipe.specs.steps.RowTests.{test_of}
-use Rattle.gq_pipe.proofs.Listed.{can_list, listed, listing_from, listing_next, listing_node, listing_within, part_long}
+use Rattle.gq_pipe.specs.declared.plan_run.Follow.{Follow}
+use Rattle.gq_pipe.proofs.Listed.{can_list, listed, listing_from, listing_next, listing_within, other_low, part_long}
 use Rattle.gq_pipe.proofs.plan_run.PlanRun.filter_list.Goals as goal
-use Rattle.gq_pipe.proofs.plan_run.PlanRun.filter_list.Goals.{After-part_of-ids}
+use Rattle.gq_pipe.proofs.plan_run.PlanRun.filter_list.Goals.{After-part_of-ids, In-loop-depth}
 
 pub list-list-requires : goal.list-list-requires
 list-list-requires c = can_list (run_of c.args.self.now) c.requires.run c.args.group c.requires.steps c.args.follow c.requires.filters c.args.row.now c.requires.held
 
 pub part_of-ids-requires-clause-inside : goal.part_of-ids-requires-clause-inside
 part_of-ids-requires-clause-inside c = omega (arith, c.requires.inside, ap length c.list-list.ensures.value)
+
+-- a pair that is asked to differ drops the places of the other relationship
+abbrev Pairs : Run → Follow → ℕ → ℕ → List Bool → List Bool → Assignment → Type 0
+Pairs k f d first before after row =
+    (number : ℕ) → pair_of (step_at k d) ≡ Some number → (pair : RelPair) → slice_get k.typed.pairs number ≡ Some pair → (j : ℕ) → is_marked after j
+    ≡ (is_marked before j && not (leads_to (numbers k.graph (rel_table k.typed f.rel) f.direction (slice_index row.nodes f.from)) (first + j) (slice_index row.rels (other_of f.rel pair))))
 
 inside : (c : After-part_of-ids) → c.args.first + c.args.count ≤ length c.list-list.result.now
 inside c = omega (arith, c.requires.inside, ap length c.list-list.ensures.value)
@@ -30,26 +42,48 @@ loop-depth-init c = (
   refl,
 )
 
-pub keep_rows-requires-clause-node : goal.keep_rows-requires-clause-node
-keep_rows-requires-clause-node c =
-    let low = listing_node (run_of c.args.self.now) c.requires.run c.args.group c.requires.steps c.args.follow c.requires.filters c.args.row.now c.requires.held in
-    omega (arith, low, ap (λ (r : Assignment). length r.nodes) c.loop-depth.invariant.1)
+pub keep_places-requires-clause-can : goal.keep_places-requires-clause-can
+keep_places-requires-clause-can c =
+    let k = run_of c.args.self.now in
+    subst (λ (r : Assignment). CanFollow k.graph k.typed r c.args.follow) (sym c.loop-depth.invariant.1) (can_list k c.requires.run c.args.group c.requires.steps c.args.follow c.requires.filters c.args.row.now c.requires.held).follow
 
-pub keep_rows-requires-clause-few : goal.keep_rows-requires-clause-few
-keep_rows-requires-clause-few c = omega (arith, c.requires.count, many (goal.at.keep_rows-requires-clause-few c).After-part_of-ids)
+pub keep_places-requires-clause-few : goal.keep_places-requires-clause-few
+keep_places-requires-clause-few c = omega (arith, c.requires.count, many (goal.at.keep_places-requires-clause-few c).After-part_of-ids)
 
-pub keep_rows-requires-clause-within : goal.keep_rows-requires-clause-within
-keep_rows-requires-clause-within c =
-    listing_within (run_of c.args.self.now) c.args.group c.args.follow c.part_of-ids.result.now c.args.first c.args.count c.args.row.now (many (goal.at.keep_rows-requires-clause-within c).After-part_of-ids) c.loop-depth.depth c.loop-depth.marks c.loop-depth.invariant.0
+pub keep_places-requires-clause-fits : goal.keep_places-requires-clause-fits
+keep_places-requires-clause-fits c = omega (arith, c.requires.fits, many (goal.at.keep_places-requires-clause-fits c).After-part_of-ids)
+
+pub keep_places-requires-clause-inside : goal.keep_places-requires-clause-inside
+keep_places-requires-clause-inside c =
+    let k = run_of c.args.self.now in
+    let ends : c.args.first + length c.part_of-ids.result.now ≤ length (neighbours k.graph (rel_table k.typed c.args.follow.rel) c.args.follow.direction (slice_index c.args.row.now.nodes c.args.follow.from)) =
+    omega (arith, c.requires.inside, many (goal.at.keep_places-requires-clause-inside c).After-part_of-ids) in
+    subst (λ (r : Assignment). c.args.first + length c.part_of-ids.result.now ≤ length (neighbours k.graph (rel_table k.typed c.args.follow.rel) c.args.follow.direction (slice_index r.nodes c.args.follow.from))) (sym c.loop-depth.invariant.1) ends
+
+above : (c : In-loop-depth) → c.args.group.first < c.loop-depth.depth
+above c = let low = c.loop-depth.auto.depth in omega arith
+
+pub keep_places-requires-clause-others : goal.keep_places-requires-clause-others
+keep_places-requires-clause-others c =
+    let k = run_of c.args.self.now in
+    subst (λ (r : Assignment). (number : ℕ) → pair_of (step_at k c.loop-depth.depth) ≡ Some number → IfSome (slice_get k.typed.pairs number) (λ pair. other_of c.args.follow.rel pair < length r.rels)) (sym c.loop-depth.invariant.1)
+    (other_low k c.requires.run c.args.group c.requires.steps c.args.follow c.requires.filters c.args.row.now c.requires.held c.part_of-ids.result.now c.args.first c.args.count c.loop-depth.depth (above (goal.at.keep_places-requires-clause-others c).In-loop-depth) c.loop-depth-test.true)
+
+pub keep_places-requires-clause-within : goal.keep_places-requires-clause-within
+keep_places-requires-clause-within c =
+    listing_within (run_of c.args.self.now) c.args.group c.args.follow c.part_of-ids.result.now c.args.first c.args.count c.args.row.now (many (goal.at.keep_places-requires-clause-within c).After-part_of-ids) c.loop-depth.depth c.loop-depth.marks c.loop-depth.invariant.0
 
 pub loop-depth-preserved : goal.loop-depth-preserved
 loop-depth-preserved c =
     let k = run_of c.args.self.now in
-    let above : c.args.group.first < c.loop-depth.depth = (let low = c.loop-depth.auto.depth in omega arith) in
-    let kept : (i : ℕ) → test_of (step_at k c.loop-depth.depth) ≡ Some i → (j : ℕ) → is_marked c.keep_rows.new.marks j ≡ (is_marked c.loop-depth.marks j && passes_at k.graph k.typed (with_row c.args.follow.to (slice_index c.part_of-ids.result.now j) c.args.row.now) i) =
-    subst (λ (r : Assignment). (i : ℕ) → test_of (step_at k c.loop-depth.depth) ≡ Some i → (j : ℕ) → is_marked c.keep_rows.new.marks j ≡ (is_marked c.loop-depth.marks j && passes_at k.graph k.typed (with_row c.args.follow.to (slice_index c.part_of-ids.result.now j) r) i)) c.loop-depth.invariant.1 c.keep_rows.ensures.kept in (
-      listing_next k c.requires.run c.args.group c.requires.steps c.args.follow c.requires.filters c.args.row.now c.requires.held c.part_of-ids.result.now c.args.first c.args.count c.loop-depth.depth above c.loop-depth-test.true c.loop-depth.marks c.keep_rows.new.marks c.loop-depth.invariant.0 kept,
-      c.keep_rows.ensures.row ∙ c.loop-depth.invariant.1,
+    let f = c.args.follow in
+    let ids = c.part_of-ids.result.now in
+    let tests : (i : ℕ) → test_of (step_at k c.loop-depth.depth) ≡ Some i → (j : ℕ) → is_marked c.keep_places.new.marks j ≡ (is_marked c.loop-depth.marks j && passes_at k.graph k.typed (with_row f.to (slice_index ids j) c.args.row.now) i) =
+    subst (λ (r : Assignment). (i : ℕ) → test_of (step_at k c.loop-depth.depth) ≡ Some i → (j : ℕ) → is_marked c.keep_places.new.marks j ≡ (is_marked c.loop-depth.marks j && passes_at k.graph k.typed (with_row f.to (slice_index ids j) r) i)) c.loop-depth.invariant.1 c.keep_places.ensures.tests in
+    let pairs : Pairs k f c.loop-depth.depth c.args.first c.loop-depth.marks c.keep_places.new.marks c.args.row.now =
+    subst (λ (r : Assignment). Pairs k f c.loop-depth.depth c.args.first c.loop-depth.marks c.keep_places.new.marks r) c.loop-depth.invariant.1 c.keep_places.ensures.pairs in (
+      listing_next k c.requires.run c.args.group c.requires.steps f c.requires.filters c.args.row.now c.requires.held ids c.args.first c.args.count c.loop-depth.depth (above (goal.at.loop-depth-preserved c).In-loop-depth) c.loop-depth-test.true c.loop-depth.marks c.keep_places.new.marks c.loop-depth.invariant.0 tests pairs,
+      c.keep_places.ensures.row ∙ c.loop-depth.invariant.1,
     )
 
 pub returns : goal.returns

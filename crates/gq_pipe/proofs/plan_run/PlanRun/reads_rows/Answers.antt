@@ -1,5 +1,6 @@
-use Rattle.std.proofs.Common.{inl, inr, sym, subst, arith}
+use Rattle.std.proofs.Common.{◌⊎◌, inl, inr, sym, subst, arith}
 use Rattle.std.proofs.lemmas.Bool.{cases_eq}
+use Rattle.gq_pipe.specs.steps.Differing.{IsPairTest}
 use Rattle.gq_pipe.specs.steps.Moves.{run_of}
 use Rattle.gq_pipe.specs.steps.RowTests.{IsRowTest}
 use Rattle.gq_pipe.proofs.plan_run.PlanRun.reads_rows.Goals as goal
@@ -9,7 +10,7 @@ loop-depth-init c = λ d above below. absurd (omega (arith, above, below))
 
 pub loop-depth-preserved : goal.loop-depth-preserved
 loop-depth-preserved c = λ d above below. elim (cases_eq d c.loop-depth.depth) [
-  | inl same ↦ subst (λ n. IsRowTest (run_of c.args.self.now) n) (sym same) (c.is_row_test.ensures c.if-not-is_row_test.false)
+  | inl same ↦ subst (λ n. IsRowTest (run_of c.args.self.now) n ⊎ IsPairTest (run_of c.args.self.now) n c.in_ok-follow.follow.rel) (sym same) (c.is_list_test.ensures c.if-not-is_list_test.false)
   | inr other ↦ c.loop-depth.invariant d above (omega (arith, below, other))
 ]
 
