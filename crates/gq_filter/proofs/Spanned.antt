@@ -1,7 +1,7 @@
 -- A test of lanes in rows that follow one another says what it says row by row.
 use mathlib.Core.Path.{fun_ext}
 use Rattle.std.proofs.Common.{◌≡◌, ◌≤◌, ◌<◌, ◌+◌, ◌-◌, ◌∙◌, refl, sym, ap, ℕ, List, Bool, Option, Some, None, false, length, drop, inl, inr, arith}
-use Rattle.std.specs.Prelude.{◌&&◌, slice_get, slice_set}
+use Rattle.std.specs.Prelude.{◌&&◌, slice_get, slice_index, slice_set}
 use Rattle.std.proofs.lemmas.Bool.{cases_lt}
 use Rattle.std.proofs.lemmas.List.{get_or-take, get_or-drop, get_or-set_same, length-set}
 use Rattle.std.proofs.lemmas.Option.{slice_get-get_or}
@@ -17,6 +17,7 @@ use Rattle.gq_filter.specs.Rows.{with_row}
 use Rattle.gq_filter.specs.declared.feeds.Feed.{Feed}
 use Rattle.gq_filter.specs.declared.lane_test.LaneTest.{LaneTest}
 use Rattle.gq_filter.specs.steps.RowCells.{DecidesRows, cell_in, cell_of, cells_of, lane_of}
+use Rattle.gq_filter.specs.steps.RowLists.{cells_at, feed_cell}
 use Rattle.gq_filter.specs.steps.SpanLanes.{AreSpanned, IsSpanned, span_cell}
 
 -- the row that was put in
@@ -50,3 +51,22 @@ span_kept g y condition feeds test decides variable low high spanned row inside 
       kept k ∙ ap (λ b. b && holds (λ lane. span_cell low high (slice_get feeds lane) k) test) (within k past)
       ∙ sym (ap (λ b. b && passes g (as_read y (with_row variable (low + k) row)) condition) (within k past))
 ]
+
+-- the same of rows in a list
+module _ (g : Graph) (feeds : List Feed) (variable : ℕ) (spanned : AreSpanned variable 0 feeds) (row : Assignment) (inside : variable < length row.nodes) (r : ℕ) where
+  listed_cell : (feed : Feed) → IsSpanned variable 0 feed → feed_cell r (Some feed) ≡ cell_of g (with_row variable r row) (Some feed)
+  listed_cell feed is = sym (ap (lane_of g (with_row variable r row) feed) is.of_node ∙ ap (cell_in feed.column.now) (put_in row.nodes variable r inside))
+
+  listed_at : (lane : ℕ) (o : Option Feed) → slice_get feeds lane ≡ o → cells_at feeds r lane ≡ cells_of g feeds (with_row variable r row) lane
+  listed_at lane None at = rw at refl
+  listed_at lane (Some feed) at = rw at (listed_cell feed (spanned lane feed at))
+
+  listed_cells : cells_at feeds r ≡ cells_of g feeds (with_row variable r row)
+  listed_cells = fun_ext (λ lane. listed_at lane (slice_get feeds lane) refl)
+
+pub list_kept : (g : Graph) (y : Typed) (condition : NamedExpr) (feeds : List Feed) (test : LaneTest) → DecidesRows g y condition feeds (Some test) →
+    (variable : ℕ) → AreSpanned variable 0 feeds → (row : Assignment) → variable < length row.nodes → (rows : List ℕ) (old new : List Bool) →
+    ((k : ℕ) → is_marked new k ≡ (is_marked old k && holds (cells_at feeds (slice_index rows k)) test)) →
+    (k : ℕ) → is_marked new k ≡ (is_marked old k && passes g (as_read y (with_row variable (slice_index rows k) row)) condition)
+list_kept g y condition feeds test decides variable spanned row inside rows old new kept k =
+    kept k ∙ ap (λ b. is_marked old k && b) (ap (λ cells. holds cells test) (listed_cells g feeds variable spanned row inside (slice_index rows k)) ∙ decides (with_row variable (slice_index rows k) row))

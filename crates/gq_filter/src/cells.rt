@@ -62,8 +62,8 @@ fn any_holds<C: Cells>(tests: &[LaneTest], cells: &C) -> bool
     false
 }
 
-// Whether a cell is known and compares so with a constant.
-fn compared(op: LaneOp, cell: Option<i64>, constant: i64) -> bool
+/// Whether a cell is known and compares so with a constant.
+pub(crate) fn compared(op: LaneOp, cell: Option<i64>, constant: i64) -> bool
     ensures { result ≡ passes (λ z. compares op z constant) cell }
 {
     match cell {

@@ -16,6 +16,7 @@ use crate::kernels::keep_lanes;
 use crate::lane_test::LaneTest;
 use crate::row_cells::RowCells;
 use crate::row_feeds::add_feeds;
+use crate::row_lists::keep_list;
 use crate::rows::Rows;
 use crate::span_lanes::SpanLanes;
 use crate::text_test::{TextTest, text_test};
@@ -135,7 +136,17 @@ impl RowTest<'_> {
         ensures row { row.new ≡ row.old }
     {
         match rows {
-            Rows::List(_) => self.keep_each(variable, rows, row, marks),
+            Rows::List(list) => match &self.test {
+                None => self.keep_each(variable, rows, row, marks),
+                Some(test) => {
+                    let feeds = self.feeds.as_slice();
+                    if are_spanned(feeds, variable, 0) {
+                        keep_list(test, feeds, list, marks);
+                    } else {
+                        self.keep_each(variable, rows, row, marks);
+                    }
+                }
+            },
             Rows::Span { low, high } => match &self.test {
                 None => self.keep_each(variable, rows, row, marks),
                 Some(test) => {

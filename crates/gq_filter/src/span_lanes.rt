@@ -38,8 +38,8 @@ impl Lanes for SpanLanes<'_> {
     }
 }
 
-// The feed of a lane, where there is one of that number.
-fn feed_at<'r>(feeds: &[Feed<'r>], lane: u32) -> Option<Feed<'r>>
+/// The feed of a lane, where there is one of that number.
+pub(crate) fn feed_at<'r>(feeds: &[Feed<'r>], lane: u32) -> Option<Feed<'r>>
     ensures { result ≡ slice_get feeds.now lane }
 {
     feeds.get(lane as usize).copied()

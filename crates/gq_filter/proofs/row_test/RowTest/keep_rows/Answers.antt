@@ -6,7 +6,7 @@ use Rattle.gq_filter.specs.declared.feeds.Feed.{Feed}
 use Rattle.gq_filter.specs.declared.lane_test.LaneTest.{LaneTest}
 use Rattle.gq_filter.specs.declared.rows.Rows.{Rows}
 use Rattle.gq_filter.specs.steps.RowCells.{DecidesRows}
-use Rattle.gq_filter.proofs.Spanned.{span_kept}
+use Rattle.gq_filter.proofs.Spanned.{list_kept, span_kept}
 use Rattle.gq_filter.proofs.row_test.RowTest.keep_rows.Goals as goal
 
 pub returns-then-are_spanned-clause-kept : goal.returns-then-are_spanned-clause-kept
@@ -14,8 +14,17 @@ returns-then-are_spanned-clause-kept c =
     let i = c.self.inside in
     let at_items = subst {A = Option LaneTest} (DecidesRows i.graph.now i.typed.now i.condition.now i.feeds.items) c.in-Some.is c.self.invariant.1 in
     let decides = subst (λ (feeds : List Feed). DecidesRows i.graph.now i.typed.now i.condition.now feeds (Some c.in-Some.test)) (sym c.as_slice-feeds.ensures.value) at_items in
+    λ k. subst (λ (s : RowCondition). is_marked c.keep_list.new.marks k ≡ (is_marked c.args.marks.now k && is_true_of s (with_row c.args.variable (row_in c.args.rows k) c.args.row.now))) c.self.view_is
+    (subst (λ (r : Rows). is_marked c.keep_list.new.marks k ≡ (is_marked c.args.marks.now k && is_true_of (record { graph = i.graph.now; typed = i.typed.now; condition = i.condition.now }) (with_row c.args.variable (row_in r k) c.args.row.now))) (sym c.in-List.is)
+    (list_kept i.graph.now i.typed.now i.condition.now c.as_slice-feeds.result.now _ decides c.args.variable (c.are_spanned.ensures c.if-are_spanned.true) c.args.row.now c.requires.variable c.in-List.list.now c.args.marks.now c.keep_list.new.marks c.keep_list.ensures k))
+
+pub returns-then-are_spanned-2-clause-kept : goal.returns-then-are_spanned-2-clause-kept
+returns-then-are_spanned-2-clause-kept c =
+    let i = c.self.inside in
+    let at_items = subst {A = Option LaneTest} (DecidesRows i.graph.now i.typed.now i.condition.now i.feeds.items) c.in-Some-test.is c.self.invariant.1 in
+    let decides = subst (λ (feeds : List Feed). DecidesRows i.graph.now i.typed.now i.condition.now feeds (Some c.in-Some-test.test)) (sym c.as_slice-feeds-in-Some-test.ensures.value) at_items in
     let within : (k : ℕ) → c.in-Span.high - c.in-Span.low ≤ k → is_marked c.args.marks.now k ≡ false =
     subst (λ (r : Rows). (k : ℕ) → count_in r ≤ k → is_marked c.args.marks.now k ≡ false) c.in-Span.is c.requires.within in
     λ k. subst (λ (s : RowCondition). is_marked c.keep_lanes.new.marks k ≡ (is_marked c.args.marks.now k && is_true_of s (with_row c.args.variable (row_in c.args.rows k) c.args.row.now))) c.self.view_is
     (subst (λ (r : Rows). is_marked c.keep_lanes.new.marks k ≡ (is_marked c.args.marks.now k && is_true_of (record { graph = i.graph.now; typed = i.typed.now; condition = i.condition.now }) (with_row c.args.variable (row_in r k) c.args.row.now))) (sym c.in-Span.is)
-    (span_kept i.graph.now i.typed.now i.condition.now c.as_slice-feeds.result.now _ decides c.args.variable c.in-Span.low c.in-Span.high (c.are_spanned.ensures c.if-are_spanned.true) c.args.row.now c.requires.variable c.args.marks.now c.keep_lanes.new.marks within c.keep_lanes.ensures k))
+    (span_kept i.graph.now i.typed.now i.condition.now c.as_slice-feeds-in-Some-test.result.now _ decides c.args.variable c.in-Span.low c.in-Span.high (c.are_spanned-then-low-high.ensures c.if-are_spanned-2.true) c.args.row.now c.requires.variable c.args.marks.now c.keep_lanes.new.marks within c.keep_lanes.ensures k))
