@@ -10,6 +10,7 @@ pub mod PathCounts
 pub mod Patterns
 pub mod ReadingLemmas
 pub mod RefusalLemmas
+mod WorkedClauses
 mod WorkedRefusals
 pub mod SoundAlternatives
 mod SoundWorked
