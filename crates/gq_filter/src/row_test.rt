@@ -140,6 +140,7 @@ impl RowTest<'_> {
                 None => self.keep_each(variable, rows, row, marks),
                 Some(test) => {
                     let feeds = self.feeds.as_slice();
+                    // Where all lanes are of this variable, no row has to be put in.
                     if are_spanned(feeds, variable, 0) {
                         keep_list(test, feeds, list, marks);
                     } else {
