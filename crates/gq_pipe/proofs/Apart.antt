@@ -16,7 +16,7 @@ use Rattle.gq_pipe.specs.steps.Outcomes.{with_number}
 use Rattle.gq_pipe.proofs.Following.{get_some}
 use Rattle.gq_plan.proofs.Rows.{rel_read}
 
-eqb-sym : (a b : ℕ) → (a == b) ≡ (b == a)
+pub eqb-sym : (a b : ℕ) → (a == b) ≡ (b == a)
 eqb-sym a b = elim (cases_eq a b) [ inl e ↦ eq-eqb a b e ∙ sym (eq-eqb b a (sym e)) | inr other ↦ ne_eqb a b other ∙ sym (ne_eqb b a (λ e. other (sym e))) ]
 
 -- what a relationship variable has

@@ -1,5 +1,6 @@
--- A group that makes something of a place makes it with the load number there, where rows alone decide its tests, or that number does.
+-- A group that makes something of a place makes it with the load number there, where rows or that number alone decide its tests.
 use Rattle.std.proofs.Common.{◌≡◌, ◌≢◌, inr, ℕ, suc, ◌+◌, ◌^◌, ◌<◌, ◌≤◌, ◌==◌, Bool, true, false, not, Some, length, refl, sym, ap, ◌∙◌, subst, arith}
+use Rattle.std.proofs.lemmas.Bool.{true≢false}
 use Rattle.std.specs.Prelude.{slice_get, slice_index}
 use Rattle.gq_plan.specs.Conditions.{differs}
 use Rattle.gq_plan.specs.Meaning.{holds}
@@ -11,8 +12,9 @@ use Rattle.gq_walks.specs.Layouts.{has_one}
 use Rattle.gq_pipe.specs.steps.Differing.{IsPairTest, other_of, pair_of}
 use Rattle.gq_pipe.specs.steps.Keeps.{IsJudged, IsRange, IsTriedAt}
 use Rattle.gq_pipe.specs.steps.Levels.{Run, step_at, known}
+use Rattle.gq_pipe.specs.steps.Loops.{IsLoopTest, loop_of}
 use Rattle.gq_pipe.specs.steps.Moves.{IsRun, IsHeld, IsTried}
-use Rattle.gq_pipe.specs.steps.Outcomes.{CanFollow, differs_at, passes_at, tested, with_number, with_row}
+use Rattle.gq_pipe.specs.steps.Outcomes.{CanFollow, differs_at, no_loop_at, passes_at, tested, with_number, with_row}
 use Rattle.gq_pipe.specs.steps.RowTests.{IsRowTest, ReadsRows, test_of}
 use Rattle.gq_pipe.specs.declared.follow.Hop.{Hop}
 use Rattle.gq_pipe.specs.declared.places.GroupSteps.{GroupSteps}
@@ -22,8 +24,9 @@ use Rattle.gq_pipe.proofs.Apart.{differs_by}
 use Rattle.gq_pipe.proofs.Going.{IsGoing, begins, ends, made_first, tried_made, tried_missed}
 use Rattle.gq_pipe.proofs.Hopping.{hop_there}
 use Rattle.gq_pipe.proofs.Stepping.{follows}
-use Rattle.gq_pipe.proofs.Testing.{differ_tried, keep_tried}
+use Rattle.gq_pipe.proofs.Testing.{differ_tried, keep_tried, no_loop_tried}
 use Rattle.gq_pipe.proofs.Tried.{extend_can, extend_goes, extend_parts, extend_tried}
+use Rattle.gq_pipe.proofs.Unlooped.{no_loop_by}
 
 -- what was tried is judged
 pub judged : (c : Run) (group : GroupSteps) (place : ℕ) (old : Assignment) (told : Bool) (new : Assignment) → IsTriedAt c group place old told new → IsJudged c group place old told new
@@ -48,6 +51,15 @@ differ_of (Join side keys) i is = cc
 differ_of (Keep t) i is = cc
 differ_of (NoLoop x) i is = cc
 
+pub no_loop_of : (s : Step) (i : ℕ) → loop_of s ≡ Some i → s ≡ NoLoop i
+no_loop_of (NoLoop j) i is = let same : j ≡ i = cc in ap NoLoop same
+no_loop_of (Scan v) i is = cc
+no_loop_of (Extend column x from to way) i is = cc
+no_loop_of (Close column x from to way) i is = cc
+no_loop_of (Join side keys) i is = cc
+no_loop_of (Keep t) i is = cc
+no_loop_of (Differ p) i is = cc
+
 -- with the load number of the relationship at a place, the steps of a group up to one make something of it
 pub record IsGoingBy (c : Run) (group : GroupSteps) (place : ℕ) (old : Assignment) (f : Follow) (d : ℕ) (row : Assignment) : Type 0 where
   pub number : ℕ
@@ -63,6 +75,11 @@ module _ (c : Run) (run : IsRun c) (group : GroupSteps) (range : IsRange c group
 
   new_rel : (known c group.first).rels f.rel ≡ false
   new_rel = (extend_parts c run group.first first_low old held reads.extends.0 f.rel f.from f.to f.direction reads.extends.1).0
+
+  pub apart : f.from ≢ f.to
+  apart e =
+      let parts = extend_parts c run group.first first_low old held reads.extends.0 f.rel f.from f.to f.direction reads.extends.1 in
+      true≢false (sym parts.1 ∙ ap (known c group.first).nodes e ∙ parts.2)
 
   pub first_going : (r : ℕ) → slice_get (neighbours c.graph (rel_table c.typed f.rel) f.direction (slice_index old.nodes f.from)) place ≡ Some r
       → r < near_rows c.graph (rel_table c.typed f.rel) (opposite f.direction) → length (neighbours c.graph (rel_table c.typed f.rel) f.direction (slice_index old.nodes f.from)) < 2 ^ 32
@@ -98,6 +115,12 @@ module _ (c : Run) (run : IsRun c) (group : GroupSteps) (range : IsRange c group
     pair_tried test told is =
         let same : differs_at c.typed exact test.number ≡ told = ap (holds (differs (as_read c.typed exact))) test.there ∙ differs_by c.typed f.rel test.pair test.with row g.number g.going.held.rel_count can_follow.rel ∙ is in
         subst (λ b. IsTried c d 0 exact exact (tested 0 b)) same (differ_tried c run d low exact g.going.held test.number (differ_of (step_at c d) test.number test.is) 0)
+
+    -- a relationship that has to be no loop
+    pub loop_tried : (test : IsLoopTest c d f) (told : Bool) → not (slice_index row.nodes f.to == slice_index row.nodes f.from) ≡ told → IsTried c d 0 exact exact (tested 0 told)
+    loop_tried test told is =
+        let same : no_loop_at c.typed exact f.rel ≡ told = no_loop_by c.typed f test.within exact g.going.held.node_count can_follow.from can_follow.to ∙ is in
+        subst (λ b. IsTried c d 0 exact exact (tested 0 b)) same (no_loop_tried c run d low exact g.going.held f.rel (no_loop_of (step_at c d) f.rel test.is) 0)
 
     far : d ≢ group.first
     far = λ e. omega (arith, e, above)

@@ -20,6 +20,7 @@ pub mod Testing
 pub mod Stored
 pub mod Tried
 pub mod Unjoined
+pub mod Unlooped
 pub mod Whole
 pub mod Here
 pub mod Sifting

@@ -1,8 +1,8 @@
 -- Places of a list that a group keeps, one test after another, where rows or the load number there alone decide them.
-use Rattle.std.proofs.Common.{◌≡◌, ◌⊎◌, inl, inr, ℕ, ◌+◌, ◌-◌, ◌^◌, ◌<◌, ◌≤◌, Bool, true, false, ◌&&◌, not, nat_lt, Option, Some, None, List, length, drop, get_or, refl, sym, ap, ◌∙◌, subst, arith}
+use Rattle.std.proofs.Common.{◌≡◌, ◌⊎◌, inl, inr, ℕ, ◌+◌, ◌-◌, ◌^◌, ◌<◌, ◌≤◌, Bool, true, false, ◌==◌, ◌&&◌, not, nat_lt, Option, Some, None, List, length, drop, get_or, refl, sym, ap, ap₂, ◌∙◌, subst, arith}
 use Rattle.std.specs.Prelude.{All, IfSome, slice_get, slice_index, slice_range}
 use Rattle.std.proofs.lemmas.Bool.{and_parts, cases_lt, le-ltb, lt-ltb, ltb-true, false≢true}
-use Rattle.std.proofs.lemmas.List.{get_or-take, get_or-drop, length-take, length-drop}
+use Rattle.std.proofs.lemmas.List.{get_or-set_other, get_or-set_same, get_or-take, get_or-drop, length-take, length-drop}
 use Rattle.std.proofs.lemmas.Option.{slice_get-get_or}
 use Rattle.gq_bits.specs.Places.{is_marked}
 use Rattle.gq_bits.specs.declared.TheConstants.{VECTOR}
@@ -16,13 +16,14 @@ use Rattle.gq_pipe.specs.steps.Differing.{other_of, pair_of}
 use Rattle.gq_pipe.specs.steps.Filters.{FiltersList, is_listed_step}
 use Rattle.gq_pipe.specs.steps.Keeps.{makes_one, IsRange, IsSifted}
 use Rattle.gq_pipe.specs.steps.Levels.{Run, step_at, built_at, before, known}
+use Rattle.gq_pipe.specs.steps.Loops.{loop_of}
 use Rattle.gq_pipe.specs.steps.Moves.{IsRun, IsHeld, IsTried}
 use Rattle.gq_pipe.specs.steps.Outcomes.{CanList, passes_at, tested, with_number, with_row}
 use Rattle.gq_pipe.specs.steps.RowTests.{test_of}
 use Rattle.gq_pipe.specs.steps.Tries.{tries}
 use Rattle.gq_pipe.specs.declared.places.GroupSteps.{GroupSteps}
 use Rattle.gq_pipe.specs.declared.plan_run.Follow.{Follow}
-use Rattle.gq_pipe.proofs.Judged.{IsGoingBy, all_going, can_follow, first_going, judged, keep_of, next_going, next_missed, pair_tried, row_tried}
+use Rattle.gq_pipe.proofs.Judged.{IsGoingBy, all_going, apart, can_follow, first_going, judged, keep_of, loop_tried, next_going, next_missed, no_loop_of, pair_tried, row_tried}
 use Rattle.gq_pipe.proofs.Piecing.{listed_is}
 use Rattle.gq_pipe.proofs.Tried.{extend_count, extend_goes}
 
@@ -76,6 +77,9 @@ module _ (c : Run) (run : IsRun c) (group : GroupSteps) (range : IsRange c group
   pub list_count : length (tries c.graph c.typed (built_at c group.first) (step_at c group.first) (before c old group.first)) ≡ length (neighbours c.graph (rel_table c.typed f.rel) f.direction (slice_index old.nodes f.from))
   list_count = extend_count c run group.first depth old held false f.rel f.from f.to f.direction is
 
+  pub listing_node : f.to < length old.nodes
+  listing_node = let can = can_list.follow in omega (arith, can.to, can.sized.nodes)
+
   module _ (ids : List ℕ) (first count : ℕ) where
     abbrev put : ℕ → Assignment
     put j = with_row f.to (slice_index ids j) old
@@ -105,7 +109,8 @@ module _ (c : Run) (run : IsRun c) (group : GroupSteps) (range : IsRange c group
     pub other_low : (d : ℕ) → group.first < d → d < group.end → (number : ℕ) → pair_of (step_at c d) ≡ Some number → IfSome (slice_get c.typed.pairs number) (λ pair. other_of f.rel pair < length old.rels)
     other_low d above low number is = elim (filters.reads.tests d above low) [
       | inl test ↦ (let none : pair_of (step_at c d) ≡ None = ap pair_of (keep_of (step_at c d) test.test test.is) in cc)
-      | inr test ↦
+      | inr (inr test) ↦ (let none : pair_of (step_at c d) ≡ None = ap pair_of (no_loop_of (step_at c d) f.rel test.is) in cc)
+      | inr (inl test) ↦
           (let same : test.number ≡ number = cc in
           let there : slice_get c.typed.pairs number ≡ Some test.pair = ap (λ n. slice_get c.typed.pairs n) (sym same) ∙ test.there in
           let inside : other_of f.rel test.pair < length c.typed.rels = test.with.low in
@@ -145,11 +150,17 @@ module _ (c : Run) (run : IsRun c) (group : GroupSteps) (range : IsRange c group
       pub listing_next : (before after : List Bool) → Listing d before
           → ((i : ℕ) → test_of (step_at c d) ≡ Some i → (j : ℕ) → is_marked after j ≡ (is_marked before j && passes_at c.graph c.typed (put j) i))
           → ((number : ℕ) → pair_of (step_at c d) ≡ Some number → (pair : RelPair) → slice_get c.typed.pairs number ≡ Some pair
-          → (j : ℕ) → is_marked after j ≡ (is_marked before j && not (leads_to list_numbers (first + j) (slice_index old.rels (other_of f.rel pair))))) → Listing (d + 1) after
-      listing_next before after l tests pairs = elim (filters.reads.tests d above low) [
+          → (j : ℕ) → is_marked after j ≡ (is_marked before j && not (leads_to list_numbers (first + j) (slice_index old.rels (other_of f.rel pair)))))
+          → (loop_of (step_at c d) ≡ Some f.rel → (j : ℕ) → is_marked after j ≡ (is_marked before j && not (slice_index ids j == slice_index old.nodes f.from))) → Listing (d + 1) after
+      listing_next before after l tests pairs loops = elim (filters.reads.tests d above low) [
         | inl test ↦ listing_by before after l (λ j. passes_at c.graph c.typed (put j) test.test) (tests test.test test.is)
             (λ j g told is. row_tried c run group range (first + j) old held f filters.reads d (put j) g above low test told is)
-        | inr test ↦
+        | inr (inr test) ↦
+            (let ends : (j : ℕ) → not (slice_index (put j).nodes f.to == slice_index (put j).nodes f.from) ≡ not (slice_index ids j == slice_index old.nodes f.from) =
+            λ j. ap₂ (λ a b. not (a == b)) (get_or-set_same old.nodes f.to (slice_index ids j) 0 listing_node) (get_or-set_other old.nodes f.to f.from (slice_index ids j) 0 (apart c run group range first old held f filters.reads)) in
+            listing_by before after l (λ j. not (slice_index ids j == slice_index old.nodes f.from)) (loops test.is)
+            (λ j g told is. loop_tried c run group range (first + j) old held f filters.reads d (put j) g above low test told (ends j ∙ is)))
+        | inr (inl test) ↦
             (let other : ℕ = slice_index old.rels (other_of f.rel test.pair) in
             listing_by before after l (λ j. not (leads_to list_numbers (first + j) other)) (pairs test.number test.is test.pair test.there)
             (λ j g told is. pair_tried c run group range (first + j) old held f filters.reads d (put j) g above low test told (ap (λ o. not (is_row other o)) (sym g.numbered) ∙ is)))

@@ -14,6 +14,7 @@ pub mod Keeps
 pub mod Levels
 pub mod Limits
 pub mod Lists
+pub mod Loops
 pub mod Moves
 pub mod Origins
 pub mod Outcomes

@@ -1,5 +1,5 @@
 //! The places of a scan or of a list that conditions keep, a piece at a time.
-ghost use Rattle.std.specs.Prelude.{◌≡◌, ◌+◌, ◌≤◌, ◌<◌, ◌^◌, ◌&&◌, ℕ, length, false, true, IfSome, IsTrue};
+ghost use Rattle.std.specs.Prelude.{◌≡◌, ◌+◌, ◌≤◌, ◌<◌, ◌^◌, ◌&&◌, ◌==◌, ℕ, length, false, true, IfSome, IsTrue};
 ghost use Rattle.std.specs.Prelude.{Some, not, slice_get, slice_index, slice_range};
 ghost use Rattle.gq_base.specs.Valid.{row_count};
 ghost use Rattle.gq_bits.specs.Places.{is_marked};
@@ -12,11 +12,13 @@ ghost use Rattle.gq_pipe.specs.steps.Differing.{other_of, pair_of};
 ghost use Rattle.gq_pipe.specs.steps.Filters.{Filters, FiltersList, Scans, is_listed_step};
 ghost use Rattle.gq_pipe.specs.steps.Keeps.{IsRange, IsSifted};
 ghost use Rattle.gq_pipe.specs.steps.Levels.{known, step_at};
+ghost use Rattle.gq_pipe.specs.steps.Loops.{loop_of};
 ghost use Rattle.gq_pipe.specs.steps.Moves.{run_of, steps_in, IsRun, IsHeld};
 ghost use Rattle.gq_pipe.specs.steps.Outcomes.{CanFollow, passes_at, with_row};
 ghost use Rattle.gq_pipe.specs.steps.RowTests.{test_of};
 
 use crate::differing::other_of;
+use crate::looping::drop_row;
 use crate::places::GroupSteps;
 use crate::plan_run::{Follow, PlanRun};
 use gq_bits::{Marks, VECTOR};
@@ -136,7 +138,8 @@ impl PlanRun<'_> {
     }
 
     // Keeps the marked places of a part of a list, from one place on, that the step at a depth asks
-    // for: a condition is true at their row, or their relationship differs from another one.
+    // for: a condition is true at their row, or their relationship differs from another one or is no
+    // loop.
     fn keep_places(
         &self,
         depth: usize,
@@ -167,10 +170,16 @@ impl PlanRun<'_> {
             (pair : RelPair) → slice_get self.now.typed.now.pairs number ≡ Some pair → (j : ℕ)
             → is_marked marks.new j ≡ (is_marked marks.old j && not (leads_to list (first + j)
             (slice_index row.old.rels (other_of follow.rel pair)))) }
+        ensures loops { loop_of (step_at (run_of self.now) depth) ≡ Some follow.rel → (j : ℕ) →
+            is_marked marks.new j ≡ (is_marked marks.old j && not (slice_index ids.now j ==
+            slice_index row.old.nodes follow.from)) }
         ensures row { row.new ≡ row.old }
     {
         match self.pair_at(depth) {
-            None => self.keep_rows(depth, follow.to, Rows::List(ids), row, marks),
+            None => match self.loop_at(depth) {
+                None => self.keep_rows(depth, follow.to, Rows::List(ids), row, marks),
+                Some(_) => drop_row(ids, row.nodes.as_slice()[follow.from as usize], marks),
+            },
             Some(number) => match self.typed.pairs.get(number as usize) {
                 None => {}
                 Some(pair) => {

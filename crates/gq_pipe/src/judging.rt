@@ -1,10 +1,9 @@
 //! Groups that follow relationships, and whose tests rows alone decide, or those relationships do.
-ghost use Rattle.std.specs.Prelude.{◌≡◌, ◌<◌, ◌⊎◌, length, IfSome, IsTrue};
-ghost use Rattle.gq_pipe.specs.steps.Differing.{IsPairTest};
+ghost use Rattle.std.specs.Prelude.{◌≡◌, ◌<◌, length, IfSome, IsTrue};
 ghost use Rattle.gq_pipe.specs.steps.Keeps.{IsRange};
 ghost use Rattle.gq_pipe.specs.steps.Levels.{step_at};
 ghost use Rattle.gq_pipe.specs.steps.Moves.{run_of, steps_in, IsRun};
-ghost use Rattle.gq_pipe.specs.steps.RowTests.{Extends, IsRowTest, ReadsRows, test_of};
+ghost use Rattle.gq_pipe.specs.steps.RowTests.{Extends, IsListTest, IsRowTest, ReadsRows, test_of};
 
 use crate::places::GroupSteps;
 use crate::plan_run::{Follow, PlanRun, following};
@@ -12,7 +11,7 @@ use gq_plan::Step;
 
 impl PlanRun<'_> {
     /// How a group follows a relationship to a node that was not bound, where rows alone decide its
-    /// tests, or they ask that this relationship differs from another one.
+    /// tests, or they ask that this relationship differs from another one or is no loop.
     pub(crate) fn reads_rows(&self, group: GroupSteps) -> Option<Follow>
         requires run { IsRun (run_of self.now) }
         requires steps { IsRange (run_of self.now) group }
@@ -20,7 +19,7 @@ impl PlanRun<'_> {
     {
         let follow = self.extends(group.first)?;
         for depth in group.first + 1..group.end {
-            if !self.is_list_test(depth, follow.rel) {
+            if !self.is_list_test(depth, follow) {
                 return None;
             }
         }
@@ -49,19 +48,16 @@ impl PlanRun<'_> {
         }
     }
 
-    // Whether the step at a depth is a test that rows alone decide, or asks that a relationship
-    // variable differs from another one.
-    fn is_list_test(&self, depth: usize, rel: u32) -> bool
+    // Whether the step at a depth is a test that rows alone decide, or asks that a relationship that
+    // is followed differs from another one or is no loop.
+    fn is_list_test(&self, depth: usize, follow: Follow) -> bool
         requires run { IsRun (run_of self.now) }
         requires depth { depth < length (steps_in self.now) }
-        ensures { IsTrue result → IsRowTest (run_of self.now) depth
-            ⊎ IsPairTest (run_of self.now) depth rel }
+        ensures { IsTrue result → IsListTest (run_of self.now) depth follow }
     {
-        if self.is_row_test(depth) {
-            true
-        } else {
-            self.is_pair_test(depth, rel)
-        }
+        self.is_row_test(depth)
+            || self.is_pair_test(depth, follow.rel)
+            || self.is_loop_test(depth, follow)
     }
 
     // Whether the step at a depth is a test that rows alone decide.

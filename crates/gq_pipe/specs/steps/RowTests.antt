@@ -4,6 +4,7 @@ use Rattle.gq_plan.specs.Plans.{Step, Extend, Keep}
 use Rattle.gq_plan.specs.declared.assignment.Assignment.{Assignment}
 use Rattle.gq_pipe.specs.steps.Differing.{IsPairTest}
 use Rattle.gq_pipe.specs.steps.Levels.{Run, step_at}
+use Rattle.gq_pipe.specs.steps.Loops.{IsLoopTest}
 use Rattle.gq_pipe.specs.steps.Outcomes.{passes_at}
 use Rattle.gq_pipe.specs.declared.places.GroupSteps.{GroupSteps}
 use Rattle.gq_pipe.specs.declared.plan_run.Follow.{Follow}
@@ -23,7 +24,11 @@ pub record IsRowTest (c : Run) (d : ℕ) : Type 0 where
   pub is : test_of (step_at c d) ≡ Some test
   pub reads : (old new : Assignment) → old.nodes ≡ new.nodes → passes_at c.graph c.typed old test ≡ passes_at c.graph c.typed new test
 
--- a group follows a relationship to a node that was not bound, and its other steps are such tests, or ask that this relationship differs from another one
+-- the step at a depth is such a test, or asks that the relationship that a group follows differs from another one or is no loop
+abbrev pub IsListTest : Run → ℕ → Follow → Type 0
+IsListTest c d f = IsRowTest c d ⊎ (IsPairTest c d f.rel ⊎ IsLoopTest c d f)
+
+-- a group follows a relationship to a node that was not bound, and its other steps are such tests
 pub record ReadsRows (c : Run) (group : GroupSteps) (f : Follow) : Type 0 where
   pub extends : Extends c group.first f
-  pub tests : (d : ℕ) → group.first < d → d < group.end → IsRowTest c d ⊎ IsPairTest c d f.rel
+  pub tests : (d : ℕ) → group.first < d → d < group.end → IsListTest c d f

@@ -1,4 +1,4 @@
-use Rattle.std.proofs.Common.{◌≡◌, ◌<◌, ◌≤◌, ◌+◌, ◌&&◌, ℕ, Some, ap, refl, sym, subst, ◌∙◌, arith, length}
+use Rattle.std.proofs.Common.{◌≡◌, ◌<◌, ◌≤◌, ◌+◌, ◌==◌, ◌&&◌, ℕ, Some, ap, refl, sym, subst, ◌∙◌, arith, length}
 use Rattle.std.specs.Prelude.{Bool, IfSome, List, not, slice_get, slice_index}
 use Rattle.gq_bits.specs.Places.{is_marked}
 use Rattle.gq_plan.specs.Rows.{rel_table}
@@ -9,6 +9,7 @@ use Rattle.gq_pipe.specs.steps.Candidates.{leads_to}
 use Rattle.gq_pipe.specs.steps.Differing.{other_of, pair_of}
 use Rattle.gq_pipe.specs.steps.Keeps.{IsSifted}
 use Rattle.gq_pipe.specs.steps.Levels.{Run, step_at}
+use Rattle.gq_pipe.specs.steps.Loops.{loop_of}
 use Rattle.gq_pipe.specs.steps.Moves.{run_of}
 use Rattle.gq_pipe.specs.steps.Outcomes.{CanFollow, passes_at, with_row}
 use Rattle.gq_pipe.specs.steps.RowTests.{test_of}
@@ -81,8 +82,10 @@ loop-depth-preserved c =
     let tests : (i : ℕ) → test_of (step_at k c.loop-depth.depth) ≡ Some i → (j : ℕ) → is_marked c.keep_places.new.marks j ≡ (is_marked c.loop-depth.marks j && passes_at k.graph k.typed (with_row f.to (slice_index ids j) c.args.row.now) i) =
     subst (λ (r : Assignment). (i : ℕ) → test_of (step_at k c.loop-depth.depth) ≡ Some i → (j : ℕ) → is_marked c.keep_places.new.marks j ≡ (is_marked c.loop-depth.marks j && passes_at k.graph k.typed (with_row f.to (slice_index ids j) r) i)) c.loop-depth.invariant.1 c.keep_places.ensures.tests in
     let pairs : Pairs k f c.loop-depth.depth c.args.first c.loop-depth.marks c.keep_places.new.marks c.args.row.now =
-    subst (λ (r : Assignment). Pairs k f c.loop-depth.depth c.args.first c.loop-depth.marks c.keep_places.new.marks r) c.loop-depth.invariant.1 c.keep_places.ensures.pairs in (
-      listing_next k c.requires.run c.args.group c.requires.steps f c.requires.filters c.args.row.now c.requires.held ids c.args.first c.args.count c.loop-depth.depth (above (goal.at.loop-depth-preserved c).In-loop-depth) c.loop-depth-test.true c.loop-depth.marks c.keep_places.new.marks c.loop-depth.invariant.0 tests pairs,
+    subst (λ (r : Assignment). Pairs k f c.loop-depth.depth c.args.first c.loop-depth.marks c.keep_places.new.marks r) c.loop-depth.invariant.1 c.keep_places.ensures.pairs in
+    let loops : loop_of (step_at k c.loop-depth.depth) ≡ Some f.rel → (j : ℕ) → is_marked c.keep_places.new.marks j ≡ (is_marked c.loop-depth.marks j && not (slice_index ids j == slice_index c.args.row.now.nodes f.from)) =
+    subst (λ (r : Assignment). loop_of (step_at k c.loop-depth.depth) ≡ Some f.rel → (j : ℕ) → is_marked c.keep_places.new.marks j ≡ (is_marked c.loop-depth.marks j && not (slice_index ids j == slice_index r.nodes f.from))) c.loop-depth.invariant.1 c.keep_places.ensures.loops in (
+      listing_next k c.requires.run c.args.group c.requires.steps f c.requires.filters c.args.row.now c.requires.held ids c.args.first c.args.count c.loop-depth.depth (above (goal.at.loop-depth-preserved c).In-loop-depth) c.loop-depth-test.true c.loop-depth.marks c.keep_places.new.marks c.loop-depth.invariant.0 tests pairs loops,
       c.keep_places.ensures.row ∙ c.loop-depth.invariant.1,
     )
 

@@ -1,8 +1,7 @@
-use Rattle.std.proofs.Common.{◌⊎◌, inl, inr, sym, subst, arith}
+use Rattle.std.proofs.Common.{inl, inr, sym, subst, arith}
 use Rattle.std.proofs.lemmas.Bool.{cases_eq}
-use Rattle.gq_pipe.specs.steps.Differing.{IsPairTest}
 use Rattle.gq_pipe.specs.steps.Moves.{run_of}
-use Rattle.gq_pipe.specs.steps.RowTests.{IsRowTest}
+use Rattle.gq_pipe.specs.steps.RowTests.{IsListTest}
 use Rattle.gq_pipe.proofs.plan_run.PlanRun.reads_rows.Goals as goal
 
 pub loop-depth-init : goal.loop-depth-init
@@ -10,7 +9,7 @@ loop-depth-init c = λ d above below. absurd (omega (arith, above, below))
 
 pub loop-depth-preserved : goal.loop-depth-preserved
 loop-depth-preserved c = λ d above below. elim (cases_eq d c.loop-depth.depth) [
-  | inl same ↦ subst (λ n. IsRowTest (run_of c.args.self.now) n ⊎ IsPairTest (run_of c.args.self.now) n c.in_ok-follow.follow.rel) (sym same) (c.is_list_test.ensures c.if-not-is_list_test.false)
+  | inl same ↦ subst (λ n. IsListTest (run_of c.args.self.now) n c.in_ok-follow.follow) (sym same) (c.is_list_test.ensures c.if-not-is_list_test.false)
   | inr other ↦ c.loop-depth.invariant d above (omega (arith, below, other))
 ]
 

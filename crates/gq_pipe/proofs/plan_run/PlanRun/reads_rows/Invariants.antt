@@ -1,8 +1,7 @@
-use Rattle.std.proofs.Common.{ℕ, ◌<◌, ◌⊎◌}
-use Rattle.gq_pipe.specs.steps.Differing.{IsPairTest}
+use Rattle.std.proofs.Common.{ℕ, ◌<◌}
 use Rattle.gq_pipe.specs.steps.Moves.{run_of}
-use Rattle.gq_pipe.specs.steps.RowTests.{IsRowTest}
+use Rattle.gq_pipe.specs.steps.RowTests.{IsListTest}
 use Rattle.gq_pipe.proofs.plan_run.PlanRun.reads_rows.Given as goal
 
 abbrev pub invariant-loop-depth : goal.invariant-loop-depth
-invariant-loop-depth l = (d : ℕ) → l.fn.group.first < d → d < l.depth → IsRowTest (run_of l.self) d ⊎ IsPairTest (run_of l.self) d l.follow.rel
+invariant-loop-depth l = (d : ℕ) → l.fn.group.first < d → d < l.depth → IsListTest (run_of l.self) d l.follow
