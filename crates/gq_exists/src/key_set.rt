@@ -84,7 +84,7 @@ impl KeySet {
             (map plan_of plans.now) s.spent) }
         ensures pool { spare_of pool.new ≡ spare_of pool.old }
     {
-        let _ = graph.catalog();
+        graph.stands_valid();
         if part.nodes.len() > u32::MAX as usize {
             return Err(JoinRefusal::Memory);
         }
@@ -196,7 +196,7 @@ fn run(
         graph.now typed.now (plan_of plan.now) spent.old spent.new) }
     ensures pool { spare_of pool.new ≡ spare_of pool.old }
 {
-    let _ = graph.catalog();
+    graph.stands_valid();
     if gathering.width as usize > typed.nodes.len() {
         return Err(JoinRefusal::Memory);
     }

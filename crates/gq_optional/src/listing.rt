@@ -88,7 +88,7 @@ fn list_one<'b>(
     ensures refused { IfErr result (IsOneRefusal graph.now limit typed.now (plan_of plan.now)) }
     ensures pool { spare_of pool.new ≡ spare_of pool.old }
 {
-    let _ = graph.catalog();
+    graph.stands_valid();
     let builds = match make_builds(alloc, graph, plan, typed, pool, limit) {
         Ok(builds) => builds,
         Err(refusal) => return Err(refusal),

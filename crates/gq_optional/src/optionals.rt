@@ -79,7 +79,7 @@ impl<'b> Optionals<'b> {
             IfErr result (IsRefusal graph.now limit parts.now pss) }
         ensures pool { spare_of pool.new ≡ spare_of pool.old }
     {
-        let _ = graph.catalog();
+        graph.stands_valid();
         let mut known = first_variables(alloc, shape.first)?;
         let mut clauses = List::new(alloc);
         let mut spent = List::new(alloc);
@@ -189,7 +189,7 @@ fn hold<'b>(
         IfErr result (IsEachRefusal graph.now limit part.now.alternatives ps) }
     ensures pool { spare_of pool.new ≡ spare_of pool.old }
 {
-    let _ = graph.catalog();
+    graph.stands_valid();
     let nodes = part.nodes.as_slice();
     if nodes.len() > u32::MAX as usize {
         return Err(JoinRefusal::Memory);
