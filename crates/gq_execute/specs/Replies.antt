@@ -50,6 +50,7 @@ tests_of query = tests [] query
 abbrev pub outcomes_behind : Graph → Bound → List ℕ → List (List Assignment) → Marked → List (Result Row Fault)
 outcomes_behind g b known mss m = map (ending g b) (after_clauses g known b.optionals mss m)
 
+-- those behind the optional clauses of a query, each with its own matches
 abbrev pub behind_optionals : Question → Marked → List (Result Row Fault)
 behind_optionals a = outcomes_behind a.graph a.bound (known_first a.query) (map (clause_matches a.graph) a.query.optionals)
 
@@ -107,6 +108,7 @@ has_heavy_test a = has_turns a && some_many_keys a.graph a.most (tests_of a.quer
 abbrev pub is_heavy_in : Graph → Order → ℕ → Typed → Bool
 is_heavy_in g order most y = nat_lt most (length (allowed g y)) || has_large_part g order most y
 
+-- some alternative of a clause does
 unfoldable pub is_heavy_clause : Graph → Order → ℕ → OptionalPart → Bool
 is_heavy_clause g order most part = list_any (is_heavy_in g order most) part.alternatives
 
