@@ -154,7 +154,7 @@ fn take_turn<'g>(
         (SpendsTurn graph.now settings.now.order typed.now table.old table.new) }
     ensures slots { spare_of pool.new ≡ spare_of pool.old }
 {
-    let _ = graph.catalog();
+    graph.stands_valid();
     let planned = plan_for(alloc, settings.order, graph, stats, typed)?;
     let plan = &planned.plan;
     let builds = match make_builds(alloc, graph, plan, typed, pool, settings.rows) {
@@ -201,7 +201,7 @@ fn take_turns<'g>(
     ensures bound { OnOk result (table.new.bound ≡ bound.now) }
     ensures slots { spare_of pool.new ≡ spare_of pool.old }
 {
-    let _ = graph.catalog();
+    graph.stands_valid();
     let mut spent = List::new(alloc);
     'alternatives: for typed in bound.alternatives.as_slice() {
         if table.enough() {
@@ -244,7 +244,7 @@ fn fill<'g>(
     ensures bound { OnOk result (table.new.bound ≡ bound.now) }
     ensures slots { spare_of pool.new ≡ spare_of pool.old }
 {
-    let _ = graph.catalog();
+    graph.stands_valid();
     if bound.alternatives.is_empty() || table.enough() {
         return Ok(List::new(alloc));
     }
@@ -303,7 +303,7 @@ pub fn answer<'g>(
         found.listing.columns ≡ length bound.now.columns) }
     ensures slots { spare_of pool.new ≡ spare_of pool.old }
 {
-    let _ = graph.catalog();
+    graph.stands_valid();
     let mut table = RowTable::new(alloc, bound, settings.rows);
     let spent = match fill(alloc, graph, bound, &mut table, pool, settings) {
         Ok(spent) => spent,

@@ -68,7 +68,7 @@ pub(crate) fn list_clauses<'q>(
         (RefusesClauses graph.now settings.now.order settings.now.rows parts.now) }
     ensures slots { spare_of pool.new ≡ spare_of pool.old }
 {
-    let _ = graph.catalog();
+    graph.stands_valid();
     let plans = clause_plans(alloc, graph, stats, parts, settings.order, shape)?;
     let plans = plans.as_slice();
     match Optionals::make(alloc, graph, parts, plans, shape, pool, settings.rows) {

@@ -179,7 +179,7 @@ pub(crate) fn plans_in(
     ensures each { IfOk result (λ made.
         AllZip (IsPlanned order graph.now) alternatives.now (map plan_of made.plans)) }
 {
-    let _ = graph.catalog();
+    graph.stands_valid();
     let mut plans = List::new(alloc);
     let mut costs = List::new(alloc);
     'alternatives: for typed in alternatives {

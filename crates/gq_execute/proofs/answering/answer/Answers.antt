@@ -14,11 +14,11 @@ returns-in-Ok-finish c =
       permitted = λ query text is.
           let a = question c.args.graph.now query c.args.bound.now c.args.settings.now in
           let filled = fills.filled query text is in
-          finished a (bound_parted a text c.catalog.ensures.valid is) fills.turns c.fill.new.table filled.came filled.done c.in-Ok-finish.listing.lines c.in-Ok-finish.ensures.lines (or_from _ _ (answers.light query text is) (answers.light_clauses query text is));
+          finished a (bound_parted a text c.stands_valid.ensures is) fills.turns c.fill.new.table filled.came filled.done c.in-Ok-finish.listing.lines c.in-Ok-finish.ensures.lines (or_from _ _ (answers.light query text is) (answers.light_clauses query text is));
       spends = λ query text is.
           let a = question c.args.graph.now query c.args.bound.now c.args.settings.now in
           let filled = fills.filled query text is in
-          spent_all a (bound_parted a text c.catalog.ensures.valid is) fills.turns c.fill.new.table filled.came filled.done answers.tested answers.listed answers.own c.in-Ok.spent c.in-Ok-finish.listing.pushed c.in-Ok-finish.ensures.pushed fills.spends (answers.on_tests query text is) (answers.on_clauses query text is) answers.all;
+          spent_all a (bound_parted a text c.stands_valid.ensures is) fills.turns c.fill.new.table filled.came filled.done answers.tested answers.listed answers.own c.in-Ok.spent c.in-Ok-finish.listing.pushed c.in-Ok-finish.ensures.pushed fills.spends (answers.on_tests query text is) (answers.on_clauses query text is) answers.all;
       columns = c.in-Ok-finish.ensures.columns ∙ ap (λ (b : Bound). length b.columns) c.in-Ok.ensures.bound;
       slots = c.in-Ok.ensures.slots;
     }

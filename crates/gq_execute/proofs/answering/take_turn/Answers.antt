@@ -36,7 +36,7 @@ start-requires-clause-room c =
 pub returns-in-Err : goal.returns-in-Err
 returns-in-Err c = record {
   drains = rw c.from.ensures (sides_refused (later_by c.args.graph.now c.args.prepared.now) c.args.graph.now c.args.settings.now.order c.args.typed.now c.args.table.now.bound c.args.table.now c.args.table.now (plan_of c.in_ok-planned.planned.plan)
-      c.catalog.ensures.valid c.requires.sound c.in_ok-planned.ensures.parts c.in_ok-planned.ensures.alone c.requires.most c.in-Err.refusal c.in-Err.ensures.refused);
+      c.stands_valid.ensures c.requires.sound c.in_ok-planned.ensures.parts c.in_ok-planned.ensures.alone c.requires.most c.in-Err.refusal c.in-Err.ensures.refused);
   spends = tt;
   slots = c.make_builds.ensures.pool;
 }
@@ -58,7 +58,7 @@ returns-in-Err-drained-clause-drains c =
     let y = c.args.typed.now in
     let plan = plan_of c.in_ok-planned.planned.plan in
     let few = ap (λ m. sides_within g y m plan) (sym c.requires.most) ∙ c.in-Ok.ensures.few in
-    let light = sides_light g c.args.settings.now.order y c.args.table.now.most plan c.catalog.ensures.valid c.requires.sound c.in_ok-planned.ensures.parts c.in_ok-planned.ensures.alone few in
+    let light = sides_light g c.args.settings.now.order y c.args.table.now.most plan c.stands_valid.ensures c.requires.sound c.in_ok-planned.ensures.parts c.in_ok-planned.ensures.alone few in
     turn_stops (later_by c.args.graph.now c.args.prepared.now) g c.args.settings.now.order y c.args.table.now c.drain_all-drained.new.table plan c.in_ok-planned.ensures.covers light c.start_alternative.new.self c.in_ok-pipeline.pipeline
     c.start_alternative.ensures (ap (λ (s : Source). s.typed) p.source) p.meaning c.in-Err-drained.refusal c.in-Err-drained.ensures.takes
 
@@ -69,7 +69,7 @@ returns-clause-drains c =
     let y = c.args.typed.now in
     let plan = plan_of c.in_ok-planned.planned.plan in
     let few = ap (λ m. sides_within g y m plan) (sym c.requires.most) ∙ c.in-Ok.ensures.few in
-    let light = sides_light g c.args.settings.now.order y c.args.table.now.most plan c.catalog.ensures.valid c.requires.sound c.in_ok-planned.ensures.parts c.in_ok-planned.ensures.alone few in
+    let light = sides_light g c.args.settings.now.order y c.args.table.now.most plan c.stands_valid.ensures c.requires.sound c.in_ok-planned.ensures.parts c.in_ok-planned.ensures.alone few in
     turned (later_by c.args.graph.now c.args.prepared.now) g c.args.settings.now.order y c.args.table.now c.drain_all-drained.new.table plan c.in_ok-planned.ensures.covers light c.start_alternative.new.self c.in_ok-pipeline.pipeline
     c.start_alternative.ensures (ap (λ (s : Source). s.typed) p.source) p.meaning c.in-Ok-drained.ensures.takes
 

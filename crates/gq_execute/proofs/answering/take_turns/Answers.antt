@@ -34,8 +34,8 @@ alternatives-preserved c =
       slots = c.in-Ok.ensures.slots ∙ i.slots;
       spends = rw c.in_ok-append-in-Ok.ensures (spends_more c.args.graph.now c.args.bound.now c.args.settings.now.order c.args.bound.now.alternatives c.alternatives.typed-index y old new c.alternatives.spent c.in-Ok.turn here i.bound i.spends c.in-Ok.ensures.spends);
       came = λ query text is.
-          turn_taken (question c.args.graph.now query c.args.bound.now c.args.settings.now) (bound_parted (question c.args.graph.now query c.args.bound.now c.args.settings.now) text c.catalog.ensures.valid is) (later_by c.args.graph.now c.args.prepared.now)
-          (made_here c.args.graph.now query c.args.bound.now c.args.settings.now text c.args.prepared.now c.catalog.ensures.valid is c.requires.prepared)
+          turn_taken (question c.args.graph.now query c.args.bound.now c.args.settings.now) (bound_parted (question c.args.graph.now query c.args.bound.now c.args.settings.now) text c.stands_valid.ensures is) (later_by c.args.graph.now c.args.prepared.now)
+          (made_here c.args.graph.now query c.args.bound.now c.args.settings.now text c.args.prepared.now c.stands_valid.ensures is c.requires.prepared)
           c.alternatives.typed-index y old new here (i.came query text is) (sym c.enough.ensures ∙ c.if-enough.false) run;
     }
 
@@ -61,8 +61,8 @@ returns-in-Err c =
     (c.typed-item.is ∙ ap (λ ys. get_or ys c.alternatives.typed-index y) c.as_slice-typed-items.ensures) in
     record {
       fills = λ query text is.
-          turn_ended (question c.args.graph.now query c.args.bound.now c.args.settings.now) (bound_parted (question c.args.graph.now query c.args.bound.now c.args.settings.now) text c.catalog.ensures.valid is) (later_by c.args.graph.now c.args.prepared.now)
-          (made_here c.args.graph.now query c.args.bound.now c.args.settings.now text c.args.prepared.now c.catalog.ensures.valid is c.requires.prepared)
+          turn_ended (question c.args.graph.now query c.args.bound.now c.args.settings.now) (bound_parted (question c.args.graph.now query c.args.bound.now c.args.settings.now) text c.stands_valid.ensures is) (later_by c.args.graph.now c.args.prepared.now)
+          (made_here c.args.graph.now query c.args.bound.now c.args.settings.now text c.args.prepared.now c.stands_valid.ensures is c.requires.prepared)
           c.alternatives.typed-index y c.alternatives.table c.take_turn.new.table here (i.came query text is) (sym c.enough.ensures ∙ c.if-enough.false) c.in-Err.refusal c.in-Err.ensures.drains;
       stands = tt;
       bound = tt;

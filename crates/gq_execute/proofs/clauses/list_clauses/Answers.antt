@@ -15,7 +15,7 @@ returns-in-Ok-clause-listed c =
 pub returns-in-Ok-clause-light : goal.returns-in-Ok-clause-light
 returns-in-Ok-clause-light c =
     let catalog = c.args.graph.now.catalog in
-    clauses_light c.args.graph.now c.args.settings.now.order c.args.settings.now.rows c.catalog.ensures.valid c.args.shape.nodes c.args.shape.rels c.args.parts.now c.in_ok-plans.plans
+    clauses_light c.args.graph.now c.args.settings.now.order c.args.settings.now.rows c.stands_valid.ensures c.args.shape.nodes c.args.shape.rels c.args.parts.now c.in_ok-plans.plans
     (recursion_from_All _ c.args.parts.now c.requires.placed) c.in_ok-plans.ensures (rw c.as_slice-plans.ensures at c.in-Ok.ensures.few)
 
 pub returns-in-Ok-clause-spent : goal.returns-in-Ok-clause-spent
@@ -25,5 +25,5 @@ returns-in-Ok-clause-spent c =
 pub returns-clause-refused : goal.returns-clause-refused
 returns-clause-refused c =
     rw c.from.ensures
-    (clauses_refused c.args.graph.now c.args.settings.now.order c.args.settings.now.rows c.catalog.ensures.valid c.args.shape.nodes c.args.shape.rels c.args.parts.now c.in_ok-plans.plans
+    (clauses_refused c.args.graph.now c.args.settings.now.order c.args.settings.now.rows c.stands_valid.ensures c.args.shape.nodes c.args.shape.rels c.args.parts.now c.in_ok-plans.plans
     (recursion_from_All _ c.args.parts.now c.requires.placed) c.in_ok-plans.ensures c.in-Err.refusal (rw c.as_slice-plans.ensures at c.in-Err.ensures.refused))
