@@ -102,8 +102,7 @@ impl Replier<'_> {
             All (λ p. sound p.alternatives) bound.now.patterns }
         requires tests_begin { let begin = All (λ y. 0 < length y.nodes) in
             All (λ p. begin p.alternatives) bound.now.patterns }
-        requires placed {
-            let placed = IsPlaced (length bound.now.node_names) (length bound.now.rel_names) in
+        requires placed { let placed = IsPlaced (length bound.now.node_names) (length bound.now.rel_names) in
             All (placed self.now.graph.now.catalog) bound.now.optionals }
         requires nodes { let most = length bound.now.node_names in
             All (λ y. length y.nodes ≤ most) bound.now.alternatives }
