@@ -1,7 +1,7 @@
 pub mod Coring
 pub mod Ordering
 pub mod Plain
-mod PlainTyping
+pub mod PlainTyping
 pub mod Reading
 mod Renumbering
 pub mod Shaping

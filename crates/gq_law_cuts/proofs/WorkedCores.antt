@@ -8,7 +8,7 @@ use Rattle.gq_base.specs.declared.direction.Direction.TheVariants.{Forward, Back
 use Rattle.gq_expr.specs.declared.Expr.TheVariants as expr
 use Rattle.gq_plan.specs.declared.NamedExpr.{NamedExpr}
 use Rattle.gq_law_reaches.specs.Core.{core_nodes, trail_parts}
-use Rattle.gq_law_trails.specs.declared.TrailPart.{TrailPart}
+use Rattle.gq_plan.specs.declared.TrailPart.{TrailPart}
 use Rattle.gq_plan.specs.declared.PathPart.{PathPart}
 use Rattle.gq_scopes.specs.Patterns.{MapEntry, pattern_of}
 use Rattle.gq_syntax.specs.declared.Arrow.{Arrow}

@@ -20,7 +20,7 @@ use Rattle.gq_syntax.specs.declared.RelPart.{RelPart}
 
 -- ---- paths, cut at their trails
 
-abbrev leads_right : Arrow → Bool
+abbrev pub leads_right : Arrow → Bool
 leads_right arrow.Right = true
 leads_right arrow.Left = false
 leads_right arrow.Either = false
@@ -83,6 +83,11 @@ with_clauses number (c ∷ cs) q = with_clauses (suc number) cs (with_paths numb
 -- the patterns of MATCH clauses, their variables in the order of first appearance
 unfoldable pub trailed_of : List Clause → Trailed
 trailed_of clauses = with_clauses 0 clauses (without_trails no_pattern)
+
+-- no trail is empty, or longer than 16
+abbrev pub HaveLengths : List Clause → Type 0
+HaveLengths clauses =
+    AllByRecursion (λ (w : TrailPattern). (1 ≤ w.low) × (w.low ≤ w.high) × (w.high ≤ 16)) (trailed_of clauses).trails
 
 -- ---- variables numbered anew
 

@@ -21,7 +21,7 @@ use Rattle.gq_law_plans.proofs.Wholes.{bool_iff}
 use Rattle.gq_law_trails.specs.Met.{is_trailed, turned}
 use Rattle.gq_law_trails.specs.Real.{is_real}
 use Rattle.gq_law_trails.specs.Trails.{Trailing, after_trails}
-use Rattle.gq_law_trails.specs.declared.TrailPart.{TrailPart}
+use Rattle.gq_plan.specs.declared.TrailPart.{TrailPart}
 use Rattle.gq_scopes.specs.Patterns.{MapEntry, Pattern}
 use Rattle.gq_law_reaches.specs.Bags.{ContinuedAreReaches, reach_of}
 use Rattle.gq_law_reaches.specs.Core.{begin_of, continued, core_nodes, core_pattern, parts_from, patterns_of, trail_parts}

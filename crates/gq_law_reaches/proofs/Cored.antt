@@ -17,7 +17,7 @@ use Rattle.gq_law_plans.proofs.PlanCounts.{total_same_on}
 use Rattle.gq_law_trails.specs.Met.{AreOrdered}
 use Rattle.gq_law_trails.proofs.Walked.{trails_from_each}
 use Rattle.gq_scopes.specs.Patterns.{Pattern}
-use Rattle.gq_law_trails.specs.declared.TrailPart.{TrailPart}
+use Rattle.gq_plan.specs.declared.TrailPart.{TrailPart}
 use Rattle.gq_law_reaches.specs.Continued.{CoreContinued}
 use Rattle.gq_law_reaches.specs.Core.{begin_of, core_part, core_pattern, numbered, patterns_of}
 use Rattle.gq_law_reaches.specs.Reaches.{rels_in}

@@ -8,7 +8,7 @@ use Rattle.gq_plan.specs.declared.Variable.TheVariants.{Node as node}
 use Rattle.gq_alternatives.specs.Matches.{is_match}
 use Rattle.gq_scopes.specs.Patterns.{MapEntry, NodePattern}
 use Rattle.gq_law_trails.specs.Real.{is_real}
-use Rattle.gq_law_trails.specs.declared.TrailPart.{TrailPart}
+use Rattle.gq_plan.specs.declared.TrailPart.{TrailPart}
 use Rattle.gq_law_reaches.specs.Core.{core_nodes, core_part, trail_parts}
 use Rattle.gq_law_reaches.specs.Cores.{AreReached, CoresContinuedToReaches}
 use Rattle.gq_law_reaches.specs.Reaches.{TrailPattern, differ_in, is_reach, trails_hold}

@@ -16,7 +16,7 @@ use Rattle.gq_law_plans.proofs.Lookups.{Found, bound, eqb_swap, found_bind}
 use Rattle.gq_law_trails.specs.Met.{knows_more}
 use Rattle.gq_law_trails.specs.Trails.{Trailing, after_trails, arrivals, arrive_at, fits_end, walks_from, with_list}
 use Rattle.gq_law_trails.specs.Walks.{end_of}
-use Rattle.gq_law_trails.specs.declared.TrailPart.{TrailPart}
+use Rattle.gq_plan.specs.declared.TrailPart.{TrailPart}
 use Rattle.gq_scopes.specs.Patterns.{MapEntry, Pattern}
 use Rattle.gq_law_reaches.specs.Core.{numbered, part_of, parts_from}
 use Rattle.gq_law_reaches.specs.Cores.{AreReached}

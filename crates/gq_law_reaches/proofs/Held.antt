@@ -13,7 +13,7 @@ use Rattle.gq_plan.specs.Assignments.{Assignment, is_rel}
 use Rattle.gq_plan.specs.Soundness.{has_number}
 use Rattle.gq_scopes.specs.Patterns.{Name, Pattern, MapEntry}
 use Rattle.gq_law_trails.specs.Walks.{chained, is_of_type}
-use Rattle.gq_law_trails.specs.declared.TrailPart.{TrailPart}
+use Rattle.gq_plan.specs.declared.TrailPart.{TrailPart}
 use Rattle.gq_law_trails.specs.Asked.{trail_asked, trails_asked}
 use Rattle.gq_law_trails.specs.Met.{begun_at, end_fits, ended_at, turned}
 use Rattle.gq_law_reaches.specs.Core.{part_of, parts_from, way_of}

@@ -5,7 +5,7 @@ use Rattle.std.proofs.lemmas.Bool.{cases_eq, eq-eqb, ne_eqb}
 use Rattle.gq_plan.specs.Soundness.{has_number}
 use Rattle.gq_scopes.specs.Patterns.{Pattern, MapEntry}
 use Rattle.gq_law_trails.specs.Met.{AreOrdered, EndBound, knows_more}
-use Rattle.gq_law_trails.specs.declared.TrailPart.{TrailPart}
+use Rattle.gq_plan.specs.declared.TrailPart.{TrailPart}
 use Rattle.gq_law_reaches.specs.Core.{core_nodes, first_core, grown, part_of, parts_from}
 use Rattle.gq_law_reaches.specs.Cores.{AreReached, is_end}
 use Rattle.gq_law_reaches.specs.Reaches.{TrailPattern, Trailed}

@@ -11,7 +11,7 @@ use Rattle.gq_plan.specs.declared.variable.Variable.TheVariants.{Node as node, R
 use Rattle.gq_plan.specs.declared.variable.Variable.{Variable}
 use Rattle.gq_scopes.specs.Patterns.{MapEntry, NodePattern, Pattern}
 use Rattle.gq_law_trails.specs.Trails.{fits_end}
-use Rattle.gq_law_trails.specs.declared.TrailPart.{TrailPart}
+use Rattle.gq_plan.specs.declared.TrailPart.{TrailPart}
 use Rattle.gq_law_trails.specs.Met.{end_fits}
 use Rattle.gq_law_reaches.specs.Core.{entries_at, is_core_entry, outer_match}
 use Rattle.gq_law_reaches.specs.Turned.{AreBinding, AreTests, EndsAreOuter, IsBinding, binds, ends_fit}

@@ -6,7 +6,7 @@ use Rattle.gq_alternatives.specs.Matches.{is_match}
 use Rattle.gq_law_trails.specs.Real.{is_real}
 use Rattle.gq_plan.proofs.Counts.{bit}
 use Rattle.gq_plan.specs.Assignments.{is_rel, same_rel}
-use Rattle.gq_law_trails.specs.declared.TrailPart.{TrailPart}
+use Rattle.gq_plan.specs.declared.TrailPart.{TrailPart}
 use Rattle.gq_law_reaches.proofs.Outer.{matches_part}
 use Rattle.gq_law_reaches.specs.Core.{core_part, core_pattern, parts_from}
 use Rattle.gq_law_reaches.specs.Reaches.{TrailPattern, lists_in, rels_in, trails_hold}

@@ -13,7 +13,7 @@ use Rattle.gq_plan.specs.Soundness.{has_number}
 use Rattle.gq_scopes.specs.Patterns.{Pattern, MapEntry}
 use Rattle.gq_law_trails.specs.Real.{is_real}
 use Rattle.gq_law_trails.specs.Walks.{chained}
-use Rattle.gq_law_trails.specs.declared.TrailPart.{TrailPart}
+use Rattle.gq_plan.specs.declared.TrailPart.{TrailPart}
 use Rattle.gq_law_reaches.specs.Core.{core_part, part_of, parts_from}
 use Rattle.gq_law_reaches.specs.Reaches.{TrailPattern, end_of, start_of, trail_holds, trails_hold}
 use Rattle.gq_law_reaches.specs.Turned.{binds}

@@ -9,7 +9,7 @@ use Rattle.gq_base.specs.declared.direction.Direction.{Direction}
 use Rattle.gq_base.specs.declared.direction.Direction.TheVariants.{Forward, Backward}
 use Rattle.gq_plan.specs.Assignments.{same_rel}
 use Rattle.gq_scopes.specs.Patterns.{Pattern, MapEntry}
-use Rattle.gq_law_trails.specs.declared.TrailPart.{TrailPart}
+use Rattle.gq_plan.specs.declared.TrailPart.{TrailPart}
 use Rattle.gq_law_trails.proofs.Free.{free_distinct, free_is, unused, unused_more}
 use Rattle.gq_law_trails.specs.Apart.{lists_for}
 use Rattle.gq_law_trails.specs.Met.{turned}

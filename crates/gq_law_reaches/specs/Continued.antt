@@ -12,7 +12,7 @@ use Rattle.gq_law_trails.specs.Apart.{lists_for}
 use Rattle.gq_law_trails.specs.Asked.{trails_asked}
 use Rattle.gq_law_trails.specs.Met.{AreOrdered, is_trailed, trails_met}
 use Rattle.gq_law_trails.specs.Real.{is_real}
-use Rattle.gq_law_trails.specs.declared.TrailPart.{TrailPart}
+use Rattle.gq_plan.specs.declared.TrailPart.{TrailPart}
 use Rattle.gq_law_reaches.specs.Core.{continued, core_part, core_pattern, outer_match}
 use Rattle.gq_law_reaches.specs.Reaches.{Reach, reaches, rels_in, without_trails}
 

@@ -15,7 +15,7 @@ use Rattle.gq_plan.specs.declared.variable.Variable.{Variable}
 use Rattle.gq_plan.specs.declared.variable.Variable.TheVariants.{Node as node, Rel as rel}
 use Rattle.gq_scopes.specs.Patterns.{MapEntry, Name, NodePattern, Pattern, RelPattern}
 use Rattle.gq_law_trails.specs.Trails.{Trailing, after_trails}
-use Rattle.gq_law_trails.specs.declared.TrailPart.{TrailPart}
+use Rattle.gq_plan.specs.declared.TrailPart.{TrailPart}
 use Rattle.gq_law_reaches.specs.Reaches.{TrailPattern, Trailed, rels_in}
 use Rattle.gq_plan.specs.declared.NamedExpr.{NamedExpr}
 
@@ -54,7 +54,7 @@ core_nodes q = filter (has_number (grown (first_core q) (first_core q) q.trails)
 abbrev pub labels_of : Pattern → ℕ → List Name
 labels_of p v = flat_map (λ (n : NodePattern). if nat_eq n.variable v then n.part.labels else []) p.nodes
 
-abbrev is_node_at : ℕ → Variable → Bool
+abbrev pub is_node_at : ℕ → Variable → Bool
 is_node_at v (node w) = nat_eq w v
 is_node_at v (rel x) = false
 

@@ -16,7 +16,7 @@ use Rattle.gq_law_trails.specs.Real.{is_real}
 use Rattle.gq_plan.specs.Assignments.{Assignment, is_node, is_rel, same_rel}
 use Rattle.gq_scopes.specs.Patterns.{MapEntry, NodePattern, Pattern, RelPattern, Name}
 use Rattle.gq_law_trails.specs.Trails.{fits_end}
-use Rattle.gq_law_trails.specs.declared.TrailPart.{TrailPart}
+use Rattle.gq_plan.specs.declared.TrailPart.{TrailPart}
 use Rattle.gq_law_trails.specs.Apart.{lists_for}
 use Rattle.gq_law_trails.specs.Asked.{trails_asked}
 use Rattle.gq_law_trails.specs.Met.{AreOrdered, end_fits, is_trailed, turned}

@@ -10,7 +10,7 @@ use Rattle.gq_plan.proofs.Each.{each_of, each_then}
 use Rattle.gq_law_plans.proofs.Wholes.{bool_iff}
 use Rattle.gq_law_trails.specs.Trails.{taken_in, used_in}
 use Rattle.gq_law_trails.specs.Walks.{are_free}
-use Rattle.gq_law_trails.specs.declared.part.TrailPart.{TrailPart}
+use Rattle.gq_plan.specs.declared.TrailPart.{TrailPart}
 use Rattle.gq_law_trails.specs.Apart.{FreesAreDistinct, frees, lists_for}
 use Rattle.gq_law_trails.proofs.Free.{free_distinct, free_is, unused, unused_more}
 

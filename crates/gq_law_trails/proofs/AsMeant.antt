@@ -14,7 +14,7 @@ use Rattle.gq_plan.proofs.Products.{same_node_is}
 use Rattle.gq_law_plans.proofs.Lookups.{eqb_swap}
 use Rattle.gq_law_trails.specs.Trails.{fits_end, used_in}
 use Rattle.gq_law_trails.specs.Walks.{are_free, chained, chained_by, end_of, is_of_type, is_walk}
-use Rattle.gq_law_trails.specs.declared.part.TrailPart.{TrailPart}
+use Rattle.gq_plan.specs.declared.TrailPart.{TrailPart}
 use Rattle.gq_law_trails.specs.Met.{TrailMetAsMeant, begun_at, end_fits, end_met, ended_at, turned}
 use Rattle.gq_law_trails.proofs.Meant.{chains_turn, walks_are}
 

@@ -5,7 +5,7 @@ use Rattle.gq_base.specs.declared.RelId.{RelId}
 use Rattle.gq_plan.specs.Assignments.{Assignment}
 use Rattle.gq_law_trails.specs.Trails.{used_in}
 use Rattle.gq_law_trails.specs.Walks.{are_free}
-use Rattle.gq_law_trails.specs.declared.part.TrailPart.{TrailPart}
+use Rattle.gq_plan.specs.declared.TrailPart.{TrailPart}
 use Rattle.gq_law_trails.specs.Apart.{frees}
 use Rattle.gq_law_trails.specs.Asked.{TrailsMetAsMeant, trail_asked, trails_asked}
 use Rattle.gq_law_trails.specs.Met.{trail_met, trails_met}

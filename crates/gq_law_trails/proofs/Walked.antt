@@ -13,7 +13,7 @@ use Rattle.gq_law_plans.proofs.Lookups.{bound}
 use Rattle.gq_law_plans.proofs.PlanCounts.{total_same_on}
 use Rattle.gq_law_trails.specs.Trails.{after_trails, arrivals, arrive_at, fits_end, used_in, walks_from, with_list}
 use Rattle.gq_law_trails.specs.Walks.{end_of, is_walk}
-use Rattle.gq_law_trails.specs.declared.part.TrailPart.{TrailPart}
+use Rattle.gq_plan.specs.declared.TrailPart.{TrailPart}
 use Rattle.gq_law_trails.specs.Met.{AreOrdered, EndBound, TrailsWalkedFromEach, TrailsWalkedOnce, end_met, is_trailed, knows_more, trail_met, trails_met}
 use Rattle.gq_law_trails.proofs.Once.{walks_once}
 

@@ -6,7 +6,7 @@ use Rattle.gq_base.specs.declared.RelId.{RelId}
 use Rattle.gq_plan.specs.Assignments.{same_rel}
 use Rattle.gq_law_trails.specs.Trails.{used_in}
 use Rattle.gq_law_trails.specs.Walks.{are_free}
-use Rattle.gq_law_trails.specs.declared.part.TrailPart.{TrailPart}
+use Rattle.gq_plan.specs.declared.TrailPart.{TrailPart}
 
 -- each list is free of what trails before it, and relationship patterns, of its clause have
 abbrev pub frees : (ℕ → List RelId) → List TrailPart → List (ℕ × List RelId) → List (List RelId) → Bool

@@ -6,7 +6,7 @@ use Rattle.gq_base.specs.Plain.{Graph}
 use Rattle.gq_base.specs.declared.RelId.{RelId}
 use Rattle.gq_plan.specs.Assignments.{Assignment, is_rel, same_rel}
 use Rattle.gq_law_trails.specs.Walks.{chained, is_of_type}
-use Rattle.gq_law_trails.specs.declared.part.TrailPart.{TrailPart}
+use Rattle.gq_plan.specs.declared.TrailPart.{TrailPart}
 use Rattle.gq_law_trails.specs.Apart.{lists_for}
 use Rattle.gq_law_trails.specs.Met.{begun_at, end_fits, ended_at, trails_met, turned}
 

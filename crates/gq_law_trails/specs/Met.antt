@@ -15,7 +15,7 @@ use Rattle.gq_law_plans.proofs.Counting.{extends}
 use Rattle.gq_law_plans.proofs.Lookups.{bound}
 use Rattle.gq_law_trails.specs.Trails.{Trailing, after_trails, fits_end, used_in}
 use Rattle.gq_law_trails.specs.Walks.{are_free, chained, end_of, is_of_type, is_walk}
-use Rattle.gq_law_trails.specs.declared.part.TrailPart.{TrailPart}
+use Rattle.gq_plan.specs.declared.TrailPart.{TrailPart}
 
 -- ---- what trails ask of an assignment and their lists
 

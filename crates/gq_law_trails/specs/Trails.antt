@@ -9,7 +9,7 @@ use Rattle.gq_plan.specs.Allowed.{at_same}
 use Rattle.gq_plan.specs.Conditions.{passes}
 use Rattle.gq_plan.specs.Meaning.{Partial, keep_if, look, nothing, row, with_node}
 use Rattle.gq_law_trails.specs.Walks.{end_of, walks}
-use Rattle.gq_law_trails.specs.declared.part.TrailPart.{TrailPart}
+use Rattle.gq_plan.specs.declared.TrailPart.{TrailPart}
 
 -- what is bound, and the lists of the trails, in order
 pub record Trailing : Type 0 where

@@ -4,11 +4,9 @@
 #![tactic(auto)]
 
 mod law;
-mod part;
 
 pub use law::{
     all_trails_are_met_as_meant, chains_turn, each_walk_is_listed_once, free_lists_are_distinct,
     free_trails_are_distinct, trails_are_met_as_meant, trails_are_walked_from_each,
     trails_are_walked_once, walks_are_trails,
 };
-pub use part::TrailPart;

@@ -1,7 +1,7 @@
 //! A query whose names are resolved.
 
 use crate::typed::Typed;
-use gq_base::{List, Text};
+use gq_base::{Direction, List, Text};
 use gq_expr::Expr;
 
 /// An expression and what it is called.
@@ -47,8 +47,35 @@ pub struct OptionalPart {
     pub alternatives: List<Typed>,
 }
 
+/// A trail: relationships that follow one another, of which none stands twice. It is walked from a
+/// node that is bound when its turn comes.
+#[derive(Drop)]
+pub struct TrailPart {
+    /// The type of its relationships.
+    pub kind: Text,
+    /// The fewest relationships, at least 1.
+    pub low: u32,
+    /// The most relationships, at least `low` and at most 16.
+    pub high: u32,
+    /// The node variable from which it is walked.
+    pub from: u32,
+    /// The node variable at its other end.
+    pub to: u32,
+    /// The number of its MATCH clause, counted from 0.
+    pub clause: u32,
+    /// Whether it is walked along its relationships or against them.
+    pub way: Direction,
+    /// Whether the other end is bound too when its turn comes.
+    pub both: bool,
+    /// The labels that the node patterns of the other end ask for, where the trail binds it.
+    pub labels: List<Text>,
+    /// The tests of the map entries of the other end, where the trail binds it.
+    pub tests: List<NamedExpr>,
+}
+
 /// A query whose names are resolved. Node variables are numbered from 0 in the order of their first appearance, and
-/// relationship variables from 0 in text order.
+/// relationship variables from 0 in text order; a trail has no variable. Where there are trails, the node variables
+/// of the core come first, each in that order, and the alternatives have these alone.
 #[derive(Drop)]
 pub struct Bound {
     /// What each node variable is called; one without a name is called `#K`, where K counts from 1 the patterns
@@ -64,6 +91,10 @@ pub struct Bound {
     pub patterns: List<ExistsPart>,
     /// The OPTIONAL MATCH clauses, in text order.
     pub optionals: List<OptionalPart>,
+    /// The trails, in text order.
+    pub trails: List<TrailPart>,
+    /// What each trail is called: `#K`, as one of the patterns without a name.
+    pub trail_names: List<Text>,
     /// What ORDER BY sorts by; none without it.
     pub keys: List<SortExpr>,
     pub distinct: bool,
@@ -71,6 +102,7 @@ pub struct Bound {
     pub skip: u64,
     /// At most how many rows are listed; `None` without LIMIT.
     pub limit: Option<u64>,
-    /// The typed forms of the query: they have no match in common, and together they have all matches.
+    /// The typed forms of the query, or of its core where there are trails: they have no match in common, and together
+    /// they have all matches.
     pub alternatives: List<Typed>,
 }

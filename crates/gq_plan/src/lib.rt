@@ -22,7 +22,7 @@ mod typed;
 mod variable;
 
 pub use assignment::{Assignment, TypedRow};
-pub use bound::{Bound, ExistsPart, NamedExpr, OptionalPart, SortExpr};
+pub use bound::{Bound, ExistsPart, NamedExpr, OptionalPart, SortExpr, TrailPart};
 pub use covering::covers;
 pub use demand::Demand;
 pub use filling::columns;

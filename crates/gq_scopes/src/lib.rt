@@ -14,5 +14,7 @@ pub use copying::Copying;
 pub use counts::{next, number};
 pub use gq_plan::Variable;
 pub use naming::Names;
-pub use patterns::{MapEntry, NamedVariable, NodePattern, Pattern, RelPattern, shared_variables};
+pub use patterns::{
+    MapEntry, NamedVariable, NodePattern, Pattern, PatternLists, RelPattern, shared_variables,
+};
 pub use scope::{Column, Scope};

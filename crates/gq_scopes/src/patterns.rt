@@ -1,6 +1,6 @@
 //! The patterns of a query, read from left to right.
-ghost use Rattle.std.specs.Prelude.{◌≡◌, ◌++◌, ◌∷◌, ◌<◌, [], filter_map, length, map, IfOk};
-ghost use Rattle.std.specs.Prelude.{IfSome};
+ghost use Rattle.std.specs.Prelude.{◌≡◌, ◌++◌, ◌∷◌, ◌<◌, [], filter_map, length, map, suc};
+ghost use Rattle.std.specs.Prelude.{IfOk, IfSome};
 ghost use Rattle.std.specs.List.{range_with_len};
 ghost use Rattle.gq_scopes.specs.Scopes.{scope_of};
 ghost use Rattle.gq_scopes.specs.Patterns as patterns;
@@ -161,6 +161,38 @@ impl<'t> Model for MapEntry<'t> {
     } };
 }
 
+/// The lists that make patterns, as those that are read from a query make them.
+#[derive(Drop)]
+pub struct PatternLists<'t> {
+    pub names: Names,
+    pub named: List<NamedVariable<'t>>,
+    pub node_names: List<Text>,
+    pub rel_names: List<Text>,
+    pub unnamed: u32,
+    pub nodes: List<NodePattern<'t>>,
+    pub rels: List<RelPattern<'t>>,
+    pub paths: List<PathPart>,
+    pub entries: List<MapEntry<'t>>,
+}
+
+impl<'t> Model for PatternLists<'t> {
+    ghost use Rattle.gq_scopes.specs.Patterns.{Pattern};
+
+    ghost Value = { Pattern };
+
+    ghost view = { λ p. record {
+      names = p.names;
+      named = p.named;
+      node_names = p.node_names;
+      rel_names = p.rel_names;
+      unnamed = p.unnamed;
+      nodes = p.nodes;
+      rels = p.rels;
+      paths = p.paths;
+      entries = p.entries;
+    } };
+}
+
 /// The patterns of a query with their variables, paths and map entries, in text order.
 #[derive(Drop)]
 pub struct Pattern<'t> {
@@ -213,8 +245,8 @@ impl<'t> Pattern<'t> {
         }
     }
 
-    // The variable of a node pattern that comes next.
-    fn variable_of(&self, part: &NodePart) -> Result<u32, Memory>
+    /// The variable of a node pattern that comes next.
+    pub fn variable_of(&self, part: &NodePart) -> Result<u32, Memory>
         ensures { IfOk result (λ v. v ≡ patterns.variable_of self.now part.now) }
     {
         match known_as(&self.names, &part.name) {
@@ -223,7 +255,8 @@ impl<'t> Pattern<'t> {
         }
     }
 
-    fn push_node(&mut self, alloc: Global, part: &'t NodePart) -> Result<(), Memory>
+    /// Appends a node pattern. Its variable is that of its name, if there is one, else a new one.
+    pub fn push_node(&mut self, alloc: Global, part: &'t NodePart) -> Result<(), Memory>
         ensures { IfOk result (λ _. self.new ≡ with_node part.now self.old) }
     {
         match known_as(&self.names, &part.name) {
@@ -281,7 +314,8 @@ impl<'t> Pattern<'t> {
         Ok(())
     }
 
-    fn push_rel(
+    /// Appends a relationship pattern of a clause between two node variables.
+    pub fn push_rel(
         &mut self,
         alloc: Global,
         clause: u32,
@@ -323,7 +357,17 @@ impl<'t> Pattern<'t> {
         Ok(())
     }
 
-    fn push_part(&mut self, part: PathPart) -> Result<(), Memory>
+    /// Counts a pattern without a name that has no variable.
+    pub fn push_unnamed(&mut self) -> Result<(), Memory>
+        ensures { IfOk result (λ _. self.new
+            ≡ record self.old { unnamed = suc self.old.unnamed }) }
+    {
+        self.unnamed = next(self.unnamed)?;
+        Ok(())
+    }
+
+    /// Appends a path.
+    pub fn push_part(&mut self, part: PathPart) -> Result<(), Memory>
         ensures { IfOk result (λ _. self.new ≡ with_part part self.old) }
     {
         self.paths.push(part)
@@ -417,6 +461,13 @@ impl<'t> Pattern<'t> {
         self.named.as_slice()
     }
 
+    /// How many patterns have no name.
+    pub fn unnamed(&self) -> u32
+        ensures { result ≡ self.now.unnamed }
+    {
+        self.unnamed
+    }
+
     /// The node patterns in text order.
     pub fn nodes(&self) -> &[NodePattern<'t>]
         ensures { result.now ≡ self.now.nodes }
@@ -459,6 +510,25 @@ impl<'t> Pattern<'t> {
         self.paths.as_slice()
     }
 
+    /// The patterns that have these lists.
+    pub fn of_lists(alloc: Global, lists: PatternLists<'t>) -> Result<Pattern<'t>, Memory>
+        ensures { IfOk result (λ p. p ≡ lists.entry) }
+    {
+        let rels = rels_of(alloc, lists.rels)?;
+        Ok(Pattern {
+            alloc,
+            names: lists.names,
+            named: lists.named,
+            node_names: lists.node_names,
+            rel_names: lists.rel_names,
+            unnamed: lists.unnamed,
+            nodes: lists.nodes,
+            rels,
+            paths: lists.paths,
+            entries: lists.entries,
+        })
+    }
+
     /// The patterns of MATCH clauses.
     #[tactic(auto, unfolding(crate::specs::Patterns::pattern_of))]
     pub fn of(alloc: Global, clauses: &'t [Clause]) -> Result<Pattern<'t>, Memory>
@@ -481,6 +551,17 @@ impl<'t> Pattern<'t> {
         pattern.push_path(alloc, 0, path)?;
         Ok(pattern)
     }
+}
+
+// Relationship patterns, each found by its name.
+fn rels_of<'t>(alloc: Global, list: List<RelPattern<'t>>) -> Result<Rels<'t>, Memory>
+    ensures { IfOk result (λ rels. rels ≡ list.entry) }
+{
+    let mut rels = Rels::new(alloc);
+    for rel in list.into_vec() {
+        rels.push(rel)?;
+    }
+    Ok(rels)
 }
 
 /// The node variables of a scope that a path names, in the order of their first appearance there.

@@ -1,0 +1,4 @@
+pub mod Cored
+pub mod Entries
+pub mod Renumbering
+pub mod steps

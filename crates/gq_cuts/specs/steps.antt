@@ -1,0 +1,2 @@
+pub mod Cored
+pub mod Staying
