@@ -9,17 +9,19 @@ use Rattle.gq_base.specs.Catalogs.{Tables}
 use Rattle.gq_binder.proofs.Accepted.{IsNamed, known_expressions, columns_there, keys_there, conjuncts_there, optional_there, tests_named, tests_there}
 use Rattle.gq_binder.proofs.Clauses.{clauses_bound, clauses_placed, own_are}
 use Rattle.gq_binder.proofs.TestLemmas.{IsWholeTest, parts_given, tests_whole, zip_parts}
-use Rattle.gq_binder.proofs.NameLemmas.{first_again, first_other_form, first_variable, first_function, first_arguments, sorts_same}
+use Rattle.gq_binder.proofs.NameLemmas.{first_again, first_other_form, first_variable, first_function, first_arguments, none_in_paths, sorts_same}
 use Rattle.gq_binder.proofs.Patterns.{names_there}
 use Rattle.gq_binder.proofs.RefusalLemmas.{first_then, first_append, same_behind}
-use Rattle.gq_binder.proofs.SoundAlternatives.{each_none, is_bound, reads_listed, tests_sound}
+use Rattle.gq_binder.proofs.OwnBound.{bound_by_core, counted_core}
+use Rattle.gq_binder.proofs.SoundAlternatives.{each_none, reads_listed}
+use Rattle.gq_binder.proofs.Unnamed.{all_unnamed}
 use Rattle.gq_binder.specs.Binding.{Answers, IsBound}
 use Rattle.gq_binder.specs.steps.Checks.{IsOfQuery}
 use Rattle.gq_binder.specs.Columns.{conditions, columns, optional_conditions, sort_scope, whole_pattern}
-use Rattle.gq_binder.specs.steps.Names.{FirstNames, no_names, with_expressions}
+use Rattle.gq_binder.specs.steps.Names.{FirstNames, query_names}
 use Rattle.gq_binder.specs.Tested.{IsTested, SharedTest, seen_elsewhere, tests}
-use Rattle.gq_binder.specs.steps.Parts.{clause_reads, clauses_parts, exists_part, known_conjuncts, known_seen, own_patterns, parts_of, ambiguous_in, reads_in, checks_in, bound_in}
-use Rattle.gq_binder.specs.Refusals.{first_of_all, not_built, unknown_variable, variable_conflict, relationship_repeated, column_repeated, nothing_to_return, order_out_of_scope, ambiguous_order_name, function_unknown, argument_count, over_limit, max_columns, max_alternatives, alternatives_in, alternatives_of, each_alone, others, path_conflict, path_repeated, paths_of, too_many_patterns, too_many_reads, all_reads, first_refusal, checks_of, too_many_alternatives, exists_place, expressions, first_in, seen}
+use Rattle.gq_binder.specs.steps.Parts.{bound_by, clause_reads, clauses_parts, counted_in, exists_part, last_checks_in, known_conjuncts, known_seen, own_patterns, parts_of, ambiguous_in, reads_in, checks_in, bound_in}
+use Rattle.gq_binder.specs.Refusals.{first_of_all, trail_length, trail_with_optional, unknown_variable, variable_conflict, relationship_repeated, column_repeated, nothing_to_return, order_out_of_scope, ambiguous_order_name, function_unknown, argument_count, over_limit, max_columns, max_alternatives, alternatives_in, alternatives_of, each_alone, others, paths_of, too_many_patterns, too_many_reads, all_reads, first_refusal, checks_of, too_many_alternatives, exists_place, expressions, conflicting, first_in, seen}
 use Rattle.gq_binder.specs.declared.optionals.ClauseParts.{ClauseParts}
 use Rattle.gq_binder.specs.declared.parts.QueryParts.{QueryParts}
 use Rattle.gq_binder.specs.declared.refusal.BindRefusal.{BindRefusal}
@@ -29,7 +31,12 @@ use Rattle.gq_scopes.specs.Patterns.{Name, Pattern, pattern_of}
 use Rattle.gq_trees.specs.Renames.{ambiguous_name}
 use Rattle.gq_trees.specs.Resolving.{functions}
 use Rattle.gq_scopes.specs.Scopes.{scope_of}
-use Rattle.gq_trees.specs.Uses.{named_again, of_other_form, unknown_name, unknown_function, wrong_count}
+use Rattle.gq_trees.specs.Uses.{of_other_form, unknown_name, unknown_function, wrong_count}
+use Rattle.gq_cuts.specs.Cored.{HasCore}
+use Rattle.gq_cuts.specs.declared.cored.Core.{Core}
+use Rattle.gq_law_cuts.specs.Shaped.{core_pattern_of}
+use Rattle.gq_syntax.proofs.Whole.{spelled_stands}
+use Rattle.gq_syntax.specs.Spans.{SpelledQuery}
 use Rattle.gq_syntax.specs.steps.Spans.{StandsIn}
 use Rattle.gq_syntax.specs.declared.Query.{Query}
 
@@ -42,25 +49,22 @@ module _ (query : Query) (text : List ℕ) where
   p = whole_pattern query
 
   abbrev names : FirstNames
-  names = with_expressions no_names (known_expressions query text)
+  names = query_names text query
 
   named_by : option_map refusal.UnknownVariable names.variable ≡ None → option_map refusal.VariableConflict names.other_form ≡ None → option_map refusal.UnknownFunction names.function ≡ None
       → option_map refusal.ArgumentCount names.arguments ≡ None → IsNamed query text
   named_by v o f n = record {
-    variables = sym (first_variable (known_expressions query text)) ∙ none_of refusal.UnknownVariable names.variable v;
-    forms = sym (first_other_form (known_expressions query text)) ∙ none_of refusal.VariableConflict names.other_form o;
-    functions = sym (first_function (known_expressions query text)) ∙ none_of refusal.UnknownFunction names.function f;
-    counts = sym (first_arguments (known_expressions query text)) ∙ none_of refusal.ArgumentCount names.arguments n;
+    variables = sym (first_variable text query) ∙ none_of refusal.UnknownVariable names.variable v;
+    forms = none_in_paths conflicting of_other_form text query (sym (first_other_form text query) ∙ none_of refusal.VariableConflict names.other_form o);
+    functions = sym (first_function text query) ∙ none_of refusal.UnknownFunction names.function f;
+    counts = sym (first_arguments text query) ∙ none_of refusal.ArgumentCount names.arguments n;
   }
 
   -- the checks before those of numbers
   abbrev early : List (Option BindRefusal)
   early =
-      not_built p
-      ∷ option_map refusal.UnknownVariable names.variable
-      ∷ variable_conflict p
+      option_map refusal.UnknownVariable names.variable
       ∷ option_map refusal.VariableConflict names.other_form
-      ∷ relationship_repeated p
       ∷ option_map refusal.RelationshipRepeated names.again
       ∷ column_repeated (columns functions text query)
       ∷ nothing_to_return query p
@@ -97,7 +101,7 @@ module _ (query : Query) (text : List ℕ) where
   same_reads : first_of_all (early ++ numbers listed_reads listed_tests (own_patterns clauses)) ≡ first_of_all (early ++ all_numbers)
   same_reads =
       same_behind early (numbers listed_reads listed_tests (own_patterns clauses)) all_numbers (λ passed.
-      let named : IsNamed query text = named_by passed.1.0 passed.1.1.1.0 passed.1.1.1.1.1.1.1.1.1.1.0 passed.1.1.1.1.1.1.1.1.1.1.1.0 in
+      let named : IsNamed query text = named_by passed.0 passed.1.0 passed.1.1.1.1.1.1.1.0 passed.1.1.1.1.1.1.1.1.0 in
       let reads : listed_reads ≡ all_reads query = reads_listed query text (known_conjuncts text (conditions query)) (known_conjuncts text (optional_conditions query)) (conjuncts_there query text named) (optional_there query text named) refl in
       let ts : listed_tests ≡ all_tests = tests_there query text named in
       λ i. first_of_all (numbers (reads i) (ts i) (own i)))
@@ -110,24 +114,19 @@ module _ (query : Query) (text : List ℕ) where
   same_checks : first_of_all (early ++ all_numbers) ≡ first_of_all (checks_of query text)
   same_checks =
       let unknown : option_map refusal.UnknownVariable names.variable ≡ unknown_variable text query =
-      ap (option_map refusal.UnknownVariable) (first_variable (known_expressions query text) ∙ ap (first_in unknown_name) same_expressions) in
-      let form : option_map refusal.VariableConflict names.other_form ≡ path_conflict text query =
-      ap (option_map refusal.VariableConflict) (first_other_form (known_expressions query text) ∙ ap (first_in of_other_form) same_expressions) in
-      let again : option_map refusal.RelationshipRepeated names.again ≡ path_repeated text query =
-      ap (option_map refusal.RelationshipRepeated) (first_again (known_expressions query text) ∙ ap (first_in named_again) same_expressions) in
+      ap (option_map refusal.UnknownVariable) (first_variable text query ∙ ap (first_in unknown_name) same_expressions) in
+      let form : option_map refusal.VariableConflict names.other_form ≡ variable_conflict text query = ap (option_map refusal.VariableConflict) (first_other_form text query) in
+      let again : option_map refusal.RelationshipRepeated names.again ≡ relationship_repeated text query = ap (option_map refusal.RelationshipRepeated) (first_again text query) in
       let ambiguous : ambiguous_in query p ≡ ambiguous_order_name text query =
       ap (option_map refusal.AmbiguousOrderName) (sorts_same (λ _. ambiguous_name (scope_of p) query.items) (scope_of p) (sort_scope functions text query) (λ u. refl) query.order) in
       let function : option_map refusal.UnknownFunction names.function ≡ function_unknown text query =
-      ap (option_map refusal.UnknownFunction) (first_function (known_expressions query text) ∙ ap (first_in (λ _. unknown_function)) same_expressions) in
+      ap (option_map refusal.UnknownFunction) (first_function text query ∙ ap (first_in (λ _. unknown_function)) same_expressions) in
       let count : option_map refusal.ArgumentCount names.arguments ≡ argument_count text query =
-      ap (option_map refusal.ArgumentCount) (first_arguments (known_expressions query text) ∙ ap (first_in (λ _. wrong_count)) same_expressions) in
+      ap (option_map refusal.ArgumentCount) (first_arguments text query ∙ ap (first_in (λ _. wrong_count)) same_expressions) in
       λ i.
       first_of_all
-      (not_built p
-      ∷ unknown i
-      ∷ variable_conflict p
+      (unknown i
       ∷ form i
-      ∷ relationship_repeated p
       ∷ again i
       ∷ column_repeated (columns functions text query)
       ∷ nothing_to_return query p
@@ -148,7 +147,7 @@ module _ (query : Query) (text : List ℕ) where
   unfolding parts_of
   named_parts e =
       let passed = each_none (early ++ numbers listed_reads listed_tests (own_patterns clauses)) e in
-      named_by passed.1.0 passed.1.1.1.0 passed.1.1.1.1.1.1.1.1.1.1.0 passed.1.1.1.1.1.1.1.1.1.1.1.0
+      named_by passed.0 passed.1.0 passed.1.1.1.1.1.1.1.0 passed.1.1.1.1.1.1.1.1.0
 
   matched_is : (parts_of text query).matched ≡ pattern_of query.clauses
   unfolding parts_of
@@ -162,20 +161,21 @@ module _ (query : Query) (text : List ℕ) where
   unfolding parts_of
   tests_are = refl
 
+  pattern_is : (parts_of text query).pattern ≡ whole_pattern query
+  unfolding parts_of
+  pattern_is = refl
+
   module _ (catalog : Tables) where
-    abbrev place : Option BindRefusal
-    place = exists_place (seen text query)
+    -- the checks behind the others
+    abbrev lasts : List (Option BindRefusal)
+    lasts = too_many_alternatives text query catalog ∷ trail_length (whole_pattern query) ∷ trail_with_optional query (whole_pattern query) ∷ exists_place (seen text query) ∷ []
 
     abbrev last : Option BindRefusal
-    last = option_or (too_many_alternatives text query catalog) place
+    last = first_of_all lasts
 
     refusal_is : first_refusal query text catalog ≡ option_or found last
     unfolding first_refusal
-    refusal_is =
-        first_append (checks_of query text) (too_many_alternatives text query catalog ∷ place ∷ [])
-        ∙ ap (option_or (first_of_all (checks_of query text)))
-        (first_then (too_many_alternatives text query catalog) (place ∷ []) ∙ ap (option_or (too_many_alternatives text query catalog)) (first_then place [] ∙ or_none place))
-        ∙ ap (λ o. option_or o last) (sym checked)
+    refusal_is = first_append (checks_of query text) lasts ∙ ap (λ o. option_or o last) (sym checked)
 
     answered : (e : BindRefusal) → (IsOfQuery e → first_refusal query text catalog ≡ Some e) → Answers query text catalog (Err e)
     answered refusal.Memory h = tt
@@ -187,19 +187,15 @@ module _ (query : Query) (text : List ℕ) where
     refused_early parts e is h =
         answered e (λ q. refusal_is ∙ ap (λ o. option_or o last) (sym (ap (λ ps. first_of_all (checks_in text query ps)) is) ∙ h q))
 
-    abbrev many : Pattern → List Pattern → List SharedTest → Option BindRefusal
-    many matched ps ts =
-        over_limit max_alternatives (length (pattern_alternatives catalog matched) + (alternatives_of catalog ps + alternatives_in catalog (paths_of ts))) refusal.TooManyAlternatives
-
-    abbrev many_in : QueryParts → Option BindRefusal
-    many_in parts = many parts.matched (own_patterns parts.optionals) parts.exists
-
-    module _ (parts : QueryParts) (is : parts ≡ parts_of text query) (passed : first_of_all (checks_in text query parts) ≡ None) where
+    module _ (parts : QueryParts) (is : parts ≡ parts_of text query) (passed : first_of_all (checks_in text query parts) ≡ None) (core : Option Core) (has : HasCore query.clauses core) where
       passes : found ≡ None
       passes = sym (ap (λ ps. first_of_all (checks_in text query ps)) is) ∙ passed
 
       matched_so : parts.matched ≡ pattern_of query.clauses
       matched_so = ap (λ (ps : QueryParts). ps.matched) is ∙ matched_is
+
+      pattern_so : parts.pattern ≡ whole_pattern query
+      pattern_so = ap (λ (ps : QueryParts). ps.pattern) is ∙ pattern_is
 
       own_so : own_patterns parts.optionals ≡ each_alone query
       own_so = ap (λ (ps : QueryParts). own_patterns ps.optionals) is ∙ own_is
@@ -207,48 +203,30 @@ module _ (query : Query) (text : List ℕ) where
       tests_so : parts.exists ≡ seen text query
       tests_so = ap (λ (ps : QueryParts). ps.exists) is ∙ tests_are ∙ tests_there query text (named_parts passes)
 
-      rest : first_refusal query text catalog ≡ option_or (many_in parts) place
-      rest = refusal_is ∙ ap (λ o. option_or o last) passes ∙ sym (λ i. option_or (many (matched_so i) (own_so i) (tests_so i)) place)
+      core_so : counted_in core parts.matched ≡ core_pattern_of query.clauses
+      core_so = ap (counted_in core) matched_so ∙ counted_core query core has
 
-      -- the number of alternatives refuses it
-      pub refused_many : (e : BindRefusal) → (IsOfQuery e → many_in parts ≡ Some e) → Answers query text catalog (Err e)
-      refused_many e h = answered e (λ q. rest ∙ ap (λ o. option_or o place) (h q))
+      lasts_so : last_checks_in catalog query parts (counted_in core parts.matched) ≡ lasts
+      lasts_so i =
+          over_limit max_alternatives (length (pattern_alternatives catalog (core_so i)) + (alternatives_of catalog (own_so i) + alternatives_in catalog (paths_of (tests_so i)))) refusal.TooManyAlternatives
+          ∷ trail_length (pattern_so i)
+          ∷ trail_with_optional query (pattern_so i)
+          ∷ exists_place (tests_so i) ∷ []
 
-      module _ (few : many_in parts ≡ None) where
-        last_rest : first_refusal query text catalog ≡ place
-        last_rest = rest ∙ ap (λ o. option_or o place) few
+      rest : first_refusal query text catalog ≡ first_of_all (last_checks_in catalog query parts (counted_in core parts.matched))
+      rest = refusal_is ∙ ap (λ o. option_or o last) passes ∙ sym (ap first_of_all lasts_so)
 
-        -- the last check refuses it
-        pub refused_last : (e : BindRefusal) → (IsOfQuery e → exists_place parts.exists ≡ Some e) → Answers query text catalog (Err e)
-        refused_last e h = answered e (λ q. last_rest ∙ sym (ap exists_place tests_so) ∙ h q)
-
-      bound_by_parts : StandsIn text query → first_refusal query text catalog ≡ None → IsNamed query text → IsBound query text catalog (bound_in text catalog query (parts_of text query) (alternatives query catalog))
-      unfolding parts_of
-      bound_by_parts stands accepted named =
-          is_bound query text catalog (bound_in text catalog query (parts_of text query) (alternatives query catalog)) accepted
-          (record {
-            node_names = refl;
-            rel_names = refl;
-            columns = columns_there query text named;
-            conjuncts = conjuncts_there query text named;
-            keys = keys_there query text named;
-            distinct = refl;
-            skip = refl;
-            limit = refl;
-          })
-          refl
-          (subst (AllZip (IsTested text catalog) (tests text query)) (sym (ap (filter_map (exists_part text catalog)) (tests_there query text named) ∙ parts_given text catalog query))
-          (zip_parts text catalog (tests text query) (tests_named query text named) (tests_sound query text catalog accepted)))
-          (clauses_bound text catalog query accepted named)
-          (clauses_placed text catalog query accepted stands)
-          (names_there text query stands)
+      -- one of the last checks refuses it
+      pub refused_last : (e : BindRefusal) → (IsOfQuery e → first_of_all (last_checks_in catalog query parts (counted_in core parts.matched)) ≡ Some e) → Answers query text catalog (Err e)
+      refused_last e h = answered e (λ q. rest ∙ h q)
 
       -- no check refuses it
-      pub accepted : (choices : List Choice) → StandsIn text query → many_in parts ≡ None → exists_place parts.exists ≡ None → choices ≡ pattern_alternatives catalog parts.matched → IsBound query text catalog (bound_in text catalog query parts choices)
-      accepted choices stands few placed all =
-          subst (λ ps. IsBound query text catalog (bound_in text catalog query ps choices)) (sym is)
-          (subst (λ cs. IsBound query text catalog (bound_in text catalog query (parts_of text query) cs)) (sym (all ∙ ap (pattern_alternatives catalog) matched_so))
-          (bound_by_parts stands (last_rest few ∙ sym (ap exists_place tests_so) ∙ placed) (named_parts passes)))
+      pub accepted : (choices : List Choice) → SpelledQuery text query → first_of_all (last_checks_in catalog query parts (counted_in core parts.matched)) ≡ None
+          → choices ≡ pattern_alternatives catalog (counted_in core parts.matched) → IsBound query text catalog (bound_by text catalog query parts core choices)
+      accepted choices spelled placed all =
+          subst (λ ps. IsBound query text catalog (bound_by text catalog query ps core choices)) (sym is)
+          (subst (λ cs. IsBound query text catalog (bound_by text catalog query (parts_of text query) core cs)) (sym (all ∙ ap (pattern_alternatives catalog) core_so))
+          (bound_by_core query text catalog (rest ∙ placed) (all_unnamed text query spelled) (spelled_stands text query spelled) (named_parts passes) core has))
 
     -- a refusal that is no want of memory
     pub refused_so : (e : BindRefusal) → (e ≡ refusal.Memory → ⊥) → Answers query text catalog (Err e) → Some e ≡ first_refusal query text catalog

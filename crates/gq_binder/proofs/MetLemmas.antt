@@ -83,12 +83,9 @@ meeting_one : (v : Variable) (name : Name) (t : Met) → meeting_as v name t ≡
 meeting_one (node v) name t = ap (λ l. record { nodes = t.nodes ++ Some name ∷ []; rels = l }) (sym (append-nil t.rels))
 meeting_one (rel x) name t = ap (λ l. record { nodes = l; rels = t.rels ++ Some name ∷ [] }) (sym (append-nil t.nodes))
 
-more_met : (xs : List NamedVariable) (n : NamedVariable) → meeting (met_of xs) n ≡ met_of (xs ++ n ∷ [])
+pub more_met : (xs : List NamedVariable) (n : NamedVariable) → meeting (met_of xs) n ≡ met_of (xs ++ n ∷ [])
 more_met xs n = meeting_one n.variable n.name (met_of xs)
     ∙ ap₂ (λ ns rs. record { nodes = ns; rels = rs }) (sym (named_more (λ m. not (is_rel m.variable)) xs n)) (sym (named_more (λ m. is_rel m.variable) xs n))
-
-pub next_met : (xs : List NamedVariable) (at : ℕ) → at < length xs → (n : NamedVariable) → n ≡ get_or xs at n → meeting (met_of (take at xs)) n ≡ met_of (take (at + 1) xs)
-next_met xs at more n is = more_met (take at xs) n ∙ ap (λ y. met_of (take at xs ++ y ∷ [])) is ∙ ap met_of (sym (take_more xs at n more))
 
 -- ---- names of items of any kind
 

@@ -1,10 +1,11 @@
--- The names and conjuncts of some conditions and then others.
+-- The names and conjuncts of some clauses and then others.
 use Rattle.std.proofs.Common.{◌≡◌, ◌∙◌, ℕ, suc, ◌+◌, ◌<◌, List, [], ◌∷◌, ◌++◌, map, flat_map, length, drop, get_or, drop-cons, add-one, append_assoc, append-nil, refl, sym, ap, ap₂}
 use Rattle.std.specs.Prelude.{unwrap_or}
 use Rattle.std.proofs.lemmas.Grind.{flat_map-append}
 use Rattle.gq_binder.proofs.NameLemmas.{with_expressions_append}
-use Rattle.gq_binder.specs.Columns.{Scoped, columns_in, conditions, conditions_from, entry_test, optional_conditions, scoped_in, whole_pattern}
-use Rattle.gq_binder.specs.steps.Names.{FirstNames, no_names, with_expressions}
+use Rattle.gq_binder.specs.Columns.{Scoped, columns_in, conditions, conditions_from, optional_conditions, scoped_in, whole_pattern}
+use Rattle.gq_cuts.specs.Entries.{entry_test}
+use Rattle.gq_binder.specs.steps.Names.{FirstNames, clause_names, matched_names, query_names, with_added, with_clause_names, with_clauses_names, with_expressions}
 use Rattle.gq_binder.specs.Tested.{SharedTest, seen_elsewhere, stray_test}
 use Rattle.gq_binder.specs.declared.optionals.ClauseParts.{ClauseParts}
 use Rattle.gq_binder.specs.steps.Parts.{clause_parts, clauses_parts, known_conjuncts, known_seen, known_seen_in, known_tests_of, parts_of}
@@ -47,14 +48,15 @@ module _ (clauses : List Clause) (at : ℕ) (more : at < length clauses) (c : Cl
     abbrev first : List Scoped
     first = scoped_in (scope_of (with_paths number c.paths p)) c.filter
 
-    pub next_names : (old new whole : FirstNames) → new ≡ with_expressions old (scoped_in (scope_of q) c.filter) → with_expressions old (conditions_from number p (drop at clauses)) ≡ whole
-        → with_expressions new (conditions_from next q (drop (at + 1) clauses)) ≡ whole
+    pub next_names : (old new whole : FirstNames) → new ≡ with_clause_names number c p old → with_clauses_names number (drop at clauses) p old ≡ whole → with_clauses_names next (drop (at + 1) clauses) q new ≡ whole
     next_names old new whole e h =
-        (λ i. with_expressions new (conditions_from (counted i) (is_q i) (drop (at + 1) clauses)))
-        ∙ ap (λ n. with_expressions n rest) (e ∙ ap (λ r. with_expressions old (scoped_in (scope_of r) c.filter)) is_q)
-        ∙ sym (with_expressions_append old first rest)
-        ∙ sym (ap (λ cs. with_expressions old (conditions_from number p cs)) cut)
+        (λ i. with_clauses_names (counted i) (drop (at + 1) clauses) (is_q i) (e i))
+        ∙ sym (ap (λ cs. with_clauses_names number cs p old) cut)
         ∙ h
+
+    -- the names that a clause adds, and then its condition
+    pub read_names : (old mid new : FirstNames) → mid ≡ with_added number c.paths p old → new ≡ with_expressions mid (scoped_in (scope_of q) c.filter) → new ≡ with_clause_names number c p old
+    read_names old mid new is_mid is_new = is_new ∙ (λ i. with_expressions (is_mid i) (scoped_in (scope_of (is_q i)) c.filter))
 
     -- what is listed of conditions
     next_listed : {A : Type 0} (f : Scoped → List A) (old new whole : List A) → new ≡ old ++ flat_map f (scoped_in (scope_of q) c.filter) → old ++ flat_map f (conditions_from number p (drop at clauses)) ≡ whole
@@ -105,16 +107,16 @@ module _ (query : Query) (text : List ℕ) (matched p : Pattern) (is_matched : m
   behind : optional_conditions query ++ (items p ++ sorts p) ≡ others text query
   behind i = optional_conditions query ++ (items (is_p i) ++ sorts (is_p i))
 
-  names_made : (old mid new : FirstNames) → old ≡ with_expressions no_names (conditions query) → mid ≡ with_expressions old (optional_conditions query)
+  names_made : (old mid new : FirstNames) → old ≡ matched_names query → mid ≡ with_clauses_names (length query.clauses) query.optionals (pattern_of query.clauses) old
       → new ≡ with_expressions (with_expressions mid (items p)) (sorts p)
-      → new ≡ with_expressions no_names (conditions query ++ others text query)
+      → new ≡ query_names text query
   names_made old mid new is_old is_mid is_new =
       is_new
       ∙ sym (with_expressions_append mid (items p) (sorts p))
-      ∙ ap (λ n. with_expressions n (items p ++ sorts p)) is_mid
-      ∙ sym (with_expressions_append old (optional_conditions query) (items p ++ sorts p))
-      ∙ (λ i. with_expressions (is_old i) (behind i))
-      ∙ sym (with_expressions_append no_names (conditions query) (others text query))
+      ∙ (λ i. with_expressions (is_clauses i) (items (is_p i) ++ sorts (is_p i)))
+    where
+      is_clauses : mid ≡ clause_names query
+      is_clauses = is_mid ∙ ap (with_clauses_names (length query.clauses) query.optionals (pattern_of query.clauses)) is_old
 
   abbrev last : List SharedTest
   last = flat_map seen_elsewhere (items p) ++ flat_map seen_elsewhere (sorts_in (scope_of p) query.order)
@@ -134,15 +136,15 @@ module _ (query : Query) (text : List ℕ) (matched p : Pattern) (is_matched : m
       ∙ ap (λ l. known_seen text (conditions query) ++ l) (sym (flat_map-append seen_elsewhere (optional_conditions query) (items p ++ sorts p)) ∙ ap (flat_map seen_elsewhere) behind)
 
   pub parts_made : (names mid after : FirstNames) (cs : List Column) (es ts : List NamedExpr) (ps qs rs : List SharedTest) (os : List ClauseParts)
-      → names ≡ with_expressions no_names (conditions query) → es ≡ known_conjuncts text (conditions query) → ps ≡ known_seen text (conditions query)
-      → mid ≡ with_expressions names (optional_conditions query) → qs ≡ ps ++ flat_map seen_elsewhere (optional_conditions query)
+      → names ≡ matched_names query → es ≡ known_conjuncts text (conditions query) → ps ≡ known_seen text (conditions query)
+      → mid ≡ with_clauses_names (length query.clauses) query.optionals (pattern_of query.clauses) names → qs ≡ ps ++ flat_map seen_elsewhere (optional_conditions query)
       → os ≡ clauses_parts text (length query.clauses) (pattern_of query.clauses) query.optionals
       → cs ≡ columns_in functions text p query → ts ≡ map (entry_test text) matched.entries
       → after ≡ with_expressions (with_expressions mid (items p)) (sorts p) → rs ≡ qs ++ last
       → record { pattern = p; matched = matched; names = after; columns = cs; conjuncts = es; exists = rs; tests = ts; optionals = os } ≡ parts_of text query
   unfolding parts_of
   parts_made names mid after cs es ts ps qs rs os is_names is_es is_ps is_mid is_qs is_os is_cs is_ts is_after is_rs =
-      let all : after ≡ with_expressions no_names (conditions query ++ others text query) = names_made names mid after is_names is_mid is_after in
+      let all : after ≡ query_names text query = names_made names mid after is_names is_mid is_after in
       let columns : cs ≡ columns_in functions text (whole_pattern query) query = is_cs ∙ ap (λ r. columns_in functions text r query) is_p in
       let tests : ts ≡ map (entry_test text) (pattern_of query.clauses).entries = is_ts ∙ ap (λ (r : Pattern). map (entry_test text) r.entries) is_matched in
       let exists : rs ≡ known_seen text (conditions query) ++ flat_map seen_elsewhere (others text query) = seen_made ps qs rs is_ps is_qs is_rs in

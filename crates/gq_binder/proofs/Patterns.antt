@@ -1,11 +1,12 @@
 -- What the patterns of a query that stands in a text have: a node, a name for each variable, and entries whose values begin
 -- and end between characters.
-use Rattle.std.proofs.Common.{◌≡◌, ℕ, suc, ◌<◌, List, [], ◌∷◌, ◌++◌, length, All, append_assoc, append-nil, refl, sym, ap, ◌∙◌, ◌≤◌, arith}
+use Rattle.std.proofs.Common.{◌≡◌, ℕ, suc, ◌<◌, List, [], ◌∷◌, ◌++◌, drop, length, length-append, All, append_assoc, append-nil, refl, sym, ap, ◌∙◌, ◌≤◌, arith}
 use Rattle.gq_plan.specs.declared.variable.Variable.TheVariants.{Node as node, Rel as rel}
 use Rattle.gq_plan.specs.declared.variable.Variable.{Variable}
 use Rattle.std.specs.Prelude.{Bool, true, false, Option, Some, None, if◌then◌else◌}
 use Rattle.std.specs.List.{AllByRecursion, list_any}
 use Rattle.std.proofs.lemmas.List.{length_push}
+use Rattle.std.proofs.Math.Seq.{drop-append_seam}
 use Rattle.std.proofs.lemmas.List.Elements.{All-append, All-head, All-map, All-nil, All-weaker, recursion_from_All}
 use Rattle.gq_plan.specs.declared.PathPart.{PathPart}
 use Rattle.gq_plan.proofs.Each.{each_of}
@@ -21,7 +22,7 @@ use Rattle.gq_binder.specs.Columns.{whole_pattern}
 use Rattle.gq_binder.specs.Optionals.{alone}
 use Rattle.gq_alternatives.proofs.ShapesOfPatterns.{clauses_grow, hops_grow, node_cases, paths_grow}
 use Rattle.gq_scopes.specs.PathPatterns.{named_first, path_pattern, with_name, with_names}
-use Rattle.gq_scopes.specs.Patterns.{MapEntry, Name, Pattern, called, is_called, entries_of, no_pattern, node_again, node_new, pattern_of, variable_of, with_clauses, with_hops, with_node, with_part, with_path, with_paths, with_rel}
+use Rattle.gq_scopes.specs.Patterns.{MapEntry, Name, NamedVariable, Pattern, RelPattern, called, is_called, entries_of, naming, no_pattern, node_again, node_new, pattern_of, variable_of, with_clauses, with_hops, with_node, with_part, with_path, with_paths, with_rel}
 
 -- ---- what each step of a pattern keeps, all steps keep
 
@@ -128,6 +129,40 @@ entries_begin number cs p =
     (λ part q n h. begins_more p.entries q (node (length q.names)) (called q.unnamed part.name) part.map h)
     (λ clause left right part q n h. begins_more p.entries q (rel (length q.rels)) (called q.unnamed part.name) part.map h) (λ part q h. h)
     number cs p (any_clauses cs) ([], sym (append-nil p.entries))
+
+-- and so do the relationships
+pub rels_begin : (number : ℕ) (cs : List Clause) (p : Pattern) → (more : List RelPattern) × ((with_clauses number cs p).rels ≡ p.rels ++ more)
+rels_begin number cs p =
+    clauses_kept (λ q. (more : List RelPattern) × (q.rels ≡ p.rels ++ more)) Any Any (λ v part q n h. h) (λ part q n h. h)
+    (λ clause left right part q n h.
+    let r : RelPattern = record { clause = clause; left = left; right = right; part = part } in
+    (h.0 ++ r ∷ [], ap (λ l. l ++ r ∷ []) h.1 ∙ append_assoc p.rels h.0 (r ∷ [])))
+    (λ part q h. h)
+    number cs p (any_clauses cs) ([], sym (append-nil p.rels))
+
+-- so do the names
+abbrev NamedFrom : List NamedVariable → Pattern → Type 0
+NamedFrom ns p = (more : List NamedVariable) × (p.named ≡ ns ++ more)
+
+named_more : (ns : List NamedVariable) (p : Pattern) (v : Variable) (name : Option Name) → NamedFrom ns p → (more : List NamedVariable) × (p.named ++ naming name v ≡ ns ++ more)
+named_more ns p v name h = (h.0 ++ naming name v, ap (λ l. l ++ naming name v) h.1 ∙ append_assoc ns h.0 (naming name v))
+
+named_begin : (number : ℕ) (paths : List Path) (p : Pattern) → (more : List NamedVariable) × ((with_paths number paths p).named ≡ p.named ++ more)
+named_begin number paths p =
+    paths_kept (NamedFrom p.named) Any Any (λ v part q n h. named_more p.named q (node v) part.name h) (λ part q n h. named_more p.named q (node (length q.names)) part.name h)
+    (λ clause left right part q n h. named_more p.named q (rel (length q.rels)) part.name h) (λ part q h. h)
+    number paths p (any_paths paths) ([], sym (append-nil p.named))
+
+pub named_within : (number : ℕ) (paths : List Path) (p : Pattern) → length p.named ≤ length (with_paths number paths p).named
+named_within number paths p =
+    let begins = named_begin number paths p in
+    omega (arith, ap length begins.1, length-append p.named begins.0)
+
+-- what paths add stands behind
+pub named_behind : (number : ℕ) (paths : List Path) (p : Pattern) → p.named ++ drop (length p.named) (with_paths number paths p).named ≡ (with_paths number paths p).named
+named_behind number paths p =
+    let begins = named_begin number paths p in
+    ap (λ l. p.named ++ drop (length p.named) l) begins.1 ∙ ap (λ l. p.named ++ l) (drop-append_seam p.named begins.0) ∙ sym begins.1
 
 -- and there are no fewer node patterns
 pub nodes_grow : (number : ℕ) (cs : List Clause) (p : Pattern) → length p.nodes ≤ length (with_clauses number cs p).nodes

@@ -1,4 +1,4 @@
--- The alternatives that binding gives are sound for the catalogue.
+-- The alternatives of a query without trails, and those of the paths of tests and of OPTIONAL MATCH clauses, are sound for the catalogue.
 use Rattle.std.proofs.Common.{◌≡◌, ℕ, suc, ◌+◌, append-nil, ◌<◌, ◌≤◌, Bool, true, false, not, ◌||◌, cond, nat_lt, Option, Some, None, List, [], ◌∷◌, ◌++◌, map, filter, flat_map, length, if◌then◌else◌, refl, sym, ap, ap₂, ◌∙◌, subst, arith}
 use Rattle.gq_plan.specs.declared.variable.Variable.TheVariants.{Node as node, Rel as rel}
 use Rattle.gq_plan.specs.declared.variable.Variable.{Variable}
@@ -37,7 +37,7 @@ use Rattle.gq_alternatives.proofs.Shapes.{each_left, each_right}
 use Rattle.gq_alternatives.proofs.ShapesOfPatterns.{Grows, grows_same, grows_then, clauses_grow, IsShaped, ends_of, pattern_shaped}
 use Rattle.gq_trees.proofs.ConditionReads.{IsRead, conjuncts_read}
 use Rattle.gq_alternatives.proofs.SoundPatterns.{IsChoice, each_alternative, pattern_sound, typed_count}
-use Rattle.gq_plan.proofs.DifferentReads.{AllAmong, is_among, some_among, properties_among, distinct_fewer}
+use Rattle.gq_plan.proofs.DifferentReads.{AllAmong, all_self, is_among, some_among, properties_among, distinct_fewer}
 use Rattle.gq_plan.proofs.ReadEquations.{reads_Literal, reads_NodeProperty, reads_RelProperty, reads_Compare}
 use Rattle.gq_trees.proofs.ReadsThere.{AllThere, AreThere}
 use Rattle.gq_alternatives.proofs.PathShapes.{HasVariables, IsCounted, path_pattern_counted, path_pattern_named, path_pattern_shaped}
@@ -55,10 +55,11 @@ use Rattle.gq_binder.proofs.PartLemmas.{known_conjuncts_append}
 use Rattle.gq_binder.proofs.Patterns.{entries_begin, nodes_grow, whole_counted, whole_rels_counted}
 use Rattle.gq_binder.proofs.RefusalLemmas.{first_append}
 use Rattle.gq_binder.specs.Binding.{IsBound}
-use Rattle.gq_binder.specs.Columns.{Scoped, scoped_in, conditions_from, conditions, conjuncts, optional_conditions, property_of, entry_expr, entry_test, whole_pattern, Resolves, HasAlternatives}
+use Rattle.gq_binder.specs.Columns.{Scoped, scoped_in, conditions_from, conditions, conjuncts, optional_conditions, whole_pattern, Resolves, HasAlternatives}
+use Rattle.gq_cuts.specs.Entries.{property_of, entry_expr, entry_test}
 use Rattle.gq_binder.specs.Optionals.{AreOptional, optional_conjuncts}
 use Rattle.gq_binder.specs.steps.Parts.{clause_reads, clauses_parts, known_conjuncts, named_part, reads_in}
-use Rattle.gq_binder.specs.Refusals.{first_of_all, over_limit, all_reads, known_reads, first_refusal, checks_of, each_alone, maps_alone, nodes_in, others, path_reads, paths_of, reads_alone, rels_in, seen, too_many_alternatives, exists_place}
+use Rattle.gq_binder.specs.Refusals.{first_of_all, over_limit, all_reads, known_reads, first_refusal, checks_of, each_alone, maps_alone, nodes_in, others, path_reads, paths_of, reads_alone, rels_in, seen, too_many_alternatives, trail_length, trail_with_optional, exists_place}
 use Rattle.gq_binder.specs.Tested.{IsTested, ScopedTest, SharedTest, scoped_tests, seen_elsewhere, seen_in, shared_test, stray_test, tests}
 use Rattle.gq_binder.specs.declared.refusal.BindRefusal.{BindRefusal}
 use Rattle.gq_binder.specs.declared.refusal.BindRefusal.TheVariants as refusal
@@ -94,18 +95,32 @@ both_none xs ys e =
     let parted : option_or (first_of_all xs) (first_of_all ys) ≡ None = sym (first_append xs ys) ∙ e in
     (or_first (first_of_all xs) (first_of_all ys) parted, or_second (first_of_all xs) (first_of_all ys) parted)
 
-pub accepted_small : (query : Query) (text : List ℕ) (catalog : Tables) → first_refusal query text catalog ≡ None → IsSmall query text
+-- what the checks of an accepted query find
+all_passed : (query : Query) (text : List ℕ) (catalog : Tables) → first_refusal query text catalog ≡ None
+    → AllByRecursion (λ o. o ≡ None)
+    (checks_of query text ++ too_many_alternatives text query catalog ∷ trail_length (whole_pattern query) ∷ trail_with_optional query (whole_pattern query) ∷ exists_place (seen text query) ∷ [])
 unfolding first_refusal
+all_passed query text catalog accepted =
+    each_none (checks_of query text ++ too_many_alternatives text query catalog ∷ trail_length (whole_pattern query) ∷ trail_with_optional query (whole_pattern query) ∷ exists_place (seen text query) ∷ []) accepted
+
+-- those of its trails
+pub accepted_trails : (query : Query) (text : List ℕ) (catalog : Tables) → first_refusal query text catalog ≡ None
+    → (trail_length (whole_pattern query) ≡ None) × (trail_with_optional query (whole_pattern query) ≡ None)
+accepted_trails query text catalog accepted =
+    let last = (all_passed query text catalog accepted).1.1.1.1.1.1.1.1.1.1.1.1.1 in
+    (last.0, last.1.0)
+
+pub accepted_small : (query : Query) (text : List ℕ) (catalog : Tables) → first_refusal query text catalog ≡ None → IsSmall query text
 accepted_small query text catalog accepted =
     let p : Pattern = whole_pattern query in
     let ts : List SharedTest = seen text query in
     let nodes : ℕ = length p.nodes + nodes_in (paths_of ts) in
     let rels : ℕ = length p.rels + rels_in (paths_of ts) in
     let all : ℕ = length (distinct (all_reads query ++ path_reads (length p.names) (length p.rels) ts)) in
-    let checks = each_none (checks_of query text ++ too_many_alternatives text query catalog ∷ exists_place (seen text query) ∷ []) accepted in
+    let checks = all_passed query text catalog accepted in
     let patterns =
-    each_none (over_limit max_variables nodes refusal.TooManyPatterns ∷ over_limit max_variables rels refusal.TooManyPatterns ∷ []) checks.1.1.1.1.1.1.1.1.1.1.1.1.0 in
-    let read = first_none (over_limit max_reads all refusal.TooManyReads) (map maps_alone (each_alone query) ++ map reads_alone ts) checks.1.1.1.1.1.1.1.1.1.1.1.1.1.0 in
+    each_none (over_limit max_variables nodes refusal.TooManyPatterns ∷ over_limit max_variables rels refusal.TooManyPatterns ∷ []) checks.1.1.1.1.1.1.1.1.1.0 in
+    let read = first_none (over_limit max_reads all refusal.TooManyReads) (map maps_alone (each_alone query) ++ map reads_alone ts) checks.1.1.1.1.1.1.1.1.1.1.0 in
     let own = both_none (map maps_alone (each_alone query)) (map reads_alone ts) read.1 in
     record {
       nodes = within_limit max_variables nodes refusal.TooManyPatterns patterns.0;
@@ -147,6 +162,13 @@ query_within query = conditions_within 0 no_pattern query.clauses (with_clauses 
 
 -- ---- what conjuncts read
 
+-- the conjuncts of a condition, and what one reads
+abbrev pub scoped_conjuncts : Scoped → List Conjunct
+scoped_conjuncts c = (split functions c.scope c.tree).conjuncts
+
+abbrev pub conjunct_reads : Conjunct → List Read
+conjunct_reads c = known_reads c.expr
+
 abbrev Reading : ℕ → ℕ → List Conjunct → Type 0
 Reading n m cs = AllByRecursion (IsRead n m) cs
 
@@ -159,11 +181,11 @@ conditions_read final (c ∷ cs) h =
     each_append (IsRead n m) (split functions c.scope c.tree).conjuncts (flat_map (λ c. (split functions c.scope c.tree).conjuncts) cs)
     (conjuncts_read n m c.scope h.0.columns h.0.nodes h.0.rels c.tree) (conditions_read final cs h.1)
 
-named_reads : NamedExpr → List Read
+unfoldable pub named_reads : NamedExpr → List Read
 named_reads e = reads e.expr
 
 -- conjuncts that stand for these expressions read what the expressions read
-values_read : (text : List ℕ) (vs : List Conjunct) (es : List NamedExpr) → all_some (map (conjunct_expr text) vs) ≡ Some es → flat_map named_reads es ≡ flat_map (λ c. known_reads c.expr) vs
+pub values_read : (text : List ℕ) (vs : List Conjunct) (es : List NamedExpr) → all_some (map (conjunct_expr text) vs) ≡ Some es → flat_map named_reads es ≡ flat_map (λ c. known_reads c.expr) vs
 unfolding named_reads
 values_read text [] es e = sym (ap (flat_map named_reads) (same_Some [] es e))
 values_read text (c ∷ vs) es e = go c.expr (all_some (map (conjunct_expr text) vs)) (λ fs is. values_read text vs fs is) e
@@ -184,11 +206,11 @@ values_there n m (c ∷ vs) h = each_append (λ r. IsThere n m r.variable) (know
     go (Some d) h = h
 
 -- the conjuncts of a bound query read what its conditions' conjuncts of values read, all of variables that are there
-record ReadsConditions (query : Query) (es : List NamedExpr) : Type 0 where
-  same : flat_map named_reads es ≡ flat_map (λ c. known_reads c.expr) (filter is_value (conjuncts query))
-  there : AllThere (length (pattern_of query.clauses).names) (length (pattern_of query.clauses).rels) (flat_map named_reads es)
+pub record ReadsConditions (query : Query) (es : List NamedExpr) : Type 0 where
+  pub same : flat_map named_reads es ≡ flat_map (λ c. known_reads c.expr) (filter is_value (conjuncts query))
+  pub there : AllThere (length (pattern_of query.clauses).names) (length (pattern_of query.clauses).rels) (flat_map named_reads es)
 
-conjuncts_known : (query : Query) (text : List ℕ) (es : List NamedExpr) → all_some (values_of text (conjuncts query)) ≡ Some es → ReadsConditions query es
+pub conjuncts_known : (query : Query) (text : List ℕ) (es : List NamedExpr) → all_some (values_of text (conjuncts query)) ≡ Some es → ReadsConditions query es
 unfolding conjuncts
 conjuncts_known query text es e =
     let n : ℕ = length (pattern_of query.clauses).names in
@@ -202,7 +224,7 @@ conjuncts_known query text es e =
 
 -- ---- map entries
 
-abbrev entry_read : MapEntry → Read
+abbrev pub entry_read : MapEntry → Read
 entry_read e = property e.variable e.entry.key
 
 property_reads : (v : Variable) (name : Name) → reads (property_of v name) ≡ property v name ∷ []
@@ -217,7 +239,7 @@ entry_reads e =
     reads_Compare (property_of e.variable e.entry.key) (equals e.entry.value)
     ∙ ap₂ (λ rs ss. rs ++ (ss ++ [])) (property_reads e.variable e.entry.key) (reads_Literal e.entry.value)
 
-entries_read : (text : List ℕ) (es : List MapEntry) → flat_map named_reads (map (entry_test text) es) ≡ map entry_read es
+pub entries_read : (text : List ℕ) (es : List MapEntry) → flat_map named_reads (map (entry_test text) es) ≡ map entry_read es
 unfolding named_reads
 entries_read text [] = refl
 entries_read text (e ∷ es) = ap₂ ◌++◌ (entry_reads e) (entries_read text es)
@@ -265,7 +287,7 @@ property_safe kinds (node v) name = ap (λ m. m.faults) (may_NodeProperty kinds 
 property_safe kinds (rel x) name = ap (λ m. m.faults) (may_RelProperty kinds x name)
 
 -- a property equals a literal, or not, or is null: it cannot fault
-entry_safe : (kinds : Kinds) (e : MapEntry) → can_fault kinds (entry_expr e) ≡ false
+pub entry_safe : (kinds : Kinds) (e : MapEntry) → can_fault kinds (entry_expr e) ≡ false
 entry_safe kinds e =
     ap misfits (may_Compare kinds (property_of e.variable e.entry.key) (equals e.entry.value))
     ∙ ap₂ (λ a b. misfits (truth (a || (b || false)))) (property_safe kinds e.variable e.entry.key) (ap (λ (m : May). m.faults) (may_Literal kinds e.entry.value))
@@ -276,7 +298,7 @@ has_variable : (y : Typed) (n m : ℕ) (v : Variable) → n ≡ length y.nodes �
 has_variable y n m (node v) is_n is_m there = omega arith
 has_variable y n m (rel x) is_n is_m there = omega arith
 
-each_some : {X : Type 0} (P : Read → Type 0) (f : X → List Read) (test : X → Bool) (xs : List X) → AllByRecursion P (flat_map f xs) → AllByRecursion P (flat_map f (filter test xs))
+pub each_some : {X : Type 0} (P : Read → Type 0) (f : X → List Read) (test : X → Bool) (xs : List X) → AllByRecursion P (flat_map f xs) → AllByRecursion P (flat_map f (filter test xs))
 each_some P f test [] h = tt
 each_some {X} P f test (x ∷ xs) h = go (test x) (each_some P f test xs (each_right P (f x) (flat_map f xs) h))
   where
@@ -284,7 +306,7 @@ each_some {X} P f test (x ∷ xs) h = go (test x) (each_some P f test xs (each_r
     go true more = each_append P (f x) (flat_map f (filter test xs)) (each_left P (f x) (flat_map f xs) h) more
     go false more = more
 
-among_more : (rs ss more : List Read) → AllAmong rs ss → AllAmong rs (ss ++ more)
+pub among_more : (rs ss more : List Read) → AllAmong rs ss → AllAmong rs (ss ++ more)
 among_more rs ss more h =
     each_then (λ r. is_among ss r ≡ true) (λ r. is_among (ss ++ more) r ≡ true)
     (λ r k. list_any-append (same_read r) ss more ∙ or_left (is_among ss r) (is_among more r) k) rs h
@@ -301,6 +323,25 @@ among_wider bs ms cs ds r h =
     go false true c d e = refl
     go false false true d e = refl
     go false false false d e = cc e
+
+-- what the entries of the MATCH clauses and their conjuncts read is among what all read
+module _ (query : Query) where
+  abbrev pub base : List Read
+  base = map entry_read (pattern_of query.clauses).entries ++ properties (flat_map conjunct_reads (filter is_value (conjuncts query)))
+
+  pub wider_among : (rs : List Read) → AllAmong rs base → AllAmong rs (all_reads query)
+  unfolding all_reads
+  wider_among rs h =
+      let es : List MapEntry = (pattern_of query.clauses).entries in
+      let conditions : List Read = properties (flat_map conjunct_reads (filter is_value (conjuncts query))) in
+      let optional : List Read = properties (flat_map conjunct_reads (filter is_value (optional_conjuncts query))) in
+      let more = entries_begin (length query.clauses) query.optionals (pattern_of query.clauses) in
+      subst (λ fs. AllAmong rs (map entry_read fs ++ (conditions ++ optional))) (sym more.1)
+      (subst (λ qs. AllAmong rs (qs ++ (conditions ++ optional))) (sym (map-append entry_read es more.0))
+      (each_then (λ r. is_among base r ≡ true) _ (λ r. among_wider (map entry_read es) (map entry_read more.0) conditions optional r) rs h))
+
+  pub base_among : AllAmong base (all_reads query)
+  base_among = wider_among base (all_self base)
 
 module _ (catalog : Tables) (query : Query) (text : List ℕ) (es : List NamedExpr) (known : ReadsConditions query es) (c : Choice) where
   abbrev p : Pattern
@@ -334,14 +375,7 @@ module _ (catalog : Tables) (query : Query) (text : List ℕ) (es : List NamedEx
       (properties_among (map entry_read p.entries) (flat_map named_reads (filter stays_test es)) (flat_map named_reads es) (some_among named_reads stays_test es)))
 
   reads_among : AllAmong (properties (test_reads y)) (all_reads query)
-  unfolding all_reads
-  reads_among =
-      let conditions : List Read = properties (flat_map (λ c. known_reads c.expr) (filter is_value (conjuncts query))) in
-      let more = entries_begin (length query.clauses) query.optionals p in
-      subst (λ es. AllAmong (properties (test_reads y)) (map entry_read es ++ (conditions ++ properties (flat_map (λ c. known_reads c.expr) (filter is_value (optional_conjuncts query)))))) (sym more.1)
-      (subst (λ rs. AllAmong (properties (test_reads y)) (rs ++ (conditions ++ properties (flat_map (λ c. known_reads c.expr) (filter is_value (optional_conjuncts query)))))) (sym (map-append entry_read p.entries more.0))
-      (each_then (λ r. is_among (map entry_read p.entries ++ conditions) r ≡ true) _
-      (λ r. among_wider (map entry_read p.entries) (map entry_read more.0) conditions (properties (flat_map (λ c. known_reads c.expr) (filter is_value (optional_conjuncts query)))) r) (properties (test_reads y)) own_among))
+  reads_among = wider_among query (properties (test_reads y)) own_among
 
   tests_safe : AllByRecursion (λ t. can_fault (kinds_of catalog y) t.expr ≡ false) y.tests
   unfolding typed_of
@@ -351,7 +385,7 @@ module _ (catalog : Tables) (query : Query) (text : List ℕ) (es : List NamedEx
       (each_then (λ t. Unit {0} × (stays_test t ≡ true)) (λ t. can_fault kinds t.expr ≡ false) (λ t h. not-true (can_fault kinds t.expr) h.1) (filter stays_test es)
       (each_kept (λ t. Unit {0}) stays_test es (each_of (λ t. Unit {0}) (λ t. tt) es)))
 
-  choice_sound : IsSmall query text → IsChoice catalog (length p.names) (length p.rels) c × (agrees catalog p c ≡ true) → IsSound catalog y
+  pub choice_sound : IsSmall query text → IsChoice catalog (length p.names) (length p.rels) c × (agrees catalog p c ≡ true) → IsSound catalog y
   unfolding typed_of
   choice_sound small h =
       let shaped : IsShaped p = pattern_shaped query.clauses in
@@ -498,64 +532,3 @@ tests_sound query text catalog accepted =
     let small : IsSmall query text = accepted_small query text catalog accepted in
     each_then (λ t. IsSmallTest (shared_test t)) (λ t. All (IsSound catalog) (named_part text catalog (shared_test t) t.name).alternatives) (λ t h. path_sound catalog text t.test.path h.0 h.1.0 h.1.1) (tests text query)
     (all_small query text (each_small (seen text query) (length (whole_pattern query).nodes) (length (whole_pattern query).rels) small.nodes small.rels small.alone))
-
--- the alternatives of a bound query are sound
-pub alternatives_sound : (query : Query) (text : List ℕ) (catalog : Tables) (bound : Bound) → first_refusal query text catalog ≡ None → Resolves query text bound → HasAlternatives query text catalog bound
-    → All (IsSound catalog) bound.alternatives
-alternatives_sound query text catalog bound accepted resolves has =
-    let p : Pattern = pattern_of query.clauses in
-    let make : Choice → Typed = typed_of catalog p (map (entry_test text) p.entries) bound.conjuncts in
-    subst (All (IsSound catalog)) (sym has)
-    (All-from_recursion (IsSound catalog) (map make (alternatives query catalog))
-    (each_map (λ c. IsChoice catalog (length p.names) (length p.rels) c × (agrees catalog p c ≡ true)) (IsSound catalog) make
-    (λ c h. choice_sound catalog query text bound.conjuncts (conjuncts_known query text bound.conjuncts resolves.conjuncts) c (accepted_small query text catalog accepted) h)
-    (alternatives query catalog) (each_alternative catalog p)))
-
--- and have the variables of the MATCH clauses
-module _ (query : Query) (text : List ℕ) (catalog : Tables) (bound : Bound) (has : HasAlternatives query text catalog bound) where
-  abbrev matched : Pattern
-  matched = pattern_of query.clauses
-
-  abbrev match_made : Choice → Typed
-  match_made c = typed_of catalog (pattern_of query.clauses) (map (entry_test text) (pattern_of query.clauses).entries) bound.conjuncts c
-
-  nodes_counted : All (λ y. length y.nodes ≡ length matched.names) bound.alternatives
-  unfolding typed_of
-  nodes_counted =
-      subst (All (λ y. length y.nodes ≡ length matched.names)) (sym has)
-      (All-from_recursion (λ (y : Typed). length y.nodes ≡ length matched.names) (map match_made (alternatives query catalog))
-      (each_map (λ c. IsChoice catalog (length matched.names) (length matched.rels) c × (agrees catalog matched c ≡ true)) (λ (y : Typed). length y.nodes ≡ length matched.names) match_made
-      (λ c h. h.0.table_count) (alternatives query catalog) (each_alternative catalog matched)))
-
-  rels_counted : All (λ y. length y.rels ≡ length matched.rels) bound.alternatives
-  unfolding typed_of
-  rels_counted =
-      subst (All (λ y. length y.rels ≡ length matched.rels)) (sym has)
-      (All-from_recursion (λ (y : Typed). length y.rels ≡ length matched.rels) (map match_made (alternatives query catalog))
-      (each_map (λ c. IsChoice catalog (length matched.names) (length matched.rels) c × (agrees catalog matched c ≡ true)) (λ (y : Typed). length y.rels ≡ length matched.rels) match_made
-      (λ c h. typed_count matched.rels c.readings h.0.reading_count) (alternatives query catalog) (each_alternative catalog matched)))
-
--- so a query that no check refuses, with its names resolved, its alternatives and its clauses, is bound
-pub is_bound : (query : Query) (text : List ℕ) (catalog : Tables) (bound : Bound) → first_refusal query text catalog ≡ None → Resolves query text bound → HasAlternatives query text catalog bound
-    → AllZip (IsTested text catalog) (tests text query) bound.patterns
-    → AreOptional text catalog (length query.clauses) (pattern_of query.clauses) query.optionals bound.optionals
-    → All (IsPlaced (length (whole_pattern query).names) (length (whole_pattern query).rels) catalog) bound.optionals → 0 < length (pattern_of query.clauses).names
-    → IsBound query text catalog bound
-is_bound query text catalog bound accepted resolves has tested optionals placed begins =
-    let nodes : length (whole_pattern query).names ≡ length bound.node_names = sym (whole_counted query) ∙ ap length (sym resolves.node_names) in
-    let rels : length (whole_pattern query).rels ≡ length bound.rel_names = sym (whole_rels_counted query) ∙ ap length (sym resolves.rel_names) in
-    let grown : Grows (pattern_of query.clauses) (whole_pattern query) = clauses_grow (length query.clauses) query.optionals (pattern_of query.clauses) in
-    record {
-      accepted = accepted;
-      resolves = resolves;
-      alternatives = has;
-      tested = tested;
-      optionals = optionals;
-      placed = subst (λ n. All (IsPlaced n (length bound.rel_names) catalog) bound.optionals) nodes (subst (λ m. All (IsPlaced (length (whole_pattern query).names) m catalog) bound.optionals) rels placed);
-      sound = alternatives_sound query text catalog bound accepted resolves has;
-      has_node = begins;
-      node_counts = nodes_counted query text catalog bound has;
-      rel_counts = rels_counted query text catalog bound has;
-      node_width = subst (λ n. length (pattern_of query.clauses).names ≤ n) nodes grown.names;
-      rel_width = subst (λ n. length (pattern_of query.clauses).rels ≤ n) rels grown.rels;
-    }

@@ -12,12 +12,14 @@ use Rattle.gq_plan.specs.declared.Bound.{Bound}
 use Rattle.gq_syntax.specs.declared.Arrow.TheVariants as arrow
 use Rattle.gq_syntax.specs.declared.Query.{Query}
 use Rattle.gq_alternatives.specs.Alternatives.{choices, pattern_alternatives, typed_of}
-use Rattle.gq_binder.proofs.SoundAlternatives.{is_bound}
+use Rattle.gq_binder.proofs.BoundBy.{is_bound}
 use Rattle.gq_binder.specs.Binding.{IsBound}
 use Rattle.gq_binder.specs.Columns.{conjuncts, columns_in}
 use Rattle.gq_binder.specs.Optionals.{optional_conjuncts}
 use Rattle.gq_binder.specs.Refusals.{expressions, all_reads, first_refusal, seen}
 use Rattle.gq_binder.specs.Tested.{tests}
+use Rattle.gq_law_cuts.specs.Cuts.{core_size, cored_of, trailed_of}
+use Rattle.gq_law_cuts.specs.Typing.{core_typed}
 use Rattle.gq_scopes.specs.Patterns.{pattern_of}
 use Rattle.gq_lexer.specs.Sources.{source_text}
 
@@ -66,6 +68,8 @@ bound = record {
   conjuncts = [];
   patterns = [];
   optionals = [];
+  trails = [];
+  trail_names = [];
   keys = [];
   distinct = false;
   skip = 0;
@@ -82,12 +86,12 @@ bound = record {
 }
 
 accepted : first_refusal query text catalog ≡ None
-unfolding first_refusal expressions all_reads columns_in pattern_of pattern_alternatives choices tuples conjuncts optional_conjuncts seen
+unfolding first_refusal expressions all_reads columns_in pattern_of trailed_of cored_of core_size pattern_alternatives choices tuples conjuncts optional_conjuncts seen
 accepted = refl
 
 is_bound_so : IsBound query text catalog bound
-unfolding conjuncts columns_in pattern_of pattern_alternatives choices tuples typed_of tests
+unfolding conjuncts columns_in pattern_of trailed_of cored_of core_size pattern_alternatives choices tuples typed_of core_typed tests
 is_bound_so =
-    is_bound query text catalog bound accepted
+    is_bound query text catalog bound accepted (((λ e. absurd (cc e), tt), tt), tt) (omega arith)
     (record { node_names = refl; rel_names = refl; columns = refl; conjuncts = refl; keys = refl; distinct = refl; skip = refl; limit = refl })
-    refl tt tt (All-nil _) (omega arith)
+    refl refl refl tt refl tt (All-nil _)

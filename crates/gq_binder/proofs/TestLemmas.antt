@@ -4,7 +4,7 @@ use Rattle.std.proofs.Common.{◌≡◌, ◌∙◌, ℕ, suc, ◌≤◌, append-
 use Rattle.std.specs.Prelude.{filter_map}
 use Rattle.std.specs.List.{AllByRecursion, AllZip, cons_option}
 use Rattle.std.specs.Option.{option_map, option_or}
-use Rattle.std.proofs.lemmas.List.{map-append}
+use Rattle.std.proofs.lemmas.List.{length-map, map-append}
 use Rattle.std.proofs.lemmas.List.Elements.{All-from_recursion, All-head, All-tail, filter_map-append}
 use Rattle.gq_base.proofs.OptionLaws.{or_first, or_second}
 use Rattle.gq_base.specs.Catalogs.{Tables}
@@ -148,22 +148,35 @@ found_fewer {Y = Y} f (x ∷ xs) = go (f x) (found_fewer f xs)
 abbrev pub part_of : List ℕ → Tables → ScopedTest → ExistsPart
 part_of text catalog t = named_part text catalog (shared_test t) t.name
 
-pub zip_parts : (text : List ℕ) (catalog : Tables) (ts : List ScopedTest) → AllByRecursion (λ t. AreKnown t.names t.test.path) ts → AllByRecursion (λ t. All (IsSound catalog) (part_of text catalog t).alternatives) ts
-    → AllZip (IsTested text catalog) ts (map (part_of text catalog) ts)
-zip_parts text catalog [] named sound = tt
-zip_parts text catalog (t ∷ ts) named sound = (
+-- with its variables by other numbers
+abbrev pub part_by : (ℕ → ℕ) → ExistsPart → ExistsPart
+part_by move p = record p { nodes = map move p.nodes }
+
+pub zip_parts : (text : List ℕ) (catalog : Tables) (move : ℕ → ℕ) (ts : List ScopedTest) → AllByRecursion (λ t. AreKnown t.names t.test.path) ts → AllByRecursion (λ t. All (IsSound catalog) (part_of text catalog t).alternatives) ts
+    → AllZip (IsTested text catalog) ts (map (part_by move) (map (part_of text catalog) ts))
+zip_parts text catalog move [] named sound = tt
+zip_parts text catalog move (t ∷ ts) named sound = (
   record {
     called = refl;
     wanted = refl;
-    nodes = refl;
     named = named.0;
     alternatives = refl;
     sound = sound.0;
     has_node = path_nodes catalog text t.test.path;
-    wide = path_wide catalog text t.test.path (shared t) (found_fewer (find_name t.names) (shared_names t.test.path));
+    wide =
+        path_wide catalog text t.test.path (map move (shared t))
+        (let few : length (shared t) ≤ length (shared_names t.test.path) = found_fewer (find_name t.names) (shared_names t.test.path) in
+        let many : length (map move (shared t)) ≡ length (shared t) = length-map (shared t) move in
+        omega (arith, few, many));
   },
-  zip_parts text catalog ts named.1 sound.1,
+  zip_parts text catalog move ts named.1 sound.1,
 )
+
+-- they have the variables that the tests share
+pub shared_parts : (text : List ℕ) (catalog : Tables) (move : ℕ → ℕ) (ts : List ScopedTest)
+    → map (λ (p : ExistsPart). p.nodes) (map (part_by move) (map (part_of text catalog) ts)) ≡ map (λ t. map move (shared t)) ts
+shared_parts text catalog move [] = refl
+shared_parts text catalog move (t ∷ ts) = ap (λ l. map move (shared t) ∷ l) (shared_parts text catalog move ts)
 
 -- an EXISTS that is no test gives no part
 module _ (text : List ℕ) (catalog : Tables) where

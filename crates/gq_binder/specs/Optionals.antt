@@ -11,7 +11,8 @@ use Rattle.gq_syntax.specs.declared.Clause.{Clause}
 use Rattle.gq_syntax.specs.declared.Query.{Query}
 use Rattle.gq_alternatives.specs.Alternatives.{pattern_alternatives, typed_of}
 use Rattle.gq_alternatives.specs.Matches.{pattern_matches}
-use Rattle.gq_binder.specs.Columns.{entry_test, optional_conditions, scoped_in}
+use Rattle.gq_binder.specs.Columns.{optional_conditions, scoped_in}
+use Rattle.gq_cuts.specs.Entries.{entry_test}
 use Rattle.gq_scopes.specs.Patterns.{Name, Pattern, known_as, pattern_of, with_paths}
 use Rattle.gq_scopes.specs.Scopes.{scope_of}
 use Rattle.gq_trees.specs.Conjuncts.{values_of}

@@ -1,7 +1,6 @@
--- Why a query cannot be bound: it has a form that is not built yet, or else the first of fourteen checks that applies,
--- with its first place in the text: in its patterns, and then in the paths of its expressions (this project's profile). The
+-- Why a query cannot be bound: the first of sixteen checks that applies, with its first place in the text from left to right (this project's profile). The
 -- checks look at all clauses alike, those behind OPTIONAL too.
-use Rattle.std.specs.Prelude.{ℕ, suc, nat_eq, nat_lt, Bool, true, false, not, is_some, ◌+◌, slice_get, unwrap_or, ◌&&◌, Option, Some, None, List, [], ◌∷◌, ◌++◌, map, filter, flat_map, length, if◌then◌else◌}
+use Rattle.std.specs.Prelude.{ℕ, suc, nat_eq, nat_lt, Bool, true, false, not, is_some, ◌+◌, slice_get, unwrap_or, ◌&&◌, ◌||◌, Option, Some, None, List, [], ◌∷◌, ◌++◌, map, drop, filter, flat_map, length, if◌then◌else◌}
 use Rattle.gq_plan.specs.declared.variable.Variable.TheVariants.{Node as node, Rel as rel}
 use Rattle.gq_plan.specs.declared.variable.Variable.{Variable}
 use Rattle.std.specs.List.{list_any}
@@ -11,16 +10,20 @@ use Rattle.gq_base.specs.Catalogs.{Tables}
 use Rattle.gq_expr.specs.declared.Expr.{Expr}
 use Rattle.gq_plan.specs.Reads.{Read, property, reads, properties, distinct}
 use Rattle.gq_plan.specs.Soundness.{max_variables, max_reads}
+use Rattle.gq_syntax.specs.declared.Clause.{Clause}
 use Rattle.gq_syntax.specs.declared.Item.{Item}
 use Rattle.gq_syntax.specs.declared.Query.{Query}
+use Rattle.gq_syntax.specs.declared.Range.{Range}
 use Rattle.gq_syntax.specs.declared.Sort.{Sort}
-use Rattle.gq_alternatives.specs.Alternatives.{alternatives, pattern_alternatives}
-use Rattle.gq_binder.specs.Columns.{Scoped, conditions, conjuncts, columns, optional_conditions, sort_scope, whole_pattern}
+use Rattle.gq_alternatives.specs.Alternatives.{pattern_alternatives}
+use Rattle.gq_base.specs.Lists.{is_empty}
+use Rattle.gq_law_cuts.specs.Shaped.{core_pattern_of}
+use Rattle.gq_binder.specs.Columns.{Scoped, conditions, conjuncts, columns, optional_conditions, scoped_in, sort_scope, whole_pattern}
 use Rattle.gq_binder.specs.Optionals.{alone, optional_conjuncts}
 use Rattle.gq_trees.specs.Conjuncts.{is_value}
 use Rattle.gq_trees.specs.MadeOf.{column_exprs, is_made_of}
 use Rattle.gq_trees.specs.Renames.{ambiguous_name}
-use Rattle.gq_scopes.specs.Patterns.{MapEntry, Name, NamedVariable, Pattern, is_same_name}
+use Rattle.gq_scopes.specs.Patterns.{MapEntry, Name, NamedVariable, Pattern, is_same_name, no_pattern, pattern_of, with_paths}
 use Rattle.gq_binder.specs.Tested.{SharedTest, seen_elsewhere, seen_in}
 use Rattle.gq_scopes.specs.PathPatterns.{path_pattern}
 use Rattle.gq_syntax.specs.declared.Path.{Path}
@@ -47,21 +50,16 @@ sorts_in scope order = map (λ s. record { scope = scope; tree = s.tree }) order
 abbrev pub sort_trees : List ℕ → Query → List Scoped
 sort_trees text query = sorts_in (sort_scope functions text query) query.order
 
--- those behind the conditions of MATCH clauses: the conditions of OPTIONAL MATCH clauses, the items, and those of ORDER BY
+-- those behind all conditions: the items, and those of ORDER BY
+abbrev pub items_and_sorts : List ℕ → Query → List Scoped
+items_and_sorts text query = items_in (scope_of (whole_pattern query)) query.items ++ sort_trees text query
+
+-- those behind the conditions of MATCH clauses
 abbrev pub others : List ℕ → Query → List Scoped
-others text query = optional_conditions query ++ (items_in (scope_of (whole_pattern query)) query.items ++ sort_trees text query)
+others text query = optional_conditions query ++ items_and_sorts text query
 
 unfoldable pub expressions : List ℕ → Query → List Scoped
 expressions text query = conditions query ++ others text query
-
--- ---- forms that are not built yet
-
-abbrev pub has_trail : Pattern → Bool
-has_trail p = list_any (λ r. is_some r.part.trail) p.rels
-
--- patterns have a form that is spelled and has no bound form yet: a trail
-abbrev pub not_built : Pattern → Option BindRefusal
-not_built p = if has_trail p then Some refusal.NotBuilt else None
 
 -- ---- names
 
@@ -95,19 +93,26 @@ is_rel (rel x) = true
 abbrev pub repeating : List NamedVariable → NamedVariable → Option Name
 repeating before n = refused_unless (not (is_rel n.variable && list_any (λ m. is_same_name m n && is_rel m.variable) before)) n.name
 
-abbrev pub variable_conflict : Pattern → Option BindRefusal
-variable_conflict p = option_map refusal.VariableConflict (first_behind conflicting [] p.named)
+-- the first name that a check refuses in clauses behind some patterns: of each clause, in what it adds to them, and then in the paths of its condition
+abbrev pub first_in_clauses : (List NamedVariable → NamedVariable → Option Name) → (Scope → Use → Option Name) → ℕ → Pattern → List Clause → Option Name
+first_in_clauses in_patterns in_paths number p [] = None
+first_in_clauses in_patterns in_paths number p (c ∷ cs) =
+    let q : Pattern = with_paths number c.paths p in
+    option_or (first_behind in_patterns p.named (drop (length p.named) q.named))
+    (option_or (first_in in_paths (scoped_in (scope_of q) c.filter)) (first_in_clauses in_patterns in_paths (suc number) q cs))
 
--- so does one in the path of an expression
-abbrev pub path_conflict : List ℕ → Query → Option BindRefusal
-path_conflict text query = option_map refusal.VariableConflict (first_in of_other_form (expressions text query))
+-- the first in a query: in its MATCH clauses, in its OPTIONAL MATCH clauses, and then in the paths of its items and of ORDER BY
+abbrev pub first_in_query : (List NamedVariable → NamedVariable → Option Name) → (Scope → Use → Option Name) → List ℕ → Query → Option Name
+first_in_query in_patterns in_paths text query =
+    option_or (first_in_clauses in_patterns in_paths 0 no_pattern query.clauses)
+    (option_or (first_in_clauses in_patterns in_paths (length query.clauses) (pattern_of query.clauses) query.optionals)
+    (first_in in_paths (items_and_sorts text query)))
 
-abbrev pub relationship_repeated : Pattern → Option BindRefusal
-relationship_repeated p = option_map refusal.RelationshipRepeated (first_behind repeating [] p.named)
+abbrev pub variable_conflict : List ℕ → Query → Option BindRefusal
+variable_conflict text query = option_map refusal.VariableConflict (first_in_query conflicting of_other_form text query)
 
--- a path of an expression has a relationship variable
-abbrev pub path_repeated : List ℕ → Query → Option BindRefusal
-path_repeated text query = option_map refusal.RelationshipRepeated (first_in named_again (expressions text query))
+abbrev pub relationship_repeated : List ℕ → Query → Option BindRefusal
+relationship_repeated text query = option_map refusal.RelationshipRepeated (first_in_query repeating named_again text query)
 
 -- ---- columns
 
@@ -236,18 +241,15 @@ too_many_reads rs p ts clauses =
     (over_limit max_reads (length (distinct (rs ++ path_reads (length p.names) (length p.rels) ts))) refusal.TooManyReads
     ∷ (map maps_alone clauses ++ map reads_alone ts))
 
--- whether all its forms are built, and the checks that ask no catalogue, in their order
+-- the checks that stand before those of alternatives, trails and places, in their order
 abbrev pub checks_of : Query → List ℕ → List (Option BindRefusal)
 checks_of query text =
     let p : Pattern = whole_pattern query in
     let cs : List Column = columns functions text query in
     let ts : List SharedTest = seen text query in
-    not_built p
-    ∷ unknown_variable text query
-    ∷ variable_conflict p
-    ∷ path_conflict text query
-    ∷ relationship_repeated p
-    ∷ path_repeated text query
+    unknown_variable text query
+    ∷ variable_conflict text query
+    ∷ relationship_repeated text query
     ∷ column_repeated cs
     ∷ nothing_to_return query p
     ∷ order_out_of_scope text query
@@ -268,12 +270,32 @@ abbrev pub alternatives_of : Tables → List Pattern → ℕ
 alternatives_of catalog [] = 0
 alternatives_of catalog (p ∷ ps) = length (pattern_alternatives catalog p) + alternatives_of catalog ps
 
--- how many alternatives there are: those of the MATCH clauses, of the OPTIONAL MATCH clauses, and of the paths
+-- how many alternatives there are: those of the core of the MATCH clauses, of the OPTIONAL MATCH clauses, and of the paths
 abbrev pub too_many_alternatives : List ℕ → Query → Tables → Option BindRefusal
 too_many_alternatives text query catalog =
     over_limit max_alternatives
-    (length (alternatives query catalog) + (alternatives_of catalog (each_alone query) + alternatives_in catalog (paths_of (seen text query))))
+    (length (pattern_alternatives catalog (core_pattern_of query.clauses)) + (alternatives_of catalog (each_alone query) + alternatives_in catalog (paths_of (seen text query))))
     refusal.TooManyAlternatives
+
+-- ---- trails
+
+abbrev pub has_trail : Pattern → Bool
+has_trail p = list_any (λ r. is_some r.part.trail) p.rels
+
+abbrev pub max_length : ℕ
+max_length = 16
+
+-- a trail may be empty, or too long, or is to have more relationships at least than at most
+abbrev pub is_unfit : Option Range → Bool
+is_unfit None = false
+is_unfit (Some range) = nat_eq range.low 0 || (nat_lt max_length range.high || nat_lt range.high range.low)
+
+abbrev pub trail_length : Pattern → Option BindRefusal
+trail_length p = if list_any (λ r. is_unfit r.part.trail) p.rels then Some refusal.TrailLength else None
+
+-- there are a trail and an OPTIONAL MATCH clause
+abbrev pub trail_with_optional : Query → Pattern → Option BindRefusal
+trail_with_optional query p = if has_trail p && not (is_empty query.optionals) then Some refusal.TrailWithOptional else None
 
 -- ---- where an EXISTS stands
 
@@ -290,4 +312,9 @@ exists_place ts = if has_misplaced ts then Some refusal.ExistsPlace else None
 -- the first check that applies
 unfoldable pub first_refusal : Query → List ℕ → Tables → Option BindRefusal
 first_refusal query text catalog =
-    first_of_all (checks_of query text ++ too_many_alternatives text query catalog ∷ exists_place (seen text query) ∷ [])
+    first_of_all
+    (checks_of query text
+    ++ too_many_alternatives text query catalog
+    ∷ trail_length (whole_pattern query)
+    ∷ trail_with_optional query (whole_pattern query)
+    ∷ exists_place (seen text query) ∷ [])

@@ -13,7 +13,8 @@ use Rattle.gq_plan.specs.Soundness.{IsSound}
 use Rattle.gq_plan.specs.declared.ExistsPart.{ExistsPart}
 use Rattle.gq_alternatives.specs.Alternatives.{pattern_alternatives, typed_of}
 use Rattle.gq_alternatives.specs.Tested.{exists_value}
-use Rattle.gq_binder.specs.Columns.{Scoped, conditions, entry_test}
+use Rattle.gq_binder.specs.Columns.{Scoped, conditions}
+use Rattle.gq_cuts.specs.Entries.{entry_test}
 use Rattle.gq_scopes.specs.PathPatterns.{path_pattern, shared_names}
 use Rattle.gq_scopes.specs.Patterns.{Name, Pattern, find_name}
 use Rattle.gq_scopes.specs.Scopes.{is_there}
@@ -87,7 +88,6 @@ where_met g ts parts later m = if all_met g ts parts m.row then later m else []
 pub record IsTested (text : List ℕ) (catalog : Tables) (t : ScopedTest) (part : ExistsPart) : Type 0 where
   pub called : part.text ≡ record { name = t.name; expr = expr.Literal (literal.Flag true) }
   pub wanted : part.wanted ≡ t.test.wanted
-  pub nodes : part.nodes ≡ shared t
   pub named : AllByRecursion (λ n. is_there (find_name t.names n) ≡ true) (shared_names t.test.path)
   pub alternatives : let p : Pattern = path_pattern t.test.path in
       part.alternatives ≡ map (typed_of catalog p (map (entry_test text) p.entries) []) (pattern_alternatives catalog p)

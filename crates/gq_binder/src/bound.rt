@@ -1,19 +1,22 @@
 //! The bound form of a query, or why it has none.
-ghost use Rattle.std.specs.Prelude.{◌≡◌, [], map, filter_map, IfOk};
+ghost use Rattle.std.specs.Prelude.{◌≡◌, [], map, filter_map, IfOk, IfSome};
 ghost use Rattle.gq_alternatives.specs.Alternatives.{pattern_alternatives, typed_of};
 ghost use Rattle.gq_binder.specs.Binding.{Answers};
 ghost use Rattle.gq_binder.specs.Columns.{sort_expr};
-ghost use Rattle.gq_binder.specs.steps.Parts.{bound_in, exists_part, own_patterns};
+ghost use Rattle.gq_binder.specs.steps.Parts.{bound_by, bound_in, exists_part};
+ghost use Rattle.gq_binder.specs.steps.Parts.{own_patterns, IsWholeCore};
 ghost use Rattle.gq_binder.specs.Refusals.{first_refusal};
 ghost use Rattle.gq_syntax.specs.Spans.{SpelledQuery};
 
-use crate::checks::{Alternatives, check, exists_place, few_alternatives};
+use crate::checks::{Alternatives, check, check_last};
 use crate::columns::known_columns;
 use crate::optionals::optional_parts;
 use crate::parts::{QueryParts, parts_of};
 use crate::refusal::BindRefusal;
+use crate::trails::cored_bound;
 use gq_alternatives::{Choice, typed};
 use gq_base::{Catalog, List, Memory, Text};
+use gq_cuts::{Core, core_of};
 use gq_plan::{Bound, NamedExpr, SortExpr, Typed};
 use gq_scopes::{Copying, Pattern, Scope, copy_text};
 use gq_syntax::{Query, Sort};
@@ -33,9 +36,9 @@ pub fn bind(
 {
     let parts = parts_of(alloc, text, query)?;
     check(alloc, text, query, &parts)?;
-    let all = few_alternatives(alloc, text, catalog, &parts)?;
-    exists_place(parts.exists.as_slice())?;
-    Ok(bound_of(alloc, text, catalog, query, parts, all)?)
+    let core = core_of(alloc, query.clauses.as_slice())?;
+    let all = check_last(alloc, text, catalog, query, &parts, &core)?;
+    Ok(bound_by(alloc, text, catalog, query, parts, core, all)?)
 }
 
 /// Why a query, which a text spells, cannot be bound over a catalogue: the first check that
@@ -58,8 +61,31 @@ pub fn refusal_of(
     }
 }
 
-// The bound form that the parts of a query give, with what stands for an expression: where no check
-// refuses the query, all does.
+// The bound form that the parts of a query and its core give, where it has trails.
+fn bound_by(
+    alloc: Global,
+    text: &[u8],
+    catalog: &Catalog,
+    query: &Query,
+    parts: QueryParts<'_>,
+    core: Option<Core<'_>>,
+    all: Alternatives,
+) -> Result<Bound, Memory>
+    requires whole { IfSome core (IsWholeCore text.now) }
+    requires patterns { all.patterns ≡ filter_map (exists_part text.now catalog.now) parts.exists }
+    requires optionals { all.optionals
+        ≡ map (pattern_alternatives catalog.now) (own_patterns parts.optionals) }
+    ensures { IfOk result (λ b.
+        b ≡ bound_by text.now catalog.now query.now parts.entry core.entry all.choices) }
+{
+    match core {
+        None => bound_of(alloc, text, catalog, query, parts, all),
+        Some(core) => cored_bound(alloc, text, catalog, query, parts, &core, all),
+    }
+}
+
+// The bound form that the parts of a query without trails give, with what stands for an expression:
+// where no check refuses the query, all does.
 fn bound_of(
     alloc: Global,
     text: &[u8],
@@ -123,6 +149,8 @@ fn without_lists(
         conjuncts: List::new(alloc),
         patterns: List::new(alloc),
         optionals: List::new(alloc),
+        trails: List::new(alloc),
+        trail_names: List::new(alloc),
         keys,
         distinct: query.distinct,
         skip: query.skip.unwrap_or(0),
@@ -131,8 +159,12 @@ fn without_lists(
     })
 }
 
-// The keys of ORDER BY, of those that stand for an expression.
-fn known_keys(alloc: Global, scope: &Scope<'_>, order: &[Sort]) -> Result<List<SortExpr>, Memory>
+/// The keys of ORDER BY, of those that stand for an expression.
+pub fn known_keys(
+    alloc: Global,
+    scope: &Scope<'_>,
+    order: &[Sort],
+) -> Result<List<SortExpr>, Memory>
     ensures { IfOk result (λ keys. keys ≡ filter_map (sort_expr scope.now) order.now) }
 {
     let mut copying = Copying::new();
@@ -199,7 +231,8 @@ pub fn typed_out_of(
     Ok(all)
 }
 
-fn copy_texts(alloc: Global, texts: &[Text]) -> Result<List<Text>, Memory>
+/// A copy of texts.
+pub fn copy_texts(alloc: Global, texts: &[Text]) -> Result<List<Text>, Memory>
     ensures { IfOk result (λ ts. ts ≡ texts.now) }
 {
     let mut copies = List::new(alloc);

@@ -1,14 +1,17 @@
 //! The checks of a query in their order, and those of its forms, patterns, columns and numbers, and of the places of EXISTS.
 ghost use Rattle.std.specs.Prelude.{◌≡◌, ◌++◌, ◌+◌, [], All, IfOk, IfSome, OnOk};
 ghost use Rattle.std.specs.Prelude.{filter_map, is_some, length, map};
-ghost use Rattle.std.specs.Prelude.{nat_lt};
-ghost use Rattle.std.specs.Option.{option_map};
+ghost use Rattle.std.specs.Prelude.{nat_lt, not, ◌||◌};
+ghost use Rattle.std.specs.List.{list_any};
+ghost use Rattle.gq_base.specs.Lists.{is_empty};
 ghost use Rattle.gq_alternatives.specs.Alternatives.{pattern_alternatives};
+ghost use Rattle.gq_alternatives.specs.Searching.{at_most};
 ghost use Rattle.gq_binder.specs.steps.Checks.{Checks};
 ghost use Rattle.gq_binder.specs.steps.Parts.{checks_in, clause_reads, exists_part, own_patterns};
+ghost use Rattle.gq_binder.specs.steps.Parts.{counted_in, last_checks_in};
 ghost use Rattle.gq_binder.specs.steps.Parts.{parts_reads, reads_in};
 ghost use Rattle.gq_binder.specs.Refusals as refusals;
-ghost use Rattle.gq_binder.specs.Refusals.{first_of_all, first_behind, conflicting, repeating};
+ghost use Rattle.gq_binder.specs.Refusals.{first_of_all};
 ghost use Rattle.gq_binder.specs.Refusals.{nothing, over_limit, max_alternatives, max_columns};
 ghost use Rattle.gq_binder.specs.Refusals.{alternatives_in, alternatives_of, entries_read};
 ghost use Rattle.gq_binder.specs.Refusals.{nodes_in, paths_of};
@@ -20,7 +23,6 @@ ghost use Rattle.gq_scopes.specs.PathPatterns.{path_pattern};
 ghost use Rattle.gq_syntax.specs.Spans.{IsWholeTree};
 ghost use Rattle.gq_syntax.specs.steps.Spans.{IsWholePath};
 
-use crate::met::Met;
 use crate::optionals::{ClauseParts, clause_choices};
 use crate::order::{ambiguous_order_name, order_out_of_scope};
 use crate::parts::QueryParts;
@@ -28,11 +30,12 @@ use crate::path_tests::{SharedTest, exists_parts};
 use crate::refusal::BindRefusal;
 use gq_alternatives::{Choice, choices_of};
 use gq_base::{Catalog, List, Memory};
+use gq_cuts::Core;
 use gq_plan::{ExistsPart, NamedExpr, PropertyReads};
 use gq_scopes::{
     Column, MapEntry, NamedVariable, Names, Pattern, RelPattern, Variable, copy_text, number,
 };
-use gq_syntax::Query;
+use gq_syntax::{Query, Range};
 use std::alloc::Global;
 
 const MAX_VARIABLES: usize = 24;
@@ -43,7 +46,10 @@ const MAX_COLUMNS: usize = 64;
 
 const MAX_ALTERNATIVES: usize = 512;
 
-/// The checks of a query in their order, but for those of its alternatives and of the places of EXISTS.
+const MAX_LENGTH: u64 = 16;
+
+/// The checks of a query in their order, but for those of its alternatives, of its trails and of the
+/// places of EXISTS.
 #[tactic(auto, using(crate::proofs::RefusalLemmas::firsts))]
 pub fn check(
     alloc: Global,
@@ -56,12 +62,9 @@ pub fn check(
 {
     let pattern = &parts.pattern;
     let columns = parts.columns.as_slice();
-    not_built(pattern)?;
     parts.names.unknown_variable(alloc)?;
-    variable_conflict(alloc, pattern.named())?;
-    parts.names.path_conflict(alloc)?;
-    relationship_repeated(alloc, pattern.named())?;
-    parts.names.path_repeated(alloc)?;
+    parts.names.variable_conflict(alloc)?;
+    parts.names.relationship_repeated(alloc)?;
     column_repeated(alloc, columns)?;
     nothing_to_return(query.star, pattern.named())?;
     order_out_of_scope(alloc, text, query, pattern)?;
@@ -71,61 +74,6 @@ pub fn check(
     too_many_patterns(pattern, parts.exists.as_slice())?;
     too_many_reads(alloc, parts)?;
     too_many_columns(columns)
-}
-
-/// The patterns have a form that is not built yet.
-fn not_built(pattern: &Pattern<'_>) -> Result<(), BindRefusal>
-    ensures { Checks (refusals.not_built pattern.now) result }
-{
-    if has_trail(pattern) {
-        Err(BindRefusal::NotBuilt)
-    } else {
-        Ok(())
-    }
-}
-
-fn has_trail(pattern: &Pattern<'_>) -> bool
-    ensures { result ≡ refusals.has_trail pattern.now }
-{
-    pattern.rels().iter().any(|rel| is_trail(rel))
-}
-
-fn is_trail(rel: &RelPattern<'_>) -> bool
-    ensures { result ≡ is_some rel.now.part.trail }
-{
-    rel.part.trail.is_some()
-}
-
-/// One name is a node variable and a relationship variable.
-fn variable_conflict(alloc: Global, named: &[NamedVariable<'_>]) -> Result<(), BindRefusal>
-    ensures { Checks
-        (option_map refusal.VariableConflict (first_behind conflicting [] named.now)) result }
-{
-    let mut met = Met::new(alloc);
-    for variable in named {
-        if met.conflicts(variable) {
-            let name = copy_text(alloc, variable.name)?;
-            return Err(BindRefusal::VariableConflict { name });
-        }
-        met.push(variable)?;
-    }
-    Ok(())
-}
-
-/// A relationship variable stands in two patterns.
-fn relationship_repeated(alloc: Global, named: &[NamedVariable<'_>]) -> Result<(), BindRefusal>
-    ensures { Checks
-        (option_map refusal.RelationshipRepeated (first_behind repeating [] named.now)) result }
-{
-    let mut met = Met::new(alloc);
-    for variable in named {
-        if met.repeats(variable) {
-            let name = copy_text(alloc, variable.name)?;
-            return Err(BindRefusal::RelationshipRepeated { name });
-        }
-        met.push(variable)?;
-    }
-    Ok(())
 }
 
 /// Two columns have one name.
@@ -415,28 +363,58 @@ pub struct Alternatives {
     pub patterns: List<ExistsPart>,
 }
 
-/// The alternatives of a query's clauses and of the paths of its tests, unless there are too many.
-#[tactic(auto, using(crate::proofs::RefusalLemmas::within, crate::proofs::RefusalLemmas::within_more, crate::proofs::RefusalLemmas::beyond_more, crate::proofs::RefusalLemmas::over_spent, crate::proofs::RefusalLemmas::over_more))]
-pub fn few_alternatives(
+/// The checks behind the others, in their order, and the alternatives of a query, whose core this is
+/// where it has trails.
+#[tactic(auto, using(crate::proofs::RefusalLemmas::firsts))]
+pub fn check_last(
     alloc: Global,
     text: &[u8],
     catalog: &Catalog,
+    query: &Query,
     parts: &QueryParts<'_>,
+    core: &Option<Core<'_>>,
 ) -> Result<Alternatives, BindRefusal>
     requires { All (λ t. IfSome t.name (λ _. IsWholePath text.now t.test.path)) parts.now.exists }
-    ensures few { Checks (over_limit max_alternatives
-        (length (pattern_alternatives catalog.now parts.now.matched)
-        + (alternatives_of catalog.now (own_patterns parts.now.optionals)
-        + alternatives_in catalog.now (paths_of parts.now.exists))) refusal.TooManyAlternatives)
-        result }
+    ensures passed { Checks
+        (first_of_all (last_checks_in catalog.now query.now parts.now
+        (counted_in core.now parts.now.matched))) result }
     ensures choices { IfOk result (λ all.
-        all.choices ≡ pattern_alternatives catalog.now parts.now.matched) }
+        all.choices ≡ pattern_alternatives catalog.now (counted_in core.now parts.now.matched)) }
     ensures optionals { IfOk result (λ all. all.optionals
         ≡ map (pattern_alternatives catalog.now) (own_patterns parts.now.optionals)) }
     ensures patterns { IfOk result (λ all. all.patterns
         ≡ filter_map (exists_part text.now catalog.now) parts.now.exists) }
 {
-    let Some(choices) = choices_of(alloc, catalog, &parts.matched, MAX_ALTERNATIVES)? else {
+    let all = few_alternatives(alloc, text, catalog, parts, core)?;
+    trail_length(&parts.pattern)?;
+    trail_with_optional(query, &parts.pattern)?;
+    exists_place(parts.exists.as_slice())?;
+    Ok(all)
+}
+
+/// The alternatives of a query's clauses and of the paths of its tests, unless there are too many.
+#[tactic(auto, using(crate::proofs::RefusalLemmas::within, crate::proofs::RefusalLemmas::within_more, crate::proofs::RefusalLemmas::beyond_more, crate::proofs::RefusalLemmas::over_spent, crate::proofs::RefusalLemmas::over_more))]
+fn few_alternatives(
+    alloc: Global,
+    text: &[u8],
+    catalog: &Catalog,
+    parts: &QueryParts<'_>,
+    core: &Option<Core<'_>>,
+) -> Result<Alternatives, BindRefusal>
+    requires { All (λ t. IfSome t.name (λ _. IsWholePath text.now t.test.path)) parts.now.exists }
+    ensures few { Checks (over_limit max_alternatives
+        (length (pattern_alternatives catalog.now (counted_in core.now parts.now.matched))
+        + (alternatives_of catalog.now (own_patterns parts.now.optionals)
+        + alternatives_in catalog.now (paths_of parts.now.exists))) refusal.TooManyAlternatives)
+        result }
+    ensures choices { IfOk result (λ all.
+        all.choices ≡ pattern_alternatives catalog.now (counted_in core.now parts.now.matched)) }
+    ensures optionals { IfOk result (λ all. all.optionals
+        ≡ map (pattern_alternatives catalog.now) (own_patterns parts.now.optionals)) }
+    ensures patterns { IfOk result (λ all. all.patterns
+        ≡ filter_map (exists_part text.now catalog.now) parts.now.exists) }
+{
+    let Some(choices) = core_choices(alloc, catalog, core, &parts.matched)? else {
         return Err(BindRefusal::TooManyAlternatives);
     };
     let mut left = MAX_ALTERNATIVES - choices.len();
@@ -449,8 +427,86 @@ pub fn few_alternatives(
     })
 }
 
+// The alternatives of the core of MATCH clauses, or of all their patterns where they have no trail,
+// unless there are too many.
+fn core_choices(
+    alloc: Global,
+    catalog: &Catalog,
+    core: &Option<Core<'_>>,
+    matched: &Pattern<'_>,
+) -> Result<Option<List<Choice>>, Memory>
+    ensures { IfOk result (λ found. found ≡ at_most max_alternatives
+        (pattern_alternatives catalog.now (counted_in core.now matched.now))) }
+{
+    match core {
+        None => choices_of(alloc, catalog, matched, MAX_ALTERNATIVES),
+        Some(core) => choices_of(alloc, catalog, &core.pattern, MAX_ALTERNATIVES),
+    }
+}
+
+/// A trail may be empty, or too long, or is to have more relationships at least than at most.
+fn trail_length(pattern: &Pattern<'_>) -> Result<(), BindRefusal>
+    ensures { Checks (refusals.trail_length pattern.now) result }
+{
+    if has_unfit(pattern) {
+        Err(BindRefusal::TrailLength)
+    } else {
+        Ok(())
+    }
+}
+
+fn has_unfit(pattern: &Pattern<'_>) -> bool
+    ensures { result ≡ list_any (λ r. refusals.is_unfit r.part.trail) pattern.now.rels }
+{
+    pattern.rels().iter().any(|rel| is_unfit(rel))
+}
+
+fn is_unfit(rel: &RelPattern<'_>) -> bool
+    ensures { result ≡ refusals.is_unfit rel.now.part.trail }
+{
+    match rel.part.trail {
+        None => false,
+        Some(range) => range.low == 0 || exceeds(range),
+    }
+}
+
+fn exceeds(range: Range) -> bool
+    ensures { result ≡ nat_lt refusals.max_length range.high || nat_lt range.high range.low }
+{
+    range.high > MAX_LENGTH || range.low > range.high
+}
+
+/// There are a trail and an OPTIONAL MATCH clause.
+fn trail_with_optional(query: &Query, pattern: &Pattern<'_>) -> Result<(), BindRefusal>
+    ensures { Checks (refusals.trail_with_optional query.now pattern.now) result }
+{
+    if has_trail(pattern) && has_optional(query) {
+        Err(BindRefusal::TrailWithOptional)
+    } else {
+        Ok(())
+    }
+}
+
+fn has_trail(pattern: &Pattern<'_>) -> bool
+    ensures { result ≡ refusals.has_trail pattern.now }
+{
+    pattern.rels().iter().any(|rel| is_trail(rel))
+}
+
+fn is_trail(rel: &RelPattern<'_>) -> bool
+    ensures { result ≡ is_some rel.now.part.trail }
+{
+    rel.part.trail.is_some()
+}
+
+fn has_optional(query: &Query) -> bool
+    ensures { result ≡ not (is_empty query.now.optionals) }
+{
+    !query.optionals.as_slice().is_empty()
+}
+
 /// An EXISTS is no test: it stands elsewhere than as a whole conjunct of a MATCH clause's condition.
-pub fn exists_place(exists: &[SharedTest<'_>]) -> Result<(), BindRefusal>
+fn exists_place(exists: &[SharedTest<'_>]) -> Result<(), BindRefusal>
     ensures { Checks (refusals.exists_place exists.now) result }
 {
     if has_misplaced(exists) {

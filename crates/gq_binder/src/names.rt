@@ -1,24 +1,28 @@
-//! The first names and calls of a query's expressions that the checks of names refuse.
-ghost use Rattle.std.specs.Prelude.{◌≡◌};
+//! The first names and calls of a query's patterns and expressions that the checks of names refuse.
+ghost use Rattle.std.specs.Prelude.{◌≡◌, not, OnOk};
 ghost use Rattle.std.specs.Option.{option_copied, option_map, option_or};
 ghost use Rattle.gq_binder.specs.steps.Checks.{Checks};
-ghost use Rattle.gq_binder.specs.steps.Names.{no_names, with_expression, with_expressions};
+ghost use Rattle.gq_binder.specs.steps.Names.{no_names, with_added, with_expression};
+ghost use Rattle.gq_binder.specs.steps.Names.{with_expressions, with_name, with_named};
 ghost use Rattle.gq_binder.specs.Refusals.{items_in, sorts_in};
 ghost use Rattle.gq_binder.specs.declared.refusal.BindRefusal.TheVariants as refusal;
+ghost use Rattle.gq_scopes.specs.Patterns.{with_paths};
 ghost use Rattle.gq_trees.specs.Checks.{check_of};
-ghost use Rattle.gq_trees.specs.Uses.{first_name, uses};
+ghost use Rattle.gq_trees.specs.Uses.{first_name, refused_unless, uses};
 
+use crate::met::Met;
 use crate::refusal::BindRefusal;
-use gq_base::Text;
-use gq_scopes::{Scope, copy_text};
-use gq_syntax::{Ast, Item, Sort};
+use gq_base::{Memory, Text};
+use gq_scopes::{NamedVariable, Pattern, Scope, copy_text};
+use gq_syntax::{Ast, Item, Path, Sort};
 use gq_trees::{Check, first_refused};
 use std::alloc::Global;
 use std::marker::Model;
 
-/// Of the expressions that were read, the first name that its scope does not have, the first names
-/// in paths that it has as a variable of the other form and as a relationship that a path would have
-/// again, the first call that names no function, and the first call with a wrong number of arguments.
+/// Of the patterns and expressions that were read, the first name that its scope does not have, the
+/// first names that stand before as a variable of the other form and as a relationship that would be
+/// one again, the first call that names no function, and the first call with a wrong number of
+/// arguments; and the names that were met in patterns.
 #[derive(Drop)]
 pub struct FirstNames<'q> {
     variable: Option<&'q Text>,
@@ -26,6 +30,7 @@ pub struct FirstNames<'q> {
     again: Option<&'q Text>,
     function: Option<&'q Text>,
     arguments: Option<&'q Text>,
+    met: Met,
 }
 
 impl<'q> Model for FirstNames<'q> {
@@ -40,12 +45,13 @@ impl<'q> Model for FirstNames<'q> {
       again = option_copied n.again;
       function = option_copied n.function;
       arguments = option_copied n.arguments;
+      met = n.met;
     } };
 }
 
 impl<'q> FirstNames<'q> {
     /// None yet.
-    pub fn new() -> FirstNames<'q>
+    pub fn new(alloc: Global) -> FirstNames<'q>
         ensures { result ≡ no_names }
     {
         FirstNames {
@@ -54,7 +60,45 @@ impl<'q> FirstNames<'q> {
             again: None,
             function: None,
             arguments: None,
+            met: Met::new(alloc),
         }
+    }
+
+    /// Appends the paths of a clause to patterns, and reads the names that they add.
+    #[tactic(auto, using(crate::proofs::Patterns::named_within))]
+    pub fn push_paths(
+        &mut self,
+        alloc: Global,
+        clause: u32,
+        paths: &'q [Path],
+        pattern: &mut Pattern<'q>,
+    ) -> Result<(), Memory>
+        ensures pattern { OnOk result (pattern.new ≡ with_paths clause paths.now pattern.old) }
+        ensures names { OnOk result (self.new
+            ≡ with_added clause paths.now pattern.old self.old) }
+    {
+        let before = pattern.named().len();
+        pattern.push_paths(alloc, clause, paths)?;
+        self.read_named(&pattern.named()[before..])
+    }
+
+    // Reads names of patterns.
+    fn read_named(&mut self, named: &[NamedVariable<'q>]) -> Result<(), Memory>
+        ensures { OnOk result (self.new ≡ with_named self.old named.now) }
+    {
+        for variable in named {
+            self.read_name(variable)?;
+        }
+        Ok(())
+    }
+
+    // Reads one more name of patterns.
+    fn read_name(&mut self, variable: &NamedVariable<'q>) -> Result<(), Memory>
+        ensures { OnOk result (self.new ≡ with_name self.old variable.now) }
+    {
+        self.other_form = or_name(self.other_form, self.met.conflicts(variable), variable);
+        self.again = or_name(self.again, self.met.repeats(variable), variable);
+        self.met.push(variable)
     }
 
     /// Reads one more expression.
@@ -98,8 +142,8 @@ impl<'q> FirstNames<'q> {
         Err(BindRefusal::UnknownVariable { name })
     }
 
-    /// A path names a variable that its scope has in the other form.
-    pub fn path_conflict(&self, alloc: Global) -> Result<(), BindRefusal>
+    /// One name is a node variable and a relationship variable.
+    pub fn variable_conflict(&self, alloc: Global) -> Result<(), BindRefusal>
         ensures { Checks (option_map refusal.VariableConflict self.now.other_form) result }
     {
         let Some(name) = self.other_form else {
@@ -109,8 +153,8 @@ impl<'q> FirstNames<'q> {
         Err(BindRefusal::VariableConflict { name })
     }
 
-    /// A path would have a relationship variable of its scope again.
-    pub fn path_repeated(&self, alloc: Global) -> Result<(), BindRefusal>
+    /// A relationship variable stands in two patterns, or in a pattern and in a path.
+    pub fn relationship_repeated(&self, alloc: Global) -> Result<(), BindRefusal>
         ensures { Checks (option_map refusal.RelationshipRepeated self.now.again) result }
     {
         let Some(name) = self.again else {
@@ -140,6 +184,23 @@ impl<'q> FirstNames<'q> {
         };
         let name = copy_text(alloc, name)?;
         Err(BindRefusal::ArgumentCount { name })
+    }
+}
+
+// The name that is known, or this one where it is refused.
+fn or_name<'q>(
+    known: Option<&'q Text>,
+    refused: bool,
+    variable: &NamedVariable<'q>,
+) -> Option<&'q Text>
+    ensures { option_copied result
+        ≡ option_or (option_copied known.entry)
+        (refused_unless (not refused) variable.now.name) }
+{
+    match known {
+        Some(name) => Some(name),
+        None if refused => Some(variable.name),
+        None => None,
     }
 }
 

@@ -11,6 +11,7 @@ ghost use Rattle.gq_binder.specs.Refusals.{alternatives_of, over_limit};
 ghost use Rattle.gq_binder.specs.Tested.{seen_elsewhere};
 ghost use Rattle.gq_binder.specs.declared.refusal.BindRefusal.TheVariants as refusal;
 ghost use Rattle.gq_binder.specs.steps.Checks.{Checks};
+ghost use Rattle.gq_binder.specs.steps.Names.{with_clause_names, with_clauses_names};
 ghost use Rattle.gq_binder.specs.steps.Names.{with_expressions};
 ghost use Rattle.gq_binder.specs.steps.Parts as steps;
 ghost use Rattle.gq_binder.specs.steps.Parts.{clause_parts, clauses_parts, known_conjuncts};
@@ -21,12 +22,12 @@ ghost use Rattle.gq_syntax.specs.Spans.{IsWholeTree};
 ghost use Rattle.gq_syntax.specs.steps.Spans.{IsWholeClause};
 
 use crate::bound::{MOST_TESTS, typed_out_of};
-use crate::entries::entry_tests;
 use crate::names::FirstNames;
 use crate::path_tests::{SharedTest, push_all_of};
 use crate::refusal::BindRefusal;
 use gq_alternatives::{Choice, choices_of};
 use gq_base::{Catalog, List, Memory, Text};
+use gq_cuts::entry_tests;
 use gq_plan::{NamedExpr, OptionalPart};
 use gq_scopes::{Copying, Pattern, Scope, next, number};
 use gq_syntax::{Ast, Clause};
@@ -59,7 +60,7 @@ pub fn read_optionals<'q>(
     requires { All (IsWholeClause text.now) clauses.now }
     ensures pattern { OnOk result (pattern.new ≡ with_clauses first clauses.now pattern.old) }
     ensures names { OnOk result (names.new
-        ≡ with_expressions names.old (conditions_from first pattern.old clauses.now)) }
+        ≡ with_clauses_names first clauses.now pattern.old names.old) }
     ensures exists { OnOk result (exists.new ≡ exists.old
         ++ flat_map seen_elsewhere (conditions_from first pattern.old clauses.now)) }
     ensures parts { IfOk result (λ parts.
@@ -86,9 +87,8 @@ fn read_optional<'q>(
 ) -> Result<ClauseParts<'q>, Memory>
     requires { IsWholeClause text.now clause.now }
     ensures pattern { OnOk result (pattern.new ≡ with_paths number clause.now.paths pattern.old) }
-    ensures names { let after = with_paths number clause.now.paths pattern.old in
-        OnOk result (names.new
-        ≡ with_expressions names.old (scoped_in (scope_of after) clause.now.filter)) }
+    ensures names { OnOk result (names.new
+        ≡ with_clause_names number clause.now pattern.old names.old) }
     ensures exists { let after = with_paths number clause.now.paths pattern.old in
         OnOk result (exists.new ≡ exists.old
         ++ flat_map seen_elsewhere (scoped_in (scope_of after) clause.now.filter)) }
@@ -99,7 +99,7 @@ fn read_optional<'q>(
     let nodes = node_seats(alloc, pattern, own.names())?;
     let rels = numbers_from(alloc, pattern.rels().len(), own.rels().len())?;
     let tests = entry_tests(alloc, text, own.entries())?;
-    pattern.push_paths(alloc, number, clause.paths.as_slice())?;
+    names.push_paths(alloc, number, clause.paths.as_slice(), pattern)?;
     let conjuncts = read_filter(alloc, text, pattern, &clause.filter, names, exists)?;
     Ok(ClauseParts {
         pattern: own,

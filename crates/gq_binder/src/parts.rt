@@ -1,9 +1,10 @@
 //! The parts of a query that its checks and its bound form share, each made once.
 ghost use Rattle.std.specs.Prelude.{◌≡◌, ◌++◌, ◌∷◌, [], flat_map, map, All, IfOk, IfSome};
 ghost use Rattle.std.specs.Prelude.{OnOk, length};
-ghost use Rattle.gq_binder.specs.Columns.{columns_in, conditions_from, entry_test};
+ghost use Rattle.gq_binder.specs.Columns.{columns_in, conditions_from};
+ghost use Rattle.gq_cuts.specs.Entries.{entry_test};
 ghost use Rattle.gq_binder.specs.Columns.{optional_conditions, scoped_in, whole_pattern};
-ghost use Rattle.gq_binder.specs.steps.Names.{no_names, with_expressions};
+ghost use Rattle.gq_binder.specs.steps.Names.{no_names, with_clauses_names, with_expressions};
 ghost use Rattle.gq_binder.specs.steps.Parts.{clauses_parts, known_conjuncts, known_seen};
 ghost use Rattle.gq_binder.specs.steps.Parts.{known_tests_of, parts_of};
 ghost use Rattle.gq_binder.specs.Refusals.{items_in, sorts_in};
@@ -15,11 +16,11 @@ ghost use Rattle.gq_syntax.specs.Spans.{IsWholeTree};
 ghost use Rattle.gq_syntax.specs.steps.Spans.{IsWholeClause, IsWholeEntry, StandsIn};
 
 use crate::columns::columns_of;
-use crate::entries::entry_tests;
 use crate::names::FirstNames;
 use crate::optionals::{ClauseParts, read_optionals};
 use crate::path_tests::{SharedTest, push_in_items, push_in_sorts, push_strays_of, push_tests};
 use gq_base::{List, Memory};
+use gq_cuts::entry_tests;
 use gq_plan::NamedExpr;
 use gq_scopes::{Column, MapEntry, Pattern, Scope, next, number};
 use gq_syntax::{Ast, Clause, Query};
@@ -92,7 +93,8 @@ fn optionals_of<'q>(
     requires { All (IsWholeClause text.now) query.now.optionals }
     ensures pattern { IfOk result (λ whole. whole.pattern ≡ whole_pattern query.now) }
     ensures names { OnOk result (names.new
-        ≡ with_expressions names.old (optional_conditions query.now)) }
+        ≡ with_clauses_names (length query.now.clauses) query.now.optionals
+        (pattern_of query.now.clauses) names.old) }
     ensures exists { OnOk result (exists.new
         ≡ exists.old ++ flat_map seen_elsewhere (optional_conditions query.now)) }
     ensures clauses { IfOk result (λ whole. whole.clauses
@@ -183,14 +185,14 @@ fn conditions_of<'q>(
     requires { All (IsWholeClause text.now) clauses.now }
     ensures pattern { IfOk result (λ c. c.pattern ≡ pattern_of clauses.now) }
     ensures names { IfOk result (λ c. c.names
-        ≡ with_expressions no_names (conditions_from 0 no_pattern clauses.now)) }
+        ≡ with_clauses_names 0 clauses.now no_pattern no_names) }
     ensures conjuncts { IfOk result (λ c. c.conjuncts
         ≡ known_conjuncts text.now (conditions_from 0 no_pattern clauses.now)) }
     ensures exists { IfOk result (λ c. c.exists
         ≡ known_seen text.now (conditions_from 0 no_pattern clauses.now)) }
 {
     let mut pattern = Pattern::new(alloc);
-    let mut names = FirstNames::new();
+    let mut names = FirstNames::new(alloc);
     let mut conjuncts = List::new(alloc);
     let mut exists = List::new(alloc);
     read_clauses(
@@ -212,7 +214,7 @@ fn conditions_of<'q>(
 
 // Reads clauses behind those that were read. Each condition sees the variables of its clause and of
 // earlier ones.
-#[tactic(auto, using(crate::proofs::NameLemmas::with_expressions_append, crate::proofs::PartLemmas::known_conjuncts_append, crate::proofs::PartLemmas::known_seen_append))]
+#[tactic(auto, using(crate::proofs::PartLemmas::known_conjuncts_append, crate::proofs::PartLemmas::known_seen_append))]
 fn read_clauses<'q>(
     alloc: Global,
     text: &[u8],
@@ -225,7 +227,7 @@ fn read_clauses<'q>(
     requires { All (IsWholeClause text.now) clauses.now }
     ensures pattern { OnOk result (pattern.new ≡ with_clauses 0 clauses.now pattern.old) }
     ensures names { OnOk result (names.new
-        ≡ with_expressions names.old (conditions_from 0 pattern.old clauses.now)) }
+        ≡ with_clauses_names 0 clauses.now pattern.old names.old) }
     ensures conjuncts { OnOk result (conjuncts.new ≡ conjuncts.old
         ++ known_conjuncts text.now (conditions_from 0 pattern.old clauses.now)) }
     ensures exists { OnOk result (exists.new ≡ exists.old
@@ -233,7 +235,7 @@ fn read_clauses<'q>(
 {
     let mut number = 0;
     for clause in clauses {
-        pattern.push_paths(alloc, number, clause.paths.as_slice())?;
+        names.push_paths(alloc, number, clause.paths.as_slice(), pattern)?;
         read_condition(
             alloc,
             text,

@@ -14,10 +14,10 @@ ghost use Rattle.gq_syntax.specs.steps.Spans.{IsWholeEntry, IsWholePath};
 ghost use Rattle.gq_trees.specs.Places.{strays};
 
 use crate::bound::all_typed;
-use crate::entries::entry_tests;
 use crate::refusal::BindRefusal;
 use gq_alternatives::{Choice, choices_of};
 use gq_base::{Catalog, List, Literal, Memory, Text};
+use gq_cuts::entry_tests;
 use gq_expr::Expr;
 use gq_plan::{ExistsPart, NamedExpr};
 use gq_scopes::{Pattern, Scope, copy_text, shared_variables};

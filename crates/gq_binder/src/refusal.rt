@@ -8,8 +8,6 @@ use gq_base::{Memory, Text};
 /// text.
 #[derive(Debug, Drop)]
 pub enum BindRefusal {
-    /// The query has a form that can be written and not yet bound: a trail.
-    NotBuilt,
     /// An expression, or a path in one, names what its scope does not have.
     UnknownVariable { name: Text },
     /// One name is a node variable and a relationship variable; so is one in the path of an EXISTS that its scope has in the other form.
@@ -35,9 +33,13 @@ pub enum BindRefusal {
     TooManyReads,
     /// More than 64 columns.
     TooManyColumns,
-    /// More than 512 alternatives, those of the MATCH clauses and of each OPTIONAL MATCH clause by itself together, with
-    /// those of the paths that are tested.
+    /// More than 512 alternatives, those of the MATCH clauses, or of their core where there are trails, and of each OPTIONAL MATCH
+    /// clause by itself together, with those of the paths that are tested.
     TooManyAlternatives,
+    /// A trail may be empty, or longer than 16, or is to have more relationships at least than at most.
+    TrailLength,
+    /// There are a trail and an OPTIONAL MATCH clause.
+    TrailWithOptional,
     /// An EXISTS stands elsewhere than as a whole conjunct of a MATCH clause's WHERE, alone or inside parentheses and NOTs
     /// alone.
     ExistsPlace,

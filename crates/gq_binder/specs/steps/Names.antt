@@ -1,28 +1,52 @@
--- The first names and calls that the checks of names refuse among expressions, and whether one has an EXISTS.
-use Rattle.std.specs.Prelude.{Option, None, List, [], ◌∷◌}
+-- The first names and calls that the checks of names refuse among patterns and expressions.
+use Rattle.std.specs.Prelude.{ℕ, suc, not, Option, None, List, [], ◌∷◌, drop, length}
 use Rattle.std.specs.Option.{option_or}
-use Rattle.gq_binder.specs.Columns.{Scoped}
+use Rattle.gq_binder.specs.Columns.{Scoped, scoped_in}
+use Rattle.gq_binder.specs.Refusals.{items_and_sorts}
+use Rattle.gq_binder.specs.declared.met.Met.{Met}
+use Rattle.gq_binder.specs.steps.Met.{meeting, met_again, met_otherwise}
 use Rattle.gq_trees.specs.Checks.{check_of}
-use Rattle.gq_scopes.specs.Patterns.{Name}
-use Rattle.gq_trees.specs.Uses.{first_name, uses}
+use Rattle.gq_scopes.specs.Patterns.{Name, NamedVariable, Pattern, no_pattern, pattern_of, with_paths}
+use Rattle.gq_scopes.specs.Scopes.{scope_of}
+use Rattle.gq_syntax.specs.declared.Clause.{Clause}
+use Rattle.gq_syntax.specs.declared.Path.{Path}
+use Rattle.gq_syntax.specs.declared.Query.{Query}
+use Rattle.gq_trees.specs.Uses.{first_name, refused_unless, uses}
 use Rattle.gq_trees.specs.declared.Check.TheVariants as check
 
--- the first name that its scope does not have, the first names in paths that it has as a variable of the other form and as a
--- relationship that a path would have again, the first call that names no function, the first call with a wrong number
--- of arguments
+-- the first name that its scope does not have, the first names that stand before as a variable of the other form and as a
+-- relationship that would be one again, the first call that names no function, the first call with a wrong number of
+-- arguments, and the names that were met in patterns
 pub record FirstNames : Type 0 where
   pub variable : Option Name
   pub other_form : Option Name
   pub again : Option Name
   pub function : Option Name
   pub arguments : Option Name
+  pub met : Met
 
 abbrev pub no_names : FirstNames
-no_names = record { variable = None; other_form = None; again = None; function = None; arguments = None }
+no_names = record { variable = None; other_form = None; again = None; function = None; arguments = None; met = record { nodes = []; rels = [] } }
+
+-- with one more name of patterns
+abbrev pub with_name : FirstNames → NamedVariable → FirstNames
+with_name names n = record names {
+  other_form = option_or names.other_form (refused_unless (not (met_otherwise names.met n)) n.name);
+  again = option_or names.again (refused_unless (not (met_again names.met n)) n.name);
+  met = meeting names.met n;
+}
+
+abbrev pub with_named : FirstNames → List NamedVariable → FirstNames
+with_named names [] = names
+with_named names (n ∷ ns) = with_named (with_name names n) ns
+
+-- with the names that paths add to patterns
+abbrev pub with_added : ℕ → List Path → Pattern → FirstNames → FirstNames
+with_added number paths p names = with_named names (drop (length p.named) (with_paths number paths p).named)
 
 -- with one more expression
 abbrev pub with_expression : FirstNames → Scoped → FirstNames
-with_expression names e = record {
+with_expression names e = record names {
   variable = option_or names.variable (first_name (check_of check.UnknownName e.scope) (uses e.tree));
   other_form = option_or names.other_form (first_name (check_of check.OtherForm e.scope) (uses e.tree));
   again = option_or names.again (first_name (check_of check.NamedAgain e.scope) (uses e.tree));
@@ -33,3 +57,22 @@ with_expression names e = record {
 abbrev pub with_expressions : FirstNames → List Scoped → FirstNames
 with_expressions names [] = names
 with_expressions names (e ∷ es) = with_expressions (with_expression names e) es
+
+-- with one more clause behind patterns: the names that it adds to them, and then its condition
+abbrev pub with_clause_names : ℕ → Clause → Pattern → FirstNames → FirstNames
+with_clause_names number c p names =
+    with_expressions (with_added number c.paths p names) (scoped_in (scope_of (with_paths number c.paths p)) c.filter)
+
+abbrev pub with_clauses_names : ℕ → List Clause → Pattern → FirstNames → FirstNames
+with_clauses_names number [] p names = names
+with_clauses_names number (c ∷ cs) p names = with_clauses_names (suc number) cs (with_paths number c.paths p) (with_clause_names number c p names)
+
+-- those of the MATCH clauses, of all clauses, and of a query
+abbrev pub matched_names : Query → FirstNames
+matched_names query = with_clauses_names 0 query.clauses no_pattern no_names
+
+abbrev pub clause_names : Query → FirstNames
+clause_names query = with_clauses_names (length query.clauses) query.optionals (pattern_of query.clauses) (matched_names query)
+
+abbrev pub query_names : List ℕ → Query → FirstNames
+query_names text query = with_expressions (clause_names query) (items_and_sorts text query)

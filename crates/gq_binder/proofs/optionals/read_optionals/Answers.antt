@@ -3,7 +3,6 @@ use Rattle.std.specs.Prelude.{flat_map}
 use Rattle.gq_binder.proofs.PartLemmas.{next_clauses, next_elsewhere, next_names, next_pattern}
 use Rattle.gq_binder.specs.Columns.{scoped_in}
 use Rattle.gq_binder.specs.Tested.{seen_elsewhere}
-use Rattle.gq_binder.specs.steps.Names.{with_expressions}
 use Rattle.gq_scopes.specs.Patterns.{Pattern}
 use Rattle.gq_scopes.specs.Scopes.{scope_of}
 use Rattle.gq_binder.proofs.optionals.read_optionals.Goals as goal
@@ -15,8 +14,7 @@ loop-clause-preserved c =
     let k = c.clause-item.result in
     record {
       pattern = next_pattern c.args.clauses.now l.clause-index c.loop-clause-test.true k c.clause-item.is l.number c.in_ok-number.number l.pattern c.read_optional.new.pattern c.in_ok-number.ensures own.pattern _ l.invariant.pattern;
-      names = next_names c.args.clauses.now l.clause-index c.loop-clause-test.true k c.clause-item.is l.number c.in_ok-number.number l.pattern c.read_optional.new.pattern c.in_ok-number.ensures own.pattern l.names c.read_optional.new.names _
-          (own.names ∙ ap (λ (p : Pattern). with_expressions c.loop-clause.names (scoped_in (scope_of p) c.clause-item.result.filter)) (sym own.pattern)) l.invariant.names;
+      names = next_names c.args.clauses.now l.clause-index c.loop-clause-test.true k c.clause-item.is l.number c.in_ok-number.number l.pattern c.read_optional.new.pattern c.in_ok-number.ensures own.pattern l.names c.read_optional.new.names _ own.names l.invariant.names;
       exists = next_elsewhere c.args.clauses.now l.clause-index c.loop-clause-test.true k c.clause-item.is l.number c.in_ok-number.number l.pattern c.read_optional.new.pattern c.in_ok-number.ensures own.pattern l.exists c.read_optional.new.exists _
           (own.exists ∙ ap (λ (p : Pattern). c.loop-clause.exists ++ flat_map seen_elsewhere (scoped_in (scope_of p) c.clause-item.result.filter)) (sym own.pattern)) l.invariant.exists;
       parts = next_clauses c.args.clauses.now l.clause-index c.loop-clause-test.true k c.clause-item.is l.number c.in_ok-number.number l.pattern c.read_optional.new.pattern c.in_ok-number.ensures own.pattern c.args.text.now l.all c.push.new.self _ c.in_ok-parts.parts

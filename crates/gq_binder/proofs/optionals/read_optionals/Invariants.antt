@@ -2,7 +2,7 @@ use Rattle.std.proofs.Common.{◌≡◌, ◌++◌, drop}
 use Rattle.std.specs.Prelude.{flat_map}
 use Rattle.gq_binder.specs.Columns.{conditions_from}
 use Rattle.gq_binder.specs.Tested.{seen_elsewhere}
-use Rattle.gq_binder.specs.steps.Names.{with_expressions}
+use Rattle.gq_binder.specs.steps.Names.{with_clauses_names}
 use Rattle.gq_binder.specs.steps.Parts.{clauses_parts}
 use Rattle.gq_scopes.specs.Patterns.{with_clauses}
 use Rattle.gq_binder.proofs.optionals.read_optionals.Given as goal
@@ -10,7 +10,7 @@ use Rattle.gq_binder.proofs.optionals.read_optionals.Given as goal
 abbrev pub invariant-loop-clause : goal.invariant-loop-clause
 invariant-loop-clause l = record {
   pattern : with_clauses l.number (drop l.clause-index l.clauses) l.pattern ≡ with_clauses l.first l.clauses l.fn.pattern;
-  names : with_expressions l.names (conditions_from l.number l.pattern (drop l.clause-index l.clauses)) ≡ with_expressions l.fn.names (conditions_from l.first l.fn.pattern l.clauses);
+  names : with_clauses_names l.number (drop l.clause-index l.clauses) l.pattern l.names ≡ with_clauses_names l.first l.clauses l.fn.pattern l.fn.names;
   exists : l.exists ++ flat_map seen_elsewhere (conditions_from l.number l.pattern (drop l.clause-index l.clauses)) ≡ l.fn.exists ++ flat_map seen_elsewhere (conditions_from l.first l.fn.pattern l.clauses);
   parts : l.all ++ clauses_parts l.text l.number l.pattern (drop l.clause-index l.clauses) ≡ clauses_parts l.text l.first l.fn.pattern l.clauses;
 }

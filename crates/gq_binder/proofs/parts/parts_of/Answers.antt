@@ -1,8 +1,9 @@
 use Rattle.std.proofs.Common.{All, List, map, ap, sym, subst, ◌∙◌}
 use Rattle.gq_binder.proofs.PartLemmas.{parts_made}
 use Rattle.gq_binder.proofs.Patterns.{IsWholeMap, entries_whole}
-use Rattle.gq_binder.specs.Columns.{conditions_from, entry_test}
-use Rattle.gq_binder.specs.steps.Names.{no_names, with_expressions}
+use Rattle.gq_binder.specs.Columns.{conditions_from}
+use Rattle.gq_cuts.specs.Entries.{entry_test}
+use Rattle.gq_binder.specs.steps.Names.{no_names, with_clauses_names}
 use Rattle.gq_binder.specs.steps.Parts.{known_conjuncts, known_seen}
 use Rattle.gq_scopes.specs.Patterns.{MapEntry, Pattern, no_pattern, pattern_of}
 use Rattle.gq_syntax.specs.declared.Clause.{Clause}
@@ -20,7 +21,7 @@ returns c =
     let l = c.in_ok-lists in
     parts_made c.args.query.now c.args.text.now k.field-0.pattern w.whole.pattern (k.ensures.pattern ∙ ap pattern_of c.as_slice.ensures) w.ensures.pattern
     k.field-0.names c.optionals_of.new.names c.lists_of.new.names l.lists.columns k.field-0.conjuncts l.lists.tests k.field-0.exists c.optionals_of.new.exists c.lists_of.new.exists w.whole.clauses
-    (k.ensures.names ∙ ap (λ (cs : List Clause). with_expressions no_names (conditions_from 0 no_pattern cs)) c.as_slice.ensures)
+    (k.ensures.names ∙ ap (λ (cs : List Clause). with_clauses_names 0 cs no_pattern no_names) c.as_slice.ensures)
     (k.ensures.conjuncts ∙ ap (λ (cs : List Clause). known_conjuncts c.args.text.now (conditions_from 0 no_pattern cs)) c.as_slice.ensures)
     (k.ensures.exists ∙ ap (λ (cs : List Clause). known_seen c.args.text.now (conditions_from 0 no_pattern cs)) c.as_slice.ensures)
     w.ensures.names w.ensures.exists w.ensures.clauses l.ensures.columns
