@@ -17,6 +17,7 @@ use Rattle.gq_alternatives.specs.Matches.{matches, pattern_matches}
 use Rattle.gq_alternatives.proofs.Partition.{alternatives_part}
 use Rattle.gq_alternatives.proofs.Searches.{flat_map_flat_map}
 use Rattle.gq_alternatives.proofs.SoundPatterns.{IsChoice}
+use Rattle.gq_law_cuts.specs.Plain.{HaveNoTrail}
 use Rattle.gq_law_answers.specs.Answered.{allowed, lying}
 use Rattle.gq_law_answers.proofs.Alone.{some_drops, without}
 use Rattle.gq_law_answers.proofs.LateOutcomes.{late_outcome}
@@ -116,12 +117,12 @@ LateJudge g bound y =
     (t : Assignment) → IsTrue (list_all (passes g (row_of t)) y.tests)
     → marked g (late_conjuncts bound y) (row_of t) ≡ marked g bound.conjuncts (row_of t)
 
-module _ (g : Graph) (query : Query) (text : List ℕ) (bound : Bound) (later : Marked → List (Result Row Fault)) (real : IsTrue (valid.is_valid g)) (is : IsBound query text g.catalog bound) where
+module _ (g : Graph) (query : Query) (text : List ℕ) (bound : Bound) (later : Marked → List (Result Row Fault)) (real : IsTrue (valid.is_valid g)) (is : IsBound query text g.catalog bound) (none : HaveNoTrail query.clauses) where
   abbrev p : Pattern
   p = pattern_of query.clauses
 
   abbrev are : AreAlternatives g query bound.conjuncts bound.alternatives
-  are = are_alternatives g query text bound is
+  are = are_alternatives g query text bound is none
 
   abbrev given_by : List NamedExpr → Assignment → List (Result Row Fault)
   given_by conjuncts t = flat_map later (marked g conjuncts (row_of t))
@@ -167,10 +168,10 @@ module _ (g : Graph) (query : Query) (text : List ℕ) (bound : Bound) (later : 
       (alternatives_part g query are.tests bound.conjuncts (has_tables g real)))
 
 pub each_plan_makes_rows : EachPlanMakesRows
-each_plan_makes_rows g query text bound later real is = each_plan_makes g query text bound later real is
+each_plan_makes_rows g query text bound later real is none = each_plan_makes g query text bound later real is none
 
 pub alternatives_part_rows : AlternativesPartRows
-alternatives_part_rows g query text bound later real is = rows_parted g query text bound later real is
+alternatives_part_rows g query text bound later real is none = rows_parted g query text bound later real is none
 
 pub plain_rows : PlainRows
 plain_rows g bound query = made_plainly g bound bound.conjuncts (matches query g)

@@ -27,7 +27,7 @@ use Rattle.gq_syntax.specs.declared.Arrow.TheVariants as arrow
 use Rattle.gq_syntax.specs.declared.Query.{Query}
 use Rattle.gq_alternatives.specs.Alternatives.{choices, pattern_alternatives, typed_of}
 use Rattle.gq_alternatives.specs.Matches.{pattern_matches, matches}
-use Rattle.gq_binder.specs.Columns.{entry_test}
+use Rattle.gq_cuts.specs.Entries.{entry_test}
 use Rattle.gq_scopes.specs.Patterns.{pattern_of}
 use Rattle.gq_lexer.specs.Sources.{source_text}
 use Rattle.gq_law_answers.specs.Answered.{allowed}
@@ -104,6 +104,8 @@ bound = record {
   conjuncts = conditions;
   patterns = [];
   optionals = [];
+  trails = [];
+  trail_names = [];
   keys = record { expr = age 1; down = false } ∷ [];
   distinct = false;
   skip = 0;

@@ -1,5 +1,5 @@
--- The laws of a bound query: its alternatives, and plans that cover them, give its matches for which all conjuncts are true,
--- and the outcomes of all its matches.
+-- The laws of a bound query without trails: its alternatives, and plans that cover them, give its matches for which all conjuncts
+-- are true, and the outcomes of all its matches.
 use Rattle.std.specs.Prelude.{◌≡◌, ℕ, Bool, ◌&&◌, Result, IsTrue, IsPermutation, All, List, [], ◌∷◌, ◌++◌, filter, flat_map, length, slice_get}
 use Rattle.std.specs.List.{AllZip, list_all}
 use Rattle.gq_base.specs.Plain.{Graph}
@@ -7,6 +7,7 @@ use Rattle.gq_base.specs.Valid.{is_valid}
 use Rattle.gq_alternatives.specs.Matches.{matches}
 use Rattle.gq_binder.specs.Binding.{IsBound}
 use Rattle.gq_expr.specs.declared.Fault.{Fault}
+use Rattle.gq_law_cuts.specs.Plain.{HaveNoTrail}
 use Rattle.gq_plan.specs.Allowed.{lies_in}
 use Rattle.gq_plan.specs.Assignments.{Assignment, assignments, row_of}
 use Rattle.gq_plan.specs.Conditions.{allows, passes}
@@ -51,14 +52,14 @@ meanings g (y ∷ ys) (p ∷ ps) = meaning g y p ++ meanings g ys ps
 abbrev pub BoundAllowsAnswers : Type 0
 BoundAllowsAnswers =
     (g : Graph) (query : Query) (text : List ℕ) (bound : Bound)
-    → IsTrue (is_valid g) → IsBound query text g.catalog bound
+    → IsTrue (is_valid g) → IsBound query text g.catalog bound → HaveNoTrail query.clauses
     → IsPermutation (flat_map (kept g bound) bound.alternatives) (answers query g bound.conjuncts)
 
 -- so one covering plan for each alternative makes these matches, each once, where no conjunct is late
 abbrev pub BoundPlansMeanAnswers : Type 0
 BoundPlansMeanAnswers =
     (g : Graph) (query : Query) (text : List ℕ) (bound : Bound) (plans : List Plan)
-    → IsTrue (is_valid g) → IsBound query text g.catalog bound
+    → IsTrue (is_valid g) → IsBound query text g.catalog bound → HaveNoTrail query.clauses
     → All (λ y. y.late ≡ []) bound.alternatives → AllZip (Covers g.catalog) bound.alternatives plans
     → IsPermutation (meanings g bound.alternatives plans) (answers query g bound.conjuncts)
 
@@ -90,7 +91,7 @@ MakesMatches g query y =
 abbrev pub EachPlanMeansMatches : Type 0
 EachPlanMeansMatches =
     (g : Graph) (query : Query) (text : List ℕ) (bound : Bound)
-    → IsTrue (is_valid g) → IsBound query text g.catalog bound
+    → IsTrue (is_valid g) → IsBound query text g.catalog bound → HaveNoTrail query.clauses
     → All (MakesMatches g query) bound.alternatives
 
 -- whichever tests an alternative has, its plan makes the outcomes of all matches that lie in it
@@ -102,7 +103,7 @@ MakesOutcomes g query bound y =
 abbrev pub EachPlanMeansOutcomes : Type 0
 EachPlanMeansOutcomes =
     (g : Graph) (query : Query) (text : List ℕ) (bound : Bound)
-    → IsTrue (is_valid g) → IsBound query text g.catalog bound
+    → IsTrue (is_valid g) → IsBound query text g.catalog bound → HaveNoTrail query.clauses
     → All (MakesOutcomes g query bound) bound.alternatives
 
 -- where an alternative's tests are true, the outcome hangs on its late conjuncts alone
@@ -113,7 +114,7 @@ LateDecide g bound y =
 
 abbrev pub LateOutcomes : Type 0
 LateOutcomes =
-    (g : Graph) (query : Query) (text : List ℕ) (bound : Bound) → IsBound query text g.catalog bound
+    (g : Graph) (query : Query) (text : List ℕ) (bound : Bound) → IsBound query text g.catalog bound → HaveNoTrail query.clauses
     → All (LateDecide g bound) bound.alternatives
 
 -- so of what a plan makes only the late conjuncts are looked at
@@ -125,7 +126,7 @@ MakesLateOutcomes g query bound y =
 abbrev pub EachPlanMeansLateOutcomes : Type 0
 EachPlanMeansLateOutcomes =
     (g : Graph) (query : Query) (text : List ℕ) (bound : Bound)
-    → IsTrue (is_valid g) → IsBound query text g.catalog bound
+    → IsTrue (is_valid g) → IsBound query text g.catalog bound → HaveNoTrail query.clauses
     → All (MakesLateOutcomes g query bound) bound.alternatives
 
 -- ---- all alternatives together
@@ -134,7 +135,7 @@ EachPlanMeansLateOutcomes =
 abbrev pub AlternativesPartOutcomes : Type 0
 AlternativesPartOutcomes =
     (g : Graph) (query : Query) (text : List ℕ) (bound : Bound)
-    → IsTrue (is_valid g) → IsBound query text g.catalog bound
+    → IsTrue (is_valid g) → IsBound query text g.catalog bound → HaveNoTrail query.clauses
     → IsPermutation
     (flat_map (outcomes_in g bound query) bound.alternatives) (outcomes_of g bound query)
 
@@ -142,7 +143,7 @@ AlternativesPartOutcomes =
 abbrev pub AllowedOutcomes : Type 0
 AllowedOutcomes =
     (g : Graph) (query : Query) (text : List ℕ) (bound : Bound)
-    → IsTrue (is_valid g) → IsBound query text g.catalog bound
+    → IsTrue (is_valid g) → IsBound query text g.catalog bound → HaveNoTrail query.clauses
     → IsPermutation
     (outcomes g bound (flat_map (allowed g) bound.alternatives)) (outcomes_of g bound query)
 
@@ -150,7 +151,7 @@ AllowedOutcomes =
 abbrev pub PlansMeanOutcomes : Type 0
 PlansMeanOutcomes =
     (g : Graph) (query : Query) (text : List ℕ) (bound : Bound) (plans : List Plan)
-    → IsTrue (is_valid g) → IsBound query text g.catalog bound
+    → IsTrue (is_valid g) → IsBound query text g.catalog bound → HaveNoTrail query.clauses
     → AllZip (Covers g.catalog) bound.alternatives plans
     → IsPermutation
     (outcomes g bound (meanings g bound.alternatives plans)) (outcomes_of g bound query)

@@ -11,6 +11,7 @@ use Rattle.gq_alternatives.specs.Matches.{matches, pattern_matches}
 use Rattle.gq_alternatives.specs.Tested.{exists_value}
 use Rattle.gq_binder.specs.Binding.{IsBound}
 use Rattle.gq_binder.specs.Tested.{IsTested, ScopedTest}
+use Rattle.gq_law_cuts.specs.Plain.{HaveNoTrail}
 use Rattle.gq_law_answers.specs.Answered.{lying, meanings, outcomes_of}
 use Rattle.gq_plan.specs.Assignments.{Assignment}
 use Rattle.gq_plan.specs.Covers.{Covers}
@@ -27,8 +28,8 @@ use Rattle.gq_syntax.specs.declared.Query.{Query}
 
 -- ---- rows
 
--- a plan that covers an alternative makes it of its own rows, of whose conjuncts only the late ones are looked at, as it is made of
--- the matches that lie in the alternative
+-- without trails, a plan that covers an alternative makes it of its own rows, of whose conjuncts only the late ones are looked at, as
+-- it is made of the matches that lie in the alternative
 abbrev pub MakesRows : Graph → Query → Bound → (Marked → List (Result Row Fault)) → Typed → Type 0
 MakesRows g query bound later y =
     (p : Plan) → Covers g.catalog y p
@@ -37,14 +38,14 @@ MakesRows g query bound later y =
 abbrev pub EachPlanMakesRows : Type 0
 EachPlanMakesRows =
     (g : Graph) (query : Query) (text : List ℕ) (bound : Bound) (later : Marked → List (Result Row Fault))
-    → IsTrue (is_valid g) → IsBound query text g.catalog bound
+    → IsTrue (is_valid g) → IsBound query text g.catalog bound → HaveNoTrail query.clauses
     → All (MakesRows g query bound later) bound.alternatives
 
 -- and the alternatives together make it of all matches
 abbrev pub AlternativesPartRows : Type 0
 AlternativesPartRows =
     (g : Graph) (query : Query) (text : List ℕ) (bound : Bound) (later : Marked → List (Result Row Fault))
-    → IsTrue (is_valid g) → IsBound query text g.catalog bound
+    → IsTrue (is_valid g) → IsBound query text g.catalog bound → HaveNoTrail query.clauses
     → IsPermutation
     (flat_map (λ y. made_of g bound.conjuncts later (lying query g y)) bound.alternatives)
     (made_of g bound.conjuncts later (matches query g))

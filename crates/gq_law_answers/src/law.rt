@@ -1,5 +1,5 @@
-//! The laws that the alternatives of a bound query, and plans that cover them, give its matches for
-//! which all conjuncts are true, and the outcomes of all its matches.
+//! The laws that the alternatives of a bound query without trails, and plans that cover them, give
+//! its matches for which all conjuncts are true, and the outcomes of all its matches.
 ghost use Rattle.gq_law_answers.specs.Answered.{AllowedOutcomes, AlternativesPartOutcomes};
 ghost use Rattle.gq_law_answers.specs.Answered.{BoundAllowsAnswers, BoundPlansMeanAnswers};
 ghost use Rattle.gq_law_answers.specs.Answered.{EachPlanMeansLateOutcomes, EachPlanMeansMatches};
@@ -8,30 +8,30 @@ ghost use Rattle.gq_law_answers.specs.Answered.{PlansMeanOutcomes};
 ghost use Rattle.gq_law_answers.specs.Made.{AlternativesPartRows, EachPlanMakesRows, ExistsIsKey};
 ghost use Rattle.gq_law_answers.specs.Made.{PathPlansMeanMatches, PlainLateRows, PlainRows};
 
-/// A law for the crates above: in a valid graph, what the alternatives of a bound query allow,
-/// without what their late conjuncts drop, are its matches for which all conjuncts are true, each
-/// once. It does nothing.
+/// A law for the crates above: in a valid graph, what the alternatives of a bound query without
+/// trails allow, without what their late conjuncts drop, are its matches for which all conjuncts
+/// are true, each once. It does nothing.
 pub fn bound_allows_answers()
     ensures { BoundAllowsAnswers }
 {}
 
 /// A law for the crates above: in a valid graph, one covering plan for each alternative of a bound
-/// query makes its matches for which all conjuncts are true, each once, where no conjunct is late.
-/// It does nothing.
+/// query without trails makes its matches for which all conjuncts are true, each once, where no
+/// conjunct is late. It does nothing.
 pub fn bound_plans_mean_answers()
     ensures { BoundPlansMeanAnswers }
 {}
 
 /// A law for the crates above: in a valid graph, a plan that covers an alternative of a bound query
-/// makes the query's matches that lie in the alternative and make its tests true, each once. It
-/// does nothing.
+/// without trails makes the query's matches that lie in the alternative and make its tests true,
+/// each once. It does nothing.
 pub fn each_plan_means_matches()
     ensures { EachPlanMeansMatches }
 {}
 
 /// A law for the crates above: in a valid graph, the outcomes of what a plan makes that covers an
-/// alternative of a bound query are those of the query's matches that lie in the alternative, each
-/// as often. It does nothing.
+/// alternative of a bound query without trails are those of the query's matches that lie in the
+/// alternative, each as often. It does nothing.
 pub fn each_plan_means_outcomes()
     ensures { EachPlanMeansOutcomes }
 {}
@@ -42,34 +42,36 @@ pub fn late_conjuncts_tell_the_outcome()
     ensures { LateOutcomes }
 {}
 
-/// A law for the crates above: so, of what a plan makes that covers an alternative of a bound
-/// query, only the late conjuncts need to be looked at. It does nothing.
+/// A law for the crates above: so, of what a plan makes that covers an alternative of a bound query
+/// without trails, only the late conjuncts need to be looked at. It does nothing.
 pub fn each_plan_means_late_outcomes()
     ensures { EachPlanMeansLateOutcomes }
 {}
 
 /// A law for the crates above: in a valid graph, the outcomes of the matches that lie in the
-/// alternatives of a bound query, alternative by alternative, are those of its matches, each as
-/// often. It does nothing.
+/// alternatives of a bound query without trails, alternative by alternative, are those of its
+/// matches, each as often. It does nothing.
 pub fn alternatives_part_outcomes()
     ensures { AlternativesPartOutcomes }
 {}
 
 /// A law for the crates above: in a valid graph, the outcomes of what the alternatives of a bound
-/// query allow are those of its matches, each as often. It does nothing.
+/// query without trails allow are those of its matches, each as often. It does nothing.
 pub fn allowed_outcomes_are_of_matches()
     ensures { AllowedOutcomes }
 {}
 
 /// A law for the crates above: in a valid graph, the outcomes of what covering plans make, one for
-/// each alternative of a bound query, are those of its matches, each as often. It does nothing.
+/// each alternative of a bound query without trails, are those of its matches, each as often. It
+/// does nothing.
 pub fn plans_mean_outcomes()
     ensures { PlansMeanOutcomes }
 {}
 
 /// A law for the crates above: in a valid graph, whatever is made of the rows that conjuncts leave,
-/// a plan that covers an alternative of a bound query makes it of its own rows, by the late
-/// conjuncts alone, as it is made of the matches that lie in the alternative. It does nothing.
+/// a plan that covers an alternative of a bound query without trails makes it of its own rows, by
+/// the late conjuncts alone, as it is made of the matches that lie in the alternative. It does
+/// nothing.
 pub fn each_plan_makes_rows()
     ensures { EachPlanMakesRows }
 {}

@@ -3,5 +3,5 @@ mod Judging
 pub mod Making
 pub mod Starting
 pub mod Walked
-mod Whole
+pub mod Whole
 mod WorkedWhole

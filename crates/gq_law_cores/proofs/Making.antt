@@ -15,7 +15,7 @@ use Rattle.gq_alternatives.specs.Matches.{entry_holds, is_match, node_holds, pai
 use Rattle.gq_alternatives.proofs.Partition.{lies_once}
 use Rattle.gq_alternatives.proofs.Searches.{flat_map_flat_map}
 use Rattle.gq_alternatives.proofs.SoundPatterns.{IsChoice, each_alternative}
-use Rattle.gq_binder.specs.Columns.{entry_test}
+use Rattle.gq_cuts.specs.Entries.{entry_test}
 use Rattle.gq_law_answers.specs.Answered.{allowed}
 use Rattle.gq_law_answers.proofs.Alone.{allows_passing, some_drops}
 use Rattle.gq_law_answers.proofs.Entries.{tests_entries}

@@ -15,7 +15,7 @@ use Rattle.gq_law_reaches.proofs.Cored.{numbered_items}
 use Rattle.gq_law_reaches.proofs.Filled.{numbers_bound}
 use Rattle.gq_law_reaches.proofs.Orders.{core_reaches, ends_from}
 use Rattle.gq_law_trails.specs.Trails.{Trailing, after_trails}
-use Rattle.gq_law_trails.specs.declared.TrailPart.{TrailPart}
+use Rattle.gq_plan.specs.declared.TrailPart.{TrailPart}
 use Rattle.gq_plan.specs.Assignments.{Assignment, is_node, is_rel}
 use Rattle.gq_plan.specs.Meaning.{Partial, found, row}
 use Rattle.gq_plan.specs.Soundness.{has_number}
@@ -23,7 +23,7 @@ use Rattle.gq_plan.specs.declared.NamedExpr.{NamedExpr}
 use Rattle.gq_scopes.specs.Patterns.{MapEntry, Pattern, RelPattern}
 use Rattle.gq_trails.specs.Trekking.{AreInTurn, AreNodes, HasLength, partial_of, patterns_from, patterns_in, placed_from}
 use Rattle.gq_wide.specs.Rows.{Wide, item_at}
-use Rattle.gq_law_cores.specs.Walking.{CoresCanTrek, IsCoreRow, OwedAreTrailRows, PartsHaveLength}
+use Rattle.gq_law_cores.specs.Walking.{CoresAreInTurn, CoresCanTrek, IsCoreRow, OwedAreTrailRows, PartsHaveEnds, PartsHaveLength}
 
 -- ---- a row of a match as what is bound
 
@@ -44,34 +44,46 @@ module _ {X : Type 0} where
       let same : y ≡ x = cc in
       ap₂ (λ z bs. (i, z) ∷ bs) same (placed_so (i + 1) os xs (λ v. h (suc v)))
 
-begin_so : (t : Assignment) (r : Wide) → IsCoreRow t r → partial_of r ≡ begin_of t
+pub begin_so : (t : Assignment) (r : Wide) → IsCoreRow t r → partial_of r ≡ begin_of t
 begin_so t r is = λ i. record { nodes = placed_so 0 r.nodes t.nodes is.nodes i; rels = placed_so 0 r.rels t.rels is.rels i }
 
 -- ---- the relationships of each clause
 
-patterns_so : (clause : ℕ) (ps : List RelPattern) (cs : List Reading) (rs : List RelId) (x : ℕ) (get : ℕ → Option RelId) → length cs ≡ length ps → length rs ≡ length ps
+patterns_so : (clause : ℕ) (ps : List RelPattern) (cs : List Reading) (rs : List RelId) (x : ℕ) (get : ℕ → Option RelId) → length cs ≡ length ps
     → ((j : ℕ) → get (x + j) ≡ slice_get rs j) → patterns_from x (typed_rels ps cs) get clause ≡ rels_in clause ps rs
-patterns_so clause [] cs rs x get e f h = refl
-patterns_so clause (p ∷ ps) [] rs x get e f h = absurd (omega arith)
-patterns_so clause (p ∷ ps) (c ∷ cs) [] x get e f h = absurd (omega arith)
-patterns_so clause (p ∷ ps) (c ∷ cs) (r ∷ rs) x get e f h =
+patterns_so clause [] cs rs x get e h = refl
+patterns_so clause (p ∷ ps) [] rs x get e h = absurd (omega arith)
+patterns_so clause (p ∷ ps) (c ∷ cs) [] x get e h =
     let here : x ≡ x + 0 = omega arith in
     ap₂ (λ o l. cond (nat_eq p.clause clause) (found o) [] ++ l) (ap get here ∙ h 0)
-    (patterns_so clause ps cs rs (x + 1) get (omega arith) (omega arith) (λ j. let next : x + 1 + j ≡ x + suc j = omega arith in ap get next ∙ h (suc j)))
+    (patterns_so clause ps cs [] (x + 1) get (omega arith) (λ j. let next : x + 1 + j ≡ x + suc j = omega arith in ap get next ∙ h (suc j)))
+    ∙ nothing_else (nat_eq p.clause clause) (rels_in clause ps []) (rels_none ps)
+  where
+    rels_none : (ps : List RelPattern) → rels_in clause ps [] ≡ []
+    rels_none [] = refl
+    rels_none (p ∷ ps) = refl
 
-all_patterns_so : (p : Pattern) (cs : List Reading) (t : Assignment) (r : Wide) → length t.rels ≡ length p.rels → length cs ≡ length p.rels → IsCoreRow t r
+    nothing_else : (b : Bool) (l : List RelId) → l ≡ [] → cond b [] [] ++ l ≡ []
+    nothing_else true l e = e
+    nothing_else false l e = e
+patterns_so clause (p ∷ ps) (c ∷ cs) (r ∷ rs) x get e h =
+    let here : x ≡ x + 0 = omega arith in
+    ap₂ (λ o l. cond (nat_eq p.clause clause) (found o) [] ++ l) (ap get here ∙ h 0)
+    (patterns_so clause ps cs rs (x + 1) get (omega arith) (λ j. let next : x + 1 + j ≡ x + suc j = omega arith in ap get next ∙ h (suc j)))
+
+all_patterns_so : (p : Pattern) (cs : List Reading) (t : Assignment) (r : Wide) → length cs ≡ length p.rels → IsCoreRow t r
     → patterns_in (typed_rels p.rels cs) r.rels ≡ patterns_of p (begin_of t)
-all_patterns_so p cs t r rels readings is = λ i clause. one clause i
+all_patterns_so p cs t r readings is = λ i clause. one clause i
   where
     one : (clause : ℕ) → patterns_in (typed_rels p.rels cs) r.rels clause ≡ patterns_of p (begin_of t) clause
     one clause =
-        patterns_so clause p.rels cs t.rels 0 (item_at r.rels) readings rels (λ j. let zeroed : 0 + j ≡ j = omega arith in ap (item_at r.rels) zeroed ∙ is.rels j)
+        patterns_so clause p.rels cs t.rels 0 (item_at r.rels) readings (λ j. let zeroed : 0 + j ≡ j = omega arith in ap (item_at r.rels) zeroed ∙ is.rels j)
         ∙ ap (rels_in clause p.rels) (sym (numbered_items 0 t.rels))
 
 pub owed_are_trail_rows : OwedAreTrailRows
-owed_are_trail_rows g test q cs t r rels readings is =
+owed_are_trail_rows g test q cs t r readings is =
     ap₂ (λ (patterns : ℕ → List RelId) (a : Partial). map (λ (m : Trailing). row m.row) (after_trails g patterns (trail_parts test q) a []))
-    (all_patterns_so q.pattern cs t r rels readings is) (begin_so t r is)
+    (all_patterns_so q.pattern cs t r readings is) (begin_so t r is)
 
 -- ---- where trails start
 
@@ -117,7 +129,7 @@ module _ (test : MapEntry → NamedExpr) (p : Pattern) where
   lengths_from [] known h = tt
   lengths_from (w ∷ ws) known h = (record { some = h.0.0; ordered = h.0.1; few = h.0.2 }, lengths_from ws (w.left ∷ w.right ∷ known) h.1)
 
-nodes_real : (g : Graph) (i : ℕ) (ns : List NodeId) → list_all (is_node g) ns ≡ true → AreNodes g (numbered i ns)
+pub nodes_real : (g : Graph) (i : ℕ) (ns : List NodeId) → list_all (is_node g) ns ≡ true → AreNodes g (numbered i ns)
 nodes_real g i [] h = tt
 nodes_real g i (n ∷ ns) h = let parts = and_parts (is_node g n) (list_all (is_node g) ns) h in (parts.0, nodes_real g (i + 1) ns parts.1)
 
@@ -134,3 +146,12 @@ cores_can_trek g test k q t r cored nodes real is many =
 
 pub parts_have_length : PartsHaveLength
 parts_have_length test q h = All-from_recursion HasLength (trail_parts test q) (lengths_from test q.pattern q.trails (core_nodes q) h)
+
+pub cores_are_in_turn : CoresAreInTurn
+cores_are_in_turn test k q cored =
+    turns_from test q.pattern q.trails (core_nodes q) (λ v. nat_lt v k) (λ v. sym (cored.core v)) (core_reaches q cored.ends)
+
+pub parts_have_ends : PartsHaveEnds
+parts_have_ends test k q cored =
+    All-from_recursion (λ (p : TrailPart). p.to < length q.pattern.names) (trail_parts test q)
+    (ends_from test q.pattern q.trails (core_nodes q) (length q.pattern.names) cored.ends)

@@ -24,7 +24,7 @@ use Rattle.gq_law_reaches.proofs.Bags.{IsMade, continued_are_reaches, each_made}
 use Rattle.gq_law_reaches.proofs.Orders.{binding_from}
 use Rattle.gq_law_trails.specs.Trails.{Trailing, after_trails, arrivals, arrive_at, fits_end, walks_from, with_list}
 use Rattle.gq_law_trails.specs.Walks.{end_of}
-use Rattle.gq_law_trails.specs.declared.TrailPart.{TrailPart}
+use Rattle.gq_plan.specs.declared.TrailPart.{TrailPart}
 use Rattle.gq_plan.proofs.Each.{each_flat_map, each_map, each_of, each_then}
 use Rattle.gq_plan.proofs.Values.{values_agree}
 use Rattle.gq_plan.specs.Allowed.{at_same}
@@ -48,7 +48,7 @@ module _ {X : Type 0} where
       ap (λ b. cond b (Some x) (look (numbered (i + 1) xs) (i + suc j))) (ne_eqb i (i + suc j) (λ e. omega (arith, e)))
       ∙ ap (look (numbered (i + 1) xs)) next ∙ look_numbered (i + 1) xs j
 
-  look_first : (xs : List X) (v : ℕ) → look (numbered 0 xs) v ≡ slice_get xs v
+  pub look_first : (xs : List X) (v : ℕ) → look (numbered 0 xs) v ≡ slice_get xs v
   look_first xs v = ap (look (numbered 0 xs)) (sym (zero-add v)) ∙ look_numbered 0 xs v
 
   look_unbound : (bs : List (ℕ × X)) (v : ℕ) → bound bs v ≡ false → look bs v ≡ None

@@ -3,7 +3,7 @@ use Rattle.std.proofs.Common.{◌≡◌, ℕ, ◌≤◌, List, [], map, IsPermut
 use Rattle.std.proofs.lemmas.List.Sorted.{IsPermutation-trans}
 use Rattle.gq_base.specs.Plain.{Graph}
 use Rattle.gq_alternatives.specs.Matches.{pattern_matches}
-use Rattle.gq_binder.specs.Columns.{entry_test}
+use Rattle.gq_cuts.specs.Entries.{entry_test}
 use Rattle.gq_law_reaches.specs.Bags.{AreShort}
 use Rattle.gq_law_reaches.specs.Core.{core_pattern}
 use Rattle.gq_law_reaches.specs.Cores.{IsCored}
@@ -13,18 +13,18 @@ use Rattle.gq_plan.proofs.Each.{each_map, each_then}
 use Rattle.gq_plan.specs.Marked.{made_of}
 use Rattle.gq_scopes.specs.Patterns.{Pattern, pattern_of}
 use Rattle.gq_syntax.specs.declared.Clause.{Clause}
-use Rattle.gq_law_cuts.specs.Cuts.{core_first, core_of, core_size, cored_of, placed_in, trailed_of}
+use Rattle.gq_law_cuts.specs.Cuts.{HaveLengths, core_first, core_of, core_size, cored_of, placed_in, trailed_of}
 use Rattle.gq_law_cores.specs.Made.{made_by}
 use Rattle.gq_law_cuts.specs.Shaped.{core_pattern_of}
 use Rattle.gq_law_cuts.specs.Typing.{stays_in}
-use Rattle.gq_law_cores.specs.Whole.{AlternativesPartTrails, EachPlanMakesTrails, HaveLengths, PlainTrailMatches, core_rows, trail_matches}
+use Rattle.gq_law_cores.specs.Whole.{AlternativesPartTrails, EachPlanMakesTrails, PlainTrailMatches, core_rows, trail_matches}
 use Rattle.gq_law_cuts.proofs.Coring.{cuts_are_cored}
 use Rattle.gq_law_cores.proofs.Entries.{entry_tests_are_tests}
 use Rattle.gq_law_cores.proofs.Making.{alternatives_part_continued, each_plan_makes_continued}
 use Rattle.gq_law_cuts.proofs.Plain.{plain_cuts}
 use Rattle.gq_law_cores.proofs.Walked.{trails_continue, trails_make_matches}
 
-cored : (clauses : List Clause) → HaveLengths clauses → IsCored (core_size clauses) (cored_of clauses)
+pub cored : (clauses : List Clause) → HaveLengths clauses → IsCored (core_size clauses) (cored_of clauses)
 cored clauses lengths =
     cuts_are_cored clauses
     (each_then (λ (w : TrailPattern). (1 ≤ w.low) × (w.low ≤ w.high) × (w.high ≤ 16)) (λ (w : TrailPattern). 1 ≤ w.low) (λ w h. h.0) (trailed_of clauses).trails lengths)

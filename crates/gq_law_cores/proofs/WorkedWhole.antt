@@ -4,10 +4,13 @@ use Rattle.std.proofs.Common.{◌≡◌, refl, ℕ, Some, None, false, Result, L
 use Rattle.std.proofs.lemmas.List.Elements.{All-from_recursion, All-nil}
 use Rattle.std.proofs.lemmas.List.Sorted.{IsPermutation-refl}
 use Rattle.gq_base.specs.declared.NodeId.{NodeId}
+use Rattle.gq_base.specs.declared.direction.Direction.TheVariants.{Forward}
 use Rattle.gq_alternatives.specs.Alternatives.{choices, pattern_alternatives, typed_of}
 use Rattle.gq_alternatives.specs.Matches.{pattern_matches}
+use Rattle.gq_cuts.specs.Entries.{entry_test}
 use Rattle.gq_expr.specs.declared.Fault.{Fault}
 use Rattle.gq_law_plans.proofs.Worked.{below, g, valid}
+use Rattle.gq_law_reaches.specs.Core.{trail_parts}
 use Rattle.gq_law_trails.specs.Trails.{after_trails, fits_end}
 use Rattle.gq_law_trails.specs.Walks.{walks}
 use Rattle.gq_plan.specs.Allowed.{lies_in}
@@ -23,11 +26,11 @@ use Rattle.gq_plan.specs.declared.PathPart.{PathPart}
 use Rattle.gq_plan.specs.declared.Typed.{Typed}
 use Rattle.gq_syntax.specs.declared.Arrow.TheVariants as arrow
 use Rattle.gq_syntax.specs.declared.Clause.{Clause}
-use Rattle.gq_law_cuts.specs.Cuts.{core_size, cored_of, trailed_of}
+use Rattle.gq_law_cuts.specs.Cuts.{HaveLengths, core_size, cored_of, trailed_of}
 use Rattle.gq_law_cuts.specs.Shaped.{core_pattern_of}
 use Rattle.gq_law_cuts.specs.Typing.{core_typed}
 use Rattle.gq_law_cores.specs.Made.{made_by}
-use Rattle.gq_law_cores.specs.Whole.{HaveLengths, IsCoreBound, core_rows}
+use Rattle.gq_law_cores.specs.Whole.{IsCoreBound, core_rows}
 use Rattle.gq_law_cores.proofs.Whole.{each_plan_makes_trails}
 
 abbrev clauses : List Clause
@@ -57,12 +60,19 @@ bound = record {
   conjuncts = [];
   patterns = [];
   optionals = [];
+  trails = record { kind = codes "KNOWS"; low = 1; high = 2; from = 0; to = 1; clause = 0; way = Forward; both = false; labels = []; tests = [] } ∷ [];
+  trail_names = codes "#1" ∷ [];
   keys = [];
   distinct = false;
   skip = 0;
   limit = None;
   alternatives = y ∷ [];
 }
+
+-- its trail is walked from a
+trails_so : bound.trails ≡ trail_parts (entry_test []) (cored_of clauses)
+unfolding trailed_of cored_of
+trails_so = refl
 
 lengths : HaveLengths clauses
 unfolding trailed_of

@@ -16,7 +16,7 @@ use Rattle.gq_law_reaches.specs.Cores.{IsCored}
 use Rattle.gq_law_reaches.specs.Reaches.{Reach, Trailed, reaches}
 use Rattle.gq_law_reaches.specs.Turned.{AreTests}
 use Rattle.gq_law_trails.specs.Trails.{Trailing, after_trails}
-use Rattle.gq_law_trails.specs.declared.TrailPart.{TrailPart}
+use Rattle.gq_plan.specs.declared.TrailPart.{TrailPart}
 use Rattle.gq_plan.specs.Allowed.{lies_in}
 use Rattle.gq_plan.specs.Assignments.{Assignment, row_of}
 use Rattle.gq_plan.specs.Covers.{Covers}

@@ -1,5 +1,5 @@
 -- The laws that the program's walker of all trails can start at each match of a query's core, and what it owes there.
-use Rattle.std.specs.Prelude.{◌≡◌, ℕ, ◌≤◌, true, All, List, length, map, slice_get}
+use Rattle.std.specs.Prelude.{◌≡◌, ℕ, ◌<◌, ◌≤◌, nat_lt, true, All, List, length, map, slice_get}
 use Rattle.std.specs.List.{AllByRecursion}
 use Rattle.gq_base.specs.Plain.{Graph}
 use Rattle.gq_alternatives.specs.Alternatives.{Reading, typed_rels}
@@ -11,8 +11,9 @@ use Rattle.gq_law_trails.specs.Trails.{Trailing}
 use Rattle.gq_plan.specs.Assignments.{Assignment}
 use Rattle.gq_plan.specs.Meaning.{row}
 use Rattle.gq_plan.specs.declared.NamedExpr.{NamedExpr}
+use Rattle.gq_plan.specs.declared.TrailPart.{TrailPart}
 use Rattle.gq_scopes.specs.Patterns.{MapEntry}
-use Rattle.gq_trails.specs.Trekking.{CanTrek, HasLength, continuations}
+use Rattle.gq_trails.specs.Trekking.{AreInTurn, CanTrek, HasLength, continuations}
 use Rattle.gq_wide.specs.Rows.{Wide, item_at}
 use Rattle.gq_law_cores.specs.Made.{trail_rows}
 
@@ -32,7 +33,7 @@ CoresCanTrek =
 abbrev pub OwedAreTrailRows : Type 0
 OwedAreTrailRows =
     (g : Graph) (test : MapEntry → NamedExpr) (q : Trailed) (cs : List Reading) (t : Assignment) (r : Wide)
-    → length t.rels ≡ length q.pattern.rels → length cs ≡ length q.pattern.rels → IsCoreRow t r
+    → length cs ≡ length q.pattern.rels → IsCoreRow t r
     → map (λ (m : Trailing). row m.row) (continuations g (trail_parts test q) (typed_rels q.pattern.rels cs) r)
     ≡ trail_rows g q.pattern (trail_parts test q) t
 
@@ -42,3 +43,12 @@ PartsHaveLength =
     (test : MapEntry → NamedExpr) (q : Trailed)
     → AllByRecursion (λ (w : TrailPattern). (1 ≤ w.low) × (w.low ≤ w.high) × (w.high ≤ 16)) q.trails
     → All HasLength (trail_parts test q)
+
+-- each begins at a variable that is known when its turn comes, where those of the core are known first
+abbrev pub CoresAreInTurn : Type 0
+CoresAreInTurn = (test : MapEntry → NamedExpr) (k : ℕ) (q : Trailed) → IsCored k q → AreInTurn (trail_parts test q) (λ v. nat_lt v k)
+
+-- and its other end is a variable of the query
+abbrev pub PartsHaveEnds : Type 0
+PartsHaveEnds =
+    (test : MapEntry → NamedExpr) (k : ℕ) (q : Trailed) → IsCored k q → All (λ (p : TrailPart). p.to < length q.pattern.names) (trail_parts test q)

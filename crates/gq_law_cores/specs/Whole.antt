@@ -1,15 +1,14 @@
 -- The laws of a query with trails whose core is bound: plans of its alternatives, continued by trails, make what its matches make.
-use Rattle.std.specs.Prelude.{◌≡◌, ℕ, ◌≤◌, Result, IsTrue, IsPermutation, All, List, filter, flat_map, map}
-use Rattle.std.specs.List.{AllByRecursion}
+use Rattle.std.specs.Prelude.{◌≡◌, ℕ, Result, IsTrue, IsPermutation, All, List, filter, flat_map, map}
 use Rattle.gq_base.specs.Catalogs.{Tables}
 use Rattle.gq_base.specs.Plain.{Graph}
 use Rattle.gq_base.specs.Valid.{is_valid}
 use Rattle.gq_alternatives.specs.Matches.{pattern_matches}
-use Rattle.gq_binder.specs.Columns.{entry_test}
+use Rattle.gq_cuts.specs.Entries.{entry_test}
 use Rattle.gq_expr.specs.Reading as reading
 use Rattle.gq_expr.specs.declared.Fault.{Fault}
 use Rattle.gq_law_reaches.specs.Core.{trail_parts}
-use Rattle.gq_law_reaches.specs.Reaches.{Reach, TrailPattern, reaches}
+use Rattle.gq_law_reaches.specs.Reaches.{Reach, reaches}
 use Rattle.gq_plan.specs.Allowed.{lies_in}
 use Rattle.gq_plan.specs.Assignments.{Assignment}
 use Rattle.gq_plan.specs.Marked.{Marked, made_of}
@@ -17,17 +16,12 @@ use Rattle.gq_plan.specs.Outcomes.{Row}
 use Rattle.gq_plan.specs.declared.Bound.{Bound}
 use Rattle.gq_scopes.specs.Patterns.{pattern_of}
 use Rattle.gq_syntax.specs.declared.Clause.{Clause}
-use Rattle.gq_law_cuts.specs.Cuts.{core_size, cored_of, trailed_of}
+use Rattle.gq_law_cuts.specs.Cuts.{HaveLengths, core_size, cored_of}
 use Rattle.gq_law_cores.specs.Made.{MakesContinued, made_by, trail_rows}
 use Rattle.gq_law_cuts.specs.Plain.{HaveNoTrail}
 use Rattle.gq_law_cuts.specs.Shaped.{core_pattern_of}
 use Rattle.gq_law_cores.specs.Typing.{HasCores}
 use Rattle.gq_law_cuts.specs.Typing.{stays_in}
-
--- no trail is empty, or longer than 16
-abbrev pub HaveLengths : List Clause → Type 0
-HaveLengths clauses =
-    AllByRecursion (λ (w : TrailPattern). (1 ≤ w.low) × (w.low ≤ w.high) × (w.high ≤ 16)) (trailed_of clauses).trails
 
 -- the matches of MATCH clauses: the nodes and the relationships of patterns without star, for each choice of lists of the trails
 abbrev pub trail_matches : Graph → List Clause → List Assignment

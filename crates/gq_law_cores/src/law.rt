@@ -2,7 +2,8 @@
 ghost use Rattle.gq_law_cores.specs.Entries.{EntryTestsAreTests};
 ghost use Rattle.gq_law_cores.specs.Made.{AlternativesPartContinued, EachPlanMakesContinued};
 ghost use Rattle.gq_law_cores.specs.Made.{TrailsContinue, TrailsMakeMatches};
-ghost use Rattle.gq_law_cores.specs.Walking.{CoresCanTrek, OwedAreTrailRows, PartsHaveLength};
+ghost use Rattle.gq_law_cores.specs.Walking.{CoresAreInTurn, CoresCanTrek, OwedAreTrailRows};
+ghost use Rattle.gq_law_cores.specs.Walking.{PartsHaveEnds, PartsHaveLength};
 ghost use Rattle.gq_law_cores.specs.Whole.{AlternativesPartTrails, EachPlanMakesTrails};
 ghost use Rattle.gq_law_cores.specs.Whole.{PlainTrailMatches};
 
@@ -47,6 +48,18 @@ pub fn owed_are_trail_rows()
 /// which a walker of all trails can make room. It does nothing.
 pub fn parts_have_length()
     ensures { PartsHaveLength }
+{}
+
+/// A law for the crates above: each trail begins at a variable that is known when its turn comes,
+/// where those of the core are known first. It does nothing.
+pub fn cores_are_in_turn()
+    ensures { CoresAreInTurn }
+{}
+
+/// A law for the crates above: the other end of each trail is a variable of the query. It does
+/// nothing.
+pub fn parts_have_ends()
+    ensures { PartsHaveEnds }
 {}
 
 /// A law for the crates above: the test of a map entry passes in a row exactly where the entry
