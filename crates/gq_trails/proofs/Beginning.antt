@@ -8,7 +8,7 @@ use Rattle.gq_base.specs.Plain.{Graph}
 use Rattle.gq_base.specs.declared.NodeId.{NodeId}
 use Rattle.gq_law_plans.proofs.Lookups.{bound}
 use Rattle.gq_law_trails.specs.Trails.{after_trails}
-use Rattle.gq_law_trails.specs.declared.TrailPart.{TrailPart}
+use Rattle.gq_plan.specs.declared.TrailPart.{TrailPart}
 use Rattle.gq_plan.specs.Meaning.{Partial, look}
 use Rattle.gq_wide.specs.Rows.{Wide, item_at}
 use Rattle.gq_trails.specs.Trekking.{CanTrek, IsRowOf, Trekking, continuations, partial_of, placed_from}

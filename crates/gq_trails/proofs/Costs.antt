@@ -5,7 +5,7 @@ use Rattle.gq_base.specs.Plain.{Graph}
 use Rattle.gq_base.specs.declared.RelId.{RelId}
 use Rattle.gq_law_trails.specs.Trails.{arrivals, walks_from}
 use Rattle.gq_law_trails.specs.Walks.{end_of}
-use Rattle.gq_law_trails.specs.declared.TrailPart.{TrailPart}
+use Rattle.gq_plan.specs.declared.TrailPart.{TrailPart}
 use Rattle.gq_plan.specs.Meaning.{Partial, look}
 use Rattle.gq_trails.specs.Walking.{Walking}
 use Rattle.gq_trails.specs.steps.Journeys.{Journey, frames_at, part_at, patterns_of, row_at, turn_at, walk_at, walked_at}

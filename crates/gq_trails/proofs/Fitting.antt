@@ -10,7 +10,7 @@ use Rattle.gq_base.specs.declared.RelId.{RelId}
 use Rattle.gq_law_plans.proofs.Lookups.{bound}
 use Rattle.gq_law_trails.specs.Trails.{arrivals, arrive_at, fits_end}
 use Rattle.gq_law_trails.specs.Walks.{end_of}
-use Rattle.gq_law_trails.specs.declared.TrailPart.{TrailPart}
+use Rattle.gq_plan.specs.declared.TrailPart.{TrailPart}
 use Rattle.gq_plan.specs.Allowed.{at_same}
 use Rattle.gq_plan.specs.Assignments.{is_node}
 use Rattle.gq_plan.specs.Meaning.{Partial, keep_if, look, with_node}

@@ -5,7 +5,7 @@ use Rattle.gq_base.specs.Plain.{Graph}
 use Rattle.gq_base.specs.declared.RelId.{RelId}
 use Rattle.gq_plan.specs.Meaning.{Partial}
 use Rattle.gq_law_trails.specs.Trails.{Trailing, after_trails, walks_from, with_list}
-use Rattle.gq_law_trails.specs.declared.TrailPart.{TrailPart}
+use Rattle.gq_plan.specs.declared.TrailPart.{TrailPart}
 use Rattle.gq_trails.specs.steps.Treks.{Frame, Turn, around, met_by, ways_by, wrapped}
 
 module _ (g : Graph) (patterns : ℕ → List RelId) where

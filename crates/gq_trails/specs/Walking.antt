@@ -3,7 +3,7 @@ use Rattle.std.specs.Prelude.{ℕ, Bool, List}
 use Rattle.gq_base.specs.Plain.{Graph}
 use Rattle.gq_base.specs.declared.RelId.{RelId}
 use Rattle.gq_base.specs.declared.direction.Direction.{Direction}
-use Rattle.gq_law_trails.specs.declared.TrailPart.{TrailPart}
+use Rattle.gq_plan.specs.declared.TrailPart.{TrailPart}
 
 -- what a walker goes over: a graph, and a trail's type, way and lengths
 pub record Course : Type 0 where

@@ -10,8 +10,7 @@ ghost use Rattle.gq_trails.specs.steps.Ends.{may_end, settled};
 
 use gq_base::{Catalog, NodeId, RelId, Text, Value};
 use gq_expr::{Assigned, eval};
-use gq_law_trails::TrailPart;
-use gq_plan::NamedExpr;
+use gq_plan::{NamedExpr, TrailPart};
 use gq_store::Graph;
 use gq_wide::WideRow;
 

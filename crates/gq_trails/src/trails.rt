@@ -5,8 +5,7 @@ ghost use Rattle.gq_trails.specs.Trekking.{CanTrek, HasLength, IsRowOf, continua
 use crate::state::{State, state_after};
 use crate::trek::{Route, Trek};
 use gq_base::Memory;
-use gq_law_trails::TrailPart;
-use gq_plan::TypedRel;
+use gq_plan::{TrailPart, TypedRel};
 use gq_store::Graph;
 use gq_wide::WideRow;
 use std::alloc::Global;

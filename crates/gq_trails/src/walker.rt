@@ -11,7 +11,7 @@ use crate::search::{Run, Search};
 use crate::state::{State, state_after};
 use crate::used::Used;
 use gq_base::{Memory, NodeId, RelId};
-use gq_law_trails::TrailPart;
+use gq_plan::TrailPart;
 use gq_store::Graph;
 use std::alloc::Global;
 use std::marker::Model;

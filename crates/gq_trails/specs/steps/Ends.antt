@@ -3,7 +3,7 @@ use Rattle.std.specs.Prelude.{Bool, Some, slice_set, if◌then◌else◌}
 use Rattle.gq_base.specs.Plain.{Graph}
 use Rattle.gq_base.specs.declared.NodeId.{NodeId}
 use Rattle.gq_law_trails.specs.Trails.{fits_end}
-use Rattle.gq_law_trails.specs.declared.TrailPart.{TrailPart}
+use Rattle.gq_plan.specs.declared.TrailPart.{TrailPart}
 use Rattle.gq_plan.specs.Allowed.{at_same}
 use Rattle.gq_wide.specs.Rows.{Wide, item_at}
 

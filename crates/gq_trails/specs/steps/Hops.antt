@@ -108,3 +108,12 @@ pub record IsFirst (f : Follow) (old new : Level) (h : Hop) : Type 0 where
 
 abbrev pub IsNextHop : Follow → Level → Level → Option Hop → Type 0
 IsNextHop f old new found = MatchOption found (left_of f old ≡ []) (IsFirst f old new)
+
+-- the first of what is left stands at the level's place
+pub record IsHere (f : Follow) (l : Level) (h : Hop) : Type 0 where
+  pub first : IsFirst f l (record l { place = l.place + 1 }) h
+  pub few : l.place + 1 < 2 ^ 32
+
+-- if its table has one there; else only what the tables behind have is left
+abbrev pub IsHopHere : Follow → Level → Option Hop → Type 0
+IsHopHere f l found = MatchOption found (left_of f l ≡ left_at f.graph.now f.kind.now f.way l.at (l.table + 1) 0) (IsHere f l)

@@ -5,7 +5,7 @@ use Rattle.gq_base.specs.Plain.{Graph}
 use Rattle.gq_base.specs.declared.RelId.{RelId}
 use Rattle.gq_law_trails.specs.Trails.{Trailing, after_trails, arrivals, with_list}
 use Rattle.gq_law_trails.specs.Walks.{end_of}
-use Rattle.gq_law_trails.specs.declared.TrailPart.{TrailPart}
+use Rattle.gq_plan.specs.declared.TrailPart.{TrailPart}
 use Rattle.gq_plan.specs.Meaning.{Partial, look}
 
 -- a trail whose turn has come: the trails after it, what is bound, and the walks before it

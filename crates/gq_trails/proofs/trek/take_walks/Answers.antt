@@ -1,6 +1,6 @@
 use Rattle.std.proofs.Common.{◌≡◌, ◌∙◌, ◌-◌, ◌<◌, ℕ, get_or, length, ap, sym, arith, length-append}
 use Rattle.std.proofs.lemmas.List.{get_or_default, get_or_read}
-use Rattle.gq_law_trails.specs.declared.TrailPart.{TrailPart}
+use Rattle.gq_plan.specs.declared.TrailPart.{TrailPart}
 use Rattle.gq_trails.specs.steps.Journeys.{no_part, no_walk, part_at, walk_at}
 use Rattle.gq_trails.proofs.Taking.{all_taken, passed, took}
 use Rattle.gq_trails.proofs.trek.take_walks.Goals as goal

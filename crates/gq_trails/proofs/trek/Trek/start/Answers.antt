@@ -4,7 +4,7 @@ use Rattle.gq_base.specs.declared.NodeId.{NodeId}
 use Rattle.gq_base.specs.declared.RelId.{RelId}
 use Rattle.gq_law_trails.specs.Trails.{taken_in, used_in}
 use Rattle.gq_law_trails.specs.Walks.{walks}
-use Rattle.gq_law_trails.specs.declared.TrailPart.{TrailPart}
+use Rattle.gq_plan.specs.declared.TrailPart.{TrailPart}
 use Rattle.gq_plan.specs.Assignments.{is_node}
 use Rattle.gq_wide.specs.Rows.{item_at}
 use Rattle.gq_trails.specs.Trekking.{patterns_in}
