@@ -2,6 +2,7 @@
 use Rattle.std.proofs.Common.{◌≡◌, ◌∙◌, ℕ, suc, ap, refl, sym, subst, arith, true, false, Bool, cond, Option, List, [], ◌∷◌, append-nil, flat_map, length, map, Result}
 use Rattle.std.proofs.lemmas.List.FromFn.{length-map-range_with_len}
 use Rattle.gq_base.specs.Plain.{Graph}
+use Rattle.gq_expr.specs.Reading as reading
 use Rattle.gq_expr.specs.declared.Fault.{Fault}
 use Rattle.gq_group.specs.Choices.{Begins, Chosen, IsChoice, Moves}
 use Rattle.gq_group.specs.Chunks.{assignment_at}
@@ -23,7 +24,7 @@ use Rattle.gq_rows.specs.declared.refusal.RowRefusal.{RowRefusal}
 use Rattle.gq_execute.specs.Replies.{outcomes_behind}
 use Rattle.gq_execute.specs.declared.prepared.Prepared.{Prepared}
 use Rattle.gq_execute.specs.steps.Prepared.{known_by, later_by}
-use Rattle.gq_execute.specs.steps.Taking.{Later, given_by, outcomes_by}
+use Rattle.gq_execute.specs.steps.Taking.{Becomes, Later, given_by, outcomes_by, outcomes_on}
 use Rattle.gq_execute.specs.steps.Testing.{admitted_by}
 
 -- the choices that are left, the one that stands first
@@ -32,8 +33,8 @@ choices_left gs true c = c.positions ∷ later_choices gs c.positions
 choices_left gs false c = []
 
 -- the outcomes of some choices
-abbrev pub outs : Later → Graph → Bound → Typed → Chunk → List (List ℕ) → List (Result Row Fault)
-outs later g b y c pss = outcomes_by later g b y (map (assigned y) (map (assignment_at g y c) pss))
+abbrev pub outs : Becomes → Graph → Bound → Typed → Chunk → List (List ℕ) → List (Result Row Fault)
+outs becomes g b y c pss = outcomes_by becomes g b y (map (assigned y) (map (assignment_at g y c) pss))
 
 -- the first choice, and how it goes on
 pub first_left : (gs : List Group) (told : Bool) (choice : Chosen) → Begins gs told choice → choices gs ≡ choices_left gs told choice
@@ -73,31 +74,31 @@ module _ (g : Graph) (y : Typed) (c : Chunk) (ps : List ℕ) where
   assigned_rels = length_rels y.rels _ (length-map-range_with_len _ 0 _)
 
 -- what a table answers to it, told of the query that was begun with and of the choice
-pub choice_pushed : (later : Later) (g : Graph) (b : Bound) (y : Typed) (c : Chunk) (mid new : Table) (row : Assignment) (ps qs : List ℕ) (r : Result More RowRefusal) → mid.bound ≡ b
-    → row ≡ assigned y (assignment_at g y c ps) → ps ≡ qs → PushesAll (given_by later g mid.bound y row) mid new r → PushesAll (given_by later g b y (assigned y (assignment_at g y c qs))) mid new r
-choice_pushed later g b y c mid new row ps qs r same is at h =
-    subst (λ q. PushesAll (given_by later g b y (assigned y (assignment_at g y c q))) mid new r) at
-    (subst (λ t. PushesAll (given_by later g b y t) mid new r) is (subst (λ q. PushesAll (given_by later g q y row) mid new r) same h))
+pub choice_pushed : (becomes : Becomes) (g : Graph) (b : Bound) (y : Typed) (c : Chunk) (mid new : Table) (row : Assignment) (ps qs : List ℕ) (r : Result More RowRefusal) → mid.bound ≡ b
+    → row ≡ assigned y (assignment_at g y c ps) → ps ≡ qs → PushesAll (becomes g mid.bound y row) mid new r → PushesAll (becomes g b y (assigned y (assignment_at g y c qs))) mid new r
+choice_pushed becomes g b y c mid new row ps qs r same is at h =
+    subst (λ q. PushesAll (becomes g b y (assigned y (assignment_at g y c q))) mid new r) at
+    (subst (λ t. PushesAll (becomes g b y t) mid new r) is (subst (λ q. PushesAll (becomes g q y row) mid new r) same h))
 
--- an assignment that the late conjuncts drop has no outcome
-pub row_dropped : (later : Later) (g : Graph) (b : Bound) (y : Typed) (t : Assignment) → [] ≡ marks (meanings_of g (row_of t) (late_conjuncts b y)) → [] ≡ given_by later g b y t
+-- a row that the late conjuncts drop has no outcome
+pub row_dropped : (later : Later) (g : Graph) (b : Bound) (y : Typed) (row : reading.Assignment) → [] ≡ marks (meanings_of g row (late_conjuncts b y)) → [] ≡ outcomes_on later g b y row
 unfolding marked
-row_dropped later g b y t e = ap (λ ms. flat_map (later b) (map (λ m. record { row = row_of t; mark = m }) ms)) e
+row_dropped later g b y row e = ap (λ ms. flat_map (later b) (map (λ m. record { row = row; mark = m }) ms)) e
 
 -- another has what becomes of it
-row_marked : (later : Later) (g : Graph) (b : Bound) (y : Typed) (t : Assignment) (mark : Option Fault) → mark ∷ [] ≡ marks (meanings_of g (row_of t) (late_conjuncts b y))
-    → later b (record { row = row_of t; mark = mark }) ≡ given_by later g b y t
+pub row_marked : (later : Later) (g : Graph) (b : Bound) (y : Typed) (row : reading.Assignment) (mark : Option Fault) → mark ∷ [] ≡ marks (meanings_of g row (late_conjuncts b y))
+    → later b (record { row = row; mark = mark }) ≡ outcomes_on later g b y row
 unfolding marked
-row_marked later g b y t mark e =
-    sym (append-nil (later b (record { row = row_of t; mark = mark }))) ∙ ap (λ ms. flat_map (later b) (map (λ m. record { row = row_of t; mark = m }) ms)) e
+row_marked later g b y row mark e =
+    sym (append-nil (later b (record { row = row; mark = mark }))) ∙ ap (λ ms. flat_map (later b) (map (λ m. record { row = row; mark = m }) ms)) e
 
 module _ (g : Graph) (p : Prepared) (b : Bound) (y : Typed) (t : Assignment) (mark : Option Fault) (says : mark ∷ [] ≡ marks (meanings_of g (row_of t) (late_conjuncts b y))) where
   -- where the tests do not admit it, that is nothing
   pub row_out : false ≡ admitted_by p.tests.all (row_of t) → [] ≡ given_by (later_by g p) g b y t
   row_out e =
-      ap (λ v. cond v (outcomes_behind g b (known_by p) (lists_in p.optionals) (record { row = row_of t; mark = mark })) []) e ∙ row_marked (later_by g p) g b y t mark says
+      ap (λ v. cond v (outcomes_behind g b (known_by p) (lists_in p.optionals) (record { row = row_of t; mark = mark })) []) e ∙ row_marked (later_by g p) g b y (row_of t) mark says
 
   -- else it goes behind the optional clauses
   pub row_behind : true ≡ admitted_by p.tests.all (row_of t) → outcomes_behind g b (known_by p) (lists_in p.optionals) (record { row = row_of t; mark = mark }) ≡ given_by (later_by g p) g b y t
   row_behind e =
-      ap (λ v. cond v (outcomes_behind g b (known_by p) (lists_in p.optionals) (record { row = row_of t; mark = mark })) []) e ∙ row_marked (later_by g p) g b y t mark says
+      ap (λ v. cond v (outcomes_behind g b (known_by p) (lists_in p.optionals) (record { row = row_of t; mark = mark })) []) e ∙ row_marked (later_by g p) g b y (row_of t) mark says

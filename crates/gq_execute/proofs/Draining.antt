@@ -3,7 +3,7 @@ use Rattle.std.proofs.Common.{◌≡◌, ◌≢◌, ◌∙◌, ap₂, ◌+◌, �
 use Rattle.std.specs.Prelude.{Option, IsPermutation, filter, flat_map}
 use Rattle.std.proofs.lemmas.Grind.{flat_map-append}
 use Rattle.std.proofs.lemmas.List.{length-map, map-append}
-use Rattle.std.proofs.lemmas.List.Sorted.{IsPermutation-append_left, IsPermutation-append_right, IsPermutation-map, IsPermutation-refl, IsPermutation-sym, IsPermutation-trans, length_permutation}
+use Rattle.std.proofs.lemmas.List.Sorted.{All-permutation, IsPermutation-append_left, IsPermutation-append_right, IsPermutation-map, IsPermutation-refl, IsPermutation-sym, IsPermutation-trans, length_permutation}
 use Rattle.gq_base.specs.Plain.{Graph}
 use Rattle.gq_expr.specs.Reading as reading
 use Rattle.gq_expr.specs.declared.Fault.{Fault}
@@ -23,7 +23,9 @@ use Rattle.gq_plan.specs.Outcomes.{Row, late_conjuncts, late_outcomes, meanings_
 use Rattle.gq_plan.specs.declared.Bound.{Bound}
 use Rattle.gq_plan.specs.declared.NamedExpr.{NamedExpr}
 use Rattle.gq_plan.specs.declared.typed.Typed.{Typed}
-use Rattle.std.specs.List.{Contains}
+use Rattle.std.specs.List.{AllByRecursion, Contains}
+use Rattle.std.proofs.lemmas.List.Elements.{All-from_recursion, recursion_from_All}
+use Rattle.gq_alternatives.proofs.Shapes.{each_left, each_right}
 use Rattle.gq_rows.specs.Answers.{kept, looked_at, rows_in}
 use Rattle.gq_rows.specs.Chunks as chunks
 use Rattle.gq_rows.specs.Chunks.{IsChunkIn, Stands, admitted_outcomes, assignments_of}
@@ -32,7 +34,8 @@ use Rattle.gq_rows.specs.declared.refusal.More.{More}
 use Rattle.gq_rows.specs.declared.refusal.RowRefusal.{RowRefusal}
 use Rattle.gq_rows.specs.declared.refusal.RowRefusal.TheVariants as row_refusal
 use Rattle.gq_execute.specs.Refusals.{of_rows}
-use Rattle.gq_execute.specs.steps.Taking.{Admission, Counted, Cut, HasRun, Later, MeetsFault, MeetsMany, Pushed, Takes, TakesAll, if_admitted, outcomes_by, owed_by}
+use Rattle.gq_execute.specs.Spending.{IsPlain}
+use Rattle.gq_execute.specs.steps.Taking.{Admission, Becomes, Counted, Cut, HasRun, MeetsFault, MeetsMany, Pushed, Takes, TakesAll, given_by, if_admitted, outcomes_by, owed_by}
 
 -- what is made of the items that pass is made of each, or nothing
 pub filtered : {A B : Type 0} (f : A → List B) (p : A → Bool) (xs : List A) → flat_map f (filter p xs) ≡ flat_map (λ x. cond (p x) (f x) []) xs
@@ -68,31 +71,28 @@ module _ (g : Graph) (admitted : reading.Assignment → Bool) (later : Marked �
 
 -- the late outcomes of those of some assignments that are admitted
 late_of_admitted : (admitted : Admission) (g : Graph) (b : Bound) (y : Typed) (ts : List Assignment)
-    → late_outcomes g b y (filter (λ t. admitted (row_of t)) ts) ≡ outcomes_by (if_admitted admitted g) g b y ts
+    → late_outcomes g b y (filter (λ t. admitted (row_of t)) ts) ≡ outcomes_by (given_by (if_admitted admitted g)) g b y ts
 late_of_admitted admitted g b y ts =
     sym (plain_late_rows g b y (filter (λ t. admitted (row_of t)) ts)) ∙ sym (admitted_first g admitted (λ m. ending g b m ∷ []) (late_conjuncts b y) ts)
 
 -- ---- the outcomes of assignments
 
-module _ (later : Later) (g : Graph) (b : Bound) (y : Typed) where
-  abbrev given : Assignment → List (Result Row Fault)
-  given t = flat_map (later b) (marked g (late_conjuncts b y) (row_of t))
-
+module _ (becomes : Becomes) (g : Graph) (b : Bound) (y : Typed) where
   -- of some and of more
-  pub outcomes_append : (ts us : List Assignment) → outcomes_by later g b y (ts ++ us) ≡ outcomes_by later g b y ts ++ outcomes_by later g b y us
-  outcomes_append ts us = flat_map-append given ts us
+  pub outcomes_append : (ts us : List Assignment) → outcomes_by becomes g b y (ts ++ us) ≡ outcomes_by becomes g b y ts ++ outcomes_by becomes g b y us
+  outcomes_append ts us = flat_map-append (becomes g b y) ts us
 
   -- in another order
-  pub outcomes_bag : (ts us : List Assignment) → IsPermutation ts us → IsPermutation (outcomes_by later g b y ts) (outcomes_by later g b y us)
-  outcomes_bag ts us bag = permuted_flat_map given ts us bag
+  pub outcomes_bag : (ts us : List Assignment) → IsPermutation ts us → IsPermutation (outcomes_by becomes g b y ts) (outcomes_by becomes g b y us)
+  outcomes_bag ts us bag = permuted_flat_map (becomes g b y) ts us bag
 
 -- of a chunk that is told by another bound query and a table of the same
 outcomes_here : (admitted : Admission) (g : Graph) (b : Bound) (y : Typed) (b' : Bound) (o : Option Typed) (c : Chunk) → b' ≡ b → o ≡ Some y
-    → admitted_outcomes admitted g b' o c ≡ outcomes_by (if_admitted admitted g) g b y (assignments_of g y c)
+    → admitted_outcomes admitted g b' o c ≡ outcomes_by (given_by (if_admitted admitted g)) g b y (assignments_of g y c)
 outcomes_here admitted g b y b' o c same started =
     ap (λ q. admitted_outcomes admitted g q o c) same ∙ ap (λ p. admitted_outcomes admitted g b p c) started ∙ late_of_admitted admitted g b y (assignments_of g y c)
 
-module _ (later : Later) (g : Graph) (old : Table) (begun : Rest) where
+module _ (becomes : Becomes) (g : Graph) (old : Table) (begun : Rest) where
   abbrev b : Bound
   b = old.bound
 
@@ -100,21 +100,21 @@ module _ (later : Later) (g : Graph) (old : Table) (begun : Rest) where
   y = begun.source.typed
 
   abbrev os : List (Result Row Fault)
-  os = outcomes_by later g b y (owed_by y begun)
+  os = outcomes_by becomes g b y (owed_by y begun)
 
   -- nothing was taken yet
-  pub pushed_none : Pushed later g old old begun begun
+  pub pushed_none : Pushed becomes g old old begun begun
   pushed_none = record {
     taken = [];
     bag = IsPermutation-refl (owed_by y begun);
     stands = λ before h. subst (λ l. Stands l old) (sym (append-nil before)) h;
   }
 
-  module _ (mid : Table) (now after : Rest) (came : Pushed later g old mid begun now) (bound : mid.bound ≡ old.bound) (most : mid.most ≡ old.most) (c : Chunk)
+  module _ (mid : Table) (now after : Rest) (came : Pushed becomes g old mid begun now) (bound : mid.bound ≡ old.bound) (most : mid.most ≡ old.most) (c : Chunk)
       (next : IsPermutation now.owed (after.chunk ++ after.owed)) (chunk_bag : IsPermutation (assignments_of g y c) (map (whole y) after.chunk)) where
     -- the outcomes of the chunk, and the assignments that were taken with it
     abbrev here : List (Result Row Fault)
-    here = outcomes_by later g b y (assignments_of g y c)
+    here = outcomes_by becomes g b y (assignments_of g y c)
 
     abbrev taken : List Assignment
     taken = came.taken ++ assignments_of g y c
@@ -132,24 +132,24 @@ module _ (later : Later) (g : Graph) (old : Table) (begun : Rest) where
         (IsPermutation-trans _ _ _ came.bag (IsPermutation-append_right came.taken (owed_by y now) (assignments_of g y c ++ owed_by y after) parted))
 
     -- the outcomes that were taken, and those of the chunk
-    more_taken : (before : List (Result Row Fault)) → (before ++ outcomes_by later g b y came.taken) ++ here ≡ before ++ outcomes_by later g b y taken
+    more_taken : (before : List (Result Row Fault)) → (before ++ outcomes_by becomes g b y came.taken) ++ here ≡ before ++ outcomes_by becomes g b y taken
     more_taken before =
-        append_assoc before (outcomes_by later g b y came.taken) here
-        ∙ ap (λ l. before ++ l) (sym (outcomes_append later g b y came.taken (assignments_of g y c)))
+        append_assoc before (outcomes_by becomes g b y came.taken) here
+        ∙ ap (λ l. before ++ l) (sym (outcomes_append becomes g b y came.taken (assignments_of g y c)))
 
     abbrev cut_here : Cut os
     cut_here = record {
-      pushed = outcomes_by later g b y taken;
-      left = outcomes_by later g b y (owed_by y after);
-      bag = subst (IsPermutation os) (outcomes_append later g b y taken (owed_by y after)) (outcomes_bag later g b y (owed_by y begun) (taken ++ owed_by y after) bag);
+      pushed = outcomes_by becomes g b y taken;
+      left = outcomes_by becomes g b y (owed_by y after);
+      bag = subst (IsPermutation os) (outcomes_append becomes g b y taken (owed_by y after)) (outcomes_bag becomes g b y (owed_by y begun) (taken ++ owed_by y after) bag);
     }
 
     -- the chunk's outcomes went into the table
-    pub pushed_more : (new : Table) → chunks.TakesWhole here mid new → Pushed later g old new begun after
+    pub pushed_more : (new : Table) → chunks.TakesWhole here mid new → Pushed becomes g old new begun after
     pushed_more new takes = record {
       taken = taken;
       bag = bag;
-      stands = λ before h. subst (λ l. Stands l new) (more_taken before) (takes (before ++ outcomes_by later g b y came.taken) (came.stands before h));
+      stands = λ before h. subst (λ l. Stands l new) (more_taken before) (takes (before ++ outcomes_by becomes g b y came.taken) (came.stands before h));
     }
 
     -- one of them is a fault that is looked at
@@ -158,7 +158,7 @@ module _ (later : Later) (g : Graph) (old : Table) (begun : Rest) where
       cut = cut_here;
       seen = λ before h.
           subst (λ l. Contains (looked_at old.bound l) (Err f)) (more_taken before)
-          (subst (λ q. Contains (looked_at q ((before ++ outcomes_by later g b y came.taken) ++ here)) (Err f)) bound (faulty.seen (before ++ outcomes_by later g b y came.taken) (came.stands before h)));
+          (subst (λ q. Contains (looked_at q ((before ++ outcomes_by becomes g b y came.taken) ++ here)) (Err f)) bound (faulty.seen (before ++ outcomes_by becomes g b y came.taken) (came.stands before h)));
     }
 
     -- too many rows are kept with them
@@ -167,8 +167,8 @@ module _ (later : Later) (g : Graph) (old : Table) (begun : Rest) where
       cut = cut_here;
       many = λ before h.
           subst (λ l. old.most < kept old.bound (rows_in l)) (more_taken before)
-          (subst (λ q. old.most < kept q (rows_in ((before ++ outcomes_by later g b y came.taken) ++ here))) bound
-          (subst (λ m. m < kept mid.bound (rows_in ((before ++ outcomes_by later g b y came.taken) ++ here))) most (over (before ++ outcomes_by later g b y came.taken) (came.stands before h))));
+          (subst (λ q. old.most < kept q (rows_in ((before ++ outcomes_by becomes g b y came.taken) ++ here))) bound
+          (subst (λ m. m < kept mid.bound (rows_in ((before ++ outcomes_by becomes g b y came.taken) ++ here))) most (over (before ++ outcomes_by becomes g b y came.taken) (came.stands before h))));
     }
 
     -- so each refusal of the table is one of what was owed
@@ -188,15 +188,15 @@ module _ (later : Later) (g : Graph) (old : Table) (begun : Rest) where
     }
 
   -- nothing is owed any more
-  pub all_taken : (new : Table) (now : Rest) → Pushed later g old new begun now → new.bound ≡ old.bound → new.most ≡ old.most → now.owed ≡ [] → Takes os old new
+  pub all_taken : (new : Table) (now : Rest) → Pushed becomes g old new begun now → new.bound ≡ old.bound → new.most ≡ old.most → now.owed ≡ [] → Takes os old new
   all_taken new now came bound most none =
       let all : IsPermutation (owed_by y begun) came.taken =
       subst (IsPermutation (owed_by y begun)) (ap (λ l. came.taken ++ map (whole y) l) none ∙ append-nil came.taken) came.bag in
       record {
         cut = record {
-          pushed = outcomes_by later g b y came.taken;
+          pushed = outcomes_by becomes g b y came.taken;
           left = [];
-          bag = subst (IsPermutation os) (sym (append-nil (outcomes_by later g b y came.taken))) (outcomes_bag later g b y (owed_by y begun) came.taken all);
+          bag = subst (IsPermutation os) (sym (append-nil (outcomes_by becomes g b y came.taken))) (outcomes_bag becomes g b y (owed_by y begun) came.taken all);
         };
         alike = record { bound = bound; most = most };
         stands = came.stands;
@@ -221,17 +221,31 @@ bag_here g y s c here graph typed h =
 
 -- what a table answers to it
 pub pushes_here : (admitted : Admission) (g : Graph) (b : Bound) (y : Typed) (mid new : Table) (c : Chunk) (r : Result More RowRefusal) → mid.bound ≡ b → mid.alternative ≡ Some y
-    → chunks.PushesAdmitted admitted g c mid new r → chunks.PushesAll (outcomes_by (if_admitted admitted g) g b y (assignments_of g y c)) mid new r
+    → chunks.PushesAdmitted admitted g c mid new r → chunks.PushesAll (outcomes_by (given_by (if_admitted admitted g)) g b y (assignments_of g y c)) mid new r
 pushes_here admitted g b y mid new c r same started h = subst (λ os. chunks.PushesAll os mid new r) (outcomes_here admitted g b y mid.bound mid.alternative c same started) h
 
 pub chunk_of : (g : Graph) (y : Typed) (s : Source) (c : Chunk) → s.graph ≡ g → s.typed ≡ y → IsChunkOf s.graph s.typed c → IsChunkOf g y c
 chunk_of g y s c graph typed h = subst (λ z. IsChunkOf g z c) typed (subst (λ k. IsChunkOf k s.typed c) graph h)
 
 -- what a table answers to its outcomes, told of the query and of the alternative that were begun with
-pub rows_here : (later : Later) (g : Graph) (b : Bound) (y z : Typed) (c : Chunk) (mid new : Table) (r : Result More RowRefusal) → mid.bound ≡ b → z ≡ y
-    → chunks.PushesAll (outcomes_by later g mid.bound z (assignments_of g z c)) mid new r → chunks.PushesAll (outcomes_by later g b y (assignments_of g y c)) mid new r
-rows_here later g b y z c mid new r same typed h =
-    subst (λ q. chunks.PushesAll (outcomes_by later g q y (assignments_of g y c)) mid new r) same (subst (λ v. chunks.PushesAll (outcomes_by later g mid.bound v (assignments_of g v c)) mid new r) typed h)
+pub rows_here : (becomes : Becomes) (g : Graph) (b : Bound) (y z : Typed) (c : Chunk) (mid new : Table) (r : Result More RowRefusal) → mid.bound ≡ b → z ≡ y
+    → chunks.PushesAll (outcomes_by becomes g mid.bound z (assignments_of g z c)) mid new r → chunks.PushesAll (outcomes_by becomes g b y (assignments_of g y c)) mid new r
+rows_here becomes g b y z c mid new r same typed h =
+    subst (λ q. chunks.PushesAll (outcomes_by becomes g q y (assignments_of g y c)) mid new r) same (subst (λ v. chunks.PushesAll (outcomes_by becomes g mid.bound v (assignments_of g v c)) mid new r) typed h)
+
+-- what is so of all assignments that are owed is so of those of the chunk and of those that are owed after it
+pub each_parted : (P : Assignment → Type 0) (y : Typed) (now after : Rest) (here : List Assignment) → IsPermutation now.owed (after.chunk ++ after.owed)
+    → IsPermutation here (map (whole y) after.chunk) → AllByRecursion P (owed_by y now) → AllByRecursion P here × AllByRecursion P (owed_by y after)
+each_parted P y now after here next chunk_bag all =
+    let both : AllByRecursion P (map (whole y) after.chunk ++ owed_by y after) =
+    subst (AllByRecursion P) (map-append (whole y) after.chunk after.owed)
+    (reordered (owed_by y now) (map (whole y) (after.chunk ++ after.owed)) (IsPermutation-map (whole y) now.owed (after.chunk ++ after.owed) next) all) in (
+      reordered (map (whole y) after.chunk) here (IsPermutation-sym _ _ chunk_bag) (each_left P (map (whole y) after.chunk) (owed_by y after) both),
+      each_right P (map (whole y) after.chunk) (owed_by y after) both,
+    )
+  where
+    reordered : (ts us : List Assignment) → IsPermutation ts us → AllByRecursion P ts → AllByRecursion P us
+    reordered ts us same h = recursion_from_All P us (All-permutation P ts us same (All-from_recursion P ts h))
 
 -- less is owed after it
 pub less_owed : (old chunk new : List Partial) → IsPermutation old (chunk ++ new) → chunk ≢ [] → length new < length old
@@ -272,7 +286,7 @@ module _ (old : Table) (begun : Rest) where
 
   -- one more chunk
   module _ (mid new : Table) (now after : Rest) (came : Counted old mid begun now) (next : IsPermutation now.owed (after.chunk ++ after.owed)) (some : after.chunk ≢ [])
-      (key : now.keys ≡ after.key ∷ after.keys) (chunk : after.chunks ≡ min (now.chunks + 1) (2 ^ 64 - 1)) (count : old.bound.optionals ≡ [] → new.pushed ≡ min (mid.pushed + 1) (2 ^ 64 - 1)) where
+      (key : now.keys ≡ after.key ∷ after.keys) (chunk : after.chunks ≡ min (now.chunks + 1) (2 ^ 64 - 1)) (count : IsPlain old.bound → new.pushed ≡ min (mid.pushed + 1) (2 ^ 64 - 1)) where
     longer : (more : List Partial) → more ≢ [] → 0 < length more
     longer [] h = absurd (h refl)
     longer (a ∷ rest) h = omega arith

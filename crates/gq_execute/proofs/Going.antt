@@ -21,10 +21,10 @@ use Rattle.gq_execute.specs.declared.settings.Settings.{Settings}
 use Rattle.gq_execute.specs.Answering.{Replies}
 use Rattle.gq_execute.specs.steps.Answering.{AreParted, Came, MakeOutcomes, Drains, IsFresh, Reached, Runs, Spends, SpendsTurn}
 use Rattle.gq_execute.specs.Replies.{Question, IsPermitted, Rows, TooManyRows, has_heavy_clause, has_heavy_test, has_large_part, has_turn}
-use Rattle.gq_execute.specs.Spending.{AreSpent, IsSpentOn, IsSpentOnClause, IsTurn, Turn, clauses_made, own_chunks, tests_made, with_turns}
+use Rattle.gq_execute.specs.Spending.{AreSpent, IsPlain, IsSpentOn, IsSpentOnClause, IsTurn, Turn, clauses_made, own_chunks, tests_made, with_turns}
 use Rattle.gq_optional.specs.Spending.{Listing, spent_on_each}
 use Rattle.gq_rows.specs.Chunks.{Stands}
-use Rattle.gq_execute.specs.steps.Taking.{Later, MeetsMany, Takes, outcomes_by}
+use Rattle.gq_execute.specs.steps.Taking.{Becomes, MeetsMany, Takes, outcomes_by}
 use Rattle.gq_execute.specs.declared.refusal.AnswerRefusal.{AnswerRefusal}
 use Rattle.gq_execute.specs.declared.refusal.AnswerRefusal.TheVariants as refusal
 use Rattle.gq_execute.proofs.Replying.{reached_start, reached_next, reached_more, fault_permitted, many_permitted, rows_permitted, heavy_permitted, rows_of, turn_comes, turned_all}
@@ -61,7 +61,7 @@ take_at (z ∷ ys) (suc k) y e = ap (λ l. z ∷ l) (take_at ys k y e)
 
 -- ---- the turn of an alternative
 
-module _ (a : Question) (parted : AreParted a) (becomes : Later) (makes : MakeOutcomes a becomes) (k : ℕ) (y : Typed) (old : Table) (here : slice_get a.bound.alternatives k ≡ Some y)
+module _ (a : Question) (parted : AreParted a) (becomes : Becomes) (makes : MakeOutcomes a becomes) (k : ℕ) (y : Typed) (old : Table) (here : slice_get a.bound.alternatives k ≡ Some y)
     (came : Came a (take k a.bound.alternatives) old) (room : is_full_table old ≡ false) where
   abbrev begun : List Typed
   begun = take (suc k) a.bound.alternatives
@@ -170,7 +170,7 @@ fresh_stands b settings t fresh =
     subst (λ m. StandsFor t.bound m [] t.held) (sym fresh.most) (subst (λ q. StandsFor q settings.rows [] t.held) (sym fresh.bound) fresh.none)
 
 -- what a table stands for when an alternative went into it
-pub taken_more : (becomes : Later) (g : Graph) (b : Bound) (order : Order) (y : Typed) (old new : Table) → StandsForSome old → Runs becomes g b order old.most y (λ os. Takes os old new) → StandsForSome new
+pub taken_more : (becomes : Becomes) (g : Graph) (b : Bound) (order : Order) (y : Typed) (old new : Table) → StandsForSome old → Runs becomes g b order old.most y (λ os. Takes os old new) → StandsForSome new
 taken_more becomes g b order y old new some run = (some.0 ++ run.meets.cut.pushed, run.meets.stands some.0 some.1)
 
 -- the alternative of a number
@@ -180,7 +180,7 @@ item_at (z ∷ ys) zero y lt e = ap Some (sym e)
 item_at (z ∷ ys) (suc k) y lt e = item_at ys k y (omega (arith, lt)) e
 
 -- a turn was taken
-pub turn_taken : (a : Question) → AreParted a → (becomes : Later) → MakeOutcomes a becomes → (k : ℕ) (y : Typed) (old new : Table) → slice_get a.bound.alternatives k ≡ Some y → Came a (take k a.bound.alternatives) old → is_full_table old ≡ false
+pub turn_taken : (a : Question) → AreParted a → (becomes : Becomes) → MakeOutcomes a becomes → (k : ℕ) (y : Typed) (old new : Table) → slice_get a.bound.alternatives k ≡ Some y → Came a (take k a.bound.alternatives) old → is_full_table old ≡ false
     → Runs becomes a.graph old.bound a.order old.most y (λ os. Takes os old new) → Came a (take (k + 1) a.bound.alternatives) new
 turn_taken a parted becomes makes k y old new here came room run =
     let same : suc k ≡ k + 1 = omega arith in
@@ -188,7 +188,7 @@ turn_taken a parted becomes makes k y old new here came room run =
     (turn_came a parted becomes makes k y old here came room new (subst (λ b. Runs becomes a.graph b a.order old.most y (λ os. Takes os old new)) came.bound run))
 
 -- or it was stopped
-pub turn_ended : (a : Question) → AreParted a → (becomes : Later) → MakeOutcomes a becomes → (k : ℕ) (y : Typed) (old new : Table) → slice_get a.bound.alternatives k ≡ Some y → Came a (take k a.bound.alternatives) old → is_full_table old ≡ false
+pub turn_ended : (a : Question) → AreParted a → (becomes : Becomes) → MakeOutcomes a becomes → (k : ℕ) (y : Typed) (old new : Table) → slice_get a.bound.alternatives k ≡ Some y → Came a (take k a.bound.alternatives) old → is_full_table old ≡ false
     → (e : AnswerRefusal) → Drains becomes a.graph old.bound a.order y old new (Err e) → Replies a (Err e)
 turn_ended a parted becomes makes k y old new here came room e h =
     turn_stopped a parted becomes makes k y old here came room new e (subst (λ b. Drains becomes a.graph b a.order y old new (Err e)) came.bound h)
@@ -223,5 +223,5 @@ spends_more g b order ys k y old new spent more here same spends turn =
       all =
           ap₂ (λ l m. l ++ m) spends.all (turn.all ∙ sym (append-nil _))
           ∙ sym (flat_map-append (λ (t : Turn). t.sides ++ t.own ∷ []) spends.turns (turn.turn ∷ []));
-      chunks = λ none. turn.chunks (ap (λ (q : Bound). q.optionals) same ∙ none) (own_chunks spends.turns) (spends.chunks none) ∙ ap up_to_most (sym (chunks_more 0 spends.turns turn.turn));
+      chunks = λ plain. turn.chunks (subst IsPlain (sym same) plain) (own_chunks spends.turns) (spends.chunks plain) ∙ ap up_to_most (sym (chunks_more 0 spends.turns turn.turn));
     }

@@ -1,5 +1,6 @@
 pub mod Begins
 pub mod Chosen
+pub mod Continuing
 pub mod Copying
 pub mod Costing
 pub mod Covering
@@ -14,4 +15,5 @@ pub mod Parted
 pub mod Parting
 pub mod Pushing
 pub mod Replying
+pub mod Reaching
 pub mod Turning

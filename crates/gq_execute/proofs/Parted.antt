@@ -1,6 +1,6 @@
 -- The alternatives of a bound query part its outcomes, where its tests admit their rows.
 use Rattle.std.proofs.Common.{◌≡◌, ◌∙◌, ap, ap₂, refl, sym, subst, ℕ, zero, suc, Bool, true, false, cond, ◌&&◌, ◌||◌, not, Option, Some, None, List, [], ◌∷◌, ◌++◌, flat_map, map, slice_get, IsTrue}
-use Rattle.std.specs.Prelude.{filter_map}
+use Rattle.std.specs.Prelude.{IsPermutation, filter_map}
 use Rattle.std.specs.List.{AllZip, cons_option}
 use Rattle.std.specs.Option.{option_map}
 use Rattle.std.proofs.Math.Bool.{or-true}
@@ -17,7 +17,9 @@ use Rattle.gq_binder.specs.Tested.{IsTested, ScopedTest, all_met, is_met, scoped
 use Rattle.gq_exists.proofs.Asked.{exists_by_keys, few_counted, many_counted, matched_few, matched_many}
 use Rattle.gq_exists.specs.Made.{some_stand_on}
 use Rattle.gq_expr.specs.Reading as reading
-use Rattle.gq_law_answers.proofs.Made.{alternatives_part_rows}
+use Rattle.gq_law_cores.proofs.Whole.{alternatives_part_trails}
+use Rattle.gq_law_cores.specs.Made.{made_by, trail_rows}
+use Rattle.gq_law_cuts.specs.Cuts.{cored_of}
 use Rattle.gq_lexer.specs.Sources.{source_text}
 use Rattle.gq_plan.specs.declared.ExistsPart.{ExistsPart}
 use Rattle.gq_syntax.specs.declared.Path.{Path}
@@ -26,13 +28,17 @@ use Rattle.gq_trees.specs.Conjuncts.{NamedTest, named_test}
 use Rattle.gq_trees.specs.Conjuncts as trees
 use Rattle.gq_trees.specs.PathTests.{PathTest}
 use Rattle.gq_trees.specs.Resolving.{Conjunct, functions, split}
-use Rattle.gq_execute.specs.Replies.{Question, has_heavy_test, has_many_keys, has_turns, later_of, shared_nodes, some_many_keys, tests_of}
+use Rattle.gq_execute.specs.Replies.{Question, all_outcomes, cores_in, has_heavy_test, has_many_keys, has_turns, later_of, shared_nodes, some_many_keys, tests_of}
 use Rattle.gq_execute.specs.declared.testing.Test.{Test}
 use Rattle.gq_execute.specs.steps.Answering.{AreParted}
 use Rattle.gq_execute.specs.steps.Testing.{AreTestsOf, HasManyKeys, IsTestOf, SomeHasMany, admitted_by, passes_test}
 
 pub bound_parted : (a : Question) (text : List ℕ) → IsTrue (is_valid a.graph) → IsBound a.query text a.graph.catalog a.bound → AreParted a
-bound_parted a text real is = alternatives_part_rows a.graph a.query text a.bound (later_of a) real is
+bound_parted a text real is =
+    subst (λ parts. IsPermutation
+    (flat_map (λ y. made_by a.graph a.bound.conjuncts (trail_rows a.graph (cored_of a.query.clauses).pattern parts) (later_of a) (cores_in a y)) a.bound.alternatives)
+    (all_outcomes a)) (sym is.trails)
+    (alternatives_part_trails a.graph text a.query.clauses a.bound (later_of a) real is.lengths (record { alternatives = is.alternatives; sound = is.sound }))
 
 -- ---- the tests of a query
 

@@ -22,7 +22,7 @@ use Rattle.gq_plan.specs.Soundness.{IsSound}
 use Rattle.gq_plan.specs.Plans.{Plan}
 use Rattle.gq_plan.specs.declared.Typed.{Typed}
 use Rattle.gq_execute.specs.steps.Answering.{Drains}
-use Rattle.gq_execute.specs.steps.Taking.{Later}
+use Rattle.gq_execute.specs.steps.Taking.{Becomes}
 use Rattle.gq_execute.specs.Replies.{has_large_part, parts_by}
 use Rattle.gq_execute.specs.declared.settings.Order.{Order}
 use Rattle.gq_execute.specs.declared.settings.Order.TheVariants as order
@@ -84,7 +84,7 @@ module _ (g : Graph) (by : Order) (y : Typed) (most : ℕ) where
   sides_heavy p real sound are flat many = not-false (has_large_part g by most y) (sym (sides_tell p real sound are flat) ∙ many)
 
 -- a part is too large where the builds of a plan are refused for their rows
-pub sides_refused : (becomes : Later) (g : Graph) (by : Order) (y : Typed) (b : Bound) (old new : Table) (p : Plan) → IsTrue (is_valid g) → IsSound g.catalog y → AllZip (IsSide g.catalog y) (parts_by by y) (sides p)
+pub sides_refused : (becomes : Becomes) (g : Graph) (by : Order) (y : Typed) (b : Bound) (old new : Table) (p : Plan) → IsTrue (is_valid g) → IsSound g.catalog y → AllZip (IsSide g.catalog y) (parts_by by y) (sides p)
     → list_all is_flat (sides p) ≡ true → {most : ℕ} → most ≡ old.most → (e : JoinRefusal) → IsSidesRefusal g y most p e → Drains becomes g b by y old new (Err (of_join e))
 sides_refused becomes g by y b old new p real sound are flat {most = most} same (join.TooManyRows l) h =
     (h.0 ∙ same, inl (ap (λ m. has_large_part g by m y) (sym same) ∙ sides_heavy g by y most p real sound are flat h.1))

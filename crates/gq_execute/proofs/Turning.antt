@@ -24,10 +24,10 @@ use Rattle.gq_plan.specs.declared.typed.Typed.{Typed}
 use Rattle.gq_rows.specs.Answers.{cut_of}
 use Rattle.gq_rows.specs.Tables.{Table, is_full, is_full_table}
 use Rattle.gq_execute.specs.Planned.{IsPlanIn, sizes}
-use Rattle.gq_execute.specs.Spending.{IsTurn}
+use Rattle.gq_execute.specs.Spending.{IsPlain, IsTurn}
 use Rattle.gq_execute.specs.steps.Answering.{Drains, Runs}
 use Rattle.gq_execute.specs.Replies.{has_large_part}
-use Rattle.gq_execute.specs.steps.Taking.{Cut, HasRun, Later, MeetsFault, MeetsMany, Takes, TakesAll, outcomes_by, owed_outcomes}
+use Rattle.gq_execute.specs.steps.Taking.{Becomes, Cut, HasRun, MeetsFault, MeetsMany, Takes, TakesAll, outcomes_by, owed_outcomes}
 use Rattle.gq_execute.specs.declared.refusal.AnswerRefusal.{AnswerRefusal}
 use Rattle.gq_execute.specs.declared.refusal.AnswerRefusal.TheVariants as refusal
 use Rattle.gq_execute.specs.declared.settings.Order.{Order}
@@ -35,7 +35,7 @@ use Rattle.gq_execute.proofs.Draining.{outcomes_bag}
 
 -- ---- what goes into the table
 
-module _ (becomes : Later) (g : Graph) (order : Order) (y : Typed) (old new : Table) (p : Plan) (covers : Covers g.catalog y p) (light : has_large_part g order old.most y ≡ false) where
+module _ (becomes : Becomes) (g : Graph) (order : Order) (y : Typed) (old new : Table) (p : Plan) (covers : Covers g.catalog y p) (light : has_large_part g order old.most y ≡ false) where
   abbrev started : Table
   started = record { bound = old.bound; most = old.most; alternative = Some y; graph = Some g; held = old.held; pushed = old.pushed }
 
@@ -131,11 +131,11 @@ module _ (g : Graph) (y : Typed) (p : Plan) (old new : Table) (begun now : Rest)
       go (inl full) = absurd (true≢false (sym full ∙ ap (λ c. is_full c new.held) uncut))
       go (inr all) = counted ∙ ap up_to_most (all ∙ ap length (keys flat))
 
-  -- the table counts its chunks, where there are no optional clauses
-  pub own_counted : old.bound.optionals ≡ [] → (before : ℕ) → old.pushed ≡ up_to_most before → new.pushed ≡ up_to_most (before + own.chunks)
-  own_counted none before h =
+  -- the table counts its chunks, where the query is plain
+  pub own_counted : IsPlain old.bound → (before : ℕ) → old.pushed ≡ up_to_most before → new.pushed ≡ up_to_most (before + own.chunks)
+  own_counted plain before h =
       let e : up_to_most (before + run.count) ≡ up_to_most (before + own.chunks) = omega (arith, counted) in
-      run.pushed none before h ∙ e
+      run.pushed plain before h ∙ e
 
 -- the turn of an alternative, whose plan has side plans without joins
 pub turn_spent : (g : Graph) (b : Bound) (order : Order) (y : Typed) (p : Plan) (costs : List (Option ℕ)) (ss : List Spent) (own : Spent) → IsPlanIn order g.catalog (sizes g) y p costs

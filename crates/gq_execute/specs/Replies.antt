@@ -1,17 +1,23 @@
 -- Which replies to a query are permitted (openCypher 9 for the rows, whose order it leaves open without ORDER BY; faults,
--- too many rows and the parts of a pattern are this project's profile).
-use Rattle.std.specs.Prelude.{◌≡◌, ℕ, ◌+◌, nat_lt, Bool, true, false, not, ◌&&◌, ◌||◌, Option, Some, None, List, [], ◌∷◌, length, map, Result, Err}
+-- too many rows, the core of a query with trails and the parts of a pattern are this project's profile).
+use Rattle.std.specs.Prelude.{◌≡◌, ℕ, ◌+◌, nat_lt, Bool, true, false, not, ◌&&◌, ◌||◌, Option, Some, None, List, [], ◌∷◌, filter, length, map, Result, Err}
 use Rattle.std.specs.List.{Contains, list_any}
 use Rattle.std.specs.List.Sorted.{IsPermutation}
 use Rattle.gq_base.specs.Plain.{Graph}
 use Rattle.gq_base.specs.Lists.{is_empty}
 use Rattle.gq_base.specs.Values.{Val}
 use Rattle.gq_base.specs.declared.NodeId.{NodeId}
-use Rattle.gq_alternatives.specs.Matches.{matches, pattern_matches}
+use Rattle.gq_alternatives.specs.Matches.{pattern_matches}
 use Rattle.gq_binder.specs.Optionals.{clause_matches, known_first}
 use Rattle.gq_binder.specs.Tested.{ScopedTest, tests, where_met}
+use Rattle.gq_expr.specs.Reading as reading
 use Rattle.gq_expr.specs.declared.Fault.{Fault}
-use Rattle.gq_law_answers.specs.Answered.{allowed, lying}
+use Rattle.gq_law_answers.specs.Answered.{allowed}
+use Rattle.gq_law_cores.specs.Made.{made_by, trail_rows}
+use Rattle.gq_law_cores.specs.Whole.{trail_matches}
+use Rattle.gq_law_cuts.specs.Cuts.{cored_of}
+use Rattle.gq_law_cuts.specs.Shaped.{core_pattern_of}
+use Rattle.gq_plan.specs.Allowed.{lies_in}
 use Rattle.gq_plan.specs.Keys.{different, key_of}
 use Rattle.gq_plan.specs.Assignments.{Assignment}
 use Rattle.gq_plan.specs.Marked.{Marked, ending, made_of}
@@ -58,12 +64,21 @@ behind_optionals a = outcomes_behind a.graph a.bound (known_first a.query) (map 
 abbrev pub later_of : Question → Marked → List (Result Row Fault)
 later_of a = where_met a.graph (tests_of a.query) a.bound.patterns (behind_optionals a)
 
--- the outcomes of all matches, and those of the matches that lie in an alternative
+-- the outcomes of all matches; without trails these are the matches of the patterns (PlainTrailMatches)
 abbrev pub all_outcomes : Question → List (Result Row Fault)
-all_outcomes a = made_of a.graph a.bound.conjuncts (later_of a) (matches a.query a.graph)
+all_outcomes a = made_of a.graph a.bound.conjuncts (later_of a) (trail_matches a.graph a.query.clauses)
 
+-- the rows by which the trails of a query continue a match of its core; without trails its own row alone
+abbrev pub rows_of : Question → Assignment → List reading.Assignment
+rows_of a = trail_rows a.graph (cored_of a.query.clauses).pattern a.bound.trails
+
+-- the matches of the core that lie in an alternative; without trails all patterns are the core (PlainCuts)
+abbrev pub cores_in : Question → Typed → List Assignment
+cores_in a y = filter (lies_in a.graph y) (pattern_matches a.graph (core_pattern_of a.query.clauses))
+
+-- the outcomes of the matches that continue these
 abbrev pub outcomes_in : Question → Typed → List (Result Row Fault)
-outcomes_in a y = made_of a.graph a.bound.conjuncts (later_of a) (lying a.query a.graph y)
+outcomes_in a y = made_by a.graph a.bound.conjuncts (rows_of a) (later_of a) (cores_in a y)
 
 -- an alternative's turn comes while those before it have fewer rows than are looked at
 abbrev pub has_turn : Option ℕ → ℕ → Bool

@@ -85,9 +85,13 @@ IsSpentOnClause g order part listings = AllZip (IsSpentOnListing g order) part.a
 abbrev pub clauses_made : Question → List OptionalPart
 clauses_made a = if has_turns a then a.bound.optionals else []
 
+-- a query has neither optional clauses nor trails
+abbrev pub IsPlain : Bound → Type 0
+IsPlain b = (b.optionals ≡ []) × (b.trails ≡ [])
+
 -- what all pipelines spent: those of the tests of paths, behind them those of the optional clauses, clause by clause, and behind
--- these those of the alternatives whose turn comes; without optional clauses, the chunks with a row that were pushed are those of
--- the alternatives' own pipelines
+-- these those of the alternatives whose turn comes; where a query is plain, the chunks with a row that were pushed are those of the
+-- alternatives' own pipelines
 pub record AreSpent (a : Question) (spent : List Spent) (pushed : ℕ) : Type 0 where
   pub tested : List (List Spent)
   pub on_tests : AllZip (IsSpentOn a.graph a.order) (tests_made a) tested
@@ -96,7 +100,7 @@ pub record AreSpent (a : Question) (spent : List Spent) (pushed : ℕ) : Type 0 
   pub turns : List Turn
   pub each : AllZip (IsTurn a.graph a.bound a.order) (with_turns a 0 a.bound.alternatives) turns
   pub all : spent ≡ flat_map (λ s. s) tested ++ (flat_map spent_on_each listed ++ spent_in turns)
-  pub chunks : a.bound.optionals ≡ [] → pushed ≡ up_to_most (own_chunks turns)
+  pub chunks : IsPlain a.bound → pushed ≡ up_to_most (own_chunks turns)
 
 -- the same for each query that is bound so
 abbrev pub SpendsToEach : Graph → Bound → Settings → Result Answer AnswerRefusal → Type 0

@@ -1,21 +1,27 @@
 //! Answers a query alternative by alternative: the pipelines of the plan of each one run, and what
-//! its own hands out goes into one table of rows, behind the optional clauses where there are some.
-ghost use Rattle.std.specs.Prelude.{◌≡◌, ◌≤◌, ◌<◌, false, length, All, IfOk, IsSome, OnOk, Some};
+//! its own hands out goes into one table of rows, behind the optional clauses where there are some,
+//! or continued by the trails.
+ghost use Rattle.std.specs.Prelude.{◌≡◌, ◌+◌, ◌≤◌, ◌<◌, [], false, length, nat_lt, All, IfOk};
+ghost use Rattle.std.specs.Prelude.{IsSome, OnOk, Some};
+ghost use Rattle.std.specs.List.{AllByRecursion};
 ghost use Rattle.gq_execute.specs.Answering.{RepliesToEach, lines_in};
 ghost use Rattle.gq_execute.specs.Planned.{sizes};
 ghost use Rattle.gq_execute.specs.Spending.{SpendsToEach};
 ghost use Rattle.gq_execute.specs.steps.Answering.{AnswersAll, Drains, Fills, IsFresh};
 ghost use Rattle.gq_execute.specs.steps.Answering.{SpendsTurn};
 ghost use Rattle.gq_execute.specs.steps.Prepared.{IsPrepared, later_by};
-ghost use Rattle.gq_execute.specs.steps.Taking.{HasRun, IsRunOf, TakesAll, if_admitted};
-ghost use Rattle.gq_execute.specs.steps.Taking.{owed_outcomes};
+ghost use Rattle.gq_execute.specs.steps.Taking.{HasRun, IsRunOf, TakesAll, given_by, given_on};
+ghost use Rattle.gq_execute.specs.steps.Taking.{if_admitted, owed_by, owed_outcomes};
 ghost use Rattle.gq_execute.specs.steps.Testing.{admitted_by};
+ghost use Rattle.gq_execute.specs.steps.Walking.{CanWalk};
 ghost use Rattle.gq_group.specs.Groups.{choices};
+ghost use Rattle.gq_law_plans.specs.Safe.{IsMade};
 ghost use Rattle.gq_pipe.specs.Serving.{Serves};
 ghost use Rattle.gq_plan.specs.Soundness.{IsSound};
 ghost use Rattle.gq_pool.specs.Pool.{spare_of};
 ghost use Rattle.gq_rows.specs.Chunks.{IsChunkIn, PushesAdmitted, counted};
 ghost use Rattle.gq_rows.specs.Tables.{IsSameQuery, StandsForSome, is_full_table};
+ghost use Rattle.gq_trails.specs.Trekking.{AreInTurn, HasLength};
 ghost use Rattle.gq_wide.specs.Placed.{IsPlaced};
 
 use crate::behind::drain_behind;
@@ -25,6 +31,7 @@ use crate::prepared::{Prepared, prepare};
 use crate::refusal::AnswerRefusal;
 use crate::settings::Settings;
 use crate::testing::{Tests, append};
+use crate::trailing::drain_trails;
 use gq_base::{List, Memory};
 use gq_group::Chunk;
 use gq_order::Stats;
@@ -74,7 +81,7 @@ fn drain<'g>(
     requires stands { StandsForSome table.old }
     requires room { is_full_table table.old ≡ false }
     ensures takes { let later = if_admitted (admitted_by tests.now.all) graph.now in
-        TakesAll (owed_outcomes later graph.now table.old pipeline.old)
+        TakesAll (owed_outcomes (given_by later) graph.now table.old pipeline.old)
         table.old table.new result }
     ensures ran { OnOk result (HasRun table.old table.new pipeline.old pipeline.new) }
     ensures columns { pipeline.new.columns ≡ pipeline.old.columns }
@@ -92,7 +99,8 @@ fn drain<'g>(
     Ok(())
 }
 
-// Pushes what a pipeline owes: the outcomes of its rows, each behind the optional clauses.
+// Pushes what a pipeline owes: the outcomes of its rows, each behind the optional clauses or
+// continued by the trails.
 fn drain_all<'g>(
     alloc: Global,
     graph: &'g Graph,
@@ -103,6 +111,9 @@ fn drain_all<'g>(
     table: &mut RowTable<'g>,
 ) -> Result<(), AnswerRefusal>
     requires prepared { IsPrepared graph.now table.old.most table.old.bound prepared.now }
+    requires apart { (table.old.bound.optionals ≡ [] → ⊥) → table.old.bound.trails ≡ [] }
+    requires walks { CanWalk table.old.bound typed.now }
+    requires made { AllByRecursion (IsMade graph.now typed.now) (owed_by typed.now pipeline.old) }
     requires run { IsRunOf graph.now table.old pipeline.old }
     requires typed { pipeline.old.source.typed ≡ typed.now }
     requires nodes { length typed.now.nodes ≤ length table.old.bound.node_names }
@@ -112,13 +123,16 @@ fn drain_all<'g>(
     requires stands { StandsForSome table.old }
     requires room { is_full_table table.old ≡ false }
     ensures takes { let later = later_by graph.now prepared.now in
-        TakesAll (owed_outcomes later graph.now table.old pipeline.old)
+        TakesAll (owed_outcomes (given_on later) graph.now table.old pipeline.old)
         table.old table.new result }
     ensures ran { OnOk result (HasRun table.old table.new pipeline.old pipeline.new) }
     ensures columns { pipeline.new.columns ≡ pipeline.old.columns }
     ensures serves { Serves pipeline.new pool.new }
     ensures slots { pool.new.out ≡ pool.old.out }
 {
+    if !prepared.bound.trails.is_empty() {
+        return drain_trails(alloc, graph, prepared, typed, pipeline, pool, table);
+    }
     if prepared.bound.optionals.is_empty() {
         return drain(graph, &prepared.tests, pipeline, pool, table);
     }
@@ -140,6 +154,8 @@ fn take_turn<'g>(
     requires sound { IsSound graph.now.catalog typed.now }
     requires begins { 0 < length typed.now.nodes }
     requires prepared { IsPrepared graph.now table.old.most table.old.bound prepared.now }
+    requires apart { (table.old.bound.optionals ≡ [] → ⊥) → table.old.bound.trails ≡ [] }
+    requires walks { CanWalk table.old.bound typed.now }
     requires nodes { length typed.now.nodes ≤ length table.old.bound.node_names }
     requires rels { length typed.now.rels ≤ length table.old.bound.rel_names }
     requires stats { stats.now ≡ sizes graph.now }
@@ -148,7 +164,7 @@ fn take_turn<'g>(
     requires most { settings.now.rows ≡ table.old.most }
     requires slots { 112 ≤ spare_of pool.old }
     ensures drains { let later = later_by graph.now prepared.now in
-        Drains later graph.now table.old.bound settings.now.order typed.now
+        Drains (given_on later) graph.now table.old.bound settings.now.order typed.now
         table.old table.new result }
     ensures spends { IfOk result
         (SpendsTurn graph.now settings.now.order typed.now table.old table.new) }
@@ -194,6 +210,8 @@ fn take_turns<'g>(
         All (λ y. length y.nodes ≤ few) bound.now.alternatives }
     requires rels { let few = length bound.now.rel_names in
         All (λ y. length y.rels ≤ few) bound.now.alternatives }
+    requires apart { (bound.now.optionals ≡ [] → ⊥) → bound.now.trails ≡ [] }
+    requires walks { All (CanWalk bound.now) bound.now.alternatives }
     requires fresh { IsFresh bound.now settings.now table.old }
     requires slots { 112 ≤ spare_of pool.old }
     ensures fills { Fills graph.now bound.now settings.now table.new result }
@@ -237,6 +255,8 @@ fn fill<'g>(
         All (λ y. length y.nodes ≤ few) bound.now.alternatives }
     requires rels { let few = length bound.now.rel_names in
         All (λ y. length y.rels ≤ few) bound.now.alternatives }
+    requires apart { (bound.now.optionals ≡ [] → ⊥) → bound.now.trails ≡ [] }
+    requires walks { All (CanWalk bound.now) bound.now.alternatives }
     requires fresh { IsFresh bound.now settings.now table.old }
     requires slots { 112 ≤ spare_of pool.old }
     ensures answers { AnswersAll graph.now bound.now settings.now table.new result }
@@ -275,8 +295,8 @@ fn fill<'g>(
 /// it more assignments. `Memory` may come at any time.
 ///
 /// The rows are made of the chunks that the pipelines hand out, and of no others; behind optional
-/// clauses, of what these make of the assignments of the chunks. All pipelines take their slots from
-/// the pool, which has as many free afterwards, at a refusal too.
+/// clauses, or where there are trails, of what these make of the assignments of the chunks. All
+/// pipelines take their slots from the pool, which has as many free afterwards, at a refusal too.
 pub fn answer<'g>(
     alloc: Global,
     graph: &'g Graph,
@@ -296,6 +316,14 @@ pub fn answer<'g>(
         All (λ y. length y.nodes ≤ few) bound.now.alternatives }
     requires rels { let few = length bound.now.rel_names in
         All (λ y. length y.rels ≤ few) bound.now.alternatives }
+    requires trails { All HasLength bound.now.trails }
+    requires ends { let few = length bound.now.node_names in
+        All (λ p. p.to < few) bound.now.trails }
+    requires turns { let turn = AreInTurn bound.now.trails in
+        All (λ y. turn (λ v. nat_lt v (length y.nodes))) bound.now.alternatives }
+    requires few { let trails = length bound.now.trails in
+        All (λ y. trails + length y.rels ≤ 24) bound.now.alternatives }
+    requires apart { (bound.now.optionals ≡ [] → ⊥) → bound.now.trails ≡ [] }
     requires slots { 112 ≤ spare_of pool.old }
     ensures permitted { RepliesToEach graph.now bound.now settings.now (lines_in result) }
     ensures spends { SpendsToEach graph.now bound.now settings.now result }

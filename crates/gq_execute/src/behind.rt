@@ -154,7 +154,7 @@ fn push_rows<'g>(
     requires room { is_full_table table.old ≡ false }
     ensures pushes { let later = later_by graph.now prepared.now in
         let ts = assignments_of graph.now typed.now chunk.now in
-        PushesAll (outcomes_by later graph.now table.old.bound typed.now ts)
+        PushesAll (outcomes_by (given_by later) graph.now table.old.bound typed.now ts)
         table.old table.new result }
     ensures query { OnOk result (IsSameQuery table.old table.new) }
     ensures behind { IsBehind graph.now table.old.bound typed.now prepared.now behind.new }
@@ -215,7 +215,7 @@ pub(crate) fn drain_behind<'g>(
     requires stands { StandsForSome table.old }
     requires room { is_full_table table.old ≡ false }
     ensures takes { let later = later_by graph.now prepared.now in
-        TakesAll (owed_outcomes later graph.now table.old pipeline.old)
+        TakesAll (owed_outcomes (given_by later) graph.now table.old pipeline.old)
         table.old table.new result }
     ensures ran { OnOk result (HasRun table.old table.new pipeline.old pipeline.new) }
     ensures columns { pipeline.new.columns ≡ pipeline.old.columns }

@@ -17,9 +17,9 @@ use Rattle.gq_syntax.specs.declared.Query.{Query}
 use Rattle.gq_base.specs.Plain.{Graph}
 use Rattle.gq_execute.specs.Answering.{question, RepliesToEach}
 use Rattle.gq_execute.specs.Replies.{Question, all_outcomes, has_heavy_clause, has_heavy_test, has_large_part, outcomes_in, some_heavy}
-use Rattle.gq_execute.specs.Spending.{IsSpentOn, IsSpentOnClause, IsTurn, Turn, clauses_made, own_chunks, spent_in, tests_made, with_turns}
+use Rattle.gq_execute.specs.Spending.{IsPlain, IsSpentOn, IsSpentOnClause, IsTurn, Turn, clauses_made, own_chunks, spent_in, tests_made, with_turns}
 use Rattle.gq_optional.specs.Spending.{Listing, spent_on_each}
-use Rattle.gq_execute.specs.steps.Taking.{Later, MeetsFault, MeetsMany, Takes, outcomes_by}
+use Rattle.gq_execute.specs.steps.Taking.{Becomes, MeetsFault, MeetsMany, Takes, outcomes_by}
 use Rattle.gq_execute.specs.declared.refusal.AnswerRefusal.{AnswerRefusal}
 use Rattle.gq_execute.specs.declared.refusal.AnswerRefusal.TheVariants as refusal
 use Rattle.gq_execute.specs.declared.settings.Order.{Order}
@@ -29,11 +29,11 @@ use Rattle.gq_execute.specs.declared.settings.Settings.{Settings}
 abbrev pub AreParted : Question → Type 0
 AreParted a = IsPermutation (flat_map (outcomes_in a) a.bound.alternatives) (all_outcomes a)
 
--- each plan that covers an alternative makes the outcomes of those that lie in it, where this becomes of rows
-abbrev pub MakeOutcomes : Question → Later → Type 0
-MakeOutcomes a later =
+-- each plan that covers an alternative makes the outcomes of those that lie in it, where this becomes of assignments
+abbrev pub MakeOutcomes : Question → Becomes → Type 0
+MakeOutcomes a becomes =
     (k : ℕ) (y : Typed) → slice_get a.bound.alternatives k ≡ Some y → (p : Plan) → Covers a.graph.catalog y p
-    → IsPermutation (outcomes_by later a.graph a.bound y (meaning a.graph y p)) (outcomes_in a y)
+    → IsPermutation (outcomes_by becomes a.graph a.bound y (meaning a.graph y p)) (outcomes_in a y)
 
 -- these alternatives were begun, since their turn came: the outcomes in them are those that were pushed and those that are
 -- left, and none is heavy
@@ -53,33 +53,33 @@ pub record Came (a : Question) (begun : List Typed) (table : Table) : Type 0 whe
   pub done : (is_full_table table ≡ true) ⊎ (left ≡ [])
 
 -- an alternative has no large part, and its plan, which covers it, makes outcomes that meet a property
-pub record Runs (later : Later) (g : Graph) (b : Bound) (order : Order) (most : ℕ) (y : Typed) (Meets : List (Result Row Fault) → Type 0) : Type 0 where
+pub record Runs (becomes : Becomes) (g : Graph) (b : Bound) (order : Order) (most : ℕ) (y : Typed) (Meets : List (Result Row Fault) → Type 0) : Type 0 where
   pub plan : Plan
   pub covers : Covers g.catalog y plan
   pub light : has_large_part g order most y ≡ false
-  pub meets : Meets (outcomes_by later g b y (meaning g y plan))
+  pub meets : Meets (outcomes_by becomes g b y (meaning g y plan))
 
 -- how the turn of an alternative ends: its outcomes went into the table, or one of them or a large part stopped it
-abbrev pub Drains : Later → Graph → Bound → Order → Typed → Table → Table → Result (List Spent) AnswerRefusal → Type 0
-Drains later g b order y old new (Ok _) = Runs later g b order old.most y (λ os. Takes os old new)
-Drains later g b order y old new (Err (refusal.Fault f)) = Runs later g b order old.most y (λ os. MeetsFault os old f)
-Drains later g b order y old new (Err (refusal.TooManyRows most)) =
-    (most ≡ old.most) × ((has_large_part g order old.most y ≡ true) ⊎ Runs later g b order old.most y (λ os. MeetsMany os old))
-Drains later g b order y old new (Err refusal.Memory) = Unit {0}
+abbrev pub Drains : Becomes → Graph → Bound → Order → Typed → Table → Table → Result (List Spent) AnswerRefusal → Type 0
+Drains becomes g b order y old new (Ok _) = Runs becomes g b order old.most y (λ os. Takes os old new)
+Drains becomes g b order y old new (Err (refusal.Fault f)) = Runs becomes g b order old.most y (λ os. MeetsFault os old f)
+Drains becomes g b order y old new (Err (refusal.TooManyRows most)) =
+    (most ≡ old.most) × ((has_large_part g order old.most y ≡ true) ⊎ Runs becomes g b order old.most y (λ os. MeetsMany os old))
+Drains becomes g b order y old new (Err refusal.Memory) = Unit {0}
 
--- what was spent in the turn of an alternative, whose chunks the table counted where there are no optional clauses
+-- what was spent in the turn of an alternative, whose chunks the table counted where the query is plain
 pub record SpendsTurn (g : Graph) (order : Order) (y : Typed) (old new : Table) (spent : List Spent) : Type 0 where
   pub turn : Turn
   pub is : IsTurn g old.bound order y turn
   pub all : spent ≡ turn.sides ++ turn.own ∷ []
-  pub chunks : old.bound.optionals ≡ [] → (before : ℕ) → old.pushed ≡ up_to_most before → new.pushed ≡ up_to_most (before + turn.own.chunks)
+  pub chunks : IsPlain old.bound → (before : ℕ) → old.pushed ≡ up_to_most before → new.pushed ≡ up_to_most (before + turn.own.chunks)
 
 -- what was spent in the turns of these alternatives
 pub record Spends (g : Graph) (b : Bound) (order : Order) (ys : List Typed) (table : Table) (spent : List Spent) : Type 0 where
   pub turns : List Turn
   pub each : AllZip (IsTurn g b order) ys turns
   pub all : spent ≡ spent_in turns
-  pub chunks : b.optionals ≡ [] → table.pushed ≡ up_to_most (own_chunks turns)
+  pub chunks : IsPlain b → table.pushed ≡ up_to_most (own_chunks turns)
 
 -- an empty table for a query
 pub record IsFresh (b : Bound) (settings : Settings) (table : Table) : Type 0 where

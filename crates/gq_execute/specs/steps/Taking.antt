@@ -3,7 +3,7 @@ use Rattle.std.specs.Prelude.{◌≡◌, ◌⊎◌, ◌<◌, ◌≤◌, ◌+◌,
 use Rattle.std.specs.List.{Contains}
 use Rattle.gq_expr.specs.Reading as reading
 use Rattle.gq_expr.specs.declared.Fault.{Fault}
-use Rattle.gq_plan.specs.Marked.{Marked, ending, made_of, marked}
+use Rattle.gq_plan.specs.Marked.{Marked, ending, marked}
 use Rattle.gq_plan.specs.Outcomes.{Row, late_conjuncts}
 use Rattle.gq_base.specs.Plain.{Graph}
 use Rattle.gq_pipe.specs.Bound.{binds_all}
@@ -18,6 +18,8 @@ use Rattle.gq_rows.specs.Answers.{kept, looked_at, rows_in}
 use Rattle.gq_rows.specs.Chunks.{Stands}
 use Rattle.gq_rows.specs.Tables.{Table, is_full_table}
 use Rattle.gq_execute.specs.Replies.{outcomes_behind}
+use Rattle.gq_execute.specs.Spending.{IsPlain}
+use Rattle.gq_execute.specs.steps.Continuing.{rows_by}
 use Rattle.gq_execute.specs.declared.refusal.AnswerRefusal.{AnswerRefusal}
 use Rattle.gq_execute.specs.declared.refusal.AnswerRefusal.TheVariants as refusal
 
@@ -86,33 +88,45 @@ if_admitted admitted g b m = if admitted m.row then ending g b m ∷ [] else []
 abbrev pub if_admitted_behind : Admission → Graph → List ℕ → List (List Assignment) → Later
 if_admitted_behind admitted g known mss b m = if admitted m.row then outcomes_behind g b known mss m else []
 
--- the outcomes of assignments: of the conjuncts only the late ones of the alternative are looked at
-abbrev pub outcomes_by : Later → Graph → Bound → Typed → List Assignment → List (Result Row Fault)
-outcomes_by later g b y ts = made_of g (late_conjuncts b y) (later b) ts
+-- the outcomes of a row: of the conjuncts only the late ones of the alternative are looked at
+abbrev pub outcomes_on : Later → Graph → Bound → Typed → reading.Assignment → List (Result Row Fault)
+outcomes_on later g b y row = flat_map (later b) (marked g (late_conjuncts b y) row)
 
--- those of one
-abbrev pub given_by : Later → Graph → Bound → Typed → Assignment → List (Result Row Fault)
-given_by later g b y t = flat_map (later b) (marked g (late_conjuncts b y) (row_of t))
+-- the outcomes of an assignment of an alternative
+abbrev pub Becomes : Type 0
+Becomes = Graph → Bound → Typed → Assignment → List (Result Row Fault)
+
+-- those of its own row
+abbrev pub given_by : Later → Becomes
+given_by later g b y t = outcomes_on later g b y (row_of t)
+
+-- those of the rows by which trails continue it
+abbrev pub given_on : Later → Becomes
+given_on later g b y t = flat_map (outcomes_on later g b y) (rows_by g b.trails y t)
+
+-- the outcomes of assignments
+abbrev pub outcomes_by : Becomes → Graph → Bound → Typed → List Assignment → List (Result Row Fault)
+outcomes_by becomes g b y ts = flat_map (becomes g b y) ts
 
 -- the outcomes of what a pipeline owes
-abbrev pub owed_outcomes : Later → Graph → Table → Rest → List (Result Row Fault)
-owed_outcomes later g table pipeline =
+abbrev pub owed_outcomes : Becomes → Graph → Table → Rest → List (Result Row Fault)
+owed_outcomes becomes g table pipeline =
     let y = pipeline.source.typed in
-    outcomes_by later g table.bound y (owed_by y pipeline)
+    outcomes_by becomes g table.bound y (owed_by y pipeline)
 
 -- how far a pipeline has come: the outcomes of these assignments went into the table
-pub record Pushed (later : Later) (g : Graph) (old new : Table) (begun now : Rest) : Type 0 where
+pub record Pushed (becomes : Becomes) (g : Graph) (old new : Table) (begun now : Rest) : Type 0 where
   pub taken : List Assignment
   pub bag : IsPermutation (owed_by begun.source.typed begun) (taken ++ owed_by begun.source.typed now)
   pub stands : (before : List (Result Row Fault)) → Stands before old
-      → Stands (before ++ outcomes_by later g old.bound begun.source.typed taken) new
+      → Stands (before ++ outcomes_by becomes g old.bound begun.source.typed taken) new
 
--- so many chunks were handed out: one for each key that was owed and is not any more, each with an assignment; without optional
--- clauses the table counted as many
+-- so many chunks were handed out: one for each key that was owed and is not any more, each with an assignment; where the query is
+-- plain the table counted as many
 pub record Counted (old new : Table) (begun now : Rest) : Type 0 where
   pub count : ℕ
   pub chunks : now.chunks ≡ up_to_most count
-  pub pushed : old.bound.optionals ≡ [] → (before : ℕ) → old.pushed ≡ up_to_most before → new.pushed ≡ up_to_most (before + count)
+  pub pushed : IsPlain old.bound → (before : ℕ) → old.pushed ≡ up_to_most before → new.pushed ≡ up_to_most (before + count)
   pub keys : length begun.keys ≡ count + length now.keys
   pub most : count + length now.owed ≤ length begun.owed
   pub none : count ≡ 0 → now.owed ≡ begun.owed
@@ -121,7 +135,7 @@ pub record Counted (old new : Table) (begun now : Rest) : Type 0 where
 pub record HasRun (old new : Table) (begun now : Rest) : Type 0 where
   pub count : ℕ
   pub chunks : now.chunks ≡ up_to_most count
-  pub pushed : old.bound.optionals ≡ [] → (before : ℕ) → old.pushed ≡ up_to_most before → new.pushed ≡ up_to_most (before + count)
+  pub pushed : IsPlain old.bound → (before : ℕ) → old.pushed ≡ up_to_most before → new.pushed ≡ up_to_most (before + count)
   pub keys : (is_full_table new ≡ true) ⊎ (count ≡ length begun.keys)
   pub most : count ≤ length begun.owed
   pub none : count ≡ 0 → begun.owed ≡ []

@@ -5,7 +5,7 @@ use Rattle.gq_pipe.specs.Progress.{Source, plan_in}
 use Rattle.gq_pipe.specs.Rest.{counted}
 use Rattle.gq_rows.specs.declared.refusal.More.TheVariants as more
 use Rattle.gq_execute.proofs.Draining.{all_taken, bag_here, chunk_in, counted_here, counted_more, counted_none, full_here, has_choice, in_order, less_owed, met, pushed_more, pushed_none, pushes_here, run_full, run_out}
-use Rattle.gq_execute.specs.steps.Taking.{if_admitted}
+use Rattle.gq_execute.specs.steps.Taking.{given_by, if_admitted}
 use Rattle.gq_execute.specs.steps.Testing.{admitted_by}
 use Rattle.gq_execute.proofs.answering.drain.Goals as goal
 
@@ -44,7 +44,7 @@ chunks-preserved c =
     let pushes = pushes_here (admitted_by c.args.tests.now.all) g old.bound begun.source.typed c.chunks.table c.push.new.table chunk (Ok more.Go) i.same.bound (i.run.alternative ∙ ap (λ (s : Source). Some s.typed) i.source)
     (rw c.in-Ok-Go.field-0-is at c.in-Ok-Go.ensures.pushes) in
     let query = c.in-Ok-Go.ensures.query in
-    let more = pushed_more (if_admitted (admitted_by c.args.tests.now.all) c.args.graph.now) g old begun c.chunks.table c.chunks.pipeline after i.came i.same.bound i.same.most chunk bag here c.push.new.table pushes.0 in
+    let more = pushed_more (given_by (if_admitted (admitted_by c.args.tests.now.all) c.args.graph.now)) g old begun c.chunks.table c.chunks.pipeline after i.came i.same.bound i.same.most chunk bag here c.push.new.table pushes.0 in
     record {
       run = record {
         graph = ap (λ (s : Source). s.graph) source ∙ i.run.graph;
@@ -84,7 +84,7 @@ returns-in-Ok-Enough c =
     (rw c.in-Ok-Enough.field-0-is at c.in-Ok-Enough.ensures.pushes) in
     let query = c.in-Ok-Enough.ensures.query in
     record {
-      takes = full_here (if_admitted (admitted_by c.args.tests.now.all) c.args.graph.now) g old begun c.chunks.table c.chunks.pipeline after i.came i.same.bound i.same.most chunk bag here c.push.new.table query.bound query.most pushes.0 pushes.1;
+      takes = full_here (given_by (if_admitted (admitted_by c.args.tests.now.all) c.args.graph.now)) g old begun c.chunks.table c.chunks.pipeline after i.came i.same.bound i.same.most chunk bag here c.push.new.table query.bound query.most pushes.0 pushes.1;
       ran = run_full old begun c.chunks.table c.push.new.table c.chunks.pipeline after i.counted bag some (c.advance.ensures.next_key c.chunks-test.true)
           (c.advance.ensures.chunks ∙ ap (λ t. counted t c.chunks.pipeline.chunks) c.chunks-test.true)
           (λ none. counted_here c.chunks.table.pushed c.push.new.table.pushed (choices chunk.groups.now) c.in-Ok-Enough.ensures.counted (has_choice g begun.source.typed chunk after.chunk here some)) pushes.1;
@@ -107,7 +107,7 @@ returns-in-Err c =
     let pushes = pushes_here (admitted_by c.args.tests.now.all) g old.bound begun.source.typed c.chunks.table c.push.new.table chunk (Err c.in-Err.refusal) i.same.bound (i.run.alternative ∙ ap (λ (s : Source). Some s.typed) i.source)
     c.in-Err.ensures.pushes in
     record {
-      takes = rw c.from.ensures (met (if_admitted (admitted_by c.args.tests.now.all) c.args.graph.now) g old begun c.chunks.table c.chunks.pipeline after i.came i.same.bound i.same.most chunk bag here c.push.new.table c.in-Err.refusal pushes);
+      takes = rw c.from.ensures (met (given_by (if_admitted (admitted_by c.args.tests.now.all) c.args.graph.now)) g old begun c.chunks.table c.chunks.pipeline after i.came i.same.bound i.same.most chunk bag here c.push.new.table c.in-Err.refusal pushes);
       ran = tt;
       columns = c.advance.ensures.columns ∙ i.columns;
       serves = c.advance.ensures.serves;
@@ -119,7 +119,7 @@ returns c =
     let i = c.chunks.invariant in
     let none = c.advance.ensures.none c.chunks-test.false in
     record {
-      takes = all_taken (if_admitted (admitted_by c.args.tests.now.all) c.args.graph.now) c.args.graph.now c.args.table.now c.args.pipeline.now c.chunks.table c.chunks.pipeline i.came i.same.bound i.same.most none;
+      takes = all_taken (given_by (if_admitted (admitted_by c.args.tests.now.all) c.args.graph.now)) c.args.graph.now c.args.table.now c.args.pipeline.now c.chunks.table c.chunks.pipeline i.came i.same.bound i.same.most none;
       ran = run_out c.args.table.now c.args.pipeline.now c.chunks.table c.chunks.pipeline c.advance.new.self i.counted none (c.advance.ensures.no_keys c.chunks-test.false)
           (c.advance.ensures.chunks ∙ ap (λ t. counted t c.chunks.pipeline.chunks) c.chunks-test.false);
       columns = c.advance.ensures.columns ∙ i.columns;

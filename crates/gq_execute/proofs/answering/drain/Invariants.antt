@@ -1,7 +1,7 @@
 use Rattle.std.proofs.Common.{◌≡◌, false, length}
 use Rattle.gq_pipe.specs.Serving.{Serves}
 use Rattle.gq_rows.specs.Tables.{IsSameQuery, StandsForSome, is_full_table}
-use Rattle.gq_execute.specs.steps.Taking.{Counted, IsRunOf, Pushed, if_admitted}
+use Rattle.gq_execute.specs.steps.Taking.{Counted, IsRunOf, Pushed, given_by, if_admitted}
 use Rattle.gq_execute.specs.steps.Testing.{admitted_by}
 use Rattle.gq_execute.proofs.answering.drain.Given as goal
 
@@ -15,7 +15,7 @@ invariant-chunks l = record {
   slots : l.pool.out ≡ l.initial.pool.out;
   room : is_full_table l.table ≡ false;
   some : StandsForSome l.table;
-  came : Pushed (if_admitted (admitted_by l.tests.all) l.graph) l.graph l.initial.table l.table l.initial.pipeline l.pipeline;
+  came : Pushed (given_by (if_admitted (admitted_by l.tests.all) l.graph)) l.graph l.initial.table l.table l.initial.pipeline l.pipeline;
   counted : Counted l.initial.table l.table l.initial.pipeline l.pipeline;
 }
 

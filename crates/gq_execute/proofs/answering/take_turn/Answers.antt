@@ -1,20 +1,27 @@
-use Rattle.std.proofs.Common.{◌∙◌, ◌++◌, ◌∷◌, [], ap, sym, subst, Some, arith, length}
+use Rattle.std.proofs.Common.{◌∙◌, ◌++◌, ◌∷◌, [], ap, map, sym, subst, Some, arith, length}
+use Rattle.std.proofs.lemmas.List.Elements.{recursion_from_All}
 use Rattle.std.proofs.lemmas.List.FromFn.{length-map-range_with_len}
+use Rattle.std.proofs.lemmas.List.Sorted.{All-permutation, IsPermutation-sym}
+use Rattle.gq_law_plans.proofs.Made.{plans_make}
+use Rattle.gq_law_plans.specs.Safe.{IsMade}
 use Rattle.gq_order.specs.declared.stats.Stats.{Stats}
 use Rattle.gq_pipe.specs.Bound.{binds_all}
 use Rattle.gq_pipe.specs.Limits.{sides_within}
 use Rattle.gq_pipe.specs.Progress.{Source, plan_in}
 use Rattle.gq_plan.proofs.ColumnBounds.{columns_bound}
 use Rattle.gq_plan.proofs.StepEquations.{plan_is}
+use Rattle.gq_plan.specs.Meaning.{meaning, whole}
 use Rattle.gq_plan.specs.Plans.{plan_of}
 use Rattle.gq_rows.specs.Answers.{cut_of}
 use Rattle.gq_rows.specs.Tables.{Table}
 use Rattle.gq_execute.specs.Planned.{IsPlanIn}
+use Rattle.gq_execute.specs.Spending.{IsPlain}
 use Rattle.gq_execute.proofs.Begins.{plan_begins}
 use Rattle.gq_execute.proofs.Parting.{sides_light, sides_refused}
 use Rattle.gq_pipe.proofs.Assigned.{covers_bind_all}
 use Rattle.gq_execute.proofs.Turning.{own_counted, own_keys, own_spent, turn_spent, turn_stops, turned}
 use Rattle.gq_execute.specs.steps.Prepared.{later_by}
+use Rattle.gq_execute.specs.steps.Taking.{given_on}
 use Rattle.gq_execute.proofs.answering.take_turn.Goals as goal
 
 pub plan_for-requires-clause-nodes : goal.plan_for-requires-clause-nodes
@@ -35,7 +42,7 @@ start-requires-clause-room c =
 
 pub returns-in-Err : goal.returns-in-Err
 returns-in-Err c = record {
-  drains = rw c.from.ensures (sides_refused (later_by c.args.graph.now c.args.prepared.now) c.args.graph.now c.args.settings.now.order c.args.typed.now c.args.table.now.bound c.args.table.now c.args.table.now (plan_of c.in_ok-planned.planned.plan)
+  drains = rw c.from.ensures (sides_refused (given_on (later_by c.args.graph.now c.args.prepared.now)) c.args.graph.now c.args.settings.now.order c.args.typed.now c.args.table.now.bound c.args.table.now c.args.table.now (plan_of c.in_ok-planned.planned.plan)
       c.stands_valid.ensures c.requires.sound c.in_ok-planned.ensures.parts c.in_ok-planned.ensures.alone c.requires.most c.in-Err.refusal c.in-Err.ensures.refused);
   spends = tt;
   slots = c.make_builds.ensures.pool;
@@ -51,6 +58,15 @@ drain_all-drained-requires-clause-run c =
       complete = ap (λ (s : Source). binds_all s.typed (plan_in s)) p.source ∙ ap (binds_all c.args.typed.now) (sym (plan_is c.in_ok-planned.planned.plan)) ∙ covers_bind_all _ _ _ c.in_ok-planned.ensures.covers;
     }
 
+pub drain_all-drained-requires-clause-made : goal.drain_all-drained-requires-clause-made
+drain_all-drained-requires-clause-made c =
+    let g = c.args.graph.now in
+    let y = c.args.typed.now in
+    let plan = plan_of c.in_ok-planned.planned.plan in
+    let ts = map (whole y) c.in_ok-pipeline.pipeline.owed in
+    recursion_from_All (IsMade g y) ts
+    (All-permutation (IsMade g y) (meaning g y plan) ts (IsPermutation-sym _ _ c.in_ok-pipeline.ensures.meaning) (plans_make g y plan c.stands_valid.ensures c.requires.sound c.in_ok-planned.ensures.covers))
+
 pub returns-in-Err-drained-clause-drains : goal.returns-in-Err-drained-clause-drains
 returns-in-Err-drained-clause-drains c =
     let p = c.in_ok-pipeline.ensures in
@@ -59,7 +75,7 @@ returns-in-Err-drained-clause-drains c =
     let plan = plan_of c.in_ok-planned.planned.plan in
     let few = ap (λ m. sides_within g y m plan) (sym c.requires.most) ∙ c.in-Ok.ensures.few in
     let light = sides_light g c.args.settings.now.order y c.args.table.now.most plan c.stands_valid.ensures c.requires.sound c.in_ok-planned.ensures.parts c.in_ok-planned.ensures.alone few in
-    turn_stops (later_by c.args.graph.now c.args.prepared.now) g c.args.settings.now.order y c.args.table.now c.drain_all-drained.new.table plan c.in_ok-planned.ensures.covers light c.start_alternative.new.self c.in_ok-pipeline.pipeline
+    turn_stops (given_on (later_by c.args.graph.now c.args.prepared.now)) g c.args.settings.now.order y c.args.table.now c.drain_all-drained.new.table plan c.in_ok-planned.ensures.covers light c.start_alternative.new.self c.in_ok-pipeline.pipeline
     c.start_alternative.ensures (ap (λ (s : Source). s.typed) p.source) p.meaning c.in-Err-drained.refusal c.in-Err-drained.ensures.takes
 
 pub returns-clause-drains : goal.returns-clause-drains
@@ -70,7 +86,7 @@ returns-clause-drains c =
     let plan = plan_of c.in_ok-planned.planned.plan in
     let few = ap (λ m. sides_within g y m plan) (sym c.requires.most) ∙ c.in-Ok.ensures.few in
     let light = sides_light g c.args.settings.now.order y c.args.table.now.most plan c.stands_valid.ensures c.requires.sound c.in_ok-planned.ensures.parts c.in_ok-planned.ensures.alone few in
-    turned (later_by c.args.graph.now c.args.prepared.now) g c.args.settings.now.order y c.args.table.now c.drain_all-drained.new.table plan c.in_ok-planned.ensures.covers light c.start_alternative.new.self c.in_ok-pipeline.pipeline
+    turned (given_on (later_by c.args.graph.now c.args.prepared.now)) g c.args.settings.now.order y c.args.table.now c.drain_all-drained.new.table plan c.in_ok-planned.ensures.covers light c.start_alternative.new.self c.in_ok-pipeline.pipeline
     c.start_alternative.ensures (ap (λ (s : Source). s.typed) p.source) p.meaning c.in-Ok-drained.ensures.takes
 
 pub returns-clause-spends : goal.returns-clause-spends
@@ -95,7 +111,7 @@ returns-clause-spends c =
           (own_spent g y plan start new begun now own p.meaning p.keys p.columns ends.ran c.drain_all-drained.ensures.columns c.finish-own.ensures.chunks c.finish-own.ensures.columns)
           (λ uncut. own_keys g y plan start new begun now own p.meaning p.keys p.columns ends.ran c.drain_all-drained.ensures.columns c.finish-own.ensures.chunks c.finish-own.ensures.columns (ap cut_of same_bound ∙ uncut));
       all = c.in_ok-push.ensures.pushed ∙ ap (λ l. l ++ own ∷ []) c.into_spent-spent.ensures;
-      chunks = λ none before h.
-          own_counted g y plan start new begun now own p.meaning p.keys p.columns ends.ran c.drain_all-drained.ensures.columns c.finish-own.ensures.chunks c.finish-own.ensures.columns (ap (λ (t : Table). t.bound.optionals) c.start_alternative.ensures ∙ none) before
+      chunks = λ plain before h.
+          own_counted g y plan start new begun now own p.meaning p.keys p.columns ends.ran c.drain_all-drained.ensures.columns c.finish-own.ensures.chunks c.finish-own.ensures.columns (subst IsPlain (sym (ap (λ (t : Table). t.bound) c.start_alternative.ensures)) plain) before
           (ap (λ (t : Table). t.pushed) c.start_alternative.ensures ∙ h);
     }

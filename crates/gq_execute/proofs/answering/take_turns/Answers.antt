@@ -4,6 +4,7 @@ use Rattle.gq_execute.proofs.Going.{came_start, fresh_stands, item_at, spends_mo
 use Rattle.gq_execute.proofs.Making.{made_here}
 use Rattle.gq_execute.proofs.Parted.{bound_parted}
 use Rattle.gq_execute.specs.steps.Prepared.{later_by}
+use Rattle.gq_execute.specs.steps.Taking.{given_on}
 use Rattle.gq_execute.proofs.answering.take_turns.Goals as goal
 
 pub alternatives-init : goal.alternatives-init
@@ -30,11 +31,11 @@ alternatives-preserved c =
       stats = i.stats;
       bound = run.meets.alike.bound ∙ i.bound;
       most = run.meets.alike.most ∙ i.most;
-      some = taken_more (later_by c.args.graph.now c.args.prepared.now) _ _ _ y old new i.some run;
+      some = taken_more (given_on (later_by c.args.graph.now c.args.prepared.now)) _ _ _ y old new i.some run;
       slots = c.in-Ok.ensures.slots ∙ i.slots;
       spends = rw c.in_ok-append-in-Ok.ensures (spends_more c.args.graph.now c.args.bound.now c.args.settings.now.order c.args.bound.now.alternatives c.alternatives.typed-index y old new c.alternatives.spent c.in-Ok.turn here i.bound i.spends c.in-Ok.ensures.spends);
       came = λ query text is.
-          turn_taken (question c.args.graph.now query c.args.bound.now c.args.settings.now) (bound_parted (question c.args.graph.now query c.args.bound.now c.args.settings.now) text c.stands_valid.ensures is) (later_by c.args.graph.now c.args.prepared.now)
+          turn_taken (question c.args.graph.now query c.args.bound.now c.args.settings.now) (bound_parted (question c.args.graph.now query c.args.bound.now c.args.settings.now) text c.stands_valid.ensures is) (given_on (later_by c.args.graph.now c.args.prepared.now))
           (made_here c.args.graph.now query c.args.bound.now c.args.settings.now text c.args.prepared.now c.stands_valid.ensures is c.requires.prepared)
           c.alternatives.typed-index y old new here (i.came query text is) (sym c.enough.ensures ∙ c.if-enough.false) run;
     }
@@ -61,7 +62,7 @@ returns-in-Err c =
     (c.typed-item.is ∙ ap (λ ys. get_or ys c.alternatives.typed-index y) c.as_slice-typed-items.ensures) in
     record {
       fills = λ query text is.
-          turn_ended (question c.args.graph.now query c.args.bound.now c.args.settings.now) (bound_parted (question c.args.graph.now query c.args.bound.now c.args.settings.now) text c.stands_valid.ensures is) (later_by c.args.graph.now c.args.prepared.now)
+          turn_ended (question c.args.graph.now query c.args.bound.now c.args.settings.now) (bound_parted (question c.args.graph.now query c.args.bound.now c.args.settings.now) text c.stands_valid.ensures is) (given_on (later_by c.args.graph.now c.args.prepared.now))
           (made_here c.args.graph.now query c.args.bound.now c.args.settings.now text c.args.prepared.now c.stands_valid.ensures is c.requires.prepared)
           c.alternatives.typed-index y c.alternatives.table c.take_turn.new.table here (i.came query text is) (sym c.enough.ensures ∙ c.if-enough.false) c.in-Err.refusal c.in-Err.ensures.drains;
       stands = tt;

@@ -7,6 +7,7 @@ use Rattle.gq_execute.proofs.Copying.{blank_further}
 use Rattle.gq_execute.proofs.Draining.{all_taken, bag_here, chunk_of, counted_more, counted_none, full_here, in_order, less_owed, met, pushed_more, pushed_none, rows_here, run_full, run_out}
 use Rattle.gq_execute.specs.steps.Behind.{IsBehind}
 use Rattle.gq_execute.specs.steps.Prepared.{later_by}
+use Rattle.gq_execute.specs.steps.Taking.{given_by}
 use Rattle.gq_execute.proofs.behind.drain_behind.Goals as goal
 
 pub chunks-init : goal.chunks-init
@@ -62,7 +63,7 @@ pub chunks-preserved : goal.chunks-preserved
 chunks-preserved c =
     let i = c.chunks.invariant in
     let g = c.args.graph.now in
-    let later = later_by g c.args.prepared.now in
+    let becomes = given_by (later_by g c.args.prepared.now) in
     let old = c.args.table.now in
     let begun = c.args.pipeline.now in
     let after = c.advance.new.self in
@@ -71,7 +72,7 @@ chunks-preserved c =
     let bag = c.advance.ensures.bag c.chunks-test.true in
     let some = c.advance.ensures.some c.chunks-test.true in
     let here = bag_here g begun.source.typed after.source chunk after.chunk (ap (λ (s : Source). s.graph) source ∙ i.run.graph) (ap (λ (s : Source). s.typed) (source ∙ i.source)) (in_order _ _ (c.chunk-chunk.ensures.whole (ap (λ (s : Source). binds_all s.typed (plan_in s)) source ∙ i.run.complete))) in
-    let pushes = rows_here later g old.bound begun.source.typed c.args.typed.now chunk c.chunks.table c.push_rows.new.table (Ok more.Go) i.same.bound (sym c.requires.typed) (rw c.in-Ok-Go.field-0-is at c.in-Ok-Go.ensures.pushes) in
+    let pushes = rows_here becomes g old.bound begun.source.typed c.args.typed.now chunk c.chunks.table c.push_rows.new.table (Ok more.Go) i.same.bound (sym c.requires.typed) (rw c.in-Ok-Go.field-0-is at c.in-Ok-Go.ensures.pushes) in
     let query = c.in-Ok-Go.ensures.query in
     record {
       behind = subst (λ b. IsBehind g b c.args.typed.now c.args.prepared.now c.push_rows.new.behind) i.same.bound c.in-Ok-Go.ensures.behind;
@@ -88,16 +89,16 @@ chunks-preserved c =
       slots = c.advance.ensures.pool ∙ i.slots;
       room = pushes.1;
       some = (_, pushes.0 i.some.0 i.some.1);
-      came = pushed_more later g old begun c.chunks.table c.chunks.pipeline after i.came i.same.bound i.same.most chunk bag here c.push_rows.new.table pushes.0;
+      came = pushed_more becomes g old begun c.chunks.table c.chunks.pipeline after i.came i.same.bound i.same.most chunk bag here c.push_rows.new.table pushes.0;
       counted = counted_more old begun c.chunks.table c.push_rows.new.table c.chunks.pipeline after i.counted bag some (c.advance.ensures.next_key c.chunks-test.true)
-          (c.advance.ensures.chunks ∙ ap (λ t. counted t c.chunks.pipeline.chunks) c.chunks-test.true) (λ none. absurd (c.requires.some none));
+          (c.advance.ensures.chunks ∙ ap (λ t. counted t c.chunks.pipeline.chunks) c.chunks-test.true) (λ plain. absurd (c.requires.some plain.0));
     }
 
 pub returns-in-Ok-Enough-clause-takes : goal.returns-in-Ok-Enough-clause-takes
 returns-in-Ok-Enough-clause-takes c =
     let i = c.chunks.invariant in
     let g = c.args.graph.now in
-    let later = later_by g c.args.prepared.now in
+    let becomes = given_by (later_by g c.args.prepared.now) in
     let old = c.args.table.now in
     let begun = c.args.pipeline.now in
     let after = c.advance.new.self in
@@ -105,15 +106,15 @@ returns-in-Ok-Enough-clause-takes c =
     let source = c.advance.ensures.source in
     let bag = c.advance.ensures.bag c.chunks-test.true in
     let here = bag_here g begun.source.typed after.source chunk after.chunk (ap (λ (s : Source). s.graph) source ∙ i.run.graph) (ap (λ (s : Source). s.typed) (source ∙ i.source)) (in_order _ _ (c.chunk-chunk.ensures.whole (ap (λ (s : Source). binds_all s.typed (plan_in s)) source ∙ i.run.complete))) in
-    let pushes = rows_here later g old.bound begun.source.typed c.args.typed.now chunk c.chunks.table c.push_rows.new.table (Ok more.Enough) i.same.bound (sym c.requires.typed) (rw c.in-Ok-Enough.field-0-is at c.in-Ok-Enough.ensures.pushes) in
+    let pushes = rows_here becomes g old.bound begun.source.typed c.args.typed.now chunk c.chunks.table c.push_rows.new.table (Ok more.Enough) i.same.bound (sym c.requires.typed) (rw c.in-Ok-Enough.field-0-is at c.in-Ok-Enough.ensures.pushes) in
     let query = c.in-Ok-Enough.ensures.query in
-    full_here later g old begun c.chunks.table c.chunks.pipeline after i.came i.same.bound i.same.most chunk bag here c.push_rows.new.table query.bound query.most pushes.0 pushes.1
+    full_here becomes g old begun c.chunks.table c.chunks.pipeline after i.came i.same.bound i.same.most chunk bag here c.push_rows.new.table query.bound query.most pushes.0 pushes.1
 
 pub returns-in-Ok-Enough-clause-ran : goal.returns-in-Ok-Enough-clause-ran
 returns-in-Ok-Enough-clause-ran c =
     let i = c.chunks.invariant in
     run_full c.args.table.now c.args.pipeline.now c.chunks.table c.push_rows.new.table c.chunks.pipeline c.advance.new.self i.counted (c.advance.ensures.bag c.chunks-test.true) (c.advance.ensures.some c.chunks-test.true)
-    (c.advance.ensures.next_key c.chunks-test.true) (c.advance.ensures.chunks ∙ ap (λ t. counted t c.chunks.pipeline.chunks) c.chunks-test.true) (λ none. absurd (c.requires.some none)) (rw c.in-Ok-Enough.field-0-is at c.in-Ok-Enough.ensures.pushes).1
+    (c.advance.ensures.next_key c.chunks-test.true) (c.advance.ensures.chunks ∙ ap (λ t. counted t c.chunks.pipeline.chunks) c.chunks-test.true) (λ plain. absurd (c.requires.some plain.0)) (rw c.in-Ok-Enough.field-0-is at c.in-Ok-Enough.ensures.pushes).1
 
 pub returns-in-Ok-Enough-clause-columns : goal.returns-in-Ok-Enough-clause-columns
 returns-in-Ok-Enough-clause-columns c = c.advance.ensures.columns ∙ c.chunks.invariant.columns
@@ -125,7 +126,7 @@ pub returns-in-Err-clause-takes : goal.returns-in-Err-clause-takes
 returns-in-Err-clause-takes c =
     let i = c.chunks.invariant in
     let g = c.args.graph.now in
-    let later = later_by g c.args.prepared.now in
+    let becomes = given_by (later_by g c.args.prepared.now) in
     let old = c.args.table.now in
     let begun = c.args.pipeline.now in
     let after = c.advance.new.self in
@@ -133,8 +134,8 @@ returns-in-Err-clause-takes c =
     let source = c.advance.ensures.source in
     let bag = c.advance.ensures.bag c.chunks-test.true in
     let here = bag_here g begun.source.typed after.source chunk after.chunk (ap (λ (s : Source). s.graph) source ∙ i.run.graph) (ap (λ (s : Source). s.typed) (source ∙ i.source)) (in_order _ _ (c.chunk-chunk.ensures.whole (ap (λ (s : Source). binds_all s.typed (plan_in s)) source ∙ i.run.complete))) in
-    let pushes = rows_here later g old.bound begun.source.typed c.args.typed.now chunk c.chunks.table c.push_rows.new.table (Err c.in-Err.refusal) i.same.bound (sym c.requires.typed) c.in-Err.ensures.pushes in
-    rw c.from.ensures (met later g old begun c.chunks.table c.chunks.pipeline after i.came i.same.bound i.same.most chunk bag here c.push_rows.new.table c.in-Err.refusal pushes)
+    let pushes = rows_here becomes g old.bound begun.source.typed c.args.typed.now chunk c.chunks.table c.push_rows.new.table (Err c.in-Err.refusal) i.same.bound (sym c.requires.typed) c.in-Err.ensures.pushes in
+    rw c.from.ensures (met becomes g old begun c.chunks.table c.chunks.pipeline after i.came i.same.bound i.same.most chunk bag here c.push_rows.new.table c.in-Err.refusal pushes)
 
 pub returns-in-Err-clause-columns : goal.returns-in-Err-clause-columns
 returns-in-Err-clause-columns c = c.advance.ensures.columns ∙ c.chunks.invariant.columns
@@ -145,7 +146,7 @@ returns-in-Err-clause-slots c = c.advance.ensures.pool ∙ c.chunks.invariant.sl
 pub returns-clause-takes : goal.returns-clause-takes
 returns-clause-takes c =
     let i = c.chunks.invariant in
-    all_taken (later_by c.args.graph.now c.args.prepared.now) c.args.graph.now c.args.table.now c.args.pipeline.now c.chunks.table c.chunks.pipeline i.came i.same.bound i.same.most (c.advance.ensures.none c.chunks-test.false)
+    all_taken (given_by (later_by c.args.graph.now c.args.prepared.now)) c.args.graph.now c.args.table.now c.args.pipeline.now c.chunks.table c.chunks.pipeline i.came i.same.bound i.same.most (c.advance.ensures.none c.chunks-test.false)
 
 pub returns-clause-ran : goal.returns-clause-ran
 returns-clause-ran c =

@@ -3,7 +3,7 @@ use Rattle.gq_pipe.specs.Serving.{Serves}
 use Rattle.gq_rows.specs.Tables.{IsSameQuery, StandsForSome, is_full_table}
 use Rattle.gq_execute.specs.steps.Behind.{IsBehind}
 use Rattle.gq_execute.specs.steps.Prepared.{later_by}
-use Rattle.gq_execute.specs.steps.Taking.{Counted, IsRunOf, Pushed}
+use Rattle.gq_execute.specs.steps.Taking.{Counted, IsRunOf, Pushed, given_by}
 use Rattle.gq_execute.proofs.behind.drain_behind.Given as goal
 
 abbrev pub invariant-chunks : goal.invariant-chunks
@@ -17,7 +17,7 @@ invariant-chunks l = record {
   slots : l.pool.out ≡ l.initial.pool.out;
   room : is_full_table l.table ≡ false;
   some : StandsForSome l.table;
-  came : Pushed (later_by l.graph l.prepared) l.graph l.initial.table l.table l.initial.pipeline l.pipeline;
+  came : Pushed (given_by (later_by l.graph l.prepared)) l.graph l.initial.table l.table l.initial.pipeline l.pipeline;
   counted : Counted l.initial.table l.table l.initial.pipeline l.pipeline;
 }
 

@@ -17,7 +17,7 @@ returns-in-Dropped-clause-pushes c =
     let p = c.args.prepared.now in
     let t = c.args.table.now in
     let here = λ (b : Bound). marks (meanings_of g (row_of c.args.row.now) (late_conjuncts b c.args.typed.now)) in
-    subst (λ os. PushesAll os t t (Ok more.Go)) (row_dropped (later_by g p) g t.bound c.args.typed.now c.args.row.now (c.in-Dropped.ensures ∙ ap here c.requires.bound)) (none_pushed t c.requires.room)
+    subst (λ os. PushesAll os t t (Ok more.Go)) (row_dropped (later_by g p) g t.bound c.args.typed.now (row_of c.args.row.now) (c.in-Dropped.ensures ∙ ap here c.requires.bound)) (none_pushed t c.requires.room)
 
 pub returns-then-not-pass-clause-pushes : goal.returns-then-not-pass-clause-pushes
 returns-then-not-pass-clause-pushes c =

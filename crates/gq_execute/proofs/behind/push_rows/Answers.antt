@@ -8,13 +8,14 @@ use Rattle.gq_execute.proofs.Pushing.{taken_full, taken_more, taken_none, taken_
 use Rattle.gq_execute.proofs.behind.push_rows.Goals as goal
 use Rattle.gq_execute.specs.steps.Behind.{IsBehind, Taken}
 use Rattle.gq_execute.specs.steps.Prepared.{later_by}
+use Rattle.gq_execute.specs.steps.Taking.{given_by}
 
 pub choices-init : goal.choices-init
 choices-init c =
     let g = c.args.graph.now in
     let t = c.args.table.now in
     let gs = c.args.chunk.now.groups.now in
-    let out = outs (later_by g c.args.prepared.now) g t.bound c.args.typed.now c.args.chunk.now in
+    let out = outs (given_by (later_by g c.args.prepared.now)) g t.bound c.args.typed.now c.args.chunk.now in
     record {
       behind = c.requires.behind;
       same = same_table t;
@@ -36,9 +37,9 @@ returns-in-Ok-Enough-clause-pushes c =
     let old = c.args.table.now in
     let mid = c.choices.table in
     let new = c.push_row.new.table in
-    let later = later_by g c.args.prepared.now in
+    let becomes = given_by (later_by g c.args.prepared.now) in
     let i = c.choices.invariant in
-    let pushes = choice_pushed later g old.bound c.args.typed.now c.args.chunk.now mid new c.new-row.result c.positions.result.now c.choices.choice.positions (Ok more.Enough) i.same.bound c.new-row.ensures c.positions.ensures
+    let pushes = choice_pushed becomes g old.bound c.args.typed.now c.args.chunk.now mid new c.new-row.result c.positions.result.now c.choices.choice.positions (Ok more.Enough) i.same.bound c.new-row.ensures c.positions.ensures
     (rw c.in-Ok-Enough.field-0-is at c.in-Ok-Enough.ensures.pushes) in
     (taken_full _ old mid _ _ _ refl (rw c.choices-test.true at i.came) new pushes.0 pushes.1, pushes.1)
 
@@ -48,9 +49,9 @@ returns-in-Err-clause-pushes c =
     let old = c.args.table.now in
     let mid = c.choices.table in
     let new = c.push_row.new.table in
-    let later = later_by g c.args.prepared.now in
+    let becomes = given_by (later_by g c.args.prepared.now) in
     let i = c.choices.invariant in
-    let pushes = choice_pushed later g old.bound c.args.typed.now c.args.chunk.now mid new c.new-row.result c.positions.result.now c.choices.choice.positions (Err c.in-Err.refusal) i.same.bound c.new-row.ensures c.positions.ensures
+    let pushes = choice_pushed becomes g old.bound c.args.typed.now c.args.chunk.now mid new c.new-row.result c.positions.result.now c.choices.choice.positions (Err c.in-Err.refusal) i.same.bound c.new-row.ensures c.positions.ensures
     c.in-Err.ensures.pushes in
     taken_refused _ old mid _ _ _ refl (rw c.choices-test.true at i.came) i.same new c.in-Err.refusal pushes
 
@@ -61,12 +62,12 @@ choices-preserved c =
     let old = c.args.table.now in
     let mid = c.choices.table in
     let new = c.push_row.new.table in
-    let later = later_by g p in
+    let becomes = given_by (later_by g p) in
     let gs = c.args.chunk.now.groups.now in
-    let out = outs later g old.bound c.args.typed.now c.args.chunk.now in
+    let out = outs becomes g old.bound c.args.typed.now c.args.chunk.now in
     let i = c.choices.invariant in
     let query = c.in-Ok-Go.ensures.query in
-    let pushes = choice_pushed later g old.bound c.args.typed.now c.args.chunk.now mid new c.new-row.result c.positions.result.now c.choices.choice.positions (Ok more.Go) i.same.bound c.new-row.ensures c.positions.ensures
+    let pushes = choice_pushed becomes g old.bound c.args.typed.now c.args.chunk.now mid new c.new-row.result c.positions.result.now c.choices.choice.positions (Ok more.Go) i.same.bound c.new-row.ensures c.positions.ensures
     (rw c.in-Ok-Go.field-0-is at c.in-Ok-Go.ensures.pushes) in
     let more_taken : Taken (out (choices gs)) (out (later_choices gs c.choices.choice.positions)) old new = taken_more _ old mid _ _ _ refl (rw c.choices-test.true at i.came) new pushes.0 in
     record {

@@ -4,6 +4,7 @@ use Rattle.gq_group.specs.Groups.{choices}
 use Rattle.gq_rows.specs.Tables.{IsSameQuery, StandsForSome, is_full_table}
 use Rattle.gq_execute.specs.steps.Behind.{IsBehind, Taken}
 use Rattle.gq_execute.specs.steps.Prepared.{later_by}
+use Rattle.gq_execute.specs.steps.Taking.{given_by}
 use Rattle.gq_execute.proofs.Chosen.{choices_left, outs}
 use Rattle.gq_execute.proofs.behind.push_rows.Given as goal
 
@@ -14,7 +15,7 @@ invariant-choices l = record {
   room : is_full_table l.table ≡ false;
   some : StandsForSome l.table;
   stands : l.found ≡ true → IsChoice l.chunk.groups.now l.choice;
-  came : let out = outs (later_by l.graph l.prepared) l.graph l.initial.table.bound l.typed l.chunk in
+  came : let out = outs (given_by (later_by l.graph l.prepared)) l.graph l.initial.table.bound l.typed l.chunk in
       Taken (out (choices l.chunk.groups.now)) (out (choices_left l.chunk.groups.now l.found l.choice)) l.initial.table l.table;
 }
 

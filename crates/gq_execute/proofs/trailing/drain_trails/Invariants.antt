@@ -1,0 +1,28 @@
+use Rattle.std.proofs.Common.{◌≡◌, false, length}
+use Rattle.std.specs.List.{AllByRecursion}
+use Rattle.gq_law_plans.specs.Safe.{IsMade}
+use Rattle.gq_pipe.specs.Serving.{Serves}
+use Rattle.gq_rows.specs.Tables.{IsSameQuery, StandsForSome, is_full_table}
+use Rattle.gq_execute.specs.steps.Taking.{Counted, IsRunOf, Pushed, given_on, if_admitted, owed_by}
+use Rattle.gq_execute.specs.steps.Testing.{admitted_by}
+use Rattle.gq_execute.specs.steps.Walking.{IsWalking}
+use Rattle.gq_execute.proofs.trailing.drain_trails.Given as goal
+
+abbrev pub invariant-chunks : goal.invariant-chunks
+invariant-chunks l = record {
+  walking : IsWalking l.graph l.initial.table.bound l.typed l.walking;
+  made : AllByRecursion (IsMade l.graph l.typed) (owed_by l.typed l.pipeline);
+  run : IsRunOf l.graph l.table l.pipeline;
+  same : IsSameQuery l.initial.table l.table;
+  source : l.pipeline.source ≡ l.initial.pipeline.source;
+  columns : l.pipeline.columns ≡ l.initial.pipeline.columns;
+  serves : Serves l.pipeline l.pool;
+  slots : l.pool.out ≡ l.initial.pool.out;
+  room : is_full_table l.table ≡ false;
+  some : StandsForSome l.table;
+  came : Pushed (given_on (if_admitted (admitted_by l.prepared.tests.all) l.graph)) l.graph l.initial.table l.table l.initial.pipeline l.pipeline;
+  counted : Counted l.initial.table l.table l.initial.pipeline l.pipeline;
+}
+
+abbrev pub decreases-chunks : goal.decreases-chunks
+decreases-chunks l = length l.pipeline.owed

@@ -1,0 +1,65 @@
+use Rattle.std.proofs.Common.{◌∙◌, ap, flat_map, Err, Ok}
+use Rattle.gq_law_trails.specs.Trails.{Trailing}
+use Rattle.std.specs.Prelude.{List}
+use Rattle.gq_rows.proofs.Chunking.{same_again, same_table}
+use Rattle.gq_rows.specs.declared.refusal.More.TheVariants as more
+use Rattle.gq_execute.proofs.Pushing.{taken_full, taken_more, taken_none, taken_refused}
+use Rattle.gq_execute.proofs.Reaching.{judged_here}
+use Rattle.gq_execute.proofs.trailing.push_reached.Goals as goal
+use Rattle.gq_execute.specs.steps.Continuing.{reached_in}
+use Rattle.gq_execute.specs.steps.Taking.{if_admitted, outcomes_on}
+use Rattle.gq_execute.specs.steps.Testing.{admitted_by}
+
+pub rows-init : goal.rows-init
+rows-init c = record {
+  trails = c.requires.trails;
+  same = same_table c.args.table.now;
+  room = c.requires.room;
+  some = c.requires.stands;
+  came = taken_none _ c.args.table.now;
+}
+
+pub rows-preserved : goal.rows-preserved
+rows-preserved c =
+    let i = c.rows.invariant in
+    let g = c.args.graph.now in
+    let b = c.args.table.now.bound in
+    let y = c.args.typed.now in
+    let later = if_admitted (admitted_by c.args.prepared.now.tests.all) g in
+    let out = outcomes_on later g b y in
+    let query = c.in-Ok-Go.ensures.query in
+    let pushes = judged_here later g b y c.rows.table c.push_judged.new.table c.advance.new.self.reached c.row.result.now (Ok more.Go) i.same.bound c.row.ensures (rw c.in-Ok-Go.field-0-is at c.in-Ok-Go.ensures.pushes) in
+    record {
+      trails = record {
+        graph = c.advance.ensures.graph ∙ i.trails.graph;
+        parts = c.advance.ensures.parts ∙ i.trails.parts;
+        nodes = c.advance.ensures.nodes ∙ i.trails.nodes;
+        rels = c.advance.ensures.rels ∙ i.trails.rels;
+      };
+      same = same_again c.args.table.now c.rows.table c.push_judged.new.table i.same query;
+      room = pushes.1;
+      some = (_, pushes.0 i.some.0 i.some.1);
+      came = taken_more _ c.args.table.now c.rows.table _ _ _ (ap (λ (ms : List Trailing). flat_map out (reached_in ms)) (c.advance.ensures.next c.rows-test.true)) i.came c.push_judged.new.table pushes.0;
+    }
+
+pub returns-in-Ok-Enough-clause-pushes : goal.returns-in-Ok-Enough-clause-pushes
+returns-in-Ok-Enough-clause-pushes c =
+    let i = c.rows.invariant in
+    let g = c.args.graph.now in
+    let b = c.args.table.now.bound in
+    let y = c.args.typed.now in
+    let later = if_admitted (admitted_by c.args.prepared.now.tests.all) g in
+    let out = outcomes_on later g b y in
+    let pushes = judged_here later g b y c.rows.table c.push_judged.new.table c.advance.new.self.reached c.row.result.now (Ok more.Enough) i.same.bound c.row.ensures (rw c.in-Ok-Enough.field-0-is at c.in-Ok-Enough.ensures.pushes) in
+    (taken_full _ c.args.table.now c.rows.table _ _ _ (ap (λ (ms : List Trailing). flat_map out (reached_in ms)) (c.advance.ensures.next c.rows-test.true)) i.came c.push_judged.new.table pushes.0 pushes.1, pushes.1)
+
+pub returns-in-Err-clause-pushes : goal.returns-in-Err-clause-pushes
+returns-in-Err-clause-pushes c =
+    let i = c.rows.invariant in
+    let g = c.args.graph.now in
+    let b = c.args.table.now.bound in
+    let y = c.args.typed.now in
+    let later = if_admitted (admitted_by c.args.prepared.now.tests.all) g in
+    let out = outcomes_on later g b y in
+    let pushes = judged_here later g b y c.rows.table c.push_judged.new.table c.advance.new.self.reached c.row.result.now (Err c.in-Err.refusal) i.same.bound c.row.ensures c.in-Err.ensures.pushes in
+    taken_refused _ c.args.table.now c.rows.table _ _ _ (ap (λ (ms : List Trailing). flat_map out (reached_in ms)) (c.advance.ensures.next c.rows-test.true)) i.came i.same c.push_judged.new.table c.in-Err.refusal pushes

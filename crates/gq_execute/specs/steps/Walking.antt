@@ -1,0 +1,33 @@
+-- A row from which the trails of a query are walked.
+use Rattle.std.specs.Prelude.{◌≡◌, ◌+◌, ◌^◌, ◌<◌, ◌≤◌, nat_lt, All, length}
+use Rattle.gq_base.specs.Plain.{Graph}
+use Rattle.gq_plan.specs.declared.Bound.{Bound}
+use Rattle.gq_plan.specs.declared.TrailPart.{TrailPart}
+use Rattle.gq_plan.specs.declared.Typed.{Typed}
+use Rattle.gq_trails.specs.Trekking.{AreInTurn, HasLength, Trekking}
+use Rattle.gq_execute.specs.declared.trailing.Walking.{Walking}
+use Rattle.gq_execute.specs.steps.Behind.{IsBlankFrom}
+
+-- the trails of a query can be walked from the assignments of an alternative
+pub record CanWalk (b : Bound) (y : Typed) : Type 0 where
+  pub lengths : All HasLength b.trails
+  pub ends : All (λ (p : TrailPart). p.to < length b.node_names) b.trails
+  pub turns : AreInTurn b.trails (λ v. nat_lt v (length y.nodes))
+  pub few : length b.trails + length y.rels ≤ 24
+
+-- trails of a query over a graph
+pub record AreTrailsOf (g : Graph) (b : Bound) (t : Trekking) : Type 0 where
+  pub graph : t.graph ≡ g
+  pub parts : t.parts ≡ b.trails
+  pub nodes : t.nodes ≡ length b.node_names
+  pub rels : t.rels ≡ length b.rel_names
+
+-- a row for the assignments of an alternative, and such trails
+pub record IsWalking (g : Graph) (b : Bound) (y : Typed) (h : Walking) : Type 0 where
+  pub row : IsBlankFrom (length y.nodes) (length y.rels) (length b.node_names) (length b.rel_names) h.row
+  pub trails : AreTrailsOf g b h.trails
+  pub walks : CanWalk b y
+  pub nodes : length y.nodes ≤ length b.node_names
+  pub rels : length y.rels ≤ length b.rel_names
+  pub few_nodes : length b.node_names < 2 ^ 32
+  pub few_rels : length b.rel_names < 2 ^ 32
