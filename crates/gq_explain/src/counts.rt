@@ -1,14 +1,16 @@
 //! How many alternatives a query has, and how many each part of it that has alternatives of its own:
-//! the path of each of its tests, and each of its OPTIONAL MATCH clauses.
+//! the path of each of its tests, and each of its OPTIONAL MATCH clauses; and between them its trails.
 
 ghost use Rattle.std.specs.Prelude.{◌+◌, ◌++◌, ◌<◌, ◌^◌, flat_map, length};
 ghost use Rattle.std.specs.List.{range_with_len};
 ghost use Rattle.gq_io.specs.Causes.{HasCause};
 ghost use Rattle.gq_io.specs.Putting.{Puts};
 ghost use Rattle.gq_explain.specs.Plans.{counts_text, optional_at, optionals_text, part_line};
-ghost use Rattle.gq_explain.specs.Plans.{test_at, tests_text};
+ghost use Rattle.gq_explain.specs.Plans.{test_at, tests_text, trails_text};
 
 use crate::pieces::{Piece, put_pieces};
+use crate::trails::put_trails;
+use gq_base::List;
 use gq_io::{Batch, Failed, Sink};
 use gq_plan::Bound;
 
@@ -90,25 +92,49 @@ fn put_optionals<O: Sink>(batch: &mut Batch, out: &mut O, bound: &Bound) -> Resu
     Ok(())
 }
 
-// Puts the lines of all parts.
+// Puts the lines of trails and of OPTIONAL MATCH clauses.
 #[tactic(auto, using(crate::proofs::Chains::both_put, crate::proofs::Chains::one_broke))]
-fn put_parts<O: Sink>(batch: &mut Batch, out: &mut O, bound: &Bound) -> Result<(), Failed>
+fn put_later<O: Sink>(
+    batch: &mut Batch,
+    out: &mut O,
+    bound: &Bound,
+    rightward: &List<bool>,
+) -> Result<(), Failed>
     ensures bytes { Puts (O.taken out.old) (O.taken out.new) batch.old batch.new
-        (tests_text bound.now ++ optionals_text bound.now) result }
+        (trails_text bound.now rightward.now ++ optionals_text bound.now) result }
     ensures cause { HasCause (O.faults out.old) (O.faults out.new) result }
 {
-    put_tests(batch, out, bound)?;
+    put_trails(batch, out, bound, rightward)?;
     put_optionals(batch, out, bound)
 }
 
-/// Puts how many alternatives a query has, and how many each part of it.
+// Puts the lines of all parts.
+#[tactic(auto, using(crate::proofs::Chains::both_put, crate::proofs::Chains::one_broke))]
+fn put_parts<O: Sink>(
+    batch: &mut Batch,
+    out: &mut O,
+    bound: &Bound,
+    rightward: &List<bool>,
+) -> Result<(), Failed>
+    ensures bytes { Puts (O.taken out.old) (O.taken out.new) batch.old batch.new
+        (tests_text bound.now ++ (trails_text bound.now rightward.now
+        ++ optionals_text bound.now)) result }
+    ensures cause { HasCause (O.faults out.old) (O.faults out.new) result }
+{
+    put_tests(batch, out, bound)?;
+    put_later(batch, out, bound, rightward)
+}
+
+/// Puts how many alternatives a query has, and how many each part of it; and its trails, each by
+/// whether its arrow leads right.
 pub(crate) fn put_counts<O: Sink>(
     batch: &mut Batch,
     out: &mut O,
     bound: &Bound,
+    rightward: &List<bool>,
 ) -> Result<(), Failed>
     ensures bytes { Puts (O.taken out.old) (O.taken out.new) batch.old batch.new
-        (counts_text bound.now) result }
+        (counts_text bound.now rightward.now) result }
     ensures cause { HasCause (O.faults out.old) (O.faults out.new) result }
 {
     let count = [
@@ -117,5 +143,5 @@ pub(crate) fn put_counts<O: Sink>(
         Piece::Plain("\n"),
     ];
     put_pieces(batch, out, &count)?;
-    put_parts(batch, out, bound)
+    put_parts(batch, out, bound, rightward)
 }

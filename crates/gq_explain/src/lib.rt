@@ -9,6 +9,7 @@ mod pieces;
 mod plans;
 mod schema;
 mod steps;
+mod trails;
 
 pub use costs::write_costs;
 pub use plans::write_plan;

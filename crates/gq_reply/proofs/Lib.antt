@@ -1,5 +1,7 @@
+pub mod Arrowed
 pub mod Blanks
 pub mod OneTone
 pub mod Replying
 pub mod SetValue
 pub mod Spendings
+pub mod Walkable

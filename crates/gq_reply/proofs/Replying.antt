@@ -146,7 +146,6 @@ module _ (c : Context) (params : List Param) (statement : List ℕ) where
     pub unbound : (query : Query) → bind_refusal form statement c.graph.catalog ≡ first_refusal query statement c.graph.catalog → (e : BindRefusal) → Answers query statement c.graph.catalog (Err e)
         → IsReply c params statement (bind_tone e) (bind_line e)
     unbound query of bind.Memory refused = refl
-    unbound query of bind.NotBuilt refused = unbound_line bind.NotBuilt (of ∙ refused)
     unbound query of (bind.UnknownVariable name) refused = unbound_line (bind.UnknownVariable name) (of ∙ refused)
     unbound query of (bind.VariableConflict name) refused = unbound_line (bind.VariableConflict name) (of ∙ refused)
     unbound query of (bind.RelationshipRepeated name) refused = unbound_line (bind.RelationshipRepeated name) (of ∙ refused)
@@ -160,6 +159,8 @@ module _ (c : Context) (params : List Param) (statement : List ℕ) where
     unbound query of bind.TooManyReads refused = unbound_line bind.TooManyReads (of ∙ refused)
     unbound query of bind.TooManyColumns refused = unbound_line bind.TooManyColumns (of ∙ refused)
     unbound query of bind.TooManyAlternatives refused = unbound_line bind.TooManyAlternatives (of ∙ refused)
+    unbound query of bind.TrailLength refused = unbound_line bind.TrailLength (of ∙ refused)
+    unbound query of bind.TrailWithOptional refused = unbound_line bind.TrailWithOptional (of ∙ refused)
     unbound query of bind.ExistsPlace refused = unbound_line bind.ExistsPlace (of ∙ refused)
 
 -- ---- queries
@@ -189,7 +190,7 @@ module _ (c : Context) (params : List Param) (statement : List ℕ) (query : Que
     may_reply tone.Memory text is = is
 
   -- the plans of the query that a statement spells reply to it
-  pub may_show : SpelledText statement params (tree.Plan query) → IsBound query statement c.graph.catalog bound → (t : Tone) (text : List ℕ) → MayShow c bound t text → IsReply c params statement t text
+  pub may_show : SpelledText statement params (tree.Plan query) → IsBound query statement c.graph.catalog bound → (t : Tone) (text : List ℕ) → MayShow c query bound t text → IsReply c params statement t text
   may_show spelled binds tone.Good text is = inr (inr (inr (inl (record { query = query; bound = bound; spelled = spelled; binds = binds; is = is }))))
   may_show spelled binds tone.Refused text is = absurd is
   may_show spelled binds tone.Memory text is = is

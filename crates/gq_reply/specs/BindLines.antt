@@ -9,7 +9,6 @@ at_item item = record { before = codes " "; number = item }
 
 -- the line that names a refusal, and the name or the item that it is about
 abbrev pub bind_line : BindRefusal → List ℕ
-bind_line refusal.NotBuilt = refusal_line (codes "error: NotBuilt") [] []
 bind_line (refusal.UnknownVariable name) = refusal_line (codes "error: UnknownVariable ") name []
 bind_line (refusal.VariableConflict name) = refusal_line (codes "error: VariableConflict ") name []
 bind_line (refusal.RelationshipRepeated name) = refusal_line (codes "error: RelationshipRepeated ") name []
@@ -23,5 +22,7 @@ bind_line refusal.TooManyPatterns = refusal_line (codes "error: TooManyPatterns"
 bind_line refusal.TooManyReads = refusal_line (codes "error: TooManyReads") [] []
 bind_line refusal.TooManyColumns = refusal_line (codes "error: TooManyColumns") [] []
 bind_line refusal.TooManyAlternatives = refusal_line (codes "error: TooManyAlternatives") [] []
+bind_line refusal.TrailLength = refusal_line (codes "error: TrailLength") [] []
+bind_line refusal.TrailWithOptional = refusal_line (codes "error: TrailWithOptional") [] []
 bind_line refusal.ExistsPlace = refusal_line (codes "error: ExistsPlace") [] []
 bind_line refusal.Memory = refusal_line (codes "error: Memory") [] []

@@ -1,3 +1,4 @@
+pub mod Arrows
 pub mod BindLines
 pub mod Bindings
 pub mod ReplyTexts

@@ -94,7 +94,7 @@ pub record ShowsPlans (c : Context) (params : List Param) (statement text : List
   pub bound : Bound
   pub spelled : SpelledText statement params (tree.Plan query)
   pub binds : IsBound query statement c.graph.catalog bound
-  pub is : IsPlanText c.settings.order c.graph bound text
+  pub is : IsPlanText c.settings.order c.graph query bound text
 
 -- a parameter is set: a statement says so, there is room for it, and this is its line
 pub record Sets (params : List Param) (statement text : List ℕ) : Type 0 where

@@ -21,8 +21,10 @@ use Rattle.gq_plan.specs.declared.typed.Typed.{Typed}
 use Rattle.gq_render.specs.Listings.{ends_text, listing_text}
 use Rattle.gq_render.specs.Texts.{line, refusal_line}
 use Rattle.gq_pipe.specs.declared.pipeline.Spent.{Spent}
+use Rattle.gq_reply.specs.Arrows.{trail_arrows}
 use Rattle.gq_reply.specs.declared.replier.Form.{Form}
 use Rattle.gq_reply.specs.declared.replier.Form.TheVariants as form
+use Rattle.gq_syntax.specs.declared.statement.Query.{Query}
 
 -- the lines that say why there are no rows
 abbrev pub fault_text : Fault → List ℕ
@@ -66,14 +68,15 @@ costs_shown order.Given costs = []
 costs_shown order.Greedy costs = []
 costs_shown order.Least costs = costs_text costs
 
--- plans, and what they cost
-abbrev pub plans_text : Order → Bound → Tables → List code_plan.Plan → List ℕ → List (List (Option ℕ)) → List ℕ
-plans_text order bound catalog plans columns costs = plan_text bound catalog plans columns ++ costs_shown order costs
+-- plans, the trails of a query, and what the plans cost
+abbrev pub plans_text : Order → Query → Bound → Tables → List code_plan.Plan → List ℕ → List (List (Option ℕ)) → List ℕ
+plans_text order query bound catalog plans columns costs =
+    plan_text bound catalog plans columns (trail_arrows query.clauses) ++ costs_shown order costs
 
 -- the text of a query's plans in an order, by the sizes of the graph's tables; each covers its alternative
-pub record IsPlanText (order : Order) (graph : Graph) (bound : Bound) (text : List ℕ) : Type 0 where
+pub record IsPlanText (order : Order) (graph : Graph) (query : Query) (bound : Bound) (text : List ℕ) : Type 0 where
   pub plans : List code_plan.Plan
   pub costs : List (List (Option ℕ))
   pub are : ArePlansIn order graph bound.alternatives (map plan_of plans) costs
   pub covers : AllZip (Covers graph.catalog) bound.alternatives (map plan_of plans)
-  pub is : text ≡ plans_text order bound graph.catalog plans (columns_each bound.alternatives plans) costs
+  pub is : text ≡ plans_text order query bound graph.catalog plans (columns_each bound.alternatives plans) costs

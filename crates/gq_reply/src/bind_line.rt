@@ -19,7 +19,6 @@ pub fn write_bind_refusal<O: Sink>(out: &mut O, refusal: &BindRefusal) -> Result
     ensures cause { HasCause (O.faults out.old) (O.faults out.new) result }
 {
     match refusal {
-        BindRefusal::NotBuilt => alone(out, "error: NotBuilt"),
         BindRefusal::UnknownVariable { name } => named(out, "error: UnknownVariable ", name),
         BindRefusal::VariableConflict { name } => named(out, "error: VariableConflict ", name),
         BindRefusal::RelationshipRepeated { name } => {
@@ -35,6 +34,8 @@ pub fn write_bind_refusal<O: Sink>(out: &mut O, refusal: &BindRefusal) -> Result
         BindRefusal::TooManyReads => alone(out, "error: TooManyReads"),
         BindRefusal::TooManyColumns => alone(out, "error: TooManyColumns"),
         BindRefusal::TooManyAlternatives => alone(out, "error: TooManyAlternatives"),
+        BindRefusal::TrailLength => alone(out, "error: TrailLength"),
+        BindRefusal::TrailWithOptional => alone(out, "error: TrailWithOptional"),
         BindRefusal::ExistsPlace => alone(out, "error: ExistsPlace"),
         BindRefusal::Memory => alone(out, "error: Memory"),
     }

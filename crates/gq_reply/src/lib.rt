@@ -4,6 +4,7 @@
 //! `gq_execute`, which answers it, and on `gq_render` and `gq_explain`, which write.
 #![tactic(auto)]
 
+mod arrows;
 mod bind_line;
 mod blank;
 mod param;

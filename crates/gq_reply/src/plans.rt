@@ -1,6 +1,6 @@
 //! The reply to a statement that asks for the plans of a query.
 
-ghost use Rattle.std.specs.Prelude.{◌≡◌, ◌<◌, All, IfOk, length};
+ghost use Rattle.std.specs.Prelude.{◌≡◌, ◌<◌, ◌++◌, All, IfOk, length};
 ghost use Rattle.std.specs.List.{AllZip};
 ghost use Rattle.gq_io.specs.Causes.{HasCause};
 ghost use Rattle.gq_io.specs.Outside.{Writes};
@@ -8,10 +8,13 @@ ghost use Rattle.gq_plan.specs.Columns.{FitsSound};
 ghost use Rattle.gq_plan.specs.Soundness.{IsSound};
 ghost use Rattle.gq_plan.specs.Plans.{plan_of};
 ghost use Rattle.gq_reply.specs.Replies.{context_of};
-ghost use Rattle.gq_reply.specs.ReplyTexts.{columns_each, costs_shown, plans_text};
+ghost use Rattle.gq_explain.specs.Plans.{plan_text};
+ghost use Rattle.gq_reply.specs.Arrows.{trail_arrows};
+ghost use Rattle.gq_reply.specs.ReplyTexts.{columns_each, costs_shown};
 ghost use Rattle.gq_reply.specs.steps.Steps.{MayShow, Replied};
 ghost use Rattle.gq_session.specs.Sessions.{span_of};
 
+use crate::arrows::trail_arrows;
 use crate::replier::Replier;
 use crate::tone::toned;
 use gq_base::{List, Memory};
@@ -20,6 +23,7 @@ use gq_explain::{write_costs, write_plan};
 use gq_io::{Failed, Sink, write_all};
 use gq_plan::{Bound, Plan, Typed, columns};
 use gq_session::Tone;
+use gq_syntax::Query;
 use std::alloc::Global;
 
 // How many columns the pipeline of each plan fills.
@@ -51,33 +55,43 @@ fn write_shown<O: Sink>(
 }
 
 impl Replier<'_> {
-    // Writes the plans of a query, each with this number of columns, and what they cost.
+    // Writes the plans of a query, each with this number of columns, its trails, each by whether its
+    // arrow leads right, and what the plans cost.
     fn write_plans<O: Sink>(
         &self,
         out: &mut O,
         bound: &Bound,
         made: &QueryPlans,
         columns: &List<u32>,
+        arrows: &List<bool>,
     ) -> Result<(), Failed>
         requires plans { length made.now.plans ≡ length bound.now.alternatives }
         requires columns { length columns.now ≡ length bound.now.alternatives }
+        requires arrows { length arrows.now ≡ length bound.now.trails }
         ensures bytes { let tables = self.now.graph.now.catalog in
             let order = self.now.settings.order in
             Writes (O.taken out.old) (O.taken out.new)
-            (plans_text order bound.now tables made.now.plans columns.now made.now.costs) result }
+            (plan_text bound.now tables made.now.plans columns.now arrows.now
+            ++ costs_shown order made.now.costs) result }
         ensures cause { HasCause (O.faults out.old) (O.faults out.new) result }
     {
-        match write_plan(out, self.graph, bound, &made.plans, columns) {
+        match write_plan(out, self.graph, bound, &made.plans, columns, arrows) {
             Ok(()) => write_shown(out, self.settings.order, &made.costs),
             Err(Failed) => Err(Failed),
         }
     }
 
     /// Replies to a statement that asks for the plans of a bound query: with their text. The query is not run.
-    pub(crate) fn reply_to_plan<O: Sink>(&self, out: &mut O, bound: &Bound) -> Result<Tone, Failed>
+    pub(crate) fn reply_to_plan<O: Sink>(
+        &self,
+        out: &mut O,
+        query: &Query,
+        bound: &Bound,
+    ) -> Result<Tone, Failed>
         requires sound { All (IsSound self.now.graph.now.catalog) bound.now.alternatives }
         requires begins { All (λ y. 0 < length y.nodes) bound.now.alternatives }
-        ensures { Replied (MayShow (context_of self.now) bound.now)
+        requires arrows { length (trail_arrows query.now.clauses) ≡ length bound.now.trails }
+        ensures { Replied (MayShow (context_of self.now) query.now bound.now)
             (span_of O.taken O.faults out.old out.new) result }
     {
         let Ok(made) = plans(self.alloc, self.graph, bound, self.settings.order) else {
@@ -87,6 +101,12 @@ impl Replier<'_> {
         let Ok(counts) = column_counts(self.alloc, alternatives, made.plans.as_slice()) else {
             return toned(write_all(out, b"error: Memory\n"), Tone::Memory);
         };
-        toned(self.write_plans(out, bound, &made, &counts), Tone::Good)
+        let Ok(arrows) = trail_arrows(self.alloc, query.clauses.as_slice()) else {
+            return toned(write_all(out, b"error: Memory\n"), Tone::Memory);
+        };
+        toned(
+            self.write_plans(out, bound, &made, &counts, &arrows),
+            Tone::Good,
+        )
     }
 }

@@ -1,6 +1,6 @@
 //! The reply to a query that is bound.
 
-ghost use Rattle.std.specs.Prelude.{◌≡◌, ◌≤◌, ◌<◌, All, length};
+ghost use Rattle.std.specs.Prelude.{◌≡◌, ◌≤◌, ◌<◌, ◌+◌, [], All, length, nat_lt};
 ghost use Rattle.gq_io.specs.Causes.{HasCause};
 ghost use Rattle.gq_io.specs.Outside.{Writes};
 ghost use Rattle.gq_plan.specs.Soundness.{IsSound};
@@ -9,6 +9,7 @@ ghost use Rattle.gq_reply.specs.Replies.{context_of};
 ghost use Rattle.gq_reply.specs.ReplyTexts.{fault_text, many_text, rows_text};
 ghost use Rattle.gq_reply.specs.steps.Steps.{Asks, answer_text};
 ghost use Rattle.gq_session.specs.Sessions.{span_of};
+ghost use Rattle.gq_trails.specs.Trekking.{AreInTurn, HasLength};
 ghost use Rattle.gq_wide.specs.Placed.{IsPlaced};
 
 use crate::replier::{Form, Replier};
@@ -108,6 +109,13 @@ impl Replier<'_> {
             All (λ y. length y.nodes ≤ most) bound.now.alternatives }
         requires rels { let most = length bound.now.rel_names in
             All (λ y. length y.rels ≤ most) bound.now.alternatives }
+        requires trails { All HasLength bound.now.trails }
+        requires ends { All (λ p. p.to < length bound.now.node_names) bound.now.trails }
+        requires turns { let turn = AreInTurn bound.now.trails in
+            All (λ y. turn (λ v. nat_lt v (length y.nodes))) bound.now.alternatives }
+        requires few { let count = length bound.now.trails in
+            All (λ y. count + length y.rels ≤ 24) bound.now.alternatives }
+        requires apart { (bound.now.optionals ≡ [] → ⊥) → bound.now.trails ≡ [] }
         requires slots { 112 ≤ spare_of pool.old }
         ensures asks { Asks (context_of self.now) profiled bound.now
             (span_of O.taken O.faults out.old out.new) result }

@@ -79,7 +79,7 @@ impl Replier<'_> {
             (span_of O.taken O.faults out.old out.new) result }
     {
         match bind(self.alloc, query, statement, self.graph.catalog()) {
-            Ok(bound) => self.reply_to_plan(out, &bound),
+            Ok(bound) => self.reply_to_plan(out, query, &bound),
             Err(refusal) => toned(write_bind_refusal(out, &refusal), tone_of(&refusal)),
         }
     }

@@ -59,10 +59,10 @@ answer_text c true bound spent lines = spent_text 1 spent ++ rows_text c.form c.
 answer_text c false bound spent lines = rows_text c.form c.graph bound lines
 
 -- the plans of a query that is bound, by their text
-abbrev pub MayShow : Context → Bound → Tone → List ℕ → Type 0
-MayShow c bound tone.Good text = IsPlanText c.settings.order c.graph bound text
-MayShow c bound tone.Refused text = ⊥
-MayShow c bound tone.Memory text = text ≡ memory_line
+abbrev pub MayShow : Context → Query → Bound → Tone → List ℕ → Type 0
+MayShow c query bound tone.Good text = IsPlanText c.settings.order c.graph query bound text
+MayShow c query bound tone.Refused text = ⊥
+MayShow c query bound tone.Memory text = text ≡ memory_line
 
 -- the replies to a statement that sets a parameter
 abbrev pub MaySet : List Param → Name → Literal → Tone → List ℕ → Type 0

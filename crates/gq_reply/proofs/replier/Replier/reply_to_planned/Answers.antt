@@ -1,11 +1,15 @@
 use Rattle.std.proofs.Common.{Err, refl, subst}
 use Rattle.gq_binder.specs.Binding.{Answers}
+use Rattle.gq_reply.proofs.Arrowed.{arrows_long}
 use Rattle.gq_reply.proofs.Replying.{begun, may_show, replied, replied_as, unbound}
 use Rattle.gq_syntax.specs.declared.statement.Statement.TheVariants as tree
 use Rattle.gq_reply.proofs.replier.Replier.reply_to_planned.Goals as goal
 
 pub reply_to_plan-requires-clause-begins : goal.reply_to_plan-requires-clause-begins
 reply_to_plan-requires-clause-begins g c = begun _ _ _ _ (rw c.catalog.ensures.value at c.in-Ok.ensures)
+
+pub reply_to_plan-requires-clause-arrows : goal.reply_to_plan-requires-clause-arrows
+reply_to_plan-requires-clause-arrows g c = arrows_long _ _ _ _ (rw c.catalog.ensures.value at c.in-Ok.ensures)
 
 pub returns-in-Ok : goal.returns-in-Ok
 returns-in-Ok g c = λ params spelled.
