@@ -72,6 +72,7 @@ static void answer(const Graph& graph, const std::string& line) {
 
 int main(int count, char** words) {
   if (count != 3 && count != 5) stop("usage: floor KIND FOLDER [NAME REPLY]");
+  std::ios::sync_with_stdio(false);
   const std::unique_ptr<Graph> graph = load(words[1], words[2]);
   if (count == 5) return judge(*graph, words[3], words[4]);
   printf("LOADED\n");
@@ -80,6 +81,6 @@ int main(int count, char** words) {
   while (getline(std::cin, line)) {
     answer(*graph, line);
     printf("DONE\n");
-    fflush(stdout);
+    if (std::cin.rdbuf()->in_avail() <= 0) fflush(stdout);  // all jobs that came in one go are told at once
   }
 }

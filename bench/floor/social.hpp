@@ -28,6 +28,10 @@ class Social : public Graph {
   void two_lists_limit(Reply&, const Parameters&) const;
   void triangle(Reply&, const Parameters&) const;
   void close_triangles(Reply&, Front&, uint32_t a, uint32_t first, const std::vector<uint32_t>& back) const;
+  template <uint32_t MOST, class Each> void walk(uint32_t start, Each each) const;
+  void trail(Reply&, const Parameters&) const;
+  void trail_of_some(Reply&, const Parameters&) const;
+  void trail_between(Reply&, const Parameters&) const;
   void no_path(Reply&, const Parameters&) const;
   void each_or_null(Reply&, const Parameters&) const;
   void single_hop(Reply&, const Parameters&) const;
@@ -63,6 +67,10 @@ inline Social::Social(const std::string& folder)
       {"two_hops", [this](Reply& out, const Parameters& given) { two_hops(out, given); }},
       {"two_lists_limit", [this](Reply& out, const Parameters& given) { two_lists_limit(out, given); }},
       {"triangle", [this](Reply& out, const Parameters& given) { triangle(out, given); }},
+      {"trail", [this](Reply& out, const Parameters& given) { trail(out, given); }},
+      {"trail_of_some", [this](Reply& out, const Parameters& given) { trail_of_some(out, given); }},
+      {"trail_to", [this](Reply& out, const Parameters& given) { trail_between(out, given); }},
+      {"trail_between", [this](Reply& out, const Parameters& given) { trail_between(out, given); }},
       {"no_path", [this](Reply& out, const Parameters& given) { no_path(out, given); }},
       {"each_or_null", [this](Reply& out, const Parameters& given) { each_or_null(out, given); }},
       {"single_hop", [this](Reply& out, const Parameters& given) { single_hop(out, given); }},

@@ -175,6 +175,67 @@ inline void Social::close_triangles(Reply& out, Front& front, uint32_t a, uint32
   }
 }
 
+// Whether a relationship is one of the walk's, of which `next` has the place behind that of each.
+inline bool stands(uint32_t place, const uint32_t* next, uint32_t length) {
+  for (uint32_t i = 0; i < length; i++)
+    if (next[i] - 1 == place) return true;
+  return false;
+}
+// Calls `each` with all walks from a node of one to `MOST` relationships KNOWS, none twice: where it ends, and its places.
+template <uint32_t MOST, class Each> inline void Social::walk(uint32_t start, Each each) const {
+  const Lists& to = knows.forward;
+  uint32_t next[MOST], last[MOST], depth = 0;
+  next[0] = to.begin(start);
+  last[0] = to.end(start);
+  while (true) {
+    if (next[depth] == last[depth]) {
+      if (depth-- == 0) return;
+      continue;
+    }
+    const uint32_t place = next[depth]++;
+    if (stands(place, next, depth)) continue;
+    const uint32_t node = to.neighbours[place];
+    each(node, next, depth + 1);
+    if (depth + 1 == MOST) continue;
+    next[++depth] = to.begin(node);
+    last[depth] = to.end(node);
+  }
+}
+
+inline void Social::trail(Reply& out, const Parameters& given) const {
+  walk<3>(people_keys.row(given[0]), [&](uint32_t b, const uint32_t*, uint32_t) {
+    out.number(person_id[b]);
+    out.end();
+  });
+}
+
+inline void Social::trail_of_some(Reply& out, const Parameters& given) const {
+  Front front;
+  for (uint32_t a = 0; a < people.rows; a++) {
+    if (age.nulls[a] || age.values[a] != given[0] || person_id[a] > given[1]) continue;
+    front.cut(0);
+    front.number(person_id[a]);
+    walk<3>(a, [&](uint32_t b, const uint32_t*, uint32_t) { out.row(front, person_id[b]); });
+  }
+}
+
+// Marks who knows the one at the end, walks two relationships at most, and goes through the list of who is marked.
+inline void Social::trail_between(Reply& out, const Parameters& given) const {
+  const Lists &to = knows.forward, &from = knows.backward;
+  const uint32_t a = people_keys.row(given[0]), b = people_keys.row(given[1]);
+  std::vector<bool> knowing(people.rows);
+  for (uint32_t at = from.begin(b); at < from.end(b); at++) knowing[from.neighbours[at]] = true;
+  Front front;
+  front.number(given[0]);
+  auto close = [&](uint32_t node, const uint32_t* next, uint32_t length) {
+    if (!knowing[node]) return;
+    for (uint32_t place = to.begin(node); place < to.end(node); place++)
+      if (to.neighbours[place] == b && !stands(place, next, length)) out.row(front, given[1]);
+  };
+  close(a, nullptr, 0);
+  walk<2>(a, close);
+}
+
 inline void Social::single_hop(Reply& out, const Parameters& given) const {
   for (uint32_t p = 0; p < people.rows; p++) {
     const uint32_t town = homes[p];

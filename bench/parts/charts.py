@@ -1,4 +1,5 @@
 """The charts, drawn by gnuplot as SVG where it is there: each query's ratio to the floor, and how times grow with the graph."""
+import glob
 import os
 import shutil
 import subprocess
@@ -79,10 +80,13 @@ def growth(graphs, kind, path):
 
 
 def all_charts(graphs, folder):
-    """Draws the charts of a run into a folder, and gives their names; none where gnuplot is not there."""
+    """Draws the charts of a run into a folder, in place of those of the run before, and gives their names; none where gnuplot is
+    not there."""
     names = []
     if not shutil.which("gnuplot"):
         return names
+    for old in [*glob.glob(os.path.join(folder, "ratio-*.svg")), *glob.glob(os.path.join(folder, "growth-*.svg"))]:
+        os.remove(old)
     for graph in graphs:
         name = f"ratio-{graph['kind']}-{graph['count']}.svg"
         if ratios(graph, os.path.join(folder, name)):

@@ -1,17 +1,21 @@
 """Measures one graph: the loads, and each query by the programs that are there, in turns. All write to the null device.
 
-The floor and sqlite3 are asked again and again. Of graphq the median of runs with empty input is taken off the median of runs
-with k copies of the statement, and the rest is divided by k; k rises until the copies stand out from the load."""
+Each program loads the graph once and is asked again and again. A measure is the processor time of so many requests in one go that
+they stand out from the time that it takes to wake a process, through their number; a request goes before, so that its caches are
+warm. The least measure counts: whatever else the machine does makes a measure greater, and never less."""
+import math
 import os
 import shutil
-import statistics
 
-from .engine import Graphq
+from .engine import calls_of
 from .judge import Judge
-from .queries import QUERIES
-from .session import Floor, Sqlite, Stopped
+from .queries import QUERIES, busy
+from .session import Engine, Floor, Session, Sqlite, Stopped
 
-LONG = 5  # seconds: what takes longer is measured once
+ENOUGH = 0.03  # seconds that the requests of one measure take at least
+MOST_COPIES = 100
+LONG = 2       # seconds: the measures of one program and query take no longer, but for the first
+LOADS = 10     # seconds: the loads of one program take no longer, but for the first
 
 
 class Bench:
@@ -19,9 +23,9 @@ class Bench:
 
     def __init__(self, options, kept, kind, count):
         self.options, self.kept, self.kind, self.count = options, kept, kind, count
-        self.folder = kept.graph(kind, count)
-        self.room = kept.room
-        self.floor = self.sqlite = self.judge = None
+        self.folder, self.room = kept.graph(kind, count), kept.room
+        self.floor = self.sqlite = self.engine = self.judge = self.judged = None
+        self.order = ["--order", options.order] if options.order else []
         self.failures = []
 
     def place(self, name):
@@ -34,78 +38,91 @@ class Bench:
 
     def loads(self):
         """Starts the programs, and gives the seconds of each one's load, its peak, and what it holds afterwards."""
-        loads, program = {}, self.kept.program("floor")
+        loads, program, limit = {}, self.kept.program("floor"), self.options.timeout
         if program:
-            times = []
-            for _ in range(3):
-                if self.floor:
-                    self.floor.close()
-                self.floor = Floor(program, self.kind, self.folder, self.options.timeout)
-                times.append(self.floor.load)
-            loads["C++"] = {"seconds": statistics.median(times), "peak_mb": self.floor.load_peak, "resident_mb": self.floor.resident}
+            self.floor = Floor(program, self.kind, self.folder, limit)
             self.judge = Judge(self.kept.program("bag"), program, self.kind, self.folder)
+        try:  # one has its replies checked, the other is measured
+            self.judged = Engine(self.options.graphq, self.order, self.folder, limit, self.place("graphq"))
+            self.engine = Engine(self.options.graphq, self.order, self.folder, limit)
+        except Stopped as why:
+            self.fail(f"no load: {why}: {self.first_line() or 'it wrote nothing'}")
         if shutil.which("sqlite3"):
-            self.sqlite = Sqlite(self.kind, self.folder, self.options.timeout)
-            loads["sqlite3"] = {"seconds": self.sqlite.load, "peak_mb": self.sqlite.load_peak, "resident_mb": self.sqlite.resident}
-        order = ["--order", self.options.order] if self.options.order else []
-        self.engine = Graphq(self.options.graphq, order, self.kept.program("once"), self.folder, self.room, self.options.timeout)
-        why = self.engine.loaded(max(3, self.options.repeat))
-        if why:
-            self.fail(why)
-        else:
-            loads["graphq"] = {"seconds": self.engine.load(), "peak_mb": self.engine.load_peak, "resident_mb": self.engine.resident()}
+            self.sqlite = Sqlite(self.kind, self.folder, limit)
+        again = [one for one in (self.floor, self.engine) if one]
+        seconds = {one: [one.load] for one in again}
+        for _ in range(self.options.repeat - 1):
+            for one in [one for one in again if sum(seconds[one]) < LOADS]:
+                one.again()
+                seconds[one].append(one.load)
+        for one in filter(None, (self.floor, self.sqlite, self.engine)):
+            least = min(seconds.get(one, [one.load]))
+            loads[one.name] = {"seconds": least, "peak_mb": one.load_peak, "resident_mb": one.resident}
         return loads
+
+    def first_line(self):
+        """The first line of graphq's last reply."""
+        with open(self.place("graphq"), encoding="utf8", errors="replace") as file:
+            return file.readline().rstrip("\n")
 
     def queries(self, only):
         """What was measured of each query, one after another."""
-        if self.engine.empty:
-            for query in QUERIES[self.kind](self.count):
-                if not only or query.name in only:
-                    yield Turns(self, query).result()
+        start = busy(self.folder) if self.kind == "social" else 1
+        for query in QUERIES[self.kind](self.count, start) if self.engine else []:
+            if not only or query.name in only:
+                yield Turns(self, query).result()
 
     def close(self):
-        for session in (self.floor, self.sqlite):
-            if session:
-                session.close()
+        for session in filter(None, (self.floor, self.sqlite, self.judged, self.engine)):
+            session.close()
 
 
 class Turns:
-    """One query: its first answers, which are checked and warm up, and then its measures in turns."""
+    """One query: its first answers, which are checked, and then its measures in turns."""
 
     def __init__(self, bench, query):
-        self.bench, self.query, self.text = bench, query, query.text + ";"
-        self.notes, self.left, self.times, self.peaks = [], {}, {}, {}
-        self.copies, self.rows, self.calls = 1, None, None
+        self.bench, self.query = bench, query
+        self.notes, self.peaks, self.copies, self.times = [], {}, {}, {}
+        self.rows, self.calls = None, None
 
     def result(self):
         wanted = self.first_floor()
         self.first_sqlite(wanted)
         self.first_graphq(wanted)
         for turn in range(self.bench.options.repeat):
-            for program in [one for one, count in self.left.items() if turn < count]:
-                self.measure(program)
+            for session in [one for one, times in self.times.items() if len(times) == turn and self.left(one)]:
+                self.measure(session)
         answer = {"query": self.query.name, "subject": self.query.subject, "text": self.query.text, "rows": self.rows}
-        answer["seconds"] = {who.name: statistics.median(times) for who, times in self.times.items() if times}
-        if "graphq" in answer["seconds"]:
-            answer["seconds"]["graphq"], answer["below"] = self.added()
-        return answer | {"peak_mb": self.peaks, "copies": self.copies, "notes": self.notes, "calls": self.calls}
+        times = {session.name: sorted(times) for session, times in self.times.items() if times}
+        answer["seconds"] = {name: all_of[0] for name, all_of in times.items()}
+        answer["second"] = {name: all_of[1] for name, all_of in times.items() if len(all_of) > 1}
+        answer["copies"] = {session.name: copies for session, copies in self.copies.items()}
+        return answer | {"peak_mb": self.peaks, "notes": self.notes, "calls": self.calls}
 
-    def begin(self, session, name, repeat):
-        """The first answer of a session goes to a file of its own."""
+    def left(self, session):
+        """Whether there is time for one more measure."""
+        times = self.times[session]
+        return not times or (sum(times) + min(times)) * self.copies[session] <= LONG
+
+    def begin(self, session):
+        """The first request that is not checked: how long it takes says how many make a measure."""
         session.forget_peak()
-        seconds = session.once(self.query, self.bench.place(name))
+        seconds = session.measure(self.query)
         self.peaks[session.name] = session.peak()
-        self.left[session], self.times[session] = 1 if seconds > LONG else repeat, []
+        self.copies[session] = max(1, min(MOST_COPIES, math.ceil(ENOUGH / max(seconds, 1e-6))))
+        self.times[session] = []
 
     def first_floor(self):
         """The bag of the floor's answer."""
-        if not self.bench.floor:
+        floor = self.bench.floor
+        if not floor:
             return None
-        self.begin(self.bench.floor, "floor", self.bench.options.repeat)
+        floor.measure(self.query, out=self.bench.place("floor"))
         wanted = self.bench.judge.bag(self.query, self.bench.place("floor"))
         if wanted[0] == "BAD":
             raise SystemExit(f"bench/run: the floor's answer to {self.query.name}: {' '.join(wanted)}")
         self.rows = int(wanted[0])
+        self.begin(floor)
         return wanted
 
     def first_sqlite(self, wanted):
@@ -113,7 +130,11 @@ class Turns:
         if not sqlite:
             return
         try:
-            self.begin(sqlite, "sqlite", self.bench.options.repeat)
+            seconds = sqlite.measure(self.query, out=self.bench.place("sqlite"))
+            if seconds < LONG:
+                self.begin(sqlite)
+            else:  # it is as good a measure as one more
+                self.copies[sqlite], self.times[sqlite], self.peaks["sqlite3"] = 1, [seconds], sqlite.peak()
         except Stopped as why:
             self.give_up(sqlite, why)
             return
@@ -122,48 +143,41 @@ class Turns:
             self.bench.fail(f"{self.query.name}: sqlite3's answer is not the floor's: {wrong}")
 
     def first_graphq(self, wanted):
-        engine, path = self.bench.engine, self.bench.place("graphq")
-        first = engine.run(self.text, path)
-        self.peaks["graphq"] = first.peak
-        with open(path, encoding="utf8", errors="replace") as file:
-            line = file.readline().rstrip("\n")
-        if line.startswith("error: ") and first.end.startswith("status "):
+        bench, path = self.bench, self.bench.place("graphq")
+        try:
+            bench.judged.measure(self.query)
+        except Stopped as why:
+            self.give_up(bench.judged, why)
+            return
+        line = bench.first_line()
+        if line.startswith("error: "):
             self.notes.append(line)
             return
-        wrong = f"{first.end} after {line[:80]!r}" if first.end != "status 0" else None
-        wrong = wrong or wanted and self.bench.judge.wrong(self.query, path, wanted)
+        wrong = wanted and bench.judge.wrong(self.query, path, wanted)
         if wrong:
             self.notes.append("WRONG: " + wrong)
-            self.bench.fail(f"{self.query.name}: {wrong}")
+            bench.fail(f"{self.query.name}: {wrong}")
             return
-        long = first.seconds > LONG
-        self.copies = 1 if long else engine.copies(self.text)
-        self.left[engine], self.times[engine] = 1 if long else self.bench.options.repeat, []
-        if shutil.which("strace") and self.bench.options.calls:
-            self.calls = engine.calls(self.text)
+        try:
+            self.begin(bench.engine)
+        except Stopped as why:
+            self.give_up(bench.engine, why)
+        if shutil.which("strace") and bench.options.calls:
+            self.calls = calls_of(bench.engine.command, self.query.text + ";", bench.folder, bench.room)
 
-    def measure(self, program):
-        if program is not self.bench.engine:
-            try:
-                self.times[program].append(program.measure(self.query))
-            except Stopped as why:
-                self.give_up(program, why)
-            return
-        program.load_once()
-        run = program.run(self.text * self.copies)
-        self.times[program].append(run.seconds)
-        self.peaks["graphq"] = max(self.peaks["graphq"], run.peak)
-        if run.end != "status 0":
-            self.bench.fail(f"{self.query.name}: {run.end} with {self.copies} copies of the statement in one run")
+    def measure(self, session):
+        copies = self.copies[session]
+        try:
+            if copies > 1:
+                session.measure(self.query)
+            self.times[session].append(session.measure(self.query, copies))
+        except Stopped as why:
+            self.give_up(session, why)
 
-    def give_up(self, sqlite, why):
-        """A query that sqlite3 does not end: it is loaded anew for the next."""
-        self.left[sqlite] = 0
-        self.notes.append(f"sqlite3: {why}")
-        sqlite.again()
-
-    def added(self):
-        """graphq's seconds for one copy; and whether they do not stand out from the noise, which is then given instead."""
-        engine = self.bench.engine
-        more, noise = statistics.median(self.times[engine]) - engine.load(), engine.noise()
-        return (more if more > noise else noise) / self.copies, more <= noise
+    def give_up(self, session: Session, why):
+        """A query that a program does not end: it is loaded anew for the next. That graphq does not is a failure."""
+        self.times.pop(session, None)
+        self.notes.append(f"{session.name}: {why}")
+        if session.name == "graphq":
+            self.bench.fail(f"{self.query.name}: {why}")
+        session.again()

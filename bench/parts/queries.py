@@ -1,8 +1,11 @@
 """The queries, each as graphq's text and as the SQL that a good user would write for the same bag of rows.
 
 No join to a table of which only the key is listed; LIVES_IN is the column person.city, and HAS_CREATOR the column post.creator;
-the relationships of one MATCH are kept apart by their row numbers. The hand-written C++ has a job of the query's name.
+the relationships of one MATCH are kept apart by their row numbers, and a trail is one join for each length that it may have, which
+takes less time than a recursive query that carries a path. The hand-written C++ has a job of the query's name.
 """
+import itertools
+import os
 from dataclasses import dataclass
 
 
@@ -71,6 +74,49 @@ def hops(hundredth, tenth):
     ]
 
 
+def walks(columns, first="knows k1", where="", last=""):
+    """The SQL of all walks of one to three relationships KNOWS that take none twice, where `last` is asked of the last one's row."""
+    selects, joined, apart = [], f" FROM {first}", [where]
+    for length in (1, 2, 3):
+        if length > 1:
+            joined += f" JOIN knows k{length} ON k{length}.src = k{length - 1}.dst"
+            apart += [f"k{before}.rowid <> k{length}.rowid" for before in range(1, length)]
+        asked = " AND ".join(filter(None, [*apart, last.format(length)]))
+        selects.append(f"SELECT {columns.format(length)}{joined} WHERE {asked}")
+    return " UNION ALL ".join(selects)
+
+
+def trails(start, tenth):
+    """From one person, who is busy, so that the walks are the work; from some; and to one person, whom many know."""
+    end = 1
+    between = walks("k1.src, k{}.dst", where=f"k1.src = {start}", last=f"k{{}}.dst = {end}")
+    return [
+        Query("trail", "walks of one to three from one node",
+              f"MATCH (a:Person {{id: {start}}})-[:KNOWS*1..3]->(b) RETURN b.id",
+              walks("k{}.dst", where=f"k1.src = {start}"), "i", (start,)),
+        Query("trail_of_some", "the same from some",
+              f"MATCH (a:Person)-[:KNOWS*1..3]->(b) WHERE a.age = 30 AND a.id <= {tenth} RETURN a.id, b.id",
+              walks("a.id, k{}.dst", "person a JOIN knows k1 ON k1.src = a.id", f"a.age = 30 AND a.id <= {tenth}"),
+              "ii", (30, tenth)),
+        Query("trail_to", "the same to one node, by its key",
+              f"MATCH (a:Person {{id: {start}}})-[:KNOWS*1..3]->(b:Person {{id: {end}}}) RETURN a.id, b.id",
+              between, "ii", (start, end)),
+        Query("trail_between", "the same between two nodes that are found before",
+              f"MATCH (a:Person {{id: {start}}}), (b:Person {{id: {end}}}), (a)-[:KNOWS*1..3]->(b) RETURN a.id, b.id",
+              between, "ii", (start, end)),
+    ]
+
+
+def busy(folder):
+    """The first person of a social graph from whom a hundred relationships KNOWS go, or more; or the first of all."""
+    with open(os.path.join(folder, "knows.csv"), encoding="utf8") as file:
+        next(file)
+        for person, lines in itertools.groupby(file, lambda line: line.partition(",")[0]):
+            if sum(1 for _ in lines) >= 100:
+                return int(person)
+    return 1
+
+
 def joins(few, hundredth):
     return [
         Query("single_hop", "along a single relationship, with a filter on its far end",
@@ -112,15 +158,16 @@ def windows(tenth):
     ]
 
 
-def social(count):
+def social(count, start=1):
+    """`start` is the person from whom the trails of one person go."""
     few, hundredth, tenth = max(5, count // 1000), max(20, count // 100), max(50, count // 10)
     listing = Query("every_relationship", "every relationship with a property",
                     "MATCH (a:Person)-[r:KNOWS]->(b:Person) RETURN a.id, b.id, r.since",
                     "SELECT src, dst, since FROM knows", "iii")
-    return filters() + hops(hundredth, tenth) + joins(few, hundredth) + windows(tenth) + [listing]
+    return filters() + hops(hundredth, tenth) + trails(start, tenth) + joins(few, hundredth) + windows(tenth) + [listing]
 
 
-def star(count):
+def star(count, _start=1):
     share = max(1, 1_000_000 // count)  # of a thousand weights, so that some thousand leaves of each list are kept
     share = min(share, 500)
     return [
@@ -135,9 +182,9 @@ def star(count):
     ]
 
 
-def integer_keys(_count):
+def integer_keys(_count, _start=1):
     return [Query("every_name", "one column of texts", "MATCH (p:Person) RETURN p.name", "SELECT name FROM person", "s")]
 
 
 QUERIES = {"social": social, "star": star, "integer_keys": integer_keys,
-           "text_keys": lambda _count: [], "chosen_keys": lambda _count: []}
+           "text_keys": lambda *_: [], "chosen_keys": lambda *_: []}

@@ -3,6 +3,8 @@ import json
 import math
 
 PROGRAMS = ("C++", "sqlite3", "graphq")
+FROM, TO = "<!-- from here on by bench/run --page -->", "<!-- up to here -->"
+ROUGH = 1.2  # a number is rough whose second least measure is more than so many times the least
 
 
 def number(value, digits=3):
@@ -36,12 +38,10 @@ def loads(graph):
 
 def query_row(answer):
     seconds, peaks = answer["seconds"], answer["peak_mb"]
-    below = "<" if answer.get("below") else ""
     milliseconds = [number(1000 * seconds[one]) if one in seconds else "-" for one in PROGRAMS]
     ratios = [number(ratio(seconds, one), 2) for one in PROGRAMS[1:]]
-    if below:
-        milliseconds[2], ratios[1] = below + milliseconds[2], below + ratios[1]
-    notes = [f"{answer['copies']} copies"] * (answer["copies"] > 1) + answer["notes"]
+    rough = [one for one in PROGRAMS if one in answer["second"] and answer["second"][one] > ROUGH * seconds[one]]
+    notes = ["rough: " + ", ".join(rough)] * bool(rough) + answer["notes"]
     if answer["calls"]:
         notes.append(", ".join(f"{count} calls of {name}" for name, count in answer["calls"].items()))
     rows = f"{answer['rows']:,}" if answer["rows"] is not None else "-"
@@ -62,6 +62,41 @@ def graph_text(graph):
     if graph["queries"]:
         parts.append(table(HEADER, [query_row(answer) for answer in graph["queries"]]))
     return "\n\n".join(parts)
+
+
+def page_text(graphs):
+    """What a page gets: of each graph with queries the C++'s milliseconds, and the others' times as multiples of it; and all loads."""
+    shown = lambda seconds: [number(1000 * seconds["C++"], 2) if "C++" in seconds else "-",
+                             *(number(ratio(seconds, one), 2) for one in PROGRAMS[1:])]
+    parts = []
+    for graph in [one for one in graphs if one["queries"]]:
+        rows = [[answer["subject"], f"{answer['rows']:,}" if answer["rows"] is not None else "-", *shown(answer["seconds"])]
+                for answer in graph["queries"]]
+        header = [f"`{graph['kind']}:{graph['count']}`", "rows", "C++, ms", "sqlite3 / C++", "graphq / C++"]
+        parts.append(table(header, rows))
+    rows = [[f"`{graph['kind']}:{graph['count']}`", number(graph["bytes"] / 1e6, 2), *(load_cell(graph, one) for one in PROGRAMS)]
+            for graph in graphs]
+    return "\n\n".join([*parts, table(["the load of", "MB of CSV", *PROGRAMS], rows)])
+
+
+def load_cell(graph, name):
+    """The seconds of a load, what that is of the C++'s, the most memory and what is held behind it."""
+    load = graph["loads"].get(name)
+    if not load:
+        return "-"
+    times = f" ({number(ratio(seconds_of(graph), name), 2)})" if name != "C++" and "C++" in graph["loads"] else ""
+    return f"{number(load['seconds'], 2)} s{times}, {load['peak_mb']:,.0f} MB, {load['resident_mb']:,.0f} held"
+
+
+def put_into(path, text):
+    """Puts text into a page, in place of what stands there between the lines FROM and TO."""
+    with open(path, encoding="utf8") as file:
+        before, _, rest = file.read().partition(FROM)
+    _, end, after = rest.partition(TO)
+    if not end:
+        raise SystemExit(f"bench/run: the page {path} has no place for tables: the lines {FROM} and {TO}")
+    with open(path, "w", encoding="utf8") as file:
+        file.write(f"{before}{FROM}\n\n{text}\n\n{TO}{after}")
 
 
 def growth_text(graphs):

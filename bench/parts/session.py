@@ -1,40 +1,87 @@
-"""The two programs that load once and are asked again and again: the floor, which is the hand-written C++, and sqlite3."""
+"""The programs that load a graph once and are asked again and again: the floor, which is the hand-written C++, sqlite3, and graphq."""
+import fcntl
 import os
 import re
 import select
+import struct
 import subprocess
+import termios
 import time
 
-from .engine import resident
+from .engine import ROWS
 from .schemas import SCHEMAS
 
 LOADING = 3000  # processor seconds that a load may take
 WAITING = 30    # how many times as long an answer may take on a busy machine
+NULL = "/dev/null"
+FIRST = "RETURN 1;"  # any statement: when it is answered, the graph is there
 
 
 class Stopped(Exception):
     """A program that gave no answer: it took too long, ended, or complained."""
 
 
+def about(process, name):
+    """A line of what the system tells of a process, as a number."""
+    with open(f"/proc/{process}/status", encoding="ascii", errors="replace") as status:
+        return int(re.search(name + r":\s+(\d+)", status.read())[1])
+
+
 class Session:
-    """A program that reads requests from its standard input and ends each answer with a line that is known."""
+    """A program that reads requests from its standard input."""
 
-    def __init__(self, name, command, limit):
-        self.name, self.limit, self.rest = name, limit, b""
-        self.child = subprocess.Popen(command, stdin=subprocess.PIPE, stdout=subprocess.PIPE, stderr=subprocess.STDOUT)
+    name = ""
 
-    def ask(self, text, last, limit=None):
-        """Sends `text`, reads up to the line `last`, and gives the lines before it. `limit` is in processor seconds."""
-        self.child.stdin.write(text.encode())
-        self.child.stdin.flush()
+    def __init__(self, command, limit, folder=None, out=None):
+        self.command, self.limit, self.folder, self.out = command, limit, folder, out
+        self.start()
+
+    def start(self):
+        """Starts the program, and has it load the graph."""
+        out, error = (subprocess.PIPE, subprocess.STDOUT) if self.out is None else (self.out, subprocess.DEVNULL)
+        self.rest = b""
+        self.child = subprocess.Popen(self.command, cwd=self.folder, stdin=subprocess.PIPE, stdout=out, stderr=error)
+        try:
+            self.loads()
+        except BaseException:
+            self.close()
+            raise
+        self.load, self.load_peak, self.resident = self.seconds(), self.peak(), about(self.child.pid, "VmRSS") / 1024
+
+    def loads(self):
+        """Waits until the graph is there."""
+        raise NotImplementedError
+
+    def answer(self, query, out, copies):
+        """Has a query answered so many times, asked in one go."""
+        raise NotImplementedError
+
+    def write(self, text):
+        try:
+            self.child.stdin.write(text.encode())
+            self.child.stdin.flush()
+        except BrokenPipeError as why:
+            raise Stopped(self.ended()) from why
+
+    def ended(self):
+        """How it ended."""
+        status = self.child.wait()
+        return f"status {status}" if status >= 0 else f"signal {-status}"
+
+    def ask(self, text, last, limit=None, times=1):
+        """Sends `text`, reads until the line `last` has come so often, and gives the other lines. `limit` is in processor seconds."""
+        self.write(text)
         limit = limit or self.limit
         begun, end, lines = self.seconds(), time.monotonic() + WAITING * limit, []
         while True:
             while b"\n" in self.rest:
                 line, self.rest = self.rest.split(b"\n", 1)
-                if line.decode(errors="replace") == last:
+                if line.decode(errors="replace") != last:
+                    lines.append(line.decode(errors="replace"))
+                    continue
+                times -= 1
+                if times == 0:
                     return lines
-                lines.append(line.decode(errors="replace"))
             while not select.select([self.child.stdout], [], [], 1)[0]:
                 if self.seconds() - begun > limit or time.monotonic() > end:
                     raise Stopped("timeout")
@@ -49,26 +96,22 @@ class Session:
 
     def peak(self):
         """The greatest memory in use, in MB, since the last call of `forget_peak`."""
-        with open(f"/proc/{self.child.pid}/status", encoding="ascii", errors="replace") as status:
-            return int(re.search(r"VmHWM:\s+(\d+)", status.read())[1]) / 1024
+        return about(self.child.pid, "VmHWM") / 1024
 
     def forget_peak(self):
         with open(f"/proc/{self.child.pid}/clear_refs", "w", encoding="ascii") as file:
             file.write("5")
 
-    def measure(self, query):
-        """Processor seconds of one query. A short one is asked four times more, and these are averaged: the programs take
-        turns, so that the first finds cold caches, which the copies of a statement in one run of graphq do not."""
-        first = self.once(query, "/dev/null")
-        return first if first > 0.02 else sum(self.once(query, "/dev/null") for _ in range(4)) / 4
-
-    def once(self, query, out):
+    def measure(self, query, copies=1, out=NULL):
+        """Processor seconds of one of so many requests, asked in one go."""
         before = self.seconds()
-        self.answer(query, out)
-        return self.seconds() - before
+        self.answer(query, out, copies)
+        return (self.seconds() - before) / copies
 
-    def answer(self, query, out):
-        raise NotImplementedError
+    def again(self):
+        """Ends it, whatever it does, and loads anew."""
+        self.close()
+        self.start()
 
     def close(self):
         self.child.kill()
@@ -78,34 +121,74 @@ class Session:
 class Floor(Session):
     """The hand-written C++, with a graph in memory."""
 
-    def __init__(self, program, kind, folder, limit):
-        super().__init__("C++", [program, kind, folder], limit)
-        self.ask("", "LOADED", LOADING)
-        self.load, self.load_peak, self.resident = self.seconds(), self.peak(), resident(self.child.pid)
+    name = "C++"
 
-    def answer(self, query, out):
+    def __init__(self, program, kind, folder, limit):
+        super().__init__([program, kind, folder], limit)
+
+    def loads(self):
+        self.ask("", "LOADED", LOADING)
+
+    def answer(self, query, out, copies):
         words = [query.name, out, query.header().replace("\t", "\x1f"), *map(str, query.numbers)]
-        self.ask("\t".join(words) + "\n", "DONE")
+        self.ask(("\t".join(words) + "\n") * copies, "DONE", times=copies)
 
 
 class Sqlite(Session):
     """sqlite3's shell, with a graph in memory and indexes."""
 
-    def __init__(self, kind, folder, limit):
-        super().__init__("sqlite3", ["stdbuf", "-oL", "sqlite3", "-batch", ":memory:"], limit)
-        self.kind, self.folder = kind, folder
-        first = ["PRAGMA cache_size = -1000000;", "PRAGMA temp_store = MEMORY;", ".mode tabs", ".nullvalue null", ".headers off"]
-        lines = self.ask("\n".join([*first, *SCHEMAS[kind].statements(folder), ".print DONE\n"]), "DONE", LOADING)
-        if lines:
-            raise Stopped(f"sqlite3 does not load {folder}: {lines[0]}")
-        self.load, self.load_peak, self.resident = self.seconds(), self.peak(), resident(self.child.pid)
+    name = "sqlite3"
 
-    def answer(self, query, out):
-        lines = self.ask(f'.output "{out}"\n{query.sql};\n.output stdout\n.print DONE\n', "DONE")
+    def __init__(self, kind, files, limit):
+        self.kind, self.files = kind, files
+        super().__init__(["stdbuf", "-oL", "sqlite3", "-batch", ":memory:"], limit)
+
+    def loads(self):
+        first = ["PRAGMA cache_size = -1000000;", "PRAGMA temp_store = MEMORY;", ".mode tabs", ".nullvalue null", ".headers off"]
+        lines = self.ask("\n".join([*first, *SCHEMAS[self.kind].statements(self.files), ".print DONE\n"]), "DONE", LOADING)
+        if lines:
+            raise Stopped(f"sqlite3 does not load {self.files}: {lines[0]}")
+
+    def answer(self, query, out, copies):
+        lines = self.ask(f'.output "{out}"\n' + f"{query.sql};\n" * copies + ".output stdout\n.print DONE\n", "DONE")
         if lines:
             raise Stopped(lines[0])
 
-    def again(self):
-        """Ends it, whatever it does, and loads anew."""
-        self.close()
-        self.__init__(self.kind, self.folder, self.limit)
+
+class Engine(Session):
+    """graphq. Nothing but its replies comes from it, and they go to one file: it has answered when it has read all that
+    it was sent and sleeps, which it does nowhere but in wait for more."""
+
+    name = "graphq"
+
+    def __init__(self, program, options, folder, limit, out=NULL):
+        self.kept = out != NULL
+        self.sink = os.open(out, os.O_RDWR | os.O_CREAT | os.O_TRUNC, 0o644)
+        super().__init__([program, "--manifest", "g.manifest", "--rows", ROWS, *options], limit, folder, self.sink)
+
+    def loads(self):
+        self.send(FIRST, LOADING)
+
+    def answer(self, query, out, copies):
+        """The replies are all that stands in the file that the session was made with, whatever `out` is."""
+        if self.kept:
+            os.lseek(self.sink, 0, os.SEEK_SET)
+            os.ftruncate(self.sink, 0)
+        self.send((query.text + ";") * copies, self.limit)
+
+    def send(self, text, limit):
+        begun, end, pause = self.seconds(), time.monotonic() + WAITING * limit, 0.0001
+        self.write(text)
+        while not self.waits():
+            if self.child.poll() is not None:
+                raise Stopped(self.ended())
+            if self.seconds() - begun > limit or time.monotonic() > end:
+                raise Stopped("timeout")
+            time.sleep(pause)
+            pause = min(0.002, 1.2 * pause)
+
+    def waits(self):
+        """Whether it sleeps, with nothing left to be read."""
+        left = fcntl.ioctl(self.child.stdin.fileno(), termios.FIONREAD, b"\0" * 4)
+        with open(f"/proc/{self.child.pid}/stat", encoding="ascii", errors="replace") as file:
+            return struct.unpack("i", left)[0] == 0 and file.read().rpartition(")")[2].split()[0] == "S"
