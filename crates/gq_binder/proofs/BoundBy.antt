@@ -1,30 +1,27 @@
 -- A query that no check refuses is bound by its own words: those of a query without trails, or of one with trails and its core.
-use Rattle.std.proofs.Common.{◌≡◌, ◌∙◌, ap, ap₂, sym, refl, subst, ℕ, suc, ◌+◌, ◌<◌, ◌≤◌, Bool, true, false, ◌&&◌, ◌||◌, nat_lt, Option, Some, None, List, [], ◌∷◌, ◌++◌, map, filter, flat_map, length, unwrap_or, arith, true≢false, if◌then◌else◌}
-use Rattle.std.specs.Prelude.{All, filter_map, is_some}
+use Rattle.std.proofs.Common.{◌≡◌, ◌∙◌, ap, ap₂, sym, refl, subst, ℕ, suc, ◌+◌, ◌<◌, ◌≤◌, Bool, true, false, ◌&&◌, ◌||◌, nat_lt, Option, Some, None, List, [], ◌∷◌, ◌++◌, map, flat_map, length, arith, true≢false, if◌then◌else◌}
+use Rattle.std.specs.Prelude.{All}
 use Rattle.std.specs.List.{AllByRecursion, AllZip, list_all, list_any, range_with_len}
 use Rattle.std.specs.Option.{option_map}
 use Rattle.std.proofs.lemmas.Bool.{lt-ltb}
 use Rattle.std.proofs.lemmas.List.{length-map}
-use Rattle.std.proofs.lemmas.List.Elements.{All-from_recursion, All-nil}
+use Rattle.std.proofs.lemmas.List.Elements.{All-from_recursion}
 use Rattle.gq_alternatives.proofs.Shapes.{each_left, each_right}
 use Rattle.gq_alternatives.proofs.ShapesOfPatterns.{Grows, clauses_grow}
 use Rattle.gq_alternatives.proofs.SoundPatterns.{IsChoice, each_alternative, typed_count}
-use Rattle.gq_alternatives.specs.Alternatives.{Choice, agrees, pattern_alternatives, typed_of, typed_rels}
+use Rattle.gq_alternatives.specs.Alternatives.{Choice, agrees, pattern_alternatives, typed_of}
 use Rattle.gq_base.specs.Catalogs.{Tables}
 use Rattle.gq_cuts.proofs.Counts.{core_rels_fewer}
 use Rattle.gq_cuts.proofs.Plain.{no_trail}
 use Rattle.gq_cuts.specs.Cored as cored
-use Rattle.gq_cuts.specs.Cored.{IsCore}
 use Rattle.gq_cuts.specs.Entries.{entry_test}
 use Rattle.gq_cuts.specs.Renumbering.{plain_from, renumber}
-use Rattle.gq_cuts.specs.declared.cored.Core.{Core}
 use Rattle.gq_law_cuts.proofs.Coring.{few, is_core, names, outside}
 use Rattle.gq_law_cuts.proofs.Ordering.{has_filter, order_length, range_has}
 use Rattle.gq_law_cuts.proofs.Plain.{plain_cuts}
 use Rattle.gq_law_cuts.proofs.PlainTyping.{plain_typed}
 use Rattle.gq_law_cuts.proofs.Reading.{IsRead, trailed_read}
-use Rattle.gq_law_cuts.specs.Cuts.{HaveLengths, core_first, core_size, cored_of, pattern_in, placed_in, trailed_of}
-use Rattle.gq_law_cuts.specs.Plain.{HaveNoTrail}
+use Rattle.gq_law_cuts.specs.Cuts.{core_first, core_size, cored_of, pattern_in, trailed_of}
 use Rattle.gq_law_cuts.specs.Shaped.{core_pattern_of}
 use Rattle.gq_law_cuts.specs.Typing.{core_typed, stays_in}
 use Rattle.gq_law_reaches.proofs.Cored.{take_length}
@@ -32,7 +29,7 @@ use Rattle.gq_law_reaches.proofs.Orders.{core_reaches}
 use Rattle.gq_law_reaches.specs.Core.{core_nodes, parts_from, trail_parts}
 use Rattle.gq_law_reaches.specs.Cores.{AreReached, is_end}
 use Rattle.gq_law_reaches.specs.Reaches.{TrailPattern, Trailed}
-use Rattle.gq_plan.proofs.Each.{each_map, each_then}
+use Rattle.gq_plan.proofs.Each.{each_map}
 use Rattle.gq_plan.specs.Known.{is_bound as is_known}
 use Rattle.gq_plan.specs.Reads.{Read, reads}
 use Rattle.gq_plan.specs.Soundness.{IsSound, has_number, max_variables}
@@ -43,26 +40,25 @@ use Rattle.gq_plan.specs.declared.SortExpr.{SortExpr}
 use Rattle.gq_plan.specs.declared.Typed.{Typed}
 use Rattle.gq_plan.specs.declared.variable.Variable.{Variable}
 use Rattle.gq_plan.specs.declared.variable.Variable.TheVariants.{Node as node, Rel as rel}
-use Rattle.gq_scopes.specs.Patterns.{MapEntry, Name, Pattern, RelPattern, pattern_of}
+use Rattle.gq_scopes.specs.Patterns.{MapEntry, Pattern, pattern_of}
 use Rattle.gq_scopes.specs.steps.Variables.{IsThere}
 use Rattle.gq_syntax.specs.declared.Clause.{Clause}
 use Rattle.gq_syntax.specs.declared.Query.{Query}
-use Rattle.gq_syntax.specs.declared.RelPart.{RelPart}
 use Rattle.gq_trees.proofs.ReadsThere.{AllThere}
 use Rattle.gq_trees.specs.Conjuncts.{values_of}
-use Rattle.gq_trees.specs.Resolving.{all_some, functions}
+use Rattle.gq_trees.specs.Resolving.{all_some}
 use Rattle.gq_wide.specs.Placed.{IsPlaced}
 use Rattle.gq_binder.proofs.CoredSound.{conjuncts_kept, core_choice_sound}
 use Rattle.gq_binder.proofs.Cutting.{IsCut, trailed_cut}
 use Rattle.gq_binder.proofs.Patterns.{whole_counted, whole_rels_counted}
 use Rattle.gq_binder.proofs.SoundAlternatives.{IsSmall, ReadsConditions, accepted_small, accepted_trails, choice_sound, conjuncts_known, named_reads}
-use Rattle.gq_binder.proofs.TrailChecks.{Rels, clauses_in, finds_none, lengths_fit, none_beside}
+use Rattle.gq_binder.proofs.TrailChecks.{lengths_fit, none_beside}
 use Rattle.gq_binder.proofs.Unnamed.{ClauseUnnamed}
 use Rattle.gq_binder.specs.Binding.{IsBound}
-use Rattle.gq_binder.specs.Columns.{HasAlternatives, Resolves, all_in_bound, bound_pattern, conjuncts, in_bound, keys_in_bound, node_in_bound, node_order, rel_order, trail_name, trail_names, trail_names_from, whole_pattern}
+use Rattle.gq_binder.specs.Columns.{HasAlternatives, Resolves, all_in_bound, bound_pattern, conjuncts, keys_in_bound, node_in_bound, node_order, rel_order, trail_names, whole_pattern}
 use Rattle.gq_binder.specs.Optionals.{AreOptional}
-use Rattle.gq_binder.specs.Refusals.{first_refusal, nodes_in, paths_of, rels_in, seen}
-use Rattle.gq_binder.specs.Tested.{IsTested, ScopedTest, shared, tests}
+use Rattle.gq_binder.specs.Refusals.{first_refusal, paths_of, rels_in, seen}
+use Rattle.gq_binder.specs.Tested.{IsTested, shared, tests}
 use Rattle.gq_binder.specs.steps.Parts.{renumbered_all, renumbered_keys}
 
 -- ---- how many variables there are

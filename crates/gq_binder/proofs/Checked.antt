@@ -1,17 +1,14 @@
 -- What the checks find in the parts of a query is its first refusal; a query that they pass is bound by its parts.
 use Rattle.std.proofs.Common.{◌≡◌, ◌∙◌, sym, refl, ap, subst, ℕ, ◌+◌, length, List, [], ◌∷◌, ◌++◌, map, All, Option, Some, None, Err}
-use Rattle.gq_base.proofs.OptionLaws.{or_none}
-use Rattle.std.specs.Prelude.{filter_map, flat_map}
-use Rattle.std.specs.List.{AllZip}
+use Rattle.std.specs.Prelude.{flat_map}
 use Rattle.std.specs.Option.{option_map, option_or}
-use Rattle.gq_alternatives.specs.Alternatives.{Choice, alternatives, pattern_alternatives}
+use Rattle.gq_alternatives.specs.Alternatives.{Choice, pattern_alternatives}
 use Rattle.gq_base.specs.Catalogs.{Tables}
-use Rattle.gq_binder.proofs.Accepted.{IsNamed, known_expressions, columns_there, keys_there, conjuncts_there, optional_there, tests_named, tests_there}
-use Rattle.gq_binder.proofs.Clauses.{clauses_bound, clauses_placed, own_are}
-use Rattle.gq_binder.proofs.TestLemmas.{IsWholeTest, parts_given, tests_whole, zip_parts}
+use Rattle.gq_binder.proofs.Accepted.{IsNamed, known_expressions, conjuncts_there, optional_there, tests_there}
+use Rattle.gq_binder.proofs.Clauses.{own_are}
+use Rattle.gq_binder.proofs.TestLemmas.{IsWholeTest, tests_whole}
 use Rattle.gq_binder.proofs.NameLemmas.{first_again, first_other_form, first_variable, first_function, first_arguments, none_in_paths, sorts_same}
-use Rattle.gq_binder.proofs.Patterns.{names_there}
-use Rattle.gq_binder.proofs.RefusalLemmas.{first_then, first_append, same_behind}
+use Rattle.gq_binder.proofs.RefusalLemmas.{first_append, same_behind}
 use Rattle.gq_binder.proofs.OwnBound.{bound_by_core, counted_core}
 use Rattle.gq_binder.proofs.SoundAlternatives.{each_none, reads_listed}
 use Rattle.gq_binder.proofs.Unnamed.{all_unnamed}
@@ -19,8 +16,8 @@ use Rattle.gq_binder.specs.Binding.{Answers, IsBound}
 use Rattle.gq_binder.specs.steps.Checks.{IsOfQuery}
 use Rattle.gq_binder.specs.Columns.{conditions, columns, optional_conditions, sort_scope, whole_pattern}
 use Rattle.gq_binder.specs.steps.Names.{FirstNames, query_names}
-use Rattle.gq_binder.specs.Tested.{IsTested, SharedTest, seen_elsewhere, tests}
-use Rattle.gq_binder.specs.steps.Parts.{bound_by, clause_reads, clauses_parts, counted_in, exists_part, last_checks_in, known_conjuncts, known_seen, own_patterns, parts_of, ambiguous_in, reads_in, checks_in, bound_in}
+use Rattle.gq_binder.specs.Tested.{SharedTest, seen_elsewhere}
+use Rattle.gq_binder.specs.steps.Parts.{bound_by, clause_reads, clauses_parts, counted_in, last_checks_in, known_conjuncts, known_seen, own_patterns, parts_of, ambiguous_in, reads_in, checks_in}
 use Rattle.gq_binder.specs.Refusals.{first_of_all, trail_length, trail_with_optional, unknown_variable, variable_conflict, relationship_repeated, column_repeated, nothing_to_return, order_out_of_scope, ambiguous_order_name, function_unknown, argument_count, over_limit, max_columns, max_alternatives, alternatives_in, alternatives_of, each_alone, others, paths_of, too_many_patterns, too_many_reads, all_reads, first_refusal, checks_of, too_many_alternatives, exists_place, expressions, conflicting, first_in, seen}
 use Rattle.gq_binder.specs.declared.optionals.ClauseParts.{ClauseParts}
 use Rattle.gq_binder.specs.declared.parts.QueryParts.{QueryParts}

@@ -1,7 +1,7 @@
 -- The alternatives of the core of a query with trails are sound: the conjuncts that stay read variables of the core, and not more
 -- properties than the query's do.
 use Rattle.std.proofs.Common.{◌≡◌, ◌∙◌, ap, ap₂, sym, refl, subst, ℕ, zero, suc, ◌+◌, ◌<◌, ◌≤◌, Bool, true, false, not, ◌&&◌, ◌||◌, cond, nat_lt, Option, Some, None, List, [], ◌∷◌, ◌++◌, map, filter, flat_map, length, slice_get, arith, true≢false, zero-add}
-use Rattle.std.specs.Prelude.{All, is_some}
+use Rattle.std.specs.Prelude.{is_some}
 use Rattle.std.specs.List.{AllByRecursion, list_all}
 use Rattle.std.proofs.lemmas.Bool.{and_parts, eq-eqb, not-true, or_left, or_right}
 use Rattle.std.proofs.lemmas.Bool.Decides.{nat_tests}
@@ -12,9 +12,9 @@ use Rattle.std.proofs.lemmas.List.Folds.{list_any-append}
 use Rattle.std.proofs.lemmas.List.Quantifiers.{position-Some}
 use Rattle.std.proofs.lemmas.Option.{slice_get-get_or}
 use Rattle.gq_alternatives.proofs.Shapes.{each_left, each_right}
-use Rattle.gq_alternatives.proofs.ShapesOfPatterns.{Grows, IsShaped, all_ends, clauses_grow, ends_of, grows_same, grows_then}
-use Rattle.gq_alternatives.proofs.SoundPatterns.{IsChoice, each_alternative, typed_count}
-use Rattle.gq_alternatives.specs.Alternatives.{Choice, agrees, pattern_alternatives, typed_of, typed_rels}
+use Rattle.gq_alternatives.proofs.ShapesOfPatterns.{Grows, IsShaped, clauses_grow, ends_of}
+use Rattle.gq_alternatives.proofs.SoundPatterns.{IsChoice, typed_count}
+use Rattle.gq_alternatives.specs.Alternatives.{Choice, agrees, typed_of, typed_rels}
 use Rattle.gq_base.proofs.ListFacts.{found_within}
 use Rattle.gq_base.specs.Catalogs.{Tables}
 use Rattle.gq_expr.specs.Kinds.{can_fault}
@@ -24,7 +24,7 @@ use Rattle.gq_cuts.proofs.Counts.{core_nodes_fewer, core_rels_fewer}
 use Rattle.gq_cuts.specs.Entries.{entry_test}
 use Rattle.gq_cuts.specs.Renumbering.{plain_from, renumber}
 use Rattle.gq_law_cuts.proofs.Shaping.{core_pattern_shaped, cores_are_sound}
-use Rattle.gq_law_cuts.specs.Cuts.{core_first, core_size, cored_of, placed_in, trailed_of}
+use Rattle.gq_law_cuts.specs.Cuts.{core_first, core_size, trailed_of}
 use Rattle.gq_law_cuts.specs.Shaped.{core_pattern_of}
 use Rattle.gq_law_cuts.specs.Typing.{core_typed, stays_in}
 use Rattle.gq_plan.proofs.DifferentReads.{AllAmong, all_left, all_right, all_self, distinct_fewer, is_among, properties_among, some_among}
@@ -44,13 +44,13 @@ use Rattle.gq_syntax.specs.declared.Ast.{Ast}
 use Rattle.gq_syntax.specs.declared.Clause.{Clause}
 use Rattle.gq_syntax.specs.declared.Query.{Query}
 use Rattle.gq_trees.specs.Conjuncts.{is_value, values_of}
-use Rattle.gq_trees.specs.Resolving.{Conjunct, all_some, functions, split}
-use Rattle.gq_binder.proofs.Cutting.{core_among, get_front, placed_low, plain_append, trailed_cut}
+use Rattle.gq_trees.specs.Resolving.{Conjunct, all_some}
+use Rattle.gq_binder.proofs.Cutting.{core_among, placed_low, plain_append}
 use Rattle.gq_binder.proofs.Patterns.{nodes_grow, rels_begin}
 use Rattle.gq_binder.proofs.ReadsFit.{AllFit, IfFit, IsFit, conjuncts_fit}
 use Rattle.gq_binder.proofs.Renumbered.{distinct_moved, moved, moved_read, properties_moved, reads_moved}
 use Rattle.gq_binder.proofs.SoundAlternatives.{IsSmall, ReadsConditions, among_more, base_among, conjunct_reads, each_some, entries_read, entry_read, entry_safe, named_reads, scoped_conjuncts, values_read}
-use Rattle.gq_binder.proofs.TrailChecks.{OfPath, Rels, paths_in}
+use Rattle.gq_binder.proofs.TrailChecks.{paths_in}
 use Rattle.gq_binder.proofs.Unnamed.{ClauseUnnamed, IsUnnamed}
 use Rattle.gq_binder.specs.Columns.{Scoped, conditions, conditions_from, conjuncts, scoped_in, whole_pattern}
 use Rattle.gq_binder.specs.Refusals.{all_reads, known_reads, nodes_in, path_reads, paths_of, rels_in, seen}

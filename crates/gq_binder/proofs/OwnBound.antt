@@ -1,7 +1,7 @@
 -- The bound form that the parts of a query give is a bound query of it, where no check refuses it: without trails, and with trails and
 -- their core.
-use Rattle.std.proofs.Common.{◌≡◌, ◌∙◌, ap, sym, refl, subst, ℕ, suc, ◌<◌, Bool, true, false, Option, Some, None, List, [], ◌∷◌, ◌++◌, map, length, if◌then◌else◌}
-use Rattle.std.specs.Prelude.{All, IfSome, filter_map, flat_map, is_some, slice_get, unwrap_or}
+use Rattle.std.proofs.Common.{◌≡◌, ◌∙◌, ap, sym, refl, subst, ℕ, suc, ◌<◌, true, false, Option, Some, None, List, [], ◌∷◌, ◌++◌, map, length, if◌then◌else◌}
+use Rattle.std.specs.Prelude.{All, IfSome, filter_map, is_some, slice_get, unwrap_or}
 use Rattle.std.specs.List.{AllByRecursion, AllZip}
 use Rattle.std.specs.Option.{option_map}
 use Rattle.std.proofs.lemmas.List.Elements.{All-from_recursion, All-nil, recursion_from_All}
@@ -12,7 +12,6 @@ use Rattle.gq_cuts.proofs.Whole.{cored_whole}
 use Rattle.gq_cuts.specs.Cored as cored
 use Rattle.gq_cuts.specs.Cored.{HasCore, IsCore}
 use Rattle.gq_cuts.specs.Entries.{entry_test}
-use Rattle.gq_cuts.specs.Renumbering.{plain_from}
 use Rattle.gq_cuts.specs.declared.cored.Core.{Core}
 use Rattle.gq_law_cuts.proofs.Plain.{plain_cuts}
 use Rattle.gq_law_cuts.specs.Cuts.{core_size, cored_of, placed_in}
@@ -25,11 +24,9 @@ use Rattle.gq_plan.proofs.Each.{each_kept, each_then}
 use Rattle.gq_plan.specs.declared.Bound.{Bound}
 use Rattle.gq_plan.specs.declared.ExistsPart.{ExistsPart}
 use Rattle.gq_plan.specs.declared.NamedExpr.{NamedExpr}
-use Rattle.gq_plan.specs.declared.SortExpr.{SortExpr}
 use Rattle.gq_scopes.specs.Patterns.{MapEntry, Name, Pattern, RelPattern, no_pattern, pattern_of}
 use Rattle.gq_syntax.specs.declared.Clause.{Clause}
 use Rattle.gq_syntax.specs.declared.Query.{Query}
-use Rattle.gq_syntax.specs.declared.RelPart.{RelPart}
 use Rattle.gq_syntax.specs.steps.Spans.{IsWholeEntry, StandsIn}
 use Rattle.gq_trees.specs.Resolving.{all_some, functions}
 use Rattle.gq_wide.specs.Placed.{IsPlaced}
@@ -39,15 +36,14 @@ use Rattle.gq_binder.proofs.Clauses.{clauses_bound, clauses_placed}
 use Rattle.gq_binder.proofs.Patterns.{names_there, whole_counted, whole_rels_counted}
 use Rattle.gq_binder.proofs.SoundAlternatives.{accepted_trails, conjuncts_known, tests_sound}
 use Rattle.gq_binder.proofs.TestLemmas.{part_by, part_of, parts_given, shared_parts, zip_parts}
-use Rattle.gq_binder.proofs.TrailChecks.{OfClause, clauses_in, finds_none, none_optional}
+use Rattle.gq_binder.proofs.TrailChecks.{clauses_in, finds_none, none_optional}
 use Rattle.gq_binder.proofs.Unnamed.{ClauseUnnamed}
 use Rattle.gq_binder.specs.Binding.{IsBound}
-use Rattle.gq_binder.specs.Columns.{HasAlternatives, Resolves, bound_pattern, column_expr, columns, conditions, keys_in_bound, node_in_bound, node_order, rel_order, sort_expr, sort_scope, trail_names, trail_names_from, whole_pattern, all_in_bound}
+use Rattle.gq_binder.specs.Columns.{bound_pattern, column_expr, columns, conditions, keys_in_bound, node_in_bound, node_order, rel_order, sort_expr, sort_scope, trail_names, trail_names_from, whole_pattern, all_in_bound}
 use Rattle.gq_binder.specs.Optionals.{AreOptional}
-use Rattle.gq_binder.specs.Refusals.{first_refusal, seen}
-use Rattle.gq_binder.specs.Tested.{IsTested, ScopedTest, shared, tests}
-use Rattle.gq_binder.specs.declared.parts.QueryParts.{QueryParts}
-use Rattle.gq_binder.specs.steps.Parts.{IsWholeCore, bound_by, bound_in, cored_in, counted_in, exists_part, known_conjuncts, optional_part, parts_of, placed_part, renumbered_all, renumbered_keys}
+use Rattle.gq_binder.specs.Refusals.{first_refusal}
+use Rattle.gq_binder.specs.Tested.{IsTested, shared, tests}
+use Rattle.gq_binder.specs.steps.Parts.{IsWholeCore, bound_by, bound_in, cored_in, counted_in, exists_part, known_conjuncts, parts_of, placed_part, renumbered_all, renumbered_keys}
 
 -- ---- the pattern that alternatives are counted of
 

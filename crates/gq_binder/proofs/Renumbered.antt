@@ -1,6 +1,5 @@
 -- An expression numbered anew reads the variables that it read, numbered anew; and there are not more different ones.
-use Rattle.std.proofs.Common.{◌≡◌, ◌∙◌, ap, ap₂, sym, refl, subst, ℕ, suc, ◌<◌, ◌≤◌, Bool, true, false, not, ◌&&◌, ◌||◌, cond, nat_eq, List, [], ◌∷◌, ◌++◌, map, filter, flat_map, length, arith, true≢false, append-nil}
-use Rattle.std.specs.List.{AllByRecursion, list_any}
+use Rattle.std.proofs.Common.{◌≡◌, ◌∙◌, ap, ap₂, sym, refl, subst, ℕ, suc, ◌<◌, ◌≤◌, Bool, true, false, not, ◌&&◌, ◌||◌, cond, List, [], ◌∷◌, ◌++◌, map, filter, flat_map, length, arith, true≢false}
 use Rattle.std.proofs.lemmas.Bool.{or_left}
 use Rattle.std.proofs.lemmas.List.{length-map, map-append}
 use Rattle.gq_cuts.specs.Renumbering.{renumber, renumbered}
@@ -12,7 +11,7 @@ use Rattle.gq_expr.specs.declared.expr.Tester.{Tester}
 use Rattle.gq_expr.specs.declared.expr.Tester.TheVariants as tester
 use Rattle.gq_law_cuts.specs.Cuts.{placed_in}
 use Rattle.gq_plan.proofs.DifferentReads.{AllAmong, all_self, both_kept, distinct_fewer, is_among}
-use Rattle.gq_plan.proofs.Each.{each_of, each_then}
+use Rattle.gq_plan.proofs.Each.{each_then}
 use Rattle.gq_plan.proofs.ReadEquations.{reads_Literal, reads_Node, reads_Rel, reads_NodeProperty, reads_RelProperty, reads_TypeName, reads_Coalesce, reads_Negate, reads_Plus, reads_Not, reads_Or, reads_Xor, reads_And, term_reads, test_reads, reads_Compare, reads_Arith, reads_Test}
 use Rattle.gq_plan.proofs.ReadLemmas.{read_is}
 use Rattle.gq_plan.specs.Reads.{Read, distinct, is_property, properties, reads, reads_step, same_read, tester_reads}

@@ -3,7 +3,7 @@ use Rattle.std.proofs.Common.{◌≡◌, ℕ, suc, ◌+◌, append-nil, ◌<◌,
 use Rattle.gq_plan.specs.declared.variable.Variable.TheVariants.{Node as node, Rel as rel}
 use Rattle.gq_plan.specs.declared.variable.Variable.{Variable}
 use Rattle.std.specs.Prelude.{All}
-use Rattle.std.specs.List.{AllByRecursion, AllZip}
+use Rattle.std.specs.List.{AllByRecursion}
 use Rattle.std.specs.Option.{option_map, option_or}
 use Rattle.std.proofs.lemmas.Bool.{ltb-false, not-true, or_left}
 use Rattle.std.proofs.lemmas.Grind.{flat_map-append}
@@ -26,13 +26,11 @@ use Rattle.gq_expr.specs.declared.Kinds.{Kinds}
 use Rattle.gq_plan.proofs.Each.{each_of, each_then, each_map, each_append, each_kept}
 use Rattle.gq_plan.specs.Reads.{Read, properties_of, reads, is_property, property, properties, distinct, same_read}
 use Rattle.gq_plan.specs.Soundness.{max_variables, max_reads, IsSound, HasVariable, kinds_for, kinds_of, test_reads}
-use Rattle.gq_plan.specs.declared.Bound.{Bound}
 use Rattle.gq_plan.specs.declared.NamedExpr.{NamedExpr}
 use Rattle.gq_plan.specs.declared.Typed.{Typed}
 use Rattle.gq_syntax.specs.declared.Ast.{Ast}
 use Rattle.gq_syntax.specs.declared.Clause.{Clause}
 use Rattle.gq_syntax.specs.declared.Query.{Query}
-use Rattle.gq_wide.specs.Placed.{IsPlaced}
 use Rattle.gq_alternatives.proofs.Shapes.{each_left, each_right}
 use Rattle.gq_alternatives.proofs.ShapesOfPatterns.{Grows, grows_same, grows_then, clauses_grow, IsShaped, ends_of, pattern_shaped}
 use Rattle.gq_trees.proofs.ConditionReads.{IsRead, conjuncts_read}
@@ -52,15 +50,14 @@ use Rattle.gq_scopes.specs.Scopes.{Scope, scope_of}
 use Rattle.gq_scopes.specs.steps.Variables.{IsThere}
 use Rattle.gq_lexer.specs.Sources.{source_text}
 use Rattle.gq_binder.proofs.PartLemmas.{known_conjuncts_append}
-use Rattle.gq_binder.proofs.Patterns.{entries_begin, nodes_grow, whole_counted, whole_rels_counted}
+use Rattle.gq_binder.proofs.Patterns.{entries_begin, nodes_grow}
 use Rattle.gq_binder.proofs.RefusalLemmas.{first_append}
-use Rattle.gq_binder.specs.Binding.{IsBound}
-use Rattle.gq_binder.specs.Columns.{Scoped, scoped_in, conditions_from, conditions, conjuncts, optional_conditions, whole_pattern, Resolves, HasAlternatives}
+use Rattle.gq_binder.specs.Columns.{Scoped, scoped_in, conditions_from, conditions, conjuncts, optional_conditions, whole_pattern}
 use Rattle.gq_cuts.specs.Entries.{property_of, entry_expr, entry_test}
-use Rattle.gq_binder.specs.Optionals.{AreOptional, optional_conjuncts}
+use Rattle.gq_binder.specs.Optionals.{optional_conjuncts}
 use Rattle.gq_binder.specs.steps.Parts.{clause_reads, clauses_parts, known_conjuncts, named_part, reads_in}
 use Rattle.gq_binder.specs.Refusals.{first_of_all, over_limit, all_reads, known_reads, first_refusal, checks_of, each_alone, maps_alone, nodes_in, others, path_reads, paths_of, reads_alone, rels_in, seen, too_many_alternatives, trail_length, trail_with_optional, exists_place}
-use Rattle.gq_binder.specs.Tested.{IsTested, ScopedTest, SharedTest, scoped_tests, seen_elsewhere, seen_in, shared_test, stray_test, tests}
+use Rattle.gq_binder.specs.Tested.{ScopedTest, SharedTest, scoped_tests, seen_elsewhere, seen_in, shared_test, stray_test, tests}
 use Rattle.gq_binder.specs.declared.refusal.BindRefusal.{BindRefusal}
 use Rattle.gq_binder.specs.declared.refusal.BindRefusal.TheVariants as refusal
 

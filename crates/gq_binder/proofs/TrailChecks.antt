@@ -1,6 +1,6 @@
 -- What the checks of trails and the grammar say of patterns holds of the relationships in clauses: a query without refusal has trails
 -- of lengths that are allowed, and none beside OPTIONAL MATCH clauses.
-use Rattle.std.proofs.Common.{◌≡◌, ◌∙◌, ap, sym, refl, subst, ℕ, zero, suc, ◌≤◌, Bool, true, false, not, ◌&&◌, ◌||◌, nat_eq, nat_lt, Option, Some, None, List, [], ◌∷◌, ◌++◌, length, arith, true≢false, eqb-true, if◌then◌else◌}
+use Rattle.std.proofs.Common.{◌≡◌, ◌∙◌, ap, sym, refl, subst, ℕ, zero, suc, ◌≤◌, Bool, true, false, not, ◌&&◌, ◌||◌, nat_eq, nat_lt, Option, Some, None, List, [], ◌∷◌, ◌++◌, length, arith, true≢false, if◌then◌else◌}
 use Rattle.std.specs.Prelude.{is_some}
 use Rattle.std.specs.List.{AllByRecursion, list_any}
 use Rattle.std.proofs.lemmas.Bool.{ltb-false, ne_eqb}
@@ -11,7 +11,6 @@ use Rattle.gq_binder.specs.Columns.{whole_pattern}
 use Rattle.gq_binder.specs.Refusals.{has_trail, is_unfit, max_length, trail_length, trail_with_optional}
 use Rattle.gq_binder.specs.declared.refusal.BindRefusal.{BindRefusal}
 use Rattle.gq_binder.specs.declared.refusal.BindRefusal.TheVariants as refusal
-use Rattle.gq_cuts.proofs.Plain.{no_trail}
 use Rattle.gq_cuts.specs.Cored as cored
 use Rattle.gq_law_cuts.specs.Cuts.{HaveLengths, alone_in, in_pattern, piece_behind, trail_of, trailed_of, with_clauses, with_hop, with_hops, with_path, with_paths}
 use Rattle.gq_law_cuts.specs.Plain.{HaveNoTrail}
@@ -22,7 +21,6 @@ use Rattle.gq_scopes.specs.Patterns as plain
 use Rattle.gq_scopes.specs.Patterns.{Pattern, RelPattern, no_pattern, pattern_of, variable_of, with_node, with_rel}
 use Rattle.gq_syntax.specs.declared.Clause.{Clause}
 use Rattle.gq_syntax.specs.declared.Hop.{Hop}
-use Rattle.gq_syntax.specs.declared.NodePart.{NodePart}
 use Rattle.gq_syntax.specs.declared.Path.{Path}
 use Rattle.gq_syntax.specs.declared.Query.{Query}
 use Rattle.gq_syntax.specs.declared.Range.{Range}

@@ -13,7 +13,7 @@ use Rattle.gq_base.specs.Valid.{is_valid}
 use Rattle.gq_binder.specs.Binding.{IsBound}
 use Rattle.gq_binder.specs.Columns.{Scoped, conditions}
 use Rattle.gq_binder.specs.Tested as named
-use Rattle.gq_binder.specs.Tested.{IsTested, ScopedTest, all_met, is_met, scoped_tests, tests, where_met}
+use Rattle.gq_binder.specs.Tested.{IsTested, ScopedTest, all_met, is_met, scoped_tests, tests}
 use Rattle.gq_exists.proofs.Asked.{exists_by_keys, few_counted, many_counted, matched_few, matched_many}
 use Rattle.gq_exists.specs.Made.{some_stand_on}
 use Rattle.gq_expr.specs.Reading as reading

@@ -21,7 +21,7 @@ use Rattle.gq_order.specs.Turns.{piece_by}
 use Rattle.gq_order.specs.declared.order.Turn.{Turn}
 use Rattle.gq_order.specs.declared.stats.Stats.{Stats}
 use Rattle.gq_order.specs.Connected as turns
-use Rattle.gq_order.specs.Connected.{known_after, bound_alone}
+use Rattle.gq_order.specs.Connected.{known_after}
 use Rattle.gq_plan.specs.Known.{Known, none, with_node}
 use Rattle.gq_plan.specs.Soundness.{IsSound, left_of, right_of}
 use Rattle.gq_plan.specs.declared.typed.Typed.{Typed}

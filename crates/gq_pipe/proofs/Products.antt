@@ -7,16 +7,16 @@ use Rattle.std.proofs.lemmas.List.{drop_more, drop_all, length-take, length-drop
 use Rattle.gq_bits.specs.declared.TheConstants.{VECTOR}
 use Rattle.gq_bits.specs.Places.{is_marked}
 use Rattle.gq_group.specs.Groups as group
-use Rattle.gq_group.specs.Groups.{AreSelected, is_selected, products}
+use Rattle.gq_group.specs.Groups.{AreSelected, is_selected}
 use Rattle.gq_group.specs.Pieces.{items_of}
 use Rattle.gq_group.specs.declared.group.Group.{Group}
 use Rattle.gq_plan.specs.declared.assignment.Assignment.{Assignment}
-use Rattle.gq_walks.specs.Layouts.{Layout, numbers_from, piece_of, live}
+use Rattle.gq_walks.specs.Layouts.{numbers_from, piece_of}
 use Rattle.gq_walks.specs.Running as walk
 use Rattle.gq_walks.specs.Running.{IsGroup, Runs, cursor_at, keys_of, no_cursor, prefix}
 use Rattle.gq_walks.specs.declared.walker.Cursor.{Cursor}
 use Rattle.gq_walks.proofs.Runs.{live-flat}
-use Rattle.gq_pipe.specs.steps.Chunks.{AreStanding, HasGroup, IsGroupAt, list_of, part}
+use Rattle.gq_pipe.specs.steps.Chunks.{AreStanding, HasGroup, list_of}
 use Rattle.gq_pipe.specs.steps.Levels.{Run, step_at}
 use Rattle.gq_pipe.specs.steps.Lists.{group_at, layout_in, EarlierStand}
 use Rattle.gq_pipe.specs.declared.places.GroupSteps.{GroupSteps}

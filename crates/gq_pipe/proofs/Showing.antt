@@ -14,7 +14,7 @@ use Rattle.gq_walks.specs.Layouts.{piece_of}
 use Rattle.gq_walks.specs.Running.{cursor_at}
 use Rattle.gq_walks.specs.declared.walker.Cursor.{Cursor}
 use Rattle.gq_pipe.specs.Built.{HasBuild}
-use Rattle.gq_pipe.specs.Shown.{AreShown, HasForm, IsPartOf, IsShown, is_flat}
+use Rattle.gq_pipe.specs.Shown.{AreShown, HasForm, IsPartOf, is_flat}
 use Rattle.gq_pipe.specs.steps.Chunks.{AreStanding, HasGroup, current_at, list_of, matches_in, part}
 use Rattle.gq_pipe.specs.steps.Cuts.{groups_of, TilesTo}
 use Rattle.gq_pipe.specs.steps.Levels.{Run, step_at}

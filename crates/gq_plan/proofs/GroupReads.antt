@@ -1,5 +1,5 @@
 -- The groups of what an expression reads, variant by variant.
-use Rattle.std.proofs.Common.{◌≡◌, ◌∙◌, ap, sym, refl, ℕ, List, [], ◌∷◌, ◌++◌, ◌+◌, ◌<◌, map, flat_map, length, drop, get_or, append_assoc}
+use Rattle.std.proofs.Common.{◌≡◌, ◌∙◌, ap, sym, refl, ℕ, List, [], ◌∷◌, ◌++◌, ◌+◌, ◌<◌, flat_map, length, drop, get_or, append_assoc}
 use Rattle.gq_base.specs.declared.ArithOp.{ArithOp}
 use Rattle.gq_base.specs.declared.CompareOp.{CompareOp}
 use Rattle.gq_base.specs.declared.Literal.{Literal as Spelled}

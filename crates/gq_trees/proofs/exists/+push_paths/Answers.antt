@@ -1,7 +1,5 @@
-use Rattle.gq_syntax.specs.declared.Term.{Term}
 use Rattle.gq_trees.proofs.ExistsPaths.{one_more}
 use Rattle.gq_trees.specs.Places.{paths_in}
-use Rattle.gq_trees.specs.steps.Places.{tester_paths}
 use Rattle.gq_trees.proofs.exists.+push_paths.Goals as goal
 
 pub push_all_paths-loop-tree-preserved : goal.push_all_paths-loop-tree-preserved
