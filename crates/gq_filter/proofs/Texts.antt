@@ -33,7 +33,7 @@ use Rattle.gq_filter.specs.steps.Texts.{code_in, coded_passes, is_in, tester_of,
 -- whether a value has a part
 abbrev part_vals : Part → Val → Option Bool
 part_vals (End part) v = ends_vals v (str part.now)
-part_vals (Inner part) v = contains_vals v (str part.now)
+part_vals (Inner part) v = contains_vals v (str part)
 
 none_has : (part : Part) → wanted true (part_vals part null) ≡ false
 none_has (End part) = refl
@@ -69,7 +69,7 @@ asked g row v name part =
 
     by : (p : Part) → test_chain value (map (tester_with (meaning g row)) (tester_of p ∷ [])) ≡ Ok (of_truth (part_vals p value))
     by (End p) = ap (λ o. and_then (and_then o (λ b. Ok (of_truth (ends_vals value b)))) (λ b. Ok b)) (meaning_Literal g row (spelled.Str p.now))
-    by (Inner p) = ap (λ o. and_then (and_then o (λ b. Ok (of_truth (contains_vals value b)))) (λ b. Ok b)) (meaning_Literal g row (spelled.Str p.now))
+    by (Inner p) = ap (λ o. and_then (and_then o (λ b. Ok (of_truth (contains_vals value b)))) (λ b. Ok b)) (meaning_Literal g row (spelled.Str p))
 
 pub text_decides : (g : Graph) (y : Typed) (condition : NamedExpr) (feed : Feed) (part : Part) (f : IsNodeFeedIn g y feed) → condition.expr ≡ Test (NodeProperty f.variable f.name) (tester_of part ∷ []) → feed.source.kind ≡ kind.Str →
     (row : Assignment) → text_passes (record { variable = f.variable; column = feed.column; dict = feed.source.dict; part = part }) row ≡ passes g (as_read y row) condition

@@ -14,10 +14,10 @@ use gq_dict::Dict;
 use gq_expr::{Expr, ExprTester, Tester};
 use gq_plan::{Assignment, NamedExpr, Typed};
 use gq_store::Graph;
-use memchr::memmem;
+use memchr::memmem::Finder;
 
 /// A text property of a node variable, and what its text is to have.
-#[derive(Clone, Copy)]
+#[derive(Drop)]
 pub(crate) struct TextTest<'g> {
     variable: u32,
     column: &'g Column,
@@ -25,11 +25,11 @@ pub(crate) struct TextTest<'g> {
     part: Part<'g>,
 }
 
-/// A part of a text: its end, or one that stands anywhere.
-#[derive(Clone, Copy)]
+/// A part of a text: its end, or one that stands anywhere, with what is made once to find it in many.
+#[derive(Drop)]
 enum Part<'g> {
     End(&'g Text),
-    Inner(&'g Text),
+    Inner(Finder<'g>),
 }
 
 impl TextTest<'_> {
@@ -71,16 +71,16 @@ fn code_in(count: u32, cell: i64) -> Option<u32>
 fn is_in(part: &Part<'_>, text: &str) -> bool
     ensures { result ≡ is_in part.now text.now }
 {
-    match *part {
+    match part {
         Part::End(end) => text.as_bytes().ends_with(end.as_str().as_bytes()),
-        Part::Inner(inner) => has_part(text.as_bytes(), inner.as_str().as_bytes()),
+        Part::Inner(inner) => has_part(text.as_bytes(), inner),
     }
 }
 
-fn has_part(text: &[u8], part: &[u8]) -> bool
+fn has_part(text: &[u8], part: &Finder<'_>) -> bool
     ensures { result ≡ occurs text.now part.now }
 {
-    memmem::find(text, part).is_some()
+    part.find(text).is_some()
 }
 
 /// The test of a text that decides a condition, where it is one of a text property of a node.
@@ -122,7 +122,10 @@ fn part_of(testers: &[ExprTester]) -> Option<Part<'_>>
     match testers {
         [tester] => match tester {
             Tester::Ends(end) => Some(Part::End(text_of(end)?)),
-            Tester::Contains(inner) => Some(Part::Inner(text_of(inner)?)),
+            Tester::Contains(inner) => {
+                let inner = text_of(inner)?.as_str().as_bytes();
+                Some(Part::Inner(Finder::new(inner)))
+            }
             _ => None,
         },
         _ => None,

@@ -22,12 +22,12 @@ use Rattle.gq_filter.specs.steps.RowCells.{cell_in}
 -- the test of an expression that asks for a part
 abbrev pub tester_of : Part → Tester Expr
 tester_of (End part) = Ends (Literal (Str part.now))
-tester_of (Inner part) = Contains (Literal (Str part.now))
+tester_of (Inner part) = Contains (Literal (Str part))
 
 -- whether a text has a part
 abbrev pub is_in : Part → List ℕ → Bool
 is_in (End part) text = ends_with nat_eq text part.now
-is_in (Inner part) text = occurs text part.now
+is_in (Inner part) text = occurs text part
 
 -- the code that a cell is, below the count of the codes
 abbrev pub code_in : ℕ → Option ℤ → Option ℕ
