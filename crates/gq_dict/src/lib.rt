@@ -1,5 +1,5 @@
-//! A dictionary: distinct texts in order of their bytes, each with its place as its code. The crate
-//! stands on `gq_base` alone.
+//! A dictionary: distinct texts in order of their bytes, which stand side by side, each with its
+//! place as its code. The crate stands on `gq_base` alone.
 #![tactic(auto)]
 
 ghost use Rattle.std.specs.Prelude.{◌≡◌, ◌↔◌, ℕ, List, ◌^◌, ◌<◌, ◌≤◌, ◌-◌, true, false, length};
@@ -9,7 +9,9 @@ ghost use Rattle.std.specs.List.{starts_with};
 ghost use Rattle.gq_dict.specs.Texts.{IsAscending, comes_before, text_at};
 
 mod coding;
+mod texts;
 
+use crate::texts::Texts;
 pub use coding::Coded;
 use gq_base::{List, Memory, Text};
 use std::alloc::Global;
@@ -19,7 +21,7 @@ use std::marker::Model;
 /// texts' bytes.
 #[derive(Drop)]
 pub struct Dict {
-    texts: Vec<Text>,
+    texts: Texts,
 }
 
 impl Model for Dict {
@@ -28,9 +30,9 @@ impl Model for Dict {
 
     ghost Value = { List (List ℕ) };
 
-    ghost view = { λ d. d.texts.items };
+    ghost view = { λ d. d.texts };
 
-    ghost invariant = { λ d. IsDict d.texts.items };
+    ghost invariant = { λ d. IsDict d.texts };
 }
 
 /// The codes from `low` to below `high`.
@@ -67,7 +69,7 @@ impl Dict {
             ((code : ℕ) → code < length self.now → text_at self.now code ≢ text.now) }
     {
         let code = self.below(text);
-        if (code as usize) < self.texts.len() && self.texts[code as usize].is(text) {
+        if (code as usize) < self.texts.len() && self.texts.get(code as usize) == text {
             Some(code)
         } else {
             None
@@ -79,7 +81,7 @@ impl Dict {
         requires { code < length self.now }
         ensures { result.now ≡ text_at self.now code }
     {
-        self.texts[code as usize].as_str()
+        self.texts.get(code as usize)
     }
 
     /// How many texts come before the text.
@@ -91,12 +93,11 @@ impl Dict {
         ensures rest { (code : ℕ) → result ≤ code → code < length self.now
             → comes_before (text_at self.now code) text.now ≡ false }
     {
-        let texts = self.texts.as_slice();
         let mut low = 0;
-        let mut high = texts.len();
+        let mut high = self.texts.len();
         while low < high {
             let middle = low + (high - low) / 2;
-            if texts[middle].as_str().cmp(text).is_lt() {
+            if self.texts.get(middle).cmp(text).is_lt() {
                 low = middle + 1;
             } else {
                 high = middle;
@@ -114,16 +115,12 @@ impl Dict {
             ≡ starts_with nat_eq (text_at self.now code) prefix.now }
     {
         let first = self.below(prefix);
-        let texts = self.texts.as_slice();
         let mut low = first as usize;
-        let mut high = texts.len();
+        let mut high = self.texts.len();
         while low < high {
             let middle = low + (high - low) / 2;
-            if texts[middle]
-                .as_str()
-                .as_bytes()
-                .starts_with(prefix.as_bytes())
-            {
+            let text = self.texts.get(middle);
+            if text.as_bytes().starts_with(prefix.as_bytes()) {
                 low = middle + 1;
             } else {
                 high = middle;
