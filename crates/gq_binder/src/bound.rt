@@ -5,7 +5,6 @@ ghost use Rattle.gq_binder.specs.Binding.{Answers};
 ghost use Rattle.gq_binder.specs.Columns.{sort_expr};
 ghost use Rattle.gq_binder.specs.steps.Parts.{bound_by, bound_in, exists_part};
 ghost use Rattle.gq_binder.specs.steps.Parts.{own_patterns, IsWholeCore};
-ghost use Rattle.gq_binder.specs.Refusals.{first_refusal};
 ghost use Rattle.gq_syntax.specs.Spans.{SpelledQuery};
 
 use crate::checks::{Alternatives, check, check_last};
@@ -39,26 +38,6 @@ pub fn bind(
     let core = core_of(alloc, query.clauses.as_slice())?;
     let all = check_last(alloc, text, catalog, query, &parts, &core)?;
     Ok(bound_by(alloc, text, catalog, query, parts, core, all)?)
-}
-
-/// Why a query, which a text spells, cannot be bound over a catalogue: the first check that
-/// applies, or none.
-pub fn refusal_of(
-    alloc: Global,
-    query: &Query,
-    text: &[u8],
-    catalog: &Catalog,
-) -> Result<Option<BindRefusal>, Memory>
-    requires { SpelledQuery text.now query.now }
-    ensures { IfOk result (λ r. r ≡ first_refusal query.now text.now catalog.now) }
-{
-    match bind(alloc, query, text, catalog) {
-        Ok(_) => Ok(None),
-        Err(refusal) => match refusal {
-            BindRefusal::Memory => Err(Memory),
-            other => Ok(Some(other)),
-        },
-    }
 }
 
 // The bound form that the parts of a query and its core give, where it has trails.

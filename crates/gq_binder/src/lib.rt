@@ -15,5 +15,5 @@ mod path_tests;
 mod refusal;
 mod trails;
 
-pub use bound::{bind, refusal_of};
+pub use bound::bind;
 pub use refusal::BindRefusal;

@@ -87,6 +87,7 @@ impl<'g> Cells<'g> {
     }
 
     /// A value, counted from 0.
+    #[inline(always)]
     pub fn value(&self, index: usize) -> Value<'g>
         requires { index < length self.now.values }
         ensures { val result ≡ slice_index_or self.now.values index null }

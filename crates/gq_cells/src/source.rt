@@ -31,6 +31,7 @@ pub enum Source<'g> {
 
 impl<'g> Source<'g> {
     /// What a number stands for.
+    #[inline(always)]
     pub(crate) fn value(&self, number: u32) -> Value<'g>
         requires { IsNumber (Some self.now) number }
         ensures { val result ≡ source_val self.now number }

@@ -81,6 +81,7 @@ impl Batch {
     }
 
     /// Puts a piece behind what waits. After `Failed` nothing is said of what waits.
+    #[inline(always)]
     pub fn put<O: Sink>(&mut self, out: &mut O, piece: &[u8]) -> Result<(), Failed>
         ensures bytes { Puts (O.taken out.old) (O.taken out.new)
             self.old self.new piece.now result }
@@ -90,6 +91,17 @@ impl Batch {
             self.push(piece);
             return Ok(());
         }
+        self.put_behind_all(out, piece)
+    }
+
+    // Has the sink take what waits, and puts a piece behind it.
+    #[cold]
+    #[inline(never)]
+    fn put_behind_all<O: Sink>(&mut self, out: &mut O, piece: &[u8]) -> Result<(), Failed>
+        ensures bytes { Puts (O.taken out.old) (O.taken out.new)
+            self.old self.new piece.now result }
+        ensures cause { HasCause (O.faults out.old) (O.faults out.new) result }
+    {
         self.flush(out)?;
         // A piece that no batch has room for goes straight through.
         if piece.len() > ROOM {

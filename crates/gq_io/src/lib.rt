@@ -18,6 +18,6 @@ pub use memory_files::{MemoryFiles, SureFiles};
 pub use memory_sink::{MemorySink, SureSink};
 pub use memory_source::{MemorySource, SureSource};
 pub use outside::{Failed, Files, Sink, Source};
-pub use reading::{ReadFile, ReadStop, read_chosen, read_input};
+pub use reading::{ReadFile, ReadStop, read_chosen};
 pub use real::{RealFiles, RealSink, RealSource};
 pub use writing::write_all;

@@ -4,7 +4,7 @@ ghost use Rattle.std.specs.Prelude.{◌≡◌, ◌+◌, ◌<◌, ◌≤◌, IfSo
 ghost use Rattle.gq_io.specs.Reading.{AnswersFor, ReadsWithin, FailsByFault};
 ghost use Rattle.gq_io.specs.declared.reading.ReadStop.TheVariants as stop;
 
-use crate::{Failed, Files, Source};
+use crate::{Failed, Files};
 use gq_base::{Bytes, Memory};
 use std::alloc::Global;
 
@@ -80,30 +80,6 @@ pub fn read_chosen<F: Files>(
     while filled <= most {
         make_room(&mut bytes, filled, most)?;
         let count = files.read(&mut bytes[filled..])?;
-        if count == 0 {
-            bytes.truncate(filled);
-            return Ok(ReadFile::Whole(Bytes::from_vec(bytes)));
-        }
-        filled += count;
-    }
-    Ok(ReadFile::TooLong)
-}
-
-/// Reads the input to its end, unless it has more than `most` bytes. It reads at most one byte more.
-pub fn read_input<I: Source>(
-    alloc: Global,
-    input: &mut I,
-    most: usize,
-) -> Result<ReadFile, ReadStop>
-    ensures read { ReadsWithin most (I.left input.old) (I.left input.new) result }
-    ensures told { IfSome (I.left input.old) (λ all. IfOk result (AnswersFor most all)) }
-    ensures cause { FailsByFault (I.faults input.old) (I.faults input.new) result }
-{
-    let mut bytes = Vec::new(alloc);
-    let mut filled = 0;
-    while filled <= most {
-        make_room(&mut bytes, filled, most)?;
-        let count = input.read(&mut bytes[filled..])?;
         if count == 0 {
             bytes.truncate(filled);
             return Ok(ReadFile::Whole(Bytes::from_vec(bytes)));

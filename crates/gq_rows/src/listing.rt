@@ -16,6 +16,7 @@ pub enum Values<'g> {
 
 impl<'g> Values<'g> {
     // A value, counted from 0.
+    #[inline(always)]
     fn value(&self, index: usize) -> Value<'g>
         requires { index < length (values_of self.now) }
         ensures { val result ≡ slice_index_or (values_of self.now) index null }
@@ -75,6 +76,7 @@ impl<'g> Lines<'g> {
     }
 
     /// The value of a line in a column, both counted from 0.
+    #[inline(always)]
     pub fn value(&self, row: usize, column: usize) -> Value<'g>
         requires row { row < length self.now }
         requires column { column < length (slice_index_or self.now row []) }
@@ -124,6 +126,7 @@ impl<'g> Listing<'g> {
     }
 
     /// The value of a line in a column, both counted from 0.
+    #[inline(always)]
     pub fn value(&self, row: usize, column: usize) -> Value<'g>
         requires row { row < length self.now.lines }
         requires column { column < length (slice_index_or self.now.lines row []) }

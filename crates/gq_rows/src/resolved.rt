@@ -52,19 +52,33 @@ impl<'g> Resolved<'g> {
     }
 
     /// The value of the expression in a row, or the first fault met.
+    #[inline(always)]
     pub(crate) fn value<R: Assigned>(&self, graph: &'g Graph, row: &R) -> Result<Value<'g>, Fault>
         requires { IsResolved graph.now self.now }
         ensures { outcome result ≡ meaning graph.now (R.assignment row.now) self.now.expr.now }
     {
         match self.reader {
-            Reader::Plain => eval(self.expr, graph, row),
+            Reader::Plain => evaluated(self.expr, graph, row),
             Reader::Node(property) => read_node(self.expr, property, graph, row),
             Reader::Rel(property) => read_rel(self.expr, property, graph, row),
         }
     }
 }
 
+// The value of an expression that is evaluated part by part.
+#[inline(never)]
+fn evaluated<'g, R: Assigned>(
+    expr: &'g Expr,
+    graph: &'g Graph,
+    row: &R,
+) -> Result<Value<'g>, Fault>
+    ensures { outcome result ≡ meaning graph.now (R.assignment row.now) expr.now }
+{
+    eval(expr, graph, row)
+}
+
 // A property of a node, where the row has one of the table.
+#[inline(always)]
 fn read_node<'g, R: Assigned>(
     expr: &'g Expr,
     property: Property,
@@ -78,12 +92,13 @@ fn read_node<'g, R: Assigned>(
         return Ok(Value::Null);
     };
     if node.table != property.table || node.row >= graph.node_count(property.table) {
-        return eval(expr, graph, row);
+        return evaluated(expr, graph, row);
     }
     Ok(graph.node_value(property.table, property.place, node.row))
 }
 
 // A property of a relationship, where the row has one of the table.
+#[inline(always)]
 fn read_rel<'g, R: Assigned>(
     expr: &'g Expr,
     property: Property,
@@ -97,7 +112,7 @@ fn read_rel<'g, R: Assigned>(
         return Ok(Value::Null);
     };
     if rel.table != property.table || rel.row >= graph.rel_count(property.table) {
-        return eval(expr, graph, row);
+        return evaluated(expr, graph, row);
     }
     Ok(graph.rel_value(property.table, property.place, rel.row))
 }

@@ -100,6 +100,7 @@ impl Graph {
     }
 
     /// How many rows a node table has.
+    #[inline(always)]
     pub fn node_count(&self, table: u32) -> u32
         requires { table < length self.now.catalog.nodes }
         ensures { result ≡ row_count self.now.nodes table }
@@ -108,6 +109,7 @@ impl Graph {
     }
 
     /// How many relationships a relationship table has.
+    #[inline(always)]
     pub fn rel_count(&self, rel: u32) -> u32
         requires { rel < length self.now.catalog.rels }
         ensures { result ≡ length (rels_at self.now rel) }
@@ -207,6 +209,7 @@ impl Graph {
 
     /// The value of a property of a node, by the property's place in its table: null where the cell
     /// is.
+    #[inline(always)]
     pub fn node_value(&self, table: u32, property: u32, row: u32) -> Value<'_>
         requires within { table < length self.now.catalog.nodes }
         requires property { property < length (node_fields self.now table) }
@@ -238,6 +241,7 @@ impl Graph {
 
     /// The value of a property of the relationship with a load number, by the property's place in
     /// its table: null where the cell is.
+    #[inline(always)]
     pub fn rel_value(&self, rel: u32, property: u32, number: u32) -> Value<'_>
         requires within { rel < length self.now.catalog.rels }
         requires property { property < length (rel_fields self.now rel) }

@@ -58,6 +58,7 @@ impl Property {
     }
 
     /// The value of a cell, or null.
+    #[inline(always)]
     pub(crate) fn value(&self, row: u32) -> Value<'_>
         requires { row < length self.now }
         ensures { val result ≡ cell_val (slice_index_or self.now row None) }

@@ -2,9 +2,8 @@
 
 use gq_base::{Bytes, List, Text};
 use gq_io::{
-    Batch, Failed, Files, MemoryFiles, MemorySink, MemorySource, ReadFile, ReadStop, RealFiles,
-    RealSink, RealSource, Sink, Source, SureFiles, SureSink, SureSource, read_chosen, read_input,
-    write_all,
+    Batch, Failed, Files, MemoryFiles, MemorySink, ReadFile, ReadStop, RealFiles, RealSink,
+    RealSource, Sink, Source, SureFiles, SureSink, SureSource, read_chosen, write_all,
 };
 use std::test::Fail;
 
@@ -77,32 +76,44 @@ fn writes(rt: HostRuntime) -> Result<(), Fail> {
     Ok(())
 }
 
+// What is read of a file of these bytes, where the call with a number fails; the choice of the file is call 0.
+fn read_of(rt: &HostRuntime, text: &[u8], most: usize, failing: u64) -> Result<&'static str, Fail> {
+    let alloc = rt.alloc();
+    let names = List::from_vec(vec![in alloc; Text::new(alloc, "a")?]?);
+    let contents = List::from_vec(vec![in alloc; Bytes::new(alloc, text)?]?);
+    let mut files = MemoryFiles::new(names, contents, only(rt, failing)?);
+    if files.select("a") != Ok(true) {
+        return Ok("not chosen");
+    }
+    Ok(kind_of(&read_chosen(alloc, &mut files, most), text))
+}
+
 #[test]
 fn reads(rt: HostRuntime) -> Result<(), Fail> {
-    let alloc = rt.alloc();
-    for (text, most, piece, failing, wanted) in [
-        ("", 0, 1, NEVER, "whole"),
-        ("abc", 3, 1, NEVER, "whole"),
-        ("abc", 2, 1, NEVER, "too long"),
-        ("abc", 2, 9, NEVER, "too long"),
-        ("abc", 9, 2, 2, "failed"),
-        ("abc", 9, 2, 3, "whole"),
+    for (text, most, failing, wanted) in [
+        ("", 0, NEVER, "whole"),
+        ("abc", 3, NEVER, "whole"),
+        ("abc", 2, NEVER, "too long"),
+        ("abc", 9, 0, "not chosen"),
+        ("abc", 9, 2, "failed"),
+        ("abc", 9, 3, "whole"),
     ] {
-        let text = text.as_bytes();
-        let bytes = Bytes::new(alloc, text)?;
-        let mut input = MemorySource::new(bytes, piece, only(&rt, failing)?);
-        assert_eq!(rt;
-            kind_of(&read_input(alloc, &mut input, most), text),
-            wanted,
-            "{text:?}"
-        );
+        assert_eq!(rt; read_of(&rt, text.as_bytes(), most, failing)?, wanted, "{text:?}");
     }
-    let long = vec![in alloc; b'x'; 200_000]?;
-    let mut input = SureSource::new(Bytes::new(alloc, &long)?, 70_000);
-    assert_eq!(rt;
-        kind_of(&read_input(alloc, &mut input, 200_000), &long),
-        "whole"
-    );
+    let long = vec![in rt.alloc(); b'x'; 200_000]?;
+    assert_eq!(rt; read_of(&rt, &long, 200_000, NEVER)?, "whole");
+    assert_eq!(rt; read_of(&rt, &long, 199_999, NEVER)?, "too long");
+    Ok(())
+}
+
+#[test]
+fn reads_in_pieces(rt: HostRuntime) -> Result<(), Fail> {
+    let mut input = SureSource::new(Bytes::new(rt.alloc(), b"abc")?, 2);
+    let mut into = [0; 4];
+    assert_eq!(rt; input.read(&mut into), Ok(2));
+    assert_eq!(rt; input.read(&mut into[2..]), Ok(1));
+    assert_eq!(rt; input.read(&mut into[3..]), Ok(0));
+    assert_eq!(rt; into, *b"abc\0");
     Ok(())
 }
 
@@ -153,9 +164,11 @@ fn chosen(files: &mut SureFiles) -> Chosen {
 
 #[test]
 fn reads_and_writes_through_std(rt: HostRuntime) -> Result<(), Fail> {
-    let alloc = rt.alloc();
     let mut input = RealSource::new(b"abc".as_slice());
-    assert_eq!(rt; kind_of(&read_input(alloc, &mut input, 3), b"abc"), "whole");
+    let mut into = [0; 4];
+    assert_eq!(rt; input.read(&mut into), Ok(3));
+    assert_eq!(rt; input.read(&mut into[3..]), Ok(0));
+    assert_eq!(rt; into, *b"abc\0");
     let mut buffer = [0; 4];
     let mut out = RealSink::new(buffer.as_mut_slice());
     assert_eq!(rt; write_all(&mut out, b"abc"), Ok(()));

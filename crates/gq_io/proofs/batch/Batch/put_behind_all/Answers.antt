@@ -1,5 +1,5 @@
 use Rattle.gq_io.proofs.Waiting.{flushed-writes}
-use Rattle.gq_io.proofs.batch.Batch.put.Goals as goal
+use Rattle.gq_io.proofs.batch.Batch.put_behind_all.Goals as goal
 
 pub returns-then-piece-gt-ROOM-clause-bytes : goal.returns-then-piece-gt-ROOM-clause-bytes
 returns-then-piece-gt-ROOM-clause-bytes g c =
