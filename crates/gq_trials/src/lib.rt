@@ -1,12 +1,9 @@
-//! Trials of the program over cases that are written as text: each is run in memory in pieces of several lengths, and each
-//! whose output or status is another one is printed. They stand on `gq_shell`, whose `run` is the program, and on the files,
-//! inputs and outputs in memory of `gq_io`.
+//! Trials of the program over the cases of `gq_case_text`: each is run in memory in pieces of several lengths, and each whose
+//! output or status is another one is printed. They stand on `gq_shell`, whose `run` is the program, and on the files, inputs
+//! and outputs in memory of `gq_io`.
 #![tactic(auto)]
 
-mod case;
 mod reading;
-mod spelled;
-mod taking;
 mod trial;
 
 pub use crate::reading::{Tally, try_named};

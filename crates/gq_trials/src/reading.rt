@@ -2,9 +2,8 @@
 
 ghost use Rattle.std.specs.Prelude.{◌≡◌};
 
-use crate::case::{Case, Place, Stop};
-use crate::taking::take_line;
 use crate::trial::{Got, difference};
+use gq_case_text::{Case, Place, Stop, take_line};
 use std::fs;
 
 /// How many cases do what they are to do, and how many do not.

@@ -2,8 +2,8 @@
 
 ghost use Rattle.std.specs.Prelude.{◌<◌};
 
-use crate::case::{Case, Orders, SeriesOf, Stop};
 use gq_base::{Bytes, List, Text};
+use gq_case_text::{Case, Orders, SeriesOf, Stop};
 use gq_io::{MemoryFiles, MemorySink, MemorySource};
 use gq_shell::run;
 use std::alloc::Global;
