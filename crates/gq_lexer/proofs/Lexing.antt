@@ -1,5 +1,6 @@
 -- The tokens of a text are those of its first lexeme and those of the rest.
 use Rattle.std.proofs.Common.{◌≡◌, ℕ, zero, suc, ◌+◌, ◌-◌, ◌<◌, ◌≤◌, Bool, true, false, cond, List, [], ◌∷◌, ◌++◌, length, take, drop, Some, None, Ok, Err, refl, sym, ap, ◌∙◌, append_assoc, append-nil, arith}
+use Rattle.std.specs.Prelude.{is_some}
 use Rattle.std.specs.Str.{chars, is_utf8, IsUtf8}
 use Rattle.std.specs.Str.Lossy.{utf8_valid_len}
 use Rattle.std.proofs.lemmas.List.{drop-drop}
@@ -7,6 +8,7 @@ use Rattle.std.proofs.lemmas.Str.{IsUtf8-from_is_utf8, is_utf8-from_IsUtf8}
 use Rattle.gq_lexer.specs.Lexemes.{lexeme}
 use Rattle.gq_lexer.specs.Tokens.{InOrder, Lexed, lexed, lexed_behind, lexed_from, prefixed, then_from, tokens_of, width}
 use Rattle.gq_lexer.specs.declared.lexeme.Lexeme.{Lexeme}
+use Rattle.gq_lexer.specs.declared.token.Span.{Span}
 use Rattle.gq_lexer.specs.declared.token.Token.{Token}
 use Rattle.gq_lexer.specs.declared.token.TokenKind.{TokenKind}
 use Rattle.std.specs.declared.option.Option.{Option}
@@ -66,6 +68,35 @@ lexed_stops cs rest place at tokens e is some so_far = so_far ∙ ap (λ r. pref
 pub lexed_ends : (cs : List ℕ) (place at : ℕ) (tokens : List Token) → drop place cs ≡ [] → lexed_from 0 cs ≡ prefixed tokens (lexed_from at (drop place cs)) → lexed_from 0 cs ≡ Ok tokens
 lexed_ends cs place at tokens none so_far =
     so_far ∙ ap (λ r. prefixed tokens (lexed_from at r)) none ∙ ap (prefixed tokens) (lexed_nothing at) ∙ ap Ok (append-nil tokens)
+
+-- a text that fails is not blank
+pub fails_not_blank : (cs : List ℕ) (at : ℕ) → lexed_from 0 cs ≡ Err at → lexed_from 0 cs ≡ Ok [] → ⊥
+fails_not_blank cs at fails blank = let e : ◌≡◌ {A = Lexed} (Err at) (Ok []) = sym fails ∙ blank in cc e
+
+token_first : (kind : Option TokenKind) (span : Span) (rest : Lexed) → is_some kind ≡ true → prefixed (tokens_of kind span) rest ≡ Ok [] → ⊥
+token_first None span rest some e = cc some
+token_first (Some k) span (Ok more) some e = cc e
+token_first (Some k) span (Err at) some e = cc e
+
+-- nor is one with a token
+pub token_not_blank : (cs rest : List ℕ) (place at : ℕ) (l : Lexeme) → rest ≡ drop place cs → Some l ≡ lexeme rest → 0 < l.size → is_some l.kind ≡ true
+    → lexed_from 0 cs ≡ prefixed [] (lexed_from at (drop place cs)) → lexed_from 0 cs ≡ Ok [] → ⊥
+token_not_blank cs rest place at l e is h some so_far blank =
+    let w = width (take l.size rest) in
+    let next = lexed_next cs rest place at w l [] _ e is h refl so_far refl in
+    token_first l.kind (record { start = at; end = at + w }) _ some (sym next ∙ blank)
+
+no_token : (kind : Option TokenKind) (span : Span) → is_some kind ≡ false → tokens_of kind span ≡ []
+no_token None span none = refl
+no_token (Some k) span none = cc none
+
+-- one more lexeme was read that is no token
+pub blank_next : (cs rest : List ℕ) (place at : ℕ) (l : Lexeme) → rest ≡ drop place cs → Some l ≡ lexeme rest → 0 < l.size → is_some l.kind ≡ false
+    → lexed_from 0 cs ≡ prefixed [] (lexed_from at (drop place cs))
+    → (end : ℕ) × (lexed_from 0 cs ≡ prefixed [] (lexed_from end (drop (place + l.size) cs)))
+blank_next cs rest place at l e is h none so_far =
+    let w = width (take l.size rest) in
+    (at + w, lexed_next cs rest place at w l [] [] e is h refl so_far (sym (no_token l.kind (record { start = at; end = at + w }) none)))
 
 -- a text that is UTF-8, and one that is not
 pub lexed_text : (text : List ℕ) → IsUtf8 text → lexed text ≡ lexed_from 0 (chars text)

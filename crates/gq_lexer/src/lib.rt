@@ -2,6 +2,7 @@
 //! their definition says. The crate stands on `gq_base` alone.
 #![tactic(auto)]
 
+mod blank;
 mod lexeme;
 mod number;
 mod run;
@@ -9,5 +10,6 @@ mod scan;
 mod sign;
 mod token;
 
+pub use blank::is_blank;
 pub use scan::lex;
 pub use token::{LexRefusal, Sign, Span, Token, TokenKind};

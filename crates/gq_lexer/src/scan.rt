@@ -54,8 +54,8 @@ fn lex_chars(alloc: Global, chars: &[char]) -> Result<List<Token>, LexRefusal>
     Ok(tokens)
 }
 
-// The characters of a text.
-fn chars_of(alloc: Global, text: &str) -> Result<Vec<char>, Memory>
+/// The characters of a text.
+pub(crate) fn chars_of(alloc: Global, text: &str) -> Result<Vec<char>, Memory>
     ensures { IfOk result (λ all. all.items ≡ chars text.now) }
 {
     let all = text.chars().collect(alloc)?;

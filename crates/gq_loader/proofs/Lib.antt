@@ -1,4 +1,3 @@
 pub mod Effecting
 pub mod Keeping
-pub mod Missing
 pub mod Rest

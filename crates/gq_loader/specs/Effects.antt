@@ -19,16 +19,14 @@ pub record ByMiss {T : Type 0} (before now : ℕ) (result : Result T LoadStop) :
   pub later : before ≤ now
   pub missed : (name : List ℕ) → result ≡ Err (stop.Refused (refusal.NoFile name)) → Rose before now
 
--- of a file that is there, which was chosen last, at most one byte more than so many was read
-pub record ReadsFew (held : Option Names) (left : Option (List ℕ)) (most : ℕ) : Type 0 where
-  pub name : List ℕ
+-- of the file of this name, which is there, at most so many bytes were read
+pub record TookAtMost (held : Option Names) (name : List ℕ) (left : Option (List ℕ)) (most : ℕ) : Type 0 where
   pub there : IfSome held (λ files. IsSome (files name))
   pub eaten : List ℕ
-  pub few : length eaten ≤ most + 1
+  pub few : length eaten ≤ most
   pub took : IfSome held (λ files. Consumes (files name) left eaten)
 
--- the answer is one that may come where the file that was chosen last is not there
-abbrev pub MayMiss : {T : Type 0} → Result T LoadStop → Type 0
-MayMiss (Err (stop.Refused (refusal.NoFile name))) = Unit {0}
-MayMiss (Err stop.Memory) = Unit {0}
-MayMiss result = ⊥
+-- of the file that `FileTooLong` names, at most one byte more than so many was read
+abbrev pub ReadsFew : {T : Type 0} → Option Names → Option (List ℕ) → ℕ → Result T LoadStop → Type 0
+ReadsFew held left most result = (name : List ℕ) → result ≡ Err (stop.Refused (refusal.FileTooLong name))
+    → TookAtMost held name left (most + 1)

@@ -1,11 +1,10 @@
 //! The load of a graph: its manifest, and then the file of each table that the manifest names.
-ghost use Rattle.std.specs.Prelude.{◌≡◌, ◌≢◌, ◌⊎◌, true, All, AllPairs, IfOk};
+ghost use Rattle.std.specs.Prelude.{◌≡◌, ◌≢◌, true, All, AllPairs, IfOk};
 ghost use Rattle.gq_base.specs.Valid.{is_valid};
-ghost use Rattle.gq_io.specs.Causes.{Rose};
 ghost use Rattle.gq_manifest.specs.Manifests.{IsNumberOf};
 ghost use Rattle.gq_loader.specs.Answers.{Answers};
 ghost use Rattle.gq_loader.specs.steps.Answers.{IsFresh, IsUnread};
-ghost use Rattle.gq_loader.specs.Effects.{ByFault, ByMiss, MayMiss, ReadsFew};
+ghost use Rattle.gq_loader.specs.Effects.{ByFault, ByMiss, ReadsFew};
 ghost use Rattle.gq_loader.specs.steps.Effects.{Reads, told_of};
 ghost use Rattle.gq_loader.specs.Limits.{IsWithin, most_bytes, most_manifest};
 ghost use Rattle.gq_loader.specs.Loads.{beginning_of, load_of};
@@ -52,9 +51,7 @@ pub fn load<F: Files>(
     ensures faults { ByFault (F.faults files.old) (F.faults files.new) result }
     ensures misses { ByMiss (F.misses files.old) (F.misses files.new) result }
     ensures held { F.held files.new ≡ F.held files.old }
-    ensures few { ¬ (Rose (F.faults files.old) (F.faults files.new))
-        → ReadsFew (F.held files.old) (F.left files.new) (most_bytes limits.now)
-        ⊎ MayMiss result }
+    ensures few { ReadsFew (F.held files.old) (F.left files.new) (most_bytes limits.now) result }
 {
     let Beginning { mut loading, order } = begin(alloc, files, manifest)?;
     for table in order.as_slice() {

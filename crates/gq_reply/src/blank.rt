@@ -1,13 +1,12 @@
 //! Statements of white space and comments.
 
-ghost use Rattle.std.specs.Prelude.{◌≡◌, ◌≤◌, ◌↔◌, length, IfOk, IsTrue};
+ghost use Rattle.std.specs.Prelude.{◌≡◌, ◌↔◌, IfOk, IsTrue};
 ghost use Rattle.std.specs.List.{list_all};
 ghost use Rattle.gq_reply.specs.Replies.{IsBlank};
 ghost use Rattle.gq_reply.specs.steps.Gaps.{is_gap};
 ghost use Rattle.gq_syntax.specs.Outcomes.{SyntaxAt};
 
 use gq_base::Memory;
-use gq_lexer::{LexRefusal, lex};
 use std::alloc::Global;
 
 /// Whether a statement is spaces, tabs and line ends alone, as what is left of an input behind the
@@ -27,16 +26,11 @@ fn is_gap(byte: u8) -> bool
 /// Whether a statement that goes wrong at a place is white space and comments alone: such a one ends
 /// there, so that others are not read again.
 pub fn is_blank(alloc: Global, statement: &[u8], at: u32) -> Result<bool, Memory>
-    requires fits { length statement.now ≤ 65536 }
     requires cause { SyntaxAt statement.now at }
     ensures { IfOk result (λ blank. IsTrue blank ↔ IsBlank statement.now) }
 {
     if (at as usize) < statement.len() {
         return Ok(false);
     }
-    match lex(alloc, statement) {
-        Ok(tokens) => Ok(tokens.is_empty()),
-        Err(LexRefusal::Lex { .. }) => Ok(false),
-        Err(LexRefusal::Memory) => Err(Memory),
-    }
+    gq_lexer::is_blank(alloc, statement)
 }

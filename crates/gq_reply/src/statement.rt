@@ -119,7 +119,6 @@ impl Replier<'_> {
         statement: &[u8],
         at: u32,
     ) -> Result<Tone, Failed>
-        requires fits { length statement.now ≤ 65536 }
         requires cause { SyntaxAt statement.now at }
         ensures replies { (params : List Param)
             → Replied (IsReply (context_of self.now) params statement.now)

@@ -325,7 +325,7 @@ whole words outside status.ReadFault run files input held left no_files no_input
   | inl load ↦ absurd (no_files load.1)
   | inr session ↦ absurd (no_input session.1)
 ]
-whole words outside status.WriteFault run files input held left no_files no_input no_out = absurd (no_out run.ends.1)
+whole words outside status.WriteFault run files input held left no_files no_input no_out = absurd (no_out run.ends.2)
 
 pub read_fault : (words : List (List ℕ)) (outside : Outside) (answer : Status) → Runs words outside answer → answer ≡ status.ReadFault
     → Rose outside.files_faults.before outside.files_faults.now ⊎ Rose outside.input_faults.before outside.input_faults.now
@@ -333,4 +333,4 @@ read_fault words outside answer run is = let ends = rw is at run.ends in elim en
 
 pub write_fault : (words : List (List ℕ)) (outside : Outside) (answer : Status) → Runs words outside answer → answer ≡ status.WriteFault
     → Rose outside.out_faults.before outside.out_faults.now
-write_fault words outside answer run is = let ends = rw is at run.ends in ends.1
+write_fault words outside answer run is = let ends = rw is at run.ends in ends.2

@@ -29,7 +29,7 @@ use Rattle.gq_session.specs.declared.answering.Tone.{Tone}
 use Rattle.gq_session.specs.declared.answering.Tone.TheVariants as tone
 use Rattle.gq_session.specs.declared.run.Stop.{Stop}
 use Rattle.gq_session.specs.declared.run.Stop.TheVariants as stop
-use Rattle.gq_shell.specs.Claim.{AnswersEnded, EatsAll, Ends, IsPath, IsQuiz, Outside, Over, Permits, Runs, WroteFront, full, long, most, settings_of, short, usage_text, with_eaten}
+use Rattle.gq_shell.specs.Claim.{AnswersEnded, EatsAll, EatsFor, Ends, IsPath, IsQuiz, OnSample, Outside, Over, Permits, Runs, WroteFront, full, long, most, settings_of, short, usage_text, with_eaten}
 use Rattle.gq_shell.specs.LoadLines.{load_line}
 use Rattle.gq_shell.specs.Questions.{IsNumbered}
 use Rattle.gq_shell.specs.steps.Statuses.{status_of}
@@ -92,13 +92,13 @@ module _ (words : List (List ℕ)) (o : Outside) where
   for_memory : (answer : Status) → answer ≡ status.Memory → Keeps o.taken o.took → Ends words o [] answer
   for_memory answer is kept = rw is (inl (kept, refl))
 
-  broken_line : (answer s : Status) (text : List ℕ) → Permits words o.held o.left s text → answer ≡ status.WriteFault → AppendsFront o.taken o.took text → Rose o.out_faults.before o.out_faults.now
+  broken_line : (answer s : Status) (text : List ℕ) → Permits words o.held o.left s text → EatsFor words o [] s → answer ≡ status.WriteFault → AppendsFront o.taken o.took text → Rose o.out_faults.before o.out_faults.now
       → Ends words o [] answer
-  broken_line answer s text permitted is front rose = rw is (record { answer = s; text = text; permitted = permitted; moved = front }, rose)
+  broken_line answer s text permitted ate is front rose = rw is (record { answer = s; text = text; permitted = permitted; moved = front }, ate, rose)
 
   misused : (answer : Status) → IsMisused words → Told usage_text status.Usage (out_of o) answer → Ends words o [] answer
   misused answer wrong (inl (is, moved)) = rw is (record { text = usage_text; permitted = (wrong, refl); moved = moved }, refl)
-  misused answer wrong (inr (is, front, rose)) = broken_line answer status.Usage usage_text (wrong, refl) is front rose
+  misused answer wrong (inr (is, front, rose)) = broken_line answer status.Usage usage_text (wrong, refl) refl is front rose
 
   module _ (read : Words) (given : IsRead words read) where
     module _ (path : List ℕ) (from : IsPath path read.source) where
@@ -115,7 +115,7 @@ module _ (words : List (List ℕ)) (o : Outside) where
         refl,
       )
       by_line answer e meant missed (inr (is, front, rose)) =
-          broken_line answer status.NotLoaded (load_line e) (e, record { read = read; given = given; path = path; from = from; told = meant }, refl) is front rose
+          broken_line answer status.NotLoaded (load_line e) (e, record { read = read; given = given; path = path; from = from; told = meant }, refl) refl is front rose
 
       -- the load gave no graph
       not_loaded : (answer : Status) (graph : Result Graph LoadStop) (e : LoadStop)
@@ -156,33 +156,44 @@ module _ (words : List (List ℕ)) (o : Outside) where
             let w = whole input is in
             (w.replies, of_told input is (May result w.replies) w.permitted, w.moved)
 
+        -- the input is read over the graph
+        on_graph : Over words o.held o.left (λ c input. Unit {0})
+        on_graph = over o.held o.left (λ c input. Unit {0}) loads (λ input told. tt)
+
         -- the input was read to its end
         eaten_all : (eaten : List ℕ) → IsAtEnd o.unread → EatsAll words o eaten
-        eaten_all eaten end = inl (over o.held o.left (λ c input. Unit {0}) loads (λ input told. tt), end)
+        eaten_all eaten end = inl (on_graph, end)
 
         finished : (eaten : List ℕ) → IsAtEnd o.unread → (t : Tone) → Written (Ok t) → Ends words o eaten (status_of (Ok t))
         finished eaten end tone.Good (text, may, moved) = (record { text = text; permitted = inl (over o.held o.left _ loads may); moved = moved }, eaten_all eaten end)
         finished eaten end tone.Refused (text, may, moved) = (record { text = text; permitted = inl (over o.held o.left _ loads may); moved = moved }, eaten_all eaten end)
         finished eaten end tone.Memory (text, may, moved) = inr (record { text = text; permitted = inl (over o.held o.left _ loads may); moved = moved }, eaten_all eaten end)
 
+        -- a front of a permitted text, of whose input this much was eaten
+        abbrev Broken : List ℕ → Type 0
+        Broken eaten = (front : WroteFront words o.held o.left o.taken o.took) × EatsFor words o eaten front.answer
+
         -- a front of what a session over the input permits
-        front_of : (input : List ℕ) → o.left ≡ Some input → (result : Result Tone Stop) (text : List ℕ) → May result text input → AppendsFront o.taken o.took text
-            → WroteFront words o.held o.left o.taken o.took
-        front_of input is (Ok tone.Good) text may moved = record { answer = status.Ended; text = text; permitted = inl (over o.held o.left _ loads (of_told input is (May (Ok tone.Good) text) may)); moved = moved }
-        front_of input is (Ok tone.Refused) text may moved = record { answer = status.Refused; text = text; permitted = inl (over o.held o.left _ loads (of_told input is (May (Ok tone.Refused) text) may)); moved = moved }
-        front_of input is (Ok tone.Memory) text may moved = record { answer = status.Memory; text = text; permitted = inl (over o.held o.left _ loads (of_told input is (May (Ok tone.Memory) text) may)); moved = moved }
-        front_of input is (Err stop.TooLong) text may moved = record { answer = status.TooLong; text = text; permitted = over o.held o.left _ loads (of_told input is (May (Err stop.TooLong) text) may); moved = moved }
-        front_of input is (Err stop.Read) text may moved = absurd may
-        front_of input is (Err stop.Write) text may moved = absurd may
+        front_of : (eaten input : List ℕ) → o.left ≡ Some input → (result : Result Tone Stop) (text : List ℕ) → May result text input → AppendsFront o.taken o.took text
+            → Broken eaten
+        front_of eaten input is (Ok tone.Good) text may moved = (record { answer = status.Ended; text = text; permitted = inl (over o.held o.left _ loads (of_told input is (May (Ok tone.Good) text) may)); moved = moved }, inl on_graph)
+        front_of eaten input is (Ok tone.Refused) text may moved = (record { answer = status.Refused; text = text; permitted = inl (over o.held o.left _ loads (of_told input is (May (Ok tone.Refused) text) may)); moved = moved }, inl on_graph)
+        front_of eaten input is (Ok tone.Memory) text may moved = (record { answer = status.Memory; text = text; permitted = inl (over o.held o.left _ loads (of_told input is (May (Ok tone.Memory) text) may)); moved = moved }, inl on_graph)
+        front_of eaten input is (Err stop.TooLong) text may moved = (record { answer = status.TooLong; text = text; permitted = over o.held o.left _ loads (of_told input is (May (Err stop.TooLong) text) may); moved = moved }, inl on_graph)
+        front_of eaten input is (Err stop.Read) text may moved = absurd may
+        front_of eaten input is (Err stop.Write) text may moved = absurd may
 
         -- any front, where the input is not told
-        front_untold : o.left ≡ None → (text : List ℕ) → AppendsFront o.taken o.took text → WroteFront words o.held o.left o.taken o.took
-        front_untold none text moved = record {
-          answer = status.Ended;
-          text = text;
-          permitted = inl (over o.held o.left _ loads (λ input told. not_told input (sym none ∙ told)));
-          moved = moved;
-        }
+        front_untold : (eaten : List ℕ) → o.left ≡ None → (text : List ℕ) → AppendsFront o.taken o.took text → Broken eaten
+        front_untold eaten none text moved = (
+          record {
+            answer = status.Ended;
+            text = text;
+            permitted = inl (over o.held o.left _ loads (λ input told. not_told input (sym none ∙ told)));
+            moved = moved;
+          },
+          inl on_graph,
+        )
 
         abbrev Had : List Param → Result Tone Stop → Type 0
         Had behind result = Session (IsTurn here) [] behind long most (input_of o) (out_of o) result
@@ -190,11 +201,11 @@ module _ (words : List (List ℕ)) (o : Outside) where
         abbrev HadWhole : Result Tone Stop → Type 0
         HadWhole result = session.Whole (IsTurn here) [] long most (input_of o) (out_of o) result
 
-        broke : (behind : List Param) (left : Option (List ℕ)) → o.left ≡ left → Had behind (Err stop.Write) → HadWhole (Err stop.Write) → WroteFront words o.held o.left o.taken o.took
-        broke behind (Some input) is read whole = let p = (whole input is).0 in front_of input is p.result p.replies p.permitted p.moved
+        broke : (behind : List Param) (left : Option (List ℕ)) → o.left ≡ left → (read : Had behind (Err stop.Write)) → HadWhole (Err stop.Write) → Broken read.eaten
+        broke behind (Some input) is read whole = let p = (whole input is).0 in front_of read.eaten input is p.result p.replies p.permitted p.moved
         broke behind None is read whole = elim read.ends.0 [
-          | inl part ↦ front_untold is part.wrote.text part.wrote.moved
-          | inr end ↦ front_untold is end.1.text end.1.moved
+          | inl part ↦ front_untold read.eaten is part.wrote.text part.wrote.moved
+          | inr end ↦ front_untold read.eaten is end.1.text end.1.moved
         ]
 
         not_read : (behind : List Param) (read : Had behind (Err stop.Read)) → Ends words o read.eaten status.ReadFault
@@ -210,12 +221,15 @@ module _ (words : List (List ℕ)) (o : Outside) where
             let (text, may, moved) = written (Err stop.TooLong) o.left refl read.ends.2.text read.ends.2.moved whole in
             record { text = text; permitted = over o.held o.left _ loads may; moved = moved }
         ended behind (Err stop.Read) read whole = not_read behind read
-        ended behind (Err stop.Write) read whole = (broke behind o.left refl read whole, read.ends.1)
+        ended behind (Err stop.Write) read whole = let part = broke behind o.left refl read whole in (part.0, part.1, read.ends.1)
 
     module _ (size : ℕ) (from : read.source ≡ source.Sample size) where
+      on_sample : OnSample words (λ c. Unit {0})
+      on_sample = record { read = read; given = given; size = size; from = from; says = tt }
+
       -- nothing of the input was eaten
       eaten_none : EatsAll words o []
-      eaten_none = inr (record { read = read; given = given; size = size; from = from; says = tt }, refl)
+      eaten_none = inr (on_sample, refl)
 
       shown : (t : Tone) (behind : List Param) → replies.Wrote (IsNumbered (short size (settings_of read))) [] behind questions t o.taken o.took → Ends words o [] (status_of (Ok t))
       shown tone.Good behind w = (record { text = w.text; permitted = inr (record { read = read; given = given; size = size; from = from; says = (behind, w.replies) }); moved = w.moved }, eaten_none)
@@ -223,15 +237,17 @@ module _ (words : List (List ℕ)) (o : Outside) where
       shown tone.Memory behind w = inr (record { text = w.text; permitted = inr (record { read = read; given = given; size = size; from = from; says = (behind, w.replies) }); moved = w.moved }, eaten_none)
 
       part_shown : (t : Tone) (text : List ℕ) → IsQuiz (short size (settings_of read)) t text → AppendsFront o.taken o.took text
-          → WroteFront words o.held o.left o.taken o.took
-      part_shown tone.Good text says moved = record { answer = status.Ended; text = text; permitted = inr (record { read = read; given = given; size = size; from = from; says = says }); moved = moved }
-      part_shown tone.Refused text says moved = record { answer = status.Refused; text = text; permitted = inr (record { read = read; given = given; size = size; from = from; says = says }); moved = moved }
-      part_shown tone.Memory text says moved = record { answer = status.Memory; text = text; permitted = inr (record { read = read; given = given; size = size; from = from; says = says }); moved = moved }
+          → (front : WroteFront words o.held o.left o.taken o.took) × EatsFor words o [] front.answer
+      part_shown tone.Good text says moved = (record { answer = status.Ended; text = text; permitted = inr (record { read = read; given = given; size = size; from = from; says = says }); moved = moved }, inr (on_sample, refl))
+      part_shown tone.Refused text says moved = (record { answer = status.Refused; text = text; permitted = inr (record { read = read; given = given; size = size; from = from; says = says }); moved = moved }, inr (on_sample, refl))
+      part_shown tone.Memory text says moved = (record { answer = status.Memory; text = text; permitted = inr (record { read = read; given = given; size = size; from = from; says = says }); moved = moved }, inr (on_sample, refl))
 
       quizzed : (answer : Status) → Quizzed size (settings_of read) (out_of o) answer → Ends words o [] answer
       quizzed answer (inl (is, kept)) = for_memory answer is kept
       quizzed answer (inr (inl (t, behind, is, wrote))) = rw is (shown t behind wrote)
-      quizzed answer (inr (inr (is, front, rose))) = rw is (part_shown front.tone front.text (front.after, front.replies) front.moved, rose)
+      quizzed answer (inr (inr (is, front, rose))) =
+          let part = part_shown front.tone front.text (front.after, front.replies) front.moved in
+          rw is (part.0, part.1, rose)
 
 -- ---- the run, over the input as far as it is told and over what was eaten
 

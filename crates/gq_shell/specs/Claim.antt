@@ -178,6 +178,15 @@ EatsAll words o eaten =
     (Over words o.held o.left (λ c input. Unit {0}) × IsAtEnd o.unread)
     ⊎ (OnSample words (λ c. Unit {0}) × (eaten ≡ []))
 
+-- how much of the input may be eaten where a front of this answer's text was written: nothing before the usage line and that of
+-- a refused load, some over the graph of a manifest, nothing over the sample
+abbrev pub EatsFor : List (List ℕ) → Outside → List ℕ → Status → Type 0
+EatsFor words o eaten status.Usage = eaten ≡ []
+EatsFor words o eaten status.NotLoaded = eaten ≡ []
+EatsFor words o eaten answer =
+    Over words o.held o.left (λ c input. Unit {0})
+    ⊎ (OnSample words (λ c. Unit {0}) × (eaten ≡ []))
+
 -- the line of the files' first refusal was written; where it is that a file is not there, some name was not found in this run
 pub record RefusedLoad (words : List (List ℕ)) (o : Outside) : Type 0 where
   pub refusal : LoadRefusal
@@ -200,7 +209,9 @@ FailedToRead words o eaten =
 -- before the first statement
 abbrev pub Ends : List (List ℕ) → Outside → List ℕ → Status → Type 0
 Ends words o eaten status.ReadFault = FailedToRead words o eaten
-Ends words o eaten status.WriteFault = WroteFront words o.held o.left o.taken o.took × Rose o.out_faults.before o.out_faults.now
+Ends words o eaten status.WriteFault =
+    (front : WroteFront words o.held o.left o.taken o.took) × EatsFor words o eaten front.answer
+    × Rose o.out_faults.before o.out_faults.now
 Ends words o eaten status.Memory = DidNothing o eaten ⊎ (Wrote words o.held o.left status.Memory o.taken o.took × EatsAll words o eaten)
 Ends words o eaten status.Ended = Wrote words o.held o.left status.Ended o.taken o.took × EatsAll words o eaten
 Ends words o eaten status.Refused = Wrote words o.held o.left status.Refused o.taken o.took × EatsAll words o eaten

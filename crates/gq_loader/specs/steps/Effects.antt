@@ -1,10 +1,9 @@
 -- What is told of the files before a part of a load and after it (this project's profile).
-use Rattle.std.specs.Prelude.{◌≡◌, ◌⊎◌, ℕ, List}
+use Rattle.std.specs.Prelude.{◌≡◌, ℕ, List}
 use Rattle.std.specs.declared.option.Option.{Option}
 use Rattle.std.specs.declared.result.Result.{Result}
-use Rattle.gq_io.specs.Causes.{Rose}
 use Rattle.gq_io.specs.Outside.{Names}
-use Rattle.gq_loader.specs.Effects.{ByFault, ByMiss, MayMiss, ReadsFew}
+use Rattle.gq_loader.specs.Effects.{ByFault, ByMiss, ReadsFew}
 use Rattle.gq_loader.specs.declared.refusal.LoadStop.{LoadStop}
 
 -- what is told of the files at one time
@@ -24,9 +23,9 @@ told_of held left faults misses files = record {
 }
 
 -- what a part of a load does to the files: it changes none, its faults and misses have their
--- causes, and unless a call failed or a file is not there it read no more of a file than it may
+-- causes, and of a file that it refuses as too long it read no more than shows that
 pub record Reads {T : Type 0} (most : ℕ) (old new : Told) (result : Result T LoadStop) : Type 0 where
   pub held : new.held ≡ old.held
   pub faults : ByFault old.faults new.faults result
   pub misses : ByMiss old.misses new.misses result
-  pub few : ¬ (Rose old.faults new.faults) → ReadsFew old.held new.left most ⊎ MayMiss result
+  pub few : ReadsFew old.held new.left most result

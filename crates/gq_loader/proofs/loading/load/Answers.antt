@@ -1,9 +1,8 @@
-use Rattle.std.proofs.Common.{arith, inl, inr}
+use Rattle.std.proofs.Common.{arith}
 use Rattle.std.proofs.lemmas.Result.{err_from_is_err_and}
 use Rattle.gq_loader.specs.Limits.{most_bytes}
-use Rattle.gq_loader.proofs.Effecting.{reads_less, then_answers, then_reads}
+use Rattle.gq_loader.proofs.Effecting.{reads_less, stops_few, then_answers, then_reads}
 use Rattle.gq_loader.proofs.Keeping.{unread_next}
-use Rattle.gq_loader.proofs.Missing.{may_miss}
 use Rattle.gq_loader.proofs.Rest.{meant_first, meant_next, meant_stops, numbers_stay}
 use Rattle.gq_loader.proofs.loading.load.Goals as goal
 
@@ -19,8 +18,15 @@ loop-table-init g c =
       meant = rw items (meant_first c.args.manifest.now c.args.limits.now
           (g.F.Files.held c.args.files.now) c.in_ok-loading.field-0 b.answers);
       reads = reads_less _ (most_bytes c.args.limits.now) _ _ _ (omega arith)
-          (then_answers _ _ _ _ _ b.reads (λ n e. cc) (λ n e. cc) (λ m. absurd m));
+          (then_answers _ _ _ _ _ b.reads (λ n e. cc) (λ n e. cc) (λ n e. cc));
     }
+
+pub returns-in_err-loading-clause-few : goal.returns-in_err-loading-clause-few
+returns-in_err-loading-clause-few g c =
+    let p = err_from_is_err_and c.from_residual.result c.from_residual.ensures.1 in
+    let reads = reads_less _ (most_bytes c.args.limits.now) _ _ _ (omega arith) c.begin.ensures.reads in
+    stops_few _ _ _ c.begin.result c.from_residual.result c.in_err-loading.field-0.0
+    c.in_err-loading.was (cc (p.1, p.2)) reads.few
 
 pub returns-in_err-take_table-clause-loads : goal.returns-in_err-take_table-clause-loads
 returns-in_err-take_table-clause-loads g c =
@@ -38,11 +44,8 @@ returns-in_err-take_table-clause-few g c =
     c.from_residual-in_err-take_table.ensures.1 in
     let reads = then_reads _ _ _ _ _ _ i.reads (reads_less _ (most_bytes c.args.limits.now) _ _ _ (omega arith)
     c.take_table.ensures.reads) in
-    λ none. elim (reads.few none) [
-      | inl few ↦ inl few
-      | inr missed ↦ inr (may_miss _ _ c.take_table.result c.from_residual-in_err-take_table.result
-          c.in_err-take_table.field-0.0 c.in_err-take_table.was (cc (p.1, p.2)) missed)
-    ]
+    stops_few _ _ _ c.take_table.result c.from_residual-in_err-take_table.result
+    c.in_err-take_table.field-0.0 c.in_err-take_table.was (cc (p.1, p.2)) reads.few
 
 pub loop-table-preserved : goal.loop-table-preserved
 loop-table-preserved g c =
@@ -60,5 +63,5 @@ loop-table-preserved g c =
           i.reads.held t.leaves i.meant;
       reads = then_answers _ _ _ _ _ (then_reads _ _ _ _ _ _ i.reads
           (reads_less _ (most_bytes c.args.limits.now) _ _ _ (omega arith) t.reads)) (λ n e. cc)
-          (λ n e. cc) (λ m. absurd m);
+          (λ n e. cc) (λ n e. cc);
     }
