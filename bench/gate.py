@@ -1,10 +1,11 @@
 #!/usr/bin/env python3
 """Tells what a run of `rt ci` takes, crate by crate, in processor seconds: proof, tests and edits.
 
-    rt ci --anew & bench/gate.py $!
+    rt ci & bench/gate.py $!
 
-looks once a second at the processes that the run starts, until it ends, and prints the table of docs/gate.md; and behind it
-what all of it is in the unit by which machines and hours compare, the seconds of the proof of one crate in the same run."""
+with `--anew` where the kit's `rt ci` takes it, looks once a second at the processes that the run starts, until it ends, and
+prints the table of docs/gate.md; and behind it what all of it is in the unit by which machines and hours compare, the seconds of
+the proof of one crate in the same run."""
 import collections
 import os
 import re

@@ -74,6 +74,9 @@ def cycles():
         yield Hostile("cycles", "23 undirected", catalogue, match([round_trip(23)], "--"))
     for catalogue in ("bipartite", "layers", "line", "ring", "star"):
         yield Hostile("cycles", "21 undirected behind one more", catalogue, match([[30, 31], round_trip(21)], "--"))
+    for catalogue in ("bipartite", "line"):  # these take all steps that the search may take
+        text = match([[30, 31, 32, 33], round_trip(19)], "--")
+        yield Hostile("cycles", "19 undirected behind three more", catalogue, text, milliseconds=1500)
 
 
 def filled(front, unit, back="", between=", ", longest=LONGEST):
@@ -178,5 +181,15 @@ def optional():
         yield Hostile("optional", "a cycle of 21 undirected", catalogue, text)
 
 
+def exists():
+    """Tests of paths with long maps: each path has 64 alternatives, which have copies of their own."""
+    test = f"exists(({{{','.join(['x:1'] * 1300)}}}))"
+    for count in (1, 7):
+        text = f"MATCH (a:N0) WHERE {' AND '.join([test] * count)} RETURN 1"
+        yield Hostile("exists", f"{count} of 1,300 entries each", "ring", text, milliseconds=1000, megabytes=300, answered=True)
+    text = f"MATCH (a) WHERE exists((a){'-->()' * 22}) RETURN 1"
+    yield Hostile("exists", "a path of 23", "line", text, answered=True)
+
+
 KINDS = {"pairs": pairs, "paths": paths, "cycles": cycles, "copies": copies, "rows": rows, "names": names, "texts": texts,
-         "optional": optional}
+         "optional": optional, "exists": exists}
