@@ -1,16 +1,16 @@
 //! The bound form of a query, or why it has none.
-ghost use Rattle.std.specs.Prelude.{◌≡◌, [], map, filter_map, IfOk, IfSome};
+ghost use Rattle.std.specs.Prelude.{◌≡◌, [], map, filter_map, IfOk, IfSome, OnOk};
 ghost use Rattle.gq_alternatives.specs.Alternatives.{pattern_alternatives, typed_of};
 ghost use Rattle.gq_binder.specs.Binding.{Answers};
-ghost use Rattle.gq_binder.specs.Columns.{sort_expr};
-ghost use Rattle.gq_binder.specs.steps.Parts.{bound_by, bound_in, exists_part};
+ghost use Rattle.gq_binder.specs.Columns.{column_expr, sort_expr};
+ghost use Rattle.gq_binder.specs.steps.Parts.{bound_by, bound_in, exists_part, optional_part};
 ghost use Rattle.gq_binder.specs.steps.Parts.{own_patterns, IsWholeCore};
 ghost use Rattle.gq_syntax.specs.Spans.{SpelledQuery};
 
 use crate::checks::{Alternatives, check, check_last};
 use crate::columns::known_columns;
 use crate::optionals::optional_parts;
-use crate::parts::{QueryParts, parts_of};
+use crate::parts::{QueryParts, TakenLists, parts_of};
 use crate::refusal::BindRefusal;
 use crate::trails::cored_bound;
 use gq_alternatives::{Choice, typed};
@@ -86,16 +86,36 @@ fn bound_of(
     } = all;
     let mut bound = without_lists(alloc, catalog, query, &parts, choices.as_slice())?;
     bound.patterns = patterns;
-    let QueryParts {
+    let lists = parts.into_lists();
+    put_lists(alloc, catalog, lists, optionals.as_slice(), &mut bound)?;
+    Ok(bound)
+}
+
+// Puts lists into a bound form in the place of those that it has, with the alternatives of the OPTIONAL
+// MATCH clauses. The form is lent, so that nothing of it is owned where memory may end.
+fn put_lists(
+    alloc: Global,
+    catalog: &Catalog,
+    lists: TakenLists<'_>,
+    choices: &[List<Choice>],
+    bound: &mut Bound,
+) -> Result<(), Memory>
+    requires { choices.now ≡ map (pattern_alternatives catalog.now) (own_patterns lists.optionals) }
+    ensures { OnOk result (bound.new ≡ record bound.old {
+      columns = filter_map column_expr lists.entry.columns;
+      conjuncts = lists.entry.conjuncts;
+      optionals = map (optional_part catalog.now) lists.entry.optionals;
+    }) }
+{
+    let TakenLists {
         columns,
         conjuncts,
-        optionals: clauses,
-        ..
-    } = parts;
-    bound.optionals = optional_parts(alloc, catalog, clauses, optionals.as_slice())?;
-    bound.columns = known_columns(alloc, columns)?;
+        optionals,
+    } = lists;
     bound.conjuncts = conjuncts;
-    Ok(bound)
+    bound.optionals = optional_parts(alloc, catalog, optionals, choices)?;
+    bound.columns = known_columns(alloc, columns)?;
+    Ok(())
 }
 
 // The bound form but for its columns, conjuncts, tests of paths and OPTIONAL MATCH clauses.

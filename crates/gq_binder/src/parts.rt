@@ -42,6 +42,35 @@ pub struct QueryParts<'q> {
     pub optionals: List<ClauseParts<'q>>,
 }
 
+/// The lists that a bound form takes of a query's parts.
+#[derive(Drop)]
+pub struct TakenLists<'q> {
+    pub columns: List<Column>,
+    pub conjuncts: List<NamedExpr>,
+    pub optionals: List<ClauseParts<'q>>,
+}
+
+impl<'q> QueryParts<'q> {
+    /// The lists that a bound form takes. The other parts are dropped.
+    pub fn into_lists(self) -> TakenLists<'q>
+        ensures columns { result.columns ≡ self.entry.columns }
+        ensures conjuncts { result.conjuncts ≡ self.entry.conjuncts }
+        ensures optionals { result.optionals ≡ self.entry.optionals }
+    {
+        let QueryParts {
+            columns,
+            conjuncts,
+            optionals,
+            ..
+        } = self;
+        TakenLists {
+            columns,
+            conjuncts,
+            optionals,
+        }
+    }
+}
+
 /// The parts of a query that stands in a text.
 pub fn parts_of<'q>(alloc: Global, text: &[u8], query: &'q Query) -> Result<QueryParts<'q>, Memory>
     requires { StandsIn text.now query.now }

@@ -1,7 +1,7 @@
 //! The bound form of a query with trails: its node variables are numbered anew, those of its core
 //! first, and no trail has a variable.
 ghost use Rattle.std.specs.Prelude.{◌≡◌, ◌∷◌, ◌++◌, [], filter_map, if◌then◌else◌, is_some, map};
-ghost use Rattle.std.specs.Prelude.{slice_get, unwrap_or, IfOk};
+ghost use Rattle.std.specs.Prelude.{slice_get, unwrap_or, IfOk, OnOk};
 ghost use Rattle.gq_binder.specs.Columns as columns;
 ghost use Rattle.gq_binder.specs.Columns.{column_expr, sort_expr, trail_name};
 ghost use Rattle.gq_binder.specs.steps.Parts as steps;
@@ -14,7 +14,7 @@ ghost use Rattle.gq_scopes.specs.Scopes.{scope_of};
 use crate::bound::{MOST_TESTS, copy_texts, known_keys};
 use crate::checks::Alternatives;
 use crate::columns::known_columns;
-use crate::parts::QueryParts;
+use crate::parts::{QueryParts, TakenLists};
 use gq_alternatives::Choice;
 use gq_base::{Catalog, List, Memory, Text};
 use gq_cuts::{Core, Orders, core_typed, entry_tests, plain_rels, renumber, trail_parts};
@@ -43,15 +43,10 @@ pub fn cored_bound(
         nodes: core.order.as_slice(),
         rels: rels.as_slice(),
     };
-    let bound = without_lists(alloc, text, query, orders, &parts, core)?;
-    let QueryParts {
-        columns,
-        conjuncts,
-        ..
-    } = parts;
-    with_lists(
-        alloc, text, catalog, orders, core, columns, conjuncts, all, bound,
-    )
+    let mut bound = without_lists(alloc, text, query, orders, &parts, core)?;
+    let lists = parts.into_lists();
+    put_lists(alloc, text, catalog, orders, core, lists, all, &mut bound)?;
+    Ok(bound)
 }
 
 // The bound form but for its columns, conjuncts, tests of paths and alternatives.
@@ -85,41 +80,48 @@ fn without_lists(
     })
 }
 
-// A bound form with its columns, conjuncts, tests of paths and alternatives.
-fn with_lists(
+// Puts columns, conjuncts, tests of paths and alternatives into a bound form in the place of those that
+// it has. The form is lent, so that nothing of it is owned where memory may end.
+fn put_lists(
     alloc: Global,
     text: &[u8],
     catalog: &Catalog,
     orders: Orders<'_>,
     core: &Core<'_>,
-    columns: List<Column>,
-    conjuncts: List<NamedExpr>,
+    lists: TakenLists<'_>,
     all: Alternatives,
-    mut bound: Bound,
-) -> Result<Bound, Memory>
+    bound: &mut Bound,
+) -> Result<(), Memory>
     requires whole { IsWholeCore text.now core.now }
     ensures { let nodes = orders.entry.nodes.now in
         let numbered = renumbered_all nodes orders.entry.rels.now in
-        let cored = alternatives_of_core text.now catalog.now core.now (numbered conjuncts) in
-        IfOk result (λ b. b ≡ record bound {
-          columns = numbered (filter_map column_expr columns);
-          conjuncts = numbered conjuncts;
+        let conjuncts = numbered lists.entry.conjuncts in
+        let cored = alternatives_of_core text.now catalog.now core.now conjuncts in
+        OnOk result (bound.new ≡ record bound.old {
+          columns = numbered (filter_map column_expr lists.entry.columns);
+          conjuncts = conjuncts;
           patterns = map (steps.placed_part nodes) all.patterns;
           alternatives = cored all.choices;
         }) }
 {
-    let Alternatives {
-        choices,
-        patterns,
+    let TakenLists {
+        columns,
+        conjuncts,
         ..
-    } = all;
-    let choices = choices.as_slice();
-    bound.patterns = placed_parts(alloc, orders.nodes, patterns)?;
+    } = lists;
+    bound.conjuncts = renumbered(alloc, orders, conjuncts)?;
     bound.columns = renumbered(alloc, orders, known_columns(alloc, columns)?)?;
-    let conjuncts = renumbered(alloc, orders, conjuncts)?;
-    bound.alternatives = typed_core(alloc, text, catalog, core, conjuncts.as_slice(), choices)?;
-    bound.conjuncts = conjuncts;
-    Ok(bound)
+    let conjuncts = bound.conjuncts.as_slice();
+    bound.alternatives = typed_core(
+        alloc,
+        text,
+        catalog,
+        core,
+        conjuncts,
+        all.choices.as_slice(),
+    )?;
+    bound.patterns = placed_parts(alloc, orders.nodes, all.patterns)?;
+    Ok(())
 }
 
 // The keys of ORDER BY, numbered anew.
