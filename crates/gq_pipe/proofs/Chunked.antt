@@ -24,6 +24,7 @@ use Rattle.gq_pipe.specs.steps.Homes.{AreHomes}
 use Rattle.gq_pipe.specs.steps.Given.{bound_by, given_plan}
 use Rattle.gq_pipe.specs.steps.Levels.{Run}
 use Rattle.gq_pipe.specs.steps.Lists.{layout_in, EarlierStand}
+use Rattle.gq_pipe.specs.steps.Matches.{lists_in, StandNow}
 use Rattle.gq_pipe.specs.steps.Moves.{run_of}
 use Rattle.gq_pipe.specs.steps.Search.{has_chunk, layout_of_lists, machine_of, rest_of, walked, IsSearch}
 use Rattle.gq_pipe.specs.declared.places.GroupSteps.{GroupSteps}
@@ -67,7 +68,7 @@ module _ (p : Inside) (inv : IsSearch p) (now : (rest_of p).standing ≡ true) (
   state_is = is_standing p.walker.state now
 
   st : EarlierStand c ss p.lists.row (keys_of p.walker.cursors.items)
-  st = stands_now p.walker.state p.walker.cursors.items (EarlierStand c ss p.lists.row) state_is inv.stands
+  st = (stands_now p.walker.state p.walker.cursors.items (StandNow c ss p.lists.row (lists_in p.lists.matches.items)) state_is inv.stands).stand
 
   runs : Runs (layout_in c ss) Rattle.std.proofs.Common.[] p.walker.cursors.items p.walker.marks.items
   runs = inv.sound.standing state_is

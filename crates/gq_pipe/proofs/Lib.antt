@@ -12,6 +12,7 @@ pub mod Keeping
 pub mod Levels
 pub mod Making
 pub mod Matched
+pub mod Matching
 pub mod Going
 pub mod Pushing
 pub mod Sealing

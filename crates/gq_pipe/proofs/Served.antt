@@ -16,6 +16,7 @@ use Rattle.gq_pipe.specs.steps.Chunks.{HasGroup, IsPieceOf}
 use Rattle.gq_pipe.specs.steps.Homes.{IsColumnOf, IsFilling, filling_at, node_home}
 use Rattle.gq_pipe.specs.steps.Levels.{Run, known}
 use Rattle.gq_pipe.specs.steps.Lists.{EarlierStand, no_group, group_at}
+use Rattle.gq_pipe.specs.steps.Matches.{lists_in, StandNow}
 use Rattle.gq_pipe.specs.steps.Moves.{run_of, IsRun}
 use Rattle.gq_pipe.specs.steps.Search.{IsSearch}
 use Rattle.gq_pipe.specs.declared.homes.Filling.{Filling}
@@ -31,7 +32,7 @@ module _ (p : Inside) (inv : IsSearch p) (now : p.walker.state ≡ Standing) whe
   c = run_of p.lists.plan_run
 
   st : EarlierStand c p.lists.groups.items p.lists.row (keys_of p.walker.cursors.items)
-  st = stands_now p.walker.state p.walker.cursors.items (EarlierStand c p.lists.groups.items p.lists.row) now inv.stands
+  st = (stands_now p.walker.state p.walker.cursors.items (StandNow c p.lists.groups.items p.lists.row (lists_in p.lists.matches.items)) now inv.stands).stand
 
   pub run_there : IsRun c
   run_there = st.runs

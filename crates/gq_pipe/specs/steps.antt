@@ -15,6 +15,7 @@ pub mod Levels
 pub mod Limits
 pub mod Lists
 pub mod Loops
+pub mod Matches
 pub mod Moves
 pub mod Origins
 pub mod Outcomes

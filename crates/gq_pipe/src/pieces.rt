@@ -4,6 +4,7 @@ ghost use Rattle.std.specs.Prelude.{slice_index_or, All, ◌^◌};
 ghost use Rattle.gq_law_groups.specs.Groups.{makes_group};
 ghost use Rattle.gq_pipe.specs.steps.Chunks.{IsPieceOf, KeepsOf, list_of, part};
 ghost use Rattle.gq_pipe.specs.steps.Levels.{known, step_at};
+ghost use Rattle.gq_pipe.specs.steps.Matches.{AreMatches};
 ghost use Rattle.gq_pipe.specs.steps.Moves.{builds_in, run_of, steps_in, IsRun, IsHeld};
 ghost use Rattle.gq_pipe.specs.steps.Outcomes.{CanList};
 ghost use Rattle.gq_plan.specs.Rows.{rel_table};
@@ -16,12 +17,19 @@ use gq_plan::{Assignment, Step};
 
 impl<'g> PlanRun<'g> {
     /// The piece of the list of the step at a depth that begins at a place, if the step makes a
-    /// group.
-    pub(crate) fn piece(&self, depth: usize, first: u32, row: &Assignment) -> Piece<'g>
+    /// group. A join's matches are told.
+    pub(crate) fn piece(
+        &self,
+        depth: usize,
+        matches: &'g [u32],
+        first: u32,
+        row: &Assignment,
+    ) -> Piece<'g>
         requires run { IsRun (run_of self.now) }
         requires depth { depth < length (steps_in self.now) }
         requires makes { makes_group (step_at (run_of self.now) depth) ≡ true }
         requires held { IsHeld (run_of self.now) row.now (known (run_of self.now) depth) }
+        requires matches { AreMatches (run_of self.now) depth row.now matches.now }
         requires first { let c = run_of self.now in
             first ≤ length (list_of c depth row.now (step_at c depth)) }
         ensures { IsPieceOf (run_of self.now) depth row.now first result }
@@ -55,12 +63,9 @@ impl<'g> PlanRun<'g> {
                 ),
                 first,
             },
-            Step::Join { .. } => match self.build_at(depth) {
-                Some(build) => Piece::Matches {
-                    rows: part(build.matches_of(row), first),
-                    first,
-                },
-                None => unreachable!(),
+            Step::Join { .. } => Piece::Matches {
+                rows: part(matches, first),
+                first,
             },
             Step::ColumnExtend { .. } | Step::ColumnClose { .. } => unreachable!(),
             Step::Keep { .. } | Step::Differ { .. } | Step::NoLoop { .. } => unreachable!(),

@@ -4,6 +4,7 @@ ghost use Rattle.gq_bits.specs.Places.{is_marked};
 ghost use Rattle.gq_pipe.specs.steps.Chunks.{AreStanding, CanStand, IsGroupAt, ShowsNumber};
 ghost use Rattle.gq_pipe.specs.steps.Chunks.{StoodAt, marked_at};
 ghost use Rattle.gq_pipe.specs.steps.Lists.{layout_in, EarlierStand};
+ghost use Rattle.gq_pipe.specs.steps.Matches.{lists_in, AreMatches, HaveMatches};
 ghost use Rattle.gq_pipe.specs.steps.Moves.{run_of};
 ghost use Rattle.gq_walks.specs.Running.{Runs, keys_of};
 
@@ -26,6 +27,9 @@ pub(crate) fn stand_groups<'g>(
     requires stands { walker.now.state ≡ State.Standing → EarlierStand
         (run_of lists.now.plan_run) lists.now.groups.items lists.now.row
         (keys_of walker.now.cursors.items) }
+    requires matches { walker.now.state ≡ State.Standing → HaveMatches
+        (run_of lists.now.plan_run) lists.now.groups.items lists.now.row
+        (lists_in lists.now.matches.items) (length (keys_of walker.now.cursors.items)) }
     requires runs { walker.now.state ≡ State.Standing →
         Runs (layout_in (run_of lists.now.plan_run) lists.now.groups.items) []
         walker.now.cursors.items walker.now.marks.items }
@@ -51,6 +55,8 @@ pub(crate) fn stand_groups<'g>(
 fn put_groups<'g>(lists: &Lists<'g>, walker: &Walker, stood: bool, groups: &mut Vec<Group<'g>>)
     requires stands { EarlierStand (run_of lists.now.plan_run) lists.now.groups.items lists.now.row
         (keys_of walker.now.cursors.items) }
+    requires matches { HaveMatches (run_of lists.now.plan_run) lists.now.groups.items lists.now.row
+        (lists_in lists.now.matches.items) (length (keys_of walker.now.cursors.items)) }
     requires runs { Runs (layout_in (run_of lists.now.plan_run) lists.now.groups.items) []
         walker.now.cursors.items walker.now.marks.items }
     requires cursors { length walker.now.cursors.items ≡ length lists.now.groups.items }
@@ -71,7 +77,16 @@ fn put_groups<'g>(lists: &Lists<'g>, walker: &Walker, stood: bool, groups: &mut 
         if !same {
             let group = &mut groups[depth];
             let marks = &walker.marks[depth];
-            put_group(&lists.plan_run, steps, &lists.row, cursor, marks, group);
+            let matches = lists.matches[depth];
+            put_group(
+                &lists.plan_run,
+                steps,
+                matches,
+                &lists.row,
+                cursor,
+                marks,
+                group,
+            );
         }
     }
 }
@@ -94,12 +109,14 @@ fn shows_number(group: &Group<'_>, flat: bool, key: u32) -> bool
 fn put_group<'g>(
     plan_run: &PlanRun<'g>,
     steps: GroupSteps,
+    matches: &'g [u32],
     row: &Assignment,
     cursor: Cursor,
     marks: &Marks,
     group: &mut Group<'g>,
 )
     requires stands { CanStand (run_of plan_run.now) row.now steps cursor }
+    requires matches { AreMatches (run_of plan_run.now) steps.first row.now matches.now }
     requires marks { length marks.now ≡ VECTOR }
     ensures { IsGroupAt (run_of plan_run.now) row.now steps cursor marks.now group.new }
 {
@@ -108,7 +125,7 @@ fn put_group<'g>(
     } else {
         cursor.key
     };
-    group.piece = plan_run.piece(steps.first, VECTOR * number, row);
+    group.piece = plan_run.piece(steps.first, matches, VECTOR * number, row);
     group.current = if steps.flat {
         Some(cursor.key % VECTOR)
     } else {

@@ -4,6 +4,7 @@ use Rattle.gq_bits.specs.Places.{is_marked}
 use Rattle.gq_pipe.specs.steps.Keeps.{IsTriedAt}
 use Rattle.gq_pipe.specs.steps.Moves.{run_of}
 use Rattle.gq_pipe.proofs.Judged.{judged}
+use Rattle.gq_pipe.proofs.Matching.{same_matches}
 use Rattle.gq_pipe.proofs.Sifting.{IsSifting, sifting_from, sifting_kept, sifting_dropped, sifting_passed, sifted}
 use Rattle.gq_pipe.proofs.lists.sift_each.Goals as goal
 use Rattle.gq_pipe.proofs.lists.sift_each.Goals.{In-Some, then-not-keep_place, else-not-keep_place}
@@ -24,6 +25,13 @@ here c = sifting_passed (run_of c.args.plan_run.now) c.args.group c.args.first c
 
 pub keep_place-requires-clause-held : goal.keep_place-requires-clause-held
 keep_place-requires-clause-held c = c.places.invariant.held
+
+pub keep_place-requires-clause-matches : goal.keep_place-requires-clause-matches
+keep_place-requires-clause-matches c =
+    let range = c.requires.steps in
+    let some = range.some in
+    let end = range.inside in
+    same_matches (run_of c.args.plan_run.now) c.requires.run c.args.group.first (omega (arith, some, end)) c.args.row.now c.places.row c.requires.held c.places.invariant.alike c.args.matches.now c.requires.matches
 
 pub places-preserved : goal.places-preserved
 places-preserved c =

@@ -1,12 +1,13 @@
 use Rattle.std.proofs.Common.{◌≡◌, ◌∙◌, ◌<◌, ◌+◌, ◌++◌, ◌∷◌, ℕ, true, length, sym, ap, ap₂, subst, arith, List, [], Bool}
 use Rattle.std.specs.Prelude.{slice_index_or}
-use Rattle.std.proofs.lemmas.List.{get_or_default, length-set}
-use Rattle.gq_walks.specs.Running.{no_cursor, cursor_at}
+use Rattle.std.proofs.lemmas.List.{get_or_default, length-map, length-set}
+use Rattle.gq_walks.specs.Running.{no_cursor, cursor_at, keys_of}
 use Rattle.gq_walks.specs.declared.walker.Cursor.{Cursor}
 use Rattle.gq_pipe.specs.steps.Chunks.{AreStanding, CanStand, HasGroup, IsGroupAt, ShowsNumber, StoodAt}
 use Rattle.gq_pipe.specs.steps.Lists.{no_group}
 use Rattle.gq_pipe.specs.steps.Moves.{run_of}
 use Rattle.gq_pipe.specs.declared.places.GroupSteps.{GroupSteps}
+use Rattle.gq_pipe.proofs.Matching.{group_matches}
 use Rattle.gq_pipe.proofs.Piecing.{can_stand, group_here, standing_more}
 use Rattle.gq_group.specs.declared.group.Group.{Group}
 use Rattle.gq_pipe.proofs.Standings.{prefix_more}
@@ -27,6 +28,14 @@ put_group-requires-clause-stands c =
     subst (λ (x : Cursor). CanStand c' c.args.lists.now.row c.index-steps.result.now x) (found c.args.walker.now.cursors.items c.loop-depth.depth no_cursor c.index-cursor.result.now (omega (arith, low, c.requires.cursors)) c.index-cursor.ensures)
     (subst (λ (s : GroupSteps). CanStand c' c.args.lists.now.row s (cursor_at c.args.walker.now.cursors.items c.loop-depth.depth)) (found c.args.lists.now.groups.items c.loop-depth.depth no_group c.index-steps.result.now low c.index-steps.ensures)
     (can_stand c' c.args.lists.now.groups.items c.args.lists.now.row c.args.walker.now.cursors.items c.args.walker.now.marks.items c.requires.stands c.requires.runs c.requires.cursors c.loop-depth.depth low))
+
+pub put_group-requires-clause-matches : goal.put_group-requires-clause-matches
+put_group-requires-clause-matches c =
+    let test = c.loop-depth-test.true in
+    let many = c.loop-depth.invariant.0 in
+    let low : c.loop-depth.depth < length c.args.lists.now.groups.items = omega (arith, test, many, c.requires.groups) in
+    group_matches (run_of c.args.lists.now.plan_run) c.args.lists.now.groups.items c.args.lists.now.row c.loop-depth.depth low c.index-steps.result.now c.index-steps.ensures c.args.lists.now.matches.items (length (keys_of c.args.walker.now.cursors.items))
+    (omega (arith, low, c.requires.cursors, length-map c.args.walker.now.cursors.items (λ (k : Cursor). k.key))) c.requires.matches c.index-matches.result.now c.index-matches.ensures
 
 pub put_group-requires-clause-marks : goal.put_group-requires-clause-marks
 put_group-requires-clause-marks c =

@@ -1,7 +1,6 @@
-use Rattle.std.proofs.Common.{◌≡◌, ◌∙◌, ◌+◌, ◌-◌, ◌<◌, ◌≤◌, ℕ, zero, suc, min, List, ◌∷◌, length, take, drop, None, refl, arith, true, false, true≢false, inl, inr, sym, ap, subst}
-use Rattle.std.specs.Prelude.{slice_index, slice_index_or, All}
+use Rattle.std.proofs.Common.{◌≡◌, ◌∙◌, ◌+◌, ◌-◌, ◌<◌, ◌≤◌, ℕ, zero, suc, min, List, ◌∷◌, length, take, drop, refl, arith, true, false, true≢false, inl, inr, sym, ap, subst}
+use Rattle.std.specs.Prelude.{slice_index, slice_index_or}
 use Rattle.std.specs.List.{range_with_len}
-use Rattle.std.proofs.lemmas.List.{length-map}
 use Rattle.std.proofs.lemmas.List.FromFn.{length-range_with_len}
 use Rattle.gq_bits.specs.declared.TheConstants.{VECTOR}
 use Rattle.gq_plan.proofs.StepEquations.{scan_is, extend_is, column_extend_is, close_is, column_close_is, join_is, keep_is, differ_is, no_loop_is}
@@ -11,25 +10,21 @@ use Rattle.gq_plan.specs.declared.plan.Plan as code_plan
 use Rattle.gq_law_groups.specs.Groups.{makes_group}
 use Rattle.gq_plan.specs.Rows.{rel_table}
 use Rattle.gq_store.specs.Neighbours.{neighbours}
-use Rattle.gq_join.specs.Kept.{Held}
-use Rattle.gq_pipe.specs.steps.Chunks.{list_of, matches_in, part}
+use Rattle.gq_pipe.specs.steps.Chunks.{list_of, part}
 use Rattle.gq_group.specs.declared.piece.Piece.TheVariants as piece
 use Rattle.gq_pipe.specs.Shown.{HasForm}
 use Rattle.gq_pipe.specs.steps.Levels.{step_at}
-use Rattle.gq_pipe.specs.steps.Moves.{run_of, IsRun, steps_in, builds_in}
+use Rattle.gq_pipe.specs.steps.Moves.{run_of, steps_in}
 use Rattle.gq_pipe.specs.steps.Outcomes.{CanList}
 use Rattle.gq_pipe.specs.declared.plan_run.Follow.{Follow}
 use Rattle.gq_pipe.specs.declared.plan_run.PlanRun.{PlanRun}
-use Rattle.gq_pipe.proofs.Joined.{builds_many, can_join, not_none, there}
 use Rattle.gq_pipe.proofs.Piecing.{listed_is}
 use Rattle.gq_pipe.proofs.Tried.{step_is, low_step, scan_low, extend_can, extend_goes, close_can, close_goes}
 use Rattle.gq_pipe.proofs.plan_run.PlanRun.piece.Goals as goal
+use Rattle.gq_pipe.proofs.plan_run.PlanRun.piece.Goals.{In-Join}
 
 join_step : (k : PlanRun) (d : ℕ) → d < length (steps_in k) → (side : code_plan.Plan) (keys : List ℕ) (x : code.Step) → slice_index_or (steps_in k) d x ≡ code.Join side keys → step_at (run_of k) d ≡ Join (plan_of side) keys
 join_step k d low side keys x is = step_is k d low x (code.Join side keys) (Join (plan_of side) keys) is (join_is side keys)
-
-build_low : (k : PlanRun) → IsRun (run_of k) → (d : ℕ) → d < length (steps_in k) → d < length (builds_in k)
-build_low k run d low = let many = builds_many k.graph.now k.typed.now (run_of k).steps (builds_in k) run.builds in let same : length (run_of k).steps ≡ length (steps_in k) = rw length-map refl in omega (arith, low, many, same)
 
 no_group : (k : PlanRun) (d : ℕ) → d < length (steps_in k) → makes_group (step_at (run_of k) d) ≡ true → (x s : code.Step) (t : Step) → slice_index_or (steps_in k) d x ≡ s → step_of s ≡ t → makes_group t ≡ false → ⊥
 no_group k d low makes x s t is same none = true≢false (sym makes ∙ ap makes_group (step_is k d low x s t is same) ∙ none)
@@ -125,36 +120,21 @@ returns-in-Close c = record {
       ∙ ap (list_of (run_of c.args.self.now) c.args.depth c.args.row.now) (sym (step_is c.args.self.now c.args.depth c.requires.depth _ (code.Close c.in-Close.rel c.in-Close.from c.in-Close.to c.in-Close.direction) (Close false c.in-Close.rel c.in-Close.from c.in-Close.to c.in-Close.direction) (c.step.ensures ∙ c.in-Close.is) (close_is c.in-Close.rel c.in-Close.from c.in-Close.to c.in-Close.direction))));
 }
 
-pub build_at-requires : goal.build_at-requires
-build_at-requires c = build_low c.args.self.now c.requires.run c.args.depth c.requires.depth
-
-pub matches_of-requires : goal.matches_of-requires
-matches_of-requires c =
-    subst (λ (h : Held). All (λ v. v < length c.args.row.now.nodes) h.keys)
-    (there (run_of c.args.self.now) c.requires.run c.args.depth (low_step c.args.self.now c.args.depth c.requires.depth) c.args.row.now c.requires.held (plan_of c.in-Join.side) c.in-Join.keys (join_step c.args.self.now c.args.depth c.requires.depth c.in-Join.side c.in-Join.keys _ (c.step.ensures ∙ c.in-Join.is)) None c.in-Some.build.now (build_low c.args.self.now c.requires.run c.args.depth c.requires.depth) (sym c.in-Some.ensures))
-    (can_join (run_of c.args.self.now) c.requires.run c.args.depth (low_step c.args.self.now c.args.depth c.requires.depth) c.args.row.now c.requires.held (plan_of c.in-Join.side) c.in-Join.keys (join_step c.args.self.now c.args.depth c.requires.depth c.in-Join.side c.in-Join.keys _ (c.step.ensures ∙ c.in-Join.is))).keys
-
 -- the matches are the whole list
-pub part-requires-in-Some : goal.part-requires-in-Some
-part-requires-in-Some c =
-    subst (λ l. c.args.first ≤ length l)
-    (ap (list_of (run_of c.args.self.now) c.args.depth c.args.row.now) (join_step c.args.self.now c.args.depth c.requires.depth c.in-Join.side c.in-Join.keys _ (c.step.ensures ∙ c.in-Join.is))
-    ∙ ap (λ o. matches_in o c.args.row.now) (sym c.in-Some.ensures) ∙ sym c.matches_of.ensures.value)
-    c.requires.first
+whole : (c : In-Join) → c.args.matches.now ≡ list_of (run_of c.args.self.now) c.args.depth c.args.row.now (step_at (run_of c.args.self.now) c.args.depth)
+whole c =
+    let is = join_step c.args.self.now c.args.depth c.requires.depth c.in-Join.side c.in-Join.keys _ (c.step.ensures ∙ c.in-Join.is) in
+    c.requires.matches.are (plan_of c.in-Join.side) c.in-Join.keys is ∙ ap (list_of (run_of c.args.self.now) c.args.depth c.args.row.now) (sym is)
 
-pub returns-in-Some : goal.returns-in-Some
-returns-in-Some c = record {
-  form = subst (λ t. HasForm t (piece.Matches c.part-in-Some.result c.args.first)) (sym (join_step c.args.self.now c.args.depth c.requires.depth c.in-Join.side c.in-Join.keys _ (c.step.ensures ∙ c.in-Join.is))) tt;
+pub part-requires-in-Join : goal.part-requires-in-Join
+part-requires-in-Join c = subst (λ l. c.args.first ≤ length l) (sym (whole (goal.at.part-requires-in-Join c).In-Join)) c.requires.first
+
+pub returns-in-Join : goal.returns-in-Join
+returns-in-Join c = record {
+  form = subst (λ t. HasForm t (piece.Matches c.part-in-Join.result c.args.first)) (sym (join_step c.args.self.now c.args.depth c.requires.depth c.in-Join.side c.in-Join.keys _ (c.step.ensures ∙ c.in-Join.is))) tt;
   first_is = refl;
-  items_are = c.part-in-Some.ensures
-      ∙ ap (λ l. part l c.args.first) (c.matches_of.ensures.value ∙ ap (λ o. matches_in o c.args.row.now) c.in-Some.ensures
-      ∙ ap (list_of (run_of c.args.self.now) c.args.depth c.args.row.now) (sym (join_step c.args.self.now c.args.depth c.requires.depth c.in-Join.side c.in-Join.keys _ (c.step.ensures ∙ c.in-Join.is))));
+  items_are = c.part-in-Join.ensures ∙ ap (λ l. part l c.args.first) (whole (goal.at.returns-in-Join c).In-Join);
 }
-
-pub unreachable-requires : goal.unreachable-requires
-unreachable-requires c =
-    not_none (run_of c.args.self.now) c.requires.run c.args.depth (low_step c.args.self.now c.args.depth c.requires.depth) c.args.row.now c.requires.held (plan_of c.in-Join.side) c.in-Join.keys (join_step c.args.self.now c.args.depth c.requires.depth c.in-Join.side c.in-Join.keys _ (c.step.ensures ∙ c.in-Join.is)) None
-    (build_low c.args.self.now c.requires.run c.args.depth c.requires.depth) (sym c.in-None.ensures)
 
 pub unreachable-requires-in-ColumnExtend : goal.unreachable-requires-in-ColumnExtend
 unreachable-requires-in-ColumnExtend c =
@@ -164,8 +144,8 @@ unreachable-requires-in-ColumnExtend c =
       | inr e ↦ not_one (code.ColumnClose e.0 e.1 e.2 e.3) (Close true e.0 e.1 e.2 e.3) e.4 (column_close_is e.0 e.1 e.2 e.3) refl
     ]
 
-pub unreachable-requires-in-Keep : goal.unreachable-requires-in-Keep
-unreachable-requires-in-Keep c =
+pub unreachable-requires : goal.unreachable-requires
+unreachable-requires c =
     let not_one : (s : code.Step) (t : Step) → c.step.result.now ≡ s → step_of s ≡ t → makes_group t ≡ false → ⊥ = λ s t is. no_group c.args.self.now c.args.depth c.requires.depth c.requires.makes c.step.result.now s t (c.step.ensures ∙ is) in
     elim c.in-Keep.is [
       | inl e ↦ not_one (code.Keep e.0) (Keep e.0) e.1 (keep_is e.0) refl
