@@ -31,8 +31,8 @@ returns-in-Err-Depth-clause-replies g c =
 pub returns-in-Err-Depth-clause-behind : goal.returns-in-Err-Depth-clause-behind
 returns-in-Err-Depth-clause-behind g c = by_tone _ tone.Refused refl _ _ c.toned-in-Err-Depth.ensures
 
-pub reply_to_syntax-requires-clause-cause : goal.reply_to_syntax-requires-clause-cause
-reply_to_syntax-requires-clause-cause g c = (c.in-Err-Syntax.ensures.syntax _).0 (ap Err c.in-Err-Syntax.field-0-is)
+pub reply_to_syntax-requires : goal.reply_to_syntax-requires
+reply_to_syntax-requires g c = record { cause = (c.in-Err-Syntax.ensures.syntax _).0 (ap Err c.in-Err-Syntax.field-0-is) }
 
 pub returns-in-Err-Syntax-clause-replies : goal.returns-in-Err-Syntax-clause-replies
 returns-in-Err-Syntax-clause-replies g c = c.reply_to_syntax.ensures.replies c.args.workspace.now.params
