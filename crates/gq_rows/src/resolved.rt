@@ -67,11 +67,7 @@ impl<'g> Resolved<'g> {
 
 // The value of an expression that is evaluated part by part.
 #[inline(never)]
-fn evaluated<'g, R: Assigned>(
-    expr: &'g Expr,
-    graph: &'g Graph,
-    row: &R,
-) -> Result<Value<'g>, Fault>
+fn evaluated<'g, R: Assigned>(expr: &'g Expr, graph: &'g Graph, row: &R) -> Result<Value<'g>, Fault>
     ensures { outcome result ≡ meaning graph.now (R.assignment row.now) expr.now }
 {
     eval(expr, graph, row)

@@ -98,7 +98,11 @@ fn reads(rt: HostRuntime) -> Result<(), Fail> {
         ("abc", 9, 2, "failed"),
         ("abc", 9, 3, "whole"),
     ] {
-        assert_eq!(rt; read_of(&rt, text.as_bytes(), most, failing)?, wanted, "{text:?}");
+        assert_eq!(rt;
+            read_of(&rt, text.as_bytes(), most, failing)?,
+            wanted,
+            "{text:?}"
+        );
     }
     let long = vec![in rt.alloc(); b'x'; 200_000]?;
     assert_eq!(rt; read_of(&rt, &long, 200_000, NEVER)?, "whole");
