@@ -182,7 +182,8 @@ pub fn known_keys(
 }
 
 // Each alternative has its own copies of its tests: so many parts of expressions and bytes of texts in them, for all
-// alternatives of one query. With 512 alternatives it is 2,048 for each.
+// alternatives of the MATCH clauses together, of all optional clauses, and of the paths of all EXISTS. With 512 alternatives
+// it is 2,048 for each.
 pub const MOST_TESTS: usize = 1_048_576;
 
 /// The typed forms of choices for these patterns, with these tests of maps and these conjuncts.

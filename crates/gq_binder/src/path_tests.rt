@@ -13,14 +13,14 @@ ghost use Rattle.gq_scopes.specs.PathPatterns.{path_pattern};
 ghost use Rattle.gq_syntax.specs.steps.Spans.{IsWholeEntry, IsWholePath};
 ghost use Rattle.gq_trees.specs.Places.{strays};
 
-use crate::bound::all_typed;
+use crate::bound::{MOST_TESTS, typed_out_of};
 use crate::refusal::BindRefusal;
 use gq_alternatives::{Choice, choices_of};
 use gq_base::{Catalog, List, Literal, Memory, Text};
 use gq_cuts::entry_tests;
 use gq_expr::Expr;
 use gq_plan::{ExistsPart, NamedExpr};
-use gq_scopes::{Pattern, Scope, copy_text, shared_variables};
+use gq_scopes::{Copying, Pattern, Scope, copy_text, shared_variables};
 use gq_syntax::{Ast, Item, Sort};
 use gq_trees::{NamedTest, PathTest, push_paths, push_strays};
 use std::alloc::Global;
@@ -166,6 +166,7 @@ pub fn exists_parts(
         ≡ filter_map (steps.exists_part text.now catalog.now) tests.now) }
 {
     let mut left = most;
+    let mut copying = Copying::of(MOST_TESTS);
     let mut parts = List::new(alloc);
     for test in tests {
         let pattern = test.pattern(alloc)?;
@@ -180,6 +181,7 @@ pub fn exists_parts(
             test,
             &pattern,
             choices.as_slice(),
+            &mut copying,
             &mut parts,
         )?;
     }
@@ -194,6 +196,7 @@ fn push_part(
     test: &SharedTest<'_>,
     pattern: &Pattern<'_>,
     choices: &[Choice],
+    copying: &mut Copying,
     parts: &mut List<ExistsPart>,
 ) -> Result<(), Memory>
     requires entries { IfSome test.now.name
@@ -205,7 +208,7 @@ fn push_part(
 {
     match &test.name {
         Some(name) => {
-            let part = named_part(alloc, text, catalog, test, name, pattern, choices)?;
+            let part = named_part(alloc, text, catalog, test, name, pattern, choices, copying)?;
             parts.push(part)
         }
         None => Ok(()),
@@ -220,6 +223,7 @@ fn named_part(
     name: &Text,
     pattern: &Pattern<'_>,
     choices: &[Choice],
+    copying: &mut Copying,
 ) -> Result<ExistsPart, Memory>
     requires entries { All (λ e. IsWholeEntry text.now e.entry) pattern.now.entries }
     requires pattern { pattern.now ≡ path_pattern test.now.test.path }
@@ -228,7 +232,8 @@ fn named_part(
         part ≡ steps.named_part text.now catalog.now test.now name.now) }
 {
     let entries = entry_tests(alloc, text, pattern.entries())?;
-    let alternatives = all_typed(alloc, catalog, pattern, entries.as_slice(), &[], choices)?;
+    let entries = entries.as_slice();
+    let alternatives = typed_out_of(alloc, copying, catalog, pattern, entries, &[], choices)?;
     Ok(ExistsPart {
         text: NamedExpr {
             name: copy_text(alloc, name)?,
