@@ -12,7 +12,7 @@ use gq_base::{ArithOp, CompareOp, Literal, Value, equal3, less3, not3, or3};
 use memchr::memmem;
 
 /// The first that is not null.
-pub(crate) fn known<'v>(a: Value<'v>, b: Value<'v>) -> Value<'v>
+pub fn known<'v>(a: Value<'v>, b: Value<'v>) -> Value<'v>
     ensures { val result ≡ first_known (val a.entry) (val b.entry) }
 {
     match a {
@@ -21,7 +21,8 @@ pub(crate) fn known<'v>(a: Value<'v>, b: Value<'v>) -> Value<'v>
     }
 }
 
-pub(crate) fn compare(op: CompareOp, a: &Value<'_>, b: &Value<'_>) -> Option<bool>
+/// A comparison of two values, or `None` where it is not known (openCypher 9).
+pub fn compare(op: CompareOp, a: &Value<'_>, b: &Value<'_>) -> Option<bool>
     ensures { result ≡ compare_vals op (val a.now) (val b.now) }
 {
     match op {
@@ -34,14 +35,16 @@ pub(crate) fn compare(op: CompareOp, a: &Value<'_>, b: &Value<'_>) -> Option<boo
     }
 }
 
-pub(crate) fn is_null(value: &Value<'_>) -> bool
+/// Whether a value is null.
+pub fn is_null(value: &Value<'_>) -> bool
     ensures { result ≡ is_null_val (val value.now) }
 {
     matches!(value, Value::Null)
 }
 
+/// Whether a value equals one of the literals, or `None` where that is not known (openCypher 9).
 #[tactic(auto, using(gq_base::proofs::TruthLaws::or3_laws))]
-pub(crate) fn is_member(value: &Value<'_>, literals: &[Literal]) -> Option<bool>
+pub fn is_member(value: &Value<'_>, literals: &[Literal]) -> Option<bool>
     ensures { result ≡ member_of (val value.now) literals.now }
 {
     let mut answer = Some(false);
@@ -51,7 +54,8 @@ pub(crate) fn is_member(value: &Value<'_>, literals: &[Literal]) -> Option<bool>
     answer
 }
 
-pub(crate) fn starts(value: &Value<'_>, prefix: &Value<'_>) -> Option<bool>
+/// Whether a text starts with another, or `None` where one of them is no text.
+pub fn starts(value: &Value<'_>, prefix: &Value<'_>) -> Option<bool>
     ensures { result ≡ starts_vals (val value.now) (val prefix.now) }
 {
     match (*value, *prefix) {
@@ -60,7 +64,8 @@ pub(crate) fn starts(value: &Value<'_>, prefix: &Value<'_>) -> Option<bool>
     }
 }
 
-pub(crate) fn ends(value: &Value<'_>, suffix: &Value<'_>) -> Option<bool>
+/// Whether a text ends with another, or `None` where one of them is no text.
+pub fn ends(value: &Value<'_>, suffix: &Value<'_>) -> Option<bool>
     ensures { result ≡ ends_vals (val value.now) (val suffix.now) }
 {
     match (*value, *suffix) {
@@ -69,7 +74,8 @@ pub(crate) fn ends(value: &Value<'_>, suffix: &Value<'_>) -> Option<bool>
     }
 }
 
-pub(crate) fn contains(value: &Value<'_>, part: &Value<'_>) -> Option<bool>
+/// Whether a text contains another, or `None` where one of them is no text.
+pub fn contains(value: &Value<'_>, part: &Value<'_>) -> Option<bool>
     ensures { result ≡ contains_vals (val value.now) (val part.now) }
 {
     match (*value, *part) {
@@ -84,7 +90,8 @@ fn has_part(text: &[u8], part: &[u8]) -> bool
     memmem::find(text, part).is_some()
 }
 
-pub(crate) fn negate<'v>(value: &Value<'_>) -> Result<Value<'v>, Fault>
+/// `-` before a value: `Overflow` where it does not fit 64 signed bits, `Kind` where it is no integer and not null.
+pub fn negate<'v>(value: &Value<'_>) -> Result<Value<'v>, Fault>
     ensures { outcome result ≡ negate_val (val value.now) }
 {
     match *value {
@@ -94,7 +101,8 @@ pub(crate) fn negate<'v>(value: &Value<'_>) -> Result<Value<'v>, Fault>
     }
 }
 
-pub(crate) fn plus<'v>(value: &Value<'_>) -> Result<Value<'v>, Fault>
+/// `+` before a value: `Kind` where it is no integer and not null.
+pub fn plus<'v>(value: &Value<'_>) -> Result<Value<'v>, Fault>
     ensures { outcome result ≡ plus_val (val value.now) }
 {
     match *value {
@@ -104,7 +112,9 @@ pub(crate) fn plus<'v>(value: &Value<'_>) -> Result<Value<'v>, Fault>
     }
 }
 
-pub(crate) fn arith<'v>(op: ArithOp, a: &Value<'_>, b: &Value<'_>) -> Result<Value<'v>, Fault>
+/// An operator on integers: null where an operand is, `Overflow` where the result does not fit 64
+/// signed bits, `DivideByZero` for `/` and `%` by 0, and `Kind` where an operand is of another kind.
+pub fn arith<'v>(op: ArithOp, a: &Value<'_>, b: &Value<'_>) -> Result<Value<'v>, Fault>
     ensures { outcome result ≡ arith_vals op (val a.now) (val b.now) }
 {
     match (*a, *b) {

@@ -8,8 +8,8 @@ ghost use Rattle.gq_expr.specs.steps.Operators.{with_known};
 use crate::expr::{Fault, LogicOp};
 use gq_base::{Value, and3, not3, or3, xor3};
 
-/// A logical operator at two values.
-pub(crate) fn logic<'v>(op: LogicOp, a: &Value<'_>, b: &Value<'_>) -> Result<Value<'v>, Fault>
+/// A logical operator at two values: `Kind` where one is neither boolean nor null.
+pub fn logic<'v>(op: LogicOp, a: &Value<'_>, b: &Value<'_>) -> Result<Value<'v>, Fault>
     ensures { outcome result ≡ logic_vals op (val a.now) (val b.now) }
 {
     let a = truth(a)?;
@@ -21,16 +21,16 @@ pub(crate) fn logic<'v>(op: LogicOp, a: &Value<'_>, b: &Value<'_>) -> Result<Val
     }))
 }
 
-/// `NOT` at a value.
-pub(crate) fn not_value<'v>(a: &Value<'_>) -> Result<Value<'v>, Fault>
+/// `NOT` at a value: `Kind` where it is neither boolean nor null.
+pub fn not_value<'v>(a: &Value<'_>) -> Result<Value<'v>, Fault>
     ensures { outcome result ≡ not_val (val a.now) }
 {
     let a = truth(a)?;
     Ok(truth_value(not3(a)))
 }
 
-/// The value of a truth.
-pub(crate) fn truth_value<'v>(truth: Option<bool>) -> Value<'v>
+/// The value of a truth: null where it is not known.
+pub fn truth_value<'v>(truth: Option<bool>) -> Value<'v>
     ensures { val result ≡ of_truth truth }
 {
     match truth {

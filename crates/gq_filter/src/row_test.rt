@@ -22,6 +22,7 @@ use crate::span_lanes::SpanLanes;
 use crate::text_test::{TextTest, text_test};
 use gq_base::Memory;
 use gq_bits::{Marks, VECTOR};
+use gq_eval::Evaluator;
 use gq_plan::{Assignment, NamedExpr, Typed, TypedRow, Variable};
 use gq_store::Graph;
 use std::alloc::Global;
@@ -38,10 +39,14 @@ pub struct RowTest<'g> {
     feeds: Vec<Feed<'g>>,
     // What decides it where lanes cannot, if it asks for a part of a text.
     text: Option<TextTest<'g>>,
+    // What decides it where neither does.
+    evaluator: Evaluator<'g>,
 }
 
 impl<'g> Model for RowTest<'g> {
+    ghost use Rattle.std.specs.Prelude.{◌≡◌};
     ghost use Rattle.std.specs.Coded.{codes};
+    ghost use Rattle.gq_eval.specs.Asked.{asked};
     ghost use Rattle.gq_expr.specs.contracts.expr.Expr as expr;
     ghost use Rattle.gq_filter.specs.RowTests.{RowCondition};
     ghost use Rattle.gq_filter.specs.steps.RowCells.{AreInside, DecidesRows};
@@ -59,7 +64,8 @@ impl<'g> Model for RowTest<'g> {
 
     ghost invariant = { λ t. AreInside t.graph.now t.feeds.items
         × DecidesRows t.graph.now t.typed.now t.condition.now t.feeds.items t.test
-        × TextDecides t.graph.now t.typed.now t.condition.now t.text };
+        × TextDecides t.graph.now t.typed.now t.condition.now t.text
+        × (t.evaluator ≡ asked t.condition.now.expr t.graph.now) };
 }
 
 impl<'g> RowTest<'g> {
@@ -77,6 +83,7 @@ impl<'g> RowTest<'g> {
         let mut feeds = Vec::new(alloc);
         add_feeds(&mut feeds, graph, typed, &condition.expr)?;
         let test = test_of(alloc, graph, typed, condition, feeds.as_slice())?;
+        let evaluator = Evaluator::new(alloc, &condition.expr, graph)?;
         Ok(RowTest {
             graph,
             typed,
@@ -84,6 +91,7 @@ impl<'g> RowTest<'g> {
             test,
             feeds,
             text: text_test(graph, typed, condition),
+            evaluator,
         })
     }
 
@@ -117,7 +125,7 @@ impl<'g> RowTest<'g> {
                         typed: self.typed,
                         row,
                     };
-                    is_true(self.condition, self.graph, &typed_row)
+                    is_true(&self.evaluator, &typed_row)
                 }
             },
         }

@@ -1,18 +1,19 @@
 //! What is asked of the node where a walk of a trail ends.
-ghost use Rattle.std.specs.Prelude.{◌≡◌, ◌<◌, length, slice_get, Some};
+ghost use Rattle.std.specs.Prelude.{◌≡◌, ◌<◌, length, slice_get, IfOk, Some};
 ghost use Rattle.std.specs.List.{list_all};
 ghost use Rattle.gq_base.specs.Catalogs.{has_label};
 ghost use Rattle.gq_law_trails.specs.Trails.{fits_end};
 ghost use Rattle.gq_plan.specs.Allowed.{at_same};
-ghost use Rattle.gq_plan.specs.Conditions.{passes};
 ghost use Rattle.gq_plan.specs.Meaning.{row, nothing, with_node};
-ghost use Rattle.gq_trails.specs.steps.Ends.{may_end, settled};
+ghost use Rattle.gq_trails.specs.steps.Ends.{AreTests, holds, may_end, settled, tests_of};
 
-use gq_base::{Catalog, NodeId, RelId, Text, Value};
-use gq_expr::{Assigned, eval};
-use gq_plan::{NamedExpr, TrailPart};
+use gq_base::{Catalog, List, Memory, NodeId, RelId, Text, Value};
+use gq_eval::Evaluator;
+use gq_expr::Assigned;
+use gq_plan::TrailPart;
 use gq_store::Graph;
 use gq_wide::WideRow;
+use std::alloc::Global;
 
 /// A row in which one variable has a node, and no other has anything.
 #[derive(Clone, Copy)]
@@ -37,10 +38,47 @@ impl Assigned for End {
     }
 }
 
+/// The tests of the other ends of trails, trail by trail.
+pub(crate) fn tests_for<'g>(
+    alloc: Global,
+    graph: &'g Graph,
+    parts: &'g [TrailPart],
+) -> Result<List<List<Evaluator<'g>>>, Memory>
+    ensures { IfOk result (AreTests graph.now parts.now) }
+{
+    let mut tests = List::new(alloc);
+    'parts: for part in parts {
+        tests.push(tests_of(alloc, graph, part)?)?;
+    }
+    Ok(tests)
+}
+
+// The tests of the other end of a trail.
+fn tests_of<'g>(
+    alloc: Global,
+    graph: &'g Graph,
+    part: &'g TrailPart,
+) -> Result<List<Evaluator<'g>>, Memory>
+    ensures { IfOk result (λ tests. tests ≡ tests_of graph.now part.now) }
+{
+    let mut tests = List::new(alloc);
+    'tests: for test in part.tests.as_slice() {
+        tests.push(Evaluator::new(alloc, &test.expr, graph)?)?;
+    }
+    Ok(tests)
+}
+
 /// Whether a walk of a trail may end at a node: where the other end is bound, that has to be the
 /// node; else the node has to be as the trail asks, and is put into the row.
-pub(crate) fn arrives(graph: &Graph, part: &TrailPart, end: NodeId, row: &mut WideRow) -> bool
-    requires { part.now.to < length row.old.nodes }
+pub(crate) fn arrives(
+    graph: &Graph,
+    part: &TrailPart,
+    tests: &[Evaluator<'_>],
+    end: NodeId,
+    row: &mut WideRow,
+) -> bool
+    requires tests { tests.now ≡ tests_of graph.now part.now }
+    requires within { part.now.to < length row.old.nodes }
     ensures may { result ≡ may_end graph.now part.now row.old end }
     ensures row { row.new ≡ settled part.now row.old end }
 {
@@ -48,7 +86,7 @@ pub(crate) fn arrives(graph: &Graph, part: &TrailPart, end: NodeId, row: &mut Wi
         return is_at(row.node(part.to), end);
     }
     row.set_node(part.to, Some(end));
-    fits(graph, part, end)
+    fits(graph, part, tests, end)
 }
 
 fn is_at(node: Option<NodeId>, end: NodeId) -> bool
@@ -61,15 +99,16 @@ fn is_at(node: Option<NodeId>, end: NodeId) -> bool
 }
 
 // Whether a node has the labels and passes the tests that a trail asks of its other end.
-#[tactic(auto, unfolding(gq_law_trails::specs::Trails::fits_end))]
-fn fits(graph: &Graph, part: &TrailPart, end: NodeId) -> bool
+#[tactic(auto, using(crate::proofs::Testing::all_pass), unfolding(gq_law_trails::specs::Trails::fits_end))]
+fn fits(graph: &Graph, part: &TrailPart, tests: &[Evaluator<'_>], end: NodeId) -> bool
+    requires { tests.now ≡ tests_of graph.now part.now }
     ensures { result ≡ fits_end graph.now part.now end }
 {
     let row = End {
         variable: part.to,
         node: end,
     };
-    has_labels(graph, part.labels.as_slice(), end) && pass(graph, part.tests.as_slice(), &row)
+    has_labels(graph, part.labels.as_slice(), end) && pass(tests, &row)
 }
 
 fn has_labels(graph: &Graph, labels: &[Text], node: NodeId) -> bool
@@ -94,18 +133,18 @@ fn is_labelled(catalog: &Catalog, table: u32, label: &Text) -> bool
 }
 
 // Whether all tests are true of a row.
-fn pass(graph: &Graph, tests: &[NamedExpr], end: &End) -> bool
+fn pass(tests: &[Evaluator<'_>], end: &End) -> bool
     ensures { let here = row (with_node end.now.variable end.now.node nothing) in
-        result ≡ list_all (passes graph.now here) tests.now }
+        result ≡ list_all (holds here) tests.now }
 {
-    tests.iter().all(|test| passes_one(graph, test, end))
+    tests.iter().all(|test| passes_one(test, end))
 }
 
-fn passes_one(graph: &Graph, test: &NamedExpr, end: &End) -> bool
+fn passes_one(test: &Evaluator<'_>, end: &End) -> bool
     ensures { let here = row (with_node end.now.variable end.now.node nothing) in
-        result ≡ passes graph.now here test.now }
+        result ≡ holds here test.now }
 {
-    match eval(&test.expr, graph, end) {
+    match test.value(end) {
         Ok(Value::Flag(truth)) => truth,
         _ => false,
     }

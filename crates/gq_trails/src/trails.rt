@@ -2,6 +2,7 @@
 ghost use Rattle.std.specs.Prelude.{◌≡◌, ◌∷◌, [], ◌+◌, ◌≤◌, All, IfOk, true, false, length};
 ghost use Rattle.gq_trails.specs.Trekking.{CanTrek, HasLength, IsRowOf, continuations};
 
+use crate::ends::tests_for;
 use crate::state::{State, state_after};
 use crate::trek::{Route, Trek};
 use gq_base::Memory;
@@ -58,6 +59,7 @@ impl<'g> Trails<'g> {
                 graph,
                 parts,
                 rels: &[],
+                tests: tests_for(alloc, graph, parts)?,
             },
             trek: Trek::new(alloc, graph, parts, nodes, rels)?,
             state: State::Over,

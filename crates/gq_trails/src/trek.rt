@@ -4,6 +4,7 @@ ghost use Rattle.std.specs.Prelude.{◌≡◌, ◌+◌, ◌*◌, ◌<◌, ◌≤
 ghost use Rattle.std.specs.Prelude.{None, [], nat_eq, if◌then◌else◌};
 ghost use Rattle.gq_law_trails.specs.Trails.{after_trails, taken_in};
 ghost use Rattle.gq_trails.specs.Trekking.{HasLength, patterns_in};
+ghost use Rattle.gq_trails.specs.steps.Ends.{AreTests, tests_of};
 ghost use Rattle.gq_trails.specs.steps.Journeys.{AreWalkers, HaveCourses, IsAt, IsFound, IsMade};
 ghost use Rattle.gq_trails.specs.steps.Journeys.{IsStarted, IsTried, journey_of, owed_at, owed_behind};
 ghost use Rattle.gq_trails.specs.steps.Journeys.{part_at, patterns_of, walk_at, walked_at};
@@ -13,7 +14,8 @@ ghost use Rattle.gq_wide.specs.Rows.{item_at};
 use crate::ends::arrives;
 use crate::taken::Taken;
 use crate::walker::Walker;
-use gq_base::{Memory, RelId};
+use gq_base::{List, Memory, RelId};
+use gq_eval::Evaluator;
 use gq_expr::Assigned;
 use gq_plan::{TrailPart, TypedRel};
 use gq_store::Graph;
@@ -26,6 +28,20 @@ pub(crate) struct Route<'g> {
     pub(crate) graph: &'g Graph,
     pub(crate) parts: &'g [TrailPart],
     pub(crate) rels: &'g [TypedRel],
+    // The tests of the trails' other ends.
+    pub(crate) tests: List<List<Evaluator<'g>>>,
+}
+
+impl<'g> Route<'g> {
+    // The tests of the other end of the trail at a depth.
+    #[tactic(auto, using(crate::proofs::Testing::tests_at))]
+    fn tests_at(&self, depth: usize) -> &[Evaluator<'g>]
+        requires low { depth < length self.now.parts.now }
+        requires tests { AreTests self.now.graph.now self.now.parts.now self.now.tests }
+        ensures { result.now ≡ tests_of self.now.graph.now (part_at self.now.parts.now depth) }
+    {
+        self.tests.as_slice()[depth].as_slice()
+    }
 }
 
 /// Where the search is.
@@ -83,6 +99,7 @@ impl<'g> Trek<'g> {
     /// have.
     pub(crate) fn next(&mut self, route: &Route<'g>, from: usize) -> bool
         requires low { from < length route.now.parts.now }
+        requires tests { AreTests route.now.graph.now route.now.parts.now route.now.tests }
         requires few { length route.now.parts.now + length route.now.rels.now ≤ 24 }
         requires at { let j = journey_of route.now self.old.row in
             IsAt j self.old.walkers.items self.old.row from }
@@ -113,6 +130,7 @@ impl<'g> Trek<'g> {
 
     /// Goes to the first continuation of the row, and answers whether there is one.
     pub(crate) fn first(&mut self, route: &Route<'g>) -> bool
+        requires tests { AreTests route.now.graph.now route.now.parts.now route.now.tests }
         requires few { length route.now.parts.now + length route.now.rels.now ≤ 24 }
         requires at { let j = journey_of route.now self.old.row in
             IsAt j self.old.walkers.items self.old.row 0 }
@@ -132,6 +150,7 @@ impl<'g> Trek<'g> {
     /// Goes on to the next continuation, where each trail has a walk, and answers whether there is
     /// one.
     pub(crate) fn go_on(&mut self, route: &Route<'g>) -> bool
+        requires tests { AreTests route.now.graph.now route.now.parts.now route.now.tests }
         requires few { length route.now.parts.now + length route.now.rels.now ≤ 24 }
         requires at { let j = journey_of route.now self.old.row in
             IsAt j self.old.walkers.items self.old.row (length route.now.parts.now) }
@@ -152,6 +171,7 @@ impl<'g> Trek<'g> {
     // trail binds it.
     fn goes_on(&mut self, route: &Route<'g>, depth: usize) -> bool
         requires low { depth < length route.now.parts.now }
+        requires tests { AreTests route.now.graph.now route.now.parts.now route.now.tests }
         requires many { depth < length self.old.walkers.items }
         requires standing { (walk_at self.old.walkers.items depth).standing ≡ true }
         requires graph { (walk_at self.old.walkers.items depth).course.graph ≡ route.now.graph.now }
@@ -161,7 +181,8 @@ impl<'g> Trek<'g> {
         ensures { IsTried route.now depth self.old self.new result }
     {
         let end = self.walkers[depth].end();
-        arrives(route.graph, &route.parts[depth], end, &mut self.row)
+        let tests = route.tests_at(depth);
+        arrives(route.graph, &route.parts[depth], tests, end, &mut self.row)
     }
 }
 

@@ -1,5 +1,4 @@
 pub mod Clauses
-pub mod Judged
 pub mod Placed
 pub mod Rows
 pub mod Shared

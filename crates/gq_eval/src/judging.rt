@@ -2,12 +2,12 @@
 ghost use Rattle.std.specs.Prelude.{◌≡◌};
 ghost use Rattle.gq_expr.specs.Operators.{outcome};
 ghost use Rattle.gq_plan.specs.Marked.{marks};
-ghost use Rattle.gq_plan.specs.Outcomes.{meanings_of};
-ghost use Rattle.gq_wide.specs.Judged.{behind, marks_of, one_more};
+ghost use Rattle.gq_eval.specs.Asked.{answers};
+ghost use Rattle.gq_eval.specs.Judged.{behind, marks_of, one_more};
 
+use crate::evaluator::Evaluator;
 use gq_base::Value;
-use gq_expr::{Assigned, Fault, Reads, eval};
-use gq_plan::NamedExpr;
+use gq_expr::{Assigned, Fault};
 
 /// What conjuncts say of a row.
 #[derive(Clone, Copy, Debug, PartialEq, Eq)]
@@ -45,13 +45,12 @@ fn after(verdict: Verdict, answer: Result<Value<'_>, Fault>) -> Verdict
 /// What conjuncts say of a row. One that drops it counts before any fault, also an earlier one. It
 /// takes no memory.
 #[tactic(auto, using(crate::proofs::Verdicts::stays_dropped, crate::proofs::Verdicts::judged_so))]
-pub fn judge<G: Reads, R: Assigned>(conjuncts: &[NamedExpr], graph: &G, row: &R) -> Verdict
-    ensures { let g = G.graph graph.now in
-        marks_of result ≡ marks (meanings_of g (R.assignment row.now) conjuncts.now) }
+pub fn judge<R: Assigned>(conjuncts: &[Evaluator<'_>], row: &R) -> Verdict
+    ensures { marks_of result ≡ marks (answers (R.assignment row.now) conjuncts.now) }
 {
     let mut verdict = Verdict::Pass;
     'conjuncts: for conjunct in conjuncts {
-        verdict = after(verdict, eval(&conjunct.expr, graph, row));
+        verdict = after(verdict, conjunct.value(row));
         if let Verdict::Dropped = verdict {
             return Verdict::Dropped;
         }

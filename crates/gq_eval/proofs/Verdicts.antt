@@ -6,11 +6,10 @@ use Rattle.gq_base.specs.Values.{null, flag, int, str, node, rel}
 use Rattle.gq_expr.specs.Operators.{Outcome}
 use Rattle.gq_expr.specs.declared.Fault.{Fault}
 use Rattle.gq_plan.specs.Outcomes.{drops}
-use Rattle.gq_wide.specs.Judged.{judged_after, marks_of, one_more}
+use Rattle.gq_eval.specs.Judged.{judged_after, marks_of, one_more}
 use Rattle.gq_plan.specs.Marked.{marks}
-use Rattle.gq_plan.specs.declared.NamedExpr.{NamedExpr}
-use Rattle.gq_wide.specs.declared.judging.Verdict.{Verdict}
-use Rattle.gq_wide.specs.declared.judging.Verdict.TheVariants as verdict
+use Rattle.gq_eval.specs.declared.judging.Verdict.{Verdict}
+use Rattle.gq_eval.specs.declared.judging.Verdict.TheVariants as verdict
 
 still : (o : Outcome) → one_more verdict.Dropped o ≡ verdict.Dropped
 still (Ok null) = refl
@@ -50,7 +49,7 @@ judged_so (Ok (rel r) ∷ os) = faulty _ os
 judged_so (Err f ∷ os) = faulty f os
 
 -- a conjunct that drops ends the look
-pub stops : (m : NamedExpr → Outcome) (cs : List NamedExpr) (c : NamedExpr) (v : Verdict) (i : ℕ) (o : Outcome) → i < length cs → c ≡ get_or cs i c → verdict.Dropped ≡ one_more v o → o ≡ m c
+pub stops : {E : Type 0} (m : E → Outcome) (cs : List E) (c : E) (v : Verdict) (i : ℕ) (o : Outcome) → i < length cs → c ≡ get_or cs i c → verdict.Dropped ≡ one_more v o → o ≡ m c
     → judged_after v (map m (drop i cs)) ≡ verdict.Dropped
 stops m cs c v i o low at drops is =
     ap (λ l. judged_after v (map m l)) (drop_more cs i c low)
@@ -59,5 +58,5 @@ stops m cs c v i o low at drops is =
     ∙ stays_dropped (map m (drop (i + 1) cs))
 
 -- behind all of them nothing is left to look at
-pub at_end : (m : NamedExpr → Outcome) (cs : List NamedExpr) (v : Verdict) (i : ℕ) → length cs ≤ i → judged_after v (map m (drop i cs)) ≡ v
+pub at_end : {E : Type 0} (m : E → Outcome) (cs : List E) (v : Verdict) (i : ℕ) → length cs ≤ i → judged_after v (map m (drop i cs)) ≡ v
 at_end m cs v i past = ap (λ l. judged_after v (map m l)) (drop_all i cs past)

@@ -1,0 +1,3 @@
+pub mod PlaceEquations
+pub mod PlaceLemmas
+pub mod Verdicts
