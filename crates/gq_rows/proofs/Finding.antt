@@ -1,14 +1,13 @@
 -- Finders of columns' values, where sources are added.
-use Rattle.std.proofs.Common.{◌≡◌, ◌∙◌, ◌<◌, ℕ, zero, suc, List, [], ◌∷◌, ◌++◌, length, map, take, drop, get_or, Some, Ok, Err, refl, sym, ap, ap₂, subst, arith, ◌+◌}
+use Rattle.std.proofs.Common.{◌≡◌, ◌∙◌, ◌<◌, ℕ, zero, suc, List, [], ◌∷◌, ◌++◌, length, min, take, drop, get_or, Some, Ok, refl, sym, ap, subst, arith, ◌+◌}
 use Rattle.std.specs.Prelude.{slice_get}
-use Rattle.std.specs.List.{All}
-use Rattle.std.proofs.Math.Seq.{drop-cons}
-use Rattle.std.proofs.lemmas.List.{map-append, take_more}
-use Rattle.std.proofs.lemmas.List.Elements.{All-append, All-cons}
+use Rattle.std.proofs.lemmas.List.{drop_all, drop_more, map-append, take_more}
+use Rattle.std.proofs.lemmas.Slice.Zip.{AllZip-long, all_zipped_more}
 use Rattle.gq_base.specs.Plain.{Graph}
 use Rattle.gq_base.specs.Values.{Val}
 use Rattle.gq_cells.specs.Numbers.{IsNumber, source_val}
 use Rattle.gq_cells.specs.declared.source.Source.{Source}
+use Rattle.gq_eval.specs.Asked.{Asked, answers, asked}
 use Rattle.gq_expr.specs.Meaning.{meaning}
 use Rattle.gq_expr.specs.Operators.{Outcome}
 use Rattle.gq_expr.specs.Reading as reading
@@ -17,12 +16,11 @@ use Rattle.gq_plan.specs.Outcomes.{then_with}
 use Rattle.gq_plan.specs.declared.bound.NamedExpr.{NamedExpr}
 use Rattle.gq_rows.specs.steps.Finding.{Extends, Finds, FindsBy, IsFinder, PutsColumn}
 use Rattle.gq_rows.specs.steps.Judged.{values_after}
-use Rattle.gq_rows.specs.steps.Listed.{AreFinders, PutsRow, column_exprs, meanings_found}
+use Rattle.gq_rows.specs.steps.Listed.{AreFinders}
+use Rattle.gq_rows.specs.steps.Reading.{asked_columns}
 use Rattle.gq_rows.specs.declared.finder.Finder.{Finder}
 use Rattle.gq_rows.specs.declared.finder.Way.{Way}
 use Rattle.gq_rows.specs.declared.finder.Way.TheVariants as way
-use Rattle.gq_rows.specs.declared.refusal.RowRefusal.{RowRefusal}
-use Rattle.gq_rows.specs.declared.refusal.RowRefusal.TheVariants as refusal
 
 -- ---- sources that are added
 
@@ -49,44 +47,52 @@ extends_self a place s h = h
 
 -- ---- finders stay
 
-module _ (g : Graph) (old new : List Source) (more : Extends old new) where
-  stays_by : (place : ℕ) (e : Expr) (w : Way) → FindsBy g old place e w → FindsBy g new place e w
-  stays_by place e way.Value h = tt
-  stays_by place e (way.Node r) h = record { source = h.source; at = more place h.source h.at; number = h.number; means = h.means }
-  stays_by place e (way.Rel r) h = record { source = h.source; at = more place h.source h.at; number = h.number; means = h.means }
+module _ (old new : List Source) (more : Extends old new) where
+  stays_by : (g : Graph) (place : ℕ) (e : Expr) (w : Way) → FindsBy g old place e w → FindsBy g new place e w
+  stays_by g place e way.Value h = tt
+  stays_by g place e (way.Node r) h = record { source = h.source; at = more place h.source h.at; number = h.number; means = h.means }
+  stays_by g place e (way.Rel r) h = record { source = h.source; at = more place h.source h.at; number = h.number; means = h.means }
 
-  pub stays : (f : Finder) → IsFinder g old f → IsFinder g new f
-  stays f h = record { finds = stays_by f.source f.expr.now f.way h.finds; none = more f.null _ h.none; nothing = h.nothing }
+  stays : (a : Asked) (f : Finder) → IsFinder old a f → IsFinder new a f
+  stays a f h = record { finds = stays_by a.graph f.source a.expr f.way h.finds; none = more f.null _ h.none; nothing = h.nothing }
 
-  pub stay : (fs : List Finder) → All (IsFinder g old) fs → All (IsFinder g new) fs
-  stay fs h k d lt = stays (get_or fs k d) (h k d lt)
+  pub stay : (asks : List Asked) (fs : List Finder) → AreFinders old asks fs → AreFinders new asks fs
+  stay [] [] h = tt
+  stay [] (f ∷ fs) h = absurd h
+  stay (a ∷ asks) [] h = absurd h
+  stay (a ∷ asks) (f ∷ fs) h = (stays a f h.0, stay asks fs h.1)
 
-  -- one more finder
-  pub stay_and : (fs : List Finder) (f : Finder) → All (IsFinder g old) fs → IsFinder g new f → All (IsFinder g new) (fs ++ f ∷ [])
-  stay_and fs f h k = All-append (IsFinder g new) fs (f ∷ []) (stay fs h) (All-cons (IsFinder g new) f [] k (λ i d lt. absurd (omega (arith, lt))))
+  -- the finder of one more column
+  pub stay_and : (g : Graph) (cs : List NamedExpr) (d : NamedExpr) (i : ℕ) (fs : List Finder) (f : Finder) → i < length cs → AreFinders old (asked_columns g (take i cs)) fs → IsFinder new (asked (get_or cs i d).expr g) f
+      → AreFinders new (asked_columns g (take (i + 1) cs)) (fs ++ f ∷ [])
+  stay_and g cs d i fs f lt h k =
+      subst (λ asks. AreFinders new asks (fs ++ f ∷ [])) (sym (ap (asked_columns g) (take_more cs i d lt) ∙ map-append (λ (c : NamedExpr). asked c.expr g) (take i cs) (get_or cs i d ∷ [])))
+      (all_zipped_more (IsFinder new) (asked_columns g (take i cs)) fs (asked (get_or cs i d).expr g) f (stay (asked_columns g (take i cs)) fs h) k)
 
-  pub stay_found : (es : List Expr) (fs : List Finder) → AreFinders g old es fs → AreFinders g new es fs
-  stay_found es fs h = record { exprs = h.exprs; finders = stay fs h.finders }
+-- what finds the values of the column at a place
+pub finder_at : (ss : List Source) (asks : List Asked) (fs : List Finder) (i : ℕ) (a : Asked) (f : Finder) → AreFinders ss asks fs → i < length asks → i < length fs → a ≡ get_or asks i a → f ≡ get_or fs i f → IsFinder ss a f
+finder_at ss [] fs i a f h first second here there = absurd (omega (arith, first))
+finder_at ss (b ∷ asks) [] i a f h first second here there = absurd (omega (arith, second))
+finder_at ss (b ∷ asks) (e ∷ fs) zero a f h first second here there = subst (λ x. IsFinder ss x f) (sym here) (subst (IsFinder ss b) (sym there) h.0)
+finder_at ss (b ∷ asks) (e ∷ fs) (suc i) a f h first second here there = finder_at ss asks fs i a f h.1 (omega (arith, first)) (omega (arith, second)) here there
 
 -- ---- the values of a row, one after another
 
-module _ (g : Graph) (here : reading.Assignment) (fs : List Finder) (f d : Finder) (i : ℕ) (lt : i < length fs) (is : f ≡ get_or fs i d) (acc new : List Val) where
+module _ (here : reading.Assignment) (asks : List Asked) (a d : Asked) (i : ℕ) (lt : i < length asks) (is : a ≡ get_or asks i d) (acc new : List Val) where
   abbrev rest : List Outcome
-  rest = meanings_found g here (drop (i + 1) fs)
+  rest = answers here (drop (i + 1) asks)
 
-  left : values_after acc (meanings_found g here (drop i fs)) ≡ then_with (meaning g here f.expr.now) (λ v. values_after (acc ++ v ∷ []) rest)
+  left : values_after acc (answers here (drop i asks)) ≡ then_with (meaning a.graph here a.expr) (λ v. values_after (acc ++ v ∷ []) rest)
   left =
-      ap (λ l. values_after acc (meanings_found g here l)) (drop-cons fs i d lt)
-      ∙ ap (λ n. values_after acc (meanings_found g here (get_or fs i d ∷ drop n fs))) (let e : suc i ≡ i + 1 = omega arith in e)
-      ∙ ap (λ (x : Finder). values_after acc (meaning g here x.expr.now ∷ rest)) (sym is)
+      ap (λ l. values_after acc (answers here l)) (drop_more asks i d lt)
+      ∙ ap (λ (x : Asked). values_after acc (meaning x.graph here x.expr ∷ rest)) (sym is)
 
-  pub put : PutsColumn (meaning g here f.expr.now) acc new (Ok tt) → values_after new rest ≡ values_after acc (meanings_found g here (drop i fs))
+  pub put : PutsColumn (meaning a.graph here a.expr) acc new (Ok tt) → values_after new rest ≡ values_after acc (answers here (drop i asks))
   put p = ap (λ vs. values_after vs rest) p.2 ∙ sym (left ∙ ap (λ o. then_with o (λ v. values_after (acc ++ v ∷ []) rest)) p.1)
 
-  pub broke : (os : List Outcome) (old : List Val) (r : RowRefusal) → values_after acc (meanings_found g here (drop i fs)) ≡ values_after old os → PutsColumn (meaning g here f.expr.now) acc new (Err r) → PutsRow os old new (Err r)
-  broke os old (refusal.Fault e) same p = sym same ∙ left ∙ ap (λ o. then_with o (λ v. values_after (acc ++ v ∷ []) rest)) p
-  broke os old (refusal.TooManyRows l) same p = absurd p
-  broke os old refusal.Memory same p = tt
+-- behind the last column all values stand
+pub put_all : (here : reading.Assignment) (ss : List Source) (asks : List Asked) (fs : List Finder) (n : ℕ) (acc : List Val) → AreFinders ss asks fs → n ≡ min (length asks) (length fs) → values_after acc (answers here (drop n asks)) ≡ Ok acc
+put_all here ss asks fs n acc h is = ap (λ l. values_after acc (answers here l)) (drop_all n asks (let e = AllZip-long (IsFinder ss) asks fs h in omega (arith, is, e)))
 
 -- ---- the finders of an alternative
 
@@ -94,12 +100,3 @@ module _ (g : Graph) (old new : List Source) (s : Source) (is : new ≡ old ++ s
   pub finds : (Has : reading.Assignment → ℕ → Type 0) (place : ℕ) → place ≡ length old → ((here : reading.Assignment) (n : ℕ) → Has here n → IsNumber (Some s) n)
       → ((here : reading.Assignment) (n : ℕ) → Has here n → meaning g here e ≡ Ok (source_val s n)) → Finds g new place e Has
   finds Has place at number means = record { source = s; at = ap (slice_get new) at ∙ at_end old new s is; number = number; means = means }
-
--- ---- the finders of columns, one after another
-
-pub exprs_next : (cs : List NamedExpr) (d : NamedExpr) (i : ℕ) (fs : List Finder) (f : Finder) → i < length cs → map (λ (x : Finder). x.expr.now) fs ≡ column_exprs (take i cs) → f.expr.now ≡ (get_or cs i d).expr
-    → map (λ (x : Finder). x.expr.now) (fs ++ f ∷ []) ≡ column_exprs (take (i + 1) cs)
-exprs_next cs d i fs f lt before is =
-    map-append (λ (x : Finder). x.expr.now) fs (f ∷ [])
-    ∙ ap₂ (λ es e. es ++ e ∷ []) before is
-    ∙ sym (ap column_exprs (take_more cs i d lt) ∙ map-append (λ (c : NamedExpr). c.expr) (take i cs) (get_or cs i d ∷ []))

@@ -1,12 +1,13 @@
 -- Variables in flat groups have one node at all choices of a chunk.
-use Rattle.std.proofs.Common.{◌≡◌, ◌∙◌, ℕ, zero, suc, ◌+◌, ◌<◌, true, List, [], ◌∷◌, ◌++◌, length, map, take, get_or, Option, Some, None, refl, sym, ap, ap₂, subst, arith}
+use Rattle.std.proofs.Common.{◌≡◌, ◌∙◌, ℕ, zero, suc, ◌+◌, ◌<◌, true, List, [], ◌∷◌, ◌++◌, length, map, take, get_or, Option, Some, None, refl, sym, ap, subst, arith}
 use Rattle.std.specs.Prelude.{nat_eq, slice_get, slice_index_or, IfSome}
 use Rattle.std.specs.List.{All, range_with_len}
 use Rattle.std.proofs.lemmas.Bool.{and_parts}
-use Rattle.std.proofs.lemmas.List.{map-append, take_more}
+use Rattle.std.proofs.lemmas.List.{get_or_default, take_more}
 use Rattle.std.proofs.lemmas.List.Elements.{All-append, All-cons}
+use Rattle.std.proofs.lemmas.Slice.Zip.{AllZip-long, all_zipped_more}
 use Rattle.gq_cells.specs.declared.source.Source.{Source}
-use Rattle.gq_expr.specs.Meaning.{meaning}
+use Rattle.gq_eval.specs.Asked.{Asked}
 use Rattle.std.proofs.lemmas.Bool.Decides.{nat_tests}
 use Rattle.gq_base.specs.Plain.{Graph}
 use Rattle.gq_base.specs.declared.NodeId.{NodeId}
@@ -21,7 +22,9 @@ use Rattle.gq_plan.specs.Rows.{as_read, nodes_of_tables}
 use Rattle.gq_plan.specs.declared.typed.Typed.{Typed}
 use Rattle.gq_rows.specs.declared.finder.Way.{Way}
 use Rattle.gq_rows.specs.declared.finder.Way.TheVariants as way
-use Rattle.gq_rows.specs.steps.Finding.{FindsBy, HasNothing, HasNumber, IsFinder, IsNullAt}
+use Rattle.gq_rows.specs.steps.Finding.{HasNumber, IsFinder}
+use Rattle.gq_rows.specs.steps.Listed.{AreFinders}
+use Rattle.gq_rows.proofs.Finding.{finder_at}
 use Rattle.gq_rows.specs.declared.finder.Finder.{Finder}
 use Rattle.gq_rows.specs.steps.Flat.{AreFree, AreHeldIn, HasOneNode, IsFlat, IsFlatHome, IsFlatWay, IsHeld, IsHeldBy, IsHeldNumber}
 
@@ -82,20 +85,24 @@ held_by g y c w (Some n) h ps a = h ps a
 
 -- ---- finders of a chunk, one after another
 
-pub exprs_same : (fs : List Finder) (d : Finder) (i : ℕ) (hs : List Finder) (f : Finder) → i < length fs → map (λ (x : Finder). x.expr.now) hs ≡ map (λ (x : Finder). x.expr.now) (take i fs)
-    → f.expr.now ≡ (get_or fs i d).expr.now → map (λ (x : Finder). x.expr.now) (hs ++ f ∷ []) ≡ map (λ (x : Finder). x.expr.now) (take (i + 1) fs)
-exprs_same fs d i hs f lt before is =
-    map-append (λ (x : Finder). x.expr.now) hs (f ∷ [])
-    ∙ ap₂ (λ es e. es ++ e ∷ []) before is
-    ∙ sym (ap (map (λ (x : Finder). x.expr.now)) (take_more fs i d lt) ∙ map-append (λ (x : Finder). x.expr.now) (take i fs) (get_or fs i d ∷ []))
+-- what stands where there is no finder
+abbrev pub no_finder : Finder
+no_finder = record { way = way.Value; source = 0; null = 0; held = None }
 
-pub finder_and : (g : Graph) (ss : List Source) (hs : List Finder) (f h : Finder) → All (IsFinder g ss) hs → IsFinder g ss f → h.expr.now ≡ f.expr.now → h.way ≡ f.way → h.source ≡ f.source → h.null ≡ f.null → All (IsFinder g ss) (hs ++ h ∷ [])
-finder_and g ss hs f h all k e w s n =
-    All-append (IsFinder g ss) hs (h ∷ []) all (All-cons (IsFinder g ss) h [] (record {
-      finds = subst (λ x. FindsBy g ss x h.expr.now h.way) (sym s) (subst (λ x. FindsBy g ss f.source x h.way) (sym e) (subst (FindsBy g ss f.source f.expr.now) (sym w) k.finds));
-      none = subst (IsNullAt ss) (sym n) k.none;
-      nothing = λ here nothing. ap (meaning g here) e ∙ k.nothing here (subst (λ x. HasNothing x here) w nothing);
-    }) (λ i d lt. absurd (omega (arith, lt))))
+-- the finder at a place, which now holds what is found
+abbrev pub holding : List Finder → ℕ → Option ℕ → Finder
+holding fs i held = record (get_or fs i no_finder) { held = held }
+
+pub finder_and : (ss : List Source) (asks : List Asked) (fs hs : List Finder) (held : Option ℕ) (i : ℕ) → i < length fs → AreFinders ss asks fs → AreFinders ss (take i asks) hs → AreFinders ss (take (i + 1) asks) (hs ++ holding fs i held ∷ [])
+finder_and ss [] [] hs held i lt all before = absurd (omega (arith, lt))
+finder_and ss [] (e ∷ fs) hs held i lt all before = absurd all
+finder_and ss (a ∷ asks) fs hs held i lt all before =
+    let within : i < length (a ∷ asks) = let e = AllZip-long (IsFinder ss) (a ∷ asks) fs all in omega (arith, lt, e) in
+    let b : Asked = get_or (a ∷ asks) i a in
+    let f : Finder = get_or fs i no_finder in
+    let k : IsFinder ss b f = finder_at ss (a ∷ asks) fs i b f all within lt (get_or_default (a ∷ asks) i a b within) (get_or_default fs i no_finder f lt) in
+    subst (λ l. AreFinders ss l (hs ++ holding fs i held ∷ [])) (sym (take_more (a ∷ asks) i a within))
+    (all_zipped_more (IsFinder ss) (take i (a ∷ asks)) hs b (holding fs i held) before (record { finds = k.finds; none = k.none; nothing = k.nothing }))
 
 pub held_and : (g : Graph) (y : Typed) (c : Chunk) (hs : List Finder) (h : Finder) → AreHeldIn g y c hs → IfSome h.held (IsHeldNumber g y c h.way) → AreHeldIn g y c (hs ++ h ∷ [])
 held_and g y c hs h all k ps a =

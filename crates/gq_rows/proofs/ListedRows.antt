@@ -5,30 +5,26 @@ use Rattle.std.specs.Prelude.{flat_map, ◌&&◌}
 use Rattle.std.specs.List.Sorted.{IsPermutation}
 use Rattle.std.proofs.lemmas.List.Sorted.{IsPermutation-refl}
 use Rattle.std.proofs.lemmas.Grind.{flat_map-append}
-use Rattle.std.proofs.lemmas.Simd.{map-map}
 use Rattle.std.proofs.lemmas.List.{length-map}
 use Rattle.std.proofs.lemmas.List.Elements.{All-append, All-cons}
 use Rattle.gq_base.specs.Lists.{is_empty}
 use Rattle.gq_base.specs.Plain.{Graph}
 use Rattle.gq_base.specs.Values.{Val, val}
-use Rattle.gq_cells.specs.declared.source.Source.{Source}
-use Rattle.gq_expr.specs.Meaning.{meaning}
+use Rattle.gq_eval.specs.Asked.{Asked, answers}
 use Rattle.gq_expr.specs.Operators.{Outcome}
 use Rattle.gq_expr.specs.Reading as reading
 use Rattle.gq_expr.specs.declared.Fault.{Fault}
 use Rattle.gq_plan.specs.Outcomes.{Row, key_meanings, meanings_of, then_with, values}
 use Rattle.gq_plan.specs.declared.bound.Bound.{Bound}
-use Rattle.gq_plan.specs.declared.bound.NamedExpr.{NamedExpr}
 use Rattle.gq_plan.specs.declared.typed.Typed.{Typed}
 use Rattle.gq_rows.specs.Chunks.{PushesAll}
 use Rattle.gq_rows.specs.Tables.{AnswersListings, Held, Holds, HoldsAs, HoldsRows, IsSized, Pushes, StandsFor, StandsForSome, Table, is_full, is_full_table, numbered, outcome_admitted, outcome_numbered}
 use Rattle.gq_rows.specs.Answers.{Lists, classes, columns_of, cut_of, most_listed, window}
-use Rattle.gq_rows.specs.declared.finder.Finder.{Finder}
 use Rattle.gq_rows.specs.declared.held.Form.{Form}
 use Rattle.gq_rows.specs.declared.held.Form.TheVariants as form
 use Rattle.gq_rows.specs.declared.held.Rows.{Rows}
 use Rattle.gq_rows.specs.declared.judging.Checked.TheVariants as checked
-use Rattle.gq_rows.specs.declared.listed.Asked.{Asked}
+use Rattle.gq_rows.specs.declared.listed.Asked as question
 use Rattle.gq_rows.specs.declared.listed.Listed.{Listed}
 use Rattle.gq_rows.specs.declared.refusal.More.{More}
 use Rattle.gq_rows.specs.declared.refusal.More.TheVariants as more
@@ -38,20 +34,17 @@ use Rattle.gq_rows.specs.declared.table.RowTable.TheInside.{Inside}
 use Rattle.gq_rows.specs.steps.Inner.{IsDone, IsDoneAs, held_by, table_of, table_with}
 use Rattle.gq_rows.specs.steps.Judged.{check_after, values_after}
 use Rattle.gq_rows.specs.steps.Keeping.{Has, HasForm, HasFull, HasMore, HasPast, IsNoFault, PushesHeld, TellsFull, bar_of, held_of, more_rows}
-use Rattle.gq_rows.specs.steps.Listed.{AddedIn, AddsIn, AreFinders, Finding, IsListing, IsPlain, PutsRow, column_exprs, held_in, is_listing, meanings_found, outcome_in, outcome_within, table_in}
+use Rattle.gq_rows.specs.steps.Listed.{AddedIn, AddsIn, IsListing, IsPlain, PutsRow, held_in, is_listing, outcome_in, outcome_within, table_in}
+use Rattle.gq_rows.specs.steps.Reading.{asked_columns}
 use Rattle.gq_rows.proofs.Forms.{stands_by}
 use Rattle.gq_rows.proofs.Looking.{appended, met, when_column}
 use Rattle.gq_rows.proofs.Ranked.{keyless_sorted, none}
+use Rattle.gq_rows.proofs.Ready.{columns_mean}
 use Rattle.gq_rows.proofs.Standings.{open_is, pushed, pushes, room_of}
-
--- ---- what columns mean
-
-pub mean : (g : Graph) (here : reading.Assignment) (cs : List NamedExpr) (fs : List Finder) (sources : List Source) → AreFinders g sources (column_exprs cs) fs → meanings_found g here fs ≡ meanings_of g here cs
-mean g here cs fs sources h = sym (map-map (meaning g here) (λ (f : Finder). f.expr.now) fs) ∙ ap (map (meaning g here)) h.exprs ∙ map-map (meaning g here) (λ (c : NamedExpr). c.expr) cs
 
 -- ---- a row is added
 
-module _ (q : Asked) (here : reading.Assignment) (fs : List Finder) (sources : List Source) (finding : Finding q sources fs) (keyless : q.bound.now.keys ≡ [])
+module _ (q : question.Asked) (here : reading.Assignment) (asks : List Asked) (are : asks ≡ asked_columns q.graph.now q.bound.now.columns) (keyless : q.bound.now.keys ≡ [])
     (is_met : checked.Met ≡ check_after checked.Met (meanings_of q.graph.now here (numbered q.bound.now.conjuncts q.late.now))) where
   abbrev columns : List Outcome
   columns = meanings_of q.graph.now here q.bound.now.columns
@@ -59,9 +52,9 @@ module _ (q : Asked) (here : reading.Assignment) (fs : List Finder) (sources : L
   no_keys : values (key_meanings q.graph.now here q.bound.now.keys) ≡ Ok []
   no_keys = ap (λ ks. values (key_meanings q.graph.now here ks)) keyless
 
-  pub kept : (old new : Listed) → PutsRow (meanings_found q.graph.now here fs) old.cells.values new.cells.values (Ok tt) → new.count ≡ old.count + 1 → old.count < q.limit → AddedIn q (outcome_in q here) old new
+  pub kept : (old new : Listed) → PutsRow (answers here asks) old.cells.values new.cells.values (Ok tt) → new.count ≡ old.count + 1 → old.count < q.limit → AddedIn q (outcome_in q here) old new
   kept old new p count room =
-      let a = appended columns old.cells.values new.cells.values (ap (values_after old.cells.values) (sym (mean q.graph.now here q.bound.now.columns fs sources finding)) ∙ p) in
+      let a = appended columns old.cells.values new.cells.values (ap (values_after old.cells.values) (sym (columns_mean q.graph.now here q.bound.now.columns asks are)) ∙ p) in
       record {
         row = record { columns = a.more; keys = [] };
         is = met q.graph.now q.bound.now (numbered q.bound.now.conjuncts q.late.now) here is_met
@@ -74,24 +67,24 @@ module _ (q : Asked) (here : reading.Assignment) (fs : List Finder) (sources : L
         room = room;
       }
 
-  pub many : (old : Listed) (new : List Val) → PutsRow (meanings_found q.graph.now here fs) old.cells.values new (Ok tt) → (row : Row) × (outcome_in q here ≡ Some (Ok row))
+  pub many : (old : Listed) (new : List Val) → PutsRow (answers here asks) old.cells.values new (Ok tt) → (row : Row) × (outcome_in q here ≡ Some (Ok row))
   many old new p =
-      let a = appended columns old.cells.values new (ap (values_after old.cells.values) (sym (mean q.graph.now here q.bound.now.columns fs sources finding)) ∙ p) in (
+      let a = appended columns old.cells.values new (ap (values_after old.cells.values) (sym (columns_mean q.graph.now here q.bound.now.columns asks are)) ∙ p) in (
         record { columns = a.more; keys = [] },
         met q.graph.now q.bound.now (numbered q.bound.now.conjuncts q.late.now) here is_met
             ∙ ap (λ v. Some (then_with v (λ vs. then_with (values (key_meanings q.graph.now here q.bound.now.keys)) (λ ks. Ok (record { columns = vs; keys = ks }))))) a.is
             ∙ ap (λ v. Some (then_with v (λ ks. Ok (record { columns = a.more; keys = ks })))) no_keys,
       )
 
-  pub failed : (old new : Listed) (vs : List Val) (r : RowRefusal) → PutsRow (meanings_found q.graph.now here fs) old.cells.values vs (Err r) → AddsIn q (outcome_in q here) old new (Err r)
+  pub failed : (old new : Listed) (vs : List Val) (r : RowRefusal) → PutsRow (answers here asks) old.cells.values vs (Err r) → AddsIn q (outcome_in q here) old new (Err r)
   failed old new vs (refusal.Fault f) p =
-      when_column q.graph.now q.bound.now (numbered q.bound.now.conjuncts q.late.now) here f old.cells.values is_met (ap (values_after old.cells.values) (sym (mean q.graph.now here q.bound.now.columns fs sources finding)) ∙ p)
+      when_column q.graph.now q.bound.now (numbered q.bound.now.conjuncts q.late.now) here f old.cells.values is_met (ap (values_after old.cells.values) (sym (columns_mean q.graph.now here q.bound.now.columns asks are)) ∙ p)
   failed old new vs (refusal.TooManyRows l) p = absurd p
   failed old new vs refusal.Memory p = tt
 
 -- ---- what is held
 
-module _ (q : Asked) (listing : IsListing q) where
+module _ (q : question.Asked) (listing : IsListing q) where
   abbrev b : Bound
   b = q.bound.now
 
@@ -196,7 +189,7 @@ module _ (t : Inside) (old : Table) (view : table_of t ≡ old) (e : is_listing 
   pub listed_view : table_with t (held_in t.listed) ≡ old
   listed_view = ap (λ l. table_with t (held_t l t)) (sym e) ∙ view
 
-  pub listing_is : (g : Asked) → g.bound.now ≡ t.bound.now → g.form ≡ t.form → g.limit ≡ t.limit → HasForm t.bound.now t.form → t.limit < 2 ^ 32 → IsListing g
+  pub listing_is : (g : question.Asked) → g.bound.now ≡ t.bound.now → g.form ≡ t.form → g.limit ≡ t.limit → HasForm t.bound.now t.form → t.limit < 2 ^ 32 → IsListing g
   listing_is g b f l h small = record {
     keyless = ap (λ (x : Bound). x.keys) b ∙ keyless_of t.bound.now e;
     form = subst (λ x. HasForm x g.form) (sym b) (subst (HasForm t.bound.now) (sym f) h);
@@ -272,7 +265,7 @@ module _ (d : Bool) (g : Graph) (t : Inside) (has : option_copied t.graph ≡ So
   now_done h = subst (λ o. IsDone o t) (sym has) (subst (λ b. IsDoneAs b g t) (sym e) h)
 
 -- what expressions read of an assignment of an alternative
-pub within_is : (admitted : reading.Assignment → Bool) (q : Asked) (y : Typed) → q.late.now ≡ y.late → (here : reading.Assignment) → outcome_within admitted q here ≡ outcome_admitted admitted q.graph.now q.bound.now y here
+pub within_is : (admitted : reading.Assignment → Bool) (q : question.Asked) (y : Typed) → q.late.now ≡ y.late → (here : reading.Assignment) → outcome_within admitted q here ≡ outcome_admitted admitted q.graph.now q.bound.now y here
 within_is admitted q y e here = ap (λ late. cond (admitted here) (outcome_numbered q.graph.now q.bound.now late here) None) e
 
 -- ---- the lines of rows that are listed as they come

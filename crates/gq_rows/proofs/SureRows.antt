@@ -7,6 +7,7 @@ use Rattle.std.specs.declared.cmp.Ordering.TheVariants.{Equal, Greater, Less}
 use Rattle.std.proofs.lemmas.List.{take_all}
 use Rattle.gq_base.specs.Plain.{Graph}
 use Rattle.gq_base.specs.Values.{Val}
+use Rattle.gq_eval.specs.Asked.{Asked, answers}
 use Rattle.gq_expr.specs.Meaning.{meaning}
 use Rattle.gq_expr.specs.Operators.{Outcome}
 use Rattle.gq_expr.specs.Reading as reading
@@ -96,14 +97,16 @@ module _ (s : SortExpr) (ss : List SortExpr) (bar keys : List Val) (v : Val) (os
       subst (λ ks. order ≡ keys_order (s ∷ ss) bar ks) (sym k.whole) (next k.rest k.are ∙ ap (λ o. ordering_then o (keys_order ss (other_values bar) k.rest)) e)
 
 -- the same of keys where they lie in a list
-pub level_at : (g : Graph) (here : reading.Assignment) (sorts : List SortExpr) (sort : SortExpr) (bar others keys : List Val) (first v : Val) (order : Ordering) → 1 ≤ length sorts → sort ≡ get_or sorts 0 sort
-    → Ok v ≡ meaning g here sort.expr → first ≡ first_value bar → others ≡ other_values bar → Equal ≡ by_direction sort.down first v
-    → ((ks : List Val) → AreValues ks (key_meanings g here (take (length sorts - 1) (drop 1 sorts))) → order ≡ keys_order (take (length sorts - 1) (drop 1 sorts)) others ks)
-    → AreValues keys (key_meanings g here sorts) → order ≡ keys_order sorts bar keys
-level_at g here [] sort bar others keys first v order some is key first_of others_of level next are = absurd (omega (arith, some))
-level_at g here (s ∷ ss) sort bar others keys first v order some is key first_of others_of level next are =
+pub level_at : (here : reading.Assignment) (sorts : List SortExpr) (asks : List Asked) (sort : SortExpr) (ask : Asked) (bar others keys : List Val) (first v : Val) (order : Ordering) → 1 ≤ length sorts → length asks ≡ length sorts
+    → sort ≡ get_or sorts 0 sort → ask ≡ get_or asks 0 ask → Ok v ≡ meaning ask.graph here ask.expr → first ≡ first_value bar → others ≡ other_values bar → Equal ≡ by_direction sort.down first v
+    → ((ks : List Val) → AreValues ks (answers here (take (length asks - 1) (drop 1 asks))) → order ≡ keys_order (take (length sorts - 1) (drop 1 sorts)) others ks)
+    → AreValues keys (answers here asks) → order ≡ keys_order sorts bar keys
+level_at here [] asks sort ask bar others keys first v order some same is at key first_of others_of level next are = absurd (omega (arith, some))
+level_at here (s ∷ ss) [] sort ask bar others keys first v order some same is at key first_of others_of level next are = absurd (omega (arith, same))
+level_at here (s ∷ ss) (a ∷ asks) sort ask bar others keys first v order some same is at key first_of others_of level next are =
     let whole : take (length (s ∷ ss) - 1) ss ≡ ss = take_all (length (s ∷ ss) - 1) ss (omega arith) in
-    level_goes_on s ss bar keys v (key_meanings g here ss) order
+    let behind : take (length (a ∷ asks) - 1) asks ≡ asks = take_all (length (a ∷ asks) - 1) asks (omega arith) in
+    level_goes_on s ss bar keys v (answers here asks) order
     (level ∙ ap (λ (q : SortExpr). by_direction q.down first v) is ∙ ap (λ x. by_direction s.down x v) first_of)
-    (subst (λ o. AreValues keys (o ∷ key_meanings g here ss)) (sym (key ∙ ap (λ (q : SortExpr). meaning g here q.expr) is)) are)
-    (λ ks a. next ks (subst (λ l. AreValues ks (key_meanings g here l)) (sym whole) a) ∙ ap (λ l. keys_order l others ks) whole ∙ ap (λ b. keys_order ss b ks) others_of)
+    (subst (λ o. AreValues keys (o ∷ answers here asks)) (sym (key ∙ ap (λ (q : Asked). meaning q.graph here q.expr) at)) are)
+    (λ ks h. next ks (subst (λ l. AreValues ks (answers here l)) (sym behind) h) ∙ ap (λ l. keys_order l others ks) whole ∙ ap (λ b. keys_order ss b ks) others_of)

@@ -1,21 +1,19 @@
 //! The bar that rows have to pass which come first: a row that does not pass it is left out before
 //! its values are made, where it is sure to have them.
-ghost use Rattle.std.specs.Prelude.{◌≡◌, List, map, true};
+ghost use Rattle.std.specs.Prelude.{◌≡◌, List, length, map, true};
 ghost use Rattle.std.specs.List.{AllByRecursion};
 ghost use Rattle.gq_base.specs.Values.{Val, val};
-ghost use Rattle.gq_plan.specs.Outcomes.{key_meanings};
+ghost use Rattle.gq_eval.specs.Asked.{answers};
 ghost use Rattle.gq_plan.specs.declared.bound.NamedExpr.{NamedExpr};
 ghost use Rattle.gq_plan.specs.declared.bound.SortExpr.{SortExpr};
 ghost use Rattle.gq_rows.specs.Answers.{keys_order};
 ghost use Rattle.gq_rows.specs.steps.Judged.{AreSure, AreValues, HasSureColumn, HasSureKey};
-ghost use Rattle.gq_rows.specs.steps.Resolving.{AreResolved};
 
-use crate::resolved::Resolved;
 use crate::sorting::{direct, split_first};
 use gq_base::Value;
+use gq_eval::Evaluator;
 use gq_expr::{Assigned, is_sure};
 use gq_plan::{Bound, NamedExpr, SortExpr};
-use gq_store::Graph;
 use std::cmp::Ordering;
 
 /// Whether each column and each key is sure to have a value.
@@ -46,16 +44,15 @@ fn are_sure_keys(keys: &[SortExpr]) -> bool
 /// How the keys of the bar compare with those of an assignment's row, which is known where none of
 /// them faults. The first that differs decides, and those behind it are not evaluated.
 #[tactic(auto, using(crate::proofs::SureRows::first_decides, crate::proofs::SureRows::level_goes_on))]
-pub(crate) fn rank_of_bar<'g, R: Assigned>(
+pub(crate) fn rank_of_bar<R: Assigned>(
     sorts: &[SortExpr],
-    keys: &[Resolved<'g>],
+    keys: &[Evaluator<'_>],
     bar: &[Value<'_>],
-    graph: &'g Graph,
     row: &R,
 ) -> Ordering
-    requires { AreResolved graph.now (map (λ sort. sort.expr) sorts.now) keys.now }
+    requires { length keys.now ≡ length sorts.now }
     ensures { (values : List Val)
-        → AreValues values (key_meanings graph.now (R.assignment row.now) sorts.now)
+        → AreValues values (answers (R.assignment row.now) keys.now)
         → result ≡ keys_order sorts.now (map val bar.now) values }
 {
     match sorts {
@@ -64,12 +61,12 @@ pub(crate) fn rank_of_bar<'g, R: Assigned>(
             let [key, keys @ ..] = keys else {
                 unreachable!()
             };
-            let Ok(value) = key.value(graph, row) else {
+            let Ok(value) = key.value(row) else {
                 return Ordering::Greater;
             };
             let (first, bar) = split_first(bar);
             match direct(sort.down, &first, &value) {
-                Ordering::Equal => rank_of_bar(sorts, keys, bar, graph, row),
+                Ordering::Equal => rank_of_bar(sorts, keys, bar, row),
                 other => other,
             }
         }

@@ -3,16 +3,18 @@
 ghost use Rattle.std.specs.Prelude.{◌≡◌, ◌++◌, ◌∷◌, [], IfOk, None, OnOk};
 ghost use Rattle.gq_base.specs.Plain.{Graph as Plain};
 ghost use Rattle.gq_base.specs.Values.{val};
+ghost use Rattle.gq_eval.specs.Asked.{asked};
 ghost use Rattle.gq_expr.specs.Meaning.{meaning};
 ghost use Rattle.gq_rows.specs.steps.Finding.{Extends, IsFinder, IsFound, IsNullAt, PutsColumn};
 ghost use Rattle.gq_rows.specs.steps.Flat.{IsHeld};
 
+use crate::places::{Reader, reader_of};
 use crate::refusal::RowRefusal;
-use crate::resolved::{Reader, reader_of};
 use crate::tables::Tables;
 use gq_base::{Memory, Value};
 use gq_cells::{Cells, Source};
-use gq_expr::{Assigned, Expr, eval};
+use gq_eval::Evaluator;
+use gq_expr::{Assigned, Expr};
 use gq_store::Graph;
 
 /// The rows below a count, or the load numbers, that a variable may have in a table.
@@ -34,12 +36,11 @@ pub enum Way {
     Rel(Range),
 }
 
-/// An expression, what tells the number that stands for its value, and the places of the source of
+/// What tells the number that stands for the value of a column, and the places of the source of
 /// such numbers and of the source of null, which is its value where its variable has nothing. While
 /// a chunk is taken it holds the number that all assignments of the chunk have, if that is known.
 #[derive(Clone, Copy)]
-pub struct Finder<'g> {
-    pub(crate) expr: &'g Expr,
+pub struct Finder {
     pub(crate) way: Way,
     pub(crate) source: u32,
     pub(crate) null: u32,
@@ -57,20 +58,19 @@ pub enum Found {
     Other,
 }
 
-impl<'g> Finder<'g> {
+impl Finder {
     /// How an expression's values are kept for an alternative in a graph. Its source goes to the
     /// others, among which is that of null.
-    pub(crate) fn new(
+    pub(crate) fn new<'g>(
         cells: &mut Cells<'g>,
         null: u32,
-        expr: &'g Expr,
+        expr: &Expr,
         tables: &Tables<'_>,
         graph: &'g Graph,
-    ) -> Result<Finder<'g>, Memory>
+    ) -> Result<Finder, Memory>
         requires { IsNullAt cells.old.sources null }
-        ensures expr { IfOk result (λ finder. finder.expr.now ≡ expr.now) }
         ensures free { IfOk result (λ finder. finder.held ≡ None) }
-        ensures finds { IfOk result (IsFinder graph.now cells.new.sources) }
+        ensures finds { IfOk result (IsFinder cells.new.sources (asked expr.now graph.now)) }
         ensures more { OnOk result (Extends cells.old.sources cells.new.sources) }
         ensures values { cells.new.values ≡ cells.old.values }
     {
@@ -88,7 +88,6 @@ impl<'g> Finder<'g> {
                     count: graph.node_count(property.table),
                 });
                 Ok(Finder {
-                    expr,
                     way,
                     source,
                     null,
@@ -107,7 +106,6 @@ impl<'g> Finder<'g> {
                     count: graph.rel_count(property.table),
                 });
                 Ok(Finder {
-                    expr,
                     way,
                     source,
                     null,
@@ -119,15 +117,15 @@ impl<'g> Finder<'g> {
 
     // The same of an expression that is no property.
     fn plain(
-        cells: &mut Cells<'g>,
+        cells: &mut Cells<'_>,
         null: u32,
-        expr: &'g Expr,
+        expr: &Expr,
         tables: &Tables<'_>,
-    ) -> Result<Finder<'g>, Memory>
+    ) -> Result<Finder, Memory>
         requires { IsNullAt cells.old.sources null }
-        ensures expr { IfOk result (λ finder. finder.expr.now ≡ expr.now) }
         ensures free { IfOk result (λ finder. finder.held ≡ None) }
-        ensures finds { (g : Plain) → IfOk result (IsFinder g cells.new.sources) }
+        ensures finds { (g : Plain)
+            → IfOk result (IsFinder cells.new.sources (asked expr.now g)) }
         ensures more { OnOk result (Extends cells.old.sources cells.new.sources) }
         ensures values { cells.new.values ≡ cells.old.values }
     {
@@ -141,7 +139,6 @@ impl<'g> Finder<'g> {
                         count: u32::MAX,
                     });
                     return Ok(Finder {
-                        expr,
                         way,
                         source,
                         null,
@@ -158,7 +155,6 @@ impl<'g> Finder<'g> {
                         count: u32::MAX,
                     });
                     return Ok(Finder {
-                        expr,
                         way,
                         source,
                         null,
@@ -169,7 +165,6 @@ impl<'g> Finder<'g> {
             _ => {}
         }
         Ok(Finder {
-            expr,
             way: Way::Value,
             source: 0,
             null,
@@ -212,20 +207,23 @@ fn put_value<'g>(cells: &mut Cells<'g>, value: Value<'g>) -> Result<(), Memory>
     cells.put(source, 0)
 }
 
-// Evaluates an expression, and appends its value.
+// Evaluates a column, and appends its value: one more value is kept itself.
 fn put_evaluated<'g, R: Assigned>(
     cells: &mut Cells<'g>,
-    expr: &'g Expr,
-    graph: &'g Graph,
+    made: &mut usize,
+    column: &Evaluator<'g>,
     row: &R,
 ) -> Result<(), RowRefusal>
-    ensures puts { PutsColumn (meaning graph.now (R.assignment row.now) expr.now)
+    ensures puts { PutsColumn (meaning column.now.graph (R.assignment row.now) column.now.expr)
         cells.old.values cells.new.values result }
     ensures more { OnOk result (Extends cells.old.sources cells.new.sources) }
 {
-    match eval(expr, graph, row) {
+    match column.value(row) {
         Ok(value) => match put_value(cells, value) {
-            Ok(()) => Ok(()),
+            Ok(()) => {
+                *made = made.saturating_add(1);
+                Ok(())
+            }
             Err(Memory) => Err(RowRefusal::Memory),
         },
         Err(fault) => Err(RowRefusal::Fault(fault)),
@@ -233,7 +231,7 @@ fn put_evaluated<'g, R: Assigned>(
 }
 
 // The number that is held, or else what is found.
-fn found_of<R: Assigned>(finder: &Finder<'_>, row: &R) -> Found
+fn found_of<R: Assigned>(finder: &Finder, row: &R) -> Found
     requires { IsHeld (R.assignment row.now) finder.now }
     ensures { IsFound finder.now.way (R.assignment row.now) result }
 {
@@ -243,16 +241,17 @@ fn found_of<R: Assigned>(finder: &Finder<'_>, row: &R) -> Found
     }
 }
 
-/// Appends the value of a column for a row.
+/// Appends the value of a column for a row, and counts the values that are kept themselves.
 pub(crate) fn put_column<'g, R: Assigned>(
     cells: &mut Cells<'g>,
-    finder: &Finder<'g>,
-    graph: &'g Graph,
+    made: &mut usize,
+    finder: &Finder,
+    column: &Evaluator<'g>,
     row: &R,
 ) -> Result<(), RowRefusal>
-    requires finder { IsFinder graph.now cells.old.sources finder.now }
+    requires finder { IsFinder cells.old.sources column.now finder.now }
     requires held { IsHeld (R.assignment row.now) finder.now }
-    ensures puts { PutsColumn (meaning graph.now (R.assignment row.now) finder.now.expr.now)
+    ensures puts { PutsColumn (meaning column.now.graph (R.assignment row.now) column.now.expr)
         cells.old.values cells.new.values result }
     ensures more { OnOk result (Extends cells.old.sources cells.new.sources) }
 {
@@ -265,6 +264,6 @@ pub(crate) fn put_column<'g, R: Assigned>(
             Ok(()) => Ok(()),
             Err(Memory) => Err(RowRefusal::Memory),
         },
-        Found::Other => put_evaluated(cells, finder.expr, graph, row),
+        Found::Other => put_evaluated(cells, made, column, row),
     }
 }

@@ -102,7 +102,11 @@ fn lines_of<'g>(bound: &Bound, listed: Listed<'g>) -> Lines<'g>
         → Lists bound.now list result }
     ensures wide { All (λ line. length line ≡ length bound.now.columns) result }
 {
-    let Listed { cells, count } = listed;
+    let Listed {
+        cells,
+        count,
+        made: _,
+    } = listed;
     // The number of values fits its type.
     let _ = cells.len();
     Lines {
@@ -151,6 +155,8 @@ impl<'g> RowTable<'g> {
             typed: _,
             graph: _,
             limit: _,
+            room: _,
+            most: _,
             form: _,
             sure: _,
             rows,

@@ -1,8 +1,7 @@
 //! The numbers that all assignments of a chunk have: those of variables in its flat groups.
 ghost use Rattle.std.specs.Prelude.{◌≡◌, IfSome, List, OnOk, true, ℕ};
-ghost use Rattle.gq_base.specs.Plain.{Graph as Plain};
 ghost use Rattle.gq_cells.specs.declared.source.Source.{Source};
-ghost use Rattle.gq_expr.specs.declared.expr.Expr.{Expr};
+ghost use Rattle.gq_eval.specs.Asked.{Asked};
 ghost use Rattle.gq_group.specs.Chunks.{IsChunkOf, group_of};
 ghost use Rattle.gq_group.specs.Groups.{AreSelected};
 ghost use Rattle.gq_rows.specs.steps.Flat.{AreHeldIn, IsFlat, IsFlatHome, IsFlatWay, IsHeldNumber};
@@ -16,9 +15,9 @@ use gq_store::Graph;
 
 /// Puts the finders of columns for a chunk in the place of what was there: they hold the numbers of
 /// variables in flat groups.
-pub(crate) fn hold_columns<'g>(
-    held: &mut Vec<Finder<'g>>,
-    finders: &[Finder<'g>],
+pub(crate) fn hold_columns(
+    held: &mut Vec<Finder>,
+    finders: &[Finder],
     graph: &Graph,
     typed: &Typed,
     chunk: &Chunk<'_, '_>,
@@ -26,8 +25,8 @@ pub(crate) fn hold_columns<'g>(
 ) -> Result<(), Memory>
     requires chunk { IsChunkOf graph.now typed.now chunk.now }
     requires selected { AreSelected chunk.now.groups.now positions.now }
-    ensures finders { (g : Plain) → (ss : List Source) → (es : List Expr)
-        → AreFinders g ss es finders.now → OnOk result (AreFinders g ss es held.new.items) }
+    ensures finders { (ss : List Source) → (es : List Asked)
+        → AreFinders ss es finders.now → OnOk result (AreFinders ss es held.new.items) }
     ensures held { OnOk result (AreHeldIn graph.now typed.now chunk.now held.new.items) }
 {
     held.clear();

@@ -1,48 +1,58 @@
 //! Rows that are held as cells: those of a query without DISTINCT and without ORDER BY.
 ghost use Rattle.std.specs.Prelude.{◌≡◌, ◌<◌, ◌^◌, [], Some, OnOk, false, true};
 ghost use Rattle.std.specs.List.{All};
+ghost use Rattle.gq_eval.specs.Asked.{answers};
 ghost use Rattle.gq_group.specs.Choices.{Begins};
 ghost use Rattle.gq_group.specs.Chunks.{IsChunkOf};
 ghost use Rattle.gq_plan.specs.Assignments.{row_of};
 ghost use Rattle.gq_rows.specs.Chunks.{PushesAll, admitted_outcomes};
 ghost use Rattle.gq_rows.specs.Tables.{Pushes, StandsForSome, is_full_table};
-ghost use Rattle.gq_rows.specs.steps.Finding.{Extends, IsFinder};
+ghost use Rattle.gq_rows.specs.steps.Finding.{Extends};
 ghost use Rattle.gq_rows.specs.steps.Flat.{AreHeldIn, IsHeld};
 ghost use Rattle.gq_rows.specs.steps.Keeping.{TellsFull};
-ghost use Rattle.gq_rows.specs.steps.Listed.{AddsIn, AreFreeFinders, Finding, IsListing, PutsRow};
-ghost use Rattle.gq_rows.specs.steps.Listed.{column_exprs, held_in, is_listing, meanings_found};
+ghost use Rattle.gq_rows.specs.steps.Listed.{AddsIn, AreFinders, AreFreeFinders, Finding};
+ghost use Rattle.gq_rows.specs.steps.Listed.{IsAsked, IsListing, PutsRow, held_in, is_listing};
 ghost use Rattle.gq_rows.specs.steps.Listed.{outcome_in, outcome_within, table_in};
+ghost use Rattle.gq_rows.specs.steps.Reading.{asked_columns};
 
 use crate::admitting::Admits;
 use crate::finder::{Finder, put_column};
 use crate::held::Form;
 use crate::judging::{Checked, check_late};
+use crate::reading::Reading;
 use crate::refusal::{More, RowRefusal};
 use crate::tables::Tables;
 use gq_base::{Memory, Value};
 use gq_cells::{Cells, Source};
+use gq_eval::Evaluator;
 use gq_expr::Assigned;
 use gq_group::{Choice, Chunk, ChunkRow};
 use gq_plan::{Bound, Typed};
 use gq_store::Graph;
+use std::mem::size_of;
 
 /// What is asked of each row where the rows are listed as they come, and the most rows that are
 /// kept.
 #[derive(Clone, Copy)]
-pub struct Asked<'g> {
+pub struct Asked<'q, 'g> {
     pub(crate) graph: &'g Graph,
     pub(crate) bound: &'g Bound,
     /// The numbers of the conjuncts that are left.
     pub(crate) late: &'g [u32],
     pub(crate) limit: u32,
+    /// The bytes that the rows may take.
+    pub(crate) room: u64,
     pub(crate) form: Form,
+    /// The columns and the conjuncts as they are evaluated over the graph.
+    pub(crate) reading: &'q Reading<'g>,
 }
 
-/// The values of rows, one row after another, as cells.
+/// The values of rows, one row after another, as cells, and how many of them are kept themselves.
 #[derive(Drop)]
 pub struct Listed<'g> {
     pub(crate) cells: Cells<'g>,
     pub(crate) count: usize,
+    pub(crate) made: usize,
 }
 
 /// Whether the rows of a query are listed as they come.
@@ -57,15 +67,15 @@ pub(crate) fn is_listing(bound: &Bound) -> bool
 pub(crate) fn find_columns<'g>(
     done: bool,
     cells: &mut Cells<'g>,
-    finders: &mut Vec<Finder<'g>>,
-    bound: &'g Bound,
+    finders: &mut Vec<Finder>,
+    bound: &Bound,
     typed: &Typed,
     graph: &'g Graph,
 ) -> Result<(), Memory>
-    requires { let exprs = column_exprs bound.now.columns in
-        done ≡ true → AreFreeFinders graph.now cells.old.sources exprs finders.old.items }
-    ensures finds { let exprs = column_exprs bound.now.columns in
-        OnOk result (AreFreeFinders graph.now cells.new.sources exprs finders.new.items) }
+    requires { let columns = asked_columns graph.now bound.now.columns in
+        done ≡ true → AreFreeFinders cells.old.sources columns finders.old.items }
+    ensures finds { let columns = asked_columns graph.now bound.now.columns in
+        OnOk result (AreFreeFinders cells.new.sources columns finders.new.items) }
     ensures values { cells.new.values ≡ cells.old.values }
 {
     if done {
@@ -82,21 +92,22 @@ pub(crate) fn find_columns<'g>(
     Ok(())
 }
 
-// Appends the values of columns for an assignment.
+// Appends the values of columns for an assignment, and counts those that are kept themselves.
 fn put_row<'g, R: Assigned>(
     cells: &mut Cells<'g>,
-    finders: &[Finder<'g>],
-    graph: &'g Graph,
+    made: &mut usize,
+    finders: &[Finder],
+    columns: &[Evaluator<'g>],
     row: &R,
 ) -> Result<(), RowRefusal>
-    requires finders { All (IsFinder graph.now cells.old.sources) finders.now }
+    requires finders { AreFinders cells.old.sources columns.now finders.now }
     requires held { All (IsHeld (R.assignment row.now)) finders.now }
-    ensures puts { PutsRow (meanings_found graph.now (R.assignment row.now) finders.now)
+    ensures puts { PutsRow (answers (R.assignment row.now) columns.now)
         cells.old.values cells.new.values result }
     ensures more { OnOk result (Extends cells.old.sources cells.new.sources) }
 {
-    'finders: for finder in finders {
-        match put_column(cells, finder, graph, row) {
+    'values: for (column, finder) in columns.iter().zip(finders) {
+        match put_column(cells, made, finder, column, row) {
             Ok(()) => {}
             Err(refusal) => return Err(refusal),
         }
@@ -108,32 +119,45 @@ impl<'g> Listed<'g> {
     // Adds the row of an assignment, unless it is dropped.
     fn add<R: Assigned>(
         &mut self,
-        finders: &[Finder<'g>],
-        asked: &Asked<'g>,
+        finders: &[Finder],
+        asked: &Asked<'_, 'g>,
         row: &R,
     ) -> Result<bool, RowRefusal>
         requires few { self.old.count < 2 ^ 40 }
         requires keyless { asked.now.bound.now.keys ≡ [] }
+        requires reading { IsAsked asked.now }
         requires finders { Finding asked.now self.old.cells.sources finders.now }
         requires held { All (IsHeld (R.assignment row.now)) finders.now }
         ensures adds { AddsIn asked.now (outcome_in asked.now (R.assignment row.now))
             self.old self.new result }
         ensures more { OnOk result (Extends self.old.cells.sources self.new.cells.sources) }
     {
-        match check_late(asked.graph, asked.bound, asked.late, row) {
+        match check_late(&asked.reading.conjuncts, asked.late, row) {
             Checked::Dropped => return Ok(false),
             Checked::Faulty(fault) => return Err(RowRefusal::Fault(fault)),
             Checked::Met => {}
         }
-        match put_row(&mut self.cells, finders, asked.graph, row) {
+        let columns = asked.reading.columns.as_slice();
+        match put_row(&mut self.cells, &mut self.made, finders, columns, row) {
             Ok(()) => {}
             Err(refusal) => return Err(refusal),
         }
         if self.count >= asked.limit as usize {
             return Err(RowRefusal::TooManyRows { limit: asked.limit });
         }
+        if self.bytes() > asked.room {
+            return Err(RowRefusal::Memory);
+        }
         self.count += 1;
         Ok(true)
+    }
+
+    // The bytes that the values take: 8 for each, and those of its source for one that is kept
+    // itself.
+    fn bytes(&self) -> u64 {
+        let cells = (self.cells.len() as u64).saturating_mul(8);
+        let sources = (self.made as u64).saturating_mul(size_of::<Source<'_>>() as u64);
+        cells.saturating_add(sources)
     }
 
     // Whether another row can change what is answered.
@@ -153,11 +177,12 @@ impl<'g> Listed<'g> {
     /// Takes an assignment.
     pub(crate) fn push<R: Assigned>(
         &mut self,
-        finders: &[Finder<'g>],
-        asked: &Asked<'g>,
+        finders: &[Finder],
+        asked: &Asked<'_, 'g>,
         row: &R,
     ) -> Result<More, RowRefusal>
         requires listing { IsListing asked.now }
+        requires reading { IsAsked asked.now }
         requires finders { Finding asked.now self.old.cells.sources finders.now }
         requires held { All (IsHeld (R.assignment row.now)) finders.now }
         requires stands { StandsForSome (table_in asked.now self.old) }
@@ -175,12 +200,13 @@ impl<'g> Listed<'g> {
     // Takes an assignment, if it is admitted.
     fn push_row<A: Admits>(
         &mut self,
-        finders: &[Finder<'g>],
-        asked: &Asked<'g>,
+        finders: &[Finder],
+        asked: &Asked<'_, 'g>,
         row: &ChunkRow<'_, '_, '_, '_, '_>,
         admits: &A,
     ) -> Result<More, RowRefusal>
         requires listing { IsListing asked.now }
+        requires reading { IsAsked asked.now }
         requires finders { Finding asked.now self.old.cells.sources finders.now }
         requires held { All (IsHeld (row_of row.now)) finders.now }
         requires stands { StandsForSome (table_in asked.now self.old) }
@@ -199,8 +225,8 @@ impl<'g> Listed<'g> {
     /// Takes the admitted assignments of the choices of a chunk from the one that stands on.
     pub(crate) fn push_choices<A: Admits>(
         &mut self,
-        finders: &[Finder<'g>],
-        asked: &Asked<'g>,
+        finders: &[Finder],
+        asked: &Asked<'_, 'g>,
         choice: &mut Choice,
         chunk: &Chunk<'_, '_>,
         typed: &Typed,
@@ -209,6 +235,7 @@ impl<'g> Listed<'g> {
         requires chunk { IsChunkOf asked.now.graph.now typed.now chunk.now }
         requires late { asked.now.late.now ≡ typed.now.late }
         requires listing { IsListing asked.now }
+        requires reading { IsAsked asked.now }
         requires finders { Finding asked.now self.old.cells.sources finders.now }
         requires held { AreHeldIn asked.now.graph.now typed.now chunk.now finders.now }
         requires stands { StandsForSome (table_in asked.now self.old) }

@@ -9,7 +9,7 @@ ghost use Rattle.gq_rows.specs.Chunks.{IsChunkIn, PushesAdmitted, PushesAll, Pus
 ghost use Rattle.gq_rows.specs.Chunks.{admitted_outcomes, counted};
 ghost use Rattle.gq_rows.specs.steps.Keeping.{HasForm};
 ghost use Rattle.gq_rows.specs.steps.Listed.{is_listing};
-ghost use Rattle.gq_rows.specs.steps.Resolving.{IsReading};
+ghost use Rattle.gq_rows.specs.steps.Reading.{IsReading};
 ghost use Rattle.gq_rows.specs.Tables.{IsSameQuery, Pushes, StandsFor, StandsForSome};
 ghost use Rattle.gq_rows.specs.Tables.{is_full_table, outcome_admitted, outcome_numbered};
 ghost use Rattle.gq_wide.specs.Rows.{read};
@@ -21,8 +21,9 @@ use crate::held::{Form, Rows};
 use crate::holding::hold_columns;
 use crate::judging::Question;
 use crate::listed::{Asked, Listed, find_columns, is_listing};
+use crate::reading::Reading;
 use crate::refusal::{More, RowRefusal};
-use crate::resolved::Reading;
+use crate::room::most_rows;
 use gq_cells::Cells;
 use gq_classes::Classes;
 use gq_expr::{Assigned, Fault};
@@ -46,18 +47,21 @@ pub struct RowTable<'g> {
     pub(crate) typed: Option<&'g Typed>,
     pub(crate) graph: Option<&'g Graph>,
     pub(crate) limit: u32,
+    // The bytes that kept rows may take, and how many rows that are held as values take no more.
+    pub(crate) room: u64,
+    pub(crate) most: usize,
     pub(crate) form: Form,
     // Each column and each key is sure to have a value.
     pub(crate) sure: bool,
     pub(crate) rows: Rows<'g>,
     // The rows of a query without DISTINCT and without ORDER BY.
     pub(crate) listed: Listed<'g>,
-    // Whether the columns and the keys were looked up for the alternative: how the values of such
-    // rows are kept, or how those of other rows are evaluated.
+    // Whether the columns, the keys and the conjuncts were made ready for the alternative, and what
+    // finds the values of the columns of such rows.
     pub(crate) done: bool,
-    pub(crate) finders: Vec<Finder<'g>>,
+    pub(crate) finders: Vec<Finder>,
     // The finders as they were for the last chunk.
-    pub(crate) held: Vec<Finder<'g>>,
+    pub(crate) held: Vec<Finder>,
     pub(crate) reading: Reading<'g>,
     // The chunks with a row that were pushed, and the positions of the last one.
     pub(crate) pushed: u64,
@@ -101,9 +105,10 @@ fn form_of(bound: &Bound) -> Form
 }
 
 impl<'g> RowTable<'g> {
-    /// A table without rows, for the rows of a query, of which at most `limit` are kept. It takes
-    /// no memory.
-    pub fn new(alloc: Global, bound: &'g Bound, limit: u32) -> RowTable<'g>
+    /// A table without rows, for the rows of a query, of which at most `limit` are kept, and no more
+    /// than take `room` bytes: a row for which there is no room is refused as by want of memory. What
+    /// vectors have to spare is not counted. It takes no memory.
+    pub fn new(alloc: Global, bound: &'g Bound, limit: u32, room: u64) -> RowTable<'g>
         ensures none { StandsFor bound.now limit [] result.held }
         ensures bound { result.bound ≡ bound.now }
         ensures most { result.most ≡ limit }
@@ -117,6 +122,8 @@ impl<'g> RowTable<'g> {
             typed: None,
             graph: None,
             limit,
+            room,
+            most: most_rows(bound, room),
             form: form_of(bound),
             sure: are_sure(bound),
             rows: Rows {
@@ -129,6 +136,7 @@ impl<'g> RowTable<'g> {
             listed: Listed {
                 cells: Cells::new(alloc),
                 count: 0,
+                made: 0,
             },
             done: false,
             finders: Vec::new(alloc),
@@ -140,7 +148,7 @@ impl<'g> RowTable<'g> {
     }
 
     /// The assignments that follow are of this alternative, in this graph. What is held stays. It
-    /// takes no memory: columns and keys are looked up once, at the first push that follows.
+    /// takes no memory: columns, keys and conjuncts are made ready once, at the first push that follows.
     pub fn start_alternative(&mut self, typed: &'g Typed, graph: &'g Graph)
         ensures { self.new
             ≡ record self.old { alternative = Some typed.now; graph = Some graph.now } }
@@ -272,7 +280,7 @@ impl<'g> RowTable<'g> {
         let done = self.done;
         self.done = false;
         let mut reading = mem::replace(&mut self.reading, Reading::new(self.alloc));
-        let Ok(()) = reading.resolve(done, self.bound, typed, graph) else {
+        let Ok(()) = reading.prepare(done, self.alloc, self.bound, graph) else {
             return Err(RowRefusal::Memory);
         };
         match self.push_choices(choice, chunk, &reading, typed, graph, admits) {
@@ -308,15 +316,11 @@ impl<'g> RowTable<'g> {
         ensures query { IsSameQuery self.old self.new }
         ensures pushed { self.new.pushed ≡ self.old.pushed }
     {
-        let asked = Asked {
-            graph,
-            bound: self.bound,
-            late: typed.late.as_slice(),
-            limit: self.limit,
-            form: self.form,
-        };
         let done = self.done;
         self.done = false;
+        let Ok(()) = self.reading.prepare(done, self.alloc, self.bound, graph) else {
+            return Err(RowRefusal::Memory);
+        };
         let cells = &mut self.listed.cells;
         let Ok(()) = find_columns(done, cells, &mut self.finders, self.bound, typed, graph) else {
             return Err(RowRefusal::Memory);
@@ -327,6 +331,15 @@ impl<'g> RowTable<'g> {
             return Err(RowRefusal::Memory);
         };
         let held = self.held.as_slice();
+        let asked = Asked {
+            graph,
+            bound: self.bound,
+            late: typed.late.as_slice(),
+            limit: self.limit,
+            room: self.room,
+            form: self.form,
+            reading: &self.reading,
+        };
         match self
             .listed
             .push_choices(held, &asked, choice, chunk, typed, admits)
@@ -356,18 +369,23 @@ impl<'g> RowTable<'g> {
         ensures query { IsSameQuery self.old self.new }
         ensures pushed { self.new.pushed ≡ self.old.pushed }
     {
+        let done = self.done;
+        self.done = false;
+        let Ok(()) = self.reading.prepare(done, self.alloc, self.bound, graph) else {
+            return Err(RowRefusal::Memory);
+        };
+        let cells = &mut self.listed.cells;
+        let Ok(()) = find_columns(done, cells, &mut self.finders, self.bound, typed, graph) else {
+            return Err(RowRefusal::Memory);
+        };
         let asked = Asked {
             graph,
             bound: self.bound,
             late: &[],
             limit: self.limit,
+            room: self.room,
             form: self.form,
-        };
-        let done = self.done;
-        self.done = false;
-        let cells = &mut self.listed.cells;
-        let Ok(()) = find_columns(done, cells, &mut self.finders, self.bound, typed, graph) else {
-            return Err(RowRefusal::Memory);
+            reading: &self.reading,
         };
         match self.listed.push(self.finders.as_slice(), &asked, row) {
             Ok(more) => {
@@ -398,7 +416,7 @@ impl<'g> RowTable<'g> {
         let done = self.done;
         self.done = false;
         let mut reading = mem::replace(&mut self.reading, Reading::new(self.alloc));
-        let Ok(()) = reading.resolve(done, self.bound, typed, graph) else {
+        let Ok(()) = reading.prepare(done, self.alloc, self.bound, graph) else {
             return Err(RowRefusal::Memory);
         };
         match self.push(row, &reading, &[], graph) {
@@ -497,6 +515,7 @@ impl<'g> RowTable<'g> {
             bound: self.bound,
             late,
             limit: self.limit,
+            most: self.most,
             sure: self.sure,
             reading,
         };

@@ -6,6 +6,7 @@ use Rattle.gq_base.specs.declared.value.Value.TheVariants as value
 use Rattle.gq_cells.specs.Numbers.{IsNumber, source_val}
 use Rattle.gq_cells.specs.declared.source.Source.{Source}
 use Rattle.gq_cells.specs.declared.source.Source.TheVariants as source
+use Rattle.gq_eval.specs.Asked.{Asked}
 use Rattle.gq_expr.specs.Meaning.{meaning}
 use Rattle.gq_expr.specs.Operators.{Outcome}
 use Rattle.gq_expr.specs.Reading as reading
@@ -65,11 +66,11 @@ FindsBy g sources place e (way.Rel r) = Finds g sources place e (HasLoad r)
 abbrev pub IsNullAt : List Source → ℕ → Type 0
 IsNullAt sources place = slice_get sources place ≡ Some (source.Value value.Null)
 
--- the numbers that are found stand for the value of the expression, which is null where the variable has nothing
-pub record IsFinder (g : Graph) (sources : List Source) (f : Finder) : Type 0 where
-  pub finds : FindsBy g sources f.source f.expr.now f.way
+-- the numbers that are found stand for the value of the expression over the graph, which is null where the variable has nothing
+pub record IsFinder (sources : List Source) (a : Asked) (f : Finder) : Type 0 where
+  pub finds : FindsBy a.graph sources f.source a.expr f.way
   pub none : IsNullAt sources f.null
-  pub nothing : (here : reading.Assignment) → HasNothing f.way here → meaning g here f.expr.now ≡ Ok null
+  pub nothing : (here : reading.Assignment) → HasNothing f.way here → meaning a.graph here a.expr ≡ Ok null
 
 -- what a call tells that appends the value of an expression
 abbrev pub PutsColumn : Outcome → List Val → List Val → Result (Unit {0}) RowRefusal → Type 0

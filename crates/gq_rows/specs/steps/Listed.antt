@@ -1,27 +1,25 @@
 -- Rows that are held as cells, of a query without DISTINCT and without ORDER BY.
-use Rattle.std.specs.Prelude.{◌≡◌, ◌+◌, ◌<◌, ◌≤◌, ◌^◌, ◌&&◌, not, Bool, true, false, Option, Some, None, Result, Ok, Err, List, [], ◌++◌, length, map, if◌then◌else◌}
-use Rattle.std.specs.List.{All}
+use Rattle.std.specs.Prelude.{◌≡◌, ◌+◌, ◌<◌, ◌≤◌, ◌^◌, ◌&&◌, not, Bool, true, false, Option, Some, None, Result, Ok, Err, List, [], ◌++◌, length, if◌then◌else◌}
+use Rattle.std.specs.List.{AllZip}
 use Rattle.gq_base.specs.Lists.{is_empty}
-use Rattle.gq_base.specs.Plain.{Graph}
 use Rattle.gq_base.specs.Values.{Val}
 use Rattle.gq_cells.specs.declared.source.Source.{Source}
-use Rattle.gq_expr.specs.Meaning.{meaning}
+use Rattle.gq_eval.specs.Asked.{Asked}
 use Rattle.gq_expr.specs.Operators.{Outcome}
 use Rattle.gq_expr.specs.Reading as reading
 use Rattle.gq_expr.specs.declared.Fault.{Fault}
-use Rattle.gq_expr.specs.declared.expr.Expr.{Expr}
 use Rattle.gq_plan.specs.Outcomes.{Row}
 use Rattle.gq_plan.specs.declared.bound.Bound.{Bound}
-use Rattle.gq_plan.specs.declared.bound.NamedExpr.{NamedExpr}
 use Rattle.gq_rows.specs.Tables.{Held, Table, outcome_numbered}
 use Rattle.gq_rows.specs.steps.Finding.{IsFinder}
 use Rattle.gq_rows.specs.steps.Flat.{AreFree}
 use Rattle.gq_rows.specs.steps.Judged.{values_after}
 use Rattle.gq_rows.specs.steps.Keeping.{HasForm}
+use Rattle.gq_rows.specs.steps.Reading.{IsReading, asked_columns}
 use Rattle.gq_rows.specs.declared.finder.Finder.{Finder}
 use Rattle.gq_rows.specs.declared.held.Form.{Form}
 use Rattle.gq_rows.specs.declared.held.Form.TheVariants as form
-use Rattle.gq_rows.specs.declared.listed.Asked.{Asked}
+use Rattle.gq_rows.specs.declared.listed.Asked as question
 use Rattle.gq_rows.specs.declared.listed.Listed.{Listed}
 use Rattle.gq_rows.specs.declared.refusal.RowRefusal.{RowRefusal}
 use Rattle.gq_rows.specs.declared.refusal.RowRefusal.TheVariants as refusal
@@ -35,15 +33,15 @@ abbrev pub held_in : Listed → Held
 held_in l = record { columns = l.cells.values; keys = []; count = l.count; classes = []; bar = None }
 
 -- a table of what is asked that holds it
-abbrev pub table_in : Asked → Listed → Table
+abbrev pub table_in : question.Asked → Listed → Table
 table_in q l = record { bound = q.bound.now; most = q.limit; alternative = None; graph = None; held = held_in l; pushed = 0 }
 
 -- the outcome of what expressions read
-abbrev pub outcome_in : Asked → reading.Assignment → Option (Result Row Fault)
+abbrev pub outcome_in : question.Asked → reading.Assignment → Option (Result Row Fault)
 outcome_in q here = outcome_numbered q.graph.now q.bound.now q.late.now here
 
 -- none, where it is not admitted
-abbrev pub outcome_within : (reading.Assignment → Bool) → Asked → reading.Assignment → Option (Result Row Fault)
+abbrev pub outcome_within : (reading.Assignment → Bool) → question.Asked → reading.Assignment → Option (Result Row Fault)
 outcome_within admitted q here = if admitted here then outcome_in q here else None
 
 abbrev pub IsPlain : Form → Type 0
@@ -52,31 +50,26 @@ IsPlain (form.First n) = Unit {0}
 IsPlain f = ⊥
 
 -- a query whose rows are listed as they come, and its form
-pub record IsListing (q : Asked) : Type 0 where
+pub record IsListing (q : question.Asked) : Type 0 where
   pub keyless : q.bound.now.keys ≡ []
   pub form : HasForm q.bound.now q.form
   pub plain : IsPlain q.form
   pub small : q.limit < 2 ^ 32
 
--- these expressions, each with what finds its values
-pub record AreFinders (g : Graph) (sources : List Source) (es : List Expr) (fs : List Finder) : Type 0 where
-  pub exprs : map (λ (f : Finder). f.expr.now) fs ≡ es
-  pub finders : All (IsFinder g sources) fs
+-- these expressions over a graph, each with what finds its values
+abbrev pub AreFinders : List Source → List Asked → List Finder → Type 0
+AreFinders sources asks fs = AllZip (IsFinder sources) asks fs
 
 -- the same, and they hold no number
-abbrev pub AreFreeFinders : Graph → List Source → List Expr → List Finder → Type 0
-AreFreeFinders g sources es fs = AreFinders g sources es fs × AreFree fs
+abbrev pub AreFreeFinders : List Source → List Asked → List Finder → Type 0
+AreFreeFinders sources asks fs = AreFinders sources asks fs × AreFree fs
 
--- the expressions of the columns
-abbrev pub column_exprs : List NamedExpr → List Expr
-column_exprs cs = map (λ (c : NamedExpr). c.expr) cs
+abbrev pub Finding : question.Asked → List Source → List Finder → Type 0
+Finding q sources fs = AreFinders sources (asked_columns q.graph.now q.bound.now.columns) fs
 
-abbrev pub Finding : Asked → List Source → List Finder → Type 0
-Finding q sources fs = AreFinders q.graph.now sources (column_exprs q.bound.now.columns) fs
-
--- what expressions mean
-abbrev pub meanings_found : Graph → reading.Assignment → List Finder → List Outcome
-meanings_found g here fs = map (λ (f : Finder). meaning g here f.expr.now) fs
+-- the columns and the conjuncts are made ready
+abbrev pub IsAsked : question.Asked → Type 0
+IsAsked q = IsReading q.graph.now q.bound.now q.reading.now
 
 -- what a call tells that appends the values of expressions
 abbrev pub PutsRow : List Outcome → List Val → List Val → Result (Unit {0}) RowRefusal → Type 0
@@ -86,7 +79,7 @@ PutsRow os old new (Err (refusal.TooManyRows limit)) = ⊥
 PutsRow os old new (Err refusal.Memory) = Unit {0}
 
 -- a row was added, for whatever rows were held
-pub record AddedIn (q : Asked) (o : Option (Result Row Fault)) (old new : Listed) : Type 0 where
+pub record AddedIn (q : question.Asked) (o : Option (Result Row Fault)) (old new : Listed) : Type 0 where
   pub row : Row
   pub is : o ≡ Some (Ok row)
   pub columns : new.cells.values ≡ old.cells.values ++ row.columns
@@ -96,7 +89,7 @@ pub record AddedIn (q : Asked) (o : Option (Result Row Fault)) (old new : Listed
   pub room : old.count < q.limit
 
 -- what a call tells that adds a row, unless the row is dropped
-abbrev pub AddsIn : Asked → Option (Result Row Fault) → Listed → Listed → Result Bool RowRefusal → Type 0
+abbrev pub AddsIn : question.Asked → Option (Result Row Fault) → Listed → Listed → Result Bool RowRefusal → Type 0
 AddsIn q o old new (Ok true) = AddedIn q o old new
 AddsIn q o old new (Ok false) = (o ≡ None) × (new ≡ old)
 AddsIn q o old new (Err (refusal.Fault f)) = o ≡ Some (Err f)

@@ -1,15 +1,12 @@
-use Rattle.std.proofs.Common.{◌≡◌, List, map, take}
-use Rattle.std.specs.List.{All}
-use Rattle.gq_base.specs.Plain.{Graph as Plain}
+use Rattle.std.proofs.Common.{List, take}
 use Rattle.gq_cells.specs.declared.source.Source.{Source}
-use Rattle.gq_rows.specs.declared.finder.Finder.{Finder}
-use Rattle.gq_rows.specs.steps.Finding.{IsFinder}
+use Rattle.gq_eval.specs.Asked.{Asked}
 use Rattle.gq_rows.specs.steps.Flat.{AreHeldIn}
+use Rattle.gq_rows.specs.steps.Listed.{AreFinders}
 use Rattle.gq_rows.proofs.holding.hold_columns.Given as goal
 
 abbrev pub invariant-finders : goal.invariant-finders
 invariant-finders l = record {
-  exprs : map (λ (f : Finder). f.expr.now) l.held.items ≡ map (λ (f : Finder). f.expr.now) (take l.finder-index l.finders);
-  finders : (g : Plain) (ss : List Source) → All (IsFinder g ss) l.finders → All (IsFinder g ss) l.held.items;
+  finders : (ss : List Source) (asks : List Asked) → AreFinders ss asks l.finders → AreFinders ss (take l.finder-index asks) l.held.items;
   held : AreHeldIn l.graph l.typed l.chunk l.held.items;
 }

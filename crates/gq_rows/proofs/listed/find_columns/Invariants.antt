@@ -1,12 +1,13 @@
 use Rattle.std.proofs.Common.{◌≡◌, take}
 use Rattle.gq_rows.specs.steps.Finding.{IsNullAt}
 use Rattle.gq_rows.specs.steps.Flat.{AreFree}
-use Rattle.gq_rows.specs.steps.Listed.{AreFinders, column_exprs}
+use Rattle.gq_rows.specs.steps.Listed.{AreFinders}
+use Rattle.gq_rows.specs.steps.Reading.{asked_columns}
 use Rattle.gq_rows.proofs.listed.find_columns.Given as goal
 
 abbrev pub invariant-columns : goal.invariant-columns
 invariant-columns l = record {
-  found : AreFinders l.graph l.cells.sources (column_exprs (take l.column-index l.columns)) l.finders.items;
+  found : AreFinders l.cells.sources (asked_columns l.graph (take l.column-index l.columns)) l.finders.items;
   free : AreFree l.finders.items;
   null : IsNullAt l.cells.sources l.null;
   values : l.cells.values ≡ l.initial.cells.values;

@@ -1,15 +1,15 @@
-use Rattle.std.proofs.Common.{◌≡◌, drop}
-use Rattle.std.specs.List.{All}
-use Rattle.gq_rows.specs.steps.Finding.{Extends, IsFinder}
+use Rattle.std.proofs.Common.{◌≡◌, drop, length}
+use Rattle.gq_eval.specs.Asked.{answers}
+use Rattle.gq_rows.specs.steps.Finding.{Extends}
 use Rattle.gq_rows.specs.steps.Judged.{values_after}
-use Rattle.gq_rows.specs.steps.Listed.{meanings_found}
+use Rattle.gq_rows.specs.steps.Listed.{AreFinders}
 use Rattle.gq_rows.proofs.listed.put_row.Given as goal
 
-abbrev pub invariant-finders : goal.invariant-finders
-invariant-finders g l =
+abbrev pub invariant-values : goal.invariant-values
+invariant-values g l =
     let here = g.R.Assigned.assignment l.row in
     record {
-      after : values_after l.cells.values (meanings_found l.graph here (drop l.finder-index l.finders)) ≡ values_after l.initial.cells.values (meanings_found l.graph here l.finders);
-      finders : All (IsFinder l.graph l.cells.sources) l.finders;
+      after : values_after l.cells.values (answers here (drop (length l.yielded) l.columns)) ≡ values_after l.initial.cells.values (answers here l.columns);
+      finders : AreFinders l.cells.sources l.columns l.finders;
       more : Extends l.initial.cells.sources l.cells.sources;
     }

@@ -1,28 +1,49 @@
-use Rattle.std.proofs.Common.{◌∙◌, ◌+◌, sym, refl, arith}
+use Rattle.std.proofs.Common.{◌∙◌, ◌+◌, ap, arith, refl, subst, sym}
+use Rattle.gq_rows.specs.declared.judging.Checked.TheVariants.{Met}
+use Rattle.gq_rows.specs.steps.Judged.{check_after}
+use Rattle.gq_rows.specs.steps.Listed.{AreFinders}
 use Rattle.gq_rows.proofs.ListedRows.{failed, kept, many}
 use Rattle.gq_rows.proofs.Looking.{when_dropped, when_faulty}
+use Rattle.gq_rows.proofs.Ready.{late_mean}
 use Rattle.gq_rows.proofs.listed.Listed.add.Goals as goal
 
 pub returns-in-Dropped-clause-adds : goal.returns-in-Dropped-clause-adds
-returns-in-Dropped-clause-adds g c = (when_dropped _ _ _ _ (sym c.in-Dropped.is ∙ c.check_late.ensures), refl)
+returns-in-Dropped-clause-adds g c =
+    let q = c.args.asked.now in
+    let late = late_mean q.graph.now (g.R.Assigned.assignment c.args.row.now) q.bound.now.conjuncts q.reading.now.conjuncts q.late.now c.requires.reading.conjuncts in
+    (when_dropped _ _ _ _ (sym c.in-Dropped.is ∙ c.check_late.ensures ∙ ap (check_after Met) late), refl)
 
 pub returns-in-Faulty-clause-adds : goal.returns-in-Faulty-clause-adds
-returns-in-Faulty-clause-adds g c = when_faulty _ _ _ _ _ (sym c.in-Faulty.is ∙ c.check_late.ensures)
+returns-in-Faulty-clause-adds g c =
+    let q = c.args.asked.now in
+    let late = late_mean q.graph.now (g.R.Assigned.assignment c.args.row.now) q.bound.now.conjuncts q.reading.now.conjuncts q.late.now c.requires.reading.conjuncts in
+    when_faulty _ _ _ _ _ (sym c.in-Faulty.is ∙ c.check_late.ensures ∙ ap (check_after Met) late)
 
 pub put_row-requires-clause-finders : goal.put_row-requires-clause-finders
-put_row-requires-clause-finders g c = c.requires.finders.finders
+put_row-requires-clause-finders g c = subst (λ asks. AreFinders c.args.self.now.cells.sources asks c.args.finders.now) (sym (c.as_slice-columns.ensures ∙ c.requires.reading.columns)) c.requires.finders
 
 pub returns-in-Err-clause-adds : goal.returns-in-Err-clause-adds
 returns-in-Err-clause-adds g c =
-    failed c.args.asked.now (g.R.Assigned.assignment c.args.row.now) c.args.finders.now c.args.self.now.cells.sources c.requires.finders c.requires.keyless (sym c.in-Met.is ∙ c.check_late.ensures) c.args.self.now (record c.args.self.now { cells = c.put_row.new.cells }) c.put_row.new.cells.values c.in-Err.refusal c.in-Err.ensures.puts
+    let q = c.args.asked.now in
+    let here = g.R.Assigned.assignment c.args.row.now in
+    let late = late_mean q.graph.now here q.bound.now.conjuncts q.reading.now.conjuncts q.late.now c.requires.reading.conjuncts in
+    failed q here c.as_slice-columns.result.now (c.as_slice-columns.ensures ∙ c.requires.reading.columns) c.requires.keyless (sym c.in-Met.is ∙ c.check_late.ensures ∙ ap (check_after Met) late)
+    c.args.self.now (record c.args.self.now { cells = c.put_row.new.cells; made = c.put_row.new.made }) c.put_row.new.cells.values c.in-Err.refusal c.in-Err.ensures.puts
 
 pub returns-clause-adds : goal.returns-clause-adds
 returns-clause-adds g c =
-    kept c.args.asked.now (g.R.Assigned.assignment c.args.row.now) c.args.finders.now c.args.self.now.cells.sources c.requires.finders c.requires.keyless (sym c.in-Met.is ∙ c.check_late.ensures) c.args.self.now (record { cells = c.put_row.new.cells; count = c.args.self.now.count + 1 }) c.in-Ok.ensures.puts refl (omega arith)
+    let q = c.args.asked.now in
+    let here = g.R.Assigned.assignment c.args.row.now in
+    let late = late_mean q.graph.now here q.bound.now.conjuncts q.reading.now.conjuncts q.late.now c.requires.reading.conjuncts in
+    kept q here c.as_slice-columns.result.now (c.as_slice-columns.ensures ∙ c.requires.reading.columns) c.requires.keyless (sym c.in-Met.is ∙ c.check_late.ensures ∙ ap (check_after Met) late)
+    c.args.self.now (record { cells = c.put_row.new.cells; count = c.args.self.now.count + 1; made = c.put_row.new.made }) c.in-Ok.ensures.puts refl (omega arith)
 
 pub returns-then-self-asked-clause-adds : goal.returns-then-self-asked-clause-adds
-returns-then-self-asked-clause-adds g c = (
-  refl,
-  omega arith,
-  many c.args.asked.now (g.R.Assigned.assignment c.args.row.now) c.args.finders.now c.args.self.now.cells.sources c.requires.finders c.requires.keyless (sym c.in-Met.is ∙ c.check_late.ensures) c.args.self.now c.put_row.new.cells.values c.in-Ok.ensures.puts,
-)
+returns-then-self-asked-clause-adds g c =
+    let q = c.args.asked.now in
+    let here = g.R.Assigned.assignment c.args.row.now in
+    let late = late_mean q.graph.now here q.bound.now.conjuncts q.reading.now.conjuncts q.late.now c.requires.reading.conjuncts in (
+      refl,
+      omega arith,
+      many q here c.as_slice-columns.result.now (c.as_slice-columns.ensures ∙ c.requires.reading.columns) c.requires.keyless (sym c.in-Met.is ∙ c.check_late.ensures ∙ ap (check_after Met) late) c.args.self.now c.put_row.new.cells.values c.in-Ok.ensures.puts,
+    )

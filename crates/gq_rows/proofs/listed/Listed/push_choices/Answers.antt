@@ -34,7 +34,7 @@ choices-preserved t c =
     record {
       room = pushes.1;
       some = came_some admitted g y chunk old mid c.choices.choice came (record { bound = refl; most = refl; alternative = refl; graph = refl }) _ is new (record { bound = refl; most = refl; alternative = refl; graph = refl }) pushes.0 i.some;
-      finders = record { exprs = i.finders.exprs; finders = stay g _ _ c.in-Ok-Go.ensures.more c.args.finders.now i.finders.finders };
+      finders = stay _ _ c.in-Ok-Go.ensures.more _ c.args.finders.now i.finders;
       more = extends_again _ _ _ i.more c.in-Ok-Go.ensures.more;
       came = came_next admitted g y chunk old mid c.choices.choice came (record { bound = refl; most = refl; alternative = refl; graph = refl }) _ is new (record { bound = refl; most = refl; alternative = refl; graph = refl }) pushes.0 c.next-found.result c.next-found.new.self c.next-found.ensures;
     }

@@ -2,8 +2,8 @@ use Rattle.std.proofs.Common.{◌≡◌, ◌<◌, ◌∙◌, Some, ap, arith, le
 use Rattle.std.specs.Prelude.{slice_get}
 use Rattle.gq_base.specs.Catalogs.{Tables, find_field}
 use Rattle.gq_store.proofs.Validity.{rel_fields_few}
-use Rattle.gq_rows.proofs.Resolving.{reads_rel}
-use Rattle.gq_rows.proofs.resolved.rel_reader.Goals as goal
+use Rattle.gq_rows.proofs.ByPlace.{reads_rel}
+use Rattle.gq_rows.proofs.places.rel_reader.Goals as goal
 
 pub overflow_cast-result : goal.overflow_cast-result
 overflow_cast-result c =
