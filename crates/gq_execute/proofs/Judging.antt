@@ -1,20 +1,51 @@
 -- The conjuncts that an alternative leaves, looked at one after another.
 use Rattle.std.proofs.Common.{◌≡◌, ◌∙◌, ℕ, ◌+◌, ◌<◌, ◌≤◌, true, false, Option, Some, None, Ok, Err, List, [], ◌∷◌, ◌++◌, map, flat_map, drop, get_or, length, slice_get, refl, sym, ap}
+use Rattle.std.specs.Option.{option_map}
 use Rattle.std.proofs.lemmas.List.{drop_more, drop_all}
+use Rattle.std.proofs.lemmas.Option.{slice_get-map}
+use Rattle.gq_base.specs.Plain.{Graph}
 use Rattle.gq_base.specs.Values.{null, flag, int, str, node, rel}
+use Rattle.gq_eval.proofs.Verdicts.{stays_dropped}
+use Rattle.gq_eval.specs.Asked.{Asked, answers, asked}
+use Rattle.gq_eval.specs.Judged.{judged_after, marks_of, one_more}
+use Rattle.gq_eval.specs.declared.judging.Verdict.{Verdict}
+use Rattle.gq_eval.specs.declared.judging.Verdict.TheVariants as verdict
+use Rattle.gq_expr.specs.Meaning.{meaning}
 use Rattle.gq_expr.specs.Operators.{Outcome}
+use Rattle.gq_expr.specs.Reading as reading
 use Rattle.gq_expr.specs.declared.Fault.{Fault}
+use Rattle.gq_optional.specs.Asking.{asked_of}
 use Rattle.gq_plan.specs.Marked.{marks}
 use Rattle.gq_plan.specs.Meaning.{found}
+use Rattle.gq_plan.specs.Outcomes.{late_conjuncts, meanings_of}
+use Rattle.gq_plan.specs.declared.Bound.{Bound}
 use Rattle.gq_plan.specs.declared.NamedExpr.{NamedExpr}
-use Rattle.gq_wide.proofs.Verdicts.{stays_dropped}
-use Rattle.gq_wide.specs.Judged.{judged_after, marks_of, one_more}
-use Rattle.gq_wide.specs.declared.judging.Verdict.{Verdict}
-use Rattle.gq_wide.specs.declared.judging.Verdict.TheVariants as verdict
-use Rattle.gq_execute.specs.steps.Late.{both}
+use Rattle.gq_plan.specs.declared.Typed.{Typed}
+use Rattle.gq_execute.specs.steps.Late.{both, late_of}
+
+-- ---- the conjuncts of a query
+
+module _ (g : Graph) (b : Bound) (row : reading.Assignment) where
+  -- one more of them
+  one_says : (o : Option NamedExpr) (all : List Asked) (es : List NamedExpr) → answers row all ≡ meanings_of g row es
+      → answers row (found (option_map (λ (c : NamedExpr). asked c.expr g) o) ++ all) ≡ meanings_of g row (found o ++ es)
+  one_says None all es says = says
+  one_says (Some c) all es says = ap (λ os. meaning g row c.expr ∷ os) says
+
+  numbers_say : (is : List ℕ) → answers row (flat_map (λ i. found (slice_get (asked_of g b.conjuncts) i)) is) ≡ meanings_of g row (flat_map (λ i. found (slice_get b.conjuncts i)) is)
+  numbers_say [] = refl
+  numbers_say (i ∷ is) =
+      ap (λ o. answers row (found o ++ flat_map (λ k. found (slice_get (asked_of g b.conjuncts) k)) is)) (slice_get-map (λ (c : NamedExpr). asked c.expr g) b.conjuncts i)
+      ∙ one_says (slice_get b.conjuncts i) (flat_map (λ k. found (slice_get (asked_of g b.conjuncts) k)) is) (flat_map (λ k. found (slice_get b.conjuncts k)) is) (numbers_say is)
+
+  -- those that an alternative leaves say of a row what they mean
+  pub late_says : (y : Typed) (all : List Asked) → all ≡ asked_of g b.conjuncts → marks (answers row (late_of all y)) ≡ marks (meanings_of g row (late_conjuncts b y))
+  late_says y all are = ap (λ l. marks (answers row (late_of l y))) are ∙ ap marks (numbers_say y.late)
+
+-- ---- one after another
 
 -- the conjuncts with these numbers
-abbrev pub numbered : List NamedExpr → List ℕ → List NamedExpr
+abbrev pub numbered : List Asked → List ℕ → List Asked
 numbered conjuncts is = flat_map (λ i. found (slice_get conjuncts i)) is
 
 -- a verdict that leaves no mark drops; one that leaves a mark is it
@@ -49,12 +80,12 @@ next_is v r (Ok (node n)) e = fault_of v r _ e ∙ faulty v _
 next_is v r (Ok (rel x)) e = fault_of v r _ e ∙ faulty v _
 next_is v r (Err f) e = fault_of v r f e ∙ faulty v f
 
-module _ (m : NamedExpr → Outcome) (conjuncts : List NamedExpr) (late : List ℕ) where
+module _ (m : Asked → Outcome) (conjuncts : List Asked) (late : List ℕ) where
   -- what the conjuncts of the numbers from a place on say, behind what was found
   abbrev pub from : Verdict → ℕ → Verdict
   from v n = judged_after v (map m (numbered conjuncts (drop n late)))
 
-  here : (v : Verdict) (n : ℕ) (o : Option NamedExpr) → n < length late → o ≡ slice_get conjuncts (get_or late n 0) → from v n ≡ judged_after v (map m (found o ++ numbered conjuncts (drop (n + 1) late)))
+  here : (v : Verdict) (n : ℕ) (o : Option Asked) → n < length late → o ≡ slice_get conjuncts (get_or late n 0) → from v n ≡ judged_after v (map m (found o ++ numbered conjuncts (drop (n + 1) late)))
   here v n o low at =
       ap (λ l. judged_after v (map m (numbered conjuncts l))) (drop_more late n 0 low)
       ∙ ap (λ x. judged_after v (map m (found x ++ numbered conjuncts (drop (n + 1) late)))) (sym at)
@@ -64,12 +95,12 @@ module _ (m : NamedExpr → Outcome) (conjuncts : List NamedExpr) (late : List �
   skips v n low at = here v n None low at
 
   -- the next one
-  pub goes : (v r : Verdict) (n : ℕ) (e : NamedExpr) → n < length late → Some e ≡ slice_get conjuncts (get_or late n 0) → marks_of r ≡ marks (m e ∷ []) → from v n ≡ from (both v r) (n + 1)
+  pub goes : (v r : Verdict) (n : ℕ) (e : Asked) → n < length late → Some e ≡ slice_get conjuncts (get_or late n 0) → marks_of r ≡ marks (m e ∷ []) → from v n ≡ from (both v r) (n + 1)
   goes v r n e low at says =
       here v n (Some e) low at ∙ ap (λ w. judged_after w (map m (numbered conjuncts (drop (n + 1) late)))) (sym (next_is v r (m e) says))
 
   -- a drop ends the look
-  pub drops : (v r : Verdict) (n : ℕ) (e : NamedExpr) → n < length late → Some e ≡ slice_get conjuncts (get_or late n 0) → marks_of r ≡ marks (m e ∷ []) → verdict.Dropped ≡ both v r → from v n ≡ verdict.Dropped
+  pub drops : (v r : Verdict) (n : ℕ) (e : Asked) → n < length late → Some e ≡ slice_get conjuncts (get_or late n 0) → marks_of r ≡ marks (m e ∷ []) → verdict.Dropped ≡ both v r → from v n ≡ verdict.Dropped
   drops v r n e low at says is =
       goes v r n e low at says ∙ ap (λ w. from w (n + 1)) (sym is) ∙ stays_dropped (map m (numbered conjuncts (drop (n + 1) late)))
 

@@ -25,6 +25,7 @@ ghost use Rattle.gq_trails.specs.Trekking.{AreInTurn, HasLength};
 ghost use Rattle.gq_wide.specs.Placed.{IsPlaced};
 
 use crate::behind::drain_behind;
+use crate::budget::{joined_room, row_bytes};
 use crate::found::Answer;
 use crate::planning::{plan_for, stats_of};
 use crate::prepared::{Prepared, prepare};
@@ -34,6 +35,7 @@ use crate::testing::{Tests, append};
 use crate::trailing::drain_trails;
 use gq_base::{List, Memory};
 use gq_group::Chunk;
+use gq_join::Room;
 use gq_order::Stats;
 use gq_pipe::{Pipeline, Spent, make_builds};
 use gq_plan::{Bound, Typed};
@@ -140,7 +142,7 @@ fn drain_all<'g>(
 }
 
 // Takes the turn of an alternative: runs its plan, and pushes what the plan makes. Answers what its
-// pipelines spent.
+// pipelines spent. The builds of its joins have this room, and are dropped here.
 fn take_turn<'g>(
     alloc: Global,
     graph: &'g Graph,
@@ -150,6 +152,7 @@ fn take_turn<'g>(
     table: &mut RowTable<'g>,
     pool: &mut VectorPool,
     settings: &Settings,
+    room: Room,
 ) -> Result<List<Spent>, AnswerRefusal>
     requires sound { IsSound graph.now.catalog typed.now }
     requires begins { 0 < length typed.now.nodes }
@@ -173,7 +176,8 @@ fn take_turn<'g>(
     graph.stands_valid();
     let planned = plan_for(alloc, settings.order, graph, stats, typed)?;
     let plan = &planned.plan;
-    let builds = match make_builds(alloc, graph, plan, typed, pool, settings.rows) {
+    let mut left = room;
+    let builds = match make_builds(alloc, graph, plan, typed, pool, settings.rows, &mut left) {
         Ok(builds) => builds,
         Err(refusal) => return Err(AnswerRefusal::from(refusal)),
     };
@@ -201,6 +205,7 @@ fn take_turns<'g>(
     table: &mut RowTable<'g>,
     pool: &mut VectorPool,
     settings: &Settings,
+    room: Room,
 ) -> Result<List<Spent>, AnswerRefusal>
     requires sound { All (IsSound graph.now.catalog) bound.now.alternatives }
     requires begins { All (λ y. 0 < length y.nodes) bound.now.alternatives }
@@ -225,7 +230,9 @@ fn take_turns<'g>(
         if table.enough() {
             return Ok(spent);
         }
-        match take_turn(alloc, graph, stats, typed, prepared, table, pool, settings) {
+        match take_turn(
+            alloc, graph, stats, typed, prepared, table, pool, settings, room,
+        ) {
             Ok(turn) => append(&mut spent, turn)?,
             Err(refusal) => return Err(refusal),
         }
@@ -234,7 +241,8 @@ fn take_turns<'g>(
 }
 
 // Makes the tests, lists the matches of the optional clauses, and takes the turns of the
-// alternatives; where no turn comes, it does nothing of this. Answers what the pipelines spent.
+// alternatives; where no turn comes, it does nothing of this. Answers what the pipelines spent. The
+// tests, the optional clauses and the joins of one turn have one room.
 fn fill<'g>(
     alloc: Global,
     graph: &'g Graph,
@@ -269,12 +277,13 @@ fn fill<'g>(
         return Ok(List::new(alloc));
     }
     let stats = stats_of(alloc, graph)?;
-    let prepared = match prepare(alloc, graph, &stats, bound, pool, settings) {
+    let mut room = joined_room(settings.rows);
+    let prepared = match prepare(alloc, graph, &stats, bound, pool, settings, &mut room) {
         Ok(prepared) => prepared,
         Err(refusal) => return Err(refusal),
     };
     let turns = match take_turns(
-        alloc, graph, &stats, bound, &prepared, table, pool, settings,
+        alloc, graph, &stats, bound, &prepared, table, pool, settings, room,
     ) {
         Ok(turns) => turns,
         Err(refusal) => return Err(refusal),
@@ -332,7 +341,7 @@ pub fn answer<'g>(
     ensures slots { spare_of pool.new ≡ spare_of pool.old }
 {
     graph.stands_valid();
-    let mut table = RowTable::new(alloc, bound, settings.rows);
+    let mut table = RowTable::new(alloc, bound, settings.rows, row_bytes(settings.rows));
     let spent = match fill(alloc, graph, bound, &mut table, pool, settings) {
         Ok(spent) => spent,
         Err(refusal) => return Err(refusal),

@@ -8,6 +8,7 @@ ghost use Rattle.gq_execute.specs.steps.Prepared.{IsPrepared, known_by, later_by
 ghost use Rattle.gq_execute.specs.steps.Taking.{HasRun, IsRunOf, TakesAll, given_by};
 ghost use Rattle.gq_execute.specs.steps.Taking.{outcomes_by, owed_outcomes};
 ghost use Rattle.gq_group.specs.Chunks.{IsChunkOf};
+ghost use Rattle.gq_optional.specs.Asking.{asked_of};
 ghost use Rattle.gq_optional.specs.Walks.{IsOptionals, lists_in};
 ghost use Rattle.gq_optional.specs.Walks.{IsSameWalk, IsWalk, owed_by};
 ghost use Rattle.gq_pipe.specs.Serving.{Serves};
@@ -21,6 +22,7 @@ use crate::late::judge_late;
 use crate::prepared::Prepared;
 use crate::refusal::AnswerRefusal;
 use gq_base::Memory;
+use gq_eval::Verdict;
 use gq_expr::Fault;
 use gq_group::{Choice, Chunk, ChunkRow};
 use gq_optional::OptionalWalk;
@@ -29,7 +31,7 @@ use gq_plan::Typed;
 use gq_pool::VectorPool;
 use gq_rows::{More, RowRefusal, RowTable};
 use gq_store::Graph;
-use gq_wide::{Verdict, WideRow};
+use gq_wide::WideRow;
 use std::alloc::Global;
 
 /// A row of all variables of a query, and a walk over what the optional clauses make of it.
@@ -112,7 +114,7 @@ fn push_row<'g>(
 ) -> Result<More, RowRefusal>
     requires nodes { length row.now.nodes ≡ length typed.now.nodes }
     requires rels { length row.now.rels ≡ length typed.now.rels }
-    requires bound { prepared.now.bound.now ≡ table.old.bound }
+    requires asked { prepared.now.conjuncts ≡ asked_of graph.now table.old.bound.conjuncts }
     requires behind { IsBehind graph.now table.old.bound typed.now prepared.now behind.old }
     requires started { IsSome table.old.alternative }
     requires graph { table.old.graph ≡ Some graph.now }
@@ -124,7 +126,7 @@ fn push_row<'g>(
     ensures query { OnOk result (IsSameQuery table.old table.new) }
     ensures behind { IsBehind graph.now table.old.bound typed.now prepared.now behind.new }
 {
-    let fault = match judge_late(prepared.bound, typed, graph, row) {
+    let fault = match judge_late(&prepared.conjuncts, typed, row) {
         Verdict::Dropped => return Ok(More::Go),
         Verdict::Pass => None,
         Verdict::Fault(fault) => Some(fault),
@@ -146,7 +148,7 @@ fn push_rows<'g>(
     graph: &'g Graph,
 ) -> Result<More, RowRefusal>
     requires chunk { IsChunkOf graph.now typed.now chunk.now }
-    requires bound { prepared.now.bound.now ≡ table.old.bound }
+    requires asked { prepared.now.conjuncts ≡ asked_of graph.now table.old.bound.conjuncts }
     requires behind { IsBehind graph.now table.old.bound typed.now prepared.now behind.old }
     requires started { IsSome table.old.alternative }
     requires graph { table.old.graph ≡ Some graph.now }
@@ -176,20 +178,17 @@ fn push_rows<'g>(
 
 // A row of the variables of a query, of which nothing has one yet, and a walk over the matches of
 // its optional clauses.
-fn behind_of<'w>(
-    alloc: Global,
-    graph: &'w Graph,
-    prepared: &'w Prepared<'_>,
-) -> Result<Behind<'w>, Memory>
+fn behind_of<'w>(alloc: Global, prepared: &'w Prepared<'_>) -> Result<Behind<'w>, Memory>
     requires is { IsOptionals prepared.now.optionals }
     requires shape { prepared.now.optionals.shape ≡ prepared.now.shape }
     ensures row { let shape = prepared.now.optionals.shape in
         IfOk result (λ h. IsBlank shape.nodes shape.rels h.row) }
-    ensures walk { IfOk result (λ h. IsWalkOf graph.now prepared.now h.walk) }
+    ensures walk { let graph = prepared.now.optionals.graph in
+        IfOk result (λ h. IsWalkOf graph.now prepared.now h.walk) }
 {
     let shape = prepared.shape;
     let row = WideRow::new(alloc, shape.nodes, shape.rels)?;
-    let walk = prepared.optionals.walk(alloc, graph)?;
+    let walk = prepared.optionals.walk(alloc)?;
     Ok(Behind { row, walk })
 }
 
@@ -222,7 +221,7 @@ pub(crate) fn drain_behind<'g>(
     ensures serves { Serves pipeline.new pool.new }
     ensures slots { pool.new.out ≡ pool.old.out }
 {
-    let mut behind = behind_of(alloc, graph, prepared)?;
+    let mut behind = behind_of(alloc, prepared)?;
     let mut choice = Choice::new(alloc);
     'chunks: while pipeline.advance(pool) {
         let chunk = pipeline.chunk(pool);

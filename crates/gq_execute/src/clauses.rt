@@ -12,6 +12,7 @@ use crate::planning::plans_in;
 use crate::refusal::AnswerRefusal;
 use crate::settings::{Order, Settings};
 use gq_base::{List, Memory};
+use gq_join::Room;
 use gq_optional::{Optionals, RowShape};
 use gq_order::Stats;
 use gq_plan::{OptionalPart, Plan};
@@ -42,21 +43,23 @@ fn clause_plans(
 }
 
 /// Lists the matches of optional clauses of a query whose rows have this shape, by plans of their
-/// alternatives. `TooManyRows` comes where a clause is heavy. All pipelines take
-/// their slots from the pool, which has as many free afterwards, at a refusal too.
+/// alternatives; what is listed takes of the room. `TooManyRows` comes where a clause is heavy. All
+/// pipelines take their slots from the pool, which has as many free afterwards, at a refusal too.
 pub(crate) fn list_clauses<'q>(
     alloc: Global,
-    graph: &Graph,
+    graph: &'q Graph,
     stats: &Stats,
     parts: &'q [OptionalPart],
     shape: RowShape,
     pool: &mut VectorPool,
     settings: &Settings,
+    room: &mut Room,
 ) -> Result<Optionals<'q>, AnswerRefusal>
     requires placed { All (IsPlaced shape.nodes shape.rels graph.now.catalog) parts.now }
     requires stats { stats.now ≡ sizes graph.now }
     requires slots { 112 ≤ spare_of pool.old }
     ensures is { IfOk result IsOptionals }
+    ensures graph { IfOk result (λ o. o.graph.now ≡ graph.now) }
     ensures shape { IfOk result (λ o. o.shape ≡ shape) }
     ensures parts { IfOk result (λ o. parts_in o ≡ parts.now) }
     ensures listed { IfOk result (λ o. AreOfPlans graph.now parts.now (lists_in o)) }
@@ -71,7 +74,7 @@ pub(crate) fn list_clauses<'q>(
     graph.stands_valid();
     let plans = clause_plans(alloc, graph, stats, parts, settings.order, shape)?;
     let plans = plans.as_slice();
-    match Optionals::make(alloc, graph, parts, plans, shape, pool, settings.rows) {
+    match Optionals::make(alloc, graph, parts, plans, shape, pool, settings.rows, room) {
         Ok(optionals) => Ok(optionals),
         Err(refusal) => Err(AnswerRefusal::from(refusal)),
     }

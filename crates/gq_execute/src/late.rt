@@ -1,14 +1,14 @@
 //! What the conjuncts that an alternative leaves say of a row.
 ghost use Rattle.std.specs.Prelude.{◌≡◌};
-ghost use Rattle.gq_execute.specs.steps.Late.{both};
+ghost use Rattle.gq_eval.specs.Asked.{answers};
+ghost use Rattle.gq_eval.specs.Judged.{marks_of};
+ghost use Rattle.gq_execute.specs.steps.Late.{both, late_of};
 ghost use Rattle.gq_plan.specs.Marked.{marks};
-ghost use Rattle.gq_plan.specs.Outcomes.{late_conjuncts, meanings_of};
-ghost use Rattle.gq_wide.specs.Judged.{marks_of};
 
+use gq_base::List;
+use gq_eval::{Evaluator, Verdict, judge};
 use gq_expr::Assigned;
-use gq_plan::{Bound, Typed};
-use gq_store::Graph;
-use gq_wide::{Verdict, judge};
+use gq_plan::Typed;
 use std::slice::from_ref;
 
 // What was found so far, and what one more conjunct says: the first fault counts, and what drops a
@@ -26,21 +26,20 @@ fn both(first: Verdict, next: Verdict) -> Verdict
     }
 }
 
-/// What the conjuncts that an alternative leaves say of a row. It takes no memory.
+/// What those of a query's conjuncts say of a row that an alternative leaves. It takes no memory.
 pub(crate) fn judge_late<R: Assigned>(
-    bound: &Bound,
+    conjuncts: &List<Evaluator<'_>>,
     typed: &Typed,
-    graph: &Graph,
     row: &R,
 ) -> Verdict
     ensures { marks_of result ≡ marks
-        (meanings_of graph.now (R.assignment row.now) (late_conjuncts bound.now typed.now)) }
+        (answers (R.assignment row.now) (late_of conjuncts.now typed.now)) }
 {
     let late = typed.late.as_slice();
     let mut verdict = Verdict::Pass;
     'late: for number in late {
-        if let Some(conjunct) = bound.conjuncts.get(*number as usize) {
-            verdict = both(verdict, judge(from_ref(conjunct), graph, row));
+        if let Some(conjunct) = conjuncts.get(*number as usize) {
+            verdict = both(verdict, judge(from_ref(conjunct), row));
             if let Verdict::Dropped = verdict {
                 return Verdict::Dropped;
             }

@@ -7,6 +7,7 @@
 
 mod answering;
 mod behind;
+mod budget;
 mod clauses;
 mod copied;
 mod found;

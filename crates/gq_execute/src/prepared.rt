@@ -1,5 +1,5 @@
-//! What is made before the first alternative whose turn comes: the tests of paths by their keys,
-//! and the matches of the optional clauses.
+//! What is made before the first alternative whose turn comes: the conjuncts over the graph, the tests
+//! of paths by their keys, and the matches of the optional clauses.
 ghost use Rattle.std.specs.Prelude.{◌≡◌, ◌≤◌, ◌<◌, ◌++◌, false, flat_map, length, All, IfOk, IfErr};
 ghost use Rattle.std.specs.Prelude.{OnOk};
 ghost use Rattle.gq_execute.specs.Planned.{sizes};
@@ -7,6 +7,7 @@ ghost use Rattle.gq_execute.specs.steps.Clauses.{AreSpentOn, some_heavy_clause};
 ghost use Rattle.gq_execute.specs.steps.Prepared.{AreSpentOnTests, IsPrepared, RefusesBefore};
 ghost use Rattle.gq_execute.specs.steps.Prepared.{first_nodes};
 ghost use Rattle.gq_execute.specs.steps.Testing.{spent_on};
+ghost use Rattle.gq_optional.specs.Asking.{asked_of};
 ghost use Rattle.gq_plan.specs.Soundness.{IsSound};
 ghost use Rattle.gq_pool.specs.Pool.{spare_of};
 ghost use Rattle.gq_wide.specs.Placed.{IsPlaced};
@@ -16,6 +17,8 @@ use crate::refusal::AnswerRefusal;
 use crate::settings::Settings;
 use crate::testing::{Tests, append, tests_of};
 use gq_base::{List, Memory};
+use gq_eval::Evaluator;
+use gq_join::Room;
 use gq_optional::{Optionals, RowShape};
 use gq_order::Stats;
 use gq_pipe::Spent;
@@ -24,10 +27,11 @@ use gq_pool::VectorPool;
 use gq_store::Graph;
 use std::alloc::Global;
 
-/// A query, its tests of paths, and the matches of its optional clauses.
+/// A query, its conjuncts over a graph, its tests of paths, and the matches of its optional clauses.
 #[derive(Drop)]
 pub struct Prepared<'q> {
     pub(crate) bound: &'q Bound,
+    pub(crate) conjuncts: List<Evaluator<'q>>,
     // The variables of its rows.
     pub(crate) shape: RowShape,
     pub(crate) tests: Tests<'q>,
@@ -42,6 +46,7 @@ impl<'q> Prepared<'q> {
     {
         let Prepared {
             bound: _,
+            conjuncts: _,
             shape: _,
             tests,
             optionals,
@@ -62,14 +67,31 @@ fn first_nodes(bound: &Bound) -> usize
     }
 }
 
-/// Makes the tests of a query, and lists the matches of its optional clauses.
+// The conjuncts of a query, over a graph.
+fn conjuncts_of<'q>(
+    alloc: Global,
+    graph: &'q Graph,
+    bound: &'q Bound,
+) -> Result<List<Evaluator<'q>>, Memory>
+    ensures { IfOk result (λ all. all ≡ asked_of graph.now bound.now.conjuncts) }
+{
+    let mut all = List::new(alloc);
+    'conjuncts: for conjunct in bound.conjuncts.as_slice() {
+        all.push(Evaluator::new(alloc, &conjunct.expr, graph)?)?;
+    }
+    Ok(all)
+}
+
+/// Makes the tests of a query, and lists the matches of its optional clauses. What both keep takes
+/// of the room.
 pub(crate) fn prepare<'q>(
     alloc: Global,
-    graph: &Graph,
+    graph: &'q Graph,
     stats: &Stats,
     bound: &'q Bound,
     pool: &mut VectorPool,
     settings: &Settings,
+    room: &mut Room,
 ) -> Result<Prepared<'q>, AnswerRefusal>
     requires tests_sound { let sound = All (IsSound graph.now.catalog) in
         All (λ p. sound p.alternatives) bound.now.patterns }
@@ -96,8 +118,9 @@ pub(crate) fn prepare<'q>(
     if nodes > most || rels > most || first > most {
         return Err(AnswerRefusal::Memory);
     }
+    let conjuncts = conjuncts_of(alloc, graph, bound)?;
     let patterns = bound.patterns.as_slice();
-    let tests = match tests_of(alloc, graph, stats, patterns, pool, settings) {
+    let tests = match tests_of(alloc, graph, stats, patterns, pool, settings, room) {
         Ok(tests) => tests,
         Err(refusal) => return Err(refusal),
     };
@@ -107,9 +130,10 @@ pub(crate) fn prepare<'q>(
         rels: rels as u32,
         first: first as u32,
     };
-    match list_clauses(alloc, graph, stats, parts, shape, pool, settings) {
+    match list_clauses(alloc, graph, stats, parts, shape, pool, settings, room) {
         Ok(optionals) => Ok(Prepared {
             bound,
+            conjuncts,
             shape,
             tests,
             optionals,

@@ -16,6 +16,7 @@ use gq_base::{List, Memory};
 use gq_exists::KeySet;
 use gq_expr::Assigned;
 use gq_group::ChunkRow;
+use gq_join::Room;
 use gq_order::Stats;
 use gq_pipe::Spent;
 use gq_plan::ExistsPart;
@@ -104,7 +105,8 @@ pub(crate) fn append(spent: &mut List<Spent>, more: List<Spent>) -> Result<(), M
     Ok(())
 }
 
-// Makes a test of a part: plans of the path's alternatives, and the keys of what they make.
+// Makes a test of a part: plans of the path's alternatives, and the keys of what they make, which
+// take of the room.
 fn test_of<'q>(
     alloc: Global,
     graph: &Graph,
@@ -112,6 +114,7 @@ fn test_of<'q>(
     part: &'q ExistsPart,
     pool: &mut VectorPool,
     settings: &Settings,
+    room: &mut Room,
 ) -> Result<Test<'q>, AnswerRefusal>
     requires sound { All (IsSound graph.now.catalog) part.now.alternatives }
     requires begins { All (λ y. 0 < length y.nodes) part.now.alternatives }
@@ -126,13 +129,13 @@ fn test_of<'q>(
     let alternatives = part.alternatives.as_slice();
     let planned = plans_in(alloc, settings.order, graph, stats, alternatives)?;
     let plans = planned.plans.as_slice();
-    match KeySet::make(alloc, graph, part, plans, pool, settings.rows) {
+    match KeySet::make(alloc, graph, part, plans, pool, settings.rows, room) {
         Ok(keys) => Ok(Test { part, keys }),
         Err(refusal) => Err(AnswerRefusal::from(refusal)),
     }
 }
 
-/// Makes the tests of parts, one after another.
+/// Makes the tests of parts, one after another. Their keys take of the room.
 pub(crate) fn tests_of<'q>(
     alloc: Global,
     graph: &Graph,
@@ -140,6 +143,7 @@ pub(crate) fn tests_of<'q>(
     parts: &'q [ExistsPart],
     pool: &mut VectorPool,
     settings: &Settings,
+    room: &mut Room,
 ) -> Result<Tests<'q>, AnswerRefusal>
     requires sound { All (λ p. All (IsSound graph.now.catalog) p.alternatives) parts.now }
     requires begins { All (λ p. All (λ y. 0 < length y.nodes) p.alternatives) parts.now }
@@ -154,7 +158,7 @@ pub(crate) fn tests_of<'q>(
 {
     let mut all = List::new(alloc);
     'parts: for part in parts {
-        match test_of(alloc, graph, stats, part, pool, settings) {
+        match test_of(alloc, graph, stats, part, pool, settings, room) {
             Ok(test) => all.push(test)?,
             Err(refusal) => return Err(refusal),
         }

@@ -12,6 +12,7 @@ ghost use Rattle.gq_execute.specs.steps.Testing.{admitted_by};
 ghost use Rattle.gq_execute.specs.steps.Walking.{AreTrailsOf, CanWalk, IsWalking};
 ghost use Rattle.gq_group.specs.Chunks.{IsChunkOf};
 ghost use Rattle.gq_law_plans.specs.Safe.{IsMade};
+ghost use Rattle.gq_optional.specs.Asking.{asked_of};
 ghost use Rattle.gq_pipe.specs.Serving.{Serves};
 ghost use Rattle.gq_rows.specs.Chunks.{PushesAll, assignments_of};
 ghost use Rattle.gq_rows.specs.Tables.{IsSameQuery, StandsForSome, is_full_table};
@@ -23,6 +24,7 @@ use crate::late::judge_late;
 use crate::prepared::Prepared;
 use crate::refusal::AnswerRefusal;
 use gq_base::Memory;
+use gq_eval::Verdict;
 use gq_group::{Choice, Chunk, ChunkRow};
 use gq_pipe::Pipeline;
 use gq_plan::Typed;
@@ -30,7 +32,7 @@ use gq_pool::VectorPool;
 use gq_rows::{More, RowRefusal, RowTable};
 use gq_store::Graph;
 use gq_trails::Trails;
-use gq_wide::{Verdict, WideRow};
+use gq_wide::WideRow;
 use std::alloc::Global;
 
 /// A row of all variables of a query, and the trails that are walked from it.
@@ -49,7 +51,7 @@ fn push_judged<'g>(
     typed: &Typed,
     graph: &'g Graph,
 ) -> Result<More, RowRefusal>
-    requires bound { prepared.now.bound.now ≡ table.old.bound }
+    requires asked { prepared.now.conjuncts ≡ asked_of graph.now table.old.bound.conjuncts }
     requires started { IsSome table.old.alternative }
     requires graph { table.old.graph ≡ Some graph.now }
     requires stands { StandsForSome table.old }
@@ -59,7 +61,7 @@ fn push_judged<'g>(
         table.old table.new result }
     ensures query { OnOk result (IsSameQuery table.old table.new) }
 {
-    let fault = match judge_late(prepared.bound, typed, graph, row) {
+    let fault = match judge_late(&prepared.conjuncts, typed, row) {
         Verdict::Dropped => return Ok(More::Go),
         Verdict::Pass => None,
         Verdict::Fault(fault) => Some(fault),
@@ -80,7 +82,7 @@ fn push_reached<'g>(
     graph: &'g Graph,
 ) -> Result<More, RowRefusal>
     requires trails { AreTrailsOf graph.now table.old.bound trails.old }
-    requires bound { prepared.now.bound.now ≡ table.old.bound }
+    requires asked { prepared.now.conjuncts ≡ asked_of graph.now table.old.bound.conjuncts }
     requires started { IsSome table.old.alternative }
     requires graph { table.old.graph ≡ Some graph.now }
     requires stands { StandsForSome table.old }
@@ -111,7 +113,7 @@ fn push_continued<'g, 'w>(
     graph: &'g Graph,
 ) -> Result<More, RowRefusal>
     requires made { IsMade graph.now typed.now row.now }
-    requires bound { prepared.now.bound.now ≡ table.old.bound }
+    requires asked { prepared.now.conjuncts ≡ asked_of graph.now table.old.bound.conjuncts }
     requires walking { IsWalking graph.now table.old.bound typed.now walking.old }
     requires started { IsSome table.old.alternative }
     requires graph { table.old.graph ≡ Some graph.now }
@@ -142,7 +144,7 @@ fn push_walked<'g, 'w>(
     requires chunk { IsChunkOf graph.now typed.now chunk.now }
     requires made { let ts = assignments_of graph.now typed.now chunk.now in
         AllByRecursion (IsMade graph.now typed.now) ts }
-    requires bound { prepared.now.bound.now ≡ table.old.bound }
+    requires asked { prepared.now.conjuncts ≡ asked_of graph.now table.old.bound.conjuncts }
     requires walking { IsWalking graph.now table.old.bound typed.now walking.old }
     requires started { IsSome table.old.alternative }
     requires graph { table.old.graph ≡ Some graph.now }

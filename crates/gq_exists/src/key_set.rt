@@ -25,7 +25,7 @@ use crate::keys::Keys;
 use gq_base::{List, NodeId};
 use gq_expr::Assigned;
 use gq_group::Choice;
-use gq_join::JoinRefusal;
+use gq_join::{JoinRefusal, Room};
 use gq_pipe::{Pipeline, Spent, make_builds};
 use gq_plan::{ExistsPart, Plan, Typed};
 use gq_pool::VectorPool;
@@ -57,9 +57,10 @@ impl Model for KeySet {
 impl KeySet {
     /// The keys of what these plans make of the alternatives of a path. `TooManyRows` comes exactly
     /// where more keys differ than the limit; want of memory comes also where an alternative has
-    /// fewer variables than the path shares with its query, as none has. Without a shared variable
-    /// it ends at the first chunk. The slots that it takes of the pool it gives back, after a
-    /// refusal too.
+    /// fewer variables than the path shares with its query, as none has, and where the room has
+    /// fewer bytes than the different keys take, which go out of it. Without a shared variable it
+    /// ends at the first chunk. The slots that it takes of the pool it gives back, after a refusal
+    /// too.
     pub fn make(
         alloc: Global,
         graph: &Graph,
@@ -67,6 +68,7 @@ impl KeySet {
         plans: &[Plan],
         pool: &mut VectorPool,
         limit: u32,
+        room: &mut Room,
     ) -> Result<KeySet, JoinRefusal>
         requires sound { All (IsSound graph.now.catalog) part.now.alternatives }
         requires covers { let ps = map plan_of plans.now in
@@ -88,7 +90,7 @@ impl KeySet {
         if part.nodes.len() > u32::MAX as usize {
             return Err(JoinRefusal::Memory);
         }
-        let mut gathering = Gathering::new(alloc, part.nodes.len() as u32, limit)?;
+        let mut gathering = Gathering::new(alloc, part.nodes.len() as u32, limit, *room)?;
         let mut spent = List::new(alloc);
         let alternatives = part.alternatives.as_slice();
         match run_each(
@@ -103,7 +105,12 @@ impl KeySet {
             Ok(()) => {}
             Err(refusal) => return Err(refusal),
         }
-        let Gathering { keys, .. } = gathering;
+        let Gathering {
+            keys,
+            room: left,
+            ..
+        } = gathering;
+        *room = left;
         Ok(KeySet { keys, spent })
     }
 
@@ -175,7 +182,7 @@ fn fill(
 }
 
 // Takes the keys of what a plan makes of an alternative. It has no joins and so no builds: of these
-// nothing but memory can be wanting.
+// nothing but memory can be wanting, and they take none of the room.
 fn run(
     gathering: &mut Gathering,
     spent: &mut List<Spent>,
@@ -200,7 +207,8 @@ fn run(
     if gathering.width as usize > typed.nodes.len() {
         return Err(JoinRefusal::Memory);
     }
-    let Ok(builds) = make_builds(alloc, graph, plan, typed, pool, gathering.limit) else {
+    let mut side = gathering.room;
+    let Ok(builds) = make_builds(alloc, graph, plan, typed, pool, gathering.limit, &mut side) else {
         return Err(JoinRefusal::Memory);
     };
     let Ok(mut pipeline) = Pipeline::start(alloc, graph, &builds, plan, typed, pool) else {

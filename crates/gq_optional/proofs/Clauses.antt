@@ -13,6 +13,7 @@ use Rattle.gq_plan.specs.Soundness.{IsSound, has_number}
 use Rattle.gq_plan.specs.declared.bound.OptionalPart.{OptionalPart}
 use Rattle.gq_plan.specs.declared.typed.Typed.{Typed}
 use Rattle.gq_wide.specs.Placed.{IsPlaced}
+use Rattle.gq_optional.specs.Asking.{AllAsk, asked_of}
 use Rattle.gq_optional.specs.Made.{AreListed}
 use Rattle.gq_law_answers.specs.Answered.{meanings}
 use Rattle.gq_optional.specs.Walks.{AreShared, lists_of, parts_of}
@@ -82,6 +83,15 @@ module _ (g : Graph) where
     h.0.shared ∙ ap (λ (p : OptionalPart). map (has_number known) p.nodes) (sym h.0.is),
     subst (λ (p : OptionalPart). AreShared (known ++ p.nodes) cs) (sym h.0.is) (clauses_shared (known ++ part.nodes) parts pss cs h.1),
   )
+
+  pub clauses_ask : (known : List ℕ) (parts : List OptionalPart) (pss : List (List Plan)) (cs : List Clause) → AreClausesOf g known parts pss cs → AllAsk g cs
+  clauses_ask known [] [] [] h = tt
+  clauses_ask known [] [] (c ∷ cs) h = absurd h
+  clauses_ask known [] (ps ∷ pss) cs h = absurd h
+  clauses_ask known (part ∷ parts) [] cs h = absurd h
+  clauses_ask known (part ∷ parts) (ps ∷ pss) [] h = absurd h
+  clauses_ask known (part ∷ parts) (ps ∷ pss) (c ∷ cs) h =
+      (h.0.asks ∙ ap (λ (p : OptionalPart). asked_of g p.conjuncts) (sym h.0.is), clauses_ask (known ++ part.nodes) parts pss cs h.1)
 
   -- ---- what can be gone over
 

@@ -1,4 +1,5 @@
 pub mod Keyed
+pub mod Asking
 pub mod Clauses
 pub mod Gathered
 pub mod Holding

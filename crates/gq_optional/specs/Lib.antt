@@ -1,3 +1,4 @@
+pub mod Asking
 pub mod Made
 pub mod Spending
 pub mod Walks

@@ -12,6 +12,7 @@ use Rattle.gq_optional.specs.declared.clause.Clause.{Clause}
 use Rattle.gq_optional.specs.declared.level.Level.{Level}
 use Rattle.gq_optional.specs.declared.optionals.Optionals.{Optionals}
 use Rattle.gq_optional.specs.declared.walk.OptionalWalk.{OptionalWalk}
+use Rattle.gq_optional.specs.Asking.{AllAsk}
 use Rattle.gq_optional.specs.steps.Levels.{AreLevels, IsAlike, clauses_of, made_by_all, still}
 use Rattle.gq_optional.specs.steps.Listed.{IsClause, list_of}
 
@@ -35,10 +36,11 @@ parts_in o = parts_of o.clauses
 abbrev pub lists_in : Optionals → List (List plain.Assignment)
 lists_in o = lists_of o.clauses
 
--- their variables are those of rows of this shape, and each shares those that are known before it
+-- their variables are those of rows of this shape, each shares those that are known before it, and asks its conjuncts over the graph
 pub record IsOptionals (o : Optionals) : Type 0 where
   pub clauses : All (IsClause o.shape.nodes o.shape.rels) o.clauses
   pub shared : AreShared (range_with_len 0 o.shape.first) o.clauses
+  pub asks : AllAsk o.graph.now o.clauses
 
 -- the variables that are known before all clauses of a walk, the clauses, and what each of them lists
 abbrev pub known_by : OptionalWalk → List ℕ
@@ -50,10 +52,11 @@ parts_by w = parts_of (clauses_of w.levels.items)
 abbrev pub lists_by : OptionalWalk → List (List plain.Assignment)
 lists_by w = lists_of (clauses_of w.levels.items)
 
--- each clause works over rows of these variables, and shares those that are known before it
+-- each clause works over rows of these variables, shares those that are known before it, and asks its conjuncts over the graph
 pub record IsWalk (w : OptionalWalk) : Type 0 where
   pub levels : AreLevels (length w.base.nodes) (length w.base.rels) w.levels.items
   pub shared : AreShared (known_by w) (clauses_of w.levels.items)
+  pub asks : AllAsk w.graph.now (clauses_of w.levels.items)
   pub row : IsAlike w.row w.base
 
 -- a row of the variables of a walk

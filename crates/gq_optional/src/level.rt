@@ -1,5 +1,7 @@
 //! One optional clause at work: the rows that it makes of a row, one after another.
 ghost use Rattle.std.specs.Prelude.{◌≡◌, ◌∷◌, ◌<◌, [], IfOk, Some, length};
+ghost use Rattle.gq_base.specs.Plain.{Graph};
+ghost use Rattle.gq_optional.specs.Asking.{Asks};
 ghost use Rattle.gq_optional.specs.steps.Levels.{Finds, GoesOn, HasRows, IsAsWide, IsLevel};
 ghost use Rattle.gq_optional.specs.steps.Levels.{IsSameClause, agreeing_in, left_of, made_by};
 ghost use Rattle.gq_optional.specs.steps.Levels.{matches_left, now_at, pending};
@@ -14,9 +16,9 @@ use crate::looking::rows_of;
 use crate::optionals::RowShape;
 use crate::placing::{place_nodes, place_rels};
 use gq_base::Memory;
+use gq_eval::{Verdict, judge};
 use gq_expr::Fault;
-use gq_store::Graph;
-use gq_wide::{Verdict, WideRow, judge};
+use gq_wide::WideRow;
 use std::alloc::Global;
 use std::marker::Model;
 
@@ -106,18 +108,19 @@ impl<'w> Level<'w> {
     }
 
     // Goes on to the next continuation of the row before, and answers whether there is one.
-    fn go_on(&mut self, before: &WideRow, graph: &Graph) -> bool
+    fn go_on(&mut self, before: &WideRow) -> bool
         requires level { IsLevel self.old }
         requires rows { HasRows self.old }
         requires wide { IsAsWide before.now self.old }
         ensures level { IsLevel self.new }
         ensures rows { HasRows self.new }
-        ensures goes_on { GoesOn graph.now (read before.now) self.old result self.new }
+        ensures goes_on { (g : Graph) → Asks g self.old.clause.now →
+            GoesOn g (read before.now) self.old result self.new }
         ensures same { IsSameClause self.old self.new }
     {
         'matches: while let Some(found) = self.next_match(before) {
             self.place(before, found.matches, found.at);
-            match judge(self.clause.part.conjuncts.as_slice(), graph, &self.row) {
+            match judge(self.clause.conjuncts.as_slice(), &self.row) {
                 Verdict::Dropped => {}
                 Verdict::Pass => {
                     self.mark = None;
@@ -148,37 +151,38 @@ impl<'w> Level<'w> {
     }
 
     // Makes the first row of a row that no fault marks.
-    fn make_first(&mut self, before: &WideRow, graph: &Graph)
+    fn make_first(&mut self, before: &WideRow)
         requires level { IsLevel self.old }
         requires wide { IsAsWide before.now self.old }
         ensures level { IsLevel self.new }
         ensures rows { HasRows self.new }
-        ensures begins { made_by graph.now self.old.clause.now (unmarked (read before.now))
-            ≡ now_at self.new ∷ left_of graph.now (read before.now) self.new }
+        ensures begins { (g : Graph) → Asks g self.old.clause.now →
+            made_by g self.old.clause.now (unmarked (read before.now))
+            ≡ now_at self.new ∷ left_of g (read before.now) self.new }
         ensures same { IsSameClause self.old self.new }
     {
         self.at = 0;
         self.look_up(before);
-        if !self.go_on(before, graph) {
+        if !self.go_on(before) {
             self.row.copy_from(before);
             self.mark = None;
         }
     }
 
     // Makes the first row of a row that comes to the clause.
-    fn begin(&mut self, before: &WideRow, mark: Option<Fault>, graph: &Graph)
+    fn begin(&mut self, before: &WideRow, mark: Option<Fault>)
         requires level { IsLevel self.old }
         requires wide { IsAsWide before.now self.old }
         ensures level { IsLevel self.new }
         ensures rows { HasRows self.new }
         ensures begins { let m : Marked = record { row = read before.now; mark = mark } in
-            made_by graph.now self.old.clause.now m
-            ≡ now_at self.new ∷ left_of graph.now (read before.now) self.new }
+            (g : Graph) → Asks g self.old.clause.now → made_by g self.old.clause.now m
+            ≡ now_at self.new ∷ left_of g (read before.now) self.new }
         ensures same { IsSameClause self.old self.new }
     {
         match mark {
             Some(fault) => self.keep(before, fault),
-            None => self.make_first(before, graph),
+            None => self.make_first(before),
         }
     }
 }
@@ -230,30 +234,31 @@ impl<'w> Stage<'w> {
     }
 
     /// Makes the first row of a row that comes to the clause.
-    pub(crate) fn begin(&mut self, before: &WideRow, mark: Option<Fault>, graph: &Graph)
+    pub(crate) fn begin(&mut self, before: &WideRow, mark: Option<Fault>)
         requires level { IsLevel self.old }
         requires wide { IsAsWide before.now self.old }
         ensures level { IsLevel self.new }
         ensures rows { HasRows self.new }
         ensures begins { let m : Marked = record { row = read before.now; mark = mark } in
-            made_by graph.now self.old.clause.now m
-            ≡ now_at self.new ∷ left_of graph.now (read before.now) self.new }
+            (g : Graph) → Asks g self.old.clause.now → made_by g self.old.clause.now m
+            ≡ now_at self.new ∷ left_of g (read before.now) self.new }
         ensures same { IsSameClause self.old self.new }
     {
-        self.level.begin(before, mark, graph);
+        self.level.begin(before, mark);
     }
 
     /// Goes on to the next continuation of the row before, and answers whether there is one.
-    pub(crate) fn go_on(&mut self, before: &WideRow, graph: &Graph) -> bool
+    pub(crate) fn go_on(&mut self, before: &WideRow) -> bool
         requires level { IsLevel self.old }
         requires rows { HasRows self.old }
         requires wide { IsAsWide before.now self.old }
         ensures level { IsLevel self.new }
         ensures rows { HasRows self.new }
-        ensures goes_on { GoesOn graph.now (read before.now) self.old result self.new }
+        ensures goes_on { (g : Graph) → Asks g self.old.clause.now →
+            GoesOn g (read before.now) self.old result self.new }
         ensures same { IsSameClause self.old self.new }
     {
-        self.level.go_on(before, graph)
+        self.level.go_on(before)
     }
 
     /// The row that was made last.

@@ -1,6 +1,7 @@
 //! The optional clauses of a query: what plans of their alternatives make.
 ghost use Rattle.std.specs.Prelude.{◌≡◌, ◌++◌, ◌≤◌, [], true, length, map, All, IfOk, IfErr, OnOk};
 ghost use Rattle.std.specs.List.{AllZip, range_with_len};
+ghost use Rattle.gq_optional.specs.Asking.{asked_of};
 ghost use Rattle.gq_optional.specs.Made.{AreCovered, AreFew, AreListed, IsFew, IsRefusal};
 ghost use Rattle.gq_optional.specs.Spending.{HasSpentListed};
 ghost use Rattle.gq_optional.specs.Walks.{IsOptionals, IsWalk, known_by, lists_by, lists_in};
@@ -19,7 +20,8 @@ use crate::level::Stage;
 use crate::listing::{list_each, places_of, shared_of};
 use crate::walk::OptionalWalk;
 use gq_base::{List, Memory};
-use gq_join::JoinRefusal;
+use gq_eval::Evaluator;
+use gq_join::{JoinRefusal, Room};
 use gq_pipe::Spent;
 use gq_plan::{OptionalPart, Plan};
 use gq_pool::VectorPool;
@@ -38,10 +40,11 @@ pub struct RowShape {
     pub first: u32,
 }
 
-/// The optional clauses of a query, with the matches of their alternatives, to be found by the
-/// variables that stand before each clause.
+/// The optional clauses of a query over a graph, with the matches of their alternatives, to be found
+/// by the variables that stand before each clause.
 #[derive(Drop)]
 pub struct Optionals<'b> {
+    pub(crate) graph: &'b Graph,
     pub(crate) shape: RowShape,
     pub(crate) clauses: List<Clause<'b>>,
     pub(crate) spent: List<Spent>,
@@ -49,16 +52,18 @@ pub struct Optionals<'b> {
 
 impl<'b> Optionals<'b> {
     /// What these plans make of the alternatives of optional clauses. `TooManyRows` comes exactly
-    /// where one of them, or a side plan of one, makes more assignments than the limit. The slots
-    /// that it takes of the pool it gives back, after a refusal too.
+    /// where one of them, or a side plan of one, makes more assignments than the limit; want of
+    /// memory comes also where the room has fewer bytes than the matches take, which go out of it.
+    /// The slots that it takes of the pool it gives back, after a refusal too.
     pub fn make(
         alloc: Global,
-        graph: &Graph,
+        graph: &'b Graph,
         parts: &'b [OptionalPart],
         plans: &[List<Plan>],
         shape: RowShape,
         pool: &mut VectorPool,
         limit: u32,
+        room: &mut Room,
     ) -> Result<Optionals<'b>, JoinRefusal>
         requires placed { let placed = IsPlaced shape.nodes shape.rels graph.now.catalog in
             All placed parts.now }
@@ -67,6 +72,7 @@ impl<'b> Optionals<'b> {
         requires begins { All (λ ps. All (λ p. begins (plan_of p) ≡ true) ps) plans.now }
         requires room { 112 ≤ spare_of pool.old }
         ensures is { IfOk result IsOptionals }
+        ensures graph { IfOk result (λ o. o.graph.now ≡ graph.now) }
         ensures shape { IfOk result (λ o. o.shape ≡ shape) }
         ensures parts { IfOk result (λ o. parts_in o ≡ parts.now) }
         ensures lists { let pss = map (map plan_of) plans.now in
@@ -93,11 +99,13 @@ impl<'b> Optionals<'b> {
             plans,
             pool,
             limit,
+            room,
         ) {
             Ok(()) => {}
             Err(refusal) => return Err(refusal),
         }
         Ok(Optionals {
+            graph,
             shape,
             clauses,
             spent,
@@ -105,10 +113,10 @@ impl<'b> Optionals<'b> {
     }
 
     /// A walk over the rows that the clauses make of rows, which owes nothing yet.
-    pub fn walk<'w>(&'w self, alloc: Global, graph: &'w Graph) -> Result<OptionalWalk<'w>, Memory>
+    pub fn walk<'w>(&'w self, alloc: Global) -> Result<OptionalWalk<'w>, Memory>
         requires { IsOptionals self.now }
         ensures walk { IfOk result IsWalk }
-        ensures graph { IfOk result (λ w. w.graph.now ≡ graph.now) }
+        ensures graph { IfOk result (λ w. w.graph.now ≡ self.now.graph.now) }
         ensures known { IfOk result (λ w. known_by w ≡ range_with_len 0 self.now.shape.first) }
         ensures parts { IfOk result (λ w. parts_by w ≡ parts_in self.now) }
         ensures lists { IfOk result (λ w. lists_by w ≡ lists_in self.now) }
@@ -118,7 +126,7 @@ impl<'b> Optionals<'b> {
     {
         let shape = self.shape;
         Ok(OptionalWalk {
-            graph,
+            graph: self.graph,
             first: shape.first,
             base: WideRow::new(alloc, shape.nodes, shape.rels)?,
             row: WideRow::new(alloc, shape.nodes, shape.rels)?,
@@ -164,16 +172,32 @@ fn make_known(known: &mut Vec<u32>, more: &[u32]) -> Result<(), Memory>
     Ok(())
 }
 
+// The conjuncts of a clause, over a graph.
+fn conjuncts_of<'b>(
+    alloc: Global,
+    graph: &'b Graph,
+    part: &'b OptionalPart,
+) -> Result<List<Evaluator<'b>>, Memory>
+    ensures { IfOk result (λ all. all ≡ asked_of graph.now part.now.conjuncts) }
+{
+    let mut all = List::new(alloc);
+    'conjuncts: for conjunct in part.conjuncts.as_slice() {
+        all.push(Evaluator::new(alloc, &conjunct.expr, graph)?)?;
+    }
+    Ok(all)
+}
+
 // A clause, with what plans make of its alternatives, to be found by the variables that are known.
 fn hold<'b>(
     spent: &mut List<Spent>,
     known: &[u32],
     alloc: Global,
-    graph: &Graph,
+    graph: &'b Graph,
     part: &'b OptionalPart,
     plans: &[Plan],
     pool: &mut VectorPool,
     limit: u32,
+    room: &mut Room,
 ) -> Result<Clause<'b>, JoinRefusal>
     requires part { CanHold graph.now.catalog part.now }
     requires covers { AreCovered graph.now.catalog part.now (map plan_of plans.now) }
@@ -196,6 +220,7 @@ fn hold<'b>(
     }
     let shared = shared_of(alloc, known, nodes)?;
     let keys = places_of(alloc, shared.as_slice())?;
+    let conjuncts = conjuncts_of(alloc, graph, part)?;
     let mut matches = List::new(alloc);
     let alternatives = part.alternatives.as_slice();
     match list_each(
@@ -208,12 +233,14 @@ fn hold<'b>(
         keys.as_slice(),
         pool,
         limit,
+        room,
     ) {
         Ok(()) => {}
         Err(refusal) => return Err(refusal),
     }
     Ok(Clause {
         part,
+        conjuncts,
         shared,
         matches: matches.into_vec(),
     })
@@ -226,11 +253,12 @@ fn hold_each<'b>(
     spent: &mut List<Spent>,
     known: &mut Vec<u32>,
     alloc: Global,
-    graph: &Graph,
+    graph: &'b Graph,
     parts: &'b [OptionalPart],
     plans: &[List<Plan>],
     pool: &mut VectorPool,
     limit: u32,
+    room: &mut Room,
 ) -> Result<(), JoinRefusal>
     requires parts { All (CanHold graph.now.catalog) parts.now }
     requires covers { let pss = map (map plan_of) plans.now in
@@ -264,6 +292,7 @@ fn hold_each<'b>(
         own.as_slice(),
         pool,
         limit,
+        room,
     ) {
         Ok(clause) => clause,
         Err(refusal) => return Err(refusal),
@@ -271,7 +300,7 @@ fn hold_each<'b>(
     clauses.push(clause)?;
     make_known(known, part.nodes.as_slice())?;
     hold_each(
-        clauses, spent, known, alloc, graph, parts, plans, pool, limit,
+        clauses, spent, known, alloc, graph, parts, plans, pool, limit, room,
     )
 }
 

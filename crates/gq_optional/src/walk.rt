@@ -1,5 +1,7 @@
 //! The rows that optional clauses make of a row, one after another.
 ghost use Rattle.std.specs.Prelude.{◌≡◌, ◌∷◌, ◌≤◌, [], None, drop, false, length, take, true};
+ghost use Rattle.gq_base.specs.Plain.{Graph as Plain};
+ghost use Rattle.gq_optional.specs.Asking.{AllAsk};
 ghost use Rattle.gq_optional.specs.Walks.{IsAsWide, IsSameWalk, IsWalk, known_by, lists_by};
 ghost use Rattle.gq_optional.specs.Walks.{owed_by, parts_by, row_by};
 ghost use Rattle.gq_optional.specs.steps.Levels.{AreLevels, IsAlike, StepsOn, clauses_of};
@@ -18,6 +20,7 @@ use gq_wide::WideRow;
 /// last.
 #[derive(Drop)]
 pub struct OptionalWalk<'w> {
+    // The graph over which the clauses ask their conjuncts.
     pub(crate) graph: &'w Graph,
     // How many node variables the clauses before have.
     pub(crate) first: u32,
@@ -82,13 +85,7 @@ impl<'w> OptionalWalk<'w> {
         self.fresh = false;
         self.standing = true;
         self.row.copy_from(&self.base);
-        self.mark = begin_from(
-            self.levels.as_mut_slice(),
-            0,
-            &mut self.row,
-            None,
-            self.graph,
-        );
+        self.mark = begin_from(self.levels.as_mut_slice(), 0, &mut self.row, None);
     }
 
     // Makes the row behind the one that stands, and answers whether there is one.
@@ -109,7 +106,6 @@ impl<'w> OptionalWalk<'w> {
             &self.base,
             &mut self.row,
             &mut self.mark,
-            self.graph,
         );
         self.standing
     }
@@ -136,16 +132,16 @@ fn begin_from(
     depth: usize,
     row: &mut WideRow,
     mark: Option<Fault>,
-    graph: &Graph,
 ) -> Option<Fault>
     requires { AreLevels (length row.old.nodes) (length row.old.rels) (drop depth levels.old) }
     ensures levels { let n = length row.old.nodes in
         AreLevels n (length row.old.rels) (drop depth levels.new) }
     ensures kept { take depth levels.new ≡ take depth levels.old }
     ensures begins { let m : Marked = record { row = read row.old; mark = mark } in
-        made_by_all graph.now (clauses_of (drop depth levels.old)) m
+        (g : Plain) → AllAsk g (clauses_of (drop depth levels.old)) →
+        made_by_all g (clauses_of (drop depth levels.old)) m
         ≡ last_row m (drop depth levels.new)
-        ∷ still graph.now (read row.old) (drop depth levels.new) }
+        ∷ still g (read row.old) (drop depth levels.new) }
     ensures clauses { clauses_of (drop depth levels.new) ≡ clauses_of (drop depth levels.old) }
     ensures row { row.new ≡ last_wide row.old (drop depth levels.new) }
     ensures mark { result ≡ last_mark mark (drop depth levels.new) }
@@ -153,10 +149,10 @@ fn begin_from(
     if depth >= levels.len() {
         return mark;
     }
-    levels[depth].begin(row, mark, graph);
+    levels[depth].begin(row, mark);
     row.copy_from(levels[depth].row());
     let mark = levels[depth].mark();
-    begin_from(levels, depth + 1, row, mark, graph)
+    begin_from(levels, depth + 1, row, mark)
 }
 
 // The row that comes to the clause at a depth.
@@ -179,7 +175,6 @@ fn step_from(
     base: &WideRow,
     row: &mut WideRow,
     mark: &mut Option<Fault>,
-    graph: &Graph,
 ) -> bool
     requires levels { let n = length row.old.nodes in
         AreLevels n (length row.old.rels) (drop depth levels.old) }
@@ -188,7 +183,8 @@ fn step_from(
         AreLevels n (length row.old.rels) (drop depth levels.new) }
     ensures kept { take depth levels.new ≡ take depth levels.old }
     ensures next { let here = last_wide base.now (take depth levels.old) in
-        StepsOn graph.now (read here) (drop depth levels.old) result (drop depth levels.new) }
+        (g : Plain) → AllAsk g (clauses_of (drop depth levels.old)) →
+        StepsOn g (read here) (drop depth levels.old) result (drop depth levels.new) }
     ensures clauses { clauses_of (drop depth levels.new) ≡ clauses_of (drop depth levels.old) }
     ensures wide { IsAlike row.new row.old }
     ensures row { result ≡ true → row.new ≡ last_wide base.now levels.new }
@@ -197,15 +193,15 @@ fn step_from(
     if depth >= levels.len() {
         return false;
     }
-    if step_from(levels, depth + 1, base, row, mark, graph) {
+    if step_from(levels, depth + 1, base, row, mark) {
         return true;
     }
     row.copy_from(coming(levels, depth, base));
-    if !levels[depth].go_on(row, graph) {
+    if !levels[depth].go_on(row) {
         return false;
     }
     row.copy_from(levels[depth].row());
     let made = levels[depth].mark();
-    *mark = begin_from(levels, depth + 1, row, made, graph);
+    *mark = begin_from(levels, depth + 1, row, made);
     true
 }

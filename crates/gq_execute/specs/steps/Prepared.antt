@@ -3,6 +3,7 @@ use Rattle.std.specs.Prelude.{◌≡◌, ◌⊎◌, ◌<◌, ◌^◌, ℕ, true,
 use Rattle.std.specs.List.{AllZip, range_with_len}
 use Rattle.gq_base.specs.Plain.{Graph}
 use Rattle.gq_plan.specs.declared.Bound.{Bound}
+use Rattle.gq_optional.specs.Asking.{asked_of}
 use Rattle.gq_optional.specs.Walks.{IsOptionals, lists_in, parts_in}
 use Rattle.gq_plan.specs.declared.ExistsPart.{ExistsPart}
 use Rattle.gq_plan.specs.declared.Typed.{Typed}
@@ -22,11 +23,13 @@ abbrev pub first_nodes : List Typed → ℕ
 first_nodes [] = 0
 first_nodes (y ∷ ys) = length y.nodes
 
--- the tests of a query and the matches of its optional clauses
+-- the conjuncts of a query over a graph, its tests, and the matches of its optional clauses
 pub record IsPrepared (g : Graph) (most : ℕ) (b : Bound) (p : Prepared) : Type 0 where
   pub bound : p.bound.now ≡ b
+  pub asked : p.conjuncts ≡ asked_of g b.conjuncts
   pub tests : AreTestsOf g most b.patterns p.tests.all
   pub is : IsOptionals p.optionals
+  pub graph : p.optionals.graph.now ≡ g
   pub shape : p.optionals.shape ≡ p.shape
   pub nodes : p.optionals.shape.nodes ≡ length b.node_names
   pub rels : p.optionals.shape.rels ≡ length b.rel_names

@@ -11,6 +11,7 @@ use Rattle.gq_plan.specs.Plans.{Plan}
 use Rattle.gq_plan.specs.Soundness.{IsSound, has_number}
 use Rattle.gq_plan.specs.declared.bound.OptionalPart.{OptionalPart}
 use Rattle.gq_plan.specs.declared.typed.Typed.{Typed}
+use Rattle.gq_optional.specs.Asking.{asked_of}
 use Rattle.gq_optional.specs.Made.{IsPast, SomePast}
 use Rattle.gq_optional.specs.Spending.{HaveListed, HasListed, IsListing, Listing, spent_on_each}
 use Rattle.gq_optional.specs.declared.clause.Clause.{Clause}
@@ -62,10 +63,11 @@ IsEachRefusal g limit ys ps refusal.Memory = Unit {0}
 
 -- ---- one clause
 
--- a clause shares the variables that are known, and holds what plans of its alternatives make
+-- a clause shares the variables that are known, holds what plans of its alternatives make, and asks its conjuncts over the graph
 pub record IsClauseOf (g : Graph) (known : List ℕ) (part : OptionalPart) (ps : List Plan) (c : Clause) : Type 0 where
   pub is : c.part.now ≡ part
   pub shared : c.shared ≡ map (has_number known) part.nodes
+  pub asks : c.conjuncts ≡ asked_of g part.conjuncts
   pub matches : AreMatches g part.alternatives ps (places_of 0 (map (has_number known) part.nodes)) c.matches.items
 
 -- the variables of a clause are known to those behind it

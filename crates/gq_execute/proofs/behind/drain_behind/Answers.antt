@@ -2,10 +2,12 @@ use Rattle.std.proofs.Common.{◌∙◌, ap, arith, length, refl, subst, sym, So
 use Rattle.gq_pipe.specs.Bound.{binds_all}
 use Rattle.gq_pipe.specs.Progress.{Source, plan_in}
 use Rattle.gq_pipe.specs.Rest.{counted}
+use Rattle.gq_optional.specs.Asking.{asked_of}
+use Rattle.gq_plan.specs.declared.Bound.{Bound}
 use Rattle.gq_rows.specs.declared.refusal.More.TheVariants as more
 use Rattle.gq_execute.proofs.Copying.{blank_further}
 use Rattle.gq_execute.proofs.Draining.{all_taken, bag_here, chunk_of, counted_more, counted_none, full_here, in_order, less_owed, met, pushed_more, pushed_none, rows_here, run_full, run_out}
-use Rattle.gq_execute.specs.steps.Behind.{IsBehind}
+use Rattle.gq_execute.specs.steps.Behind.{IsBehind, IsWalkOf}
 use Rattle.gq_execute.specs.steps.Prepared.{later_by}
 use Rattle.gq_execute.specs.steps.Taking.{given_by}
 use Rattle.gq_execute.proofs.behind.drain_behind.Goals as goal
@@ -19,7 +21,7 @@ chunks-init c =
     record {
       behind = record {
         row = blank_further (length y.nodes) (length y.rels) shape.nodes shape.rels c.in_ok-behind.behind.row c.in_ok-behind.ensures.row;
-        walk = c.in_ok-behind.ensures.walk;
+        walk = subst (λ k. IsWalkOf k p c.in_ok-behind.behind.walk) is.graph c.in_ok-behind.ensures.walk;
         parts = is.parts;
         nodes = omega (arith, is.nodes, c.requires.nodes);
         rels = omega (arith, is.rels, c.requires.rels);
@@ -45,8 +47,8 @@ push_rows-requires-clause-chunk c =
     chunk_of c.args.graph.now c.args.typed.now c.advance.new.self.source c.chunk-chunk.result (ap (λ (s : Source). s.graph) source ∙ i.run.graph)
     (ap (λ (s : Source). s.typed) (source ∙ i.source) ∙ c.requires.typed) c.chunk-chunk.ensures.chunk
 
-pub push_rows-requires-clause-bound : goal.push_rows-requires-clause-bound
-push_rows-requires-clause-bound c = c.requires.prepared.bound ∙ sym c.chunks.invariant.same.bound
+pub push_rows-requires-clause-asked : goal.push_rows-requires-clause-asked
+push_rows-requires-clause-asked c = c.requires.prepared.asked ∙ ap (λ (b : Bound). asked_of c.args.graph.now b.conjuncts) (sym c.chunks.invariant.same.bound)
 
 pub push_rows-requires-clause-behind : goal.push_rows-requires-clause-behind
 push_rows-requires-clause-behind c =

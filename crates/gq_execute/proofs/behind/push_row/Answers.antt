@@ -2,10 +2,10 @@ use Rattle.std.proofs.Common.{◌≡◌, ◌∙◌, ◌∷◌, [], ap, subst, Ok
 use Rattle.gq_plan.specs.Assignments.{row_of}
 use Rattle.gq_plan.specs.Marked.{marks}
 use Rattle.gq_plan.specs.Outcomes.{late_conjuncts, meanings_of}
-use Rattle.gq_plan.specs.declared.Bound.{Bound}
 use Rattle.gq_rows.specs.Chunks.{PushesAll}
 use Rattle.gq_rows.specs.declared.refusal.More.TheVariants as more
 use Rattle.gq_execute.proofs.Chosen.{row_behind, row_dropped, row_out}
+use Rattle.gq_execute.proofs.Judging.{late_says}
 use Rattle.gq_execute.proofs.Pushing.{none_pushed}
 use Rattle.gq_execute.proofs.behind.push_row.Goals as goal
 use Rattle.gq_execute.proofs.behind.push_row.Goals.{in-Fault, in-Pass}
@@ -16,17 +16,17 @@ returns-in-Dropped-clause-pushes c =
     let g = c.args.graph.now in
     let p = c.args.prepared.now in
     let t = c.args.table.now in
-    let here = λ (b : Bound). marks (meanings_of g (row_of c.args.row.now) (late_conjuncts b c.args.typed.now)) in
-    subst (λ os. PushesAll os t t (Ok more.Go)) (row_dropped (later_by g p) g t.bound c.args.typed.now (row_of c.args.row.now) (c.in-Dropped.ensures ∙ ap here c.requires.bound)) (none_pushed t c.requires.room)
+    let late = late_says g t.bound (row_of c.args.row.now) c.args.typed.now c.args.prepared.now.conjuncts c.requires.asked in
+    subst (λ os. PushesAll os t t (Ok more.Go)) (row_dropped (later_by g p) g t.bound c.args.typed.now (row_of c.args.row.now) (c.in-Dropped.ensures ∙ late)) (none_pushed t c.requires.room)
 
 pub returns-then-not-pass-clause-pushes : goal.returns-then-not-pass-clause-pushes
 returns-then-not-pass-clause-pushes c =
     let g = c.args.graph.now in
     let p = c.args.prepared.now in
     let t = c.args.table.now in
-    let here = λ (b : Bound). marks (meanings_of g (row_of c.args.row.now) (late_conjuncts b c.args.typed.now)) in
-    let says : c.match-judge_late.fault ∷ [] ≡ here t.bound =
-    elim c.match-judge_late.branch [ in-Pass w ↦ ap (λ o. o ∷ []) w.fault-is ∙ w.in-Pass.ensures ∙ ap here c.requires.bound | in-Fault w ↦ ap (λ o. o ∷ []) w.fault-is ∙ w.in-Fault.ensures ∙ ap here c.requires.bound ] in
+    let late = late_says g t.bound (row_of c.args.row.now) c.args.typed.now c.args.prepared.now.conjuncts c.requires.asked in
+    let says : c.match-judge_late.fault ∷ [] ≡ marks (meanings_of g (row_of c.args.row.now) (late_conjuncts t.bound c.args.typed.now)) =
+    elim c.match-judge_late.branch [ in-Pass w ↦ ap (λ o. o ∷ []) w.fault-is ∙ w.in-Pass.ensures ∙ late | in-Fault w ↦ ap (λ o. o ∷ []) w.fault-is ∙ w.in-Fault.ensures ∙ late ] in
     subst (λ os. PushesAll os t t (Ok more.Go)) (row_out g p t.bound c.args.typed.now c.args.row.now c.match-judge_late.fault says c.if-not-pass.ensures) (none_pushed t c.requires.room)
 
 pub returns-clause-pushes : goal.returns-clause-pushes
@@ -34,7 +34,7 @@ returns-clause-pushes c =
     let g = c.args.graph.now in
     let p = c.args.prepared.now in
     let t = c.args.table.now in
-    let here = λ (b : Bound). marks (meanings_of g (row_of c.args.row.now) (late_conjuncts b c.args.typed.now)) in
-    let says : c.match-judge_late.fault ∷ [] ≡ here t.bound =
-    elim c.match-judge_late.branch [ in-Pass w ↦ ap (λ o. o ∷ []) w.fault-is ∙ w.in-Pass.ensures ∙ ap here c.requires.bound | in-Fault w ↦ ap (λ o. o ∷ []) w.fault-is ∙ w.in-Fault.ensures ∙ ap here c.requires.bound ] in
+    let late = late_says g t.bound (row_of c.args.row.now) c.args.typed.now c.args.prepared.now.conjuncts c.requires.asked in
+    let says : c.match-judge_late.fault ∷ [] ≡ marks (meanings_of g (row_of c.args.row.now) (late_conjuncts t.bound c.args.typed.now)) =
+    elim c.match-judge_late.branch [ in-Pass w ↦ ap (λ o. o ∷ []) w.fault-is ∙ w.in-Pass.ensures ∙ late | in-Fault w ↦ ap (λ o. o ∷ []) w.fault-is ∙ w.in-Fault.ensures ∙ late ] in
     subst (λ os. PushesAll os t c.push_copied.new.table c.push_copied.result) (row_behind g p t.bound c.args.typed.now c.args.row.now c.match-judge_late.fault says c.if-not-pass.ensures) c.push_copied.ensures.pushes

@@ -1,5 +1,6 @@
 use Rattle.std.proofs.Common.{◌∙◌, ap, length, refl, subst, sym, Some, Ok, Err}
 use Rattle.gq_law_plans.specs.Safe.{IsMade}
+use Rattle.gq_optional.specs.Asking.{asked_of}
 use Rattle.gq_plan.specs.declared.Bound.{Bound}
 use Rattle.gq_pipe.specs.Bound.{binds_all}
 use Rattle.gq_pipe.specs.Progress.{Source, plan_in}
@@ -50,8 +51,8 @@ push_walked-requires-clause-chunk c =
     chunk_of c.args.graph.now c.args.typed.now c.advance.new.self.source c.chunk-chunk.result (ap (λ (s : Source). s.graph) source ∙ i.run.graph)
     (ap (λ (s : Source). s.typed) (source ∙ i.source) ∙ c.requires.typed) c.chunk-chunk.ensures.chunk
 
-pub push_walked-requires-clause-bound : goal.push_walked-requires-clause-bound
-push_walked-requires-clause-bound c = c.requires.prepared.bound ∙ sym c.chunks.invariant.same.bound
+pub push_walked-requires-clause-asked : goal.push_walked-requires-clause-asked
+push_walked-requires-clause-asked c = c.requires.prepared.asked ∙ ap (λ (b : Bound). asked_of c.args.graph.now b.conjuncts) (sym c.chunks.invariant.same.bound)
 
 pub push_walked-requires-clause-walking : goal.push_walked-requires-clause-walking
 push_walked-requires-clause-walking c =

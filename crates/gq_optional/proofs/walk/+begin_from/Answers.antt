@@ -5,6 +5,7 @@ use Rattle.gq_plan.specs.Marked.{Marked}
 use Rattle.gq_wide.specs.Rows.{read}
 use Rattle.gq_optional.specs.declared.level.Level.{Level}
 use Rattle.gq_optional.specs.steps.Levels.{clauses_of, last_mark, last_wide}
+use Rattle.gq_optional.proofs.Asking.{all_same, ask_behind, ask_here}
 use Rattle.gq_optional.proofs.Stepped.{kept_less, take_set}
 use Rattle.gq_optional.proofs.Turned.{drop_set_more}
 use Rattle.gq_optional.proofs.Walked.{begins_from, clauses_from, levels_from, moved_row, news}
@@ -21,8 +22,7 @@ returns-clause-levels t c =
     c.requires c.begin.ensures.level c.begin.ensures.rows c.begin.ensures.same c.copy_from.new.self row c.begin_from.ensures.levels
 
 pub returns-clause-begins : goal.returns-clause-begins
-returns-clause-begins t c =
-    let g = c.args.graph.now in
+returns-clause-begins t c g asks =
     let old = c.args.levels.now in
     let new = c.begin_from.new.levels in
     let d = c.args.depth in
@@ -32,8 +32,9 @@ returns-clause-begins t c =
     let row = c.copy_from.ensures ∙ c.row.ensures ∙ ap (λ (l : Level). l.row) (get_or-set_same old d now c.index-levels-depth-2.result low) in
     let mark = c.mark-mark.ensures ∙ ap (λ (l : Level). l.mark) (get_or-set_same old d now c.index-levels-depth-3.result low) in
     let behind = ap clauses_of (drop_set_more old d now) in
-    begins_from old new d c.index-levels-depth.result now low c.begin_from.ensures.kept g (read c.args.row.now) m c.begin.ensures.begins
-    (moved_row g (drop (d + 1) new) _ _ _ _ _ _ behind row mark c.begin_from.ensures.begins)
+    let ask = ask_behind g old d c.index-levels-depth.result low asks in
+    begins_from old new d c.index-levels-depth.result now low c.begin_from.ensures.kept g (read c.args.row.now) m (c.begin.ensures.begins g (ask_here g old d c.index-levels-depth.result low asks))
+    (moved_row g (drop (d + 1) new) _ _ _ _ _ _ behind row mark (c.begin_from.ensures.begins g (all_same g (clauses_of (drop (d + 1) old)) (clauses_of (drop (d + 1) (slice_set old d now))) behind ask)))
     (c.begin_from.ensures.clauses ∙ behind)
 
 pub returns-clause-clauses : goal.returns-clause-clauses

@@ -2,9 +2,11 @@ use Rattle.std.proofs.Common.{◌≡◌, ◌∙◌, ℕ, ◌+◌, ◌<◌, None,
 use Rattle.std.specs.Prelude.{slice_set}
 use Rattle.std.proofs.lemmas.List.{drop_more, get_or-set_same}
 use Rattle.gq_wide.specs.Rows.{Wide, read}
+use Rattle.gq_optional.specs.Asking.{Asks}
 use Rattle.gq_optional.specs.declared.level.Level.{Level}
 use Rattle.gq_optional.specs.steps.Levels.{AreLevels, clauses_of, last_mark, last_wide}
-use Rattle.gq_optional.proofs.Stepped.{alike_back, alike_next, clauses_stay, kept_less, last_alike, levels_next, levels_put, levels_sized, levels_stay, long, marked_through, sized_put, some_level, steps_behind, steps_here, steps_none, take_set, through}
+use Rattle.gq_optional.proofs.Asking.{all_same, ask_behind, ask_here}
+use Rattle.gq_optional.proofs.Stepped.{alike_back, alike_next, clauses_stay, kept_less, last_alike, levels_next, levels_put, levels_sized, levels_stay, long, marked_through, same_here, sized_put, some_level, steps_behind, steps_here, steps_none, take_set, through}
 use Rattle.gq_optional.proofs.Turned.{drop_set_more}
 use Rattle.gq_optional.proofs.Walked.{clauses_from, moved_row, news}
 use Rattle.gq_optional.proofs.walk.+step_from.Goals as goal
@@ -30,12 +32,12 @@ pub returns-then-step_from-clause-kept : goal.returns-then-step_from-clause-kept
 returns-then-step_from-clause-kept t c = kept_less c.args.levels.now c.step_from.new.levels c.args.depth c.step_from.ensures.kept
 
 pub returns-then-step_from-clause-next : goal.returns-then-step_from-clause-next
-returns-then-step_from-clause-next t c =
+returns-then-step_from-clause-next t c g asks =
     let old = c.args.levels.now in
     let d = c.args.depth in
     let base = c.args.base.now in
     let low : d < length old = omega (arith, c.if-depth-levels.false) in
-    steps_behind old c.step_from.new.levels d (some_level old d low) low c.step_from.ensures.kept c.args.graph.now base (read (last_wide base (take d old))) c.if-step_from.ensures.next c.step_from.ensures.clauses
+    steps_behind old c.step_from.new.levels d (some_level old d low) low c.step_from.ensures.kept g base (read (last_wide base (take d old))) (c.if-step_from.ensures.next g (ask_behind g old d (some_level old d low) low asks)) c.step_from.ensures.clauses
 
 pub returns-then-step_from-clause-clauses : goal.returns-then-step_from-clause-clauses
 returns-then-step_from-clause-clauses t c =
@@ -101,15 +103,17 @@ returns-then-not-go_on-clause-kept t c =
     take_set c.step_from.new.levels c.args.depth c.go_on.new.self ∙ kept_less c.args.levels.now c.step_from.new.levels c.args.depth c.step_from.ensures.kept
 
 pub returns-then-not-go_on-clause-next : goal.returns-then-not-go_on-clause-next
-returns-then-not-go_on-clause-next t c =
+returns-then-not-go_on-clause-next t c g asks =
     let old = c.args.levels.now in
     let mid = c.step_from.new.levels in
     let d = c.args.depth in
     let base = c.args.base.now in
     let kept = c.step_from.ensures.kept in
     let low : d < length old = omega (arith, c.if-depth-levels.false) in
-    steps_none old mid d c.index-levels-depth.result low kept c.args.graph.now base c.copy_from.new.self (last_wide base (take d old))
-    (c.copy_from.ensures ∙ c.coming.ensures ∙ ap (last_wide base) (kept_less old mid d kept)) c.if-step_from.ensures.next c.if-not-go_on.ensures.goes_on.0
+    let x = c.index-levels-depth.result in
+    let here = subst (λ (l : Level). Asks g l.clause.now) (sym (same_here old mid d x low kept)) (ask_here g old d x low asks) in
+    steps_none old mid d x low kept g base c.copy_from.new.self (last_wide base (take d old))
+    (c.copy_from.ensures ∙ c.coming.ensures ∙ ap (last_wide base) (kept_less old mid d kept)) (c.if-step_from.ensures.next g (ask_behind g old d x low asks)) (c.if-not-go_on.ensures.goes_on g here).0
 
 pub returns-then-not-go_on-clause-clauses : goal.returns-then-not-go_on-clause-clauses
 returns-then-not-go_on-clause-clauses t c =
@@ -211,8 +215,7 @@ returns-clause-kept t c =
     kept_less (slice_set mid d now) c.begin_from.new.levels d c.begin_from.ensures.kept ∙ take_set mid d now ∙ kept_less c.args.levels.now mid d c.step_from.ensures.kept
 
 pub returns-clause-next : goal.returns-clause-next
-returns-clause-next t c =
-    let g = c.args.graph.now in
+returns-clause-next t c g asks =
     let old = c.args.levels.now in
     let mid = c.step_from.new.levels in
     let new = c.begin_from.new.levels in
@@ -226,10 +229,13 @@ returns-clause-next t c =
     let is = c.copy_from-2.ensures ∙ c.row.ensures ∙ ap (λ (l : Level). l.row) (get_or-set_same mid d now c.index-levels-depth-2.result inside) in
     let mark = c.mark-made.ensures ∙ ap (λ (l : Level). l.mark) (get_or-set_same mid d now c.index-levels-depth-3.result inside) in
     let clauses = ap clauses_of (drop_set_more mid d now) ∙ c.step_from.ensures.clauses in
+    let here = subst (λ (l : Level). Asks g l.clause.now) (sym (same_here old mid d x low kept)) (ask_here g old d x low asks) in
+    let ask = ask_behind g old d x low asks in
+    let begun = c.begin_from.ensures.begins g (all_same g (clauses_of (drop (d + 1) old)) (clauses_of (drop (d + 1) (slice_set mid d now))) clauses ask) in
     steps_here old mid d x low kept g base c.copy_from.new.self (last_wide base (take d old)) now new
-    (c.copy_from.ensures ∙ c.coming.ensures ∙ ap (last_wide base) (kept_less old mid d kept)) c.if-step_from.ensures.next c.if-not-go_on.ensures.goes_on
+    (c.copy_from.ensures ∙ c.coming.ensures ∙ ap (last_wide base) (kept_less old mid d kept)) (c.if-step_from.ensures.next g ask) (c.if-not-go_on.ensures.goes_on g here)
     (news mid new d x now inside c.begin_from.ensures.kept)
-    (moved_row g (drop (d + 1) new) _ _ _ _ _ _ clauses is mark c.begin_from.ensures.begins) (c.begin_from.ensures.clauses ∙ clauses)
+    (moved_row g (drop (d + 1) new) _ _ _ _ _ _ clauses is mark begun) (c.begin_from.ensures.clauses ∙ clauses)
 
 pub returns-clause-clauses : goal.returns-clause-clauses
 returns-clause-clauses t c =

@@ -1,4 +1,6 @@
 use Rattle.std.proofs.Common.{◌≡◌, length}
+use Rattle.gq_base.specs.Plain.{Graph}
+use Rattle.gq_optional.specs.Asking.{Asks}
 use Rattle.gq_optional.specs.steps.Levels.{HasRows, IsLevel, IsSameClause, left_of, pending}
 use Rattle.gq_wide.specs.Rows.{read}
 use Rattle.gq_optional.proofs.level.Level.go_on.Given as goal
@@ -8,7 +10,7 @@ invariant-matches l = record {
   level : IsLevel l.self;
   rows : HasRows l.self;
   same : IsSameClause l.initial.self l.self;
-  left : left_of l.graph (read l.before) l.initial.self ≡ left_of l.graph (read l.before) l.self;
+  left : (g : Graph) → Asks g l.initial.self.clause.now → left_of g (read l.before) l.initial.self ≡ left_of g (read l.before) l.self;
 }
 
 abbrev pub decreases-matches : goal.decreases-matches

@@ -5,7 +5,7 @@ use Rattle.gq_plan.specs.Plans.{plan_of}
 use Rattle.gq_wide.specs.Placed.{IsPlaced}
 use Rattle.gq_optional.specs.steps.Listed.{IsClause}
 use Rattle.gq_optional.specs.steps.Making.{AreClausesOf, CanHold}
-use Rattle.gq_optional.proofs.Clauses.{can_hold, clauses_are, clauses_listed, clauses_parts, clauses_shared}
+use Rattle.gq_optional.proofs.Clauses.{can_hold, clauses_are, clauses_ask, clauses_listed, clauses_parts, clauses_shared}
 use Rattle.gq_optional.proofs.optionals.Optionals.make.Goals as goal
 use Rattle.gq_optional.proofs.optionals.Optionals.make.Goals.{In-Ok}
 
@@ -34,6 +34,7 @@ returns-clause-is c =
       clauses = All-from_recursion (IsClause s.nodes s.rels) cs
           (clauses_are g s.nodes s.rels g.catalog (range_with_len 0 s.first) c.args.parts.now pss cs (recursion_from_All (IsPlaced s.nodes s.rels g.catalog) c.args.parts.now c.requires.placed) are);
       shared = clauses_shared g (range_with_len 0 s.first) c.args.parts.now pss cs are;
+      asks = clauses_ask g (range_with_len 0 s.first) c.args.parts.now pss cs are;
     }
 
 pub returns-clause-parts : goal.returns-clause-parts

@@ -1,5 +1,6 @@
 use Rattle.std.proofs.Common.{◌≡◌, ◌∙◌, ap, length, refl, subst, sym, arith}
 use Rattle.std.proofs.lemmas.List.{with_items_is}
+use Rattle.gq_optional.specs.Asking.{AllAsk}
 use Rattle.gq_optional.specs.Walks.{AreShared, known_by}
 use Rattle.gq_optional.specs.steps.Levels.{clauses_of}
 use Rattle.gq_optional.proofs.Walking.{as_many, first_owed, levels_moved, row_alike}
@@ -16,6 +17,7 @@ returns-clause-walk c =
     record {
       levels = levels_moved c.copy_from.new.self w.base new _ c.copy_from.ensures (sym put) begun.ensures.levels;
       shared = subst (AreShared (known_by w)) (sym (ap clauses_of put ∙ begun.ensures.clauses ∙ ap clauses_of slice)) c.requires.walk.shared;
+      asks = subst (AllAsk w.graph.now) (sym (ap clauses_of put ∙ begun.ensures.clauses ∙ ap clauses_of slice)) c.requires.walk.asks;
       row = row_alike w.base c.copy_from.new.self begun.new.row new c.copy_from.ensures begun.ensures.levels begun.ensures.row;
     }
 
@@ -27,7 +29,7 @@ returns-clause-next c =
     let slice = c.as_mut_slice.ensures.value in
     let long : length new ≡ w.levels.len = omega (arith, as_many new c.as_mut_slice.result.now begun.ensures.clauses, ap length slice, w.levels.ok.0) in
     first_owed w.graph.now w.base w.levels.items c.as_mut_slice.result.now new _ begun.new.row begun.result slice (with_items_is w.levels new long) w.fresh w.standing c.copy_from.new.self c.requires.fresh
-    c.copy_from.ensures begun.ensures.begins begun.ensures.row begun.ensures.mark
+    c.copy_from.ensures (begun.ensures.begins w.graph.now (subst (AllAsk w.graph.now) (sym (ap clauses_of slice)) c.requires.walk.asks)) begun.ensures.row begun.ensures.mark
 
 pub returns-clause-same : goal.returns-clause-same
 returns-clause-same c =

@@ -1,6 +1,7 @@
 use Rattle.std.proofs.Common.{◌≡◌, ◌∙◌, ap, length, refl, subst, sym, arith}
 use Rattle.std.proofs.lemmas.List.{with_items_is}
 use Rattle.std.specs.Vec.{with_items}
+use Rattle.gq_optional.specs.Asking.{AllAsk}
 use Rattle.gq_optional.specs.Walks.{AreShared, known_by}
 use Rattle.gq_optional.specs.steps.Levels.{clauses_of}
 use Rattle.gq_optional.proofs.Stepped.{levels_sized}
@@ -23,6 +24,7 @@ returns-clause-walk c =
     record {
       levels = levels_sized (length w.row.nodes) (length w.row.rels) w.base new _ (sym c.requires.walk.row.nodes) (sym c.requires.walk.row.rels) put step.ensures.levels;
       shared = subst (AreShared (known_by w)) (sym (ap clauses_of put ∙ step.ensures.clauses ∙ ap clauses_of slice)) c.requires.walk.shared;
+      asks = subst (AllAsk w.graph.now) (sym (ap clauses_of put ∙ step.ensures.clauses ∙ ap clauses_of slice)) c.requires.walk.asks;
       row = alike_then step.new.row w.row w.base step.ensures.wide c.requires.walk.row;
     }
 
@@ -34,14 +36,15 @@ returns-clause-next c =
     let slice = c.as_mut_slice.ensures.value in
     let long : length new ≡ w.levels.len = omega (arith, as_many new c.as_mut_slice.result.now step.ensures.clauses, ap length slice, w.levels.ok.0) in
     next_owed w.graph.now w.base w.levels.items c.as_mut_slice.result.now new _ step.new.row step.new.mark slice (with_items_is w.levels new long) w.fresh w.standing step.result c.requires.fresh c.requires.standing
-    step.ensures.next step.ensures.row step.ensures.mark
+    (step.ensures.next w.graph.now (subst (AllAsk w.graph.now) (sym (ap clauses_of slice)) c.requires.walk.asks)) step.ensures.row step.ensures.mark
 
 pub returns-clause-none : goal.returns-clause-none
 returns-clause-none c =
     let w = c.args.self.now in
     let step = c.step_from-self in
-    next_none w.graph.now w.base w.levels.items c.as_mut_slice.result.now step.new.levels step.new.levels step.new.row step.new.mark c.as_mut_slice.ensures.value refl w.fresh w.standing step.result c.requires.fresh c.requires.standing
-    step.ensures.next
+    let slice = c.as_mut_slice.ensures.value in
+    next_none w.graph.now w.base w.levels.items c.as_mut_slice.result.now step.new.levels step.new.levels step.new.row step.new.mark slice refl w.fresh w.standing step.result c.requires.fresh c.requires.standing
+    (step.ensures.next w.graph.now (subst (AllAsk w.graph.now) (sym (ap clauses_of slice)) c.requires.walk.asks))
 
 pub returns-clause-over : goal.returns-clause-over
 returns-clause-over c over =
