@@ -15,22 +15,36 @@ import time
 UNIT = "gq_adj"
 
 
-def running(parent):
-    """The run's children: each with its number, start, processor seconds, folder and words."""
-    tick = os.sysconf("SC_CLK_TCK")
-    for number in filter(str.isdigit, os.listdir("/proc")):
+def stat_of(number):
+    """The parent of a process, the time at which it started and the processor seconds that it took itself; nothing where it has gone."""
+    try:
+        with open(f"/proc/{number}/stat", encoding="utf8") as file:
+            fields = file.read().rsplit(")", 1)[1].split()
+    except OSError:
+        return None
+    return int(fields[1]), fields[19], (int(fields[11]) + int(fields[12])) / os.sysconf("SC_CLK_TCK")
+
+
+def running(run):
+    """What the run has started, and what that has started, as a check does that shares its searches: each with its number, start,
+    processor seconds, folder and words."""
+    found = {int(number): stat_of(number) for number in filter(str.isdigit, os.listdir("/proc"))}
+    children = collections.defaultdict(list)
+    for number, stat in found.items():
+        if stat:
+            children[stat[0]].append(number)
+    below = list(children[run])
+    for number in below:
+        below += children[number]
+        _, start, seconds = found[number]
         try:
-            with open(f"/proc/{number}/stat", encoding="utf8") as file:
-                fields = file.read().rsplit(")", 1)[1].split()
-            if int(fields[1]) != parent:
-                continue
             with open(f"/proc/{number}/cmdline", encoding="utf8") as file:
                 words = file.read().split("\0")
             folder = os.readlink(f"/proc/{number}/cwd")
         except (OSError, ValueError):
             continue
         if any(words):
-            yield (number, fields[19]), (int(fields[11]) + int(fields[12])) / tick, folder, words
+            yield (number, start), seconds, folder, words
 
 
 def kind(folder, words):

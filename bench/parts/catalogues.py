@@ -1,4 +1,5 @@
-"""The graphs of the hostile statements: up to 64 tables of each form, with one node in each and no relationships but loops."""
+"""The graphs of the hostile statements: up to 64 tables of each form, with one node in each and no relationships but loops; and
+one with some nodes in two tables, all of one of which have relationships with one another."""
 import os
 
 SPARSE = """0-57 3-1 3-2 3-29 4-9 4-61 7-61 10-2 11-32 11-56 13-20 13-40 14-3 15-42 17-8 21-20 21-21 22-23 23-37 23-44 25-29 26-12
@@ -33,11 +34,26 @@ CATALOGUES = {
     "one type": (64, [(at, (at + 1) % 64) for at in range(64)], True),
     "star": (64, [(0, at) for at in range(1, 64)], False),
 }
+CROWD, FEW, MANY = "crowd", 160, 2_048  # so many nodes each; 160 with themselves make 4,096,000 paths of two relationships
 STUDIED = ("complete", "sparse", "bipartite", "denser", "layers")
+
+
+def make_crowd(folder):
+    """Writes the manifest and the files of the graph with some nodes."""
+    few = range(FEW)
+    for name, lines in {
+        manifest(CROWD): ["node Few few.csv", "node Many many.csv", "rel LINK Few Few many_many link.csv"],
+        "few.csv": ["id:int,x:int", *(f"{at},{at}" for at in few)],
+        "many.csv": ["id:int,x:int", *(f"{at},{at}" for at in range(MANY))],
+        "link.csv": ["from,to", *(f"{one},{other}" for one in few for other in few)],
+    }.items():
+        with open(os.path.join(folder, name), "w", encoding="ascii") as file:
+            file.write("\n".join(lines) + "\n")
 
 
 def make(folder):
     """Writes the manifests and the files of all catalogues."""
+    make_crowd(folder)
     for name, text in {"n.csv": "id:int,x:int\n1,1\n", "r.csv": "from,to\n", "loop.csv": "from,to\n1,1\n"}.items():
         with open(os.path.join(folder, name), "w", encoding="ascii") as file:
             file.write(text)

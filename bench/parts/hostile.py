@@ -1,7 +1,7 @@
 """Statements that were made to cost much: small patterns over many tables, and texts as long as a statement may be."""
 from dataclasses import dataclass
 
-from .catalogues import STUDIED
+from .catalogues import CROWD, STUDIED
 
 LONGEST = 65_536  # bytes that a statement may have
 
@@ -186,10 +186,34 @@ def exists():
     test = f"exists(({{{','.join(['x:1'] * 1300)}}}))"
     for count in (1, 7):
         text = f"MATCH (a:N0) WHERE {' AND '.join([test] * count)} RETURN 1"
-        yield Hostile("exists", f"{count} of 1,300 entries each", "ring", text, milliseconds=1000, megabytes=300, answered=True)
+        yield Hostile("exists", f"{count} of 1,300 entries each", "ring", text, answered=count == 1)
     text = f"MATCH (a) WHERE exists((a){'-->()' * 22}) RETURN 1"
     yield Hostile("exists", "a path of 23", "line", text, answered=True)
 
 
+def kept():
+    """Statements that would keep gigabytes: wide rows, joined parts, optional clauses and tests of paths."""
+    pairs = "MATCH (a:Many), (b:Many) "  # 4,194,304
+    properties = ", ".join(f"a.x AS c{at}" for at in range(64))
+    sums = ", ".join(f"a.x + {at} AS c{at}" for at in range(64))
+    texts = {
+        "64 properties": f"{pairs}RETURN {properties}",
+        "64 sums": f"{pairs}RETURN {sums}",
+        "64 sums, ORDER BY": f"{pairs}RETURN {sums} ORDER BY c0",
+        "64 properties, DISTINCT": f"{pairs}RETURN DISTINCT b.x AS b, {properties[:properties.rindex(',')]}",
+        "a variable, DISTINCT": f"{pairs}RETURN DISTINCT a, b",
+    }
+    walks = [f"(a{at}:Few)-->(b{at})-->(c{at})" for at in range(8)]  # 4,070,400 each
+    texts["7 joined parts of two relationships"] = f"MATCH {', '.join(walks)} RETURN 1 LIMIT 1"
+    texts["7 optional clauses of two relationships"] = (
+        "MATCH (m:Many {id: 1})" + "".join(f" OPTIONAL MATCH {walk}" for walk in walks[:7]) + " RETURN 1 LIMIT 1")
+    tests = " AND ".join(f"exists((a)-->(b)-->(c {{x: {at}}})-->({{x: {at}}}))" for at in range(2))
+    texts["tests of paths with three nodes of the query"] = f"MATCH (a:Few), (b:Few), (c:Few) WHERE {tests} RETURN 1 LIMIT 1"
+    tests = " AND ".join("exists((a)-->(b)-->(c))" for _ in range(3))
+    texts["tests of paths that all hold"] = f"MATCH (a:Few), (b:Few), (c:Few) WHERE {tests} RETURN 1 LIMIT 1"
+    for name, text in texts.items():
+        yield Hostile("kept", name, CROWD, text, milliseconds=60_000, megabytes=1000)
+
+
 KINDS = {"pairs": pairs, "paths": paths, "cycles": cycles, "copies": copies, "rows": rows, "names": names, "texts": texts,
-         "optional": optional, "exists": exists}
+         "optional": optional, "exists": exists, "kept": kept}
