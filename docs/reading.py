@@ -101,7 +101,9 @@ class Source:  # a file: what its words bring from elsewhere, its items, and its
         module, member = imports[head][0], imports[head][1] or rest.split(".")[0]
         if not module.startswith("Rattle.gq_"):
             return module, member or word
-        _, crate, _, *path = module.split(".")
+        _, crate, folder, *path = module.split(".")
+        if folder == "proofs":
+            return module, member or word
         if path[0] not in ("declared", "contracts"):
             return SOURCES["/".join([crate, "specs", *path])].meaning(member)
         name = member if "TheConstants" in path else [part for part in path if not re.match("The[A-Z]", part)][-1]
