@@ -37,7 +37,7 @@ use Rattle.gq_execute.proofs.Draining.{outcomes_bag}
 
 module _ (becomes : Becomes) (g : Graph) (order : Order) (y : Typed) (old new : Table) (p : Plan) (covers : Covers g.catalog y p) (light : has_large_part g order old.most y ≡ false) where
   abbrev started : Table
-  started = record { bound = old.bound; most = old.most; alternative = Some y; graph = Some g; held = old.held; pushed = old.pushed }
+  started = record { bound = old.bound; most = old.most; alternative = Some y; graph = old.graph; held = old.held; pushed = old.pushed }
 
   abbrev os : List (Result Row Fault)
   os = outcomes_by becomes g old.bound y (meaning g y p)

@@ -52,7 +52,7 @@ fn push<'g>(
     tests: &Tests<'_>,
 ) -> Result<More, RowRefusal>
     requires started { IsSome table.old.alternative }
-    requires graph { table.old.graph ≡ Some graph.now }
+    requires graph { table.old.graph ≡ graph.now }
     requires chunk { IsChunkIn graph.now table.old.alternative chunk.now }
     requires stands { StandsForSome table.old }
     requires room { is_full_table table.old ≡ false }
@@ -86,6 +86,7 @@ fn drain<'g>(
         TakesAll (owed_outcomes (given_by later) graph.now table.old pipeline.old)
         table.old table.new result }
     ensures ran { OnOk result (HasRun table.old table.new pipeline.old pipeline.new) }
+    ensures graph { OnOk result (table.new.graph ≡ table.old.graph) }
     ensures columns { pipeline.new.columns ≡ pipeline.old.columns }
     ensures serves { Serves pipeline.new pool.new }
     ensures slots { pool.new.out ≡ pool.old.out }
@@ -128,6 +129,7 @@ fn drain_all<'g>(
         TakesAll (owed_outcomes (given_on later) graph.now table.old pipeline.old)
         table.old table.new result }
     ensures ran { OnOk result (HasRun table.old table.new pipeline.old pipeline.new) }
+    ensures graph { OnOk result (table.new.graph ≡ table.old.graph) }
     ensures columns { pipeline.new.columns ≡ pipeline.old.columns }
     ensures serves { Serves pipeline.new pool.new }
     ensures slots { pool.new.out ≡ pool.old.out }
@@ -165,12 +167,14 @@ fn take_turn<'g>(
     requires stands { StandsForSome table.old }
     requires room { is_full_table table.old ≡ false }
     requires most { settings.now.rows ≡ table.old.most }
+    requires graph { table.old.graph ≡ graph.now }
     requires slots { 112 ≤ spare_of pool.old }
     ensures drains { let later = later_by graph.now prepared.now in
         Drains (given_on later) graph.now table.old.bound settings.now.order typed.now
         table.old table.new result }
     ensures spends { IfOk result
         (SpendsTurn graph.now settings.now.order typed.now table.old table.new) }
+    ensures graph { OnOk result (table.new.graph ≡ table.old.graph) }
     ensures slots { spare_of pool.new ≡ spare_of pool.old }
 {
     graph.stands_valid();
@@ -182,7 +186,7 @@ fn take_turn<'g>(
         Err(refusal) => return Err(AnswerRefusal::from(refusal)),
     };
     let mut pipeline = Pipeline::start(alloc, graph, &builds, plan, typed, pool)?;
-    table.start_alternative(typed, graph);
+    table.start_alternative(typed);
     let drained = drain_all(alloc, graph, prepared, typed, &mut pipeline, pool, table);
     let own = pipeline.finish(pool);
     match drained {
@@ -218,6 +222,7 @@ fn take_turns<'g>(
     requires apart { (bound.now.optionals ≡ [] → ⊥) → bound.now.trails ≡ [] }
     requires walks { All (CanWalk bound.now) bound.now.alternatives }
     requires fresh { IsFresh bound.now settings.now table.old }
+    requires graph { table.old.graph ≡ graph.now }
     requires slots { 112 ≤ spare_of pool.old }
     ensures fills { Fills graph.now bound.now settings.now table.new result }
     ensures stands { OnOk result (StandsForSome table.new) }
@@ -266,6 +271,7 @@ fn fill<'g>(
     requires apart { (bound.now.optionals ≡ [] → ⊥) → bound.now.trails ≡ [] }
     requires walks { All (CanWalk bound.now) bound.now.alternatives }
     requires fresh { IsFresh bound.now settings.now table.old }
+    requires graph { table.old.graph ≡ graph.now }
     requires slots { 112 ≤ spare_of pool.old }
     ensures answers { AnswersAll graph.now bound.now settings.now table.new result }
     ensures stands { OnOk result (StandsForSome table.new) }
@@ -341,7 +347,8 @@ pub fn answer<'g>(
     ensures slots { spare_of pool.new ≡ spare_of pool.old }
 {
     graph.stands_valid();
-    let mut table = RowTable::new(alloc, bound, settings.rows, row_bytes(settings.rows));
+    let room = row_bytes(settings.rows);
+    let mut table = RowTable::new(alloc, bound, graph, settings.rows, room);
     let spent = match fill(alloc, graph, bound, &mut table, pool, settings) {
         Ok(spent) => spent,
         Err(refusal) => return Err(refusal),

@@ -50,7 +50,7 @@ fn push_walk<'g>(
 ) -> Result<More, RowRefusal>
     requires walk { IsWalk walk.old }
     requires started { IsSome table.old.alternative }
-    requires graph { table.old.graph ≡ Some graph.now }
+    requires graph { table.old.graph ≡ graph.now }
     requires stands { StandsForSome table.old }
     requires room { is_full_table table.old ≡ false }
     ensures pushes { let os = map (ending graph.now table.old.bound) (owed_by walk.old) in
@@ -83,7 +83,7 @@ fn push_copied<'g>(
     requires rels { length row.now.rels ≡ length typed.now.rels }
     requires behind { IsBehind graph.now table.old.bound typed.now prepared.now behind.old }
     requires started { IsSome table.old.alternative }
-    requires graph { table.old.graph ≡ Some graph.now }
+    requires graph { table.old.graph ≡ graph.now }
     requires stands { StandsForSome table.old }
     requires room { is_full_table table.old ≡ false }
     ensures pushes { let m : Marked = record { row = row_of row.now; mark = fault } in
@@ -117,7 +117,7 @@ fn push_row<'g>(
     requires asked { prepared.now.conjuncts ≡ asked_of graph.now table.old.bound.conjuncts }
     requires behind { IsBehind graph.now table.old.bound typed.now prepared.now behind.old }
     requires started { IsSome table.old.alternative }
-    requires graph { table.old.graph ≡ Some graph.now }
+    requires graph { table.old.graph ≡ graph.now }
     requires stands { StandsForSome table.old }
     requires room { is_full_table table.old ≡ false }
     ensures pushes { let later = later_by graph.now prepared.now in
@@ -151,7 +151,7 @@ fn push_rows<'g>(
     requires asked { prepared.now.conjuncts ≡ asked_of graph.now table.old.bound.conjuncts }
     requires behind { IsBehind graph.now table.old.bound typed.now prepared.now behind.old }
     requires started { IsSome table.old.alternative }
-    requires graph { table.old.graph ≡ Some graph.now }
+    requires graph { table.old.graph ≡ graph.now }
     requires stands { StandsForSome table.old }
     requires room { is_full_table table.old ≡ false }
     ensures pushes { let later = later_by graph.now prepared.now in
@@ -217,6 +217,7 @@ pub(crate) fn drain_behind<'g>(
         TakesAll (owed_outcomes (given_by later) graph.now table.old pipeline.old)
         table.old table.new result }
     ensures ran { OnOk result (HasRun table.old table.new pipeline.old pipeline.new) }
+    ensures graph { OnOk result (table.new.graph ≡ table.old.graph) }
     ensures columns { pipeline.new.columns ≡ pipeline.old.columns }
     ensures serves { Serves pipeline.new pool.new }
     ensures slots { pool.new.out ≡ pool.old.out }

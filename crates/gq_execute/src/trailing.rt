@@ -53,7 +53,7 @@ fn push_judged<'g>(
 ) -> Result<More, RowRefusal>
     requires asked { prepared.now.conjuncts ≡ asked_of graph.now table.old.bound.conjuncts }
     requires started { IsSome table.old.alternative }
-    requires graph { table.old.graph ≡ Some graph.now }
+    requires graph { table.old.graph ≡ graph.now }
     requires stands { StandsForSome table.old }
     requires room { is_full_table table.old ≡ false }
     ensures pushes { let later = if_admitted (admitted_by prepared.now.tests.all) graph.now in
@@ -84,7 +84,7 @@ fn push_reached<'g>(
     requires trails { AreTrailsOf graph.now table.old.bound trails.old }
     requires asked { prepared.now.conjuncts ≡ asked_of graph.now table.old.bound.conjuncts }
     requires started { IsSome table.old.alternative }
-    requires graph { table.old.graph ≡ Some graph.now }
+    requires graph { table.old.graph ≡ graph.now }
     requires stands { StandsForSome table.old }
     requires room { is_full_table table.old ≡ false }
     ensures pushes { let later = if_admitted (admitted_by prepared.now.tests.all) graph.now in
@@ -116,7 +116,7 @@ fn push_continued<'g, 'w>(
     requires asked { prepared.now.conjuncts ≡ asked_of graph.now table.old.bound.conjuncts }
     requires walking { IsWalking graph.now table.old.bound typed.now walking.old }
     requires started { IsSome table.old.alternative }
-    requires graph { table.old.graph ≡ Some graph.now }
+    requires graph { table.old.graph ≡ graph.now }
     requires stands { StandsForSome table.old }
     requires room { is_full_table table.old ≡ false }
     ensures pushes { let later = if_admitted (admitted_by prepared.now.tests.all) graph.now in
@@ -147,7 +147,7 @@ fn push_walked<'g, 'w>(
     requires asked { prepared.now.conjuncts ≡ asked_of graph.now table.old.bound.conjuncts }
     requires walking { IsWalking graph.now table.old.bound typed.now walking.old }
     requires started { IsSome table.old.alternative }
-    requires graph { table.old.graph ≡ Some graph.now }
+    requires graph { table.old.graph ≡ graph.now }
     requires stands { StandsForSome table.old }
     requires room { is_full_table table.old ≡ false }
     ensures pushes { let later = if_admitted (admitted_by prepared.now.tests.all) graph.now in
@@ -219,6 +219,7 @@ pub(crate) fn drain_trails<'g>(
         TakesAll (owed_outcomes (given_on later) graph.now table.old pipeline.old)
         table.old table.new result }
     ensures ran { OnOk result (HasRun table.old table.new pipeline.old pipeline.new) }
+    ensures graph { OnOk result (table.new.graph ≡ table.old.graph) }
     ensures columns { pipeline.new.columns ≡ pipeline.old.columns }
     ensures serves { Serves pipeline.new pool.new }
     ensures slots { pool.new.out ≡ pool.old.out }

@@ -31,7 +31,7 @@ use Rattle.gq_rows.specs.declared.refusal.More.TheVariants as more
 use Rattle.gq_rows.specs.declared.refusal.RowRefusal.{RowRefusal}
 use Rattle.gq_rows.specs.declared.refusal.RowRefusal.TheVariants as refusal
 use Rattle.gq_rows.specs.declared.table.RowTable.TheInside.{Inside}
-use Rattle.gq_rows.specs.steps.Inner.{IsDone, IsDoneAs, held_by, table_of, table_with}
+use Rattle.gq_rows.specs.steps.Inner.{held_by, table_of, table_with}
 use Rattle.gq_rows.specs.steps.Judged.{check_after, values_after}
 use Rattle.gq_rows.specs.steps.Keeping.{Has, HasForm, HasFull, HasMore, HasPast, IsNoFault, PushesHeld, TellsFull, bar_of, held_of, more_rows}
 use Rattle.gq_rows.specs.steps.Listed.{AddedIn, AddsIn, IsListing, IsPlain, PutsRow, held_in, is_listing, outcome_in, outcome_within, table_in}
@@ -142,10 +142,10 @@ module _ (q : question.Asked) (listing : IsListing q) where
 
     pub told : (new : Listed) (o : Option (Result Row Fault)) (added : Bool) (m : More) → AddsIn q o old new (Ok added) → TellsFull q.form m (held_in new) → Pushes o (table_in q old) (table_in q new) (Ok m)
     told new o added m a tells =
-        pushes b q.form q.limit None None 0 listing.small listing.form (held_in old) room some (held_in new) o (Ok m) (held_ok old new o added m open_at a tells)
+        pushes b q.form q.limit None q.graph.now 0 listing.small listing.form (held_in old) room some (held_in new) o (Ok m) (held_ok old new o added m open_at a tells)
 
     pub refused : (new : Listed) (o : Option (Result Row Fault)) (r : RowRefusal) → AddsIn q o old new (Err r) → Pushes o (table_in q old) (table_in q new) (Err r)
-    refused new o r a = pushes b q.form q.limit None None 0 listing.small listing.form (held_in old) room some (held_in new) o (Err r) (held_err old new o r a)
+    refused new o r a = pushes b q.form q.limit None q.graph.now 0 listing.small listing.form (held_in old) room some (held_in new) o (Err r) (held_err old new o r a)
 
 -- ---- the two ways in which a table holds its rows
 
@@ -198,46 +198,46 @@ module _ (t : Inside) (old : Table) (view : table_of t ≡ old) (e : is_listing 
   }
 
   -- a table of what is asked, that holds the same cells
-  abbrev with_cells : Option Typed → Option Graph → ℕ → Held → Table
+  abbrev with_cells : Option Typed → Graph → ℕ → Held → Table
   with_cells y g n h = record { bound = t.bound.now; most = t.limit; alternative = y; graph = g; held = h; pushed = n }
 
-  pub stands_listed : (l : Listed) → held_in l ≡ held_in t.listed → StandsForSome old → StandsForSome (with_cells None None 0 (held_in l))
+  pub stands_listed : (l : Listed) → held_in l ≡ held_in t.listed → StandsForSome old → StandsForSome (with_cells None t.graph.now 0 (held_in l))
   stands_listed l same some =
       let here : StandsForSome (table_with t (held_in t.listed)) = subst StandsForSome (sym listed_view) some in
-      subst (λ h. StandsForSome (with_cells None None 0 h)) (sym same) (here.0, here.1)
+      subst (λ h. StandsForSome (with_cells None t.graph.now 0 h)) (sym same) (here.0, here.1)
 
-  pub room_listed : (l : Listed) → held_in l ≡ held_in t.listed → is_full_table old ≡ false → is_full_table (with_cells None None 0 (held_in l)) ≡ false
+  pub room_listed : (l : Listed) → held_in l ≡ held_in t.listed → is_full_table old ≡ false → is_full_table (with_cells None t.graph.now 0 (held_in l)) ≡ false
   room_listed l same room =
       let here : is_full_table (table_with t (held_in t.listed)) ≡ false = subst (λ x. is_full_table x ≡ false) (sym listed_view) room in
       ap (is_full (cut_of t.bound.now)) same ∙ here
 
-  alike : (o : Option (Result Row Fault)) (r : Result More RowRefusal) (z : Option Typed) (g : Option Graph) (n : ℕ) (h new : Held) → Pushes o (with_cells None None 0 h) (with_cells None None 0 new) r → Pushes o (with_cells z g n h) (with_cells z g n new) r
-  alike o (Ok more.Go) z g n h new p = p
-  alike o (Ok more.Enough) z g n h new p = p
-  alike o (Err (refusal.Fault f)) z g n h new p = p
-  alike o (Err (refusal.TooManyRows l)) z g n h new p = p
-  alike o (Err refusal.Memory) z g n h new p = tt
+  alike : (o : Option (Result Row Fault)) (r : Result More RowRefusal) (here : Graph) (z : Option Typed) (g : Graph) (n : ℕ) (h new : Held) → Pushes o (with_cells None here 0 h) (with_cells None here 0 new) r → Pushes o (with_cells z g n h) (with_cells z g n new) r
+  alike o (Ok more.Go) here z g n h new p = p
+  alike o (Ok more.Enough) here z g n h new p = p
+  alike o (Err (refusal.Fault f)) here z g n h new p = p
+  alike o (Err (refusal.TooManyRows l)) here z g n h new p = p
+  alike o (Err refusal.Memory) here z g n h new p = tt
 
-  alike_all : (os : List (Result Row Fault)) (r : Result More RowRefusal) (z : Option Typed) (g : Option Graph) (n : ℕ) (h new : Held) → PushesAll os (with_cells None None 0 h) (with_cells None None 0 new) r → PushesAll os (with_cells z g n h) (with_cells z g n new) r
-  alike_all os (Ok more.Go) z g n h new p = p
-  alike_all os (Ok more.Enough) z g n h new p = p
-  alike_all os (Err (refusal.Fault f)) z g n h new p = record { there = p.there; seen = p.seen }
-  alike_all os (Err (refusal.TooManyRows l)) z g n h new p = p
-  alike_all os (Err refusal.Memory) z g n h new p = tt
+  alike_all : (os : List (Result Row Fault)) (r : Result More RowRefusal) (here : Graph) (z : Option Typed) (g : Graph) (n : ℕ) (h new : Held) → PushesAll os (with_cells None here 0 h) (with_cells None here 0 new) r → PushesAll os (with_cells z g n h) (with_cells z g n new) r
+  alike_all os (Ok more.Go) here z g n h new p = p
+  alike_all os (Ok more.Enough) here z g n h new p = p
+  alike_all os (Err (refusal.Fault f)) here z g n h new p = record { there = p.there; seen = p.seen }
+  alike_all os (Err (refusal.TooManyRows l)) here z g n h new p = p
+  alike_all os (Err refusal.Memory) here z g n h new p = tt
 
-  pub pushed_listed : (o : Option (Result Row Fault)) (r : Result More RowRefusal) (l new : Listed) (done : Bool) (fs : _) → held_in l ≡ held_in t.listed
-      → Pushes o (with_cells None None 0 (held_in l)) (with_cells None None 0 (held_in new)) r → Pushes o old (table_of (record t { listed = new; done = done; finders = fs })) r
-  pushed_listed o r l new done fs same p =
+  pub pushed_listed : (o : Option (Result Row Fault)) (r : Result More RowRefusal) (here : Graph) (l new : Listed) (done : Bool) (fs : _) → held_in l ≡ held_in t.listed
+      → Pushes o (with_cells None here 0 (held_in l)) (with_cells None here 0 (held_in new)) r → Pushes o old (table_of (record t { listed = new; done = done; finders = fs })) r
+  pushed_listed o r here l new done fs same p =
       subst (λ x. Pushes o x (table_of (record t { listed = new; done = done; finders = fs })) r) listed_view
       (subst (λ b. Pushes o (table_with t (held_in t.listed)) (table_with t (held_t b (record t { listed = new; done = done; finders = fs }))) r) (sym e)
-      (alike o r (option_copied t.typed) (option_copied t.graph) t.pushed (held_in t.listed) (held_in new) (subst (λ h. Pushes o (with_cells None None 0 h) (with_cells None None 0 (held_in new)) r) same p)))
+      (alike o r here (option_copied t.typed) t.graph.now t.pushed (held_in t.listed) (held_in new) (subst (λ h. Pushes o (with_cells None here 0 h) (with_cells None here 0 (held_in new)) r) same p)))
 
-  pub pushed_chunk : (os : List (Result Row Fault)) (r : Result More RowRefusal) (l new : Listed) (done : Bool) (fs : _) → held_in l ≡ held_in t.listed
-      → PushesAll os (with_cells None None 0 (held_in l)) (with_cells None None 0 (held_in new)) r → PushesAll os old (table_of (record t { listed = new; done = done; finders = fs })) r
-  pushed_chunk os r l new done fs same p =
+  pub pushed_chunk : (os : List (Result Row Fault)) (r : Result More RowRefusal) (here : Graph) (l new : Listed) (done : Bool) (fs : _) → held_in l ≡ held_in t.listed
+      → PushesAll os (with_cells None here 0 (held_in l)) (with_cells None here 0 (held_in new)) r → PushesAll os old (table_of (record t { listed = new; done = done; finders = fs })) r
+  pushed_chunk os r here l new done fs same p =
       subst (λ x. PushesAll os x (table_of (record t { listed = new; done = done; finders = fs })) r) listed_view
       (subst (λ b. PushesAll os (table_with t (held_in t.listed)) (table_with t (held_t b (record t { listed = new; done = done; finders = fs }))) r) (sym e)
-      (alike_all os r (option_copied t.typed) (option_copied t.graph) t.pushed (held_in t.listed) (held_in new) (subst (λ h. PushesAll os (with_cells None None 0 h) (with_cells None None 0 (held_in new)) r) same p)))
+      (alike_all os r here (option_copied t.typed) t.graph.now t.pushed (held_in t.listed) (held_in new) (subst (λ h. PushesAll os (with_cells None here 0 h) (with_cells None here 0 (held_in new)) r) same p)))
 
   pub answers_listed : (lines : List (List Val)) → ((list : List Row) → Holds t.bound.now list (held_in t.listed) → Lists t.bound.now list lines) → AnswersListings old lines
   answers_listed lines lists = subst (λ x. AnswersListings x lines) listed_view (λ outcomes s. record { rows = s.rows; looked = s.looked; lists = lists s.rows s.holds })
@@ -252,17 +252,10 @@ inside_listing t old view e = ap (λ (x : Table). is_listing x.bound) view ∙ e
 pub inside_valued : (t : Inside) (old : Table) → table_of t ≡ old → is_listing old.bound ≡ false → is_listing t.bound.now ≡ false
 inside_valued t old view e = ap (λ (x : Table). is_listing x.bound) view ∙ e
 
--- ---- what was looked up for the alternative
+-- ---- what was made ready and found
 
-pub inside_graph : (t : Inside) (old : Table) (g : Graph) → table_of t ≡ old → old.graph ≡ Some g → option_copied t.graph ≡ Some g
+pub inside_graph : (t : Inside) (old : Table) (g : Graph) → table_of t ≡ old → old.graph ≡ g → t.graph.now ≡ g
 inside_graph t old g view has = ap (λ (x : Table). x.graph) view ∙ has
-
-module _ (d : Bool) (g : Graph) (t : Inside) (has : option_copied t.graph ≡ Some g) (e : is_listing t.bound.now ≡ d) where
-  pub was_done : IsDone (option_copied t.graph) t → IsDoneAs d g t
-  was_done h = subst (λ b. IsDoneAs b g t) e (subst (λ o. IsDone o t) has h)
-
-  pub now_done : IsDoneAs d g t → IsDone (option_copied t.graph) t
-  now_done h = subst (λ o. IsDone o t) (sym has) (subst (λ b. IsDoneAs b g t) (sym e) h)
 
 -- what expressions read of an assignment of an alternative
 pub within_is : (admitted : reading.Assignment → Bool) (q : question.Asked) (y : Typed) → q.late.now ≡ y.late → (here : reading.Assignment) → outcome_within admitted q here ≡ outcome_admitted admitted q.graph.now q.bound.now y here

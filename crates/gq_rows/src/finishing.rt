@@ -156,7 +156,7 @@ impl<'g> RowTable<'g> {
             graph: _,
             limit: _,
             room: _,
-            most: _,
+            row_bytes: _,
             form: _,
             sure: _,
             rows,

@@ -1,6 +1,6 @@
 //! The columns, the keys and the conjuncts of a query, each made ready once for many rows.
-ghost use Rattle.std.specs.Prelude.{◌≡◌, IfOk, OnOk, true};
-ghost use Rattle.gq_rows.specs.steps.Reading.{IsReading, asked_columns, asked_keys};
+ghost use Rattle.std.specs.Prelude.{◌≡◌, IfOk, OnOk, false};
+ghost use Rattle.gq_rows.specs.steps.Reading.{IsReading, IsReadyFor, asked_columns, asked_keys};
 
 use gq_base::{List, Memory};
 use gq_eval::Evaluator;
@@ -8,40 +8,45 @@ use gq_plan::{Bound, NamedExpr, SortExpr};
 use gq_store::Graph;
 use std::alloc::Global;
 
-/// The columns, the keys and the conjuncts of a query, as they are evaluated over a graph.
+/// The columns, the keys and the conjuncts of a query, as they are evaluated over a graph, once they
+/// were made ready.
 #[derive(Drop)]
 pub struct Reading<'g> {
+    pub(crate) ready: bool,
     pub(crate) columns: List<Evaluator<'g>>,
     pub(crate) keys: List<Evaluator<'g>>,
     pub(crate) conjuncts: List<Evaluator<'g>>,
 }
 
 impl<'g> Reading<'g> {
-    /// Nothing to evaluate. It takes no memory.
-    pub(crate) fn new(alloc: Global) -> Reading<'g> {
+    /// Nothing is made ready. It takes no memory.
+    pub(crate) fn new(alloc: Global) -> Reading<'g>
+        ensures { result.ready ≡ false }
+    {
         Reading {
+            ready: false,
             columns: List::new(alloc),
             keys: List::new(alloc),
             conjuncts: List::new(alloc),
         }
     }
 
-    /// Puts those of a query over a graph in the place of what was there; where that was done, they
-    /// stay.
+    /// Makes those of a query over a graph ready; where that was done, they stay.
     pub(crate) fn prepare(
         &mut self,
-        done: bool,
         alloc: Global,
         bound: &'g Bound,
         graph: &'g Graph,
     ) -> Result<(), Memory>
-        requires { done ≡ true → IsReading graph.now bound.now self.old }
-        ensures { OnOk result (IsReading graph.now bound.now self.new) }
+        requires { IsReadyFor graph.now bound.now self.old }
+        ensures reads { OnOk result (IsReading graph.now bound.now self.new) }
+        ensures ready { IsReadyFor graph.now bound.now self.new }
     {
-        if done {
+        if self.ready {
             return Ok(());
         }
         *self = Reading {
+            ready: true,
             columns: named_evaluators(alloc, bound.columns.as_slice(), graph)?,
             keys: key_evaluators(alloc, bound.keys.as_slice(), graph)?,
             conjuncts: named_evaluators(alloc, bound.conjuncts.as_slice(), graph)?,

@@ -23,7 +23,7 @@ use crate::judging::Question;
 use crate::listed::{Asked, Listed, find_columns, is_listing};
 use crate::reading::Reading;
 use crate::refusal::{More, RowRefusal};
-use crate::room::most_rows;
+use crate::room::row_bytes;
 use gq_cells::Cells;
 use gq_classes::Classes;
 use gq_expr::{Assigned, Fault};
@@ -45,19 +45,19 @@ pub struct RowTable<'g> {
     pub(crate) alloc: Global,
     pub(crate) bound: &'g Bound,
     pub(crate) typed: Option<&'g Typed>,
-    pub(crate) graph: Option<&'g Graph>,
+    pub(crate) graph: &'g Graph,
     pub(crate) limit: u32,
-    // The bytes that kept rows may take, and how many rows that are held as values take no more.
+    // The bytes that kept rows may take, and what each takes that is held as values.
     pub(crate) room: u64,
-    pub(crate) most: usize,
+    pub(crate) row_bytes: u64,
     pub(crate) form: Form,
     // Each column and each key is sure to have a value.
     pub(crate) sure: bool,
     pub(crate) rows: Rows<'g>,
     // The rows of a query without DISTINCT and without ORDER BY.
     pub(crate) listed: Listed<'g>,
-    // Whether the columns, the keys and the conjuncts were made ready for the alternative, and what
-    // finds the values of the columns of such rows.
+    // Whether the finders of the alternative stand here, which find the values of the columns of such
+    // rows.
     pub(crate) done: bool,
     pub(crate) finders: Vec<Finder>,
     // The finders as they were for the last chunk.
@@ -105,25 +105,32 @@ fn form_of(bound: &Bound) -> Form
 }
 
 impl<'g> RowTable<'g> {
-    /// A table without rows, for the rows of a query, of which at most `limit` are kept, and no more
-    /// than take `room` bytes: a row for which there is no room is refused as by want of memory. What
-    /// vectors have to spare is not counted. It takes no memory.
-    pub fn new(alloc: Global, bound: &'g Bound, limit: u32, room: u64) -> RowTable<'g>
+    /// A table without rows, for the rows of a query over a graph, of which at most `limit` are kept,
+    /// and no more than take `room` bytes: a row for which there is no room is refused as by want of
+    /// memory. What vectors have to spare is not counted. It takes no memory: columns, keys and
+    /// conjuncts are made ready once, at the first push.
+    pub fn new(
+        alloc: Global,
+        bound: &'g Bound,
+        graph: &'g Graph,
+        limit: u32,
+        room: u64,
+    ) -> RowTable<'g>
         ensures none { StandsFor bound.now limit [] result.held }
         ensures bound { result.bound ≡ bound.now }
         ensures most { result.most ≡ limit }
         ensures alternative { result.alternative ≡ None }
-        ensures graph { result.graph ≡ None }
+        ensures graph { result.graph ≡ graph.now }
         ensures pushed { result.pushed ≡ 0 }
     {
         RowTable {
             alloc,
             bound,
             typed: None,
-            graph: None,
+            graph,
             limit,
             room,
-            most: most_rows(bound, room),
+            row_bytes: row_bytes(bound),
             form: form_of(bound),
             sure: are_sure(bound),
             rows: Rows {
@@ -147,14 +154,12 @@ impl<'g> RowTable<'g> {
         }
     }
 
-    /// The assignments that follow are of this alternative, in this graph. What is held stays. It
-    /// takes no memory: columns, keys and conjuncts are made ready once, at the first push that follows.
-    pub fn start_alternative(&mut self, typed: &'g Typed, graph: &'g Graph)
-        ensures { self.new
-            ≡ record self.old { alternative = Some typed.now; graph = Some graph.now } }
+    /// The assignments that follow are of this alternative. What is held stays. It takes no memory:
+    /// what finds the values of columns is found once, at the first push that follows.
+    pub fn start_alternative(&mut self, typed: &'g Typed)
+        ensures { self.new ≡ record self.old { alternative = Some typed.now } }
     {
         self.typed = Some(typed);
-        self.graph = Some(graph);
         self.done = false;
     }
 
@@ -170,7 +175,7 @@ impl<'g> RowTable<'g> {
         graph: &'g Graph,
     ) -> Result<More, RowRefusal>
         requires started { IsSome self.old.alternative }
-        requires graph { self.old.graph ≡ Some graph.now }
+        requires graph { self.old.graph ≡ graph.now }
         requires chunk { IsChunkIn graph.now self.old.alternative chunk.now }
         requires stands { StandsForSome self.old }
         requires room { is_full_table self.old ≡ false }
@@ -190,7 +195,7 @@ impl<'g> RowTable<'g> {
         admits: &A,
     ) -> Result<More, RowRefusal>
         requires started { IsSome self.old.alternative }
-        requires graph { self.old.graph ≡ Some graph.now }
+        requires graph { self.old.graph ≡ graph.now }
         requires chunk { IsChunkIn graph.now self.old.alternative chunk.now }
         requires stands { StandsForSome self.old }
         requires room { is_full_table self.old ≡ false }
@@ -231,7 +236,7 @@ impl<'g> RowTable<'g> {
         graph: &'g Graph,
     ) -> Result<More, RowRefusal>
         requires started { IsSome self.old.alternative }
-        requires graph { self.old.graph ≡ Some graph.now }
+        requires graph { self.old.graph ≡ graph.now }
         requires stands { StandsForSome self.old }
         requires room { is_full_table self.old ≡ false }
         ensures pushes { let marked : Marked = record { row = read row.now; mark = fault } in
@@ -263,7 +268,7 @@ impl<'g> RowTable<'g> {
         admits: &A,
     ) -> Result<More, RowRefusal>
         requires chunk { IsChunkOf graph.now typed.now chunk.now }
-        requires graph { self.old.graph ≡ Some graph.now }
+        requires graph { self.old.graph ≡ graph.now }
         requires stands { StandsForSome self.old }
         requires room { is_full_table self.old ≡ false }
         requires begins { Begins chunk.now.groups.now true choice.old }
@@ -277,16 +282,13 @@ impl<'g> RowTable<'g> {
         if is_listing(self.bound) {
             return self.push_listed(choice, chunk, typed, graph, admits);
         }
-        let done = self.done;
-        self.done = false;
         let mut reading = mem::replace(&mut self.reading, Reading::new(self.alloc));
-        let Ok(()) = reading.prepare(done, self.alloc, self.bound, graph) else {
+        let Ok(()) = reading.prepare(self.alloc, self.bound, graph) else {
             return Err(RowRefusal::Memory);
         };
         match self.push_choices(choice, chunk, &reading, typed, graph, admits) {
             Ok(more) => {
                 self.reading = reading;
-                self.done = true;
                 Ok(more)
             }
             Err(refusal) => Err(refusal),
@@ -305,7 +307,7 @@ impl<'g> RowTable<'g> {
     ) -> Result<More, RowRefusal>
         requires listing { is_listing self.old.bound ≡ true }
         requires chunk { IsChunkOf graph.now typed.now chunk.now }
-        requires graph { self.old.graph ≡ Some graph.now }
+        requires graph { self.old.graph ≡ graph.now }
         requires stands { StandsForSome self.old }
         requires room { is_full_table self.old ≡ false }
         requires begins { Begins chunk.now.groups.now true choice.old }
@@ -316,11 +318,11 @@ impl<'g> RowTable<'g> {
         ensures query { IsSameQuery self.old self.new }
         ensures pushed { self.new.pushed ≡ self.old.pushed }
     {
-        let done = self.done;
-        self.done = false;
-        let Ok(()) = self.reading.prepare(done, self.alloc, self.bound, graph) else {
+        let Ok(()) = self.reading.prepare(self.alloc, self.bound, graph) else {
             return Err(RowRefusal::Memory);
         };
+        let done = self.done;
+        self.done = false;
         let cells = &mut self.listed.cells;
         let Ok(()) = find_columns(done, cells, &mut self.finders, self.bound, typed, graph) else {
             return Err(RowRefusal::Memory);
@@ -361,7 +363,7 @@ impl<'g> RowTable<'g> {
         graph: &'g Graph,
     ) -> Result<More, RowRefusal>
         requires listing { is_listing self.old.bound ≡ true }
-        requires graph { self.old.graph ≡ Some graph.now }
+        requires graph { self.old.graph ≡ graph.now }
         requires stands { StandsForSome self.old }
         requires room { is_full_table self.old ≡ false }
         ensures pushes { let here = R.assignment row.now in
@@ -369,11 +371,11 @@ impl<'g> RowTable<'g> {
         ensures query { IsSameQuery self.old self.new }
         ensures pushed { self.new.pushed ≡ self.old.pushed }
     {
-        let done = self.done;
-        self.done = false;
-        let Ok(()) = self.reading.prepare(done, self.alloc, self.bound, graph) else {
+        let Ok(()) = self.reading.prepare(self.alloc, self.bound, graph) else {
             return Err(RowRefusal::Memory);
         };
+        let done = self.done;
+        self.done = false;
         let cells = &mut self.listed.cells;
         let Ok(()) = find_columns(done, cells, &mut self.finders, self.bound, typed, graph) else {
             return Err(RowRefusal::Memory);
@@ -405,7 +407,7 @@ impl<'g> RowTable<'g> {
         graph: &'g Graph,
     ) -> Result<More, RowRefusal>
         requires valued { is_listing self.old.bound ≡ false }
-        requires graph { self.old.graph ≡ Some graph.now }
+        requires graph { self.old.graph ≡ graph.now }
         requires stands { StandsForSome self.old }
         requires room { is_full_table self.old ≡ false }
         ensures pushes { let here = R.assignment row.now in
@@ -413,16 +415,13 @@ impl<'g> RowTable<'g> {
         ensures query { OnOk result (IsSameQuery self.old self.new) }
         ensures pushed { OnOk result (self.new.pushed ≡ self.old.pushed) }
     {
-        let done = self.done;
-        self.done = false;
         let mut reading = mem::replace(&mut self.reading, Reading::new(self.alloc));
-        let Ok(()) = reading.prepare(done, self.alloc, self.bound, graph) else {
+        let Ok(()) = reading.prepare(self.alloc, self.bound, graph) else {
             return Err(RowRefusal::Memory);
         };
         match self.push(row, &reading, &[], graph) {
             Ok(more) => {
                 self.reading = reading;
-                self.done = true;
                 Ok(more)
             }
             Err(refusal) => Err(refusal),
@@ -515,7 +514,8 @@ impl<'g> RowTable<'g> {
             bound: self.bound,
             late,
             limit: self.limit,
-            most: self.most,
+            room: self.room,
+            row_bytes: self.row_bytes,
             sure: self.sure,
             reading,
         };

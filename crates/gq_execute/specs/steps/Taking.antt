@@ -60,11 +60,11 @@ TakesAll os old new (Err (refusal.Fault f)) = MeetsFault os old f
 TakesAll os old new (Err (refusal.TooManyRows most)) = (most ≡ old.most) × MeetsMany os old
 TakesAll os old new (Err refusal.Memory) = Unit {0}
 
--- a pipeline over this graph runs the alternative that was started for it, and its plan binds all variables
+-- a pipeline over the table's graph runs the alternative that was started, and its plan binds all variables
 pub record IsRunOf (g : Graph) (table : Table) (pipeline : Rest) : Type 0 where
   pub graph : pipeline.source.graph ≡ g
   pub alternative : table.alternative ≡ Some pipeline.source.typed
-  pub started : table.graph ≡ Some g
+  pub started : table.graph ≡ g
   pub complete : binds_all pipeline.source.typed (plan_in pipeline.source) ≡ true
 
 -- the assignments that a pipeline of an alternative owes

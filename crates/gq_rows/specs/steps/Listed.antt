@@ -34,7 +34,7 @@ held_in l = record { columns = l.cells.values; keys = []; count = l.count; class
 
 -- a table of what is asked that holds it
 abbrev pub table_in : question.Asked → Listed → Table
-table_in q l = record { bound = q.bound.now; most = q.limit; alternative = None; graph = None; held = held_in l; pushed = 0 }
+table_in q l = record { bound = q.bound.now; most = q.limit; alternative = None; graph = q.graph.now; held = held_in l; pushed = 0 }
 
 -- the outcome of what expressions read
 abbrev pub outcome_in : question.Asked → reading.Assignment → Option (Result Row Fault)

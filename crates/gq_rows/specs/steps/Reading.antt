@@ -1,5 +1,5 @@
 -- What it means that the columns, the keys and the conjuncts of a query are made ready.
-use Rattle.std.specs.Prelude.{◌≡◌, ℕ, List, flat_map, map, slice_get}
+use Rattle.std.specs.Prelude.{◌≡◌, true, ℕ, List, flat_map, map, slice_get}
 use Rattle.gq_base.specs.Plain.{Graph}
 use Rattle.gq_eval.specs.Asked.{Asked, asked}
 use Rattle.gq_plan.specs.Meaning.{found}
@@ -24,3 +24,7 @@ pub record IsReading (g : Graph) (b : Bound) (r : Reading) : Type 0 where
   pub columns : r.columns ≡ asked_columns g b.columns
   pub keys : r.keys ≡ asked_keys g b.keys
   pub conjuncts : r.conjuncts ≡ asked_columns g b.conjuncts
+
+-- where any were made ready, it was those of this query over this graph
+abbrev pub IsReadyFor : Graph → Bound → Reading → Type 0
+IsReadyFor g b r = r.ready ≡ true → IsReading g b r

@@ -88,6 +88,7 @@ returns-in-Ok-Enough c =
       ran = run_full old begun c.chunks.table c.push.new.table c.chunks.pipeline after i.counted bag some (c.advance.ensures.next_key c.chunks-test.true)
           (c.advance.ensures.chunks ∙ ap (λ t. counted t c.chunks.pipeline.chunks) c.chunks-test.true)
           (λ none. counted_here c.chunks.table.pushed c.push.new.table.pushed (choices chunk.groups.now) c.in-Ok-Enough.ensures.counted (has_choice g begun.source.typed chunk after.chunk here some)) pushes.1;
+      graph = query.graph ∙ i.same.graph;
       columns = c.advance.ensures.columns ∙ i.columns;
       serves = c.advance.ensures.serves;
       slots = c.advance.ensures.pool ∙ i.slots;
@@ -109,6 +110,7 @@ returns-in-Err c =
     record {
       takes = rw c.from.ensures (met (given_by (if_admitted (admitted_by c.args.tests.now.all) c.args.graph.now)) g old begun c.chunks.table c.chunks.pipeline after i.came i.same.bound i.same.most chunk bag here c.push.new.table c.in-Err.refusal pushes);
       ran = tt;
+      graph = tt;
       columns = c.advance.ensures.columns ∙ i.columns;
       serves = c.advance.ensures.serves;
       slots = c.advance.ensures.pool ∙ i.slots;
@@ -122,6 +124,7 @@ returns c =
       takes = all_taken (given_by (if_admitted (admitted_by c.args.tests.now.all) c.args.graph.now)) c.args.graph.now c.args.table.now c.args.pipeline.now c.chunks.table c.chunks.pipeline i.came i.same.bound i.same.most none;
       ran = run_out c.args.table.now c.args.pipeline.now c.chunks.table c.chunks.pipeline c.advance.new.self i.counted none (c.advance.ensures.no_keys c.chunks-test.false)
           (c.advance.ensures.chunks ∙ ap (λ t. counted t c.chunks.pipeline.chunks) c.chunks-test.false);
+      graph = i.same.graph;
       columns = c.advance.ensures.columns ∙ i.columns;
       serves = c.advance.ensures.serves;
       slots = c.advance.ensures.pool ∙ i.slots;

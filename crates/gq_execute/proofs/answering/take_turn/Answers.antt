@@ -45,6 +45,7 @@ returns-in-Err c = record {
   drains = rw c.from.ensures (sides_refused (given_on (later_by c.args.graph.now c.args.prepared.now)) c.args.graph.now c.args.settings.now.order c.args.typed.now c.args.table.now.bound c.args.table.now c.args.table.now (plan_of c.in_ok-planned.planned.plan)
       c.stands_valid.ensures c.requires.sound c.in_ok-planned.ensures.parts c.in_ok-planned.ensures.alone c.requires.most c.in-Err.refusal c.in-Err.ensures.refused);
   spends = tt;
+  graph = tt;
   slots = c.make_builds.ensures.pool;
 }
 
@@ -54,7 +55,7 @@ drain_all-drained-requires-clause-run c =
     record {
       graph = ap (λ (s : Source). s.graph) p.source;
       alternative = ap (λ (t : Table). t.alternative) c.start_alternative.ensures ∙ ap (λ (s : Source). Some s.typed) (sym p.source);
-      started = ap (λ (t : Table). t.graph) c.start_alternative.ensures;
+      started = ap (λ (t : Table). t.graph) c.start_alternative.ensures ∙ c.requires.graph;
       complete = ap (λ (s : Source). binds_all s.typed (plan_in s)) p.source ∙ ap (binds_all c.args.typed.now) (sym (plan_is c.in_ok-planned.planned.plan)) ∙ covers_bind_all _ _ _ c.in_ok-planned.ensures.covers;
     }
 
@@ -115,3 +116,6 @@ returns-clause-spends c =
           own_counted g y plan start new begun now own p.meaning p.keys p.columns ends.ran c.drain_all-drained.ensures.columns c.finish-own.ensures.chunks c.finish-own.ensures.columns (subst IsPlain (sym (ap (λ (t : Table). t.bound) c.start_alternative.ensures)) plain) before
           (ap (λ (t : Table). t.pushed) c.start_alternative.ensures ∙ h);
     }
+
+pub returns-clause-graph : goal.returns-clause-graph
+returns-clause-graph c = c.in-Ok-drained.ensures.graph ∙ ap (λ (t : Table). t.graph) c.start_alternative.ensures

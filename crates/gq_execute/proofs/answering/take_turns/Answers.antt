@@ -10,6 +10,7 @@ use Rattle.gq_execute.proofs.answering.take_turns.Goals as goal
 pub alternatives-init : goal.alternatives-init
 alternatives-init c = record {
   stats = c.requires.stats;
+  graph = c.requires.graph;
   bound = c.requires.fresh.bound;
   most = c.requires.fresh.most;
   some = (_, fresh_stands _ _ _ c.requires.fresh);
@@ -29,6 +30,7 @@ alternatives-preserved c =
     (c.typed-item.is ∙ ap (λ ys. get_or ys c.alternatives.typed-index y) c.as_slice-typed-items.ensures) in
     record {
       stats = i.stats;
+      graph = c.in-Ok.ensures.graph ∙ i.graph;
       bound = run.meets.alike.bound ∙ i.bound;
       most = run.meets.alike.most ∙ i.most;
       some = taken_more (given_on (later_by c.args.graph.now c.args.prepared.now)) _ _ _ y old new i.some run;

@@ -11,6 +11,7 @@ use Rattle.gq_execute.proofs.answering.take_turns.Given as goal
 abbrev pub invariant-alternatives : goal.invariant-alternatives
 invariant-alternatives l = record {
   stats : l.stats ≡ sizes l.graph;
+  graph : l.table.graph ≡ l.graph;
   bound : l.table.bound ≡ l.bound;
   most : l.table.most ≡ l.settings.rows;
   some : StandsForSome l.table;

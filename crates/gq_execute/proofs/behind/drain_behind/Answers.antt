@@ -160,3 +160,9 @@ returns-clause-columns c = c.advance.ensures.columns ∙ c.chunks.invariant.colu
 
 pub returns-clause-slots : goal.returns-clause-slots
 returns-clause-slots c = c.advance.ensures.pool ∙ c.chunks.invariant.slots
+
+pub returns-in-Ok-Enough-clause-graph : goal.returns-in-Ok-Enough-clause-graph
+returns-in-Ok-Enough-clause-graph c = c.in-Ok-Enough.ensures.query.graph ∙ c.chunks.invariant.same.graph
+
+pub returns-clause-graph : goal.returns-clause-graph
+returns-clause-graph c = c.chunks.invariant.same.graph

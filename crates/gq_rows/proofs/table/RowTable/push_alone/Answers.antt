@@ -1,21 +1,17 @@
-use Rattle.std.proofs.Common.{[], None, Ok, Err, ap, subst, false, true}
+use Rattle.std.proofs.Common.{◌≡◌, [], None, Ok, Err, ap, subst, sym, false, true}
 use Rattle.gq_plan.specs.declared.bound.Bound.{Bound}
 use Rattle.gq_rows.specs.Tables.{Pushes, Table, outcome_numbered}
-use Rattle.gq_rows.specs.steps.Inner.{table_of}
-use Rattle.gq_rows.specs.steps.Reading.{asked_columns}
+use Rattle.gq_rows.specs.steps.Inner.{IsDone, table_of}
+use Rattle.gq_rows.specs.steps.Reading.{IsReadyFor, asked_columns}
 use Rattle.gq_rows.proofs.Finding.{stay}
-use Rattle.gq_rows.proofs.ListedRows.{inside_graph, inside_listing, now_done, pushed_listed, room_listed, stands_listed, was_done}
+use Rattle.gq_rows.proofs.ListedRows.{inside_graph, inside_listing, pushed_listed, room_listed, stands_listed}
 use Rattle.gq_rows.proofs.table.RowTable.push_alone.Goals as goal
 
 pub prepare-requires : goal.prepare-requires
-prepare-requires g c = λ e.
-    (was_done true c.args.graph.now c.self.inside (inside_graph c.self.inside c.args.self.now c.args.graph.now c.self.view_is c.requires.graph)
-    (inside_listing c.self.inside c.args.self.now c.self.view_is c.requires.listing) (c.self.invariant.done e)).0
+prepare-requires g c = subst (λ x. IsReadyFor x c.self.inside.bound.now c.self.inside.reading) (inside_graph c.self.inside c.args.self.now c.args.graph.now c.self.view_is c.requires.graph) c.self.invariant.ready
 
 pub find_columns-requires : goal.find_columns-requires
-find_columns-requires g c = λ e.
-    (was_done true c.args.graph.now c.self.inside (inside_graph c.self.inside c.args.self.now c.args.graph.now c.self.view_is c.requires.graph)
-    (inside_listing c.self.inside c.args.self.now c.self.view_is c.requires.listing) (c.self.invariant.done e)).1
+find_columns-requires g c = subst (λ x. c.self.inside.done ≡ true → IsDone x c.self.inside) (inside_graph c.self.inside c.args.self.now c.args.graph.now c.self.view_is c.requires.graph) c.self.invariant.done
 
 pub push-requires-clause-stands : goal.push-requires-clause-stands
 push-requires-clause-stands g c = stands_listed c.self.inside c.args.self.now c.self.view_is (inside_listing c.self.inside c.args.self.now c.self.view_is c.requires.listing) (record c.self.inside.listed { cells = c.find_columns.new.cells }) (ap (λ vs. record { columns = vs; keys = []; count = c.self.inside.listed.count; classes = []; bar = None }) c.in-Ok-find_columns.ensures.values) c.requires.stands
@@ -27,14 +23,15 @@ pub invariant_of-self-in-Ok-push : goal.invariant_of-self-in-Ok-push
 invariant_of-self-in-Ok-push g c =
     let t = c.self.inside in
     let new = record t { listed = c.push.new.self; done = true; finders = c.find_columns.new.finders; reading = c.prepare.new.self } in
+    let has = inside_graph t c.args.self.now c.args.graph.now c.self.view_is c.requires.graph in
     record {
       form = c.self.invariant.form;
       small = c.self.invariant.small;
       sure = c.self.invariant.sure;
+      ready = subst (λ x. IsReadyFor x t.bound.now c.prepare.new.self) (sym has) c.prepare.ensures.ready;
       done = λ e.
-          now_done true c.args.graph.now new (inside_graph t c.args.self.now c.args.graph.now c.self.view_is c.requires.graph)
-          (inside_listing t c.args.self.now c.self.view_is c.requires.listing)
-          (c.in-Ok.ensures, (stay c.find_columns.new.cells.sources c.push.new.self.cells.sources c.in-Ok-push.ensures.more (asked_columns c.args.graph.now t.bound.now.columns) c.find_columns.new.finders.items c.in-Ok-find_columns.ensures.finds.0, c.in-Ok-find_columns.ensures.finds.1));
+          subst (λ x. IsDone x new) (sym has)
+          (stay c.find_columns.new.cells.sources c.push.new.self.cells.sources c.in-Ok-push.ensures.more (asked_columns c.args.graph.now t.bound.now.columns) c.find_columns.new.finders.items c.in-Ok-find_columns.ensures.finds.0, c.in-Ok-find_columns.ensures.finds.1);
     }
 
 pub returns-in-Err-clause-pushes : goal.returns-in-Err-clause-pushes
@@ -42,11 +39,11 @@ returns-in-Err-clause-pushes g c =
     let t = c.self.inside in
     let new = record t { listed = c.push.new.self; done = false; finders = c.find_columns.new.finders; reading = c.prepare.new.self } in
     subst (λ (b : Bound). Pushes (outcome_numbered c.args.graph.now b [] (g.R.Assigned.assignment c.args.row.now)) c.args.self.now (table_of new) (Err c.in-Err.refusal)) (ap (λ (x : Table). x.bound) c.self.view_is)
-    (pushed_listed t c.args.self.now c.self.view_is (inside_listing t c.args.self.now c.self.view_is c.requires.listing) _ (Err c.in-Err.refusal) (record t.listed { cells = c.find_columns.new.cells }) c.push.new.self false c.find_columns.new.finders (ap (λ vs. record { columns = vs; keys = []; count = t.listed.count; classes = []; bar = None }) c.in-Ok-find_columns.ensures.values) c.in-Err.ensures.pushes)
+    (pushed_listed t c.args.self.now c.self.view_is (inside_listing t c.args.self.now c.self.view_is c.requires.listing) _ (Err c.in-Err.refusal) c.args.graph.now (record t.listed { cells = c.find_columns.new.cells }) c.push.new.self false c.find_columns.new.finders (ap (λ vs. record { columns = vs; keys = []; count = t.listed.count; classes = []; bar = None }) c.in-Ok-find_columns.ensures.values) c.in-Err.ensures.pushes)
 
 pub returns-in-Ok-push-clause-pushes : goal.returns-in-Ok-push-clause-pushes
 returns-in-Ok-push-clause-pushes g c =
     let t = c.self.inside in
     let new = record t { listed = c.push.new.self; done = true; finders = c.find_columns.new.finders; reading = c.prepare.new.self } in
     subst (λ (b : Bound). Pushes (outcome_numbered c.args.graph.now b [] (g.R.Assigned.assignment c.args.row.now)) c.args.self.now (table_of new) (Ok c.in-Ok-push.more)) (ap (λ (x : Table). x.bound) c.self.view_is)
-    (pushed_listed t c.args.self.now c.self.view_is (inside_listing t c.args.self.now c.self.view_is c.requires.listing) _ (Ok c.in-Ok-push.more) (record t.listed { cells = c.find_columns.new.cells }) c.push.new.self true c.find_columns.new.finders (ap (λ vs. record { columns = vs; keys = []; count = t.listed.count; classes = []; bar = None }) c.in-Ok-find_columns.ensures.values) c.in-Ok-push.ensures.pushes)
+    (pushed_listed t c.args.self.now c.self.view_is (inside_listing t c.args.self.now c.self.view_is c.requires.listing) _ (Ok c.in-Ok-push.more) c.args.graph.now (record t.listed { cells = c.find_columns.new.cells }) c.push.new.self true c.find_columns.new.finders (ap (λ vs. record { columns = vs; keys = []; count = t.listed.count; classes = []; bar = None }) c.in-Ok-find_columns.ensures.values) c.in-Ok-push.ensures.pushes)

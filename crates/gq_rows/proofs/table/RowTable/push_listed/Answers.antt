@@ -1,24 +1,20 @@
-use Rattle.std.proofs.Common.{[], None, Some, Ok, Err, ap, refl, subst, sym, false, true}
+use Rattle.std.proofs.Common.{◌≡◌, [], None, Some, Ok, Err, ap, refl, subst, sym, false, true}
 use Rattle.gq_plan.specs.declared.bound.Bound.{Bound}
 use Rattle.gq_rows.specs.Chunks.{PushesAll, admitted_outcomes}
 use Rattle.gq_rows.specs.Tables.{Table}
-use Rattle.gq_rows.specs.steps.Inner.{table_of}
+use Rattle.gq_rows.specs.steps.Inner.{IsDone, table_of}
 use Rattle.gq_rows.specs.steps.Flat.{AreHeldIn}
 use Rattle.gq_rows.specs.steps.Listed.{AreFinders}
-use Rattle.gq_rows.specs.steps.Reading.{asked_columns}
+use Rattle.gq_rows.specs.steps.Reading.{IsReadyFor, asked_columns}
 use Rattle.gq_rows.proofs.Finding.{stay}
-use Rattle.gq_rows.proofs.ListedRows.{inside_graph, inside_listing, listing_is, now_done, pushed_chunk, room_listed, stands_listed, was_done}
+use Rattle.gq_rows.proofs.ListedRows.{inside_graph, inside_listing, listing_is, pushed_chunk, room_listed, stands_listed}
 use Rattle.gq_rows.proofs.table.RowTable.push_listed.Goals as goal
 
 pub prepare-requires : goal.prepare-requires
-prepare-requires t c = λ e.
-    (was_done true c.args.graph.now c.self.inside (inside_graph c.self.inside c.args.self.now c.args.graph.now c.self.view_is c.requires.graph)
-    (inside_listing c.self.inside c.args.self.now c.self.view_is c.requires.listing) (c.self.invariant.done e)).0
+prepare-requires t c = subst (λ x. IsReadyFor x c.self.inside.bound.now c.self.inside.reading) (inside_graph c.self.inside c.args.self.now c.args.graph.now c.self.view_is c.requires.graph) c.self.invariant.ready
 
 pub find_columns-requires : goal.find_columns-requires
-find_columns-requires t c = λ e.
-    (was_done true c.args.graph.now c.self.inside (inside_graph c.self.inside c.args.self.now c.args.graph.now c.self.view_is c.requires.graph)
-    (inside_listing c.self.inside c.args.self.now c.self.view_is c.requires.listing) (c.self.invariant.done e)).1
+find_columns-requires t c = subst (λ x. c.self.inside.done ≡ true → IsDone x c.self.inside) (inside_graph c.self.inside c.args.self.now c.args.graph.now c.self.view_is c.requires.graph) c.self.invariant.done
 
 pub push_choices-requires-clause-listing : goal.push_choices-requires-clause-listing
 push_choices-requires-clause-listing t c = listing_is c.self.inside c.args.self.now c.self.view_is (inside_listing c.self.inside c.args.self.now c.self.view_is c.requires.listing) _ refl refl refl c.self.invariant.form c.self.invariant.small
@@ -33,14 +29,15 @@ pub invariant_of-self-in-Ok-push_choices : goal.invariant_of-self-in-Ok-push_cho
 invariant_of-self-in-Ok-push_choices t c =
     let t = c.self.inside in
     let new = record t { listed = c.push_choices.new.self; done = true; finders = c.find_columns.new.finders; held = c.hold_columns.new.held; reading = c.prepare.new.self } in
+    let has = inside_graph t c.args.self.now c.args.graph.now c.self.view_is c.requires.graph in
     record {
       form = c.self.invariant.form;
       small = c.self.invariant.small;
       sure = c.self.invariant.sure;
+      ready = subst (λ x. IsReadyFor x t.bound.now c.prepare.new.self) (sym has) c.prepare.ensures.ready;
       done = λ e.
-          now_done true c.args.graph.now new (inside_graph t c.args.self.now c.args.graph.now c.self.view_is c.requires.graph)
-          (inside_listing t c.args.self.now c.self.view_is c.requires.listing)
-          (c.in-Ok.ensures, (stay c.find_columns.new.cells.sources c.push_choices.new.self.cells.sources c.in-Ok-push_choices.ensures.more (asked_columns c.args.graph.now t.bound.now.columns) c.find_columns.new.finders.items c.in-Ok-find_columns.ensures.finds.0, c.in-Ok-find_columns.ensures.finds.1));
+          subst (λ x. IsDone x new) (sym has)
+          (stay c.find_columns.new.cells.sources c.push_choices.new.self.cells.sources c.in-Ok-push_choices.ensures.more (asked_columns c.args.graph.now t.bound.now.columns) c.find_columns.new.finders.items c.in-Ok-find_columns.ensures.finds.0, c.in-Ok-find_columns.ensures.finds.1);
     }
 
 pub returns-in-Err-clause-pushes : goal.returns-in-Err-clause-pushes
@@ -48,14 +45,14 @@ returns-in-Err-clause-pushes t c =
     let t' = c.self.inside in
     let new = record t' { listed = c.push_choices.new.self; done = false; finders = c.find_columns.new.finders } in
     subst (λ (b : Bound). PushesAll (admitted_outcomes (t.A.Admits.admitted c.args.admits.now) c.args.graph.now b (Some c.args.typed.now) c.args.chunk.now) c.args.self.now (table_of new) (Err c.in-Err.refusal)) (ap (λ (x : Table). x.bound) c.self.view_is)
-    (pushed_chunk t' c.args.self.now c.self.view_is (inside_listing t' c.args.self.now c.self.view_is c.requires.listing) _ (Err c.in-Err.refusal) (record t'.listed { cells = c.find_columns.new.cells }) c.push_choices.new.self false c.find_columns.new.finders (ap (λ vs. record { columns = vs; keys = []; count = t'.listed.count; classes = []; bar = None }) c.in-Ok-find_columns.ensures.values) c.in-Err.ensures.pushes)
+    (pushed_chunk t' c.args.self.now c.self.view_is (inside_listing t' c.args.self.now c.self.view_is c.requires.listing) _ (Err c.in-Err.refusal) c.args.graph.now (record t'.listed { cells = c.find_columns.new.cells }) c.push_choices.new.self false c.find_columns.new.finders (ap (λ vs. record { columns = vs; keys = []; count = t'.listed.count; classes = []; bar = None }) c.in-Ok-find_columns.ensures.values) c.in-Err.ensures.pushes)
 
 pub returns-in-Ok-push_choices-clause-pushes : goal.returns-in-Ok-push_choices-clause-pushes
 returns-in-Ok-push_choices-clause-pushes t c =
     let t' = c.self.inside in
     let new = record t' { listed = c.push_choices.new.self; done = true; finders = c.find_columns.new.finders } in
     subst (λ (b : Bound). PushesAll (admitted_outcomes (t.A.Admits.admitted c.args.admits.now) c.args.graph.now b (Some c.args.typed.now) c.args.chunk.now) c.args.self.now (table_of new) (Ok c.in-Ok-push_choices.more)) (ap (λ (x : Table). x.bound) c.self.view_is)
-    (pushed_chunk t' c.args.self.now c.self.view_is (inside_listing t' c.args.self.now c.self.view_is c.requires.listing) _ (Ok c.in-Ok-push_choices.more) (record t'.listed { cells = c.find_columns.new.cells }) c.push_choices.new.self true c.find_columns.new.finders (ap (λ vs. record { columns = vs; keys = []; count = t'.listed.count; classes = []; bar = None }) c.in-Ok-find_columns.ensures.values) c.in-Ok-push_choices.ensures.pushes)
+    (pushed_chunk t' c.args.self.now c.self.view_is (inside_listing t' c.args.self.now c.self.view_is c.requires.listing) _ (Ok c.in-Ok-push_choices.more) c.args.graph.now (record t'.listed { cells = c.find_columns.new.cells }) c.push_choices.new.self true c.find_columns.new.finders (ap (λ vs. record { columns = vs; keys = []; count = t'.listed.count; classes = []; bar = None }) c.in-Ok-find_columns.ensures.values) c.in-Ok-push_choices.ensures.pushes)
 
 pub push_choices-requires-clause-finders : goal.push_choices-requires-clause-finders
 push_choices-requires-clause-finders t c =
