@@ -201,7 +201,7 @@ def kept():
         "64 sums": f"{pairs}RETURN {sums}",
         "64 sums, ORDER BY": f"{pairs}RETURN {sums} ORDER BY c0",
         "64 properties, DISTINCT": f"{pairs}RETURN DISTINCT b.x AS b, {properties[:properties.rindex(',')]}",
-        "a variable, DISTINCT": f"{pairs}RETURN DISTINCT a, b",
+        "two nodes, DISTINCT": f"{pairs}RETURN DISTINCT a, b",
     }
     walks = [f"(a{at}:Few)-->(b{at})-->(c{at})" for at in range(8)]  # 4,070,400 each
     texts["7 joined parts of two relationships"] = f"MATCH {', '.join(walks)} RETURN 1 LIMIT 1"
