@@ -17,14 +17,14 @@ impl Budget {
         Budget { left: steps }
     }
 
-    /// Takes steps. Where there are fewer, none is left, and what asked for them is given up for
-    /// want of memory.
+    /// Takes steps. Where there are fewer, none is left, and what asked for them is given up: it
+    /// asks for too much work.
     pub fn take(&mut self, steps: usize) -> Result<(), Memory>
         ensures { OnOk result (self.new.left + steps ≡ self.old.left) }
     {
         if self.left < steps {
             self.left = 0;
-            return Err(Memory);
+            return Err(Memory::Limit);
         }
         self.left -= steps;
         Ok(())

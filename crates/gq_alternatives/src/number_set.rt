@@ -28,7 +28,7 @@ impl NumberSet {
             Ok(marks) => Ok(NumberSet {
                 marks: List::from_vec(marks),
             }),
-            Err(_) => Err(Memory),
+            Err(_) => Err(Memory::Exhausted),
         }
     }
 

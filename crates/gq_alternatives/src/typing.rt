@@ -155,7 +155,7 @@ pub fn copy_numbers(alloc: Global, numbers: &[u32]) -> Result<List<u32>, Memory>
 {
     match Vec::from_slice(alloc, numbers) {
         Ok(copied) => Ok(List::from_vec(copied)),
-        Err(_) => Err(Memory),
+        Err(_) => Err(Memory::Exhausted),
     }
 }
 

@@ -43,7 +43,7 @@ impl<T: Drop> Boxed<T> {
     {
         match Box::new(alloc, value) {
             Ok(inner) => Ok(Boxed { inner }),
-            Err(_) => Err(Memory),
+            Err(_) => Err(Memory::Exhausted),
         }
     }
 }

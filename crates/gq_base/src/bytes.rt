@@ -26,7 +26,7 @@ impl Bytes {
     {
         match Vec::from_slice(alloc, bytes) {
             Ok(vec) => Ok(Bytes { vec }),
-            Err(_) => Err(Memory),
+            Err(_) => Err(Memory::Exhausted),
         }
     }
 

@@ -145,7 +145,7 @@ impl Catalog {
     {
         match self.nodes.push(table) {
             Ok(()) => Ok(()),
-            Err(_) => Err(Memory),
+            Err(_) => Err(Memory::Exhausted),
         }
     }
 
@@ -162,7 +162,7 @@ impl Catalog {
     {
         match self.rels.push(table) {
             Ok(()) => Ok(()),
-            Err(_) => Err(Memory),
+            Err(_) => Err(Memory::Exhausted),
         }
     }
 

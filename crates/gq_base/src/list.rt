@@ -90,7 +90,7 @@ impl<T: Drop> List<T> {
     {
         match self.vec.push(item) {
             Ok(()) => Ok(()),
-            Err(_) => Err(Memory),
+            Err(_) => Err(Memory::Exhausted),
         }
     }
 

@@ -2,18 +2,24 @@
 
 use std::alloc::{AllocError, AllocFailed};
 
-/// There was not enough memory. It may come at any call whose signature names it, and at no other.
+/// Want of memory, and its cause. It may come at any call whose signature names it, and at no
+/// other.
 #[derive(Clone, Copy, Debug, PartialEq, Eq)]
-pub struct Memory;
+pub enum Memory {
+    /// There was not enough memory.
+    Exhausted,
+    /// More work, or more memory, was asked for than one statement may take.
+    Limit,
+}
 
 impl From<AllocError> for Memory {
     fn from(_error: AllocError) -> Memory {
-        Memory
+        Memory::Exhausted
     }
 }
 
 impl<T: Drop> From<AllocFailed<T>> for Memory {
     fn from(_failed: AllocFailed<T>) -> Memory {
-        Memory
+        Memory::Exhausted
     }
 }

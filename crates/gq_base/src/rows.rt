@@ -80,13 +80,13 @@ impl NodeRows {
         let mut cells = row.into_vec();
         let before = self.cells.len();
         if self.cells.append(&mut cells).is_err() {
-            return Err(Memory);
+            return Err(Memory::Exhausted);
         }
         match self.ends.push(self.cells.len()) {
             Ok(()) => Ok(List::from_vec(cells)),
             Err(_) => {
                 self.cells.truncate(before);
-                Err(Memory)
+                Err(Memory::Exhausted)
             }
         }
     }

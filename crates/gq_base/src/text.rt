@@ -38,7 +38,7 @@ impl Text {
     {
         match String::from_str(alloc, text) {
             Ok(string) => Ok(Text { string }),
-            Err(_) => Err(Memory),
+            Err(_) => Err(Memory::Exhausted),
         }
     }
 

@@ -175,7 +175,7 @@ module _ (query : Query) (text : List ℕ) where
     refusal_is = first_append (checks_of query text) lasts ∙ ap (λ o. option_or o last) (sym checked)
 
     answered : (e : BindRefusal) → (IsOfQuery e → first_refusal query text catalog ≡ Some e) → Answers query text catalog (Err e)
-    answered refusal.Memory h = tt
+    answered (refusal.Memory why) h = tt
     answered e h = h tt
 
     -- a check refuses the query
@@ -226,9 +226,9 @@ module _ (query : Query) (text : List ℕ) where
           (bound_by_core query text catalog (rest ∙ placed) (all_unnamed text query spelled) (spelled_stands text query spelled) (named_parts passes) core has))
 
     -- a refusal that is no want of memory
-    pub refused_so : (e : BindRefusal) → (e ≡ refusal.Memory → ⊥) → Answers query text catalog (Err e) → Some e ≡ first_refusal query text catalog
-    refused_so refusal.Memory other h = absurd (other refl)
-    refused_so e other h = sym h
+    pub refused_so : (e : BindRefusal) → IsOfQuery e → Answers query text catalog (Err e) → Some e ≡ first_refusal query text catalog
+    refused_so (refusal.Memory why) of h = absurd of
+    refused_so e of h = sym h
 
 -- each path that the parts of a query test begins and ends between characters
 pub parts_whole : (text : List ℕ) (query : Query) → StandsIn text query → All (IsWholeTest text) (parts_of text query).exists

@@ -45,5 +45,5 @@ pub record IsBound (query : Query) (text : List ℕ) (catalog : Tables) (bound :
 
 abbrev pub Answers : Query → List ℕ → Tables → Result Bound BindRefusal → Type 0
 Answers query text catalog (Ok bound) = IsBound query text catalog bound
-Answers query text catalog (Err refusal.Memory) = Unit {0}
+Answers query text catalog (Err (refusal.Memory why)) = Unit {0}
 Answers query text catalog (Err refused) = first_refusal query text catalog ≡ Some refused

@@ -250,7 +250,7 @@ fn plus(number: u32, more: usize) -> Result<u32, Memory>
     ensures { IfOk result (λ n. n ≡ number + more) }
 {
     if more > (4_294_967_295 - number) as usize {
-        return Err(Memory);
+        return Err(Memory::Limit);
     }
     Ok(number + more as u32)
 }

@@ -43,14 +43,14 @@ pub enum BindRefusal {
     /// An EXISTS stands elsewhere than as a whole conjunct of a MATCH clause's WHERE, alone or inside parentheses and NOTs
     /// alone.
     ExistsPlace,
-    /// There was not enough memory.
-    Memory,
+    /// There was not enough memory, or binding the query takes more work, or more memory, than one statement may.
+    Memory(Memory),
 }
 
 impl From<Memory> for BindRefusal {
-    ghost from_gives = { λ _ e. e ≡ refusal.Memory };
+    ghost from_gives = { λ memory e. e ≡ refusal.Memory memory };
 
-    fn from(_memory: Memory) -> BindRefusal {
-        BindRefusal::Memory
+    fn from(memory: Memory) -> BindRefusal {
+        BindRefusal::Memory(memory)
     }
 }

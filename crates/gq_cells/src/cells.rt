@@ -55,7 +55,7 @@ impl<'g> Cells<'g> {
     {
         let place = self.sources.len();
         if place >= u32::MAX as usize {
-            return Err(Memory);
+            return Err(Memory::Limit);
         }
         self.sources.push(source)?;
         Ok(place as u32)

@@ -121,7 +121,7 @@ fn number_of<'g>(text: &'g str, texts: &mut IndexSet<&'g str>) -> Result<u32, Me
     ensures number { IfOk result (IsTextOf (texts_of texts.new) text.now) }
 {
     if texts.len() >= u32::MAX as usize {
-        return Err(Memory);
+        return Err(Memory::Limit);
     }
     let (number, _) = texts.insert_full(text)?;
     Ok(number as u32)

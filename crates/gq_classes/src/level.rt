@@ -52,7 +52,7 @@ impl Level {
             return Ok(self.last);
         }
         if self.keys.len() >= u32::MAX as usize {
-            return Err(Memory);
+            return Err(Memory::Limit);
         }
         let key = Key::new(front, value, texts)?;
         let (number, _) = self.keys.insert_full(key)?;

@@ -47,7 +47,7 @@ pub fn put_front(numbers: &mut Vec<u32>, number: u32) -> Result<(), Memory>
 {
     match numbers.insert(0, number) {
         Ok(()) => Ok(()),
-        Err(_) => Err(Memory),
+        Err(_) => Err(Memory::Exhausted),
     }
 }
 
@@ -57,7 +57,7 @@ pub fn copied(alloc: Global, numbers: &[u32]) -> Result<Vec<u32>, Memory>
 {
     match Vec::from_slice(alloc, numbers) {
         Ok(copied) => Ok(copied),
-        Err(_) => Err(Memory),
+        Err(_) => Err(Memory::Exhausted),
     }
 }
 

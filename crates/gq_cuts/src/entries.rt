@@ -53,7 +53,7 @@ fn entry_name(alloc: Global, text: &[u8], entry: &MapEntry<'_>) -> Result<Text, 
     let literal = source_text(alloc, text, entry.entry.value_span)?;
     match format!(in alloc; "{called}.{key} = {literal}") {
         Ok(name) => Ok(Text::from_string(name)),
-        Err(_) => Err(Memory),
+        Err(_) => Err(Memory::Exhausted),
     }
 }
 

@@ -105,7 +105,7 @@ fn length_of(length: u64) -> Result<u32, Memory>
     ensures { IfOk result (λ n. n ≡ length) }
 {
     if length > 4_294_967_295 {
-        return Err(Memory);
+        return Err(Memory::Limit);
     }
     Ok(length as u32)
 }

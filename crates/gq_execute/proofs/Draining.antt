@@ -175,7 +175,7 @@ module _ (becomes : Becomes) (g : Graph) (old : Table) (begun : Rest) where
     pub met : (new : Table) (e : RowRefusal) → chunks.PushesAll here mid new (Err e) → TakesAll os old new (Err (of_rows e))
     met new (row_refusal.Fault f) h = met_fault f h
     met new (row_refusal.TooManyRows l) h = (h.0 ∙ most, met_many h.1)
-    met new row_refusal.Memory h = tt
+    met new (row_refusal.Memory why) h = tt
 
     -- the table is full with them
     pub full_here : (new : Table) → new.bound ≡ mid.bound → new.most ≡ mid.most → chunks.TakesWhole here mid new → is_full_table new ≡ true → Takes os old new

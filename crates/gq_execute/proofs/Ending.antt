@@ -87,7 +87,7 @@ module _ (g : Graph) (b : Bound) (settings : Settings) (t : Table) (real : IsTru
     pub before_refused : (e : AnswerRefusal) → RefusesBefore g settings b e → RepliesToEach g b settings (Err e)
     before_refused (refusal.TooManyRows most) h query text is = (h.0, before_permitted (asked query) (heavy_before query text is h.1))
     before_refused (refusal.Fault f) h query text is = absurd h
-    before_refused refusal.Memory h query text is = tt
+    before_refused (refusal.Memory why) h query text is = tt
 
     -- all was made, and turns were taken
     pub all_done : (new : Table) (p : Prepared) (own spent : List Spent) → IsPrepared g settings.rows b p → some_heavy_clause g settings.order settings.rows b.optionals ≡ false
@@ -110,7 +110,7 @@ module _ (g : Graph) (b : Bound) (settings : Settings) (t : Table) (real : IsTru
 pub one_refuses : (g : Graph) (most : ℕ) (parts : List ExistsPart) (k : ℕ) (part : ExistsPart) (e : AnswerRefusal) → slice_get parts k ≡ Some part → RefusesTest g most part e → RefusesTests g most parts e
 one_refuses g most parts k part (refusal.TooManyRows limit) there h = (h.0, record { number = k; part = part; there = there; has = h.1 })
 one_refuses g most parts k part (refusal.Fault f) there h = h
-one_refuses g most parts k part refusal.Memory there h = tt
+one_refuses g most parts k part (refusal.Memory why) there h = tt
 
 -- whether a list is empty, as its test tells it
 pub empty_tells : {X : Type 0} (xs : List X) (r : Bool) → (IsTrue r ↔ (xs ≡ [])) → is_empty xs ≡ r

@@ -120,7 +120,7 @@ module _ (a : Question) (parted : AreParted a) (becomes : Becomes) (makes : Make
           let t = run.meets in
           many_permitted a parted begun later (came.pushed ++ t.cut.pushed) t.cut.left (sym (take-append-drop (suc k) a.bound.alternatives))
           (reached_more a begun came.pushed _ t.cut.pushed t.cut.left t.cut.bag (started _ run)) (rw (← came.bound, ← came.most) (t.many came.pushed stood))
-  turn_stopped new refusal.Memory h = tt
+  turn_stopped new (refusal.Memory why) h = tt
 
 -- ---- the end
 

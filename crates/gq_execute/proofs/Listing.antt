@@ -167,4 +167,4 @@ module _ (g : Graph) (order : Order) where
       pub clauses_refused : (parts : List OptionalPart) (pss : List (List code.Plan)) → AllByRecursion (IsPlaced n m g.catalog) parts → AllZip (IsPlannedClause order g) parts pss
           → (e : JoinRefusal) → IsRefusal g most parts (plain pss) e → RefusesClauses g order most parts (of_join e)
       clauses_refused parts pss placed are (join.TooManyRows l) h = (h.0, clauses_heavy parts pss placed are h.1)
-      clauses_refused parts pss placed are join.Memory h = tt
+      clauses_refused parts pss placed are (join.Memory why) h = tt

@@ -88,4 +88,4 @@ pub sides_refused : (becomes : Becomes) (g : Graph) (by : Order) (y : Typed) (b 
     → list_all is_flat (sides p) ≡ true → {most : ℕ} → most ≡ old.most → (e : JoinRefusal) → IsSidesRefusal g y most p e → Drains becomes g b by y old new (Err (of_join e))
 sides_refused becomes g by y b old new p real sound are flat {most = most} same (join.TooManyRows l) h =
     (h.0 ∙ same, inl (ap (λ m. has_large_part g by m y) (sym same) ∙ sides_heavy g by y most p real sound are flat h.1))
-sides_refused becomes g by y b old new p real sound are flat same join.Memory h = tt
+sides_refused becomes g by y b old new p real sound are flat same (join.Memory why) h = tt

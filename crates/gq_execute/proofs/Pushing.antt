@@ -36,7 +36,7 @@ one_pushed o mid new (Err (row_refusal.Fault f)) same h =
     let is : o ≡ Err f = cc (h.0) in
     record { there = subst (λ p. Contains (p ∷ []) (Err f)) (sym is) (0, omega arith, refl); seen = λ before s. h.1 before s }
 one_pushed o mid new (Err (row_refusal.TooManyRows l)) same h = (h.0, λ before s. h.1 before s)
-one_pushed o mid new (Err row_refusal.Memory) same h = tt
+one_pushed o mid new (Err (row_refusal.Memory why)) same h = tt
 
 -- a row that is marked, told of the query that was begun with and of the walk that it stands in
 pub marked_pushed : (g : Graph) (b : Bound) (mid new : Table) (row : Wide) (mark : Option Fault) (w : OptionalWalk) (r : Result More RowRefusal) → mid.bound ≡ b → read row ≡ (row_by w).row → mark ≡ (row_by w).mark
@@ -132,7 +132,7 @@ module _ (all : List (Result Row Fault)) (old : Table) where
           (subst (λ q. Contains (looked_at q ((before ++ came.taken) ++ os)) (Err f)) same.bound (h.seen (before ++ came.taken) (came.stands before s))));
     }
     taken_refused same new (row_refusal.TooManyRows l) h = (h.0 ∙ same.most, over same h.1)
-    taken_refused same new row_refusal.Memory h = tt
+    taken_refused same new (row_refusal.Memory why) h = tt
 
 -- ---- a row that is marked
 

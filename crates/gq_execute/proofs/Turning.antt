@@ -75,7 +75,7 @@ module _ (becomes : Becomes) (g : Graph) (order : Order) (y : Typed) (old new : 
     turn_stops (refusal.TooManyRows most) takes =
         let t = subst (λ (s : Table). MeetsMany (owed_outcomes becomes g start pipeline) s) is takes.1 in
         (takes.0 ∙ ap (λ (s : Table). s.most) is, inr (record { plan = p; covers = covers; light = light; meets = record { cut = recut (owed_outcomes becomes g start pipeline) owed_bag t.cut; many = t.many } }))
-    turn_stops refusal.Memory takes = tt
+    turn_stops (refusal.Memory why) takes = tt
 
 -- ---- what is spent
 

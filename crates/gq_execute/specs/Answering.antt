@@ -21,7 +21,7 @@ abbrev pub Replies : Question → Result (List (List Val)) AnswerRefusal → Typ
 Replies a (Ok lines) = IsPermitted a (Rows lines)
 Replies a (Err (refusal.Fault f)) = IsPermitted a (Faulted f)
 Replies a (Err (refusal.TooManyRows most)) = (most ≡ a.most) × IsPermitted a TooManyRows
-Replies a (Err refusal.Memory) = Unit {0}
+Replies a (Err (refusal.Memory why)) = Unit {0}
 
 -- the same for each query that is bound so
 abbrev pub RepliesToEach : Graph → Bound → Settings → Result (List (List Val)) AnswerRefusal → Type 0

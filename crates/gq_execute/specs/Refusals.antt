@@ -8,9 +8,9 @@ use Rattle.gq_execute.specs.declared.refusal.AnswerRefusal.TheVariants as refusa
 
 abbrev pub of_join : JoinRefusal → AnswerRefusal
 of_join (join.TooManyRows limit) = refusal.TooManyRows limit
-of_join join.Memory = refusal.Memory
+of_join (join.Memory why) = refusal.Memory why
 
 abbrev pub of_rows : RowRefusal → AnswerRefusal
 of_rows (rows.Fault fault) = refusal.Fault fault
 of_rows (rows.TooManyRows limit) = refusal.TooManyRows limit
-of_rows rows.Memory = refusal.Memory
+of_rows (rows.Memory why) = refusal.Memory why

@@ -33,7 +33,7 @@ use crate::refusal::AnswerRefusal;
 use crate::settings::Settings;
 use crate::testing::{Tests, append};
 use crate::trailing::drain_trails;
-use gq_base::{List, Memory};
+use gq_base::List;
 use gq_group::Chunk;
 use gq_join::Room;
 use gq_order::Stats;
@@ -355,6 +355,6 @@ pub fn answer<'g>(
     };
     match table.finish() {
         Ok(listing) => Ok(Answer { listing, spent }),
-        Err(Memory) => Err(AnswerRefusal::Memory),
+        Err(memory) => Err(AnswerRefusal::Memory(memory)),
     }
 }

@@ -162,7 +162,7 @@ fn push_rows<'g>(
     ensures behind { IsBehind graph.now table.old.bound typed.now prepared.now behind.new }
 {
     let Ok(mut found) = choice.first(chunk.groups) else {
-        return Err(RowRefusal::Memory);
+        return Err(RowRefusal::Memory(Memory::Exhausted));
     };
     'choices: while found {
         let row = ChunkRow::new(graph, typed, chunk, choice.positions());

@@ -116,7 +116,7 @@ pub(crate) fn prepare<'q>(
     let first = first_nodes(bound);
     let most = u32::MAX as usize;
     if nodes > most || rels > most || first > most {
-        return Err(AnswerRefusal::Memory);
+        return Err(AnswerRefusal::Memory(Memory::Limit));
     }
     let conjuncts = conjuncts_of(alloc, graph, bound)?;
     let patterns = bound.patterns.as_slice();

@@ -16,15 +16,16 @@ pub enum AnswerRefusal {
     /// More rows would be kept than this limit, or a part that is joined has more assignments, or
     /// the path of a test more different keys, or an alternative of an optional clause more matches.
     TooManyRows { limit: u32 },
-    /// There was not enough memory.
-    Memory,
+    /// There was not enough memory, or the query takes more work, or more memory, than one statement
+    /// may.
+    Memory(Memory),
 }
 
 impl From<Memory> for AnswerRefusal {
-    ghost from_gives = { λ _ e. e ≡ refusal.Memory };
+    ghost from_gives = { λ memory e. e ≡ refusal.Memory memory };
 
-    fn from(_memory: Memory) -> AnswerRefusal {
-        AnswerRefusal::Memory
+    fn from(memory: Memory) -> AnswerRefusal {
+        AnswerRefusal::Memory(memory)
     }
 }
 
@@ -34,7 +35,7 @@ impl From<JoinRefusal> for AnswerRefusal {
     fn from(refused: JoinRefusal) -> AnswerRefusal {
         match refused {
             JoinRefusal::TooManyRows { limit } => AnswerRefusal::TooManyRows { limit },
-            JoinRefusal::Memory => AnswerRefusal::Memory,
+            JoinRefusal::Memory(memory) => AnswerRefusal::Memory(memory),
         }
     }
 }
@@ -46,7 +47,7 @@ impl From<RowRefusal> for AnswerRefusal {
         match refused {
             RowRefusal::Fault(fault) => AnswerRefusal::Fault(fault),
             RowRefusal::TooManyRows { limit } => AnswerRefusal::TooManyRows { limit },
-            RowRefusal::Memory => AnswerRefusal::Memory,
+            RowRefusal::Memory(memory) => AnswerRefusal::Memory(memory),
         }
     }
 }

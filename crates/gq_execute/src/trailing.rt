@@ -158,7 +158,7 @@ fn push_walked<'g, 'w>(
     ensures walking { IsWalking graph.now table.old.bound typed.now walking.new }
 {
     let Ok(mut found) = choice.first(chunk.groups) else {
-        return Err(RowRefusal::Memory);
+        return Err(RowRefusal::Memory(Memory::Exhausted));
     };
     'choices: while found {
         let row = ChunkRow::new(graph, typed, chunk, choice.positions());

@@ -190,4 +190,4 @@ no_more limit all k s = λ m.
 
 pub refused : (limit : ℕ) (all : AllKeys) (a b : Gathering) (e : JoinRefusal) → keys_in a.keys ≡ [] → a.limit ≡ limit → Gathers all a b (Err e) → IsRefusal limit all e
 refused limit all a b (refusal.TooManyRows l) none is h = (h.0 ∙ is, subst (λ n. HasMany n all) is (h.1 [] (begun a none)))
-refused limit all a b refusal.Memory none is h = tt
+refused limit all a b (refusal.Memory why) none is h = tt

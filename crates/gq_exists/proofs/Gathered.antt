@@ -142,7 +142,7 @@ then xs ys a b c (Err (refusal.TooManyRows l)) m n = (
       subst (HasMany a.limit) (append_assoc came xs ys)
       (subst (λ k. HasMany k ((came ++ xs) ++ ys)) m.limit (n.1 (came ++ xs) (subst (λ k. Stands k (came ++ xs) b.keys) (sym m.limit) (m.stands came h)))),
 )
-then xs ys a b c (Err refusal.Memory) m n = tt
+then xs ys a b c (Err (refusal.Memory why)) m n = tt
 
 pub alike : (xs ys : AllKeys) (a b : Gathering) (r : Result (Unit {0}) JoinRefusal) → Same xs ys → Gathers xs a b r → Gathers ys a b r
 alike xs ys a b (Ok u) h m = record {
@@ -155,7 +155,7 @@ alike xs ys a b (Err (refusal.TooManyRows l)) h m = (
   m.0,
   λ came s. many_more a.limit (came ++ xs) (came ++ ys) (λ q e. sym (same_behind came xs ys h q) ∙ e) (m.1 came s),
 )
-alike xs ys a b (Err refusal.Memory) h m = tt
+alike xs ys a b (Err (refusal.Memory why)) h m = tt
 
 pub stops : (xs ys : AllKeys) (a b c : Gathering) (e : JoinRefusal) → Gathers xs a b (Err e) → Gathers (xs ++ ys) a c (Err e)
 stops xs ys a b c (refusal.TooManyRows l) m = (
@@ -164,4 +164,4 @@ stops xs ys a b c (refusal.TooManyRows l) m = (
       many_more a.limit (came ++ xs) (came ++ (xs ++ ys))
       (λ q e. ap (has_key q) (sym (append_assoc came xs ys)) ∙ list_any-append (same_nodes q) (came ++ xs) ys ∙ or_left (has_key q (came ++ xs)) (has_key q ys) e) (m.1 came s),
 )
-stops xs ys a b c refusal.Memory m = tt
+stops xs ys a b c (refusal.Memory why) m = tt

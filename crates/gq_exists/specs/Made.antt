@@ -35,4 +35,4 @@ some_stand_on nodes row keys = list_any (stands_on nodes row) keys
 -- TooManyRows only where more keys than the limit differ; want of memory may come at any time
 abbrev pub IsRefusal : ℕ → List (List NodeId) → JoinRefusal → Type 0
 IsRefusal limit all (refusal.TooManyRows l) = (l ≡ limit) × HasMany limit all
-IsRefusal limit all refusal.Memory = Unit {0}
+IsRefusal limit all (refusal.Memory why) = Unit {0}

@@ -22,7 +22,7 @@ ghost use Rattle.gq_pool.specs.Pool.{spare_of};
 
 use crate::gathering::Gathering;
 use crate::keys::Keys;
-use gq_base::{List, NodeId};
+use gq_base::{List, Memory, NodeId};
 use gq_expr::Assigned;
 use gq_group::Choice;
 use gq_join::{JoinRefusal, Room};
@@ -88,7 +88,7 @@ impl KeySet {
     {
         graph.stands_valid();
         if part.nodes.len() > u32::MAX as usize {
-            return Err(JoinRefusal::Memory);
+            return Err(JoinRefusal::Memory(Memory::Limit));
         }
         let mut gathering = Gathering::new(alloc, part.nodes.len() as u32, limit, *room)?;
         let mut spent = List::new(alloc);
@@ -205,14 +205,14 @@ fn run(
 {
     graph.stands_valid();
     if gathering.width as usize > typed.nodes.len() {
-        return Err(JoinRefusal::Memory);
+        return Err(JoinRefusal::Memory(Memory::Limit));
     }
     let mut side = gathering.room;
     let Ok(builds) = make_builds(alloc, graph, plan, typed, pool, gathering.limit, &mut side) else {
-        return Err(JoinRefusal::Memory);
+        return Err(JoinRefusal::Memory(Memory::Exhausted));
     };
     let Ok(mut pipeline) = Pipeline::start(alloc, graph, &builds, plan, typed, pool) else {
-        return Err(JoinRefusal::Memory);
+        return Err(JoinRefusal::Memory(Memory::Exhausted));
     };
     let filled = fill(gathering, alloc, typed, &mut pipeline, pool);
     let own = pipeline.finish(pool);
@@ -221,7 +221,7 @@ fn run(
         Err(refusal) => return Err(refusal),
     }
     let Ok(()) = spent.push(own) else {
-        return Err(JoinRefusal::Memory);
+        return Err(JoinRefusal::Memory(Memory::Exhausted));
     };
     Ok(())
 }

@@ -137,7 +137,7 @@ fn are_distinct(alloc: Global, fields: &[Field]) -> Result<bool, Memory>
     let mut names = BTreeSet::new(alloc);
     for field in fields {
         let Ok(is_new) = names.insert(field.name.as_str()) else {
-            return Err(Memory);
+            return Err(Memory::Exhausted);
         };
         if !is_new {
             return Ok(false);

@@ -35,14 +35,14 @@ impl Room {
         self.left
     }
 
-    /// Takes so many bytes; `Memory`, and none is taken, exactly where fewer are left.
+    /// Takes so many bytes; `Limit`, and none is taken, exactly where fewer are left.
     pub fn take(&mut self, bytes: u64) -> Result<(), Memory>
         ensures taken { OnOk result (self.new + bytes ≡ self.old) }
         ensures same { OnErr result (self.new ≡ self.old) }
         ensures refused { OnErr result (self.old < bytes) }
     {
         if bytes > self.left {
-            return Err(Memory);
+            return Err(Memory::Limit);
         }
         self.left -= bytes;
         Ok(())

@@ -53,4 +53,4 @@ SomeClausePast g limit parts pss = ⊥
 -- TooManyRows only where one does; want of memory may come at any time
 abbrev pub IsRefusal : Graph → ℕ → List OptionalPart → List (List Plan) → JoinRefusal → Type 0
 IsRefusal g limit parts pss (refusal.TooManyRows l) = (l ≡ limit) × SomeClausePast g limit parts pss
-IsRefusal g limit parts pss refusal.Memory = Unit {0}
+IsRefusal g limit parts pss (refusal.Memory why) = Unit {0}

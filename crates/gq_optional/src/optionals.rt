@@ -216,7 +216,7 @@ fn hold<'b>(
     graph.stands_valid();
     let nodes = part.nodes.as_slice();
     if nodes.len() > u32::MAX as usize {
-        return Err(JoinRefusal::Memory);
+        return Err(JoinRefusal::Memory(Memory::Limit));
     }
     let shared = shared_of(alloc, known, nodes)?;
     let keys = places_of(alloc, shared.as_slice())?;

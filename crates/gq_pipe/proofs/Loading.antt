@@ -95,7 +95,7 @@ module _ (y : Typed) (side : Plan) (old mid : Growing) (owed left : List Partial
           (let past : mid.limit < length mid.rows + length more = h.1 in
               omega (arith, past, same_limit, many_rows, some, long, parted, length-append chunk after, length-append (map reads came.rows) left, length-map came.rows reads)),
         )
-    refused Memory h = tt
+    refused (Memory why) h = tt
 
   -- nothing is owed any more
   pub all_came : left ≡ [] → IsFilled y side owed old mid

@@ -162,7 +162,7 @@ past_refused g y side keys limit old owed (TooManyRows l) begun bag past =
     let same : old.limit ≡ limit = ap (λ (b : Growing). b.limit) begun in
     let over : old.limit < length old.rows + length owed = past.1 in
     (past.0 ∙ same, omega (arith, over, same, ap (λ (b : Growing). length b.rows) begun, length-meaning g y side, length_permutation _ _ bag))
-past_refused g y side keys limit old owed Memory begun bag past = tt
+past_refused g y side keys limit old owed (Memory why) begun bag past = tt
 
 -- what the pipeline spent that filled it
 pub has_spent : (g : Graph) (y : Typed) (side : Plan) (begun ended : Rest) (s : Spent)

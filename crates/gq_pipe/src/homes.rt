@@ -247,7 +247,7 @@ fn add_column(filling: Filling, group: u32, node: u32, housing: &mut Housing) ->
 {
     let column = housing.fillings.len();
     if column > u32::MAX as usize {
-        return Err(Memory);
+        return Err(Memory::Limit);
     }
     housing.fillings.push(filling)?;
     let home = NodeHome::Column {

@@ -88,7 +88,7 @@ impl<'e> PropertyReads<'e> {
     {
         let is_new = match self.names.insert(name.as_str()) {
             Ok(is_new) => is_new,
-            Err(_) => return Err(Memory),
+            Err(_) => return Err(Memory::Exhausted),
         };
         if is_new {
             return self.reads.push(PropertyRead { variable, name });

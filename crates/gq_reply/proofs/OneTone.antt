@@ -18,7 +18,7 @@ use Rattle.gq_reply.specs.Replies.{AreBehind, Context, IsAnswered, IsAsked, IsOv
 use Rattle.gq_reply.specs.declared.replier.Form.{Form}
 use Rattle.gq_rows.specs.Answers.{cut_of, most_listed}
 use Rattle.gq_session.specs.Replies.{Replies}
-use Rattle.gq_session.specs.Tones.{worse}
+use Rattle.gq_session.specs.Tones.{IsMemory, worse}
 use Rattle.gq_session.specs.declared.answering.Tone.{Tone}
 use Rattle.gq_session.specs.declared.answering.Tone.TheVariants as tone
 use Rattle.gq_syntax.proofs.Exact.{comes_statement}
@@ -178,11 +178,11 @@ same_params params statement tone.Good behind behind' (inl (blank, is)) (inr (s,
 same_params params statement tone.Good behind behind' (inr (s, spelled, is)) (inl (blank, is')) = absurd (not_blank statement params s spelled blank)
 same_params params statement tone.Good behind behind' (inr (s, spelled, is)) (inr (s', spelled', is')) = is ∙ ap (λ u. params_behind u params) (one_tree params statement s s' spelled spelled') ∙ sym is'
 same_params params statement tone.Refused behind behind' is is' = is ∙ sym is'
-same_params params statement tone.Memory behind behind' is is' = is ∙ sym is'
+same_params params statement (tone.Memory why) behind behind' is is' = is ∙ sym is'
 
--- the tones of replies agree, or memory ended at one of them, or a statement asks such a query
+-- the tones of replies agree, or one of them is want of memory, or a statement asks such a query
 abbrev pub Agree : Type 0 → Tone → Tone → Type 0
-Agree Asks t u = (t ≡ u) ⊎ (t ≡ tone.Memory) ⊎ (u ≡ tone.Memory) ⊎ Asks
+Agree Asks t u = (t ≡ u) ⊎ IsMemory t ⊎ IsMemory u ⊎ Asks
 
 -- ---- statements
 
@@ -195,14 +195,14 @@ pub record AsksSome (c : Context) (params : List Param) (statements : List (List
   pub stand : StandBehind c params (take place statements) behind
   pub asks : AsksOne c.graph behind statement
 
-not_worse : (a t : Tone) → ¬ (a ≡ tone.Memory) → ¬ (t ≡ tone.Memory) → ¬ (worse a t ≡ tone.Memory)
-not_worse tone.Good t left right same = right same
-not_worse tone.Refused tone.Good left right same = cc same
-not_worse tone.Refused tone.Refused left right same = cc same
-not_worse tone.Refused tone.Memory left right same = right refl
-not_worse tone.Memory t left right same = left refl
+not_worse : (a t : Tone) → ¬ (IsMemory a) → ¬ (IsMemory t) → ¬ (IsMemory (worse a t))
+not_worse tone.Good t left right is = right is
+not_worse tone.Refused tone.Good left right is = is
+not_worse tone.Refused tone.Refused left right is = is
+not_worse tone.Refused (tone.Memory why) left right is = right tt
+not_worse (tone.Memory why) t left right is = left tt
 
-later : (c : Context) (params next : List Param) (s : List ℕ) (ss : List (List ℕ)) (a : Tone) (reply : List ℕ) → IsTurn c params s a reply next → ¬ (a ≡ tone.Memory) → AsksSome c next ss
+later : (c : Context) (params next : List Param) (s : List ℕ) (ss : List (List ℕ)) (a : Tone) (reply : List ℕ) → IsTurn c params s a reply next → ¬ (IsMemory a) → AsksSome c next ss
     → AsksSome c params (s ∷ ss)
 later c params next s ss a reply is some asks =
     let (t, text, replies, enough) = asks.stand in
@@ -215,15 +215,23 @@ later c params next s ss a reply is some asks =
       asks = asks.asks;
     }
 
-worse_memory : (t : Tone) → worse t tone.Memory ≡ tone.Memory
-worse_memory tone.Good = refl
-worse_memory tone.Refused = refl
-worse_memory tone.Memory = refl
+-- of two tones one of which is want of memory the worse is
+memory_before : (a t : Tone) → IsMemory a → IsMemory (worse a t)
+memory_before tone.Good t is = absurd is
+memory_before tone.Refused t is = absurd is
+memory_before (tone.Memory why) t is = tt
 
-by_memory : (t : Tone) → (t ≡ tone.Memory) ⊎ (¬ (t ≡ tone.Memory))
-by_memory tone.Good = inr (λ same. cc same)
-by_memory tone.Refused = inr (λ same. cc same)
-by_memory tone.Memory = inl refl
+memory_behind : (a t : Tone) → IsMemory t → IsMemory (worse a t)
+memory_behind tone.Good t is = is
+memory_behind tone.Refused tone.Good is = absurd is
+memory_behind tone.Refused tone.Refused is = absurd is
+memory_behind tone.Refused (tone.Memory why) is = tt
+memory_behind (tone.Memory why) t is = tt
+
+by_memory : (t : Tone) → IsMemory t ⊎ (¬ (IsMemory t))
+by_memory tone.Good = inr (λ is. is)
+by_memory tone.Refused = inr (λ is. is)
+by_memory (tone.Memory why) = inl tt
 
 module _ (graph : Graph) (settings : Settings) (one other : Form) where
   abbrev here : Context
@@ -238,9 +246,9 @@ module _ (graph : Graph) (settings : Settings) (one other : Form) where
   one_tone params statement tone.Good tone.Refused x y p q = inr (inr (inr (both_replies graph settings one other params statement x y p q)))
   one_tone params statement tone.Refused tone.Good x y p q = inr (inr (inr (both_replies graph settings other one params statement y x q p)))
   one_tone params statement tone.Refused tone.Refused x y p q = inl refl
-  one_tone params statement tone.Memory u x y p q = inr (inl refl)
-  one_tone params statement tone.Good tone.Memory x y p q = inr (inr (inl refl))
-  one_tone params statement tone.Refused tone.Memory x y p q = inr (inr (inl refl))
+  one_tone params statement (tone.Memory why) u x y p q = inr (inl tt)
+  one_tone params statement tone.Good (tone.Memory why) x y p q = inr (inr (inl tt))
+  one_tone params statement tone.Refused (tone.Memory why) x y p q = inr (inr (inl tt))
 
   pub tones_agree : (params behind behind' : List Param) (ss : List (List ℕ)) (t u : Tone) (x y : List ℕ) → Replies (IsTurn here) params behind ss t x → Replies (IsTurn there) params behind' ss u y
       → Agree (AsksSome here params ss) t u
@@ -248,24 +256,24 @@ module _ (graph : Graph) (settings : Settings) (one other : Form) where
   tones_agree params behind behind' (s ∷ ss) t u x y (a, v, reply, more, next, is, rest, worst, whole) (b, w, reply', more', next', is', rest', worst', whole') =
       elim (one_tone params s a b reply reply' is.0 is'.0) [
         | inl same ↦ elim (by_memory a) [
-          | inl memory ↦ inr (inl (worst ∙ ap (λ z. worse z v) memory))
+          | inl memory ↦ inr (inl (subst IsMemory (sym worst) (memory_before a v memory)))
           | inr some ↦ (
               let left : next' ≡ next = same_params params s a next' next (subst (λ z. AreBehind params s z next') (sym same) is'.1) is.1 in
               elim (tones_agree next behind behind' ss v w more more' rest (subst (λ z. Replies (IsTurn there) z behind' ss w more') left rest')) [
                 | inl equal ↦ inl (worst ∙ ap₂ worse same equal ∙ sym worst')
-                | inr (inl memory) ↦ inr (inl (worst ∙ ap (λ z. worse a z) memory ∙ worse_memory a))
-                | inr (inr (inl memory)) ↦ inr (inr (inl (worst' ∙ ap (λ z. worse b z) memory ∙ worse_memory b)))
+                | inr (inl memory) ↦ inr (inl (subst IsMemory (sym worst) (memory_behind a v memory)))
+                | inr (inr (inl memory)) ↦ inr (inr (inl (subst IsMemory (sym worst') (memory_behind b w memory))))
                 | inr (inr (inr asks)) ↦ inr (inr (inr (later here params next s ss a reply is some asks)))
               ])
         ]
-        | inr (inl memory) ↦ inr (inl (worst ∙ ap (λ z. worse z v) memory))
-        | inr (inr (inl memory)) ↦ inr (inr (inl (worst' ∙ ap (λ z. worse z w) memory)))
+        | inr (inl memory) ↦ inr (inl (subst IsMemory (sym worst) (memory_before a v memory)))
+        | inr (inr (inl memory)) ↦ inr (inr (inl (subst IsMemory (sym worst') (memory_before b w memory))))
         | inr (inr (inr asks)) ↦ inr (inr (inr (record {
           place = 0;
           statement = s;
           at = refl;
           behind = params;
-          stand = (tone.Good, [], (refl, refl, refl), λ same. cc same);
+          stand = (tone.Good, [], (refl, refl, refl), λ is. is);
           asks = asks;
         })))
       ]

@@ -145,7 +145,7 @@ module _ (c : Context) (params : List Param) (statement : List ℕ) where
     -- a query that the binder does not accept
     pub unbound : (query : Query) → bind_refusal form statement c.graph.catalog ≡ first_refusal query statement c.graph.catalog → (e : BindRefusal) → Answers query statement c.graph.catalog (Err e)
         → IsReply c params statement (bind_tone e) (bind_line e)
-    unbound query of bind.Memory refused = refl
+    unbound query of (bind.Memory why) refused = refl
     unbound query of (bind.UnknownVariable name) refused = unbound_line (bind.UnknownVariable name) (of ∙ refused)
     unbound query of (bind.VariableConflict name) refused = unbound_line (bind.VariableConflict name) (of ∙ refused)
     unbound query of (bind.RelationshipRepeated name) refused = unbound_line (bind.RelationshipRepeated name) (of ∙ refused)
@@ -187,13 +187,13 @@ module _ (c : Context) (params : List Param) (statement : List ℕ) (query : Que
     may_reply tone.Good text (lines, permitted, is) = inr (inr (inr (inr (lines, replies_with (Rows lines) text permitted is))))
     may_reply tone.Refused text (inl (f, permitted, is)) = stopped text (inl (f, replies_with (Faulted f) text permitted (fault_alone asked.profiled f text is)))
     may_reply tone.Refused text (inr (permitted, is)) = stopped text (inr (replies_with TooManyRows text permitted (many_alone asked.profiled text is)))
-    may_reply tone.Memory text is = is
+    may_reply (tone.Memory why) text is = is
 
   -- the plans of the query that a statement spells reply to it
   pub may_show : SpelledText statement params (tree.Plan query) → IsBound query statement c.graph.catalog bound → (t : Tone) (text : List ℕ) → MayShow c query bound t text → IsReply c params statement t text
   may_show spelled binds tone.Good text is = inr (inr (inr (inl (record { query = query; bound = bound; spelled = spelled; binds = binds; is = is }))))
   may_show spelled binds tone.Refused text is = absurd is
-  may_show spelled binds tone.Memory text is = is
+  may_show spelled binds (tone.Memory why) text is = is
 
 -- ---- parameters
 
@@ -208,7 +208,7 @@ module _ (params : List Param) (statement : List ℕ) where
       → AreBehind params statement t behind
   set_behind name value spelled tone.Good behind is = inr (tree.Param name value, spelled, is)
   set_behind name value spelled tone.Refused behind is = is
-  set_behind name value spelled tone.Memory behind is = is
+  set_behind name value spelled (tone.Memory why) behind is = is
 
   pub set_after : (name : Name) (value : Literal) → SpelledText statement params (tree.Param name value) → (behind : List Param) (result : Result Tone Failed)
       → IfOk result (λ t. behind ≡ behind_set params name value t) → IfOk result (λ t. AreBehind params statement t behind)
@@ -219,7 +219,7 @@ module _ (params : List Param) (statement : List ℕ) where
   pub same_behind : (s : Statement) → SpelledText statement params s → params_behind s params ≡ params → (t : Tone) → AreBehind params statement t params
   same_behind s spelled same tone.Good = inr (s, spelled, sym same)
   same_behind s spelled same tone.Refused = refl
-  same_behind s spelled same tone.Memory = refl
+  same_behind s spelled same (tone.Memory why) = refl
 
 module _ (c : Context) (params : List Param) (statement : List ℕ) where
   -- the reply to a statement that sets a parameter
@@ -229,7 +229,7 @@ module _ (c : Context) (params : List Param) (statement : List ℕ) where
     written = not_blank statement params (tree.Param name value) spelled;
     why = inr (inr (inl (record { name = name; value = value; spelled = spelled; full = full; is = is })));
   }
-  may_set name value spelled tone.Memory text is = is
+  may_set name value spelled (tone.Memory why) text is = is
 
   -- each reply has parameters behind it
   some_behind : (t : Tone) (text : List ℕ) → IsReply c params statement t text → (behind : List Param) × AreBehind params statement t behind
@@ -239,7 +239,7 @@ module _ (c : Context) (params : List Param) (statement : List ℕ) where
   some_behind tone.Good text (inr (inr (inr (inl shows)))) = (params, inr (tree.Plan shows.query, shows.spelled, refl))
   some_behind tone.Good text (inr (inr (inr (inr (lines, replies))))) = (params, inr (asked_by replies.asked.profiled replies.query, replies.asked.spelled, sym (asked_behind replies.asked.profiled replies.query params)))
   some_behind tone.Refused text may = (params, refl)
-  some_behind tone.Memory text may = (params, refl)
+  some_behind (tone.Memory why) text may = (params, refl)
 
   -- a reply that was written, with the parameters behind it, is a turn
   pub turned : (behind : List Param) (out : Span) (result : Result Tone Failed) → Replied (IsReply c params statement) out result → IfOk result (λ t. AreBehind params statement t behind)

@@ -25,4 +25,4 @@ bind_line refusal.TooManyAlternatives = refusal_line (codes "error: TooManyAlter
 bind_line refusal.TrailLength = refusal_line (codes "error: TrailLength") [] []
 bind_line refusal.TrailWithOptional = refusal_line (codes "error: TrailWithOptional") [] []
 bind_line refusal.ExistsPlace = refusal_line (codes "error: ExistsPlace") [] []
-bind_line refusal.Memory = refusal_line (codes "error: Memory") [] []
+bind_line (refusal.Memory why) = refusal_line (codes "error: Memory") [] []

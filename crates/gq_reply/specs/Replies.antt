@@ -24,6 +24,7 @@ use Rattle.gq_reply.specs.ReplyTexts.{IsPlanText, fault_text, many_text, reply_t
 use Rattle.gq_reply.specs.declared.replier.Form.{Form}
 use Rattle.gq_reply.specs.declared.replier.Replier.{Replier}
 use Rattle.gq_session.specs.Replies.{Replies, Rule}
+use Rattle.gq_session.specs.Tones.{IsMemory}
 use Rattle.gq_session.specs.declared.answering.Tone.{Tone}
 use Rattle.gq_session.specs.declared.answering.Tone.TheVariants as tone
 use Rattle.gq_syntax.specs.Outcomes.{Cause, SpelledText}
@@ -157,15 +158,15 @@ pub record IsRefused (c : Context) (params : List Param) (statement text : List 
   pub why : IsWrong params statement text ⊎ IsUnbound c.graph params statement text
       ⊎ IsOverfull params statement text ⊎ IsStopped c params statement text
 
--- the line of a statement for which there was not enough memory
+-- the line of a statement for which there was not enough memory, or which asks for more than one statement may take
 abbrev pub memory_line : List ℕ
 memory_line = line (codes "error: Memory")
 
--- the replies that a statement may have with these parameters, by their tones: memory may end at any statement
+-- the replies that a statement may have with these parameters, by their tones: any statement may want memory, by either cause
 abbrev pub IsReply : Context → List Param → List ℕ → Tone → List ℕ → Type 0
 IsReply c params statement tone.Good text = IsAnswered c params statement text
 IsReply c params statement tone.Refused text = IsRefused c params statement text
-IsReply c params statement tone.Memory text = text ≡ memory_line
+IsReply c params statement (tone.Memory why) text = text ≡ memory_line
 
 -- the parameters behind a statement that is accepted
 abbrev pub params_behind : Statement → List Param → List Param
@@ -183,7 +184,7 @@ AreBehind params statement t behind = behind ≡ params
 abbrev pub IsTurn : Context → Rule (List Param)
 IsTurn c params statement t text behind = IsReply c params statement t text × AreBehind params statement t behind
 
--- the parameters that stand behind statements, from these on: those behind some replies to them, where memory ended at none
+-- the parameters that stand behind statements, from these on: those behind some replies to them, none of which is want of memory
 abbrev pub StandBehind : Context → List Param → List (List ℕ) → List Param → Type 0
 StandBehind c params statements behind = (t : Tone) × (text : List ℕ)
-    × Replies (IsTurn c) params behind statements t text × (¬ (t ≡ tone.Memory))
+    × Replies (IsTurn c) params behind statements t text × (¬ (IsMemory t))

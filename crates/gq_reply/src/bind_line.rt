@@ -37,7 +37,7 @@ pub fn write_bind_refusal<O: Sink>(out: &mut O, refusal: &BindRefusal) -> Result
         BindRefusal::TrailLength => alone(out, "error: TrailLength"),
         BindRefusal::TrailWithOptional => alone(out, "error: TrailWithOptional"),
         BindRefusal::ExistsPlace => alone(out, "error: ExistsPlace"),
-        BindRefusal::Memory => alone(out, "error: Memory"),
+        BindRefusal::Memory(_) => alone(out, "error: Memory"),
     }
 }
 
@@ -46,7 +46,7 @@ pub fn tone_of(refusal: &BindRefusal) -> Tone
     ensures { result ≡ bind_tone refusal.now }
 {
     match refusal {
-        BindRefusal::Memory => Tone::Memory,
+        BindRefusal::Memory(memory) => Tone::Memory(*memory),
         _ => Tone::Refused,
     }
 }

@@ -6,7 +6,7 @@ ghost use Rattle.gq_session.specs.Sessions.{span_of};
 ghost use Rattle.gq_tokens.specs.Parameters.{are_params};
 
 use crate::tone::toned;
-use gq_base::{Literal, Text};
+use gq_base::{Literal, Memory, Text};
 use gq_io::{Failed, Sink, write_all};
 use gq_render::write_param;
 use gq_session::Tone;
@@ -27,7 +27,10 @@ pub fn reply_to_param<O: Sink>(
     ensures params { are_params params.new ≡ true }
 {
     let Ok(key) = name.clone() else {
-        return toned(write_all(out, b"error: Memory\n"), Tone::Memory);
+        return toned(
+            write_all(out, b"error: Memory\n"),
+            Tone::Memory(Memory::Exhausted),
+        );
     };
     match params.set(key, value) {
         Ok(()) => match params.get(name.as_str()) {
@@ -38,6 +41,9 @@ pub fn reply_to_param<O: Sink>(
             write_all(out, b"error: TooManyParameters\n"),
             Tone::Refused,
         ),
-        Err(ParamRefusal::Memory) => toned(write_all(out, b"error: Memory\n"), Tone::Memory),
+        Err(ParamRefusal::Memory) => toned(
+            write_all(out, b"error: Memory\n"),
+            Tone::Memory(Memory::Exhausted),
+        ),
     }
 }

@@ -95,14 +95,23 @@ impl Replier<'_> {
             (span_of O.taken O.faults out.old out.new) result }
     {
         let Ok(made) = plans(self.alloc, self.graph, bound, self.settings.order) else {
-            return toned(write_all(out, b"error: Memory\n"), Tone::Memory);
+            return toned(
+                write_all(out, b"error: Memory\n"),
+                Tone::Memory(Memory::Exhausted),
+            );
         };
         let alternatives = bound.alternatives.as_slice();
         let Ok(counts) = column_counts(self.alloc, alternatives, made.plans.as_slice()) else {
-            return toned(write_all(out, b"error: Memory\n"), Tone::Memory);
+            return toned(
+                write_all(out, b"error: Memory\n"),
+                Tone::Memory(Memory::Exhausted),
+            );
         };
         let Ok(arrows) = trail_arrows(self.alloc, query.clauses.as_slice()) else {
-            return toned(write_all(out, b"error: Memory\n"), Tone::Memory);
+            return toned(
+                write_all(out, b"error: Memory\n"),
+                Tone::Memory(Memory::Exhausted),
+            );
         };
         toned(
             self.write_plans(out, bound, &made, &counts, &arrows),

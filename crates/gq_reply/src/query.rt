@@ -127,7 +127,9 @@ impl Replier<'_> {
             Err(AnswerRefusal::TooManyRows { .. }) => {
                 toned(write_many(out, self.settings.rows), Tone::Refused)
             }
-            Err(AnswerRefusal::Memory) => toned(write_all(out, b"error: Memory\n"), Tone::Memory),
+            Err(AnswerRefusal::Memory(memory)) => {
+                toned(write_all(out, b"error: Memory\n"), Tone::Memory(memory))
+            }
         }
     }
 }

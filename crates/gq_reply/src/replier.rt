@@ -1,6 +1,7 @@
 //! What answers statements over a graph.
 
 ghost use Rattle.std.specs.Prelude.{◌≡◌, ◌≤◌, List, refl, true};
+ghost use Rattle.gq_base.specs.declared.memory.Memory.TheVariants.{Exhausted};
 ghost use Rattle.gq_pool.specs.Pool.{spare_of};
 ghost use Rattle.gq_reply.specs.Replies.{IsTurn, context_of, memory_line};
 ghost use Rattle.gq_session.specs.declared.answering.Tone.TheVariants as tone;
@@ -63,5 +64,6 @@ impl Answerer for Replier<'_> {
         self.reply(out, workspace, statement)
     }
 
-    ghost has_reply = { λ _ params statement. (tone.Memory, memory_line, params, (refl, refl)) };
+    ghost has_reply = { λ _ params statement.
+        (tone.Memory Exhausted, memory_line, params, (refl, refl)) };
 }

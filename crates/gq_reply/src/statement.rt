@@ -129,7 +129,7 @@ impl Replier<'_> {
         match is_blank(self.alloc, statement, at) {
             Ok(true) => Ok(Tone::Good),
             Ok(false) => toned(write_at(out, "error: Syntax at byte ", at), Tone::Refused),
-            Err(Memory) => toned(write_all(out, b"error: Memory\n"), Tone::Memory),
+            Err(memory) => toned(write_all(out, b"error: Memory\n"), Tone::Memory(memory)),
         }
     }
 
@@ -166,7 +166,10 @@ impl Replier<'_> {
             Err(SyntaxRefusal::UnknownParameter { name }) => {
                 toned(named(out, "error: UnknownParameter ", &name), Tone::Refused)
             }
-            Err(SyntaxRefusal::Memory) => toned(write_all(out, b"error: Memory\n"), Tone::Memory),
+            Err(SyntaxRefusal::Memory) => toned(
+                write_all(out, b"error: Memory\n"),
+                Tone::Memory(Memory::Exhausted),
+            ),
         }
     }
 }

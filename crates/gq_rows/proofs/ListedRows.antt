@@ -80,7 +80,7 @@ module _ (q : question.Asked) (here : reading.Assignment) (asks : List Asked) (a
   failed old new vs (refusal.Fault f) p =
       when_column q.graph.now q.bound.now (numbered q.bound.now.conjuncts q.late.now) here f old.cells.values is_met (ap (values_after old.cells.values) (sym (columns_mean q.graph.now here q.bound.now.columns asks are)) ∙ p)
   failed old new vs (refusal.TooManyRows l) p = absurd p
-  failed old new vs refusal.Memory p = tt
+  failed old new vs (refusal.Memory why) p = tt
 
 -- ---- what is held
 
@@ -125,7 +125,7 @@ module _ (q : question.Asked) (listing : IsListing q) where
   held_err : (old new : Listed) (o : Option (Result Row Fault)) (r : RowRefusal) → AddsIn q o old new (Err r) → PushesHeld q.form b q.limit o (held_in old) (held_in new) (Err r)
   held_err old new o (refusal.Fault f) a = a
   held_err old new o (refusal.TooManyRows l) a = (a.0, (a.2.0, a.2.1, past q.form listing.plain old a.2.0 a.1))
-  held_err old new o refusal.Memory a = tt
+  held_err old new o (refusal.Memory why) a = tt
 
   module _ (old : Listed) (some : StandsForSome (table_in q old)) (room : is_full_table (table_in q old) ≡ false) where
     open_at : HasFull q.form (held_in old) → ⊥
@@ -216,14 +216,14 @@ module _ (t : Inside) (old : Table) (view : table_of t ≡ old) (e : is_listing 
   alike o (Ok more.Enough) here z g n h new p = p
   alike o (Err (refusal.Fault f)) here z g n h new p = p
   alike o (Err (refusal.TooManyRows l)) here z g n h new p = p
-  alike o (Err refusal.Memory) here z g n h new p = tt
+  alike o (Err (refusal.Memory why)) here z g n h new p = tt
 
   alike_all : (os : List (Result Row Fault)) (r : Result More RowRefusal) (here : Graph) (z : Option Typed) (g : Graph) (n : ℕ) (h new : Held) → PushesAll os (with_cells None here 0 h) (with_cells None here 0 new) r → PushesAll os (with_cells z g n h) (with_cells z g n new) r
   alike_all os (Ok more.Go) here z g n h new p = p
   alike_all os (Ok more.Enough) here z g n h new p = p
   alike_all os (Err (refusal.Fault f)) here z g n h new p = record { there = p.there; seen = p.seen }
   alike_all os (Err (refusal.TooManyRows l)) here z g n h new p = p
-  alike_all os (Err refusal.Memory) here z g n h new p = tt
+  alike_all os (Err (refusal.Memory why)) here z g n h new p = tt
 
   pub pushed_listed : (o : Option (Result Row Fault)) (r : Result More RowRefusal) (here : Graph) (l new : Listed) (done : Bool) (fs : _) → held_in l ≡ held_in t.listed
       → Pushes o (with_cells None here 0 (held_in l)) (with_cells None here 0 (held_in new)) r → Pushes o old (table_of (record t { listed = new; done = done; finders = fs })) r

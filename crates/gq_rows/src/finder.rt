@@ -224,7 +224,7 @@ fn put_evaluated<'g, R: Assigned>(
                 *made = made.saturating_add(1);
                 Ok(())
             }
-            Err(Memory) => Err(RowRefusal::Memory),
+            Err(memory) => Err(RowRefusal::Memory(memory)),
         },
         Err(fault) => Err(RowRefusal::Fault(fault)),
     }
@@ -258,11 +258,11 @@ pub(crate) fn put_column<'g, R: Assigned>(
     match found_of(finder, row) {
         Found::Number(number) => match cells.put(finder.source, number) {
             Ok(()) => Ok(()),
-            Err(Memory) => Err(RowRefusal::Memory),
+            Err(memory) => Err(RowRefusal::Memory(memory)),
         },
         Found::Null => match cells.put(finder.null, 0) {
             Ok(()) => Ok(()),
-            Err(Memory) => Err(RowRefusal::Memory),
+            Err(memory) => Err(RowRefusal::Memory(memory)),
         },
         Found::Other => put_evaluated(cells, made, column, row),
     }

@@ -146,7 +146,7 @@ impl<'g> Listed<'g> {
             return Err(RowRefusal::TooManyRows { limit: asked.limit });
         }
         if self.bytes() > asked.room {
-            return Err(RowRefusal::Memory);
+            return Err(RowRefusal::Memory(Memory::Limit));
         }
         self.count += 1;
         Ok(true)

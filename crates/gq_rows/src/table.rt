@@ -24,6 +24,7 @@ use crate::listed::{Asked, Listed, find_columns, is_listing};
 use crate::reading::Reading;
 use crate::refusal::{More, RowRefusal};
 use crate::room::row_bytes;
+use gq_base::Memory;
 use gq_cells::Cells;
 use gq_classes::Classes;
 use gq_expr::{Assigned, Fault};
@@ -210,7 +211,7 @@ impl<'g> RowTable<'g> {
         };
         let mut choice = mem::replace(&mut self.choice, Choice::new(self.alloc));
         let Ok(found) = choice.first(chunk.groups) else {
-            return Err(RowRefusal::Memory);
+            return Err(RowRefusal::Memory(Memory::Exhausted));
         };
         if !found {
             self.choice = choice;
@@ -284,7 +285,7 @@ impl<'g> RowTable<'g> {
         }
         let mut reading = mem::replace(&mut self.reading, Reading::new(self.alloc));
         let Ok(()) = reading.prepare(self.alloc, self.bound, graph) else {
-            return Err(RowRefusal::Memory);
+            return Err(RowRefusal::Memory(Memory::Exhausted));
         };
         match self.push_choices(choice, chunk, &reading, typed, graph, admits) {
             Ok(more) => {
@@ -319,18 +320,18 @@ impl<'g> RowTable<'g> {
         ensures pushed { self.new.pushed ≡ self.old.pushed }
     {
         let Ok(()) = self.reading.prepare(self.alloc, self.bound, graph) else {
-            return Err(RowRefusal::Memory);
+            return Err(RowRefusal::Memory(Memory::Exhausted));
         };
         let done = self.done;
         self.done = false;
         let cells = &mut self.listed.cells;
         let Ok(()) = find_columns(done, cells, &mut self.finders, self.bound, typed, graph) else {
-            return Err(RowRefusal::Memory);
+            return Err(RowRefusal::Memory(Memory::Exhausted));
         };
         let held = &mut self.held;
         let finders = self.finders.as_slice();
         let Ok(()) = hold_columns(held, finders, graph, typed, chunk, choice.positions()) else {
-            return Err(RowRefusal::Memory);
+            return Err(RowRefusal::Memory(Memory::Exhausted));
         };
         let held = self.held.as_slice();
         let asked = Asked {
@@ -372,13 +373,13 @@ impl<'g> RowTable<'g> {
         ensures pushed { self.new.pushed ≡ self.old.pushed }
     {
         let Ok(()) = self.reading.prepare(self.alloc, self.bound, graph) else {
-            return Err(RowRefusal::Memory);
+            return Err(RowRefusal::Memory(Memory::Exhausted));
         };
         let done = self.done;
         self.done = false;
         let cells = &mut self.listed.cells;
         let Ok(()) = find_columns(done, cells, &mut self.finders, self.bound, typed, graph) else {
-            return Err(RowRefusal::Memory);
+            return Err(RowRefusal::Memory(Memory::Exhausted));
         };
         let asked = Asked {
             graph,
@@ -417,7 +418,7 @@ impl<'g> RowTable<'g> {
     {
         let mut reading = mem::replace(&mut self.reading, Reading::new(self.alloc));
         let Ok(()) = reading.prepare(self.alloc, self.bound, graph) else {
-            return Err(RowRefusal::Memory);
+            return Err(RowRefusal::Memory(Memory::Exhausted));
         };
         match self.push(row, &reading, &[], graph) {
             Ok(more) => {

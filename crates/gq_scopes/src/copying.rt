@@ -9,8 +9,8 @@ use std::marker::Model;
 /// has at most 65,536 bytes, so it needs many more only where ORDER BY names a long column very often.
 const MOST_PARTS: usize = 1_048_576;
 
-/// How much may still be copied: parts of expressions and bytes of the texts in them. Where a copy needs more, it
-/// answers want of memory, so that no short statement can ask for a tree of gigabytes. It is seen as what is left.
+/// How much may still be copied: parts of expressions and bytes of the texts in them. Where a copy needs more, the
+/// answer is `Limit`, so that no short statement can ask for a tree of gigabytes. It is seen as what is left.
 #[derive(Drop)]
 pub struct Copying {
     left: usize,
@@ -83,7 +83,7 @@ impl Copying {
         ensures { OnOk result (self.new + parts ≡ self.old) }
     {
         if parts > self.left {
-            return Err(Memory);
+            return Err(Memory::Limit);
         }
         self.left -= parts;
         Ok(())

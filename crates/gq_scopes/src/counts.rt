@@ -8,7 +8,7 @@ pub fn number(count: usize) -> Result<u32, Memory>
     ensures { IfOk result (λ n. n ≡ count) }
 {
     if count > 4_294_967_295 {
-        return Err(Memory);
+        return Err(Memory::Limit);
     }
     Ok(count as u32)
 }
@@ -18,7 +18,7 @@ pub fn next(number: u32) -> Result<u32, Memory>
     ensures { IfOk result (λ n. n ≡ suc number) }
 {
     if number == 4_294_967_295 {
-        return Err(Memory);
+        return Err(Memory::Limit);
     }
     Ok(number + 1)
 }

@@ -101,7 +101,7 @@ impl Names {
             Ok(_) => Ok(()),
             Err(_) => {
                 let _ = self.list.pop();
-                Err(Memory)
+                Err(Memory::Exhausted)
             }
         }
     }
@@ -113,6 +113,6 @@ fn push_item(list: &mut Vec<Option<Text>>, item: Option<Text>) -> Result<(), Mem
 {
     match list.push(item) {
         Ok(()) => Ok(()),
-        Err(_) => Err(Memory),
+        Err(_) => Err(Memory::Exhausted),
     }
 }

@@ -129,13 +129,13 @@ impl<'t> Rels<'t> {
         let part = rel.part;
         match self.list.push(rel) {
             Ok(()) => {}
-            Err(_) => return Err(Memory),
+            Err(_) => return Err(Memory::Exhausted),
         }
         match self.names.push(&part.name) {
             Ok(()) => Ok(()),
-            Err(Memory) => {
+            Err(memory) => {
                 let _ = self.list.pop();
-                Err(Memory)
+                Err(memory)
             }
         }
     }
@@ -620,7 +620,7 @@ fn called(alloc: Global, unnamed: u32, name: &Option<Text>) -> Result<Text, Memo
             let number = next(unnamed)?;
             match format!(in alloc; "#{number}") {
                 Ok(text) => Ok(Text::from_string(text)),
-                Err(_) => Err(Memory),
+                Err(_) => Err(Memory::Exhausted),
             }
         }
     }
@@ -662,7 +662,7 @@ fn push_entries<'t>(
         ≡ entries.old ++ entries_of variable called.now map.now) }
 {
     if map.len().saturating_mul(called.as_str().len()) > MOST_CALLED {
-        return Err(Memory);
+        return Err(Memory::Limit);
     }
     for entry in map {
         let called = copy_text(alloc, called)?;

@@ -12,18 +12,18 @@ use Rattle.gq_session.specs.declared.answering.Tone.TheVariants as tone
 worse-good : (t : Tone) → t ≡ worse t tone.Good
 worse-good tone.Good = refl
 worse-good tone.Refused = refl
-worse-good tone.Memory = refl
+worse-good (tone.Memory why) = refl
 
 worse_assoc : (a b c : Tone) → worse (worse a b) c ≡ worse a (worse b c)
 worse_assoc tone.Good b c = refl
-worse_assoc tone.Memory b c = refl
+worse_assoc (tone.Memory why) b c = refl
 worse_assoc tone.Refused tone.Good tone.Good = refl
 worse_assoc tone.Refused tone.Good tone.Refused = refl
-worse_assoc tone.Refused tone.Good tone.Memory = refl
-worse_assoc tone.Refused tone.Memory c = refl
+worse_assoc tone.Refused tone.Good (tone.Memory why) = refl
+worse_assoc tone.Refused (tone.Memory why) c = refl
 worse_assoc tone.Refused tone.Refused tone.Good = refl
 worse_assoc tone.Refused tone.Refused tone.Refused = refl
-worse_assoc tone.Refused tone.Refused tone.Memory = refl
+worse_assoc tone.Refused tone.Refused (tone.Memory why) = refl
 
 pub replies-append : {S : Type 0} (answers : Rule S) (before mid after : S) (xs ys : List (List ℕ)) (t u : Tone) (x y : List ℕ)
     → Replies answers before mid xs t x → Replies answers mid after ys u y → Replies answers before after (xs ++ ys) (worse t u) (x ++ y)

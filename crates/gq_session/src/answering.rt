@@ -6,6 +6,7 @@ ghost use Rattle.gq_session.specs.Replies.{Answered, Rule};
 ghost use Rattle.gq_session.specs.Tones.{worse};
 ghost use Rattle.gq_session.specs.declared.answering.Tone.{Tone};
 
+use gq_base::Memory;
 use gq_io::{Failed, Sink};
 
 /// What a reply is like, the worst last.
@@ -15,20 +16,22 @@ pub enum Tone {
     Good,
     /// A refusal line.
     Refused,
-    /// The line that says that memory ran out.
-    Memory,
+    /// The line of want of memory, and its cause.
+    Memory(Memory),
 }
 
 impl Tone {
-    /// The worse of two.
+    /// The worse of two; of two wants of memory the first.
     pub fn worse(self, other: Tone) -> Tone
         ensures { result ≡ worse self other }
     {
-        match (self, other) {
-            (Tone::Memory, _) => Tone::Memory,
-            (_, Tone::Memory) => Tone::Memory,
-            (Tone::Refused, _) => Tone::Refused,
-            (_, second) => second,
+        match self {
+            Tone::Memory(first) => Tone::Memory(first),
+            Tone::Refused => match other {
+                Tone::Memory(second) => Tone::Memory(second),
+                Tone::Refused | Tone::Good => Tone::Refused,
+            },
+            Tone::Good => other,
         }
     }
 }

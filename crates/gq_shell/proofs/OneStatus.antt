@@ -17,12 +17,14 @@ use Rattle.gq_reply.specs.declared.replier.Form.TheVariants.{Full, Short}
 use Rattle.gq_sample.specs.Questions.{questions}
 use Rattle.gq_sample.specs.Sample.{sample_graph}
 use Rattle.gq_session.specs.Replies.{Replies}
+use Rattle.gq_session.specs.Tones as tones
 use Rattle.gq_session.specs.Whole as session
 use Rattle.gq_session.specs.declared.answering.Tone.{Tone}
 use Rattle.gq_session.specs.declared.answering.Tone.TheVariants as tone
 use Rattle.gq_shell.specs.Claim.{AreOpen, AsksOpenQuery, IsNotLoaded, IsPath, IsQuiz, IsToTheEnd, IsWhole, OnSample, Outside, Over, Permits, Runs, Whole, full, long, most, order_of, settings_of, short}
 use Rattle.gq_shell.specs.LoadLines.{load_line}
 use Rattle.gq_shell.specs.Questions.{IsNumbered}
+use Rattle.gq_shell.specs.Statuses.{IsMemory}
 use Rattle.gq_shell.specs.steps.Statuses.{status_of}
 use Rattle.gq_shell.specs.declared.status.Status.{Status}
 use Rattle.gq_shell.specs.declared.status.Status.TheVariants as status
@@ -178,21 +180,27 @@ module _ (words : List (List ℕ)) (files : Names) (input : List ℕ) where
   sort status.Ended text (inr sample) = sampled tone.Good text refl sample
   sort status.Refused text (inl over) = answered tone.Refused text refl over
   sort status.Refused text (inr sample) = sampled tone.Refused text refl sample
-  sort status.Memory text (inl over) = answered tone.Memory text refl over
-  sort status.Memory text (inr sample) = sampled tone.Memory text refl sample
+  sort (status.Memory why) text (inl over) = answered (tone.Memory why) text refl over
+  sort (status.Memory why) text (inr sample) = sampled (tone.Memory why) text refl sample
   sort status.ReadFault text p = absurd p
   sort status.WriteFault text p = absurd p
 
   to_the_end : (s : Status) (t : Tone) → s ≡ status_of (Ok t) → IsToTheEnd s
   to_the_end s tone.Good is = subst IsToTheEnd (sym is) tt
   to_the_end s tone.Refused is = subst IsToTheEnd (sym is) tt
-  to_the_end s tone.Memory is = subst IsToTheEnd (sym is) tt
+  to_the_end s (tone.Memory why) is = subst IsToTheEnd (sym is) tt
+
+  -- a session whose worst reply is want of memory ends so
+  of_tone : (t : Tone) → tones.IsMemory t → IsMemory (status_of (Ok t))
+  of_tone tone.Good is = absurd is
+  of_tone tone.Refused is = absurd is
+  of_tone (tone.Memory why) is = tt
 
   abbrev Only : Status → Status → Type 0
   Only s s' = (s ≡ s') ⊎ AreOpen words files input s s'
 
   abbrev Why : Status → Status → Type 0
-  Why s s' = (s ≡ status.Memory) ⊎ (s' ≡ status.Memory) ⊎ OnSample words (λ c. AsksOpenQuery c questions)
+  Why s s' = IsMemory s ⊎ IsMemory s' ⊎ OnSample words (λ c. AsksOpenQuery c questions)
       ⊎ OnInput (λ c i. AsksOpenQuery c (session.statements i))
 
   -- two ends, by how their tones agree
@@ -202,8 +210,8 @@ module _ (words : List (List ℕ)) (files : Names) (input : List ℕ) where
 
     ends_by : (Asks : Type 0) → (Asks → Why s s') → Agree Asks t t' → Only s s'
     ends_by Asks why (inl agree) = inl (is ∙ ap (λ u. status_of (Ok u)) agree ∙ sym is')
-    ends_by Asks why (inr (inl memory)) = open_by (inl (is ∙ ap (λ u. status_of (Ok u)) memory))
-    ends_by Asks why (inr (inr (inl memory))) = open_by (inr (inl (is' ∙ ap (λ u. status_of (Ok u)) memory)))
+    ends_by Asks why (inr (inl memory)) = open_by (inl (subst IsMemory (sym is) (of_tone t memory)))
+    ends_by Asks why (inr (inr (inl memory))) = open_by (inr (inl (subst IsMemory (sym is') (of_tone t' memory))))
     ends_by Asks why (inr (inr (inr asks))) = open_by (why asks)
 
   -- two ends of one session
@@ -317,9 +325,9 @@ whole words outside status.NotLoaded run files input held left no_files no_input
 whole words outside status.TooLong run files input held left no_files no_input no_out = inr (is_whole words outside files input held left status.TooLong run.ends.text run.ends.permitted run.ends.moved)
 whole words outside status.Refused run files input held left no_files no_input no_out = inr (is_whole words outside files input held left status.Refused run.ends.0.text run.ends.0.permitted run.ends.0.moved)
 whole words outside status.Ended run files input held left no_files no_input no_out = inr (is_whole words outside files input held left status.Ended run.ends.0.text run.ends.0.permitted run.ends.0.moved)
-whole words outside status.Memory run files input held left no_files no_input no_out = elim run.ends [
-  | inl kept ↦ inl (refl, kept.0)
-  | inr (wrote, eaten) ↦ inr (is_whole words outside files input held left status.Memory wrote.text wrote.permitted wrote.moved)
+whole words outside (status.Memory why) run files input held left no_files no_input no_out = elim run.ends [
+  | inl kept ↦ inl (tt, kept.0)
+  | inr (wrote, eaten) ↦ inr (is_whole words outside files input held left (status.Memory why) wrote.text wrote.permitted wrote.moved)
 ]
 whole words outside status.ReadFault run files input held left no_files no_input no_out = elim run.ends [
   | inl load ↦ absurd (no_files load.1)

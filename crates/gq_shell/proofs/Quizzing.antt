@@ -7,6 +7,7 @@ use Rattle.std.specs.declared.option.Option.{Option}
 use Rattle.std.proofs.lemmas.List.FromFn.{map-range_with_len_more}
 use Rattle.std.proofs.lemmas.List.{map-append}
 use Rattle.std.proofs.lemmas.Option.{get_or_from_slice_get, slice_get-get_or}
+use Rattle.gq_base.specs.declared.memory.Memory.TheVariants.{Exhausted}
 use Rattle.gq_io.proofs.Counts.{Rose-later}
 use Rattle.gq_io.proofs.Moved.{Appends-both, front_after, front_longer}
 use Rattle.gq_io.specs.Causes.{HasCause}
@@ -73,10 +74,10 @@ module _ (c : Context) where
   pub unnumbered : (params : List Param) (number : ℕ) → 1 ≤ number → number ≤ 6 → (old new : Option (List ℕ)) → AppendsFront old new (label_text number)
       → (t : Tone) × (text : List ℕ) × (behind : List Param) × IsNumbered c params (question_of number) t text behind × AppendsFront old new text
   unnumbered params number least most old new moved = (
-    tone.Memory,
+    tone.Memory Exhausted,
     label_text number ++ memory_line,
     params,
-    is_numbered params params number least most tone.Memory memory_line (refl, refl),
+    is_numbered params params number least most (tone.Memory Exhausted) memory_line (refl, refl),
     front_longer old new (label_text number) memory_line moved,
   )
 
@@ -88,15 +89,15 @@ module _ (c : Context) where
   some_answers params n zero least most = (tone.Good, [], (refl, refl, refl))
   some_answers params n (suc k) least most =
       let (u, more, rest) = some_answers params (n + 1) k (omega arith) (omega (arith, most)) in (
-        worse tone.Memory u,
+        worse (tone.Memory Exhausted) u,
         (label_text n ++ memory_line) ++ more,
         (
-          tone.Memory,
+          tone.Memory Exhausted,
           u,
           label_text n ++ memory_line,
           more,
           params,
-          is_numbered params params n least (omega (arith, most)) tone.Memory memory_line (refl, refl),
+          is_numbered params params n least (omega (arith, most)) (tone.Memory Exhausted) memory_line (refl, refl),
           rest,
           refl,
           refl,

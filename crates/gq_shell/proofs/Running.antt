@@ -5,6 +5,7 @@ use Rattle.std.specs.Io.KnownBytes.{Appends, IsAtEnd, Keeps}
 use Rattle.std.specs.Borrow.{Bor}
 use Rattle.clap.specs.Words.{Row, Text, first_of}
 use Rattle.gq_base.specs.Plain.{Graph}
+use Rattle.gq_base.specs.declared.memory.Memory.TheVariants.{Exhausted}
 use Rattle.gq_execute.specs.declared.settings.Settings.{Settings}
 use Rattle.gq_io.specs.Causes.{HasCause, Rose}
 use Rattle.gq_io.specs.Outside.{AppendsFront, Names, Writes}
@@ -89,7 +90,7 @@ served graph settings behind n input out result answer size is read whole = inr 
 
 module _ (words : List (List ℕ)) (o : Outside) where
   -- there was not enough memory, and nothing was written
-  for_memory : (answer : Status) → answer ≡ status.Memory → Keeps o.taken o.took → Ends words o [] answer
+  for_memory : (answer : Status) → answer ≡ status.Memory Exhausted → Keeps o.taken o.took → Ends words o [] answer
   for_memory answer is kept = rw is (inl (kept, refl))
 
   broken_line : (answer s : Status) (text : List ℕ) → Permits words o.held o.left s text → EatsFor words o [] s → answer ≡ status.WriteFault → AppendsFront o.taken o.took text → Rose o.out_faults.before o.out_faults.now
@@ -167,7 +168,7 @@ module _ (words : List (List ℕ)) (o : Outside) where
         finished : (eaten : List ℕ) → IsAtEnd o.unread → (t : Tone) → Written (Ok t) → Ends words o eaten (status_of (Ok t))
         finished eaten end tone.Good (text, may, moved) = (record { text = text; permitted = inl (over o.held o.left _ loads may); moved = moved }, eaten_all eaten end)
         finished eaten end tone.Refused (text, may, moved) = (record { text = text; permitted = inl (over o.held o.left _ loads may); moved = moved }, eaten_all eaten end)
-        finished eaten end tone.Memory (text, may, moved) = inr (record { text = text; permitted = inl (over o.held o.left _ loads may); moved = moved }, eaten_all eaten end)
+        finished eaten end (tone.Memory why) (text, may, moved) = inr (record { text = text; permitted = inl (over o.held o.left _ loads may); moved = moved }, eaten_all eaten end)
 
         -- a front of a permitted text, of whose input this much was eaten
         abbrev Broken : List ℕ → Type 0
@@ -178,7 +179,7 @@ module _ (words : List (List ℕ)) (o : Outside) where
             → Broken eaten
         front_of eaten input is (Ok tone.Good) text may moved = (record { answer = status.Ended; text = text; permitted = inl (over o.held o.left _ loads (of_told input is (May (Ok tone.Good) text) may)); moved = moved }, inl on_graph)
         front_of eaten input is (Ok tone.Refused) text may moved = (record { answer = status.Refused; text = text; permitted = inl (over o.held o.left _ loads (of_told input is (May (Ok tone.Refused) text) may)); moved = moved }, inl on_graph)
-        front_of eaten input is (Ok tone.Memory) text may moved = (record { answer = status.Memory; text = text; permitted = inl (over o.held o.left _ loads (of_told input is (May (Ok tone.Memory) text) may)); moved = moved }, inl on_graph)
+        front_of eaten input is (Ok (tone.Memory why)) text may moved = (record { answer = status.Memory why; text = text; permitted = inl (over o.held o.left _ loads (of_told input is (May (Ok (tone.Memory why)) text) may)); moved = moved }, inl on_graph)
         front_of eaten input is (Err stop.TooLong) text may moved = (record { answer = status.TooLong; text = text; permitted = over o.held o.left _ loads (of_told input is (May (Err stop.TooLong) text) may); moved = moved }, inl on_graph)
         front_of eaten input is (Err stop.Read) text may moved = absurd may
         front_of eaten input is (Err stop.Write) text may moved = absurd may
@@ -234,13 +235,13 @@ module _ (words : List (List ℕ)) (o : Outside) where
       shown : (t : Tone) (behind : List Param) → replies.Wrote (IsNumbered (short size (settings_of read))) [] behind questions t o.taken o.took → Ends words o [] (status_of (Ok t))
       shown tone.Good behind w = (record { text = w.text; permitted = inr (record { read = read; given = given; size = size; from = from; says = (behind, w.replies) }); moved = w.moved }, eaten_none)
       shown tone.Refused behind w = (record { text = w.text; permitted = inr (record { read = read; given = given; size = size; from = from; says = (behind, w.replies) }); moved = w.moved }, eaten_none)
-      shown tone.Memory behind w = inr (record { text = w.text; permitted = inr (record { read = read; given = given; size = size; from = from; says = (behind, w.replies) }); moved = w.moved }, eaten_none)
+      shown (tone.Memory why) behind w = inr (record { text = w.text; permitted = inr (record { read = read; given = given; size = size; from = from; says = (behind, w.replies) }); moved = w.moved }, eaten_none)
 
       part_shown : (t : Tone) (text : List ℕ) → IsQuiz (short size (settings_of read)) t text → AppendsFront o.taken o.took text
           → (front : WroteFront words o.held o.left o.taken o.took) × EatsFor words o [] front.answer
       part_shown tone.Good text says moved = (record { answer = status.Ended; text = text; permitted = inr (record { read = read; given = given; size = size; from = from; says = says }); moved = moved }, inr (on_sample, refl))
       part_shown tone.Refused text says moved = (record { answer = status.Refused; text = text; permitted = inr (record { read = read; given = given; size = size; from = from; says = says }); moved = moved }, inr (on_sample, refl))
-      part_shown tone.Memory text says moved = (record { answer = status.Memory; text = text; permitted = inr (record { read = read; given = given; size = size; from = from; says = says }); moved = moved }, inr (on_sample, refl))
+      part_shown (tone.Memory why) text says moved = (record { answer = status.Memory why; text = text; permitted = inr (record { read = read; given = given; size = size; from = from; says = says }); moved = moved }, inr (on_sample, refl))
 
       quizzed : (answer : Status) → Quizzed size (settings_of read) (out_of o) answer → Ends words o [] answer
       quizzed answer (inl (is, kept)) = for_memory answer is kept
@@ -253,7 +254,7 @@ module _ (words : List (List ℕ)) (o : Outside) where
 
 -- each statement has a reply
 has_reply : (c : Context) (params : List Param) (statement : List ℕ) → (t : Tone) × (reply : List ℕ) × (after : List Param) × IsTurn c params statement t reply after
-has_reply c params statement = (tone.Memory, memory_line, params, (refl, refl))
+has_reply c params statement = (tone.Memory Exhausted, memory_line, params, (refl, refl))
 
 -- a session that ate so much is one over an input that is just that
 module _ (c : Context) (behind : List Param) (out : Span) where
@@ -289,7 +290,7 @@ module _ (words : List (List ℕ)) (o : Outside) where
   unread : (answer : Status) → o.unread ≡ o.left → Ends words o [] answer → Ends words (alike []) [] answer → Runs words o answer
   unread answer same ends also = record { eaten = []; ate = rw same (Consumes-none o.left); few = grind arith; ends = ends; ends_alike = also }
 
-  pub exit_memory : (answer : Status) → answer ≡ status.Memory → o.unread ≡ o.left → Keeps o.taken o.took → Runs words o answer
+  pub exit_memory : (answer : Status) → answer ≡ status.Memory Exhausted → o.unread ≡ o.left → Keeps o.taken o.took → Runs words o answer
   exit_memory answer is same kept = unread answer same (for_memory words o answer is kept) (for_memory words (alike []) answer is kept)
 
   pub exit_misused : (answer : Status) → IsMisused words → o.unread ≡ o.left → Told usage_text status.Usage (out_of o) answer → Runs words o answer

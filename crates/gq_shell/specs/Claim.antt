@@ -29,6 +29,7 @@ use Rattle.gq_session.specs.declared.answering.Tone.TheVariants as tone
 use Rattle.gq_session.specs.declared.run.Stop.TheVariants as stop
 use Rattle.gq_shell.specs.LoadLines.{load_line}
 use Rattle.gq_shell.specs.Questions.{IsNumbered}
+use Rattle.gq_shell.specs.Statuses.{IsMemory}
 use Rattle.gq_shell.specs.declared.status.Status.{Status}
 use Rattle.gq_shell.specs.declared.status.Status.TheVariants as status
 use Rattle.gq_syntax.specs.declared.statement.Query.{Query}
@@ -119,7 +120,7 @@ Permits words held left status.NotLoaded text = (refusal : LoadRefusal) × IsNot
 Permits words held left status.TooLong text = Over words held left (λ c input. session.Permits (IsTurn c) [] long most input (Err stop.TooLong) text)
 Permits words held left status.Ended text = Finished words held left tone.Good text
 Permits words held left status.Refused text = Finished words held left tone.Refused text
-Permits words held left status.Memory text = Finished words held left tone.Memory text
+Permits words held left (status.Memory why) text = Finished words held left (tone.Memory why) text
 Permits words held left status.ReadFault text = ⊥
 Permits words held left status.WriteFault text = ⊥
 
@@ -212,7 +213,7 @@ Ends words o eaten status.ReadFault = FailedToRead words o eaten
 Ends words o eaten status.WriteFault =
     (front : WroteFront words o.held o.left o.taken o.took) × EatsFor words o eaten front.answer
     × Rose o.out_faults.before o.out_faults.now
-Ends words o eaten status.Memory = DidNothing o eaten ⊎ (Wrote words o.held o.left status.Memory o.taken o.took × EatsAll words o eaten)
+Ends words o eaten (status.Memory why) = DidNothing o eaten ⊎ (Wrote words o.held o.left (status.Memory why) o.taken o.took × EatsAll words o eaten)
 Ends words o eaten status.Ended = Wrote words o.held o.left status.Ended o.taken o.took × EatsAll words o eaten
 Ends words o eaten status.Refused = Wrote words o.held o.left status.Refused o.taken o.took × EatsAll words o eaten
 Ends words o eaten status.Usage = Wrote words o.held o.left status.Usage o.taken o.took × (eaten ≡ [])
@@ -238,7 +239,7 @@ pub record Runs (words : List (List ℕ)) (outside : Outside) (answer : Status) 
 abbrev pub IsToTheEnd : Status → Type 0
 IsToTheEnd status.Ended = Unit {0}
 IsToTheEnd status.Refused = Unit {0}
-IsToTheEnd status.Memory = Unit {0}
+IsToTheEnd (status.Memory why) = Unit {0}
 IsToTheEnd s = ⊥
 
 -- one of these statements, with the parameters that stand behind those before it, asks a query that is answered and has
@@ -257,12 +258,12 @@ pub record AsksOpenQuery (c : Context) (statements : List (List ℕ)) : Type 0 w
   pub all_lines : query.distinct ≡ false
   pub unordered : query.order ≡ []
 
--- two statuses may be permitted at once: all statements or questions are answered, and memory may end at one of them, or
+-- two statuses may be permitted at once: all statements or questions are answered, and one of them may want memory, or
 -- one of them asks such a query
 pub record AreOpen (words : List (List ℕ)) (files : Names) (input : List ℕ) (one other : Status) : Type 0 where
   pub first : IsToTheEnd one
   pub second : IsToTheEnd other
-  pub why : (one ≡ status.Memory) ⊎ (other ≡ status.Memory)
+  pub why : IsMemory one ⊎ IsMemory other
       ⊎ OnSample words (λ c. AsksOpenQuery c questions)
       ⊎ Over words (Some files) (Some input) (λ c text. AsksOpenQuery c (session.statements text))
 
@@ -278,4 +279,4 @@ abbrev pub Whole : List (List ℕ) → Outside → Status → Type 0
 Whole words outside answer = (files : Names) (input : List ℕ) → outside.held ≡ Some files → outside.left ≡ Some input
     → ¬ (Rose outside.files_faults.before outside.files_faults.now) → ¬ (Rose outside.input_faults.before outside.input_faults.now)
     → ¬ (Rose outside.out_faults.before outside.out_faults.now)
-    → ((answer ≡ status.Memory) × Keeps outside.taken outside.took) ⊎ IsWhole words files input answer outside.taken outside.took
+    → (IsMemory answer × Keeps outside.taken outside.took) ⊎ IsWhole words files input answer outside.taken outside.took

@@ -11,6 +11,7 @@ use crate::load_line::write_load_line;
 use crate::sample::show_sample;
 use crate::session::serve;
 use crate::status::Status;
+use gq_base::Memory;
 use gq_execute::{Order, Settings};
 use gq_io::{Failed, Files, Sink, Source, write_all};
 use gq_loader::{Limits, LoadStop, load};
@@ -60,7 +61,7 @@ fn end_load<O: Sink>(out: &mut O, why: &LoadStop) -> Status
     match why {
         LoadStop::Refused(refusal) => told(write_load_line(out, refusal), Status::NotLoaded),
         LoadStop::ReadFault { .. } => Status::ReadFault,
-        LoadStop::Memory => Status::Memory,
+        LoadStop::Memory => Status::Memory(Memory::Exhausted),
     }
 }
 
@@ -78,7 +79,7 @@ fn execute<F: Files, I: Source, O: Sink>(
     let words = match read_words(alloc, words) {
         Ok(words) => words,
         Err(WordsRefusal::Usage) => return told(write_usage(out), Status::Usage),
-        Err(WordsRefusal::Memory) => return Status::Memory,
+        Err(WordsRefusal::Memory) => return Status::Memory(Memory::Exhausted),
     };
     let settings = settings_of(&words);
     let path = match words.source {
@@ -97,7 +98,7 @@ fn execute<F: Files, I: Source, O: Sink>(
 /// they ask for a sample graph, which answers six questions, and the input is not read. What is written does not depend on
 /// the pieces in which the input comes and the output goes. The first call of `files`, `input` or `out` that fails ends the
 /// work. `Memory` comes before the first statement is answered, and then nothing is written, or where some statement met
-/// want of memory and was answered by that line.
+/// want of memory and was answered by that line; it tells the cause of the first one that did.
 pub fn run<F: Files, I: Source, O: Sink>(
     alloc: Global,
     words: &[String],

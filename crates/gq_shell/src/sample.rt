@@ -11,6 +11,7 @@ ghost use Rattle.gq_shell.specs.steps.Steps.{Asked, AskedOne, IsReady, Quizzed};
 use crate::session::status_of;
 use crate::status::Status;
 use crate::workspace::new_workspace;
+use gq_base::Memory;
 use gq_execute::Settings;
 use gq_io::{Failed, Sink};
 use gq_render::{Place, write_refusal};
@@ -80,10 +81,10 @@ pub(crate) fn show_sample<O: Sink>(
     ensures { Quizzed size settings (span_of O.taken O.faults out.old out.new) result }
 {
     let Ok(graph) = sample(alloc, size) else {
-        return Status::Memory;
+        return Status::Memory(Memory::Exhausted);
     };
     let Ok(mut workspace) = new_workspace(alloc) else {
-        return Status::Memory;
+        return Status::Memory(Memory::Exhausted);
     };
     let replier = Replier {
         alloc,

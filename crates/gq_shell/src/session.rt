@@ -7,6 +7,7 @@ ghost use Rattle.gq_shell.specs.steps.Steps.{Served};
 
 use crate::status::Status;
 use crate::workspace::new_workspace;
+use gq_base::Memory;
 use gq_execute::Settings;
 use gq_io::{Sink, Source};
 use gq_reply::{Form, Replier};
@@ -27,7 +28,7 @@ pub(crate) fn status_of(ended: Result<Tone, Stop>) -> Status
     match ended {
         Ok(Tone::Good) => Status::Ended,
         Ok(Tone::Refused) => Status::Refused,
-        Ok(Tone::Memory) => Status::Memory,
+        Ok(Tone::Memory(memory)) => Status::Memory(memory),
         Err(Stop::Read) => Status::ReadFault,
         Err(Stop::Write) => Status::WriteFault,
         Err(Stop::TooLong) => Status::TooLong,
@@ -46,10 +47,10 @@ pub(crate) fn serve<I: Source, O: Sink>(
         (span_of O.taken O.faults out.old out.new) result }
 {
     let Ok(mut statement) = vec![in alloc; 0u8; MOST_STATEMENT] else {
-        return Status::Memory;
+        return Status::Memory(Memory::Exhausted);
     };
     let Ok(mut workspace) = new_workspace(alloc) else {
-        return Status::Memory;
+        return Status::Memory(Memory::Exhausted);
     };
     let replier = Replier {
         alloc,

@@ -3,6 +3,8 @@
 ghost use Rattle.std.specs.Prelude.{◌≡◌};
 ghost use Rattle.gq_shell.specs.Statuses.{exit_status};
 
+use gq_base::Memory;
+
 /// The status of a run. Its number is the program's exit status, from 0 in this order.
 #[derive(Clone, Copy, Debug, PartialEq, Eq)]
 pub enum Status {
@@ -18,9 +20,9 @@ pub enum Status {
     ReadFault,
     /// The output could not be written.
     WriteFault,
-    /// There was no memory before the first statement, and nothing was written; or all were answered, and for one or more
-    /// there was no memory.
-    Memory,
+    /// There was no memory before the first statement, and nothing was written; or all were answered, one or more by
+    /// the line of want of memory: the cause is that of the first of them.
+    Memory(Memory),
     /// The input, or a statement of it, is longer than it may be.
     TooLong,
 }
@@ -37,7 +39,7 @@ impl Status {
             Status::NotLoaded => 3,
             Status::ReadFault => 4,
             Status::WriteFault => 5,
-            Status::Memory => 6,
+            Status::Memory(_) => 6,
             Status::TooLong => 7,
         }
     }

@@ -75,7 +75,7 @@ fn read_rows(
     while read_next(reader, &mut texts)? {
         match read_node(alloc, fields, limit, rows.len(), &texts, room) {
             Ok(row) => room = rows.take(row)?,
-            Err(TableStop::Memory) => return Err(Memory),
+            Err(TableStop::Memory) => return Err(Memory::Exhausted),
             Err(TableStop::Refused(refusal)) => {
                 return Ok(ReadRows {
                     rows,

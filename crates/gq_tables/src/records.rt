@@ -29,7 +29,7 @@ pub fn read_next(reader: &mut Reader<&[u8]>, texts: &mut ByteRecord) -> Result<b
         (records_left reader.old ≡ [])) }
 {
     let Ok(found) = reader.read_byte_record(texts) else {
-        return Err(Memory);
+        return Err(Memory::Exhausted);
     };
     Ok(found)
 }

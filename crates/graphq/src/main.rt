@@ -2,6 +2,7 @@
 //! that it answers.
 #![tactic(auto)]
 
+use gq_base::Memory;
 use gq_io::{RealFiles, RealSink, RealSource};
 use gq_shell::{Status, run};
 use std::process::ExitCode;
@@ -12,8 +13,9 @@ fn failure(status: Status) -> Option<&'static str> {
     match status {
         Status::ReadFault => Some("a file or the input could not be read"),
         Status::WriteFault => Some("the output could not be written"),
-        Status::Memory => {
-            Some("there was not enough memory, or a statement asks for unreasonable work")
+        Status::Memory(Memory::Exhausted) => Some("there was not enough memory"),
+        Status::Memory(Memory::Limit) => {
+            Some("a statement asks for more work, or more memory, than one statement may take")
         }
         Status::TooLong => Some("a statement or the input is too long"),
         Status::Ended | Status::Refused | Status::Usage | Status::NotLoaded => None,
@@ -24,7 +26,7 @@ fn failure(status: Status) -> Option<&'static str> {
 fn end_without_words(rt: &HostRuntime, kind: io::ErrorKind) -> ExitCode {
     if kind == io::ErrorKind::OutOfMemory {
         let _ = eprintln!(rt; "graphq: there was not enough memory");
-        return ExitCode::from(Status::Memory.code());
+        return ExitCode::from(Status::Memory(Memory::Exhausted).code());
     }
     let _ = eprintln!(rt; "graphq: the words are no text");
     ExitCode::from(Status::Usage.code())

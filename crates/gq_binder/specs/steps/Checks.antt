@@ -6,7 +6,7 @@ use Rattle.gq_binder.specs.declared.refusal.BindRefusal.TheVariants as refusal
 
 -- a refusal of the query itself, and not want of memory
 abbrev pub IsOfQuery : BindRefusal → Type 0
-IsOfQuery refusal.Memory = ⊥
+IsOfQuery (refusal.Memory why) = ⊥
 IsOfQuery e = Unit {0}
 
 -- the query passes where nothing is found, and else what is found refuses it; want of memory may be answered at any time

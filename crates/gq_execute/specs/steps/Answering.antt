@@ -65,7 +65,7 @@ Drains becomes g b order y old new (Ok _) = Runs becomes g b order old.most y (�
 Drains becomes g b order y old new (Err (refusal.Fault f)) = Runs becomes g b order old.most y (λ os. MeetsFault os old f)
 Drains becomes g b order y old new (Err (refusal.TooManyRows most)) =
     (most ≡ old.most) × ((has_large_part g order old.most y ≡ true) ⊎ Runs becomes g b order old.most y (λ os. MeetsMany os old))
-Drains becomes g b order y old new (Err refusal.Memory) = Unit {0}
+Drains becomes g b order y old new (Err (refusal.Memory why)) = Unit {0}
 
 -- what was spent in the turn of an alternative, whose chunks the table counted where the query is plain
 pub record SpendsTurn (g : Graph) (order : Order) (y : Typed) (old new : Table) (spent : List Spent) : Type 0 where

@@ -58,4 +58,4 @@ some_heavy_clause g order most parts = list_any (is_heavy_clause g order most) p
 abbrev pub RefusesClauses : Graph → Order → ℕ → List OptionalPart → AnswerRefusal → Type 0
 RefusesClauses g order most parts (refusal.TooManyRows limit) = (limit ≡ most) × (some_heavy_clause g order most parts ≡ true)
 RefusesClauses g order most parts (refusal.Fault fault) = ⊥
-RefusesClauses g order most parts refusal.Memory = Unit {0}
+RefusesClauses g order most parts (refusal.Memory why) = Unit {0}

@@ -56,4 +56,4 @@ abbrev pub RefusesBefore : Graph → Settings → Bound → AnswerRefusal → Ty
 RefusesBefore g settings b (refusal.TooManyRows limit) =
     (limit ≡ settings.rows) × (SomeHasMany g settings.rows b.patterns ⊎ (some_heavy_clause g settings.order settings.rows b.optionals ≡ true))
 RefusesBefore g settings b (refusal.Fault fault) = ⊥
-RefusesBefore g settings b refusal.Memory = Unit {0}
+RefusesBefore g settings b (refusal.Memory why) = Unit {0}

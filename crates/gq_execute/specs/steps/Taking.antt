@@ -58,7 +58,7 @@ abbrev pub TakesAll : List (Result Row Fault) → Table → Table → Result (Un
 TakesAll os old new (Ok _) = Takes os old new
 TakesAll os old new (Err (refusal.Fault f)) = MeetsFault os old f
 TakesAll os old new (Err (refusal.TooManyRows most)) = (most ≡ old.most) × MeetsMany os old
-TakesAll os old new (Err refusal.Memory) = Unit {0}
+TakesAll os old new (Err (refusal.Memory why)) = Unit {0}
 
 -- a pipeline over the table's graph runs the alternative that was started, and its plan binds all variables
 pub record IsRunOf (g : Graph) (table : Table) (pipeline : Rest) : Type 0 where

@@ -57,9 +57,9 @@ pub record SomeHasMany (g : Graph) (most : ℕ) (parts : List ExistsPart) : Type
 abbrev pub RefusesTest : Graph → ℕ → ExistsPart → AnswerRefusal → Type 0
 RefusesTest g most part (refusal.TooManyRows limit) = (limit ≡ most) × HasManyKeys g most part
 RefusesTest g most part (refusal.Fault fault) = ⊥
-RefusesTest g most part refusal.Memory = Unit {0}
+RefusesTest g most part (refusal.Memory why) = Unit {0}
 
 abbrev pub RefusesTests : Graph → ℕ → List ExistsPart → AnswerRefusal → Type 0
 RefusesTests g most parts (refusal.TooManyRows limit) = (limit ≡ most) × SomeHasMany g most parts
 RefusesTests g most parts (refusal.Fault fault) = ⊥
-RefusesTests g most parts refusal.Memory = Unit {0}
+RefusesTests g most parts (refusal.Memory why) = Unit {0}

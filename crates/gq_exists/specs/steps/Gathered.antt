@@ -48,4 +48,4 @@ abbrev pub Gathers : List (List NodeId) → Gathering → Gathering → Result (
 Gathers keys old new (Ok _) = TakesOn keys old new
 Gathers keys old new (Err (refusal.TooManyRows l)) =
     (l ≡ old.limit) × ((came : List (List NodeId)) → Stands old.limit came old.keys → HasMany old.limit (came ++ keys))
-Gathers keys old new (Err refusal.Memory) = Unit {0}
+Gathers keys old new (Err (refusal.Memory why)) = Unit {0}

@@ -55,11 +55,11 @@ pub record AddsMatches (g : Graph) (ys : List Typed) (ps : List Plan) (keys : Li
 -- TooManyRows only where a plan, or a side plan of it, makes too much
 abbrev pub IsOneRefusal : Graph → ℕ → Typed → Plan → JoinRefusal → Type 0
 IsOneRefusal g limit y p (refusal.TooManyRows l) = (l ≡ limit) × IsPast g limit y p
-IsOneRefusal g limit y p refusal.Memory = Unit {0}
+IsOneRefusal g limit y p (refusal.Memory why) = Unit {0}
 
 abbrev pub IsEachRefusal : Graph → ℕ → List Typed → List Plan → JoinRefusal → Type 0
 IsEachRefusal g limit ys ps (refusal.TooManyRows l) = (l ≡ limit) × SomePast g limit ys ps
-IsEachRefusal g limit ys ps refusal.Memory = Unit {0}
+IsEachRefusal g limit ys ps (refusal.Memory why) = Unit {0}
 
 -- ---- one clause
 

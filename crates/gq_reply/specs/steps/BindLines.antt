@@ -6,5 +6,5 @@ use Rattle.gq_session.specs.declared.answering.Tone.TheVariants as tone
 
 -- the tone of a reply by this line
 abbrev pub bind_tone : BindRefusal → Tone
-bind_tone refusal.Memory = tone.Memory
+bind_tone (refusal.Memory why) = tone.Memory why
 bind_tone why = tone.Refused

@@ -46,7 +46,7 @@ MayAsk c profiled query bound tone.Good text = (lines : List (List Val)) × IsPe
 MayAsk c profiled query bound tone.Refused text =
     ((f : Fault) × IsPermitted (question c query bound) (Faulted f) × (text ≡ fault_text f))
     ⊎ (IsPermitted (question c query bound) TooManyRows × (text ≡ many_text c.settings.rows))
-MayAsk c profiled query bound tone.Memory text = text ≡ memory_line
+MayAsk c profiled query bound (tone.Memory why) text = text ≡ memory_line
 
 -- the same for each query that is bound so
 abbrev pub Asks : Context → Bool → Bound → Span → Result Tone Failed → Type 0
@@ -62,13 +62,13 @@ answer_text c false bound spent lines = rows_text c.form c.graph bound lines
 abbrev pub MayShow : Context → Query → Bound → Tone → List ℕ → Type 0
 MayShow c query bound tone.Good text = IsPlanText c.settings.order c.graph query bound text
 MayShow c query bound tone.Refused text = ⊥
-MayShow c query bound tone.Memory text = text ≡ memory_line
+MayShow c query bound (tone.Memory why) text = text ≡ memory_line
 
 -- the replies to a statement that sets a parameter
 abbrev pub MaySet : List Param → Name → Literal → Tone → List ℕ → Type 0
 MaySet params name value tone.Good text = (¬ (IsFull name params)) × (text ≡ param_line name (literal_val value))
 MaySet params name value tone.Refused text = IsFull name params × (text ≡ line (codes "error: TooManyParameters"))
-MaySet params name value tone.Memory text = text ≡ memory_line
+MaySet params name value (tone.Memory why) text = text ≡ memory_line
 
 -- the parameters behind it
 abbrev pub behind_set : List Param → Name → Literal → Tone → List Param

@@ -77,4 +77,4 @@ abbrev pub PutsColumn : Outcome → List Val → List Val → Result (Unit {0}) 
 PutsColumn o old new (Ok _) = (v : Val) × (o ≡ Ok v) × (new ≡ old ++ v ∷ [])
 PutsColumn o old new (Err (refusal.Fault f)) = o ≡ Err f
 PutsColumn o old new (Err (refusal.TooManyRows limit)) = ⊥
-PutsColumn o old new (Err refusal.Memory) = Unit {0}
+PutsColumn o old new (Err (refusal.Memory why)) = Unit {0}

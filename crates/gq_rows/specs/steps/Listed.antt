@@ -76,7 +76,7 @@ abbrev pub PutsRow : List Outcome → List Val → List Val → Result (Unit {0}
 PutsRow os old new (Ok _) = values_after old os ≡ Ok new
 PutsRow os old new (Err (refusal.Fault f)) = values_after old os ≡ Err f
 PutsRow os old new (Err (refusal.TooManyRows limit)) = ⊥
-PutsRow os old new (Err refusal.Memory) = Unit {0}
+PutsRow os old new (Err (refusal.Memory why)) = Unit {0}
 
 -- a row was added, for whatever rows were held
 pub record AddedIn (q : question.Asked) (o : Option (Result Row Fault)) (old new : Listed) : Type 0 where
@@ -94,4 +94,4 @@ AddsIn q o old new (Ok true) = AddedIn q o old new
 AddsIn q o old new (Ok false) = (o ≡ None) × (new ≡ old)
 AddsIn q o old new (Err (refusal.Fault f)) = o ≡ Some (Err f)
 AddsIn q o old new (Err (refusal.TooManyRows l)) = (l ≡ q.limit) × (q.limit ≤ old.count) × ((row : Row) × (o ≡ Some (Ok row)))
-AddsIn q o old new (Err refusal.Memory) = Unit {0}
+AddsIn q o old new (Err (refusal.Memory why)) = Unit {0}

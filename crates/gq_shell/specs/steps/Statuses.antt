@@ -11,7 +11,7 @@ use Rattle.gq_shell.specs.declared.status.Status.TheVariants as status
 abbrev pub status_of : Result Tone Stop → Status
 status_of (Ok tone.Good) = status.Ended
 status_of (Ok tone.Refused) = status.Refused
-status_of (Ok tone.Memory) = status.Memory
+status_of (Ok (tone.Memory why)) = status.Memory why
 status_of (Err stop.Read) = status.ReadFault
 status_of (Err stop.Write) = status.WriteFault
 status_of (Err stop.TooLong) = status.TooLong

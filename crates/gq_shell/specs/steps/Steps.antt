@@ -2,6 +2,7 @@
 use Rattle.std.specs.Prelude.{◌≡◌, ◌⊎◌, ℕ, ◌-◌, ◌≤◌, List, [], get_or, true, Result, Ok, Err}
 use Rattle.std.specs.Io.KnownBytes.{Appends, Keeps}
 use Rattle.gq_base.specs.Plain.{Graph}
+use Rattle.gq_base.specs.declared.memory.Memory.TheVariants.{Exhausted}
 use Rattle.gq_execute.specs.declared.settings.Settings.{Settings}
 use Rattle.gq_io.specs.Causes.{HasCause, Rose}
 use Rattle.gq_io.specs.Outside.{AppendsFront}
@@ -42,7 +43,7 @@ Told text s out answer =
 abbrev pub EndsLoad : LoadStop → Span → Status → Type 0
 EndsLoad (load.Refused e) out answer = Told (load_line e) status.NotLoaded out answer
 EndsLoad (load.ReadFault name) out answer = Keeps out.old out.new × (answer ≡ status.ReadFault)
-EndsLoad load.Memory out answer = Keeps out.old out.new × (answer ≡ status.Memory)
+EndsLoad load.Memory out answer = Keeps out.old out.new × (answer ≡ status.Memory Exhausted)
 
 -- how a session over a graph ended
 pub record IsServed (graph : Graph) (settings : Settings) (input out : Span) (answer : Status) : Type 0 where
@@ -55,7 +56,7 @@ pub record IsServed (graph : Graph) (settings : Settings) (input out : Span) (an
 -- there was not enough memory to begin, or a session was had
 abbrev pub Served : Graph → Settings → Span → Span → Status → Type 0
 Served graph settings input out answer =
-    ((answer ≡ status.Memory) × (input.new ≡ input.old) × Keeps out.old out.new)
+    ((answer ≡ status.Memory Exhausted) × (input.new ≡ input.old) × Keeps out.old out.new)
     ⊎ IsServed graph settings input out answer
 
 -- the question of a number from 1 to 6
@@ -70,7 +71,7 @@ Asked c out (Err failed) = WroteFront (IsNumbered c) [] questions out.old out.ne
 -- there was not enough memory for the sample graph, or it was asked the questions
 abbrev pub Quizzed : ℕ → Settings → Span → Status → Type 0
 Quizzed size settings out answer =
-    ((answer ≡ status.Memory) × Keeps out.old out.new)
+    ((answer ≡ status.Memory Exhausted) × Keeps out.old out.new)
     ⊎ ((t : Tone) × (behind : List Param) × (answer ≡ status_of (Ok t))
     × Wrote (IsNumbered (short size settings)) [] behind questions t out.old out.new)
     ⊎ ((answer ≡ status.WriteFault) × WroteFront (IsNumbered (short size settings)) [] questions out.old out.new

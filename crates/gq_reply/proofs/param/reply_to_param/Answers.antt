@@ -1,5 +1,6 @@
 use Rattle.std.proofs.Common.{◌≡◌, Some, None, refl, sym, ap₂, ◌∙◌, subst}
 use Rattle.gq_base.specs.Values.{literal_val}
+use Rattle.gq_base.specs.declared.memory.Memory.TheVariants.{Exhausted}
 use Rattle.gq_render.specs.Texts.{param_line}
 use Rattle.gq_reply.proofs.Replying.{replied}
 use Rattle.gq_reply.proofs.SetValue.{value_got}
@@ -26,4 +27,4 @@ returns-in-Some-clause-replies g c =
     replied _ tone.Good _ (room, ap₂ (λ n v. param_line n (literal_val v)) c.as_str-in-Some.ensures.bytes value) _ _ c.write_param.ensures.bytes c.write_param.ensures.cause _ c.toned-in-Some.ensures
 
 pub returns-clause-replies : goal.returns-clause-replies
-returns-clause-replies g c = replied _ tone.Memory _ refl _ _ c.write_all-in-Err-Memory.ensures.bytes c.write_all-in-Err-Memory.ensures.cause _ c.toned-in-Err-Memory.ensures
+returns-clause-replies g c = replied _ (tone.Memory Exhausted) _ refl _ _ c.write_all-in-Err-Memory.ensures.bytes c.write_all-in-Err-Memory.ensures.cause _ c.toned-in-Err-Memory.ensures

@@ -7,7 +7,7 @@ use Rattle.gq_classes.proofs.classes.Classes.insert.Goals as goal
 pub invariant_of-self-in_err-number : goal.invariant_of-self-in_err-number
 invariant_of-self-in_err-number c =
     inserts_failed _ _ _ c.fit.new.levels.items c.as_mut_slice.result.now c.number_behind.new.levels _ _ _ c.fit.new.levels.len _ _ c.self.invariant c.self.view_is
-    (sym (length-map c.args.row.now val)) c.requires.wide c.in_ok-fit.ensures c.as_mut_slice.ensures.value c.fit.new.levels.ok.0 _ c.in_err-number.ensures
+    (sym (length-map c.args.row.now val)) c.requires.wide c.in_ok-fit.ensures c.as_mut_slice.ensures.value c.fit.new.levels.ok.0 c.in_err-number.field-0.0 c.in_err-number.ensures
 
 pub invariant_of-self-then-new : goal.invariant_of-self-then-new
 invariant_of-self-then-new c =

@@ -2,6 +2,7 @@ use Rattle.std.proofs.Common.{◌≡◌, ◌++◌, length, ap, ap₂, ◌∙◌,
 use Rattle.std.specs.List.{All, AllZip}
 use Rattle.std.proofs.lemmas.List.Elements.{All-tail}
 use Rattle.gq_base.specs.Catalogs.{Tables}
+use Rattle.gq_base.specs.declared.memory.Memory.TheVariants.{Exhausted}
 use Rattle.gq_explain.specs.Plans.{plan_text}
 use Rattle.gq_plan.specs.Columns.{FitsSound}
 use Rattle.gq_plan.specs.Covers.{Covers}
@@ -28,13 +29,13 @@ column_counts-requires g c =
     rw (c.as_slice-alternatives.ensures, c.as_slice.ensures) (all_fit c.args.self.now.graph.now.catalog c.args.bound.now.alternatives c.in-Ok.made.plans c.requires.sound c.in-Ok.ensures.covers)
 
 pub returns-in_default : goal.returns-in_default
-returns-in_default g c = replied _ tone.Memory _ refl _ _ c.write_all.ensures.bytes c.write_all.ensures.cause _ c.toned.ensures
+returns-in_default g c = replied _ (tone.Memory Exhausted) _ refl _ _ c.write_all.ensures.bytes c.write_all.ensures.cause _ c.toned.ensures
 
 pub returns-in_default-column_counts : goal.returns-in_default-column_counts
-returns-in_default-column_counts g c = replied _ tone.Memory _ refl _ _ c.write_all-in_default-column_counts.ensures.bytes c.write_all-in_default-column_counts.ensures.cause _ c.toned-in_default-column_counts.ensures
+returns-in_default-column_counts g c = replied _ (tone.Memory Exhausted) _ refl _ _ c.write_all-in_default-column_counts.ensures.bytes c.write_all-in_default-column_counts.ensures.cause _ c.toned-in_default-column_counts.ensures
 
 pub returns-in_default-trail_arrows : goal.returns-in_default-trail_arrows
-returns-in_default-trail_arrows g c = replied _ tone.Memory _ refl _ _ c.write_all-in_default-trail_arrows.ensures.bytes c.write_all-in_default-trail_arrows.ensures.cause _ c.toned-in_default-trail_arrows.ensures
+returns-in_default-trail_arrows g c = replied _ (tone.Memory Exhausted) _ refl _ _ c.write_all-in_default-trail_arrows.ensures.bytes c.write_all-in_default-trail_arrows.ensures.cause _ c.toned-in_default-trail_arrows.ensures
 
 pub write_plans-requires-clause-plans : goal.write_plans-requires-clause-plans
 write_plans-requires-clause-plans g c = as_many c.args.self.now.graph.now.catalog c.args.bound.now _ c.in-Ok.ensures.covers

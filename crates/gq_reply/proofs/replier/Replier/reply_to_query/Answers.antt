@@ -22,4 +22,4 @@ returns-in-Err-TooManyRows-clause-asks g c = λ query statement is.
 
 pub returns-in-Err-Memory-clause-asks : goal.returns-in-Err-Memory-clause-asks
 returns-in-Err-Memory-clause-asks g c = λ query statement is.
-    replied _ tone.Memory _ refl _ _ c.write_all.ensures.bytes c.write_all.ensures.cause _ c.toned-in-Err-Memory.ensures
+    replied _ (tone.Memory c.in-Err-Memory.memory) _ refl _ _ c.write_all.ensures.bytes c.write_all.ensures.cause _ c.toned-in-Err-Memory.ensures

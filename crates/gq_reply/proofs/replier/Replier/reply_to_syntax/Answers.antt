@@ -23,7 +23,7 @@ pub returns-in-Ok-false-clause-blank : goal.returns-in-Ok-false-clause-blank
 returns-in-Ok-false-clause-blank g c = by_tone _ tone.Refused (λ params. refl) _ _ c.toned.ensures
 
 pub returns-in-Err-clause-replies : goal.returns-in-Err-clause-replies
-returns-in-Err-clause-replies g c = λ params. replied _ tone.Memory _ refl _ _ c.write_all.ensures.bytes c.write_all.ensures.cause _ c.toned-in-Err.ensures
+returns-in-Err-clause-replies g c = λ params. replied _ (tone.Memory c.in-Err.memory) _ refl _ _ c.write_all.ensures.bytes c.write_all.ensures.cause _ c.toned-in-Err.ensures
 
 pub returns-in-Err-clause-blank : goal.returns-in-Err-clause-blank
-returns-in-Err-clause-blank g c = by_tone _ tone.Memory (λ params. refl) _ _ c.toned-in-Err.ensures
+returns-in-Err-clause-blank g c = by_tone _ (tone.Memory c.in-Err.memory) (λ params. refl) _ _ c.toned-in-Err.ensures
