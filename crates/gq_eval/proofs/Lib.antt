@@ -1,3 +1,4 @@
+pub mod Meanings
 pub mod PlaceEquations
 pub mod PlaceLemmas
 pub mod Verdicts

@@ -7,8 +7,10 @@
 mod evaluate;
 mod evaluator;
 mod judging;
+mod named;
 mod places;
 mod reading;
 
 pub use evaluator::Evaluator;
 pub use judging::{Verdict, judge};
+pub use named::evaluators;

@@ -1,46 +1,30 @@
 -- The conjuncts that an alternative leaves, looked at one after another.
 use Rattle.std.proofs.Common.{◌≡◌, ◌∙◌, ℕ, ◌+◌, ◌<◌, ◌≤◌, true, false, Option, Some, None, Ok, Err, List, [], ◌∷◌, ◌++◌, map, flat_map, drop, get_or, length, slice_get, refl, sym, ap}
-use Rattle.std.specs.Option.{option_map}
 use Rattle.std.proofs.lemmas.List.{drop_more, drop_all}
-use Rattle.std.proofs.lemmas.Option.{slice_get-map}
 use Rattle.gq_base.specs.Plain.{Graph}
 use Rattle.gq_base.specs.Values.{null, flag, int, str, node, rel}
 use Rattle.gq_eval.proofs.Verdicts.{stays_dropped}
-use Rattle.gq_eval.specs.Asked.{Asked, answers, asked}
+use Rattle.gq_eval.specs.Asked.{Asked, answers, asked_of}
 use Rattle.gq_eval.specs.Judged.{judged_after, marks_of, one_more}
 use Rattle.gq_eval.specs.declared.judging.Verdict.{Verdict}
 use Rattle.gq_eval.specs.declared.judging.Verdict.TheVariants as verdict
-use Rattle.gq_expr.specs.Meaning.{meaning}
 use Rattle.gq_expr.specs.Operators.{Outcome}
 use Rattle.gq_expr.specs.Reading as reading
 use Rattle.gq_expr.specs.declared.Fault.{Fault}
-use Rattle.gq_optional.specs.Asking.{asked_of}
+use Rattle.gq_eval.proofs.Meanings.{numbered_are}
 use Rattle.gq_plan.specs.Marked.{marks}
 use Rattle.gq_plan.specs.Meaning.{found}
 use Rattle.gq_plan.specs.Outcomes.{late_conjuncts, meanings_of}
 use Rattle.gq_plan.specs.declared.Bound.{Bound}
-use Rattle.gq_plan.specs.declared.NamedExpr.{NamedExpr}
 use Rattle.gq_plan.specs.declared.Typed.{Typed}
 use Rattle.gq_execute.specs.steps.Late.{both, late_of}
 
 -- ---- the conjuncts of a query
 
 module _ (g : Graph) (b : Bound) (row : reading.Assignment) where
-  -- one more of them
-  one_says : (o : Option NamedExpr) (all : List Asked) (es : List NamedExpr) → answers row all ≡ meanings_of g row es
-      → answers row (found (option_map (λ (c : NamedExpr). asked c.expr g) o) ++ all) ≡ meanings_of g row (found o ++ es)
-  one_says None all es says = says
-  one_says (Some c) all es says = ap (λ os. meaning g row c.expr ∷ os) says
-
-  numbers_say : (is : List ℕ) → answers row (flat_map (λ i. found (slice_get (asked_of g b.conjuncts) i)) is) ≡ meanings_of g row (flat_map (λ i. found (slice_get b.conjuncts i)) is)
-  numbers_say [] = refl
-  numbers_say (i ∷ is) =
-      ap (λ o. answers row (found o ++ flat_map (λ k. found (slice_get (asked_of g b.conjuncts) k)) is)) (slice_get-map (λ (c : NamedExpr). asked c.expr g) b.conjuncts i)
-      ∙ one_says (slice_get b.conjuncts i) (flat_map (λ k. found (slice_get (asked_of g b.conjuncts) k)) is) (flat_map (λ k. found (slice_get b.conjuncts k)) is) (numbers_say is)
-
   -- those that an alternative leaves say of a row what they mean
   pub late_says : (y : Typed) (all : List Asked) → all ≡ asked_of g b.conjuncts → marks (answers row (late_of all y)) ≡ marks (meanings_of g row (late_conjuncts b y))
-  late_says y all are = ap (λ l. marks (answers row (late_of l y))) are ∙ ap marks (numbers_say y.late)
+  late_says y all are = ap (λ l. marks (answers row (late_of l y))) are ∙ ap marks (numbered_are g row b.conjuncts y.late)
 
 -- ---- one after another
 

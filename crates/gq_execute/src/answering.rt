@@ -2,7 +2,7 @@
 //! its own hands out goes into one table of rows, behind the optional clauses where there are some,
 //! or continued by the trails.
 ghost use Rattle.std.specs.Prelude.{◌≡◌, ◌+◌, ◌≤◌, ◌<◌, [], false, length, nat_lt, All, IfOk};
-ghost use Rattle.std.specs.Prelude.{IsSome, OnOk, Some};
+ghost use Rattle.std.specs.Prelude.{IsSome, OnOk};
 ghost use Rattle.std.specs.List.{AllByRecursion};
 ghost use Rattle.gq_execute.specs.Answering.{RepliesToEach, lines_in};
 ghost use Rattle.gq_execute.specs.Planned.{sizes};

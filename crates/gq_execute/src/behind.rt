@@ -8,7 +8,7 @@ ghost use Rattle.gq_execute.specs.steps.Prepared.{IsPrepared, known_by, later_by
 ghost use Rattle.gq_execute.specs.steps.Taking.{HasRun, IsRunOf, TakesAll, given_by};
 ghost use Rattle.gq_execute.specs.steps.Taking.{outcomes_by, owed_outcomes};
 ghost use Rattle.gq_group.specs.Chunks.{IsChunkOf};
-ghost use Rattle.gq_optional.specs.Asking.{asked_of};
+ghost use Rattle.gq_eval.specs.Asked.{asked_of};
 ghost use Rattle.gq_optional.specs.Walks.{IsOptionals, lists_in};
 ghost use Rattle.gq_optional.specs.Walks.{IsSameWalk, IsWalk, owed_by};
 ghost use Rattle.gq_pipe.specs.Serving.{Serves};

@@ -4,10 +4,9 @@ ghost use Rattle.std.specs.Prelude.{◌≡◌, ◌≤◌, ◌<◌, ◌++◌, fal
 ghost use Rattle.std.specs.Prelude.{OnOk};
 ghost use Rattle.gq_execute.specs.Planned.{sizes};
 ghost use Rattle.gq_execute.specs.steps.Clauses.{AreSpentOn, some_heavy_clause};
-ghost use Rattle.gq_execute.specs.steps.Prepared.{AreSpentOnTests, IsPrepared, RefusesBefore};
-ghost use Rattle.gq_execute.specs.steps.Prepared.{first_nodes};
+ghost use Rattle.gq_execute.specs.steps.Prepared.{AreAsked, AreSpentOnTests, IsPrepared};
+ghost use Rattle.gq_execute.specs.steps.Prepared.{RefusesBefore, first_nodes};
 ghost use Rattle.gq_execute.specs.steps.Testing.{spent_on};
-ghost use Rattle.gq_optional.specs.Asking.{asked_of};
 ghost use Rattle.gq_plan.specs.Soundness.{IsSound};
 ghost use Rattle.gq_pool.specs.Pool.{spare_of};
 ghost use Rattle.gq_wide.specs.Placed.{IsPlaced};
@@ -17,7 +16,7 @@ use crate::refusal::AnswerRefusal;
 use crate::settings::Settings;
 use crate::testing::{Tests, append, tests_of};
 use gq_base::{List, Memory};
-use gq_eval::Evaluator;
+use gq_eval::{Evaluator, evaluators};
 use gq_join::Room;
 use gq_optional::{Optionals, RowShape};
 use gq_order::Stats;
@@ -27,7 +26,8 @@ use gq_pool::VectorPool;
 use gq_store::Graph;
 use std::alloc::Global;
 
-/// A query, its conjuncts over a graph, its tests of paths, and the matches of its optional clauses.
+/// A query, its conjuncts over a graph where optional clauses or trails ask them, its tests of paths,
+/// and the matches of its optional clauses.
 #[derive(Drop)]
 pub struct Prepared<'q> {
     pub(crate) bound: &'q Bound,
@@ -67,19 +67,19 @@ fn first_nodes(bound: &Bound) -> usize
     }
 }
 
-// The conjuncts of a query, over a graph.
-fn conjuncts_of<'q>(
+// The conjuncts of a query over a graph, where optional clauses or trails ask them of rows; else the
+// table of rows asks them itself.
+fn conjuncts_for<'q>(
     alloc: Global,
-    graph: &'q Graph,
     bound: &'q Bound,
+    graph: &'q Graph,
 ) -> Result<List<Evaluator<'q>>, Memory>
-    ensures { IfOk result (λ all. all ≡ asked_of graph.now bound.now.conjuncts) }
+    ensures { IfOk result (AreAsked graph.now bound.now) }
 {
-    let mut all = List::new(alloc);
-    'conjuncts: for conjunct in bound.conjuncts.as_slice() {
-        all.push(Evaluator::new(alloc, &conjunct.expr, graph)?)?;
+    if bound.optionals.is_empty() && bound.trails.is_empty() {
+        return Ok(List::new(alloc));
     }
-    Ok(all)
+    evaluators(alloc, bound.conjuncts.as_slice(), graph)
 }
 
 /// Makes the tests of a query, and lists the matches of its optional clauses. What both keep takes
@@ -118,7 +118,7 @@ pub(crate) fn prepare<'q>(
     if nodes > most || rels > most || first > most {
         return Err(AnswerRefusal::Memory(Memory::Limit));
     }
-    let conjuncts = conjuncts_of(alloc, graph, bound)?;
+    let conjuncts = conjuncts_for(alloc, bound, graph)?;
     let patterns = bound.patterns.as_slice();
     let tests = match tests_of(alloc, graph, stats, patterns, pool, settings, room) {
         Ok(tests) => tests,

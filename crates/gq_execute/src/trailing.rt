@@ -12,7 +12,7 @@ ghost use Rattle.gq_execute.specs.steps.Testing.{admitted_by};
 ghost use Rattle.gq_execute.specs.steps.Walking.{AreTrailsOf, CanWalk, IsWalking};
 ghost use Rattle.gq_group.specs.Chunks.{IsChunkOf};
 ghost use Rattle.gq_law_plans.specs.Safe.{IsMade};
-ghost use Rattle.gq_optional.specs.Asking.{asked_of};
+ghost use Rattle.gq_eval.specs.Asked.{asked_of};
 ghost use Rattle.gq_pipe.specs.Serving.{Serves};
 ghost use Rattle.gq_rows.specs.Chunks.{PushesAll, assignments_of};
 ghost use Rattle.gq_rows.specs.Tables.{IsSameQuery, StandsForSome, is_full_table};

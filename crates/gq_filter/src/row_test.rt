@@ -2,8 +2,10 @@
 //! can decide them, and else by evaluating them.
 ghost use Rattle.std.specs.Prelude.{◌≡◌, ◌≤◌, ◌<◌, ◌-◌, ◌&&◌, ℕ, IfOk, IsTrue, false, length};
 ghost use Rattle.gq_bits.specs.Places.{is_marked};
+ghost use Rattle.gq_filter.specs.Evaluated.{is_true};
 ghost use Rattle.gq_filter.specs.RowTests.{condition_over, conditions_of, is_true_of, ReadsRows};
 ghost use Rattle.gq_filter.specs.Rows.{count_in, row_in, with_row};
+ghost use Rattle.gq_filter.specs.steps.Evaluating.{Evaluates};
 ghost use Rattle.gq_filter.specs.steps.RowCells.{AreFeedsIn, AreOfNodes, DecidesRows};
 ghost use Rattle.gq_filter.specs.steps.SpanLanes.{AreSpanned, IsSpanned};
 ghost use Rattle.gq_plan.specs.Soundness.{IsSound};
@@ -11,7 +13,6 @@ ghost use Rattle.gq_plan.specs.Soundness.{IsSound};
 use crate::cells::holds_at;
 use crate::conditions::compile;
 use crate::feeds::Feed;
-use crate::filters::is_true;
 use crate::kernels::keep_lanes;
 use crate::lane_test::LaneTest;
 use crate::row_cells::RowCells;
@@ -20,9 +21,10 @@ use crate::row_lists::keep_list;
 use crate::rows::Rows;
 use crate::span_lanes::SpanLanes;
 use crate::text_test::{TextTest, text_test};
-use gq_base::Memory;
+use gq_base::{Memory, Value};
 use gq_bits::{Marks, VECTOR};
 use gq_eval::Evaluator;
+use gq_expr::Assigned;
 use gq_plan::{Assignment, NamedExpr, Typed, TypedRow, Variable};
 use gq_store::Graph;
 use std::alloc::Global;
@@ -40,15 +42,14 @@ pub struct RowTest<'g> {
     // What decides it where lanes cannot, if it asks for a part of a text.
     text: Option<TextTest<'g>>,
     // What decides it where neither does.
-    evaluator: Evaluator<'g>,
+    evaluator: Option<Evaluator<'g>>,
 }
 
 impl<'g> Model for RowTest<'g> {
-    ghost use Rattle.std.specs.Prelude.{◌≡◌};
     ghost use Rattle.std.specs.Coded.{codes};
-    ghost use Rattle.gq_eval.specs.Asked.{asked};
     ghost use Rattle.gq_expr.specs.contracts.expr.Expr as expr;
     ghost use Rattle.gq_filter.specs.RowTests.{RowCondition};
+    ghost use Rattle.gq_filter.specs.steps.Evaluating.{Evaluates};
     ghost use Rattle.gq_filter.specs.steps.RowCells.{AreInside, DecidesRows};
     ghost use Rattle.gq_filter.specs.steps.Texts.{TextDecides};
 
@@ -65,7 +66,7 @@ impl<'g> Model for RowTest<'g> {
     ghost invariant = { λ t. AreInside t.graph.now t.feeds.items
         × DecidesRows t.graph.now t.typed.now t.condition.now t.feeds.items t.test
         × TextDecides t.graph.now t.typed.now t.condition.now t.text
-        × (t.evaluator ≡ asked t.condition.now.expr t.graph.now) };
+        × Evaluates t.graph.now t.condition.now t.test t.text t.evaluator };
 }
 
 impl<'g> RowTest<'g> {
@@ -83,14 +84,15 @@ impl<'g> RowTest<'g> {
         let mut feeds = Vec::new(alloc);
         add_feeds(&mut feeds, graph, typed, &condition.expr)?;
         let test = test_of(alloc, graph, typed, condition, feeds.as_slice())?;
-        let evaluator = Evaluator::new(alloc, &condition.expr, graph)?;
+        let text = text_test(graph, typed, condition);
+        let evaluator = evaluator_of(alloc, graph, condition, &test, &text)?;
         Ok(RowTest {
             graph,
             typed,
             condition,
             test,
             feeds,
-            text: text_test(graph, typed, condition),
+            text,
             evaluator,
         })
     }
@@ -125,7 +127,10 @@ impl<'g> RowTest<'g> {
                         typed: self.typed,
                         row,
                     };
-                    is_true(&self.evaluator, &typed_row)
+                    let Some(evaluator) = &self.evaluator else {
+                        unreachable!()
+                    };
+                    is_true(evaluator, &typed_row)
                 }
             },
         }
@@ -194,6 +199,16 @@ impl RowTest<'_> {
     }
 }
 
+// Whether a condition over a graph is true of a row. It takes no memory.
+fn is_true<R: Assigned>(test: &Evaluator<'_>, row: &R) -> bool
+    ensures { result ≡ is_true test.now (R.assignment row.now) }
+{
+    match test.value(row) {
+        Ok(Value::Flag(truth)) => truth,
+        _ => false,
+    }
+}
+
 // Whether each feed is of a node variable, and its column has the rows below `high`.
 fn are_spanned(feeds: &[Feed<'_>], variable: u32, high: u32) -> bool
     ensures { IsTrue result → AreSpanned variable high feeds.now }
@@ -235,6 +250,28 @@ fn test_of(
     }
     let test = compile(alloc, &condition.expr, sources.as_slice())?;
     Ok(test)
+}
+
+// What evaluates a condition, where neither lanes nor a text decide it.
+fn evaluator_of<'g>(
+    alloc: Global,
+    graph: &'g Graph,
+    condition: &'g NamedExpr,
+    test: &Option<LaneTest>,
+    text: &Option<TextTest<'g>>,
+) -> Result<Option<Evaluator<'g>>, Memory>
+    ensures { IfOk result (Evaluates graph.now condition.now test.now text.now) }
+{
+    match test {
+        Some(_) => return Ok(None),
+        None => {}
+    }
+    match text {
+        Some(_) => return Ok(None),
+        None => {}
+    }
+    let evaluator = Evaluator::new(alloc, &condition.expr, graph)?;
+    Ok(Some(evaluator))
 }
 
 // Whether each feed is of a node variable.

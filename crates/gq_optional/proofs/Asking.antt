@@ -1,23 +1,18 @@
 -- Clauses whose conjuncts are asked over a graph.
-use Rattle.std.proofs.Common.{◌≡◌, ◌∙◌, ℕ, ◌+◌, ◌<◌, List, [], ◌∷◌, drop, get_or, length, refl, sym, ap, subst}
+use Rattle.std.proofs.Common.{◌≡◌, ◌∙◌, ℕ, ◌+◌, ◌<◌, List, ◌∷◌, drop, get_or, length, sym, ap, subst}
 use Rattle.std.proofs.lemmas.List.{drop_more}
 use Rattle.gq_base.specs.Plain.{Graph}
+use Rattle.gq_eval.proofs.Meanings.{answers_are}
 use Rattle.gq_eval.specs.Asked.{Asked, answers}
-use Rattle.gq_expr.specs.Meaning.{meaning}
 use Rattle.gq_expr.specs.Reading as reading
 use Rattle.gq_plan.specs.Marked.{marks}
 use Rattle.gq_plan.specs.Outcomes.{meanings_of}
-use Rattle.gq_plan.specs.declared.bound.NamedExpr.{NamedExpr}
-use Rattle.gq_optional.specs.Asking.{AllAsk, Asks, asked_of}
+use Rattle.gq_optional.specs.Asking.{AllAsk, Asks}
 use Rattle.gq_optional.specs.declared.clause.Clause.{Clause}
 use Rattle.gq_optional.specs.declared.level.Level.{Level}
 use Rattle.gq_optional.specs.steps.Levels.{clauses_of}
 
 -- ---- what conjuncts say of a row
-
-pub answers_are : (g : Graph) (row : reading.Assignment) (cs : List NamedExpr) → answers row (asked_of g cs) ≡ meanings_of g row cs
-answers_are g row [] = refl
-answers_are g row (c ∷ cs) = ap (λ os. meaning g row c.expr ∷ os) (answers_are g row cs)
 
 pub judged_by : (g : Graph) (row : reading.Assignment) (c : Clause) (all : List Asked) → all ≡ c.conjuncts → Asks g c → marks (answers row all) ≡ marks (meanings_of g row c.part.now.conjuncts)
 judged_by g row c all is asks = ap (λ l. marks (answers row l)) (is ∙ asks) ∙ ap marks (answers_are g row c.part.now.conjuncts)

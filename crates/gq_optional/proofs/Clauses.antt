@@ -13,7 +13,8 @@ use Rattle.gq_plan.specs.Soundness.{IsSound, has_number}
 use Rattle.gq_plan.specs.declared.bound.OptionalPart.{OptionalPart}
 use Rattle.gq_plan.specs.declared.typed.Typed.{Typed}
 use Rattle.gq_wide.specs.Placed.{IsPlaced}
-use Rattle.gq_optional.specs.Asking.{AllAsk, asked_of}
+use Rattle.gq_eval.specs.Asked.{asked_of}
+use Rattle.gq_optional.specs.Asking.{AllAsk}
 use Rattle.gq_optional.specs.Made.{AreListed}
 use Rattle.gq_law_answers.specs.Answered.{meanings}
 use Rattle.gq_optional.specs.Walks.{AreShared, lists_of, parts_of}

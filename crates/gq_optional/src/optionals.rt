@@ -1,7 +1,6 @@
 //! The optional clauses of a query: what plans of their alternatives make.
 ghost use Rattle.std.specs.Prelude.{◌≡◌, ◌++◌, ◌≤◌, [], true, length, map, All, IfOk, IfErr, OnOk};
 ghost use Rattle.std.specs.List.{AllZip, range_with_len};
-ghost use Rattle.gq_optional.specs.Asking.{asked_of};
 ghost use Rattle.gq_optional.specs.Made.{AreCovered, AreFew, AreListed, IsFew, IsRefusal};
 ghost use Rattle.gq_optional.specs.Spending.{HasSpentListed};
 ghost use Rattle.gq_optional.specs.Walks.{IsOptionals, IsWalk, known_by, lists_by, lists_in};
@@ -20,7 +19,7 @@ use crate::level::Stage;
 use crate::listing::{list_each, places_of, shared_of};
 use crate::walk::OptionalWalk;
 use gq_base::{List, Memory};
-use gq_eval::Evaluator;
+use gq_eval::evaluators;
 use gq_join::{JoinRefusal, Room};
 use gq_pipe::Spent;
 use gq_plan::{OptionalPart, Plan};
@@ -172,21 +171,6 @@ fn make_known(known: &mut Vec<u32>, more: &[u32]) -> Result<(), Memory>
     Ok(())
 }
 
-// The conjuncts of a clause, over a graph.
-fn conjuncts_of<'b>(
-    alloc: Global,
-    graph: &'b Graph,
-    part: &'b OptionalPart,
-) -> Result<List<Evaluator<'b>>, Memory>
-    ensures { IfOk result (λ all. all ≡ asked_of graph.now part.now.conjuncts) }
-{
-    let mut all = List::new(alloc);
-    'conjuncts: for conjunct in part.conjuncts.as_slice() {
-        all.push(Evaluator::new(alloc, &conjunct.expr, graph)?)?;
-    }
-    Ok(all)
-}
-
 // A clause, with what plans make of its alternatives, to be found by the variables that are known.
 fn hold<'b>(
     spent: &mut List<Spent>,
@@ -220,7 +204,7 @@ fn hold<'b>(
     }
     let shared = shared_of(alloc, known, nodes)?;
     let keys = places_of(alloc, shared.as_slice())?;
-    let conjuncts = conjuncts_of(alloc, graph, part)?;
+    let conjuncts = evaluators(alloc, part.conjuncts.as_slice(), graph)?;
     let mut matches = List::new(alloc);
     let alternatives = part.alternatives.as_slice();
     match list_each(

@@ -7,7 +7,7 @@ use Rattle.gq_base.specs.Plain.{Graph}
 use Rattle.gq_base.specs.Values.{Val}
 use Rattle.gq_cells.specs.Numbers.{IsNumber, source_val}
 use Rattle.gq_cells.specs.declared.source.Source.{Source}
-use Rattle.gq_eval.specs.Asked.{Asked, answers, asked}
+use Rattle.gq_eval.specs.Asked.{Asked, answers, asked, asked_of}
 use Rattle.gq_expr.specs.Meaning.{meaning}
 use Rattle.gq_expr.specs.Operators.{Outcome}
 use Rattle.gq_expr.specs.Reading as reading
@@ -17,7 +17,6 @@ use Rattle.gq_plan.specs.declared.bound.NamedExpr.{NamedExpr}
 use Rattle.gq_rows.specs.steps.Finding.{Extends, Finds, FindsBy, IsFinder, PutsColumn}
 use Rattle.gq_rows.specs.steps.Judged.{values_after}
 use Rattle.gq_rows.specs.steps.Listed.{AreFinders}
-use Rattle.gq_rows.specs.steps.Reading.{asked_columns}
 use Rattle.gq_rows.specs.declared.finder.Finder.{Finder}
 use Rattle.gq_rows.specs.declared.finder.Way.{Way}
 use Rattle.gq_rows.specs.declared.finder.Way.TheVariants as way
@@ -63,11 +62,11 @@ module _ (old new : List Source) (more : Extends old new) where
   stay (a ∷ asks) (f ∷ fs) h = (stays a f h.0, stay asks fs h.1)
 
   -- the finder of one more column
-  pub stay_and : (g : Graph) (cs : List NamedExpr) (d : NamedExpr) (i : ℕ) (fs : List Finder) (f : Finder) → i < length cs → AreFinders old (asked_columns g (take i cs)) fs → IsFinder new (asked (get_or cs i d).expr g) f
-      → AreFinders new (asked_columns g (take (i + 1) cs)) (fs ++ f ∷ [])
+  pub stay_and : (g : Graph) (cs : List NamedExpr) (d : NamedExpr) (i : ℕ) (fs : List Finder) (f : Finder) → i < length cs → AreFinders old (asked_of g (take i cs)) fs → IsFinder new (asked (get_or cs i d).expr g) f
+      → AreFinders new (asked_of g (take (i + 1) cs)) (fs ++ f ∷ [])
   stay_and g cs d i fs f lt h k =
-      subst (λ asks. AreFinders new asks (fs ++ f ∷ [])) (sym (ap (asked_columns g) (take_more cs i d lt) ∙ map-append (λ (c : NamedExpr). asked c.expr g) (take i cs) (get_or cs i d ∷ [])))
-      (all_zipped_more (IsFinder new) (asked_columns g (take i cs)) fs (asked (get_or cs i d).expr g) f (stay (asked_columns g (take i cs)) fs h) k)
+      subst (λ asks. AreFinders new asks (fs ++ f ∷ [])) (sym (ap (asked_of g) (take_more cs i d lt) ∙ map-append (λ (c : NamedExpr). asked c.expr g) (take i cs) (get_or cs i d ∷ [])))
+      (all_zipped_more (IsFinder new) (asked_of g (take i cs)) fs (asked (get_or cs i d).expr g) f (stay (asked_of g (take i cs)) fs h) k)
 
 -- what finds the values of the column at a place
 pub finder_at : (ss : List Source) (asks : List Asked) (fs : List Finder) (i : ℕ) (a : Asked) (f : Finder) → AreFinders ss asks fs → i < length asks → i < length fs → a ≡ get_or asks i a → f ≡ get_or fs i f → IsFinder ss a f

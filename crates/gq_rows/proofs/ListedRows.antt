@@ -10,7 +10,7 @@ use Rattle.std.proofs.lemmas.List.Elements.{All-append, All-cons}
 use Rattle.gq_base.specs.Lists.{is_empty}
 use Rattle.gq_base.specs.Plain.{Graph}
 use Rattle.gq_base.specs.Values.{Val, val}
-use Rattle.gq_eval.specs.Asked.{Asked, answers}
+use Rattle.gq_eval.specs.Asked.{Asked, answers, asked_of}
 use Rattle.gq_expr.specs.Operators.{Outcome}
 use Rattle.gq_expr.specs.Reading as reading
 use Rattle.gq_expr.specs.declared.Fault.{Fault}
@@ -35,7 +35,6 @@ use Rattle.gq_rows.specs.steps.Inner.{held_by, table_of, table_with}
 use Rattle.gq_rows.specs.steps.Judged.{check_after, values_after}
 use Rattle.gq_rows.specs.steps.Keeping.{Has, HasForm, HasFull, HasMore, HasPast, IsNoFault, PushesHeld, TellsFull, bar_of, held_of, more_rows}
 use Rattle.gq_rows.specs.steps.Listed.{AddedIn, AddsIn, IsListing, IsPlain, PutsRow, held_in, is_listing, outcome_in, outcome_within, table_in}
-use Rattle.gq_rows.specs.steps.Reading.{asked_columns}
 use Rattle.gq_rows.proofs.Forms.{stands_by}
 use Rattle.gq_rows.proofs.Looking.{appended, met, when_column}
 use Rattle.gq_rows.proofs.Ranked.{keyless_sorted, none}
@@ -44,7 +43,7 @@ use Rattle.gq_rows.proofs.Standings.{open_is, pushed, pushes, room_of}
 
 -- ---- a row is added
 
-module _ (q : question.Asked) (here : reading.Assignment) (asks : List Asked) (are : asks ≡ asked_columns q.graph.now q.bound.now.columns) (keyless : q.bound.now.keys ≡ [])
+module _ (q : question.Asked) (here : reading.Assignment) (asks : List Asked) (are : asks ≡ asked_of q.graph.now q.bound.now.columns) (keyless : q.bound.now.keys ≡ [])
     (is_met : checked.Met ≡ check_after checked.Met (meanings_of q.graph.now here (numbered q.bound.now.conjuncts q.late.now))) where
   abbrev columns : List Outcome
   columns = meanings_of q.graph.now here q.bound.now.columns

@@ -1,7 +1,7 @@
 //! Rows that are held as cells: those of a query without DISTINCT and without ORDER BY.
 ghost use Rattle.std.specs.Prelude.{◌≡◌, ◌<◌, ◌^◌, [], Some, OnOk, false, true};
 ghost use Rattle.std.specs.List.{All};
-ghost use Rattle.gq_eval.specs.Asked.{answers};
+ghost use Rattle.gq_eval.specs.Asked.{answers, asked_of};
 ghost use Rattle.gq_group.specs.Choices.{Begins};
 ghost use Rattle.gq_group.specs.Chunks.{IsChunkOf};
 ghost use Rattle.gq_plan.specs.Assignments.{row_of};
@@ -13,7 +13,6 @@ ghost use Rattle.gq_rows.specs.steps.Keeping.{TellsFull};
 ghost use Rattle.gq_rows.specs.steps.Listed.{AddsIn, AreFinders, AreFreeFinders, Finding};
 ghost use Rattle.gq_rows.specs.steps.Listed.{IsAsked, IsListing, PutsRow, held_in, is_listing};
 ghost use Rattle.gq_rows.specs.steps.Listed.{outcome_in, outcome_within, table_in};
-ghost use Rattle.gq_rows.specs.steps.Reading.{asked_columns};
 
 use crate::admitting::Admits;
 use crate::finder::{Finder, put_column};
@@ -72,9 +71,9 @@ pub(crate) fn find_columns<'g>(
     typed: &Typed,
     graph: &'g Graph,
 ) -> Result<(), Memory>
-    requires { let columns = asked_columns graph.now bound.now.columns in
+    requires { let columns = asked_of graph.now bound.now.columns in
         done ≡ true → AreFreeFinders cells.old.sources columns finders.old.items }
-    ensures finds { let columns = asked_columns graph.now bound.now.columns in
+    ensures finds { let columns = asked_of graph.now bound.now.columns in
         OnOk result (AreFreeFinders cells.new.sources columns finders.new.items) }
     ensures values { cells.new.values ≡ cells.old.values }
 {

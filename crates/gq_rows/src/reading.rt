@@ -1,10 +1,10 @@
 //! The columns, the keys and the conjuncts of a query, each made ready once for many rows.
 ghost use Rattle.std.specs.Prelude.{◌≡◌, IfOk, OnOk, false};
-ghost use Rattle.gq_rows.specs.steps.Reading.{IsReading, IsReadyFor, asked_columns, asked_keys};
+ghost use Rattle.gq_rows.specs.steps.Reading.{IsReading, IsReadyFor, asked_keys};
 
 use gq_base::{List, Memory};
-use gq_eval::Evaluator;
-use gq_plan::{Bound, NamedExpr, SortExpr};
+use gq_eval::{Evaluator, evaluators};
+use gq_plan::{Bound, SortExpr};
 use gq_store::Graph;
 use std::alloc::Global;
 
@@ -47,26 +47,12 @@ impl<'g> Reading<'g> {
         }
         *self = Reading {
             ready: true,
-            columns: named_evaluators(alloc, bound.columns.as_slice(), graph)?,
+            columns: evaluators(alloc, bound.columns.as_slice(), graph)?,
             keys: key_evaluators(alloc, bound.keys.as_slice(), graph)?,
-            conjuncts: named_evaluators(alloc, bound.conjuncts.as_slice(), graph)?,
+            conjuncts: evaluators(alloc, bound.conjuncts.as_slice(), graph)?,
         };
         Ok(())
     }
-}
-
-fn named_evaluators<'g>(
-    alloc: Global,
-    named: &'g [NamedExpr],
-    graph: &'g Graph,
-) -> Result<List<Evaluator<'g>>, Memory>
-    ensures { IfOk result (λ all. all ≡ asked_columns graph.now named.now) }
-{
-    let mut all = List::new(alloc);
-    'named: for one in named {
-        all.push(Evaluator::new(alloc, &one.expr, graph)?)?;
-    }
-    Ok(all)
 }
 
 fn key_evaluators<'g>(

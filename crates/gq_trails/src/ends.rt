@@ -8,7 +8,7 @@ ghost use Rattle.gq_plan.specs.Meaning.{row, nothing, with_node};
 ghost use Rattle.gq_trails.specs.steps.Ends.{AreTests, holds, may_end, settled, tests_of};
 
 use gq_base::{Catalog, List, Memory, NodeId, RelId, Text, Value};
-use gq_eval::Evaluator;
+use gq_eval::{Evaluator, evaluators};
 use gq_expr::Assigned;
 use gq_plan::TrailPart;
 use gq_store::Graph;
@@ -48,22 +48,7 @@ pub(crate) fn tests_for<'g>(
 {
     let mut tests = List::new(alloc);
     'parts: for part in parts {
-        tests.push(tests_of(alloc, graph, part)?)?;
-    }
-    Ok(tests)
-}
-
-// The tests of the other end of a trail.
-fn tests_of<'g>(
-    alloc: Global,
-    graph: &'g Graph,
-    part: &'g TrailPart,
-) -> Result<List<Evaluator<'g>>, Memory>
-    ensures { IfOk result (λ tests. tests ≡ tests_of graph.now part.now) }
-{
-    let mut tests = List::new(alloc);
-    'tests: for test in part.tests.as_slice() {
-        tests.push(Evaluator::new(alloc, &test.expr, graph)?)?;
+        tests.push(evaluators(alloc, part.tests.as_slice(), graph)?)?;
     }
     Ok(tests)
 }

@@ -3,7 +3,7 @@ use Rattle.std.specs.Prelude.{◌≡◌, ◌⊎◌, ◌<◌, ◌^◌, ℕ, true,
 use Rattle.std.specs.List.{AllZip, range_with_len}
 use Rattle.gq_base.specs.Plain.{Graph}
 use Rattle.gq_plan.specs.declared.Bound.{Bound}
-use Rattle.gq_optional.specs.Asking.{asked_of}
+use Rattle.gq_eval.specs.Asked.{Asked, asked_of}
 use Rattle.gq_optional.specs.Walks.{IsOptionals, lists_in, parts_in}
 use Rattle.gq_plan.specs.declared.ExistsPart.{ExistsPart}
 use Rattle.gq_plan.specs.declared.Typed.{Typed}
@@ -23,10 +23,14 @@ abbrev pub first_nodes : List Typed → ℕ
 first_nodes [] = 0
 first_nodes (y ∷ ys) = length y.nodes
 
+-- the conjuncts of a query over a graph, where it has optional clauses or trails
+abbrev pub AreAsked : Graph → Bound → List Asked → Type 0
+AreAsked g b all = (b.optionals ≡ [] → b.trails ≡ [] → ⊥) → all ≡ asked_of g b.conjuncts
+
 -- the conjuncts of a query over a graph, its tests, and the matches of its optional clauses
 pub record IsPrepared (g : Graph) (most : ℕ) (b : Bound) (p : Prepared) : Type 0 where
   pub bound : p.bound.now ≡ b
-  pub asked : p.conjuncts ≡ asked_of g b.conjuncts
+  pub asked : AreAsked g b p.conjuncts
   pub tests : AreTestsOf g most b.patterns p.tests.all
   pub is : IsOptionals p.optionals
   pub graph : p.optionals.graph.now ≡ g

@@ -11,7 +11,7 @@ use Rattle.gq_plan.specs.Plans.{Plan}
 use Rattle.gq_plan.specs.Soundness.{IsSound, has_number}
 use Rattle.gq_plan.specs.declared.bound.OptionalPart.{OptionalPart}
 use Rattle.gq_plan.specs.declared.typed.Typed.{Typed}
-use Rattle.gq_optional.specs.Asking.{asked_of}
+use Rattle.gq_eval.specs.Asked.{asked_of}
 use Rattle.gq_optional.specs.Made.{IsPast, SomePast}
 use Rattle.gq_optional.specs.Spending.{HaveListed, HasListed, IsListing, Listing, spent_on_each}
 use Rattle.gq_optional.specs.declared.clause.Clause.{Clause}

@@ -4,7 +4,7 @@ use Rattle.std.specs.List.{AllZip}
 use Rattle.gq_base.specs.Lists.{is_empty}
 use Rattle.gq_base.specs.Values.{Val}
 use Rattle.gq_cells.specs.declared.source.Source.{Source}
-use Rattle.gq_eval.specs.Asked.{Asked}
+use Rattle.gq_eval.specs.Asked.{Asked, asked_of}
 use Rattle.gq_expr.specs.Operators.{Outcome}
 use Rattle.gq_expr.specs.Reading as reading
 use Rattle.gq_expr.specs.declared.Fault.{Fault}
@@ -15,7 +15,7 @@ use Rattle.gq_rows.specs.steps.Finding.{IsFinder}
 use Rattle.gq_rows.specs.steps.Flat.{AreFree}
 use Rattle.gq_rows.specs.steps.Judged.{values_after}
 use Rattle.gq_rows.specs.steps.Keeping.{HasForm}
-use Rattle.gq_rows.specs.steps.Reading.{IsReading, asked_columns}
+use Rattle.gq_rows.specs.steps.Reading.{IsReading}
 use Rattle.gq_rows.specs.declared.finder.Finder.{Finder}
 use Rattle.gq_rows.specs.declared.held.Form.{Form}
 use Rattle.gq_rows.specs.declared.held.Form.TheVariants as form
@@ -65,7 +65,7 @@ abbrev pub AreFreeFinders : List Source → List Asked → List Finder → Type 
 AreFreeFinders sources asks fs = AreFinders sources asks fs × AreFree fs
 
 abbrev pub Finding : question.Asked → List Source → List Finder → Type 0
-Finding q sources fs = AreFinders sources (asked_columns q.graph.now q.bound.now.columns) fs
+Finding q sources fs = AreFinders sources (asked_of q.graph.now q.bound.now.columns) fs
 
 -- the columns and the conjuncts are made ready
 abbrev pub IsAsked : question.Asked → Type 0

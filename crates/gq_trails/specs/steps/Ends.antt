@@ -2,18 +2,17 @@
 use Rattle.std.specs.Prelude.{◌≡◌, Bool, Some, List, [], map, slice_set, if◌then◌else◌}
 use Rattle.gq_base.specs.Plain.{Graph}
 use Rattle.gq_base.specs.declared.NodeId.{NodeId}
-use Rattle.gq_eval.specs.Asked.{Asked, asked}
+use Rattle.gq_eval.specs.Asked.{Asked, asked_of}
 use Rattle.gq_expr.specs.Reading as reading
 use Rattle.gq_law_trails.specs.Trails.{fits_end}
 use Rattle.gq_plan.specs.declared.TrailPart.{TrailPart}
 use Rattle.gq_plan.specs.Allowed.{at_same}
 use Rattle.gq_plan.specs.Conditions.{passes}
-use Rattle.gq_plan.specs.declared.bound.NamedExpr.{NamedExpr}
 use Rattle.gq_wide.specs.Rows.{Wide, item_at}
 
 -- the tests of a trail's other end, and those of all trails
 abbrev pub tests_of : Graph → TrailPart → List Asked
-tests_of g p = map (λ (t : NamedExpr). asked t.expr g) p.tests
+tests_of g p = asked_of g p.tests
 
 abbrev pub AreTests : Graph → List TrailPart → List (List Asked) → Type 0
 AreTests g parts tests = tests ≡ map (tests_of g) parts

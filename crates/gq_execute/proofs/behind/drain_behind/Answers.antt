@@ -2,7 +2,7 @@ use Rattle.std.proofs.Common.{◌∙◌, ap, arith, length, refl, subst, sym, So
 use Rattle.gq_pipe.specs.Bound.{binds_all}
 use Rattle.gq_pipe.specs.Progress.{Source, plan_in}
 use Rattle.gq_pipe.specs.Rest.{counted}
-use Rattle.gq_optional.specs.Asking.{asked_of}
+use Rattle.gq_eval.specs.Asked.{asked_of}
 use Rattle.gq_plan.specs.declared.Bound.{Bound}
 use Rattle.gq_rows.specs.declared.refusal.More.TheVariants as more
 use Rattle.gq_execute.proofs.Copying.{blank_further}
@@ -48,7 +48,7 @@ push_rows-requires-clause-chunk c =
     (ap (λ (s : Source). s.typed) (source ∙ i.source) ∙ c.requires.typed) c.chunk-chunk.ensures.chunk
 
 pub push_rows-requires-clause-asked : goal.push_rows-requires-clause-asked
-push_rows-requires-clause-asked c = c.requires.prepared.asked ∙ ap (λ (b : Bound). asked_of c.args.graph.now b.conjuncts) (sym c.chunks.invariant.same.bound)
+push_rows-requires-clause-asked c = c.requires.prepared.asked (λ none _. c.requires.some none) ∙ ap (λ (b : Bound). asked_of c.args.graph.now b.conjuncts) (sym c.chunks.invariant.same.bound)
 
 pub push_rows-requires-clause-behind : goal.push_rows-requires-clause-behind
 push_rows-requires-clause-behind c =

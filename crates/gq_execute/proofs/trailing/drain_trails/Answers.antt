@@ -1,6 +1,6 @@
 use Rattle.std.proofs.Common.{◌∙◌, ap, length, refl, subst, sym, Some, Ok, Err}
 use Rattle.gq_law_plans.specs.Safe.{IsMade}
-use Rattle.gq_optional.specs.Asking.{asked_of}
+use Rattle.gq_eval.specs.Asked.{asked_of}
 use Rattle.gq_plan.specs.declared.Bound.{Bound}
 use Rattle.gq_pipe.specs.Bound.{binds_all}
 use Rattle.gq_pipe.specs.Progress.{Source, plan_in}
@@ -52,7 +52,7 @@ push_walked-requires-clause-chunk c =
     (ap (λ (s : Source). s.typed) (source ∙ i.source) ∙ c.requires.typed) c.chunk-chunk.ensures.chunk
 
 pub push_walked-requires-clause-asked : goal.push_walked-requires-clause-asked
-push_walked-requires-clause-asked c = c.requires.prepared.asked ∙ ap (λ (b : Bound). asked_of c.args.graph.now b.conjuncts) (sym c.chunks.invariant.same.bound)
+push_walked-requires-clause-asked c = c.requires.prepared.asked (λ _ none. c.requires.some none) ∙ ap (λ (b : Bound). asked_of c.args.graph.now b.conjuncts) (sym c.chunks.invariant.same.bound)
 
 pub push_walked-requires-clause-walking : goal.push_walked-requires-clause-walking
 push_walked-requires-clause-walking c =

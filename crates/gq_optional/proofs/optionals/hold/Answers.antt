@@ -10,5 +10,5 @@ pub list_each-requires-clause-keys : goal.list_each-requires-clause-keys
 list_each-requires-clause-keys c =
     let part = c.args.part.now in
     let sized = subst (All (λ (y : Typed). length y.nodes ≡ length part.nodes)) (sym c.as_slice-alternatives.ensures) c.requires.part.nodes in
-    keys_low c.args.known.now part.nodes c.as_slice-alternatives.result.now c.in_ok-shared.shared c.as_slice-2.result.now (c.in_ok-shared.ensures ∙ ap (map (has_number c.args.known.now)) c.as_slice-nodes.ensures)
-    (c.as_slice-2.ensures.value ∙ c.in_ok-keys.ensures ∙ ap (places_of 0) c.as_slice.ensures) sized
+    keys_low c.args.known.now part.nodes c.as_slice-alternatives.result.now c.in_ok-shared.shared c.as_slice-3.result.now (c.in_ok-shared.ensures ∙ ap (map (has_number c.args.known.now)) c.as_slice-nodes.ensures)
+    (c.as_slice-3.ensures.value ∙ c.in_ok-keys.ensures ∙ ap (places_of 0) c.as_slice.ensures) sized

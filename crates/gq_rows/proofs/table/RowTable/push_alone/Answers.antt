@@ -2,7 +2,8 @@ use Rattle.std.proofs.Common.{◌≡◌, [], None, Ok, Err, ap, subst, sym, fals
 use Rattle.gq_plan.specs.declared.bound.Bound.{Bound}
 use Rattle.gq_rows.specs.Tables.{Pushes, Table, outcome_numbered}
 use Rattle.gq_rows.specs.steps.Inner.{IsDone, table_of}
-use Rattle.gq_rows.specs.steps.Reading.{IsReadyFor, asked_columns}
+use Rattle.gq_rows.specs.steps.Reading.{IsReadyFor}
+use Rattle.gq_eval.specs.Asked.{asked_of}
 use Rattle.gq_rows.proofs.Finding.{stay}
 use Rattle.gq_rows.proofs.ListedRows.{inside_graph, inside_listing, pushed_listed, room_listed, stands_listed}
 use Rattle.gq_rows.proofs.table.RowTable.push_alone.Goals as goal
@@ -31,7 +32,7 @@ invariant_of-self-in-Ok-push g c =
       ready = subst (λ x. IsReadyFor x t.bound.now c.prepare.new.self) (sym has) c.prepare.ensures.ready;
       done = λ e.
           subst (λ x. IsDone x new) (sym has)
-          (stay c.find_columns.new.cells.sources c.push.new.self.cells.sources c.in-Ok-push.ensures.more (asked_columns c.args.graph.now t.bound.now.columns) c.find_columns.new.finders.items c.in-Ok-find_columns.ensures.finds.0, c.in-Ok-find_columns.ensures.finds.1);
+          (stay c.find_columns.new.cells.sources c.push.new.self.cells.sources c.in-Ok-push.ensures.more (asked_of c.args.graph.now t.bound.now.columns) c.find_columns.new.finders.items c.in-Ok-find_columns.ensures.finds.0, c.in-Ok-find_columns.ensures.finds.1);
     }
 
 pub returns-in-Err-clause-pushes : goal.returns-in-Err-clause-pushes

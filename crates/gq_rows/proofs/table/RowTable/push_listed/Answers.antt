@@ -5,7 +5,8 @@ use Rattle.gq_rows.specs.Tables.{Table}
 use Rattle.gq_rows.specs.steps.Inner.{IsDone, table_of}
 use Rattle.gq_rows.specs.steps.Flat.{AreHeldIn}
 use Rattle.gq_rows.specs.steps.Listed.{AreFinders}
-use Rattle.gq_rows.specs.steps.Reading.{IsReadyFor, asked_columns}
+use Rattle.gq_rows.specs.steps.Reading.{IsReadyFor}
+use Rattle.gq_eval.specs.Asked.{asked_of}
 use Rattle.gq_rows.proofs.Finding.{stay}
 use Rattle.gq_rows.proofs.ListedRows.{inside_graph, inside_listing, listing_is, pushed_chunk, room_listed, stands_listed}
 use Rattle.gq_rows.proofs.table.RowTable.push_listed.Goals as goal
@@ -37,7 +38,7 @@ invariant_of-self-in-Ok-push_choices t c =
       ready = subst (λ x. IsReadyFor x t.bound.now c.prepare.new.self) (sym has) c.prepare.ensures.ready;
       done = λ e.
           subst (λ x. IsDone x new) (sym has)
-          (stay c.find_columns.new.cells.sources c.push_choices.new.self.cells.sources c.in-Ok-push_choices.ensures.more (asked_columns c.args.graph.now t.bound.now.columns) c.find_columns.new.finders.items c.in-Ok-find_columns.ensures.finds.0, c.in-Ok-find_columns.ensures.finds.1);
+          (stay c.find_columns.new.cells.sources c.push_choices.new.self.cells.sources c.in-Ok-push_choices.ensures.more (asked_of c.args.graph.now t.bound.now.columns) c.find_columns.new.finders.items c.in-Ok-find_columns.ensures.finds.0, c.in-Ok-find_columns.ensures.finds.1);
     }
 
 pub returns-in-Err-clause-pushes : goal.returns-in-Err-clause-pushes
@@ -57,7 +58,7 @@ returns-in-Ok-push_choices-clause-pushes t c =
 pub push_choices-requires-clause-finders : goal.push_choices-requires-clause-finders
 push_choices-requires-clause-finders t c =
     let ss = c.find_columns.new.cells.sources in
-    let asks = asked_columns c.args.graph.now c.self.inside.bound.now.columns in
+    let asks = asked_of c.args.graph.now c.self.inside.bound.now.columns in
     subst (AreFinders ss asks) (sym c.as_slice-held.ensures.value)
     (c.in-Ok-hold_columns.ensures.finders ss asks (subst (AreFinders ss asks) (sym c.as_slice-finders.ensures.value) c.in-Ok-find_columns.ensures.finds.0))
 
