@@ -5,7 +5,8 @@ each read and each write, also where reads and writes move few bytes at once.
     bench/refuse.py PROGRAM
 
 Each run has to end with the status of what failed, and to have written a front of what it writes when nothing fails; where an
-allocation failed, replies may be `error: Memory` in place of themselves, or nothing is written. It prints how many runs of each
+allocation failed, replies may be `error: Memory` in place of themselves, or nothing is written, and standard error says that
+there was not enough memory. It prints how many runs of each
 kind were made, and those that did otherwise, and ends with 1 where there is one. It needs a C compiler, and a program that is
 linked to its C library when it starts."""
 import os
@@ -18,6 +19,7 @@ HERE = os.path.dirname(os.path.realpath(__file__))
 GRAPH = os.path.join(HERE, "..", "crates", "graphq", "data")
 KINDS = ["allocate", "open", "read", "write"]
 MEMORY = "error: Memory\n"
+EXHAUSTED = "graphq: there was not enough memory\n"
 OVER_GRAPH = ["--manifest", "g.manifest", "--rows", "8"]
 SESSION = [
     "MATCH (p:Person) RETURN p.name ORDER BY p.age DESC",
@@ -90,7 +92,9 @@ class Tried:
     def remembers(self, got, replies):
         """Whether a run in which memory was refused did nothing, or wrote each reply or that there was no memory for it."""
         status, text, said = got
-        if status == 6 and not text and "memory" in said:
+        if status == 6 and said != EXHAUSTED:
+            return False
+        if status == 6 and not text:
             return True
         refused = False
         for reply in replies:
