@@ -107,9 +107,9 @@ fn form_of(bound: &Bound) -> Form
 
 impl<'g> RowTable<'g> {
     /// A table without rows, for the rows of a query over a graph, of which at most `limit` are kept,
-    /// and no more than take `room` bytes: a row for which there is no room is refused as by want of
-    /// memory. What vectors have to spare is not counted. It takes no memory: columns, keys and
-    /// conjuncts are made ready once, at the first push.
+    /// and no more than take `room` bytes: a row for which there is no room is refused by the
+    /// limit of what is kept. What vectors have to spare is not counted. It takes no memory: columns,
+    /// keys and conjuncts are made ready once, at the first push.
     pub fn new(
         alloc: Global,
         bound: &'g Bound,
