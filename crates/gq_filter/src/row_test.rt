@@ -2,10 +2,9 @@
 //! can decide them, and else by evaluating them.
 ghost use Rattle.std.specs.Prelude.{◌≡◌, ◌≤◌, ◌<◌, ◌-◌, ◌&&◌, ℕ, IfOk, IsTrue, false, length};
 ghost use Rattle.gq_bits.specs.Places.{is_marked};
-ghost use Rattle.gq_filter.specs.Evaluated.{is_true};
 ghost use Rattle.gq_filter.specs.RowTests.{condition_over, conditions_of, is_true_of, ReadsRows};
 ghost use Rattle.gq_filter.specs.Rows.{count_in, row_in, with_row};
-ghost use Rattle.gq_filter.specs.steps.Evaluating.{Evaluates};
+ghost use Rattle.gq_filter.specs.steps.Evaluating.{Evaluates, is_true};
 ghost use Rattle.gq_filter.specs.steps.RowCells.{AreFeedsIn, AreOfNodes, DecidesRows};
 ghost use Rattle.gq_filter.specs.steps.SpanLanes.{AreSpanned, IsSpanned};
 ghost use Rattle.gq_plan.specs.Soundness.{IsSound};
