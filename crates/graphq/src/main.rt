@@ -22,11 +22,18 @@ fn failure(status: Status) -> Option<&'static str> {
     }
 }
 
+// Ends with a status, and says what failed.
+fn end(rt: &HostRuntime, status: Status) -> ExitCode {
+    if let Some(failure) = failure(status) {
+        let _ = eprintln!(rt; "graphq: {failure}");
+    }
+    ExitCode::from(status.code())
+}
+
 // Says why the words cannot be read: there was not enough memory for them, or they are no text.
 fn end_without_words(rt: &HostRuntime, kind: io::ErrorKind) -> ExitCode {
     if kind == io::ErrorKind::OutOfMemory {
-        let _ = eprintln!(rt; "graphq: there was not enough memory");
-        return ExitCode::from(Status::Memory(Memory::Exhausted).code());
+        return end(rt, Status::Memory(Memory::Exhausted));
     }
     let _ = eprintln!(rt; "graphq: the words are no text");
     ExitCode::from(Status::Usage.code())
@@ -45,8 +52,5 @@ fn main(rt: HostRuntime) -> ExitCode {
     let mut input = RealSource::new(rt.reader());
     let mut out = RealSink::new(io::writer(&rt));
     let status = run(alloc, words.as_slice(), &mut files, &mut input, &mut out);
-    if let Some(failure) = failure(status) {
-        let _ = eprintln!(rt; "graphq: {failure}");
-    }
-    ExitCode::from(status.code())
+    end(&rt, status)
 }
