@@ -219,13 +219,11 @@ fn put_evaluated<'g, R: Assigned>(
     ensures more { OnOk result (Extends cells.old.sources cells.new.sources) }
 {
     match column.value(row) {
-        Ok(value) => match put_value(cells, value) {
-            Ok(()) => {
-                *made = made.saturating_add(1);
-                Ok(())
-            }
-            Err(memory) => Err(RowRefusal::Memory(memory)),
-        },
+        Ok(value) => {
+            put_value(cells, value)?;
+            *made = made.saturating_add(1);
+            Ok(())
+        }
         Err(fault) => Err(RowRefusal::Fault(fault)),
     }
 }
@@ -256,14 +254,8 @@ pub(crate) fn put_column<'g, R: Assigned>(
     ensures more { OnOk result (Extends cells.old.sources cells.new.sources) }
 {
     match found_of(finder, row) {
-        Found::Number(number) => match cells.put(finder.source, number) {
-            Ok(()) => Ok(()),
-            Err(memory) => Err(RowRefusal::Memory(memory)),
-        },
-        Found::Null => match cells.put(finder.null, 0) {
-            Ok(()) => Ok(()),
-            Err(memory) => Err(RowRefusal::Memory(memory)),
-        },
+        Found::Number(number) => Ok(cells.put(finder.source, number)?),
+        Found::Null => Ok(cells.put(finder.null, 0)?),
         Found::Other => put_evaluated(cells, made, column, row),
     }
 }

@@ -24,7 +24,6 @@ use crate::listed::{Asked, Listed, find_columns, is_listing};
 use crate::reading::Reading;
 use crate::refusal::{More, RowRefusal};
 use crate::room::row_bytes;
-use gq_base::Memory;
 use gq_cells::Cells;
 use gq_classes::Classes;
 use gq_expr::{Assigned, Fault};
@@ -210,10 +209,7 @@ impl<'g> RowTable<'g> {
             unreachable!()
         };
         let mut choice = mem::replace(&mut self.choice, Choice::new(self.alloc));
-        let Ok(found) = choice.first(chunk.groups) else {
-            return Err(RowRefusal::Memory(Memory::Exhausted));
-        };
-        if !found {
+        if !choice.first(chunk.groups)? {
             self.choice = choice;
             return Ok(More::Go);
         }
@@ -284,9 +280,7 @@ impl<'g> RowTable<'g> {
             return self.push_listed(choice, chunk, typed, graph, admits);
         }
         let mut reading = mem::replace(&mut self.reading, Reading::new(self.alloc));
-        let Ok(()) = reading.prepare(self.alloc, self.bound, graph) else {
-            return Err(RowRefusal::Memory(Memory::Exhausted));
-        };
+        reading.prepare(self.alloc, self.bound, graph)?;
         match self.push_choices(choice, chunk, &reading, typed, graph, admits) {
             Ok(more) => {
                 self.reading = reading;
@@ -319,20 +313,14 @@ impl<'g> RowTable<'g> {
         ensures query { IsSameQuery self.old self.new }
         ensures pushed { self.new.pushed ≡ self.old.pushed }
     {
-        let Ok(()) = self.reading.prepare(self.alloc, self.bound, graph) else {
-            return Err(RowRefusal::Memory(Memory::Exhausted));
-        };
+        self.reading.prepare(self.alloc, self.bound, graph)?;
         let done = self.done;
         self.done = false;
         let cells = &mut self.listed.cells;
-        let Ok(()) = find_columns(done, cells, &mut self.finders, self.bound, typed, graph) else {
-            return Err(RowRefusal::Memory(Memory::Exhausted));
-        };
+        find_columns(done, cells, &mut self.finders, self.bound, typed, graph)?;
         let held = &mut self.held;
         let finders = self.finders.as_slice();
-        let Ok(()) = hold_columns(held, finders, graph, typed, chunk, choice.positions()) else {
-            return Err(RowRefusal::Memory(Memory::Exhausted));
-        };
+        hold_columns(held, finders, graph, typed, chunk, choice.positions())?;
         let held = self.held.as_slice();
         let asked = Asked {
             graph,
@@ -372,15 +360,11 @@ impl<'g> RowTable<'g> {
         ensures query { IsSameQuery self.old self.new }
         ensures pushed { self.new.pushed ≡ self.old.pushed }
     {
-        let Ok(()) = self.reading.prepare(self.alloc, self.bound, graph) else {
-            return Err(RowRefusal::Memory(Memory::Exhausted));
-        };
+        self.reading.prepare(self.alloc, self.bound, graph)?;
         let done = self.done;
         self.done = false;
         let cells = &mut self.listed.cells;
-        let Ok(()) = find_columns(done, cells, &mut self.finders, self.bound, typed, graph) else {
-            return Err(RowRefusal::Memory(Memory::Exhausted));
-        };
+        find_columns(done, cells, &mut self.finders, self.bound, typed, graph)?;
         let asked = Asked {
             graph,
             bound: self.bound,
@@ -417,9 +401,7 @@ impl<'g> RowTable<'g> {
         ensures pushed { OnOk result (self.new.pushed ≡ self.old.pushed) }
     {
         let mut reading = mem::replace(&mut self.reading, Reading::new(self.alloc));
-        let Ok(()) = reading.prepare(self.alloc, self.bound, graph) else {
-            return Err(RowRefusal::Memory(Memory::Exhausted));
-        };
+        reading.prepare(self.alloc, self.bound, graph)?;
         match self.push(row, &reading, &[], graph) {
             Ok(more) => {
                 self.reading = reading;

@@ -15,13 +15,13 @@ pub find_columns-requires : goal.find_columns-requires
 find_columns-requires g c = subst (λ x. c.self.inside.done ≡ true → IsDone x c.self.inside) (inside_graph c.self.inside c.args.self.now c.args.graph.now c.self.view_is c.requires.graph) c.self.invariant.done
 
 pub push-requires-clause-stands : goal.push-requires-clause-stands
-push-requires-clause-stands g c = stands_listed c.self.inside c.args.self.now c.self.view_is (inside_listing c.self.inside c.args.self.now c.self.view_is c.requires.listing) (record c.self.inside.listed { cells = c.find_columns.new.cells }) (ap (λ vs. record { columns = vs; keys = []; count = c.self.inside.listed.count; classes = []; bar = None }) c.in-Ok-find_columns.ensures.values) c.requires.stands
+push-requires-clause-stands g c = stands_listed c.self.inside c.args.self.now c.self.view_is (inside_listing c.self.inside c.args.self.now c.self.view_is c.requires.listing) (record c.self.inside.listed { cells = c.find_columns.new.cells }) (ap (λ vs. record { columns = vs; keys = []; count = c.self.inside.listed.count; classes = []; bar = None }) c.in_ok-find_columns.ensures.values) c.requires.stands
 
 pub push-requires-clause-room : goal.push-requires-clause-room
-push-requires-clause-room g c = room_listed c.self.inside c.args.self.now c.self.view_is (inside_listing c.self.inside c.args.self.now c.self.view_is c.requires.listing) (record c.self.inside.listed { cells = c.find_columns.new.cells }) (ap (λ vs. record { columns = vs; keys = []; count = c.self.inside.listed.count; classes = []; bar = None }) c.in-Ok-find_columns.ensures.values) c.requires.room
+push-requires-clause-room g c = room_listed c.self.inside c.args.self.now c.self.view_is (inside_listing c.self.inside c.args.self.now c.self.view_is c.requires.listing) (record c.self.inside.listed { cells = c.find_columns.new.cells }) (ap (λ vs. record { columns = vs; keys = []; count = c.self.inside.listed.count; classes = []; bar = None }) c.in_ok-find_columns.ensures.values) c.requires.room
 
-pub invariant_of-self-in-Ok-push : goal.invariant_of-self-in-Ok-push
-invariant_of-self-in-Ok-push g c =
+pub invariant_of-self-in-Ok : goal.invariant_of-self-in-Ok
+invariant_of-self-in-Ok g c =
     let t = c.self.inside in
     let new = record t { listed = c.push.new.self; done = true; finders = c.find_columns.new.finders; reading = c.prepare.new.self } in
     let has = inside_graph t c.args.self.now c.args.graph.now c.self.view_is c.requires.graph in
@@ -32,7 +32,7 @@ invariant_of-self-in-Ok-push g c =
       ready = subst (λ x. IsReadyFor x t.bound.now c.prepare.new.self) (sym has) c.prepare.ensures.ready;
       done = λ e.
           subst (λ x. IsDone x new) (sym has)
-          (stay c.find_columns.new.cells.sources c.push.new.self.cells.sources c.in-Ok-push.ensures.more (asked_of c.args.graph.now t.bound.now.columns) c.find_columns.new.finders.items c.in-Ok-find_columns.ensures.finds.0, c.in-Ok-find_columns.ensures.finds.1);
+          (stay c.find_columns.new.cells.sources c.push.new.self.cells.sources c.in-Ok.ensures.more (asked_of c.args.graph.now t.bound.now.columns) c.find_columns.new.finders.items c.in_ok-find_columns.ensures.finds.0, c.in_ok-find_columns.ensures.finds.1);
     }
 
 pub returns-in-Err-clause-pushes : goal.returns-in-Err-clause-pushes
@@ -40,11 +40,11 @@ returns-in-Err-clause-pushes g c =
     let t = c.self.inside in
     let new = record t { listed = c.push.new.self; done = false; finders = c.find_columns.new.finders; reading = c.prepare.new.self } in
     subst (λ (b : Bound). Pushes (outcome_numbered c.args.graph.now b [] (g.R.Assigned.assignment c.args.row.now)) c.args.self.now (table_of new) (Err c.in-Err.refusal)) (ap (λ (x : Table). x.bound) c.self.view_is)
-    (pushed_listed t c.args.self.now c.self.view_is (inside_listing t c.args.self.now c.self.view_is c.requires.listing) _ (Err c.in-Err.refusal) c.args.graph.now (record t.listed { cells = c.find_columns.new.cells }) c.push.new.self false c.find_columns.new.finders (ap (λ vs. record { columns = vs; keys = []; count = t.listed.count; classes = []; bar = None }) c.in-Ok-find_columns.ensures.values) c.in-Err.ensures.pushes)
+    (pushed_listed t c.args.self.now c.self.view_is (inside_listing t c.args.self.now c.self.view_is c.requires.listing) _ (Err c.in-Err.refusal) c.args.graph.now (record t.listed { cells = c.find_columns.new.cells }) c.push.new.self false c.find_columns.new.finders (ap (λ vs. record { columns = vs; keys = []; count = t.listed.count; classes = []; bar = None }) c.in_ok-find_columns.ensures.values) c.in-Err.ensures.pushes)
 
-pub returns-in-Ok-push-clause-pushes : goal.returns-in-Ok-push-clause-pushes
-returns-in-Ok-push-clause-pushes g c =
+pub returns-in-Ok-clause-pushes : goal.returns-in-Ok-clause-pushes
+returns-in-Ok-clause-pushes g c =
     let t = c.self.inside in
     let new = record t { listed = c.push.new.self; done = true; finders = c.find_columns.new.finders; reading = c.prepare.new.self } in
-    subst (λ (b : Bound). Pushes (outcome_numbered c.args.graph.now b [] (g.R.Assigned.assignment c.args.row.now)) c.args.self.now (table_of new) (Ok c.in-Ok-push.more)) (ap (λ (x : Table). x.bound) c.self.view_is)
-    (pushed_listed t c.args.self.now c.self.view_is (inside_listing t c.args.self.now c.self.view_is c.requires.listing) _ (Ok c.in-Ok-push.more) c.args.graph.now (record t.listed { cells = c.find_columns.new.cells }) c.push.new.self true c.find_columns.new.finders (ap (λ vs. record { columns = vs; keys = []; count = t.listed.count; classes = []; bar = None }) c.in-Ok-find_columns.ensures.values) c.in-Ok-push.ensures.pushes)
+    subst (λ (b : Bound). Pushes (outcome_numbered c.args.graph.now b [] (g.R.Assigned.assignment c.args.row.now)) c.args.self.now (table_of new) (Ok c.in-Ok.more)) (ap (λ (x : Table). x.bound) c.self.view_is)
+    (pushed_listed t c.args.self.now c.self.view_is (inside_listing t c.args.self.now c.self.view_is c.requires.listing) _ (Ok c.in-Ok.more) c.args.graph.now (record t.listed { cells = c.find_columns.new.cells }) c.push.new.self true c.find_columns.new.finders (ap (λ vs. record { columns = vs; keys = []; count = t.listed.count; classes = []; bar = None }) c.in_ok-find_columns.ensures.values) c.in-Ok.ensures.pushes)

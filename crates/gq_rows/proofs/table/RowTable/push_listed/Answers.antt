@@ -21,13 +21,13 @@ pub push_choices-requires-clause-listing : goal.push_choices-requires-clause-lis
 push_choices-requires-clause-listing t c = listing_is c.self.inside c.args.self.now c.self.view_is (inside_listing c.self.inside c.args.self.now c.self.view_is c.requires.listing) _ refl refl refl c.self.invariant.form c.self.invariant.small
 
 pub push_choices-requires-clause-stands : goal.push_choices-requires-clause-stands
-push_choices-requires-clause-stands t c = stands_listed c.self.inside c.args.self.now c.self.view_is (inside_listing c.self.inside c.args.self.now c.self.view_is c.requires.listing) (record c.self.inside.listed { cells = c.find_columns.new.cells }) (ap (λ vs. record { columns = vs; keys = []; count = c.self.inside.listed.count; classes = []; bar = None }) c.in-Ok-find_columns.ensures.values) c.requires.stands
+push_choices-requires-clause-stands t c = stands_listed c.self.inside c.args.self.now c.self.view_is (inside_listing c.self.inside c.args.self.now c.self.view_is c.requires.listing) (record c.self.inside.listed { cells = c.find_columns.new.cells }) (ap (λ vs. record { columns = vs; keys = []; count = c.self.inside.listed.count; classes = []; bar = None }) c.in_ok-find_columns.ensures.values) c.requires.stands
 
 pub push_choices-requires-clause-room : goal.push_choices-requires-clause-room
-push_choices-requires-clause-room t c = room_listed c.self.inside c.args.self.now c.self.view_is (inside_listing c.self.inside c.args.self.now c.self.view_is c.requires.listing) (record c.self.inside.listed { cells = c.find_columns.new.cells }) (ap (λ vs. record { columns = vs; keys = []; count = c.self.inside.listed.count; classes = []; bar = None }) c.in-Ok-find_columns.ensures.values) c.requires.room
+push_choices-requires-clause-room t c = room_listed c.self.inside c.args.self.now c.self.view_is (inside_listing c.self.inside c.args.self.now c.self.view_is c.requires.listing) (record c.self.inside.listed { cells = c.find_columns.new.cells }) (ap (λ vs. record { columns = vs; keys = []; count = c.self.inside.listed.count; classes = []; bar = None }) c.in_ok-find_columns.ensures.values) c.requires.room
 
-pub invariant_of-self-in-Ok-push_choices : goal.invariant_of-self-in-Ok-push_choices
-invariant_of-self-in-Ok-push_choices t c =
+pub invariant_of-self-in-Ok : goal.invariant_of-self-in-Ok
+invariant_of-self-in-Ok t c =
     let t = c.self.inside in
     let new = record t { listed = c.push_choices.new.self; done = true; finders = c.find_columns.new.finders; held = c.hold_columns.new.held; reading = c.prepare.new.self } in
     let has = inside_graph t c.args.self.now c.args.graph.now c.self.view_is c.requires.graph in
@@ -38,7 +38,7 @@ invariant_of-self-in-Ok-push_choices t c =
       ready = subst (λ x. IsReadyFor x t.bound.now c.prepare.new.self) (sym has) c.prepare.ensures.ready;
       done = λ e.
           subst (λ x. IsDone x new) (sym has)
-          (stay c.find_columns.new.cells.sources c.push_choices.new.self.cells.sources c.in-Ok-push_choices.ensures.more (asked_of c.args.graph.now t.bound.now.columns) c.find_columns.new.finders.items c.in-Ok-find_columns.ensures.finds.0, c.in-Ok-find_columns.ensures.finds.1);
+          (stay c.find_columns.new.cells.sources c.push_choices.new.self.cells.sources c.in-Ok.ensures.more (asked_of c.args.graph.now t.bound.now.columns) c.find_columns.new.finders.items c.in_ok-find_columns.ensures.finds.0, c.in_ok-find_columns.ensures.finds.1);
     }
 
 pub returns-in-Err-clause-pushes : goal.returns-in-Err-clause-pushes
@@ -46,21 +46,21 @@ returns-in-Err-clause-pushes t c =
     let t' = c.self.inside in
     let new = record t' { listed = c.push_choices.new.self; done = false; finders = c.find_columns.new.finders } in
     subst (λ (b : Bound). PushesAll (admitted_outcomes (t.A.Admits.admitted c.args.admits.now) c.args.graph.now b (Some c.args.typed.now) c.args.chunk.now) c.args.self.now (table_of new) (Err c.in-Err.refusal)) (ap (λ (x : Table). x.bound) c.self.view_is)
-    (pushed_chunk t' c.args.self.now c.self.view_is (inside_listing t' c.args.self.now c.self.view_is c.requires.listing) _ (Err c.in-Err.refusal) c.args.graph.now (record t'.listed { cells = c.find_columns.new.cells }) c.push_choices.new.self false c.find_columns.new.finders (ap (λ vs. record { columns = vs; keys = []; count = t'.listed.count; classes = []; bar = None }) c.in-Ok-find_columns.ensures.values) c.in-Err.ensures.pushes)
+    (pushed_chunk t' c.args.self.now c.self.view_is (inside_listing t' c.args.self.now c.self.view_is c.requires.listing) _ (Err c.in-Err.refusal) c.args.graph.now (record t'.listed { cells = c.find_columns.new.cells }) c.push_choices.new.self false c.find_columns.new.finders (ap (λ vs. record { columns = vs; keys = []; count = t'.listed.count; classes = []; bar = None }) c.in_ok-find_columns.ensures.values) c.in-Err.ensures.pushes)
 
-pub returns-in-Ok-push_choices-clause-pushes : goal.returns-in-Ok-push_choices-clause-pushes
-returns-in-Ok-push_choices-clause-pushes t c =
+pub returns-in-Ok-clause-pushes : goal.returns-in-Ok-clause-pushes
+returns-in-Ok-clause-pushes t c =
     let t' = c.self.inside in
     let new = record t' { listed = c.push_choices.new.self; done = true; finders = c.find_columns.new.finders } in
-    subst (λ (b : Bound). PushesAll (admitted_outcomes (t.A.Admits.admitted c.args.admits.now) c.args.graph.now b (Some c.args.typed.now) c.args.chunk.now) c.args.self.now (table_of new) (Ok c.in-Ok-push_choices.more)) (ap (λ (x : Table). x.bound) c.self.view_is)
-    (pushed_chunk t' c.args.self.now c.self.view_is (inside_listing t' c.args.self.now c.self.view_is c.requires.listing) _ (Ok c.in-Ok-push_choices.more) c.args.graph.now (record t'.listed { cells = c.find_columns.new.cells }) c.push_choices.new.self true c.find_columns.new.finders (ap (λ vs. record { columns = vs; keys = []; count = t'.listed.count; classes = []; bar = None }) c.in-Ok-find_columns.ensures.values) c.in-Ok-push_choices.ensures.pushes)
+    subst (λ (b : Bound). PushesAll (admitted_outcomes (t.A.Admits.admitted c.args.admits.now) c.args.graph.now b (Some c.args.typed.now) c.args.chunk.now) c.args.self.now (table_of new) (Ok c.in-Ok.more)) (ap (λ (x : Table). x.bound) c.self.view_is)
+    (pushed_chunk t' c.args.self.now c.self.view_is (inside_listing t' c.args.self.now c.self.view_is c.requires.listing) _ (Ok c.in-Ok.more) c.args.graph.now (record t'.listed { cells = c.find_columns.new.cells }) c.push_choices.new.self true c.find_columns.new.finders (ap (λ vs. record { columns = vs; keys = []; count = t'.listed.count; classes = []; bar = None }) c.in_ok-find_columns.ensures.values) c.in-Ok.ensures.pushes)
 
 pub push_choices-requires-clause-finders : goal.push_choices-requires-clause-finders
 push_choices-requires-clause-finders t c =
     let ss = c.find_columns.new.cells.sources in
     let asks = asked_of c.args.graph.now c.self.inside.bound.now.columns in
     subst (AreFinders ss asks) (sym c.as_slice-held.ensures.value)
-    (c.in-Ok-hold_columns.ensures.finders ss asks (subst (AreFinders ss asks) (sym c.as_slice-finders.ensures.value) c.in-Ok-find_columns.ensures.finds.0))
+    (c.in_ok-hold_columns.ensures.finders ss asks (subst (AreFinders ss asks) (sym c.as_slice-finders.ensures.value) c.in_ok-find_columns.ensures.finds.0))
 
 pub push_choices-requires-clause-held : goal.push_choices-requires-clause-held
-push_choices-requires-clause-held t c = subst (AreHeldIn c.args.graph.now c.args.typed.now c.args.chunk.now) (sym c.as_slice-held.ensures.value) c.in-Ok-hold_columns.ensures.held
+push_choices-requires-clause-held t c = subst (AreHeldIn c.args.graph.now c.args.typed.now c.args.chunk.now) (sym c.as_slice-held.ensures.value) c.in_ok-hold_columns.ensures.held
