@@ -208,21 +208,20 @@ fn run(
         return Err(JoinRefusal::Memory(Memory::Limit));
     }
     let mut side = gathering.room;
-    let Ok(builds) = make_builds(alloc, graph, plan, typed, pool, gathering.limit, &mut side) else {
-        return Err(JoinRefusal::Memory(Memory::Exhausted));
+    let builds = match make_builds(alloc, graph, plan, typed, pool, gathering.limit, &mut side) {
+        Ok(builds) => builds,
+        Err(JoinRefusal::Memory(memory)) => return Err(JoinRefusal::Memory(memory)),
+        // A plan without joins has no side plan that could make too many assignments.
+        Err(JoinRefusal::TooManyRows { .. }) => return Err(JoinRefusal::Memory(Memory::Limit)),
     };
-    let Ok(mut pipeline) = Pipeline::start(alloc, graph, &builds, plan, typed, pool) else {
-        return Err(JoinRefusal::Memory(Memory::Exhausted));
-    };
+    let mut pipeline = Pipeline::start(alloc, graph, &builds, plan, typed, pool)?;
     let filled = fill(gathering, alloc, typed, &mut pipeline, pool);
     let own = pipeline.finish(pool);
     match filled {
         Ok(()) => {}
         Err(refusal) => return Err(refusal),
     }
-    let Ok(()) = spent.push(own) else {
-        return Err(JoinRefusal::Memory(Memory::Exhausted));
-    };
+    spent.push(own)?;
     Ok(())
 }
 

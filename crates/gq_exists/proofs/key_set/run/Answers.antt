@@ -20,25 +20,25 @@ start-requires-clause-room c =
 pub fill-filled-requires-clause-complete : goal.fill-filled-requires-clause-complete
 fill-filled-requires-clause-complete c =
     let y = c.args.typed.now in
-    ap (λ (s : Source). binds_all y (plan_in s)) c.in-Ok-start.ensures.source ∙ ap (binds_all y) (sym (plan_is c.args.plan.now)) ∙ covers_bind_all c.args.graph.now.catalog y (plan_of c.args.plan.now) c.requires.covers
+    ap (λ (s : Source). binds_all y (plan_in s)) c.in_ok-pipeline.ensures.source ∙ ap (binds_all y) (sym (plan_is c.args.plan.now)) ∙ covers_bind_all c.args.graph.now.catalog y (plan_of c.args.plan.now) c.requires.covers
 
 pub returns-in-Err-clause-gathers : goal.returns-in-Err-clause-gathers
 returns-in-Err-clause-gathers c =
     let y = c.args.typed.now in
     let w = c.args.gathering.now.width in
-    alike (owed_keys y w c.in-Ok-start.pipeline) (made_keys c.args.graph.now y w c.args.plan.now) c.args.gathering.now c.fill-filled.new.gathering (Err c.in-Err.refusal)
-    (bag_same w (map (whole y) c.in-Ok-start.pipeline.owed) (meaning c.args.graph.now y (plan_of c.args.plan.now)) c.in-Ok-start.ensures.meaning) c.in-Err.ensures.gathers
+    alike (owed_keys y w c.in_ok-pipeline.pipeline) (made_keys c.args.graph.now y w c.args.plan.now) c.args.gathering.now c.fill-filled.new.gathering (Err c.in-Err.refusal)
+    (bag_same w (map (whole y) c.in_ok-pipeline.pipeline.owed) (meaning c.args.graph.now y (plan_of c.args.plan.now)) c.in_ok-pipeline.ensures.meaning) c.in-Err.ensures.gathers
 
 pub returns-clause-gathers : goal.returns-clause-gathers
 returns-clause-gathers c =
     let y = c.args.typed.now in
     let w = c.args.gathering.now.width in
-    alike (owed_keys y w c.in-Ok-start.pipeline) (made_keys c.args.graph.now y w c.args.plan.now) c.args.gathering.now c.fill-filled.new.gathering (Ok tt)
-    (bag_same w (map (whole y) c.in-Ok-start.pipeline.owed) (meaning c.args.graph.now y (plan_of c.args.plan.now)) c.in-Ok-start.ensures.meaning) c.in-Ok-filled.ensures.gathers
+    alike (owed_keys y w c.in_ok-pipeline.pipeline) (made_keys c.args.graph.now y w c.args.plan.now) c.args.gathering.now c.fill-filled.new.gathering (Ok tt)
+    (bag_same w (map (whole y) c.in_ok-pipeline.pipeline.owed) (meaning c.args.graph.now y (plan_of c.args.plan.now)) c.in_ok-pipeline.ensures.meaning) c.in-Ok-filled.ensures.gathers
 
 pub returns-clause-spent : goal.returns-clause-spent
 returns-clause-spent c =
     let y = c.args.typed.now in
-    let start = c.in-Ok-start.ensures in
-    one_spent c.args.graph.now y (plan_of c.args.plan.now) c.in-Ok-start.pipeline c.fill-filled.new.pipeline c.finish-own.result start.meaning start.keys start.columns c.fill-filled.ensures.columns
-    c.finish-own.ensures.chunks c.finish-own.ensures.columns c.args.gathering.now.width c.in-Ok-filled.ensures.ran c.args.spent.now c.push.new.self c.in-Ok-push.ensures.pushed
+    let start = c.in_ok-pipeline.ensures in
+    one_spent c.args.graph.now y (plan_of c.args.plan.now) c.in_ok-pipeline.pipeline c.fill-filled.new.pipeline c.finish-own.result start.meaning start.keys start.columns c.fill-filled.ensures.columns
+    c.finish-own.ensures.chunks c.finish-own.ensures.columns c.args.gathering.now.width c.in-Ok-filled.ensures.ran c.args.spent.now c.push.new.self c.in_ok-push.ensures.pushed
