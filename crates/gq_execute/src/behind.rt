@@ -161,9 +161,7 @@ fn push_rows<'g>(
     ensures query { OnOk result (IsSameQuery table.old table.new) }
     ensures behind { IsBehind graph.now table.old.bound typed.now prepared.now behind.new }
 {
-    let Ok(mut found) = choice.first(chunk.groups) else {
-        return Err(RowRefusal::Memory(Memory::Exhausted));
-    };
+    let mut found = choice.first(chunk.groups)?;
     'choices: while found {
         let row = ChunkRow::new(graph, typed, chunk, choice.positions());
         match push_row(table, &row, behind, prepared, typed, graph) {

@@ -157,9 +157,7 @@ fn push_walked<'g, 'w>(
     ensures query { OnOk result (IsSameQuery table.old table.new) }
     ensures walking { IsWalking graph.now table.old.bound typed.now walking.new }
 {
-    let Ok(mut found) = choice.first(chunk.groups) else {
-        return Err(RowRefusal::Memory(Memory::Exhausted));
-    };
+    let mut found = choice.first(chunk.groups)?;
     'choices: while found {
         let row = ChunkRow::new(graph, typed, chunk, choice.positions());
         match push_continued(table, &row, walking, prepared, typed, graph) {

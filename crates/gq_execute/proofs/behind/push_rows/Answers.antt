@@ -21,8 +21,8 @@ choices-init c =
       same = same_table t;
       room = c.requires.room;
       some = c.requires.stands;
-      stands = first_chosen gs c.in-Ok.found c.first.new.self c.in-Ok.ensures;
-      came = subst (λ l. Taken (out (choices gs)) (out l) t t) (first_left gs c.in-Ok.found c.first.new.self c.in-Ok.ensures) (taken_none (out (choices gs)) t);
+      stands = first_chosen gs c.in_ok-found.found c.first.new.self c.in_ok-found.ensures;
+      came = subst (λ l. Taken (out (choices gs)) (out l) t t) (first_left gs c.in_ok-found.found c.first.new.self c.in_ok-found.ensures) (taken_none (out (choices gs)) t);
     }
 
 pub push_row-requires-clause-nodes : goal.push_row-requires-clause-nodes

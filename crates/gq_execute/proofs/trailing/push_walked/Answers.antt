@@ -22,13 +22,13 @@ choices-init c =
     let y = c.args.typed.now in
     let gs = c.args.chunk.now.groups.now in
     let out = outs (given_on (if_admitted (admitted_by c.args.prepared.now.tests.all) g)) g t.bound y c.args.chunk.now in
-    let left = first_left gs c.in-Ok.found c.first.new.self c.in-Ok.ensures in
+    let left = first_left gs c.in_ok-found.found c.first.new.self c.in_ok-found.ensures in
     record {
       walking = c.requires.walking;
       same = same_table t;
       room = c.requires.room;
       some = c.requires.stands;
-      stands = first_chosen gs c.in-Ok.found c.first.new.self c.in-Ok.ensures;
+      stands = first_chosen gs c.in_ok-found.found c.first.new.self c.in_ok-found.ensures;
       made =
           subst (AllByRecursion (λ ps. IsMade g y (assigned y (assignment_at g y c.args.chunk.now ps)))) left
           (each_made_of (IsMade g y) (assigned y) (assignment_at g y c.args.chunk.now) (choices gs) c.requires.made);
