@@ -7,6 +7,7 @@ use Rattle.std.proofs.lemmas.Slice.Zip.{AllZip-long}
 use Rattle.std.specs.Prelude.{◌<◌, ◌≤◌, All, ◌++◌, codes, decimal, IfOk, Result}
 use Rattle.gq_base.specs.Catalogs.{Tables}
 use Rattle.gq_base.specs.declared.literal.Literal.{Literal}
+use Rattle.gq_base.specs.declared.memory.Memory.{Memory}
 use Rattle.gq_binder.specs.Binding.{Answers, IsBound}
 use Rattle.gq_binder.specs.Refusals.{first_refusal}
 use Rattle.gq_binder.specs.Tested.{IsTested, ScopedTest, tests}
@@ -35,9 +36,9 @@ use Rattle.gq_render.specs.Texts.{line, refusal_line}
 use Rattle.gq_reply.specs.BindLines.{bind_line}
 use Rattle.gq_reply.specs.steps.BindLines.{bind_tone}
 use Rattle.gq_reply.specs.Bindings.{bind_refusal}
-use Rattle.gq_reply.specs.Replies.{AreBehind, Context, IsAsked, IsBlank, IsRefused, IsReply, IsStopped, IsText, IsTurn, RepliesWith, asked_by, params_behind, question, refusal_text}
+use Rattle.gq_reply.specs.Replies.{AreBehind, Context, IsAsked, IsBlank, IsRefused, IsReply, IsStopped, IsText, IsTurn, RepliesWith, asked_by, memory_line, params_behind, question, refusal_text}
 use Rattle.gq_reply.specs.ReplyTexts.{columns_each, fault_text, many_text, rows_text, spent_text}
-use Rattle.gq_reply.specs.steps.Steps.{MayAsk, MaySet, MayShow, Replied, answer_text, behind_set, toned}
+use Rattle.gq_reply.specs.steps.Steps.{MayAsk, MaySet, MayShow, Replied, WantsMemory, answer_text, behind_set, toned}
 use Rattle.gq_session.specs.Replies.{Answered}
 use Rattle.gq_session.specs.Sessions.{Span}
 use Rattle.gq_session.specs.declared.answering.Tone.{Tone}
@@ -68,6 +69,10 @@ pub replied_as : (May Might : Tone → List ℕ → Type 0) → ((t : Tone) (tex
     → Replied May out result → Replied Might out result
 replied_as May Might go out (Ok t) r = let (text, may, moved) = r.bytes in record { bytes = (text, go t text may, moved); cause = r.cause }
 replied_as May Might go out (Err failed) r = let (t, text, may, moved) = r.bytes in record { bytes = (t, text, go t text may, moved); cause = r.cause }
+
+-- want of memory replies to each statement
+pub wants_memory : (May : Tone → List ℕ → Type 0) (why : Memory) → May (tone.Memory why) memory_line → (out : Span) (result : Result Tone Failed) → Replied (WantsMemory why) out result → Replied May out result
+wants_memory May why may = replied_as (WantsMemory why) May (λ t text is. rw (is.0, is.1) may)
 
 -- ---- statements of no tokens
 
@@ -254,6 +259,11 @@ module _ (c : Context) (params : List Param) (statement : List ℕ) where
 pub by_tone : (P : Tone → Type 0) (t : Tone) → P t → (written : Result (Unit {0}) Failed) (result : Result Tone Failed) → result ≡ toned written t → IfOk result P
 by_tone P t is (Ok done) result same = rw same is
 by_tone P t is (Err failed) result same = rw same tt
+
+-- what holds of the tone of want of memory holds of the tone that is answered
+pub by_memory : (P : Tone → Type 0) (why : Memory) → P (tone.Memory why) → (out : Span) (result : Result Tone Failed) → Replied (WantsMemory why) out result → IfOk result P
+by_memory P why is out (Ok t) r = let (text, same, moved) = r.bytes in rw same.0 is
+by_memory P why is out (Err failed) r = tt
 
 -- what holds for each of some holds for one
 pub for_one : {T E X : Type 0} (P : X → T → Type 0) (x : X) (r : Result T E) → IfOk r (λ t. (y : X) → P y t) → IfOk r (P x)

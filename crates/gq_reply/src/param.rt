@@ -5,7 +5,7 @@ ghost use Rattle.gq_reply.specs.steps.Steps.{MaySet, Replied, behind_set};
 ghost use Rattle.gq_session.specs.Sessions.{span_of};
 ghost use Rattle.gq_tokens.specs.Parameters.{are_params};
 
-use crate::tone::toned;
+use crate::tone::{reply_memory, toned};
 use gq_base::{Literal, Memory, Text};
 use gq_io::{Failed, Sink, write_all};
 use gq_render::write_param;
@@ -27,10 +27,7 @@ pub fn reply_to_param<O: Sink>(
     ensures params { are_params params.new ≡ true }
 {
     let Ok(key) = name.clone() else {
-        return toned(
-            write_all(out, b"error: Memory\n"),
-            Tone::Memory(Memory::Exhausted),
-        );
+        return reply_memory(out, Memory::Exhausted);
     };
     match params.set(key, value) {
         Ok(()) => match params.get(name.as_str()) {
@@ -41,9 +38,6 @@ pub fn reply_to_param<O: Sink>(
             write_all(out, b"error: TooManyParameters\n"),
             Tone::Refused,
         ),
-        Err(ParamRefusal::Memory) => toned(
-            write_all(out, b"error: Memory\n"),
-            Tone::Memory(Memory::Exhausted),
-        ),
+        Err(ParamRefusal::Memory) => reply_memory(out, Memory::Exhausted),
     }
 }

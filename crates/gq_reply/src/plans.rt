@@ -11,20 +11,31 @@ ghost use Rattle.gq_reply.specs.Replies.{context_of};
 ghost use Rattle.gq_explain.specs.Plans.{plan_text};
 ghost use Rattle.gq_reply.specs.Arrows.{trail_arrows};
 ghost use Rattle.gq_reply.specs.ReplyTexts.{columns_each, costs_shown};
-ghost use Rattle.gq_reply.specs.steps.Steps.{MayShow, Replied};
+ghost use Rattle.gq_reply.specs.steps.Steps.{AreShown, MayShow, Replied};
 ghost use Rattle.gq_session.specs.Sessions.{span_of};
 
 use crate::arrows::trail_arrows;
 use crate::replier::Replier;
-use crate::tone::toned;
+use crate::tone::{reply_memory, toned};
 use gq_base::{List, Memory};
 use gq_execute::{Order, QueryPlans, plans};
 use gq_explain::{write_costs, write_plan};
-use gq_io::{Failed, Sink, write_all};
+use gq_io::{Failed, Sink};
 use gq_plan::{Bound, Plan, Typed, columns};
 use gq_session::Tone;
 use gq_syntax::Query;
 use std::alloc::Global;
+
+/// What the text of a query's plans is made of.
+#[derive(Drop)]
+struct ShownPlans {
+    /// The plans, and what they cost.
+    made: QueryPlans,
+    /// How many columns the pipeline of each plan fills.
+    columns: List<u32>,
+    /// Of each trail, whether its arrow leads right.
+    arrows: List<bool>,
+}
 
 // How many columns the pipeline of each plan fills.
 fn column_counts(alloc: Global, alternatives: &[Typed], plans: &[Plan]) -> Result<List<u32>, Memory>
@@ -55,26 +66,47 @@ fn write_shown<O: Sink>(
 }
 
 impl Replier<'_> {
-    // Writes the plans of a query, each with this number of columns, its trails, each by whether its
+    // What is shown of a query's plans.
+    fn shown_plans(&self, query: &Query, bound: &Bound) -> Result<ShownPlans, Memory>
+        requires sound { All (IsSound self.now.graph.now.catalog) bound.now.alternatives }
+        requires begins { All (λ y. 0 < length y.nodes) bound.now.alternatives }
+        ensures { IfOk result (AreShown (context_of self.now) query.now bound.now) }
+    {
+        let made = plans(self.alloc, self.graph, bound, self.settings.order)?;
+        let alternatives = bound.alternatives.as_slice();
+        let columns = column_counts(self.alloc, alternatives, made.plans.as_slice())?;
+        let arrows = trail_arrows(self.alloc, query.clauses.as_slice())?;
+        Ok(ShownPlans {
+            made,
+            columns,
+            arrows,
+        })
+    }
+
+    // Writes the plans of a query, each with its number of columns, its trails, each by whether its
     // arrow leads right, and what the plans cost.
     fn write_plans<O: Sink>(
         &self,
         out: &mut O,
         bound: &Bound,
-        made: &QueryPlans,
-        columns: &List<u32>,
-        arrows: &List<bool>,
+        shown: &ShownPlans,
     ) -> Result<(), Failed>
-        requires plans { length made.now.plans ≡ length bound.now.alternatives }
-        requires columns { length columns.now ≡ length bound.now.alternatives }
-        requires arrows { length arrows.now ≡ length bound.now.trails }
+        requires plans { length shown.now.made.plans ≡ length bound.now.alternatives }
+        requires columns { length shown.now.columns ≡ length bound.now.alternatives }
+        requires arrows { length shown.now.arrows ≡ length bound.now.trails }
         ensures bytes { let tables = self.now.graph.now.catalog in
             let order = self.now.settings.order in
+            let made = shown.now.made in
             Writes (O.taken out.old) (O.taken out.new)
-            (plan_text bound.now tables made.now.plans columns.now arrows.now
-            ++ costs_shown order made.now.costs) result }
+            (plan_text bound.now tables made.plans shown.now.columns shown.now.arrows
+            ++ costs_shown order made.costs) result }
         ensures cause { HasCause (O.faults out.old) (O.faults out.new) result }
     {
+        let ShownPlans {
+            made,
+            columns,
+            arrows,
+        } = shown;
         match write_plan(out, self.graph, bound, &made.plans, columns, arrows) {
             Ok(()) => write_shown(out, self.settings.order, &made.costs),
             Err(Failed) => Err(Failed),
@@ -94,28 +126,9 @@ impl Replier<'_> {
         ensures { Replied (MayShow (context_of self.now) query.now bound.now)
             (span_of O.taken O.faults out.old out.new) result }
     {
-        let Ok(made) = plans(self.alloc, self.graph, bound, self.settings.order) else {
-            return toned(
-                write_all(out, b"error: Memory\n"),
-                Tone::Memory(Memory::Exhausted),
-            );
-        };
-        let alternatives = bound.alternatives.as_slice();
-        let Ok(counts) = column_counts(self.alloc, alternatives, made.plans.as_slice()) else {
-            return toned(
-                write_all(out, b"error: Memory\n"),
-                Tone::Memory(Memory::Exhausted),
-            );
-        };
-        let Ok(arrows) = trail_arrows(self.alloc, query.clauses.as_slice()) else {
-            return toned(
-                write_all(out, b"error: Memory\n"),
-                Tone::Memory(Memory::Exhausted),
-            );
-        };
-        toned(
-            self.write_plans(out, bound, &made, &counts, &arrows),
-            Tone::Good,
-        )
+        match self.shown_plans(query, bound) {
+            Ok(shown) => toned(self.write_plans(out, bound, &shown), Tone::Good),
+            Err(memory) => reply_memory(out, memory),
+        }
     }
 }

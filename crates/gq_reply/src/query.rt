@@ -14,10 +14,10 @@ ghost use Rattle.gq_wide.specs.Placed.{IsPlaced};
 
 use crate::replier::{Form, Replier};
 use crate::spent::write_spent;
-use crate::tone::toned;
+use crate::tone::{reply_memory, toned};
 use gq_execute::{Answer, AnswerRefusal, answer};
 use gq_expr::Fault;
-use gq_io::{Failed, Sink, write_all};
+use gq_io::{Failed, Sink};
 use gq_plan::Bound;
 use gq_pool::VectorPool;
 use gq_render::{Place, write_ends, write_listing, write_refusal};
@@ -127,9 +127,7 @@ impl Replier<'_> {
             Err(AnswerRefusal::TooManyRows { .. }) => {
                 toned(write_many(out, self.settings.rows), Tone::Refused)
             }
-            Err(AnswerRefusal::Memory(memory)) => {
-                toned(write_all(out, b"error: Memory\n"), Tone::Memory(memory))
-            }
+            Err(AnswerRefusal::Memory(memory)) => reply_memory(out, memory),
         }
     }
 }

@@ -19,11 +19,11 @@ use crate::bind_line::{named, tone_of, write_bind_refusal};
 use crate::blank::{is_blank, is_white};
 use crate::param::reply_to_param;
 use crate::replier::{Replier, Workspace};
-use crate::tone::toned;
+use crate::tone::{reply_memory, toned};
 use gq_base::Memory;
 use gq_binder::bind;
 use gq_explain::write_schema;
-use gq_io::{Failed, Sink, write_all};
+use gq_io::{Failed, Sink};
 use gq_pool::VectorPool;
 use gq_render::{Place, write_refusal};
 use gq_session::Tone;
@@ -129,7 +129,7 @@ impl Replier<'_> {
         match is_blank(self.alloc, statement, at) {
             Ok(true) => Ok(Tone::Good),
             Ok(false) => toned(write_at(out, "error: Syntax at byte ", at), Tone::Refused),
-            Err(memory) => toned(write_all(out, b"error: Memory\n"), Tone::Memory(memory)),
+            Err(memory) => reply_memory(out, memory),
         }
     }
 
@@ -166,10 +166,7 @@ impl Replier<'_> {
             Err(SyntaxRefusal::UnknownParameter { name }) => {
                 toned(named(out, "error: UnknownParameter ", &name), Tone::Refused)
             }
-            Err(SyntaxRefusal::Memory) => toned(
-                write_all(out, b"error: Memory\n"),
-                Tone::Memory(Memory::Exhausted),
-            ),
+            Err(SyntaxRefusal::Memory) => reply_memory(out, Memory::Exhausted),
         }
     }
 }

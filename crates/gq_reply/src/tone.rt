@@ -1,9 +1,11 @@
 //! The tone of a reply that was written.
 
 ghost use Rattle.std.specs.Prelude.{◌≡◌};
-ghost use Rattle.gq_reply.specs.steps.Steps.{toned};
+ghost use Rattle.gq_reply.specs.steps.Steps.{Replied, WantsMemory, toned};
+ghost use Rattle.gq_session.specs.Sessions.{span_of};
 
-use gq_io::Failed;
+use gq_base::Memory;
+use gq_io::{Failed, Sink, write_all};
 use gq_session::Tone;
 
 /// The tone of a reply that was written, or the failure to write it.
@@ -14,4 +16,11 @@ pub fn toned(written: Result<(), Failed>, tone: Tone) -> Result<Tone, Failed>
         Ok(()) => Ok(tone),
         Err(Failed) => Err(Failed),
     }
+}
+
+/// Replies with the line for want of memory, whose tone tells the cause.
+pub fn reply_memory<O: Sink>(out: &mut O, memory: Memory) -> Result<Tone, Failed>
+    ensures { Replied (WantsMemory memory) (span_of O.taken O.faults out.old out.new) result }
+{
+    toned(write_all(out, b"error: Memory\n"), Tone::Memory(memory))
 }

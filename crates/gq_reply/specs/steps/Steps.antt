@@ -1,19 +1,26 @@
 -- How a reply is written, for the contracts of its parts.
-use Rattle.std.specs.Prelude.{◌≡◌, ◌⊎◌, ℕ, List, Result, Ok, Err, Bool, true, false, ◌++◌, codes}
+use Rattle.std.specs.Prelude.{◌≡◌, ◌⊎◌, ℕ, List, Result, Ok, Err, Bool, true, false, ◌++◌, codes, map}
+use Rattle.std.specs.List.{AllZip}
 use Rattle.std.specs.Io.KnownBytes.{Appends}
 use Rattle.std.specs.declared.option.Option.{Option}
 use Rattle.gq_base.specs.Values.{Val, literal_val}
 use Rattle.gq_base.specs.declared.literal.Literal.{Literal}
+use Rattle.gq_base.specs.declared.memory.Memory.{Memory}
 use Rattle.gq_binder.specs.Binding.{IsBound}
+use Rattle.gq_execute.specs.Planned.{ArePlansIn}
 use Rattle.gq_execute.specs.Replies.{Rows, Faulted, TooManyRows, IsPermitted}
 use Rattle.gq_expr.specs.declared.Fault.{Fault}
 use Rattle.gq_io.specs.Causes.{HasCause}
 use Rattle.gq_io.specs.Outside.{AppendsFront}
 use Rattle.gq_io.specs.declared.Failed.{Failed}
+use Rattle.gq_plan.specs.Covers.{Covers}
+use Rattle.gq_plan.specs.Plans.{plan_of}
 use Rattle.gq_plan.specs.declared.Bound.{Bound}
 use Rattle.gq_pipe.specs.declared.pipeline.Spent.{Spent}
+use Rattle.gq_reply.specs.Arrows.{trail_arrows}
 use Rattle.gq_reply.specs.Replies.{Context, IsText, memory_line, question}
-use Rattle.gq_reply.specs.ReplyTexts.{IsPlanText, fault_text, many_text, rows_text, spent_text}
+use Rattle.gq_reply.specs.ReplyTexts.{IsPlanText, columns_each, fault_text, many_text, rows_text, spent_text}
+use Rattle.gq_reply.specs.declared.plans.ShownPlans.{ShownPlans}
 use Rattle.gq_session.specs.Sessions.{Span}
 use Rattle.gq_session.specs.declared.answering.Tone.{Tone}
 use Rattle.gq_session.specs.declared.answering.Tone.TheVariants as tone
@@ -38,6 +45,10 @@ pub record Replied (May : Tone → List ℕ → Type 0) (out : Span) (result : R
   pub bytes : Written May out.old out.new result
   pub cause : HasCause out.before out.now result
 
+-- the reply to any statement that wants memory, by this cause
+abbrev pub WantsMemory : Memory → Tone → List ℕ → Type 0
+WantsMemory why t text = (t ≡ tone.Memory why) × (text ≡ memory_line)
+
 -- the replies to a query that is bound, or to one whose profile is asked for: its rows, a line in their place, or the line for
 -- want of memory
 abbrev pub MayAsk : Context → Bool → Query → Bound → Tone → List ℕ → Type 0
@@ -57,6 +68,13 @@ Asks c profiled bound out result =
 abbrev pub answer_text : Context → Bool → Bound → List Spent → List (List Val) → List ℕ
 answer_text c true bound spent lines = spent_text 1 spent ++ rows_text c.form c.graph bound lines
 answer_text c false bound spent lines = rows_text c.form c.graph bound lines
+
+-- what is shown of the plans of a query that is bound: each covers its alternative
+pub record AreShown (c : Context) (query : Query) (bound : Bound) (s : ShownPlans) : Type 0 where
+  pub are : ArePlansIn c.settings.order c.graph bound.alternatives (map plan_of s.made.plans) s.made.costs
+  pub covers : AllZip (Covers c.graph.catalog) bound.alternatives (map plan_of s.made.plans)
+  pub columns : s.columns ≡ columns_each bound.alternatives s.made.plans
+  pub arrows : s.arrows ≡ trail_arrows query.clauses
 
 -- the plans of a query that is bound, by their text
 abbrev pub MayShow : Context → Query → Bound → Tone → List ℕ → Type 0

@@ -2,7 +2,7 @@ use Rattle.std.proofs.Common.{◌≡◌, Some, None, refl, sym, ap₂, ◌∙◌
 use Rattle.gq_base.specs.Values.{literal_val}
 use Rattle.gq_base.specs.declared.memory.Memory.TheVariants.{Exhausted}
 use Rattle.gq_render.specs.Texts.{param_line}
-use Rattle.gq_reply.proofs.Replying.{replied}
+use Rattle.gq_reply.proofs.Replying.{by_memory, replied, wants_memory}
 use Rattle.gq_reply.proofs.SetValue.{value_got}
 use Rattle.gq_tokens.specs.Parameters.{IsFull}
 use Rattle.gq_session.specs.declared.answering.Tone.TheVariants as tone
@@ -24,7 +24,16 @@ returns-in-Some-clause-replies g c =
     let room : ¬ (IsFull c.args.name c.args.params.now) = λ full.
     let clash = c.in-Ok-set.ensures.full.1 (subst (λ n. IsFull n c.args.params.now) (sym c.in-Ok.ensures.cases) full) in
     cc clash in
-    replied _ tone.Good _ (room, ap₂ (λ n v. param_line n (literal_val v)) c.as_str-in-Some.ensures.bytes value) _ _ c.write_param.ensures.bytes c.write_param.ensures.cause _ c.toned-in-Some.ensures
+    replied _ tone.Good _ (room, ap₂ (λ n v. param_line n (literal_val v)) c.as_str-in-Some.ensures.bytes value) _ _ c.write_param.ensures.bytes c.write_param.ensures.cause _ c.toned.ensures
+
+pub returns-in_default-clause-replies : goal.returns-in_default-clause-replies
+returns-in_default-clause-replies g c = wants_memory _ Exhausted refl _ _ c.reply_memory.ensures
+
+pub returns-in_default-clause-behind : goal.returns-in_default-clause-behind
+returns-in_default-clause-behind g c = by_memory _ Exhausted refl _ _ c.reply_memory.ensures
 
 pub returns-clause-replies : goal.returns-clause-replies
-returns-clause-replies g c = replied _ (tone.Memory Exhausted) _ refl _ _ c.write_all-in-Err-Memory.ensures.bytes c.write_all-in-Err-Memory.ensures.cause _ c.toned-in-Err-Memory.ensures
+returns-clause-replies g c = wants_memory _ Exhausted refl _ _ c.reply_memory-in-Err-Memory.ensures
+
+pub returns-clause-behind : goal.returns-clause-behind
+returns-clause-behind g c = by_memory _ Exhausted c.in-Err-Memory.ensures.kept _ _ c.reply_memory-in-Err-Memory.ensures

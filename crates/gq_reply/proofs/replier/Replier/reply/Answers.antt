@@ -2,7 +2,7 @@ use Rattle.std.proofs.Common.{[], Err, ap, arith, inl, refl, sym, ◌∙◌}
 use Rattle.gq_base.specs.declared.memory.Memory.TheVariants.{Exhausted}
 use Rattle.gq_io.proofs.Moved.{Appends-none}
 use Rattle.gq_reply.proofs.Blanks.{white_blank}
-use Rattle.gq_reply.proofs.Replying.{by_tone, for_one, replied, wrong_depth, wrong_lex, wrong_unknown}
+use Rattle.gq_reply.proofs.Replying.{by_memory, by_tone, for_one, replied, wants_memory, wrong_depth, wrong_lex, wrong_unknown}
 use Rattle.gq_reply.specs.Replies.{AreBehind}
 use Rattle.gq_session.specs.declared.answering.Tone.TheVariants as tone
 use Rattle.gq_reply.proofs.replier.Replier.reply.Goals as goal
@@ -50,4 +50,7 @@ pub returns-in-Err-UnknownParameter-clause-behind : goal.returns-in-Err-UnknownP
 returns-in-Err-UnknownParameter-clause-behind g c = by_tone _ tone.Refused refl _ _ c.toned-in-Err-UnknownParameter.ensures
 
 pub returns-in-Err-Memory-clause-replies : goal.returns-in-Err-Memory-clause-replies
-returns-in-Err-Memory-clause-replies g c = replied _ (tone.Memory Exhausted) _ refl _ _ c.write_all.ensures.bytes c.write_all.ensures.cause _ c.toned-in-Err-Memory.ensures
+returns-in-Err-Memory-clause-replies g c = wants_memory _ Exhausted refl _ _ c.reply_memory.ensures
+
+pub returns-in-Err-Memory-clause-behind : goal.returns-in-Err-Memory-clause-behind
+returns-in-Err-Memory-clause-behind g c = by_memory _ Exhausted refl _ _ c.reply_memory.ensures

@@ -1,5 +1,5 @@
 use Rattle.std.proofs.Common.{inl, inr, refl}
-use Rattle.gq_reply.proofs.Replying.{answered, replied}
+use Rattle.gq_reply.proofs.Replying.{answered, replied, wants_memory}
 use Rattle.gq_reply.specs.Replies.{context_of}
 use Rattle.gq_session.specs.declared.answering.Tone.TheVariants as tone
 use Rattle.gq_reply.proofs.replier.Replier.reply_to_query.Goals as goal
@@ -22,4 +22,4 @@ returns-in-Err-TooManyRows-clause-asks g c = λ query statement is.
 
 pub returns-in-Err-Memory-clause-asks : goal.returns-in-Err-Memory-clause-asks
 returns-in-Err-Memory-clause-asks g c = λ query statement is.
-    replied _ (tone.Memory c.in-Err-Memory.memory) _ refl _ _ c.write_all.ensures.bytes c.write_all.ensures.cause _ c.toned-in-Err-Memory.ensures
+    wants_memory _ c.in-Err-Memory.memory refl _ _ c.reply_memory.ensures

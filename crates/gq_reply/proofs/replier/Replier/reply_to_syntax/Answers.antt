@@ -1,6 +1,6 @@
 use Rattle.std.proofs.Common.{[], arith, inl, refl}
 use Rattle.gq_io.proofs.Moved.{Appends-none}
-use Rattle.gq_reply.proofs.Replying.{by_tone, replied, wrong_syntax}
+use Rattle.gq_reply.proofs.Replying.{by_memory, by_tone, replied, wants_memory, wrong_syntax}
 use Rattle.gq_session.specs.declared.answering.Tone.TheVariants as tone
 use Rattle.gq_reply.proofs.replier.Replier.reply_to_syntax.Goals as goal
 
@@ -23,7 +23,7 @@ pub returns-in-Ok-false-clause-blank : goal.returns-in-Ok-false-clause-blank
 returns-in-Ok-false-clause-blank g c = by_tone _ tone.Refused (λ params. refl) _ _ c.toned.ensures
 
 pub returns-in-Err-clause-replies : goal.returns-in-Err-clause-replies
-returns-in-Err-clause-replies g c = λ params. replied _ (tone.Memory c.in-Err.memory) _ refl _ _ c.write_all.ensures.bytes c.write_all.ensures.cause _ c.toned-in-Err.ensures
+returns-in-Err-clause-replies g c = λ params. wants_memory _ c.in-Err.memory refl _ _ c.reply_memory.ensures
 
 pub returns-in-Err-clause-blank : goal.returns-in-Err-clause-blank
-returns-in-Err-clause-blank g c = by_tone _ (tone.Memory c.in-Err.memory) (λ params. refl) _ _ c.toned-in-Err.ensures
+returns-in-Err-clause-blank g c = by_memory _ c.in-Err.memory (λ params. refl) _ _ c.reply_memory.ensures
