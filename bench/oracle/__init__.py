@@ -1,0 +1,1 @@
+"""An independent answerer of queries by brute force, and a tester that goes by it."""
