@@ -1,10 +1,10 @@
 //! The bound form of a query, or why it has none.
-ghost use Rattle.std.specs.Prelude.{◌≡◌, [], map, filter_map, IfOk, IfSome, OnOk};
+ghost use Rattle.std.specs.Prelude.{◌≡◌, [], map, filter_map, IfErr, IfOk, IfSome, OnOk};
 ghost use Rattle.gq_alternatives.specs.Alternatives.{pattern_alternatives, typed_of};
-ghost use Rattle.gq_binder.specs.Binding.{Answers};
+ghost use Rattle.gq_binder.specs.Binding.{Answers, IsBound};
 ghost use Rattle.gq_binder.specs.Columns.{column_expr, sort_expr};
 ghost use Rattle.gq_binder.specs.steps.Parts.{bound_by, bound_in, exists_part, optional_part};
-ghost use Rattle.gq_binder.specs.steps.Parts.{own_patterns, IsWholeCore};
+ghost use Rattle.gq_binder.specs.steps.Parts.{own_patterns, parts_of, IsWholeCore};
 ghost use Rattle.gq_syntax.specs.Spans.{SpelledQuery};
 
 use crate::checks::{Alternatives, check, check_last};
@@ -34,10 +34,41 @@ pub fn bind(
     ensures { Answers query.now text.now catalog.now result }
 {
     let parts = parts_of(alloc, text, query)?;
-    check(alloc, text, query, &parts)?;
-    let core = core_of(alloc, query.clauses.as_slice())?;
-    let all = check_last(alloc, text, catalog, query, &parts, &core)?;
+    let Checked { core, all } = check_all(alloc, text, catalog, query, &parts)?;
     Ok(bound_by(alloc, text, catalog, query, parts, core, all)?)
+}
+
+// What the checks of a query make that its bound form takes: its core, where it has trails, and its
+// alternatives.
+#[derive(Drop)]
+struct Checked<'q> {
+    core: Option<Core<'q>>,
+    all: Alternatives,
+}
+
+// All checks of a query with these parts, in their order.
+fn check_all<'q>(
+    alloc: Global,
+    text: &[u8],
+    catalog: &Catalog,
+    query: &'q Query,
+    parts: &QueryParts<'_>,
+) -> Result<Checked<'q>, BindRefusal>
+    requires spelled { SpelledQuery text.now query.now }
+    requires parts { parts.now ≡ parts_of text.now query.now }
+    ensures refused { IfErr result (λ e. Answers query.now text.now catalog.now (Err e)) }
+    ensures bound { IfOk result (λ checked. IsBound query.now text.now catalog.now
+        (bound_by text.now catalog.now query.now parts.now checked.core checked.all.choices)) }
+    ensures whole { IfOk result (λ checked. IfSome checked.core (IsWholeCore text.now)) }
+    ensures optionals { IfOk result (λ checked. checked.all.optionals
+        ≡ map (pattern_alternatives catalog.now) (own_patterns parts.now.optionals)) }
+    ensures patterns { IfOk result (λ checked. checked.all.patterns
+        ≡ filter_map (exists_part text.now catalog.now) parts.now.exists) }
+{
+    check(alloc, text, query, parts)?;
+    let core = core_of(alloc, query.clauses.as_slice())?;
+    let all = check_last(alloc, text, catalog, query, parts, &core)?;
+    Ok(Checked { core, all })
 }
 
 // The bound form that the parts of a query and its core give, where it has trails.

@@ -210,7 +210,23 @@ fn add_path<'e>(
         ≡ rels.old + length (path_pattern test.now.test.path).rels) }
 {
     let path = test.pattern(alloc)?;
-    add_entries(reads, test.nodes.as_slice(), *nodes, *rels, path.entries())?;
+    add_pattern(reads, test.nodes.as_slice(), &path, nodes, rels)
+}
+
+// The same of the pattern of a path, whose first variables are these of the query.
+fn add_pattern<'e>(
+    reads: &mut PropertyReads<'e>,
+    shared: &[u32],
+    path: &Pattern<'e>,
+    nodes: &mut u32,
+    rels: &mut u32,
+) -> Result<(), Memory>
+    ensures reads { OnOk result (reads.new
+        ≡ with_reads reads.old (entries_read shared.now nodes.old rels.old path.now.entries)) }
+    ensures nodes { OnOk result (nodes.new ≡ nodes.old + length path.now.names) }
+    ensures rels { OnOk result (rels.new ≡ rels.old + length path.now.rels) }
+{
+    add_entries(reads, shared, *nodes, *rels, path.entries())?;
     *nodes = plus(*nodes, path.names().len())?;
     *rels = plus(*rels, path.rels().len())?;
     Ok(())

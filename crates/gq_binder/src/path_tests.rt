@@ -1,6 +1,6 @@
 //! The EXISTS of a query, and the parts of its bound form that those give which are tests.
 ghost use Rattle.std.specs.Prelude.{◌≡◌, ◌++◌, ◌∷◌, [], All, filter_map, flat_map, map, IfOk};
-ghost use Rattle.std.specs.Prelude.{IfSome, OnOk};
+ghost use Rattle.std.specs.Prelude.{IfSome, OnOk, ◌+◌, length};
 ghost use Rattle.gq_alternatives.specs.Alternatives.{pattern_alternatives};
 ghost use Rattle.gq_binder.specs.Refusals.{alternatives_in, over_limit, paths_of};
 ghost use Rattle.gq_binder.specs.declared.refusal.BindRefusal.TheVariants as refusal;
@@ -151,7 +151,6 @@ pub fn push_in_sorts<'q>(
 
 /// The parts of a bound query that tests give, unless the paths of all EXISTS have more alternatives
 /// than so many.
-#[tactic(auto, using(crate::proofs::RefusalLemmas::within, crate::proofs::RefusalLemmas::within_more, crate::proofs::RefusalLemmas::beyond_more))]
 pub fn exists_parts(
     alloc: Global,
     text: &[u8],
@@ -165,27 +164,86 @@ pub fn exists_parts(
     ensures parts { IfOk result (λ parts. parts
         ≡ filter_map (steps.exists_part text.now catalog.now) tests.now) }
 {
-    let mut left = most;
-    let mut copying = Copying::of(MOST_TESTS);
-    let mut parts = List::new(alloc);
+    let mut read = PathParts {
+        left: most,
+        copying: Copying::of(MOST_TESTS),
+        parts: List::new(alloc),
+    };
     for test in tests {
+        read.push(alloc, text, catalog, test)?;
+    }
+    Ok(read.parts)
+}
+
+// The parts that EXISTS gave, how many alternatives the paths of the others may have, and how much these
+// may copy.
+#[derive(Drop)]
+struct PathParts {
+    left: usize,
+    copying: Copying,
+    parts: List<ExistsPart>,
+}
+
+impl PathParts {
+    // Appends the part that one more EXISTS gives which is a test, unless its path has more alternatives
+    // than are left; these are taken from what is left.
+    fn push(
+        &mut self,
+        alloc: Global,
+        text: &[u8],
+        catalog: &Catalog,
+        test: &SharedTest<'_>,
+    ) -> Result<(), BindRefusal>
+        requires { IfSome test.now.name (λ _. IsWholePath text.now test.now.test.path) }
+        ensures few { Checks (over_limit self.old.left
+            (length (pattern_alternatives catalog.now (path_pattern test.now.test.path)))
+            refusal.TooManyAlternatives) result }
+        ensures left { OnOk result (self.old.left
+            ≡ length (pattern_alternatives catalog.now (path_pattern test.now.test.path))
+            + self.new.left) }
+        ensures parts { OnOk result (self.new.parts ≡ self.old.parts
+            ++ filter_map (steps.exists_part text.now catalog.now) (test.now ∷ [])) }
+    {
         let pattern = test.pattern(alloc)?;
-        let Some(choices) = choices_of(alloc, catalog, &pattern, left)? else {
+        self.push_path(alloc, text, catalog, test, &pattern)
+    }
+
+    // The same, where this is the pattern of its path.
+    fn push_path(
+        &mut self,
+        alloc: Global,
+        text: &[u8],
+        catalog: &Catalog,
+        test: &SharedTest<'_>,
+        pattern: &Pattern<'_>,
+    ) -> Result<(), BindRefusal>
+        requires entries { IfSome test.now.name
+            (λ _. All (λ e. IsWholeEntry text.now e.entry) pattern.now.entries) }
+        requires pattern { pattern.now ≡ path_pattern test.now.test.path }
+        ensures few { Checks (over_limit self.old.left
+            (length (pattern_alternatives catalog.now pattern.now))
+            refusal.TooManyAlternatives) result }
+        ensures left { OnOk result (self.old.left
+            ≡ length (pattern_alternatives catalog.now pattern.now) + self.new.left) }
+        ensures parts { OnOk result (self.new.parts ≡ self.old.parts
+            ++ filter_map (steps.exists_part text.now catalog.now) (test.now ∷ [])) }
+    {
+        let Some(choices) = choices_of(alloc, catalog, pattern, self.left)? else {
             return Err(BindRefusal::TooManyAlternatives);
         };
-        left -= choices.len();
+        self.left -= choices.len();
         push_part(
             alloc,
             text,
             catalog,
             test,
-            &pattern,
+            pattern,
             choices.as_slice(),
-            &mut copying,
-            &mut parts,
+            &mut self.copying,
+            &mut self.parts,
         )?;
+        Ok(())
     }
-    Ok(parts)
 }
 
 // Appends the part that an EXISTS gives which is a test.

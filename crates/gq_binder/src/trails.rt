@@ -8,6 +8,7 @@ ghost use Rattle.gq_binder.specs.steps.Parts as steps;
 ghost use Rattle.gq_binder.specs.steps.Parts.{alternatives_of_core, cored_in, cored_names};
 ghost use Rattle.gq_binder.specs.steps.Parts.{exists_part, renumbered_all, renumbered_keys};
 ghost use Rattle.gq_binder.specs.steps.Parts.{IsWholeCore};
+ghost use Rattle.gq_cuts.specs.Renumbering.{plain_from};
 ghost use Rattle.gq_law_cuts.specs.Cuts as cuts;
 ghost use Rattle.gq_scopes.specs.Scopes.{scope_of};
 
@@ -38,19 +39,49 @@ pub fn cored_bound(
     ensures { IfOk result (λ b.
         b ≡ cored_in text.now catalog.now query.now parts.entry core.now all.choices) }
 {
-    let rels = plain_rels(alloc, parts.matched.rels())?;
+    let Numbered { mut bound, rels } = without_lists(alloc, text, query, &parts, core)?;
     let orders = Orders {
         nodes: core.order.as_slice(),
         rels: rels.as_slice(),
     };
-    let mut bound = without_lists(alloc, text, query, orders, &parts, core)?;
     let lists = parts.into_lists();
     put_lists(alloc, text, catalog, orders, core, lists, all, &mut bound)?;
     Ok(bound)
 }
 
+// A bound form by the numbers of a core, and the relationships that are no trails, in their order.
+#[derive(Drop)]
+struct Numbered {
+    bound: Bound,
+    rels: List<u32>,
+}
+
 // The bound form but for its columns, conjuncts, tests of paths and alternatives.
 fn without_lists(
+    alloc: Global,
+    text: &[u8],
+    query: &Query,
+    parts: &QueryParts<'_>,
+    core: &Core<'_>,
+) -> Result<Numbered, Memory>
+    requires whole { IsWholeCore text.now core.now }
+    ensures bound { let nodes = core.now.order in
+        let rels = plain_from 0 parts.now.matched.rels in
+        IfOk result (λ n.
+        n.bound ≡ cored_names text.now nodes rels query.now parts.now core.now) }
+    ensures rels { IfOk result (λ n. n.rels ≡ plain_from 0 parts.now.matched.rels) }
+{
+    let rels = plain_rels(alloc, parts.matched.rels())?;
+    let orders = Orders {
+        nodes: core.order.as_slice(),
+        rels: rels.as_slice(),
+    };
+    let bound = named_bound(alloc, text, query, orders, parts, core)?;
+    Ok(Numbered { bound, rels })
+}
+
+// The same, by these orders.
+fn named_bound(
     alloc: Global,
     text: &[u8],
     query: &Query,
