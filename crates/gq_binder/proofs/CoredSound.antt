@@ -1,6 +1,6 @@
 -- The alternatives of the core of a query with trails are sound: the conjuncts that stay read variables of the core, and not more
 -- properties than the query's do.
-use Rattle.std.proofs.Common.{◌≡◌, ◌∙◌, ap, ap₂, sym, refl, subst, ℕ, zero, suc, ◌+◌, ◌<◌, ◌≤◌, Bool, true, false, not, ◌&&◌, ◌||◌, cond, nat_lt, Option, Some, None, List, [], ◌∷◌, ◌++◌, map, filter, flat_map, length, slice_get, arith, true≢false, zero-add}
+use Rattle.std.proofs.Common.{◌≡◌, ◌∙◌, ap, ap₂, sym, refl, subst, ℕ, zero, suc, ◌+◌, ◌<◌, ◌≤◌, Bool, true, false, not, ◌||◌, cond, nat_lt, Option, Some, None, List, [], ◌∷◌, ◌++◌, map, filter, flat_map, length, slice_get, arith, true≢false, zero-add}
 use Rattle.std.specs.Prelude.{is_some}
 use Rattle.std.specs.List.{AllByRecursion, list_all}
 use Rattle.std.proofs.lemmas.Bool.{and_parts, eq-eqb, not-true, or_left, or_right}

@@ -39,7 +39,7 @@ use Rattle.gq_plan.proofs.DifferentReads.{AllAmong, all_self, is_among, some_amo
 use Rattle.gq_plan.proofs.ReadEquations.{reads_Literal, reads_NodeProperty, reads_RelProperty, reads_Compare}
 use Rattle.gq_trees.proofs.ReadsThere.{AllThere, AreThere}
 use Rattle.gq_alternatives.proofs.PathShapes.{HasVariables, IsCounted, path_pattern_counted, path_pattern_named, path_pattern_shaped}
-use Rattle.gq_alternatives.specs.Alternatives.{Choice, typed_rels, agrees, alternatives, pattern_alternatives, typed_of}
+use Rattle.gq_alternatives.specs.Alternatives.{Choice, typed_rels, agrees, pattern_alternatives, typed_of}
 use Rattle.gq_scopes.specs.PathPatterns.{path_pattern, shared_names}
 use Rattle.gq_syntax.specs.declared.Path.{Path}
 use Rattle.gq_trees.specs.Conjuncts.{conjunct_expr, is_value, values_of}
