@@ -11,9 +11,9 @@ use Rattle.gq_plan.proofs.DifferentReads.{IsUnique, among_fewer}
 use Rattle.gq_scopes.proofs.NamingLemmas.{listed, where_none_passes, where_one_passes}
 use Rattle.gq_scopes.specs.PathPatterns.{named_first, path_pattern, shared_names, with_name, with_names}
 use Rattle.gq_scopes.specs.Patterns.{Name, Pattern, find_name, is_called, known_as, no_pattern, variable_of, with_hops, with_node, with_path, with_rel}
-use Rattle.gq_syntax.specs.declared.Hop.{Hop}
-use Rattle.gq_syntax.specs.declared.NodePart.{NodePart}
-use Rattle.gq_syntax.specs.declared.Path.{Path}
+use Rattle.gq_ast.specs.declared.Hop.{Hop}
+use Rattle.gq_ast.specs.declared.NodePart.{NodePart}
+use Rattle.gq_ast.specs.declared.Path.{Path}
 use Rattle.gq_alternatives.proofs.Shapes.{Ends, path_ends, rights_of, run, walk, first_passed, shape_path}
 use Rattle.gq_alternatives.proofs.ShapesOfPatterns.{IsOpen, IsShaped, IsShapedBut, all_ends, ends_of, hops_grow, hops_paths, path_grows, node_cases, node_open, node_paths, node_rels, node_shape, path_shaped, rel_open, rel_passed, rel_passes}
 

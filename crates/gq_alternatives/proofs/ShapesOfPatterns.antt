@@ -8,12 +8,12 @@ use Rattle.gq_base.proofs.ListFacts.{found_within}
 use Rattle.gq_plan.specs.Soundness.{has_number}
 use Rattle.gq_plan.specs.declared.PathPart.{PathPart}
 use Rattle.gq_plan.proofs.Each.{each_of, each_map, each_then, each_append}
-use Rattle.gq_syntax.specs.declared.Clause.{Clause}
-use Rattle.gq_syntax.specs.declared.Entry.{Entry}
-use Rattle.gq_syntax.specs.declared.Hop.{Hop}
-use Rattle.gq_syntax.specs.declared.NodePart.{NodePart}
-use Rattle.gq_syntax.specs.declared.Path.{Path}
-use Rattle.gq_syntax.specs.declared.RelPart.{RelPart}
+use Rattle.gq_ast.specs.declared.Clause.{Clause}
+use Rattle.gq_ast.specs.declared.Entry.{Entry}
+use Rattle.gq_ast.specs.declared.Hop.{Hop}
+use Rattle.gq_ast.specs.declared.NodePart.{NodePart}
+use Rattle.gq_ast.specs.declared.Path.{Path}
+use Rattle.gq_ast.specs.declared.RelPart.{RelPart}
 use Rattle.gq_alternatives.proofs.Shapes.{Ends, IsShape, walk, path_ends, end_of, run, shape_path, first_passed, shape_again, shape_new, right_passed, end_is, shape_rel, still_passed}
 use Rattle.gq_scopes.specs.Patterns.{Name, RelPattern, MapEntry, Pattern, no_pattern, is_called, known_as, called, variable_of, entries_of, node_again, node_new, with_node, with_rel, with_hops, with_path, with_paths, with_clauses, pattern_of}
 use Rattle.gq_scopes.specs.steps.Variables.{IsThere}

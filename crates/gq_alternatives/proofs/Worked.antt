@@ -10,13 +10,13 @@ use Rattle.gq_base.specs.declared.Literal.TheVariants as literal
 use Rattle.gq_base.specs.declared.Mult.TheVariants as mult
 use Rattle.gq_base.specs.declared.PlainRel.{PlainRel}
 use Rattle.gq_plan.specs.Assignments.{Assignment, assignments, tuples, nodes_of, all_nodes, rels_of, all_rels, source, target}
-use Rattle.gq_syntax.specs.declared.Arrow.{Arrow}
-use Rattle.gq_syntax.specs.declared.Arrow.TheVariants as arrow
-use Rattle.gq_syntax.specs.declared.Clause.{Clause}
-use Rattle.gq_syntax.specs.declared.Hop.{Hop}
-use Rattle.gq_syntax.specs.declared.NodePart.{NodePart}
-use Rattle.gq_syntax.specs.declared.Path.{Path}
-use Rattle.gq_syntax.specs.declared.RelPart.{RelPart}
+use Rattle.gq_ast.specs.declared.Arrow.{Arrow}
+use Rattle.gq_ast.specs.declared.Arrow.TheVariants as arrow
+use Rattle.gq_ast.specs.declared.Clause.{Clause}
+use Rattle.gq_ast.specs.declared.Hop.{Hop}
+use Rattle.gq_ast.specs.declared.NodePart.{NodePart}
+use Rattle.gq_ast.specs.declared.Path.{Path}
+use Rattle.gq_ast.specs.declared.RelPart.{RelPart}
 use Rattle.gq_alternatives.specs.Alternatives.{Choice, choices, pattern_alternatives}
 use Rattle.gq_alternatives.specs.Matches.{pattern_matches}
 use Rattle.gq_scopes.specs.Patterns.{pattern_of}

@@ -11,10 +11,10 @@ use Rattle.gq_base.specs.declared.Mult.TheVariants as mult
 use Rattle.gq_base.specs.declared.PlainRel.{PlainRel}
 use Rattle.gq_expr.specs.Reading as reading
 use Rattle.gq_plan.specs.Assignments.{assignments, tuples, nodes_of, all_nodes, rels_of, all_rels, source, target}
-use Rattle.gq_syntax.specs.declared.Arrow.TheVariants as arrow
-use Rattle.gq_syntax.specs.declared.Hop.{Hop}
-use Rattle.gq_syntax.specs.declared.NodePart.{NodePart}
-use Rattle.gq_syntax.specs.declared.Path.{Path}
+use Rattle.gq_ast.specs.declared.Arrow.TheVariants as arrow
+use Rattle.gq_ast.specs.declared.Hop.{Hop}
+use Rattle.gq_ast.specs.declared.NodePart.{NodePart}
+use Rattle.gq_ast.specs.declared.Path.{Path}
 use Rattle.gq_alternatives.specs.Matches.{pattern_matches}
 use Rattle.gq_alternatives.specs.Tested.{exists_value}
 use Rattle.gq_scopes.specs.PathPatterns.{path_pattern, shared_names}

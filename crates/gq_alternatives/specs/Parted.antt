@@ -3,7 +3,7 @@ use Rattle.std.specs.Prelude.{◌≡◌, List, filter, flat_map, length, IsPermu
 use Rattle.gq_base.specs.Plain.{Graph}
 use Rattle.gq_plan.specs.Allowed.{lies_in}
 use Rattle.gq_plan.specs.declared.NamedExpr.{NamedExpr}
-use Rattle.gq_syntax.specs.declared.Query.{Query}
+use Rattle.gq_ast.specs.declared.Query.{Query}
 use Rattle.gq_alternatives.specs.Alternatives.{alternatives, typed_of}
 use Rattle.gq_alternatives.specs.Matches.{matches}
 use Rattle.gq_scopes.specs.Patterns.{pattern_of}

@@ -4,7 +4,7 @@ use Rattle.std.specs.Prelude.{ℕ, Bool, List}
 use Rattle.gq_base.specs.Plain.{Graph}
 use Rattle.gq_expr.specs.Reading as reading
 use Rattle.gq_plan.specs.Keys.{has_match}
-use Rattle.gq_syntax.specs.declared.Path.{Path}
+use Rattle.gq_ast.specs.declared.Path.{Path}
 use Rattle.gq_alternatives.specs.Matches.{pattern_matches}
 use Rattle.gq_scopes.specs.PathPatterns.{path_pattern}
 

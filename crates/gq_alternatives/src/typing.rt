@@ -7,11 +7,11 @@ ghost use Rattle.gq_alternatives.specs.Matches.{pairs_from, pairs_with};
 
 use crate::choice::{Choice, Reading};
 use crate::kinds::kinds_for;
+use gq_ast::Arrow;
 use gq_base::{Catalog, List, Memory};
 use gq_expr::{Kinds, can_fault};
 use gq_plan::{NamedExpr, PathPart, RelPair, Typed, TypedRel};
 use gq_scopes::{Copying, Pattern, RelPattern, copy_part, copy_text, next};
-use gq_syntax::Arrow;
 use std::alloc::Global;
 
 /// An alternative of patterns with its tests, late conjuncts and pairs: the entries of the

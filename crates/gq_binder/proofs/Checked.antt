@@ -4,25 +4,25 @@ use Rattle.std.specs.Prelude.{flat_map}
 use Rattle.std.specs.Option.{option_map, option_or}
 use Rattle.gq_alternatives.specs.Alternatives.{Choice, pattern_alternatives}
 use Rattle.gq_base.specs.Catalogs.{Tables}
-use Rattle.gq_binder.proofs.Accepted.{IsNamed, known_expressions, conjuncts_there, optional_there, tests_there}
-use Rattle.gq_binder.proofs.Clauses.{own_are}
-use Rattle.gq_binder.proofs.TestLemmas.{IsWholeTest, tests_whole}
-use Rattle.gq_binder.proofs.NameLemmas.{first_again, first_other_form, first_variable, first_function, first_arguments, none_in_paths, sorts_same}
-use Rattle.gq_binder.proofs.RefusalLemmas.{first_append, same_behind}
-use Rattle.gq_binder.proofs.OwnBound.{bound_by_core, counted_core}
-use Rattle.gq_binder.proofs.SoundAlternatives.{each_none, reads_listed}
-use Rattle.gq_binder.proofs.Unnamed.{all_unnamed}
-use Rattle.gq_binder.specs.Binding.{Answers, IsBound}
-use Rattle.gq_binder.specs.steps.Checks.{IsOfQuery}
-use Rattle.gq_binder.specs.Columns.{conditions, columns, optional_conditions, sort_scope, whole_pattern}
-use Rattle.gq_binder.specs.steps.Names.{FirstNames, query_names}
-use Rattle.gq_binder.specs.Tested.{SharedTest, seen_elsewhere}
-use Rattle.gq_binder.specs.steps.Parts.{bound_by, clause_reads, clauses_parts, counted_in, last_checks_in, known_conjuncts, known_seen, own_patterns, parts_of, ambiguous_in, reads_in, checks_in}
-use Rattle.gq_binder.specs.Refusals.{first_of_all, trail_length, trail_with_optional, unknown_variable, variable_conflict, relationship_repeated, column_repeated, nothing_to_return, order_out_of_scope, ambiguous_order_name, function_unknown, argument_count, over_limit, max_columns, max_alternatives, alternatives_in, alternatives_of, each_alone, others, paths_of, too_many_patterns, too_many_reads, all_reads, first_refusal, checks_of, too_many_alternatives, exists_place, expressions, conflicting, first_in, seen}
-use Rattle.gq_binder.specs.declared.optionals.ClauseParts.{ClauseParts}
-use Rattle.gq_binder.specs.declared.parts.QueryParts.{QueryParts}
-use Rattle.gq_binder.specs.declared.refusal.BindRefusal.{BindRefusal}
-use Rattle.gq_binder.specs.declared.refusal.BindRefusal.TheVariants as refusal
+use Rattle.gq_bound.proofs.Accepted.{IsNamed, known_expressions, conjuncts_there, optional_there, tests_there}
+use Rattle.gq_bound.proofs.Clauses.{own_are}
+use Rattle.gq_bound.proofs.TestLemmas.{IsWholeTest, tests_whole}
+use Rattle.gq_bound.proofs.NameLemmas.{first_again, first_other_form, first_variable, first_function, first_arguments, none_in_paths, sorts_same}
+use Rattle.gq_bound.proofs.RefusalLemmas.{first_append, same_behind}
+use Rattle.gq_bound.proofs.OwnBound.{bound_by_core, counted_core}
+use Rattle.gq_bound.proofs.SoundAlternatives.{each_none, reads_listed}
+use Rattle.gq_bound.proofs.Unnamed.{all_unnamed}
+use Rattle.gq_bound.specs.Binding.{Answers, IsBound}
+use Rattle.gq_bound.specs.steps.Checks.{IsOfQuery}
+use Rattle.gq_bound.specs.Columns.{conditions, columns, optional_conditions, sort_scope, whole_pattern}
+use Rattle.gq_bound.specs.steps.Names.{FirstNames, query_names}
+use Rattle.gq_bound.specs.Tested.{SharedTest, seen_elsewhere}
+use Rattle.gq_bound.specs.steps.Parts.{bound_by, clause_reads, clauses_parts, counted_in, last_checks_in, known_conjuncts, known_seen, own_patterns, parts_of, ambiguous_in, reads_in, checks_in}
+use Rattle.gq_bound.specs.Refusals.{first_of_all, trail_length, trail_with_optional, unknown_variable, variable_conflict, relationship_repeated, column_repeated, nothing_to_return, order_out_of_scope, ambiguous_order_name, function_unknown, argument_count, over_limit, max_columns, max_alternatives, alternatives_in, alternatives_of, each_alone, others, paths_of, too_many_patterns, too_many_reads, all_reads, first_refusal, checks_of, too_many_alternatives, exists_place, expressions, conflicting, first_in, seen}
+use Rattle.gq_bound.specs.declared.optionals.ClauseParts.{ClauseParts}
+use Rattle.gq_bound.specs.declared.parts.QueryParts.{QueryParts}
+use Rattle.gq_bound.specs.declared.refusal.BindRefusal.{BindRefusal}
+use Rattle.gq_bound.specs.declared.refusal.BindRefusal.TheVariants as refusal
 use Rattle.gq_plan.specs.Reads.{Read, property}
 use Rattle.gq_scopes.specs.Patterns.{Name, Pattern, pattern_of}
 use Rattle.gq_trees.specs.Renames.{ambiguous_name}
@@ -34,8 +34,8 @@ use Rattle.gq_cuts.specs.declared.cored.Core.{Core}
 use Rattle.gq_law_cuts.specs.Shaped.{core_pattern_of}
 use Rattle.gq_syntax.proofs.Whole.{spelled_stands}
 use Rattle.gq_syntax.specs.Spans.{SpelledQuery}
-use Rattle.gq_syntax.specs.steps.Spans.{StandsIn}
-use Rattle.gq_syntax.specs.declared.Query.{Query}
+use Rattle.gq_ast.specs.steps.Spans.{StandsIn}
+use Rattle.gq_ast.specs.declared.Query.{Query}
 
 none_of : (f : Name → BindRefusal) (o : Option Name) → option_map f o ≡ None → o ≡ None
 none_of f None e = refl

@@ -1,24 +1,24 @@
 //! The bound form of a query, or why it has none.
 ghost use Rattle.std.specs.Prelude.{◌≡◌, [], map, filter_map, IfErr, IfOk, IfSome, OnOk};
 ghost use Rattle.gq_alternatives.specs.Alternatives.{pattern_alternatives, typed_of};
-ghost use Rattle.gq_binder.specs.Binding.{Answers, IsBound};
-ghost use Rattle.gq_binder.specs.Columns.{column_expr, sort_expr};
-ghost use Rattle.gq_binder.specs.steps.Parts.{bound_by, bound_in, exists_part, optional_part};
-ghost use Rattle.gq_binder.specs.steps.Parts.{own_patterns, parts_of, IsWholeCore};
+ghost use Rattle.gq_bound.specs.Binding.{Answers, IsBound};
+ghost use Rattle.gq_bound.specs.Columns.{column_expr, sort_expr};
+ghost use Rattle.gq_bound.specs.steps.Parts.{bound_by, bound_in, exists_part, optional_part};
+ghost use Rattle.gq_bound.specs.steps.Parts.{own_patterns, parts_of, IsWholeCore};
 ghost use Rattle.gq_syntax.specs.Spans.{SpelledQuery};
 
 use crate::checks::{Alternatives, check, check_last};
 use crate::columns::known_columns;
 use crate::optionals::optional_parts;
-use crate::parts::{QueryParts, TakenLists, parts_of};
-use crate::refusal::BindRefusal;
+use crate::parts::parts_of;
 use crate::trails::cored_bound;
 use gq_alternatives::{Choice, typed};
+use gq_ast::{Query, Sort};
 use gq_base::{Catalog, List, Memory, Text};
+use gq_bound::{BindRefusal, QueryParts, TakenLists};
 use gq_cuts::{Core, core_of};
 use gq_plan::{Bound, NamedExpr, SortExpr, Typed};
 use gq_scopes::{Copying, Pattern, Scope, copy_text};
-use gq_syntax::{Query, Sort};
 use gq_trees::{CallForm, resolve_part};
 use std::alloc::Global;
 

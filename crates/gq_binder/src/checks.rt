@@ -6,36 +6,35 @@ ghost use Rattle.std.specs.List.{list_any};
 ghost use Rattle.gq_base.specs.Lists.{is_empty};
 ghost use Rattle.gq_alternatives.specs.Alternatives.{pattern_alternatives};
 ghost use Rattle.gq_alternatives.specs.Searching.{at_most};
-ghost use Rattle.gq_binder.specs.steps.Checks.{Checks};
-ghost use Rattle.gq_binder.specs.steps.Parts.{checks_in, clause_reads, exists_part, own_patterns};
-ghost use Rattle.gq_binder.specs.steps.Parts.{counted_in, last_checks_in};
-ghost use Rattle.gq_binder.specs.steps.Parts.{parts_reads, reads_in};
-ghost use Rattle.gq_binder.specs.Refusals as refusals;
-ghost use Rattle.gq_binder.specs.Refusals.{first_of_all};
-ghost use Rattle.gq_binder.specs.Refusals.{nothing, over_limit, max_alternatives, max_columns};
-ghost use Rattle.gq_binder.specs.Refusals.{alternatives_in, alternatives_of, entries_read};
-ghost use Rattle.gq_binder.specs.Refusals.{nodes_in, paths_of};
-ghost use Rattle.gq_binder.specs.Refusals.{rels_in};
-ghost use Rattle.gq_binder.specs.declared.refusal.BindRefusal.TheVariants as refusal;
+ghost use Rattle.gq_bound.specs.steps.Checks.{Checks};
+ghost use Rattle.gq_bound.specs.steps.Parts.{checks_in, clause_reads, exists_part, own_patterns};
+ghost use Rattle.gq_bound.specs.steps.Parts.{counted_in, last_checks_in};
+ghost use Rattle.gq_bound.specs.steps.Parts.{parts_reads, reads_in};
+ghost use Rattle.gq_bound.specs.Refusals as refusals;
+ghost use Rattle.gq_bound.specs.Refusals.{first_of_all};
+ghost use Rattle.gq_bound.specs.Refusals.{nothing, over_limit, max_alternatives, max_columns};
+ghost use Rattle.gq_bound.specs.Refusals.{alternatives_in, alternatives_of, entries_read};
+ghost use Rattle.gq_bound.specs.Refusals.{nodes_in, paths_of};
+ghost use Rattle.gq_bound.specs.Refusals.{rels_in};
+ghost use Rattle.gq_bound.specs.declared.refusal.BindRefusal.TheVariants as refusal;
 ghost use Rattle.gq_plan.specs.Reads.{distinct, property, with_reads};
 ghost use Rattle.gq_plan.specs.Soundness.{max_variables};
 ghost use Rattle.gq_scopes.specs.PathPatterns.{path_pattern};
-ghost use Rattle.gq_syntax.specs.Spans.{IsWholeTree};
-ghost use Rattle.gq_syntax.specs.steps.Spans.{IsWholePath};
+ghost use Rattle.gq_ast.specs.Spans.{IsWholeTree};
+ghost use Rattle.gq_ast.specs.steps.Spans.{IsWholePath};
 
-use crate::optionals::{ClauseParts, clause_choices};
+use crate::optionals::clause_choices;
 use crate::order::{ambiguous_order_name, order_out_of_scope};
-use crate::parts::QueryParts;
-use crate::path_tests::{SharedTest, exists_parts};
-use crate::refusal::BindRefusal;
+use crate::path_tests::exists_parts;
 use gq_alternatives::{Choice, choices_of};
+use gq_ast::{Query, Range};
 use gq_base::{Catalog, List, Memory};
+use gq_bound::{BindRefusal, ClauseParts, QueryParts, SharedTest};
 use gq_cuts::Core;
 use gq_plan::{ExistsPart, NamedExpr, PropertyReads};
 use gq_scopes::{
     Column, MapEntry, NamedVariable, Names, Pattern, RelPattern, Variable, copy_text, number,
 };
-use gq_syntax::{Query, Range};
 use std::alloc::Global;
 
 const MAX_VARIABLES: usize = 24;
@@ -50,7 +49,7 @@ const MAX_LENGTH: u64 = 16;
 
 /// The checks of a query in their order, but for those of its alternatives, of its trails and of the
 /// places of EXISTS.
-#[tactic(auto, using(crate::proofs::RefusalLemmas::firsts))]
+#[tactic(auto, using(gq_bound::proofs::RefusalLemmas::firsts))]
 pub fn check(
     alloc: Global,
     text: &[u8],
@@ -144,7 +143,7 @@ fn has_many_rels(own: usize, tests: &[SharedTest<'_>]) -> bool
 }
 
 /// There are too many different pairs of a variable and a property.
-#[tactic(auto, using(crate::proofs::RefusalLemmas::firsts))]
+#[tactic(auto, using(gq_bound::proofs::RefusalLemmas::firsts))]
 fn too_many_reads(alloc: Global, parts: &QueryParts<'_>) -> Result<(), BindRefusal>
     ensures { Checks (refusals.too_many_reads
         (parts_reads parts.now) parts.now.pattern parts.now.exists
@@ -159,7 +158,7 @@ fn too_many_reads(alloc: Global, parts: &QueryParts<'_>) -> Result<(), BindRefus
 
 // How many different properties of variables all maps and the conjuncts of values of all clauses
 // read.
-#[tactic(auto, using(crate::proofs::ReadingLemmas::counted_parts))]
+#[tactic(auto, using(gq_bound::proofs::ReadingLemmas::counted_parts))]
 fn count_all_reads<'p>(alloc: Global, parts: &'p QueryParts<'p>) -> Result<usize, Memory>
     ensures { let pattern = parts.now.pattern in
         let paths = refusals.path_reads (length pattern.names) (length pattern.rels)
@@ -309,7 +308,7 @@ fn maps_alone(alloc: Global, pattern: &Pattern<'_>) -> Result<(), BindRefusal>
 }
 
 // How many different properties of variables entries read.
-#[tactic(auto, using(crate::proofs::ReadingLemmas::counted_alone))]
+#[tactic(auto, using(gq_bound::proofs::ReadingLemmas::counted_alone))]
 fn count_reads(alloc: Global, entries: &[MapEntry<'_>]) -> Result<usize, Memory>
     ensures { IfOk result (λ n. n
         ≡ length (distinct (map (λ e. property e.variable e.entry.key) entries.now))) }
@@ -381,7 +380,7 @@ pub struct Alternatives {
 
 /// The checks behind the others, in their order, and the alternatives of a query, whose core this is
 /// where it has trails.
-#[tactic(auto, using(crate::proofs::RefusalLemmas::firsts))]
+#[tactic(auto, using(gq_bound::proofs::RefusalLemmas::firsts))]
 pub fn check_last(
     alloc: Global,
     text: &[u8],
@@ -409,7 +408,7 @@ pub fn check_last(
 }
 
 /// The alternatives of a query's clauses and of the paths of its tests, unless there are too many.
-#[tactic(auto, using(crate::proofs::RefusalLemmas::within, crate::proofs::RefusalLemmas::within_more, crate::proofs::RefusalLemmas::beyond_more, crate::proofs::RefusalLemmas::over_spent, crate::proofs::RefusalLemmas::over_more))]
+#[tactic(auto, using(gq_bound::proofs::RefusalLemmas::within, gq_bound::proofs::RefusalLemmas::within_more, gq_bound::proofs::RefusalLemmas::beyond_more, gq_bound::proofs::RefusalLemmas::over_spent, gq_bound::proofs::RefusalLemmas::over_more))]
 fn few_alternatives(
     alloc: Global,
     text: &[u8],

@@ -1,23 +1,23 @@
 //! The columns of a query and their names.
 ghost use Rattle.std.specs.Prelude.{◌≡◌, ◌++◌, ◌∷◌, [], map, filter_map, All, IfOk, if◌then◌else◌};
 ghost use Rattle.std.specs.List.{list_any};
-ghost use Rattle.gq_binder.specs.Columns as columns;
-ghost use Rattle.gq_binder.specs.Columns.{columns_in, column_expr, column_of, item_column};
-ghost use Rattle.gq_binder.specs.Columns.{item_name};
+ghost use Rattle.gq_bound.specs.Columns as columns;
+ghost use Rattle.gq_bound.specs.Columns.{columns_in, column_expr, column_of, item_column};
+ghost use Rattle.gq_bound.specs.Columns.{item_name};
 ghost use Rattle.gq_scopes.specs.Patterns.{is_called};
 ghost use Rattle.gq_trees.specs.Resolving.{calls_of};
-ghost use Rattle.gq_syntax.specs.Spans.{IsWholeTree};
+ghost use Rattle.gq_ast.specs.Spans.{IsWholeTree};
 
+use gq_ast::{Item, Query};
 use gq_base::{List, Memory, Text};
 use gq_expr::Expr;
 use gq_plan::NamedExpr;
 use gq_scopes::{Column, NamedVariable, Names, Pattern, Scope, Variable, copy_text};
-use gq_syntax::{Item, Query};
 use gq_trees::{CallForm, resolve, source_text};
 use std::alloc::Global;
 
 /// The columns of a query with these patterns, whose items stand in this text.
-#[tactic(auto, unfolding(crate::specs::Columns::columns_in))]
+#[tactic(auto, unfolding(gq_bound::specs::Columns::columns_in))]
 pub fn columns_of(
     alloc: Global,
     form: CallForm,
@@ -109,7 +109,7 @@ fn push_items(
     Ok(())
 }
 
-#[tactic(auto, using(gq_syntax::proofs::SpanLemmas::tree_span))]
+#[tactic(auto, using(gq_ast::proofs::SpanLemmas::tree_span))]
 fn name_of(alloc: Global, text: &[u8], item: &Item) -> Result<Text, Memory>
     requires { IsWholeTree text.now item.now.tree }
     ensures { IfOk result (λ t. t ≡ item_name text.now item.now) }

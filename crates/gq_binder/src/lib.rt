@@ -1,19 +1,17 @@
 //! A query bound over a catalogue: its columns, conditions, keys and typed alternatives; or why it is
-//! not, the first of sixteen refusals. The crate stands on the names of `gq_scopes`, the expressions of
-//! `gq_trees`, the alternatives of `gq_alternatives` and, where there are trails, the cores of `gq_cuts`.
+//! not, the first of sixteen refusals, as `gq_bound` defines them. The crate stands on the names of
+//! `gq_scopes`, the expressions of `gq_trees`, the alternatives of `gq_alternatives` and, where there are
+//! trails, the cores of `gq_cuts`.
 #![tactic(auto)]
 
 mod bound;
 mod checks;
 mod columns;
-mod met;
-mod names;
 mod optionals;
 mod order;
 mod parts;
 mod path_tests;
-mod refusal;
 mod trails;
 
 pub use bound::bind;
-pub use refusal::BindRefusal;
+pub use gq_bound::BindRefusal;

@@ -4,47 +4,34 @@ ghost use Rattle.std.specs.Prelude.{IfOk};
 ghost use Rattle.std.specs.Prelude.{IfSome, OnOk};
 ghost use Rattle.std.specs.List.{range_with_len};
 ghost use Rattle.gq_alternatives.specs.Alternatives.{pattern_alternatives};
-ghost use Rattle.gq_binder.specs.Columns.{conditions_from, scoped_in};
-ghost use Rattle.gq_binder.specs.Optionals as optionals;
-ghost use Rattle.gq_binder.specs.Optionals.{next_behind, seats};
-ghost use Rattle.gq_binder.specs.Refusals.{alternatives_of, over_limit};
-ghost use Rattle.gq_binder.specs.Tested.{seen_elsewhere};
-ghost use Rattle.gq_binder.specs.declared.refusal.BindRefusal.TheVariants as refusal;
-ghost use Rattle.gq_binder.specs.steps.Checks.{Checks};
-ghost use Rattle.gq_binder.specs.steps.Names.{with_clause_names, with_clauses_names};
-ghost use Rattle.gq_binder.specs.steps.Names.{with_expressions};
-ghost use Rattle.gq_binder.specs.steps.Parts as steps;
-ghost use Rattle.gq_binder.specs.steps.Parts.{clause_parts, clauses_parts, known_conjuncts};
-ghost use Rattle.gq_binder.specs.steps.Parts.{own_patterns};
+ghost use Rattle.gq_bound.specs.Columns.{conditions_from, scoped_in};
+ghost use Rattle.gq_bound.specs.Optionals as optionals;
+ghost use Rattle.gq_bound.specs.Optionals.{next_behind, seats};
+ghost use Rattle.gq_bound.specs.Refusals.{alternatives_of, over_limit};
+ghost use Rattle.gq_bound.specs.Tested.{seen_elsewhere};
+ghost use Rattle.gq_bound.specs.declared.refusal.BindRefusal.TheVariants as refusal;
+ghost use Rattle.gq_bound.specs.steps.Checks.{Checks};
+ghost use Rattle.gq_bound.specs.steps.Names.{with_clause_names, with_clauses_names};
+ghost use Rattle.gq_bound.specs.steps.Names.{with_expressions};
+ghost use Rattle.gq_bound.specs.steps.Parts as steps;
+ghost use Rattle.gq_bound.specs.steps.Parts.{clause_parts, clauses_parts, known_conjuncts};
+ghost use Rattle.gq_bound.specs.steps.Parts.{own_patterns};
 ghost use Rattle.gq_scopes.specs.Patterns.{known_as, with_clauses, with_paths};
 ghost use Rattle.gq_scopes.specs.Scopes.{scope_of};
-ghost use Rattle.gq_syntax.specs.Spans.{IsWholeTree};
-ghost use Rattle.gq_syntax.specs.steps.Spans.{IsWholeClause};
+ghost use Rattle.gq_ast.specs.Spans.{IsWholeTree};
+ghost use Rattle.gq_ast.specs.steps.Spans.{IsWholeClause};
 
 use crate::bound::{MOST_TESTS, typed_out_of};
-use crate::names::FirstNames;
-use crate::path_tests::{SharedTest, push_all_of};
-use crate::refusal::BindRefusal;
+use crate::path_tests::push_all_of;
 use gq_alternatives::{Choice, choices_of};
+use gq_ast::{Ast, Clause};
 use gq_base::{Catalog, List, Memory, Text};
+use gq_bound::{BindRefusal, ClauseParts, FirstNames, SharedTest};
 use gq_cuts::entry_tests;
 use gq_plan::{NamedExpr, OptionalPart};
 use gq_scopes::{Copying, Pattern, Scope, next, number};
-use gq_syntax::{Ast, Clause};
 use gq_trees::conjuncts_of;
 use std::alloc::Global;
-
-/// What is shared of an OPTIONAL MATCH clause: its patterns by themselves, which variables of the
-/// query its node variables and its relationship variables are, the conjuncts of its condition, and
-/// the tests of its maps.
-#[derive(Drop)]
-pub struct ClauseParts<'q> {
-    pub pattern: Pattern<'q>,
-    pub nodes: List<u32>,
-    pub rels: List<u32>,
-    pub conjuncts: List<NamedExpr>,
-    pub tests: List<NamedExpr>,
-}
 
 /// Reads OPTIONAL MATCH clauses, numbered from the first one's number on, behind the clauses that
 /// were read. Each condition sees the variables of its clause and of earlier ones.

@@ -1,21 +1,21 @@
 //! What ORDER BY may not ask.
 ghost use Rattle.std.specs.Prelude.{◌≡◌, All, IfOk};
 ghost use Rattle.std.specs.Option.{option_copied};
-ghost use Rattle.gq_binder.specs.steps.Checks.{Checks};
-ghost use Rattle.gq_binder.specs.steps.Parts.{ambiguous_in, out_of_scope_in};
-ghost use Rattle.gq_binder.specs.Refusals as refusals;
-ghost use Rattle.gq_binder.specs.Refusals.{first_in, out_of_scope_from, sorts_in};
+ghost use Rattle.gq_bound.specs.steps.Checks.{Checks};
+ghost use Rattle.gq_bound.specs.steps.Parts.{ambiguous_in, out_of_scope_in};
+ghost use Rattle.gq_bound.specs.Refusals as refusals;
+ghost use Rattle.gq_bound.specs.Refusals.{first_in, out_of_scope_from, sorts_in};
 ghost use Rattle.gq_trees.specs.Checks.{check_of};
 ghost use Rattle.gq_trees.specs.MadeOf.{column_exprs};
 ghost use Rattle.gq_trees.specs.Renames.{renamed_name};
 ghost use Rattle.gq_trees.specs.Resolving.{as_lists, resolved};
-ghost use Rattle.gq_syntax.specs.Spans.{IsWholeTree};
+ghost use Rattle.gq_ast.specs.Spans.{IsWholeTree};
 
 use crate::columns::columns_of;
-use crate::refusal::BindRefusal;
+use gq_ast::{Ast, Query, Sort};
 use gq_base::{Memory, Text};
+use gq_bound::BindRefusal;
 use gq_scopes::{Column, Copying, Pattern, Scope, copy_text, next};
-use gq_syntax::{Ast, Query, Sort};
 use gq_trees::{CallForm, Check, ColumnExprs, Renamed, first_refused, resolve_part};
 use std::alloc::Global;
 

@@ -1,75 +1,31 @@
 //! The parts of a query that its checks and its bound form share, each made once.
 ghost use Rattle.std.specs.Prelude.{◌≡◌, ◌++◌, ◌∷◌, [], flat_map, map, All, IfOk, IfSome};
 ghost use Rattle.std.specs.Prelude.{OnOk, length};
-ghost use Rattle.gq_binder.specs.Columns.{columns_in, conditions_from};
+ghost use Rattle.gq_bound.specs.Columns.{columns_in, conditions_from};
 ghost use Rattle.gq_cuts.specs.Entries.{entry_test};
-ghost use Rattle.gq_binder.specs.Columns.{optional_conditions, scoped_in, whole_pattern};
-ghost use Rattle.gq_binder.specs.steps.Names.{no_names, with_clauses_names, with_expressions};
-ghost use Rattle.gq_binder.specs.steps.Parts.{clauses_parts, known_conjuncts, known_seen};
-ghost use Rattle.gq_binder.specs.steps.Parts.{known_tests_of, parts_of};
-ghost use Rattle.gq_binder.specs.Refusals.{items_in, sorts_in};
-ghost use Rattle.gq_binder.specs.Tested.{seen_elsewhere};
+ghost use Rattle.gq_bound.specs.Columns.{optional_conditions, scoped_in, whole_pattern};
+ghost use Rattle.gq_bound.specs.steps.Names.{no_names, with_clauses_names, with_expressions};
+ghost use Rattle.gq_bound.specs.steps.Parts.{clauses_parts, known_conjuncts, known_seen};
+ghost use Rattle.gq_bound.specs.steps.Parts.{known_tests_of, parts_of};
+ghost use Rattle.gq_bound.specs.Refusals.{items_in, sorts_in};
+ghost use Rattle.gq_bound.specs.Tested.{seen_elsewhere};
 ghost use Rattle.gq_scopes.specs.Patterns.{no_pattern, pattern_of, with_clauses};
 ghost use Rattle.gq_trees.specs.Resolving.{functions};
 ghost use Rattle.gq_scopes.specs.Scopes.{scope_of};
-ghost use Rattle.gq_syntax.specs.Spans.{IsWholeTree};
-ghost use Rattle.gq_syntax.specs.steps.Spans.{IsWholeClause, IsWholeEntry, StandsIn};
+ghost use Rattle.gq_ast.specs.Spans.{IsWholeTree};
+ghost use Rattle.gq_ast.specs.steps.Spans.{IsWholeClause, IsWholeEntry, StandsIn};
 
 use crate::columns::columns_of;
-use crate::names::FirstNames;
-use crate::optionals::{ClauseParts, read_optionals};
-use crate::path_tests::{SharedTest, push_in_items, push_in_sorts, push_strays_of, push_tests};
+use crate::optionals::read_optionals;
+use crate::path_tests::{push_in_items, push_in_sorts, push_strays_of, push_tests};
+use gq_ast::{Ast, Clause, Query};
 use gq_base::{List, Memory};
+use gq_bound::{ClauseParts, FirstNames, QueryParts, SharedTest};
 use gq_cuts::entry_tests;
 use gq_plan::NamedExpr;
 use gq_scopes::{Column, MapEntry, Pattern, Scope, next, number};
-use gq_syntax::{Ast, Clause, Query};
 use gq_trees::{CallForm, conjuncts_of};
 use std::alloc::Global;
-
-/// The parts of a query: the patterns of all clauses, and those of its MATCH clauses, the first names
-/// that the checks of names refuse, its columns, the conjuncts of its MATCH clauses' conditions, its
-/// EXISTS, the tests of the maps of its MATCH clauses, and its OPTIONAL MATCH clauses.
-#[derive(Drop)]
-pub struct QueryParts<'q> {
-    pub pattern: Pattern<'q>,
-    pub matched: Pattern<'q>,
-    pub names: FirstNames<'q>,
-    pub columns: List<Column>,
-    pub conjuncts: List<NamedExpr>,
-    pub exists: List<SharedTest<'q>>,
-    pub tests: List<NamedExpr>,
-    pub optionals: List<ClauseParts<'q>>,
-}
-
-/// The lists that a bound form takes of a query's parts.
-#[derive(Drop)]
-pub struct TakenLists<'q> {
-    pub columns: List<Column>,
-    pub conjuncts: List<NamedExpr>,
-    pub optionals: List<ClauseParts<'q>>,
-}
-
-impl<'q> QueryParts<'q> {
-    /// The lists that a bound form takes. The other parts are dropped.
-    pub fn into_lists(self) -> TakenLists<'q>
-        ensures columns { result.columns ≡ self.entry.columns }
-        ensures conjuncts { result.conjuncts ≡ self.entry.conjuncts }
-        ensures optionals { result.optionals ≡ self.entry.optionals }
-    {
-        let QueryParts {
-            columns,
-            conjuncts,
-            optionals,
-            ..
-        } = self;
-        TakenLists {
-            columns,
-            conjuncts,
-            optionals,
-        }
-    }
-}
 
 /// The parts of a query that stands in a text.
 pub fn parts_of<'q>(alloc: Global, text: &[u8], query: &'q Query) -> Result<QueryParts<'q>, Memory>
@@ -243,7 +199,7 @@ fn conditions_of<'q>(
 
 // Reads clauses behind those that were read. Each condition sees the variables of its clause and of
 // earlier ones.
-#[tactic(auto, using(crate::proofs::PartLemmas::known_conjuncts_append, crate::proofs::PartLemmas::known_seen_append))]
+#[tactic(auto, using(gq_bound::proofs::PartLemmas::known_conjuncts_append, gq_bound::proofs::PartLemmas::known_seen_append))]
 fn read_clauses<'q>(
     alloc: Global,
     text: &[u8],

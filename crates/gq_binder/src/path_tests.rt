@@ -2,55 +2,28 @@
 ghost use Rattle.std.specs.Prelude.{◌≡◌, ◌++◌, ◌∷◌, [], All, filter_map, flat_map, map, IfOk};
 ghost use Rattle.std.specs.Prelude.{IfSome, OnOk, ◌+◌, length};
 ghost use Rattle.gq_alternatives.specs.Alternatives.{pattern_alternatives};
-ghost use Rattle.gq_binder.specs.Refusals.{alternatives_in, over_limit, paths_of};
-ghost use Rattle.gq_binder.specs.declared.refusal.BindRefusal.TheVariants as refusal;
-ghost use Rattle.gq_binder.specs.steps.Checks.{Checks};
-ghost use Rattle.gq_binder.specs.steps.Parts as steps;
-ghost use Rattle.gq_binder.specs.steps.Parts.{shared_in};
-ghost use Rattle.gq_binder.specs.Refusals.{items_in, sorts_in};
-ghost use Rattle.gq_binder.specs.Tested.{seen_elsewhere, stray_test};
+ghost use Rattle.gq_bound.specs.Refusals.{alternatives_in, over_limit, paths_of};
+ghost use Rattle.gq_bound.specs.declared.refusal.BindRefusal.TheVariants as refusal;
+ghost use Rattle.gq_bound.specs.steps.Checks.{Checks};
+ghost use Rattle.gq_bound.specs.steps.Parts as steps;
+ghost use Rattle.gq_bound.specs.steps.Parts.{shared_in};
+ghost use Rattle.gq_bound.specs.Refusals.{items_in, sorts_in};
+ghost use Rattle.gq_bound.specs.Tested.{seen_elsewhere, stray_test};
 ghost use Rattle.gq_scopes.specs.PathPatterns.{path_pattern};
-ghost use Rattle.gq_syntax.specs.steps.Spans.{IsWholeEntry, IsWholePath};
+ghost use Rattle.gq_ast.specs.steps.Spans.{IsWholeEntry, IsWholePath};
 ghost use Rattle.gq_trees.specs.Places.{strays};
 
 use crate::bound::{MOST_TESTS, typed_out_of};
-use crate::refusal::BindRefusal;
 use gq_alternatives::{Choice, choices_of};
+use gq_ast::{Ast, Item, Sort};
 use gq_base::{Catalog, List, Literal, Memory, Text};
+use gq_bound::{BindRefusal, SharedTest};
 use gq_cuts::entry_tests;
 use gq_expr::Expr;
 use gq_plan::{ExistsPart, NamedExpr};
 use gq_scopes::{Copying, Pattern, Scope, copy_text, shared_variables};
-use gq_syntax::{Ast, Item, Sort};
 use gq_trees::{NamedTest, PathTest, push_paths, push_strays};
 use std::alloc::Global;
-use std::marker::Model;
-
-/// An EXISTS, and which node variables of the query its path names; what it is called, where it is
-/// a test, a whole conjunct of a condition.
-#[derive(Drop)]
-pub struct SharedTest<'q> {
-    pub name: Option<Text>,
-    pub test: PathTest<'q>,
-    pub nodes: List<u32>,
-}
-
-impl<'q> Model for SharedTest<'q> {
-    ghost use Rattle.gq_binder.specs.Tested.{SharedTest};
-
-    ghost Value = { SharedTest };
-
-    ghost view = { λ t. record { name = t.name; test = t.test; nodes = t.nodes } };
-}
-
-impl<'q> SharedTest<'q> {
-    /// The pattern of its path.
-    pub fn pattern(&self, alloc: Global) -> Result<Pattern<'q>, Memory>
-        ensures { IfOk result (λ p. p ≡ path_pattern self.now.test.path) }
-    {
-        Pattern::of_path(alloc, self.test.path)
-    }
-}
 
 /// Appends tests, with the variables that their paths share with a scope.
 pub fn push_tests<'q>(

@@ -2,12 +2,12 @@
 //! first, and no trail has a variable.
 ghost use Rattle.std.specs.Prelude.{◌≡◌, ◌∷◌, ◌++◌, [], filter_map, if◌then◌else◌, is_some, map};
 ghost use Rattle.std.specs.Prelude.{slice_get, unwrap_or, IfOk, OnOk};
-ghost use Rattle.gq_binder.specs.Columns as columns;
-ghost use Rattle.gq_binder.specs.Columns.{column_expr, sort_expr, trail_name};
-ghost use Rattle.gq_binder.specs.steps.Parts as steps;
-ghost use Rattle.gq_binder.specs.steps.Parts.{alternatives_of_core, cored_in, cored_names};
-ghost use Rattle.gq_binder.specs.steps.Parts.{exists_part, renumbered_all, renumbered_keys};
-ghost use Rattle.gq_binder.specs.steps.Parts.{IsWholeCore};
+ghost use Rattle.gq_bound.specs.Columns as columns;
+ghost use Rattle.gq_bound.specs.Columns.{column_expr, sort_expr, trail_name};
+ghost use Rattle.gq_bound.specs.steps.Parts as steps;
+ghost use Rattle.gq_bound.specs.steps.Parts.{alternatives_of_core, cored_in, cored_names};
+ghost use Rattle.gq_bound.specs.steps.Parts.{exists_part, renumbered_all, renumbered_keys};
+ghost use Rattle.gq_bound.specs.steps.Parts.{IsWholeCore};
 ghost use Rattle.gq_cuts.specs.Renumbering.{plain_from};
 ghost use Rattle.gq_law_cuts.specs.Cuts as cuts;
 ghost use Rattle.gq_scopes.specs.Scopes.{scope_of};
@@ -15,13 +15,13 @@ ghost use Rattle.gq_scopes.specs.Scopes.{scope_of};
 use crate::bound::{MOST_TESTS, copy_texts, known_keys};
 use crate::checks::Alternatives;
 use crate::columns::known_columns;
-use crate::parts::{QueryParts, TakenLists};
 use gq_alternatives::Choice;
+use gq_ast::Query;
 use gq_base::{Catalog, List, Memory, Text};
+use gq_bound::{QueryParts, TakenLists};
 use gq_cuts::{Core, Orders, core_typed, entry_tests, plain_rels, renumber, trail_parts};
 use gq_plan::{Bound, ExistsPart, NamedExpr, SortExpr, Typed};
 use gq_scopes::{Column, Copying, Pattern, RelPattern, copy_text, next};
-use gq_syntax::Query;
 use std::alloc::Global;
 
 /// The bound form that the parts of a query with trails and its core give.

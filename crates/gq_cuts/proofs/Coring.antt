@@ -8,7 +8,7 @@ use Rattle.gq_law_cuts.specs.Shaped.{core_pattern_of}
 use Rattle.gq_law_reaches.specs.Core.{core_nodes}
 use Rattle.gq_law_reaches.specs.Reaches.{Trailed}
 use Rattle.gq_scopes.specs.Patterns.{Pattern}
-use Rattle.gq_syntax.specs.declared.Clause.{Clause}
+use Rattle.gq_ast.specs.declared.Clause.{Clause}
 
 size_is : (clauses : List Clause) → core_size clauses ≡ length (core_nodes (trailed_of clauses))
 unfolding core_size

@@ -7,11 +7,11 @@ use Rattle.gq_alternatives.proofs.ShapesOfPatterns.{node_cases}
 use Rattle.gq_plan.specs.declared.PathPart.{PathPart}
 use Rattle.gq_scopes.specs.Patterns as plain
 use Rattle.gq_scopes.specs.Patterns.{NodePattern, Pattern, RelPattern, known_as, no_pattern, pattern_of, variable_of, with_node, with_part, with_rel}
-use Rattle.gq_syntax.specs.declared.Clause.{Clause}
-use Rattle.gq_syntax.specs.declared.Hop.{Hop}
-use Rattle.gq_syntax.specs.declared.NodePart.{NodePart}
-use Rattle.gq_syntax.specs.declared.Path.{Path}
-use Rattle.gq_syntax.specs.declared.Range.{Range}
+use Rattle.gq_ast.specs.declared.Clause.{Clause}
+use Rattle.gq_ast.specs.declared.Hop.{Hop}
+use Rattle.gq_ast.specs.declared.NodePart.{NodePart}
+use Rattle.gq_ast.specs.declared.Path.{Path}
+use Rattle.gq_ast.specs.declared.Range.{Range}
 use Rattle.gq_law_cuts.specs.Cuts.{alone_in, in_pattern, piece_behind, trailed_of, with_clauses, with_hop, with_hops, with_path, with_paths}
 use Rattle.gq_law_cuts.specs.Cuts.{core_first, core_of, core_size, pattern_in, placed_in}
 use Rattle.gq_law_cuts.specs.Shaped.{core_pattern_of}

@@ -3,9 +3,9 @@ use Rattle.std.proofs.Common.{◌≡◌, Bool, true, false, Option, Some, None, 
 use Rattle.std.specs.List.{AllByRecursion, list_any}
 use Rattle.std.specs.Prelude.{is_some}
 use Rattle.gq_law_cuts.specs.Plain.{HaveNoTrail}
-use Rattle.gq_syntax.specs.declared.Clause.{Clause}
-use Rattle.gq_syntax.specs.declared.Hop.{Hop}
-use Rattle.gq_syntax.specs.declared.Path.{Path}
+use Rattle.gq_ast.specs.declared.Clause.{Clause}
+use Rattle.gq_ast.specs.declared.Hop.{Hop}
+use Rattle.gq_ast.specs.declared.Path.{Path}
 use Rattle.gq_cuts.specs.Cored.{has_trail, is_trail, path_has_trail}
 
 none_found : {X : Type 0} (p : X → Bool) (Q : X → Type 0) → ((x : X) → p x ≡ false → Q x) → (xs : List X) → list_any p xs ≡ false → AllByRecursion Q xs

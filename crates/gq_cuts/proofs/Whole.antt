@@ -8,13 +8,13 @@ use Rattle.gq_plan.specs.declared.PathPart.{PathPart}
 use Rattle.gq_plan.specs.declared.variable.Variable.{Variable}
 use Rattle.gq_plan.specs.declared.variable.Variable.TheVariants.{Node as node, Rel as rel}
 use Rattle.gq_scopes.specs.Patterns.{MapEntry, Name, Pattern, called, entries_of, variable_of, with_node, with_part, with_rel}
-use Rattle.gq_syntax.specs.declared.Clause.{Clause}
-use Rattle.gq_syntax.specs.declared.Entry.{Entry}
-use Rattle.gq_syntax.specs.declared.Hop.{Hop}
-use Rattle.gq_syntax.specs.declared.NodePart.{NodePart}
-use Rattle.gq_syntax.specs.declared.Path.{Path}
-use Rattle.gq_syntax.specs.declared.Range.{Range}
-use Rattle.gq_syntax.specs.steps.Spans.{IsWholeClause, IsWholeEntry, IsWholeHop, IsWholePath}
+use Rattle.gq_ast.specs.declared.Clause.{Clause}
+use Rattle.gq_ast.specs.declared.Entry.{Entry}
+use Rattle.gq_ast.specs.declared.Hop.{Hop}
+use Rattle.gq_ast.specs.declared.NodePart.{NodePart}
+use Rattle.gq_ast.specs.declared.Path.{Path}
+use Rattle.gq_ast.specs.declared.Range.{Range}
+use Rattle.gq_ast.specs.steps.Spans.{IsWholeClause, IsWholeEntry, IsWholeHop, IsWholePath}
 use Rattle.gq_law_cuts.specs.Cuts.{alone_in, core_first, cored_of, in_pattern, piece_behind, trailed_of, variable_in, with_clauses, with_hop, with_hops, with_path, with_paths}
 use Rattle.gq_law_reaches.specs.Reaches.{Trailed}
 

@@ -4,9 +4,9 @@ use Rattle.std.specs.List.{list_any}
 use Rattle.gq_law_cuts.specs.Cuts.{core_first, core_size, cored_of, trailed_of}
 use Rattle.gq_law_cuts.specs.Plain.{HaveNoTrail}
 use Rattle.gq_law_cuts.specs.Shaped.{core_pattern_of}
-use Rattle.gq_syntax.specs.declared.Clause.{Clause}
-use Rattle.gq_syntax.specs.declared.Hop.{Hop}
-use Rattle.gq_syntax.specs.declared.Path.{Path}
+use Rattle.gq_ast.specs.declared.Clause.{Clause}
+use Rattle.gq_ast.specs.declared.Hop.{Hop}
+use Rattle.gq_ast.specs.declared.Path.{Path}
 use Rattle.gq_cuts.specs.declared.cored.Core.{Core}
 
 -- a relationship of MATCH clauses is a trail

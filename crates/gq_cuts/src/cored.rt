@@ -11,9 +11,9 @@ use crate::choosing::{core_first, core_nodes};
 use crate::narrowing::core_pattern;
 use crate::numbering::numbered_in;
 use crate::trailed::Trailed;
+use gq_ast::{Clause, Hop, Path};
 use gq_base::{List, Memory};
 use gq_scopes::{Pattern, number};
-use gq_syntax::{Clause, Hop, Path};
 use std::alloc::Global;
 
 /// The core of a query with trails, whose node variables are numbered anew.

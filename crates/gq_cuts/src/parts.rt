@@ -6,16 +6,16 @@ ghost use Rattle.gq_law_cuts.specs.Cuts.{leads_right};
 ghost use Rattle.gq_law_reaches.specs.Core as reached;
 ghost use Rattle.gq_law_reaches.specs.Core.{entries_at};
 ghost use Rattle.gq_scopes.specs.Patterns as patterns;
-ghost use Rattle.gq_syntax.specs.steps.Spans.{IsWholeEntry};
+ghost use Rattle.gq_ast.specs.steps.Spans.{IsWholeEntry};
 
 use crate::choosing::{copied, core_nodes, has, put_front};
 use crate::cored::Core;
 use crate::entries::entry_test;
 use crate::trailed::TrailPattern;
+use gq_ast::{Arrow, RelPart};
 use gq_base::{Direction, List, Memory, Text};
 use gq_plan::{NamedExpr, TrailPart, Variable};
 use gq_scopes::{MapEntry, NodePattern, Pattern, copy_text};
-use gq_syntax::{Arrow, RelPart};
 use std::alloc::Global;
 
 /// All trails of a query, which stands in a text, in text order: each is walked from its left end

@@ -7,10 +7,10 @@ ghost use Rattle.gq_law_reaches.specs.Reaches.{without_trails};
 ghost use Rattle.gq_scopes.specs.Patterns as patterns;
 ghost use Rattle.gq_scopes.specs.Patterns.{no_pattern};
 
+use gq_ast::{Clause, Hop, Path, Range, RelPart};
 use gq_base::{List, Memory};
 use gq_plan::PathPart;
 use gq_scopes::{Pattern, next, number};
-use gq_syntax::{Clause, Hop, Path, Range, RelPart};
 use std::alloc::Global;
 use std::marker::Model;
 

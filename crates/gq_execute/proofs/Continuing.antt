@@ -9,7 +9,7 @@ use Rattle.gq_base.specs.declared.NodeId.{NodeId}
 use Rattle.gq_base.specs.declared.RelId.{RelId}
 use Rattle.gq_alternatives.proofs.SoundPatterns.{IsChoice, each_alternative}
 use Rattle.gq_alternatives.specs.Alternatives.{Choice, Reading, agrees, pattern_alternatives, typed_of, typed_rels}
-use Rattle.gq_binder.specs.Binding.{IsBound}
+use Rattle.gq_bound.specs.Binding.{IsBound}
 use Rattle.gq_cuts.specs.Entries.{entry_test}
 use Rattle.gq_expr.specs.Reading as reading
 use Rattle.gq_law_cores.proofs.Starting.{begin_so, nodes_real, owed_are_trail_rows, placed_so}

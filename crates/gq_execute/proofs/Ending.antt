@@ -7,13 +7,13 @@ use Rattle.std.proofs.lemmas.Bool.Decides.{nat_tests}
 use Rattle.gq_base.specs.Lists.{is_empty}
 use Rattle.gq_base.specs.Plain.{Graph}
 use Rattle.gq_base.specs.Valid.{is_valid}
-use Rattle.gq_binder.specs.Binding.{IsBound}
+use Rattle.gq_bound.specs.Binding.{IsBound}
 use Rattle.gq_pipe.specs.declared.pipeline.Spent.{Spent}
 use Rattle.gq_plan.specs.declared.Bound.{Bound}
 use Rattle.gq_plan.specs.declared.ExistsPart.{ExistsPart}
 use Rattle.gq_rows.specs.Answers.{cut_of}
 use Rattle.gq_rows.specs.Tables.{Table, is_full, is_full_table}
-use Rattle.gq_syntax.specs.declared.Query.{Query}
+use Rattle.gq_ast.specs.declared.Query.{Query}
 use Rattle.gq_execute.specs.Answering.{RepliesToEach, question}
 use Rattle.gq_execute.specs.Replies.{Question, has_heavy_clause, has_heavy_test, has_turns, some_many_keys, tests_of}
 use Rattle.gq_execute.specs.Spending.{IsSpentOn, IsSpentOnClause}

@@ -8,9 +8,9 @@ use Rattle.std.proofs.lemmas.Option.{get_or_from_slice_get, slice_get_within}
 use Rattle.gq_base.specs.Catalogs.{Tables}
 use Rattle.gq_base.specs.Plain.{Graph}
 use Rattle.gq_base.specs.Valid.{is_valid}
-use Rattle.gq_binder.specs.Binding.{IsBound}
-use Rattle.gq_binder.specs.Optionals.{AreOptional, clause_matches, known_first}
-use Rattle.gq_binder.specs.Tested.{all_met}
+use Rattle.gq_bound.specs.Binding.{IsBound}
+use Rattle.gq_bound.specs.Optionals.{AreOptional, clause_matches, known_first}
+use Rattle.gq_bound.specs.Tested.{all_met}
 use Rattle.gq_expr.specs.Reading as reading
 use Rattle.gq_expr.specs.declared.Fault.{Fault}
 use Rattle.gq_law_answers.proofs.Plainly.{size_is}
@@ -32,8 +32,8 @@ use Rattle.gq_plan.specs.declared.Bound.{Bound}
 use Rattle.gq_plan.specs.declared.Typed.{Typed}
 use Rattle.gq_plan.specs.declared.bound.OptionalPart.{OptionalPart}
 use Rattle.gq_scopes.specs.Patterns.{Pattern, pattern_of}
-use Rattle.gq_syntax.specs.declared.Clause.{Clause}
-use Rattle.gq_syntax.specs.declared.Query.{Query}
+use Rattle.gq_ast.specs.declared.Clause.{Clause}
+use Rattle.gq_ast.specs.declared.Query.{Query}
 use Rattle.gq_wide.specs.Clauses.{after_clauses}
 use Rattle.gq_execute.specs.Answering.{question}
 use Rattle.gq_execute.specs.Replies.{Question, behind_optionals, later_of, outcomes_behind, rows_of, tests_of}

@@ -10,20 +10,20 @@ use Rattle.std.proofs.lemmas.Simd.{map-map}
 use Rattle.gq_alternatives.specs.Tested.{exists_value}
 use Rattle.gq_base.specs.Plain.{Graph}
 use Rattle.gq_base.specs.Valid.{is_valid}
-use Rattle.gq_binder.specs.Binding.{IsBound}
-use Rattle.gq_binder.specs.Columns.{Scoped, conditions}
-use Rattle.gq_binder.specs.Tested as named
-use Rattle.gq_binder.specs.Tested.{IsTested, ScopedTest, all_met, is_met, scoped_tests, tests}
+use Rattle.gq_bound.specs.Binding.{IsBound}
+use Rattle.gq_bound.specs.Columns.{Scoped, conditions}
+use Rattle.gq_bound.specs.Tested as named
+use Rattle.gq_bound.specs.Tested.{IsTested, ScopedTest, all_met, is_met, scoped_tests, tests}
 use Rattle.gq_exists.proofs.Asked.{exists_by_keys, few_counted, many_counted, matched_few, matched_many}
 use Rattle.gq_exists.specs.Made.{some_stand_on}
 use Rattle.gq_expr.specs.Reading as reading
 use Rattle.gq_law_cores.proofs.Whole.{alternatives_part_trails}
 use Rattle.gq_law_cores.specs.Made.{made_by, trail_rows}
 use Rattle.gq_law_cuts.specs.Cuts.{cored_of}
-use Rattle.gq_lexer.specs.Sources.{source_text}
+use Rattle.gq_ast.specs.Sources.{source_text}
 use Rattle.gq_plan.specs.declared.ExistsPart.{ExistsPart}
-use Rattle.gq_syntax.specs.declared.Path.{Path}
-use Rattle.gq_syntax.specs.declared.Query.{Query}
+use Rattle.gq_ast.specs.declared.Path.{Path}
+use Rattle.gq_ast.specs.declared.Query.{Query}
 use Rattle.gq_trees.specs.Conjuncts.{NamedTest, named_test}
 use Rattle.gq_trees.specs.Conjuncts as trees
 use Rattle.gq_trees.specs.PathTests.{PathTest}

@@ -8,8 +8,8 @@ use Rattle.gq_base.specs.Lists.{is_empty}
 use Rattle.gq_base.specs.Values.{Val}
 use Rattle.gq_base.specs.declared.NodeId.{NodeId}
 use Rattle.gq_alternatives.specs.Matches.{pattern_matches}
-use Rattle.gq_binder.specs.Optionals.{clause_matches, known_first}
-use Rattle.gq_binder.specs.Tested.{ScopedTest, tests, where_met}
+use Rattle.gq_bound.specs.Optionals.{clause_matches, known_first}
+use Rattle.gq_bound.specs.Tested.{ScopedTest, tests, where_met}
 use Rattle.gq_expr.specs.Reading as reading
 use Rattle.gq_expr.specs.declared.Fault.{Fault}
 use Rattle.gq_law_answers.specs.Answered.{allowed}
@@ -29,7 +29,7 @@ use Rattle.gq_plan.specs.declared.bound.OptionalPart.{OptionalPart}
 use Rattle.gq_plan.specs.declared.Typed.{Typed}
 use Rattle.gq_scopes.specs.PathPatterns.{path_pattern}
 use Rattle.gq_rows.specs.Answers.{Answers, cut_of, kept, looked_at, rows_in}
-use Rattle.gq_syntax.specs.declared.Query.{Query}
+use Rattle.gq_ast.specs.declared.Query.{Query}
 use Rattle.gq_wide.specs.Clauses.{after_clauses}
 use Rattle.gq_execute.specs.declared.settings.Order.{Order}
 use Rattle.gq_execute.specs.declared.settings.Order.TheVariants as order

@@ -2,7 +2,7 @@
 use Rattle.std.specs.Prelude.{◌≡◌, ℕ, ◌+◌, Option, None, Result, Ok, Err, List, [], ◌∷◌, ◌++◌, flat_map, length, sum_by, if◌then◌else◌}
 use Rattle.std.specs.List.{AllZip}
 use Rattle.gq_base.specs.Plain.{Graph}
-use Rattle.gq_binder.specs.Binding.{IsBound}
+use Rattle.gq_bound.specs.Binding.{IsBound}
 use Rattle.gq_exists.specs.Spending.{HasSpentEach}
 use Rattle.gq_optional.specs.Spending.{Listing, spent_on_each}
 use Rattle.gq_pipe.specs.Spending.{HasOneEach, HasSpent, HasSpentAll, up_to_most}
@@ -15,7 +15,7 @@ use Rattle.gq_plan.specs.declared.ExistsPart.{ExistsPart}
 use Rattle.gq_plan.specs.declared.bound.OptionalPart.{OptionalPart}
 use Rattle.gq_plan.specs.declared.Typed.{Typed}
 use Rattle.gq_rows.specs.Answers.{cut_of, rows_in}
-use Rattle.gq_syntax.specs.declared.Query.{Query}
+use Rattle.gq_ast.specs.declared.Query.{Query}
 use Rattle.gq_execute.specs.Answering.{question}
 use Rattle.gq_execute.specs.Planned.{ArePlansIn, IsPlanIn, sizes}
 use Rattle.gq_execute.specs.Replies.{Question, has_turn, has_turns, outcomes_in}

@@ -11,7 +11,7 @@ use Rattle.gq_alternatives.specs.Tested.{exists_value}
 use Rattle.gq_base.specs.Plain.{Graph}
 use Rattle.gq_base.specs.Valid.{is_valid}
 use Rattle.gq_base.specs.declared.NodeId.{NodeId}
-use Rattle.gq_binder.specs.Tested.{IsTested, ScopedTest}
+use Rattle.gq_bound.specs.Tested.{IsTested, ScopedTest}
 use Rattle.gq_expr.specs.Reading as reading
 use Rattle.gq_law_answers.proofs.Listed.{pattern_planned}
 use Rattle.gq_law_answers.specs.Answered.{meanings}

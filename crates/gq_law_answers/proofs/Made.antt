@@ -7,7 +7,7 @@ use Rattle.std.proofs.lemmas.List.Folds.{flat_map-map}
 use Rattle.gq_base.specs.Plain.{Graph}
 use Rattle.gq_base.specs.Valid as valid
 use Rattle.gq_base.specs.Values.{null, flag, int, str, node, rel}
-use Rattle.gq_binder.specs.Binding.{IsBound}
+use Rattle.gq_bound.specs.Binding.{IsBound}
 use Rattle.gq_expr.specs.Operators.{Outcome}
 use Rattle.gq_expr.specs.Reading as reading
 use Rattle.gq_expr.specs.declared.Fault.{Fault}
@@ -39,7 +39,7 @@ use Rattle.gq_plan.specs.declared.Bound.{Bound}
 use Rattle.gq_plan.specs.declared.NamedExpr.{NamedExpr}
 use Rattle.gq_plan.specs.declared.Typed.{Typed}
 use Rattle.gq_scopes.specs.Patterns.{Pattern, pattern_of}
-use Rattle.gq_syntax.specs.declared.Query.{Query}
+use Rattle.gq_ast.specs.declared.Query.{Query}
 use Rattle.gq_plan.specs.Marked.{Marked, fault_in, marked, made_of, marks, no_fault}
 use Rattle.gq_plan.proofs.Marks.{dropped_row, made_plainly}
 use Rattle.gq_law_plans.proofs.Reordered.{permuted_flat_map}

@@ -12,7 +12,7 @@ use Rattle.gq_base.specs.Lists.{with_first}
 use Rattle.gq_expr.specs.Kinds.{can_fault}
 use Rattle.gq_expr.specs.declared.Expr.{Expr}
 use Rattle.gq_expr.specs.declared.Kinds.{Kinds}
-use Rattle.gq_lexer.specs.Sources.{source_text}
+use Rattle.gq_ast.specs.Sources.{source_text}
 use Rattle.gq_plan.proofs.Each.{each_append, each_kept, each_then}
 use Rattle.gq_plan.specs.Known.{is_bound}
 use Rattle.gq_plan.specs.Reads.{Read, reads}
@@ -21,12 +21,12 @@ use Rattle.gq_plan.specs.declared.Bound.{Bound}
 use Rattle.gq_plan.specs.declared.NamedExpr.{NamedExpr}
 use Rattle.gq_plan.specs.declared.variable.Variable.{Variable}
 use Rattle.gq_plan.specs.declared.variable.Variable.TheVariants.{Node as node, Rel as rel}
-use Rattle.gq_syntax.specs.declared.Ast.{Ast}
-use Rattle.gq_syntax.specs.declared.Clause.{Clause}
-use Rattle.gq_syntax.specs.declared.Hop.{Hop}
-use Rattle.gq_syntax.specs.declared.Path.{Path}
-use Rattle.gq_syntax.specs.declared.Query.{Query}
-use Rattle.gq_syntax.specs.declared.Range.{Range}
+use Rattle.gq_ast.specs.declared.Ast.{Ast}
+use Rattle.gq_ast.specs.declared.Clause.{Clause}
+use Rattle.gq_ast.specs.declared.Hop.{Hop}
+use Rattle.gq_ast.specs.declared.Path.{Path}
+use Rattle.gq_ast.specs.declared.Query.{Query}
+use Rattle.gq_ast.specs.declared.Range.{Range}
 use Rattle.gq_scopes.specs.Patterns.{Pattern, no_pattern, pattern_of, with_clauses, with_paths}
 use Rattle.gq_scopes.specs.Scopes.{Scope, scope_of}
 use Rattle.gq_scopes.specs.steps.Variables.{IsThere}
@@ -43,8 +43,8 @@ use Rattle.gq_law_cuts.proofs.Plain.{kept_all, plain_cuts}
 use Rattle.gq_law_cuts.specs.Cuts.{core_size, cored_of}
 use Rattle.gq_law_cuts.specs.Plain.{HaveNoTrail, PlainTyped}
 use Rattle.gq_law_cuts.specs.Typing.{core_typed, is_early, others_from, stays_in}
-use Rattle.gq_binder.specs.Binding.{IsBound}
-use Rattle.gq_binder.specs.Columns.{Scoped, all_in_bound, conditions, conditions_from, conjuncts, node_order, rel_order, scoped_in}
+use Rattle.gq_bound.specs.Binding.{IsBound}
+use Rattle.gq_bound.specs.Columns.{Scoped, all_in_bound, conditions, conditions_from, conjuncts, node_order, rel_order, scoped_in}
 
 -- ---- where all conjuncts stay
 

@@ -23,7 +23,7 @@ use Rattle.gq_alternatives.proofs.Partition.{alternatives_part}
 use Rattle.gq_alternatives.proofs.Searches.{flat_map_flat_map}
 use Rattle.gq_alternatives.proofs.SoundPatterns.{IsChoice, each_alternative}
 use Rattle.gq_scopes.specs.Patterns.{Pattern, pattern_of}
-use Rattle.gq_syntax.specs.declared.Query.{Query}
+use Rattle.gq_ast.specs.declared.Query.{Query}
 use Rattle.gq_law_answers.specs.Answered.{allowed, meanings, lying, passing, outcomes_of, outcomes_in, LateDecide}
 use Rattle.gq_plan.specs.Outcomes.{Row, outcome, outcome_by, outcomes, late_conjuncts, late_outcomes}
 use Rattle.gq_law_answers.proofs.Alone.{allows_passing, allows_outcomes}

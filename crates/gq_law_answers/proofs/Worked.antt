@@ -12,9 +12,9 @@ use Rattle.gq_plan.specs.Soundness.{IsSound, EndsFit, path_rels, joined}
 use Rattle.gq_plan.specs.Plans.{Plan, Done, Then, Scan, Extend, NoLoop}
 use Rattle.gq_plan.specs.declared.typed.PathPart.{PathPart}
 use Rattle.gq_plan.specs.declared.typed.Typed.{Typed}
-use Rattle.gq_syntax.specs.declared.Arrow.TheVariants as arrow
-use Rattle.gq_syntax.specs.declared.NodePart.{NodePart}
-use Rattle.gq_syntax.specs.declared.Query.{Query}
+use Rattle.gq_ast.specs.declared.Arrow.TheVariants as arrow
+use Rattle.gq_ast.specs.declared.NodePart.{NodePart}
+use Rattle.gq_ast.specs.declared.Query.{Query}
 use Rattle.gq_alternatives.specs.Alternatives.{choices, pattern_alternatives, typed_of}
 use Rattle.gq_alternatives.specs.Matches.{pattern_matches}
 use Rattle.gq_scopes.specs.Patterns.{pattern_of}

@@ -23,13 +23,13 @@ use Rattle.gq_plan.specs.Assignments.{Assignment, assignments, tuples, nodes_of,
 use Rattle.gq_plan.specs.declared.Bound.{Bound}
 use Rattle.gq_plan.specs.declared.NamedExpr.{NamedExpr}
 use Rattle.gq_plan.specs.declared.Typed.{Typed}
-use Rattle.gq_syntax.specs.declared.Arrow.TheVariants as arrow
-use Rattle.gq_syntax.specs.declared.Query.{Query}
+use Rattle.gq_ast.specs.declared.Arrow.TheVariants as arrow
+use Rattle.gq_ast.specs.declared.Query.{Query}
 use Rattle.gq_alternatives.specs.Alternatives.{choices, pattern_alternatives, typed_of}
 use Rattle.gq_alternatives.specs.Matches.{pattern_matches, matches}
 use Rattle.gq_cuts.specs.Entries.{entry_test}
 use Rattle.gq_scopes.specs.Patterns.{pattern_of}
-use Rattle.gq_lexer.specs.Sources.{source_text}
+use Rattle.gq_ast.specs.Sources.{source_text}
 use Rattle.gq_law_answers.specs.Answered.{allowed}
 use Rattle.gq_law_answers.proofs.Entries.{tests_entries}
 use Rattle.gq_law_answers.proofs.Matched.{AreAlternatives}

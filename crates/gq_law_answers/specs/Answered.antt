@@ -5,7 +5,7 @@ use Rattle.std.specs.List.{AllZip, list_all}
 use Rattle.gq_base.specs.Plain.{Graph}
 use Rattle.gq_base.specs.Valid.{is_valid}
 use Rattle.gq_alternatives.specs.Matches.{matches}
-use Rattle.gq_binder.specs.Binding.{IsBound}
+use Rattle.gq_bound.specs.Binding.{IsBound}
 use Rattle.gq_expr.specs.declared.Fault.{Fault}
 use Rattle.gq_law_cuts.specs.Plain.{HaveNoTrail}
 use Rattle.gq_plan.specs.Allowed.{lies_in}
@@ -18,7 +18,7 @@ use Rattle.gq_plan.specs.Plans.{Plan}
 use Rattle.gq_plan.specs.declared.Bound.{Bound}
 use Rattle.gq_plan.specs.declared.NamedExpr.{NamedExpr}
 use Rattle.gq_plan.specs.declared.Typed.{Typed}
-use Rattle.gq_syntax.specs.declared.Query.{Query}
+use Rattle.gq_ast.specs.declared.Query.{Query}
 
 -- all conjuncts are true of an assignment
 abbrev pub all_pass : Graph → List NamedExpr → Assignment → Bool

@@ -9,8 +9,8 @@ use Rattle.gq_expr.specs.Reading as reading
 use Rattle.gq_expr.specs.declared.Fault.{Fault}
 use Rattle.gq_alternatives.specs.Matches.{matches, pattern_matches}
 use Rattle.gq_alternatives.specs.Tested.{exists_value}
-use Rattle.gq_binder.specs.Binding.{IsBound}
-use Rattle.gq_binder.specs.Tested.{IsTested, ScopedTest}
+use Rattle.gq_bound.specs.Binding.{IsBound}
+use Rattle.gq_bound.specs.Tested.{IsTested, ScopedTest}
 use Rattle.gq_law_cuts.specs.Plain.{HaveNoTrail}
 use Rattle.gq_law_answers.specs.Answered.{lying, meanings, outcomes_of}
 use Rattle.gq_plan.specs.Assignments.{Assignment}
@@ -24,7 +24,7 @@ use Rattle.gq_plan.specs.declared.Bound.{Bound}
 use Rattle.gq_plan.specs.declared.ExistsPart.{ExistsPart}
 use Rattle.gq_plan.specs.declared.Typed.{Typed}
 use Rattle.gq_scopes.specs.PathPatterns.{path_pattern}
-use Rattle.gq_syntax.specs.declared.Query.{Query}
+use Rattle.gq_ast.specs.declared.Query.{Query}
 
 -- ---- rows
 

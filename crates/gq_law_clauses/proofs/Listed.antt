@@ -1,7 +1,7 @@
 -- What covering plans make of the alternatives of optional clauses are the clauses' matches.
 use Rattle.std.proofs.Common.{suc, [], ◌∷◌}
 use Rattle.gq_law_answers.proofs.Listed.{pattern_planned}
-use Rattle.gq_binder.specs.Optionals.{alone}
+use Rattle.gq_bound.specs.Optionals.{alone}
 use Rattle.gq_law_clauses.specs.Laws.{ClausePlansMeanMatches, PlansMeanClauses}
 use Rattle.gq_scopes.specs.Patterns.{with_paths}
 

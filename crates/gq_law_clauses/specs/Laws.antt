@@ -4,7 +4,7 @@ use Rattle.std.specs.Prelude.{ℕ, IsTrue, IsPermutation, List, [], ◌∷◌, m
 use Rattle.std.specs.List.{AllZip}
 use Rattle.gq_base.specs.Plain.{Graph}
 use Rattle.gq_base.specs.Valid.{is_valid}
-use Rattle.gq_binder.specs.Optionals.{AreOptional, IsOptional, clause_matches}
+use Rattle.gq_bound.specs.Optionals.{AreOptional, IsOptional, clause_matches}
 use Rattle.gq_law_answers.specs.Answered.{meanings}
 use Rattle.gq_plan.specs.Assignments.{Assignment}
 use Rattle.gq_plan.specs.Covers.{Covers}
@@ -12,7 +12,7 @@ use Rattle.gq_plan.specs.Marked.{Marked}
 use Rattle.gq_plan.specs.Plans.{Plan}
 use Rattle.gq_plan.specs.declared.bound.OptionalPart.{OptionalPart}
 use Rattle.gq_scopes.specs.Patterns.{Pattern}
-use Rattle.gq_syntax.specs.declared.Clause.{Clause}
+use Rattle.gq_ast.specs.declared.Clause.{Clause}
 use Rattle.gq_wide.specs.Clauses.{after_clauses}
 
 -- ---- one clause

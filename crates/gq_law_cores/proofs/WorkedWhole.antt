@@ -24,8 +24,8 @@ use Rattle.gq_plan.specs.Soundness.{IsSound, joined, path_rels}
 use Rattle.gq_plan.specs.declared.Bound.{Bound}
 use Rattle.gq_plan.specs.declared.PathPart.{PathPart}
 use Rattle.gq_plan.specs.declared.Typed.{Typed}
-use Rattle.gq_syntax.specs.declared.Arrow.TheVariants as arrow
-use Rattle.gq_syntax.specs.declared.Clause.{Clause}
+use Rattle.gq_ast.specs.declared.Arrow.TheVariants as arrow
+use Rattle.gq_ast.specs.declared.Clause.{Clause}
 use Rattle.gq_law_cuts.specs.Cuts.{HaveLengths, core_size, cored_of, trailed_of}
 use Rattle.gq_law_cuts.specs.Shaped.{core_pattern_of}
 use Rattle.gq_law_cuts.specs.Typing.{core_typed}

@@ -15,7 +15,7 @@ use Rattle.gq_plan.specs.Marked.{Marked, made_of}
 use Rattle.gq_plan.specs.Outcomes.{Row}
 use Rattle.gq_plan.specs.declared.Bound.{Bound}
 use Rattle.gq_scopes.specs.Patterns.{pattern_of}
-use Rattle.gq_syntax.specs.declared.Clause.{Clause}
+use Rattle.gq_ast.specs.declared.Clause.{Clause}
 use Rattle.gq_law_cuts.specs.Cuts.{HaveLengths, core_size, cored_of}
 use Rattle.gq_law_cores.specs.Made.{MakesContinued, made_by, trail_rows}
 use Rattle.gq_law_cuts.specs.Plain.{HaveNoTrail}

@@ -17,11 +17,11 @@ use Rattle.gq_plan.specs.declared.variable.Variable.TheVariants.{Node as node, R
 use Rattle.gq_scopes.specs.Patterns as plain
 use Rattle.gq_scopes.specs.Patterns.{MapEntry, Name, NamedVariable, NodePattern, Pattern, RelPattern, naming, no_pattern, pattern_of, variable_of, with_node, with_part, with_rel}
 use Rattle.gq_scopes.specs.steps.Variables.{IsThere}
-use Rattle.gq_syntax.specs.declared.Clause.{Clause}
-use Rattle.gq_syntax.specs.declared.Hop.{Hop}
-use Rattle.gq_syntax.specs.declared.NodePart.{NodePart}
-use Rattle.gq_syntax.specs.declared.Path.{Path}
-use Rattle.gq_syntax.specs.declared.Range.{Range}
+use Rattle.gq_ast.specs.declared.Clause.{Clause}
+use Rattle.gq_ast.specs.declared.Hop.{Hop}
+use Rattle.gq_ast.specs.declared.NodePart.{NodePart}
+use Rattle.gq_ast.specs.declared.Path.{Path}
+use Rattle.gq_ast.specs.declared.Range.{Range}
 use Rattle.gq_law_cuts.specs.Cuts.{alone_in, core_first, core_of, core_size, cored_of, in_pattern, listed_in, pattern_in, piece_behind, placed_in, trailed_of, variable_in, with_clauses, with_hop, with_hops, with_path, with_paths}
 use Rattle.gq_law_cuts.specs.Plain.{HaveNoTrail, PlainCuts}
 use Rattle.gq_law_cuts.proofs.Coring.{is_core, outside}

@@ -12,11 +12,11 @@ use Rattle.gq_plan.specs.Soundness.{has_number}
 use Rattle.gq_plan.specs.declared.PathPart.{PathPart}
 use Rattle.gq_scopes.proofs.RangeLemmas.{range_more}
 use Rattle.gq_scopes.specs.Patterns.{NodePattern, Pattern, RelPattern, no_pattern, variable_of, with_node, with_part, with_rel}
-use Rattle.gq_syntax.specs.declared.Clause.{Clause}
-use Rattle.gq_syntax.specs.declared.Hop.{Hop}
-use Rattle.gq_syntax.specs.declared.NodePart.{NodePart}
-use Rattle.gq_syntax.specs.declared.Path.{Path}
-use Rattle.gq_syntax.specs.declared.Range.{Range}
+use Rattle.gq_ast.specs.declared.Clause.{Clause}
+use Rattle.gq_ast.specs.declared.Hop.{Hop}
+use Rattle.gq_ast.specs.declared.NodePart.{NodePart}
+use Rattle.gq_ast.specs.declared.Path.{Path}
+use Rattle.gq_ast.specs.declared.Range.{Range}
 use Rattle.gq_law_reaches.specs.Cores.{is_end}
 use Rattle.gq_law_reaches.specs.Reaches.{TrailPattern, Trailed, without_trails}
 use Rattle.gq_law_cuts.specs.Cuts.{alone_in, in_pattern, piece_behind, trail_of, trailed_of, with_clauses, with_hop, with_hops, with_path, with_paths, with_trail}

@@ -22,11 +22,11 @@ use Rattle.gq_plan.specs.declared.variable.Variable.{Variable}
 use Rattle.gq_plan.specs.declared.variable.Variable.TheVariants.{Node as node, Rel as rel}
 use Rattle.gq_scopes.specs.Patterns.{MapEntry, NodePattern, Pattern, RelPattern, no_pattern, variable_of, with_node, with_part, with_rel}
 use Rattle.gq_scopes.specs.steps.Variables.{IsThere}
-use Rattle.gq_syntax.specs.declared.Clause.{Clause}
-use Rattle.gq_syntax.specs.declared.Hop.{Hop}
-use Rattle.gq_syntax.specs.declared.NodePart.{NodePart}
-use Rattle.gq_syntax.specs.declared.Path.{Path}
-use Rattle.gq_syntax.specs.declared.Range.{Range}
+use Rattle.gq_ast.specs.declared.Clause.{Clause}
+use Rattle.gq_ast.specs.declared.Hop.{Hop}
+use Rattle.gq_ast.specs.declared.NodePart.{NodePart}
+use Rattle.gq_ast.specs.declared.Path.{Path}
+use Rattle.gq_ast.specs.declared.Range.{Range}
 use Rattle.gq_law_reaches.specs.Core.{core_nodes, is_core_entry}
 use Rattle.gq_law_reaches.specs.Reaches.{Trailed, without_trails}
 use Rattle.gq_law_reaches.proofs.Cored.{take_length}

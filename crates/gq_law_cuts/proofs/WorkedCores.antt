@@ -11,12 +11,12 @@ use Rattle.gq_law_reaches.specs.Core.{core_nodes, trail_parts}
 use Rattle.gq_plan.specs.declared.TrailPart.{TrailPart}
 use Rattle.gq_plan.specs.declared.PathPart.{PathPart}
 use Rattle.gq_scopes.specs.Patterns.{MapEntry, pattern_of}
-use Rattle.gq_syntax.specs.declared.Arrow.{Arrow}
-use Rattle.gq_syntax.specs.declared.Arrow.TheVariants as arrow
-use Rattle.gq_syntax.specs.declared.Clause.{Clause}
-use Rattle.gq_syntax.specs.declared.Hop.{Hop}
-use Rattle.gq_syntax.specs.declared.NodePart.{NodePart}
-use Rattle.gq_syntax.specs.declared.Path.{Path}
+use Rattle.gq_ast.specs.declared.Arrow.{Arrow}
+use Rattle.gq_ast.specs.declared.Arrow.TheVariants as arrow
+use Rattle.gq_ast.specs.declared.Clause.{Clause}
+use Rattle.gq_ast.specs.declared.Hop.{Hop}
+use Rattle.gq_ast.specs.declared.NodePart.{NodePart}
+use Rattle.gq_ast.specs.declared.Path.{Path}
 use Rattle.gq_law_cuts.specs.Cuts.{core_first, core_of, core_size, cored_of, trailed_of}
 
 -- ---- patterns

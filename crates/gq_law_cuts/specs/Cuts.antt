@@ -10,13 +10,13 @@ use Rattle.gq_plan.specs.declared.PathPart.{PathPart}
 use Rattle.gq_plan.specs.declared.variable.Variable.{Variable}
 use Rattle.gq_plan.specs.declared.variable.Variable.TheVariants.{Node as node, Rel as rel}
 use Rattle.gq_scopes.specs.Patterns.{MapEntry, NamedVariable, NodePattern, Pattern, RelPattern, no_pattern, variable_of, with_node, with_part, with_rel}
-use Rattle.gq_syntax.specs.declared.Arrow.{Arrow}
-use Rattle.gq_syntax.specs.declared.Arrow.TheVariants as arrow
-use Rattle.gq_syntax.specs.declared.Clause.{Clause}
-use Rattle.gq_syntax.specs.declared.Hop.{Hop}
-use Rattle.gq_syntax.specs.declared.Path.{Path}
-use Rattle.gq_syntax.specs.declared.Range.{Range}
-use Rattle.gq_syntax.specs.declared.RelPart.{RelPart}
+use Rattle.gq_ast.specs.declared.Arrow.{Arrow}
+use Rattle.gq_ast.specs.declared.Arrow.TheVariants as arrow
+use Rattle.gq_ast.specs.declared.Clause.{Clause}
+use Rattle.gq_ast.specs.declared.Hop.{Hop}
+use Rattle.gq_ast.specs.declared.Path.{Path}
+use Rattle.gq_ast.specs.declared.Range.{Range}
+use Rattle.gq_ast.specs.declared.RelPart.{RelPart}
 
 -- ---- paths, cut at their trails
 

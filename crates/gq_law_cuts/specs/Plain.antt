@@ -6,9 +6,9 @@ use Rattle.gq_base.specs.Catalogs.{Tables}
 use Rattle.gq_alternatives.specs.Alternatives.{Choice, typed_of}
 use Rattle.gq_plan.specs.declared.NamedExpr.{NamedExpr}
 use Rattle.gq_scopes.specs.Patterns.{Pattern, pattern_of}
-use Rattle.gq_syntax.specs.declared.Clause.{Clause}
-use Rattle.gq_syntax.specs.declared.Hop.{Hop}
-use Rattle.gq_syntax.specs.declared.Path.{Path}
+use Rattle.gq_ast.specs.declared.Clause.{Clause}
+use Rattle.gq_ast.specs.declared.Hop.{Hop}
+use Rattle.gq_ast.specs.declared.Path.{Path}
 use Rattle.gq_law_cuts.specs.Cuts.{core_of, core_size, cored_of}
 use Rattle.gq_law_cuts.specs.Typing.{core_typed}
 

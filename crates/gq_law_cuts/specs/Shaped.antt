@@ -9,7 +9,7 @@ use Rattle.gq_plan.specs.Soundness.{HasVariable, IsSound, kinds_of, max_reads, m
 use Rattle.gq_plan.specs.declared.NamedExpr.{NamedExpr}
 use Rattle.gq_plan.specs.declared.Typed.{Typed}
 use Rattle.gq_scopes.specs.Patterns.{Pattern}
-use Rattle.gq_syntax.specs.declared.Clause.{Clause}
+use Rattle.gq_ast.specs.declared.Clause.{Clause}
 use Rattle.gq_law_cuts.specs.Cuts.{core_of, core_size, cored_of}
 use Rattle.gq_law_cuts.specs.Typing.{core_typed}
 

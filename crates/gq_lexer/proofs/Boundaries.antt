@@ -9,11 +9,11 @@ use Rattle.std.proofs.lemmas.List.{take-append-drop}
 use Rattle.std.proofs.lemmas.List.Elements.{All-append, All-cons, All-nil, All-same}
 use Rattle.std.proofs.lemmas.Str.{IsCharBoundary-at_seam, IsUtf8-between, IsUtf8-from_is_utf8, encodes-append, encodes-chars, scalars-chars}
 use Rattle.gq_lexer.specs.Lexemes.{lexeme}
-use Rattle.gq_lexer.specs.Sources.{IsWhole}
+use Rattle.gq_ast.specs.Sources.{IsWhole}
 use Rattle.gq_lexer.specs.Tokens.{Lexed, lexed, lexed_behind, lexed_from, prefixed, then_from, tokens_of, width}
 use Rattle.gq_lexer.specs.steps.Tokens.{IntFits}
 use Rattle.gq_lexer.specs.declared.lexeme.Lexeme.{Lexeme}
-use Rattle.gq_lexer.specs.declared.token.Span.{Span}
+use Rattle.gq_ast.specs.declared.span.Span.{Span}
 use Rattle.gq_lexer.specs.declared.token.Token.{Token}
 use Rattle.gq_lexer.specs.declared.token.TokenKind.{TokenKind}
 use Rattle.gq_lexer.proofs.Pieces.{drop_one}

@@ -8,7 +8,7 @@ use Rattle.std.proofs.lemmas.Str.{IsUtf8-from_is_utf8, is_utf8-from_IsUtf8}
 use Rattle.gq_lexer.specs.Lexemes.{lexeme}
 use Rattle.gq_lexer.specs.Tokens.{InOrder, Lexed, lexed, lexed_behind, lexed_from, prefixed, then_from, tokens_of, width}
 use Rattle.gq_lexer.specs.declared.lexeme.Lexeme.{Lexeme}
-use Rattle.gq_lexer.specs.declared.token.Span.{Span}
+use Rattle.gq_ast.specs.declared.span.Span.{Span}
 use Rattle.gq_lexer.specs.declared.token.Token.{Token}
 use Rattle.gq_lexer.specs.declared.token.TokenKind.{TokenKind}
 use Rattle.std.specs.declared.option.Option.{Option}

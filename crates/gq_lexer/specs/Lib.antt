@@ -2,6 +2,5 @@ pub mod Characters
 pub mod Lexemes
 pub mod Numbers
 pub mod Runs
-pub mod Sources
 pub mod Tokens
 pub mod steps

@@ -8,7 +8,7 @@ use Rattle.gq_lexer.specs.Lexemes.{lexeme}
 use Rattle.gq_lexer.specs.declared.lexeme.Lexeme.{Lexeme}
 use Rattle.gq_lexer.specs.declared.token.LexRefusal.{LexRefusal}
 use Rattle.gq_lexer.specs.declared.token.LexRefusal.TheVariants.{Lex, Memory}
-use Rattle.gq_lexer.specs.declared.token.Span.{Span}
+use Rattle.gq_ast.specs.declared.span.Span.{Span}
 use Rattle.gq_lexer.specs.declared.token.Token.{Token}
 use Rattle.gq_lexer.specs.declared.token.TokenKind.{TokenKind}
 

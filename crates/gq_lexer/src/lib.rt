@@ -11,5 +11,6 @@ mod sign;
 mod token;
 
 pub use blank::is_blank;
+pub use gq_ast::Span;
 pub use scan::lex;
-pub use token::{LexRefusal, Sign, Span, Token, TokenKind};
+pub use token::{LexRefusal, Sign, Token, TokenKind};

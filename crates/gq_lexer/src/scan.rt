@@ -5,7 +5,8 @@ ghost use Rattle.std.specs.Str.{chars};
 ghost use Rattle.gq_lexer.specs.Tokens.{Answers, InOrder, lexed, lexed_from, tokens_of, width};
 
 use crate::lexeme::{Lexeme, read_lexeme};
-use crate::token::{LexRefusal, Span, Token, TokenKind};
+use crate::token::{LexRefusal, Token, TokenKind};
+use gq_ast::Span;
 use gq_base::{List, Memory};
 use std::alloc::Global;
 

@@ -1,7 +1,7 @@
 -- The trails of a query, as they are written, are those that its patterns have: each with its arrow.
 use Rattle.std.proofs.Common.{◌≡◌, ℕ, suc, Bool, true, false, Option, Some, None, List, [], ◌∷◌, ◌++◌, map, flat_map, length, refl, sym, ap, ◌∙◌, append-nil, append_assoc, ◌&&◌, ◌||◌, codes, if◌then◌else◌}
 use Rattle.std.proofs.lemmas.List.{length-map, map-append}
-use Rattle.gq_binder.specs.Binding.{IsBound}
+use Rattle.gq_bound.specs.Binding.{IsBound}
 use Rattle.gq_base.specs.Catalogs.{Tables}
 use Rattle.gq_cuts.specs.Entries.{entry_test}
 use Rattle.gq_explain.specs.Plans.{ends_word, is_from_left}
@@ -13,11 +13,11 @@ use Rattle.gq_plan.specs.declared.NamedExpr.{NamedExpr}
 use Rattle.gq_plan.specs.declared.PathPart.{PathPart}
 use Rattle.gq_reply.specs.Arrows.{clause_arrows, hop_arrows, path_arrows, trail_arrows}
 use Rattle.gq_scopes.specs.Patterns.{MapEntry, Pattern, no_pattern, variable_of}
-use Rattle.gq_syntax.specs.declared.Clause.{Clause}
-use Rattle.gq_syntax.specs.declared.Hop.{Hop}
-use Rattle.gq_syntax.specs.declared.Path.{Path}
-use Rattle.gq_syntax.specs.declared.Query.{Query}
-use Rattle.gq_syntax.specs.declared.Range.{Range}
+use Rattle.gq_ast.specs.declared.Clause.{Clause}
+use Rattle.gq_ast.specs.declared.Hop.{Hop}
+use Rattle.gq_ast.specs.declared.Path.{Path}
+use Rattle.gq_ast.specs.declared.Query.{Query}
+use Rattle.gq_ast.specs.declared.Range.{Range}
 
 abbrev pub forwards : List TrailPattern → List Bool
 forwards ts = map (λ (t : TrailPattern). t.forward) ts

@@ -5,9 +5,9 @@ use Rattle.gq_base.specs.Lists.{is_empty}
 use Rattle.gq_base.specs.Plain.{Graph}
 use Rattle.gq_base.specs.Values.{Val}
 use Rattle.gq_base.specs.declared.literal.Literal.{Literal}
-use Rattle.gq_binder.proofs.OneBound.{same_bound, unordered}
-use Rattle.gq_binder.specs.Binding.{IsBound}
-use Rattle.gq_binder.specs.Columns.{Resolves}
+use Rattle.gq_bound.proofs.OneBound.{same_bound, unordered}
+use Rattle.gq_bound.specs.Binding.{IsBound}
+use Rattle.gq_bound.specs.Columns.{Resolves}
 use Rattle.gq_execute.proofs.OneReply.{not_too_many, some_looked}
 use Rattle.gq_execute.specs.Replies.{Reply, Rows, Faulted, TooManyRows, IsPermitted}
 use Rattle.gq_execute.specs.declared.settings.Settings.{Settings}
@@ -24,9 +24,9 @@ use Rattle.gq_session.specs.declared.answering.Tone.TheVariants as tone
 use Rattle.gq_syntax.proofs.Exact.{comes_statement}
 use Rattle.gq_syntax.specs.Outcomes.{SpelledText}
 use Rattle.gq_syntax.specs.declared.refusal.SyntaxRefusal.TheVariants as refusal
-use Rattle.gq_syntax.specs.declared.statement.Query.{Query}
-use Rattle.gq_syntax.specs.declared.statement.Statement.{Statement}
-use Rattle.gq_syntax.specs.declared.statement.Statement.TheVariants as tree
+use Rattle.gq_ast.specs.declared.statement.Query.{Query}
+use Rattle.gq_ast.specs.declared.statement.Statement.{Statement}
+use Rattle.gq_ast.specs.declared.statement.Statement.TheVariants as tree
 use Rattle.gq_tokens.specs.Parameters.{IsFull}
 use Rattle.gq_tokens.specs.Words.{Name}
 use Rattle.gq_tokens.specs.declared.params.Param.{Param}

@@ -8,11 +8,11 @@ use Rattle.std.specs.Prelude.{◌<◌, ◌≤◌, All, ◌++◌, codes, decimal,
 use Rattle.gq_base.specs.Catalogs.{Tables}
 use Rattle.gq_base.specs.declared.literal.Literal.{Literal}
 use Rattle.gq_base.specs.declared.memory.Memory.{Memory}
-use Rattle.gq_binder.specs.Binding.{Answers, IsBound}
-use Rattle.gq_binder.specs.Refusals.{first_refusal}
-use Rattle.gq_binder.specs.Tested.{IsTested, ScopedTest, tests}
-use Rattle.gq_binder.specs.declared.refusal.BindRefusal.{BindRefusal}
-use Rattle.gq_binder.specs.declared.refusal.BindRefusal.TheVariants as bind
+use Rattle.gq_bound.specs.Binding.{Answers, IsBound}
+use Rattle.gq_bound.specs.Refusals.{first_refusal}
+use Rattle.gq_bound.specs.Tested.{IsTested, ScopedTest, tests}
+use Rattle.gq_bound.specs.declared.refusal.BindRefusal.{BindRefusal}
+use Rattle.gq_bound.specs.declared.refusal.BindRefusal.TheVariants as bind
 use Rattle.gq_base.specs.Values.{Val}
 use Rattle.gq_execute.specs.Spending.{AreSpent}
 use Rattle.gq_execute.specs.Replies.{Reply, Rows, Faulted, TooManyRows, IsPermitted}
@@ -48,10 +48,10 @@ use Rattle.gq_syntax.specs.Spans.{SpelledQuery}
 use Rattle.gq_syntax.specs.Outcomes.{Cause, DepthAt, SpelledText, SyntaxAt, TooDeep, UnknownIn}
 use Rattle.gq_syntax.specs.declared.refusal.SyntaxRefusal.{SyntaxRefusal}
 use Rattle.gq_syntax.specs.declared.refusal.SyntaxRefusal.TheVariants as refusal
-use Rattle.gq_syntax.specs.declared.statement.Clause.{Clause}
-use Rattle.gq_syntax.specs.declared.statement.Query.{Query}
-use Rattle.gq_syntax.specs.declared.statement.Statement.{Statement}
-use Rattle.gq_syntax.specs.declared.statement.Statement.TheVariants as tree
+use Rattle.gq_ast.specs.declared.statement.Clause.{Clause}
+use Rattle.gq_ast.specs.declared.statement.Query.{Query}
+use Rattle.gq_ast.specs.declared.statement.Statement.{Statement}
+use Rattle.gq_ast.specs.declared.statement.Statement.TheVariants as tree
 use Rattle.gq_tokens.specs.Parameters.{with_value}
 use Rattle.gq_tokens.specs.Words.{Name}
 use Rattle.gq_tokens.specs.declared.params.Param.{Param}

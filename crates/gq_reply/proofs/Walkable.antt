@@ -5,9 +5,9 @@ use Rattle.std.proofs.lemmas.List.{length-map}
 use Rattle.std.proofs.lemmas.List.Elements.{All-from_recursion}
 use Rattle.std.specs.Prelude.{◌+◌, ◌<◌, ◌≤◌, All, if◌then◌else◌}
 use Rattle.gq_base.specs.Catalogs.{Tables}
-use Rattle.gq_binder.specs.Binding.{IsBound}
-use Rattle.gq_binder.specs.Columns.{whole_pattern}
-use Rattle.gq_binder.specs.Optionals.{AreOptional}
+use Rattle.gq_bound.specs.Binding.{IsBound}
+use Rattle.gq_bound.specs.Columns.{whole_pattern}
+use Rattle.gq_bound.specs.Optionals.{AreOptional}
 use Rattle.gq_cuts.proofs.Plain.{no_trail}
 use Rattle.gq_cuts.specs.Cored.{has_trail}
 use Rattle.gq_cuts.specs.Entries.{entry_test}
@@ -25,8 +25,8 @@ use Rattle.gq_plan.specs.declared.OptionalPart.{OptionalPart}
 use Rattle.gq_plan.specs.declared.TrailPart.{TrailPart}
 use Rattle.gq_plan.specs.declared.Typed.{Typed}
 use Rattle.gq_scopes.specs.Patterns.{Pattern, pattern_of}
-use Rattle.gq_syntax.specs.declared.Clause.{Clause}
-use Rattle.gq_syntax.specs.declared.Query.{Query}
+use Rattle.gq_ast.specs.declared.Clause.{Clause}
+use Rattle.gq_ast.specs.declared.Query.{Query}
 use Rattle.gq_trails.specs.Trekking.{AreInTurn, HasLength}
 
 abbrev IsLong : TrailPattern → Type 0

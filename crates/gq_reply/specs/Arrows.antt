@@ -1,9 +1,9 @@
 -- Which way the trails of a query lead, as they are written (this project's profile).
 use Rattle.std.specs.Prelude.{Bool, List, [], ◌∷◌, is_some, flat_map, if◌then◌else◌}
 use Rattle.gq_law_cuts.specs.Cuts.{leads_right}
-use Rattle.gq_syntax.specs.declared.Clause.{Clause}
-use Rattle.gq_syntax.specs.declared.Hop.{Hop}
-use Rattle.gq_syntax.specs.declared.Path.{Path}
+use Rattle.gq_ast.specs.declared.Clause.{Clause}
+use Rattle.gq_ast.specs.declared.Hop.{Hop}
+use Rattle.gq_ast.specs.declared.Path.{Path}
 
 -- whether a trail's arrow leads from the node at its left to the one at its right; nothing of another relationship
 abbrev pub hop_arrows : Hop → List Bool

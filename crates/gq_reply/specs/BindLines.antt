@@ -1,7 +1,7 @@
 -- The line of each refusal of the binder (this project's profile).
 use Rattle.std.specs.Prelude.{ℕ, List, [], ◌∷◌, codes}
-use Rattle.gq_binder.specs.declared.refusal.BindRefusal.{BindRefusal}
-use Rattle.gq_binder.specs.declared.refusal.BindRefusal.TheVariants as refusal
+use Rattle.gq_bound.specs.declared.refusal.BindRefusal.{BindRefusal}
+use Rattle.gq_bound.specs.declared.refusal.BindRefusal.TheVariants as refusal
 use Rattle.gq_render.specs.Texts.{PlaceText, refusal_line}
 
 abbrev pub at_item : ℕ → PlaceText

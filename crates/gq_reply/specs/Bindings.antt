@@ -1,11 +1,11 @@
 -- Which statements cannot be bound: those whose query one of the binder's checks refuses (this project's profile).
 use Rattle.std.specs.Prelude.{ℕ, List, Option, Some, None}
 use Rattle.gq_base.specs.Catalogs.{Tables}
-use Rattle.gq_binder.specs.Refusals.{first_refusal}
-use Rattle.gq_binder.specs.declared.refusal.BindRefusal.{BindRefusal}
-use Rattle.gq_syntax.specs.declared.statement.Query.{Query}
-use Rattle.gq_syntax.specs.declared.statement.Statement.{Statement}
-use Rattle.gq_syntax.specs.declared.statement.Statement.TheVariants as statement
+use Rattle.gq_bound.specs.Refusals.{first_refusal}
+use Rattle.gq_bound.specs.declared.refusal.BindRefusal.{BindRefusal}
+use Rattle.gq_ast.specs.declared.statement.Query.{Query}
+use Rattle.gq_ast.specs.declared.statement.Statement.{Statement}
+use Rattle.gq_ast.specs.declared.statement.Statement.TheVariants as statement
 
 -- the query that a statement asks, or asks about
 abbrev pub query_of : Statement → Option Query

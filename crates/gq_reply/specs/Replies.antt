@@ -7,8 +7,8 @@ use Rattle.std.specs.Prelude.{◌≡◌, ◌⊎◌, ℕ, List, [], ◌++◌, cod
 use Rattle.gq_base.specs.Plain.{Graph}
 use Rattle.gq_base.specs.Values.{Val, literal_val}
 use Rattle.gq_base.specs.declared.literal.Literal.{Literal}
-use Rattle.gq_binder.specs.Binding.{IsBound}
-use Rattle.gq_binder.specs.declared.refusal.BindRefusal.{BindRefusal}
+use Rattle.gq_bound.specs.Binding.{IsBound}
+use Rattle.gq_bound.specs.declared.refusal.BindRefusal.{BindRefusal}
 use Rattle.gq_execute.specs.Replies.{Question, Reply, Rows, Faulted, TooManyRows, IsPermitted}
 use Rattle.gq_execute.specs.Spending.{AreSpent}
 use Rattle.gq_execute.specs.declared.settings.Settings.{Settings}
@@ -30,9 +30,9 @@ use Rattle.gq_session.specs.declared.answering.Tone.TheVariants as tone
 use Rattle.gq_syntax.specs.Outcomes.{Cause, SpelledText}
 use Rattle.gq_syntax.specs.declared.refusal.SyntaxRefusal.{SyntaxRefusal}
 use Rattle.gq_syntax.specs.declared.refusal.SyntaxRefusal.TheVariants as refusal
-use Rattle.gq_syntax.specs.declared.statement.Query.{Query}
-use Rattle.gq_syntax.specs.declared.statement.Statement.{Statement}
-use Rattle.gq_syntax.specs.declared.statement.Statement.TheVariants as tree
+use Rattle.gq_ast.specs.declared.statement.Query.{Query}
+use Rattle.gq_ast.specs.declared.statement.Statement.{Statement}
+use Rattle.gq_ast.specs.declared.statement.Statement.TheVariants as tree
 use Rattle.gq_tokens.specs.Parameters.{IsFull, with_value}
 use Rattle.gq_tokens.specs.Words.{Name}
 use Rattle.gq_tokens.specs.declared.params.Param.{Param}

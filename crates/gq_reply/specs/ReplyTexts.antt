@@ -24,7 +24,7 @@ use Rattle.gq_pipe.specs.declared.pipeline.Spent.{Spent}
 use Rattle.gq_reply.specs.Arrows.{trail_arrows}
 use Rattle.gq_reply.specs.declared.replier.Form.{Form}
 use Rattle.gq_reply.specs.declared.replier.Form.TheVariants as form
-use Rattle.gq_syntax.specs.declared.statement.Query.{Query}
+use Rattle.gq_ast.specs.declared.statement.Query.{Query}
 
 -- the lines that say why there are no rows
 abbrev pub fault_text : Fault → List ℕ

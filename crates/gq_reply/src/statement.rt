@@ -11,7 +11,7 @@ ghost use Rattle.gq_reply.specs.steps.Steps.{Replied};
 ghost use Rattle.gq_session.specs.Sessions.{span_of};
 ghost use Rattle.gq_syntax.specs.Outcomes.{SpelledText, SyntaxAt};
 ghost use Rattle.gq_syntax.specs.Spans.{SpelledQuery};
-ghost use Rattle.gq_syntax.specs.declared.statement.Statement.TheVariants as tree;
+ghost use Rattle.gq_ast.specs.declared.statement.Statement.TheVariants as tree;
 ghost use Rattle.gq_tokens.specs.Parameters.{are_params};
 ghost use Rattle.gq_tokens.specs.declared.params.Param.{Param};
 

@@ -2,8 +2,8 @@
 use Rattle.std.specs.Prelude.{Option, Some, None, List, [], ◌∷◌, ◌++◌, if◌then◌else◌}
 use Rattle.std.specs.List.{list_any}
 use Rattle.gq_scopes.specs.Patterns.{Name, Pattern, is_called, no_pattern, with_path}
-use Rattle.gq_syntax.specs.declared.Hop.{Hop}
-use Rattle.gq_syntax.specs.declared.Path.{Path}
+use Rattle.gq_ast.specs.declared.Hop.{Hop}
+use Rattle.gq_ast.specs.declared.Path.{Path}
 
 -- a variable with this name, unless there is one
 abbrev pub with_name : Option Name → Pattern → Pattern

@@ -6,12 +6,12 @@ use Rattle.gq_plan.specs.declared.variable.Variable.{Variable}
 use Rattle.std.specs.List.{position, range_with_len}
 use Rattle.std.specs.Cmp.Lexicographic.{pointwise}
 use Rattle.gq_plan.specs.declared.PathPart.{PathPart}
-use Rattle.gq_syntax.specs.declared.Clause.{Clause}
-use Rattle.gq_syntax.specs.declared.Entry.{Entry}
-use Rattle.gq_syntax.specs.declared.Hop.{Hop}
-use Rattle.gq_syntax.specs.declared.NodePart.{NodePart}
-use Rattle.gq_syntax.specs.declared.Path.{Path}
-use Rattle.gq_syntax.specs.declared.RelPart.{RelPart}
+use Rattle.gq_ast.specs.declared.Clause.{Clause}
+use Rattle.gq_ast.specs.declared.Entry.{Entry}
+use Rattle.gq_ast.specs.declared.Hop.{Hop}
+use Rattle.gq_ast.specs.declared.NodePart.{NodePart}
+use Rattle.gq_ast.specs.declared.Path.{Path}
+use Rattle.gq_ast.specs.declared.RelPart.{RelPart}
 
 abbrev pub Name : Type 0
 Name = List ℕ

@@ -14,9 +14,9 @@ use crate::copies::copy_text;
 use crate::counts::{next, number};
 use crate::naming::Names;
 use crate::scope::{Column, Scope};
+use gq_ast::{Clause, Entry, Hop, NodePart, Path, RelPart};
 use gq_base::{List, Memory, Text};
 use gq_plan::{PathPart, Variable};
-use gq_syntax::{Clause, Entry, Hop, NodePart, Path, RelPart};
 use std::alloc::Global;
 use std::marker::Model;
 

@@ -32,7 +32,7 @@ use Rattle.gq_shell.specs.Questions.{IsNumbered}
 use Rattle.gq_shell.specs.Statuses.{IsMemory}
 use Rattle.gq_shell.specs.declared.status.Status.{Status}
 use Rattle.gq_shell.specs.declared.status.Status.TheVariants as status
-use Rattle.gq_syntax.specs.declared.statement.Query.{Query}
+use Rattle.gq_ast.specs.declared.statement.Query.{Query}
 use Rattle.gq_tokens.specs.declared.params.Param.{Param}
 use Rattle.gq_words.specs.Reading.{IsMisused, IsRead}
 use Rattle.gq_words.specs.declared.meaning.Order.TheVariants as order_word

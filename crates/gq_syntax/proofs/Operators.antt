@@ -9,8 +9,8 @@ use Rattle.gq_tokens.proofs.Sets.{apart}
 use Rattle.gq_syntax.specs.Grammar.{Chain, Terms}
 use Rattle.gq_syntax.specs.steps.Parsers.{tailed}
 use Rattle.gq_syntax.specs.Trees.{Node, chain_made, made, tail_made, term}
-use Rattle.gq_syntax.specs.declared.expression.Ast.{Ast}
-use Rattle.gq_syntax.specs.declared.expression.Term.{Term}
+use Rattle.gq_ast.specs.declared.expression.Ast.{Ast}
+use Rattle.gq_ast.specs.declared.expression.Term.{Term}
 
 -- operand { op operand }, with the operands of an operator in one list
 pub meets-chain : {same : Bool} {op : Token → Option (Unit {0})} {G : List ℕ} → Takes op G

@@ -1,5 +1,4 @@
 pub mod Grammar
-pub mod Operands
 pub mod Outcomes
 pub mod Refusals
 pub mod Spans

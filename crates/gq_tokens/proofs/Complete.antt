@@ -2,7 +2,7 @@
 -- A reader goes on as long as it can, so each law says by which tokens what is read may be followed, and, so that a law
 -- of what stands before can be used, with which tokens it begins.
 use Rattle.std.proofs.Common.{◌≡◌, ℕ, ◌≤◌, true, List, [], ◌∷◌, ◌++◌, length, Option, Some, None, inl, inr, refl, sym, ◌∙◌, ap, subst, append_assoc}
-use Rattle.gq_lexer.specs.declared.token.Span.{Span}
+use Rattle.gq_ast.specs.declared.span.Span.{Span}
 use Rattle.gq_lexer.specs.declared.token.Token.{Token}
 use Rattle.gq_tokens.specs.Readers.{Reader, ◌>>=◌, fail, fork, head_by, many, must, pure}
 use Rattle.gq_tokens.specs.steps.Constructs.{spanned, too_deep}

@@ -3,7 +3,7 @@
 use Rattle.std.proofs.Common.{◌≡◌, ℕ, Bool, true, List, [], ◌∷◌, ◌++◌, Option, Some, None}
 use Rattle.gq_lexer.specs.declared.token.Sign.{Sign}
 use Rattle.gq_lexer.specs.declared.token.Sign.TheVariants as sign
-use Rattle.gq_lexer.specs.declared.token.Span.{Span}
+use Rattle.gq_ast.specs.declared.span.Span.{Span}
 use Rattle.gq_lexer.specs.declared.token.Token.{Token}
 use Rattle.gq_tokens.specs.Readers.{Reader, ◌>>=◌, enclosed, fork, into, listed, many, maybe, must, pure}
 use Rattle.gq_tokens.specs.steps.Constructs.{spanned}

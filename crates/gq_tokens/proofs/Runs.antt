@@ -2,7 +2,7 @@
 use Rattle.std.proofs.Common.{◌≡◌, ℕ, zero, suc, ◌-◌, ◌≤◌, Bool, true, false, List, [], ◌∷◌, ◌++◌, length, take, Option, Some, None, inl, inr, refl, sym, ◌∙◌, ap, subst, append_assoc, arith, length-append, append-nil}
 use Rattle.std.proofs.Math.Seq.{take-append_seam}
 use Rattle.gq_lexer.specs.declared.token.Token.{Token}
-use Rattle.gq_lexer.specs.declared.token.Span.{Span}
+use Rattle.gq_ast.specs.declared.span.Span.{Span}
 use Rattle.gq_tokens.specs.Readers.{Verdict, Done, Syntax, Deep, Out, Reader, on_done, ◌>>=◌, pure, fail, head_by, tail, on_head, fork, many_from, many}
 use Rattle.gq_tokens.specs.steps.Constructs.{finish, too_deep, spanned}
 use Rattle.gq_tokens.specs.Relations.{span_of, Pure, Then, Fork, Many, Spanned}

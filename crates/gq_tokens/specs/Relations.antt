@@ -2,7 +2,7 @@
 use Rattle.std.specs.Prelude.{◌≡◌, ℕ, zero, suc, List, [], ◌∷◌, ◌++◌, Option, Some, None, ◌⊎◌}
 use Rattle.gq_lexer.specs.declared.token.Sign.{Sign}
 use Rattle.gq_lexer.specs.declared.token.Sign.TheVariants.{Comma}
-use Rattle.gq_lexer.specs.declared.token.Span.{Span}
+use Rattle.gq_ast.specs.declared.span.Span.{Span}
 use Rattle.gq_lexer.specs.declared.token.Token.{Token}
 use Rattle.gq_tokens.specs.Words.{sign_is}
 

@@ -4,10 +4,10 @@ use Rattle.std.specs.List.{AllByRecursion}
 use Rattle.gq_expr.specs.declared.Expr.{Expr}
 use Rattle.gq_plan.specs.Reads.{reads}
 use Rattle.gq_plan.proofs.Each.{each_append}
-use Rattle.gq_syntax.specs.declared.Ast.{Ast, Ast-F, roll-Ast, map-Ast, fold-roll-Ast, ind-Ast}
-use Rattle.gq_syntax.specs.declared.expression.Ast.TheShapes.{former-Ast-node as parts}
-use Rattle.gq_syntax.specs.declared.AstNode.{AstNode}
-use Rattle.gq_syntax.specs.declared.AstNode.TheVariants as ast
+use Rattle.gq_ast.specs.declared.Ast.{Ast, Ast-F, roll-Ast, map-Ast, fold-roll-Ast, ind-Ast}
+use Rattle.gq_ast.specs.declared.expression.Ast.TheShapes.{former-Ast-node as parts}
+use Rattle.gq_ast.specs.declared.AstNode.{AstNode}
+use Rattle.gq_ast.specs.declared.AstNode.TheVariants as ast
 use Rattle.gq_trees.proofs.ReadsThere.{AreThere, tree_there}
 use Rattle.gq_trees.proofs.Splits.{split_whole}
 use Rattle.gq_scopes.specs.Scopes.{Scope}

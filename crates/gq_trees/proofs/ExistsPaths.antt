@@ -3,14 +3,14 @@ use Rattle.std.proofs.Common.{◌≡◌, ◌∙◌, ℕ, suc, ◌+◌, ◌<◌, 
 use Rattle.std.proofs.lemmas.Grind.{flat_map-append}
 use Rattle.std.proofs.lemmas.List.Folds.{flat_map-map}
 use mathlib.Core.Former.{map-map}
-use Rattle.gq_syntax.specs.declared.Ast.{Ast, Ast-F, out-Ast, roll-Ast, map-Ast, fold-Ast, fold_out-Ast, fold-roll-Ast, ind-Ast}
-use Rattle.gq_syntax.specs.declared.expression.Ast.TheShapes.{former-Ast-node as parts}
-use Rattle.gq_syntax.specs.declared.AstNode.{AstNode}
-use Rattle.gq_syntax.specs.declared.AstNode.TheVariants as ast
-use Rattle.gq_syntax.specs.Operands.{in_tester}
-use Rattle.gq_syntax.specs.declared.Term.{Term}
-use Rattle.gq_syntax.specs.declared.Tester.{Tester}
-use Rattle.gq_syntax.specs.declared.Tester.TheVariants as tester
+use Rattle.gq_ast.specs.declared.Ast.{Ast, Ast-F, out-Ast, roll-Ast, map-Ast, fold-Ast, fold_out-Ast, fold-roll-Ast, ind-Ast}
+use Rattle.gq_ast.specs.declared.expression.Ast.TheShapes.{former-Ast-node as parts}
+use Rattle.gq_ast.specs.declared.AstNode.{AstNode}
+use Rattle.gq_ast.specs.declared.AstNode.TheVariants as ast
+use Rattle.gq_ast.specs.Operands.{in_tester}
+use Rattle.gq_ast.specs.declared.Term.{Term}
+use Rattle.gq_ast.specs.declared.Tester.{Tester}
+use Rattle.gq_ast.specs.declared.Tester.TheVariants as tester
 use Rattle.gq_trees.proofs.UseLemmas.{uses_out}
 use Rattle.gq_trees.specs.PathTests.{PathTest}
 use Rattle.gq_trees.specs.Places.{Condition, condition_step, paths_in, strays, strays_in, untested, use_paths}

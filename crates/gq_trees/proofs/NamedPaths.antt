@@ -6,21 +6,21 @@ use Rattle.std.specs.Option.{option_or}
 use Rattle.std.specs.Prelude.{if◌then◌else◌}
 use Rattle.std.proofs.lemmas.List.Elements.{All-same, All-tail, recursion_from_All}
 use Rattle.gq_base.proofs.OptionLaws.{or_first, or_second}
-use Rattle.gq_lexer.specs.Sources.{IsWhole}
-use Rattle.gq_lexer.specs.declared.Span.{Span}
+use Rattle.gq_ast.specs.Sources.{IsWhole}
+use Rattle.gq_ast.specs.declared.Span.{Span}
 use Rattle.gq_plan.proofs.Each.{each_append}
 use Rattle.gq_scopes.specs.PathPatterns.{shared_names, with_name, with_names}
 use Rattle.gq_scopes.specs.Patterns.{Name, Pattern, find_name, is_called, no_pattern}
 use Rattle.gq_scopes.specs.Scopes.{Scope, is_there}
-use Rattle.gq_syntax.proofs.SpanLemmas.{and_whole, exists_whole, paren_whole}
-use Rattle.gq_syntax.specs.Spans.{IsWholeTree, operand_spans, spans_of}
-use Rattle.gq_syntax.specs.steps.Spans.{IsWholePath}
-use Rattle.gq_syntax.specs.declared.Ast.{Ast, Ast-F, out-Ast, roll-Ast, out-roll-Ast, fold-roll-Ast, fold_out-Ast}
-use Rattle.gq_syntax.specs.declared.expression.Ast.TheShapes.{former-Ast-node as parts}
-use Rattle.gq_syntax.specs.declared.AstNode.{AstNode}
-use Rattle.gq_syntax.specs.declared.AstNode.TheVariants as ast
-use Rattle.gq_syntax.specs.declared.Hop.{Hop}
-use Rattle.gq_syntax.specs.declared.Path.{Path}
+use Rattle.gq_ast.proofs.SpanLemmas.{and_whole, exists_whole, paren_whole}
+use Rattle.gq_ast.specs.Spans.{IsWholeTree, operand_spans, spans_of}
+use Rattle.gq_ast.specs.steps.Spans.{IsWholePath}
+use Rattle.gq_ast.specs.declared.Ast.{Ast, Ast-F, out-Ast, roll-Ast, out-roll-Ast, fold-roll-Ast, fold_out-Ast}
+use Rattle.gq_ast.specs.declared.expression.Ast.TheShapes.{former-Ast-node as parts}
+use Rattle.gq_ast.specs.declared.AstNode.{AstNode}
+use Rattle.gq_ast.specs.declared.AstNode.TheVariants as ast
+use Rattle.gq_ast.specs.declared.Hop.{Hop}
+use Rattle.gq_ast.specs.declared.Path.{Path}
 use Rattle.gq_trees.proofs.TestFacts.{GoesDown}
 use Rattle.gq_trees.proofs.UseLemmas.{first_name_append}
 use Rattle.gq_trees.specs.Uses.{Use, all_uses, conflict_in, conflict_in_hops, exists, first_name, refused_unless, unknown_in, unknown_in_hops, unless_rel, unless_variable, uses, uses_step}

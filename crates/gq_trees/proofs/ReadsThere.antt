@@ -14,13 +14,13 @@ use Rattle.gq_plan.proofs.Each.{each_append}
 use Rattle.gq_scopes.specs.Patterns.{Name, is_called, find_name}
 use Rattle.gq_scopes.specs.Scopes.{Scope, bare, either_property, either_variable, variable}
 use Rattle.gq_scopes.specs.steps.Variables.{IsThere}
-use Rattle.gq_syntax.specs.declared.Ast.{Ast, Ast-F, roll-Ast, map-Ast, fold-roll-Ast, ind-Ast}
-use Rattle.gq_syntax.specs.declared.expression.Ast.TheShapes.{former-Ast-node as parts}
-use Rattle.gq_syntax.specs.declared.AstNode.{AstNode}
-use Rattle.gq_syntax.specs.declared.AstNode.TheVariants as ast
-use Rattle.gq_syntax.specs.declared.Term.{Term}
-use Rattle.gq_syntax.specs.declared.Tester.{Tester as Tested}
-use Rattle.gq_syntax.specs.declared.Tester.TheVariants as tested
+use Rattle.gq_ast.specs.declared.Ast.{Ast, Ast-F, roll-Ast, map-Ast, fold-roll-Ast, ind-Ast}
+use Rattle.gq_ast.specs.declared.expression.Ast.TheShapes.{former-Ast-node as parts}
+use Rattle.gq_ast.specs.declared.AstNode.{AstNode}
+use Rattle.gq_ast.specs.declared.AstNode.TheVariants as ast
+use Rattle.gq_ast.specs.declared.Term.{Term}
+use Rattle.gq_ast.specs.declared.Tester.{Tester as Tested}
+use Rattle.gq_ast.specs.declared.Tester.TheVariants as tested
 use Rattle.gq_plan.proofs.ReadEquations.{reads_Literal, reads_Node, reads_Rel, reads_NodeProperty, reads_RelProperty, reads_TypeName, reads_Coalesce, reads_Negate, reads_Plus, reads_Not, reads_Or, reads_Xor, reads_And, term_reads, test_reads, reads_Compare, reads_Arith, reads_Test}
 use Rattle.gq_trees.proofs.Resolved.{tests_of}
 use Rattle.gq_trees.specs.Resolving.{functions, is_function, type_call, coalesce_call, all_some, over_known, bound_term, bound_tester, resolve_step, resolved}

@@ -1,7 +1,7 @@
 -- A name is ambiguous where it stands among the names of variables that AS gives to other columns.
 use Rattle.std.proofs.Common.{◌≡◌, ap, refl, Bool, ◌||◌, List, [], ◌∷◌, map}
 use Rattle.std.specs.List.{list_any}
-use Rattle.gq_syntax.specs.declared.Item.{Item}
+use Rattle.gq_ast.specs.declared.Item.{Item}
 use Rattle.gq_trees.specs.Renames.{ambiguous_name, renamed_names, renamed_name}
 use Rattle.gq_scopes.specs.Scopes.{Scope}
 

@@ -2,12 +2,12 @@
 use Rattle.std.proofs.Common.{◌≡◌, ◌∙◌, ap, refl, List, [], ◌∷◌, map, Option}
 use Rattle.gq_base.proofs.ListLaws.{prepend-first}
 use Rattle.gq_expr.specs.declared.Expr.{Expr}
-use Rattle.gq_syntax.specs.declared.Ast.{Ast, out-Ast, fold_out-Ast}
-use Rattle.gq_syntax.specs.declared.expression.Ast.TheShapes.{former-Ast-node as parts}
-use Rattle.gq_syntax.specs.declared.AstNode.{AstNode}
-use Rattle.gq_syntax.specs.declared.AstNode.TheVariants as ast
-use Rattle.gq_syntax.specs.declared.Tester.{Tester as Tested}
-use Rattle.gq_syntax.specs.declared.Tester.TheVariants as tested
+use Rattle.gq_ast.specs.declared.Ast.{Ast, out-Ast, fold_out-Ast}
+use Rattle.gq_ast.specs.declared.expression.Ast.TheShapes.{former-Ast-node as parts}
+use Rattle.gq_ast.specs.declared.AstNode.{AstNode}
+use Rattle.gq_ast.specs.declared.AstNode.TheVariants as ast
+use Rattle.gq_ast.specs.declared.Tester.{Tester as Tested}
+use Rattle.gq_ast.specs.declared.Tester.TheVariants as tested
 use Rattle.gq_trees.specs.Resolving.{Calls, resolved, resolve_step}
 use Rattle.gq_trees.specs.steps.Trees.{term_with, tester_with}
 use Rattle.gq_scopes.specs.Scopes.{Scope}

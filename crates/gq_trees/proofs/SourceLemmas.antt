@@ -2,8 +2,8 @@
 use Rattle.std.proofs.Common.{◌≡◌, ℕ, List, Some, None, Ok, Err, Result, IfOk, ◌∙◌, ap}
 use Rattle.gq_base.specs.Words.{text_of}
 use Rattle.gq_base.proofs.Texts.{text_of-text}
-use Rattle.gq_lexer.specs.Sources.{IsWhole, source_text}
-use Rattle.gq_lexer.specs.declared.Span.{Span}
+use Rattle.gq_ast.specs.Sources.{IsWhole, source_text}
+use Rattle.gq_ast.specs.declared.Span.{Span}
 
 -- what was read is the source text
 pub read_there : (text bytes read : List ℕ) (span : Span) → bytes ≡ source_text text span → Some read ≡ text_of bytes → IsWhole text span → read ≡ source_text text span

@@ -8,12 +8,12 @@ use Rattle.std.proofs.lemmas.List.Folds.{flat_map-map}
 use mathlib.Core.Former.{map-map}
 use Rattle.gq_base.proofs.ListLaws.{prepend, prepend-first}
 use Rattle.gq_expr.specs.declared.Expr.{Expr}
-use Rattle.gq_lexer.specs.declared.Span.{Span}
+use Rattle.gq_ast.specs.declared.Span.{Span}
 use Rattle.gq_plan.specs.declared.NamedExpr.{NamedExpr}
-use Rattle.gq_syntax.specs.declared.Ast.{Ast, Ast-F, out-Ast, roll-Ast, map-Ast, fold-Ast, fold_out-Ast, fold-roll-Ast, ind-Ast}
-use Rattle.gq_syntax.specs.declared.expression.Ast.TheShapes.{former-Ast-node as parts}
-use Rattle.gq_syntax.specs.declared.AstNode.{AstNode}
-use Rattle.gq_syntax.specs.declared.AstNode.TheVariants as ast
+use Rattle.gq_ast.specs.declared.Ast.{Ast, Ast-F, out-Ast, roll-Ast, map-Ast, fold-Ast, fold_out-Ast, fold-roll-Ast, ind-Ast}
+use Rattle.gq_ast.specs.declared.expression.Ast.TheShapes.{former-Ast-node as parts}
+use Rattle.gq_ast.specs.declared.AstNode.{AstNode}
+use Rattle.gq_ast.specs.declared.AstNode.TheVariants as ast
 use Rattle.gq_trees.specs.Conjuncts.{NamedTest, conjunct_expr, is_value, named_test, tests_of, values_of}
 use Rattle.gq_trees.specs.PathTests.{PathTest, test_of, test_step}
 use Rattle.gq_trees.specs.steps.Conjuncts.{conjuncts_in, joined_to, listed_behind, whole_conjunct}

@@ -1,6 +1,6 @@
 -- The equation of the test that a tree is, with the tree opened by one level.
 use Rattle.std.proofs.Common.{◌≡◌, ◌∙◌, ap, Option}
-use Rattle.gq_syntax.specs.declared.Ast.{Ast, out-Ast, fold_out-Ast}
+use Rattle.gq_ast.specs.declared.Ast.{Ast, out-Ast, fold_out-Ast}
 use Rattle.gq_trees.proofs.Resolved.{answered, opens}
 use Rattle.gq_trees.specs.PathTests.{PathTest, test_of, test_step}
 

@@ -3,7 +3,7 @@ use Rattle.std.proofs.Common.{◌≡◌, ◌∙◌, ap, refl, List, [], ◌∷�
 use Rattle.gq_base.proofs.OptionLaws.{or_assoc}
 use Rattle.std.specs.Option.{option_or}
 use Rattle.std.proofs.lemmas.List.{length-map}
-use Rattle.gq_syntax.specs.declared.Ast.{Ast, out-Ast, fold_out-Ast}
+use Rattle.gq_ast.specs.declared.Ast.{Ast, out-Ast, fold_out-Ast}
 use Rattle.gq_trees.proofs.Resolved.{answered, opens}
 use Rattle.gq_scopes.specs.Patterns.{Name}
 use Rattle.gq_trees.specs.Uses.{Use, uses, uses_step, all_uses, first_name}

@@ -1,10 +1,10 @@
 -- Tests of paths in conditions.
 use Rattle.std.specs.Prelude.{Bool, true, not, Option, Some, None}
 use Rattle.std.specs.Option.{option_map}
-use Rattle.gq_syntax.specs.declared.Ast.{Ast, fold-Ast}
-use Rattle.gq_syntax.specs.declared.AstNode.{AstNode}
-use Rattle.gq_syntax.specs.declared.AstNode.TheVariants as ast
-use Rattle.gq_syntax.specs.declared.Path.{Path}
+use Rattle.gq_ast.specs.declared.Ast.{Ast, fold-Ast}
+use Rattle.gq_ast.specs.declared.AstNode.{AstNode}
+use Rattle.gq_ast.specs.declared.AstNode.TheVariants as ast
+use Rattle.gq_ast.specs.declared.Path.{Path}
 
 -- a test whether a path has a match, or whether it has none
 pub record PathTest : Type 0 where

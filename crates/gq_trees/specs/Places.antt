@@ -1,9 +1,9 @@
 -- The paths of the EXISTS of an expression, and those that stand in a condition elsewhere than as a whole conjunct, alone or inside
 -- parentheses and NOTs alone.
 use Rattle.std.specs.Prelude.{is_some, List, [], ◌∷◌, flat_map, true, if◌then◌else◌}
-use Rattle.gq_syntax.specs.declared.Ast.{Ast, Ast-F, roll-Ast, map-Ast, fold-Ast}
-use Rattle.gq_syntax.specs.declared.AstNode.{AstNode}
-use Rattle.gq_syntax.specs.declared.AstNode.TheVariants as ast
+use Rattle.gq_ast.specs.declared.Ast.{Ast, Ast-F, roll-Ast, map-Ast, fold-Ast}
+use Rattle.gq_ast.specs.declared.AstNode.{AstNode}
+use Rattle.gq_ast.specs.declared.AstNode.TheVariants as ast
 use Rattle.gq_trees.specs.PathTests.{PathTest, test_of}
 use Rattle.gq_trees.specs.Uses.{Use, exists, uses}
 

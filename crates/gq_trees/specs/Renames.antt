@@ -3,8 +3,8 @@ use Rattle.std.specs.Prelude.{nat_eq, Bool, false, not, ◌&&◌, Option, Some, 
 use Rattle.std.specs.List.{list_any}
 use Rattle.std.specs.Cmp.Lexicographic.{pointwise}
 use Rattle.gq_expr.specs.declared.Expr.{Expr}
-use Rattle.gq_syntax.specs.declared.Ast.{Ast}
-use Rattle.gq_syntax.specs.declared.Item.{Item}
+use Rattle.gq_ast.specs.declared.Ast.{Ast}
+use Rattle.gq_ast.specs.declared.Item.{Item}
 use Rattle.gq_trees.specs.MadeOf.{same_expr}
 use Rattle.gq_scopes.specs.Patterns.{Name}
 use Rattle.gq_trees.specs.Resolving.{functions, resolved}

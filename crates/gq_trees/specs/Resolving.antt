@@ -10,14 +10,14 @@ use Rattle.gq_expr.specs.declared.Expr.{Expr}
 use Rattle.gq_expr.specs.declared.Expr.TheVariants as expr
 use Rattle.gq_expr.specs.declared.Tester.{Tester}
 use Rattle.gq_expr.specs.declared.Tester.TheVariants as tester
-use Rattle.gq_lexer.specs.declared.Span.{Span}
-use Rattle.gq_syntax.specs.declared.Ast.{Ast, fold-Ast}
-use Rattle.gq_syntax.specs.declared.expression.Ast.TheShapes.{former-Ast-node as parts}
-use Rattle.gq_syntax.specs.declared.AstNode.{AstNode}
-use Rattle.gq_syntax.specs.declared.AstNode.TheVariants as ast
-use Rattle.gq_syntax.specs.declared.Term.{Term}
-use Rattle.gq_syntax.specs.declared.Tester.{Tester as Tested}
-use Rattle.gq_syntax.specs.declared.Tester.TheVariants as tested
+use Rattle.gq_ast.specs.declared.Span.{Span}
+use Rattle.gq_ast.specs.declared.Ast.{Ast, fold-Ast}
+use Rattle.gq_ast.specs.declared.expression.Ast.TheShapes.{former-Ast-node as parts}
+use Rattle.gq_ast.specs.declared.AstNode.{AstNode}
+use Rattle.gq_ast.specs.declared.AstNode.TheVariants as ast
+use Rattle.gq_ast.specs.declared.Term.{Term}
+use Rattle.gq_ast.specs.declared.Tester.{Tester as Tested}
+use Rattle.gq_ast.specs.declared.Tester.TheVariants as tested
 use Rattle.gq_scopes.specs.Patterns.{Name}
 use Rattle.gq_trees.specs.declared.calls.CallForm.{CallForm}
 use Rattle.gq_trees.specs.declared.calls.CallForm.TheVariants as form

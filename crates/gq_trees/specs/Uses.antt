@@ -1,13 +1,13 @@
 -- The names, calls and EXISTS of an expression, in text order, and the first name that a check refuses.
 use Rattle.std.specs.Prelude.{ℕ, nat_eq, Bool, true, false, not, ◌||◌, Option, Some, None, List, [], ◌∷◌, ◌++◌, map, flat_map, length, codes, if◌then◌else◌}
-use Rattle.gq_syntax.specs.Operands.{in_tester}
+use Rattle.gq_ast.specs.Operands.{in_tester}
 use Rattle.std.specs.Option.{option_or}
-use Rattle.gq_syntax.specs.declared.Ast.{Ast, fold-Ast}
-use Rattle.gq_syntax.specs.declared.AstNode.{AstNode}
-use Rattle.gq_syntax.specs.declared.AstNode.TheVariants as ast
-use Rattle.gq_syntax.specs.declared.Hop.{Hop}
-use Rattle.gq_syntax.specs.declared.Path.{Path}
-use Rattle.gq_syntax.specs.declared.Term.{Term}
+use Rattle.gq_ast.specs.declared.Ast.{Ast, fold-Ast}
+use Rattle.gq_ast.specs.declared.AstNode.{AstNode}
+use Rattle.gq_ast.specs.declared.AstNode.TheVariants as ast
+use Rattle.gq_ast.specs.declared.Hop.{Hop}
+use Rattle.gq_ast.specs.declared.Path.{Path}
+use Rattle.gq_ast.specs.declared.Term.{Term}
 use Rattle.gq_scopes.specs.Patterns.{Name, find_name}
 use Rattle.gq_trees.specs.Resolving.{is_function}
 use Rattle.gq_scopes.specs.Scopes.{Scope, is_known, is_there, is_variable}

@@ -5,18 +5,18 @@ ghost use Rattle.gq_trees.specs.Conjuncts.{tests_of, values_of};
 ghost use Rattle.gq_trees.specs.steps.Conjuncts.{conjuncts_in, listed_behind, whole_conjunct};
 ghost use Rattle.gq_trees.specs.Resolving as resolving;
 ghost use Rattle.gq_trees.specs.Resolving.{split, all_some};
-ghost use Rattle.gq_lexer.specs.Sources.{IsWhole};
-ghost use Rattle.gq_syntax.specs.Spans.{IsWholeTree};
-ghost use Rattle.gq_syntax.specs.declared.Ast.{out-Ast};
+ghost use Rattle.gq_ast.specs.Sources.{IsWhole};
+ghost use Rattle.gq_ast.specs.Spans.{IsWholeTree};
+ghost use Rattle.gq_ast.specs.declared.Ast.{out-Ast};
 
 use crate::calls::CallForm;
 use crate::path_tests::{NamedTest, test_of};
 use crate::resolution::resolve;
 use crate::source::source_text;
+use gq_ast::{Ast, AstNode};
 use gq_base::{List, Memory};
 use gq_plan::NamedExpr;
 use gq_scopes::Scope;
-use gq_syntax::{Ast, AstNode};
 use std::alloc::Global;
 
 /// The conjuncts of conditions in text order: those of values, and the tests of paths.

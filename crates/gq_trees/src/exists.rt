@@ -4,8 +4,8 @@ ghost use Rattle.gq_trees.specs.Places.{paths_in};
 ghost use Rattle.gq_trees.specs.steps.Places.{tester_paths};
 
 use crate::path_tests::PathTest;
+use gq_ast::{ArithTerm, Ast, AstNode, AstTester, CompareTerm, Tester};
 use gq_base::{List, Memory};
-use gq_syntax::{ArithTerm, Ast, AstNode, AstTester, CompareTerm, Tester};
 
 /// Appends the path of each EXISTS of an expression, in text order, as a test whether it has a match.
 #[cycle(push_paths)]

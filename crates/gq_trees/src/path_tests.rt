@@ -2,8 +2,8 @@
 ghost use Rattle.std.specs.Prelude.{◌≡◌, Some, not};
 ghost use Rattle.gq_trees.specs.PathTests as tests;
 
+use gq_ast::{Ast, AstNode, Path};
 use gq_base::Text;
-use gq_syntax::{Ast, AstNode, Path};
 use std::marker::Model;
 
 /// A test whether a path has a match, or whether it has none.

@@ -9,10 +9,10 @@ ghost use Rattle.gq_trees.specs.Resolving.{functions, resolved};
 use crate::calls::CallForm;
 use crate::resolution::resolve;
 use crate::sameness::same;
+use gq_ast::{Ast, Item};
 use gq_base::{List, Memory, Text};
 use gq_expr::Expr;
 use gq_scopes::Scope;
-use gq_syntax::{Ast, Item};
 use std::alloc::Global;
 use std::marker::Model;
 

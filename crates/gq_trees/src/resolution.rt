@@ -6,10 +6,10 @@ ghost use Rattle.gq_trees.specs.Resolving.{over_known};
 ghost use Rattle.gq_trees.specs.steps.Trees.{term_with, tester_with};
 
 use crate::calls::{CallForm, call};
+use gq_ast::{ArithTerm, Ast, AstNode, AstTester, CompareTerm, Tester as Tested};
 use gq_base::{Boxed, List, Literal, Memory};
 use gq_expr::{ArithOperand, CompareOperand, Expr, ExprTester, Operand, Tester};
 use gq_scopes::{Copying, Scope, copy_literal, copy_literals};
-use gq_syntax::{ArithTerm, Ast, AstNode, AstTester, CompareTerm, Tester as Tested};
 use std::alloc::Global;
 
 /// The expression that a tree stands for, or `None` where it names what the scope does not have, or a call is none. An

@@ -1,10 +1,10 @@
 //! The source texts of parts of a query.
 ghost use Rattle.std.specs.Prelude.{◌≡◌, IfOk};
-ghost use Rattle.gq_lexer.specs.Sources as sources;
-ghost use Rattle.gq_lexer.specs.Sources.{IsWhole};
+ghost use Rattle.gq_ast.specs.Sources as sources;
+ghost use Rattle.gq_ast.specs.Sources.{IsWhole};
 
+use gq_ast::Span;
 use gq_base::{Memory, Text, read_text};
-use gq_lexer::Span;
 use std::alloc::Global;
 
 /// The text of a span that begins and ends between characters.

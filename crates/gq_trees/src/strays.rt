@@ -5,8 +5,8 @@ ghost use Rattle.gq_trees.specs.Places.{untested};
 
 use crate::exists::push_paths;
 use crate::path_tests::{PathTest, test_of};
+use gq_ast::{Ast, AstNode};
 use gq_base::{List, Memory};
-use gq_syntax::{Ast, AstNode};
 
 /// Appends the path of each EXISTS that stands in a condition elsewhere than as a whole conjunct,
 /// alone or inside parentheses and NOTs alone.

@@ -1,6 +1,6 @@
 //! The names and calls of an expression, and the first that a check refuses.
 ghost use Rattle.std.specs.Prelude.{◌≡◌, true, false, map};
-ghost use Rattle.gq_syntax.specs.Operands.{in_tester};
+ghost use Rattle.gq_ast.specs.Operands.{in_tester};
 ghost use Rattle.std.specs.Option.{option_copied};
 ghost use Rattle.gq_trees.specs.Checks.{check_of};
 ghost use Rattle.gq_trees.specs.steps.Trees.{term_with, tester_with};
@@ -10,9 +10,9 @@ ghost use Rattle.gq_trees.specs.Uses.{refused_unless, takes, is_some_function};
 ghost use Rattle.gq_trees.specs.steps.Uses.{first_of};
 
 use crate::renames::Renamed;
+use gq_ast::{ArithTerm, Ast, AstNode, AstTester, CompareTerm, Hop, Path, Tester};
 use gq_base::Text;
 use gq_scopes::Scope;
-use gq_syntax::{ArithTerm, Ast, AstNode, AstTester, CompareTerm, Hop, Path, Tester};
 
 /// What is looked for in an expression.
 #[derive(Clone, Copy)]

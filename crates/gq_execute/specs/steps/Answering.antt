@@ -2,7 +2,7 @@
 use Rattle.std.specs.Prelude.{◌≡◌, ◌⊎◌, ◌≤◌, ◌+◌, ℕ, length, take, true, false, Some, Result, Ok, Err, List, [], ◌∷◌, ◌++◌, flat_map, slice_get}
 use Rattle.std.specs.List.{AllZip}
 use Rattle.std.specs.List.Sorted.{IsPermutation}
-use Rattle.gq_binder.specs.Binding.{IsBound}
+use Rattle.gq_bound.specs.Binding.{IsBound}
 use Rattle.gq_expr.specs.declared.Fault.{Fault}
 use Rattle.gq_pipe.specs.Spending.{up_to_most}
 use Rattle.gq_pipe.specs.declared.pipeline.Spent.{Spent}
@@ -13,7 +13,7 @@ use Rattle.gq_plan.specs.Plans.{Plan}
 use Rattle.gq_plan.specs.declared.Bound.{Bound}
 use Rattle.gq_plan.specs.declared.Typed.{Typed}
 use Rattle.gq_rows.specs.Tables.{StandsFor, Table, is_full_table}
-use Rattle.gq_syntax.specs.declared.Query.{Query}
+use Rattle.gq_ast.specs.declared.Query.{Query}
 use Rattle.gq_base.specs.Plain.{Graph}
 use Rattle.gq_execute.specs.Answering.{question, RepliesToEach}
 use Rattle.gq_execute.specs.Replies.{Question, all_outcomes, has_heavy_clause, has_heavy_test, has_large_part, outcomes_in, some_heavy}

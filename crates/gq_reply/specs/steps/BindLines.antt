@@ -1,6 +1,6 @@
 -- The tone of each refusal of the binder (this project's profile).
-use Rattle.gq_binder.specs.declared.refusal.BindRefusal.{BindRefusal}
-use Rattle.gq_binder.specs.declared.refusal.BindRefusal.TheVariants as refusal
+use Rattle.gq_bound.specs.declared.refusal.BindRefusal.{BindRefusal}
+use Rattle.gq_bound.specs.declared.refusal.BindRefusal.TheVariants as refusal
 use Rattle.gq_session.specs.declared.answering.Tone.{Tone}
 use Rattle.gq_session.specs.declared.answering.Tone.TheVariants as tone
 

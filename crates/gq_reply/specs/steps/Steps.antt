@@ -6,7 +6,7 @@ use Rattle.std.specs.declared.option.Option.{Option}
 use Rattle.gq_base.specs.Values.{Val, literal_val}
 use Rattle.gq_base.specs.declared.literal.Literal.{Literal}
 use Rattle.gq_base.specs.declared.memory.Memory.{Memory}
-use Rattle.gq_binder.specs.Binding.{IsBound}
+use Rattle.gq_bound.specs.Binding.{IsBound}
 use Rattle.gq_execute.specs.Planned.{ArePlansIn}
 use Rattle.gq_execute.specs.Replies.{Rows, Faulted, TooManyRows, IsPermitted}
 use Rattle.gq_expr.specs.declared.Fault.{Fault}
@@ -25,7 +25,7 @@ use Rattle.gq_session.specs.Sessions.{Span}
 use Rattle.gq_session.specs.declared.answering.Tone.{Tone}
 use Rattle.gq_session.specs.declared.answering.Tone.TheVariants as tone
 use Rattle.gq_render.specs.Texts.{line, param_line}
-use Rattle.gq_syntax.specs.declared.statement.Query.{Query}
+use Rattle.gq_ast.specs.declared.statement.Query.{Query}
 use Rattle.gq_tokens.specs.Parameters.{IsFull, with_value}
 use Rattle.gq_tokens.specs.Words.{Name}
 use Rattle.gq_tokens.specs.declared.params.Param.{Param}

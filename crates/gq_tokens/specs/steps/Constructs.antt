@@ -1,6 +1,6 @@
 -- Readers of constructs: one that nests, one with its span, and the end of the list.
 use Rattle.std.specs.Prelude.{ℕ, zero, suc, ◌-◌, [], ◌∷◌, length, take, Option}
-use Rattle.gq_lexer.specs.declared.token.Span.{Span}
+use Rattle.gq_ast.specs.declared.span.Span.{Span}
 use Rattle.gq_lexer.specs.declared.token.Token.{Token}
 use Rattle.gq_tokens.specs.Readers.{Deep, Done, Reader, Syntax, fork, head_by, on_done, on_head}
 use Rattle.gq_tokens.specs.Relations.{span_of}

@@ -2,7 +2,7 @@
 use Rattle.std.specs.Prelude.{ℕ, List, ◌++◌, Option, flat_map}
 use Rattle.std.specs.Option.{option_map}
 use Rattle.gq_plan.specs.declared.NamedExpr.{NamedExpr}
-use Rattle.gq_syntax.specs.declared.Ast.{Ast, out-Ast}
+use Rattle.gq_ast.specs.declared.Ast.{Ast, out-Ast}
 use Rattle.gq_trees.specs.Conjuncts.{NamedTest, tests_of, values_of}
 use Rattle.gq_trees.specs.PathTests.{test_of}
 use Rattle.gq_trees.specs.Resolving.{Conjunct, functions, resolved, split, all_some}

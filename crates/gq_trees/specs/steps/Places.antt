@@ -1,8 +1,8 @@
 -- The paths of the EXISTS behind a test, if it has an operand.
 use Rattle.std.specs.Prelude.{List, []}
-use Rattle.gq_syntax.specs.declared.Ast.{Ast}
-use Rattle.gq_syntax.specs.declared.Tester.{Tester}
-use Rattle.gq_syntax.specs.declared.Tester.TheVariants as tester
+use Rattle.gq_ast.specs.declared.Ast.{Ast}
+use Rattle.gq_ast.specs.declared.Tester.{Tester}
+use Rattle.gq_ast.specs.declared.Tester.TheVariants as tester
 use Rattle.gq_trees.specs.PathTests.{PathTest}
 use Rattle.gq_trees.specs.Places.{paths_in}
 

@@ -1,8 +1,8 @@
 -- The parts of a tree's lists, with an answer in the place of each operand.
-use Rattle.gq_syntax.specs.declared.Ast.{Ast}
-use Rattle.gq_syntax.specs.declared.Term.{Term}
-use Rattle.gq_syntax.specs.declared.Tester.{Tester}
-use Rattle.gq_syntax.specs.declared.Tester.TheVariants as tester
+use Rattle.gq_ast.specs.declared.Ast.{Ast}
+use Rattle.gq_ast.specs.declared.Term.{Term}
+use Rattle.gq_ast.specs.declared.Tester.{Tester}
+use Rattle.gq_ast.specs.declared.Tester.TheVariants as tester
 
 -- an operator with the answer of its operand
 abbrev pub term_with : {O A : Type 0} → (Ast → A) → Term O Ast → Term O A

@@ -1,12 +1,12 @@
 use Rattle.std.proofs.Common.{All, List, subst, sym}
 use Rattle.std.proofs.lemmas.Result.{err_from_is_err_and}
 use Rattle.gq_binder.proofs.Checked.{accepted, parts_whole, refused_early, refused_last}
-use Rattle.gq_binder.proofs.OwnBound.{core_whole}
-use Rattle.gq_binder.proofs.TestLemmas.{IsWholeTest}
-use Rattle.gq_binder.specs.declared.parts.QueryParts.{QueryParts}
+use Rattle.gq_bound.proofs.OwnBound.{core_whole}
+use Rattle.gq_bound.proofs.TestLemmas.{IsWholeTest}
+use Rattle.gq_bound.specs.declared.parts.QueryParts.{QueryParts}
 use Rattle.gq_cuts.specs.Cored.{HasCore}
 use Rattle.gq_syntax.proofs.Whole.{spelled_stands}
-use Rattle.gq_syntax.specs.declared.Clause.{Clause}
+use Rattle.gq_ast.specs.declared.Clause.{Clause}
 use Rattle.gq_binder.proofs.bound.check_all.Goals as goal
 
 pub check-requires : goal.check-requires

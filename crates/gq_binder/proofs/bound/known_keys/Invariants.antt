@@ -1,6 +1,6 @@
 use Rattle.std.proofs.Common.{◌≡◌, ◌++◌, drop}
 use Rattle.std.specs.Prelude.{filter_map}
-use Rattle.gq_binder.specs.Columns.{sort_expr}
+use Rattle.gq_bound.specs.Columns.{sort_expr}
 use Rattle.gq_binder.proofs.bound.known_keys.Given as goal
 
 abbrev pub invariant-loop-sort : goal.invariant-loop-sort

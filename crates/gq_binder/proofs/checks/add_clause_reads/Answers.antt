@@ -1,8 +1,8 @@
 use Rattle.std.proofs.Common.{◌∙◌, ap}
 use Rattle.gq_plan.proofs.ReadLemmas.{reads_more}
 use Rattle.gq_plan.specs.Reads.{with_reads}
-use Rattle.gq_binder.specs.declared.optionals.ClauseParts.{ClauseParts}
-use Rattle.gq_binder.specs.steps.Parts.{reads_in}
+use Rattle.gq_bound.specs.declared.optionals.ClauseParts.{ClauseParts}
+use Rattle.gq_bound.specs.steps.Parts.{reads_in}
 use Rattle.gq_binder.proofs.checks.add_clause_reads.Goals as goal
 
 pub loop-clause-preserved : goal.loop-clause-preserved

@@ -1,6 +1,6 @@
 use Rattle.std.proofs.Common.{◌≡◌, drop}
 use Rattle.gq_plan.specs.Reads.{with_reads}
-use Rattle.gq_binder.specs.steps.Parts.{clause_reads}
+use Rattle.gq_bound.specs.steps.Parts.{clause_reads}
 use Rattle.gq_binder.proofs.checks.add_clause_reads.Given as goal
 
 abbrev pub invariant-loop-clause : goal.invariant-loop-clause

@@ -1,5 +1,5 @@
 use Rattle.std.proofs.Common.{◌≡◌, drop}
-use Rattle.gq_binder.specs.Refusals.{entries_read}
+use Rattle.gq_bound.specs.Refusals.{entries_read}
 use Rattle.gq_plan.specs.Reads.{with_reads}
 use Rattle.gq_binder.proofs.checks.add_entries.Given as goal
 

@@ -1,4 +1,4 @@
-use Rattle.gq_binder.proofs.ReadingLemmas.{paths_next}
+use Rattle.gq_bound.proofs.ReadingLemmas.{paths_next}
 use Rattle.gq_binder.proofs.checks.add_path_reads.Goals as goal
 
 pub loop-test-preserved : goal.loop-test-preserved

@@ -1,5 +1,5 @@
 use Rattle.std.proofs.Common.{◌≡◌, drop, length}
-use Rattle.gq_binder.specs.Refusals.{path_reads}
+use Rattle.gq_bound.specs.Refusals.{path_reads}
 use Rattle.gq_plan.specs.Reads.{with_reads}
 use Rattle.gq_binder.proofs.checks.add_path_reads.Given as goal
 

@@ -1,6 +1,6 @@
 use Rattle.std.proofs.Common.{◌≡◌, drop}
 use Rattle.gq_plan.specs.Reads.{with_reads}
-use Rattle.gq_binder.specs.steps.Parts.{reads_in}
+use Rattle.gq_bound.specs.steps.Parts.{reads_in}
 use Rattle.gq_binder.proofs.checks.add_reads.Given as goal
 
 abbrev pub invariant-loop-named : goal.invariant-loop-named

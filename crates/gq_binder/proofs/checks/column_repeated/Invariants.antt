@@ -1,5 +1,5 @@
 use Rattle.std.proofs.Common.{◌≡◌, [], Some, map, take, drop}
-use Rattle.gq_binder.specs.Refusals.{first_behind, repeating_column}
+use Rattle.gq_bound.specs.Refusals.{first_behind, repeating_column}
 use Rattle.gq_binder.proofs.checks.column_repeated.Given as goal
 
 abbrev pub invariant-loop-column : goal.invariant-loop-column

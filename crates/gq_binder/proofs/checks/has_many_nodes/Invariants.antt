@@ -1,5 +1,5 @@
 use Rattle.std.proofs.Common.{◌≡◌, ◌+◌, drop}
-use Rattle.gq_binder.specs.Refusals.{nodes_in, paths_of}
+use Rattle.gq_bound.specs.Refusals.{nodes_in, paths_of}
 use Rattle.gq_binder.proofs.checks.has_many_nodes.Given as goal
 
 abbrev pub invariant-loop-test : goal.invariant-loop-test

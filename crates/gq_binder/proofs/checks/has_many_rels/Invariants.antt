@@ -1,5 +1,5 @@
 use Rattle.std.proofs.Common.{◌≡◌, ◌+◌, drop}
-use Rattle.gq_binder.specs.Refusals.{paths_of, rels_in}
+use Rattle.gq_bound.specs.Refusals.{paths_of, rels_in}
 use Rattle.gq_binder.proofs.checks.has_many_rels.Given as goal
 
 abbrev pub invariant-loop-test : goal.invariant-loop-test

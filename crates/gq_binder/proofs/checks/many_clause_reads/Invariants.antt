@@ -1,6 +1,6 @@
 use Rattle.std.proofs.Common.{◌≡◌, drop, map}
-use Rattle.gq_binder.specs.Refusals.{first_of_all, maps_alone}
-use Rattle.gq_binder.specs.steps.Parts.{own_patterns}
+use Rattle.gq_bound.specs.Refusals.{first_of_all, maps_alone}
+use Rattle.gq_bound.specs.steps.Parts.{own_patterns}
 use Rattle.gq_binder.proofs.checks.many_clause_reads.Given as goal
 
 abbrev pub invariant-loop-clause : goal.invariant-loop-clause

@@ -1,5 +1,5 @@
 use Rattle.std.proofs.Common.{◌≡◌, drop, map}
-use Rattle.gq_binder.specs.Refusals.{first_of_all, reads_alone}
+use Rattle.gq_bound.specs.Refusals.{first_of_all, reads_alone}
 use Rattle.gq_binder.proofs.checks.many_reads_alone.Given as goal
 
 abbrev pub invariant-loop-test : goal.invariant-loop-test

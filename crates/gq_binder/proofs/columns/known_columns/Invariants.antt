@@ -1,6 +1,6 @@
 use Rattle.std.proofs.Common.{◌≡◌, ◌++◌}
 use Rattle.std.specs.Prelude.{filter_map}
-use Rattle.gq_binder.specs.Columns.{column_expr}
+use Rattle.gq_bound.specs.Columns.{column_expr}
 use Rattle.gq_binder.proofs.columns.known_columns.Given as goal
 
 abbrev pub invariant-loop-column : goal.invariant-loop-column

@@ -1,8 +1,8 @@
 use Rattle.std.proofs.Common.{◌∙◌, ap, List, [], ◌∷◌, ◌++◌, Option, Some}
 use Rattle.gq_scopes.specs.Patterns.{NamedVariable}
-use Rattle.gq_binder.specs.Columns.{column_of}
+use Rattle.gq_bound.specs.Columns.{column_of}
 use Rattle.gq_scopes.specs.Patterns.{Name}
-use Rattle.gq_binder.proofs.MetLemmas.{firsts_next, next_named}
+use Rattle.gq_bound.proofs.MetLemmas.{firsts_next, next_named}
 use Rattle.gq_binder.proofs.columns.push_firsts.Goals as goal
 
 pub loop-variable-preserved : goal.loop-variable-preserved

@@ -1,5 +1,5 @@
 use Rattle.std.proofs.Common.{◌≡◌, ◌++◌, [], Some, map, take, drop}
-use Rattle.gq_binder.specs.Columns.{column_of, firsts_behind}
+use Rattle.gq_bound.specs.Columns.{column_of, firsts_behind}
 use Rattle.gq_binder.proofs.columns.push_firsts.Given as goal
 
 abbrev pub invariant-loop-variable : goal.invariant-loop-variable

@@ -1,6 +1,6 @@
 use Rattle.std.proofs.Common.{sym, subst}
-use Rattle.gq_syntax.specs.Spans.{IsWholeTree}
-use Rattle.gq_syntax.specs.declared.Item.{Item}
+use Rattle.gq_ast.specs.Spans.{IsWholeTree}
+use Rattle.gq_ast.specs.declared.Item.{Item}
 use Rattle.gq_binder.proofs.columns.push_items.Goals as goal
 
 pub name_of-requires : goal.name_of-requires

@@ -1,5 +1,5 @@
 use Rattle.std.proofs.Common.{◌≡◌, ◌++◌, map, take}
-use Rattle.gq_binder.specs.Columns.{item_column}
+use Rattle.gq_bound.specs.Columns.{item_column}
 use Rattle.gq_trees.specs.Resolving.{calls_of}
 use Rattle.gq_binder.proofs.columns.push_items.Given as goal
 

@@ -1,8 +1,8 @@
 use Rattle.std.proofs.Common.{◌≡◌, ◌++◌, ◌+◌, drop, map}
 use Rattle.gq_alternatives.specs.Alternatives.{pattern_alternatives}
-use Rattle.gq_binder.specs.Refusals.{alternatives_of, over_limit}
-use Rattle.gq_binder.specs.declared.refusal.BindRefusal.TheVariants as refusal
-use Rattle.gq_binder.specs.steps.Parts.{own_patterns}
+use Rattle.gq_bound.specs.Refusals.{alternatives_of, over_limit}
+use Rattle.gq_bound.specs.declared.refusal.BindRefusal.TheVariants as refusal
+use Rattle.gq_bound.specs.steps.Parts.{own_patterns}
 use Rattle.gq_binder.proofs.optionals.clause_choices.Given as goal
 
 abbrev pub invariant-loop-clause : goal.invariant-loop-clause

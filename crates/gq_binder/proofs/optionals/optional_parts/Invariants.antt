@@ -1,6 +1,6 @@
 use Rattle.std.proofs.Common.{◌≡◌, ◌++◌, drop, map}
 use Rattle.gq_alternatives.specs.Alternatives.{pattern_alternatives}
-use Rattle.gq_binder.specs.steps.Parts.{optional_part, own_patterns}
+use Rattle.gq_bound.specs.steps.Parts.{optional_part, own_patterns}
 use Rattle.gq_binder.proofs.optionals.optional_parts.Given as goal
 
 abbrev pub invariant-loop-clause : goal.invariant-loop-clause

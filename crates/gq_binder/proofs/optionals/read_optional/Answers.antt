@@ -1,5 +1,5 @@
 use Rattle.std.proofs.Common.{All, List, ap, sym, subst, ◌∙◌}
-use Rattle.gq_binder.proofs.Patterns.{IsWholeMap, alone_entries_whole}
+use Rattle.gq_bound.proofs.Patterns.{IsWholeMap, alone_entries_whole}
 use Rattle.gq_scopes.specs.Patterns.{MapEntry, Pattern}
 use Rattle.gq_binder.proofs.optionals.read_optional.Goals as goal
 

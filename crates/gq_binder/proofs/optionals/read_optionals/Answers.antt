@@ -1,8 +1,8 @@
 use Rattle.std.proofs.Common.{◌∙◌, ◌++◌, ap, sym}
 use Rattle.std.specs.Prelude.{flat_map}
-use Rattle.gq_binder.proofs.PartLemmas.{next_clauses, next_elsewhere, next_names, next_pattern}
-use Rattle.gq_binder.specs.Columns.{scoped_in}
-use Rattle.gq_binder.specs.Tested.{seen_elsewhere}
+use Rattle.gq_bound.proofs.PartLemmas.{next_clauses, next_elsewhere, next_names, next_pattern}
+use Rattle.gq_bound.specs.Columns.{scoped_in}
+use Rattle.gq_bound.specs.Tested.{seen_elsewhere}
 use Rattle.gq_scopes.specs.Patterns.{Pattern}
 use Rattle.gq_scopes.specs.Scopes.{scope_of}
 use Rattle.gq_binder.proofs.optionals.read_optionals.Goals as goal

@@ -1,9 +1,9 @@
 use Rattle.std.proofs.Common.{◌≡◌, ◌++◌, drop}
 use Rattle.std.specs.Prelude.{flat_map}
-use Rattle.gq_binder.specs.Columns.{conditions_from}
-use Rattle.gq_binder.specs.Tested.{seen_elsewhere}
-use Rattle.gq_binder.specs.steps.Names.{with_clauses_names}
-use Rattle.gq_binder.specs.steps.Parts.{clauses_parts}
+use Rattle.gq_bound.specs.Columns.{conditions_from}
+use Rattle.gq_bound.specs.Tested.{seen_elsewhere}
+use Rattle.gq_bound.specs.steps.Names.{with_clauses_names}
+use Rattle.gq_bound.specs.steps.Parts.{clauses_parts}
 use Rattle.gq_scopes.specs.Patterns.{with_clauses}
 use Rattle.gq_binder.proofs.optionals.read_optionals.Given as goal
 

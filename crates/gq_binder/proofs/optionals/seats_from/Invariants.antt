@@ -1,5 +1,5 @@
 use Rattle.std.proofs.Common.{◌≡◌, ◌++◌, drop}
-use Rattle.gq_binder.specs.Optionals.{seats}
+use Rattle.gq_bound.specs.Optionals.{seats}
 use Rattle.gq_binder.proofs.optionals.seats_from.Given as goal
 
 abbrev pub invariant-loop-name : goal.invariant-loop-name

@@ -1,6 +1,6 @@
 use Rattle.std.proofs.Common.{◌∙◌, ap, sym, Some, None}
-use Rattle.gq_binder.proofs.RefusalLemmas.{ambiguous_found}
-use Rattle.gq_binder.specs.declared.refusal.BindRefusal.TheVariants as refusal
+use Rattle.gq_bound.proofs.RefusalLemmas.{ambiguous_found}
+use Rattle.gq_bound.specs.declared.refusal.BindRefusal.TheVariants as refusal
 use Rattle.gq_binder.proofs.order.ambiguous_order_name.Goals as goal
 
 pub returns-in-Some : goal.returns-in-Some

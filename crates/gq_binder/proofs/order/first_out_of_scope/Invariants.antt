@@ -1,5 +1,5 @@
 use Rattle.std.proofs.Common.{◌≡◌, drop}
-use Rattle.gq_binder.specs.Refusals.{out_of_scope_from}
+use Rattle.gq_bound.specs.Refusals.{out_of_scope_from}
 use Rattle.gq_trees.specs.MadeOf.{column_exprs}
 use Rattle.gq_binder.proofs.order.first_out_of_scope.Given as goal
 

@@ -1,12 +1,12 @@
 use Rattle.std.proofs.Common.{All, List, map, ap, sym, subst, ◌∙◌}
-use Rattle.gq_binder.proofs.PartLemmas.{parts_made}
-use Rattle.gq_binder.proofs.Patterns.{IsWholeMap, entries_whole}
-use Rattle.gq_binder.specs.Columns.{conditions_from}
+use Rattle.gq_bound.proofs.PartLemmas.{parts_made}
+use Rattle.gq_bound.proofs.Patterns.{IsWholeMap, entries_whole}
+use Rattle.gq_bound.specs.Columns.{conditions_from}
 use Rattle.gq_cuts.specs.Entries.{entry_test}
-use Rattle.gq_binder.specs.steps.Names.{no_names, with_clauses_names}
-use Rattle.gq_binder.specs.steps.Parts.{known_conjuncts, known_seen}
+use Rattle.gq_bound.specs.steps.Names.{no_names, with_clauses_names}
+use Rattle.gq_bound.specs.steps.Parts.{known_conjuncts, known_seen}
 use Rattle.gq_scopes.specs.Patterns.{MapEntry, Pattern, no_pattern, pattern_of}
-use Rattle.gq_syntax.specs.declared.Clause.{Clause}
+use Rattle.gq_ast.specs.declared.Clause.{Clause}
 use Rattle.gq_binder.proofs.parts.parts_of.Goals as goal
 
 pub lists_of-requires-clause-entries : goal.lists_of-requires-clause-entries

@@ -1,7 +1,7 @@
 use Rattle.std.proofs.Common.{◌≡◌, ◌++◌, drop}
-use Rattle.gq_binder.specs.Columns.{conditions_from}
-use Rattle.gq_binder.specs.steps.Names.{with_clauses_names}
-use Rattle.gq_binder.specs.steps.Parts.{known_conjuncts, known_seen}
+use Rattle.gq_bound.specs.Columns.{conditions_from}
+use Rattle.gq_bound.specs.steps.Names.{with_clauses_names}
+use Rattle.gq_bound.specs.steps.Parts.{known_conjuncts, known_seen}
 use Rattle.gq_scopes.specs.Patterns.{with_clauses}
 use Rattle.gq_binder.proofs.parts.read_clauses.Given as goal
 

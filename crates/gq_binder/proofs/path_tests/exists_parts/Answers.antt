@@ -1,9 +1,9 @@
 use Rattle.std.proofs.Common.{sym, subst}
 use Rattle.std.proofs.lemmas.Result.{err_from_is_err_and}
-use Rattle.gq_binder.proofs.PathCounts.{few_next, few_over, given_next}
-use Rattle.gq_binder.proofs.TestLemmas.{IsWholeTest}
-use Rattle.gq_binder.specs.declared.refusal.BindRefusal.TheVariants as refusal
-use Rattle.gq_binder.specs.steps.Parts.{exists_part}
+use Rattle.gq_bound.proofs.PathCounts.{few_next, few_over, given_next}
+use Rattle.gq_bound.proofs.TestLemmas.{IsWholeTest}
+use Rattle.gq_bound.specs.declared.refusal.BindRefusal.TheVariants as refusal
+use Rattle.gq_bound.specs.steps.Parts.{exists_part}
 use Rattle.gq_binder.proofs.path_tests.exists_parts.Goals as goal
 
 pub push-requires : goal.push-requires

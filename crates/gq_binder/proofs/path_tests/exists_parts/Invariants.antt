@@ -1,8 +1,8 @@
 use Rattle.std.proofs.Common.{◌≡◌, drop, take}
 use Rattle.std.specs.Prelude.{filter_map}
-use Rattle.gq_binder.specs.Refusals.{alternatives_in, over_limit, paths_of}
-use Rattle.gq_binder.specs.declared.refusal.BindRefusal.TheVariants as refusal
-use Rattle.gq_binder.specs.steps.Parts.{exists_part}
+use Rattle.gq_bound.specs.Refusals.{alternatives_in, over_limit, paths_of}
+use Rattle.gq_bound.specs.declared.refusal.BindRefusal.TheVariants as refusal
+use Rattle.gq_bound.specs.steps.Parts.{exists_part}
 use Rattle.gq_binder.proofs.path_tests.exists_parts.Given as goal
 
 abbrev pub invariant-loop-test : goal.invariant-loop-test

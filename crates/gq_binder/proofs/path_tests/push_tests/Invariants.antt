@@ -1,5 +1,5 @@
 use Rattle.std.proofs.Common.{◌≡◌, ◌++◌, map}
-use Rattle.gq_binder.specs.steps.Parts.{shared_in}
+use Rattle.gq_bound.specs.steps.Parts.{shared_in}
 use Rattle.gq_binder.proofs.path_tests.push_tests.Given as goal
 
 abbrev pub invariant-loop-named : goal.invariant-loop-named

@@ -1,5 +1,5 @@
 use Rattle.std.proofs.Common.{◌≡◌, ◌++◌, map}
-use Rattle.gq_binder.specs.Tested.{stray_test}
+use Rattle.gq_bound.specs.Tested.{stray_test}
 use Rattle.gq_binder.proofs.path_tests.push_untested.Given as goal
 
 abbrev pub invariant-loop-test : goal.invariant-loop-test

@@ -1,5 +1,5 @@
 use Rattle.std.proofs.Common.{◌≡◌, ◌++◌, map}
-use Rattle.gq_binder.specs.steps.Parts.{placed_part}
+use Rattle.gq_bound.specs.steps.Parts.{placed_part}
 use Rattle.gq_binder.proofs.trails.placed_parts.Given as goal
 
 abbrev pub invariant-loop-part : goal.invariant-loop-part

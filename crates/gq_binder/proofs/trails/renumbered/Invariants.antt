@@ -1,5 +1,5 @@
 use Rattle.std.proofs.Common.{◌≡◌, ◌++◌}
-use Rattle.gq_binder.specs.steps.Parts.{renumbered_all}
+use Rattle.gq_bound.specs.steps.Parts.{renumbered_all}
 use Rattle.gq_binder.proofs.trails.renumbered.Given as goal
 
 abbrev pub invariant-loop-named : goal.invariant-loop-named

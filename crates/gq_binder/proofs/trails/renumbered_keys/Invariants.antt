@@ -1,5 +1,5 @@
 use Rattle.std.proofs.Common.{◌≡◌, ◌++◌}
-use Rattle.gq_binder.specs.steps.Parts.{renumbered_keys}
+use Rattle.gq_bound.specs.steps.Parts.{renumbered_keys}
 use Rattle.gq_binder.proofs.trails.renumbered_keys.Given as goal
 
 abbrev pub invariant-loop-key : goal.invariant-loop-key

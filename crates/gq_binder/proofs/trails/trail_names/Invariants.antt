@@ -1,5 +1,5 @@
 use Rattle.std.proofs.Common.{◌≡◌, ◌++◌, drop}
-use Rattle.gq_binder.specs.Columns.{trail_names_from}
+use Rattle.gq_bound.specs.Columns.{trail_names_from}
 use Rattle.gq_binder.proofs.trails.trail_names.Given as goal
 
 abbrev pub invariant-loop-rel : goal.invariant-loop-rel

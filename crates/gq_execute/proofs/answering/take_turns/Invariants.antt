@@ -1,11 +1,11 @@
 use Rattle.std.proofs.Common.{◌≡◌, List, ℕ, take}
-use Rattle.gq_binder.specs.Binding.{IsBound}
+use Rattle.gq_bound.specs.Binding.{IsBound}
 use Rattle.gq_pool.specs.Pool.{spare_of}
 use Rattle.gq_execute.specs.Answering.{question}
 use Rattle.gq_execute.specs.Planned.{sizes}
 use Rattle.gq_execute.specs.steps.Answering.{Came, Spends}
 use Rattle.gq_rows.specs.Tables.{StandsForSome}
-use Rattle.gq_syntax.specs.declared.Query.{Query}
+use Rattle.gq_ast.specs.declared.Query.{Query}
 use Rattle.gq_execute.proofs.answering.take_turns.Given as goal
 
 abbrev pub invariant-alternatives : goal.invariant-alternatives

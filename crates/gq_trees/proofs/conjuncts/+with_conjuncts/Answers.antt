@@ -1,8 +1,8 @@
 use Rattle.std.proofs.Common.{◌∙◌, ap, sym, subst, None, Some}
 use Rattle.std.proofs.lemmas.Result.{IfOk-weaker}
-use Rattle.gq_syntax.specs.Spans.{IsWholeTree}
-use Rattle.gq_syntax.proofs.SpanLemmas.{and_whole, paren_whole, tree_span}
-use Rattle.gq_syntax.specs.declared.AstNode.TheVariants as ast
+use Rattle.gq_ast.specs.Spans.{IsWholeTree}
+use Rattle.gq_ast.proofs.SpanLemmas.{and_whole, paren_whole, tree_span}
+use Rattle.gq_ast.specs.declared.AstNode.TheVariants as ast
 use Rattle.gq_trees.specs.steps.Conjuncts.{listed_behind}
 use Rattle.gq_trees.proofs.Splits.{and_conjuncts, one_more, other_conjuncts, paren_conjuncts}
 use Rattle.gq_trees.proofs.conjuncts.+with_conjuncts.Goals as goal

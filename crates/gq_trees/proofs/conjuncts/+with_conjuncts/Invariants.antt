@@ -1,5 +1,5 @@
 use Rattle.std.proofs.Common.{◌≡◌, All, drop}
-use Rattle.gq_syntax.specs.Spans.{IsWholeTree}
+use Rattle.gq_ast.specs.Spans.{IsWholeTree}
 use Rattle.gq_trees.specs.steps.Conjuncts.{conjuncts_in, listed_behind}
 use Rattle.gq_trees.proofs.conjuncts.+with_conjuncts.Given as goal
 

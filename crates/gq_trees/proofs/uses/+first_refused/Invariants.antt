@@ -1,5 +1,5 @@
 use Rattle.std.proofs.Common.{◌≡◌, drop, map}
-use Rattle.gq_syntax.specs.Operands.{in_tester}
+use Rattle.gq_ast.specs.Operands.{in_tester}
 use Rattle.gq_trees.specs.Checks.{check_of}
 use Rattle.gq_trees.specs.steps.Trees.{term_with, tester_with}
 use Rattle.gq_trees.specs.Uses.{uses, term_uses}

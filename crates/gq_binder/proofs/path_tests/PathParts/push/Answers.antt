@@ -1,6 +1,6 @@
 use Rattle.std.proofs.Common.{All, IfSome, sym, subst}
-use Rattle.gq_binder.proofs.PathCounts.{some_then}
-use Rattle.gq_binder.proofs.Patterns.{IsWholeMap, path_entries_whole}
+use Rattle.gq_bound.proofs.PathCounts.{some_then}
+use Rattle.gq_bound.proofs.Patterns.{IsWholeMap, path_entries_whole}
 use Rattle.gq_scopes.specs.Patterns.{Pattern}
 use Rattle.gq_binder.proofs.path_tests.PathParts.push.Goals as goal
 

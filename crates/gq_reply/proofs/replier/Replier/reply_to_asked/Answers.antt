@@ -1,5 +1,5 @@
 use Rattle.std.proofs.Common.{Err, subst}
-use Rattle.gq_binder.specs.Binding.{Answers}
+use Rattle.gq_bound.specs.Binding.{Answers}
 use Rattle.gq_reply.proofs.Replying.{begun, may_reply, nodes_fit, refusal_is, rels_fit, replied, replied_as, tests_begin, tests_sound, unbound}
 use Rattle.gq_reply.proofs.Walkable.{trail_count, trail_ends, trail_lengths, trail_turns, trails_apart}
 use Rattle.gq_reply.specs.Replies.{asked_by}

@@ -1,8 +1,8 @@
 use Rattle.std.proofs.Common.{Err, refl, subst}
-use Rattle.gq_binder.specs.Binding.{Answers}
+use Rattle.gq_bound.specs.Binding.{Answers}
 use Rattle.gq_reply.proofs.Arrowed.{arrows_long}
 use Rattle.gq_reply.proofs.Replying.{begun, may_show, replied, replied_as, unbound}
-use Rattle.gq_syntax.specs.declared.statement.Statement.TheVariants as tree
+use Rattle.gq_ast.specs.declared.statement.Statement.TheVariants as tree
 use Rattle.gq_reply.proofs.replier.Replier.reply_to_planned.Goals as goal
 
 pub reply_to_plan-requires-clause-begins : goal.reply_to_plan-requires-clause-begins

@@ -2,7 +2,7 @@ use Rattle.std.proofs.Common.{inl, inr, refl, subst}
 use Rattle.gq_reply.proofs.Replying.{if_each, may_set, replied, replied_as, same_behind, set_after}
 use Rattle.gq_syntax.specs.Outcomes.{SpelledText}
 use Rattle.gq_session.specs.declared.answering.Tone.TheVariants as tone
-use Rattle.gq_syntax.specs.declared.statement.Statement.TheVariants as tree
+use Rattle.gq_ast.specs.declared.statement.Statement.TheVariants as tree
 use Rattle.gq_reply.proofs.replier.Replier.reply_to_tree.Goals as goal
 
 pub reply_to_asked-requires-clause-spelled : goal.reply_to_asked-requires-clause-spelled

@@ -1,7 +1,7 @@
 use Rattle.std.proofs.Common.{◌≡◌, drop, map, Option}
 use Rattle.gq_base.proofs.ListLaws.{prepend}
 use Rattle.gq_expr.specs.declared.Expr.{Expr}
-use Rattle.gq_syntax.specs.declared.Ast.{Ast}
+use Rattle.gq_ast.specs.declared.Ast.{Ast}
 use Rattle.gq_trees.specs.Resolving.{resolved, calls_of, all_some, bound_term, bound_tester}
 use Rattle.gq_trees.specs.steps.Trees.{term_with, tester_with}
 use Rattle.gq_trees.proofs.resolution.Resolver.+part.Given as goal
