@@ -1,5 +1,5 @@
 //! A list of values, each kept as a number and the place of its source.
-ghost use Rattle.std.specs.Prelude.{◌≡◌, ◌++◌, ◌∷◌, ◌<◌, [], IfOk, OnOk, length, slice_get};
+ghost use Rattle.std.specs.Prelude.{◌≡◌, ◌++◌, ◌∷◌, ◌<◌, [], IfOk, IsTrue, OnOk, length, slice_get};
 ghost use Rattle.std.specs.Prelude.{nat_eq, slice_index_or};
 ghost use Rattle.gq_base.specs.Values.{null, val};
 ghost use Rattle.gq_cells.specs.Numbers.{IsNumber, number_val};
@@ -84,6 +84,20 @@ impl<'g> Cells<'g> {
         ensures { result ≡ nat_eq (length self.now.values) 0 }
     {
         self.len() == 0
+    }
+
+    /// Whether two values, counted from 0, are kept by one source as one number: then they are the
+    /// same.
+    #[inline(always)]
+    pub fn same(&self, one: usize, other: usize) -> bool
+        requires one { one < length self.now.values }
+        requires other { other < length self.now.values }
+        ensures { IsTrue result → slice_index_or self.now.values one null
+            ≡ slice_index_or self.now.values other null }
+    {
+        let first = self.cells[one];
+        let second = self.cells[other];
+        first.source == second.source && first.number == second.number
     }
 
     /// A value, counted from 0.

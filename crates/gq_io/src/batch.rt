@@ -2,6 +2,7 @@
 
 ghost use Rattle.std.specs.Prelude.{◌≡◌, ℕ, ◌≤◌, List, [], ◌+◌, ◌++◌, ◌↔◌, IsTrue, length, take};
 
+use crate::copying::copy_whole;
 use crate::{Failed, Sink, write_all};
 use std::marker::Model;
 
@@ -60,6 +61,21 @@ impl Batch {
         self.len() == 0
     }
 
+    /// What waits.
+    pub fn bytes(&self) -> &[u8]
+        ensures { result.now ≡ self.now }
+    {
+        &self.bytes[..self.filled]
+    }
+
+    /// Drops what waits behind so many bytes.
+    pub fn truncate(&mut self, len: usize)
+        requires { len ≤ length self.old }
+        ensures { self.new ≡ take len self.old }
+    {
+        self.filled = len;
+    }
+
     /// Makes the sink take all that waits. After `Failed` nothing is said of what waits.
     pub fn flush<O: Sink>(&mut self, out: &mut O) -> Result<(), Failed>
         ensures bytes { Flushes (O.taken out.old) (O.taken out.new) self.old self.new result }
@@ -76,7 +92,7 @@ impl Batch {
         ensures { self.new ≡ self.old ++ piece.now }
     {
         let end = self.filled + piece.len();
-        self.bytes[self.filled..end].copy_from_slice(piece);
+        copy_whole(&mut self.bytes[self.filled..end], piece);
         self.filled = end;
     }
 

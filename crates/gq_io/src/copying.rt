@@ -25,3 +25,33 @@ pub(crate) fn copy_to(buffer: &mut [u8], at: usize, most: usize, piece: &[u8]) -
     buffer[at..at + count].copy_from_slice(&piece[..count]);
     count
 }
+
+/// Copies a piece into a place of its length, a short one by copies of a fixed length, which take no
+/// call.
+#[inline(always)]
+pub(crate) fn copy_whole(place: &mut [u8], piece: &[u8])
+    requires { length place.old ≡ length piece.now }
+    ensures { place.new ≡ piece.now }
+{
+    match piece.len() {
+        0 => {}
+        1 => copy_ends(place, piece, 1),
+        2..=4 => copy_ends(place, piece, 2),
+        5..=8 => copy_ends(place, piece, 4),
+        9..=16 => copy_ends(place, piece, 8),
+        _ => place.copy_from_slice(piece),
+    }
+}
+
+// Copies the first bytes and then the last ones, so many each. Together they are the piece.
+#[inline(always)]
+fn copy_ends(place: &mut [u8], piece: &[u8], count: usize)
+    requires same { length place.old ≡ length piece.now }
+    requires fits { count ≤ length piece.now }
+    requires whole { length piece.now ≤ count + count }
+    ensures { place.new ≡ piece.now }
+{
+    let last = piece.len() - count;
+    place[..count].copy_from_slice(&piece[..count]);
+    place[last..].copy_from_slice(&piece[last..]);
+}
