@@ -1,6 +1,6 @@
 pub mod Alternatives
+pub mod Candidates
 pub mod Matches
 pub mod Parted
 pub mod Searching
 pub mod Tested
-pub mod steps

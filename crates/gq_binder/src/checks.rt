@@ -26,10 +26,11 @@ ghost use Rattle.gq_ast.specs.steps.Spans.{IsWholePath};
 use crate::optionals::clause_choices;
 use crate::order::{ambiguous_order_name, order_out_of_scope};
 use crate::path_tests::exists_parts;
-use gq_alternatives::{Choice, choices_of};
+use gq_alternatives::Choice;
 use gq_ast::{Query, Range};
 use gq_base::{Catalog, List, Memory};
 use gq_bound::{BindRefusal, ClauseParts, QueryParts, SharedTest};
+use gq_choices::choices_of;
 use gq_cuts::Core;
 use gq_plan::{ExistsPart, NamedExpr, PropertyReads};
 use gq_scopes::{

@@ -23,10 +23,11 @@ ghost use Rattle.gq_ast.specs.steps.Spans.{IsWholeClause};
 
 use crate::bound::{MOST_TESTS, typed_out_of};
 use crate::path_tests::push_all_of;
-use gq_alternatives::{Choice, choices_of};
+use gq_alternatives::Choice;
 use gq_ast::{Ast, Clause};
 use gq_base::{Catalog, List, Memory, Text};
 use gq_bound::{BindRefusal, ClauseParts, FirstNames, SharedTest};
+use gq_choices::choices_of;
 use gq_cuts::entry_tests;
 use gq_plan::{NamedExpr, OptionalPart};
 use gq_scopes::{Copying, Pattern, Scope, next, number};

@@ -14,10 +14,11 @@ ghost use Rattle.gq_ast.specs.steps.Spans.{IsWholeEntry, IsWholePath};
 ghost use Rattle.gq_trees.specs.Places.{strays};
 
 use crate::bound::{MOST_TESTS, typed_out_of};
-use gq_alternatives::{Choice, choices_of};
+use gq_alternatives::Choice;
 use gq_ast::{Ast, Item, Sort};
 use gq_base::{Catalog, List, Literal, Memory, Text};
 use gq_bound::{BindRefusal, SharedTest};
+use gq_choices::choices_of;
 use gq_cuts::entry_tests;
 use gq_expr::Expr;
 use gq_plan::{ExistsPart, NamedExpr};

@@ -1,6 +1,6 @@
 use Rattle.std.proofs.Common.{◌≡◌, ◌∷◌, [], false, true, filter, flat_map}
 use Rattle.std.specs.List.{range_with_len}
-use Rattle.gq_alternatives.specs.steps.Searching.{reading_fits}
+use Rattle.gq_alternatives.specs.Candidates.{reading_fits}
 use Rattle.gq_alternatives.proofs.candidates.readings_of.Given as goal
 
 abbrev pub invariant-loop-table : goal.invariant-loop-table

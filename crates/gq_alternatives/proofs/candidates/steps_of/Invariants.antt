@@ -1,5 +1,5 @@
 use Rattle.std.proofs.Common.{◌≡◌, take}
-use Rattle.gq_alternatives.specs.steps.Searching.{steps_of}
+use Rattle.gq_alternatives.specs.Candidates.{steps_of}
 use Rattle.gq_alternatives.proofs.candidates.steps_of.Given as goal
 
 abbrev pub invariant-loop-pattern : goal.invariant-loop-pattern

@@ -1,6 +1,6 @@
 use Rattle.std.proofs.Common.{◌≡◌, filter}
 use Rattle.std.specs.List.{range_with_len}
-use Rattle.gq_alternatives.specs.steps.Searching.{labels_fit}
+use Rattle.gq_alternatives.specs.Candidates.{labels_fit}
 use Rattle.gq_alternatives.proofs.candidates.tables_for.Given as goal
 
 abbrev pub invariant-loop-table : goal.invariant-loop-table

@@ -1,5 +1,5 @@
 use Rattle.std.proofs.Common.{◌≡◌}
-use Rattle.gq_alternatives.specs.steps.Searching.{tables_of}
+use Rattle.gq_alternatives.specs.Candidates.{tables_of}
 use Rattle.gq_alternatives.proofs.candidates.tables_of.Given as goal
 
 abbrev pub invariant-loop : goal.invariant-loop
