@@ -12,15 +12,15 @@ use Rattle.gq_plan.specs.declared.TrailPart.{TrailPart}
 use Rattle.gq_plan.specs.Meaning.{Partial, look}
 use Rattle.gq_wide.specs.Rows.{Wide, item_at}
 use Rattle.gq_trails.specs.Trekking.{CanTrek, IsRowOf, Trekking, continuations, partial_of, placed_from}
-use Rattle.gq_trails.specs.Walking.{Walking}
+use Rattle.gq_hops.specs.Walking.{Walking}
 use Rattle.gq_trails.specs.steps.Journeys.{IsAt, IsFit, Journey, base_of, binds, bound_at, frames_at, journey_of, part_at, patterns_of, reached_at, row_at, walk_at}
-use Rattle.gq_trails.specs.steps.Inner.{is_standing}
+use Rattle.gq_hops.specs.States.{is_standing}
 use Rattle.gq_trails.specs.steps.Standing.{IsIn, IsOpen, IsTrekking, trekking_of}
 use Rattle.gq_trails.specs.steps.Treks.{Frame, wrapped}
 use Rattle.gq_law_trails.specs.Trails.{Trailing, with_list}
 use Rattle.gq_law_trails.specs.Walks.{end_of}
-use Rattle.gq_trails.specs.declared.state.State.{State}
-use Rattle.gq_trails.specs.declared.state.State.TheVariants.{Fresh, Standing, Over}
+use Rattle.gq_hops.specs.declared.state.State.{State}
+use Rattle.gq_hops.specs.declared.state.State.TheVariants.{Fresh, Standing, Over}
 use Rattle.gq_trails.specs.declared.trails.Trails.TheInside.{Inside}
 use Rattle.gq_trails.specs.declared.trek.Route.{Route}
 use Rattle.gq_trails.specs.declared.trek.Trek.{Trek}

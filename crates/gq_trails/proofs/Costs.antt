@@ -1,5 +1,5 @@
 -- How much the search for ways to walk all trails has before it: each move makes it less.
-use Rattle.std.proofs.Common.{◌≡◌, ℕ, suc, ◌+◌, ◌<◌, List, [], ◌∷◌, drop, length, set, refl, sym, ap, ap₂, ◌∙◌, arith}
+use Rattle.std.proofs.Common.{◌≡◌, ℕ, suc, ◌+◌, ◌<◌, ◌≤◌, Bool, true, false, cond, List, [], ◌∷◌, drop, filter, length, set, refl, sym, ap, ap₂, ◌∙◌, arith}
 use Rattle.std.proofs.lemmas.List.{length-set}
 use Rattle.gq_base.specs.Plain.{Graph}
 use Rattle.gq_base.specs.declared.RelId.{RelId}
@@ -7,8 +7,8 @@ use Rattle.gq_law_trails.specs.Trails.{arrivals, walks_from}
 use Rattle.gq_law_trails.specs.Walks.{end_of}
 use Rattle.gq_plan.specs.declared.TrailPart.{TrailPart}
 use Rattle.gq_plan.specs.Meaning.{Partial, look}
-use Rattle.gq_trails.specs.Walking.{Walking}
-use Rattle.gq_trails.specs.steps.Journeys.{Journey, frames_at, part_at, patterns_of, row_at, turn_at, walk_at, walked_at}
+use Rattle.gq_hops.specs.Walking.{Walking}
+use Rattle.gq_trails.specs.steps.Journeys.{Journey, frames_at, part_at, patterns_of, row_at, turn_at, walk_at, walked_at, walks_on}
 use Rattle.gq_trails.specs.steps.Treks.{Frame, Turn, met_by}
 use Rattle.gq_trails.proofs.Fitting.{split_parts}
 use Rattle.gq_trails.proofs.Journeying.{AreSameWalks, frames_alike, put_below, put_here, turn_alike, walked_alike}
@@ -16,6 +16,14 @@ use Rattle.gq_trails.proofs.Journeying.{AreSameWalks, frames_alike, put_below, p
 abbrev pub each : {X : Type 0} → (X → ℕ) → List X → ℕ
 each w [] = 0
 each w (x ∷ xs) = w x + each w xs
+
+each_kept : {X : Type 0} (w : X → ℕ) (test : X → Bool) (xs : List X) → each w (filter test xs) ≤ each w xs
+each_kept w test [] = omega arith
+each_kept w test (x ∷ xs) = go (test x) (each_kept w test xs)
+  where
+    go : (b : Bool) → each w (filter test xs) ≤ each w xs → each w (cond b (x ∷ filter test xs) (filter test xs)) ≤ w x + each w xs
+    go true less = omega (arith, less)
+    go false less = omega (arith, less)
 
 module _ (g : Graph) (patterns : ℕ → List RelId) where
   -- of all ways to walk trails
@@ -70,20 +78,30 @@ module _ (j : Journey) where
     less_missed = omega (arith, frames_same, turn_now, before)
 
     -- its walk does, and the next trail begins
-    module _ (one : met_by j.graph (patterns_of j) (turn_at j ws n) w.rels ≡ row_at j (set ws n w) (suc n) ∷ []) (within : suc n < length j.parts) (few : suc n < length ws) (u : Walking)
-        (owed : u.owed ≡ walks_from j.graph (patterns_of j) (part_at j.parts (suc n)) (row_at j (set ws n w) (suc n)) (walked_at j.parts (set ws n w) (suc n))) where
+    module _ (one : met_by j.graph (patterns_of j) (turn_at j ws n) w.rels ≡ row_at j (set ws n w) (suc n) ∷ []) (within : suc n < length j.parts) (few : suc n < length ws) (u : Walking) (test : List RelId → Bool)
+        (owed : u.owed ≡ filter test (walks_on j (set ws n w) (suc n))) where
       more : suc n < length (set ws n w)
       more = omega (arith, few, length-set ws n w)
 
       abbrev us : List Walking
       us = set vs (suc n) u
 
-      turn_next : turn_cost g ps (turn_at j us (suc n)) (walk_at us (suc n)).owed ≡ cost g ps (drop (suc n) j.parts) (row_at j vs (suc n)) (walked_at j.parts vs (suc n))
-      unfolding cost
-      turn_next =
+      turn_is : turn_cost g ps (turn_at j us (suc n)) (walk_at us (suc n)).owed ≡ turn_cost g ps (turn_at j vs (suc n)) (filter test (walks_on j vs (suc n)))
+      turn_is =
           ap₂ (λ t (v : Walking). turn_cost g ps t v.owed) (turn_alike j us vs (suc n) (put_below vs (suc n) u more)) (put_here vs (suc n) u more)
           ∙ ap (turn_cost g ps (turn_at j vs (suc n))) owed
-          ∙ sym (ap (λ l. cost g ps l (row_at j vs (suc n)) (walked_at j.parts vs (suc n))) (split_parts j.parts (suc n) within))
+
+      whole_is : turn_cost g ps (turn_at j vs (suc n)) (walks_on j vs (suc n)) ≡ cost g ps (drop (suc n) j.parts) (row_at j vs (suc n)) (walked_at j.parts vs (suc n))
+      unfolding cost
+      whole_is = sym (ap (λ l. cost g ps l (row_at j vs (suc n)) (walked_at j.parts vs (suc n))) (split_parts j.parts (suc n) within))
+
+      turn_less : turn_cost g ps (turn_at j vs (suc n)) (filter test (walks_on j vs (suc n))) ≤ turn_cost g ps (turn_at j vs (suc n)) (walks_on j vs (suc n))
+      turn_less =
+          let kept = each_kept (λ l. suc (each (λ b. cost g ps (drop (suc (suc n)) j.parts) b (((part_at j.parts (suc n)).clause, l) ∷ walked_at j.parts vs (suc n))) (met_by g ps (turn_at j vs (suc n)) l))) test (walks_on j vs (suc n)) in
+          omega (arith, kept)
+
+      turn_next : turn_cost g ps (turn_at j us (suc n)) (walk_at us (suc n)).owed ≤ cost g ps (drop (suc n) j.parts) (row_at j vs (suc n)) (walked_at j.parts vs (suc n))
+      turn_next = omega (arith, turn_is, whole_is, turn_less)
 
       frames_next : frames_cost g ps (frames_at j us (suc n)) ≡ cost_at j vs n
       frames_next = ap (frames_cost g ps) (frames_alike j us vs (suc n) (put_below vs (suc n) u more)) ∙ frames_behind vs n

@@ -13,7 +13,7 @@ use Rattle.gq_plan.specs.Assignments.{is_node}
 use Rattle.gq_plan.specs.Meaning.{Partial, keep_if, look}
 use Rattle.gq_wide.specs.Rows.{Wide, item_at}
 use Rattle.gq_trails.specs.Trekking.{placed_from}
-use Rattle.gq_trails.specs.Walking.{Walking}
+use Rattle.gq_hops.specs.Walking.{Walking}
 use Rattle.gq_trails.specs.steps.Ends.{may_end, settled}
 use Rattle.gq_trails.specs.steps.Journeys.{AreWalkers, IsAt, IsFit, Journey, binds, bound_at, part_at, patterns_of, row_at, turn_at, walk_at}
 use Rattle.gq_trails.specs.steps.Treks.{met_by}

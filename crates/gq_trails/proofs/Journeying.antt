@@ -1,15 +1,15 @@
 -- The moves of the search for ways to walk all trails: what stays true of it, and what is owed.
-use Rattle.std.proofs.Common.{◌≡◌, ◌≢◌, ℕ, zero, suc, ◌<◌, List, [], ◌∷◌, drop, flat_map, length, set, refl, sym, ap, ap₂, ◌∙◌, subst, arith, inl, inr, ◌⊎◌}
-use Rattle.std.proofs.lemmas.Bool.{cases_eq}
-use Rattle.std.proofs.lemmas.List.{get_or-set_same, get_or-set_other, length-set}
+use Rattle.std.proofs.Common.{◌≡◌, ◌≢◌, ℕ, zero, suc, ◌+◌, ◌<◌, Bool, true, false, cond, List, [], ◌∷◌, ◌++◌, drop, filter, flat_map, map, length, set, refl, sym, ap, ap₂, ◌∙◌, subst, arith, inl, inr, ◌⊎◌}
+use Rattle.std.proofs.lemmas.Bool.{cases_eq, cases_lt}
+use Rattle.std.proofs.lemmas.List.{get_or_append_left, get_or_push, get_or-set_same, get_or-set_other, length-set}
 use Rattle.gq_base.specs.Plain.{Graph}
 use Rattle.gq_base.specs.declared.RelId.{RelId}
-use Rattle.gq_law_trails.specs.Trails.{Trailing, after_trails, walks_from}
+use Rattle.gq_law_trails.specs.Trails.{Trailing, after_trails, with_list}
 use Rattle.gq_plan.specs.declared.TrailPart.{TrailPart}
 use Rattle.gq_plan.specs.Meaning.{Partial, look}
 use Rattle.gq_wide.specs.Rows.{Wide}
-use Rattle.gq_trails.specs.Walking.{Walking, course_of}
-use Rattle.gq_trails.specs.steps.Journeys.{AreWalkers, HaveCourses, IsAt, IsFit, Journey, bound_by, frame_of, frames_at, no_walk, owed_at, owed_behind, part_at, patterns_of, reached_at, row_at, turn_at, walk_at, walked_at}
+use Rattle.gq_hops.specs.Walking.{Walking, course_of}
+use Rattle.gq_trails.specs.steps.Journeys.{AreWalkers, DropsMissed, HaveCourses, IsAt, IsFit, Journey, bound_by, frame_of, frames_at, no_walk, owed_at, owed_behind, part_at, patterns_of, reached_at, row_at, turn_at, walk_at, walked_at, walks_on}
 use Rattle.gq_trails.specs.steps.Treks.{Frame, Turn, around, met_by, ways_by}
 use Rattle.gq_trails.proofs.Fitting.{split_parts}
 use Rattle.gq_trails.proofs.Moves.{arrives, first_of, goes_back, misses, starts}
@@ -82,6 +82,16 @@ module _ (ws : List Walking) (n : ℕ) (w : Walking) (low : n < length ws) where
     size = are.size;
   }
 
+-- one more walker
+pub courses_push : (g : Graph) (parts : List TrailPart) (ws : List Walking) (w : Walking) (n : ℕ) → length ws ≡ n → HaveCourses g parts ws n → w.course ≡ course_of g (part_at parts n)
+    → HaveCourses g parts (ws ++ w ∷ []) (n + 1)
+courses_push g parts ws w n many have is i less = elim (cases_lt i n) [
+  | inl low ↦ ap (λ (v : Walking). v.course) (get_or_append_left ws (w ∷ []) no_walk i (omega (arith, low, many))) ∙ have i low
+  | inr high ↦
+      let at : n ≡ i = omega (arith, less, high) in
+      subst (λ k. (walk_at (ws ++ w ∷ []) k).course ≡ course_of g (part_at parts k)) at (ap (λ (v : Walking). v.course) (get_or_push ws w no_walk n many) ∙ is)
+]
+
 -- ---- what is owed
 
 module _ (j : Journey) where
@@ -94,13 +104,26 @@ module _ (j : Journey) where
   abbrev owing : List Frame → Turn → List (List RelId) → List Trailing
   owing fs t ls = around g ps fs (flat_map (ways_by g ps t) ls)
 
+  -- what a test drops gives nothing
+  ways_kept : (t : Turn) (test : List RelId → Bool) → ((l : List RelId) → test l ≡ false → met_by g ps t l ≡ []) → (ls : List (List RelId)) → flat_map (ways_by g ps t) (filter test ls) ≡ flat_map (ways_by g ps t) ls
+  ways_kept t test missed [] = refl
+  ways_kept t test missed (l ∷ ls) = go (test l) refl (ways_kept t test missed ls)
+    where
+      go : (b : Bool) → test l ≡ b → flat_map (ways_by g ps t) (filter test ls) ≡ flat_map (ways_by g ps t) ls
+          → flat_map (ways_by g ps t) (cond b (l ∷ filter test ls) (filter test ls)) ≡ ways_by g ps t l ++ flat_map (ways_by g ps t) ls
+      go true e rest = ap (λ ms. ways_by g ps t l ++ ms) rest
+      go false e rest =
+          rest
+          ∙ ap (λ bs. flat_map (λ b. map (with_list l) (after_trails g ps t.later b ((t.part.clause, l) ∷ t.walked))) bs ++ flat_map (ways_by g ps t) ls) (sym (missed l e))
+
   -- a trail begins
-  pub owed_started : (ws : List Walking) (n : ℕ) (w : Walking) → n < length ws → n < length j.parts
-      → w.owed ≡ walks_from g ps (part_at j.parts n) (row_at j ws n) (walked_at j.parts ws n)
+  pub owed_started : (ws : List Walking) (n : ℕ) (w : Walking) (test : List RelId → Bool) → n < length ws → n < length j.parts
+      → w.owed ≡ filter test (walks_on j ws n) → DropsMissed j ws n test
       → around g ps (frames_at j ws n) (after_trails g ps (drop n j.parts) (row_at j ws n) (walked_at j.parts ws n)) ≡ owed_at j (set ws n w) n
-  owed_started ws n w low within owed =
+  owed_started ws n w test low within owed missed =
       ap (λ l. around g ps (frames_at j ws n) (after_trails g ps l (row_at j ws n) (walked_at j.parts ws n))) (split_parts j.parts n within)
       ∙ ap (around g ps (frames_at j ws n)) (starts g ps (part_at j.parts n) (drop (suc n) j.parts) (row_at j ws n) (walked_at j.parts ws n))
+      ∙ ap (around g ps (frames_at j ws n)) (sym (ways_kept (turn_at j ws n) test missed (walks_on j ws n)))
       ∙ ap (owing (frames_at j ws n) (turn_at j ws n)) (sym owed ∙ ap (λ (v : Walking). v.owed) (sym (put_here ws n w low)))
       ∙ ap₂ (λ fs t. owing fs t (walk_at (set ws n w) n).owed) (sym (frames_alike j (set ws n w) ws n (put_below ws n w low))) (sym (turn_alike j (set ws n w) ws n (put_below ws n w low)))
 

@@ -1,24 +1,26 @@
 -- The steps of the search for ways to walk all trails.
-use Rattle.std.proofs.Common.{◌≡◌, ◌≢◌, ℕ, suc, ◌+◌, ◌-◌, ◌<◌, ◌≤◌, Bool, true, false, Option, Some, None, List, [], ◌∷◌, drop, flat_map, length, set, refl, sym, ap, ap₂, ◌∙◌, subst, arith}
+use Rattle.std.proofs.Common.{◌≡◌, ◌≢◌, ℕ, suc, ◌+◌, ◌-◌, ◌<◌, ◌≤◌, nat_eq, Bool, true, false, Option, Some, None, List, [], ◌∷◌, drop, filter, flat_map, length, set, refl, sym, ap, ap₂, ◌∙◌, subst, arith}
 use Rattle.std.proofs.lemmas.List.{drop_all, length-set}
 use Rattle.gq_base.specs.declared.NodeId.{NodeId}
 use Rattle.gq_base.specs.declared.RelId.{RelId}
-use Rattle.gq_law_trails.specs.Trails.{Trailing, after_trails, walks_from}
+use Rattle.gq_law_trails.specs.Bounds.{comes, may_end_at}
+use Rattle.gq_law_trails.specs.Trails.{Trailing, after_trails, arrivals}
 use Rattle.gq_law_trails.specs.Walks.{end_of}
 use Rattle.gq_plan.specs.Assignments.{is_node}
+use Rattle.gq_plan.specs.declared.TrailPart.{TrailPart}
 use Rattle.gq_plan.specs.Meaning.{Partial, keep_if, look}
 use Rattle.gq_wide.specs.Rows.{Wide, item_at}
 use Rattle.gq_law_plans.proofs.Lookups.{bound, look_some}
 use Rattle.gq_trails.specs.Trekking.{AreInTurn}
-use Rattle.gq_trails.specs.Walking.{Walking}
+use Rattle.gq_hops.specs.Walking.{Walking}
 use Rattle.gq_trails.specs.steps.Ends.{may_end, settled}
-use Rattle.gq_trails.specs.steps.Journeys.{AreWalkers, HaveWalks, IsAt, IsDone, IsFound, IsStarted, Journey, frames_at, journey_of, owed_at, owed_behind, part_at, patterns_of, reached_at, row_at, turn_at, walk_at, walked_at}
+use Rattle.gq_trails.specs.steps.Journeys.{AreWalkers, DropsMissed, HaveWalks, IsAt, IsDone, IsFound, IsStarted, Journey, frames_at, journey_of, owed_at, owed_behind, part_at, patterns_of, reached_at, row_at, turn_at, walk_at, walked_at, walks_on}
 use Rattle.gq_trails.specs.steps.Treks.{around, met_by, ways_by}
 use Rattle.gq_trails.specs.steps.Standing.{IsCome, IsOut, IsOver}
 use Rattle.gq_trails.specs.declared.trek.Route.{Route}
 use Rattle.gq_trails.specs.declared.trek.Trek.{Trek}
 use Rattle.gq_trails.proofs.Costs.{cost_at, less_back, less_missed, less_next}
-use Rattle.gq_trails.proofs.Fitting.{look_node, not_bound, split_parts}
+use Rattle.gq_trails.proofs.Fitting.{look_node, met_is, not_bound, split_parts}
 use Rattle.gq_trails.proofs.Going.{at_back, at_next, at_still, met_here, walkers_settled}
 use Rattle.gq_trails.proofs.Journeying.{AreSameWalks, at_put, frames_alike, owed_arrived, owed_back, owed_first, owed_missed, owed_none, owed_reached, owed_started, put_below, turn_alike, walkers_put}
 
@@ -37,9 +39,6 @@ same_journey r row0 row ws are =
 -- what stays true where walkers, a row and a depth are known by other names
 pub carried : (P : List Walking → Wide → ℕ → Type 0) {ws vs : List Walking} {row r : Wide} {n m : ℕ} → P ws row n → vs ≡ ws → r ≡ row → m ≡ n → P vs r m
 carried P {ws} {vs} {row} {r} {n} {m} h a b c = subst (λ us. P us r m) (sym a) (subst (λ q. P ws q m) (sym b) (subst (P ws row) (sym c) h))
-
-abbrev walks_on : Journey → List Walking → ℕ → List (List RelId)
-walks_on j ws n = walks_from j.graph (patterns_of j) (part_at j.parts n) (row_at j ws n) (walked_at j.parts ws n)
 
 owed_alike : (j : Journey) (vs ws : List Walking) (n : ℕ) → AreSameWalks vs ws (suc n) → owed_at j vs n ≡ owed_at j ws n
 owed_alike j vs ws n same =
@@ -127,8 +126,7 @@ module _ (j : Journey) (owed : List Trailing) (ws : List Walking) (row : Wide) (
 
       -- and the next trail begins
       module _ (more : suc n < length j.parts) where
-        module _ (u : Walking)
-            (begins : u.owed ≡ walks_from j.graph (patterns_of j) (part_at j.parts (suc n)) (row_at j (set ws n w) (suc n)) (walked_at j.parts (set ws n w) (suc n)))
+        module _ (u : Walking) (test : List RelId → Bool) (begins : u.owed ≡ filter test (walks_on j (set ws n w) (suc n))) (missed : DropsMissed j (set ws n w) (suc n) test)
             (same : u.course ≡ (walk_at (set ws n w) (suc n)).course) where
           room : suc n < length (set ws n w)
           room = omega (arith, more, there_walkers.count)
@@ -138,21 +136,23 @@ module _ (j : Journey) (owed : List Trailing) (ws : List Walking) (row : Wide) (
             low = more;
             here = at_put (set ws n w) (suc n) u room j after there_at;
             walkers = walkers_put (set ws n w) (suc n) u room j after same there_walkers;
-            owed_is = owed_there ∙ owed_started j (set ws n w) (suc n) u room more begins;
+            owed_is = owed_there ∙ owed_started j (set ws n w) (suc n) u test room more begins missed;
           }
 
           pub cost_on : cost_at j (set (set ws n w) (suc n) u) (suc n) < cost_at j ws n
-          cost_on = less_next j ws n w inside next (met true told) more (omega (arith, room, length-set ws n w)) u begins
+          cost_on = less_next j ws n w inside next (met true told) more (omega (arith, room, length-set ws n w)) u test begins
 
         -- where the next trail has begun
         pub started_on : (mid new : Trek) (m : ℕ) (k : Journey) → mid.walkers.items ≡ set ws n w → mid.row ≡ settled (part_at j.parts n) row end → m ≡ suc n → k ≡ j → IsStarted k m mid new
             → IsGoing j owed new.walkers.items new.row m × (cost_at j new.walkers.items m < cost_at j ws n)
         started_on mid new m k walkers same_row at same st =
-            let begins : st.walk.owed ≡ walks_on j (set ws n w) (suc n) = st.owed ∙ ap (λ (i : Journey). walks_on i mid.walkers.items m) same ∙ ap₂ (walks_on j) walkers at in
+            let begins : st.walk.owed ≡ filter st.test (walks_on j (set ws n w) (suc n)) = st.owed ∙ ap (filter st.test) (ap (λ (i : Journey). walks_on i mid.walkers.items m) same ∙ ap₂ (walks_on j) walkers at) in
+            let missed : DropsMissed j (set ws n w) (suc n) st.test =
+            subst (λ i. DropsMissed j (set ws n w) i st.test) at (subst (λ us. DropsMissed j us m st.test) walkers (subst (λ (i : Journey). DropsMissed i mid.walkers.items m st.test) same st.missed)) in
             let course_is : st.walk.course ≡ (walk_at (set ws n w) (suc n)).course = st.course ∙ ap₂ (λ us i. (walk_at us i).course) walkers at in
             let items : new.walkers.items ≡ set (set ws n w) (suc n) st.walk = st.is ∙ ap₂ (λ us i. set us i st.walk) walkers at in (
-              carried (IsGoing j owed) (going_on st.walk begins course_is) items (st.row ∙ same_row) at,
-              carried (λ us r i. cost_at j us i < cost_at j ws n) (cost_on st.walk begins course_is) items (st.row ∙ same_row) at,
+              carried (IsGoing j owed) (going_on st.walk st.test begins missed course_is) items (st.row ∙ same_row) at,
+              carried (λ us r i. cost_at j us i < cost_at j ws n) (cost_on st.walk st.test begins missed course_is) items (st.row ∙ same_row) at,
             )
 
 -- ---- what it has come to, in the words of the row that there is now
@@ -204,7 +204,7 @@ pub first_over : (r : Route) (old mid new : Trek) (found : Bool) → length r.pa
 first_over r old mid new found few some are started h =
     let j : Journey = journey_of r old.row in
     let whole : after_trails j.graph (patterns_of j) j.parts j.base [] ≡ owed_at j mid.walkers.items 0 =
-    owed_whole j old.walkers.items ∙ owed_started j old.walkers.items 0 started.walk (omega (arith, some, are.count)) some started.owed ∙ ap (λ ws. owed_at j ws 0) (sym started.is) in
+    owed_whole j old.walkers.items ∙ owed_started j old.walkers.items 0 started.walk started.test (omega (arith, some, are.count)) some started.owed started.missed ∙ ap (λ ws. owed_at j ws 0) (sym started.is) in
     over r old new _ found few
     (subst (λ o. IsFound j o found new.walkers.items new.row) (sym whole)
     (subst (λ (row : Wide). IsFound (journey_of r row) (owed_at (journey_of r row) mid.walkers.items 0) found new.walkers.items new.row) started.row h))
@@ -249,6 +249,32 @@ module _ (j : Journey) (ws : List Walking) (row : Wide) (n : ℕ) (low : n < len
       let some = look_some (row_at j ws n).nodes (part_at j.parts n).from turns.0 in
       let lost : None ≡ Some some.0 = sym none ∙ from_is ∙ some.1 in
       absurd (cc lost)
+
+  -- where its other end is known, that is a node too
+  pub to_node : (part_at j.parts n).both ≡ true → (end : NodeId) → item_at row.nodes (part_at j.parts n).to ≡ Some end → is_node j.graph end ≡ true
+  to_node both end is =
+      let known : bound (row_at j ws n).nodes (part_at j.parts n).to ≡ true = turns.1 ∙ both in
+      let same = at.agrees (part_at j.parts n).to (not_bound (drop n j.parts) (bound (row_at j ws n).nodes) (part_at j.parts n).to (at.fits n (omega arith)).turns known) in
+      look_node j.graph (row_at j ws n).nodes (part_at j.parts n).to end (at.fits n (omega arith)).nodes (sym same ∙ is)
+
+  -- a walk that ends where none may, meets nothing
+  pub met_not : (l : List RelId) (d : NodeId → ℕ) → ((end : NodeId) → may_end j.graph (part_at j.parts n) row end ≡ true → d end ≡ 0)
+      → comes j.graph (part_at j.parts n).way d (look (row_at j ws n).nodes (part_at j.parts n).from) l ≡ false → met_by j.graph (patterns_of j) (turn_at j ws n) l ≡ []
+  met_not l d zeros drops = go (end_of j.graph p.way (look (row_at j ws n).nodes p.from) l) refl drops
+    where
+      p : TrailPart
+      p = part_at j.parts n
+
+      known_there : p.both ≡ true → item_at row.nodes p.to ≡ look (row_at j ws n).nodes p.to
+      known_there both = at.agrees p.to (not_bound (drop n j.parts) (bound (row_at j ws n).nodes) p.to (at.fits n (omega arith)).turns (turns.1 ∙ both))
+
+      go : (o : Option NodeId) → end_of j.graph p.way (look (row_at j ws n).nodes p.from) l ≡ o → may_end_at d o ≡ false → met_by j.graph (patterns_of j) (turn_at j ws n) l ≡ []
+      go None ends dropped = ap (arrivals j.graph p (row_at j ws n)) ends
+      go (Some end) ends dropped = may (may_end j.graph p row end) refl
+        where
+          may : (b : Bool) → may_end j.graph p row end ≡ b → met_by j.graph (patterns_of j) (turn_at j ws n) l ≡ []
+          may false told = met_is j.graph p (row_at j ws n) l end ends false row known_there (sym told)
+          may true told = absurd (let lost : true ≡ false = sym (ap (λ k. nat_eq k 0) (zeros end told)) ∙ dropped in cc lost)
 
   pub from_node : (start : NodeId) → item_at row.nodes (part_at j.parts n).from ≡ Some start → is_node j.graph start ≡ true
   from_node start is = look_node j.graph (row_at j ws n).nodes (part_at j.parts n).from start (at.fits n (omega arith)).nodes (sym from_is ∙ is)

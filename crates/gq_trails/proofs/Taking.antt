@@ -6,7 +6,7 @@ use Rattle.std.proofs.lemmas.List.{append-nil}
 use Rattle.gq_base.specs.declared.RelId.{RelId}
 use Rattle.gq_law_trails.specs.Trails.{taken_in}
 use Rattle.gq_plan.specs.declared.TrailPart.{TrailPart}
-use Rattle.gq_trails.specs.Walking.{Walking}
+use Rattle.gq_hops.specs.Walking.{Walking}
 use Rattle.gq_trails.specs.steps.Journeys.{part_at, walk_at, walked_at}
 
 module _ (parts : List TrailPart) (ws : List Walking) (clause depth back : ℕ) (low : back < depth) (taken all : List RelId)

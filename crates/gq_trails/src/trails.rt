@@ -3,9 +3,9 @@ ghost use Rattle.std.specs.Prelude.{◌≡◌, ◌∷◌, [], ◌+◌, ◌≤◌
 ghost use Rattle.gq_trails.specs.Trekking.{CanTrek, HasLength, IsRowOf, continuations};
 
 use crate::ends::tests_for;
-use crate::state::{State, state_after};
 use crate::trek::{Route, Trek};
 use gq_base::Memory;
+use gq_hops::{State, state_after};
 use gq_plan::{TrailPart, TypedRel};
 use gq_store::Graph;
 use gq_wide::WideRow;

@@ -1,10 +1,16 @@
 //! The search for ways to walk all trails of a query: the walkers of the trails, and the row that
 //! their walks make.
 ghost use Rattle.std.specs.Prelude.{◌≡◌, ◌+◌, ◌*◌, ◌<◌, ◌≤◌, ◌++◌, ℕ, true, All, IfOk, length};
-ghost use Rattle.std.specs.Prelude.{None, [], nat_eq, if◌then◌else◌};
+ghost use Rattle.std.specs.Prelude.{None, Some, [], filter, nat_eq, if◌then◌else◌};
+ghost use Rattle.gq_base.specs.Plain.{Graph as Plain};
+ghost use Rattle.gq_base.specs.declared.NodeId.{NodeId as Node};
+ghost use Rattle.gq_law_trails.specs.Bounds.{comes};
+ghost use Rattle.gq_law_trails.specs.Walks.{walks};
+ghost use Rattle.gq_marks.specs.Marking.{bound_of};
+ghost use Rattle.gq_plan.specs.Assignments.{is_node};
 ghost use Rattle.gq_law_trails.specs.Trails.{after_trails, taken_in};
 ghost use Rattle.gq_trails.specs.Trekking.{HasLength, patterns_in};
-ghost use Rattle.gq_trails.specs.steps.Ends.{AreTests, tests_of};
+ghost use Rattle.gq_trails.specs.steps.Ends.{AreTests, may_end, tests_of};
 ghost use Rattle.gq_trails.specs.steps.Journeys.{AreWalkers, HaveCourses, IsAt, IsFound, IsMade};
 ghost use Rattle.gq_trails.specs.steps.Journeys.{IsStarted, IsTried, journey_of, owed_at, owed_behind};
 ghost use Rattle.gq_trails.specs.steps.Journeys.{part_at, patterns_of, walk_at, walked_at};
@@ -13,10 +19,10 @@ ghost use Rattle.gq_wide.specs.Rows.{item_at};
 
 use crate::ends::arrives;
 use crate::taken::Taken;
-use crate::walker::Walker;
-use gq_base::{List, Memory, RelId};
+use gq_base::{List, Memory, NodeId, RelId};
 use gq_eval::Evaluator;
 use gq_expr::Assigned;
+use gq_hops::Walker;
 use gq_plan::{TrailPart, TypedRel};
 use gq_store::Graph;
 use gq_wide::WideRow;
@@ -91,7 +97,10 @@ impl<'g> Trek<'g> {
         take_patterns(&mut self.taken, route.rels, &self.row, part.clause);
         match self.row.node(part.from) {
             None => (),
-            Some(start) => self.walkers[depth].begin(start, self.taken.as_slice()),
+            Some(start) => {
+                let taken = self.taken.as_slice();
+                begin_at(&mut self.walkers[depth], part, &self.row, start, taken);
+            }
         }
     }
 
@@ -184,6 +193,35 @@ impl<'g> Trek<'g> {
         let tests = route.tests_at(depth);
         arrives(route.graph, &route.parts[depth], tests, end, &mut self.row)
     }
+}
+
+// A walker begins at a node, and goes where a walk may end as its trail asks of a row.
+fn begin_at(
+    walker: &mut Walker<'_>,
+    part: &TrailPart,
+    row: &WideRow,
+    start: NodeId,
+    taken: &[RelId],
+)
+    requires start { is_node walker.old.course.graph start ≡ true }
+    requires few { length taken.now ≤ 384 }
+    requires end { part.now.both ≡ true → (n : Node) → item_at row.now.nodes part.now.to ≡ Some n →
+        is_node walker.old.course.graph n ≡ true }
+    ensures owed { let c = walker.old.course in
+        walker.new.owed ≡ filter (comes c.graph c.way (bound_of walker.new.bounds) (Some start))
+        (walks c.graph c.kind c.way c.low c.high (Some start) taken.now) }
+    ensures bounds { (g : Plain) (n : Node) → may_end g part.now row.now n ≡ true →
+        bound_of walker.new.bounds n ≡ 0 }
+    ensures course { walker.new.course ≡ walker.old.course }
+{
+    if part.both {
+        if let Some(end) = row.node(part.to) {
+            walker.aim(end);
+        }
+    } else {
+        walker.aim_nowhere();
+    }
+    walker.begin(start, taken);
 }
 
 // A walker for each trail.

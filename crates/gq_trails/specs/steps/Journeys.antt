@@ -1,5 +1,5 @@
 -- The search for ways to walk all trails: where it is, what is owed, and its moves.
-use Rattle.std.specs.Prelude.{◌≡◌, ℕ, zero, suc, ◌<◌, ◌≤◌, nat_eq, not, ◌&&◌, Bool, true, false, Option, Some, None, MatchBool, List, [], ◌∷◌, drop, flat_map, get_or, length, slice_set, if◌then◌else◌}
+use Rattle.std.specs.Prelude.{◌≡◌, ℕ, zero, suc, ◌<◌, ◌≤◌, nat_eq, not, ◌&&◌, Bool, true, false, Option, Some, None, MatchBool, List, [], ◌∷◌, drop, filter, flat_map, get_or, length, slice_set, if◌then◌else◌}
 use Rattle.std.specs.List.{list_any}
 use Rattle.gq_base.specs.Plain.{Graph}
 use Rattle.gq_base.specs.declared.NodeId.{NodeId}
@@ -14,9 +14,9 @@ use Rattle.gq_plan.specs.Meaning.{Partial, look, with_node}
 use Rattle.gq_plan.specs.declared.TypedRel.{TypedRel}
 use Rattle.gq_wide.specs.Rows.{Wide, item_at}
 use Rattle.gq_trails.specs.Trekking.{AreInTurn, AreNodes, patterns_in, placed_from}
-use Rattle.gq_trails.specs.Walking.{Walking, course_of}
+use Rattle.gq_hops.specs.Walking.{Walking, course_of}
 use Rattle.gq_trails.specs.steps.Ends.{may_end, settled}
-use Rattle.gq_trails.specs.steps.Treks.{Frame, Turn, around, ways_by, wrapped}
+use Rattle.gq_trails.specs.steps.Treks.{Frame, Turn, around, met_by, ways_by, wrapped}
 use Rattle.gq_trails.specs.declared.trek.Route.{Route}
 use Rattle.gq_trails.specs.declared.trek.Trek.{Trek}
 
@@ -52,6 +52,7 @@ no_part = record { kind = []; low = 0; high = 0; from = 0; to = 0; clause = 0; w
 abbrev pub no_walk : Walking
 no_walk = record {
   course = course_of (record { catalog = record { nodes = []; rels = [] }; nodes = []; rels = [] }) no_part;
+  bounds = record { sheets = []; rest = 0; reached = [] };
   owed = [];
   rels = [];
   standing = false;
@@ -151,11 +152,20 @@ pub record IsTried (r : Route) (n : ℕ) (old new : Trek) (may : Bool) : Type 0 
   pub row : new.row ≡ settled (part_at r.parts.now n) old.row end
   pub walkers : new.walkers.items ≡ old.walkers.items
 
+-- of all walks of the trail at a depth, those that a test drops end where none may
+abbrev pub walks_on : Journey → List Walking → ℕ → List (List RelId)
+walks_on j ws n = walks_from j.graph (patterns_of j) (part_at j.parts n) (row_at j ws n) (walked_at j.parts ws n)
+
+abbrev pub DropsMissed : Journey → List Walking → ℕ → (List RelId → Bool) → Type 0
+DropsMissed j ws n test = (l : List RelId) → test l ≡ false → met_by j.graph (patterns_of j) (turn_at j ws n) l ≡ []
+
 -- the walker at a depth begins
 pub record IsStarted (j : Journey) (n : ℕ) (old new : Trek) : Type 0 where
   pub walk : Walking
   pub is : new.walkers.items ≡ slice_set old.walkers.items n walk
-  pub owed : walk.owed ≡ walks_from j.graph (patterns_of j) (part_at j.parts n) (row_at j old.walkers.items n) (walked_at j.parts old.walkers.items n)
+  pub test : List RelId → Bool
+  pub owed : walk.owed ≡ filter test (walks_on j old.walkers.items n)
+  pub missed : DropsMissed j old.walkers.items n test
   pub course : walk.course ≡ (walk_at old.walkers.items n).course
   pub row : new.row ≡ old.row
 

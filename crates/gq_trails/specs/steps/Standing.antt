@@ -3,10 +3,10 @@ use Rattle.std.specs.Prelude.{◌≡◌, ℕ, ◌+◌, ◌<◌, ◌≤◌, Bool,
 use Rattle.gq_law_trails.specs.Trails.{Trailing, after_trails}
 use Rattle.gq_trails.specs.Trekking.{Trekking}
 use Rattle.gq_trails.specs.steps.Ends.{AreTests}
-use Rattle.gq_trails.specs.steps.Inner.{is_standing}
+use Rattle.gq_hops.specs.States.{is_standing}
 use Rattle.gq_trails.specs.steps.Journeys.{HaveCourses, IsAt, Journey, journey_of, owed_behind, part_at, patterns_of, reached_at}
-use Rattle.gq_trails.specs.declared.state.State.{State}
-use Rattle.gq_trails.specs.declared.state.State.TheVariants.{Fresh, Standing, Over}
+use Rattle.gq_hops.specs.declared.state.State.{State}
+use Rattle.gq_hops.specs.declared.state.State.TheVariants.{Fresh, Standing, Over}
 use Rattle.gq_trails.specs.declared.trek.Route.{Route}
 use Rattle.gq_trails.specs.declared.trek.Trek.{Trek}
 use Rattle.gq_trails.specs.declared.trails.Trails.TheInside.{Inside}

@@ -2,7 +2,7 @@ use Rattle.std.proofs.Common.{◌≡◌, ◌∙◌, ◌<◌, ◌+◌, suc, lengt
 use Rattle.std.proofs.lemmas.List.{get_or_read}
 use Rattle.gq_base.specs.declared.NodeId.{NodeId}
 use Rattle.gq_law_trails.specs.Walks.{end_of}
-use Rattle.gq_trails.specs.Walking.{Walking}
+use Rattle.gq_hops.specs.Walking.{Walking}
 use Rattle.gq_trails.specs.steps.Journeys.{AreWalkers, HaveWalks, IsAt, Journey, journey_of, no_walk, owed_at, part_at, walk_at}
 use Rattle.gq_trails.proofs.Costs.{cost_at}
 use Rattle.gq_trails.proofs.Journeying.{put_here}

@@ -1,0 +1,9 @@
+mod Aiming
+mod Following
+mod Hopping
+mod Marking
+mod Owing
+mod Searching
+mod Spreading
+mod Walking
+mod Weights

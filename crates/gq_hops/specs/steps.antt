@@ -1,0 +1,6 @@
+pub mod Aims
+pub mod Hops
+pub mod Inner
+pub mod Marks
+pub mod Nears
+pub mod Searches

@@ -1,0 +1,119 @@
+-- Relationships of a type that are met at a node, one after another.
+use Rattle.std.specs.Prelude.{◌≡◌, ℕ, ◌+◌, ◌^◌, ◌<◌, All, length, if◌then◌else◌, nat_eq, Bool, true, ◌&&◌, Option, Some, None, MatchOption, List, [], ◌∷◌, ◌++◌, filter, flat_map, drop, slice_get}
+use Rattle.std.specs.Cmp.Lexicographic.{pointwise}
+use Rattle.gq_base.specs.Plain.{Graph}
+use Rattle.gq_base.specs.declared.NodeId.{NodeId}
+use Rattle.gq_base.specs.declared.RelId.{RelId}
+use Rattle.gq_base.specs.declared.RelTable.{RelTable}
+use Rattle.gq_base.specs.declared.direction.Direction.{Direction}
+use Rattle.gq_base.specs.declared.direction.Direction.TheVariants.{Forward, Backward}
+use Rattle.gq_plan.specs.Allowed.{at_same}
+use Rattle.gq_plan.specs.Assignments.{all_rels, is_node, rels_of}
+use Rattle.gq_plan.specs.Meaning.{far, near}
+use Rattle.gq_store.specs.Neighbours.{near_rows, neighbours, opposite}
+use Rattle.gq_law_trails.specs.Walks.{is_of_type}
+use Rattle.gq_hops.specs.declared.follow.Follow.{Follow}
+use Rattle.gq_hops.specs.declared.follow.Hop.{Hop}
+use Rattle.gq_hops.specs.declared.follow.Level.{Level}
+use Rattle.gq_hops.specs.declared.hop.Near.{Near}
+use Rattle.gq_hops.specs.declared.follow.Followed.{Followed}
+use Rattle.gq_hops.specs.steps.Nears.{rows_in}
+
+-- ---- tables
+
+-- the node tables at which relationships of a table are met on a way, and to which they lead
+abbrev pub near_table : Direction → RelTable → ℕ
+near_table Forward k = k.from
+near_table Backward k = k.to
+
+abbrev pub far_table : Direction → RelTable → ℕ
+far_table Forward k = k.to
+far_table Backward k = k.from
+
+abbrev pub followed : Direction → ℕ → RelTable → Followed
+followed way t k = record { table = t; near = near_table way k; far = far_table way k }
+
+-- of the tables from a number on, those of a type
+abbrev pub tables_of : List ℕ → Direction → ℕ → List RelTable → List Followed
+tables_of kind way t [] = []
+tables_of kind way t (k ∷ ks) = (if pointwise nat_eq k.name kind then followed way t k ∷ [] else []) ++ tables_of kind way (t + 1) ks
+
+abbrev pub tables_in : Graph → List ℕ → Direction → List Followed
+tables_in g kind way = tables_of kind way 0 g.catalog.rels
+
+abbrev pub AreTables : Follow → Type 0
+AreTables f = f.tables.items ≡ tables_in f.graph.now f.kind.now f.way
+
+-- ---- what is left at a node
+
+-- a relationship is of a type, and is met at a node
+abbrev pub is_met : Graph → List ℕ → Direction → Option NodeId → RelId → Bool
+is_met g kind way at r = is_of_type g kind r && at_same at (near g way r)
+
+abbrev pub met_in : Graph → List ℕ → Direction → Option NodeId → ℕ → List RelId
+met_in g kind way at table = filter (is_met g kind way at) (rels_of g table)
+
+-- those of all tables
+abbrev pub met_all : Graph → List ℕ → Direction → Option NodeId → List RelId
+met_all g kind way at = filter (is_met g kind way at) (all_rels g)
+
+-- those of the first of these tables from a place on, and those of the others
+abbrev pub left_from : Graph → List ℕ → Direction → NodeId → ℕ → List Followed → List RelId
+left_from g kind way at place [] = []
+left_from g kind way at place (e ∷ es) = drop place (met_in g kind way (Some at) e.table) ++ flat_map (λ q. met_in g kind way (Some at) q.table) es
+
+-- those from a place of a table of the type on, which is known by its number among these
+unfoldable pub left_at : Graph → List ℕ → Direction → NodeId → ℕ → ℕ → List RelId
+left_at g kind way at table place = left_from g kind way at place (drop table (tables_in g kind way))
+
+abbrev pub left_of : Follow → Level → List RelId
+left_of f l = left_at f.graph.now f.kind.now f.way l.at l.table l.place
+
+-- the rows to which relationships of a table lead from a node
+abbrev near_rows_of : Graph → Direction → NodeId → Option Followed → List ℕ
+near_rows_of g way at None = []
+near_rows_of g way at (Some e) = if nat_eq e.near at.table then neighbours g e.table way at.row else []
+
+abbrev pub near_in : Graph → List ℕ → Direction → NodeId → ℕ → List ℕ
+near_in g kind way at table = near_rows_of g way at (slice_get (tables_in g kind way) table)
+
+pub record IsNearIn (g : Graph) (kind : List ℕ) (way : Direction) (at : NodeId) (table : ℕ) (near : Near) : Type 0 where
+  pub rows : rows_in near ≡ near_in g kind way at table
+  pub few : length (rows_in near) < 2 ^ 32
+  pub ends : (e : Followed) → slice_get (tables_in g kind way) table ≡ Some e → All (λ other. other < near_rows g e.table (opposite way)) (rows_in near)
+
+abbrev pub IsNear : Follow → NodeId → ℕ → Near → Type 0
+IsNear f at table near = IsNearIn f.graph.now f.kind.now f.way at table near
+
+-- a level is at a node of the graph, and has the rows there
+pub record IsLevelIn (g : Graph) (kind : List ℕ) (way : Direction) (l : Level) : Type 0 where
+  pub node : is_node g l.at ≡ true
+  pub near : IsNearIn g kind way l.at l.table l.near
+
+abbrev pub IsLevel : Follow → Level → Type 0
+IsLevel f l = IsLevelIn f.graph.now f.kind.now f.way l
+
+-- nothing of a table was tried yet at a node
+pub record IsStart (at : NodeId) (table : ℕ) (l : Level) : Type 0 where
+  pub at_is : l.at ≡ at
+  pub table_is : l.table ≡ table
+  pub place_is : l.place ≡ 0
+
+-- the first of what is left, with the node to which it leads
+pub record IsFirst (f : Follow) (old new : Level) (h : Hop) : Type 0 where
+  pub level : IsLevel f new
+  pub left : left_of f old ≡ h.rel ∷ left_of f new
+  pub leads : far f.graph.now f.way h.rel ≡ Some h.node
+  pub there : is_node f.graph.now h.node ≡ true
+
+abbrev pub IsNextHop : Follow → Level → Level → Option Hop → Type 0
+IsNextHop f old new found = MatchOption found (left_of f old ≡ []) (IsFirst f old new)
+
+-- the first of what is left stands at the level's place
+pub record IsHere (f : Follow) (l : Level) (h : Hop) : Type 0 where
+  pub first : IsFirst f l (record l { place = l.place + 1 }) h
+  pub few : l.place + 1 < 2 ^ 32
+
+-- if its table has one there; else only what the tables behind have is left
+abbrev pub IsHopHere : Follow → Level → Option Hop → Type 0
+IsHopHere f l found = MatchOption found (left_of f l ≡ left_at f.graph.now f.kind.now f.way l.at (l.table + 1) 0) (IsHere f l)

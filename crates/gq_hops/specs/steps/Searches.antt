@@ -1,0 +1,160 @@
+-- The search for walks: what is owed, and its moves.
+use Rattle.std.specs.Prelude.{◌≡◌, ◌⊎◌, ℕ, zero, suc, ◌+◌, ◌-◌, ◌<◌, ◌≤◌, Bool, true, not, if◌then◌else◌, nat_lt, Option, Some, None, MatchBool, MatchOption, List, [], ◌∷◌, ◌++◌, map, filter, flat_map, get_or, length}
+use Rattle.std.specs.List.{list_any}
+use Rattle.std.specs.Vec.{with_item}
+use Rattle.gq_base.specs.declared.NodeId.{NodeId}
+use Rattle.gq_base.specs.declared.RelId.{RelId}
+use Rattle.gq_plan.specs.Assignments.{is_node, same_rel}
+use Rattle.gq_plan.specs.Meaning.{far}
+use Rattle.gq_law_trails.specs.Bounds.{comes}
+use Rattle.gq_law_trails.specs.Walks.{end_of, pred, walks}
+use Rattle.gq_hops.specs.Walking.{Course}
+use Rattle.gq_marks.specs.Marking.{bound_of}
+use Rattle.gq_hops.specs.steps.Hops.{IsFirst, IsLevel, IsLevelIn, IsStart, left_at, left_of}
+use Rattle.gq_hops.specs.declared.follow.Hop.{Hop}
+use Rattle.gq_hops.specs.declared.follow.Level.{Level}
+use Rattle.gq_hops.specs.declared.hop.Near.TheVariants.{One}
+use Rattle.gq_hops.specs.declared.search.Run as declared
+use Rattle.gq_hops.specs.declared.search.Search.{Search}
+
+-- a course, the relationships from which walks are kept, and the bounds of the nodes where they may end
+pub record Run : Type 0 where
+  pub course : Course
+  pub used : List RelId
+  pub bounds : NodeId → ℕ
+
+abbrev pub run_of : declared.Run → Run
+run_of r = record {
+  course = record { graph = r.follow.graph.now; kind = r.follow.kind.now; way = r.follow.way; low = r.low; high = r.high };
+  used = r.used;
+  bounds = bound_of r.bounds;
+}
+
+abbrev pub no_node : NodeId
+no_node = record { table = 0; row = 0 }
+
+abbrev pub no_level : Level
+no_level = record { at = no_node; table = 0; near = One None; place = 0 }
+
+-- the relationship and the level at a depth
+abbrev pub rel_at : List RelId → ℕ → RelId
+rel_at rels n = get_or rels n (record { table = 0; row = 0 })
+
+abbrev pub level_at : List Level → ℕ → Level
+level_at levels n = get_or levels n no_level
+
+-- ---- what is owed
+
+-- the first relationships of a walk in front of others
+unfoldable pub onto : List RelId → ℕ → List RelId → List RelId
+onto rels zero l = l
+onto rels (suc n) l = onto rels n (rel_at rels n ∷ l)
+
+-- they are used too
+unfoldable pub taken : List RelId → List RelId → ℕ → List RelId
+taken used rels zero = used
+taken used rels (suc n) = rel_at rels n ∷ taken used rels n
+
+-- the walks that begin with one of these relationships
+unfoldable pub after : Course → ℕ → ℕ → List RelId → List RelId → List (List RelId)
+after c low zero used rs = []
+after c low (suc high) used rs =
+    flat_map (λ r. map (λ l. r ∷ l) (walks c.graph c.kind c.way (pred low) high (far c.graph c.way r) (r ∷ used)))
+    (filter (λ r. not (list_any (same_rel r) used)) rs)
+
+abbrev pub left_in : Course → Level → List RelId
+left_in c l = left_at c.graph c.kind c.way l.at l.table l.place
+
+-- what is owed by the level at a depth, and by all levels above it
+abbrev pub ahead : Run → List RelId → List Level → ℕ → List (List RelId)
+ahead c rels levels n =
+    map (onto rels n) (after c.course (c.course.low - n) (c.course.high - n) (taken c.used rels n) (left_in c.course (level_at levels n)))
+
+unfoldable pub behind : Run → List RelId → List Level → ℕ → List (List RelId)
+behind c rels levels zero = []
+behind c rels levels (suc n) = ahead c rels levels n ++ behind c rels levels n
+
+abbrev pub owed_by : Run → Search → List (List RelId)
+owed_by c s = behind c s.rels.items s.levels.items (suc s.depth)
+
+-- of these, the walks that end where they may
+abbrev pub kept_by : Run → Search → List (List RelId)
+kept_by c s = filter (comes c.course.graph c.course.way c.bounds None) (owed_by c s)
+
+-- ---- moves
+
+pub record IsRoomy (s : Search) : Type 0 where
+  pub levels : length s.levels.items ≡ 16
+  pub rels : length s.rels.items ≡ 16
+
+-- the walk is no longer than it may be, and each level is at a node of the graph
+pub record IsOpen (c : Run) (s : Search) : Type 0 where
+  pub room : IsRoomy s
+  pub high : c.course.high ≤ 16
+  pub depth : s.depth ≤ c.course.high
+  pub levels : (i : ℕ) → i ≤ s.depth → i < c.course.high → IsLevelIn c.course.graph c.course.kind c.course.way (level_at s.levels.items i)
+
+abbrev pub with_level : Search → ℕ → Level → Search
+with_level s n l = record s { levels = with_item s.levels n l }
+
+-- the walk is longer by a relationship, and may have a level at its end
+abbrev pub with_step : ℕ → Search → Hop → Level → Search
+with_step high s h l =
+    let longer : Search = record s { rels = with_item s.rels s.depth h.rel; depth = s.depth + 1; last = h.node } in
+    if nat_lt (s.depth + 1) high then with_level longer (s.depth + 1) l else longer
+
+-- nothing is walked yet from a node
+pub record IsBegun (r : declared.Run) (at : NodeId) (old new : Search) : Type 0 where
+  pub level : Level
+  pub is : new ≡ with_level (record old { depth = 0 }) 0 level
+  pub fits : IsLevel r.follow level
+  pub start : IsStart at 0 level
+
+-- nothing was tried yet at the end of the longer walk
+pub record IsLonger (r : declared.Run) (old new : Search) (h : Hop) : Type 0 where
+  pub level : Level
+  pub is : new ≡ with_step r.high old h level
+  pub fits : old.depth + 1 < r.high → IsLevel r.follow level
+  pub start : old.depth + 1 < r.high → IsStart h.node 0 level
+
+-- nothing is left at the end of the walk, or it may not be longer
+pub record IsSpent (r : declared.Run) (old new : Search) : Type 0 where
+  pub same : new ≡ old
+  pub none : r.high ≤ old.depth ⊎ (left_of r.follow (level_at old.levels.items old.depth) ≡ [])
+
+-- the next relationship there
+pub record IsTaken (r : declared.Run) (old new : Search) (h : Hop) : Type 0 where
+  pub low : old.depth < r.high
+  pub level : Level
+  pub is : new ≡ with_level old old.depth level
+  pub first : IsFirst r.follow (level_at old.levels.items old.depth) level h
+
+abbrev pub IsTried : declared.Run → Search → Search → Option Hop → Type 0
+IsTried r old new found = MatchOption found (IsSpent r old new) (IsTaken r old new)
+
+-- the first of what was owed is the walk, and the rest is owed
+pub record IsNext (c : Run) (old new : Search) : Type 0 where
+  pub open_at : IsOpen c new
+  pub next : owed_by c old ≡ onto new.rels.items new.depth [] ∷ owed_by c new
+  pub ends : (at : Option NodeId) → end_of c.course.graph c.course.way at (onto new.rels.items new.depth []) ≡ Some new.last
+  pub there : is_node c.course.graph new.last ≡ true
+
+-- nothing was owed
+pub record IsEnd (c : Run) (old new : Search) : Type 0 where
+  pub open_at : IsOpen c new
+  pub none : owed_by c old ≡ []
+
+-- the first of what was owed that ends where it may is the walk, and the rest of these is owed
+pub record IsFound (c : Run) (old new : Search) : Type 0 where
+  pub open_at : IsOpen c new
+  pub next : kept_by c old ≡ onto new.rels.items new.depth [] ∷ kept_by c new
+  pub ends : (at : Option NodeId) → end_of c.course.graph c.course.way at (onto new.rels.items new.depth []) ≡ Some new.last
+  pub there : is_node c.course.graph new.last ≡ true
+
+-- none of what was owed ends where it may
+pub record IsOut (c : Run) (old new : Search) : Type 0 where
+  pub open_at : IsOpen c new
+  pub none : kept_by c old ≡ []
+
+abbrev pub IsSearched : Run → Search → Bool → Search → Type 0
+IsSearched c old found new = MatchBool found (IsFound c old new) (IsOut c old new)

@@ -1,0 +1,193 @@
+//! The search for walks: a walk that is under way, and what is to be tried next at each of its nodes.
+ghost use Rattle.std.specs.Prelude.{◌≡◌, ◌+◌, ◌<◌, ◌≤◌, ◌&&◌, ◌||◌, nat_eq, nat_le, nat_lt, true};
+ghost use Rattle.std.specs.Prelude.{length, take, IfOk};
+ghost use Rattle.std.specs.List.{list_any};
+ghost use Rattle.gq_plan.specs.Assignments.{is_node, same_rel};
+ghost use Rattle.gq_law_trails.specs.Bounds.{AreBounds};
+ghost use Rattle.gq_marks.specs.Marking.{bound_of};
+ghost use Rattle.gq_hops.specs.steps.Hops.{AreTables};
+ghost use Rattle.gq_hops.specs.steps.Searches.{run_of, IsBegun, IsRoomy, IsOpen, IsTried};
+ghost use Rattle.gq_hops.specs.steps.Searches.{IsLonger, IsSearched};
+
+use crate::follow::{Follow, Hop, Level, hop_here, level_at, next_hop};
+use crate::hop::Near;
+use crate::used::Used;
+use gq_base::{Memory, NodeId, RelId};
+use gq_marks::Marks;
+use std::alloc::Global;
+
+/// The most relationships of a walk.
+pub(crate) const MAX_LENGTH: usize = 16;
+
+/// Which walks are sought: along which relationships, of how many, without which, and where they may
+/// end.
+#[derive(Drop)]
+pub(crate) struct Run<'g> {
+    pub(crate) follow: Follow<'g>,
+    pub(crate) low: usize,
+    pub(crate) high: usize,
+    pub(crate) used: Used,
+    pub(crate) bounds: Marks,
+}
+
+/// A walk that is under way.
+#[derive(Drop)]
+pub(crate) struct Search<'g> {
+    // The node at each depth of the walk, and what is to be tried there next.
+    levels: Vec<Level<'g>>,
+    // The relationships of the walk.
+    rels: Vec<RelId>,
+    depth: usize,
+    // The node where the walk ends.
+    last: NodeId,
+}
+
+impl<'g> Search<'g> {
+    /// Room for the longest walk.
+    pub(crate) fn new(alloc: Global) -> Result<Search<'g>, Memory>
+        ensures { IfOk result IsRoomy }
+    {
+        let node = NodeId { table: 0, row: 0 };
+        let rel = RelId { table: 0, row: 0 };
+        let level = Level {
+            at: node,
+            table: 0,
+            near: Near::One(None),
+            place: 0,
+        };
+        Ok(Search {
+            levels: vec![in alloc; level; MAX_LENGTH]?,
+            rels: vec![in alloc; rel; MAX_LENGTH]?,
+            depth: 0,
+            last: node,
+        })
+    }
+
+    /// Goes to a node from which nothing is walked yet.
+    pub(crate) fn begin(&mut self, run: &Run<'g>, start: NodeId)
+        requires tables { AreTables run.now.follow }
+        requires room { IsRoomy self.old }
+        requires node { is_node run.now.follow.graph.now start ≡ true }
+        ensures { IsBegun run.now start self.old self.new }
+    {
+        self.depth = 0;
+        self.levels[0] = level_at(&run.follow, start, 0);
+    }
+
+    /// Goes on to the next walk, and answers whether there is one.
+    pub(crate) fn next(&mut self, run: &Run<'g>) -> bool
+        requires tables { AreTables run.now.follow }
+        requires open { IsOpen (run_of run.now) self.old }
+        requires bounds { let f = run.now.follow in
+            AreBounds f.graph.now f.kind.now f.way (bound_of run.now.bounds) }
+        ensures { IsSearched (run_of run.now) self.old result self.new }
+    {
+        loop {
+            match self.try_next(run) {
+                Some(hop) => {
+                    if !self.is_used(run, hop.rel) {
+                        if self.leads_on(run, hop.node) {
+                            self.take(run, hop);
+                            if self.may_stop(run) {
+                                return true;
+                            }
+                        }
+                    }
+                }
+                None => {
+                    if self.depth == 0 {
+                        return false;
+                    }
+                    self.depth -= 1;
+                }
+            }
+        }
+    }
+
+    /// The node where the walk ends.
+    pub(crate) fn last(&self) -> NodeId
+        ensures { result ≡ self.now.last }
+    {
+        self.last
+    }
+
+    /// The relationships of the walk.
+    pub(crate) fn rels(&self) -> &[RelId]
+        requires { self.now.depth ≤ length self.now.rels.items }
+        ensures { result.now ≡ take self.now.depth self.now.rels.items }
+    {
+        &self.rels[..self.depth]
+    }
+
+    // The next relationship at the end of the walk, if there is one and the walk may be longer.
+    fn try_next(&mut self, run: &Run<'g>) -> Option<Hop>
+        requires tables { AreTables run.now.follow }
+        requires open { IsOpen (run_of run.now) self.old }
+        ensures { IsTried run.now self.old self.new result }
+    {
+        if run.high <= self.depth {
+            return None;
+        }
+        // A table has mostly one more, and then the level need not be copied.
+        if let Some(hop) = hop_here(&run.follow, &self.levels[self.depth]) {
+            self.levels[self.depth].place += 1;
+            return Some(hop);
+        }
+        let mut level = self.levels[self.depth];
+        let found = next_hop(&run.follow, &mut level);
+        if found.is_some() {
+            self.levels[self.depth] = level;
+        }
+        found
+    }
+
+    // The walk is longer by a relationship.
+    fn take(&mut self, run: &Run<'g>, hop: Hop)
+        requires room { IsRoomy self.old }
+        requires low { self.old.depth < run.now.high }
+        requires high { run.now.high ≤ 16 }
+        requires tables { AreTables run.now.follow }
+        requires node { is_node run.now.follow.graph.now hop.node ≡ true }
+        ensures { IsLonger run.now self.old self.new hop }
+    {
+        self.rels[self.depth] = hop.rel;
+        self.depth += 1;
+        self.last = hop.node;
+        if self.depth < run.high {
+            self.levels[self.depth] = level_at(&run.follow, hop.node, 0);
+        }
+    }
+
+    // Whether a walk that goes on to a node can come to one where it may end.
+    fn leads_on(&self, run: &Run<'g>, node: NodeId) -> bool
+        requires { self.now.depth < 16 }
+        ensures { result ≡ nat_lt (bound_of run.now.bounds node + self.now.depth) run.now.high }
+    {
+        run.bounds.bound(node) as usize + self.depth < run.high
+    }
+
+    // Whether the walk is long enough, and ends where it may.
+    fn may_stop(&self, run: &Run<'g>) -> bool
+        ensures { result ≡ (nat_le run.now.low self.now.depth
+            && nat_eq (bound_of run.now.bounds self.now.last) 0) }
+    {
+        run.low <= self.depth && run.bounds.bound(self.last) == 0
+    }
+
+    // Whether a relationship is used, or stands in the walk.
+    fn is_used(&self, run: &Run<'g>, rel: RelId) -> bool
+        requires { self.now.depth ≤ length self.now.rels.items }
+        ensures { result ≡ (list_any (same_rel rel) (take self.now.depth self.now.rels.items)
+            || list_any (same_rel rel) run.now.used) }
+    {
+        self.stands(rel) || run.used.has(rel)
+    }
+
+    // Whether a relationship stands in the walk.
+    fn stands(&self, rel: RelId) -> bool
+        requires { self.now.depth ≤ length self.now.rels.items }
+        ensures { result ≡ list_any (same_rel rel) (take self.now.depth self.now.rels.items) }
+    {
+        self.rels[..self.depth].iter().any(|own| rel == *own)
+    }
+}

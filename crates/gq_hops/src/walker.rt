@@ -1,0 +1,153 @@
+//! The walks of one trail, one after another.
+ghost use Rattle.std.specs.Prelude.{◌≡◌, ◌∷◌, [], ◌≤◌, ◌<◌, true, false, length, filter};
+ghost use Rattle.std.specs.Prelude.{IfOk, Option, Some};
+ghost use Rattle.gq_base.specs.declared.NodeId.{NodeId as Node};
+ghost use Rattle.gq_plan.specs.Assignments.{is_node};
+ghost use Rattle.gq_law_trails.specs.Bounds.{comes};
+ghost use Rattle.gq_law_trails.specs.Walks.{end_of, walks};
+ghost use Rattle.gq_marks.specs.Marking.{bound_of};
+ghost use Rattle.gq_hops.specs.Walking.{course_of};
+
+use crate::aim::{aim_at, marks_for};
+use crate::follow::{Follow, follow_type, opposite_way};
+use crate::search::{Run, Search};
+use crate::state::{State, state_after};
+use crate::used::Used;
+use gq_base::{Memory, NodeId, RelId};
+use gq_marks::Marks;
+use gq_plan::TrailPart;
+use gq_store::Graph;
+use std::alloc::Global;
+use std::marker::Model;
+
+/// The walks of one trail from a node: lists of relationships of the trail's type that follow one
+/// another, of which none stands twice and none is one of those that are used. It goes depth first,
+/// and has room for the longest walk and for 384 used relationships from the start, so that walking
+/// takes no memory.
+#[derive(Drop)]
+pub struct Walker<'g> {
+    run: Run<'g>,
+    search: Search<'g>,
+    state: State,
+    // The relationships of the type, followed to where they come from.
+    back: Follow<'g>,
+    // The node where a walk may end, if it may end at one alone.
+    aimed: Option<NodeId>,
+}
+
+impl<'g> Model for Walker<'g> {
+    ghost use Rattle.gq_hops.specs.Walking.{Walking};
+
+    ghost Value = { Walking };
+
+    ghost use Rattle.gq_hops.specs.steps.Inner.{walking_of, IsReady};
+
+    ghost view = { walking_of };
+
+    ghost invariant = { IsReady };
+}
+
+impl<'g> Walker<'g> {
+    /// A walker that owes nothing. After `Memory` there is none.
+    pub fn new(alloc: Global, graph: &'g Graph, part: &'g TrailPart) -> Result<Walker<'g>, Memory>
+        requires some { 1 ≤ part.now.low }
+        requires ordered { part.now.low ≤ part.now.high }
+        requires few { part.now.high ≤ 16 }
+        ensures course { IfOk result (λ w. w.course ≡ course_of graph.now part.now) }
+        ensures owed { IfOk result (λ w. w.owed ≡ []) }
+    {
+        let back = follow_type(alloc, graph, &part.kind, opposite_way(part.way))?;
+        let bounds = marks_for(alloc, &back, part.both)?;
+        Ok(Walker {
+            run: Run {
+                follow: follow_type(alloc, graph, &part.kind, part.way)?,
+                low: part.low as usize,
+                high: part.high as usize,
+                used: Used::new(alloc)?,
+                bounds,
+            },
+            search: Search::new(alloc)?,
+            state: State::Over,
+            back,
+            aimed: None,
+        })
+    }
+
+    /// From now on a walk may end at this node alone, and none is owed. It takes no memory.
+    pub fn aim(&mut self, end: NodeId)
+        requires end { is_node self.old.course.graph end ≡ true }
+        ensures end { bound_of self.new.bounds end ≡ 0 }
+        ensures course { self.new.course ≡ self.old.course }
+        ensures owed { self.new.owed ≡ [] }
+    {
+        self.state = State::Over;
+        if self.aimed != Some(end) {
+            let rounds = (self.run.high / 2) as u8;
+            aim_at(&mut self.run.bounds, &self.back, end, rounds);
+            self.aimed = Some(end);
+        }
+    }
+
+    /// From now on a walk may end at each node, and none is owed.
+    pub fn aim_nowhere(&mut self)
+        ensures bounds { (n : Node) → bound_of self.new.bounds n ≡ 0 }
+        ensures course { self.new.course ≡ self.old.course }
+        ensures owed { self.new.owed ≡ [] }
+    {
+        self.state = State::Over;
+        self.run.bounds.clear();
+        self.aimed = None;
+    }
+
+    /// From now on the walks from this node are owed that end where they may, without those
+    /// relationships that are used. It takes no memory.
+    pub fn begin(&mut self, start: NodeId, used: &[RelId])
+        requires start { is_node self.old.course.graph start ≡ true }
+        requires few { length used.now ≤ 384 }
+        ensures owed { let c = self.old.course in
+            self.new.owed ≡ filter (comes c.graph c.way (bound_of self.old.bounds) (Some start))
+            (walks c.graph c.kind c.way c.low c.high (Some start) used.now) }
+        ensures course { self.new.course ≡ self.old.course }
+        ensures bounds { self.new.bounds ≡ self.old.bounds }
+    {
+        self.run.used.set(used);
+        self.search.begin(&self.run, start);
+        self.state = State::Fresh;
+    }
+
+    /// Goes on to the next walk, or answers false where none is owed. It takes no memory.
+    pub fn advance(&mut self) -> bool
+        ensures next { result ≡ true → self.old.owed ≡ self.new.rels ∷ self.new.owed }
+        ensures stands { result ≡ true → self.new.standing ≡ true }
+        ensures none { result ≡ false → self.old.owed ≡ [] }
+        ensures over { result ≡ false → self.new.owed ≡ [] }
+        ensures course { self.new.course ≡ self.old.course }
+        ensures bounds { self.new.bounds ≡ self.old.bounds }
+    {
+        let found = match self.state {
+            State::Fresh | State::Standing => self.search.next(&self.run),
+            State::Over => false,
+        };
+        self.state = state_after(found);
+        found
+    }
+
+    /// The node where the walk ends that was reached last.
+    pub fn end(&self) -> NodeId
+        requires { self.now.standing ≡ true }
+        ensures ends { (at : Option Node) →
+            end_of self.now.course.graph self.now.course.way at self.now.rels ≡ Some result }
+        ensures there { is_node self.now.course.graph result ≡ true }
+    {
+        self.search.last()
+    }
+
+    /// The relationships of the walk that was reached last.
+    pub fn rels(&self) -> &[RelId]
+        requires { self.now.standing ≡ true }
+        ensures rels { result.now ≡ self.now.rels }
+        ensures few { length result.now ≤ 16 }
+    {
+        self.search.rels()
+    }
+}
