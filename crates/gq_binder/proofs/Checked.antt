@@ -11,7 +11,7 @@ use Rattle.gq_bound.proofs.NameLemmas.{first_again, first_other_form, first_vari
 use Rattle.gq_bound.proofs.RefusalLemmas.{first_append, same_behind}
 use Rattle.gq_bound.proofs.OwnBound.{bound_by_core, counted_core}
 use Rattle.gq_bound.proofs.SoundAlternatives.{each_none, reads_listed}
-use Rattle.gq_bound.proofs.Unnamed.{all_unnamed}
+use Rattle.gq_binder.proofs.Unnamed.{all_unnamed}
 use Rattle.gq_bound.specs.Binding.{Answers, IsBound}
 use Rattle.gq_bound.specs.steps.Checks.{IsOfQuery}
 use Rattle.gq_bound.specs.Columns.{conditions, columns, optional_conditions, sort_scope, whole_pattern}

@@ -1,26 +1,31 @@
 //! The bound form of a query, or why it has none.
-ghost use Rattle.std.specs.Prelude.{◌≡◌, [], map, filter_map, IfErr, IfOk, IfSome, OnOk};
+ghost use Rattle.std.specs.Prelude.{◌≡◌, ◌++◌, None, [], map, filter_map, IfOk, IfSome, OnOk};
 ghost use Rattle.gq_alternatives.specs.Alternatives.{pattern_alternatives, typed_of};
-ghost use Rattle.gq_bound.specs.Binding.{Answers, IsBound};
+ghost use Rattle.gq_bound.specs.Binding.{Answers};
 ghost use Rattle.gq_bound.specs.Columns.{column_expr, sort_expr};
-ghost use Rattle.gq_bound.specs.steps.Parts.{bound_by, bound_in, exists_part, optional_part};
-ghost use Rattle.gq_bound.specs.steps.Parts.{own_patterns, parts_of, IsWholeCore};
+ghost use Rattle.gq_bound.specs.Refusals.{first_of_all};
+ghost use Rattle.gq_bound.specs.steps.Parts.{bound_by, bound_in, checks_in, exists_part, no_lists};
+ghost use Rattle.gq_bound.specs.steps.Parts.{no_parts, optional_part, own_patterns, parts_of};
+ghost use Rattle.gq_bound.specs.steps.Parts.{IsWholeCore};
+ghost use Rattle.gq_cuts.specs.Cored.{HasCore};
+ghost use Rattle.gq_scopes.specs.Scopes.{scope_of};
 ghost use Rattle.gq_syntax.specs.Spans.{SpelledQuery};
 
 use crate::checks::{Alternatives, check, check_last};
-use crate::columns::known_columns;
-use crate::optionals::optional_parts;
-use crate::parts::parts_of;
-use crate::trails::cored_bound;
+use crate::columns::push_known;
+use crate::optionals::push_parts;
+use crate::parts::read_query;
+use crate::trails::put_cored;
 use gq_alternatives::{Choice, typed};
 use gq_ast::{Query, Sort};
 use gq_base::{Catalog, List, Memory, Text};
-use gq_bound::{BindRefusal, QueryParts, TakenLists};
+use gq_bound::{BindRefusal, QueryParts};
 use gq_cuts::{Core, core_of};
 use gq_plan::{Bound, NamedExpr, SortExpr, Typed};
 use gq_scopes::{Copying, Pattern, Scope, copy_text};
 use gq_trees::{CallForm, resolve_part};
 use std::alloc::Global;
+use std::mem;
 
 /// Binds a query, which a text spells, over a catalogue. The answer is the bound query, whose
 /// alternatives are sound for the catalogue, or the first refusal that applies, or want of memory.
@@ -33,42 +38,45 @@ pub fn bind(
     requires { SpelledQuery text.now query.now }
     ensures { Answers query.now text.now catalog.now result }
 {
-    let parts = parts_of(alloc, text, query)?;
-    let Checked { core, all } = check_all(alloc, text, catalog, query, &parts)?;
-    Ok(bound_by(alloc, text, catalog, query, parts, core, all)?)
+    let mut parts = QueryParts::new(alloc);
+    bind_parts(alloc, text, catalog, query, &mut parts)
 }
 
-// What the checks of a query make that its bound form takes: its core, where it has trails, and its
-// alternatives.
-#[derive(Drop)]
-struct Checked<'q> {
-    core: Option<Core<'q>>,
-    all: Alternatives,
-}
-
-// All checks of a query with these parts, in their order.
-fn check_all<'q>(
+// The same, by parts that are lent, so that nothing of them is owned where binding may stop.
+fn bind_parts<'q>(
     alloc: Global,
     text: &[u8],
     catalog: &Catalog,
     query: &'q Query,
-    parts: &QueryParts<'_>,
-) -> Result<Checked<'q>, BindRefusal>
+    parts: &mut QueryParts<'q>,
+) -> Result<Bound, BindRefusal>
     requires spelled { SpelledQuery text.now query.now }
-    requires parts { parts.now ≡ parts_of text.now query.now }
-    ensures refused { IfErr result (λ e. Answers query.now text.now catalog.now (Err e)) }
-    ensures bound { IfOk result (λ checked. IsBound query.now text.now catalog.now
-        (bound_by text.now catalog.now query.now parts.now checked.core checked.all.choices)) }
-    ensures whole { IfOk result (λ checked. IfSome checked.core (IsWholeCore text.now)) }
-    ensures optionals { IfOk result (λ checked. checked.all.optionals
-        ≡ map (pattern_alternatives catalog.now) (own_patterns parts.now.optionals)) }
-    ensures patterns { IfOk result (λ checked. checked.all.patterns
-        ≡ filter_map (exists_part text.now catalog.now) parts.now.exists) }
+    requires fresh { parts.old ≡ no_parts }
+    ensures { Answers query.now text.now catalog.now result }
 {
+    read_query(alloc, text, query, parts)?;
     check(alloc, text, query, parts)?;
     let core = core_of(alloc, query.clauses.as_slice())?;
-    let all = check_last(alloc, text, catalog, query, parts, &core)?;
-    Ok(Checked { core, all })
+    bind_cored(alloc, text, catalog, query, &core, parts)
+}
+
+// The same, where the first checks passed and this is the core of the query, where it has trails.
+fn bind_cored(
+    alloc: Global,
+    text: &[u8],
+    catalog: &Catalog,
+    query: &Query,
+    core: &Option<Core<'_>>,
+    parts: &mut QueryParts<'_>,
+) -> Result<Bound, BindRefusal>
+    requires spelled { SpelledQuery text.now query.now }
+    requires parts { parts.old ≡ parts_of text.now query.now }
+    requires passed { first_of_all (checks_in text.now query.now parts.old) ≡ None }
+    requires core { HasCore query.now.clauses core.now }
+    ensures { Answers query.now text.now catalog.now result }
+{
+    let mut all = check_last(alloc, text, catalog, query, parts, core)?;
+    Ok(bound_by(alloc, text, catalog, query, core, parts, &mut all)?)
 }
 
 // The bound form that the parts of a query and its core give, where it has trails.
@@ -77,128 +85,170 @@ fn bound_by(
     text: &[u8],
     catalog: &Catalog,
     query: &Query,
-    parts: QueryParts<'_>,
-    core: Option<Core<'_>>,
-    all: Alternatives,
+    core: &Option<Core<'_>>,
+    parts: &mut QueryParts<'_>,
+    all: &mut Alternatives,
 ) -> Result<Bound, Memory>
-    requires whole { IfSome core (IsWholeCore text.now) }
-    requires patterns { all.patterns ≡ filter_map (exists_part text.now catalog.now) parts.exists }
-    requires optionals { all.optionals
-        ≡ map (pattern_alternatives catalog.now) (own_patterns parts.optionals) }
+    requires whole { IfSome core.now (IsWholeCore text.now) }
+    requires patterns { all.old.patterns
+        ≡ filter_map (exists_part text.now catalog.now) parts.old.exists }
+    requires optionals { all.old.optionals
+        ≡ map (pattern_alternatives catalog.now) (own_patterns parts.old.optionals) }
     ensures { IfOk result (λ b.
-        b ≡ bound_by text.now catalog.now query.now parts.entry core.entry all.choices) }
+        b ≡ bound_by text.now catalog.now query.now parts.old core.now all.old.choices) }
 {
-    match core {
-        None => bound_of(alloc, text, catalog, query, parts, all),
-        Some(core) => cored_bound(alloc, text, catalog, query, parts, &core, all),
-    }
-}
-
-// The bound form that the parts of a query without trails give, with what stands for an expression:
-// where no check refuses the query, all does.
-fn bound_of(
-    alloc: Global,
-    text: &[u8],
-    catalog: &Catalog,
-    query: &Query,
-    parts: QueryParts<'_>,
-    all: Alternatives,
-) -> Result<Bound, Memory>
-    requires patterns { all.patterns ≡ filter_map (exists_part text.now catalog.now) parts.exists }
-    requires optionals { all.optionals
-        ≡ map (pattern_alternatives catalog.now) (own_patterns parts.optionals) }
-    ensures { IfOk result (λ b.
-        b ≡ bound_in text.now catalog.now query.now parts.entry all.choices) }
-{
-    let Alternatives {
-        choices,
-        optionals,
-        patterns,
-    } = all;
-    let mut bound = without_lists(alloc, catalog, query, &parts, choices.as_slice())?;
-    bound.patterns = patterns;
-    let lists = parts.into_lists();
-    put_lists(alloc, catalog, lists, optionals.as_slice(), &mut bound)?;
+    let mut bound = no_lists(alloc, query);
+    put_parts(alloc, text, catalog, query, core, parts, all, &mut bound)?;
     Ok(bound)
 }
 
-// Puts lists into a bound form in the place of those that it has, with the alternatives of the OPTIONAL
-// MATCH clauses. The form is lent, so that nothing of it is owned where memory may end.
-fn put_lists(
-    alloc: Global,
-    catalog: &Catalog,
-    lists: TakenLists<'_>,
-    choices: &[List<Choice>],
-    bound: &mut Bound,
-) -> Result<(), Memory>
-    requires { choices.now ≡ map (pattern_alternatives catalog.now) (own_patterns lists.optionals) }
-    ensures { OnOk result (bound.new ≡ record bound.old {
-      columns = filter_map column_expr lists.entry.columns;
-      conjuncts = lists.entry.conjuncts;
-      optionals = map (optional_part catalog.now) lists.entry.optionals;
-    }) }
+// The bound form of a query before its lists.
+fn no_lists(alloc: Global, query: &Query) -> Bound
+    ensures { result ≡ no_lists query.now }
 {
-    let TakenLists {
-        columns,
-        conjuncts,
-        optionals,
-    } = lists;
-    bound.conjuncts = conjuncts;
-    bound.optionals = optional_parts(alloc, catalog, optionals, choices)?;
-    bound.columns = known_columns(alloc, columns)?;
-    Ok(())
-}
-
-// The bound form but for its columns, conjuncts, tests of paths and OPTIONAL MATCH clauses.
-fn without_lists(
-    alloc: Global,
-    catalog: &Catalog,
-    query: &Query,
-    parts: &QueryParts<'_>,
-    choices: &[Choice],
-) -> Result<Bound, Memory>
-    ensures { IfOk result (λ b. b
-        ≡ record (bound_in [] catalog.now query.now parts.now choices.now) {
-          columns = [];
-          conjuncts = [];
-          patterns = [];
-          optionals = [];
-        }) }
-{
-    let pattern = &parts.pattern;
-    let matched = &parts.matched;
-    let scope = pattern.scope(parts.columns.as_slice())?;
-    let keys = known_keys(alloc, &scope, query.order.as_slice())?;
-    let tests = parts.tests.as_slice();
-    let conjuncts = parts.conjuncts.as_slice();
-    let alternatives = all_typed(alloc, catalog, matched, tests, conjuncts, choices)?;
-    Ok(Bound {
-        node_names: copy_texts(alloc, pattern.node_names())?,
-        rel_names: copy_texts(alloc, pattern.rel_names())?,
+    Bound {
+        node_names: List::new(alloc),
+        rel_names: List::new(alloc),
         columns: List::new(alloc),
         conjuncts: List::new(alloc),
         patterns: List::new(alloc),
         optionals: List::new(alloc),
         trails: List::new(alloc),
         trail_names: List::new(alloc),
-        keys,
+        keys: List::new(alloc),
         distinct: query.distinct,
         skip: query.skip.unwrap_or(0),
         limit: query.limit,
-        alternatives,
-    })
+        alternatives: List::new(alloc),
+    }
 }
 
-/// The keys of ORDER BY, of those that stand for an expression.
-pub fn known_keys(
+// Puts what the parts of a query and its core give into its bound form.
+fn put_parts(
+    alloc: Global,
+    text: &[u8],
+    catalog: &Catalog,
+    query: &Query,
+    core: &Option<Core<'_>>,
+    parts: &mut QueryParts<'_>,
+    all: &mut Alternatives,
+    bound: &mut Bound,
+) -> Result<(), Memory>
+    requires whole { IfSome core.now (IsWholeCore text.now) }
+    requires patterns { all.old.patterns
+        ≡ filter_map (exists_part text.now catalog.now) parts.old.exists }
+    requires optionals { all.old.optionals
+        ≡ map (pattern_alternatives catalog.now) (own_patterns parts.old.optionals) }
+    requires fresh { bound.old ≡ no_lists query.now }
+    ensures { OnOk result (bound.new
+        ≡ bound_by text.now catalog.now query.now parts.old core.now all.old.choices) }
+{
+    match core {
+        None => put_plain(alloc, text, catalog, query, parts, all, bound),
+        Some(core) => put_cored(alloc, text, catalog, query, core, parts, all, bound),
+    }
+}
+
+// The same of a query without trails, with what stands for an expression: where no check refuses the
+// query, all does.
+fn put_plain(
+    alloc: Global,
+    text: &[u8],
+    catalog: &Catalog,
+    query: &Query,
+    parts: &mut QueryParts<'_>,
+    all: &mut Alternatives,
+    bound: &mut Bound,
+) -> Result<(), Memory>
+    requires patterns { all.old.patterns
+        ≡ filter_map (exists_part text.now catalog.now) parts.old.exists }
+    requires optionals { all.old.optionals
+        ≡ map (pattern_alternatives catalog.now) (own_patterns parts.old.optionals) }
+    requires fresh { bound.old ≡ no_lists query.now }
+    ensures { OnOk result (bound.new
+        ≡ bound_in text.now catalog.now query.now parts.old all.old.choices) }
+{
+    push_made(alloc, catalog, query, parts, all.choices.as_slice(), bound)?;
+    take_lists(alloc, catalog, parts, all, bound)
+}
+
+// Appends names, keys and alternatives.
+fn push_made(
+    alloc: Global,
+    catalog: &Catalog,
+    query: &Query,
+    parts: &QueryParts<'_>,
+    choices: &[Choice],
+    bound: &mut Bound,
+) -> Result<(), Memory>
+    ensures { let scope = record (scope_of parts.now.pattern) { columns = parts.now.columns } in
+        let typed = typed_of catalog.now parts.now.matched parts.now.tests parts.now.conjuncts in
+        OnOk result (bound.new ≡ record bound.old {
+          node_names = bound.old.node_names ++ parts.now.pattern.node_names;
+          rel_names = bound.old.rel_names ++ parts.now.pattern.rel_names;
+          keys = bound.old.keys ++ filter_map (sort_expr scope) query.now.order;
+          alternatives = bound.old.alternatives ++ map typed choices.now;
+        }) }
+{
+    push_texts(alloc, parts.pattern.node_names(), &mut bound.node_names)?;
+    push_texts(alloc, parts.pattern.rel_names(), &mut bound.rel_names)?;
+    push_keys(alloc, query, parts, &mut bound.keys)?;
+    push_alternatives(alloc, catalog, parts, choices, &mut bound.alternatives)
+}
+
+// Takes the tests of paths and the conjuncts, and appends the columns and the OPTIONAL MATCH clauses.
+fn take_lists(
+    alloc: Global,
+    catalog: &Catalog,
+    parts: &mut QueryParts<'_>,
+    all: &mut Alternatives,
+    bound: &mut Bound,
+) -> Result<(), Memory>
+    requires { all.old.optionals
+        ≡ map (pattern_alternatives catalog.now) (own_patterns parts.old.optionals) }
+    ensures { OnOk result (bound.new ≡ record bound.old {
+      columns = bound.old.columns ++ filter_map column_expr parts.old.columns;
+      conjuncts = parts.old.conjuncts;
+      patterns = all.old.patterns;
+      optionals = bound.old.optionals ++ map (optional_part catalog.now) parts.old.optionals;
+    }) }
+{
+    mem::swap(&mut bound.conjuncts, &mut parts.conjuncts);
+    mem::swap(&mut bound.patterns, &mut all.patterns);
+    let choices = all.optionals.as_slice();
+    push_parts(
+        alloc,
+        catalog,
+        &mut parts.optionals,
+        choices,
+        &mut bound.optionals,
+    )?;
+    push_known(alloc, &mut parts.columns, &mut bound.columns)
+}
+
+/// Appends the keys of ORDER BY, of those that stand for an expression.
+pub fn push_keys(
+    alloc: Global,
+    query: &Query,
+    parts: &QueryParts<'_>,
+    keys: &mut List<SortExpr>,
+) -> Result<(), Memory>
+    ensures { let scope = record (scope_of parts.now.pattern) { columns = parts.now.columns } in
+        OnOk result (keys.new ≡ keys.old ++ filter_map (sort_expr scope) query.now.order) }
+{
+    let scope = parts.pattern.scope(parts.columns.as_slice())?;
+    push_known_keys(alloc, &scope, query.order.as_slice(), keys)
+}
+
+fn push_known_keys(
     alloc: Global,
     scope: &Scope<'_>,
     order: &[Sort],
-) -> Result<List<SortExpr>, Memory>
-    ensures { IfOk result (λ keys. keys ≡ filter_map (sort_expr scope.now) order.now) }
+    keys: &mut List<SortExpr>,
+) -> Result<(), Memory>
+    ensures { OnOk result (keys.new ≡ keys.old ++ filter_map (sort_expr scope.now) order.now) }
 {
     let mut copying = Copying::new();
-    let mut keys = List::new(alloc);
     for sort in order {
         let known = resolve_part(alloc, &mut copying, CallForm::Functions, scope, &sort.tree)?;
         let Some(expr) = known else {
@@ -209,7 +259,7 @@ pub fn known_keys(
             down: sort.down,
         })?;
     }
-    Ok(keys)
+    Ok(())
 }
 
 // Each alternative has its own copies of its tests: so many parts of expressions and bytes of texts in them, for all
@@ -217,32 +267,36 @@ pub fn known_keys(
 // it is 2,048 for each.
 pub const MOST_TESTS: usize = 1_048_576;
 
-/// The typed forms of choices for these patterns, with these tests of maps and these conjuncts.
-pub fn all_typed(
+// Appends the typed forms of choices for the patterns of MATCH clauses, with the tests of their maps and the conjuncts.
+fn push_alternatives(
     alloc: Global,
     catalog: &Catalog,
-    pattern: &Pattern<'_>,
-    entries: &[NamedExpr],
-    conjuncts: &[NamedExpr],
+    parts: &QueryParts<'_>,
     choices: &[Choice],
-) -> Result<List<Typed>, Memory>
-    ensures { IfOk result (λ ys.
-        ys ≡ map (typed_of catalog.now pattern.now entries.now conjuncts.now) choices.now) }
+    all: &mut List<Typed>,
+) -> Result<(), Memory>
+    ensures { let matched = parts.now.matched in
+        let typed = typed_of catalog.now matched parts.now.tests parts.now.conjuncts in
+        OnOk result (all.new ≡ all.old ++ map typed choices.now) }
 {
     let mut copying = Copying::of(MOST_TESTS);
-    typed_out_of(
+    let tests = parts.tests.as_slice();
+    let conjuncts = parts.conjuncts.as_slice();
+    push_typed(
         alloc,
         &mut copying,
         catalog,
-        pattern,
-        entries,
+        &parts.matched,
+        tests,
         conjuncts,
         choices,
+        all,
     )
 }
 
-/// The same, out of what may still be copied.
-pub fn typed_out_of(
+/// Appends the typed forms of choices for these patterns, with these tests of maps and these conjuncts, out of what
+/// may still be copied.
+pub fn push_typed(
     alloc: Global,
     copying: &mut Copying,
     catalog: &Catalog,
@@ -250,26 +304,25 @@ pub fn typed_out_of(
     entries: &[NamedExpr],
     conjuncts: &[NamedExpr],
     choices: &[Choice],
-) -> Result<List<Typed>, Memory>
-    ensures { IfOk result (λ ys.
-        ys ≡ map (typed_of catalog.now pattern.now entries.now conjuncts.now) choices.now) }
+    all: &mut List<Typed>,
+) -> Result<(), Memory>
+    ensures { let typed = typed_of catalog.now pattern.now entries.now conjuncts.now in
+        OnOk result (all.new ≡ all.old ++ map typed choices.now) }
 {
-    let mut all = List::new(alloc);
     for choice in choices {
         let alternative = typed(alloc, copying, catalog, pattern, entries, conjuncts, choice)?;
         all.push(alternative)?;
     }
-    Ok(all)
+    Ok(())
 }
 
-/// A copy of texts.
-pub fn copy_texts(alloc: Global, texts: &[Text]) -> Result<List<Text>, Memory>
-    ensures { IfOk result (λ ts. ts ≡ texts.now) }
+/// Appends copies of texts.
+pub fn push_texts(alloc: Global, texts: &[Text], all: &mut List<Text>) -> Result<(), Memory>
+    ensures { OnOk result (all.new ≡ all.old ++ texts.now) }
 {
-    let mut copies = List::new(alloc);
     for text in texts {
         let copied = copy_text(alloc, text)?;
-        copies.push(copied)?;
+        all.push(copied)?;
     }
-    Ok(copies)
+    Ok(())
 }

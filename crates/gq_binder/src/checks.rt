@@ -1,5 +1,5 @@
 //! The checks of a query in their order, and those of its forms, patterns, columns and numbers, and of the places of EXISTS.
-ghost use Rattle.std.specs.Prelude.{◌≡◌, ◌++◌, ◌+◌, [], All, IfOk, IfSome, OnOk};
+ghost use Rattle.std.specs.Prelude.{◌≡◌, ◌++◌, ◌∷◌, ◌+◌, [], All, IfOk, IfSome, OnOk};
 ghost use Rattle.std.specs.Prelude.{filter_map, is_some, length, map};
 ghost use Rattle.std.specs.Prelude.{nat_lt, not, ◌||◌};
 ghost use Rattle.std.specs.List.{list_any};
@@ -159,7 +159,7 @@ fn too_many_reads(alloc: Global, parts: &QueryParts<'_>) -> Result<(), BindRefus
 
 // How many different properties of variables all maps and the conjuncts of values of all clauses
 // read.
-#[tactic(auto, using(gq_bound::proofs::ReadingLemmas::counted_parts))]
+#[tactic(auto, using(gq_bound::proofs::ReadingLemmas::counted_alone))]
 fn count_all_reads<'p>(alloc: Global, parts: &'p QueryParts<'p>) -> Result<usize, Memory>
     ensures { let pattern = parts.now.pattern in
         let paths = refusals.path_reads (length pattern.names) (length pattern.rels)
@@ -168,16 +168,26 @@ fn count_all_reads<'p>(alloc: Global, parts: &'p QueryParts<'p>) -> Result<usize
         IfOk result (λ n. n ≡ length (distinct all)) }
 {
     let mut reads = PropertyReads::new(alloc);
-    add_maps(&mut reads, &parts.pattern)?;
-    add_reads(&mut reads, parts.conjuncts.as_slice())?;
-    add_clause_reads(&mut reads, parts.optionals.as_slice())?;
-    add_path_reads(alloc, &mut reads, &parts.pattern, parts.exists.as_slice())?;
+    add_all_reads(&mut reads, parts)?;
     Ok(reads.len())
+}
+
+// Takes what all maps and the conjuncts of values of all clauses read.
+#[tactic(auto, using(gq_plan::proofs::ReadLemmas::with_reads_append))]
+fn add_all_reads<'p>(reads: &mut PropertyReads<'p>, parts: &'p QueryParts<'p>) -> Result<(), Memory>
+    ensures { let pattern = parts.now.pattern in
+        let paths = refusals.path_reads (length pattern.names) (length pattern.rels)
+        parts.now.exists in
+        OnOk result (reads.new ≡ with_reads reads.old (parts_reads parts.now ++ paths)) }
+{
+    add_maps(reads, &parts.pattern)?;
+    add_reads(reads, parts.conjuncts.as_slice())?;
+    add_clause_reads(reads, parts.optionals.as_slice())?;
+    add_path_reads(reads, &parts.pattern, parts.exists.as_slice())
 }
 
 // Takes what the maps of the paths of tests read, of variables behind those of a pattern.
 fn add_path_reads<'e>(
-    alloc: Global,
     reads: &mut PropertyReads<'e>,
     pattern: &Pattern<'_>,
     tests: &'e [SharedTest<'e>],
@@ -188,14 +198,13 @@ fn add_path_reads<'e>(
     let mut nodes = number(pattern.names().len())?;
     let mut rels = number(pattern.rels().len())?;
     for test in tests {
-        add_path(alloc, reads, test, &mut nodes, &mut rels)?;
+        add_path(reads, test, &mut nodes, &mut rels)?;
     }
     Ok(())
 }
 
 // Takes what the maps of one path read, of variables behind so many, and counts its variables.
 fn add_path<'e>(
-    alloc: Global,
     reads: &mut PropertyReads<'e>,
     test: &'e SharedTest<'e>,
     nodes: &mut u32,
@@ -209,8 +218,7 @@ fn add_path<'e>(
     ensures rels { OnOk result (rels.new
         ≡ rels.old + length (path_pattern test.now.test.path).rels) }
 {
-    let path = test.pattern(alloc)?;
-    add_pattern(reads, test.nodes.as_slice(), &path, nodes, rels)
+    add_pattern(reads, test.nodes.as_slice(), test.pattern(), nodes, rels)
 }
 
 // The same of the pattern of a path, whose first variables are these of the query.
@@ -283,8 +291,7 @@ fn many_reads_alone(alloc: Global, tests: &[SharedTest<'_>]) -> Result<(), BindR
 fn reads_alone(alloc: Global, test: &SharedTest<'_>) -> Result<(), BindRefusal>
     ensures { Checks (refusals.reads_alone test.now) result }
 {
-    let path = test.pattern(alloc)?;
-    maps_alone(alloc, &path)
+    maps_alone(alloc, test.pattern())
 }
 
 // The maps of an OPTIONAL MATCH clause by itself read too much.
@@ -402,10 +409,24 @@ pub fn check_last(
         ≡ filter_map (exists_part text.now catalog.now) parts.now.exists) }
 {
     let all = few_alternatives(alloc, text, catalog, parts, core)?;
-    trail_length(&parts.pattern)?;
-    trail_with_optional(query, &parts.pattern)?;
-    exists_place(parts.exists.as_slice())?;
+    check_places(query, &parts.pattern, parts.exists.as_slice())?;
     Ok(all)
+}
+
+/// The checks behind that of the alternatives: those of trails and of the places of EXISTS.
+#[tactic(auto, using(gq_bound::proofs::RefusalLemmas::firsts))]
+fn check_places(
+    query: &Query,
+    pattern: &Pattern<'_>,
+    exists: &[SharedTest<'_>],
+) -> Result<(), BindRefusal>
+    ensures { Checks (first_of_all (refusals.trail_length pattern.now
+        ∷ refusals.trail_with_optional query.now pattern.now
+        ∷ refusals.exists_place exists.now ∷ [])) result }
+{
+    trail_length(pattern)?;
+    trail_with_optional(query, pattern)?;
+    exists_place(exists)
 }
 
 /// The alternatives of a query's clauses and of the paths of its tests, unless there are too many.

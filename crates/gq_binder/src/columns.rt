@@ -1,5 +1,5 @@
 //! The columns of a query and their names.
-ghost use Rattle.std.specs.Prelude.{◌≡◌, ◌++◌, ◌∷◌, [], map, filter_map, All, IfOk, if◌then◌else◌};
+ghost use Rattle.std.specs.Prelude.{◌≡◌, ◌++◌, ◌∷◌, [], map, filter_map, All, IfOk, OnOk, if◌then◌else◌};
 ghost use Rattle.std.specs.List.{list_any};
 ghost use Rattle.gq_bound.specs.Columns as columns;
 ghost use Rattle.gq_bound.specs.Columns.{columns_in, column_expr, column_of, item_column};
@@ -15,27 +15,27 @@ use gq_plan::NamedExpr;
 use gq_scopes::{Column, NamedVariable, Names, Pattern, Scope, Variable, copy_text};
 use gq_trees::{CallForm, resolve, source_text};
 use std::alloc::Global;
+use std::mem;
 
-/// The columns of a query with these patterns, whose items stand in this text.
+/// Appends the columns of a query with these patterns, whose items stand in this text.
 #[tactic(auto, unfolding(gq_bound::specs::Columns::columns_in))]
-pub fn columns_of(
+pub fn push_columns(
     alloc: Global,
     form: CallForm,
     text: &[u8],
     pattern: &Pattern<'_>,
     query: &Query,
-) -> Result<List<Column>, Memory>
+    all: &mut List<Column>,
+) -> Result<(), Memory>
     requires { All (λ item. IsWholeTree text.now item.tree) query.now.items }
-    ensures { IfOk result (λ cs. cs ≡ columns_in (calls_of form) text.now pattern.now query.now) }
+    ensures { OnOk result (all.new
+        ≡ all.old ++ columns_in (calls_of form) text.now pattern.now query.now) }
 {
-    let mut all = List::new(alloc);
-    let named = pattern.named();
     if query.star {
-        push_firsts(alloc, &mut all, named)?;
+        push_firsts(alloc, all, pattern.named())?;
     }
     let scope = pattern.scope(&[])?;
-    push_items(alloc, &mut all, form, text, &scope, query.items.as_slice())?;
-    Ok(all)
+    push_items(alloc, all, form, text, &scope, query.items.as_slice())
 }
 
 // Pushes each named variable where its name stands first.
@@ -120,17 +120,21 @@ fn name_of(alloc: Global, text: &[u8], item: &Item) -> Result<Text, Memory>
     }
 }
 
-/// Columns with their expressions, of those that have one.
-pub fn known_columns(alloc: Global, columns: List<Column>) -> Result<List<NamedExpr>, Memory>
-    ensures { IfOk result (λ known. known ≡ filter_map column_expr columns) }
+/// Appends columns with their expressions, of those that have one. The columns are taken.
+pub fn push_known(
+    alloc: Global,
+    columns: &mut List<Column>,
+    known: &mut List<NamedExpr>,
+) -> Result<(), Memory>
+    ensures { OnOk result (known.new ≡ known.old ++ filter_map column_expr columns.old) }
 {
-    let mut known = List::new(alloc);
-    for column in columns.into_vec() {
+    let taken = mem::replace(columns, List::new(alloc));
+    for column in taken.into_vec() {
         let Column { name, expr } = column;
         let Some(expr) = expr else {
             continue;
         };
         known.push(NamedExpr { name, expr })?;
     }
-    Ok(known)
+    Ok(())
 }

@@ -7,6 +7,7 @@
 mod bound;
 mod checks;
 mod columns;
+mod lists;
 mod optionals;
 mod order;
 mod parts;

@@ -12,30 +12,32 @@ ghost use Rattle.gq_bound.specs.Tested.{seen_elsewhere};
 ghost use Rattle.gq_bound.specs.declared.refusal.BindRefusal.TheVariants as refusal;
 ghost use Rattle.gq_bound.specs.steps.Checks.{Checks};
 ghost use Rattle.gq_bound.specs.steps.Names.{with_clause_names, with_clauses_names};
-ghost use Rattle.gq_bound.specs.steps.Names.{with_expressions};
+ghost use Rattle.gq_bound.specs.steps.Names.{with_expression, with_expressions};
 ghost use Rattle.gq_bound.specs.steps.Parts as steps;
 ghost use Rattle.gq_bound.specs.steps.Parts.{clause_parts, clauses_parts, known_conjuncts};
-ghost use Rattle.gq_bound.specs.steps.Parts.{own_patterns};
-ghost use Rattle.gq_scopes.specs.Patterns.{known_as, with_clauses, with_paths};
+ghost use Rattle.gq_bound.specs.steps.Parts.{no_clause_parts, own_patterns};
+ghost use Rattle.gq_scopes.specs.Patterns.{known_as, no_pattern, with_clauses, with_paths};
 ghost use Rattle.gq_scopes.specs.Scopes.{scope_of};
 ghost use Rattle.gq_ast.specs.Spans.{IsWholeTree};
-ghost use Rattle.gq_ast.specs.steps.Spans.{IsWholeClause};
+ghost use Rattle.gq_ast.specs.steps.Spans.{IsWholeClause, IsWholeEntry};
 
-use crate::bound::{MOST_TESTS, typed_out_of};
+use crate::bound::{MOST_TESTS, push_typed};
+use crate::lists::{push_all, put_entry_tests};
 use crate::path_tests::push_all_of;
 use gq_alternatives::Choice;
 use gq_ast::{Ast, Clause};
 use gq_base::{Catalog, List, Memory, Text};
 use gq_bound::{BindRefusal, ClauseParts, FirstNames, SharedTest};
 use gq_choices::choices_of;
-use gq_cuts::entry_tests;
 use gq_plan::{NamedExpr, OptionalPart};
 use gq_scopes::{Copying, Pattern, Scope, next, number};
 use gq_trees::conjuncts_of;
 use std::alloc::Global;
+use std::mem;
 
 /// Reads OPTIONAL MATCH clauses, numbered from the first one's number on, behind the clauses that
-/// were read. Each condition sees the variables of its clause and of earlier ones.
+/// were read, and appends what is shared of each. Each condition sees the variables of its clause and
+/// of earlier ones.
 pub fn read_optionals<'q>(
     alloc: Global,
     text: &[u8],
@@ -44,26 +46,53 @@ pub fn read_optionals<'q>(
     pattern: &mut Pattern<'q>,
     names: &mut FirstNames<'q>,
     exists: &mut List<SharedTest<'q>>,
-) -> Result<List<ClauseParts<'q>>, Memory>
+    all: &mut List<ClauseParts<'q>>,
+) -> Result<(), Memory>
     requires { All (IsWholeClause text.now) clauses.now }
     ensures pattern { OnOk result (pattern.new ≡ with_clauses first clauses.now pattern.old) }
     ensures names { OnOk result (names.new
         ≡ with_clauses_names first clauses.now pattern.old names.old) }
     ensures exists { OnOk result (exists.new ≡ exists.old
         ++ flat_map seen_elsewhere (conditions_from first pattern.old clauses.now)) }
-    ensures parts { IfOk result (λ parts.
-        parts ≡ clauses_parts text.now first pattern.old clauses.now) }
+    ensures parts { OnOk result (all.new
+        ≡ all.old ++ clauses_parts text.now first pattern.old clauses.now) }
 {
     let mut number = first;
-    let mut all = List::new(alloc);
     for clause in clauses {
-        let parts = read_optional(alloc, text, clause, number, pattern, names, exists)?;
-        all.push(parts)?;
+        push_optional(alloc, text, clause, number, pattern, names, exists, all)?;
         number = next(number)?;
     }
-    Ok(all)
+    Ok(())
 }
 
+fn push_optional<'q>(
+    alloc: Global,
+    text: &[u8],
+    clause: &'q Clause,
+    number: u32,
+    pattern: &mut Pattern<'q>,
+    names: &mut FirstNames<'q>,
+    exists: &mut List<SharedTest<'q>>,
+    all: &mut List<ClauseParts<'q>>,
+) -> Result<(), Memory>
+    requires { IsWholeClause text.now clause.now }
+    ensures pattern { OnOk result (pattern.new ≡ with_paths number clause.now.paths pattern.old) }
+    ensures names { OnOk result (names.new
+        ≡ with_clause_names number clause.now pattern.old names.old) }
+    ensures exists { let after = with_paths number clause.now.paths pattern.old in
+        OnOk result (exists.new ≡ exists.old
+        ++ flat_map seen_elsewhere (scoped_in (scope_of after) clause.now.filter)) }
+    ensures parts { OnOk result (all.new
+        ≡ all.old ++ clause_parts text.now number pattern.old clause.now ∷ []) }
+{
+    let mut parts = ClauseParts::new(alloc);
+    read_optional(
+        alloc, text, clause, number, pattern, names, exists, &mut parts,
+    )?;
+    all.push(parts)
+}
+
+// Reads one clause into parts that are lent, so that nothing of them is owned where memory may end.
 fn read_optional<'q>(
     alloc: Global,
     text: &[u8],
@@ -72,72 +101,82 @@ fn read_optional<'q>(
     pattern: &mut Pattern<'q>,
     names: &mut FirstNames<'q>,
     exists: &mut List<SharedTest<'q>>,
-) -> Result<ClauseParts<'q>, Memory>
-    requires { IsWholeClause text.now clause.now }
+    parts: &mut ClauseParts<'q>,
+) -> Result<(), Memory>
+    requires whole { IsWholeClause text.now clause.now }
+    requires fresh { parts.old ≡ no_clause_parts }
     ensures pattern { OnOk result (pattern.new ≡ with_paths number clause.now.paths pattern.old) }
     ensures names { OnOk result (names.new
         ≡ with_clause_names number clause.now pattern.old names.old) }
     ensures exists { let after = with_paths number clause.now.paths pattern.old in
         OnOk result (exists.new ≡ exists.old
         ++ flat_map seen_elsewhere (scoped_in (scope_of after) clause.now.filter)) }
-    ensures parts { IfOk result (λ parts.
-        parts ≡ clause_parts text.now number pattern.old clause.now) }
+    ensures parts { OnOk result (parts.new
+        ≡ clause_parts text.now number pattern.old clause.now) }
 {
-    let own = alone(alloc, clause)?;
-    let nodes = node_seats(alloc, pattern, own.names())?;
-    let rels = numbers_from(alloc, pattern.rels().len(), own.rels().len())?;
-    let tests = entry_tests(alloc, text, own.entries())?;
+    push_alone(alloc, text, clause, &mut parts.pattern)?;
+    push_node_seats(pattern, &parts.pattern, &mut parts.nodes)?;
+    push_rel_seats(pattern, &parts.pattern, &mut parts.rels)?;
+    put_entry_tests(alloc, text, &parts.pattern, &mut parts.tests)?;
     names.push_paths(alloc, number, clause.paths.as_slice(), pattern)?;
-    let conjuncts = read_filter(alloc, text, pattern, &clause.filter, names, exists)?;
-    Ok(ClauseParts {
-        pattern: own,
-        nodes,
-        rels,
+    let conjuncts = &mut parts.conjuncts;
+    read_filter(
+        alloc,
+        text,
+        pattern,
+        &clause.filter,
+        names,
+        exists,
         conjuncts,
-        tests,
-    })
+    )
 }
 
-// The patterns of a clause by itself.
+// Reads the patterns of a clause by itself.
 #[tactic(auto, unfolding(gq_scopes::specs::Patterns::pattern_of))]
-fn alone(alloc: Global, clause: &Clause) -> Result<Pattern<'_>, Memory>
-    ensures { IfOk result (λ p. p ≡ optionals.alone clause.now) }
+fn push_alone<'q>(
+    alloc: Global,
+    text: &[u8],
+    clause: &'q Clause,
+    own: &mut Pattern<'q>,
+) -> Result<(), Memory>
+    requires whole { IsWholeClause text.now clause.now }
+    requires fresh { own.old ≡ no_pattern }
+    ensures own { OnOk result (own.new ≡ optionals.alone clause.now) }
+    ensures whole { OnOk result (All (λ e. IsWholeEntry text.now e.entry) own.new.entries) }
 {
-    let mut pattern = Pattern::new(alloc);
-    pattern.push_paths(alloc, 0, clause.paths.as_slice())?;
-    Ok(pattern)
+    own.push_paths(alloc, 0, clause.paths.as_slice())?;
+    Ok(())
 }
 
-// Which variables the node variables of a clause are, behind these patterns.
-fn node_seats(
-    alloc: Global,
+// Appends which variables the node variables of a clause are, behind these patterns.
+fn push_node_seats(
     before: &Pattern<'_>,
-    names: &[Option<Text>],
-) -> Result<List<u32>, Memory>
-    ensures { IfOk result (λ vs.
-        vs ≡ seats before.now.names (length before.now.names) names.now) }
+    own: &Pattern<'_>,
+    nodes: &mut List<u32>,
+) -> Result<(), Memory>
+    ensures { OnOk result (nodes.new ≡ nodes.old
+        ++ seats before.now.names (length before.now.names) own.now.names) }
 {
     let scope = before.scope(&[])?;
-    seats_from(alloc, &scope, before.names().len(), names)
+    push_seats(&scope, before.names().len(), own.names(), nodes)
 }
 
-// The variables of names: those that a scope has are there, and the others are the next ones.
-fn seats_from(
-    alloc: Global,
+// Appends the variables of names: those that a scope has are there, and the others are the next ones.
+fn push_seats(
     scope: &Scope<'_>,
     first: usize,
     names: &[Option<Text>],
-) -> Result<List<u32>, Memory>
-    ensures { IfOk result (λ vs. vs ≡ seats scope.now.nodes first names.now) }
+    all: &mut List<u32>,
+) -> Result<(), Memory>
+    ensures { OnOk result (all.new ≡ all.old ++ seats scope.now.nodes first names.now) }
 {
     let mut free = number(first)?;
-    let mut all = List::new(alloc);
     for name in names {
         let standing = known_as(scope, name);
         all.push(seat(standing, free)?)?;
         free = free_behind(standing, free)?;
     }
-    Ok(all)
+    Ok(())
 }
 
 fn known_as(scope: &Scope<'_>, name: &Option<Text>) -> Option<usize>
@@ -167,20 +206,31 @@ fn free_behind(standing: Option<usize>, free: u32) -> Result<u32, Memory>
     }
 }
 
-#[tactic(auto, using(gq_scopes::proofs::RangeLemmas::range_more))]
-fn numbers_from(alloc: Global, start: usize, count: usize) -> Result<List<u32>, Memory>
-    ensures { IfOk result (λ ns. ns ≡ range_with_len start count) }
+// Appends which variables the relationship variables of a clause are, behind these patterns.
+fn push_rel_seats(
+    before: &Pattern<'_>,
+    own: &Pattern<'_>,
+    rels: &mut List<u32>,
+) -> Result<(), Memory>
+    ensures { OnOk result (rels.new ≡ rels.old
+        ++ range_with_len (length before.now.rels) (length own.now.rels)) }
 {
-    let mut numbers = List::new(alloc);
+    push_numbers(before.rels().len(), own.rels().len(), rels)
+}
+
+#[tactic(auto, using(gq_scopes::proofs::RangeLemmas::range_more))]
+fn push_numbers(start: usize, count: usize, numbers: &mut List<u32>) -> Result<(), Memory>
+    ensures { OnOk result (numbers.new ≡ numbers.old ++ range_with_len start count) }
+{
     let mut at = number(start)?;
     for _ in 0..count {
         numbers.push(at)?;
         at = next(at)?;
     }
-    Ok(numbers)
+    Ok(())
 }
 
-// Reads the condition of a clause, and gives its conjuncts. One that stands for no expression has
+// Reads the condition of a clause, and appends its conjuncts. One that stands for no expression has
 // none: a check refuses it. An EXISTS in it is no test.
 fn read_filter<'q>(
     alloc: Global,
@@ -189,37 +239,61 @@ fn read_filter<'q>(
     filter: &'q Option<Ast>,
     names: &mut FirstNames<'q>,
     exists: &mut List<SharedTest<'q>>,
-) -> Result<List<NamedExpr>, Memory>
+    conjuncts: &mut List<NamedExpr>,
+) -> Result<(), Memory>
     requires { IfSome filter.now (IsWholeTree text.now) }
     ensures names { OnOk result (names.new
         ≡ with_expressions names.old (scoped_in (scope_of pattern.now) filter.now)) }
     ensures exists { OnOk result (exists.new ≡ exists.old
         ++ flat_map seen_elsewhere (scoped_in (scope_of pattern.now) filter.now)) }
-    ensures conjuncts { IfOk result (λ es.
-        es ≡ known_conjuncts text.now (scoped_in (scope_of pattern.now) filter.now)) }
+    ensures conjuncts { OnOk result (conjuncts.new ≡ conjuncts.old
+        ++ known_conjuncts text.now (scoped_in (scope_of pattern.now) filter.now)) }
 {
-    let Some(tree) = filter else {
-        return Ok(List::new(alloc));
-    };
-    let scope = pattern.scope(&[])?;
-    names.read(&scope, tree);
-    push_all_of(alloc, &scope, exists, tree)?;
-    known_values(alloc, text, &scope, tree)
+    match filter {
+        Some(tree) => {
+            let scope = pattern.scope(&[])?;
+            read_tree(alloc, text, &scope, tree, names, exists, conjuncts)
+        }
+        None => Ok(()),
+    }
 }
 
-fn known_values(
+fn read_tree<'q>(
+    alloc: Global,
+    text: &[u8],
+    scope: &Scope<'_>,
+    tree: &'q Ast,
+    names: &mut FirstNames<'q>,
+    exists: &mut List<SharedTest<'q>>,
+    conjuncts: &mut List<NamedExpr>,
+) -> Result<(), Memory>
+    requires { IsWholeTree text.now tree.now }
+    ensures names { OnOk result (names.new
+        ≡ with_expression names.old (record { scope = scope.now; tree = tree.now })) }
+    ensures exists { OnOk result (exists.new ≡ exists.old
+        ++ seen_elsewhere (record { scope = scope.now; tree = tree.now })) }
+    ensures conjuncts { OnOk result (conjuncts.new ≡ conjuncts.old
+        ++ known_conjuncts text.now (record { scope = scope.now; tree = tree.now } ∷ [])) }
+{
+    names.read(scope, tree);
+    push_all_of(alloc, scope, exists, tree)?;
+    push_values(alloc, text, scope, tree, conjuncts)
+}
+
+fn push_values(
     alloc: Global,
     text: &[u8],
     scope: &Scope<'_>,
     tree: &Ast,
-) -> Result<List<NamedExpr>, Memory>
+    conjuncts: &mut List<NamedExpr>,
+) -> Result<(), Memory>
     requires { IsWholeTree text.now tree.now }
-    ensures { IfOk result (λ es.
-        es ≡ known_conjuncts text.now (record { scope = scope.now; tree = tree.now } ∷ [])) }
+    ensures { OnOk result (conjuncts.new ≡ conjuncts.old
+        ++ known_conjuncts text.now (record { scope = scope.now; tree = tree.now } ∷ [])) }
 {
     match conjuncts_of(alloc, text, scope, tree)? {
-        Some(found) => Ok(found.values),
-        None => Ok(List::new(alloc)),
+        Some(found) => push_all(conjuncts, found.values),
+        None => Ok(()),
     }
 }
 
@@ -250,59 +324,58 @@ pub fn clause_choices(
     Ok(all)
 }
 
-/// The parts of a bound query that clauses give, with the alternatives of each. These copy their
-/// tests out of one store.
-pub fn optional_parts(
+/// Appends the parts of a bound query that clauses give, with the alternatives of each. These copy
+/// their tests out of one store. The lists of the clauses are taken from them.
+pub fn push_parts(
     alloc: Global,
     catalog: &Catalog,
-    clauses: List<ClauseParts<'_>>,
+    clauses: &mut List<ClauseParts<'_>>,
     choices: &[List<Choice>],
-) -> Result<List<OptionalPart>, Memory>
-    requires { choices.now ≡ map (pattern_alternatives catalog.now) (own_patterns clauses) }
-    ensures { IfOk result (λ parts. parts ≡ map (steps.optional_part catalog.now) clauses.entry) }
+    all: &mut List<OptionalPart>,
+) -> Result<(), Memory>
+    requires { choices.now ≡ map (pattern_alternatives catalog.now) (own_patterns clauses.old) }
+    ensures { OnOk result (all.new
+        ≡ all.old ++ map (steps.optional_part catalog.now) clauses.old) }
 {
     let mut copying = Copying::of(MOST_TESTS);
     let mut at = 0;
-    let mut parts = List::new(alloc);
-    for clause in clauses.into_vec() {
+    let mut taken = mem::replace(clauses, List::new(alloc)).into_vec();
+    for clause in taken.iter_mut() {
         let own = choices[at].as_slice();
-        let part = optional_part(alloc, &mut copying, catalog, clause, own)?;
-        parts.push(part)?;
+        push_part(alloc, &mut copying, catalog, clause, own, all)?;
         at += 1;
     }
-    Ok(parts)
+    Ok(())
 }
 
-fn optional_part(
+// Appends the part that a clause gives, whose lists are taken from it.
+fn push_part(
     alloc: Global,
     copying: &mut Copying,
     catalog: &Catalog,
-    clause: ClauseParts<'_>,
+    clause: &mut ClauseParts<'_>,
     choices: &[Choice],
-) -> Result<OptionalPart, Memory>
-    requires { choices.now ≡ pattern_alternatives catalog.now clause.pattern }
-    ensures { IfOk result (λ part. part ≡ steps.optional_part catalog.now clause.entry) }
+    all: &mut List<OptionalPart>,
+) -> Result<(), Memory>
+    requires { choices.now ≡ pattern_alternatives catalog.now clause.old.pattern }
+    ensures { OnOk result (all.new
+        ≡ all.old ++ steps.optional_part catalog.now clause.old ∷ []) }
 {
-    let tests = clause.tests.as_slice();
-    let alternatives = typed_out_of(
+    let mut alternatives = List::new(alloc);
+    push_typed(
         alloc,
         copying,
         catalog,
         &clause.pattern,
-        tests,
+        clause.tests.as_slice(),
         &[],
         choices,
+        &mut alternatives,
     )?;
-    let ClauseParts {
-        nodes,
-        rels,
-        conjuncts,
-        ..
-    } = clause;
-    Ok(OptionalPart {
-        nodes,
-        rels,
-        conjuncts,
+    all.push(OptionalPart {
+        nodes: mem::replace(&mut clause.nodes, List::new(alloc)),
+        rels: mem::replace(&mut clause.rels, List::new(alloc)),
+        conjuncts: mem::replace(&mut clause.conjuncts, List::new(alloc)),
         alternatives,
     })
 }

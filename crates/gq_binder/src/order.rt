@@ -1,19 +1,20 @@
 //! What ORDER BY may not ask.
 ghost use Rattle.std.specs.Prelude.{◌≡◌, All, IfOk};
-ghost use Rattle.std.specs.Option.{option_copied};
+ghost use Rattle.std.specs.Option.{option_copied, option_map};
 ghost use Rattle.gq_bound.specs.steps.Checks.{Checks};
 ghost use Rattle.gq_bound.specs.steps.Parts.{ambiguous_in, out_of_scope_in};
 ghost use Rattle.gq_bound.specs.Refusals as refusals;
 ghost use Rattle.gq_bound.specs.Refusals.{first_in, out_of_scope_from, sorts_in};
+ghost use Rattle.gq_bound.specs.declared.refusal.BindRefusal.TheVariants as refusal;
 ghost use Rattle.gq_trees.specs.Checks.{check_of};
 ghost use Rattle.gq_trees.specs.MadeOf.{column_exprs};
-ghost use Rattle.gq_trees.specs.Renames.{renamed_name};
+ghost use Rattle.gq_trees.specs.Renames.{ambiguous_name, renamed_name};
 ghost use Rattle.gq_trees.specs.Resolving.{as_lists, resolved};
 ghost use Rattle.gq_ast.specs.Spans.{IsWholeTree};
 
-use crate::columns::columns_of;
+use crate::columns::push_columns;
 use gq_ast::{Ast, Query, Sort};
-use gq_base::{Memory, Text};
+use gq_base::{List, Memory, Text};
 use gq_bound::BindRefusal;
 use gq_scopes::{Column, Copying, Pattern, Scope, copy_text, next};
 use gq_trees::{CallForm, Check, ColumnExprs, Renamed, first_refused, resolve_part};
@@ -33,7 +34,8 @@ pub fn order_out_of_scope(
     if !query.distinct {
         return Ok(());
     }
-    let columns = columns_of(alloc, CallForm::Lists, text, pattern, query)?;
+    let mut columns = List::new(alloc);
+    push_columns(alloc, CallForm::Lists, text, pattern, query, &mut columns)?;
     let scope = pattern.scope(columns.as_slice())?;
     first_out_of_scope(alloc, columns.as_slice(), &scope, query.order.as_slice())
 }
@@ -47,10 +49,22 @@ fn first_out_of_scope(
     ensures { Checks (out_of_scope_from 1 (column_exprs columns.now) scope.now order.now) result }
 {
     let exprs = ColumnExprs::of(alloc, columns)?;
+    first_not_made(alloc, &exprs, scope, order)
+}
+
+// The first item of ORDER BY that is not made of these columns.
+fn first_not_made(
+    alloc: Global,
+    columns: &ColumnExprs<'_>,
+    scope: &Scope<'_>,
+    order: &[Sort],
+) -> Result<(), BindRefusal>
+    ensures { Checks (out_of_scope_from 1 columns.now scope.now order.now) result }
+{
     let mut copying = Copying::new();
     let mut item = 1;
     for sort in order {
-        if !is_made(alloc, &mut copying, &exprs, scope, &sort.tree)? {
+        if !is_made(alloc, &mut copying, columns, scope, &sort.tree)? {
             return Err(BindRefusal::OrderOutOfScope { item });
         }
         item = next(item)?;
@@ -84,14 +98,33 @@ pub fn ambiguous_order_name(
     ensures { Checks (ambiguous_in query.now pattern.now) result }
 {
     let scope = pattern.scope(&[])?;
-    let renamed = Renamed::of(alloc, &scope, query.items.as_slice())?;
-    match first_renamed(&renamed, &scope, query.order.as_slice()) {
-        Some(name) => {
-            let name = copy_text(alloc, name)?;
-            Err(BindRefusal::AmbiguousOrderName { name })
-        }
-        None => Ok(()),
-    }
+    ambiguous_in(alloc, query, &scope)
+}
+
+fn ambiguous_in(alloc: Global, query: &Query, scope: &Scope<'_>) -> Result<(), BindRefusal>
+    ensures { let ambiguous = ambiguous_name scope.now query.now.items in
+        Checks (option_map refusal.AmbiguousOrderName
+        (first_in (λ _. ambiguous) (sorts_in scope.now query.now.order))) result }
+{
+    let renamed = Renamed::of(alloc, scope, query.items.as_slice())?;
+    not_renamed(alloc, &renamed, scope, query.order.as_slice())
+}
+
+// AS gives no name of these sort items to another column.
+fn not_renamed(
+    alloc: Global,
+    renamed: &Renamed<'_>,
+    scope: &Scope<'_>,
+    order: &[Sort],
+) -> Result<(), BindRefusal>
+    ensures { Checks (option_map refusal.AmbiguousOrderName
+        (first_in (λ _. renamed_name renamed.now) (sorts_in scope.now order.now))) result }
+{
+    let Some(name) = first_renamed(renamed, scope, order) else {
+        return Ok(());
+    };
+    let name = copy_text(alloc, name)?;
+    Err(BindRefusal::AmbiguousOrderName { name })
 }
 
 // The first name that AS gives to another column.

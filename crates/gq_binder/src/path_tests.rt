@@ -1,7 +1,7 @@
 //! The EXISTS of a query, and the parts of its bound form that those give which are tests.
 ghost use Rattle.std.specs.Prelude.{◌≡◌, ◌++◌, ◌∷◌, [], All, filter_map, flat_map, map, IfOk};
 ghost use Rattle.std.specs.Prelude.{IfSome, OnOk, ◌+◌, length};
-ghost use Rattle.gq_alternatives.specs.Alternatives.{pattern_alternatives};
+ghost use Rattle.gq_alternatives.specs.Alternatives.{pattern_alternatives, typed_of};
 ghost use Rattle.gq_bound.specs.Refusals.{alternatives_in, over_limit, paths_of};
 ghost use Rattle.gq_bound.specs.declared.refusal.BindRefusal.TheVariants as refusal;
 ghost use Rattle.gq_bound.specs.steps.Checks.{Checks};
@@ -9,11 +9,12 @@ ghost use Rattle.gq_bound.specs.steps.Parts as steps;
 ghost use Rattle.gq_bound.specs.steps.Parts.{shared_in};
 ghost use Rattle.gq_bound.specs.Refusals.{items_in, sorts_in};
 ghost use Rattle.gq_bound.specs.Tested.{seen_elsewhere, stray_test};
+ghost use Rattle.gq_cuts.specs.Entries.{entry_test};
 ghost use Rattle.gq_scopes.specs.PathPatterns.{path_pattern};
 ghost use Rattle.gq_ast.specs.steps.Spans.{IsWholeEntry, IsWholePath};
 ghost use Rattle.gq_trees.specs.Places.{strays};
 
-use crate::bound::{MOST_TESTS, typed_out_of};
+use crate::bound::{MOST_TESTS, push_typed};
 use gq_alternatives::Choice;
 use gq_ast::{Ast, Item, Sort};
 use gq_base::{Catalog, List, Literal, Memory, Text};
@@ -21,7 +22,7 @@ use gq_bound::{BindRefusal, SharedTest};
 use gq_choices::choices_of;
 use gq_cuts::entry_tests;
 use gq_expr::Expr;
-use gq_plan::{ExistsPart, NamedExpr};
+use gq_plan::{ExistsPart, NamedExpr, Typed};
 use gq_scopes::{Copying, Pattern, Scope, copy_text, shared_variables};
 use gq_trees::{NamedTest, PathTest, push_paths, push_strays};
 use std::alloc::Global;
@@ -38,8 +39,7 @@ pub fn push_tests<'q>(
     for named in more.into_vec() {
         let NamedTest { name, test } = named;
         let nodes = shared_variables(alloc, scope, test.path)?;
-        let name = Some(name);
-        all.push(SharedTest { name, test, nodes })?;
+        all.push(SharedTest::of(alloc, Some(name), test, nodes)?)?;
     }
     Ok(())
 }
@@ -55,8 +55,7 @@ fn push_untested<'q>(
 {
     for test in more.into_vec() {
         let nodes = shared_variables(alloc, scope, test.path)?;
-        let name = None;
-        all.push(SharedTest { name, test, nodes })?;
+        all.push(SharedTest::of(alloc, None, test, nodes)?)?;
     }
     Ok(())
 }
@@ -178,8 +177,7 @@ impl PathParts {
         ensures parts { OnOk result (self.new.parts ≡ self.old.parts
             ++ filter_map (steps.exists_part text.now catalog.now) (test.now ∷ [])) }
     {
-        let pattern = test.pattern(alloc)?;
-        self.push_path(alloc, text, catalog, test, &pattern)
+        self.push_path(alloc, text, catalog, test, test.pattern())
     }
 
     // The same, where this is the pattern of its path.
@@ -263,18 +261,48 @@ fn named_part(
     ensures { IfOk result (λ part.
         part ≡ steps.named_part text.now catalog.now test.now name.now) }
 {
-    let entries = entry_tests(alloc, text, pattern.entries())?;
-    let entries = entries.as_slice();
-    let alternatives = typed_out_of(alloc, copying, catalog, pattern, entries, &[], choices)?;
+    let nodes = copy_numbers(alloc, test.nodes.as_slice())?;
+    let alternatives = path_alternatives(alloc, text, catalog, pattern, choices, copying)?;
+    let name = copy_text(alloc, name)?;
     Ok(ExistsPart {
         text: NamedExpr {
-            name: copy_text(alloc, name)?,
+            name,
             expr: Expr::Literal(Literal::Flag(true)),
         },
         wanted: test.test.wanted,
-        nodes: copy_numbers(alloc, test.nodes.as_slice())?,
+        nodes,
         alternatives,
     })
+}
+
+// The alternatives of a path, with the tests of its maps.
+fn path_alternatives(
+    alloc: Global,
+    text: &[u8],
+    catalog: &Catalog,
+    pattern: &Pattern<'_>,
+    choices: &[Choice],
+    copying: &mut Copying,
+) -> Result<List<Typed>, Memory>
+    requires { All (λ e. IsWholeEntry text.now e.entry) pattern.now.entries }
+    ensures { let entries = map (entry_test text.now) pattern.now.entries in
+        IfOk result (λ ys. ys
+        ≡ map (typed_of catalog.now pattern.now entries []) choices.now) }
+{
+    let entries = entry_tests(alloc, text, pattern.entries())?;
+    let entries = entries.as_slice();
+    let mut all = List::new(alloc);
+    push_typed(
+        alloc,
+        copying,
+        catalog,
+        pattern,
+        entries,
+        &[],
+        choices,
+        &mut all,
+    )?;
+    Ok(all)
 }
 
 fn copy_numbers(alloc: Global, numbers: &[u32]) -> Result<List<u32>, Memory>

@@ -6,182 +6,148 @@ ghost use Rattle.gq_bound.specs.Columns as columns;
 ghost use Rattle.gq_bound.specs.Columns.{column_expr, sort_expr, trail_name};
 ghost use Rattle.gq_bound.specs.steps.Parts as steps;
 ghost use Rattle.gq_bound.specs.steps.Parts.{alternatives_of_core, cored_in, cored_names};
-ghost use Rattle.gq_bound.specs.steps.Parts.{exists_part, renumbered_all, renumbered_keys};
+ghost use Rattle.gq_bound.specs.steps.Parts.{exists_part, no_lists, renumbered_all};
+ghost use Rattle.gq_bound.specs.steps.Parts.{renumbered_keys};
 ghost use Rattle.gq_bound.specs.steps.Parts.{IsWholeCore};
-ghost use Rattle.gq_cuts.specs.Renumbering.{plain_from};
+ghost use Rattle.gq_cuts.specs.Entries.{entry_test};
 ghost use Rattle.gq_law_cuts.specs.Cuts as cuts;
+ghost use Rattle.gq_law_reaches.specs.Core.{trail_parts};
 ghost use Rattle.gq_scopes.specs.Scopes.{scope_of};
 
-use crate::bound::{MOST_TESTS, copy_texts, known_keys};
+use crate::bound::{MOST_TESTS, push_keys, push_texts};
 use crate::checks::Alternatives;
-use crate::columns::known_columns;
 use gq_alternatives::Choice;
 use gq_ast::Query;
 use gq_base::{Catalog, List, Memory, Text};
-use gq_bound::{QueryParts, TakenLists};
+use gq_bound::QueryParts;
 use gq_cuts::{Core, Orders, core_typed, entry_tests, plain_rels, renumber, trail_parts};
-use gq_plan::{Bound, ExistsPart, NamedExpr, SortExpr, Typed};
+use gq_plan::{Bound, ExistsPart, NamedExpr, SortExpr, TrailPart, Typed};
 use gq_scopes::{Column, Copying, Pattern, RelPattern, copy_text, next};
 use std::alloc::Global;
+use std::mem;
 
-/// The bound form that the parts of a query with trails and its core give.
-pub fn cored_bound(
+/// Puts what the parts of a query with trails and its core give into its bound form.
+pub fn put_cored(
     alloc: Global,
     text: &[u8],
     catalog: &Catalog,
     query: &Query,
-    parts: QueryParts<'_>,
     core: &Core<'_>,
-    all: Alternatives,
-) -> Result<Bound, Memory>
-    requires whole { IsWholeCore text.now core.now }
-    requires patterns { all.patterns ≡ filter_map (exists_part text.now catalog.now) parts.exists }
-    ensures { IfOk result (λ b.
-        b ≡ cored_in text.now catalog.now query.now parts.entry core.now all.choices) }
-{
-    let Numbered { mut bound, rels } = without_lists(alloc, text, query, &parts, core)?;
-    let orders = Orders {
-        nodes: core.order.as_slice(),
-        rels: rels.as_slice(),
-    };
-    let lists = parts.into_lists();
-    put_lists(alloc, text, catalog, orders, core, lists, all, &mut bound)?;
-    Ok(bound)
-}
-
-// A bound form by the numbers of a core, and the relationships that are no trails, in their order.
-#[derive(Drop)]
-struct Numbered {
-    bound: Bound,
-    rels: List<u32>,
-}
-
-// The bound form but for its columns, conjuncts, tests of paths and alternatives.
-fn without_lists(
-    alloc: Global,
-    text: &[u8],
-    query: &Query,
     parts: &QueryParts<'_>,
-    core: &Core<'_>,
-) -> Result<Numbered, Memory>
+    all: &mut Alternatives,
+    bound: &mut Bound,
+) -> Result<(), Memory>
     requires whole { IsWholeCore text.now core.now }
-    ensures bound { let nodes = core.now.order in
-        let rels = plain_from 0 parts.now.matched.rels in
-        IfOk result (λ n.
-        n.bound ≡ cored_names text.now nodes rels query.now parts.now core.now) }
-    ensures rels { IfOk result (λ n. n.rels ≡ plain_from 0 parts.now.matched.rels) }
+    requires patterns { all.old.patterns
+        ≡ filter_map (exists_part text.now catalog.now) parts.now.exists }
+    requires fresh { bound.old ≡ no_lists query.now }
+    ensures { OnOk result (bound.new
+        ≡ cored_in text.now catalog.now query.now parts.now core.now all.old.choices) }
 {
     let rels = plain_rels(alloc, parts.matched.rels())?;
     let orders = Orders {
         nodes: core.order.as_slice(),
         rels: rels.as_slice(),
     };
-    let bound = named_bound(alloc, text, query, orders, parts, core)?;
-    Ok(Numbered { bound, rels })
+    put_names(alloc, text, query, orders, parts, core, bound)?;
+    put_lists(alloc, text, catalog, orders, core, parts, all, bound)
 }
 
-// The same, by these orders.
-fn named_bound(
+// Puts names, trails and keys into a bound form.
+fn put_names(
     alloc: Global,
     text: &[u8],
     query: &Query,
     orders: Orders<'_>,
     parts: &QueryParts<'_>,
     core: &Core<'_>,
-) -> Result<Bound, Memory>
+    bound: &mut Bound,
+) -> Result<(), Memory>
     requires whole { IsWholeCore text.now core.now }
+    requires fresh { bound.old ≡ no_lists query.now }
     ensures { let nodes = orders.entry.nodes.now in
         let rels = orders.entry.rels.now in
-        IfOk result (λ b. b ≡ cored_names text.now nodes rels query.now parts.now core.now) }
+        OnOk result (bound.new
+        ≡ cored_names text.now nodes rels query.now parts.now core.now) }
 {
-    Ok(Bound {
-        node_names: copy_texts(alloc, core.whole.pattern.node_names())?,
-        rel_names: copy_texts(alloc, core.whole.pattern.rel_names())?,
-        columns: List::new(alloc),
-        conjuncts: List::new(alloc),
-        patterns: List::new(alloc),
-        optionals: List::new(alloc),
-        trails: trail_parts(alloc, text, core)?,
-        trail_names: trail_names(alloc, &parts.matched)?,
-        keys: keys_of(alloc, query, orders, parts)?,
-        distinct: query.distinct,
-        skip: query.skip.unwrap_or(0),
-        limit: query.limit,
-        alternatives: List::new(alloc),
-    })
+    let whole = &core.whole.pattern;
+    push_texts(alloc, whole.node_names(), &mut bound.node_names)?;
+    push_texts(alloc, whole.rel_names(), &mut bound.rel_names)?;
+    put_trails(alloc, text, core, &mut bound.trails)?;
+    push_trail_names(alloc, &parts.matched, &mut bound.trail_names)?;
+    push_renumbered_keys(alloc, orders, query, parts, &mut bound.keys)
 }
 
-// Puts columns, conjuncts, tests of paths and alternatives into a bound form in the place of those that
-// it has. The form is lent, so that nothing of it is owned where memory may end.
+fn put_trails(
+    alloc: Global,
+    text: &[u8],
+    core: &Core<'_>,
+    trails: &mut List<TrailPart>,
+) -> Result<(), Memory>
+    requires { IsWholeCore text.now core.now }
+    ensures { OnOk result (trails.new ≡ trail_parts (entry_test text.now) core.now.whole) }
+{
+    *trails = trail_parts(alloc, text, core)?;
+    Ok(())
+}
+
+// Appends columns, conjuncts, tests of paths and alternatives to those of a bound form.
 fn put_lists(
     alloc: Global,
     text: &[u8],
     catalog: &Catalog,
     orders: Orders<'_>,
     core: &Core<'_>,
-    lists: TakenLists<'_>,
-    all: Alternatives,
+    parts: &QueryParts<'_>,
+    all: &mut Alternatives,
     bound: &mut Bound,
 ) -> Result<(), Memory>
     requires whole { IsWholeCore text.now core.now }
+    requires fresh { bound.old.conjuncts ≡ [] }
     ensures { let nodes = orders.entry.nodes.now in
         let numbered = renumbered_all nodes orders.entry.rels.now in
-        let conjuncts = numbered lists.entry.conjuncts in
+        let conjuncts = numbered parts.now.conjuncts in
         let cored = alternatives_of_core text.now catalog.now core.now conjuncts in
         OnOk result (bound.new ≡ record bound.old {
-          columns = numbered (filter_map column_expr lists.entry.columns);
+          columns = bound.old.columns ++ numbered (filter_map column_expr parts.now.columns);
           conjuncts = conjuncts;
-          patterns = map (steps.placed_part nodes) all.patterns;
-          alternatives = cored all.choices;
+          patterns = bound.old.patterns ++ map (steps.placed_part nodes) all.old.patterns;
+          alternatives = cored all.old.choices;
         }) }
 {
-    let TakenLists {
-        columns,
-        conjuncts,
-        ..
-    } = lists;
-    bound.conjuncts = renumbered(alloc, orders, conjuncts)?;
-    bound.columns = renumbered(alloc, orders, known_columns(alloc, columns)?)?;
+    push_renumbered(
+        alloc,
+        orders,
+        parts.conjuncts.as_slice(),
+        &mut bound.conjuncts,
+    )?;
+    push_renumbered_columns(alloc, orders, parts.columns.as_slice(), &mut bound.columns)?;
+    push_placed(alloc, orders.nodes, &mut all.patterns, &mut bound.patterns)?;
     let conjuncts = bound.conjuncts.as_slice();
-    bound.alternatives = typed_core(
+    let choices = all.choices.as_slice();
+    put_alternatives(
         alloc,
         text,
         catalog,
         core,
         conjuncts,
-        all.choices.as_slice(),
-    )?;
-    bound.patterns = placed_parts(alloc, orders.nodes, all.patterns)?;
-    Ok(())
+        choices,
+        &mut bound.alternatives,
+    )
 }
 
-// The keys of ORDER BY, numbered anew.
-fn keys_of(
-    alloc: Global,
-    query: &Query,
-    orders: Orders<'_>,
-    parts: &QueryParts<'_>,
-) -> Result<List<SortExpr>, Memory>
-    ensures { let scope = record (scope_of parts.now.pattern) { columns = parts.now.columns } in
-        IfOk result (λ keys. keys ≡ renumbered_keys orders.entry.nodes.now orders.entry.rels.now
-        (filter_map (sort_expr scope) query.now.order)) }
-{
-    let scope = parts.pattern.scope(parts.columns.as_slice())?;
-    let keys = known_keys(alloc, &scope, query.order.as_slice())?;
-    renumbered_keys(alloc, orders, keys)
-}
-
-// The alternatives of the core, with the tests of its maps.
-fn typed_core(
+// Puts the alternatives of the core, with the tests of its maps, in the place of others.
+fn put_alternatives(
     alloc: Global,
     text: &[u8],
     catalog: &Catalog,
     core: &Core<'_>,
     conjuncts: &[NamedExpr],
     choices: &[Choice],
-) -> Result<List<Typed>, Memory>
+    all: &mut List<Typed>,
+) -> Result<(), Memory>
     requires { IsWholeCore text.now core.now }
-    ensures { IfOk result (λ ys. ys
+    ensures { OnOk result (all.new
         ≡ alternatives_of_core text.now catalog.now core.now conjuncts.now choices.now) }
 {
     let mut copying = Copying::of(MOST_TESTS);
@@ -189,7 +155,7 @@ fn typed_core(
     let entries = entry_tests(alloc, text, pattern.entries())?;
     let entries = entries.as_slice();
     let nodes = core.nodes;
-    core_typed(
+    *all = core_typed(
         alloc,
         &mut copying,
         catalog,
@@ -198,81 +164,129 @@ fn typed_core(
         entries,
         conjuncts,
         choices,
-    )
+    )?;
+    Ok(())
 }
 
-// Expressions, numbered anew.
-fn renumbered(
+// Appends expressions, numbered anew.
+fn push_renumbered(
     alloc: Global,
     orders: Orders<'_>,
-    exprs: List<NamedExpr>,
-) -> Result<List<NamedExpr>, Memory>
-    ensures { IfOk result (λ es.
-        es ≡ renumbered_all orders.entry.nodes.now orders.entry.rels.now exprs) }
+    exprs: &[NamedExpr],
+    all: &mut List<NamedExpr>,
+) -> Result<(), Memory>
+    ensures { let numbered = renumbered_all orders.entry.nodes.now orders.entry.rels.now in
+        OnOk result (all.new ≡ all.old ++ numbered exprs.now) }
 {
     let mut copying = Copying::of(MOST_TESTS);
-    let mut moved = List::new(alloc);
-    for named in exprs.into_vec() {
-        let NamedExpr { name, expr } = named;
-        let expr = renumber(alloc, &mut copying, orders, &expr)?;
-        moved.push(NamedExpr { name, expr })?;
+    for named in exprs {
+        let name = copy_text(alloc, &named.name)?;
+        let expr = renumber(alloc, &mut copying, orders, &named.expr)?;
+        all.push(NamedExpr { name, expr })?;
     }
-    Ok(moved)
+    Ok(())
 }
 
-fn renumbered_keys(
+// Appends columns with their expressions, of those that have one, numbered anew.
+fn push_renumbered_columns(
     alloc: Global,
     orders: Orders<'_>,
-    keys: List<SortExpr>,
-) -> Result<List<SortExpr>, Memory>
-    ensures { IfOk result (λ es.
-        es ≡ renumbered_keys orders.entry.nodes.now orders.entry.rels.now keys) }
+    columns: &[Column],
+    all: &mut List<NamedExpr>,
+) -> Result<(), Memory>
+    ensures { let numbered = renumbered_all orders.entry.nodes.now orders.entry.rels.now in
+        OnOk result (all.new ≡ all.old ++ numbered (filter_map column_expr columns.now)) }
 {
     let mut copying = Copying::of(MOST_TESTS);
-    let mut moved = List::new(alloc);
-    for key in keys.into_vec() {
-        let SortExpr { expr, down } = key;
-        let expr = renumber(alloc, &mut copying, orders, &expr)?;
-        moved.push(SortExpr { expr, down })?;
+    for column in columns {
+        let Some(expr) = &column.expr else {
+            continue;
+        };
+        let name = copy_text(alloc, &column.name)?;
+        let expr = renumber(alloc, &mut copying, orders, expr)?;
+        all.push(NamedExpr { name, expr })?;
     }
-    Ok(moved)
+    Ok(())
 }
 
-// The tests of paths, with the variables of the query numbered anew.
-fn placed_parts(
+// Appends the keys of ORDER BY, numbered anew.
+fn push_renumbered_keys(
     alloc: Global,
-    order: &[u32],
-    parts: List<ExistsPart>,
-) -> Result<List<ExistsPart>, Memory>
-    ensures { IfOk result (λ ps. ps ≡ map (steps.placed_part order.now) parts) }
+    orders: Orders<'_>,
+    query: &Query,
+    parts: &QueryParts<'_>,
+    all: &mut List<SortExpr>,
+) -> Result<(), Memory>
+    ensures { let scope = record (scope_of parts.now.pattern) { columns = parts.now.columns } in
+        let numbered = renumbered_keys orders.entry.nodes.now orders.entry.rels.now in
+        OnOk result (all.new
+        ≡ all.old ++ numbered (filter_map (sort_expr scope) query.now.order)) }
 {
-    let mut placed = List::new(alloc);
-    for part in parts.into_vec() {
-        let ExistsPart {
-            text,
-            wanted,
-            nodes,
-            alternatives,
-        } = part;
-        let nodes = all_placed(alloc, order, nodes.as_slice())?;
-        placed.push(ExistsPart {
-            text,
-            wanted,
-            nodes,
-            alternatives,
+    let mut keys = List::new(alloc);
+    push_keys(alloc, query, parts, &mut keys)?;
+    push_numbered(alloc, orders, keys.as_slice(), all)
+}
+
+fn push_numbered(
+    alloc: Global,
+    orders: Orders<'_>,
+    keys: &[SortExpr],
+    all: &mut List<SortExpr>,
+) -> Result<(), Memory>
+    ensures { let numbered = renumbered_keys orders.entry.nodes.now orders.entry.rels.now in
+        OnOk result (all.new ≡ all.old ++ numbered keys.now) }
+{
+    let mut copying = Copying::of(MOST_TESTS);
+    for key in keys {
+        let expr = renumber(alloc, &mut copying, orders, &key.expr)?;
+        all.push(SortExpr {
+            expr,
+            down: key.down,
         })?;
     }
-    Ok(placed)
+    Ok(())
 }
 
-fn all_placed(alloc: Global, order: &[u32], nodes: &[u32]) -> Result<List<u32>, Memory>
-    ensures { IfOk result (λ vs. vs ≡ map (cuts.placed_in order.now) nodes.now) }
+// Appends tests of paths, with the variables of the query numbered anew. The tests are taken.
+fn push_placed(
+    alloc: Global,
+    order: &[u32],
+    parts: &mut List<ExistsPart>,
+    all: &mut List<ExistsPart>,
+) -> Result<(), Memory>
+    ensures { OnOk result (all.new
+        ≡ all.old ++ map (steps.placed_part order.now) parts.old) }
+{
+    let taken = mem::replace(parts, List::new(alloc));
+    for part in taken.into_vec() {
+        push_part(alloc, order, part, all)?;
+    }
+    Ok(())
+}
+
+fn push_part(
+    alloc: Global,
+    order: &[u32],
+    part: ExistsPart,
+    all: &mut List<ExistsPart>,
+) -> Result<(), Memory>
+    ensures { OnOk result (all.new ≡ all.old ++ steps.placed_part order.now part ∷ []) }
+{
+    let mut part = part;
+    place(alloc, order, &mut part.nodes)?;
+    all.push(part)
+}
+
+// Numbers node variables anew.
+fn place(alloc: Global, order: &[u32], nodes: &mut List<u32>) -> Result<(), Memory>
+    ensures { OnOk result (nodes.new ≡ map (cuts.placed_in order.now) nodes.old) }
 {
     let mut placed = List::new(alloc);
-    for node in nodes {
+    for node in nodes.as_slice() {
         placed.push(placed_in(order, *node)?)?;
     }
-    Ok(placed)
+    *nodes = placed;
+    Ok(())
 }
 
 // Where a variable stands in an order.
@@ -289,17 +303,20 @@ fn placed_in(order: &[u32], variable: u32) -> Result<u32, Memory>
     Ok(at)
 }
 
-// What the trails of patterns are called.
-fn trail_names(alloc: Global, pattern: &Pattern<'_>) -> Result<List<Text>, Memory>
-    ensures { IfOk result (λ ts. ts ≡ columns.trail_names pattern.now) }
+// Appends what the trails of patterns are called.
+fn push_trail_names(
+    alloc: Global,
+    pattern: &Pattern<'_>,
+    names: &mut List<Text>,
+) -> Result<(), Memory>
+    ensures { OnOk result (names.new ≡ names.old ++ columns.trail_names pattern.now) }
 {
-    let mut names = List::new(alloc);
     let mut number = 0;
     for rel in pattern.rels() {
-        push_trail_name(alloc, &mut names, pattern.rel_names(), number, rel)?;
+        push_trail_name(alloc, names, pattern.rel_names(), number, rel)?;
         number = next(number)?;
     }
-    Ok(names)
+    Ok(())
 }
 
 fn push_trail_name(

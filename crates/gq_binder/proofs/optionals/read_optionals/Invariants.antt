@@ -12,5 +12,5 @@ invariant-loop-clause l = record {
   pattern : with_clauses l.number (drop l.clause-index l.clauses) l.pattern ≡ with_clauses l.first l.clauses l.fn.pattern;
   names : with_clauses_names l.number (drop l.clause-index l.clauses) l.pattern l.names ≡ with_clauses_names l.first l.clauses l.fn.pattern l.fn.names;
   exists : l.exists ++ flat_map seen_elsewhere (conditions_from l.number l.pattern (drop l.clause-index l.clauses)) ≡ l.fn.exists ++ flat_map seen_elsewhere (conditions_from l.first l.fn.pattern l.clauses);
-  parts : l.all ++ clauses_parts l.text l.number l.pattern (drop l.clause-index l.clauses) ≡ clauses_parts l.text l.first l.fn.pattern l.clauses;
+  parts : l.all ++ clauses_parts l.text l.number l.pattern (drop l.clause-index l.clauses) ≡ l.fn.all ++ clauses_parts l.text l.first l.fn.pattern l.clauses;
 }

@@ -1,16 +1,13 @@
-use Rattle.std.proofs.Common.{◌∙◌, ap, sym, Some, None}
-use Rattle.gq_bound.proofs.RefusalLemmas.{ambiguous_found}
+use Rattle.std.proofs.Common.{sym, subst}
+use Rattle.std.specs.Option.{option_map}
+use Rattle.gq_bound.specs.Refusals.{first_in, sorts_in}
 use Rattle.gq_bound.specs.declared.refusal.BindRefusal.TheVariants as refusal
+use Rattle.gq_bound.specs.steps.Checks.{Checks}
+use Rattle.gq_scopes.specs.Scopes.{Scope}
+use Rattle.gq_trees.specs.Renames.{ambiguous_name}
 use Rattle.gq_binder.proofs.order.ambiguous_order_name.Goals as goal
-
-pub returns-in-Some : goal.returns-in-Some
-returns-in-Some c =
-    λ _.
-    ambiguous_found c.args.query.now c.args.pattern.now c.in_ok-scope.scope c.as_slice.result.now c.as_slice-2.result.now c.in_ok-renamed.renamed (Some c.in-Some.name.now)
-    c.in_ok-scope.ensures c.as_slice.ensures c.as_slice-2.ensures c.in_ok-renamed.ensures c.in-Some.ensures
-    ∙ ap (λ n. Some (refusal.AmbiguousOrderName n)) (sym c.in_ok-name-in-Some.ensures)
 
 pub returns : goal.returns
 returns c =
-    ambiguous_found c.args.query.now c.args.pattern.now c.in_ok-scope.scope c.as_slice.result.now c.as_slice-2.result.now c.in_ok-renamed.renamed None
-    c.in_ok-scope.ensures c.as_slice.ensures c.as_slice-2.ensures c.in_ok-renamed.ensures c.in-None.ensures
+    subst (λ (s : Scope). Checks (option_map refusal.AmbiguousOrderName (first_in (λ _. ambiguous_name s c.args.query.now.items) (sorts_in s c.args.query.now.order))) c.ambiguous_in.result)
+    c.in_ok-scope.ensures c.ambiguous_in.ensures

@@ -1,6 +1,0 @@
-use Rattle.std.proofs.Common.{◌≡◌, map, take}
-use Rattle.gq_alternatives.specs.Alternatives.{typed_of}
-use Rattle.gq_binder.proofs.bound.typed_out_of.Given as goal
-
-abbrev pub invariant-loop-choice : goal.invariant-loop-choice
-invariant-loop-choice l = l.all ≡ map (typed_of l.catalog l.pattern l.entries l.conjuncts) (take l.choice-index l.choices)

@@ -1,6 +1,0 @@
-use Rattle.std.proofs.Common.{◌≡◌, ◌++◌, drop}
-use Rattle.gq_bound.specs.Optionals.{seats}
-use Rattle.gq_binder.proofs.optionals.seats_from.Given as goal
-
-abbrev pub invariant-loop-name : goal.invariant-loop-name
-invariant-loop-name l = l.all ++ seats l.scope.nodes l.free (drop l.name-index l.names) ≡ seats l.scope.nodes l.first l.names

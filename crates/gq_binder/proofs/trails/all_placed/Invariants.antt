@@ -1,6 +1,0 @@
-use Rattle.std.proofs.Common.{◌≡◌, map, take}
-use Rattle.gq_law_cuts.specs.Cuts.{placed_in}
-use Rattle.gq_binder.proofs.trails.all_placed.Given as goal
-
-abbrev pub invariant-loop-node : goal.invariant-loop-node
-invariant-loop-node l = l.placed ≡ map (placed_in l.order) (take l.node-index l.nodes)
