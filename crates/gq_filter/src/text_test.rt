@@ -16,6 +16,9 @@ use gq_plan::{Assignment, NamedExpr, Typed};
 use gq_store::Graph;
 use memchr::memmem::Finder;
 
+// A text of so many bytes or fewer is searched place by place: a finder takes longer to begin.
+const SHORT: usize = 48;
+
 /// A text property of a node variable, and what its text is to have.
 #[derive(Drop)]
 pub(crate) struct TextTest<'g> {
@@ -80,7 +83,32 @@ fn is_in(part: &Part<'_>, text: &str) -> bool
 fn has_part(text: &[u8], part: &Finder<'_>) -> bool
     ensures { result ≡ occurs text.now part.now }
 {
+    if text.len() > SHORT {
+        return is_found(text, part);
+    }
+    match part.needle() {
+        [] => is_found(text, part),
+        [first, others @ ..] => is_within(text, *first, others),
+    }
+}
+
+// The same, by the finder.
+fn is_found(text: &[u8], part: &Finder<'_>) -> bool
+    ensures { result ≡ occurs text.now part.now }
+{
     part.find(text).is_some()
+}
+
+// Whether a byte and those behind it stand in a text, one behind another.
+fn is_within(text: &[u8], first: u8, others: &[u8]) -> bool
+    ensures { result ≡ occurs text.now (first ∷ others.now) }
+{
+    match text {
+        [] => false,
+        [byte, rest @ ..] => {
+            (*byte == first && rest.starts_with(others)) || is_within(rest, first, others)
+        }
+    }
 }
 
 /// The test of a text that decides a condition, where it is one of a text property of a node.

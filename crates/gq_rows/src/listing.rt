@@ -1,5 +1,5 @@
 //! The lines of an answer, and the listing that has them.
-ghost use Rattle.std.specs.Prelude.{◌≡◌, ◌<◌, [], length, nat_eq, slice_index_or};
+ghost use Rattle.std.specs.Prelude.{◌≡◌, ◌<◌, ◌-◌, [], IsTrue, length, nat_eq, slice_index_or};
 ghost use Rattle.gq_base.specs.Values.{null, val};
 ghost use Rattle.gq_rows.specs.steps.Lines.{values_of};
 
@@ -84,6 +84,25 @@ impl<'g> Lines<'g> {
     {
         self.values.value((self.skip + row) * self.width + column)
     }
+
+    /// Whether the value of a line in a column, both counted from 0, is kept as that of the line
+    /// before is: then they are the same. Where it is not, they may be the same too.
+    #[inline(always)]
+    pub fn stays(&self, row: usize, column: usize) -> bool
+        requires behind { 0 < row }
+        requires row { row < length self.now }
+        requires column { column < length (slice_index_or self.now row []) }
+        ensures { IsTrue result → slice_index_or (slice_index_or self.now (row - 1) []) column null
+            ≡ slice_index_or (slice_index_or self.now row []) column null }
+    {
+        match &self.values {
+            Values::Made(_) => false,
+            Values::Kept(cells) => {
+                let place = (self.skip + row) * self.width + column;
+                cells.same(place - self.width, place)
+            }
+        }
+    }
 }
 
 /// What a table of rows gives in the end: its lines, how many columns they have, and how many
@@ -133,6 +152,20 @@ impl<'g> Listing<'g> {
         ensures { val result ≡ slice_index_or (slice_index_or self.now.lines row []) column null }
     {
         self.lines.value(row, column)
+    }
+
+    /// Whether the value of a line in a column, both counted from 0, is kept as that of the line
+    /// before is: then they are the same. Where it is not, they may be the same too.
+    #[inline(always)]
+    pub fn stays(&self, row: usize, column: usize) -> bool
+        requires behind { 0 < row }
+        requires row { row < length self.now.lines }
+        requires column { column < length (slice_index_or self.now.lines row []) }
+        ensures { let lines = self.now.lines in IsTrue result
+            → slice_index_or (slice_index_or lines (row - 1) []) column null
+            ≡ slice_index_or (slice_index_or lines row []) column null }
+    {
+        self.lines.stays(row, column)
     }
 
     /// How many chunks with at least one row were pushed to the table. The number stands still at
