@@ -17,10 +17,10 @@ use Rattle.gq_plan.specs.Rows.{assigned, nodes_of_tables, rels_of_tables}
 use Rattle.gq_plan.specs.declared.Bound.{Bound}
 use Rattle.gq_plan.specs.declared.typed.Typed.{Typed}
 use Rattle.gq_plan.specs.declared.typed.TypedRel.{TypedRel}
-use Rattle.gq_rows.specs.Chunks.{PushesAll}
-use Rattle.gq_rows.specs.Tables.{Table}
-use Rattle.gq_rows.specs.declared.refusal.More.{More}
-use Rattle.gq_rows.specs.declared.refusal.RowRefusal.{RowRefusal}
+use Rattle.gq_kept.specs.Chunks.{PushesAll}
+use Rattle.gq_kept.specs.Tables.{Table}
+use Rattle.gq_kept.specs.declared.refusal.More.{More}
+use Rattle.gq_kept.specs.declared.refusal.RowRefusal.{RowRefusal}
 use Rattle.gq_execute.specs.Replies.{outcomes_behind}
 use Rattle.gq_execute.specs.declared.prepared.Prepared.{Prepared}
 use Rattle.gq_execute.specs.steps.Prepared.{known_by, later_by}

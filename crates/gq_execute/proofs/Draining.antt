@@ -26,13 +26,13 @@ use Rattle.gq_plan.specs.declared.typed.Typed.{Typed}
 use Rattle.std.specs.List.{AllByRecursion, Contains}
 use Rattle.std.proofs.lemmas.List.Elements.{All-from_recursion, recursion_from_All}
 use Rattle.gq_alternatives.proofs.Shapes.{each_left, each_right}
-use Rattle.gq_rows.specs.Answers.{kept, looked_at, rows_in}
-use Rattle.gq_rows.specs.Chunks as chunks
-use Rattle.gq_rows.specs.Chunks.{IsChunkIn, Stands, admitted_outcomes, assignments_of}
-use Rattle.gq_rows.specs.Tables.{Table, is_full_table}
-use Rattle.gq_rows.specs.declared.refusal.More.{More}
-use Rattle.gq_rows.specs.declared.refusal.RowRefusal.{RowRefusal}
-use Rattle.gq_rows.specs.declared.refusal.RowRefusal.TheVariants as row_refusal
+use Rattle.gq_kept.specs.Answers.{kept, looked_at, rows_in}
+use Rattle.gq_kept.specs.Chunks as chunks
+use Rattle.gq_kept.specs.Chunks.{IsChunkIn, Stands, admitted_outcomes, assignments_of}
+use Rattle.gq_kept.specs.Tables.{Table, is_full_table}
+use Rattle.gq_kept.specs.declared.refusal.More.{More}
+use Rattle.gq_kept.specs.declared.refusal.RowRefusal.{RowRefusal}
+use Rattle.gq_kept.specs.declared.refusal.RowRefusal.TheVariants as row_refusal
 use Rattle.gq_execute.specs.Refusals.{of_rows}
 use Rattle.gq_execute.specs.Spending.{IsPlain}
 use Rattle.gq_execute.specs.steps.Taking.{Admission, Becomes, Counted, Cut, HasRun, MeetsFault, MeetsMany, Pushed, Takes, TakesAll, given_by, if_admitted, outcomes_by, owed_by}

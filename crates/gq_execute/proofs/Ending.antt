@@ -11,8 +11,8 @@ use Rattle.gq_bound.specs.Binding.{IsBound}
 use Rattle.gq_pipe.specs.declared.pipeline.Spent.{Spent}
 use Rattle.gq_plan.specs.declared.Bound.{Bound}
 use Rattle.gq_plan.specs.declared.ExistsPart.{ExistsPart}
-use Rattle.gq_rows.specs.Answers.{cut_of}
-use Rattle.gq_rows.specs.Tables.{Table, is_full, is_full_table}
+use Rattle.gq_kept.specs.Answers.{cut_of}
+use Rattle.gq_kept.specs.Tables.{Table, is_full, is_full_table}
 use Rattle.gq_ast.specs.declared.Query.{Query}
 use Rattle.gq_execute.specs.Answering.{RepliesToEach, question}
 use Rattle.gq_execute.specs.Replies.{Question, has_heavy_clause, has_heavy_test, has_turns, some_many_keys, tests_of}

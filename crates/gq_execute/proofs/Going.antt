@@ -12,10 +12,10 @@ use Rattle.gq_expr.specs.declared.Fault.{Fault}
 use Rattle.gq_plan.specs.Meaning.{meaning}
 use Rattle.gq_plan.specs.Outcomes.{Row}
 use Rattle.gq_plan.specs.declared.Typed.{Typed}
-use Rattle.gq_rows.specs.Answers.{Answers, cut_of}
+use Rattle.gq_kept.specs.Answers.{Answers, cut_of}
 use Rattle.gq_base.specs.Plain.{Graph}
 use Rattle.gq_plan.specs.declared.Bound.{Bound}
-use Rattle.gq_rows.specs.Tables.{StandsFor, StandsForSome, Table, is_full, is_full_table}
+use Rattle.gq_kept.specs.Tables.{StandsFor, StandsForSome, Table, is_full, is_full_table}
 use Rattle.gq_execute.specs.declared.settings.Order.{Order}
 use Rattle.gq_execute.specs.declared.settings.Settings.{Settings}
 use Rattle.gq_execute.specs.Answering.{Replies}
@@ -23,7 +23,7 @@ use Rattle.gq_execute.specs.steps.Answering.{AreParted, Came, MakeOutcomes, Drai
 use Rattle.gq_execute.specs.Replies.{Question, IsPermitted, Rows, TooManyRows, has_heavy_clause, has_heavy_test, has_large_part, has_turn}
 use Rattle.gq_execute.specs.Spending.{AreSpent, IsPlain, IsSpentOn, IsSpentOnClause, IsTurn, Turn, clauses_made, own_chunks, tests_made, with_turns}
 use Rattle.gq_optional.specs.Spending.{Listing, spent_on_each}
-use Rattle.gq_rows.specs.Chunks.{Stands}
+use Rattle.gq_kept.specs.Chunks.{Stands}
 use Rattle.gq_execute.specs.steps.Taking.{Becomes, MeetsMany, Takes, outcomes_by}
 use Rattle.gq_execute.specs.declared.refusal.AnswerRefusal.{AnswerRefusal}
 use Rattle.gq_execute.specs.declared.refusal.AnswerRefusal.TheVariants as refusal

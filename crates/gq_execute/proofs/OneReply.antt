@@ -8,8 +8,8 @@ use Rattle.gq_base.specs.Values.{Val}
 use Rattle.gq_expr.specs.declared.Fault.{Fault}
 use Rattle.gq_plan.specs.Outcomes.{Row}
 use Rattle.gq_law_plans.proofs.Reordered.{permuted_flat_map}
-use Rattle.gq_rows.proofs.Bags.{kept_bag}
-use Rattle.gq_rows.specs.Answers.{cut_of, first_of, row_in, rows_in}
+use Rattle.gq_kept.proofs.Bags.{kept_bag}
+use Rattle.gq_kept.specs.Answers.{cut_of, first_of, row_in, rows_in}
 use Rattle.gq_execute.specs.Replies.{Question, Rows, Faulted, TooManyRows, IsPermitted, has_heavy_clause, has_heavy_test, is_too_many, some_heavy}
 
 -- rows have no fault among them

@@ -13,7 +13,7 @@ use Rattle.gq_join.specs.declared.build.JoinRefusal.TheVariants as join
 use Rattle.gq_pipe.proofs.Making.{within_sides}
 use Rattle.gq_pipe.specs.Limits.{IsSidesRefusal, sides_within}
 use Rattle.gq_plan.specs.declared.Bound.{Bound}
-use Rattle.gq_rows.specs.Tables.{Table}
+use Rattle.gq_kept.specs.Tables.{Table}
 use Rattle.gq_execute.specs.Refusals.{of_join}
 use Rattle.gq_plan.specs.Flat.{is_flat}
 use Rattle.gq_plan.specs.Meaning.{mean, meaning, nothing}

@@ -13,15 +13,15 @@ use Rattle.gq_plan.specs.Marked.{ending}
 use Rattle.gq_plan.specs.Outcomes.{Row}
 use Rattle.gq_plan.specs.declared.Bound.{Bound}
 use Rattle.gq_plan.specs.declared.bound.OptionalPart.{OptionalPart}
-use Rattle.gq_rows.proofs.Chunking.{moved}
-use Rattle.gq_rows.proofs.Listings.{full_looked, kept_grows, looked_front, rows_append}
-use Rattle.gq_rows.specs.Answers.{cut_of, kept, looked_at, rows_in}
-use Rattle.gq_rows.specs.Chunks.{MeetsMany, PushesAll, Stands, TakesWhole}
-use Rattle.gq_rows.specs.Tables.{IsSameQuery, Pushes, Table, is_full_table}
-use Rattle.gq_rows.specs.declared.refusal.More.{More}
-use Rattle.gq_rows.specs.declared.refusal.More.TheVariants as more
-use Rattle.gq_rows.specs.declared.refusal.RowRefusal.{RowRefusal}
-use Rattle.gq_rows.specs.declared.refusal.RowRefusal.TheVariants as row_refusal
+use Rattle.gq_kept.proofs.Chunking.{moved}
+use Rattle.gq_kept.proofs.Listings.{full_looked, kept_grows, looked_front, rows_append}
+use Rattle.gq_kept.specs.Answers.{cut_of, kept, looked_at, rows_in}
+use Rattle.gq_kept.specs.Chunks.{MeetsMany, PushesAll, Stands, TakesWhole}
+use Rattle.gq_kept.specs.Tables.{IsSameQuery, Pushes, Table, is_full_table}
+use Rattle.gq_kept.specs.declared.refusal.More.{More}
+use Rattle.gq_kept.specs.declared.refusal.More.TheVariants as more
+use Rattle.gq_kept.specs.declared.refusal.RowRefusal.{RowRefusal}
+use Rattle.gq_kept.specs.declared.refusal.RowRefusal.TheVariants as row_refusal
 use Rattle.gq_wide.specs.Clauses.{after_clause, after_clauses}
 use Rattle.gq_wide.specs.Rows.{Wide, read}
 use Rattle.gq_execute.specs.Replies.{outcomes_behind}

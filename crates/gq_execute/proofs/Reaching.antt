@@ -10,10 +10,10 @@ use Rattle.gq_plan.specs.Meaning.{row}
 use Rattle.gq_plan.specs.Outcomes.{late_conjuncts, meanings_of}
 use Rattle.gq_plan.specs.declared.Bound.{Bound}
 use Rattle.gq_plan.specs.declared.Typed.{Typed}
-use Rattle.gq_rows.specs.Chunks.{PushesAll}
-use Rattle.gq_rows.specs.Tables.{Table}
-use Rattle.gq_rows.specs.declared.refusal.More.{More}
-use Rattle.gq_rows.specs.declared.refusal.RowRefusal.{RowRefusal}
+use Rattle.gq_kept.specs.Chunks.{PushesAll}
+use Rattle.gq_kept.specs.Tables.{Table}
+use Rattle.gq_kept.specs.declared.refusal.More.{More}
+use Rattle.gq_kept.specs.declared.refusal.RowRefusal.{RowRefusal}
 use Rattle.gq_trails.specs.Trekking.{IsRowOf}
 use Rattle.gq_wide.specs.Rows.{Wide, read}
 use Rattle.gq_execute.specs.steps.Taking.{Admission, Later, if_admitted, outcomes_on}

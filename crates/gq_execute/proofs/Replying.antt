@@ -13,13 +13,12 @@ use Rattle.gq_base.specs.Values.{Val}
 use Rattle.gq_expr.specs.declared.Fault.{Fault}
 use Rattle.gq_plan.specs.Outcomes.{Row}
 use Rattle.gq_plan.specs.declared.Typed.{Typed}
-use Rattle.gq_rows.specs.Answers.{Answers, rows_in, cut_of, first_of, looked_at, kept}
-use Rattle.gq_rows.specs.Tables.{Held, StandsFor, is_full}
+use Rattle.gq_kept.specs.Answers.{Answers, rows_in, cut_of, first_of, looked_at, kept, row_in}
+use Rattle.gq_kept.specs.Tables.{Held, StandsFor, is_full}
 use Rattle.gq_execute.specs.Replies.{Question, all_outcomes, outcomes_in, has_turn, has_large_part, some_heavy, has_heavy_clause, has_heavy_test, has_turns, Rows, Faulted, TooManyRows, IsPermitted}
 use Rattle.gq_execute.specs.Spending.{with_turns}
 use Rattle.gq_execute.specs.steps.Answering.{AreParted, Reached}
-use Rattle.gq_rows.proofs.Listings.{looked_front, rows_append, kept_grows, kept_few, full_enough, full_looked, open_few, few_rows}
-use Rattle.gq_rows.specs.Answers.{row_in}
+use Rattle.gq_kept.proofs.Listings.{looked_front, rows_append, kept_grows, kept_few, full_enough, full_looked, open_few, few_rows}
 use Rattle.gq_law_plans.proofs.Reordered.{permuted_flat_map}
 use Rattle.std.proofs.lemmas.List.Sorted.{length_permutation}
 

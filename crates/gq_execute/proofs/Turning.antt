@@ -21,8 +21,8 @@ use Rattle.gq_plan.specs.Parts.{sides}
 use Rattle.gq_plan.specs.Plans.{Plan, Done, Then, Scan, Extend, Close, Join, Keep, Differ, NoLoop}
 use Rattle.gq_plan.specs.declared.Bound.{Bound}
 use Rattle.gq_plan.specs.declared.typed.Typed.{Typed}
-use Rattle.gq_rows.specs.Answers.{cut_of}
-use Rattle.gq_rows.specs.Tables.{Table, is_full, is_full_table}
+use Rattle.gq_kept.specs.Answers.{cut_of}
+use Rattle.gq_kept.specs.Tables.{Table, is_full, is_full_table}
 use Rattle.gq_execute.specs.Planned.{IsPlanIn, sizes}
 use Rattle.gq_execute.specs.Spending.{IsPlain, IsTurn}
 use Rattle.gq_execute.specs.steps.Answering.{Drains, Runs}

@@ -1,8 +1,8 @@
 -- What the refusals of the crates below are for an answer.
 use Rattle.gq_join.specs.declared.build.JoinRefusal.{JoinRefusal}
 use Rattle.gq_join.specs.declared.build.JoinRefusal.TheVariants as join
-use Rattle.gq_rows.specs.declared.refusal.RowRefusal.{RowRefusal}
-use Rattle.gq_rows.specs.declared.refusal.RowRefusal.TheVariants as rows
+use Rattle.gq_kept.specs.declared.refusal.RowRefusal.{RowRefusal}
+use Rattle.gq_kept.specs.declared.refusal.RowRefusal.TheVariants as rows
 use Rattle.gq_execute.specs.declared.refusal.AnswerRefusal.{AnswerRefusal}
 use Rattle.gq_execute.specs.declared.refusal.AnswerRefusal.TheVariants as refusal
 

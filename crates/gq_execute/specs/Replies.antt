@@ -28,7 +28,7 @@ use Rattle.gq_plan.specs.declared.ExistsPart.{ExistsPart}
 use Rattle.gq_plan.specs.declared.bound.OptionalPart.{OptionalPart}
 use Rattle.gq_plan.specs.declared.Typed.{Typed}
 use Rattle.gq_scopes.specs.PathPatterns.{path_pattern}
-use Rattle.gq_rows.specs.Answers.{Answers, cut_of, kept, looked_at, rows_in}
+use Rattle.gq_kept.specs.Answers.{Answers, cut_of, kept, looked_at, rows_in}
 use Rattle.gq_ast.specs.declared.Query.{Query}
 use Rattle.gq_wide.specs.Clauses.{after_clauses}
 use Rattle.gq_execute.specs.declared.settings.Order.{Order}

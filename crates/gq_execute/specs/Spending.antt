@@ -14,7 +14,7 @@ use Rattle.gq_plan.specs.declared.Bound.{Bound}
 use Rattle.gq_plan.specs.declared.ExistsPart.{ExistsPart}
 use Rattle.gq_plan.specs.declared.bound.OptionalPart.{OptionalPart}
 use Rattle.gq_plan.specs.declared.Typed.{Typed}
-use Rattle.gq_rows.specs.Answers.{cut_of, rows_in}
+use Rattle.gq_kept.specs.Answers.{cut_of, rows_in}
 use Rattle.gq_ast.specs.declared.Query.{Query}
 use Rattle.gq_execute.specs.Answering.{question}
 use Rattle.gq_execute.specs.Planned.{ArePlansIn, IsPlanIn, sizes}

@@ -2,20 +2,19 @@
 //! each row behind the clauses.
 ghost use Rattle.std.specs.Prelude.{◌≡◌, ◌≤◌, ◌<◌, [], false, length, map, IfOk, IsSome};
 ghost use Rattle.std.specs.Prelude.{OnOk, Some};
+ghost use Rattle.gq_eval.specs.Asked.{asked_of};
 ghost use Rattle.gq_execute.specs.Replies.{outcomes_behind};
 ghost use Rattle.gq_execute.specs.steps.Behind.{IsBehind, IsBlank, IsWalkOf};
 ghost use Rattle.gq_execute.specs.steps.Prepared.{IsPrepared, known_by, later_by};
-ghost use Rattle.gq_execute.specs.steps.Taking.{HasRun, IsRunOf, TakesAll, given_by};
-ghost use Rattle.gq_execute.specs.steps.Taking.{outcomes_by, owed_outcomes};
+ghost use Rattle.gq_execute.specs.steps.Taking.{HasRun, IsRunOf, TakesAll, given_by, outcomes_by};
+ghost use Rattle.gq_execute.specs.steps.Taking.{owed_outcomes};
 ghost use Rattle.gq_group.specs.Chunks.{IsChunkOf};
-ghost use Rattle.gq_eval.specs.Asked.{asked_of};
-ghost use Rattle.gq_optional.specs.Walks.{IsOptionals, lists_in};
-ghost use Rattle.gq_optional.specs.Walks.{IsSameWalk, IsWalk, owed_by};
+ghost use Rattle.gq_kept.specs.Chunks.{PushesAll, assignments_of};
+ghost use Rattle.gq_kept.specs.Tables.{IsSameQuery, StandsForSome, is_full_table};
+ghost use Rattle.gq_optional.specs.Walks.{IsOptionals, IsSameWalk, IsWalk, lists_in, owed_by};
 ghost use Rattle.gq_pipe.specs.Serving.{Serves};
 ghost use Rattle.gq_plan.specs.Assignments.{row_of};
 ghost use Rattle.gq_plan.specs.Marked.{Marked, ending};
-ghost use Rattle.gq_rows.specs.Chunks.{PushesAll, assignments_of};
-ghost use Rattle.gq_rows.specs.Tables.{IsSameQuery, StandsForSome, is_full_table};
 
 use crate::copied::{copy_nodes, copy_rels};
 use crate::late::judge_late;

@@ -3,6 +3,7 @@
 ghost use Rattle.std.specs.Prelude.{◌≡◌, ◌≤◌, ◌<◌, [], false, flat_map, length, IfOk, IsSome};
 ghost use Rattle.std.specs.Prelude.{All, OnOk, Some};
 ghost use Rattle.std.specs.List.{AllByRecursion};
+ghost use Rattle.gq_eval.specs.Asked.{asked_of};
 ghost use Rattle.gq_execute.specs.steps.Behind.{IsBlank};
 ghost use Rattle.gq_execute.specs.steps.Continuing.{reached_in};
 ghost use Rattle.gq_execute.specs.steps.Prepared.{IsPrepared};
@@ -11,11 +12,10 @@ ghost use Rattle.gq_execute.specs.steps.Taking.{outcomes_by, outcomes_on, owed_b
 ghost use Rattle.gq_execute.specs.steps.Testing.{admitted_by};
 ghost use Rattle.gq_execute.specs.steps.Walking.{AreTrailsOf, CanWalk, IsWalking};
 ghost use Rattle.gq_group.specs.Chunks.{IsChunkOf};
+ghost use Rattle.gq_kept.specs.Chunks.{PushesAll, assignments_of};
+ghost use Rattle.gq_kept.specs.Tables.{IsSameQuery, StandsForSome, is_full_table};
 ghost use Rattle.gq_law_plans.specs.Safe.{IsMade};
-ghost use Rattle.gq_eval.specs.Asked.{asked_of};
 ghost use Rattle.gq_pipe.specs.Serving.{Serves};
-ghost use Rattle.gq_rows.specs.Chunks.{PushesAll, assignments_of};
-ghost use Rattle.gq_rows.specs.Tables.{IsSameQuery, StandsForSome, is_full_table};
 ghost use Rattle.gq_trails.specs.Trekking.{HasLength};
 ghost use Rattle.gq_wide.specs.Rows.{read};
 

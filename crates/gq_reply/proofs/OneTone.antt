@@ -16,7 +16,7 @@ use Rattle.gq_reply.proofs.Replying.{not_blank, refusal_is}
 use Rattle.gq_reply.specs.Bindings.{bind_refusal}
 use Rattle.gq_reply.specs.Replies.{AreBehind, Context, IsAnswered, IsAsked, IsOverfull, IsRefused, IsReply, IsStopped, IsTurn, IsUnbound, IsWrong, RepliesWith, Sets, StandBehind, asked_by, params_behind, question, refusal_text}
 use Rattle.gq_reply.specs.declared.replier.Form.{Form}
-use Rattle.gq_rows.specs.Answers.{cut_of, most_listed}
+use Rattle.gq_kept.specs.Answers.{cut_of, most_listed}
 use Rattle.gq_session.specs.Replies.{Replies}
 use Rattle.gq_session.specs.Tones.{IsMemory, worse}
 use Rattle.gq_session.specs.declared.answering.Tone.{Tone}

@@ -9,11 +9,11 @@ use Rattle.std.proofs.lemmas.List.Elements.{All-tail}
 use Rattle.gq_base.specs.Values.{Val, null}
 use Rattle.gq_plan.specs.Outcomes.{Row}
 use Rattle.gq_plan.specs.declared.bound.Bound.{Bound}
-use Rattle.gq_rows.specs.Answers.{at_most, columns_of, first_of, most_listed, window}
+use Rattle.gq_kept.specs.Answers.{at_most, columns_of, first_of, most_listed, window}
 use Rattle.gq_rows.specs.steps.Lines.{HasLines, cut_lines, lines_of, values_of}
-use Rattle.gq_rows.specs.Tables.{Held, HoldsRows}
+use Rattle.gq_kept.specs.Tables.{Held, HoldsRows}
 use Rattle.gq_rows.specs.declared.listing.Lines.TheInside.{Inside}
-use Rattle.gq_rows.proofs.Tops.{cut-window}
+use Rattle.gq_kept.proofs.Tops.{cut-window}
 
 -- ---- lines
 

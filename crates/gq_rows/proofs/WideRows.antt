@@ -6,13 +6,14 @@ use Rattle.gq_expr.specs.declared.Fault.{Fault}
 use Rattle.gq_plan.specs.Marked.{ended, ending}
 use Rattle.gq_plan.specs.Outcomes.{Row, key_meanings, meanings_of, outcome_by, row_with}
 use Rattle.gq_plan.specs.declared.bound.Bound.{Bound}
-use Rattle.gq_rows.specs.Tables.{Pushes, StandsForSome, Table, is_full_table, outcome_numbered}
-use Rattle.gq_rows.specs.declared.refusal.RowRefusal.TheVariants as refusal
+use Rattle.gq_kept.specs.Tables.{Pushes, StandsForSome, Table, is_full_table, outcome_numbered}
+use Rattle.gq_kept.specs.declared.refusal.RowRefusal.TheVariants as refusal
 use Rattle.gq_rows.specs.declared.table.RowTable.TheInside.{Inside}
 use Rattle.gq_rows.specs.steps.Inner.{held_by, table_of}
-use Rattle.gq_rows.specs.steps.Keeping.{HasForm, held_of}
-use Rattle.gq_rows.specs.steps.Listed.{held_in, is_listing}
-use Rattle.gq_rows.proofs.Standings.{pushed}
+use Rattle.gq_kept.specs.Forms.{HasForm}
+use Rattle.gq_values.specs.Keeping.{held_of}
+use Rattle.gq_listed.specs.Listed.{held_in, is_listing}
+use Rattle.gq_rows.proofs.Insides.{pushed}
 
 -- a marked row ends with its fault
 pub marked_ends : (g : Graph) (b : Bound) (row : reading.Assignment) (mark : Option Fault) (f : Fault) → mark ≡ Some f → ending g b (record { row = row; mark = mark }) ≡ Err f

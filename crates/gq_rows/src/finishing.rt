@@ -1,44 +1,20 @@
 //! The lines that a table of rows answers.
 ghost use Rattle.std.specs.Prelude.{◌≡◌, All, IfOk, List, length, true};
+ghost use Rattle.gq_kept.specs.Answers.{Lists, at_most, columns_of, most_listed, window};
+ghost use Rattle.gq_kept.specs.Tables.{AnswersListings, Holds, StandsForSome};
+ghost use Rattle.gq_listed.specs.Listed.{held_in, is_listing};
 ghost use Rattle.gq_plan.specs.Outcomes.{Row};
-ghost use Rattle.gq_rows.specs.Answers.{Lists, at_most, columns_of, most_listed, window};
-ghost use Rattle.gq_rows.specs.steps.Keeping.{HoldsOf, held_of};
-ghost use Rattle.gq_rows.specs.steps.Listed.{held_in, is_listing};
-ghost use Rattle.gq_rows.specs.steps.Sorting.{ArrangesRows, ChoosesRows, HasFirsts, IsWindowOf};
-ghost use Rattle.gq_rows.specs.steps.Sorting.{ListsRows};
-ghost use Rattle.gq_rows.specs.Tables.{AnswersListings, Holds, StandsForSome};
+ghost use Rattle.gq_rows.specs.steps.Arranging.{ArrangesRows, ChoosesRows, IsWindowOf, ListsRows};
+ghost use Rattle.gq_values.specs.Keeping.{HoldsOf, held_of};
+ghost use Rattle.gq_values.specs.Sorting.{HasFirsts};
 
-use crate::held::Rows;
-use crate::listed::{Listed, is_listing};
 use crate::listing::{Lines, Listing, Values};
-use crate::sorting::sorted;
 use crate::table::RowTable;
 use gq_base::Memory;
-use gq_classes::Classes;
+use gq_listed::{Listed, is_listing};
 use gq_plan::Bound;
+use gq_values::{Rows, first_rows, sorted};
 use std::alloc::Global;
-
-// The first rows of the classes, one row after another.
-fn first_rows<'g>(alloc: Global, rows: Rows<'g>) -> Result<Rows<'g>, Memory>
-    ensures { IfOk result (HasFirsts rows.entry) }
-{
-    let Rows {
-        columns: _,
-        keys,
-        count,
-        seen,
-        bar: _,
-    } = rows;
-    let mut columns = Vec::new(alloc);
-    seen.append_to(&mut columns)?;
-    Ok(Rows {
-        columns,
-        keys,
-        count,
-        seen: Classes::new(alloc),
-        bar: None,
-    })
-}
 
 // The rows of which any arrangement answers.
 fn chosen_rows<'g>(alloc: Global, bound: &Bound, rows: Rows<'g>) -> Result<Rows<'g>, Memory>

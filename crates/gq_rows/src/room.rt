@@ -1,8 +1,8 @@
 //! What a row takes, where rows are held as values.
 
-use crate::sorting::Shown;
 use gq_base::Value;
 use gq_plan::Bound;
+use gq_values::Shown;
 use std::mem::size_of;
 
 /// What a row of a query takes, in bytes, beside its class: its values, and the same once more where

@@ -3,33 +3,28 @@ ghost use Rattle.std.specs.Prelude.{◌≡◌, [], None, Some, IsSome, OnOk, fal
 ghost use Rattle.gq_group.specs.Choices.{Begins};
 ghost use Rattle.gq_group.specs.Chunks.{IsChunkOf};
 ghost use Rattle.gq_group.specs.Groups.{choices};
+ghost use Rattle.gq_kept.specs.Chunks.{IsChunkIn, PushesAdmitted, PushesAll, PushesChunk};
+ghost use Rattle.gq_kept.specs.Chunks.{admitted_outcomes, counted};
+ghost use Rattle.gq_kept.specs.Forms.{HasForm};
+ghost use Rattle.gq_kept.specs.Tables.{IsSameQuery, Pushes, StandsFor, StandsForSome};
+ghost use Rattle.gq_kept.specs.Tables.{is_full_table, outcome_admitted, outcome_numbered};
+ghost use Rattle.gq_listed.specs.Listed.{is_listing};
 ghost use Rattle.gq_plan.specs.Assignments.{row_of};
 ghost use Rattle.gq_plan.specs.Marked.{Marked, ending};
-ghost use Rattle.gq_rows.specs.Chunks.{IsChunkIn, PushesAdmitted, PushesAll, PushesChunk};
-ghost use Rattle.gq_rows.specs.Chunks.{admitted_outcomes, counted};
-ghost use Rattle.gq_rows.specs.steps.Keeping.{HasForm};
-ghost use Rattle.gq_rows.specs.steps.Listed.{is_listing};
-ghost use Rattle.gq_rows.specs.steps.Reading.{IsReading};
-ghost use Rattle.gq_rows.specs.Tables.{IsSameQuery, Pushes, StandsFor, StandsForSome};
-ghost use Rattle.gq_rows.specs.Tables.{is_full_table, outcome_admitted, outcome_numbered};
+ghost use Rattle.gq_project.specs.Reading.{IsReading};
 ghost use Rattle.gq_wide.specs.Rows.{read};
 
-use crate::admitting::{Admits, Everything};
-use crate::bar::are_sure;
-use crate::finder::Finder;
-use crate::held::{Form, Rows};
-use crate::holding::hold_columns;
-use crate::judging::Question;
-use crate::listed::{Asked, Listed, find_columns, is_listing};
-use crate::reading::Reading;
-use crate::refusal::{More, RowRefusal};
 use crate::room::row_bytes;
 use gq_cells::Cells;
 use gq_classes::Classes;
 use gq_expr::{Assigned, Fault};
 use gq_group::{Choice, Chunk, ChunkRow};
+use gq_kept::{Form, More, RowRefusal, form_of};
+use gq_listed::{Asked, Finder, Listed, find_columns, hold_columns, is_listing};
 use gq_plan::{Bound, Typed};
+use gq_project::{Admits, Everything, Question, Reading};
 use gq_store::Graph;
+use gq_values::{Rows, are_sure};
 use gq_wide::WideRow;
 use std::alloc::Global;
 use std::marker::Model;
@@ -71,7 +66,7 @@ pub struct RowTable<'g> {
 impl<'g> Model for RowTable<'g> {
     ghost use Rattle.std.specs.Coded.{codes};
     ghost use Rattle.gq_expr.specs.contracts.expr.Expr as expr;
-    ghost use Rattle.gq_rows.specs.Tables.{Table};
+    ghost use Rattle.gq_kept.specs.Tables.{Table};
 
     ghost Value = { Table };
 
@@ -82,26 +77,6 @@ impl<'g> Model for RowTable<'g> {
     ghost view = { table_of };
 
     ghost invariant = { IsOfQuery };
-}
-
-// The form of a query.
-fn form_of(bound: &Bound) -> Form
-    ensures { HasForm bound.now result }
-{
-    if bound.distinct {
-        return Form::Classes;
-    }
-    let Some(limit) = bound.limit else {
-        return Form::All;
-    };
-    if !bound.keys.is_empty() {
-        return Form::Top(bound.skip.saturating_add(limit) as usize);
-    }
-    match bound.skip.checked_add(limit) {
-        Some(n) => Form::First(n as usize),
-        // No table holds so many rows.
-        None => Form::All,
-    }
 }
 
 impl<'g> RowTable<'g> {

@@ -2,15 +2,14 @@
 use Rattle.std.specs.Prelude.{◌≡◌, ◌^◌, ◌<◌, ◌≤◌, ℕ, None, Result, List, ◌++◌, length}
 use Rattle.gq_base.specs.Plain.{Graph}
 use Rattle.gq_expr.specs.declared.Fault.{Fault}
-use Rattle.gq_optional.specs.Walks.{lists_in, parts_in}
+use Rattle.gq_optional.specs.Walks.{lists_in, parts_in, IsWalk}
 use Rattle.gq_optional.specs.Walks as walks
-use Rattle.gq_optional.specs.Walks.{IsWalk}
 use Rattle.gq_optional.specs.declared.walk.OptionalWalk.{OptionalWalk}
 use Rattle.gq_plan.specs.Outcomes.{Row}
 use Rattle.gq_plan.specs.declared.Bound.{Bound}
 use Rattle.gq_plan.specs.declared.Typed.{Typed}
-use Rattle.gq_rows.specs.Chunks.{Stands}
-use Rattle.gq_rows.specs.Tables.{Table}
+use Rattle.gq_kept.specs.Chunks.{Stands}
+use Rattle.gq_kept.specs.Tables.{Table}
 use Rattle.gq_wide.specs.Rows.{Wide, item_at}
 use Rattle.gq_execute.specs.declared.behind.Behind.{Behind}
 use Rattle.gq_execute.specs.declared.prepared.Prepared.{Prepared}

@@ -14,9 +14,9 @@ use Rattle.gq_plan.specs.Assignments.{Assignment, row_of}
 use Rattle.gq_plan.specs.Meaning.{whole}
 use Rattle.gq_plan.specs.declared.Bound.{Bound}
 use Rattle.gq_plan.specs.declared.Typed.{Typed}
-use Rattle.gq_rows.specs.Answers.{kept, looked_at, rows_in}
-use Rattle.gq_rows.specs.Chunks.{Stands}
-use Rattle.gq_rows.specs.Tables.{Table, is_full_table}
+use Rattle.gq_kept.specs.Answers.{kept, looked_at, rows_in}
+use Rattle.gq_kept.specs.Chunks.{Stands}
+use Rattle.gq_kept.specs.Tables.{Table, is_full_table}
 use Rattle.gq_execute.specs.Replies.{outcomes_behind}
 use Rattle.gq_execute.specs.Spending.{IsPlain}
 use Rattle.gq_execute.specs.steps.Continuing.{rows_by}

@@ -3,7 +3,7 @@ use Rattle.gq_group.specs.Groups.{choices}
 use Rattle.gq_pipe.specs.Bound.{binds_all}
 use Rattle.gq_pipe.specs.Progress.{Source, plan_in}
 use Rattle.gq_pipe.specs.Rest.{counted}
-use Rattle.gq_rows.specs.declared.refusal.More.TheVariants as more
+use Rattle.gq_kept.specs.declared.refusal.More.TheVariants as more
 use Rattle.gq_execute.proofs.Draining.{all_taken, bag_here, chunk_in, counted_here, counted_more, counted_none, full_here, has_choice, in_order, less_owed, met, pushed_more, pushed_none, pushes_here, run_full, run_out}
 use Rattle.gq_execute.specs.steps.Taking.{given_by, if_admitted}
 use Rattle.gq_execute.specs.steps.Testing.{admitted_by}

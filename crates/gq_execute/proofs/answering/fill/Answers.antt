@@ -1,7 +1,7 @@
 use Rattle.std.proofs.Common.{◌≡◌, ◌∙◌, ◌++◌, ap, false, inl, inr, subst, sym, true}
 use Rattle.std.specs.Prelude.{◌⊎◌}
 use Rattle.gq_base.specs.Lists.{is_empty}
-use Rattle.gq_rows.specs.Tables.{is_full_table}
+use Rattle.gq_kept.specs.Tables.{is_full_table}
 use Rattle.gq_execute.specs.steps.Answering.{AnswersWith}
 use Rattle.gq_execute.proofs.Ending.{all_done, before_refused, empty_tells, nothing_done}
 use Rattle.gq_execute.proofs.answering.fill.Goals as goal

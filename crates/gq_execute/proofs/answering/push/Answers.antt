@@ -1,6 +1,6 @@
 use Rattle.std.proofs.Common.{◌∙◌, ap, subst, sym}
-use Rattle.gq_rows.specs.Chunks.{PushesAll, admitted_outcomes}
-use Rattle.gq_rows.proofs.Chunking.{all_admitted}
+use Rattle.gq_kept.specs.Chunks.{PushesAll, admitted_outcomes}
+use Rattle.gq_kept.proofs.Chunking.{all_admitted}
 use Rattle.gq_execute.specs.steps.Testing.{admitted_by}
 use Rattle.gq_execute.proofs.answering.push.Goals as goal
 

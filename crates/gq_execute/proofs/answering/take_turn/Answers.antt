@@ -12,8 +12,8 @@ use Rattle.gq_plan.proofs.ColumnBounds.{columns_bound}
 use Rattle.gq_plan.proofs.StepEquations.{plan_is}
 use Rattle.gq_plan.specs.Meaning.{meaning, whole}
 use Rattle.gq_plan.specs.Plans.{plan_of}
-use Rattle.gq_rows.specs.Answers.{cut_of}
-use Rattle.gq_rows.specs.Tables.{Table}
+use Rattle.gq_kept.specs.Answers.{cut_of}
+use Rattle.gq_kept.specs.Tables.{Table}
 use Rattle.gq_execute.specs.Planned.{IsPlanIn}
 use Rattle.gq_execute.specs.Spending.{IsPlain}
 use Rattle.gq_execute.proofs.Begins.{plan_begins}

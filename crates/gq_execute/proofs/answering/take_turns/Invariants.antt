@@ -4,7 +4,7 @@ use Rattle.gq_pool.specs.Pool.{spare_of}
 use Rattle.gq_execute.specs.Answering.{question}
 use Rattle.gq_execute.specs.Planned.{sizes}
 use Rattle.gq_execute.specs.steps.Answering.{Came, Spends}
-use Rattle.gq_rows.specs.Tables.{StandsForSome}
+use Rattle.gq_kept.specs.Tables.{StandsForSome}
 use Rattle.gq_ast.specs.declared.Query.{Query}
 use Rattle.gq_execute.proofs.answering.take_turns.Given as goal
 

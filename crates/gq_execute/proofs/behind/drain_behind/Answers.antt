@@ -4,7 +4,7 @@ use Rattle.gq_pipe.specs.Progress.{Source, plan_in}
 use Rattle.gq_pipe.specs.Rest.{counted}
 use Rattle.gq_eval.specs.Asked.{asked_of}
 use Rattle.gq_plan.specs.declared.Bound.{Bound}
-use Rattle.gq_rows.specs.declared.refusal.More.TheVariants as more
+use Rattle.gq_kept.specs.declared.refusal.More.TheVariants as more
 use Rattle.gq_execute.proofs.Copying.{blank_further}
 use Rattle.gq_execute.proofs.Draining.{all_taken, bag_here, chunk_of, counted_more, counted_none, full_here, in_order, less_owed, met, pushed_more, pushed_none, rows_here, run_full, run_out}
 use Rattle.gq_execute.specs.steps.Behind.{IsBehind, IsWalkOf}

@@ -1,6 +1,6 @@
 use Rattle.std.proofs.Common.{◌≡◌, false, length}
 use Rattle.gq_pipe.specs.Serving.{Serves}
-use Rattle.gq_rows.specs.Tables.{IsSameQuery, StandsForSome, is_full_table}
+use Rattle.gq_kept.specs.Tables.{IsSameQuery, StandsForSome, is_full_table}
 use Rattle.gq_execute.specs.steps.Behind.{IsBehind}
 use Rattle.gq_execute.specs.steps.Prepared.{later_by}
 use Rattle.gq_execute.specs.steps.Taking.{Counted, IsRunOf, Pushed, given_by}

@@ -2,7 +2,7 @@ use Rattle.std.proofs.Common.{◌∙◌, ◌∷◌, [], ap, length, map, subst, 
 use Rattle.gq_plan.specs.Assignments.{row_of}
 use Rattle.gq_plan.specs.Marked.{ending}
 use Rattle.gq_optional.specs.Walks.{lists_in}
-use Rattle.gq_rows.specs.Chunks.{PushesAll}
+use Rattle.gq_kept.specs.Chunks.{PushesAll}
 use Rattle.gq_wide.specs.Clauses.{after_clauses}
 use Rattle.gq_execute.specs.steps.Behind.{IsBlankFrom}
 use Rattle.gq_execute.specs.steps.Prepared.{known_by}

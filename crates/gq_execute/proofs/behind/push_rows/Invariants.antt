@@ -1,7 +1,7 @@
 use Rattle.std.proofs.Common.{◌≡◌, false, true, length}
 use Rattle.gq_group.specs.Choices.{IsChoice}
 use Rattle.gq_group.specs.Groups.{choices}
-use Rattle.gq_rows.specs.Tables.{IsSameQuery, StandsForSome, is_full_table}
+use Rattle.gq_kept.specs.Tables.{IsSameQuery, StandsForSome, is_full_table}
 use Rattle.gq_execute.specs.steps.Behind.{IsBehind, Taken}
 use Rattle.gq_execute.specs.steps.Prepared.{later_by}
 use Rattle.gq_execute.specs.steps.Taking.{given_by}

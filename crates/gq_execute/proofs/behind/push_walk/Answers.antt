@@ -1,7 +1,7 @@
 use Rattle.std.proofs.Common.{ap, map, Err, Ok}
 use Rattle.gq_plan.specs.Marked.{ending}
-use Rattle.gq_rows.proofs.Chunking.{same_again, same_table}
-use Rattle.gq_rows.specs.declared.refusal.More.TheVariants as more
+use Rattle.gq_kept.proofs.Chunking.{same_again, same_table}
+use Rattle.gq_kept.specs.declared.refusal.More.TheVariants as more
 use Rattle.gq_execute.proofs.Pushing.{marked_pushed, same_walk_again, same_walk_now, taken_full, taken_more, taken_none, taken_refused}
 use Rattle.gq_execute.proofs.behind.push_walk.Goals as goal
 

@@ -1,7 +1,7 @@
 use Rattle.std.proofs.Common.{◌≡◌, false, length, map}
 use Rattle.gq_optional.specs.Walks.{IsSameWalk, IsWalk, owed_by}
 use Rattle.gq_plan.specs.Marked.{ending}
-use Rattle.gq_rows.specs.Tables.{IsSameQuery, StandsForSome, is_full_table}
+use Rattle.gq_kept.specs.Tables.{IsSameQuery, StandsForSome, is_full_table}
 use Rattle.gq_execute.specs.steps.Behind.{Taken}
 use Rattle.gq_execute.proofs.behind.push_walk.Given as goal
 

@@ -2,7 +2,7 @@ use Rattle.std.proofs.Common.{◌≡◌, false, length}
 use Rattle.std.specs.List.{AllByRecursion}
 use Rattle.gq_law_plans.specs.Safe.{IsMade}
 use Rattle.gq_pipe.specs.Serving.{Serves}
-use Rattle.gq_rows.specs.Tables.{IsSameQuery, StandsForSome, is_full_table}
+use Rattle.gq_kept.specs.Tables.{IsSameQuery, StandsForSome, is_full_table}
 use Rattle.gq_execute.specs.steps.Taking.{Counted, IsRunOf, Pushed, given_on, if_admitted, owed_by}
 use Rattle.gq_execute.specs.steps.Testing.{admitted_by}
 use Rattle.gq_execute.specs.steps.Walking.{IsWalking}

@@ -1,6 +1,6 @@
 use Rattle.std.proofs.Common.{◌∙◌, List, ap, flat_map, length, subst, sym}
 use Rattle.gq_law_trails.specs.Trails.{Trailing}
-use Rattle.gq_rows.specs.Chunks.{PushesAll}
+use Rattle.gq_kept.specs.Chunks.{PushesAll}
 use Rattle.gq_trails.specs.Trekking.{CanTrek, continuations}
 use Rattle.gq_execute.proofs.Continuing.{can_trek, core_row, same_rows}
 use Rattle.gq_execute.proofs.Copying.{both_copied}

@@ -1,8 +1,8 @@
 use Rattle.std.proofs.Common.{◌≡◌, ◌∙◌, ◌∷◌, [], ap, subst, Ok}
 use Rattle.gq_plan.specs.Marked.{marks}
 use Rattle.gq_plan.specs.Outcomes.{late_conjuncts, meanings_of}
-use Rattle.gq_rows.specs.Chunks.{PushesAll}
-use Rattle.gq_rows.specs.declared.refusal.More.TheVariants as more
+use Rattle.gq_kept.specs.Chunks.{PushesAll}
+use Rattle.gq_kept.specs.declared.refusal.More.TheVariants as more
 use Rattle.gq_wide.specs.Rows.{read}
 use Rattle.gq_execute.proofs.Chosen.{row_dropped}
 use Rattle.gq_execute.proofs.Judging.{late_says}

@@ -1,8 +1,8 @@
 use Rattle.std.proofs.Common.{◌∙◌, ap, flat_map, Err, Ok}
 use Rattle.gq_law_trails.specs.Trails.{Trailing}
 use Rattle.std.specs.Prelude.{List}
-use Rattle.gq_rows.proofs.Chunking.{same_again, same_table}
-use Rattle.gq_rows.specs.declared.refusal.More.TheVariants as more
+use Rattle.gq_kept.proofs.Chunking.{same_again, same_table}
+use Rattle.gq_kept.specs.declared.refusal.More.TheVariants as more
 use Rattle.gq_execute.proofs.Pushing.{taken_full, taken_more, taken_none, taken_refused}
 use Rattle.gq_execute.proofs.Reaching.{judged_here}
 use Rattle.gq_execute.proofs.trailing.push_reached.Goals as goal

@@ -1,5 +1,5 @@
 use Rattle.std.proofs.Common.{◌≡◌, false, flat_map, length}
-use Rattle.gq_rows.specs.Tables.{IsSameQuery, StandsForSome, is_full_table}
+use Rattle.gq_kept.specs.Tables.{IsSameQuery, StandsForSome, is_full_table}
 use Rattle.gq_execute.specs.steps.Behind.{Taken}
 use Rattle.gq_execute.specs.steps.Continuing.{reached_in}
 use Rattle.gq_execute.specs.steps.Taking.{if_admitted, outcomes_on}

@@ -4,8 +4,8 @@ use Rattle.gq_group.specs.Chunks.{assignment_at}
 use Rattle.gq_group.specs.Groups.{choices, later_choices}
 use Rattle.gq_law_plans.specs.Safe.{IsMade}
 use Rattle.gq_plan.specs.Rows.{assigned}
-use Rattle.gq_rows.proofs.Chunking.{same_again, same_table}
-use Rattle.gq_rows.specs.declared.refusal.More.TheVariants as more
+use Rattle.gq_kept.proofs.Chunking.{same_again, same_table}
+use Rattle.gq_kept.specs.declared.refusal.More.TheVariants as more
 use Rattle.gq_execute.proofs.Chosen.{choice_pushed, first_chosen, first_left, next_chosen, next_left, outs}
 use Rattle.gq_execute.proofs.Pushing.{taken_full, taken_more, taken_none, taken_refused}
 use Rattle.gq_execute.proofs.Reaching.{each_made_of}

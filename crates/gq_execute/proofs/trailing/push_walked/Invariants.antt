@@ -5,7 +5,7 @@ use Rattle.gq_group.specs.Chunks.{assignment_at}
 use Rattle.gq_group.specs.Groups.{choices}
 use Rattle.gq_law_plans.specs.Safe.{IsMade}
 use Rattle.gq_plan.specs.Rows.{assigned}
-use Rattle.gq_rows.specs.Tables.{IsSameQuery, StandsForSome, is_full_table}
+use Rattle.gq_kept.specs.Tables.{IsSameQuery, StandsForSome, is_full_table}
 use Rattle.gq_execute.specs.steps.Behind.{Taken}
 use Rattle.gq_execute.specs.steps.Taking.{given_on, if_admitted}
 use Rattle.gq_execute.specs.steps.Testing.{admitted_by}

@@ -1,7 +1,7 @@
 use Rattle.std.proofs.Common.{arith, refl}
-use Rattle.gq_rows.specs.steps.Listed.{held_in}
+use Rattle.gq_listed.specs.Listed.{held_in}
 use Rattle.gq_rows.proofs.CutLines.{wide, wide_lines, windowed}
-use Rattle.gq_rows.proofs.ListedRows.{holds_rows, lists_as}
+use Rattle.gq_rows.proofs.TwoForms.{holds_rows, lists_as}
 use Rattle.gq_rows.proofs.finishing.lines_of.Goals as goal
 
 pub invariant_of-result : goal.invariant_of-result

@@ -1,6 +1,6 @@
 use Rattle.std.proofs.Common.{◌∙◌, ap, sym}
-use Rattle.gq_rows.specs.Tables.{Table}
-use Rattle.gq_rows.proofs.ListedRows.{listed_view, rows_view}
+use Rattle.gq_kept.specs.Tables.{Table}
+use Rattle.gq_rows.proofs.TwoForms.{listed_view, rows_view}
 use Rattle.gq_rows.proofs.table.RowTable.count.Goals as goal
 
 pub returns-then-is_listing : goal.returns-then-is_listing

@@ -1,10 +1,10 @@
 use Rattle.std.proofs.Common.{◌≡◌, ℕ, ◌<◌, ◌^◌, ◌⊎◌, inl, inr, false, arith}
-use Rattle.gq_rows.specs.Tables.{Table, is_full_table}
+use Rattle.gq_kept.specs.Tables.{Table, is_full_table}
 use Rattle.gq_rows.specs.steps.Inner.{table_of}
-use Rattle.gq_rows.specs.steps.Keeping.{HasForm}
-use Rattle.gq_rows.specs.declared.held.Form.TheVariants.{All, Classes, Top}
+use Rattle.gq_kept.specs.Forms.{HasForm}
+use Rattle.gq_kept.specs.declared.form.Form.TheVariants.{All, Classes, Top}
 use Rattle.gq_rows.specs.declared.table.RowTable.TheInside.{Inside}
-use Rattle.gq_rows.proofs.ListedRows.{never_full}
+use Rattle.gq_rows.proofs.TwoForms.{never_full}
 use Rattle.gq_rows.proofs.table.RowTable.enough.Goals as goal
 
 by : (t : Inside) (old : Table) → table_of t ≡ old → HasForm t.bound.now t.form → old.held.count < 2 ^ 64 → (t.form ≡ All) ⊎ ((n : ℕ) × (t.form ≡ Top n)) ⊎ (t.form ≡ Classes) → false ≡ is_full_table old

@@ -1,10 +1,10 @@
 use Rattle.std.proofs.Common.{◌∙◌, subst, sym}
 use Rattle.std.specs.Prelude.{IfOk}
-use Rattle.gq_rows.specs.Tables.{AnswersListings, StandsForSome}
+use Rattle.gq_kept.specs.Tables.{AnswersListings, StandsForSome}
 use Rattle.gq_rows.proofs.Answering.{finished}
-use Rattle.gq_rows.proofs.ListedRows.{answers_listed, holds_listed, rows_view}
+use Rattle.gq_rows.proofs.TwoForms.{answers_listed, holds_listed, rows_view}
 use Rattle.gq_rows.specs.steps.Inner.{table_with}
-use Rattle.gq_rows.specs.steps.Keeping.{held_of}
+use Rattle.gq_values.specs.Keeping.{held_of}
 use Rattle.gq_rows.proofs.table.RowTable.finish.Goals as goal
 
 pub lines_of-requires-clause-holds : goal.lines_of-requires-clause-holds

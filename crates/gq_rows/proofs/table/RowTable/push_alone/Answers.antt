@@ -1,11 +1,11 @@
 use Rattle.std.proofs.Common.{◌≡◌, [], None, Ok, Err, ap, subst, sym, false, true}
 use Rattle.gq_plan.specs.declared.bound.Bound.{Bound}
-use Rattle.gq_rows.specs.Tables.{Pushes, Table, outcome_numbered}
+use Rattle.gq_kept.specs.Tables.{Pushes, Table, outcome_numbered}
 use Rattle.gq_rows.specs.steps.Inner.{IsDone, table_of}
-use Rattle.gq_rows.specs.steps.Reading.{IsReadyFor}
+use Rattle.gq_project.specs.Reading.{IsReadyFor}
 use Rattle.gq_eval.specs.Asked.{asked_of}
-use Rattle.gq_rows.proofs.Finding.{stay}
-use Rattle.gq_rows.proofs.ListedRows.{inside_graph, inside_listing, pushed_listed, room_listed, stands_listed}
+use Rattle.gq_listed.proofs.Finding.{stay}
+use Rattle.gq_rows.proofs.TwoForms.{inside_graph, inside_listing, pushed_listed, room_listed, stands_listed}
 use Rattle.gq_rows.proofs.table.RowTable.push_alone.Goals as goal
 
 pub prepare-requires : goal.prepare-requires

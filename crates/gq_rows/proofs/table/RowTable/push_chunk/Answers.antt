@@ -1,6 +1,6 @@
 use Rattle.std.proofs.Common.{subst}
-use Rattle.gq_rows.specs.Chunks.{PushesAll}
-use Rattle.gq_rows.proofs.Chunking.{all_admitted}
+use Rattle.gq_kept.specs.Chunks.{PushesAll}
+use Rattle.gq_kept.proofs.Chunking.{all_admitted}
 use Rattle.gq_rows.proofs.table.RowTable.push_chunk.Goals as goal
 
 pub returns-clause-pushes : goal.returns-clause-pushes

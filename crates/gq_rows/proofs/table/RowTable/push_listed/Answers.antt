@@ -1,14 +1,14 @@
 use Rattle.std.proofs.Common.{◌≡◌, [], None, Some, Ok, Err, ap, refl, subst, sym, false, true}
 use Rattle.gq_plan.specs.declared.bound.Bound.{Bound}
-use Rattle.gq_rows.specs.Chunks.{PushesAll, admitted_outcomes}
-use Rattle.gq_rows.specs.Tables.{Table}
+use Rattle.gq_kept.specs.Chunks.{PushesAll, admitted_outcomes}
+use Rattle.gq_kept.specs.Tables.{Table}
 use Rattle.gq_rows.specs.steps.Inner.{IsDone, table_of}
-use Rattle.gq_rows.specs.steps.Flat.{AreHeldIn}
-use Rattle.gq_rows.specs.steps.Listed.{AreFinders}
-use Rattle.gq_rows.specs.steps.Reading.{IsReadyFor}
+use Rattle.gq_listed.specs.Flat.{AreHeldIn}
+use Rattle.gq_listed.specs.Listed.{AreFinders}
+use Rattle.gq_project.specs.Reading.{IsReadyFor}
 use Rattle.gq_eval.specs.Asked.{asked_of}
-use Rattle.gq_rows.proofs.Finding.{stay}
-use Rattle.gq_rows.proofs.ListedRows.{inside_graph, inside_listing, listing_is, pushed_chunk, room_listed, stands_listed}
+use Rattle.gq_listed.proofs.Finding.{stay}
+use Rattle.gq_rows.proofs.TwoForms.{inside_graph, inside_listing, listing_is, pushed_chunk, room_listed, stands_listed}
 use Rattle.gq_rows.proofs.table.RowTable.push_listed.Goals as goal
 
 pub prepare-requires : goal.prepare-requires

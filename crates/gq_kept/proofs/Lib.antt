@@ -1,0 +1,10 @@
+pub mod Bags
+pub mod Chunking
+pub mod Classes
+pub mod Forms
+pub mod Fronts
+pub mod Listings
+pub mod Ranked
+pub mod Rising
+pub mod Standings
+pub mod Tops

@@ -1,0 +1,4 @@
+mod ByPlace
+pub mod Finding
+mod FlatGroups
+mod ListedRows

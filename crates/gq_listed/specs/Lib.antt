@@ -1,0 +1,4 @@
+pub mod Finding
+pub mod Flat
+pub mod Listed
+pub mod steps

@@ -1,0 +1,261 @@
+//! How the value of a column is kept for an assignment: as the row or the load number of the
+//! column's variable, or else as the value itself.
+ghost use Rattle.std.specs.Prelude.{◌≡◌, ◌++◌, ◌∷◌, [], IfOk, None, OnOk};
+ghost use Rattle.gq_base.specs.Plain.{Graph as Plain};
+ghost use Rattle.gq_base.specs.Values.{val};
+ghost use Rattle.gq_eval.specs.Asked.{asked};
+ghost use Rattle.gq_expr.specs.Meaning.{meaning};
+ghost use Rattle.gq_listed.specs.Finding.{Extends, IsFinder, IsFound, IsNullAt, PutsColumn};
+ghost use Rattle.gq_listed.specs.Flat.{IsHeld};
+
+use crate::places::{Reader, reader_of};
+use crate::tables::Tables;
+use gq_base::{Memory, Value};
+use gq_cells::{Cells, Source};
+use gq_eval::Evaluator;
+use gq_expr::{Assigned, Expr};
+use gq_kept::RowRefusal;
+use gq_store::Graph;
+
+/// The rows below a count, or the load numbers, that a variable may have in a table.
+#[derive(Clone, Copy)]
+pub struct Range {
+    pub(crate) variable: u32,
+    pub(crate) table: u32,
+    pub(crate) count: u32,
+}
+
+/// What tells the number that stands for an expression's value.
+#[derive(Clone, Copy)]
+pub enum Way {
+    /// Nothing does: the value itself is kept.
+    Value,
+    /// The row of a node variable.
+    Node(Range),
+    /// The load number of a relationship variable.
+    Rel(Range),
+}
+
+/// What tells the number that stands for the value of a column, and the places of the source of
+/// such numbers and of the source of null, which is its value where its variable has nothing. While
+/// a chunk is taken it holds the number that all assignments of the chunk have, if that is known.
+#[derive(Clone, Copy)]
+pub struct Finder {
+    pub(crate) way: Way,
+    pub(crate) source: u32,
+    pub(crate) null: u32,
+    pub(crate) held: Option<u32>,
+}
+
+/// What was found of a variable.
+#[derive(Clone, Copy)]
+pub enum Found {
+    /// The number that stands for the value.
+    Number(u32),
+    /// The variable has nothing.
+    Null,
+    /// Neither: the value is to be evaluated.
+    Other,
+}
+
+impl Finder {
+    /// How an expression's values are kept for an alternative in a graph. Its source goes to the
+    /// others, among which is that of null.
+    pub(crate) fn new<'g>(
+        cells: &mut Cells<'g>,
+        null: u32,
+        expr: &Expr,
+        tables: &Tables<'_>,
+        graph: &'g Graph,
+    ) -> Result<Finder, Memory>
+        requires { IsNullAt cells.old.sources null }
+        ensures free { IfOk result (λ finder. finder.held ≡ None) }
+        ensures finds { IfOk result (IsFinder cells.new.sources (asked expr.now graph.now)) }
+        ensures more { OnOk result (Extends cells.old.sources cells.new.sources) }
+        ensures values { cells.new.values ≡ cells.old.values }
+    {
+        match reader_of(expr, tables, graph) {
+            Reader::Plain => Finder::plain(cells, null, expr, tables),
+            Reader::Node(property) => {
+                let source = cells.add(Source::NodeProperty {
+                    graph,
+                    table: property.table,
+                    property: property.place,
+                })?;
+                let way = Way::Node(Range {
+                    variable: property.variable,
+                    table: property.table,
+                    count: graph.node_count(property.table),
+                });
+                Ok(Finder {
+                    way,
+                    source,
+                    null,
+                    held: None,
+                })
+            }
+            Reader::Rel(property) => {
+                let source = cells.add(Source::RelProperty {
+                    graph,
+                    table: property.table,
+                    property: property.place,
+                })?;
+                let way = Way::Rel(Range {
+                    variable: property.variable,
+                    table: property.table,
+                    count: graph.rel_count(property.table),
+                });
+                Ok(Finder {
+                    way,
+                    source,
+                    null,
+                    held: None,
+                })
+            }
+        }
+    }
+
+    // The same of an expression that is no property.
+    fn plain(
+        cells: &mut Cells<'_>,
+        null: u32,
+        expr: &Expr,
+        tables: &Tables<'_>,
+    ) -> Result<Finder, Memory>
+        requires { IsNullAt cells.old.sources null }
+        ensures free { IfOk result (λ finder. finder.held ≡ None) }
+        ensures finds { (g : Plain)
+            → IfOk result (IsFinder cells.new.sources (asked expr.now g)) }
+        ensures more { OnOk result (Extends cells.old.sources cells.new.sources) }
+        ensures values { cells.new.values ≡ cells.old.values }
+    {
+        match expr {
+            Expr::Node(variable) => {
+                if let Some(table) = tables.of_node(*variable) {
+                    let source = cells.add(Source::Node(table))?;
+                    let way = Way::Node(Range {
+                        variable: *variable,
+                        table,
+                        count: u32::MAX,
+                    });
+                    return Ok(Finder {
+                        way,
+                        source,
+                        null,
+                        held: None,
+                    });
+                }
+            }
+            Expr::Rel(variable) => {
+                if let Some(table) = tables.of_rel(*variable) {
+                    let source = cells.add(Source::Rel(table))?;
+                    let way = Way::Rel(Range {
+                        variable: *variable,
+                        table,
+                        count: u32::MAX,
+                    });
+                    return Ok(Finder {
+                        way,
+                        source,
+                        null,
+                        held: None,
+                    });
+                }
+            }
+            _ => {}
+        }
+        Ok(Finder {
+            way: Way::Value,
+            source: 0,
+            null,
+            held: None,
+        })
+    }
+}
+
+/// What is found of the variable of a column.
+pub(crate) fn find<R: Assigned>(way: Way, row: &R) -> Found
+    ensures { IsFound way (R.assignment row.now) result }
+{
+    match way {
+        Way::Value => Found::Other,
+        Way::Node(range) => match row.node(range.variable) {
+            None => Found::Null,
+            Some(node) => if node.table == range.table && node.row < range.count {
+                Found::Number(node.row)
+            } else {
+                Found::Other
+            },
+        },
+        Way::Rel(range) => match row.rel(range.variable) {
+            None => Found::Null,
+            Some(rel) => if rel.table == range.table && rel.row < range.count {
+                Found::Number(rel.row)
+            } else {
+                Found::Other
+            },
+        },
+    }
+}
+
+// Appends a value that is kept itself.
+fn put_value<'g>(cells: &mut Cells<'g>, value: Value<'g>) -> Result<(), Memory>
+    ensures values { OnOk result (cells.new.values ≡ cells.old.values ++ val value.entry ∷ []) }
+    ensures more { OnOk result (Extends cells.old.sources cells.new.sources) }
+{
+    let source = cells.add(Source::Value(value))?;
+    cells.put(source, 0)
+}
+
+// Evaluates a column, and appends its value: one more value is kept itself.
+fn put_evaluated<'g, R: Assigned>(
+    cells: &mut Cells<'g>,
+    made: &mut usize,
+    column: &Evaluator<'g>,
+    row: &R,
+) -> Result<(), RowRefusal>
+    ensures puts { PutsColumn (meaning column.now.graph (R.assignment row.now) column.now.expr)
+        cells.old.values cells.new.values result }
+    ensures more { OnOk result (Extends cells.old.sources cells.new.sources) }
+{
+    match column.value(row) {
+        Ok(value) => {
+            put_value(cells, value)?;
+            *made = made.saturating_add(1);
+            Ok(())
+        }
+        Err(fault) => Err(RowRefusal::Fault(fault)),
+    }
+}
+
+// The number that is held, or else what is found.
+fn found_of<R: Assigned>(finder: &Finder, row: &R) -> Found
+    requires { IsHeld (R.assignment row.now) finder.now }
+    ensures { IsFound finder.now.way (R.assignment row.now) result }
+{
+    match finder.held {
+        Some(number) => Found::Number(number),
+        None => find(finder.way, row),
+    }
+}
+
+/// Appends the value of a column for a row, and counts the values that are kept themselves.
+pub(crate) fn put_column<'g, R: Assigned>(
+    cells: &mut Cells<'g>,
+    made: &mut usize,
+    finder: &Finder,
+    column: &Evaluator<'g>,
+    row: &R,
+) -> Result<(), RowRefusal>
+    requires finder { IsFinder cells.old.sources column.now finder.now }
+    requires held { IsHeld (R.assignment row.now) finder.now }
+    ensures puts { PutsColumn (meaning column.now.graph (R.assignment row.now) column.now.expr)
+        cells.old.values cells.new.values result }
+    ensures more { OnOk result (Extends cells.old.sources cells.new.sources) }
+{
+    match found_of(finder, row) {
+        Found::Number(number) => Ok(cells.put(finder.source, number)?),
+        Found::Null => Ok(cells.put(finder.null, 0)?),
+        Found::Other => put_evaluated(cells, made, column, row),
+    }
+}

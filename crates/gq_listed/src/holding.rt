@@ -1,0 +1,116 @@
+//! The numbers that all assignments of a chunk have: those of variables in its flat groups.
+ghost use Rattle.std.specs.Prelude.{◌≡◌, IfSome, List, OnOk, true, ℕ};
+ghost use Rattle.gq_cells.specs.declared.source.Source.{Source};
+ghost use Rattle.gq_eval.specs.Asked.{Asked};
+ghost use Rattle.gq_group.specs.Chunks.{IsChunkOf, group_of};
+ghost use Rattle.gq_group.specs.Groups.{AreSelected};
+ghost use Rattle.gq_listed.specs.Flat.{AreHeldIn, IsFlat, IsFlatHome, IsFlatWay, IsHeldNumber};
+ghost use Rattle.gq_listed.specs.Listed.{AreFinders};
+
+use crate::finder::{Finder, Found, Way, find};
+use gq_base::Memory;
+use gq_group::{Chunk, ChunkRow, NodeHome, Piece};
+use gq_plan::Typed;
+use gq_store::Graph;
+
+/// Puts the finders of columns for a chunk in the place of what was there: they hold the numbers of
+/// variables in flat groups.
+pub fn hold_columns(
+    held: &mut Vec<Finder>,
+    finders: &[Finder],
+    graph: &Graph,
+    typed: &Typed,
+    chunk: &Chunk<'_, '_>,
+    positions: &[u32],
+) -> Result<(), Memory>
+    requires chunk { IsChunkOf graph.now typed.now chunk.now }
+    requires selected { AreSelected chunk.now.groups.now positions.now }
+    ensures finders { (ss : List Source) → (es : List Asked)
+        → AreFinders ss es finders.now → OnOk result (AreFinders ss es held.new.items) }
+    ensures held { OnOk result (AreHeldIn graph.now typed.now chunk.now held.new.items) }
+{
+    held.clear();
+    let many = has_many(chunk);
+    'finders: for finder in finders {
+        let number = held_number(many, finder.way, graph, typed, chunk, positions);
+        held.push(Finder {
+            held: number,
+            ..*finder
+        })?;
+    }
+    Ok(())
+}
+
+// Whether a chunk may have so many assignments that it pays to hold numbers.
+fn has_many(chunk: &Chunk<'_, '_>) -> bool {
+    let Some(group) = chunk.groups.last() else {
+        return false;
+    };
+    if group.current.is_some() {
+        return false;
+    }
+    match group.piece {
+        Piece::Span { low, high } => high.saturating_sub(low) >= 4,
+        Piece::List { ids, first: _ } => ids.len() >= 4,
+        Piece::Matches { rows, first: _ } => rows.len() >= 4,
+    }
+}
+
+// The number that is found of a variable at each choice of a chunk with many, where it lives in a
+// flat group.
+fn held_number(
+    many: bool,
+    way: Way,
+    graph: &Graph,
+    typed: &Typed,
+    chunk: &Chunk<'_, '_>,
+    positions: &[u32],
+) -> Option<u32>
+    requires chunk { IsChunkOf graph.now typed.now chunk.now }
+    requires selected { AreSelected chunk.now.groups.now positions.now }
+    ensures { IfSome result (IsHeldNumber graph.now typed.now chunk.now way) }
+{
+    if !many {
+        return None;
+    }
+    if !is_flat(way, chunk) {
+        return None;
+    }
+    let row = ChunkRow::new(graph, typed, chunk, positions);
+    match find(way, &row) {
+        Found::Number(number) => Some(number),
+        Found::Null | Found::Other => None,
+    }
+}
+
+// Whether a node variable lives in a flat group.
+fn is_flat(way: Way, chunk: &Chunk<'_, '_>) -> bool
+    ensures { result ≡ true → IsFlatWay chunk.now way }
+{
+    let Way::Node(range) = way else {
+        return false;
+    };
+    match chunk.homes.nodes.get(range.variable as usize) {
+        Some(home) => is_home_flat(*home, chunk),
+        None => false,
+    }
+}
+
+fn is_home_flat(home: NodeHome, chunk: &Chunk<'_, '_>) -> bool
+    ensures { result ≡ true → IsFlatHome chunk.now home }
+{
+    match home {
+        NodeHome::Nowhere => false,
+        NodeHome::Item { group } => is_flat_group(chunk, group),
+        NodeHome::Column { group, .. } => is_flat_group(chunk, group),
+    }
+}
+
+fn is_flat_group(chunk: &Chunk<'_, '_>, group: u32) -> bool
+    ensures { result ≡ true → IsFlat (group_of chunk.now group) }
+{
+    match chunk.groups.get(group as usize) {
+        Some(group) => group.current.is_some(),
+        None => false,
+    }
+}

@@ -1,0 +1,15 @@
+//! Rows that are listed as they come, without DISTINCT and without ORDER BY, and held as cells: what
+//! stands for the value of a column is found for an assignment, and kept. The crate stands on the
+//! definitions of `gq_kept`, on what `gq_project` makes of an assignment, on the chunks of `gq_group`
+//! and on the cells of `gq_cells`.
+#![tactic(auto)]
+
+mod finder;
+mod holding;
+mod listed;
+mod places;
+mod tables;
+
+pub use finder::Finder;
+pub use holding::hold_columns;
+pub use listed::{Asked, Listed, find_columns, is_listing};

@@ -1,0 +1,259 @@
+//! Rows that are held as cells: those of a query without DISTINCT and without ORDER BY.
+ghost use Rattle.std.specs.Prelude.{◌≡◌, ◌<◌, ◌^◌, [], Some, OnOk, false, true};
+ghost use Rattle.std.specs.List.{All};
+ghost use Rattle.gq_eval.specs.Asked.{answers, asked_of};
+ghost use Rattle.gq_group.specs.Choices.{Begins};
+ghost use Rattle.gq_group.specs.Chunks.{IsChunkOf};
+ghost use Rattle.gq_kept.specs.Chunks.{PushesAll, admitted_outcomes};
+ghost use Rattle.gq_kept.specs.Forms.{TellsFull};
+ghost use Rattle.gq_kept.specs.Tables.{Pushes, StandsForSome, is_full_table};
+ghost use Rattle.gq_listed.specs.Finding.{Extends};
+ghost use Rattle.gq_listed.specs.Flat.{AreHeldIn, IsHeld};
+ghost use Rattle.gq_listed.specs.Listed.{AddsIn, AreFinders, AreFreeFinders, Finding, IsAsked};
+ghost use Rattle.gq_listed.specs.Listed.{IsListing, PutsRow, held_in, is_listing, outcome_in};
+ghost use Rattle.gq_listed.specs.Listed.{outcome_within, table_in};
+ghost use Rattle.gq_plan.specs.Assignments.{row_of};
+
+use crate::finder::{Finder, put_column};
+use crate::tables::Tables;
+use gq_base::{Memory, Value};
+use gq_cells::{Cells, Source};
+use gq_eval::Evaluator;
+use gq_expr::Assigned;
+use gq_group::{Choice, Chunk, ChunkRow};
+use gq_kept::{Form, More, RowRefusal, may_keep};
+use gq_plan::{Bound, Typed};
+use gq_project::{Admits, Checked, Reading, check_late};
+use gq_store::Graph;
+use std::mem::size_of;
+
+/// What is asked of each row where the rows are listed as they come, and the most rows that are
+/// kept.
+#[derive(Clone, Copy)]
+pub struct Asked<'q, 'g> {
+    pub graph: &'g Graph,
+    pub bound: &'g Bound,
+    /// The numbers of the conjuncts that are left.
+    pub late: &'g [u32],
+    pub limit: u32,
+    /// The bytes that the rows may take.
+    pub room: u64,
+    pub form: Form,
+    /// The columns and the conjuncts as they are evaluated over the graph.
+    pub reading: &'q Reading<'g>,
+}
+
+/// The values of rows, one row after another, as cells, and how many of them are kept themselves.
+#[derive(Drop)]
+pub struct Listed<'g> {
+    pub cells: Cells<'g>,
+    pub count: usize,
+    pub made: usize,
+}
+
+/// Whether the rows of a query are listed as they come.
+pub fn is_listing(bound: &Bound) -> bool
+    ensures { result ≡ is_listing bound.now }
+{
+    !bound.distinct && bound.keys.is_empty()
+}
+
+/// How the values of columns are kept for an alternative in a graph, in the place of what was
+/// there; where that was done, it stays.
+pub fn find_columns<'g>(
+    done: bool,
+    cells: &mut Cells<'g>,
+    finders: &mut Vec<Finder>,
+    bound: &Bound,
+    typed: &Typed,
+    graph: &'g Graph,
+) -> Result<(), Memory>
+    requires { let columns = asked_of graph.now bound.now.columns in
+        done ≡ true → AreFreeFinders cells.old.sources columns finders.old.items }
+    ensures finds { let columns = asked_of graph.now bound.now.columns in
+        OnOk result (AreFreeFinders cells.new.sources columns finders.new.items) }
+    ensures values { cells.new.values ≡ cells.old.values }
+{
+    if done {
+        return Ok(());
+    }
+    let tables = Tables { bound, typed };
+    let columns = bound.columns.as_slice();
+    let null = cells.add(Source::Value(Value::Null))?;
+    finders.clear();
+    'columns: for column in columns {
+        let finder = Finder::new(cells, null, &column.expr, &tables, graph)?;
+        finders.push(finder)?;
+    }
+    Ok(())
+}
+
+// Appends the values of columns for an assignment, and counts those that are kept themselves.
+fn put_row<'g, R: Assigned>(
+    cells: &mut Cells<'g>,
+    made: &mut usize,
+    finders: &[Finder],
+    columns: &[Evaluator<'g>],
+    row: &R,
+) -> Result<(), RowRefusal>
+    requires finders { AreFinders cells.old.sources columns.now finders.now }
+    requires held { All (IsHeld (R.assignment row.now)) finders.now }
+    ensures puts { PutsRow (answers (R.assignment row.now) columns.now)
+        cells.old.values cells.new.values result }
+    ensures more { OnOk result (Extends cells.old.sources cells.new.sources) }
+{
+    'values: for (column, finder) in columns.iter().zip(finders) {
+        match put_column(cells, made, finder, column, row) {
+            Ok(()) => {}
+            Err(refusal) => return Err(refusal),
+        }
+    }
+    Ok(())
+}
+
+impl<'g> Listed<'g> {
+    // Adds the row of an assignment, unless it is dropped.
+    fn add<R: Assigned>(
+        &mut self,
+        finders: &[Finder],
+        asked: &Asked<'_, 'g>,
+        row: &R,
+    ) -> Result<bool, RowRefusal>
+        requires few { self.old.count < 2 ^ 40 }
+        requires keyless { asked.now.bound.now.keys ≡ [] }
+        requires reading { IsAsked asked.now }
+        requires finders { Finding asked.now self.old.cells.sources finders.now }
+        requires held { All (IsHeld (R.assignment row.now)) finders.now }
+        ensures adds { AddsIn asked.now (outcome_in asked.now (R.assignment row.now))
+            self.old self.new result }
+        ensures more { OnOk result (Extends self.old.cells.sources self.new.cells.sources) }
+    {
+        match check_late(&asked.reading.conjuncts, asked.late, row) {
+            Checked::Dropped => return Ok(false),
+            Checked::Faulty(fault) => return Err(RowRefusal::Fault(fault)),
+            Checked::Met => {}
+        }
+        let columns = asked.reading.columns.as_slice();
+        match put_row(&mut self.cells, &mut self.made, finders, columns, row) {
+            Ok(()) => {}
+            Err(refusal) => return Err(refusal),
+        }
+        if !may_keep(self.count, asked.limit) {
+            return Err(RowRefusal::TooManyRows { limit: asked.limit });
+        }
+        if self.bytes() > asked.room {
+            return Err(RowRefusal::Memory(Memory::Limit));
+        }
+        self.count += 1;
+        Ok(true)
+    }
+
+    // The bytes that the values take: 8 for each, and those of its source for one that is kept
+    // itself.
+    fn bytes(&self) -> u64 {
+        let cells = (self.cells.len() as u64).saturating_mul(8);
+        let sources = (self.made as u64).saturating_mul(size_of::<Source<'_>>() as u64);
+        cells.saturating_add(sources)
+    }
+
+    // Whether another row can change what is answered.
+    fn more(&self, form: Form) -> More
+        ensures { TellsFull form result (held_in self.now) }
+    {
+        match form {
+            Form::First(n) => if self.count >= n {
+                More::Enough
+            } else {
+                More::Go
+            },
+            Form::All | Form::Top(_) | Form::Classes => More::Go,
+        }
+    }
+
+    /// Takes an assignment.
+    pub fn push<R: Assigned>(
+        &mut self,
+        finders: &[Finder],
+        asked: &Asked<'_, 'g>,
+        row: &R,
+    ) -> Result<More, RowRefusal>
+        requires listing { IsListing asked.now }
+        requires reading { IsAsked asked.now }
+        requires finders { Finding asked.now self.old.cells.sources finders.now }
+        requires held { All (IsHeld (R.assignment row.now)) finders.now }
+        requires stands { StandsForSome (table_in asked.now self.old) }
+        requires room { is_full_table (table_in asked.now self.old) ≡ false }
+        ensures pushes { Pushes (outcome_in asked.now (R.assignment row.now))
+            (table_in asked.now self.old) (table_in asked.now self.new) result }
+        ensures more { OnOk result (Extends self.old.cells.sources self.new.cells.sources) }
+    {
+        match self.add(finders, asked, row) {
+            Ok(_) => Ok(self.more(asked.form)),
+            Err(refusal) => Err(refusal),
+        }
+    }
+
+    // Takes an assignment, if it is admitted.
+    fn push_row<A: Admits>(
+        &mut self,
+        finders: &[Finder],
+        asked: &Asked<'_, 'g>,
+        row: &ChunkRow<'_, '_, '_, '_, '_>,
+        admits: &A,
+    ) -> Result<More, RowRefusal>
+        requires listing { IsListing asked.now }
+        requires reading { IsAsked asked.now }
+        requires finders { Finding asked.now self.old.cells.sources finders.now }
+        requires held { All (IsHeld (row_of row.now)) finders.now }
+        requires stands { StandsForSome (table_in asked.now self.old) }
+        requires room { is_full_table (table_in asked.now self.old) ≡ false }
+        ensures pushes { let admitted = A.admitted admits.now in
+            Pushes (outcome_within admitted asked.now (row_of row.now))
+            (table_in asked.now self.old) (table_in asked.now self.new) result }
+        ensures more { OnOk result (Extends self.old.cells.sources self.new.cells.sources) }
+    {
+        if !admits.admits(row) {
+            return Ok(More::Go);
+        }
+        self.push(finders, asked, row)
+    }
+
+    /// Takes the admitted assignments of the choices of a chunk from the one that stands on.
+    pub fn push_choices<A: Admits>(
+        &mut self,
+        finders: &[Finder],
+        asked: &Asked<'_, 'g>,
+        choice: &mut Choice,
+        chunk: &Chunk<'_, '_>,
+        typed: &Typed,
+        admits: &A,
+    ) -> Result<More, RowRefusal>
+        requires chunk { IsChunkOf asked.now.graph.now typed.now chunk.now }
+        requires late { asked.now.late.now ≡ typed.now.late }
+        requires listing { IsListing asked.now }
+        requires reading { IsAsked asked.now }
+        requires finders { Finding asked.now self.old.cells.sources finders.now }
+        requires held { AreHeldIn asked.now.graph.now typed.now chunk.now finders.now }
+        requires stands { StandsForSome (table_in asked.now self.old) }
+        requires room { is_full_table (table_in asked.now self.old) ≡ false }
+        requires begins { Begins chunk.now.groups.now true choice.old }
+        ensures pushes { let q = asked.now in
+            let admitted = A.admitted admits.now in
+            let y = Some typed.now in
+            let os = admitted_outcomes admitted q.graph.now q.bound.now y chunk.now in
+            PushesAll os (table_in q self.old) (table_in q self.new) result }
+        ensures more { OnOk result (Extends self.old.cells.sources self.new.cells.sources) }
+    {
+        let mut found = true;
+        'choices: while found {
+            let row = ChunkRow::new(asked.graph, typed, chunk, choice.positions());
+            match self.push_row(finders, asked, &row, admits) {
+                Ok(More::Go) => {}
+                Ok(More::Enough) => return Ok(More::Enough),
+                Err(refusal) => return Err(refusal),
+            }
+            found = choice.next(chunk.groups);
+        }
+        Ok(More::Go)
+    }
+}

@@ -1,0 +1,3 @@
+mod Dropping
+pub mod Looking
+pub mod Ready

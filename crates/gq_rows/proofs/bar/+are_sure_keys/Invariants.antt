@@ -1,5 +1,0 @@
-use Rattle.std.proofs.Common.{length}
-use Rattle.gq_rows.proofs.bar.+are_sure_keys.Given as goal
-
-abbrev pub decreases-are_sure_keys : goal.decreases-are_sure_keys
-decreases-are_sure_keys l = length l.keys.now

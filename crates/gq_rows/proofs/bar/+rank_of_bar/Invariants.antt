@@ -1,5 +1,0 @@
-use Rattle.std.proofs.Common.{length}
-use Rattle.gq_rows.proofs.bar.+rank_of_bar.Given as goal
-
-abbrev pub decreases-rank_of_bar : goal.decreases-rank_of_bar
-decreases-rank_of_bar g l = length l.sorts.now

@@ -1,9 +1,0 @@
-use Rattle.std.proofs.Common.{sym, subst}
-use Rattle.gq_rows.specs.steps.Flat.{IsFlatWay}
-use Rattle.gq_rows.proofs.FlatGroups.{at_home}
-use Rattle.gq_rows.proofs.holding.is_flat.Goals as goal
-
-pub returns-in-Some : goal.returns-in-Some
-returns-in-Some c = λ e.
-    subst (IsFlatWay c.args.chunk.now) (sym c.in-Node.is)
-    (at_home c.args.chunk.now c.in-Node.range.variable c.in-Some.home.now (sym c.in-Some.ensures.value) (c.is_home_flat.ensures e))

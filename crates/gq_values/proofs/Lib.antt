@@ -1,0 +1,7 @@
+mod Bars
+mod ByKeys
+pub mod ClassRows
+mod Pieces
+mod ShownOrder
+mod SureRows
+mod TopRows
