@@ -25,7 +25,7 @@ use Rattle.gq_hops.specs.declared.follow.Level.{Level}
 use Rattle.gq_hops.specs.declared.hop.Near.{Near}
 use Rattle.gq_hops.specs.declared.hop.Near.TheVariants.{One}
 use Rattle.gq_hops.specs.steps.Nears.{rows_in}
-use Rattle.gq_hops.proofs.Following.{Edge, IsEdge, rel, hop_leads, hop_next, hop_none, met_at, none_met}
+use Rattle.gq_hops.proofs.Following.{Edge, IsEdge, as_many, get_some, rel, hop_leads, hop_next, hop_none, met_at, none_met}
 
 -- ---- lists
 
@@ -212,6 +212,9 @@ module _ (g : Graph) (kind : List ℕ) (way : Direction) where
     left_past : (place : ℕ) → drop place (met_in g kind way (Some at) e.table) ≡ [] → left_at g kind way at table place ≡ left_at g kind way at (table + 1) 0
     left_past place none = left_here place ∙ ap (λ l. l ++ met_by g kind way at (drop (table + 1) (tables_in g kind way))) none ∙ sym left_next
 
+    pub number_some : (place : ℕ) → place < length (neighbours g e.table way at.row) → (number : ℕ) × (slice_get (numbers g e.table way at.row) place ≡ Some number)
+    number_some place low = get_some (numbers g e.table way at.row) place (omega (arith, low, as_many g e.table is.of is.table_is way at.row))
+
     module _ (met_here : nat_eq e.near at.table ≡ true) where
       lies : at.table ≡ near_table way is.of
       lies = (let same : nat_eq e.near at.table ≡ true = met_here in let eq : at.table ≡ e.near = grind (arith, nat_tests, same) in eq) ∙ is.near_is
@@ -325,6 +328,9 @@ module _ (g : Graph) (kind : List ℕ) (way : Direction) where
 
     pub met_few : l.place + 1 < 2 ^ 32
     met_few = (let low : l.place < length (rows_in l.near) = slice_get_within (rows_in l.near) l.place row here in omega (arith, low, level.near.few))
+
+    pub met_some : (number : ℕ) × (slice_get (numbers g e.table way l.at.row) l.place ≡ Some number)
+    met_some = number_some l.at l.table e found l.place (slice_get_within (neighbours g e.table way l.at.row) l.place row met_place)
 
     met_inside : row < near_rows g e.table (opposite way)
     met_inside = all_at (λ other. other < near_rows g e.table (opposite way)) (rows_in l.near) l.place row (level.near.ends e found) here

@@ -11,10 +11,12 @@ use Rattle.gq_plan.specs.Meaning.{far}
 use Rattle.gq_law_trails.specs.Bounds.{AreBounds, comes, may_end_at}
 use Rattle.gq_law_trails.specs.Walks.{end_of}
 use Rattle.gq_hops.specs.Walking.{Course}
-use Rattle.gq_hops.specs.steps.Hops.{IsFirst, IsLevelIn, IsStart, left_at}
-use Rattle.gq_hops.specs.steps.Searches.{IsEnd, IsNext, IsOpen, IsRoomy, IsSpent, IsTaken, Run, behind, kept_by, left_in, level_at, no_level, onto, owed_by, rel_at, run_of, taken, with_level, with_step}
+use Rattle.gq_hops.specs.steps.Hops.{IsFirst, IsHop, IsLevelIn, IsStart, left_at}
+use Rattle.gq_hops.specs.steps.Searches.{IsEnd, IsNext, IsOpen, IsRoomy, IsSeen, IsSpent, IsTaken, Run, behind, kept_by, left_in, level_at, no_level, onto, owed_by, rel_at, run_of, taken, with_level, with_step}
+use Rattle.gq_hops.specs.declared.follow.Follow.{Follow}
 use Rattle.gq_hops.specs.declared.follow.Hop.{Hop}
 use Rattle.gq_hops.specs.declared.follow.Level.{Level}
+use Rattle.gq_hops.specs.declared.follow.Met.{Met}
 use Rattle.gq_hops.specs.declared.search.Run as declared
 use Rattle.gq_hops.specs.declared.search.Search.{Search}
 use Rattle.gq_hops.proofs.Owing.{AreSame, AreSameLevels, far_off, fresh_left, back, down, ends_at, skipped, stop, taken_has}
@@ -168,10 +170,14 @@ module _ (r : declared.Run) (s : Search) (open_at : IsOpen (run_of r) s) where
       pub owed_mid : owed_by (run_of r) s ≡ owed_by (run_of r) (with_level s s.depth level)
       owed_mid = skipped (run_of r) s.rels.items s.levels.items mid.levels.items s.depth h.rel left_is stands below
 
-    module _ (free : list_any (same_rel h.rel) (taken r.used s.rels.items s.depth) ≡ false) (are : AreBounds (run_of r).course.graph (run_of r).course.kind (run_of r).course.way (run_of r).bounds)
-        (short : nat_lt ((run_of r).bounds h.node + s.depth) r.high ≡ false) where
+    module _ (are : AreBounds (run_of r).course.graph (run_of r).course.kind (run_of r).course.way (run_of r).bounds) (short : nat_lt ((run_of r).bounds h.node + s.depth) r.high ≡ false) where
+      -- whether it is used or not
       pub owed_far : kept_by (run_of r) s ≡ kept_by (run_of r) (with_level s s.depth level)
-      owed_far = far_off (run_of r) are s.rels.items s.levels.items mid.levels.items s.depth h.rel h.node low left_is free first.leads below (grind (arith, nat_tests, short))
+      owed_far = go (list_any (same_rel h.rel) (taken r.used s.rels.items s.depth)) refl
+        where
+          go : (b : Bool) → list_any (same_rel h.rel) (taken r.used s.rels.items s.depth) ≡ b → kept_by (run_of r) s ≡ kept_by (run_of r) (with_level s s.depth level)
+          go true stands = kept_same (run_of r) s (with_level s s.depth level) (owed_mid stands)
+          go false free = far_off (run_of r) are s.rels.items s.levels.items mid.levels.items s.depth h.rel h.node low left_is free first.leads below (grind (arith, nat_tests, short))
 
     pub less_mid : weight (run_of r) (with_level s s.depth level).levels.items (suc s.depth) < weight (run_of r) s.levels.items (suc s.depth)
     less_mid = skip_less (run_of r) s.levels.items mid.levels.items s.depth h.rel low left_is below
@@ -255,6 +261,18 @@ module _ (r : declared.Run) (s : Search) (open_at : IsOpen (run_of r) s) where
       pub less_new : weight (run_of r) new.levels.items (suc new.depth) < weight (run_of r) s.levels.items (suc s.depth)
       less_new = subst (λ n. weight (run_of r) new.levels.items (suc n) < weight (run_of r) s.levels.items (suc s.depth)) (sym is.depth)
           (down_less (run_of r) s.levels.items new.levels.items s.depth h.rel low left_new same_new h.node first.leads next_left)
+
+-- one relationship stands at a place
+pub hop_once : (f : Follow) (m : Met) (h k : Hop) → IsHop f m h → IsHop f m k → h ≡ k
+hop_once f m h k a b =
+    let number : Some h.rel.row ≡ Some k.rel.row = sym a.number ∙ b.number in
+    let row : h.rel.row ≡ k.rel.row = cc number in
+    let table : h.rel.table ≡ k.rel.table = a.table ∙ sym b.table in
+    let node : h.node ≡ k.node = a.node ∙ sym b.node in
+    λ i. record { rel = record { table = table i; row = row i }; node = node i }
+
+pub taken_is : (r : declared.Run) (old new : Search) (m : Met) (h : Hop) → IsSeen r old new m → IsHop r.follow m h → IsTaken r old new h
+taken_is r old new m h seen is = subst (IsTaken r old new) (hop_once r.follow m seen.hop h seen.is is) seen.taken
 
 -- what the test of a relationship and a step say of the search before
 module _ (r : declared.Run) (s mid : Search) (h : Hop) (open_at : IsOpen (run_of r) s) (t : IsTaken r s mid h) where

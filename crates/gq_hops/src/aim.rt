@@ -9,7 +9,7 @@ ghost use Rattle.gq_store.specs.Neighbours.{opposite};
 ghost use Rattle.gq_hops.specs.steps.Aims.{AreHit, AreInside, IsAimed};
 ghost use Rattle.gq_hops.specs.steps.Hops.{AreTables};
 
-use crate::follow::{Follow, level_at, next_hop};
+use crate::follow::{Follow, level_at, next_met};
 use gq_base::{Memory, NodeId};
 use gq_marks::Marks;
 use std::alloc::Global;
@@ -20,18 +20,23 @@ const MAX_REACHED: usize = 8_192;
 /// The bound of all others where none of them comes to the end: more than a walk may have.
 const NEVER: u8 = 255;
 
-/// Bounds by which a walk may end at each node, with room for others where that is wanted.
-pub(crate) fn marks_for(alloc: Global, back: &Follow<'_>, wanted: bool) -> Result<Marks, Memory>
+/// Bounds by which a walk may end at each node, with places for others at so many nodes, a byte each:
+/// those of the first tables for which they are enough.
+pub(crate) fn marks_for(alloc: Global, back: &Follow<'_>, places: usize) -> Result<Marks, Memory>
     ensures { IfOk result (λ m. (n : Node) → bound_of m n ≡ 0) }
 {
     let graph = back.graph;
     let mut sizes = Vec::new(alloc);
-    if wanted {
-        for table in 0..graph.catalog().node_tables() {
-            sizes.push(graph.node_count(table))?;
+    let mut left = places;
+    'tables: for table in 0..graph.catalog().node_tables() {
+        let nodes = graph.node_count(table);
+        if left < nodes as usize {
+            break;
         }
+        left -= nodes as usize;
+        sizes.push(nodes)?;
     }
-    let room = if wanted { MAX_REACHED } else { 0 };
+    let room = if places == 0 { 0 } else { MAX_REACHED };
     Ok(Marks::new(alloc, sizes.as_slice(), room)?)
 }
 
@@ -109,10 +114,10 @@ fn spread(marks: &mut Marks, back: &Follow<'_>, node: NodeId, mark: u8) -> bool
 {
     let mut level = level_at(back, node, 0);
     loop {
-        match next_hop(back, &mut level) {
+        match next_met(back, &mut level) {
             None => return true,
-            Some(hop) => {
-                if !marks.put(hop.node, mark) {
+            Some(met) => {
+                if !marks.put(met.node, mark) {
                     return false;
                 }
             }

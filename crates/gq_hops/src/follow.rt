@@ -1,9 +1,9 @@
 //! Relationships of a type at a node, one after another.
-ghost use Rattle.std.specs.Prelude.{◌≡◌, ◌<◌, true, length, slice_get, IfOk, Some};
+ghost use Rattle.std.specs.Prelude.{◌≡◌, true, slice_get, IfOk};
 ghost use Rattle.gq_plan.specs.Assignments.{is_node};
-ghost use Rattle.gq_store.specs.Neighbours.{near_rows, neighbours, numbers, opposite};
-ghost use Rattle.gq_hops.specs.steps.Hops.{AreTables, IsHopHere, IsLevel, IsNear, IsNextHop};
-ghost use Rattle.gq_hops.specs.steps.Hops.{IsStart, far_table, near_table, tables_of};
+ghost use Rattle.gq_store.specs.Neighbours.{opposite};
+ghost use Rattle.gq_hops.specs.steps.Hops.{AreTables, IsHop, IsLevel, IsMetHere, IsNear, IsNextMet};
+ghost use Rattle.gq_hops.specs.steps.Hops.{IsSite, IsStart, far_table, near_table, tables_of};
 
 use crate::hop::{Near, near_at};
 use gq_base::{Catalog, Direction, Memory, NodeId, RelId, RelTable, Text};
@@ -14,6 +14,16 @@ use std::alloc::Global;
 #[derive(Clone, Copy)]
 pub(crate) struct Hop {
     pub(crate) rel: RelId,
+    pub(crate) node: NodeId,
+}
+
+/// A relationship that is met at a node: where it stands, by its table, the node's row and its place
+/// there, and the node to which it leads. Which one it is, its load number, was not read yet.
+#[derive(Clone, Copy)]
+pub(crate) struct Met {
+    pub(crate) table: u32,
+    pub(crate) near: u32,
+    pub(crate) place: u32,
     pub(crate) node: NodeId,
 }
 
@@ -152,15 +162,15 @@ fn near_of<'g>(follow: &Follow<'g>, at: NodeId, table: usize) -> Near<'g>
 }
 
 /// The next relationship at a node, if there is one.
-pub(crate) fn next_hop<'g>(follow: &Follow<'g>, level: &mut Level<'g>) -> Option<Hop>
+pub(crate) fn next_met<'g>(follow: &Follow<'g>, level: &mut Level<'g>) -> Option<Met>
     requires tables { AreTables follow.now }
     requires level { IsLevel follow.now level.old }
-    ensures { IsNextHop follow.now level.old level.new result }
+    ensures { IsNextMet follow.now level.old level.new result }
 {
     loop {
-        if let Some(hop) = hop_here(follow, level) {
+        if let Some(met) = met_here(follow, level) {
             level.place += 1;
-            return Some(hop);
+            return Some(met);
         }
         if follow.tables.len() <= level.table {
             return None;
@@ -170,16 +180,24 @@ pub(crate) fn next_hop<'g>(follow: &Follow<'g>, level: &mut Level<'g>) -> Option
 }
 
 /// The relationship at a level's place, if its table has one there.
-pub(crate) fn hop_here(follow: &Follow<'_>, level: &Level<'_>) -> Option<Hop>
+pub(crate) fn met_here(follow: &Follow<'_>, level: &Level<'_>) -> Option<Met>
     requires tables { AreTables follow.now }
     requires level { IsLevel follow.now level.now }
-    ensures { IsHopHere follow.now level.now result }
+    ensures { IsMetHere follow.now level.now result }
 {
     match table_at(follow, level.table) {
         None => None,
         Some(followed) => match level.near.get(level.place) {
             None => None,
-            Some(row) => Some(hop_at(follow, followed, level.at.row, level.place, row)),
+            Some(row) => Some(Met {
+                table: followed.table,
+                near: level.at.row,
+                place: level.place,
+                node: NodeId {
+                    table: followed.far,
+                    row,
+                },
+            }),
         },
     }
 }
@@ -191,27 +209,18 @@ fn table_at(follow: &Follow<'_>, table: usize) -> Option<Followed>
     follow.tables.get(table).copied()
 }
 
-// The relationship at a place, which leads to a row.
-fn hop_at(follow: &Follow<'_>, followed: Followed, near: u32, place: u32, row: u32) -> Hop
-    requires within { followed.table < length follow.now.graph.now.catalog.rels }
-    requires near { near < near_rows follow.now.graph.now followed.table follow.now.way }
-    requires place { slice_get (neighbours follow.now.graph.now followed.table follow.now.way near)
-        place ≡ Some row }
-    ensures number { slice_get (numbers follow.now.graph.now followed.table follow.now.way near)
-        place ≡ Some result.rel.row }
-    ensures rel { result.rel.table ≡ followed.table }
-    ensures node { result.node ≡ record { table = followed.far; row = row } }
+/// Which relationship it is that is met.
+pub(crate) fn hop_of(follow: &Follow<'_>, met: Met) -> Hop
+    requires { IsSite follow.now met }
+    ensures { IsHop follow.now met result }
 {
     let graph = follow.graph;
-    let edge = graph.edge_place(followed.table, follow.way, near, place);
+    let edge = graph.edge_place(met.table, follow.way, met.near, met.place);
     Hop {
         rel: RelId {
-            table: followed.table,
-            row: graph.edge_number(followed.table, edge),
+            table: met.table,
+            row: graph.edge_number(met.table, edge),
         },
-        node: NodeId {
-            table: followed.far,
-            row,
-        },
+        node: met.node,
     }
 }

@@ -9,7 +9,7 @@ ghost use Rattle.gq_hops.specs.steps.Hops.{AreTables};
 ghost use Rattle.gq_hops.specs.steps.Searches.{run_of, IsBegun, IsRoomy, IsOpen, IsTried};
 ghost use Rattle.gq_hops.specs.steps.Searches.{IsLonger, IsSearched};
 
-use crate::follow::{Follow, Hop, Level, hop_here, level_at, next_hop};
+use crate::follow::{Follow, Hop, Level, Met, hop_of, level_at, met_here, next_met};
 use crate::hop::Near;
 use crate::used::Used;
 use gq_base::{Memory, NodeId, RelId};
@@ -84,9 +84,10 @@ impl<'g> Search<'g> {
     {
         loop {
             match self.try_next(run) {
-                Some(hop) => {
-                    if !self.is_used(run, hop.rel) {
-                        if self.leads_on(run, hop.node) {
+                Some(met) => {
+                    if self.leads_on(run, met.node) {
+                        let hop = hop_of(&run.follow, met);
+                        if !self.is_used(run, hop.rel) {
                             self.take(run, hop);
                             if self.may_stop(run) {
                                 return true;
@@ -120,7 +121,7 @@ impl<'g> Search<'g> {
     }
 
     // The next relationship at the end of the walk, if there is one and the walk may be longer.
-    fn try_next(&mut self, run: &Run<'g>) -> Option<Hop>
+    fn try_next(&mut self, run: &Run<'g>) -> Option<Met>
         requires tables { AreTables run.now.follow }
         requires open { IsOpen (run_of run.now) self.old }
         ensures { IsTried run.now self.old self.new result }
@@ -129,12 +130,12 @@ impl<'g> Search<'g> {
             return None;
         }
         // A table has mostly one more, and then the level need not be copied.
-        if let Some(hop) = hop_here(&run.follow, &self.levels[self.depth]) {
+        if let Some(met) = met_here(&run.follow, &self.levels[self.depth]) {
             self.levels[self.depth].place += 1;
-            return Some(hop);
+            return Some(met);
         }
         let mut level = self.levels[self.depth];
-        let found = next_hop(&run.follow, &mut level);
+        let found = next_met(&run.follow, &mut level);
         if found.is_some() {
             self.levels[self.depth] = level;
         }

@@ -48,8 +48,14 @@ impl<'g> Model for Walker<'g> {
 }
 
 impl<'g> Walker<'g> {
-    /// A walker that owes nothing. After `Memory` there is none.
-    pub fn new(alloc: Global, graph: &'g Graph, part: &'g TrailPart) -> Result<Walker<'g>, Memory>
+    /// A walker that owes nothing. Where the trail's other end is bound, so many nodes have a place
+    /// for a bound, a byte each. After `Memory` there is none.
+    pub fn new(
+        alloc: Global,
+        graph: &'g Graph,
+        part: &'g TrailPart,
+        places: usize,
+    ) -> Result<Walker<'g>, Memory>
         requires some { 1 ≤ part.now.low }
         requires ordered { part.now.low ≤ part.now.high }
         requires few { part.now.high ≤ 16 }
@@ -57,7 +63,7 @@ impl<'g> Walker<'g> {
         ensures owed { IfOk result (λ w. w.owed ≡ []) }
     {
         let back = follow_type(alloc, graph, &part.kind, opposite_way(part.way))?;
-        let bounds = marks_for(alloc, &back, part.both)?;
+        let bounds = marks_for(alloc, &back, if part.both { places } else { 0 })?;
         Ok(Walker {
             run: Run {
                 follow: follow_type(alloc, graph, &part.kind, part.way)?,

@@ -28,6 +28,9 @@ use gq_store::Graph;
 use gq_wide::WideRow;
 use std::alloc::Global;
 
+/// How many nodes have places for bounds, in all trails of a query together: a byte each.
+const MAX_PLACES: usize = 134_217_728;
+
 /// What is walked: the trails of a query over a graph, beside the relationships of an alternative.
 #[derive(Drop)]
 pub(crate) struct Route<'g> {
@@ -234,9 +237,13 @@ fn walkers_for<'g>(
     ensures count { IfOk result (λ ws. length ws.items ≡ length parts.now) }
     ensures courses { IfOk result (λ ws. HaveCourses graph.now parts.now ws.items (length parts.now)) }
 {
+    let places = match parts.len() {
+        0 => 0,
+        count => MAX_PLACES / count,
+    };
     let mut walkers = Vec::with_capacity(alloc, parts.len())?;
     'parts: for part in parts {
-        walkers.push(Walker::new(alloc, graph, part)?)?;
+        walkers.push(Walker::new(alloc, graph, part, places)?)?;
     }
     Ok(walkers)
 }

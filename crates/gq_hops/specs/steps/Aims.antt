@@ -32,12 +32,12 @@ abbrev pub AreInside : Graph → List NodeId → Type 0
 AreInside g ns = AllByRecursion (λ n. is_node g n ≡ true) ns
 
 -- from where a relationship of the type leads to a node, there is a mark, which is at most one more
-abbrev pub IsNear : Graph → List ℕ → Direction → Marking → NodeId → RelId → Type 0
-IsNear g kind way m n r =
+abbrev pub IsNearer : Graph → List ℕ → Direction → Marking → NodeId → RelId → Type 0
+IsNearer g kind way m n r =
     (p : NodeId) → is_of_type g kind r ≡ true → near g way r ≡ Some p → far g way r ≡ Some n → (is_marked m p ≡ true) × (mark_at m.sheets p ≤ suc (mark_at m.sheets n))
 
 abbrev pub IsSettled : Graph → List ℕ → Direction → Marking → NodeId → Type 0
-IsSettled g kind way m n = (k : ℕ) (r : RelId) → slice_get (all_rels g) k ≡ Some r → IsNear g kind way m n r
+IsSettled g kind way m n = (k : ℕ) (r : RelId) → slice_get (all_rels g) k ≡ Some r → IsNearer g kind way m n r
 
 -- what is known of the nodes that were reached: those before a place are settled, and those from it on have no less than a level
 pub record IsAimed (g : Graph) (kind : List ℕ) (way : Direction) (level from : ℕ) (m : Marking) : Type 0 where

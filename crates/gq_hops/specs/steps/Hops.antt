@@ -10,11 +10,12 @@ use Rattle.gq_base.specs.declared.direction.Direction.TheVariants.{Forward, Back
 use Rattle.gq_plan.specs.Allowed.{at_same}
 use Rattle.gq_plan.specs.Assignments.{all_rels, is_node, rels_of}
 use Rattle.gq_plan.specs.Meaning.{far, near}
-use Rattle.gq_store.specs.Neighbours.{near_rows, neighbours, opposite}
+use Rattle.gq_store.specs.Neighbours.{near_rows, neighbours, numbers, opposite}
 use Rattle.gq_law_trails.specs.Walks.{is_of_type}
 use Rattle.gq_hops.specs.declared.follow.Follow.{Follow}
 use Rattle.gq_hops.specs.declared.follow.Hop.{Hop}
 use Rattle.gq_hops.specs.declared.follow.Level.{Level}
+use Rattle.gq_hops.specs.declared.follow.Met.{Met}
 use Rattle.gq_hops.specs.declared.hop.Near.{Near}
 use Rattle.gq_hops.specs.declared.follow.Followed.{Followed}
 use Rattle.gq_hops.specs.steps.Nears.{rows_in}
@@ -106,14 +107,33 @@ pub record IsFirst (f : Follow) (old new : Level) (h : Hop) : Type 0 where
   pub leads : far f.graph.now f.way h.rel ≡ Some h.node
   pub there : is_node f.graph.now h.node ≡ true
 
-abbrev pub IsNextHop : Follow → Level → Level → Option Hop → Type 0
-IsNextHop f old new found = MatchOption found (left_of f old ≡ []) (IsFirst f old new)
+-- where a relationship stands that is met at a node
+pub record IsSite (f : Follow) (m : Met) : Type 0 where
+  pub within : m.table < length f.graph.now.catalog.rels
+  pub near : m.near < near_rows f.graph.now m.table f.way
+  pub leads : slice_get (neighbours f.graph.now m.table f.way m.near) m.place ≡ Some m.node.row
+
+-- which one stands there
+pub record IsHop (f : Follow) (m : Met) (h : Hop) : Type 0 where
+  pub number : slice_get (numbers f.graph.now m.table f.way m.near) m.place ≡ Some h.rel.row
+  pub table : h.rel.table ≡ m.table
+  pub node : h.node ≡ m.node
+
+-- the first of what is left, where it stands
+pub record IsMetNext (f : Follow) (old new : Level) (m : Met) : Type 0 where
+  pub hop : Hop
+  pub is : IsHop f m hop
+  pub site : IsSite f m
+  pub first : IsFirst f old new hop
+
+abbrev pub IsNextMet : Follow → Level → Level → Option Met → Type 0
+IsNextMet f old new found = MatchOption found (left_of f old ≡ []) (IsMetNext f old new)
 
 -- the first of what is left stands at the level's place
-pub record IsHere (f : Follow) (l : Level) (h : Hop) : Type 0 where
-  pub first : IsFirst f l (record l { place = l.place + 1 }) h
+pub record IsHere (f : Follow) (l : Level) (m : Met) : Type 0 where
+  pub next : IsMetNext f l (record l { place = l.place + 1 }) m
   pub few : l.place + 1 < 2 ^ 32
 
 -- if its table has one there; else only what the tables behind have is left
-abbrev pub IsHopHere : Follow → Level → Option Hop → Type 0
-IsHopHere f l found = MatchOption found (left_of f l ≡ left_at f.graph.now f.kind.now f.way l.at (l.table + 1) 0) (IsHere f l)
+abbrev pub IsMetHere : Follow → Level → Option Met → Type 0
+IsMetHere f l found = MatchOption found (left_of f l ≡ left_at f.graph.now f.kind.now f.way l.at (l.table + 1) 0) (IsHere f l)

@@ -10,9 +10,10 @@ use Rattle.gq_law_trails.specs.Bounds.{comes}
 use Rattle.gq_law_trails.specs.Walks.{end_of, pred, walks}
 use Rattle.gq_hops.specs.Walking.{Course}
 use Rattle.gq_marks.specs.Marking.{bound_of}
-use Rattle.gq_hops.specs.steps.Hops.{IsFirst, IsLevel, IsLevelIn, IsStart, left_at, left_of}
+use Rattle.gq_hops.specs.steps.Hops.{IsFirst, IsHop, IsLevel, IsLevelIn, IsSite, IsStart, left_at, left_of}
 use Rattle.gq_hops.specs.declared.follow.Hop.{Hop}
 use Rattle.gq_hops.specs.declared.follow.Level.{Level}
+use Rattle.gq_hops.specs.declared.follow.Met.{Met}
 use Rattle.gq_hops.specs.declared.hop.Near.TheVariants.{One}
 use Rattle.gq_hops.specs.declared.search.Run as declared
 use Rattle.gq_hops.specs.declared.search.Search.{Search}
@@ -129,8 +130,15 @@ pub record IsTaken (r : declared.Run) (old new : Search) (h : Hop) : Type 0 wher
   pub is : new ≡ with_level old old.depth level
   pub first : IsFirst r.follow (level_at old.levels.items old.depth) level h
 
-abbrev pub IsTried : declared.Run → Search → Search → Option Hop → Type 0
-IsTried r old new found = MatchOption found (IsSpent r old new) (IsTaken r old new)
+-- the same, where it is not yet known which one it is
+pub record IsSeen (r : declared.Run) (old new : Search) (m : Met) : Type 0 where
+  pub hop : Hop
+  pub is : IsHop r.follow m hop
+  pub site : IsSite r.follow m
+  pub taken : IsTaken r old new hop
+
+abbrev pub IsTried : declared.Run → Search → Search → Option Met → Type 0
+IsTried r old new found = MatchOption found (IsSpent r old new) (IsSeen r old new)
 
 -- the first of what was owed is the walk, and the rest is owed
 pub record IsNext (c : Run) (old new : Search) : Type 0 where

@@ -1,139 +1,151 @@
-use Rattle.std.proofs.Common.{◌≡◌, ◌≢◌, ◌<◌, ◌+◌, ◌-◌, nat_eq, nat_le, nat_lt, false, true, ap, suc, sym, ◌∙◌, subst, arith}
+use Rattle.std.proofs.Common.{◌≡◌, ◌≢◌, ◌<◌, ◌+◌, ◌-◌, nat_eq, nat_le, nat_lt, false, true, ap, ap₂, suc, sym, ◌∙◌, subst, arith}
 use Rattle.std.proofs.lemmas.Bool.{and_parts}
 use Rattle.std.proofs.lemmas.Bool.Decides.{nat_tests}
+use Rattle.gq_base.specs.declared.NodeId.{NodeId}
 use Rattle.gq_hops.specs.steps.Hops.{IsLevel, IsStart}
-use Rattle.gq_hops.specs.steps.Searches.{IsEnd, IsLonger, IsNext, IsOpen, IsSpent, IsTaken, kept_by, run_of, with_level}
+use Rattle.gq_hops.specs.steps.Searches.{IsEnd, IsLonger, IsNext, IsOpen, IsSeen, IsSpent, IsTaken, kept_by, run_of, with_level}
 use Rattle.gq_hops.specs.declared.search.Search.{Search}
-use Rattle.gq_hops.proofs.Searching.{at_end, at_next, kept_first, kept_none, kept_on, kept_same, less_mid, less_new, less_up, open_mid, open_new, open_up, owed_far, owed_mid, owed_up, stands_is, stepped_new}
+use Rattle.gq_hops.proofs.Searching.{at_end, at_next, kept_first, kept_none, kept_on, kept_same, less_mid, less_new, less_up, open_mid, open_new, open_up, owed_far, owed_mid, owed_up, stands_is, stepped_new, taken_is}
 use Rattle.gq_hops.proofs.Weights.{weight}
 use Rattle.gq_hops.proofs.search.Search.next.Goals as goal
 
 pub returns-then-may_stop : goal.returns-then-may_stop
 returns-then-may_stop c =
     let r = c.args.run.now in
-    let s = c.loop-hop.self in
-    let open_at = c.loop-hop.invariant.open_at in
-    let t : IsTaken r s c.try_next.new.self c.in-Some.hop = c.in-Some.ensures in
-    let free = stands_is r s c.try_next.new.self c.in-Some.hop open_at t false (sym c.if-not-is_used.true ∙ c.is_used.ensures) in
-    let taken : IsLonger r c.try_next.new.self c.take.new.self c.in-Some.hop = c.take.ensures in
-    let is = stepped_new r s c.try_next.new.self c.in-Some.hop open_at t c.take.new.self taken.level taken.is in
+    let s = c.loop-met.self in
+    let open_at = c.loop-met.invariant.open_at in
+    let hop = c.hop_of-hop.result in
+    let t : IsTaken r s c.try_next.new.self hop = taken_is r s c.try_next.new.self c.in-Some.met hop c.in-Some.ensures c.hop_of-hop.ensures in
+    let free = stands_is r s c.try_next.new.self hop open_at t false (sym c.if-not-is_used.true ∙ c.is_used.ensures) in
+    let taken : IsLonger r c.try_next.new.self c.take.new.self hop = c.take.ensures in
+    let is = stepped_new r s c.try_next.new.self hop open_at t c.take.new.self taken.level taken.is in
     let same = ap (λ (m : Search). m.depth) t.is in
     let fits : suc s.depth < r.high → IsLevel r.follow taken.level = λ more. taken.fits (omega (arith, more, same)) in
-    let start : suc s.depth < r.high → IsStart c.in-Some.hop.node 0 taken.level = λ more. taken.start (omega (arith, more, same)) in
+    let start : suc s.depth < r.high → IsStart hop.node 0 taken.level = λ more. taken.start (omega (arith, more, same)) in
     let both = and_parts (nat_le r.low c.take.new.self.depth) (nat_eq ((run_of r).bounds c.take.new.self.last) 0) (sym c.may_stop.ensures ∙ c.if-may_stop.true) in
     let enough = both.0 in
-    let next : IsNext (run_of r) s c.take.new.self = at_next r s open_at t.low t.level c.in-Some.hop t.first free c.take.new.self taken.level is fits start (grind (arith, nat_tests, enough)) in
+    let next : IsNext (run_of r) s c.take.new.self = at_next r s open_at t.low t.level hop t.first free c.take.new.self taken.level is fits start (grind (arith, nat_tests, enough)) in
     record {
       open_at = next.open_at;
-      next = c.loop-hop.invariant.owed ∙ kept_first (run_of r) s c.take.new.self next both.1;
+      next = c.loop-met.invariant.owed ∙ kept_first (run_of r) s c.take.new.self next both.1;
       ends = next.ends;
       there = next.there;
     }
 
-pub loop-hop-smaller-else-may_stop : goal.loop-hop-smaller-else-may_stop
-loop-hop-smaller-else-may_stop c =
+pub loop-met-smaller-else-may_stop : goal.loop-met-smaller-else-may_stop
+loop-met-smaller-else-may_stop c =
     let r = c.args.run.now in
-    let s = c.loop-hop.self in
-    let open_at = c.loop-hop.invariant.open_at in
-    let t : IsTaken r s c.try_next.new.self c.in-Some.hop = c.in-Some.ensures in
-    let free = stands_is r s c.try_next.new.self c.in-Some.hop open_at t false (sym c.if-not-is_used.true ∙ c.is_used.ensures) in
-    let taken : IsLonger r c.try_next.new.self c.take.new.self c.in-Some.hop = c.take.ensures in
-    let is = stepped_new r s c.try_next.new.self c.in-Some.hop open_at t c.take.new.self taken.level taken.is in
+    let s = c.loop-met.self in
+    let open_at = c.loop-met.invariant.open_at in
+    let hop = c.hop_of-hop.result in
+    let t : IsTaken r s c.try_next.new.self hop = taken_is r s c.try_next.new.self c.in-Some.met hop c.in-Some.ensures c.hop_of-hop.ensures in
+    let free = stands_is r s c.try_next.new.self hop open_at t false (sym c.if-not-is_used.true ∙ c.is_used.ensures) in
+    let taken : IsLonger r c.try_next.new.self c.take.new.self hop = c.take.ensures in
+    let is = stepped_new r s c.try_next.new.self hop open_at t c.take.new.self taken.level taken.is in
     let same = ap (λ (m : Search). m.depth) t.is in
     let fits : suc s.depth < r.high → IsLevel r.follow taken.level = λ more. taken.fits (omega (arith, more, same)) in
-    let start : suc s.depth < r.high → IsStart c.in-Some.hop.node 0 taken.level = λ more. taken.start (omega (arith, more, same)) in
-    less_new r s open_at t.low t.level c.in-Some.hop t.first free c.take.new.self taken.level is fits start
+    let start : suc s.depth < r.high → IsStart hop.node 0 taken.level = λ more. taken.start (omega (arith, more, same)) in
+    less_new r s open_at t.low t.level hop t.first free c.take.new.self taken.level is fits start
 
-pub loop-hop-preserved-else-may_stop : goal.loop-hop-preserved-else-may_stop
-loop-hop-preserved-else-may_stop c =
+pub loop-met-preserved-else-may_stop : goal.loop-met-preserved-else-may_stop
+loop-met-preserved-else-may_stop c =
     let r = c.args.run.now in
-    let s = c.loop-hop.self in
-    let open_at = c.loop-hop.invariant.open_at in
-    let t : IsTaken r s c.try_next.new.self c.in-Some.hop = c.in-Some.ensures in
-    let free = stands_is r s c.try_next.new.self c.in-Some.hop open_at t false (sym c.if-not-is_used.true ∙ c.is_used.ensures) in
-    let taken : IsLonger r c.try_next.new.self c.take.new.self c.in-Some.hop = c.take.ensures in
-    let is = stepped_new r s c.try_next.new.self c.in-Some.hop open_at t c.take.new.self taken.level taken.is in
+    let s = c.loop-met.self in
+    let open_at = c.loop-met.invariant.open_at in
+    let hop = c.hop_of-hop.result in
+    let t : IsTaken r s c.try_next.new.self hop = taken_is r s c.try_next.new.self c.in-Some.met hop c.in-Some.ensures c.hop_of-hop.ensures in
+    let free = stands_is r s c.try_next.new.self hop open_at t false (sym c.if-not-is_used.true ∙ c.is_used.ensures) in
+    let taken : IsLonger r c.try_next.new.self c.take.new.self hop = c.take.ensures in
+    let is = stepped_new r s c.try_next.new.self hop open_at t c.take.new.self taken.level taken.is in
     let same = ap (λ (m : Search). m.depth) t.is in
     let fits : suc s.depth < r.high → IsLevel r.follow taken.level = λ more. taken.fits (omega (arith, more, same)) in
-    let start : suc s.depth < r.high → IsStart c.in-Some.hop.node 0 taken.level = λ more. taken.start (omega (arith, more, same)) in
+    let start : suc s.depth < r.high → IsStart hop.node 0 taken.level = λ more. taken.start (omega (arith, more, same)) in
     record {
-      open_at = open_new r s open_at t.low t.level c.in-Some.hop t.first free c.take.new.self taken.level is fits start;
-      owed = c.loop-hop.invariant.owed ∙ kept_on r s open_at t.low t.level c.in-Some.hop t.first free c.take.new.self taken.level is fits start (sym c.may_stop.ensures ∙ c.if-may_stop.false);
+      open_at = open_new r s open_at t.low t.level hop t.first free c.take.new.self taken.level is fits start;
+      owed = c.loop-met.invariant.owed ∙ kept_on r s open_at t.low t.level hop t.first free c.take.new.self taken.level is fits start (sym c.may_stop.ensures ∙ c.if-may_stop.false);
     }
 
-pub loop-hop-smaller-else-leads_on : goal.loop-hop-smaller-else-leads_on
-loop-hop-smaller-else-leads_on c =
+pub loop-met-smaller-else-leads_on : goal.loop-met-smaller-else-leads_on
+loop-met-smaller-else-leads_on c =
     let r = c.args.run.now in
-    let s = c.loop-hop.self in
-    let t : IsTaken r s c.try_next.new.self c.in-Some.hop = c.in-Some.ensures in
+    let s = c.loop-met.self in
+    let seen : IsSeen r s c.try_next.new.self c.in-Some.met = c.in-Some.ensures in
+    let t = seen.taken in
     subst (λ (m : Search). weight (run_of r) m.levels.items (suc m.depth) < weight (run_of r) s.levels.items (suc s.depth)) (sym t.is)
-    (less_mid r s c.loop-hop.invariant.open_at t.low t.level c.in-Some.hop t.first)
+    (less_mid r s c.loop-met.invariant.open_at t.low t.level seen.hop t.first)
 
-pub loop-hop-preserved-else-leads_on : goal.loop-hop-preserved-else-leads_on
-loop-hop-preserved-else-leads_on c =
+pub loop-met-preserved-else-leads_on : goal.loop-met-preserved-else-leads_on
+loop-met-preserved-else-leads_on c =
     let r = c.args.run.now in
-    let s = c.loop-hop.self in
-    let open_at = c.loop-hop.invariant.open_at in
-    let hop = c.in-Some.hop in
-    let t : IsTaken r s c.try_next.new.self hop = c.in-Some.ensures in
-    let free = stands_is r s c.try_next.new.self hop open_at t false (sym c.if-not-is_used.true ∙ c.is_used.ensures) in
-    let short : nat_lt ((run_of r).bounds hop.node + s.depth) r.high ≡ false =
-    ap (λ (m : Search). nat_lt ((run_of r).bounds hop.node + m.depth) r.high) (sym t.is) ∙ sym c.leads_on.ensures ∙ c.if-leads_on.false in
+    let s = c.loop-met.self in
+    let open_at = c.loop-met.invariant.open_at in
+    let seen : IsSeen r s c.try_next.new.self c.in-Some.met = c.in-Some.ensures in
+    let t = seen.taken in
+    let short : nat_lt ((run_of r).bounds seen.hop.node + s.depth) r.high ≡ false =
+    ap₂ (λ (n : NodeId) (m : Search). nat_lt ((run_of r).bounds n + m.depth) r.high) seen.is.node (sym t.is) ∙ sym c.leads_on.ensures ∙ c.if-leads_on.false in
+    record {
+      open_at = subst (IsOpen (run_of r)) (sym t.is) (open_mid r s open_at t.low t.level seen.hop t.first);
+      owed = c.loop-met.invariant.owed ∙ owed_far r s open_at t.low t.level seen.hop t.first c.requires.bounds short ∙ ap (kept_by (run_of r)) (sym t.is);
+    }
+
+pub loop-met-smaller-else-not-is_used : goal.loop-met-smaller-else-not-is_used
+loop-met-smaller-else-not-is_used c =
+    let r = c.args.run.now in
+    let s = c.loop-met.self in
+    let hop = c.hop_of-hop.result in
+    let t : IsTaken r s c.try_next.new.self hop = taken_is r s c.try_next.new.self c.in-Some.met hop c.in-Some.ensures c.hop_of-hop.ensures in
+    subst (λ (m : Search). weight (run_of r) m.levels.items (suc m.depth) < weight (run_of r) s.levels.items (suc s.depth)) (sym t.is)
+    (less_mid r s c.loop-met.invariant.open_at t.low t.level hop t.first)
+
+pub loop-met-preserved-else-not-is_used : goal.loop-met-preserved-else-not-is_used
+loop-met-preserved-else-not-is_used c =
+    let r = c.args.run.now in
+    let s = c.loop-met.self in
+    let open_at = c.loop-met.invariant.open_at in
+    let hop = c.hop_of-hop.result in
+    let t : IsTaken r s c.try_next.new.self hop = taken_is r s c.try_next.new.self c.in-Some.met hop c.in-Some.ensures c.hop_of-hop.ensures in
+    let stands = stands_is r s c.try_next.new.self hop open_at t true (sym c.if-not-is_used.false ∙ c.is_used.ensures) in
     record {
       open_at = subst (IsOpen (run_of r)) (sym t.is) (open_mid r s open_at t.low t.level hop t.first);
-      owed = c.loop-hop.invariant.owed ∙ owed_far r s open_at t.low t.level hop t.first free c.requires.bounds short ∙ ap (kept_by (run_of r)) (sym t.is);
-    }
-
-pub loop-hop-smaller-else-not-is_used : goal.loop-hop-smaller-else-not-is_used
-loop-hop-smaller-else-not-is_used c =
-    let r = c.args.run.now in
-    let s = c.loop-hop.self in
-    let t : IsTaken r s c.try_next.new.self c.in-Some.hop = c.in-Some.ensures in
-    subst (λ (m : Search). weight (run_of r) m.levels.items (suc m.depth) < weight (run_of r) s.levels.items (suc s.depth)) (sym t.is)
-    (less_mid r s c.loop-hop.invariant.open_at t.low t.level c.in-Some.hop t.first)
-
-pub loop-hop-preserved-else-not-is_used : goal.loop-hop-preserved-else-not-is_used
-loop-hop-preserved-else-not-is_used c =
-    let r = c.args.run.now in
-    let s = c.loop-hop.self in
-    let open_at = c.loop-hop.invariant.open_at in
-    let t : IsTaken r s c.try_next.new.self c.in-Some.hop = c.in-Some.ensures in
-    let stands = stands_is r s c.try_next.new.self c.in-Some.hop open_at t true (sym c.if-not-is_used.false ∙ c.is_used.ensures) in
-    record {
-      open_at = subst (IsOpen (run_of r)) (sym t.is) (open_mid r s open_at t.low t.level c.in-Some.hop t.first);
-      owed = c.loop-hop.invariant.owed ∙ kept_same (run_of r) s (with_level s s.depth t.level) (owed_mid r s open_at t.low t.level c.in-Some.hop t.first stands) ∙ ap (kept_by (run_of r)) (sym t.is);
+      owed = c.loop-met.invariant.owed ∙ kept_same (run_of r) s (with_level s s.depth t.level) (owed_mid r s open_at t.low t.level hop t.first stands) ∙ ap (kept_by (run_of r)) (sym t.is);
     }
 
 pub returns-then-self-eq0 : goal.returns-then-self-eq0
 returns-then-self-eq0 c =
     let r = c.args.run.now in
-    let s = c.loop-hop.self in
+    let s = c.loop-met.self in
     let t : IsSpent r s c.try_next.new.self = c.in-None.ensures in
     let first = ap (λ (m : Search). m.depth) (sym t.same) ∙ c.if-self-eq0.true in
-    let end : IsEnd (run_of r) s s = at_end r s c.loop-hop.invariant.open_at (subst (λ m. IsSpent r s m) t.same t) first in
+    let end : IsEnd (run_of r) s s = at_end r s c.loop-met.invariant.open_at (subst (λ m. IsSpent r s m) t.same t) first in
     record {
       open_at = subst (IsOpen (run_of r)) (sym t.same) end.open_at;
-      none = c.loop-hop.invariant.owed ∙ kept_none (run_of r) s end.none;
+      none = c.loop-met.invariant.owed ∙ kept_none (run_of r) s end.none;
     }
 
-pub loop-hop-smaller : goal.loop-hop-smaller
-loop-hop-smaller c =
+pub loop-met-smaller : goal.loop-met-smaller
+loop-met-smaller c =
     let r = c.args.run.now in
-    let s = c.loop-hop.self in
+    let s = c.loop-met.self in
     let t : IsSpent r s c.try_next.new.self = c.in-None.ensures in
     let some : s.depth ≢ 0 = λ none. c.if-self-eq0.false (ap (λ (m : Search). m.depth) t.same ∙ none) in
     subst (λ (m : Search). weight (run_of r) m.levels.items (suc (m.depth - 1)) < weight (run_of r) s.levels.items (suc s.depth)) (sym t.same)
-    (less_up r s c.loop-hop.invariant.open_at (subst (λ m. IsSpent r s m) t.same t) some)
+    (less_up r s c.loop-met.invariant.open_at (subst (λ m. IsSpent r s m) t.same t) some)
 
-pub loop-hop-preserved : goal.loop-hop-preserved
-loop-hop-preserved c =
+pub loop-met-preserved : goal.loop-met-preserved
+loop-met-preserved c =
     let r = c.args.run.now in
-    let s = c.loop-hop.self in
+    let s = c.loop-met.self in
     let t : IsSpent r s c.try_next.new.self = c.in-None.ensures in
     let some : s.depth ≢ 0 = λ none. c.if-self-eq0.false (ap (λ (m : Search). m.depth) t.same ∙ none) in
     let spent : IsSpent r s s = subst (λ m. IsSpent r s m) t.same t in
     record {
-      open_at = subst (λ (m : Search). IsOpen (run_of r) (record m { depth = m.depth - 1 })) (sym t.same) (open_up r s c.loop-hop.invariant.open_at spent some);
-      owed = c.loop-hop.invariant.owed ∙ kept_same (run_of r) s (record s { depth = s.depth - 1 }) (owed_up r s c.loop-hop.invariant.open_at spent some)
+      open_at = subst (λ (m : Search). IsOpen (run_of r) (record m { depth = m.depth - 1 })) (sym t.same) (open_up r s c.loop-met.invariant.open_at spent some);
+      owed = c.loop-met.invariant.owed ∙ kept_same (run_of r) s (record s { depth = s.depth - 1 }) (owed_up r s c.loop-met.invariant.open_at spent some)
           ∙ ap (λ (m : Search). kept_by (run_of r) (record m { depth = m.depth - 1 })) (sym t.same);
     }
+
+pub take-requires-clause-node : goal.take-requires-clause-node
+take-requires-clause-node c =
+    let r = c.args.run.now in
+    let t : IsTaken r c.loop-met.self c.try_next.new.self c.hop_of-hop.result = taken_is r c.loop-met.self c.try_next.new.self c.in-Some.met c.hop_of-hop.result c.in-Some.ensures c.hop_of-hop.ensures in
+    t.first.there

@@ -13,14 +13,20 @@ returns-in-Some c =
     let low : s.depth < c.args.run.now.high = omega (arith, c.if-run-self.false) in
     let inside : s.depth < length s.levels.items = omega (arith, low, c.requires.open.high, c.requires.open.room.levels) in
     let l : Level = c.index.result.now in
-    let here : IsHere f l c.in-Some.hop = c.in-Some.ensures in
+    let here : IsHere f l c.in-Some.met = c.in-Some.ensures in
+    let next = here.next in
     let is : l ≡ level_at s.levels.items s.depth = c.index.ensures ∙ get_or_default s.levels.items s.depth l no_level inside in
     let m : Level = c.index_mut.result.now in
     let same : m ≡ level_at s.levels.items s.depth = c.index_mut.ensures.value ∙ get_or_default s.levels.items s.depth m no_level inside in
     record {
-      low = low;
-      level = record m { place = m.place + 1 };
-      is = refl;
-      first = subst (λ (n : Level). IsFirst f (level_at s.levels.items s.depth) (record n { place = n.place + 1 }) c.in-Some.hop) (is ∙ sym same)
-          (subst (λ (n : Level). IsFirst f n (record l { place = l.place + 1 }) c.in-Some.hop) is here.first);
+      hop = next.hop;
+      is = next.is;
+      site = next.site;
+      taken = record {
+        low = low;
+        level = record m { place = m.place + 1 };
+        is = refl;
+        first = subst (λ (n : Level). IsFirst f (level_at s.levels.items s.depth) (record n { place = n.place + 1 }) next.hop) (is ∙ sym same)
+            (subst (λ (n : Level). IsFirst f n (record l { place = l.place + 1 }) next.hop) is next.first);
+      };
     }
