@@ -1,14 +1,16 @@
 //! Listings: the names of their columns, a line for each row, and how many rows there are.
 
-ghost use Rattle.std.specs.Prelude.{[], ◌<◌, codes, drop, flat_map, length, map, slice_index_or};
+ghost use Rattle.std.specs.Prelude.{[], ◌≡◌, ◌<◌, ◌≤◌, codes, drop, flat_map, length, map, slice_index_or};
 ghost use Rattle.gq_base.specs.Values.{val};
 ghost use Rattle.gq_io.specs.Causes.{HasCause};
 ghost use Rattle.gq_io.specs.Outside.{Writes};
 ghost use Rattle.gq_io.specs.Putting.{Puts};
+ghost use Rattle.gq_render.specs.steps.Fronts.{IsFront};
 ghost use Rattle.gq_render.specs.Listings.{column_names, count_text, end_rows_text, ends_text};
 ghost use Rattle.gq_render.specs.Listings.{header_text, listing_text, row_text, value_text};
 ghost use Rattle.gq_render.specs.Texts.{after_tab, name_text, tabbed};
 
+use crate::front::{Front, shared};
 use crate::name::put_name;
 use crate::value::{put_count, put_value};
 use gq_base::Value;
@@ -87,44 +89,67 @@ fn put_next_value<O: Sink>(
     put_value(batch, out, graph, value)
 }
 
-// Puts the values of a line behind its first one, each behind a tab.
+// Puts the values of a line from a column on, each behind a tab.
 fn put_other_values<O: Sink>(
     batch: &mut Batch,
     out: &mut O,
     graph: &Graph,
     listing: &Listing<'_>,
     row: usize,
+    first: usize,
 ) -> Result<(), Failed>
-    requires { row < length listing.now.lines }
+    requires row { row < length listing.now.lines }
+    requires first { first ≤ length (slice_index_or listing.now.lines row []) }
     ensures bytes { let values = slice_index_or listing.now.lines row [] in
         Puts (O.taken out.old) (O.taken out.new) batch.old batch.new
-        (flat_map (λ value. after_tab (value_text graph.now value)) (drop 1 values)) result }
+        (flat_map (λ value. after_tab (value_text graph.now value)) (drop first values)) result }
     ensures cause { HasCause (O.faults out.old) (O.faults out.new) result }
 {
-    for column in 1..listing.width(row) {
+    for column in first..listing.width(row) {
         put_next_value(batch, out, graph, &listing.value(row, column))?;
     }
     Ok(())
 }
 
+// Puts the values of a line from a column on.
 fn put_values<O: Sink>(
     batch: &mut Batch,
     out: &mut O,
     graph: &Graph,
     listing: &Listing<'_>,
     row: usize,
+    first: usize,
 ) -> Result<(), Failed>
-    requires { row < length listing.now.lines }
+    requires row { row < length listing.now.lines }
     ensures bytes { let values = slice_index_or listing.now.lines row [] in
         Puts (O.taken out.old) (O.taken out.new) batch.old batch.new
-        (tabbed (map (value_text graph.now) values)) result }
+        (tabbed (map (value_text graph.now) (drop first values))) result }
     ensures cause { HasCause (O.faults out.old) (O.faults out.new) result }
 {
-    if listing.width(row) == 0 {
+    if listing.width(row) <= first {
         return Ok(());
     }
-    put_value(batch, out, graph, &listing.value(row, 0))?;
-    put_other_values(batch, out, graph, listing, row)
+    put_value(batch, out, graph, &listing.value(row, first))?;
+    put_other_values(batch, out, graph, listing, row, first + 1)
+}
+
+// Puts the line of a row from a column on.
+fn put_rest<O: Sink>(
+    batch: &mut Batch,
+    out: &mut O,
+    graph: &Graph,
+    listing: &Listing<'_>,
+    row: usize,
+    first: usize,
+) -> Result<(), Failed>
+    requires row { row < length listing.now.lines }
+    ensures bytes { let values = slice_index_or listing.now.lines row [] in
+        Puts (O.taken out.old) (O.taken out.new) batch.old batch.new
+        (row_text graph.now (drop first values)) result }
+    ensures cause { HasCause (O.faults out.old) (O.faults out.new) result }
+{
+    put_values(batch, out, graph, listing, row, first)?;
+    batch.put(out, b"\n")
 }
 
 // Puts the line of a row.
@@ -141,8 +166,28 @@ fn put_row<O: Sink>(
         (row_text graph.now values) result }
     ensures cause { HasCause (O.faults out.old) (O.faults out.new) result }
 {
-    put_values(batch, out, graph, listing, row)?;
-    batch.put(out, b"\n")
+    put_rest(batch, out, graph, listing, row, 0)
+}
+
+// Puts the line of a row, of which the front is the text of the first columns.
+fn put_behind_front<O: Sink>(
+    batch: &mut Batch,
+    out: &mut O,
+    graph: &Graph,
+    listing: &Listing<'_>,
+    row: usize,
+    front: &Front,
+) -> Result<(), Failed>
+    requires row { row < length listing.now.lines }
+    requires front { let values = slice_index_or listing.now.lines row [] in
+        IsFront graph.now values front.now }
+    ensures bytes { let values = slice_index_or listing.now.lines row [] in
+        Puts (O.taken out.old) (O.taken out.new) batch.old batch.new
+        (row_text graph.now values) result }
+    ensures cause { HasCause (O.faults out.old) (O.faults out.new) result }
+{
+    batch.put(out, front.text.bytes())?;
+    put_rest(batch, out, graph, listing, row, front.held)
 }
 
 // Puts the last line: how many rows there are.
@@ -160,7 +205,29 @@ pub(crate) fn put_row_count<O: Sink>(
     batch.put(out, b"\n")
 }
 
-// Puts the line of each row.
+// Puts the line of each row. What columns of a row have in common with the next one is put once.
+fn put_each_row<O: Sink>(
+    batch: &mut Batch,
+    out: &mut O,
+    graph: &Graph,
+    listing: &Listing<'_>,
+    front: &mut Front,
+) -> Result<(), Failed>
+    requires none { front.old.held ≡ 0 }
+    requires empty { front.old.text ≡ [] }
+    ensures bytes { Puts (O.taken out.old) (O.taken out.new) batch.old batch.new
+        (flat_map (row_text graph.now) listing.now.lines) result }
+    ensures cause { HasCause (O.faults out.old) (O.faults out.new) result }
+{
+    for row in 0..listing.len() {
+        let count = shared(listing, row);
+        front.fill(graph, listing, row, count);
+        put_behind_front(batch, out, graph, listing, row, front)?;
+        front.cut(count);
+    }
+    Ok(())
+}
+
 fn put_rows<O: Sink>(
     batch: &mut Batch,
     out: &mut O,
@@ -171,10 +238,7 @@ fn put_rows<O: Sink>(
         (flat_map (row_text graph.now) listing.now.lines) result }
     ensures cause { HasCause (O.faults out.old) (O.faults out.new) result }
 {
-    for row in 0..listing.len() {
-        put_row(batch, out, graph, listing, row)?;
-    }
-    Ok(())
+    put_each_row(batch, out, graph, listing, &mut Front::new())
 }
 
 fn put_listing<O: Sink>(

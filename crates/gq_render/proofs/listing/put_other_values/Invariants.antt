@@ -7,5 +7,5 @@ use Rattle.gq_render.proofs.listing.put_other_values.Given as goal
 
 abbrev pub invariant-loop-column : goal.invariant-loop-column
 invariant-loop-column g l =
-    Put (g.O.Sink.taken l.initial.out) (g.O.Sink.taken l.out) l.initial.batch l.batch (flat_map (λ v. after_tab (value_text l.graph v)) (take (l.column - 1) (drop 1 (slice_index_or l.listing.lines l.row []))))
+    Put (g.O.Sink.taken l.initial.out) (g.O.Sink.taken l.out) l.initial.batch l.batch (flat_map (λ v. after_tab (value_text l.graph v)) (take (l.column - l.first) (drop l.first (slice_index_or l.listing.lines l.row []))))
     × (g.O.Sink.faults l.initial.out ≤ g.O.Sink.faults l.out)

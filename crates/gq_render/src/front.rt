@@ -1,0 +1,109 @@
+//! The text of the first columns of a row, kept for the rows behind that have the same values there.
+
+ghost use Rattle.std.specs.Prelude.{[], ◌≡◌, ◌+◌, ◌++◌, ◌<◌, ◌-◌, ◌≤◌, IfOk, length};
+ghost use Rattle.std.specs.Prelude.{slice_index_or};
+ghost use Rattle.gq_base.specs.Values.{val};
+ghost use Rattle.gq_render.specs.Listings.{value_text};
+ghost use Rattle.gq_render.specs.steps.Fronts.{AreStarts, IsCut, IsFront, IsShared, before_tab};
+
+use crate::value::put_value;
+use gq_base::Value;
+use gq_io::{Batch, Failed, Nowhere};
+use gq_rows::Listing;
+use gq_store::Graph;
+
+// A front has so many columns at most.
+const MOST: usize = 16;
+
+/// The texts of the first columns of a row, each with its tab behind it. It has no columns where
+/// their texts do not fit a batch.
+#[derive(Drop)]
+pub(crate) struct Front {
+    pub(crate) text: Batch,
+    pub(crate) held: usize,
+    // Where the text of each column begins.
+    starts: [usize; 16],
+}
+
+impl Front {
+    /// The front of no columns.
+    pub(crate) fn new() -> Front
+        ensures held { result.held ≡ 0 }
+        ensures text { result.text ≡ [] }
+    {
+        Front {
+            text: Batch::new(),
+            held: 0,
+            starts: [0; 16],
+        }
+    }
+
+    /// Puts the texts of further columns of a row, up to so many. Where they do not fit, the front
+    /// has no columns.
+    pub(crate) fn fill(&mut self, graph: &Graph, listing: &Listing<'_>, row: usize, count: usize)
+        requires row { row < length listing.now.lines }
+        requires few { count ≤ length (slice_index_or listing.now.lines row []) - 1 }
+        requires room { count ≤ 16 }
+        requires front { let line = slice_index_or listing.now.lines row [] in
+            IsFront graph.now line self.old }
+        ensures { let line = slice_index_or listing.now.lines row [] in
+            IsFront graph.now line self.new }
+    {
+        for column in self.held..count {
+            self.starts[column] = self.text.len();
+            match put_behind(&mut self.text, graph, &listing.value(row, column)) {
+                Ok(()) => self.held = column + 1,
+                Err(Failed) => {
+                    self.text.truncate(0);
+                    self.held = 0;
+                    return;
+                }
+            }
+        }
+    }
+
+    /// Leaves so many columns, or fewer where there are fewer.
+    pub(crate) fn cut(&mut self, count: usize)
+        requires room { self.old.held ≤ 16 }
+        requires starts { AreStarts self.old }
+        ensures { IsCut count self.old self.new }
+    {
+        if count < self.held {
+            self.text.truncate(self.starts[count]);
+            self.held = count;
+        }
+    }
+}
+
+// Puts a value and a tab behind a text, where there is room for them.
+#[inline(never)]
+fn put_behind(text: &mut Batch, graph: &Graph, value: &Value<'_>) -> Result<(), Failed>
+    ensures { IfOk result (λ _. text.new
+        ≡ text.old ++ before_tab (value_text graph.now (val value.now))) }
+{
+    let mut nowhere = Nowhere::new();
+    put_value(text, &mut nowhere, graph, value)?;
+    text.put(&mut nowhere, b"\t")
+}
+
+/// How many of the first columns have the same value in a row and in the next one, at most so many
+/// as a front has, and not the last column.
+pub(crate) fn shared(listing: &Listing<'_>, row: usize) -> usize
+    requires { row < length listing.now.lines }
+    ensures { let lines = listing.now.lines in
+        IsShared (slice_index_or lines row []) (slice_index_or lines (row + 1) []) result }
+{
+    let count = listing.len();
+    if count - row < 2 {
+        return 0;
+    }
+    let next = row + 1;
+    let width = listing.width(row).min(listing.width(next));
+    let most = width.saturating_sub(1).min(MOST);
+    for column in 0..most {
+        if !listing.stays(next, column) {
+            return column;
+        }
+    }
+    most
+}
