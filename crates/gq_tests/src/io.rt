@@ -1,18 +1,14 @@
 //! Small pieces, failing calls, limits and room, and the adapters over readers, writers and devices.
 
-use gq_base::{Bytes, List, Text};
+use crate::made::{Test, bytes, one, text};
+use gq_base::List;
 use gq_io::{
     Batch, Failed, Files, MemoryFiles, MemorySink, ReadFile, ReadStop, RealFiles, RealSink,
     RealSource, Sink, Source, SureFiles, SureSink, SureSource, read_chosen, write_all,
 };
-use std::test::Fail;
 
 // No call has this number.
 const NEVER: u64 = 1_000_000;
-
-fn only(rt: &HostRuntime, number: u64) -> Result<List<u64>, Fail> {
-    Ok(List::from_vec(vec![in rt.alloc(); number]?))
-}
 
 fn kind_of(answer: &Result<ReadFile, ReadStop>, text: &[u8]) -> &'static str {
     match answer {
@@ -24,177 +20,184 @@ fn kind_of(answer: &Result<ReadFile, ReadStop>, text: &[u8]) -> &'static str {
     }
 }
 
-// Puts a line so often into a sink with room for 20,000 bytes that takes at most 1,500 of a write.
-fn put_lines(
-    rt: &HostRuntime,
-    len: usize,
-    count: u64,
-    failing: u64,
-) -> Result<(bool, usize), Fail> {
-    let alloc = rt.alloc();
-    let line = vec![in alloc; b'a'; len]?;
-    let mut out = MemorySink::new(alloc, 20_000, 1500, only(rt, failing)?)?;
+// A sink in which the call with a number fails.
+fn sink(rt: &impl Test, room: u32, piece: u32, failing: u64) -> MemorySink {
+    assert!(rt; piece > 0);
+    MemorySink::new(rt.alloc(), room, piece, one(rt, failing)).expect(rt, "memory")
+}
+
+fn put_all(out: &mut MemorySink, line: &[u8], count: u64) -> bool {
     let mut batch = Batch::new();
     for _ in 0..count {
-        if batch.put(&mut out, &line).is_err() {
-            return Ok((false, out.taken().len()));
+        if batch.put(out, line).is_err() {
+            return false;
         }
     }
-    let flushed = batch.flush(&mut out).is_ok();
-    Ok((flushed, out.taken().len()))
+    batch.flush(out).is_ok()
 }
 
+// Puts a line so often into a sink with room for 20,000 bytes that takes at most 1,500 of a write.
+fn put_lines(rt: &impl Test, len: usize, count: u64, failing: u64) -> (bool, usize) {
+    let line = vec![in rt.alloc(); b'a'; len].expect(rt, "memory");
+    let mut out = sink(rt, 20_000, 1500, failing);
+    let ok = put_all(&mut out, &line, count);
+    (ok, out.taken().len())
+}
+
+// The length of a line and how often it is put, the call that fails, whether all are put and flushed, and how many bytes are
+// taken.
+const BATCHES: [(usize, u64, u64, bool, usize); 7] = [
+    (1000, 9, NEVER, true, 9000),
+    (4096, 3, NEVER, true, 12_288),
+    (5000, 2, NEVER, true, 10_000),
+    (0, 5, NEVER, true, 0),
+    (1000, 9, 0, false, 0),
+    (1000, 9, 2, false, 3000),
+    (1000, 30, NEVER, false, 20_000),
+];
+
 #[test]
-fn batches(rt: HostRuntime) -> Result<(), Fail> {
-    for (len, count, failing, ok, taken) in [
-        (1000, 9, NEVER, true, 9000),
-        (4096, 3, NEVER, true, 12_288),
-        (5000, 2, NEVER, true, 10_000),
-        (0, 5, NEVER, true, 0),
-        (1000, 9, 0, false, 0),
-        (1000, 9, 2, false, 3000),
-        (1000, 30, NEVER, false, 20_000),
-    ] {
-        assert_eq!(rt;
-            put_lines(&rt, len, count, failing)?,
-            (ok, taken),
-            "{count} lines of {len}"
-        );
+fn batches(rt: HostRuntime) {
+    for (len, count, failing, ok, taken) in BATCHES.iter() {
+        let got = put_lines(&rt, *len, *count, *failing);
+        assert!(rt; got == (*ok, *taken), "{count} lines of {len}");
     }
-    Ok(())
+}
+
+fn is_written(out: &mut MemorySink) -> bool {
+    write_all(out, b"ab").is_ok()
+        && out.write(b"") == Ok(0)
+        && out.write(b"c") == Err(Failed)
+        && write_all(out, b"cdef") == Err(Failed)
+        && out.taken() == b"abcde".as_slice()
 }
 
 #[test]
-fn writes(rt: HostRuntime) -> Result<(), Fail> {
-    let mut out = MemorySink::new(rt.alloc(), 5, 1, only(&rt, 2)?)?;
-    assert_eq!(rt; write_all(&mut out, b"ab"), Ok(()));
-    assert_eq!(rt; out.write(b""), Ok(0));
-    assert_eq!(rt; out.write(b"c"), Err(Failed));
-    assert_eq!(rt; write_all(&mut out, b"cdef"), Err(Failed));
-    assert_eq!(rt; out.taken(), b"abcde".as_slice());
-    assert_eq!(rt; SureSink::new().write(b"abc"), Ok(3));
-    Ok(())
+fn writes(rt: HostRuntime) {
+    let mut out = sink(&rt, 5, 1, 2);
+    assert!(rt; is_written(&mut out));
+    assert!(rt; SureSink::new().write(b"abc") == Ok(3));
 }
 
-// What is read of a file of these bytes, where the call with a number fails; the choice of the file is call 0.
-fn read_of(rt: &HostRuntime, text: &[u8], most: usize, failing: u64) -> Result<&'static str, Fail> {
-    let alloc = rt.alloc();
-    let names = List::from_vec(vec![in alloc; Text::new(alloc, "a")?]?);
-    let contents = List::from_vec(vec![in alloc; Bytes::new(alloc, text)?]?);
-    let mut files = MemoryFiles::new(names, contents, only(rt, failing)?);
-    if files.select("a") != Ok(true) {
-        return Ok("not chosen");
+// A file of these bytes, where the call with a number fails; the choice of the file is call 0.
+fn one_file(rt: &impl Test, content: &[u8], failing: u64) -> MemoryFiles {
+    let names = one(rt, text(rt, "a"));
+    let contents = one(rt, bytes(rt, content));
+    MemoryFiles::new(names, contents, one(rt, failing))
+}
+
+fn read_a(rt: &impl Test, files: &mut MemoryFiles, content: &[u8], most: usize) -> &'static str {
+    match files.select("a") {
+        Ok(true) => kind_of(&read_chosen(rt.alloc(), files, most), content),
+        _ => "not chosen",
     }
-    Ok(kind_of(&read_chosen(alloc, &mut files, most), text))
 }
 
+fn read_of(rt: &impl Test, content: &[u8], most: usize, failing: u64) -> &'static str {
+    let mut files = one_file(rt, content, failing);
+    read_a(rt, &mut files, content, most)
+}
+
+// The bytes of a file, the most that may be read, the call that fails, and what is read.
+const READS: [(&str, usize, u64, &str); 6] = [
+    ("", 0, NEVER, "whole"),
+    ("abc", 3, NEVER, "whole"),
+    ("abc", 2, NEVER, "too long"),
+    ("abc", 9, 0, "not chosen"),
+    ("abc", 9, 2, "failed"),
+    ("abc", 9, 3, "whole"),
+];
+
 #[test]
-fn reads(rt: HostRuntime) -> Result<(), Fail> {
-    for (text, most, failing, wanted) in [
-        ("", 0, NEVER, "whole"),
-        ("abc", 3, NEVER, "whole"),
-        ("abc", 2, NEVER, "too long"),
-        ("abc", 9, 0, "not chosen"),
-        ("abc", 9, 2, "failed"),
-        ("abc", 9, 3, "whole"),
-    ] {
-        assert_eq!(rt;
-            read_of(&rt, text.as_bytes(), most, failing)?,
-            wanted,
-            "{text:?}"
-        );
+fn reads(rt: HostRuntime) {
+    for (content, most, failing, wanted) in READS.iter() {
+        let got = read_of(&rt, content.as_bytes(), *most, *failing);
+        assert!(rt; got == *wanted, "{content:?}");
     }
-    let long = vec![in rt.alloc(); b'x'; 200_000]?;
-    assert_eq!(rt; read_of(&rt, &long, 200_000, NEVER)?, "whole");
-    assert_eq!(rt; read_of(&rt, &long, 199_999, NEVER)?, "too long");
-    Ok(())
+    let long = vec![in rt.alloc(); b'x'; 200_000].expect(&rt, "memory");
+    assert!(rt; read_of(&rt, &long, 200_000, NEVER) == "whole");
+    assert!(rt; read_of(&rt, &long, 199_999, NEVER) == "too long");
 }
 
-#[test]
-fn reads_in_pieces(rt: HostRuntime) -> Result<(), Fail> {
-    let mut input = SureSource::new(Bytes::new(rt.alloc(), b"abc")?, 2);
+fn is_read_in_pieces(input: &mut SureSource) -> bool {
     let mut into = [0; 4];
-    assert_eq!(rt; input.read(&mut into), Ok(2));
-    assert_eq!(rt; input.read(&mut into[2..]), Ok(1));
-    assert_eq!(rt; input.read(&mut into[3..]), Ok(0));
-    assert_eq!(rt; into, *b"abc\0");
-    Ok(())
+    input.read(&mut into) == Ok(2)
+        && input.read(&mut into[2..]) == Ok(1)
+        && input.read(&mut into[3..]) == Ok(0)
+        && into == *b"abc\0"
 }
 
 #[test]
-fn chooses(rt: HostRuntime) -> Result<(), Fail> {
-    let alloc = rt.alloc();
-    let names = vec![in alloc; Text::new(alloc, "a")?, Text::new(alloc, "b")?]?;
-    let contents = vec![in alloc; Bytes::new(alloc, b"one")?, Bytes::new(alloc, b"")?]?;
-    let (names, contents) = (List::from_vec(names), List::from_vec(contents));
-    let mut files = MemoryFiles::new(names, contents, only(&rt, 4)?);
-    assert_eq!(rt; files.select("c"), Ok(false));
-    assert_eq!(rt; files.select("a"), Ok(true));
-    assert_eq!(rt;
-        kind_of(&read_chosen(alloc, &mut files, 3), b"one"),
-        "whole"
-    );
-    assert_eq!(rt; files.select("b"), Err(Failed));
-    assert_eq!(rt; files.select("b"), Ok(true));
-    assert_eq!(rt; kind_of(&read_chosen(alloc, &mut files, 0), b""), "whole");
-    Ok(())
+fn reads_in_pieces(rt: HostRuntime) {
+    let mut input = SureSource::new(bytes(&rt, b"abc"), 2);
+    assert!(rt; is_read_in_pieces(&mut input));
+}
+
+// Two files, of which the second is empty, where the call with a number fails.
+fn two_files(rt: &impl Test, failing: u64) -> MemoryFiles {
+    let mut names = one(rt, text(rt, "a"));
+    names.push(text(rt, "b")).expect(rt, "memory");
+    let mut contents = one(rt, bytes(rt, b"one"));
+    contents.push(bytes(rt, b"")).expect(rt, "memory");
+    MemoryFiles::new(names, contents, one(rt, failing))
+}
+
+fn is_whole(rt: &impl Test, files: &mut MemoryFiles, content: &[u8]) -> bool {
+    kind_of(&read_chosen(rt.alloc(), files, content.len()), content) == "whole"
 }
 
 #[test]
-fn chooses_surely(rt: HostRuntime) -> Result<(), Fail> {
-    let alloc = rt.alloc();
-    let names = List::from_vec(vec![in alloc; Text::new(alloc, "a")?]?);
-    let contents = List::from_vec(vec![in alloc; Bytes::new(alloc, b"one")?]?);
-    let mut files = SureFiles::new(names, contents);
-    assert_eq!(rt; chosen(&mut files), (Ok(0), Ok(true), Ok(2), *b"on"));
-    Ok(())
+fn chooses(rt: HostRuntime) {
+    let mut files = two_files(&rt, 4);
+    assert!(rt; files.select("c") == Ok(false) && files.select("a") == Ok(true));
+    assert!(rt; is_whole(&rt, &mut files, b"one"));
+    assert!(rt; files.select("b") == Err(Failed) && files.select("b") == Ok(true));
+    assert!(rt; is_whole(&rt, &mut files, b""));
 }
 
-// What is read before a file is chosen, whether it is there, how much of it is read at once, and the bytes.
-type Chosen = (
-    Result<usize, Failed>,
-    Result<bool, Failed>,
-    Result<usize, Failed>,
-    [u8; 2],
-);
-
-fn chosen(files: &mut SureFiles) -> Chosen {
+// Nothing is read before a file is chosen, and then two bytes at once.
+fn is_chosen_and_read(files: &mut SureFiles) -> bool {
     let mut into = [0; 2];
-    let before = files.read(&mut into);
-    let found = files.select("a");
-    let count = files.read(&mut into);
-    (before, found, count, into)
+    files.read(&mut into) == Ok(0)
+        && files.select("a") == Ok(true)
+        && files.read(&mut into) == Ok(2)
+        && into == *b"on"
 }
 
 #[test]
-fn reads_and_writes_through_std(rt: HostRuntime) -> Result<(), Fail> {
+fn chooses_surely(rt: HostRuntime) {
+    let mut files = SureFiles::new(one(&rt, text(&rt, "a")), one(&rt, bytes(&rt, b"one")));
+    assert!(rt; is_chosen_and_read(&mut files));
+}
+
+fn is_read_through_std() -> bool {
     let mut input = RealSource::new(b"abc".as_slice());
     let mut into = [0; 4];
-    assert_eq!(rt; input.read(&mut into), Ok(3));
-    assert_eq!(rt; input.read(&mut into[3..]), Ok(0));
-    assert_eq!(rt; into, *b"abc\0");
+    input.read(&mut into) == Ok(3) && input.read(&mut into[3..]) == Ok(0) && into == *b"abc\0"
+}
+
+// Of two writes the second goes past the end.
+fn is_written_through_std(buffer: &mut [u8]) -> bool {
+    let mut out = RealSink::new(buffer);
+    write_all(&mut out, b"abc") == Ok(()) && write_all(&mut out, b"de") == Err(Failed)
+}
+
+#[test]
+fn reads_and_writes_through_std(rt: HostRuntime) {
+    assert!(rt; is_read_through_std());
     let mut buffer = [0; 4];
-    let mut out = RealSink::new(buffer.as_mut_slice());
-    assert_eq!(rt; write_all(&mut out, b"abc"), Ok(()));
-    assert_eq!(rt; write_all(&mut out, b"de"), Err(Failed));
-    assert_eq!(rt; buffer, *b"abcd");
-    Ok(())
+    assert!(rt; is_written_through_std(&mut buffer) && buffer == *b"abcd");
 }
 
 // A name that is not there, a directory, which opens and cannot be read, and a device of zeros without an end: whether each
 // is there, and how much of it is read at once. No file that a tool can replace is asked for.
 #[test]
-fn opens_the_system_s_files(rt: HostRuntime) -> Result<(), Fail> {
+fn opens_the_system_s_files(rt: HostRuntime) {
     let mut files = RealFiles::new(&rt);
     assert!(rt; files.read(&mut [7; 2]) == Ok(0));
-    for (name, found, count) in [
-        ("/no such name", false, Ok(0)),
-        ("/", true, Err(Failed)),
-        ("/dev/zero", true, Ok(2)),
-    ] {
-        assert!(rt; is_read(&mut files, name, found, count), "{name}");
-    }
-    Ok(())
+    assert!(rt; is_read(&mut files, "/no such name", false, Ok(0)));
+    assert!(rt; is_read(&mut files, "/", true, Err(Failed)));
+    assert!(rt; is_read(&mut files, "/dev/zero", true, Ok(2)));
 }
 
 fn is_read<F: Files>(files: &mut F, name: &str, found: bool, count: Result<usize, Failed>) -> bool {

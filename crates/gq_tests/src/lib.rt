@@ -23,6 +23,8 @@ mod lanes;
 #[cfg(test)]
 mod loader;
 #[cfg(test)]
+mod made;
+#[cfg(test)]
 mod plain;
 #[cfg(test)]
 mod pool;

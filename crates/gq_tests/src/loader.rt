@@ -3,12 +3,11 @@
 ghost use Rattle.std.specs.Prelude.{◌≡◌, true};
 ghost use Rattle.gq_loader.specs.Limits.{IsWithin};
 
-use gq_base::{Bytes, List, Text};
+use crate::made::{Test, bytes, text};
+use gq_base::List;
 use gq_io::SureFiles;
 use gq_loader::{Limits, LoadRefusal, LoadStop, load};
 use gq_tables::TableRefusal;
-use std::alloc::Global;
-use std::test::Fail;
 
 // Two lines name one file, which counts for each of them.
 const FILES: [(&str, &str); 3] = [
@@ -20,17 +19,17 @@ const FILES: [(&str, &str); 3] = [
     ("knows.csv", "from,to\n1,2\n2,1\n1,3\n3,3\n1,2\n"),
 ];
 
-fn files(alloc: Global) -> Result<SureFiles, Fail> {
-    let mut names = List::new(alloc);
-    let mut contents = List::new(alloc);
-    for (name, text) in FILES.iter() {
-        names.push(Text::new(alloc, name)?)?;
-        contents.push(Bytes::new(alloc, text.as_bytes())?)?;
+fn files(rt: &impl Test) -> SureFiles {
+    let mut names = List::new(rt.alloc());
+    let mut contents = List::new(rt.alloc());
+    for (name, content) in FILES.iter() {
+        names.push(text(rt, name)).expect(rt, "memory");
+        contents
+            .push(bytes(rt, content.as_bytes()))
+            .expect(rt, "memory");
     }
-    if names.len() != contents.len() {
-        return Err(Fail::from("names"));
-    }
-    Ok(SureFiles::new(names, contents))
+    assert!(rt; names.len() == contents.len());
+    SureFiles::new(names, contents)
 }
 
 // No limit is greater than the standard one.
@@ -44,26 +43,41 @@ fn is_standard(limits: &Limits) -> bool
         && limits.rels <= most.rels
 }
 
-// The refusal and its file, or nothing where the files are loaded.
-fn refused(alloc: Global, limits: &Limits) -> Result<String, Fail> {
-    let mut files = files(alloc)?;
-    if !is_standard(limits) {
-        return Err(Fail::from("limits"));
-    }
-    match load(alloc, &mut files, "g.manifest", limits) {
-        Ok(_graph) => Ok(String::new(alloc)),
-        Err(
-            LoadStop::Refused(
-                LoadRefusal::Table {
-                    file,
-                    refusal: TableRefusal::TooManyRows,
-                },
-            ),
-        ) => Ok(format!(in alloc; "rows of {file}")?),
-        Err(LoadStop::Refused(LoadRefusal::FileTooLong { name })) => {
-            Ok(format!(in alloc; "bytes of {name}")?)
+// What a limit refuses.
+#[derive(Clone, Copy, Debug)]
+enum Wanted {
+    Nothing,
+    Rows(&'static str),
+    Bytes(&'static str),
+}
+
+fn is_refused(refusal: &LoadRefusal, wanted: Wanted) -> bool {
+    match (refusal, wanted) {
+        (LoadRefusal::Table { file, refusal }, Wanted::Rows(name)) => {
+            file.is(name) && is_of_rows(refusal)
         }
-        Err(_) => Err(Fail::from("another refusal")),
+        (LoadRefusal::FileTooLong { name: file }, Wanted::Bytes(name)) => file.is(name),
+        _ => false,
+    }
+}
+
+fn is_of_rows(refusal: &TableRefusal) -> bool {
+    matches!(refusal, TableRefusal::TooManyRows)
+}
+
+fn is_stopped(stop: &LoadStop, wanted: Wanted) -> bool {
+    match stop {
+        LoadStop::Refused(refusal) => is_refused(refusal, wanted),
+        _ => false,
+    }
+}
+
+// Whether the load within the limits ends as it should.
+fn ends(rt: &impl Test, limits: &Limits, wanted: Wanted) -> bool {
+    assert!(rt; is_standard(limits));
+    match load(rt.alloc(), &mut files(rt), "g.manifest", limits) {
+        Ok(_graph) => matches!(wanted, Wanted::Nothing),
+        Err(stop) => is_stopped(&stop, wanted),
     }
 }
 
@@ -75,45 +89,43 @@ const FITS: Limits = Limits {
     rels: 5,
 };
 
-const LIMITED: [(Limits, &str); 7] = [
-    (FITS, ""),
-    (Limits { nodes: 2, ..FITS }, "rows of person.csv"),
-    (Limits { rels: 4, ..FITS }, "rows of knows.csv"),
+const LIMITED: [(Limits, Wanted); 7] = [
+    (FITS, Wanted::Nothing),
+    (Limits { nodes: 2, ..FITS }, Wanted::Rows("person.csv")),
+    (Limits { rels: 4, ..FITS }, Wanted::Rows("knows.csv")),
     (
         Limits {
             file_bytes: 12,
             ..FITS
         },
-        "bytes of person.csv",
+        Wanted::Bytes("person.csv"),
     ),
     (
         Limits {
             file_bytes: 27,
             ..FITS
         },
-        "bytes of knows.csv",
+        Wanted::Bytes("knows.csv"),
     ),
     (
         Limits {
             total_bytes: 25,
             ..FITS
         },
-        "bytes of person.csv",
+        Wanted::Bytes("person.csv"),
     ),
     (
         Limits {
             total_bytes: 53,
             ..FITS
         },
-        "bytes of knows.csv",
+        Wanted::Bytes("knows.csv"),
     ),
 ];
 
 #[test]
-fn limits_are_reached_and_not_passed(rt: HostRuntime) -> Result<(), Fail> {
-    for (limits, want) in LIMITED.iter() {
-        let got = refused(rt.alloc(), limits)?;
-        assert_eq!(rt; got.as_str(), *want);
+fn limits_are_reached_and_not_passed(rt: HostRuntime) {
+    for (limits, wanted) in LIMITED.iter() {
+        assert!(rt; ends(&rt, limits, *wanted), "{wanted:?}");
     }
-    Ok(())
 }

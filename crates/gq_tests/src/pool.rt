@@ -2,45 +2,38 @@
 
 use gq_bits::VECTOR;
 use gq_pool::{SlotList, VectorPool};
-use std::test::Fail;
 
 #[test]
-fn slots_keep_what_was_written(rt: HostRuntime) -> Result<(), Fail> {
-    let mut pool = VectorPool::new(rt.alloc(), 2)?;
-    assert_eq!(rt; pool.spare(), 2);
-    let Some(from) = pool.take() else {
-        return Err(Fail::from("no slot"));
-    };
-    let Some(to) = pool.take() else {
-        pool.give(from);
-        return Err(Fail::from("one slot"));
-    };
-    assert_eq!(rt; pool.spare(), 0);
+fn slots_keep_what_was_written(rt: HostRuntime) {
+    let mut pool = VectorPool::new(rt.alloc(), 2).expect(&rt, "memory");
+    assert!(rt; pool.spare() == 2);
+    let from = pool.take().expect(&rt, "a slot");
+    let to = pool.take().expect(&rt, "a second slot");
+    assert!(rt; pool.spare() == 0);
     pool.cells_mut(&from)[3] = 7;
     pool.copy_map(&from, &to, |cell| cell.wrapping_sub(1));
-    for (place, cell) in [(0, -1), (3, 6), (VECTOR as usize - 1, -1)] {
-        assert_eq!(rt; pool.cells(&to)[place], cell, "at {place}");
-    }
-    assert_eq!(rt; pool.cells(&from)[3], 7);
+    assert!(rt; is_copied(pool.cells(&to)) && pool.cells(&from)[3] == 7);
     pool.give(from);
     pool.give(to);
-    assert_eq!(rt; pool.spare(), 2);
-    Ok(())
+    assert!(rt; pool.spare() == 2);
+}
+
+fn is_copied(cells: &[i64]) -> bool {
+    cells.len() == VECTOR as usize
+        && cells[0] == -1
+        && cells[3] == 6
+        && cells[VECTOR as usize - 1] == -1
 }
 
 #[test]
-fn more_slots_than_there_are_leave_the_pool_as_it_is(rt: HostRuntime) -> Result<(), Fail> {
-    let mut pool = VectorPool::new(rt.alloc(), 112)?;
-    let mut list = SlotList::with_room(rt.alloc(), 113)?;
+fn more_slots_than_there_are_leave_the_pool_as_it_is(rt: HostRuntime) {
+    let mut pool = VectorPool::new(rt.alloc(), 112).expect(&rt, "memory");
+    let mut list = SlotList::with_room(rt.alloc(), 113).expect(&rt, "memory");
     let taken = pool.take_many(113, &mut list);
-    assert_eq!(rt; taken, false);
-    assert_eq!(rt; pool.spare(), 112);
+    assert!(rt; !taken && pool.spare() == 112);
     let taken = pool.take_many(112, &mut list);
-    assert_eq!(rt; taken, true);
-    assert_eq!(rt; list.as_slice().len(), 112);
-    assert_eq!(rt; pool.spare(), 0);
+    assert!(rt; taken && pool.spare() == 0 && list.as_slice().len() == 112);
     pool.give_all(&mut list);
     list.close();
-    assert_eq!(rt; pool.spare(), 112);
-    Ok(())
+    assert!(rt; pool.spare() == 112);
 }

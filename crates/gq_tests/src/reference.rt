@@ -1,13 +1,12 @@
 //! Matches in a small graph of three persons, two cities, five acquaintances and two homes, worked out by hand.
 
 use crate::graph::{KNOWS, LIVES, people};
+use crate::made::Test;
 use gq_base::{Mult, NodeId, RelId};
 use gq_plain::PlainGraph;
 use gq_reference::{Match, matches};
 use gq_scopes::Pattern;
 use gq_syntax::{Params, Query, Statement, parse};
-use std::alloc::Global;
-use std::test::Fail;
 
 const PERSONS: [&str; 3] = ["1", "2", "3"];
 
@@ -37,54 +36,47 @@ fn shown_rel(rel: RelId) -> &'static str {
     }
 }
 
-fn push_match(text: &mut String, found: &Match) -> Result<(), Fail> {
-    text.push_str(" ")?;
+fn push_match(rt: &impl Test, text: &mut String, found: &Match) {
+    text.push_str(" ").expect(rt, "memory");
     for node in found.nodes.as_slice() {
-        text.push_str(shown_node(*node))?;
+        text.push_str(shown_node(*node)).expect(rt, "memory");
     }
     for rel in found.rels.as_slice() {
-        text.push_str(shown_rel(*rel))?;
+        text.push_str(shown_rel(*rel)).expect(rt, "memory");
     }
-    Ok(())
 }
 
-fn queried(alloc: Global, text: &str) -> Result<Query, Fail> {
+fn queried(rt: &impl Test, text: &str) -> Query {
     let text = text.as_bytes();
-    if text.len() > 65536 {
-        return Err(Fail::from("too long"));
-    }
-    match parse(alloc, text, &Params::new(alloc)) {
-        Ok(Statement::Query(query)) => Ok(query),
-        _ => Err(Fail::from("no query")),
+    assert!(rt; text.len() <= 65536);
+    match parse(rt.alloc(), text, &Params::new(rt.alloc())) {
+        Ok(Statement::Query(query)) => query,
+        _ => panic!(rt; "no query"),
     }
 }
 
-fn all_shown(alloc: Global, found: &[Match]) -> Result<String, Fail> {
-    let mut text = String::new(alloc);
+fn all_shown(rt: &impl Test, found: &[Match]) -> String {
+    let mut text = String::new(rt.alloc());
     for found in found {
-        push_match(&mut text, found)?;
+        push_match(rt, &mut text, found);
     }
-    Ok(text)
+    text
 }
 
-fn shown_of_pattern(
-    alloc: Global,
-    graph: &PlainGraph,
-    pattern: &Pattern<'_>,
-) -> Result<String, Fail> {
-    let found = matches(alloc, graph, pattern)?;
-    all_shown(alloc, found.as_slice())
+fn shown_of_pattern(rt: &impl Test, graph: &PlainGraph, pattern: &Pattern<'_>) -> String {
+    let found = matches(rt.alloc(), graph, pattern).expect(rt, "memory");
+    all_shown(rt, found.as_slice())
 }
 
-fn shown_of_query(alloc: Global, graph: &PlainGraph, query: &Query) -> Result<String, Fail> {
-    let pattern = Pattern::of(alloc, query.clauses.as_slice())?;
-    shown_of_pattern(alloc, graph, &pattern)
+fn shown_of_query(rt: &impl Test, graph: &PlainGraph, query: &Query) -> String {
+    let pattern = Pattern::of(rt.alloc(), query.clauses.as_slice()).expect(rt, "memory");
+    shown_of_pattern(rt, graph, &pattern)
 }
 
 // The matches of a query: the nodes and then the relationships of each one, behind a blank.
-fn matches_shown(alloc: Global, graph: &PlainGraph, text: &str) -> Result<String, Fail> {
-    let query = queried(alloc, text)?;
-    shown_of_query(alloc, graph, &query)
+fn matches_shown(rt: &impl Test, graph: &PlainGraph, text: &str) -> String {
+    let query = queried(rt, text);
+    shown_of_query(rt, graph, &query)
 }
 
 const QUERIES: [(&str, &str); 22] = [
@@ -140,11 +132,12 @@ const QUERIES: [(&str, &str); 22] = [
 ];
 
 #[test]
-fn matches_are_all_assignments_that_hold(rt: HostRuntime) -> Result<(), Fail> {
-    let graph = people(rt.alloc(), KNOWS, Mult::ManyMany, LIVES)?;
-    for (text, want) in QUERIES.iter() {
-        let got = matches_shown(rt.alloc(), &graph, text)?;
-        assert_eq!(rt; got.as_str(), *want);
+fn matches_are_all_assignments_that_hold(rt: HostRuntime) {
+    let graph = people(&rt, KNOWS, Mult::ManyMany, LIVES);
+    for (text, wanted) in QUERIES.iter() {
+        assert!(rt;
+            matches_shown(&rt, &graph, text).as_str() == *wanted,
+            "{text}"
+        );
     }
-    Ok(())
 }

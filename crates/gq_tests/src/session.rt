@@ -3,10 +3,10 @@
 ghost use Rattle.std.specs.Prelude.{◌≡◌, ◌++◌, ◌∷◌, [], refl};
 ghost use Rattle.gq_session.specs.declared.answering.Tone.TheVariants.{Good};
 
+use crate::made::Test;
 use gq_base::{Bytes, List};
 use gq_io::{Failed, MemorySink, MemorySource, Sink, write_all};
 use gq_session::{Answerer, Stop, Tone, session};
-use std::test::Fail;
 
 // The longest input.
 const MOST: usize = 131_080;
@@ -47,15 +47,12 @@ impl Answerer for Echo {
 }
 
 // How a session over so many `;` ended, and how many bytes it wrote, where the input comes in such pieces.
-fn ran(rt: &HostRuntime, count: usize, piece: u32) -> Result<(Result<Tone, Stop>, usize), Fail> {
-    let alloc = rt.alloc();
-    if piece == 0 {
-        return Err(Fail::from("a piece has a byte"));
-    }
-    let text = vec![in alloc; b';'; count]?;
-    let mut input = MemorySource::new(Bytes::new(alloc, &text)?, piece, List::new(alloc));
-    let mut out = MemorySink::new(alloc, 140_000, 100_000, List::new(alloc))?;
-    let mut statement = vec![in alloc; 0u8; 65_536]?;
+fn ran(rt: &impl Test, count: usize, piece: u32) -> (Result<Tone, Stop>, usize) {
+    assert!(rt; piece > 0, "a piece has a byte");
+    let text = vec![in rt.alloc(); b';'; count].expect(rt, "memory");
+    let mut input = MemorySource::new(Bytes::from_vec(text), piece, List::new(rt.alloc()));
+    let mut out = sink(rt);
+    let mut statement = vec![in rt.alloc(); 0u8; 65_536].expect(rt, "memory");
     let mut workspace = ();
     let result = session(
         &Echo,
@@ -65,15 +62,24 @@ fn ran(rt: &HostRuntime, count: usize, piece: u32) -> Result<(Result<Tone, Stop>
         &mut input,
         &mut out,
     );
-    Ok((result, out.taken().len()))
+    (result, out.taken().len())
+}
+
+fn sink(rt: &impl Test) -> MemorySink {
+    MemorySink::new(rt.alloc(), 140_000, 100_000, List::new(rt.alloc())).expect(rt, "memory")
 }
 
 // The longest input, which ends with a statement that has no `;`, and one byte more, behind which nothing is answered.
 #[test]
-fn the_longest_input_is_read_whole(rt: HostRuntime) -> Result<(), Fail> {
+fn the_longest_input_is_read_whole(rt: HostRuntime) {
     for piece in [1, 7, 4_096, 65_536] {
-        assert_eq!(rt; ran(&rt, 131_080, piece)?, (Ok(Tone::Good), 131_081));
-        assert_eq!(rt; ran(&rt, 131_081, piece)?, (Err(Stop::TooLong), 131_080));
+        assert!(rt;
+            ran(&rt, 131_080, piece) == (Ok(Tone::Good), 131_081),
+            "{piece}"
+        );
+        assert!(rt;
+            ran(&rt, 131_081, piece) == (Err(Stop::TooLong), 131_080),
+            "{piece}"
+        );
     }
-    Ok(())
 }
