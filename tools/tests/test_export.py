@@ -2,7 +2,7 @@
 
 from __future__ import annotations
 
-from .support import PEOPLE, TOP, ToolTest
+from .support import PEOPLE, TOP, ToolTest, needs_module
 from .test_round_trips import several
 
 
@@ -124,3 +124,30 @@ class Refusals(ToolTest):
 
     def test_no_file(self) -> None:
         self.refuse("x.csv: there is no file of this name", "node N x.csv\n")
+
+
+class GraphML(ToolTest):
+    """GraphML by networkx, with texts that XML writes in its own way."""
+
+    @needs_module("networkx", "python3-networkx")
+    def test_awkward_texts(self) -> None:
+        import networkx
+
+        self.write("a.csv", 'k:string,t:string,b:bool\n"x<&>""y","a\r\nb\t]]>",true\n1,,\n')
+        self.write("b.csv", "k:int,t:int\n1,7\n")
+        self.write("r.csv", 'from,to,w:int\n"x<&>""y",1,-5\n')
+        self.write("g.manifest", "node A:C a.csv\nnode B b.csv\nrel R A:C B many_many r.csv\n")
+        self.done("graphq-export", "graphml", "--manifest", "g.manifest", "--out", "o")
+        graph = networkx.read_graphml(self.folder / "o/graph.graphml")
+        # The key 1 is one of both tables, so the ids have the labels in front.
+        self.assertEqual(sorted(graph), ["A:C/1", 'A:C/x<&>"y', "B/1"])
+        node = {"labels": "A:C", "k": 'x<&>"y', "t": "a\r\nb\t]]>", "b": True}
+        self.assertEqual(graph.nodes['A:C/x<&>"y'], node)
+        self.assertEqual(graph.nodes["B/1"], {"labels": "B", "k": 1, "t": 7})
+        self.assertEqual(list(graph.edges(data=True)), [('A:C/x<&>"y', "B/1", {"type": "R", "w": -5})])
+
+    def test_what_xml_cannot_hold(self) -> None:
+        self.write("n.csv", "k:string\na\x01\n")
+        self.write("g.manifest", "node N n.csv\n")
+        ended, _, errors = self.tool("graphq-export", "graphml", "--manifest", "g.manifest", "--out", "o")
+        self.assertEqual((ended, errors), (3, "graphq-export: GraphML holds no text with the character U+0001\n"))

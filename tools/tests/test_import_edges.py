@@ -22,7 +22,7 @@ class EdgesImport(ToolTest):
         words = ("--columns", "weight:decimal,sign:int", "--scale", "weight=2")
         output = self.done("graphq-import", "edges", "e.txt.gz", "--out", "g", *words)
         self.assertEqual(
-            output.splitlines()[:2], ["node Node 3 id:string", "rel LINK Node Node one_many 2 weight:int sign:int"]
+            output.splitlines()[:2], ["node Node 3 id:string", "rel LINK Node Node many_many 2 weight:int sign:int"]
         )
         self.assertEqual(
             (self.folder / "g/link.csv").read_text(), "from,to,weight:int,sign:int\na,b,25,-1\na,c,150,2\n"
@@ -30,13 +30,13 @@ class EdgesImport(ToolTest):
 
     def test_a_third_column_without_a_name(self) -> None:
         self.write("e.txt", "# a\n1 2\n1 3 9\n")
-        hint = "name what stands behind the ids, as in --columns weight:int"
-        line = f"e.txt line 3: it has 3 columns, and 2 are wanted: {hint}"
+        hint = "name what stands after the ids, as in --columns weight:int"
+        line = f"e.txt line 3 (LINK): it has 3 columns, and 2 are wanted: {hint}"
         self.refused(3, line, "graphq-import", "edges", "e.txt", "--out", "g")
 
     def test_no_integer(self) -> None:
         self.write("e.txt", "1 2 x\n")
-        line = "e.txt line 1: 'x' is no integer"
+        line = "e.txt line 1 (LINK): 'x' is no integer"
         self.refused(3, line, "graphq-import", "edges", "e.txt", "--out", "g", "--columns", "w:int")
 
     def test_no_edge(self) -> None:

@@ -38,7 +38,7 @@ class KuzuImport(ToolTest):
                 "rel LivesIn User City many_one 3",
                 "User.height: DOUBLE, as an integer: times 100",
                 "City.founded: DATE, as its text",
-                "ask it: graphq --manifest g/g.manifest",
+                "ask it: graphq-shell --manifest g/g.manifest",
             ],
         )
         query = "MATCH (a)-[:LivesIn]->(c {id: 10}) RETURN a, a.height, c.founded ORDER BY a.name;"
@@ -52,10 +52,12 @@ class KuzuImport(ToolTest):
         self.assertEqual(text, "id:int,name:string,founded:int\n10,Waterloo,-41272\n20,Kitchener,\n")
 
     def test_strictest_multiplicity(self) -> None:
-        """The data of LivesIn keep one_one where each city has one user."""
+        """The data of LivesIn keep one_one where each city has one user, and the script says many_one."""
         self.write("k/lives.csv", "Adam,10\nZhang,20\n")
-        output = self.done("graphq-import", "kuzu", "k/schema.cypher", "--out", "g")
+        output = self.done("graphq-import", "kuzu", "k/schema.cypher", "--out", "g", "--strict")
         self.assertIn("rel LivesIn User City one_one 2", output.splitlines())
+        output = self.done("graphq-import", "kuzu", "k/schema.cypher", "--out", "h")
+        self.assertIn("rel LivesIn User City many_one 2", output.splitlines())
 
     def test_serial_keys_and_pairs(self) -> None:
         self.write(
@@ -70,7 +72,7 @@ class KuzuImport(ToolTest):
         output = self.done("graphq-import", "kuzu", "k/schema.cypher", "--out", "g").splitlines()
         self.assertEqual(
             output[:4],
-            ["node A 2 id:int x:string", "node B 1 k:string", "rel R A A one_one 1 w:int", "rel R A B one_one 1"],
+            ["node A 2 id:int x:string", "node B 1 k:string", "rel R A A many_many 1 w:int", "rel R A B many_many 1"],
         )
         self.assertEqual((self.folder / "g/a.csv").read_text(), "id:int,x:string\n0,p\n1,q\n")
 
@@ -80,25 +82,25 @@ class KuzuImport(ToolTest):
 
     def test_multiplicity_that_is_broken(self) -> None:
         self.write("k/lives.csv", "Adam,10\nAdam,20\n")
-        self.refuse("k/lives.csv line 2: LivesIn is many_one, and there is a relationship from Adam already")
+        self.refuse("k/lives.csv line 2 (LivesIn): LivesIn is many_one, and there is a relationship from Adam already")
 
     def test_no_integer(self) -> None:
         self.write("k/user.csv", "Adam,thirty,1\n")
-        self.refuse("k/user.csv line 1: 'thirty' is no integer")
+        self.refuse("k/user.csv line 1 (User): 'thirty' is no integer")
 
     def test_no_such_node(self) -> None:
         self.write("k/follows-2.csv", "Karissa,Nobody,2021\n")
-        self.refuse("k/follows-2.csv line 1: no node has the id 'Nobody' in the id space User")
+        self.refuse("k/follows-2.csv line 1 (Follows): no node has the id 'Nobody' in the id space User")
 
     def test_key_repeated(self) -> None:
         self.write("k/city.csv", "id|name|founded\n10|a|\n010|b|\n")
-        self.refuse("k/city.csv line 3: the id '10' is there already, in the id space City")
+        self.refuse("k/city.csv line 3 (City): the id '10' is there already, in the id space City")
 
     def test_too_many_digits(self) -> None:
         self.write("k/user.csv", "Adam,1,1.755\n")
         status, _, errors = self.tool("graphq-import", "kuzu", "k/schema.cypher", "--out", "g", "--decimals", "2")
         self.assertEqual(
-            (status, errors), (3, "graphq-import: k/user.csv line 1: 1.755 has more than 2 digits behind the point\n")
+            (status, errors), (3, "graphq-import: k/user.csv line 1 (User): 1.755 has more than 2 digits after the point\n")
         )
 
     def script(self, text: str, line: str) -> None:

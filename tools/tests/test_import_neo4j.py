@@ -30,9 +30,9 @@ class Neo4jImport(ToolTest):
             [
                 "node Person 3 personId:int name:string age:int born:string",
                 "rel KNOWS Person Person many_many 3 since:int",
-                "rel LIKES Person Person one_one 1 since:int",
+                "rel LIKES Person Person many_many 1 since:int",
                 "Person.born: date, as its text",
-                "ask it: graphq --manifest g/g.manifest",
+                "ask it: graphq-shell --manifest g/g.manifest",
             ],
         )
         query = "MATCH (a)-[r:KNOWS]->(b) RETURN a.personId, b.name, r.since, b.born, r ORDER BY r;"
@@ -57,7 +57,7 @@ class Neo4jImport(ToolTest):
         nodes, rels = ("--nodes=Person=header.csv,one.csv,two.csv.gz", "--relationships=KNOWS=rels.csv")
         output = self.done("graphq-import", "neo4j", nodes, rels, "--delimiter", "|", "--out", "g")
         lines = output.splitlines()
-        self.assertEqual(lines[:2], ["node Person 2 id:string name:string", "rel KNOWS Person Person one_one 1"])
+        self.assertEqual(lines[:2], ["node Person 2 id:string name:string", "rel KNOWS Person Person many_many 1"])
 
     def test_ignored_column_and_booleans(self) -> None:
         self.write("city.csv", CITIES)
@@ -77,7 +77,7 @@ class Neo4jImport(ToolTest):
             "n.csv", "id:ID,age:int,school,:LABEL\n1,30,,Person\n7,,MIT,Person;Student\n8,,Yale,Student;Person\n"
         )
         self.write("r.csv", ":START_ID,:END_ID,:TYPE\n7,1,KNOWS\n8,1,KNOWS\n1,7,KNOWS\n")
-        output = self.done("graphq-import", "neo4j", "n.csv", "r.csv", "--out", "g")
+        output = self.done("graphq-import", "neo4j", "n.csv", "r.csv", "--out", "g", "--strict")
         self.assertEqual(
             output.splitlines()[:4],
             [
@@ -147,6 +147,66 @@ class Neo4jImport(ToolTest):
         self.assertIn("tags: left out, as asked", output)
 
 
+class Neo4jLabels(ToolTest):
+    """More sets of labels than a graph has tables, by one label for a table and the others as properties."""
+
+    ROWS = "id:ID,x,:LABEL\n1,a,Person;Admin\n2,b,Person\n3,c,Robot;Person;Admin\n4,d,Admin\n"
+
+    def nodes(self, *words: str) -> tuple[list[str], dict[str, str]]:
+        self.setUp()
+        self.write("n.csv", self.ROWS)
+        output = self.done("graphq-import", "neo4j", "n.csv", "--out", "g", *words).splitlines()
+        files = {path.name: path.read_text() for path in (self.folder / "g").glob("*.csv")}
+        return [line for line in output if line.startswith("node ")], files
+
+    def test_first(self) -> None:
+        lines, files = self.nodes("--labels", "first")
+        self.assertEqual(
+            lines,
+            [
+                "node Person 2 id:int x:string Admin:bool",
+                "node Robot 1 id:int x:string Person:bool Admin:bool",
+                "node Admin 1 id:int x:string",
+            ],
+        )
+        self.assertEqual(files["person.csv"], "id:int,x:string,Admin:bool\n1,a,true\n2,b,false\n")
+
+    def test_most(self) -> None:
+        """Three of the four have Person, and as many Admin: then the first that a node has."""
+        lines, files = self.nodes("--labels", "most")
+        self.assertEqual(lines, ["node Person 3 id:int x:string Admin:bool Robot:bool", "node Admin 1 id:int x:string"])
+        wanted = "id:int,x:string,Admin:bool,Robot:bool\n1,a,true,false\n2,b,false,false\n3,c,true,true\n"
+        self.assertEqual(files["person.csv"], wanted)
+
+    def test_names(self) -> None:
+        """A node without any of them has the label that --label says."""
+        lines, files = self.nodes("--labels", "Robot,Person", "--label", "Thing")
+        self.assertEqual(
+            lines,
+            [
+                "node Person 2 id:int x:string Admin:bool",
+                "node Robot:Person 1 id:int x:string Admin:bool",
+                "node Thing 1 id:int x:string Admin:bool",
+            ],
+        )
+        self.assertEqual(files["thing.csv"], "id:int,x:string,Admin:bool\n4,d,true\n")
+
+    def test_label_that_is_called_like_a_property(self) -> None:
+        self.ROWS = "id:ID,Admin,:LABEL\n1,a,Person;Admin\n"
+        lines, _ = self.nodes("--labels", "first")
+        self.assertEqual(lines, ["node Person 1 id:int Admin:string Admin_2:bool"])
+
+    def test_many_sets(self) -> None:
+        """Hundreds of sets of labels are one table, and graphq loads and asks it."""
+        self.ROWS = "id:ID,:LABEL\n" + "".join(
+            f"{number},N;{';'.join(f'L{bit}' for bit in range(8) if number >> bit & 1)}\n" for number in range(200)
+        )
+        lines, _ = self.nodes("--labels", "N")
+        self.assertEqual(len(lines), 1)
+        query = "MATCH (n:N) WHERE n.L0 AND n.L7 AND NOT n.L6 RETURN n.id ORDER BY n.id LIMIT 2;"
+        self.assertEqual(ask("g/g.manifest", query, self.folder)[1], "n.id\n129\n131\nrows 2\n")
+
+
 class Neo4jRefusals(ToolTest):
     """Each refusal names the file and the line."""
 
@@ -157,15 +217,15 @@ class Neo4jRefusals(ToolTest):
         self.refused(3, line, "graphq-import", "neo4j", *words)
 
     def test_no_integer(self) -> None:
-        self.check("id:ID,age:int\na,3\nb,3x\n", "n.csv line 3: '3x' is no integer")
+        self.check("id:ID,age:int\na,3\nb,3x\n", "n.csv line 3 (N): '3x' is no integer")
 
     def test_large_integer(self) -> None:
         self.check(
-            "id:ID,n:long\na,9223372036854775808\n", "n.csv line 2: 9223372036854775808 has more than 64 signed bits"
+            "id:ID,n:long\na,9223372036854775808\n", "n.csv line 2 (N): 9223372036854775808 has more than 64 signed bits"
         )
 
-    def test_line_of_a_record_behind_line_ends(self) -> None:
-        self.check('id:ID,t,ok:boolean\na,"x\ny",true\nb,,maybe\n', "n.csv line 4: 'maybe' is neither true nor false")
+    def test_line_of_a_record_after_line_ends(self) -> None:
+        self.check('id:ID,t,ok:boolean\na,"x\ny",true\nb,,maybe\n', "n.csv line 4 (N): 'maybe' is neither true nor false")
 
     def test_two_units(self) -> None:
         """12.5 in hundredths and the integer 7 cannot stand in one column; --scale scales both."""
@@ -173,7 +233,7 @@ class Neo4jRefusals(ToolTest):
         self.write("b.csv", "id:ID,x:int\nb,7\n")
         files = ("--nodes", "N=a.csv", "--nodes", "N=b.csv", "--out", "g")
         why = "x would have values of two units: times 100 in one file, and int in another"
-        self.refused(3, f"b.csv line 2: {why}", "graphq-import", "neo4j", *files, "--decimals", "2")
+        self.refused(3, f"b.csv line 2 (N): {why}", "graphq-import", "neo4j", *files, "--decimals", "2")
         status, _, _ = self.tool("graphq-import", "neo4j", *files, "--scale", "x=2")
         self.assertEqual((status, (self.folder / "g/n.csv").read_text()), (0, "id:string,x:int\na,1250\nb,700\n"))
 
@@ -188,22 +248,47 @@ class Neo4jRefusals(ToolTest):
     def test_file_that_is_too_long(self) -> None:
         """Its header has 16 bytes, and each row 11."""
         self.write("n.csv", "id:ID,x\n1,abcdefgh\n2,abcdefgh\n")
-        with mock.patch("graphq_tools.spool.MOST_FILE_BYTES", 37):
+        with mock.patch("graphq_tools.importing.spool.MOST_FILE_BYTES", 37):
             line = "n.csv: it would have 38 bytes, and graphq takes 37"
             self.refused(3, line, "graphq-import", "neo4j", "--nodes", "N=n.csv", "--out", "g")
 
     def test_id_repeated(self) -> None:
-        self.check("id:ID\na\na\n", "n.csv line 3: the id 'a' is there already")
+        self.check("id:ID\na\na\n", "n.csv line 3 (N): the id 'a' is there already")
+
+    def test_all_of_a_file_at_once(self) -> None:
+        """What is wrong with the nodes is said together, in the order of the lines, and the relationships come after it."""
+        self.write("n.csv", "id:ID,age:int,:LABEL\na,x,A\nb,1,B\nb,2,B\nc\n")
+        self.write("r.csv", ":START_ID,:END_ID\nx,y\n")
+        status, _, errors = self.tool("graphq-import", "neo4j", "n.csv", "r.csv", "--out", "g")
+        self.assertEqual(
+            (status, errors.splitlines()),
+            (
+                3,
+                [
+                    "graphq-import: n.csv line 2 (A): 'x' is no integer",
+                    "graphq-import: n.csv line 4 (B): the id 'b' is there already",
+                    "graphq-import: n.csv line 5: it has 1 fields, and the header has 3",
+                ],
+            ),
+        )
+
+    def test_no_more_than_twenty(self) -> None:
+        self.write("n.csv", "id:ID,n:int\n" + "".join(f"{number},x\n" for number in range(30)))
+        status, _, errors = self.tool("graphq-import", "neo4j", "n.csv", "--out", "g")
+        lines = errors.splitlines()
+        self.assertEqual((status, len(lines)), (3, 21))
+        self.assertEqual(lines[19], "graphq-import: n.csv line 21 (Node): 'x' is no integer")
+        self.assertEqual(lines[20], "graphq-import: these are the first 20 refusals, and there may be more")
 
     def test_id_empty(self) -> None:
-        self.check("id:ID,x\n,1\n", "n.csv line 2: the id is empty")
+        self.check("id:ID,x\n,1\n", "n.csv line 2 (N): the id is empty")
 
     def test_no_id(self) -> None:
         self.check("x,y\n1,2\n", "n.csv line 1: the header has no field :ID")
         self.check("x,y\n", "n.csv line 1: the header has no field :ID")
 
     def test_field_count(self) -> None:
-        self.check("id:ID,x\na\n", "n.csv line 2: it has 1 fields, and the header has 2")
+        self.check("id:ID,x\na\n", "n.csv line 2 (N): it has 1 fields, and the header has 2")
 
     def test_list(self) -> None:
         self.check(
@@ -213,11 +298,11 @@ class Neo4jRefusals(ToolTest):
         )
 
     def test_no_such_node(self) -> None:
-        self.check("id:ID\na\n", "r.csv line 2: no node has the id 'b'", ":START_ID,:END_ID\na,b\n")
+        self.check("id:ID\na\n", "r.csv line 2 (R): no node has the id 'b'", ":START_ID,:END_ID\na,b\n")
 
     def test_no_such_node_in_a_space(self) -> None:
         self.check(
-            "id:ID(P)\na\n", "r.csv line 2: no node has the id 'a' in the id space Q", ":START_ID(P),:END_ID(Q)\na,a\n"
+            "id:ID(P)\na\n", "r.csv line 2 (R): no node has the id 'a' in the id space Q", ":START_ID(P),:END_ID(Q)\na,a\n"
         )
 
     def test_not_utf_8(self) -> None:
@@ -230,13 +315,16 @@ class Neo4jRefusals(ToolTest):
     def test_too_many_properties(self) -> None:
         header = ",".join(f"p{number}" for number in range(65))
         self.check(
-            f"id:ID,{header}\na{',' * 65}\n", "n.csv line 2: p64 is the property behind the 64 that a table has at most"
+            f"id:ID,{header}\na{',' * 65}\n", "n.csv line 2 (N): p64 is the property after the 64 that a table has at most"
         )
 
     def test_too_many_sets_of_labels(self) -> None:
         rows = "".join(f"{number},L{number}\n" for number in range(65))
         self.write("n.csv", f"id:ID,:LABEL\n{rows}")
-        line = "n.csv line 66: L64 is the set of labels behind the 64 of a graph"
+        line = (
+            "n.csv line 66 (L64): L64 is the set of labels after the 64 of a graph: --labels first, most or NAME,.. "
+            "keeps one label or those named as tables, and makes the others boolean properties"
+        )
         self.refused(3, line, "graphq-import", "neo4j", "n.csv", "--out", "g")
 
     def test_no_file(self) -> None:
@@ -254,7 +342,7 @@ class Neo4jRefusals(ToolTest):
         self.assertEqual((status, errors), (5, "graphq-import: --out g: it is there already and not empty\n"))
 
     def test_words(self) -> None:
-        for words in (
+        several: tuple[list[str], ...] = (
             [],
             ["neo4j"],
             ["neo4j", "--out", "g", "--delimiter", "ab"],
@@ -263,7 +351,8 @@ class Neo4jRefusals(ToolTest):
             ["neo4j", "--out", "g", ","],
             ["neo4j", "--out", "g", "--nodes", "A="],
             ["neo4j", "--out", "g", "--relationships", ""],
-        ):
+        )
+        for words in several:
             with self.subTest(words=words):
                 self.assertEqual(self.tool("graphq-import", *words)[0], 2)
 
@@ -271,20 +360,20 @@ class Neo4jRefusals(ToolTest):
         """Neither an exponent without end nor digits that a rounding would lose are taken for another number."""
         long = "0." + "0" * 40 + "1"
         for text, why in {
-            "1e999999999": "1e999999999 with 2 digits behind the point has more than 64 signed bits",
-            "9" * 5000: f"{'9' * 40} with 2 digits behind the point has more than 64 signed bits",
-            f"1{long[1:]}": f"1.{'0' * 38} has more than 2 digits behind the point",
-            "1e-999999999": "1e-999999999 has more than 2 digits behind the point",
+            "1e999999999": "1e999999999 with 2 digits after the point has more than 64 signed bits",
+            "9" * 5000: f"{'9' * 40} with 2 digits after the point has more than 64 signed bits",
+            f"1{long[1:]}": f"1.{'0' * 38} has more than 2 digits after the point",
+            "1e-999999999": "1e-999999999 has more than 2 digits after the point",
             "sNaN": "'sNaN' is no finite number",
         }.items():
             with self.subTest(text=text[:20]):
                 self.write("n.csv", f"id:ID,x:double\na,{text}\n")
                 words = ("n.csv", "--out", "g", "--decimals", "2")
-                self.refused(3, f"n.csv line 2: {why}", "graphq-import", "neo4j", *words)
+                self.refused(3, f"n.csv line 2 (Node): {why}", "graphq-import", "neo4j", *words)
 
     def test_line_end_in_an_id(self) -> None:
         """A refusal is one line, whatever it quotes."""
-        self.check("id:ID\na\n", "r.csv line 2: no node has the id 'b\\n'", ':START_ID,:END_ID\na,"b\n"\n')
+        self.check("id:ID\na\n", "r.csv line 2 (R): no node has the id 'b\\n'", ':START_ID,:END_ID\na,"b\n"\n')
 
     def test_label_that_is_longer_than_a_name_of_a_file(self) -> None:
         self.write("n.csv", f"id:ID,:LABEL\na,{'L' * 300}\nb,{'L' * 301}\n")

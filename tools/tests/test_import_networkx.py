@@ -65,11 +65,11 @@ class NetworkxImport(ToolTest):
             [
                 "node Person 2 id:int age:int full_name:string",
                 "node City 1 id:string full_name:string",
-                "rel KNOWS Person Person one_one 1 weight:string",
-                "rel LIVES_IN Person City one_one 1",
+                "rel KNOWS Person Person many_many 1 weight:string",
+                "rel LIVES_IN Person City many_many 1",
                 "the property 'full name' is called full_name",
                 "KNOWS.weight: decimal, as its text",
-                "ask it: graphq --manifest g/g.manifest",
+                "ask it: graphq-shell --manifest g/g.manifest",
             ],
         )
         text = ask("g/g.manifest", "MATCH (a {age: 30})-[r]->(b) RETURN b.full_name, r.weight ORDER BY r;", self.folder)
@@ -79,15 +79,17 @@ class NetworkxImport(ToolTest):
         output = self.run_import("g.gexf", GEXF)
         self.assertEqual(output[0].split()[:4], ["node", "Node", "2", "id:int"])
         self.assertEqual(set(output[0].split()[4:]), {"label:string", "Modularity_Class:int"})
-        self.assertTrue(output[1].startswith("rel LINK Node Node one_one 1"), output[1])
+        self.assertTrue(output[1].startswith("rel LINK Node Node many_many 1"), output[1])
         self.assertIn(
-            "the graph is undirected: each edge is one relationship, so ask with --, and not with -->", output
+            "the graph is undirected: each edge is one relationship, so ask with --, and not with -->; "
+            "--both writes it in both directions",
+            output,
         )
 
     def test_gml_with_one_label_for_two_nodes(self) -> None:
         output = self.run_import("g.gml", GML, "--label", "Thing", "--type", "TO")
         self.assertEqual(
-            output[:2], ["node Thing 2 id:int label:string size:int", "rel TO Thing Thing one_one 2 value:int"]
+            output[:2], ["node Thing 2 id:int label:string size:int", "rel TO Thing Thing many_many 2 value:int"]
         )
 
     def test_node_link_json(self) -> None:

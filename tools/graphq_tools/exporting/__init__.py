@@ -1,0 +1,1 @@
+"""graphq-export: writes a graph that graphq loads in the form of another system."""
