@@ -3,11 +3,13 @@
 from __future__ import annotations
 
 import re
+import subprocess
 import xml.etree.ElementTree as ElementTree
+from unittest import mock
 
-from graphq_tools.drawing import read_plan
+from graphq_tools.drawing.pictures import draw_plan, read_plan
 
-from .support import METRO, PEOPLE, TOP, ToolTest, needs_program
+from .support import METRO, PEOPLE, PROGRAM, TOP, ToolTest, needs_program
 
 SVG = "{http://www.w3.org/2000/svg}"
 
@@ -50,7 +52,9 @@ class Draw(ToolTest):
             "alternatives 1",
             "cost 1 6 4",
         ]
-        (steps,) = read_plan(lines)
+        plan = read_plan(lines)
+        (steps,) = plan.alternatives
+        self.assertEqual(plan.costs, ["6 4"])
         self.assertEqual([step.text for step in steps], ["scan a:Person", "join on b", "keep a.id = 1"])
         self.assertEqual([step.text for step in steps[1].part], ["scan c:Person", "join", "differ #1 #2"])
         self.assertEqual([step.text for step in steps[1].part[1].part], ["scan d:City"])
@@ -60,6 +64,51 @@ class Draw(ToolTest):
         edges = re.findall(r"s(\d) -> s(\d)( \[style=dashed\])?;", text)
         dashed = " [style=dashed]"
         self.assertEqual(edges, [("1", "2", ""), ("2", "3", ""), ("4", "5", ""), ("5", "3", dashed), ("3", "6", "")])
+
+    def test_plan_with_all_that_there_is(self) -> None:
+        """Trails stand at the end of each alternative, tests of paths beside, and costs over an alternative."""
+        query = ":plan MATCH (a:Person {id: 1})-[:KNOWS*1..2]->(b) WHERE exists((b)-[:KNOWS]->()) RETURN b"
+        text = self.dot(query, "--order", "least")
+        self.assertRegex(text, r'label="alternative 1, cost [0-9]+"')
+        self.assertIn('label="trail #1: from its left end"', text)
+        self.assertIn('label="exists 1: 1 alternative"', text)
+        text = self.dot(":plan MATCH (p:Person) OPTIONAL MATCH (p)-[:LIVES_IN]->(c) RETURN c")
+        self.assertIn('label="OPTIONAL MATCH 1: 1 alternative"', text)
+
+    def test_wide_plan(self) -> None:
+        """Of many alternatives six stand beside one another, each over the one six further on."""
+        lines = [line for number in range(1, 15) for line in (f"alternative {number}", f"scan a:T{number}")]
+        text = draw_plan([*lines, "alternatives 14"])
+        self.assertEqual(re.findall(r"(s\d+) -> (s\d+) \[style=invis\];", text)[:2], [("s1", "s7"), ("s2", "s8")])
+        self.assertEqual(text.count("style=invis"), 8)
+
+    @needs_program("dot", "graphviz")
+    def test_forms(self) -> None:
+        for name, front in (("a.png", b"\x89PNG"), ("a.svg", b"<?xml"), ("a.pdf", b"%PDF"), ("a.dot", b"digraph")):
+            with self.subTest(name=name):
+                words = ("--manifest", PEOPLE, "--out", self.folder / name)
+                self.done("graphq-draw", *words, "MATCH (n:City) RETURN n", cwd=TOP)
+                self.assertTrue((self.folder / name).read_bytes().startswith(front))
+
+    def test_form_that_there_is_none(self) -> None:
+        ended, _, errors = self.tool("graphq-draw", "--manifest", PEOPLE, "--out", "a.jpg", "MATCH (n) RETURN n", cwd=TOP)
+        why = "its name ends with none of .svg, .png, .pdf, .dot, and --dot is not there"
+        self.assertEqual((ended, errors), (2, f"graphq-draw: --out a.jpg: {why}\n"))
+
+    @needs_program("dot", "graphviz")
+    def test_layout_that_does_not_end(self) -> None:
+        late = subprocess.TimeoutExpired("dot", 1)
+        with mock.patch("graphq_tools.drawing.main.subprocess.run", side_effect=late):
+            words = ("--manifest", PEOPLE, "--seconds", "1", "--program", PROGRAM)
+            ended, _, errors = self.tool("graphq-draw", *words, "MATCH (n) RETURN n", cwd=TOP)
+        self.assertEqual(ended, 5)
+        self.assertTrue(errors.startswith("graphq-draw: dot did not end in 1 seconds: --layout sfdp is quicker"), errors)
+
+    def test_control_characters(self) -> None:
+        self.write("n.csv", "id:string\n\x1b[31m\x00\n")
+        self.write("g.manifest", "node N n.csv\n")
+        text = self.done("graphq-draw", "--manifest", "g.manifest", "--dot", "MATCH (n) RETURN n")
+        self.assertIn('label="\\\\x1b[31m\\\\x00"', text)
 
     @needs_program("dot", "graphviz")
     def test_svg(self) -> None:

@@ -1,0 +1,1 @@
+"""graphq-draw: pictures of rows and plans, by Graphviz."""
