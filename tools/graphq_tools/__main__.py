@@ -14,8 +14,35 @@ if sys.version_info < (3, 11):
 
 from graphq_tools.outcome import prepare_streams, run  # noqa: E402
 
-if __name__ == "__main__":
-    tool = sys.argv.pop(1)
+# Where the main of each tool stands.
+MAINS = {"import": "importing.main", "export": "exporting.main", "draw": "drawing.main", "shell": "shell.main"}
+
+
+def call(tool: str) -> int:
+    """Runs a tool on the words of the command line, and gives its status."""
     prepare_streams()
-    main = importlib.import_module(f"graphq_tools.{tool}_main").main
-    sys.exit(run(f"graphq-{tool}", main))
+    return run(f"graphq-{tool}", importlib.import_module(f"graphq_tools.{MAINS[tool]}").main)
+
+
+def import_() -> int:
+    """graphq-import, as a package installs it."""
+    return call("import")
+
+
+def export() -> int:
+    """graphq-export, as a package installs it."""
+    return call("export")
+
+
+def draw() -> int:
+    """graphq-draw, as a package installs it."""
+    return call("draw")
+
+
+def shell() -> int:
+    """graphq-shell, as a package installs it."""
+    return call("shell")
+
+
+if __name__ == "__main__":
+    sys.exit(call(sys.argv.pop(1)))

@@ -32,7 +32,7 @@ class _Counted(io.RawIOBase):
         return True
 
     def readinto(self, buffer: Any) -> int:
-        count = self._raw.readinto(buffer)  # type: ignore[attr-defined]
+        count: int = self._raw.readinto(buffer)  # type: ignore[attr-defined]
         self._bar.update(count)
         return count
 
@@ -85,9 +85,9 @@ def _bad_line(path: str | os.PathLike[str]) -> int:
     return 1
 
 
-def not_utf8(path: str | os.PathLike[str]) -> BadRow:
-    """The refusal of a file that is not UTF-8, with its line."""
-    return BadRow(path, _bad_line(path), "it is not UTF-8")
+def not_utf8(path: str | os.PathLike[str], name: str | None = None) -> BadRow:
+    """The refusal of a file that is not UTF-8, with its line and the name that the user knows it by."""
+    return BadRow(name or path, _bad_line(path), "it is not UTF-8")
 
 
 @contextlib.contextmanager

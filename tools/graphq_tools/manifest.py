@@ -10,13 +10,14 @@ from .model import MOST_LABELS, Field, Graph, NodeTable, RelTable
 from .names import is_plain
 from .outcome import BadRow
 
-_MULTIPLICITIES = ("many_many", "many_one", "one_many", "one_one")
+MULTIPLICITIES = ("many_many", "many_one", "one_many", "one_one")
 _KINDS = ("int", "string", "bool")
 _BLANKS = re.compile(r"[ \t]+")
 
 
-def _fields(file: str, names: list[str]) -> list[Field]:
-    fields = []
+def fields_of(file: str, names: list[str]) -> list[Field]:
+    """The properties that the fields of a header declare."""
+    fields: list[Field] = []
     for text in names:
         name, _, kind = text.rpartition(":")
         if not is_plain(name) or kind not in _KINDS:
@@ -40,7 +41,7 @@ def _node(words: list[str], graph: Graph) -> NodeTable:
     if not all(map(is_plain, labels)) or len(labels) > MOST_LABELS or len(set(labels)) < len(labels):
         raise ValueError(f"{words[1]} is not one to {MOST_LABELS} labels joined by colons")
     table = NodeTable(labels, words[2])
-    table.fields = _fields(table.file, _header(table.file))
+    table.fields = fields_of(table.file, _header(table.file))
     if table.key.kind == "bool":
         raise BadRow(table.file, 1, "the key is an int or a string, and no bool")
     return table
@@ -55,12 +56,12 @@ def _rel(words: list[str], graph: Graph) -> RelTable:
             raise ValueError(f"no line above has the nodes {end}")
     if (type_name, source, target) in [(rel.type, rel.source, rel.target) for rel in graph.rels]:
         raise ValueError(f"a line above has {type_name} from {source} to {target} already")
-    if table.multiplicity not in _MULTIPLICITIES:
-        raise ValueError(f"{table.multiplicity} is none of {', '.join(_MULTIPLICITIES)}")
+    if table.multiplicity not in MULTIPLICITIES:
+        raise ValueError(f"{table.multiplicity} is none of {', '.join(MULTIPLICITIES)}")
     header = _header(table.file)
     if header[:2] != ["from", "to"]:
         raise BadRow(table.file, 1, "the header of relationships begins with from,to")
-    table.fields = _fields(table.file, header[2:])
+    table.fields = fields_of(table.file, header[2:])
     return table
 
 

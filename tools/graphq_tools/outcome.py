@@ -6,8 +6,11 @@ import contextlib
 import enum
 import io
 import os
+import shlex
+import shutil
 import sys
 from collections.abc import Callable, Iterator, Sequence
+from pathlib import Path
 
 
 class Status(enum.IntEnum):
@@ -31,6 +34,23 @@ class Refusal(Exception):
         super().__init__(why)
         self.status = status
 
+    @property
+    def lines(self) -> list[str]:
+        """What is said, a line each."""
+        return [str(self)]
+
+
+class Refusals(Refusal):
+    """Several refusals at once, with a last line or none."""
+
+    def __init__(self, several: Sequence[Refusal], last: str | None = None) -> None:
+        self._lines = [*(line for one in several for line in one.lines), *([last] if last else [])]
+        super().__init__("\n".join(self._lines), several[0].status)
+
+    @property
+    def lines(self) -> list[str]:
+        return self._lines
+
 
 def one_line(text: str) -> str:
     """A text that may quote the input, with its tabs and line ends as they are typed."""
@@ -38,17 +58,18 @@ def one_line(text: str) -> str:
 
 
 class BadRow(Refusal):
-    """A file of the input holds what cannot be taken, at a line, counted from 1."""
+    """A file of the input holds what cannot be taken, at a line, counted from 1, that is of a table, where one is known."""
 
-    def __init__(self, file: str | os.PathLike[str], line: int, why: str) -> None:
-        super().__init__(f"{os.fspath(file)} line {line}: {one_line(why)}")
+    def __init__(self, file: str | os.PathLike[str], line: int, why: str, table: str = "") -> None:
+        of = f" ({table})" if table else ""
+        super().__init__(f"{os.fspath(file)} line {line}{of}: {one_line(why)}")
 
 
-def at_line(file: str | os.PathLike[str], line: int, error: ValueError | Refusal) -> Refusal:
+def at_line(file: str | os.PathLike[str], line: int, error: ValueError | Refusal, table: str = "") -> Refusal:
     """The refusal of a line for what is wrong with it; what has a place or another status already stays as it is."""
-    if isinstance(error, Refusal) and (isinstance(error, BadRow) or error.status != Status.BAD_GRAPH):
+    if isinstance(error, BadRow | Refusals) or (isinstance(error, Refusal) and error.status != Status.BAD_GRAPH):
         return error
-    return BadRow(file, line, str(error))
+    return BadRow(file, line, str(error), table)
 
 
 @contextlib.contextmanager
@@ -75,6 +96,21 @@ def package(module: str, name: str) -> Refusal:
     """The refusal for want of a Python module, with the Debian package that brings it."""
     why = f"the Python module {module} is missing: tools/setup installs {name}"
     return Refusal(why, Status.NOT_INSTALLED)
+
+
+def typed(tool: str) -> str:
+    """A tool as it is to be typed here: by its name where that finds it, else beside the one that runs.
+
+    The executables of a clone say in a variable how they were called.
+    """
+    own = sys.argv[0] if Path(sys.argv[0]).name.startswith("graphq-") else tool
+    called = os.environ.get("GRAPHQ_CALLED", own)
+    beside = Path(called).with_name(tool)
+    found = shutil.which(tool)
+    if "/" not in called or (found and beside.exists() and beside.samefile(found)):
+        return tool
+    # A path without a slash would be looked for on the PATH.
+    return shlex.quote(str(beside) if "/" in str(beside) else f"./{beside}")
 
 
 def prepare_streams() -> None:
@@ -106,7 +142,8 @@ def run(tool: str, main: Callable[[Sequence[str]], int]) -> int:
         sys.stdout.flush()
         return int(status)
     except Refusal as refusal:
-        print(f"{tool}: {refusal}", file=sys.stderr)
+        for line in refusal.lines:
+            print(f"{tool}: {line}", file=sys.stderr)
         return int(refusal.status)
     except BrokenPipeError:
         # Whoever read the output has gone.

@@ -1,130 +1,99 @@
-"""A session with the program over its pipes: one statement in, the lines of its reply out."""
+"""A session of the tools with the program: one statement in, the lines of its reply out, and parameters that stay."""
 
 from __future__ import annotations
 
-import os
-import secrets
-import subprocess
-import threading
+import re
 from collections.abc import Sequence
 from pathlib import Path
 
+from graphq.connection import Connection
+from graphq.errors import NotInstalled, ProgramEnded
+
 from .outcome import Refusal, Status
-from .statements import in_bytes, is_closed
+from .replies import unescaped
+from .statements import is_closed
 
-_TOP = Path(__file__).resolve().parent.parent.parent
-
-
-def found_program(asked: str | None) -> str:
-    """The program to run: the one asked for, that of the variable GRAPHQ, or the one of the sources beside the tools.
-
-    It is never built here: that takes long, and whoever draws a picture is to be told and not to wait.
-    """
-    program = asked or os.environ.get("GRAPHQ") or _of_these_sources()
-    if program is None:
-        raise Refusal(
-            "graphq is not built yet: call ./graphq once, or name a program by --program", Status.NOT_INSTALLED
-        )
-    if not os.access(program, os.X_OK):
-        raise Refusal(f"{program}: there is no such program; --program names another", Status.NOT_INSTALLED)
-    return program
-
-
-def _of_these_sources() -> str | None:
-    """The program that was built here, or else the released one, where it is of the sources beside the tools."""
-    for option, program in (("--newer", "crates/graphq/out/graphq"), ("--check", "release/graphq")):
-        if subprocess.run([str(_TOP / "release" / "make"), option], check=False).returncode == 0:
-            return str(_TOP / program)
-    return None
+# The reply to `:param`; the value begins at the last blank after which one stands.
+_PARAMETER = re.compile(r"param (?P<name>.+) (?P<value>null|true|false|-?[0-9]+|'(?:[^'\\]|\\.)*')\Z", re.DOTALL)
 
 
 class Ended(Exception):
-    """The program ended: with this status, behind these lines."""
+    """The program ended: with this status, after these lines, and with what it said on standard error."""
 
-    def __init__(self, status: int, lines: list[str]) -> None:
-        super().__init__(f"graphq ended with status {status}")
+    def __init__(self, status: int, lines: list[str], said: str = "") -> None:
+        super().__init__(said or f"graphq ended with status {status}")
         self.status = status
         self.lines = lines
+        self.said = said
 
 
 class Session:
-    """A program that runs and waits for statements.
+    """A program that runs and waits for statements, over the connection of the package graphq.
 
-    The end of a reply is not marked in the output. So behind each statement stands a second one, whose reply is known:
-    a query of a variable with a name of this session's own, which is refused by that name.
+    The parameters that were set are kept, and set again where the program is started again.
     """
 
     def __init__(self, program: str, words: Sequence[str]) -> None:
-        self._command = [program, *words]
-        self._name = f"end_{secrets.token_hex(8)}"
-        self._process: subprocess.Popen[bytes] | None = None
+        self._connection = Connection([program, *words], str(Path.cwd()))
+        self._loaded: int | None = None
+        # The parameters by their names, as literals.
+        self.parameters: dict[str, str] = {}
+
+    def is_loaded(self) -> bool:
+        """Whether the program runs, and is known to have loaded the graph."""
+        return self._loaded is not None and self._loaded == self._connection.process
 
     def start(self) -> None:
-        """Starts the program, where none runs. It has a session of its own, so that Ctrl-C does not reach it."""
-        if self._process is None:
-            try:
-                self._process = subprocess.Popen(
-                    self._command, stdin=subprocess.PIPE, stdout=subprocess.PIPE, start_new_session=True
-                )
-            except OSError as error:
-                raise Refusal(f"{self._command[0]}: {error.strerror}", Status.NOT_INSTALLED) from error
+        """Starts the program where none runs, and does not wait for it."""
+        try:
+            self._connection.start()
+        except NotInstalled as error:
+            raise Refusal(str(error), Status.NOT_INSTALLED) from error
+
+    def load(self) -> None:
+        """Starts the program where none runs, waits until its graph is loaded, and sets the parameters again.
+
+        Raises `Ended` where the load is refused.
+        """
+        self.start()
+        if not self.is_loaded():
+            self._lines("")
+            self._loaded = self._connection.process
 
     def ask(self, statement: str) -> list[str]:
         """The lines of the reply to a statement, which has no `;`. Raises `Ended` where the program ends instead."""
+        self.load()
         if not is_closed(statement):
             return self._ask_last(statement)
-        self.start()
-        process = self._process
-        assert process is not None and process.stdout is not None
-        last = f"error: UnknownVariable {self._name}\n".encode()
-        text = in_bytes(f"{statement};MATCH (a) RETURN {self._name};")
-        # The program may write before it has read all, so nobody is to wait here until it has.
-        writer = threading.Thread(target=_write, args=(process, text), daemon=True)
-        writer.start()
+        lines = self._lines(statement)
+        if len(lines) == 1 and (match := _PARAMETER.match(lines[0])):
+            self.parameters[unescaped(match["name"])] = match["value"]
+        return lines
+
+    def _lines(self, statement: str) -> list[str]:
+        """Sends a statement, and reads up to the end of its reply."""
         lines: list[bytes] = []
-        for line in process.stdout:
-            if line == last:
-                writer.join()
-                return [one.decode("utf-8", "replace").removesuffix("\n") for one in lines]
-            lines.append(line)
-        status = process.wait()
-        self.stop()
-        raise Ended(status, [one.decode("utf-8", "replace").removesuffix("\n") for one in lines])
+        try:
+            lines.extend(self._connection.ask(statement, self.parameters))
+        except ProgramEnded as ended:
+            raise Ended(ended.status, _texts(lines), ended.said) from ended
+        return _texts(lines)
 
     def _ask_last(self, statement: str) -> list[str]:
         """The reply to a statement that only the end of the input ends. The next one starts the program again."""
-        self.start()
-        process, self._process = self._process, None
-        assert process is not None
-        output, _ = process.communicate(in_bytes(statement))
-        lines = [line for line in output.decode("utf-8", "replace").split("\n") if line]
-        if process.returncode not in (Status.DONE, Status.REPLY_REFUSED):
-            raise Ended(process.returncode, lines)
-        return lines
+        return _texts(self._connection.ask_last(statement))
+
+    def finish(self) -> str:
+        """Lets the program end by the end of its input, and gives what it says then on standard error.
+
+        So the program tells why a statement had no memory. The next statement starts it again.
+        """
+        return self._connection.finish()
 
     def stop(self) -> None:
         """Ends the program, in the middle of a statement too. The next statement starts it again."""
-        process, self._process = self._process, None
-        if process is not None:
-            process.kill()
-            process.wait()
-            for pipe in (process.stdin, process.stdout):
-                if pipe is not None:
-                    _close(pipe)
+        self._connection.end()
 
 
-def _write(process: subprocess.Popen[bytes], text: bytes) -> None:
-    try:
-        assert process.stdin is not None
-        process.stdin.write(text)
-        process.stdin.flush()
-    except (OSError, ValueError):
-        # The program has ended, which its reader is told.
-        pass
-
-
-def _close(pipe: object) -> None:
-    try:
-        pipe.close()  # type: ignore[attr-defined]
-    except OSError:
-        pass
+def _texts(lines: Sequence[bytes]) -> list[str]:
+    return [line.decode("utf-8", "replace") for line in lines]

@@ -15,6 +15,10 @@ _ENDS = {
     "//": re.compile(r"[^\n\r]*[\n\r]"),
     "/*": re.compile(r".*?\*/", re.DOTALL),
 }
+_WORD = re.compile(r"(?:[A-Za-z_]|(?!\s)[^\x00-\x7f])(?:[A-Za-z0-9_]|(?!\s)[^\x00-\x7f])*\Z")
+
+# How what is open ends, where it does not end with its line.
+_CLOSES = {"'": "'", '"': '"', "`": "`", "/*": "*/"}
 
 
 def in_bytes(text: str) -> bytes:
@@ -22,13 +26,32 @@ def in_bytes(text: str) -> bytes:
     return text.encode("utf-8", "surrogateescape")
 
 
+def spelled(name: str) -> str:
+    """A name as a statement has it: in backquotes where it is no plain word."""
+    return name if _WORD.match(name) else "`" + name.replace("`", "``") + "`"
+
+
 def is_closed(statement: str) -> bool:
-    """Whether a `;` behind a statement would end it: no string, quoted name or comment in it is still open."""
+    """Whether a `;` after a statement would end it: no string, quoted name or comment in it is still open."""
     return split(f"{statement};") == ([statement], "")
 
 
 def split(text: str) -> tuple[list[str], str]:
-    """The statements that end in a text, without their `;`, and what stands behind the last one."""
+    """The statements that end in a text, without their `;`, and what stands after the last one."""
+    statements, rest, _ = _cut(text)
+    return statements, rest
+
+
+def waits_for(text: str) -> str:
+    """What has to come before a text ends as statements: the end of what is open in it, `;`, or nothing."""
+    _, rest, opened = _cut(text)
+    if opened:
+        return _CLOSES.get(opened, "")
+    return "" if is_blank(rest) else ";"
+
+
+def _cut(text: str) -> tuple[list[str], str, str]:
+    """The statements that end in a text, what stands after the last one, and what is open there, if anything."""
     statements, begin, at = [], 0, 0
     while found := _NEXT.search(text, at):
         if found[0] == ";":
@@ -37,9 +60,9 @@ def split(text: str) -> tuple[list[str], str]:
             continue
         end = _ENDS[found[0]].match(text, found.end())
         if end is None:
-            break
+            return statements, text[begin:], found[0]
         at = end.end()
-    return statements, text[begin:]
+    return statements, text[begin:], ""
 
 
 def is_blank(text: str) -> bool:

@@ -6,7 +6,7 @@ import re
 import unicodedata
 from collections.abc import Sequence
 
-from .statements import in_bytes
+from .hints import place
 
 try:
     from wcwidth import wcwidth as _width_of
@@ -19,7 +19,26 @@ except ImportError:
 
 
 _INTEGER = re.compile(r"-?[0-9]+\Z", re.ASCII)
-_PLACE = re.compile(r"error: (?:Lex|Syntax|Depth) at byte (?P<byte>[0-9]+)\Z")
+
+# What turns the direction of a line, or breaks it, beside the control characters.
+_TURNS = frozenset("\u2028\u2029\u202a\u202b\u202c\u202d\u202e\u2066\u2067\u2068\u2069")
+
+
+def visible(text: str) -> str:
+    """A text with its control characters as they are escaped, as `\\x1b`, so that none of them moves a terminal."""
+    if text.isprintable():
+        return text
+    return "".join(map(_seen, text))
+
+
+def _seen(character: str) -> str:
+    code = ord(character)
+    if 0xDC80 <= code <= 0xDCFF:
+        # A byte that is no UTF-8.
+        return f"\\x{code - 0xDC00:02x}"
+    if unicodedata.category(character) == "Cc":
+        return f"\\x{code:02x}"
+    return f"\\u{code:04x}" if character in _TURNS else character
 
 
 def width(text: str) -> int:
@@ -31,9 +50,10 @@ def width(text: str) -> int:
 
 def aligned(columns: Sequence[str], rows: Sequence[Sequence[str]]) -> list[str]:
     """The lines of a table. A column of integers and nulls alone is aligned at its right."""
-    shown = [column.replace("\t", " ").replace("\n", " ").replace("\r", " ") for column in columns]
+    shown = [visible(column.replace("\t", " ").replace("\n", " ").replace("\r", " ")) for column in columns]
+    rows = [[visible(cell) for cell in row] for row in rows]
     widths = [max([width(name), *(width(row[place]) for row in rows)]) for place, name in enumerate(shown)]
-    right = [_is_numeric([row[place] for row in rows]) for place in range(len(shown))]
+    right = [is_numeric([row[place] for row in rows]) for place in range(len(shown))]
 
     def line(cells: Sequence[str]) -> str:
         padded = []
@@ -45,18 +65,20 @@ def aligned(columns: Sequence[str], rows: Sequence[Sequence[str]]) -> list[str]:
     return [line(shown), "-+-".join("-" * wanted for wanted in widths), *map(line, rows)]
 
 
-def _is_numeric(cells: list[str]) -> bool:
+def is_numeric(cells: list[str]) -> bool:
+    """Whether the cells of a column are integers and nulls alone, and some is an integer."""
     return any(map(_INTEGER.match, cells)) and all(cell == "null" or _INTEGER.match(cell) for cell in cells)
 
 
 def caret(statement: str, refusal: str) -> list[str]:
-    """The line of a statement that a refusal names a byte of, and a caret under that byte's place; or nothing."""
-    match = _PLACE.match(refusal)
-    if match is None:
+    """The line of a statement in which the cause of a refusal stands, and a caret under its place; or nothing."""
+    at = place(statement, refusal)
+    if at is None:
         return []
-    before = in_bytes(statement)[: int(match["byte"])].decode("utf-8", "ignore")
+    before = statement[:at]
     begin = before.rfind("\n") + 1
     line = statement[begin:].split("\n", 1)[0].rstrip("\r")
     # A tab stays a tab, so that the caret stands under its place whatever a tab's width is.
-    blanks = "".join("\t" if character == "\t" else " " * width(character) for character in before[begin:])
-    return [line, blanks + "^"]
+    shown = ["\t" if character == "\t" else visible(character) for character in line]
+    blanks = ["\t" if text == "\t" else " " * width(text) for text in shown[: len(before) - begin]]
+    return ["".join(shown), "".join(blanks) + "^"]

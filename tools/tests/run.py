@@ -5,13 +5,15 @@ from __future__ import annotations
 import collections
 import sys
 import unittest
+import warnings
 from pathlib import Path
 
 
 def main() -> int:
     here = Path(__file__).resolve().parent
     suite = unittest.defaultTestLoader.discover(str(here), top_level_dir=str(here.parent))
-    result = unittest.TextTestRunner(stream=sys.stdout, verbosity=0, buffer=True, warnings="default").run(suite)
+    warnings.simplefilter("default")
+    result = unittest.TextTestRunner(stream=sys.stdout, verbosity=0, buffer=True).run(suite)
     skipped = collections.Counter(reason for _, reason in result.skipped)
     for reason, count in sorted(skipped.items()):
         print(f"tools: {count} tests skipped: {reason}")

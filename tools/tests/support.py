@@ -11,9 +11,12 @@ import shutil
 import subprocess
 import tempfile
 import unittest
+from collections.abc import Callable, Sequence
 from pathlib import Path
+from typing import Any, TypeVar
 from unittest import mock
 
+from graphq_tools.__main__ import MAINS
 from graphq_tools.manifest import read_manifest
 from graphq_tools.outcome import run
 
@@ -24,21 +27,23 @@ PEOPLE = "examples/people/people.manifest"
 PROGRAM = os.environ["GRAPHQ"]
 
 
-def needs_module(module: str, package: str) -> object:
+Tests = TypeVar("Tests", bound=Callable[..., Any] | type)
+
+
+def needs_module(module: str, package: str) -> Callable[[Tests], Tests]:
     """A decorator: the tests need a Python module, and are skipped without it, with the name of its package."""
     return unittest.skipUnless(importlib.util.find_spec(module), f"the package {package} is missing")
 
 
-def needs_program(program: str, package: str) -> object:
+def needs_program(program: str, package: str) -> Callable[[Tests], Tests]:
     """A decorator: the tests need a program, and are skipped without it, with the name of its package."""
     return unittest.skipUnless(shutil.which(program), f"the package {package} is missing")
 
 
-def ask(manifest: str | Path, text: str, cwd: Path = TOP) -> tuple[int, str]:
-    """The status of the program and what it writes for a text."""
-    done = subprocess.run(
-        [PROGRAM, "--manifest", str(manifest)], input=text.encode(), capture_output=True, cwd=cwd, check=False
-    )
+def ask(manifest: str | Path, text: str, cwd: Path = TOP, words: Sequence[str] = ()) -> tuple[int, str]:
+    """The status of the program, with these words more, and what it writes for a text."""
+    command = [PROGRAM, "--manifest", str(manifest), *words]
+    done = subprocess.run(command, input=text.encode(), capture_output=True, cwd=cwd, check=False)
     return done.returncode, done.stdout.decode()
 
 
@@ -89,7 +94,7 @@ class ToolTest(unittest.TestCase):
 
     def tool(self, name: str, *words: str | Path, text: str = "", cwd: Path | None = None) -> tuple[int, str, str]:
         """The status of a tool, its output and what it says on standard error. It runs in this process."""
-        main = importlib.import_module(f"graphq_tools.{name.removeprefix('graphq-')}_main").main
+        main = importlib.import_module(f"graphq_tools.{MAINS[name.removeprefix('graphq-')]}").main
         streams = [io.TextIOWrapper(io.BytesIO(), encoding="utf-8", write_through=True) for _ in range(2)]
         with (
             contextlib.chdir(cwd or self.folder),

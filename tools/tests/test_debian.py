@@ -3,6 +3,7 @@
 from __future__ import annotations
 
 import subprocess
+from pathlib import Path
 
 from .support import TOOLS, TOP, ToolTest, ask
 
@@ -37,7 +38,7 @@ Depends: v | nowhere
 class Make(ToolTest):
     def make(self, *words: str) -> int:
         self.write("lists", LISTS)
-        command = [TOOLS / "python", DEBIAN / "make", "--out", "g", "--lists", "lists", *words]
+        command: list[str | Path] = [TOOLS / "python", DEBIAN / "make", "--out", "g", "--lists", "lists", *words]
         return subprocess.run(command, cwd=self.folder, capture_output=True, check=False).returncode
 
     def text(self, name: str) -> list[str]:

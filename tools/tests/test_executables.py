@@ -4,6 +4,8 @@ from __future__ import annotations
 
 import os
 import subprocess
+import sys
+from pathlib import Path
 
 from .support import METRO, PEOPLE, PROGRAM, TOOLS, TOP, ToolTest
 
@@ -20,6 +22,18 @@ class Executables(ToolTest):
                 self.assertIn("exit status: ", output)
                 self.assertTrue((TOP / f"docs/tools/{name}.md").is_file())
 
+    def test_help_of_the_bench(self) -> None:
+        """Every script of bench/, and the reading list, tells its arguments."""
+        scripts = [path for path in (TOP / "bench").iterdir() if path.is_file() and path.read_bytes().startswith(b"#!")]
+        self.assertGreater(len(scripts), 5)
+        for script in [*scripts, TOP / "docs/reading.py"]:
+            with self.subTest(script=script.name):
+                done = subprocess.run(
+                    [sys.executable, "-B", script, "--help"], capture_output=True, cwd=self.folder, check=False
+                )
+                self.assertEqual((done.returncode, done.stderr.decode()), (0, ""))
+                self.assertTrue(done.stdout.startswith(b"usage: "), done.stdout[:80])
+
     def test_no_words(self) -> None:
         for name in NAMES:
             with self.subTest(name=name):
@@ -31,14 +45,14 @@ class Executables(ToolTest):
         self.write("n.csv", "id:ID\na\na\n")
         status, output, errors = self.call("graphq-import", "neo4j", "n.csv", "--out", "g")
         self.assertEqual(
-            (status, output, errors), (3, "", "graphq-import: n.csv line 3: the id 'a' is there already\n")
+            (status, output, errors), (3, "", "graphq-import: n.csv line 3 (Node): the id 'a' is there already\n")
         )
 
     def test_output_that_is_full(self) -> None:
         """No traceback where nobody can be told."""
         self.write("n.csv", "id:ID\na\n")
         with open("/dev/full", "w") as full:
-            command = [TOOLS / "graphq-import", "neo4j", "n.csv", "--out", "g"]
+            command: list[str | Path] = [TOOLS / "graphq-import", "neo4j", "n.csv", "--out", "g"]
             done = subprocess.run(command, stdout=full, stderr=subprocess.PIPE, cwd=self.folder, check=False)
         self.assertEqual((done.returncode, done.stderr), (5, b"graphq-import: [Errno 28] No space left on device\n"))
 

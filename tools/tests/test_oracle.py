@@ -20,7 +20,7 @@ LANGUAGE = TOP / "docs/language.md"
 REFUSAL = re.compile(r"\| `(\w+)(?: NAME| N)?` \|.*\| `(MATCH .*)` \|")
 
 # Queries over examples/people with their rows, as docs/language.md has them.
-LISTINGS = {
+LISTINGS: dict[str, list[str]] = {
     "MATCH (p:Person) WHERE p.age > 26 RETURN p.name": ["'Ann'"],
     "MATCH (a)-[:KNOWS]->(b), (c)-[:KNOWS]->(b) RETURN a.id, c.id": ["1\t1", "1\t1", "1\t3", "3\t1"],
     "MATCH (a)-[:KNOWS]->(b) RETURN DISTINCT a.id ORDER BY a.id SKIP 1 LIMIT 1": ["2"],
@@ -55,7 +55,7 @@ LISTINGS = {
     "MATCH (p:Person) WHERE exists((:City {code: 'Y'})<--()) RETURN p.name": [],
     "MATCH (p:Person) WHERE 1 / (p.age - 30) < 1 AND p.age <> 30 RETURN p.id": ["3"],
 }
-ARRANGED = {
+ARRANGED: dict[str, list[str]] = {
     "MATCH (p:Person) RETURN p.age ORDER BY p.age DESC": ["null", "30", "25"],
     "MATCH (p:Person {id: 1})-[r]->(b) RETURN p.name, r, b ORDER BY r": [
         "'Ann'\t[KNOWS #0]\t(Person 2)",
@@ -125,7 +125,7 @@ class Oracle(ToolTest):
 
     def test_wrong_rows(self) -> None:
         for statement, rows in LISTINGS.items():
-            wrong = [[*rows, "'Ann'"], ["'Dan'"], rows[1:], [*rows, *rows[-1:]], ["null" for _ in rows]]
+            wrong: list[list[str]] = [[*rows, "'Ann'"], ["'Dan'"], rows[1:], [*rows, *rows[-1:]], ["null" for _ in rows]]
             for others in wrong:
                 if sorted(others) != sorted(rows):
                     with self.subTest(statement=statement, rows=others):
@@ -138,7 +138,7 @@ class Oracle(ToolTest):
         permits = permitted("MATCH (c:City) RETURN c")
         right = ["c", "(City 'X')", "(City 'Y')", "rows 2"]
         self.assertIsNone(permits.objection(right))
-        for wrong in (
+        several: tuple[list[str], ...] = (
             ["d", *right[1:]],
             [*right[:-1], "rows 3"],
             right[:-1],
@@ -146,7 +146,8 @@ class Oracle(ToolTest):
             ["error: Fault Kind"],
             ["error: TooManyRows 4194304"],
             [*right, "rows 2"],
-        ):
+        )
+        for wrong in several:
             with self.subTest(wrong=wrong):
                 self.assertIsNotNone(permits.objection(wrong))
 

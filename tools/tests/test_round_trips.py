@@ -2,12 +2,13 @@
 
 from __future__ import annotations
 
+import shlex
 import unittest
 from pathlib import Path
 
-from graphq_tools.kuzu_script import RelTable, read_script
+from graphq_tools.importing.kuzu_script import RelTable, read_script
 
-from .support import METRO, PEOPLE, TOP, ToolTest, knows_several_labels, listing, schema
+from .support import METRO, PEOPLE, TOP, ToolTest, ask, knows_several_labels, listing, needs_module, schema
 
 FORMS = {"kuzu": ["kuzu", "there/schema.cypher"], "neo4j": ["neo4j"]}
 
@@ -23,7 +24,7 @@ class RoundTrip(ToolTest):
             # By their stems, so that the second table of a type stands behind its first: near.csv, near-2.csv.
             files = sorted((self.folder / "there").glob("*.csv"), key=lambda path: path.stem)
             words = [*words, *(f"there/{path.name}" for path in files)]
-        self.done("graphq-import", *words, "--out", "back", "--quiet")
+        self.done("graphq-import", *words, "--out", "back", "--quiet", "--strict")
 
 
 class RoundTrips(RoundTrip):
@@ -45,6 +46,29 @@ class RoundTrips(RoundTrip):
 
     def test_people_by_neo4j(self) -> None:
         self.same("neo4j", PEOPLE)
+
+    def through_csv(self, manifest: str) -> None:
+        self.done("graphq-export", "csv", "--manifest", manifest, "--out", self.folder / "there", cwd=TOP)
+        command = (self.folder / "there/import.sh").read_text().replace("\\\n", "").splitlines()[-1]
+        words = shlex.split(command.replace('"${1:-graph}"', "back"))
+        self.done(words[0], *words[1:], cwd=self.folder / "there")
+        self.assertEqual(schema("back/back.manifest", self.folder / "there"), schema(manifest))
+        self.assertEqual(listing("back/back.manifest", self.folder / "there"), listing(manifest))
+
+    def test_metro_by_csv(self) -> None:
+        self.through_csv(METRO)
+
+    def test_people_by_csv(self) -> None:
+        self.through_csv(PEOPLE)
+
+    @needs_module("networkx", "python3-networkx")
+    def test_people_by_graphml(self) -> None:
+        """networkx brings edges in the order of their sources, so the numbers of relationships are others."""
+        self.done("graphq-export", "graphml", "--manifest", PEOPLE, "--out", self.folder / "there", cwd=TOP)
+        self.done("graphq-import", "networkx", "there/graph.graphml", "--out", "back", "--strict")
+        self.assertEqual(schema("back/back.manifest", self.folder), schema(PEOPLE))
+        query = "MATCH (a)-[r]->(b) RETURN type(r) AS t, a.id, a.name, b.id, b.code, r.since ORDER BY t, a.id, b.id, b.code, r.since;"
+        self.assertEqual(ask("back/back.manifest", query, self.folder), ask(PEOPLE, query))
 
     def test_awkward_values(self) -> None:
         """Line ends, quotes, commas, backslashes, blanks at the ends, texts that look like numbers, and null."""

@@ -5,10 +5,12 @@ from __future__ import annotations
 import argparse
 from collections.abc import Sequence
 
-from .completion import MODES
-from .line_input import lines_of
-from .session import Session, found_program
-from .shell import HELP, Shell, settings_for
+from ..program import found_program
+from ..session import Session
+from .commands import HELP, command_of
+from .formats import FORMATS
+from .lines import lines_of
+from .loop import Settings, Shell
 
 _EXAMPLES = f"""\
 {HELP}
@@ -17,23 +19,23 @@ examples:
   graphq-shell --manifest examples/metro/metro.manifest
   graphq-shell --manifest examples/metro/metro.manifest --mode csv <question.cypher >answer.csv
 
-exit status: 0 done, 1 some statement of a file or a pipe was refused, 2 wrong words, 3 the graph is refused, 4 a file
-cannot be read, 5 the output cannot be written, 6 no memory, 69 graphq is missing. docs/tools/graphq-shell.md has
-more."""
+exit status: 0 done, 1 some statement of a file or a pipe was refused, 2 wrong arguments, 3 the graph is refused, 4 a
+file cannot be read, 5 the output cannot be written, 6 some statement had no memory, 69 graphq is missing.
+docs/tools/graphq-shell.md has more."""
 
 
 def parser() -> argparse.ArgumentParser:
     """The parser of the command line."""
     top = argparse.ArgumentParser(
         prog="graphq-shell",
-        description="A prompt for graphq: history, completion, tables, times.",
+        description="A prompt for graphq: history, completion, tables, hints, times.",
         epilog=_EXAMPLES,
         formatter_class=argparse.RawDescriptionHelpFormatter,
     )
     top.add_argument("--manifest", required=True, metavar="PATH", help="the graph")
     top.add_argument("--order", choices=("given", "greedy", "least"), help="as graphq has it")
     top.add_argument("--rows", metavar="N", help="as graphq has it")
-    top.add_argument("--mode", choices=MODES, help="how rows are shown (table)")
+    top.add_argument("--mode", choices=tuple(FORMATS), help="how rows are shown (table)")
     top.add_argument("--program", metavar="PATH", help="the program graphq")
     return top
 
@@ -44,6 +46,9 @@ def main(arguments: Sequence[str]) -> int:
     options = [("--order", words.order), ("--rows", words.rows)]
     more = [word for option, value in options if value for word in (option, value)]
     session = Session(found_program(words.program), ["--manifest", words.manifest, *more])
-    lines, at_keyboard = lines_of(lambda: shell.names)
-    shell = Shell(session, lines, at_keyboard, settings_for(lines, words.mode))
+    lines, at_keyboard = lines_of(
+        lambda: shell.schema, session.parameters, lambda text: command_of(text.strip()) is not None
+    )
+    settings = Settings(words.mode or "table", timing=at_keyboard, pager=at_keyboard)
+    shell = Shell(session, words.manifest, lines, at_keyboard, settings, find_command=command_of)
     return shell.run()
