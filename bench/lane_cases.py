@@ -6,6 +6,8 @@ of marks and a vector have, one less and one more. What is wanted is worked out 
 
 All rows of a table are alike but those at the ends of words and vectors, which have the values that tests turn on.
 """
+import argparse
+
 LEAST, GREATEST = -2**63, 2**63 - 1
 SIZES = [1, 63, 64, 65, 1023, 1024, 1025, 2047, 2048, 2049]
 EDGES = [0, 31, 62, 63, 64, 511, 1022, 1023, 1024, 1500, 2046, 2047, 2048]
@@ -216,7 +218,15 @@ def case(size):
     yield from (f"= {line}" for line in wanted)
 
 
-print("# Each kind of test that columns decide, at the ends of words of marks and of vectors: bench/lane_cases.py writes this file.")
-for size in SIZES:
-    print()
-    print("\n".join(case(size)))
+def main():
+    argparse.ArgumentParser(
+        prog="bench/lane_cases.py", description=__doc__, formatter_class=argparse.RawDescriptionHelpFormatter
+    ).parse_args()
+    print("# Each kind of test that columns decide, at the ends of words of marks and of vectors: bench/lane_cases.py writes this file.")
+    for size in SIZES:
+        print()
+        print("\n".join(case(size)))
+
+
+if __name__ == "__main__":
+    main()

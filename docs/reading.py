@@ -9,13 +9,17 @@ something. It lists the kit's words and what it cannot resolve, and counts no bl
     docs/reading.py --definitions    the same, with each definition by name
     docs/reading.py --unreached      what of specs/ no public function's clause uses, nor a definition that one reaches: specs/steps/
 """
+from __future__ import annotations
+
+import argparse
 import re
-import sys
+from collections.abc import Iterable, Iterator
 from itertools import takewhile
 from pathlib import Path
+from typing import TypeAlias
 
 CRATES = Path(__file__).resolve().parent.parent / "crates"
-SOURCES = {}  # each file by its path, as gq_shell/specs/Claim
+SOURCES: dict[str, Source] = {}  # each file by its path, as gq_shell/specs/Claim
 KEYWORDS = set("→ × λ : = _ | let in record data where module mutual pub abbrev unfoldable unfolding as Type Unit tt ⊥ "
                "absurd ¬ 𝓛 cc grind Prim Some None Ok Err result self Self".split())
 WORD = re.compile(r'"(?:\\.|[^"\\])*"|(\[\]|(?<![^\s()\[\]{},;])[^\s()\[\]{},;".\d][^\s()\[\]{},;"]*)')
@@ -30,13 +34,22 @@ BODY = re.compile(r"^( *)(?:(?:\)|(?:pub(?:\(crate\))? )?(?:const )?fn ).*)?\{\n
 CLAUSE = re.compile(r"\b(?:requires|ensures|ghost)\*?(?: \w+)?(?: ?[:=])? \{((?:[^{}]|\{(?:[^{}]|\{[^{}]*\})*\})*)\}")
 
 
+Lines = list[tuple[int, str]]  # lines with their numbers
+Meant: TypeAlias = "Item | tuple[str, str] | None"  # what a word means
+
+
+def found(match: re.Match[str] | None) -> re.Match[str]:  # what has to be there
+    assert match is not None
+    return match
+
+
 class Item:  # a definition or a contract: its lines by number, its text in antt, its words in Rust, and what it binds
-    def __init__(self, source, name, lines, text, words, bound):
+    def __init__(self, source: Source, name: str, lines: Lines, text: str, words: Iterable[str], bound: set[str]) -> None:
         self.source, self.name, self.lines = source, name, {number for number, _ in lines}
         self.text, self.words, self.bound = text, words, bound
         source.items.append(self)
 
-    def uses(self):  # the words that it uses, each with what it means
+    def uses(self) -> Iterator[tuple[str, Meant]]:  # the words that it uses, each with what it means
         bound = self.bound.union(*(re.findall(r"[^\s(),]+", " ".join(names)) for names in BINDER.findall(self.text)))
         for word in {word.rstrip(".") for word in WORD.findall(LABEL.sub(r"\1\2", self.text))} - {""}:
             head, meant = word.split(".")[0], self.source.meaning(word)
@@ -46,12 +59,15 @@ class Item:  # a definition or a contract: its lines by number, its text in antt
 
 
 class Source:  # a file: what its words bring from elsewhere, its items, and its definitions by the words that they declare
-    def __init__(self, path):
+    def __init__(self, path: Path) -> None:
         self.path, self.text = path.relative_to(CRATES), path.read_text().replace("::", ".")
         self.crate, self.is_rust = self.path.parts[0], path.suffix == ".rt"
         if not self.is_rust:  # a comment behind code
             self.text = re.sub(r"(?<=\S) +-- .*$", "", self.text, flags=re.M)
-        self.items, self.declared, self.imports, self.uses = [], {}, {}, {}
+        self.items: list[Item] = []
+        self.declared: dict[str, Item] = {}
+        self.imports: dict[str, tuple[str, str]] = {}
+        self.uses: dict[str, tuple[str, str]] = {}
         for ghost, module, names, alias in IMPORT.findall(self.text):
             for name, _, other in (item.strip().partition(" as ") for item in names.strip(", \n").split(",")):
                 last, of_rust = module.split(".")[-1], self.is_rust and not ghost
@@ -59,32 +75,36 @@ class Source:  # a file: what its words bring from elsewhere, its items, and its
                 home = f"Rattle.{crate}.specs.declared.{name or last}" if of_rust and not OF_KIT.match(module) else module
                 words = dict.fromkeys((other or name or alias or last).split("◌"), (home, name))
                 (self.uses if of_rust else self.imports).update(words)
-        self.read_rust() if self.is_rust else self.read_antt()
+        if self.is_rust:
+            self.read_rust()
+        else:
+            self.read_antt()
 
-    def pieces(self, form):
+    def pieces(self, form: str) -> Iterator[Lines]:
         for piece in re.finditer(form, self.text, re.M):
             start = self.text.count("\n", 0, piece.start()) + 1
             yield [(n, line) for n, line in enumerate(piece[0].split("\n"), start) if line and not IMPORT.match(line)]
 
-    def read_antt(self):  # a paragraph is a definition, a signature and its cases; one that is indented stands in a block
+    def read_antt(self) -> None:  # a paragraph is a definition, a signature and its cases; one that is indented stands in a block
         blocks = re.findall(r"^ *module _ .*", self.text, re.M)
         for lines in self.pieces(r"(?:.+\n)+"):
             code = [line for _, line in lines if not NO_CODE.match(line)]
             if code:
-                is_data, name = re.match(r" *(?:(?:unfoldable|abbrev|pub) )*(?:(?:(data)|record) )?(\S+) ", code[0]).groups()
-                cases = re.findall(rf"^{re.match(' *', code[0])[0]}(\S.*?) =(?: |$)", "\n".join(code), re.M)
+                is_data, name = found(re.match(r" *(?:(?:unfoldable|abbrev|pub) )*(?:(?:(data)|record) )?(\S+) ", code[0])).groups()
+                cases = re.findall(rf"^{found(re.match(' *', code[0]))[0]}(\S.*?) =(?: |$)", "\n".join(code), re.M)
                 text, bound = "\n".join(code + blocks * (code[0][0] == " ")), {*re.findall(r"[^\s()]+", " ".join(cases))}
                 words = [*name.split("◌"), *re.findall(r"^ *(\S+) :", "\n".join(code[1:]) if is_data else "", re.M)]
                 self.declared.update(dict.fromkeys(words, Item(self, name, lines, text, (), bound)))
 
-    def read_rust(self):  # an item ends at the left edge; functions and impls have contracts, the others are definitions
+    def read_rust(self) -> None:  # an item ends at the left edge; functions and impls have contracts, the others are definitions
         for lines in self.pieces(r"(?:.*\n)*?(?:[^\s/#].*)?[;}]\n"):
             code = [line for _, line in lines if not NO_CODE.match(line)]
-            kind, trait, name = ITEM.match(code[0]).groups() if code and ITEM.match(code[0]) else ("use", None, None)
+            item = ITEM.match(code[0]) if code else None
+            kind, trait, name = item.groups(default="") if item else ("use", "", "")
             text, lines = BODY.sub("", "\n".join(code)), list(takewhile(lambda line: line[1] != "{", lines))
             if trait == "Model":
                 model = self.declared[name]
-                model.text, model.words, model.bound = rust_parts(code[0], re.search("ghost Value .*", text)[0])
+                model.text, model.words, model.bound = rust_parts(code[0], found(re.search("ghost Value .*", text))[0])
                 model.lines.update(number for number, _ in lines)
             elif kind in ("fn", "impl"):
                 for part in FUNCTION.split(text):
@@ -93,7 +113,7 @@ class Source:  # a file: what its words bring from elsewhere, its items, and its
             elif name:
                 self.declared[name] = Item(self, name, lines, *rust_parts(code[0], text))
 
-    def meaning(self, word, is_rust=False):  # a definition, a module of the kit with its word, or None
+    def meaning(self, word: str, is_rust: bool = False) -> Meant:  # a definition, a module of the kit with its word, or None
         head, _, rest = word.partition(".")
         imports = self.uses if is_rust else {**self.uses, **self.imports}
         if head not in imports:
@@ -107,23 +127,23 @@ class Source:  # a file: what its words bring from elsewhere, its items, and its
         if path[0] not in ("declared", "contracts"):
             return SOURCES["/".join([crate, "specs", *path])].meaning(member)
         name = member if "TheConstants" in path else [part for part in path if not re.match("The[A-Z]", part)][-1]
-        found = {source.declared.get(name) for source in SOURCES.values() if source.crate == crate and source.is_rust}
-        return next(iter(found - {None}), None)
+        named = {source.declared.get(name) for source in SOURCES.values() if source.crate == crate and source.is_rust}
+        return next(iter(named - {None}), None)
 
 
-def rust_parts(head, text):  # the clauses and ghost members of an item, the words of the rest, and what the item binds
+def rust_parts(head: str, text: str) -> tuple[str, set[str], set[str]]:  # the clauses and ghost members of an item, the words of the rest, and what the item binds
     rust = re.sub(r"'\w+|\"[^\"]*\"|^    [A-Z]\w*", "", CLAUSE.sub("", text), flags=re.M)
     bound = {*re.findall(r"\b[A-Z]\b", head + rust), *re.findall(r"\bghost (\w+)", text), *re.findall(r"(\w+):", rust)}
     words = {*re.findall(r"(?<!\.)\b[A-Z]\w*|\b\w+(?=\.\w*[A-Z])", rust)} - bound - {"Self"}
     return "\n".join(CLAUSE.findall(text)), words, bound
 
 
-def main(flags):
+def main(flags: list[str]) -> None:
     for path in sorted(CRATES.glob("*/s*/**/*.*t")):
         if "formers" not in path.parts:  # there the kit wants how a type may stand inside itself, which no clause names
             SOURCES[str(path.relative_to(CRATES).with_suffix(""))] = Source(path)
     of_claim = "--unreached" not in flags
-    reached, kit, unresolved, total, count = set(), {}, set(), 0, 0
+    reached, kit, unresolved, total, count = set[Item](), dict[str, set[str]](), set[str](), 0, 0
     todo = [item for item in SOURCES["gq_shell/src/program"].items if item.name == "run"]
     for source in SOURCES.values() if not of_claim else ():  # a crate shows its root file's items, and what this passes on
         root = SOURCES.get(f"{source.crate}/src/lib")
@@ -150,5 +170,14 @@ def main(flags):
     print(*kit_lines, *sorted(unresolved), f"{total} lines of {count} definitions", sep="")
 
 
+def arguments() -> argparse.Namespace:
+    parser = argparse.ArgumentParser(prog="docs/reading.py", description=__doc__,
+                                     formatter_class=argparse.RawDescriptionHelpFormatter)
+    what = parser.add_mutually_exclusive_group()
+    what.add_argument("--definitions", action="store_true", help="each definition by name")
+    what.add_argument("--unreached", action="store_true", help="what of specs/ nothing reaches")
+    return parser.parse_args()
+
+
 if __name__ == "__main__":
-    main(sys.argv[1:])
+    main([f"--{name}" for name, said in vars(arguments()).items() if said])

@@ -134,8 +134,8 @@ def differences(program: Path, one: Round, tally: Tally) -> Iterator[str]:
         objection = question.permitted.objection(reply)
         if objection is not None:
             tally.differences += 1
-            text = b";".join([*question.parameters, question.text])
-            yield report(one, text, reply, objection, question.permitted)
+            asked = b";".join([*question.parameters, question.text])
+            yield report(one, asked, reply, objection, question.permitted)
     wanted = int(any(reply and reply[0].startswith("error: ") for reply in replies))
     if done.returncode != wanted:
         tally.differences += 1

@@ -6,7 +6,7 @@ from collections.abc import Mapping
 
 from . import syntax
 from .errors import Fault
-from .graph import Graph, Relationship, Value
+from .graph import Graph, Node, Relationship, Value
 from .patterns import Variable
 from .syntax import Expression
 from .values import equal, less
@@ -119,7 +119,7 @@ class Evaluator:
                 return self.row[expression.name]
             case syntax.Property():
                 owner = self.row[expression.variable]
-                return None if owner is None else self.graph.property(owner, expression.key)
+                return self.graph.property(owner, expression.key) if isinstance(owner, Node | Relationship) else None
             case syntax.Parentheses():
                 return self.value(expression.inside)
             case syntax.Logic():
@@ -136,8 +136,8 @@ class Evaluator:
                     found = arithmetic(operator, found, self.value(operand))
                 return found
             case syntax.Sign():
-                operand = integer(self.value(expression.operand))
-                return operand if expression.sign == "+" else arithmetic("-", 0, operand)
+                signed = integer(self.value(expression.operand))
+                return signed if expression.sign == "+" else arithmetic("-", 0, signed)
             case syntax.Call():
                 return self.call(expression)
         raise AssertionError("an EXISTS is no expression with a value")

@@ -91,8 +91,7 @@ class Graph:
 
     def table_of(self, entity: Node | Relationship) -> NodeTable | RelationshipTable:
         """The table that a node or a relationship stands in."""
-        tables = self.nodes if isinstance(entity, Node) else self.relationships
-        return tables[entity.table]
+        return self.nodes[entity.table] if isinstance(entity, Node) else self.relationships[entity.table]
 
     def property(self, entity: Node | Relationship, key: str) -> Constant:
         """A property; null where the table does not have it."""

@@ -73,7 +73,7 @@ class Pattern:
 
     def add_node(self, node: NodePattern, numbers: Iterator[int]) -> Variable:
         """Adds a node pattern, and tells its variable."""
-        variable = next(numbers) if node.name is None else node.name
+        variable: Variable = next(numbers) if node.name is None else node.name
         self.labels.setdefault(variable, []).extend(node.labels)
         self.entries += [Entry(variable, key, literal) for key, literal in node.entries]
         return variable
@@ -95,7 +95,7 @@ class Pattern:
         numbers: Iterator[int],
     ) -> None:
         """Adds a relationship pattern or a trail, and the node pattern to which it leads."""
-        variable = next(numbers) if pattern.name is None else pattern.name
+        variable: Variable = next(numbers) if pattern.name is None else pattern.name
         self.entries += [Entry(variable, key, literal) for key, literal in pattern.entries]
         left = variables[-1]
         right = self.add_node(node, numbers)

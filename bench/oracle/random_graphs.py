@@ -72,7 +72,7 @@ def node_file(random: Random, table: NodesMade) -> str:
         if random.random() < 0.9:
             header.append(f"{name}:{kind if random.random() < 0.95 else 'string'}")
             columns.append(cells)
-    records = [[key, *map(random.choice, columns)] for key in table.keys]
+    records = [[key, *(random.choice(cells) for cells in columns)] for key in table.keys]
     return csv_text([header, *records])
 
 

@@ -20,11 +20,11 @@ def equal(left: Value, right: Value) -> bool | None:
 
 def less(left: Value, right: Value) -> bool | None:
     """The value of `left < right`."""
-    if left is None or right is None or type(left) is not type(right):
+    if type(left) is not type(right):
         return None
-    if isinstance(left, Node | Relationship):
-        return None
-    return left < right
+    if isinstance(left, str) and isinstance(right, str):
+        return left < right
+    return left < right if isinstance(left, int) and isinstance(right, int) else None
 
 
 def rank(value: Value) -> Rank:

@@ -31,6 +31,11 @@ def block(name, rows):
     return f"${name} << END\n" + "\n".join(lines) + "\nEND\n"
 
 
+def names_room(answers):
+    """Lines below a chart in which the longest name of a query stands whole, at its slant, and columns at its right for the last."""
+    return 2 + max(len(answer["query"]) for answer in answers) // 3, 3 + len(answers[-1]["query"]) * 2 // 3
+
+
 def ratios(graph, path):
     """Bars for each query: processor time as a multiple of the hand-written C++'s."""
     shown = [answer for answer in graph["queries"] if ratio(answer["seconds"], "graphq")]
@@ -38,13 +43,15 @@ def ratios(graph, path):
         return False
     cells = lambda answer, name: ratio(answer["seconds"], name) or "NaN"
     rows = [(f'"{answer["query"]}"', cells(answer, "sqlite3"), cells(answer, "graphq")) for answer in shown]
-    draw(start(path, 460) + block("data", rows) + f"""set title "{graph['kind']}:{graph['count']}, processor time / C++" noenhanced
+    below, right = names_room(shown)
+    draw(start(path, 460) + block("data", rows) + f"""set title "{graph['kind']}:{graph['count']}, processor time as a multiple of hand-written C++: less is better" noenhanced
+set bmargin {below}
 set style data histogram
 set style histogram clustered gap 1
 set style fill solid
 set boxwidth 0.9
 set xtics rotate by -35 noenhanced
-set rmargin 9
+set rmargin {right}
 set yrange [0.1:*]
 plot $data using 2:xtic(1) title "sqlite3" lc rgb "{COLOURS['sqlite3']}", \\
      $data using 3 title "graphq" lc rgb "{COLOURS['graphq']}", 1 notitle lc rgb "#000000"
@@ -71,9 +78,9 @@ def growth(graphs, kind, path):
     if not panels:
         return False
     rows = -(-len(panels) // 3)
-    script = start(path, 60 + 190 * rows) + "".join(data for data, _ in panels)
+    script = start(path, 80 + 190 * rows) + "".join(data for data, _ in panels)
     script += 'set logscale x\nset format "10^{%L}"\n'
-    title = f"{kind}: milliseconds of processor time over N (C++ grey, sqlite3 orange, graphq blue)"
+    title = f"{kind}: milliseconds of processor time over N, less is better\\nhand-written C++ grey, sqlite3 orange, graphq blue"
     script += f'set multiplot layout {rows},3 title "{title}" noenhanced\n'
     draw(script + "".join(plot for _, plot in panels) + "unset multiplot\n")
     return True
