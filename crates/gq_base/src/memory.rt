@@ -2,8 +2,7 @@
 
 use std::alloc::{AllocError, AllocFailed};
 
-/// Want of memory, and its cause. It may come at any call whose signature names it, and at no
-/// other.
+/// Want of memory, and its cause. It may come at each call whose signature names it, and no other.
 #[derive(Clone, Copy, Debug, PartialEq, Eq)]
 pub enum Memory {
     /// There was not enough memory.

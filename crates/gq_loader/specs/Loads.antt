@@ -66,8 +66,7 @@ abbrev pub key_kind : List Field → Kind
 key_kind [] = kind.Int
 key_kind (key ∷ fields) = key.kind
 
--- the node table of this number, as an end of a relationship table: the kind of its keys, and its
--- rows
+-- the node table of this number, as an end of a relationship table: the kind of its keys, its rows
 abbrev pub end_of : Graph → ℕ → KeyTable
 end_of graph number = record {
   kind = key_kind
