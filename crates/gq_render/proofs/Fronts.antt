@@ -110,3 +110,16 @@ module _ (g : Graph) where
     where
       same : (k : ℕ) → k ≤ count → take k line ≡ take k next
       same k le = sym (take-take k count line le) ∙ ap (take k) shared.same ∙ take-take k count next le
+
+  -- a front beside which only other fields changed
+  pub front_same : (line : List Val) (old new : Front) → IsFront g line old → new.held ≡ old.held → new.text ≡ old.text → new.starts ≡ old.starts → IsFront g line new
+  front_same line old new h held text starts = record {
+    few = omega (arith, h.few, held);
+    room = omega (arith, h.room, held);
+    text = text ∙ h.text ∙ ap (λ n. front_text g (take n line)) (sym held);
+    starts = λ k lt. ap (λ l. get_or l k 0) starts ∙ h.starts k (omega (arith, lt, held));
+  }
+
+  -- a front of no columns is one of each row
+  pub front_any : (line next : List Val) (front : Front) → IsFront g line front → front.held ≡ 0 → IsFront g next front
+  front_any line next front h none = front_none next front none (h.text ∙ ap (λ n. front_text g (take n line)) none)

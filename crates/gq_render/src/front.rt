@@ -1,7 +1,7 @@
 //! The text of the first columns of a row, kept for the rows behind that have the same values there.
 
 ghost use Rattle.std.specs.Prelude.{[], ◌≡◌, ◌+◌, ◌++◌, ◌<◌, ◌-◌, ◌≤◌, IfOk, length};
-ghost use Rattle.std.specs.Prelude.{slice_index_or};
+ghost use Rattle.std.specs.Prelude.{slice_index_or, true};
 ghost use Rattle.gq_base.specs.Values.{val};
 ghost use Rattle.gq_render.specs.Listings.{value_text};
 ghost use Rattle.gq_render.specs.steps.Fronts.{AreStarts, IsCut, IsFront, IsShared, before_tab};
@@ -15,6 +15,12 @@ use gq_store::Graph;
 // A front has so many columns at most.
 const MOST: usize = 16;
 
+// Behind so many rows that have no first value in common with the next one ..
+const MISSES: usize = 8;
+
+// .. so many rows are put without asking.
+const UNASKED: usize = 64;
+
 /// The texts of the first columns of a row, each with its tab behind it. It has no columns where
 /// their texts do not fit a batch.
 #[derive(Drop)]
@@ -23,6 +29,8 @@ pub(crate) struct Front {
     pub(crate) held: usize,
     // Where the text of each column begins.
     starts: [usize; 16],
+    // How many rows one after another had nothing in common with the next one, as far as is known.
+    missed: usize,
 }
 
 impl Front {
@@ -35,6 +43,32 @@ impl Front {
             text: Batch::new(),
             held: 0,
             starts: [0; 16],
+            missed: 0,
+        }
+    }
+
+    /// Whether it does not pay to ask what the next row has in common with the one behind: the last
+    /// rows that were asked had nothing.
+    #[inline(always)]
+    pub(crate) fn rests(&self) -> bool
+        ensures { result ≡ true → self.now.held ≡ 0 }
+    {
+        self.held == 0 && self.missed >= MISSES && self.missed < MISSES + UNASKED
+    }
+
+    /// Notes how many first values a row has in common with the next one, as far as is known.
+    #[inline(always)]
+    pub(crate) fn note(&mut self, count: usize)
+        ensures held { self.new.held ≡ self.old.held }
+        ensures text { self.new.text ≡ self.old.text }
+        ensures starts { self.new.starts ≡ self.old.starts }
+    {
+        if count > 0 {
+            self.missed = 0;
+        } else if self.missed < MISSES + UNASKED {
+            self.missed += 1;
+        } else {
+            self.missed = MISSES;
         }
     }
 

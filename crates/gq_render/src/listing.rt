@@ -1,6 +1,6 @@
 //! Listings: the names of their columns, a line for each row, and how many rows there are.
 
-ghost use Rattle.std.specs.Prelude.{[], ◌≡◌, ◌<◌, ◌≤◌, codes, drop, flat_map, length, map, slice_index_or};
+ghost use Rattle.std.specs.Prelude.{[], ◌≡◌, ◌+◌, ◌<◌, ◌≤◌, codes, drop, flat_map, length, map, slice_index_or};
 ghost use Rattle.gq_base.specs.Values.{val};
 ghost use Rattle.gq_io.specs.Causes.{HasCause};
 ghost use Rattle.gq_io.specs.Outside.{Writes};
@@ -205,6 +205,62 @@ pub(crate) fn put_row_count<O: Sink>(
     batch.put(out, b"\n")
 }
 
+// Puts the line of a row, of which the front has first columns. What columns have in common with the next row is left in the
+// front.
+#[inline(never)]
+fn put_staying_row<O: Sink>(
+    batch: &mut Batch,
+    out: &mut O,
+    graph: &Graph,
+    listing: &Listing<'_>,
+    row: usize,
+    front: &mut Front,
+) -> Result<(), Failed>
+    requires row { row < length listing.now.lines }
+    requires front { let values = slice_index_or listing.now.lines row [] in
+        IsFront graph.now values front.old }
+    ensures bytes { let values = slice_index_or listing.now.lines row [] in
+        Puts (O.taken out.old) (O.taken out.new) batch.old batch.new
+        (row_text graph.now values) result }
+    ensures cause { HasCause (O.faults out.old) (O.faults out.new) result }
+    ensures front { let next = slice_index_or listing.now.lines (row + 1) [] in
+        IsFront graph.now next front.new }
+{
+    let count = shared(listing, row);
+    front.fill(graph, listing, row, count);
+    let result = put_behind_front(batch, out, graph, listing, row, front);
+    front.cut(count);
+    front.note(count);
+    result
+}
+
+// The same, without asking what columns have in common where that does not pay.
+#[inline(always)]
+fn put_next_row<O: Sink>(
+    batch: &mut Batch,
+    out: &mut O,
+    graph: &Graph,
+    listing: &Listing<'_>,
+    row: usize,
+    front: &mut Front,
+) -> Result<(), Failed>
+    requires row { row < length listing.now.lines }
+    requires front { let values = slice_index_or listing.now.lines row [] in
+        IsFront graph.now values front.old }
+    ensures bytes { let values = slice_index_or listing.now.lines row [] in
+        Puts (O.taken out.old) (O.taken out.new) batch.old batch.new
+        (row_text graph.now values) result }
+    ensures cause { HasCause (O.faults out.old) (O.faults out.new) result }
+    ensures front { let next = slice_index_or listing.now.lines (row + 1) [] in
+        IsFront graph.now next front.new }
+{
+    if front.rests() {
+        front.note(0);
+        return put_row(batch, out, graph, listing, row);
+    }
+    put_staying_row(batch, out, graph, listing, row, front)
+}
+
 // Puts the line of each row. What columns of a row have in common with the next one is put once.
 fn put_each_row<O: Sink>(
     batch: &mut Batch,
@@ -220,10 +276,7 @@ fn put_each_row<O: Sink>(
     ensures cause { HasCause (O.faults out.old) (O.faults out.new) result }
 {
     for row in 0..listing.len() {
-        let count = shared(listing, row);
-        front.fill(graph, listing, row, count);
-        put_behind_front(batch, out, graph, listing, row, front)?;
-        front.cut(count);
+        put_next_row(batch, out, graph, listing, row, front)?;
     }
     Ok(())
 }
