@@ -5,7 +5,7 @@ use Rattle.std.proofs.lemmas.List.{drop_all, drop_more, map-append, take_more}
 use Rattle.std.proofs.lemmas.Slice.Zip.{AllZip-long, all_zipped_more}
 use Rattle.gq_base.specs.Plain.{Graph}
 use Rattle.gq_base.specs.Values.{Val}
-use Rattle.gq_cells.specs.Numbers.{IsNumber, source_val}
+use Rattle.gq_cells.specs.Numbers.{IsNumber, number_val, source_val}
 use Rattle.gq_cells.specs.declared.source.Source.{Source}
 use Rattle.gq_eval.specs.Asked.{Asked, answers, asked, asked_of}
 use Rattle.gq_expr.specs.Meaning.{meaning}
@@ -14,7 +14,7 @@ use Rattle.gq_expr.specs.Reading as reading
 use Rattle.gq_expr.specs.declared.expr.Expr.{Expr}
 use Rattle.gq_plan.specs.Outcomes.{then_with}
 use Rattle.gq_plan.specs.declared.bound.NamedExpr.{NamedExpr}
-use Rattle.gq_listed.specs.Finding.{Extends, Finds, FindsBy, IsFinder, PutsColumn}
+use Rattle.gq_listed.specs.Finding.{Extends, Finds, FindsBy, HasNumber, IsFinder, PutsColumn}
 use Rattle.gq_project.specs.Judged.{values_after}
 use Rattle.gq_listed.specs.Listed.{AreFinders}
 use Rattle.gq_listed.specs.declared.finder.Finder.{Finder}
@@ -43,6 +43,18 @@ extends_again a b c ab bc place s h = bc place s (ab place s h)
 
 pub extends_self : (a : List Source) → Extends a a
 extends_self a place s h = h
+
+-- ---- a number that is found
+
+pub number_fits : (g : Graph) (ss : List Source) (place : ℕ) (e : Expr) (w : Way) → FindsBy g ss place e w → (here : reading.Assignment) (n : ℕ) → HasNumber w here n → IsNumber (slice_get ss place) n
+number_fits g ss place e way.Value h here n has = absurd has
+number_fits g ss place e (way.Node r) h here n has = subst (λ o. IsNumber o n) (sym h.at) (h.number here n has)
+number_fits g ss place e (way.Rel r) h here n has = subst (λ o. IsNumber o n) (sym h.at) (h.number here n has)
+
+pub number_means : (g : Graph) (ss : List Source) (place : ℕ) (e : Expr) (w : Way) → FindsBy g ss place e w → (here : reading.Assignment) (n : ℕ) → HasNumber w here n → meaning g here e ≡ Ok (number_val (slice_get ss place) n)
+number_means g ss place e way.Value h here n has = absurd has
+number_means g ss place e (way.Node r) h here n has = h.means here n has ∙ ap (λ o. Ok (number_val o n)) (sym h.at)
+number_means g ss place e (way.Rel r) h here n has = h.means here n has ∙ ap (λ o. Ok (number_val o n)) (sym h.at)
 
 -- ---- finders stay
 

@@ -1,6 +1,6 @@
 -- Variables in flat groups have one node at all choices of a chunk.
 use Rattle.std.proofs.Common.{◌≡◌, ◌∙◌, ℕ, zero, suc, ◌+◌, ◌<◌, true, List, [], ◌∷◌, ◌++◌, length, map, take, get_or, Option, Some, None, refl, sym, ap, subst, arith}
-use Rattle.std.specs.Prelude.{nat_eq, slice_get, slice_index_or, IfSome}
+use Rattle.std.specs.Prelude.{nat_eq, slice_get, slice_index_or}
 use Rattle.std.specs.List.{All, range_with_len}
 use Rattle.std.proofs.lemmas.Bool.{and_parts}
 use Rattle.std.proofs.lemmas.List.{get_or_default, take_more}
@@ -20,13 +20,16 @@ use Rattle.gq_group.specs.declared.home.NodeHome.{NodeHome}
 use Rattle.gq_group.specs.declared.home.NodeHome.TheVariants as node
 use Rattle.gq_plan.specs.Rows.{as_read, nodes_of_tables}
 use Rattle.gq_plan.specs.declared.typed.Typed.{Typed}
+use Rattle.gq_listed.specs.declared.finder.Lead.{Lead}
+use Rattle.gq_listed.specs.declared.finder.Lead.TheVariants as lead
 use Rattle.gq_listed.specs.declared.finder.Way.{Way}
 use Rattle.gq_listed.specs.declared.finder.Way.TheVariants as way
 use Rattle.gq_listed.specs.Finding.{HasNumber, IsFinder}
 use Rattle.gq_listed.specs.Listed.{AreFinders}
 use Rattle.gq_listed.proofs.Finding.{finder_at}
 use Rattle.gq_listed.specs.declared.finder.Finder.{Finder}
-use Rattle.gq_listed.specs.Flat.{AreFree, AreHeldIn, HasOneNode, IsFlat, IsFlatHome, IsFlatWay, IsHeld, IsHeldBy, IsHeldNumber}
+use Rattle.gq_listed.specs.Flat.{HasOneNode, IsFlat, IsFlatHome, IsFlatWay, IsHeldNumber}
+use Rattle.gq_listed.specs.Leads.{AreLed, IsLed}
 
 -- ---- the position of a flat group
 
@@ -51,7 +54,7 @@ one_item c i flat ps qs a b = ap (λ p. get_or (items_in (group_of c i)) p 0) (o
 pub one_cell : (c : Chunk) (i column : ℕ) → IsFlat (group_of c i) → IsFlatHome c (node.Column i column)
 one_cell c i column flat ps qs a b = ap (λ p. row_in (cell_at c column p)) (one_position c.groups.now i ps qs a b flat)
 
-home_is : {X : Type 0} (xs : List X) (v : ℕ) (d x : X) → slice_get xs v ≡ Some x → slice_index_or xs v d ≡ x
+pub home_is : {X : Type 0} (xs : List X) (v : ℕ) (d x : X) → slice_get xs v ≡ Some x → slice_index_or xs v d ≡ x
 home_is [] v d x e = absurd (let y : ⊥ = cc in y)
 home_is (y ∷ ys) zero d x e = cc e
 home_is (y ∷ ys) (suc v) d x e = home_is ys v d x e
@@ -79,40 +82,26 @@ held_number_is g y c (way.Node r) n qs b flat h = λ ps a.
     }
 held_number_is g y c (way.Rel r) n qs b flat h = absurd flat
 
-pub held_by : (g : Graph) (y : Typed) (c : Chunk) (w : Way) (o : Option ℕ) → IfSome o (IsHeldNumber g y c w) → (ps : List ℕ) → AreSelected c.groups.now ps → IsHeldBy o w (as_read y (assignment_at g y c ps))
-held_by g y c w None h ps a = tt
-held_by g y c w (Some n) h ps a = h ps a
-
 -- ---- finders of a chunk, one after another
 
 -- what stands where there is no finder
 abbrev pub no_finder : Finder
-no_finder = record { way = way.Value; source = 0; null = 0; held = None }
+no_finder = record { way = way.Value; source = 0; null = 0; lead = lead.Unknown }
 
--- the finder at a place, which now holds what is found
-abbrev pub holding : List Finder → ℕ → Option ℕ → Finder
-holding fs i held = record (get_or fs i no_finder) { held = held }
+-- the finder at a place, with another lead
+abbrev pub leading : List Finder → ℕ → Lead → Finder
+leading fs i by = record (get_or fs i no_finder) { lead = by }
 
-pub finder_and : (ss : List Source) (asks : List Asked) (fs hs : List Finder) (held : Option ℕ) (i : ℕ) → i < length fs → AreFinders ss asks fs → AreFinders ss (take i asks) hs → AreFinders ss (take (i + 1) asks) (hs ++ holding fs i held ∷ [])
-finder_and ss [] [] hs held i lt all before = absurd (omega (arith, lt))
-finder_and ss [] (e ∷ fs) hs held i lt all before = absurd all
-finder_and ss (a ∷ asks) fs hs held i lt all before =
+pub finder_and : (ss : List Source) (asks : List Asked) (fs hs : List Finder) (by : Lead) (i : ℕ) → i < length fs → AreFinders ss asks fs → AreFinders ss (take i asks) hs → AreFinders ss (take (i + 1) asks) (hs ++ leading fs i by ∷ [])
+finder_and ss [] [] hs by i lt all before = absurd (omega (arith, lt))
+finder_and ss [] (e ∷ fs) hs by i lt all before = absurd all
+finder_and ss (a ∷ asks) fs hs by i lt all before =
     let within : i < length (a ∷ asks) = let e = AllZip-long (IsFinder ss) (a ∷ asks) fs all in omega (arith, lt, e) in
     let b : Asked = get_or (a ∷ asks) i a in
     let f : Finder = get_or fs i no_finder in
     let k : IsFinder ss b f = finder_at ss (a ∷ asks) fs i b f all within lt (get_or_default (a ∷ asks) i a b within) (get_or_default fs i no_finder f lt) in
-    subst (λ l. AreFinders ss l (hs ++ holding fs i held ∷ [])) (sym (take_more (a ∷ asks) i a within))
-    (all_zipped_more (IsFinder ss) (take i (a ∷ asks)) hs b (holding fs i held) before (record { finds = k.finds; none = k.none; nothing = k.nothing }))
+    subst (λ l. AreFinders ss l (hs ++ leading fs i by ∷ [])) (sym (take_more (a ∷ asks) i a within))
+    (all_zipped_more (IsFinder ss) (take i (a ∷ asks)) hs b (leading fs i by) before (record { finds = k.finds; none = k.none; nothing = k.nothing }))
 
-pub held_and : (g : Graph) (y : Typed) (c : Chunk) (hs : List Finder) (h : Finder) → AreHeldIn g y c hs → IfSome h.held (IsHeldNumber g y c h.way) → AreHeldIn g y c (hs ++ h ∷ [])
-held_and g y c hs h all k ps a =
-    All-append (IsHeld (as_read y (assignment_at g y c ps))) hs (h ∷ []) (all ps a)
-    (All-cons (IsHeld (as_read y (assignment_at g y c ps))) h [] (held_by g y c h.way h.held k ps a) (λ i d lt. absurd (omega (arith, lt))))
-
--- ---- finders that hold nothing
-
-pub free_held : (here : reading.Assignment) (fs : List Finder) → AreFree fs → All (IsHeld here) fs
-free_held here fs free k d lt = subst (λ o. IsHeldBy o (get_or fs k d).way here) (sym (free k d lt)) tt
-
-pub free_and : (fs : List Finder) (f : Finder) → AreFree fs → f.held ≡ None → AreFree (fs ++ f ∷ [])
-free_and fs f free e = All-append (λ (x : Finder). x.held ≡ None) fs (f ∷ []) free (All-cons (λ (x : Finder). x.held ≡ None) f [] e (λ i d lt. absurd (omega (arith, lt))))
+pub led_and : (g : Graph) (y : Typed) (c : Chunk) (hs : List Finder) (h : Finder) → AreLed g y c hs → IsLed g y c h → AreLed g y c (hs ++ h ∷ [])
+led_and g y c hs h all k = All-append (IsLed g y c) hs (h ∷ []) all (All-cons (IsLed g y c) h [] k (λ i d lt. absurd (omega (arith, lt))))

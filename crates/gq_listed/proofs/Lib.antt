@@ -1,4 +1,5 @@
 mod ByPlace
 pub mod Finding
 mod FlatGroups
+mod Leading
 mod ListedRows

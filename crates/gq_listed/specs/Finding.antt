@@ -39,6 +39,11 @@ HasNumber way.Value here n = ⊥
 HasNumber (way.Node r) here n = HasRow r here n
 HasNumber (way.Rel r) here n = HasLoad r here n
 
+-- a node variable has this row of the table
+abbrev pub HasNode : Way → reading.Assignment → ℕ → Type 0
+HasNode (way.Node r) here n = here.nodes r.variable ≡ Some (record { table = r.table; row = n })
+HasNode w here n = Unit {0}
+
 -- the variable has nothing
 abbrev pub HasNothing : Way → reading.Assignment → Type 0
 HasNothing way.Value here = ⊥

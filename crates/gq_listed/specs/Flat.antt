@@ -1,6 +1,5 @@
 -- What it means that a number is found of a variable at each choice of a chunk.
 use Rattle.std.specs.Prelude.{◌≡◌, ℕ, Option, Some, None, List}
-use Rattle.std.specs.List.{All}
 use Rattle.gq_base.specs.Plain.{Graph}
 use Rattle.gq_expr.specs.Reading as reading
 use Rattle.gq_group.specs.Chunks.{assignment_at, node_at, node_in}
@@ -10,7 +9,6 @@ use Rattle.gq_group.specs.declared.group.Group.{Group}
 use Rattle.gq_group.specs.declared.home.NodeHome.{NodeHome}
 use Rattle.gq_plan.specs.Rows.{as_read}
 use Rattle.gq_plan.specs.declared.typed.Typed.{Typed}
-use Rattle.gq_listed.specs.declared.finder.Finder.{Finder}
 use Rattle.gq_listed.specs.declared.finder.Way.{Way}
 use Rattle.gq_listed.specs.declared.finder.Way.TheVariants as way
 use Rattle.gq_listed.specs.Finding.{HasNumber}
@@ -36,18 +34,3 @@ IsFlatWay c (way.Rel r) = ⊥
 -- the number is found at each choice
 abbrev pub IsHeldNumber : Graph → Typed → Chunk → Way → ℕ → Type 0
 IsHeldNumber g y c w n = (ps : List ℕ) → AreSelected c.groups.now ps → HasNumber w (as_read y (assignment_at g y c ps)) n
-
--- the number that is held is found
-abbrev pub IsHeldBy : Option ℕ → Way → reading.Assignment → Type 0
-IsHeldBy None w here = Unit {0}
-IsHeldBy (Some n) w here = HasNumber w here n
-
-abbrev pub IsHeld : reading.Assignment → Finder → Type 0
-IsHeld here f = IsHeldBy f.held f.way here
-
-abbrev pub AreHeldIn : Graph → Typed → Chunk → List Finder → Type 0
-AreHeldIn g y c fs = (ps : List ℕ) → AreSelected c.groups.now ps → All (IsHeld (as_read y (assignment_at g y c ps))) fs
-
--- no number is held
-abbrev pub AreFree : List Finder → Type 0
-AreFree fs = All (λ f. f.held ≡ None) fs

@@ -1,4 +1,5 @@
 pub mod Finding
 pub mod Flat
+pub mod Leads
 pub mod Listed
 pub mod steps

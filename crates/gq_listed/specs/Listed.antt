@@ -12,7 +12,6 @@ use Rattle.gq_plan.specs.Outcomes.{Row}
 use Rattle.gq_plan.specs.declared.bound.Bound.{Bound}
 use Rattle.gq_kept.specs.Tables.{Held, Table, outcome_numbered}
 use Rattle.gq_listed.specs.Finding.{IsFinder}
-use Rattle.gq_listed.specs.Flat.{AreFree}
 use Rattle.gq_project.specs.Judged.{values_after}
 use Rattle.gq_kept.specs.Forms.{HasForm}
 use Rattle.gq_project.specs.Reading.{IsReading}
@@ -59,10 +58,6 @@ pub record IsListing (q : question.Asked) : Type 0 where
 -- these expressions over a graph, each with what finds its values
 abbrev pub AreFinders : List Source → List Asked → List Finder → Type 0
 AreFinders sources asks fs = AllZip (IsFinder sources) asks fs
-
--- the same, and they hold no number
-abbrev pub AreFreeFinders : List Source → List Asked → List Finder → Type 0
-AreFreeFinders sources asks fs = AreFinders sources asks fs × AreFree fs
 
 abbrev pub Finding : question.Asked → List Source → List Finder → Type 0
 Finding q sources fs = AreFinders sources (asked_of q.graph.now q.bound.now.columns) fs

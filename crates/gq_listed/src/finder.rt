@@ -1,13 +1,14 @@
 //! How the value of a column is kept for an assignment: as the row or the load number of the
 //! column's variable, or else as the value itself.
-ghost use Rattle.std.specs.Prelude.{◌≡◌, ◌++◌, ◌∷◌, [], IfOk, None, OnOk};
+ghost use Rattle.std.specs.Prelude.{◌≡◌, ◌++◌, ◌∷◌, [], IfOk, OnOk};
 ghost use Rattle.gq_base.specs.Plain.{Graph as Plain};
 ghost use Rattle.gq_base.specs.Values.{val};
 ghost use Rattle.gq_eval.specs.Asked.{asked};
 ghost use Rattle.gq_expr.specs.Meaning.{meaning};
 ghost use Rattle.gq_listed.specs.Finding.{Extends, IsFinder, IsFound, IsNullAt, PutsColumn};
-ghost use Rattle.gq_listed.specs.Flat.{IsHeld};
+ghost use Rattle.gq_listed.specs.Leads.{IsLedAt, IsSpot, here_at};
 
+use crate::leads::Spot;
 use crate::places::{Reader, reader_of};
 use crate::tables::Tables;
 use gq_base::{Memory, Value};
@@ -36,15 +37,28 @@ pub enum Way {
     Rel(Range),
 }
 
+/// Where the number of a column's variable lies in a chunk.
+#[derive(Clone, Copy)]
+pub enum Lead {
+    /// That is not known: it is found for each assignment.
+    Unknown,
+    /// All assignments of the chunk have this number.
+    Held(u32),
+    /// It is the item of a group.
+    Item { group: u32 },
+    /// It is the row of the variable's node, which is of the way's table.
+    Home,
+}
+
 /// What tells the number that stands for the value of a column, and the places of the source of
 /// such numbers and of the source of null, which is its value where its variable has nothing. While
-/// a chunk is taken it holds the number that all assignments of the chunk have, if that is known.
+/// a chunk is taken it tells where the number lies there.
 #[derive(Clone, Copy)]
 pub struct Finder {
     pub(crate) way: Way,
     pub(crate) source: u32,
     pub(crate) null: u32,
-    pub(crate) held: Option<u32>,
+    pub(crate) lead: Lead,
 }
 
 /// What was found of a variable.
@@ -69,7 +83,6 @@ impl Finder {
         graph: &'g Graph,
     ) -> Result<Finder, Memory>
         requires { IsNullAt cells.old.sources null }
-        ensures free { IfOk result (λ finder. finder.held ≡ None) }
         ensures finds { IfOk result (IsFinder cells.new.sources (asked expr.now graph.now)) }
         ensures more { OnOk result (Extends cells.old.sources cells.new.sources) }
         ensures values { cells.new.values ≡ cells.old.values }
@@ -91,7 +104,7 @@ impl Finder {
                     way,
                     source,
                     null,
-                    held: None,
+                    lead: Lead::Unknown,
                 })
             }
             Reader::Rel(property) => {
@@ -109,7 +122,7 @@ impl Finder {
                     way,
                     source,
                     null,
-                    held: None,
+                    lead: Lead::Unknown,
                 })
             }
         }
@@ -123,7 +136,6 @@ impl Finder {
         tables: &Tables<'_>,
     ) -> Result<Finder, Memory>
         requires { IsNullAt cells.old.sources null }
-        ensures free { IfOk result (λ finder. finder.held ≡ None) }
         ensures finds { (g : Plain)
             → IfOk result (IsFinder cells.new.sources (asked expr.now g)) }
         ensures more { OnOk result (Extends cells.old.sources cells.new.sources) }
@@ -142,7 +154,7 @@ impl Finder {
                         way,
                         source,
                         null,
-                        held: None,
+                        lead: Lead::Unknown,
                     });
                 }
             }
@@ -158,7 +170,7 @@ impl Finder {
                         way,
                         source,
                         null,
-                        held: None,
+                        lead: Lead::Unknown,
                     });
                 }
             }
@@ -168,7 +180,7 @@ impl Finder {
             way: Way::Value,
             source: 0,
             null,
-            held: None,
+            lead: Lead::Unknown,
         })
     }
 }
@@ -208,6 +220,7 @@ fn put_value<'g>(cells: &mut Cells<'g>, value: Value<'g>) -> Result<(), Memory>
 }
 
 // Evaluates a column, and appends its value: one more value is kept itself.
+#[inline(never)]
 fn put_evaluated<'g, R: Assigned>(
     cells: &mut Cells<'g>,
     made: &mut usize,
@@ -228,17 +241,6 @@ fn put_evaluated<'g, R: Assigned>(
     }
 }
 
-// The number that is held, or else what is found.
-fn found_of<R: Assigned>(finder: &Finder, row: &R) -> Found
-    requires { IsHeld (R.assignment row.now) finder.now }
-    ensures { IsFound finder.now.way (R.assignment row.now) result }
-{
-    match finder.held {
-        Some(number) => Found::Number(number),
-        None => find(finder.way, row),
-    }
-}
-
 /// Appends the value of a column for a row, and counts the values that are kept themselves.
 pub(crate) fn put_column<'g, R: Assigned>(
     cells: &mut Cells<'g>,
@@ -247,15 +249,37 @@ pub(crate) fn put_column<'g, R: Assigned>(
     column: &Evaluator<'g>,
     row: &R,
 ) -> Result<(), RowRefusal>
-    requires finder { IsFinder cells.old.sources column.now finder.now }
-    requires held { IsHeld (R.assignment row.now) finder.now }
+    requires { IsFinder cells.old.sources column.now finder.now }
     ensures puts { PutsColumn (meaning column.now.graph (R.assignment row.now) column.now.expr)
         cells.old.values cells.new.values result }
     ensures more { OnOk result (Extends cells.old.sources cells.new.sources) }
 {
-    match found_of(finder, row) {
+    match find(finder.way, row) {
         Found::Number(number) => Ok(cells.put(finder.source, number)?),
         Found::Null => Ok(cells.put(finder.null, 0)?),
         Found::Other => put_evaluated(cells, made, column, row),
+    }
+}
+
+/// The same at one selected position of each group of a chunk.
+#[inline(always)]
+pub(crate) fn put_led_column<'g>(
+    cells: &mut Cells<'g>,
+    made: &mut usize,
+    finder: &Finder,
+    column: &Evaluator<'g>,
+    spot: &Spot<'_, '_, '_>,
+) -> Result<(), RowRefusal>
+    requires finder { IsFinder cells.old.sources column.now finder.now }
+    requires spot { IsSpot spot.now }
+    requires led { IsLedAt spot.now finder.now }
+    ensures puts { PutsColumn (meaning column.now.graph (here_at spot.now) column.now.expr)
+        cells.old.values cells.new.values result }
+    ensures more { OnOk result (Extends cells.old.sources cells.new.sources) }
+{
+    match spot.find(finder) {
+        Found::Number(number) => Ok(cells.put(finder.source, number)?),
+        Found::Null => Ok(cells.put(finder.null, 0)?),
+        Found::Other => put_evaluated(cells, made, column, &spot.row()),
     }
 }

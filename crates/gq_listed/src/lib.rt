@@ -6,6 +6,7 @@
 
 mod finder;
 mod holding;
+mod leads;
 mod listed;
 mod places;
 mod tables;

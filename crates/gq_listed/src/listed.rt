@@ -1,6 +1,5 @@
 //! Rows that are held as cells: those of a query without DISTINCT and without ORDER BY.
 ghost use Rattle.std.specs.Prelude.{◌≡◌, ◌<◌, ◌^◌, [], Some, OnOk, false, true};
-ghost use Rattle.std.specs.List.{All};
 ghost use Rattle.gq_eval.specs.Asked.{answers, asked_of};
 ghost use Rattle.gq_group.specs.Choices.{Begins};
 ghost use Rattle.gq_group.specs.Chunks.{IsChunkOf};
@@ -8,19 +7,22 @@ ghost use Rattle.gq_kept.specs.Chunks.{PushesAll, admitted_outcomes};
 ghost use Rattle.gq_kept.specs.Forms.{TellsFull};
 ghost use Rattle.gq_kept.specs.Tables.{Pushes, StandsForSome, is_full_table};
 ghost use Rattle.gq_listed.specs.Finding.{Extends};
-ghost use Rattle.gq_listed.specs.Flat.{AreHeldIn, IsHeld};
-ghost use Rattle.gq_listed.specs.Listed.{AddsIn, AreFinders, AreFreeFinders, Finding, IsAsked};
+ghost use Rattle.gq_listed.specs.Leads.{AreLed, AreLedAt, IsSpot, here_at};
+ghost use Rattle.gq_listed.specs.Listed.{AddsIn, AreFinders, Finding, IsAsked};
 ghost use Rattle.gq_listed.specs.Listed.{IsListing, PutsRow, held_in, is_listing, outcome_in};
 ghost use Rattle.gq_listed.specs.Listed.{outcome_within, table_in};
-ghost use Rattle.gq_plan.specs.Assignments.{row_of};
+ghost use Rattle.gq_project.specs.Judged.{check_after};
+ghost use Rattle.gq_project.specs.Reading.{at_numbers};
+ghost use Rattle.gq_project.specs.declared.judging.Checked.TheVariants.{Met};
 
-use crate::finder::{Finder, put_column};
+use crate::finder::{Finder, put_column, put_led_column};
+use crate::leads::Spot;
 use crate::tables::Tables;
-use gq_base::{Memory, Value};
+use gq_base::{List, Memory, Value};
 use gq_cells::{Cells, Source};
 use gq_eval::Evaluator;
 use gq_expr::Assigned;
-use gq_group::{Choice, Chunk, ChunkRow};
+use gq_group::{Choice, Chunk};
 use gq_kept::{Form, More, RowRefusal, may_keep};
 use gq_plan::{Bound, Typed};
 use gq_project::{Admits, Checked, Reading, check_late};
@@ -69,9 +71,9 @@ pub fn find_columns<'g>(
     graph: &'g Graph,
 ) -> Result<(), Memory>
     requires { let columns = asked_of graph.now bound.now.columns in
-        done ≡ true → AreFreeFinders cells.old.sources columns finders.old.items }
+        done ≡ true → AreFinders cells.old.sources columns finders.old.items }
     ensures finds { let columns = asked_of graph.now bound.now.columns in
-        OnOk result (AreFreeFinders cells.new.sources columns finders.new.items) }
+        OnOk result (AreFinders cells.new.sources columns finders.new.items) }
     ensures values { cells.new.values ≡ cells.old.values }
 {
     if done {
@@ -96,8 +98,7 @@ fn put_row<'g, R: Assigned>(
     columns: &[Evaluator<'g>],
     row: &R,
 ) -> Result<(), RowRefusal>
-    requires finders { AreFinders cells.old.sources columns.now finders.now }
-    requires held { All (IsHeld (R.assignment row.now)) finders.now }
+    requires { AreFinders cells.old.sources columns.now finders.now }
     ensures puts { PutsRow (answers (R.assignment row.now) columns.now)
         cells.old.values cells.new.values result }
     ensures more { OnOk result (Extends cells.old.sources cells.new.sources) }
@@ -109,6 +110,43 @@ fn put_row<'g, R: Assigned>(
         }
     }
     Ok(())
+}
+
+// The same at one selected position of each group of a chunk.
+#[inline(always)]
+fn put_led_row<'g>(
+    cells: &mut Cells<'g>,
+    made: &mut usize,
+    finders: &[Finder],
+    columns: &[Evaluator<'g>],
+    spot: &Spot<'_, '_, '_>,
+) -> Result<(), RowRefusal>
+    requires finders { AreFinders cells.old.sources columns.now finders.now }
+    requires spot { IsSpot spot.now }
+    requires led { AreLedAt spot.now finders.now }
+    ensures puts { PutsRow (answers (here_at spot.now) columns.now)
+        cells.old.values cells.new.values result }
+    ensures more { OnOk result (Extends cells.old.sources cells.new.sources) }
+{
+    'values: for (column, finder) in columns.iter().zip(finders) {
+        match put_led_column(cells, made, finder, column, spot) {
+            Ok(()) => {}
+            Err(refusal) => return Err(refusal),
+        }
+    }
+    Ok(())
+}
+
+// What the conjuncts that are left say of an assignment. Mostly there are none.
+#[inline(always)]
+fn check_left<R: Assigned>(conjuncts: &List<Evaluator<'_>>, late: &[u32], row: &R) -> Checked
+    ensures { let left = at_numbers conjuncts.now late.now in
+        result ≡ check_after Met (answers (R.assignment row.now) left) }
+{
+    match late {
+        [] => Checked::Met,
+        _ => check_late(conjuncts, late, row),
+    }
 }
 
 impl<'g> Listed<'g> {
@@ -123,7 +161,6 @@ impl<'g> Listed<'g> {
         requires keyless { asked.now.bound.now.keys ≡ [] }
         requires reading { IsAsked asked.now }
         requires finders { Finding asked.now self.old.cells.sources finders.now }
-        requires held { All (IsHeld (R.assignment row.now)) finders.now }
         ensures adds { AddsIn asked.now (outcome_in asked.now (R.assignment row.now))
             self.old self.new result }
         ensures more { OnOk result (Extends self.old.cells.sources self.new.cells.sources) }
@@ -135,6 +172,44 @@ impl<'g> Listed<'g> {
         }
         let columns = asked.reading.columns.as_slice();
         match put_row(&mut self.cells, &mut self.made, finders, columns, row) {
+            Ok(()) => {}
+            Err(refusal) => return Err(refusal),
+        }
+        if !may_keep(self.count, asked.limit) {
+            return Err(RowRefusal::TooManyRows { limit: asked.limit });
+        }
+        if self.bytes() > asked.room {
+            return Err(RowRefusal::Memory(Memory::Limit));
+        }
+        self.count += 1;
+        Ok(true)
+    }
+
+    // The same at one selected position of each group of a chunk.
+    #[inline(always)]
+    fn add_led(
+        &mut self,
+        finders: &[Finder],
+        asked: &Asked<'_, 'g>,
+        spot: &Spot<'_, '_, '_>,
+    ) -> Result<bool, RowRefusal>
+        requires few { self.old.count < 2 ^ 40 }
+        requires keyless { asked.now.bound.now.keys ≡ [] }
+        requires reading { IsAsked asked.now }
+        requires finders { Finding asked.now self.old.cells.sources finders.now }
+        requires spot { IsSpot spot.now }
+        requires led { AreLedAt spot.now finders.now }
+        ensures adds { AddsIn asked.now (outcome_in asked.now (here_at spot.now))
+            self.old self.new result }
+        ensures more { OnOk result (Extends self.old.cells.sources self.new.cells.sources) }
+    {
+        match check_left(&asked.reading.conjuncts, asked.late, &spot.row()) {
+            Checked::Dropped => return Ok(false),
+            Checked::Faulty(fault) => return Err(RowRefusal::Fault(fault)),
+            Checked::Met => {}
+        }
+        let columns = asked.reading.columns.as_slice();
+        match put_led_row(&mut self.cells, &mut self.made, finders, columns, spot) {
             Ok(()) => {}
             Err(refusal) => return Err(refusal),
         }
@@ -180,7 +255,6 @@ impl<'g> Listed<'g> {
         requires listing { IsListing asked.now }
         requires reading { IsAsked asked.now }
         requires finders { Finding asked.now self.old.cells.sources finders.now }
-        requires held { All (IsHeld (R.assignment row.now)) finders.now }
         requires stands { StandsForSome (table_in asked.now self.old) }
         requires room { is_full_table (table_in asked.now self.old) ≡ false }
         ensures pushes { Pushes (outcome_in asked.now (R.assignment row.now))
@@ -193,29 +267,56 @@ impl<'g> Listed<'g> {
         }
     }
 
-    // Takes an assignment, if it is admitted.
-    fn push_row<A: Admits>(
+    // Takes an assignment at one selected position of each group of a chunk.
+    #[inline(always)]
+    fn push_led(
         &mut self,
         finders: &[Finder],
         asked: &Asked<'_, 'g>,
-        row: &ChunkRow<'_, '_, '_, '_, '_>,
+        spot: &Spot<'_, '_, '_>,
+    ) -> Result<More, RowRefusal>
+        requires listing { IsListing asked.now }
+        requires reading { IsAsked asked.now }
+        requires finders { Finding asked.now self.old.cells.sources finders.now }
+        requires spot { IsSpot spot.now }
+        requires led { AreLedAt spot.now finders.now }
+        requires stands { StandsForSome (table_in asked.now self.old) }
+        requires room { is_full_table (table_in asked.now self.old) ≡ false }
+        ensures pushes { Pushes (outcome_in asked.now (here_at spot.now))
+            (table_in asked.now self.old) (table_in asked.now self.new) result }
+        ensures more { OnOk result (Extends self.old.cells.sources self.new.cells.sources) }
+    {
+        match self.add_led(finders, asked, spot) {
+            Ok(_) => Ok(self.more(asked.form)),
+            Err(refusal) => Err(refusal),
+        }
+    }
+
+    // The same, if it is admitted.
+    #[inline(always)]
+    fn push_spot<A: Admits>(
+        &mut self,
+        finders: &[Finder],
+        asked: &Asked<'_, 'g>,
+        spot: &Spot<'_, '_, '_>,
         admits: &A,
     ) -> Result<More, RowRefusal>
         requires listing { IsListing asked.now }
         requires reading { IsAsked asked.now }
         requires finders { Finding asked.now self.old.cells.sources finders.now }
-        requires held { All (IsHeld (row_of row.now)) finders.now }
+        requires spot { IsSpot spot.now }
+        requires led { AreLedAt spot.now finders.now }
         requires stands { StandsForSome (table_in asked.now self.old) }
         requires room { is_full_table (table_in asked.now self.old) ≡ false }
         ensures pushes { let admitted = A.admitted admits.now in
-            Pushes (outcome_within admitted asked.now (row_of row.now))
+            Pushes (outcome_within admitted asked.now (here_at spot.now))
             (table_in asked.now self.old) (table_in asked.now self.new) result }
         ensures more { OnOk result (Extends self.old.cells.sources self.new.cells.sources) }
     {
-        if !admits.admits(row) {
+        if !admits.admits(&spot.row()) {
             return Ok(More::Go);
         }
-        self.push(finders, asked, row)
+        self.push_led(finders, asked, spot)
     }
 
     /// Takes the admitted assignments of the choices of a chunk from the one that stands on.
@@ -233,7 +334,7 @@ impl<'g> Listed<'g> {
         requires listing { IsListing asked.now }
         requires reading { IsAsked asked.now }
         requires finders { Finding asked.now self.old.cells.sources finders.now }
-        requires held { AreHeldIn asked.now.graph.now typed.now chunk.now finders.now }
+        requires led { AreLed asked.now.graph.now typed.now chunk.now finders.now }
         requires stands { StandsForSome (table_in asked.now self.old) }
         requires room { is_full_table (table_in asked.now self.old) ≡ false }
         requires begins { Begins chunk.now.groups.now true choice.old }
@@ -246,8 +347,13 @@ impl<'g> Listed<'g> {
     {
         let mut found = true;
         'choices: while found {
-            let row = ChunkRow::new(asked.graph, typed, chunk, choice.positions());
-            match self.push_row(finders, asked, &row, admits) {
+            let spot = Spot {
+                graph: asked.graph,
+                typed,
+                chunk,
+                positions: choice.positions(),
+            };
+            match self.push_spot(finders, asked, &spot, admits) {
                 Ok(More::Go) => {}
                 Ok(More::Enough) => return Ok(More::Enough),
                 Err(refusal) => return Err(refusal),

@@ -3,8 +3,6 @@ use Rattle.gq_eval.specs.Asked.{asked}
 use Rattle.gq_plan.specs.declared.bound.NamedExpr.{NamedExpr}
 use Rattle.gq_listed.specs.Finding.{IsFinder}
 use Rattle.gq_listed.specs.Listed.{AreFinders}
-use Rattle.gq_listed.specs.Flat.{AreFree}
-use Rattle.gq_listed.proofs.FlatGroups.{free_and}
 use Rattle.gq_listed.proofs.Finding.{stay_and}
 use Rattle.gq_listed.proofs.listed.find_columns.Goals as goal
 
@@ -18,7 +16,6 @@ columns-preserved c =
       found = subst (AreFinders ss _) (sym c.in_ok-push.ensures.items)
           (stay_and c.columns.cells.sources ss c.in_ok-finder.ensures.more g c.as_slice-columns.result.now c.column-item.result c.columns.column-index c.columns.finders.items f c.columns-test.true i.found
           (subst (λ (x : NamedExpr). IsFinder ss (asked x.expr g) f) c.column-item.is c.in_ok-finder.ensures.finds));
-      free = subst AreFree (sym c.in_ok-push.ensures.items) (free_and c.columns.finders.items f i.free c.in_ok-finder.ensures.free);
       null = c.in_ok-finder.ensures.more _ _ i.null;
       values = c.in_ok-finder.ensures.values ∙ i.values;
     }

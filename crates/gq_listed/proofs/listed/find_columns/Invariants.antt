@@ -1,6 +1,5 @@
 use Rattle.std.proofs.Common.{◌≡◌, take}
 use Rattle.gq_listed.specs.Finding.{IsNullAt}
-use Rattle.gq_listed.specs.Flat.{AreFree}
 use Rattle.gq_listed.specs.Listed.{AreFinders}
 use Rattle.gq_eval.specs.Asked.{asked_of}
 use Rattle.gq_listed.proofs.listed.find_columns.Given as goal
@@ -8,7 +7,6 @@ use Rattle.gq_listed.proofs.listed.find_columns.Given as goal
 abbrev pub invariant-columns : goal.invariant-columns
 invariant-columns l = record {
   found : AreFinders l.cells.sources (asked_of l.graph (take l.column-index l.columns)) l.finders.items;
-  free : AreFree l.finders.items;
   null : IsNullAt l.cells.sources l.null;
   values : l.cells.values ≡ l.initial.cells.values;
 }

@@ -5,8 +5,8 @@ use Rattle.gq_project.specs.Judged.{values_after}
 use Rattle.gq_listed.proofs.Finding.{extends_again, finder_at, put, put_all, stay}
 use Rattle.gq_listed.proofs.listed.put_row.Goals as goal
 
-pub put_column-requires-clause-finder : goal.put_column-requires-clause-finder
-put_column-requires-clause-finder g c =
+pub put_column-requires : goal.put_column-requires
+put_column-requires g c =
     let asks = c.args.columns.now in
     let fs = c.args.finders.now in
     let turn = zip_turn asks fs c.values.yielded _ c.values.column-iterator c.next.new.self c.next.result (cc) (cc) c.values.yielded_by _ c.in-Some.is c.next.ensures.steps in

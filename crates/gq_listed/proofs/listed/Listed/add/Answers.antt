@@ -19,8 +19,8 @@ returns-in-Faulty-clause-adds g c =
     let late = late_mean q.graph.now (g.R.Assigned.assignment c.args.row.now) q.bound.now.conjuncts q.reading.now.conjuncts q.late.now c.requires.reading.conjuncts in
     when_faulty _ _ _ _ _ (sym c.in-Faulty.is ∙ c.check_late.ensures ∙ ap (check_after Met) late)
 
-pub put_row-requires-clause-finders : goal.put_row-requires-clause-finders
-put_row-requires-clause-finders g c = subst (λ asks. AreFinders c.args.self.now.cells.sources asks c.args.finders.now) (sym (c.as_slice-columns.ensures ∙ c.requires.reading.columns)) c.requires.finders
+pub put_row-requires : goal.put_row-requires
+put_row-requires g c = subst (λ asks. AreFinders c.args.self.now.cells.sources asks c.args.finders.now) (sym (c.as_slice-columns.ensures ∙ c.requires.reading.columns)) c.requires.finders
 
 pub returns-in-Err-clause-adds : goal.returns-in-Err-clause-adds
 returns-in-Err-clause-adds g c =

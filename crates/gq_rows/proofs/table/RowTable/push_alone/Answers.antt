@@ -32,7 +32,7 @@ invariant_of-self-in-Ok g c =
       ready = subst (λ x. IsReadyFor x t.bound.now c.prepare.new.self) (sym has) c.prepare.ensures.ready;
       done = λ e.
           subst (λ x. IsDone x new) (sym has)
-          (stay c.find_columns.new.cells.sources c.push.new.self.cells.sources c.in-Ok.ensures.more (asked_of c.args.graph.now t.bound.now.columns) c.find_columns.new.finders.items c.in_ok-find_columns.ensures.finds.0, c.in_ok-find_columns.ensures.finds.1);
+          (stay c.find_columns.new.cells.sources c.push.new.self.cells.sources c.in-Ok.ensures.more (asked_of c.args.graph.now t.bound.now.columns) c.find_columns.new.finders.items c.in_ok-find_columns.ensures.finds);
     }
 
 pub returns-in-Err-clause-pushes : goal.returns-in-Err-clause-pushes

@@ -3,7 +3,7 @@ use Rattle.gq_plan.specs.declared.bound.Bound.{Bound}
 use Rattle.gq_kept.specs.Chunks.{PushesAll, admitted_outcomes}
 use Rattle.gq_kept.specs.Tables.{Table}
 use Rattle.gq_rows.specs.steps.Inner.{IsDone, table_of}
-use Rattle.gq_listed.specs.Flat.{AreHeldIn}
+use Rattle.gq_listed.specs.Leads.{AreLed}
 use Rattle.gq_listed.specs.Listed.{AreFinders}
 use Rattle.gq_project.specs.Reading.{IsReadyFor}
 use Rattle.gq_eval.specs.Asked.{asked_of}
@@ -38,7 +38,7 @@ invariant_of-self-in-Ok t c =
       ready = subst (λ x. IsReadyFor x t.bound.now c.prepare.new.self) (sym has) c.prepare.ensures.ready;
       done = λ e.
           subst (λ x. IsDone x new) (sym has)
-          (stay c.find_columns.new.cells.sources c.push_choices.new.self.cells.sources c.in-Ok.ensures.more (asked_of c.args.graph.now t.bound.now.columns) c.find_columns.new.finders.items c.in_ok-find_columns.ensures.finds.0, c.in_ok-find_columns.ensures.finds.1);
+          (stay c.find_columns.new.cells.sources c.push_choices.new.self.cells.sources c.in-Ok.ensures.more (asked_of c.args.graph.now t.bound.now.columns) c.find_columns.new.finders.items c.in_ok-find_columns.ensures.finds);
     }
 
 pub returns-in-Err-clause-pushes : goal.returns-in-Err-clause-pushes
@@ -60,7 +60,7 @@ push_choices-requires-clause-finders t c =
     let ss = c.find_columns.new.cells.sources in
     let asks = asked_of c.args.graph.now c.self.inside.bound.now.columns in
     subst (AreFinders ss asks) (sym c.as_slice-held.ensures.value)
-    (c.in_ok-hold_columns.ensures.finders ss asks (subst (AreFinders ss asks) (sym c.as_slice-finders.ensures.value) c.in_ok-find_columns.ensures.finds.0))
+    (c.in_ok-hold_columns.ensures.finders ss asks (subst (AreFinders ss asks) (sym c.as_slice-finders.ensures.value) c.in_ok-find_columns.ensures.finds))
 
-pub push_choices-requires-clause-held : goal.push_choices-requires-clause-held
-push_choices-requires-clause-held t c = subst (AreHeldIn c.args.graph.now c.args.typed.now c.args.chunk.now) (sym c.as_slice-held.ensures.value) c.in_ok-hold_columns.ensures.held
+pub push_choices-requires-clause-led : goal.push_choices-requires-clause-led
+push_choices-requires-clause-led t c = subst (AreLed c.args.graph.now c.args.typed.now c.args.chunk.now) (sym c.as_slice-held.ensures.value) c.in_ok-hold_columns.ensures.led
