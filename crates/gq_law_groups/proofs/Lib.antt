@@ -10,3 +10,4 @@ pub mod Shaped
 pub mod Swapped
 pub mod Standing
 pub mod Enough
+pub mod Keyed
