@@ -9,3 +9,5 @@ pub mod Running
 pub mod Sorting
 pub mod Standing
 pub mod Worked
+pub mod Keyed
+pub mod Makers
