@@ -8,7 +8,7 @@ use Rattle.std.proofs.lemmas.List.{length-map}
 use Rattle.std.proofs.lemmas.List.Sorted.{IsPermutation-sym, IsPermutation-trans, length_permutation}
 use Rattle.gq_base.specs.Plain.{Graph}
 use Rattle.gq_expr.specs.declared.Fault.{Fault}
-use Rattle.gq_pipe.specs.Keys.{plan_keys}
+use Rattle.gq_pipe.specs.Keys.{key_count}
 use Rattle.gq_pipe.specs.Rest.{Rest}
 use Rattle.gq_pipe.specs.Spending.{HasOneEach, HasSpent, HasSpentAll, runs_of, up_to_most}
 use Rattle.gq_pipe.specs.declared.pipeline.Spent.{Spent}
@@ -109,7 +109,7 @@ nothing_owed [] h = refl
 nothing_owed (x ∷ xs) h = absurd (omega (arith, h))
 
 module _ (g : Graph) (y : Typed) (p : Plan) (old new : Table) (begun now : Rest) (own : Spent) (owed : IsPermutation (map (whole y) begun.owed) (meaning g y p))
-    (keys : is_flat p ≡ true → begun.keys ≡ plan_keys g y p) (columns : begun.columns ≡ columns_of y p) (run : HasRun old new begun now) (same : now.columns ≡ begun.columns)
+    (keys : is_flat p ≡ true → length begun.keys ≡ key_count g y p) (columns : begun.columns ≡ columns_of y p) (run : HasRun old new begun now) (same : now.columns ≡ begun.columns)
     (has_chunks : own.chunks ≡ now.chunks) (has_columns : own.columns ≡ now.columns) where
   counted : own.chunks ≡ up_to_most run.count
   counted = has_chunks ∙ run.chunks
@@ -127,9 +127,9 @@ module _ (g : Graph) (y : Typed) (p : Plan) (old new : Table) (begun now : Rest)
   pub own_keys : cut_of new.bound ≡ None → HasOneEach g y p own
   own_keys uncut flat = go run.keys
     where
-      go : (is_full_table new ≡ true) ⊎ (run.count ≡ length begun.keys) → own.chunks ≡ up_to_most (length (plan_keys g y p))
+      go : (is_full_table new ≡ true) ⊎ (run.count ≡ length begun.keys) → own.chunks ≡ up_to_most (key_count g y p)
       go (inl full) = absurd (true≢false (sym full ∙ ap (λ c. is_full c new.held) uncut))
-      go (inr all) = counted ∙ ap up_to_most (all ∙ ap length (keys flat))
+      go (inr all) = counted ∙ ap up_to_most (all ∙ keys flat)
 
   -- the table counts its chunks, where the query is plain
   pub own_counted : IsPlain old.bound → (before : ℕ) → old.pushed ≡ up_to_most before → new.pushed ≡ up_to_most (before + own.chunks)

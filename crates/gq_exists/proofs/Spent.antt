@@ -5,7 +5,7 @@ use Rattle.std.proofs.lemmas.Bool.Decides.{nat_tests}
 use Rattle.std.proofs.lemmas.List.{length-map}
 use Rattle.std.proofs.lemmas.List.Sorted.{length_permutation}
 use Rattle.gq_base.specs.Plain.{Graph}
-use Rattle.gq_pipe.specs.Keys.{plan_keys}
+use Rattle.gq_pipe.specs.Keys.{key_count}
 use Rattle.gq_pipe.specs.Rest.{Rest}
 use Rattle.gq_pipe.specs.Spending.{HasSpentAll, up_to_most}
 use Rattle.gq_pipe.specs.declared.pipeline.Spent.{Spent}
@@ -92,7 +92,7 @@ one_same (x ∷ xs) [] e = absurd (omega (arith, e))
 one_same (x ∷ xs) (m ∷ ms) e = refl
 
 module _ (g : Graph) (y : Typed) (p : Plan) (begun now : Rest) (own : Spent) (owed : IsPermutation (map (whole y) begun.owed) (meaning g y p))
-    (keys : is_flat p ≡ true → begun.keys ≡ plan_keys g y p) (columns : begun.columns ≡ columns_of y p) (same : now.columns ≡ begun.columns) (has_chunks : own.chunks ≡ now.chunks)
+    (keys : is_flat p ≡ true → length begun.keys ≡ key_count g y p) (columns : begun.columns ≡ columns_of y p) (same : now.columns ≡ begun.columns) (has_chunks : own.chunks ≡ now.chunks)
     (has_columns : own.columns ≡ now.columns) where
   long : length begun.owed ≡ length (meaning g y p)
   long = omega (arith, length_permutation _ _ owed, length-map begun.owed (whole y))
@@ -104,7 +104,7 @@ module _ (g : Graph) (y : Typed) (p : Plan) (begun now : Rest) (own : Spent) (ow
       most = omega (arith, has_chunks, run.chunks, run.most, long);
       none = λ e. none_left (meaning g y p) (omega (arith, long, ap length (run.none (omega (arith, has_chunks, run.chunks, e)))));
     };
-    one_each = λ flat. has_chunks ∙ run.chunks ∙ ap up_to_most (run.keys ∙ ap length (keys flat));
+    one_each = λ flat. has_chunks ∙ run.chunks ∙ ap up_to_most (run.keys ∙ keys flat);
   }
 
   own_spent : (width : ℕ) → HasRun width begun now → HasSpentFor width g y p own

@@ -1,12 +1,13 @@
 -- The chunk of a pipeline that stands.
-use Rattle.std.proofs.Common.{◌≡◌, ℕ, ◌<◌, ◌≤◌, true, false, List, [], ◌∷◌, map, length, refl, sym, ap, ap₂, ◌∙◌, subst, true≢false}
+use Rattle.std.proofs.Common.{◌≡◌, ℕ, ◌<◌, ◌≤◌, true, false, List, [], ◌∷◌, map, filter, length, refl, sym, ap, ap₂, ◌∙◌, subst, true≢false}
+use Rattle.std.specs.List.{AllZip}
 use Rattle.std.proofs.lemmas.List.FromFn.{length-map-range_with_len}
 use Rattle.gq_group.specs.Chunks.{IsChunkOf, assignment_at, chunk_meaning}
 use Rattle.gq_group.specs.Groups as group
 use Rattle.gq_group.specs.declared.chunk.Chunk.{Chunk}
 use Rattle.gq_group.specs.declared.group.Group.{Group}
 use Rattle.gq_group.specs.declared.home.Homes.{Homes}
-use Rattle.gq_plan.specs.Arranged.{arranged}
+use Rattle.gq_plan.specs.Columns.{steps_of}
 use Rattle.gq_plan.specs.Covers.{after}
 use Rattle.gq_plan.specs.Known.{none}
 use Rattle.gq_plan.specs.Meaning.{nothing, whole}
@@ -17,16 +18,18 @@ use Rattle.gq_walks.specs.Running.{Runs, chunk_of, keys_of}
 use Rattle.gq_walks.specs.declared.walker.State.{State}
 use Rattle.gq_walks.specs.declared.walker.State.TheVariants.{Fresh, Standing, Done}
 use Rattle.gq_pipe.specs.Bound.{binds_all}
+use Rattle.gq_law_groups.specs.Groups.{makes_group}
+use Rattle.gq_pipe.specs.Keys.{Maker, makers_in}
 use Rattle.gq_pipe.specs.Levels.{given}
 use Rattle.gq_pipe.specs.Progress.{plan_in}
 use Rattle.gq_pipe.specs.steps.Chunks.{AreStanding}
 use Rattle.gq_pipe.specs.steps.Homes.{AreHomes}
 use Rattle.gq_pipe.specs.steps.Given.{bound_by, given_plan}
-use Rattle.gq_pipe.specs.steps.Levels.{Run}
+use Rattle.gq_pipe.specs.steps.Levels.{Run, step_at}
 use Rattle.gq_pipe.specs.steps.Lists.{layout_in, EarlierStand}
 use Rattle.gq_pipe.specs.steps.Matches.{lists_in, StandNow}
 use Rattle.gq_pipe.specs.steps.Moves.{run_of}
-use Rattle.gq_pipe.specs.steps.Search.{has_chunk, layout_of_lists, machine_of, rest_of, walked, IsSearch}
+use Rattle.gq_pipe.specs.steps.Search.{has_chunk, layout_of_lists, machine_of, maker_in, rest_of, walked, IsSearch}
 use Rattle.gq_pipe.specs.declared.places.GroupSteps.{GroupSteps}
 use Rattle.gq_pipe.specs.declared.pipeline.Pipeline.TheInside.{Inside}
 use Rattle.gq_pipe.proofs.Assigned.{whole_assigned}
@@ -36,12 +39,13 @@ use Rattle.gq_pipe.proofs.Rebinding.{bound_given}
 use Rattle.gq_pipe.proofs.Joined.{IsLow, low_after, low_none}
 use Rattle.gq_pipe.specs.Serving.{HasCells, Serves}
 use Rattle.gq_pool.specs.Slots.{Holds}
-use Rattle.gq_pipe.specs.Shown.{AreShown}
+use Rattle.gq_pipe.specs.Shown.{HasShape, IsPieceIn}
 use Rattle.gq_pipe.specs.steps.Cells.{filled}
 use Rattle.gq_pipe.proofs.Filling.{AreCells, served_cells}
-use Rattle.gq_pipe.specs.steps.Cuts.{groups_of}
 use Rattle.gq_pipe.proofs.Resting.{stands_now}
-use Rattle.gq_pipe.proofs.Showing.{shown_plan}
+use Rattle.gq_pipe.proofs.Makers.{made_steps}
+use Rattle.gq_pipe.proofs.Shaping.{all_made, all_pieces}
+use Rattle.gq_pipe.proofs.Showing.{IsMadeBy, has_shape}
 
 is_standing : (s : State) → has_chunk s ≡ true → s ≡ Standing
 is_standing Fresh h = absurd (true≢false (sym h))
@@ -92,9 +96,6 @@ module _ (p : Inside) (inv : IsSearch p) (now : (rest_of p).standing ≡ true) (
         (served_cells p ch.pool.now state_is serves)));
   }
 
-  order : steps c.steps ≡ arranged c.typed (given_plan p.lists.plan_run)
-  order = inv.plan.order
-
   pub chunk_is : IsChunkOf (rest_of p).source.graph (rest_of p).source.typed ch
   chunk_is = is_chunk_of c ss p.lists.row p.walker.cursors.items p.walker.marks.items ch st runs inv.sound.groups inv.sound.marks count groups p.housing.fillings.items homes cols inv.chunk.few
 
@@ -129,7 +130,19 @@ module _ (p : Inside) (inv : IsSearch p) (now : (rest_of p).standing ≡ true) (
           (looks_given c.typed (assignment_at c.graph c.typed ch ps) (given_plan p.lists.plan_run) none nothing (record { nodes = λ v. refl; rels = λ x. refl }))
           (length-map-range_with_len (Rattle.gq_group.specs.Chunks.node_at ch ps) 0 (length c.typed.nodes)) (length-map-range_with_len (Rattle.gq_group.specs.Chunks.rel_at c.graph c.typed ch ps) 0 (length c.typed.rels)) all
 
-  pub shape_is : AreShown (rest_of p).source.graph (rest_of p).source.typed (groups_of (arranged (rest_of p).source.typed (plan_in (rest_of p).source))) (rest_of p).flats ch.groups.now
-  shape_is =
-      subst (λ q. AreShown c.graph c.typed (groups_of q) (rest_of p).flats ch.groups.now) order
-      (shown_plan c ss p.lists.row p.walker.cursors.items p.walker.marks.items ch.groups.now st.runs st.grouped count groups)
+  made : AllZip (IsMadeBy c) ch.groups.now ss
+  made = all_made c ss p.lists.row p.walker.cursors.items p.walker.marks.items ch st runs inv.sound.groups count groups p.housing.fillings.items homes cols
+
+  -- the steps of the plan that make groups are those of the groups that run
+  own_steps : filter makes_group (steps_of (given_plan p.lists.plan_run)) ≡ map (λ (t : GroupSteps). step_at c t.first) ss
+  own_steps =
+      sym (made_steps (steps_of (given_plan p.lists.plan_run)) p.lent.now inv.given.many) ∙ ap (map (λ (m : Maker). m.step)) inv.given.makers
+      ∙ map_map (λ (m : Maker). m.step) (maker_in c) ss
+
+  pub shape_is : HasShape (rest_of p).source.typed (plan_in (rest_of p).source) ch.groups.now
+  shape_is = has_shape c c.typed (given_plan p.lists.plan_run) ch.groups.now ss made own_steps inv.given.flats
+
+  pub pieces_are : AllZip (IsPieceIn (rest_of p).source (chunk_meaning (rest_of p).source.graph (rest_of p).source.typed ch)) ch.groups.now (makers_in (rest_of p).source)
+  pieces_are =
+      subst (AllZip (IsPieceIn (rest_of p).source (chunk_meaning c.graph c.typed ch)) ch.groups.now) (sym inv.given.makers)
+      (all_pieces c ss p.lists.row p.walker.cursors.items p.walker.marks.items ch st runs inv.sound.groups count groups p.housing.fillings.items homes cols p.lists.plan_run.plan.now p.lent.now)

@@ -13,12 +13,11 @@ use Rattle.gq_base.specs.Plain.{Graph}
 use Rattle.gq_join.specs.Kept.{Held}
 use Rattle.gq_law_plans.proofs.Reordered.{permuted_flat_map}
 use Rattle.gq_plan.proofs.Binding.{is_table, is_joins, plan_binds, plan_joins}
-use Rattle.gq_plan.specs.Arranged.{at_numbers, in_order}
+use Rattle.gq_plan.specs.Arranged.{at_numbers}
 use Rattle.gq_plan.specs.Columns.{steps_of}
 use Rattle.gq_plan.specs.Covers.{Fits, after, placed}
 use Rattle.gq_plan.specs.Flat.{is_flat, is_join}
 use Rattle.gq_plan.specs.Known.{none}
-use Rattle.gq_plan.proofs.Each.{each_append}
 use Rattle.gq_plan.specs.Plans.{Plan, Done, Then, Step, Keep, steps, step_of}
 use Rattle.gq_plan.specs.declared.plan.Step as code
 use Rattle.gq_plan.specs.declared.typed.Typed.{Typed}
@@ -98,30 +97,12 @@ steps_more ss ns k rs r low inside is so_far =
     ∙ sym (flat_map-append (λ n. option_to_list (slice_get (map step_of ss) n)) (take k ns) (get_or ns k 0 ∷ []))
     ∙ ap (at_numbers (map step_of ss)) (sym (take_more ns k 0 low))
 
--- ---- what is true of each step
+-- ---- no joins
 
-module _ (P : Step → Type 0) where
-  one_kept : (ss : List Step) (n : ℕ) → AllByRecursion P ss → AllByRecursion P (option_to_list (slice_get ss n))
-  one_kept [] n h = tt
-  one_kept (s ∷ ss) zero h = (h.0, tt)
-  one_kept (s ∷ ss) (suc n) h = one_kept ss n h.1
-
-  all_kept : (ss : List Step) (ns : List ℕ) → AllByRecursion P ss → AllByRecursion P (at_numbers ss ns)
-  all_kept ss [] h = tt
-  all_kept ss (n ∷ ns) h = each_append P (option_to_list (slice_get ss n)) (at_numbers ss ns) (one_kept ss n h) (all_kept ss ns h)
-
--- a plan without joins has none in any order
-no_joins : (p : Plan) → is_flat p ≡ true → AllByRecursion (λ s. is_join s ≡ false) (steps_of p)
+pub no_joins : (p : Plan) → is_flat p ≡ true → AllByRecursion (λ s. is_join s ≡ false) (steps_of p)
 no_joins Done h = tt
 no_joins (Then s p) h = go (is_join s) refl h (no_joins p)
   where
     go : (b : Bool) → is_join s ≡ b → cond b false (is_flat p) ≡ true → (is_flat p ≡ true → AllByRecursion (λ s. is_join s ≡ false) (steps_of p)) → (is_join s ≡ false) × AllByRecursion (λ s. is_join s ≡ false) (steps_of p)
     go true e h more = absurd (true≢false (sym h))
     go false e h more = (e, more h)
-
-joins_none : (ss : List Step) → AllByRecursion (λ s. is_join s ≡ false) ss → is_flat (steps ss) ≡ true
-joins_none [] h = refl
-joins_none (s ∷ ss) h = ap (λ b. cond b false (is_flat (steps ss))) h.0 ∙ joins_none ss h.1
-
-pub still_flat : (p : Plan) (ns : List ℕ) → is_flat p ≡ true → is_flat (in_order p ns) ≡ true
-still_flat p ns h = joins_none (at_numbers (steps_of p) ns) (all_kept (λ s. is_join s ≡ false) (steps_of p) ns (no_joins p h))

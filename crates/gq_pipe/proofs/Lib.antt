@@ -20,7 +20,6 @@ pub mod Stepping
 pub mod Testing
 pub mod Stored
 pub mod Tried
-pub mod Unjoined
 pub mod Unlooped
 pub mod Whole
 pub mod Here
@@ -48,8 +47,10 @@ pub mod Filling
 pub mod Scanned
 pub mod Listed
 pub mod Loading
-pub mod Flags
 pub mod Showing
 pub mod Supplied
 pub mod Words
 pub mod Columned
+pub mod Keyed
+pub mod Makers
+pub mod Shaping

@@ -20,7 +20,7 @@ use Rattle.gq_plan.specs.Rows.{node_at, node_table}
 use Rattle.gq_plan.specs.declared.assignment.Assignment.{Assignment}
 use Rattle.gq_plan.specs.declared.typed.Typed.{Typed}
 use Rattle.gq_pipe.specs.Built.{IsBuildOf, kept_nodes, kept_rels, whole_row}
-use Rattle.gq_pipe.specs.Keys.{plan_keys}
+use Rattle.gq_pipe.specs.Keys.{key_count}
 use Rattle.gq_pipe.specs.Levels.{given}
 use Rattle.gq_pipe.specs.Rest.{Rest}
 use Rattle.gq_pipe.specs.Sized.{AreSized, HasNumbers}
@@ -166,7 +166,7 @@ past_refused g y side keys limit old owed (Memory why) begun bag past = tt
 
 -- what the pipeline spent that filled it
 pub has_spent : (g : Graph) (y : Typed) (side : Plan) (begun ended : Rest) (s : Spent)
-    → IsPermutation begun.owed (mean g y side nothing) → HasRun begun ended → s.chunks ≡ ended.chunks → s.columns ≡ columns_of y side → (is_flat side ≡ true → begun.keys ≡ plan_keys g y side)
+    → IsPermutation begun.owed (mean g y side nothing) → HasRun begun ended → s.chunks ≡ ended.chunks → s.columns ≡ columns_of y side → (is_flat side ≡ true → length begun.keys ≡ key_count g y side)
     → HasSpentAll g y side s
 has_spent g y side begun ended s bag run chunks columns keys =
     let long : length (meaning g y side) ≡ length begun.owed = length-meaning g y side ∙ length_permutation _ _ bag in
@@ -176,7 +176,7 @@ has_spent g y side begun ended s bag run chunks columns keys =
         most = omega (arith, run.most, chunks, long);
         none = λ e. empty (meaning g y side) (long ∙ ap length (run.none (sym chunks ∙ e)));
       };
-      one_each = λ flat. chunks ∙ run.keys ∙ ap (λ ks. up_to_most (length ks)) (keys flat);
+      one_each = λ flat. chunks ∙ run.keys ∙ ap up_to_most (keys flat);
     }
   where
     empty : {X : Type 0} (xs : List X) → length xs ≡ 0 → xs ≡ []

@@ -3,10 +3,10 @@ use Rattle.std.proofs.Common.{◌≡◌, ◌∙◌, ℕ, suc, ◌+◌, ◌<◌, 
 use Rattle.std.specs.Prelude.{slice_index_or, All, IsPermutation}
 use Rattle.std.specs.List.{AllByRecursion, range_with_len, sum_by}
 use Rattle.std.proofs.lemmas.List.{length-map, take_all}
-use Rattle.std.proofs.lemmas.List.FromFn.{get_or-map-range_with_len, length-map-range_with_len}
 use Rattle.std.proofs.lemmas.List.Elements.{recursion_from_All}
 use Rattle.std.proofs.lemmas.List.Sorted.{IsPermutation-map, IsPermutation-sym, IsPermutation-trans}
 use Rattle.gq_arrange.proofs.Loops.{steps_back}
+use Rattle.gq_arrange.specs.Keys.{plan_key}
 use Rattle.gq_arrange.specs.Law.{IsArranged}
 use Rattle.gq_base.specs.Plain.{Graph}
 use Rattle.gq_base.specs.Valid.{is_valid}
@@ -18,21 +18,21 @@ use Rattle.gq_law_groups.specs.Groups.{decode}
 use Rattle.gq_law_groups.specs.Law.{read_all}
 use Rattle.gq_law_groups.specs.Layout.{AreFlatEnough}
 use Rattle.gq_plan.proofs.StepEquations.{plan_is}
-use Rattle.gq_plan.specs.Arranged.{arranged, arranged_flat, at_numbers, flags_of, in_order, order_of}
+use Rattle.gq_plan.specs.Arranged.{arranged, at_numbers, flags_of, in_order, order_of}
 use Rattle.gq_plan.specs.Assignments as plain
 use Rattle.gq_plan.specs.Columns.{columns_of, own_columns, steps_of}
 use Rattle.gq_plan.specs.Covers.{Fits}
-use Rattle.gq_plan.specs.Flat.{is_flat}
 use Rattle.gq_plan.specs.Known.{none}
 use Rattle.gq_plan.specs.Meaning.{Partial, mean, nothing}
 use Rattle.gq_plan.specs.Plans.{plan_of, steps, step_of}
-use Rattle.gq_plan.specs.Shapes.{places}
 use Rattle.gq_plan.specs.Soundness.{IsSound}
 use Rattle.gq_plan.specs.declared.plan.Plan as code_plan
 use Rattle.gq_plan.specs.declared.typed.Typed.{Typed}
-use Rattle.gq_walks.specs.Layouts.{keys, walks}
+use Rattle.gq_plan.specs.Flat.{is_flat}
+use Rattle.gq_walks.specs.Different.{AreKeysOf}
+use Rattle.gq_walks.specs.Layouts.{walks}
 use Rattle.gq_pipe.specs.Built.{AreBuilds}
-use Rattle.gq_pipe.specs.Keys.{keys_with, no_rows, plan_keys}
+use Rattle.gq_pipe.specs.Keys.{assignment_key, build_rows, makers_in, makers_of, key_count}
 use Rattle.gq_pipe.specs.Levels.{given}
 use Rattle.gq_pipe.specs.steps.Cuts.{begins, flag, groups_of, IsCutTo}
 use Rattle.gq_pipe.specs.steps.Given.{RunsPlan, bound_by, given_plan, numbers_of}
@@ -43,10 +43,13 @@ use Rattle.gq_pipe.specs.steps.Moves.{IsRun, builds_in, run_of, steps_in}
 use Rattle.gq_pipe.specs.declared.homes.Filling.{Filling}
 use Rattle.gq_pipe.specs.declared.places.GroupSteps.{GroupSteps}
 use Rattle.gq_pipe.specs.declared.plan_run.PlanRun.{PlanRun}
-use Rattle.gq_pipe.proofs.Flags.{flags_keys}
-use Rattle.gq_pipe.proofs.InOrder.{builds_ordered, ordered_sum, same_bound, still_flat}
+use Rattle.gq_pipe.specs.steps.Search.{AreGiven, maker_in, source_in}
+use Rattle.gq_pipe.proofs.InOrder.{builds_ordered, ordered_sum, same_bound}
+use Rattle.gq_pipe.proofs.Joined.{builds_many}
+use Rattle.gq_pipe.proofs.Keyed.{counted_keys, keyed}
+use Rattle.gq_pipe.proofs.Makers.{makers_ordered, makers_run}
 use Rattle.gq_pipe.proofs.Rebinding.{bound_self}
-use Rattle.gq_pipe.proofs.Resting.{flats_are, grouped, keys_are, owed_mean, some_group}
+use Rattle.gq_pipe.proofs.Resting.{flats_are, grouped, owed_mean, some_group}
 
 map_map : {X Y Z : Type 0} (f : Y → Z) (h : X → Y) (xs : List X) → map f (map h xs) ≡ map (λ x. f (h x)) xs
 map_map f h [] = refl
@@ -144,6 +147,13 @@ module _ (k : PlanRun) (p : code_plan.Plan) (os : List (Option Held)) (order : L
       ∙ ordered_sum (own_columns y) (steps_of (plan_of p)) order s.arranged.each in
       omega (arith, few, whole, is)
 
+  -- without joins the keys that are owed are as many as the plan has
+  pub count_given : (lent : List (Option Held)) (ks : List (List ℕ)) (owed : List Partial) → is_flat (plan_of p) ≡ true → IsPermutation owed (mean g y (plan_of p) nothing) → AreKeysOf ks (map (assignment_key (source_in k lent)) owed)
+      → length ks ≡ key_count g y (plan_of p)
+  count_given lent ks owed unjoined bag are =
+      counted_keys g y (plan_of p) (build_rows y (makers_in (source_in k lent))) ks owed unjoined bag
+      (subst (λ q. AreKeysOf ks (map (plan_key g y (build_rows y (makers_in (source_in k lent))) q) owed)) (sym plan_same) are)
+
   module _ (ss : List GroupSteps) (cut : IsCutTo c.steps flat ss (length c.steps)) where
     pub grouped_run : IsGrouped c ss
     grouped_run = grouped c run flat ss cut begins_run enough_run
@@ -165,20 +175,32 @@ module _ (k : PlanRun) (p : code_plan.Plan) (os : List (Option Held)) (order : L
         (subst (IsPermutation (map asked (map (read_all y) own))) (map_map asked (read_all y) all ∙ map_self (bound_by y (plan_of p)) all (bound_self g y (plan_of p) s.valid s.sound s.fits))
         (IsPermutation-map asked _ _ (same_plans g y (steps c.steps) (plan_of p) s.valid s.sound fits_run s.fits (subst (λ q. IsPermutation (Rattle.gq_plan.specs.Covers.placed q) (Rattle.gq_plan.specs.Covers.placed (plan_of p))) (sym runs_are) s.arranged.placed)))))))
 
-    -- a group is flat as the arrangement tells
-    told : (j : ℕ) → j < length (groups_of (steps c.steps)) → flag flat j ≡ arranged_flat y (plan_of p) j
-    told j low =
-        let many : length flat ≡ (places (plan_of p)).count = ap length s.flat_is ∙ length-map-range_with_len (arranged_flat y (plan_of p)) 0 (places (plan_of p)).count in
-        ap (λ f. slice_index_or f j false) s.flat_is ∙ get_or-map-range_with_len (arranged_flat y (plan_of p)) 0 (places (plan_of p)).count j j false (omega (arith, low, many, many_groups)) (omega arith)
-
-    -- without joins the keys are those of the plan
-    pub keys_given : is_flat (plan_of p) ≡ true → keys (layout_in c ss) (length ss) [] ≡ plan_keys g y (plan_of p)
-    keys_given unjoined =
-        keys_are c run flat ss cut begins_run enough_run (ap is_flat runs_are ∙ still_flat (plan_of p) order unjoined)
-        ∙ flags_keys g y no_rows (flag flat) (arranged_flat y (plan_of p)) (groups_of (steps c.steps)) told
-        ∙ ap (keys_with g y (arranged_flat y (plan_of p))) runs_arranged
+    told : flat ≡ flags_of y (given_plan k)
+    told = s.flat_is ∙ ap (flags_of y) plan_same
 
     pub flats_given : map (λ (t : GroupSteps). t.flat) ss ≡ flags_of y (plan_of p)
     flats_given =
         flats_are c run flat ss cut begins_run enough_run
         ∙ ap (λ n. map (flag flat) (range_with_len 0 n)) many_groups ∙ all_got false flat ∙ s.flat_is
+
+    -- the groups that run are those of the plan as it was given
+    pub given_run : AreGiven k ss os
+    given_run =
+        let many : length os ≡ length (steps_of (plan_of p)) =
+        builds_many g y (map step_of p.steps) os (subst (λ q. AreBuilds g y q os) (plan_is p) s.builds) ∙ sym (ap length steps_same) in
+        let low : AllByRecursion (λ n. n < length (steps_of (plan_of p))) order =
+        subst (λ l. AllByRecursion (λ n. n < length l) order) (sym steps_same)
+        (subst (λ n. AllByRecursion (λ m. m < n) order) (sym (length-map p.steps step_of)) (recursion_from_All (λ n. n < length p.steps) order s.within)) in
+        let made : makers_of (steps_of (given_plan k)) os ≡ map (maker_in c) ss =
+        ap (λ q. makers_of (steps_of q) os) (sym plan_same)
+        ∙ sym (makers_ordered y (plan_of p) os many (subst (AllByRecursion (λ n. n < length (steps_of (plan_of p)))) s.order_is low))
+        ∙ ap (λ ns. makers_of (at_numbers (steps_of (plan_of p)) ns) (map (λ n. slice_index_or os n None) ns)) (sym s.order_is)
+        ∙ ap₂ makers_of (ap (λ ss. at_numbers ss order) steps_same ∙ sym s.steps_are) (sym s.builds_are)
+        ∙ makers_run c (builds_many g y c.steps c.builds run.builds) ss grouped_run.tiles grouped_run.cut in
+        let each : length os ≡ length (steps_of (given_plan k)) = many ∙ ap (λ q. length (steps_of q)) plan_same in
+        record {
+          many = each;
+          makers = made;
+          flats = flats_given ∙ ap (flags_of y) plan_same;
+          keys = keyed c run flat ss cut begins_run enough_run (given_plan k) runs_plan.bound os made each told;
+        }

@@ -1,22 +1,51 @@
--- The different keys of what a plan without joins means, in order.
-use Rattle.std.specs.Prelude.{ℕ, Bool, List, [], length}
+-- The key of an assignment of a pipeline's plan: its places in the whole lists of the plan's groups.
+use Rattle.std.specs.Prelude.{ℕ, Option, None, List, [], ◌∷◌, map, slice_index_or, if◌then◌else◌}
+use Rattle.std.specs.Set.{distinct_count}
+use Rattle.gq_arrange.specs.Keys.{plan_key}
 use Rattle.gq_base.specs.Plain.{Graph}
-use Rattle.gq_law_groups.specs.Layout.{layout_of}
-use Rattle.gq_plan.specs.Arranged.{arranged, arranged_flat}
-use Rattle.gq_plan.specs.Meaning.{Partial}
-use Rattle.gq_plan.specs.Plans.{Plan}
+use Rattle.gq_join.specs.Kept.{Held}
+use Rattle.gq_law_groups.specs.Groups.{makes_group}
+use Rattle.gq_plan.specs.Columns.{steps_of}
+use Rattle.gq_plan.specs.Meaning.{Partial, nothing, mean}
+use Rattle.gq_plan.specs.Plans.{Plan, Step, Keep}
 use Rattle.gq_plan.specs.declared.typed.Typed.{Typed}
-use Rattle.gq_walks.specs.Layouts.{keys}
-use Rattle.gq_pipe.specs.steps.Cuts.{groups_of}
+use Rattle.gq_walks.specs.Different.{same_key}
+use Rattle.gq_pipe.specs.Progress.{Source, plan_in}
+use Rattle.gq_pipe.specs.steps.Levels.{built_of}
+
+-- a step that makes a group, with its build if it joins
+pub record Maker : Type 0 where
+  pub step : Step
+  pub build : Option Held
+
+abbrev pub no_maker : Maker
+no_maker = record { step = Keep 0; build = None }
+
+-- those among steps, with the builds of the steps
+abbrev pub makers_of : List Step → List (Option Held) → List Maker
+makers_of [] os = []
+makers_of (s ∷ ss) [] = []
+makers_of (s ∷ ss) (o ∷ os) = if makes_group s then record { step = s; build = o } ∷ makers_of ss os else makers_of ss os
+
+abbrev pub maker_at : List Maker → ℕ → Maker
+maker_at ms i = slice_index_or ms i no_maker
+
+-- the rows of the build of each group, if it joins
+abbrev pub build_rows : Typed → List Maker → ℕ → List Partial
+build_rows y ms i = built_of y (maker_at ms i).step (maker_at ms i).build
+
+-- what makes the groups of the plan that a pipeline runs, with the builds that it was lent
+abbrev pub makers_in : Source → List Maker
+makers_in s = makers_of (steps_of (plan_in s)) s.builds
+
+-- the key of an assignment of that plan
+abbrev pub assignment_key : Source → Partial → List ℕ
+assignment_key s = plan_key s.graph s.typed (build_rows s.typed (makers_in s)) (plan_in s)
 
 -- no build has rows
 abbrev pub no_rows : ℕ → List Partial
 no_rows i = []
 
--- where these of its groups are flat, and no group joins
-abbrev pub keys_with : Graph → Typed → (ℕ → Bool) → Plan → List (List ℕ)
-keys_with g y flat p = keys (layout_of g y no_rows flat (groups_of p)) (length (groups_of p)) []
-
--- where the flat groups are those of its order by groups
-abbrev pub plan_keys : Graph → Typed → Plan → List (List ℕ)
-plan_keys g y p = keys_with g y (arranged_flat y p) (arranged y p)
+-- how many different keys there are of what a plan without joins means
+abbrev pub key_count : Graph → Typed → Plan → ℕ
+key_count g y p = distinct_count same_key (map (plan_key g y no_rows p) (mean g y p nothing))

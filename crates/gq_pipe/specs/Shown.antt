@@ -1,21 +1,28 @@
--- The groups of a chunk as the plan has them: their number, the form and the flatness of each, and its piece.
-use Rattle.std.specs.Prelude.{◌≡◌, ◌<◌, ◌*◌, ℕ, Bool, true, false, Option, Some, None, List, [], length, take, drop, slice_get, slice_index_or}
-use Rattle.gq_bits.specs.declared.TheConstants.{VECTOR}
+-- The groups of a chunk as the plan has them: the form of each and whether it is flat, where its piece begins, and which part of its list
+-- that is.
+use Rattle.std.specs.Prelude.{◌≡◌, ◌*◌, ℕ, Bool, true, false, Option, Some, None, List, [], map, take, drop, slice_index}
+use Rattle.std.specs.List.{AllByRecursion, range_with_len}
 use Rattle.gq_base.specs.Plain.{Graph}
+use Rattle.gq_base.specs.Valid.{row_count}
+use Rattle.gq_bits.specs.declared.TheConstants.{VECTOR}
 use Rattle.gq_group.specs.Pieces.{first_of, items_of}
-use Rattle.gq_group.specs.declared.group.Group as shown
+use Rattle.gq_group.specs.declared.group.Group.{Group}
 use Rattle.gq_group.specs.declared.piece.Piece.{Piece}
 use Rattle.gq_group.specs.declared.piece.Piece.TheVariants as piece
-use Rattle.gq_join.specs.Kept.{Held, matches}
-use Rattle.gq_law_groups.specs.Groups.{Group}
-use Rattle.gq_plan.specs.Plans.{Step, Scan, Extend, Close, Join, Keep}
-use Rattle.gq_plan.specs.Rows.{rel_table}
+use Rattle.gq_join.specs.Kept.{Held, matches_of}
+use Rattle.gq_plan.specs.Arranged.{arranged_flat, is_regular}
+use Rattle.gq_plan.specs.Plans.{Plan, Step, Scan, Extend, Close, Join}
+use Rattle.gq_plan.specs.Rows.{node_table, rel_table}
+use Rattle.gq_plan.specs.Shapes.{shape, shape_from}
+use Rattle.gq_plan.specs.declared.assignment.Assignment.{Assignment}
+use Rattle.gq_plan.specs.declared.shaping.Form.{Form}
+use Rattle.gq_plan.specs.declared.shaping.GroupShape.{GroupShape}
 use Rattle.gq_plan.specs.declared.typed.Typed.{Typed}
 use Rattle.gq_store.specs.Neighbours.{neighbours}
-use Rattle.gq_pipe.specs.Built.{IsBuildOf}
+use Rattle.gq_pipe.specs.Keys.{Maker}
+use Rattle.gq_pipe.specs.Progress.{Source}
 
-abbrev pub no_group : Group
-no_group = record { binds = Keep 0; checks = [] }
+-- ---- the shape
 
 -- a scan has rows of a table, a step that follows relationships has neighbours, a join has rows of a build
 abbrev pub HasForm : Step → Piece → Type 0
@@ -25,30 +32,37 @@ HasForm (Close column x from to way) (piece.List ids first) = Unit {0}
 HasForm (Join side keys) (piece.Matches rows first) = Unit {0}
 HasForm s p = ⊥
 
+abbrev pub form_in : Piece → Form
+form_in (piece.Span low high) = Form.Span
+form_in (piece.List ids first) = Form.List
+form_in (piece.Matches rows first) = Form.Matches
+
+-- a flat group has one current position
 abbrev pub is_flat : Option ℕ → Bool
 is_flat None = false
 is_flat (Some position) = true
 
--- neighbours are a part of the graph's own list of a vertex, and rows of a build a part of those that a build of the side plan has for a key
-abbrev pub IsPartOf : Graph → Typed → Step → Piece → Type 0
-IsPartOf g y (Extend column x from to way) p = (row : ℕ) × (items_of p ≡ take VECTOR (drop (first_of p) (neighbours g (rel_table y x) way row)))
-IsPartOf g y (Close column x from to way) p = (row : ℕ) × (items_of p ≡ take VECTOR (drop (first_of p) (neighbours g (rel_table y x) way row)))
-IsPartOf g y (Join side keys) p = (build : Held) × IsBuildOf g y side keys build × ((key : List ℕ) × (items_of p ≡ take VECTOR (drop (first_of p) (matches build key))))
-IsPartOf g y s p = Unit {0}
+abbrev pub shape_in : List Group → List GroupShape
+shape_in xs = map (λ (x : Group). record { form = form_in x.piece; flat = is_flat x.current }) xs
 
-pub record IsShown (g : Graph) (y : Typed) (s : Step) (flat : Bool) (x : shown.Group) : Type 0 where
-  pub form : HasForm s x.piece
-  pub flat_is : is_flat x.current ≡ flat
+-- the groups of a chunk are those of the plan, and those are flat that its order by groups asks for: where no test stands before a column
+-- close that it reads, those of the plan's shape
+pub record HasShape (y : Typed) (p : Plan) (xs : List Group) : Type 0 where
+  pub groups : shape_in xs ≡ shape_from (arranged_flat y p) 0 p
+  pub regular : is_regular y p ≡ true → shape_in xs ≡ shape y p
+
+-- ---- the pieces
+
+-- the whole list of a step that makes a group, in a row: the table's rows, the list of the row's vertex, or the build's rows with the row's key
+abbrev pub whole_list : Graph → Typed → Step → Option Held → Assignment → List ℕ
+whole_list g y (Scan v) o row = range_with_len 0 (row_count g.nodes (node_table y v))
+whole_list g y (Extend column x from to way) o row = neighbours g (rel_table y x) way (slice_index row.nodes from)
+whole_list g y (Close column x from to way) o row = neighbours g (rel_table y x) way (slice_index row.nodes from)
+whole_list g y (Join side keys) (Some h) row = matches_of h row
+whole_list g y s o row = []
+
+-- a piece is a part of the whole list that it has in each of these rows, and ends at the next multiple of VECTOR or where the list ends
+pub record IsPieceIn (s : Source) (rows : List Assignment) (x : Group) (m : Maker) : Type 0 where
   pub number : ℕ
-  pub cut : first_of x.piece ≡ VECTOR * number
-  pub part : IsPartOf g y s x.piece
-
-pub record ShowsGroup (g : Graph) (y : Typed) (s : Step) (flat : Bool) (xs : List shown.Group) (i : ℕ) : Type 0 where
-  pub group : shown.Group
-  pub there : slice_get xs i ≡ Some group
-  pub is : IsShown g y s flat group
-
--- a chunk has the groups of a plan, of which these are flat
-pub record AreShown (g : Graph) (y : Typed) (groups : List Group) (flats : List Bool) (xs : List shown.Group) : Type 0 where
-  pub count : length xs ≡ length groups
-  pub each : (i : ℕ) → i < length groups → ShowsGroup g y (slice_index_or groups i no_group).binds (slice_index_or flats i false) xs i
+  pub begins : first_of x.piece ≡ VECTOR * number
+  pub items : AllByRecursion (λ row. items_of x.piece ≡ take VECTOR (drop (first_of x.piece) (whole_list s.graph s.typed m.step m.build row))) rows

@@ -6,7 +6,7 @@ use Rattle.gq_plan.specs.Flat.{is_flat}
 use Rattle.gq_plan.specs.Meaning.{meaning}
 use Rattle.gq_plan.specs.Plans.{Plan, Done, Then, Step, Scan, Extend, Close, Join, Keep, Differ, NoLoop}
 use Rattle.gq_plan.specs.declared.typed.Typed.{Typed}
-use Rattle.gq_pipe.specs.Keys.{plan_keys}
+use Rattle.gq_pipe.specs.Keys.{key_count}
 use Rattle.gq_pipe.specs.declared.pipeline.Spent.{Spent}
 
 -- a count that stands still at the greatest of its type
@@ -21,7 +21,7 @@ pub record HasSpent (g : Graph) (y : Typed) (p : Plan) (s : Spent) : Type 0 wher
 
 -- a plan without joins whose assignments are all handed out has a chunk for each of their different keys
 abbrev pub HasOneEach : Graph → Typed → Plan → Spent → Type 0
-HasOneEach g y p s = is_flat p ≡ true → s.chunks ≡ up_to_most (length (plan_keys g y p))
+HasOneEach g y p s = is_flat p ≡ true → s.chunks ≡ up_to_most (key_count g y p)
 
 -- what the pipeline of a side plan spends
 pub record HasSpentAll (g : Graph) (y : Typed) (p : Plan) (s : Spent) : Type 0 where

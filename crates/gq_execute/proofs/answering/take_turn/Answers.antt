@@ -109,11 +109,11 @@ returns-clause-spends c =
     record {
       turn = record { sides = c.in-Ok.builds.spent; own = own };
       is = turn_spent g c.args.table.now.bound order y plan costs c.in-Ok.builds.spent own (subst (λ (s : Stats). IsPlanIn order g.catalog s y plan costs) c.requires.stats made.plan) made.covers made.alone c.in-Ok.ensures.spent
-          (own_spent g y plan start new begun now own p.meaning p.keys p.columns ends.ran c.drain_all-drained.ensures.columns c.finish-own.ensures.chunks c.finish-own.ensures.columns)
-          (λ uncut. own_keys g y plan start new begun now own p.meaning p.keys p.columns ends.ran c.drain_all-drained.ensures.columns c.finish-own.ensures.chunks c.finish-own.ensures.columns (ap cut_of same_bound ∙ uncut));
+          (own_spent g y plan start new begun now own p.meaning p.count p.columns ends.ran c.drain_all-drained.ensures.columns c.finish-own.ensures.chunks c.finish-own.ensures.columns)
+          (λ uncut. own_keys g y plan start new begun now own p.meaning p.count p.columns ends.ran c.drain_all-drained.ensures.columns c.finish-own.ensures.chunks c.finish-own.ensures.columns (ap cut_of same_bound ∙ uncut));
       all = c.in_ok-push.ensures.pushed ∙ ap (λ l. l ++ own ∷ []) c.into_spent-spent.ensures;
       chunks = λ plain before h.
-          own_counted g y plan start new begun now own p.meaning p.keys p.columns ends.ran c.drain_all-drained.ensures.columns c.finish-own.ensures.chunks c.finish-own.ensures.columns (subst IsPlain (sym (ap (λ (t : Table). t.bound) c.start_alternative.ensures)) plain) before
+          own_counted g y plan start new begun now own p.meaning p.count p.columns ends.ran c.drain_all-drained.ensures.columns c.finish-own.ensures.chunks c.finish-own.ensures.columns (subst IsPlain (sym (ap (λ (t : Table). t.bound) c.start_alternative.ensures)) plain) before
           (ap (λ (t : Table). t.pushed) c.start_alternative.ensures ∙ h);
     }
 

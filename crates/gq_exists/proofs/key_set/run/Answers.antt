@@ -40,5 +40,5 @@ pub returns-clause-spent : goal.returns-clause-spent
 returns-clause-spent c =
     let y = c.args.typed.now in
     let start = c.in_ok-pipeline.ensures in
-    one_spent c.args.graph.now y (plan_of c.args.plan.now) c.in_ok-pipeline.pipeline c.fill-filled.new.pipeline c.finish-own.result start.meaning start.keys start.columns c.fill-filled.ensures.columns
+    one_spent c.args.graph.now y (plan_of c.args.plan.now) c.in_ok-pipeline.pipeline c.fill-filled.new.pipeline c.finish-own.result start.meaning start.count start.columns c.fill-filled.ensures.columns
     c.finish-own.ensures.chunks c.finish-own.ensures.columns c.args.gathering.now.width c.in-Ok-filled.ensures.ran c.args.spent.now c.push.new.self c.in_ok-push.ensures.pushed
