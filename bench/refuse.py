@@ -66,7 +66,7 @@ class Tried:
             return map(int, file.read().split())
 
     def fails(self, kind: str, right: Callable[[Run], bool], every: bool = False, **how: int) -> None:
-        """One run for each call of a kind that fails, alone or with each behind it."""
+        """One run for each call of a kind that fails, alone or with each after it."""
         self.run(**how)
         calls = dict(zip(KINDS, self.counted()))[kind]
         for call in range(1, calls + 1):

@@ -45,7 +45,7 @@ class Round:
 
     @property
     def words(self) -> list[str]:
-        """The words behind the program's name."""
+        """The arguments after the program's name."""
         settings = ["--order", self.settings.order, "--rows", str(self.settings.rows)]
         return ["--manifest", MANIFEST, *settings]
 

@@ -2,7 +2,7 @@
 
 
 class Refused(Exception):
-    """A statement is refused; `line` is its reply behind `error: `."""
+    """A statement is refused; `line` is its reply after `error: `."""
 
     def __init__(self, line: str) -> None:
         super().__init__(line)

@@ -90,7 +90,7 @@ static int reply(std::ifstream& file) {
       continue;
     }
     if (line != "rows " + std::to_string(bag.rows)) return bad("the line 'rows N' tells another number");
-    if (getline(file, line)) return bad("text behind the line 'rows N'");
+    if (getline(file, line)) return bad("text after the line 'rows N'");
     return bag.print();
   }
   return bad("no line 'rows N'");

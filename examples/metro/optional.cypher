@@ -1,4 +1,4 @@
-// Clauses behind OPTIONAL: a row goes on with each match of the clause, and stands with nulls where there is none.
+// Clauses after OPTIONAL: a row goes on with each match of the clause, and stands with nulls where there is none.
 
 // Each line with the company that runs it and the depot of its trains, where it has them.
 MATCH (l:Line)
@@ -43,6 +43,6 @@ RETURN l.name, s.name;
 // The clause is gone through first, by itself: four depots have lines. Then the depots are.
 :profile MATCH (d:Depot) OPTIONAL MATCH (d)-[:HOUSES]->(l) RETURN d.name, l.name ORDER BY d.name, l.name LIMIT 3;
 
-// Behind such a clause there is no other MATCH, and no condition sees what comes later.
+// After such a clause there is no other MATCH, and no condition sees what comes later.
 MATCH (d:Depot) OPTIONAL MATCH (d)-[:HOUSES]->(l) MATCH (l)-[:RUN_BY]->(c) RETURN c;
 MATCH (d:Depot) WHERE l.name = 'Ring' OPTIONAL MATCH (d)-[:HOUSES]->(l) RETURN d;

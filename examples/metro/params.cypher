@@ -1,4 +1,4 @@
-// Parameters: set once, used in each statement behind.
+// Parameters: set once, used in each statement after that.
 :param line 'Ring';
 :param least 7;
 

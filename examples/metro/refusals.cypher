@@ -1,4 +1,4 @@
-// What is wrong with a statement is told by name and place; each place counts from behind the semicolon before.
+// What is wrong with a statement is told by name and place; each place counts from after the semicolon before.
 MATCH (s:Station RETURN s.name;
 MATCH (s:Station) RETURN s.name ORDER s.name;
 MATCH (s:Station) WHERE s.name = 'King\'s Ferry' RETURN s.code;

@@ -1,4 +1,4 @@
-// A tour of the metro, one statement behind another.
+// A tour of the metro, one statement after another.
 :schema;
 
 // The stations of the outermost zone; a semicolon in a comment; or in a string ends no statement.

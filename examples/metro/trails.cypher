@@ -1,4 +1,4 @@
-// Trails: relationships of one type, one behind another, as many as it takes.
+// Trails: relationships of one type, one after another, as many as it takes.
 
 // Which sights are near a station that one reaches from a depot by at most three sections?
 MATCH (d:Depot)-[:BESIDE]->(:Station)-[:TRACK*1..3]->(s)<-[:NEAR]-(x:Sight)

@@ -19,7 +19,7 @@ MAINS = {"import": "importing.main", "export": "exporting.main", "draw": "drawin
 
 
 def call(tool: str) -> int:
-    """Runs a tool on the words of the command line, and gives its status."""
+    """Runs a tool on the arguments of the command line, and gives its status."""
     prepare_streams()
     return run(f"graphq-{tool}", importlib.import_module(f"graphq_tools.{MAINS[tool]}").main)
 

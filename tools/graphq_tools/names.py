@@ -63,7 +63,7 @@ class Names:
 
 
 def unused(name: str, taken: Container[str], any_case: bool = True) -> str:
-    """`name`, or with the least number behind it that makes it differ from the names taken.
+    """`name`, or with the least number after it that makes it differ from the names taken.
 
     Where `any_case` is said the names taken are in small letters, and have to differ whatever the case.
     """

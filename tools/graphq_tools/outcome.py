@@ -136,7 +136,7 @@ def _drop_output() -> None:
 
 
 def run(tool: str, main: Callable[[Sequence[str]], int]) -> int:
-    """Runs a tool on the words of the command line; a refusal is one line on standard error, and never a traceback."""
+    """Runs a tool on the arguments of the command line; a refusal is one line on standard error, and never a traceback."""
     try:
         status = main(sys.argv[1:])
         sys.stdout.flush()

@@ -12,7 +12,7 @@ from pathlib import Path
 from .outcome import Refusal, Status, writing
 
 
-# So many characters have at most so many bytes as a name of a file has room for, with what comes behind.
+# So many characters have at most so many bytes as a name of a file has room for, with what comes after.
 MOST_STEM = 50
 
 

@@ -47,7 +47,7 @@ def parser() -> argparse.ArgumentParser:
 
 
 def main(arguments: Sequence[str]) -> int:
-    """Exports a graph by the words of the command line."""
+    """Exports a graph by the arguments of the command line."""
     words = parser().parse_args(arguments)
     graph = read_manifest(words.manifest)
     with new_folder(words.out) as folder:

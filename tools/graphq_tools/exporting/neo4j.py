@@ -53,7 +53,7 @@ def export_neo4j(graph: Graph, folder: Path) -> list[str]:
     if broken:
         words.append("--multiline-fields=true")
     command = " \\\n    ".join(["neo4j-admin database import full", *words, '"${1:-neo4j}"'])
-    write_text(folder / "import.sh", f"#!/bin/sh\n# Run it in this folder; its word is the database.\n{command}\n")
+    write_text(folder / "import.sh", f"#!/bin/sh\n# Run it in this folder; its argument is the database.\n{command}\n")
     (folder / "import.sh").chmod(0o755)
     labels = [label for node in graph.nodes for label in node.labels]
     alone = [node for node in graph.nodes if len(node.labels) == 1 and labels.count(node.word) == 1]

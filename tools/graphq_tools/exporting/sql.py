@@ -16,14 +16,14 @@ from ..outcome import Refusal, writing
 
 _TYPES = {"int": "BIGINT", "string": "TEXT", "bool": "BOOLEAN"}
 _ROWS_OF_AN_INSERT = 200
-# What sqlite3 loses of a text as it reads its script: a CR before a line end, and all behind a NUL.
+# What sqlite3 loses of a text as it reads its script: a CR before a line end, and all after a NUL.
 _LOST = re.compile("[\r\0]")
 _COPY_ESCAPES = str.maketrans({"\\": "\\\\", "\t": "\\t", "\n": "\\n", "\r": "\\r"})
 
 
 @dataclass
 class Column:
-    """A column: its name, its kind, and what stands behind its type."""
+    """A column: its name, its kind, and what stands after its type."""
 
     name: str
     kind: str

@@ -118,7 +118,7 @@ class _Script:
 
 
 def _is_header(record: list[str], columns: list[str], leading: int) -> bool:
-    """Whether a record behind COPY without HEADER is one: its fields are called like the columns."""
+    """Whether a record after COPY without HEADER is one: its fields are called like the columns."""
     names = [text.strip().split(":", 1)[0].lower() for text in record]
     if leading and names[:2] == ["from", "to"]:
         return True

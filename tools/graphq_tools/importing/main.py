@@ -183,7 +183,7 @@ def _read(words: argparse.Namespace, into: Intake) -> None:
 
 
 def main(arguments: Sequence[str]) -> int:
-    """Imports a graph by the words of the command line."""
+    """Imports a graph by the arguments of the command line."""
     words = parser().parse_args(arguments)
     # Nothing that is made below points round in a circle, and there is much of it to look through in vain.
     gc.disable()

@@ -49,7 +49,7 @@ class Form:
 
 @dataclass
 class Source:
-    """Files of one header, which is the first record of the first: what neo4j-admin takes behind one `--nodes`."""
+    """Files of one header, which is the first record of the first: what neo4j-admin takes after one `--nodes`."""
 
     files: list[str]
     names: list[str] = field(default_factory=list)
@@ -113,7 +113,7 @@ def read_header(record: list[str], intake: Intake) -> Header:
 def _rows(
     source: Source, form: Form, intake: Intake, wanted: tuple[str, ...]
 ) -> Iterator[tuple[str, int, Header, list[str]]]:
-    """The records of a source behind its header, which has the wanted special fields, each with its file and line."""
+    """The records of a source after its header, which has the wanted special fields, each with its file and line."""
     header: Header | None = None
     for file in source.files:
         for line, record in checked(records(file, form.delimiter, form.quote), intake):

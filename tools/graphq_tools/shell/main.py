@@ -41,7 +41,7 @@ def parser() -> argparse.ArgumentParser:
 
 
 def main(arguments: Sequence[str]) -> int:
-    """Runs a shell by the words of the command line."""
+    """Runs a shell by the arguments of the command line."""
     words = parser().parse_args(arguments)
     options = [("--order", words.order), ("--rows", words.rows)]
     more = [word for option, value in options if value for word in (option, value)]
