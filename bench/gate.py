@@ -17,7 +17,7 @@ UNIT = "gq_adj"
 
 
 def stat_of(number: str) -> tuple[int, str, float] | None:
-    """The parent of a process, the time at which it started and the processor seconds that it took itself; nothing where it has gone."""
+    """The parent of a process, the time at which it started and the processor seconds that it took itself; nothing without it."""
     try:
         with open(f"/proc/{number}/stat", encoding="utf8") as file:
             fields = file.read().rsplit(")", 1)[1].split()

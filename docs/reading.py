@@ -131,7 +131,8 @@ class Source:  # a file: what its words bring from elsewhere, its items, and its
         return next(iter(named - {None}), None)
 
 
-def rust_parts(head: str, text: str) -> tuple[str, set[str], set[str]]:  # the clauses and ghost members of an item, the words of the rest, and what the item binds
+# The clauses and ghost members of an item, the words of the rest, and what the item binds.
+def rust_parts(head: str, text: str) -> tuple[str, set[str], set[str]]:
     rust = re.sub(r"'\w+|\"[^\"]*\"|^    [A-Z]\w*", "", CLAUSE.sub("", text), flags=re.M)
     bound = {*re.findall(r"\b[A-Z]\b", head + rust), *re.findall(r"\bghost (\w+)", text), *re.findall(r"(\w+):", rust)}
     words = {*re.findall(r"(?<!\.)\b[A-Z]\w*|\b\w+(?=\.\w*[A-Z])", rust)} - bound - {"Self"}

@@ -10,18 +10,20 @@ DENSER = """0-5 0-17 1-2 1-9 1-18 1-23 2-2 2-23 3-8 3-10 4-5 4-6 5-14 5-17 6-8 6
 18-10 18-17 19-22 20-0 20-22 21-3 21-12 21-13 21-20 22-16 22-19 23-5 23-9 23-16"""
 
 
-def drawn(text):
-    return [tuple(map(int, pair.split("-"))) for pair in text.split()]
+def drawn(text: str) -> list[tuple[int, int]]:
+    """The pairs that a text names."""
+    pairs = (pair.split("-") for pair in text.split())
+    return [(int(a), int(b)) for a, b in pairs]
 
 
-def layers():
+def layers() -> list[tuple[int, int]]:
     """Six layers of four tables; from each table to three of the next layer."""
     return [(4 * layer + at, 4 * layer + 4 + to) for layer in range(5) for at in range(4) for to in range(4) if at + to != 3]
 
 
 # By its name: how many tables of nodes, the tables at the ends of each table of relationships, and whether all of these are
 # of one type.
-CATALOGUES = {
+CATALOGUES: dict[str, tuple[int, list[tuple[int, int]], bool]] = {
     "loop": (1, [(0, 0)], False),
     "two": (2, [(0, 1)], False),
     "complete": (8, [(a, b) for a in range(8) for b in range(8)], False),
@@ -38,7 +40,7 @@ CROWD, FEW, MANY = "crowd", 160, 2_048  # so many nodes each; 160 with themselve
 STUDIED = ("complete", "sparse", "bipartite", "denser", "layers")
 
 
-def make_crowd(folder):
+def make_crowd(folder: str) -> None:
     """Writes the manifest and the files of the graph with some nodes."""
     few = range(FEW)
     for name, lines in {
@@ -51,7 +53,7 @@ def make_crowd(folder):
             file.write("\n".join(lines) + "\n")
 
 
-def make(folder):
+def make(folder: str) -> None:
     """Writes the manifests and the files of all catalogues."""
     make_crowd(folder)
     for name, text in {"n.csv": "id:int,x:int\n1,1\n", "r.csv": "from,to\n", "loop.csv": "from,to\n1,1\n"}.items():
@@ -65,5 +67,6 @@ def make(folder):
             file.write("\n".join(lines) + "\n")
 
 
-def manifest(name):
+def manifest(name: str) -> str:
+    """The name of a catalogue's manifest."""
     return name.replace(" ", "-") + ".manifest"

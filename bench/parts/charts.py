@@ -3,17 +3,20 @@ import glob
 import os
 import shutil
 import subprocess
+from collections.abc import Iterable, Sequence
 
 from .report import ratio
+from .results import Answer, Graph
 
 COLOURS = {"C++": "#555555", "sqlite3": "#d08c2f", "graphq": "#2f6fd0"}
 
 
-def draw(script):
+def draw(script: str) -> None:
+    """Draws what a script of gnuplot says."""
     subprocess.run(["gnuplot"], input=script, text=True, check=True)
 
 
-def start(path, height):
+def start(path: str, height: int) -> str:
     """What each chart begins with."""
     return f"""set terminal svg size 860,{height} dynamic font "sans-serif,13" background rgb "white"
 set output "{path}"
@@ -25,26 +28,26 @@ set logscale y
 """
 
 
-def block(name, rows):
+def block(name: str, rows: Iterable[Sequence[object]]) -> str:
     """Data with its place in the script."""
     lines = [" ".join(str(cell) for cell in row) for row in rows]
     return f"${name} << END\n" + "\n".join(lines) + "\nEND\n"
 
 
-def names_room(answers):
+def names_room(answers: Sequence[Answer]) -> tuple[int, int]:
     """Lines below a chart in which the longest name of a query stands whole, at its slant, and columns at its right for the last."""
     return 2 + max(len(answer["query"]) for answer in answers) // 3, 3 + len(answers[-1]["query"]) * 2 // 3
 
 
-def ratios(graph, path):
+def ratios(graph: Graph, path: str) -> bool:
     """Bars for each query: processor time as a multiple of the hand-written C++'s."""
     shown = [answer for answer in graph["queries"] if ratio(answer["seconds"], "graphq")]
     if not shown:
         return False
-    cells = lambda answer, name: ratio(answer["seconds"], name) or "NaN"
-    rows = [(f'"{answer["query"]}"', cells(answer, "sqlite3"), cells(answer, "graphq")) for answer in shown]
+    rows = [(f'"{answer["query"]}"', *(ratio(answer["seconds"], name) or "NaN" for name in ("sqlite3", "graphq"))) for answer in shown]
     below, right = names_room(shown)
-    draw(start(path, 460) + block("data", rows) + f"""set title "{graph['kind']}:{graph['count']}, processor time as a multiple of hand-written C++: less is better" noenhanced
+    title = f"{graph['kind']}:{graph['count']}, processor time as a multiple of hand-written C++: less is better"
+    draw(start(path, 460) + block("data", rows) + f"""set title "{title}" noenhanced
 set bmargin {below}
 set style data histogram
 set style histogram clustered gap 1
@@ -59,7 +62,7 @@ plot $data using 2:xtic(1) title "sqlite3" lc rgb "{COLOURS['sqlite3']}", \\
     return True
 
 
-def panel(graphs, name, number):
+def panel(graphs: Sequence[Graph], name: str, number: int) -> tuple[str, str]:
     """The data and the plot of one query: each program's milliseconds over the sizes of the graphs."""
     script, plots = "", []
     for at, (program, colour) in enumerate(COLOURS.items()):
@@ -71,7 +74,7 @@ def panel(graphs, name, number):
     return script, f'set title "{name}" noenhanced\nplot ' + ", ".join(plots) + "\n" if plots else ""
 
 
-def growth(graphs, kind, path):
+def growth(graphs: Sequence[Graph], kind: str, path: str) -> bool:
     """A panel for each query over the graphs of one kind; whether there is any."""
     names = dict.fromkeys(answer["query"] for graph in graphs for answer in graph["queries"])
     panels = [one for one in (panel(graphs, name, number) for number, name in enumerate(names)) if one[1]]
@@ -86,10 +89,10 @@ def growth(graphs, kind, path):
     return True
 
 
-def all_charts(graphs, folder):
+def all_charts(graphs: Sequence[Graph], folder: str) -> list[str]:
     """Draws the charts of a run into a folder, in place of those of the run before, and gives their names; none where gnuplot is
     not there."""
-    names = []
+    names: list[str] = []
     if not shutil.which("gnuplot"):
         return names
     for old in [*glob.glob(os.path.join(folder, "ratio-*.svg")), *glob.glob(os.path.join(folder, "growth-*.svg"))]:

@@ -4,18 +4,22 @@ import re
 import resource
 import signal
 import subprocess
+from collections.abc import Sequence
+from dataclasses import dataclass
 
 ROWS = "16777216"  # the greatest number of rows that graphq keeps
 
 
+@dataclass
 class Run:
     """One run: its processor seconds, its peak in MB and how it ended."""
 
-    def __init__(self, seconds, peak, end):
-        self.seconds, self.peak, self.end = seconds, peak, end
+    seconds: float
+    peak: float
+    end: str
 
 
-def run_here(limit, entry, out, command, folder):
+def run_here(limit: int, entry: str, out: str, command: Sequence[str], folder: str) -> Run:
     """A run without the small program `once`: the peak is at least that of this process."""
     with open(entry, "rb") as source, open(out, "wb") as sink:
         child = subprocess.Popen(command, cwd=folder, stdin=source, stdout=sink, stderr=subprocess.DEVNULL)
@@ -34,11 +38,13 @@ class Graphq:
 
     name = "graphq"
 
-    def __init__(self, program, options, once, folder, room, limit):
+    def __init__(
+        self, program: str, options: Sequence[str], once: str | None, folder: str, room: str, limit: float
+    ) -> None:
         self.command = [program, "--manifest", "g.manifest", "--rows", ROWS, *options]
         self.once, self.folder, self.room, self.limit = once, folder, room, limit
 
-    def run(self, text, out="/dev/null"):
+    def run(self, text: str, out: str = "/dev/null") -> Run:
         """One run with `text` as its input."""
         entry = os.path.join(self.room, "input")
         with open(entry, "w", encoding="utf8") as file:
@@ -51,7 +57,7 @@ class Graphq:
         return Run(float(seconds), int(peak) / 1024, end)
 
 
-def calls_of(command, text, folder, room):
+def calls_of(command: Sequence[str], text: str, folder: str, room: str) -> dict[str, int]:
     """How many reads and writes one run makes of the system, by strace."""
     entry, told = os.path.join(room, "input"), os.path.join(room, "calls")
     with open(entry, "w", encoding="utf8") as file:

@@ -10,31 +10,37 @@ chosen_keys N    The same by integers that are chosen to fall on one another: mu
 """
 import os
 import random
+from collections.abc import Callable, Iterable, Iterator
 
+Chance = Callable[[], float]
+Place = Callable[[str], str]
 FILE_MOST, ALL_MOST = 268_435_456, 536_870_912
 SYLLABLES = [consonant + vowel for consonant in "bdfgjklmnprstvz" for vowel in "aeiou"]
 LANGUAGES = ("en", "de", "fr", "es", "zh")
 YEAR = 27.77  # how many years a unit of chance has, so that `since` goes from 2000 to 2024
 
 
-def write(path, header, lines):
+def write(path: str, header: str, lines: Iterable[str]) -> None:
     """A CSV file of these lines."""
     with open(path, "w", buffering=1 << 20, newline="\n", encoding="utf8") as file:
         file.write(header + "\n")
         file.writelines(line + "\n" for line in lines)
 
 
-def cities(chance, count):
-    pick = lambda: SYLLABLES[int(chance() * len(SYLLABLES))]
+def syllable(chance: Chance) -> str:
+    return SYLLABLES[int(chance() * len(SYLLABLES))]
+
+
+def cities(chance: Chance, count: int) -> Iterator[str]:
     for city in range(1, count + 1):
         people = "" if city % 20 == 0 else int(1000 * (1.0 - chance()) ** -1.2)
-        yield f"{city},Town {pick().capitalize()}{pick()} {city},{people}"
+        yield f"{city},Town {syllable(chance).capitalize()}{syllable(chance)} {city},{people}"
 
 
-def name(chance):
+def name(chance: Chance) -> str:
     """A name; null, with a quote, and in quotes with a comma for a few."""
     kind, length = chance(), 2 + int(chance() * 3)
-    word = "".join(SYLLABLES[int(chance() * len(SYLLABLES))] for _ in range(length)).capitalize()
+    word = "".join(syllable(chance) for _ in range(length)).capitalize()
     if kind < 0.02:
         return ""
     if kind < 0.025:
@@ -42,20 +48,20 @@ def name(chance):
     return f'"{word}, {word[:2]}"' if kind < 0.03 else word
 
 
-def persons(chance, count, homes):
+def persons(chance: Chance, count: int, homes: list[int | str]) -> Iterator[str]:
     for person in range(1, count + 1):
         age = "" if chance() < 0.05 else 1 + int(90 * chance())
         yield f"{person},{name(chance)},{age},{homes[person - 1]}"
 
 
-def degrees(chance, scale, most):
+def degrees(chance: Chance, scale: float, most: int) -> Iterator[int]:
     """Numbers of relationships by a power law, one node in twenty without any."""
     while True:
         none = chance() < 0.05
         yield 0 if none else min(most, int(scale * (1.0 - chance()) ** (-1 / 1.8)))
 
 
-def knows(chance, count, most):
+def knows(chance: Chance, count: int, most: int) -> Iterator[str]:
     near, degree = min(60, count), degrees(chance, 5.2, most)
     for person in range(1, count + 1):
         for _ in range(next(degree)):
@@ -70,17 +76,17 @@ def knows(chance, count, most):
             yield f"{person},{other}," + ("" if year < 0.1 else str(2000 + int((year - 0.1) * YEAR)))
 
 
-def likes(chance, count, most):
+def likes(chance: Chance, count: int, most: int) -> Iterator[str]:
     degree = degrees(chance, 1.75, most)
     for person in range(1, count + 1):
         for _ in range(next(degree)):
             yield f"{person},{1 + int(count * chance() ** 1.5)}"
 
 
-def social(count, place):
+def social(count: int, place: Place) -> list[str]:
     chance = random.Random(1).random
     towns, most = max(10, count // 100), max(20, min(count // 10, 3000))
-    homes = ["" if chance() < 0.05 else 1 + int(towns * chance() ** 2) for _ in range(count)]
+    homes: list[int | str] = ["" if chance() < 0.05 else 1 + int(towns * chance() ** 2) for _ in range(count)]
     creators = ["" if chance() < 0.05 else 1 + int(count * chance() ** 2) for _ in range(count)]
     write(place("city.csv"), "id:int,name:string,pop:int", cities(chance, towns))
     write(place("person.csv"), "id:int,name:string,age:int,city:int", persons(chance, count, homes))
@@ -95,7 +101,7 @@ def social(count, place):
             "rel LIKES Person Post many_many likes.csv", "rel HAS_CREATOR Post Person many_one creator.csv"]
 
 
-def star(count, place):
+def star(count: int, place: Place) -> list[str]:
     chance = random.Random(1).random
     write(place("hub.csv"), "id:int", ["1"])
     write(place("leaf.csv"), "id:int,w:int", (f"{leaf},{int(1000 * chance())}" for leaf in range(1, count + 1)))
@@ -103,10 +109,13 @@ def star(count, place):
     return ["node Hub hub.csv", "node Leaf leaf.csv", "rel HAS Hub Leaf many_many has.csv"]
 
 
-def keyed(count, place, kind, key):
+def keyed(count: int, place: Place, kind: str, key: Callable[[int], str]) -> list[str]:
     """Persons and five times as many relationships, where `key` spells the key of a number from 1 on."""
     chance = random.Random(1).random
-    any_key = lambda: key(1 + int(chance() * count))
+
+    def any_key() -> str:
+        return key(1 + int(chance() * count))
+
     write(place("person.csv"), f"id:{kind},name:string,age:int",
           (f"{key(person)},person {person},{(person * 7) % 90 if person % 3 else ''}" for person in range(1, count + 1)))
     write(place("knows.csv"), "from,to,since:int",
@@ -114,7 +123,7 @@ def keyed(count, place, kind, key):
     return ["node Person person.csv", "rel KNOWS Person Person many_many knows.csv"]
 
 
-KINDS = {
+KINDS: dict[str, Callable[[int, Place], list[str]]] = {
     "social": social,
     "star": star,
     "integer_keys": lambda count, place: keyed(count, place, "int", str),
@@ -123,7 +132,7 @@ KINDS = {
 }
 
 
-def make(kind, count, folder):
+def make(kind: str, count: int, folder: str) -> None:
     """Makes a graph in a folder that is not there yet."""
     os.makedirs(folder)
     lines = KINDS[kind](count, lambda file: os.path.join(folder, file))

@@ -1,4 +1,5 @@
 """Statements that were made to cost much: small patterns over many tables, and texts as long as a statement may be."""
+from collections.abc import Callable, Iterable, Iterator, Sequence
 from dataclasses import dataclass
 
 from .catalogues import CROWD, STUDIED
@@ -19,27 +20,28 @@ class Hostile:
     answered: bool = False
 
 
-def walk(nodes, arrow):
+def walk(nodes: Iterable[int], arrow: str) -> str:
     return arrow.join(f"(v{node})" for node in nodes)
 
 
-def match(walks, arrow):
+def match(walks: Iterable[Iterable[int]], arrow: str) -> str:
     return "MATCH " + ", ".join(walk(nodes, arrow) for nodes in walks) + " RETURN 1 LIMIT 0"
 
 
-def round_trip(count):
+def round_trip(count: int) -> list[int]:
     return [*range(count), 0]
 
 
-def links(count, first):
+def links(count: int, first: int) -> list[list[int]]:
     return [[at, at + 1] for at in range(first, count, 2)]
 
 
-TOURS = {5: [0, 4, 3, 2, 4, 1, 3, 0, 2, 1, 0], 7: [0, 6, 5, 4, 6, 3, 5, 2, 4, 3, 2, 6, 1, 5, 0, 4, 1, 3, 0, 2, 1, 0]}  # along each pair
+# Along each pair.
+TOURS = {5: [0, 4, 3, 2, 4, 1, 3, 0, 2, 1, 0], 7: [0, 6, 5, 4, 6, 3, 5, 2, 4, 3, 2, 6, 1, 5, 0, 4, 1, 3, 0, 2, 1, 0]}
 GRID = [[0, 1, 2, 3], [4, 5, 6, 7], [8, 9, 10, 11], *([at, at + 4, at + 8] for at in range(4))]
 CHORDS = [list(range(16)), [0, 8], [4, 12], [2, 10], [15, 0]]
 SHUFFLED = [[at, at + 1] for at in (7, 11, 6, 8, 3, 1, 5, 4, 10, 9, 2, 0)]
-SHAPES = {
+SHAPES: dict[str, tuple[Sequence[Sequence[int]], str]] = {
     "a cycle of 23": ([round_trip(23)], "both"),
     "a cycle of 12, each second edge first": ([*links(12, 0), *links(11, 1), [11, 0]], "both"),
     "a path of 13, each second edge first": ([*links(12, 0), *links(12, 1)], "both"),
@@ -52,7 +54,7 @@ SHAPES = {
 }
 
 
-def pairs():
+def pairs() -> Iterator[Hostile]:
     """75 patterns without labels and types, most of which contradict themselves far apart in the text."""
     for catalogue in STUDIED:
         for name, (walks, directions) in SHAPES.items():
@@ -61,7 +63,7 @@ def pairs():
                 yield Hostile("pairs", f"{name}, {arrow}", catalogue, text, answered=True)
 
 
-def paths():
+def paths() -> Iterator[Hostile]:
     for catalogue in (*STUDIED, "line", "ring", "one type", "star"):
         for arrow in ("-->", "--", "<--"):
             yield Hostile("paths", f"24 nodes, {arrow}", catalogue, match([range(24)], arrow), milliseconds=50, answered=True)
@@ -69,19 +71,20 @@ def paths():
     yield Hostile("paths", "24 nodes, -[:T0]->", "one type", typed, milliseconds=50, answered=True)
 
 
-def cycles():
+def cycles() -> Iterator[Hostile]:
     for catalogue in (*STUDIED, "line", "ring", "one type", "star"):
         yield Hostile("cycles", "23 undirected", catalogue, match([round_trip(23)], "--"))
     for catalogue in ("bipartite", "layers", "line", "ring", "star"):
-        yield Hostile("cycles", "21 undirected behind one more", catalogue, match([[30, 31], round_trip(21)], "--"))
+        yield Hostile("cycles", "21 undirected after one more", catalogue, match([[30, 31], round_trip(21)], "--"))
     for catalogue in ("bipartite", "line"):  # these take all steps that the search may take
         text = match([[30, 31, 32, 33], round_trip(19)], "--")
-        yield Hostile("cycles", "19 undirected behind three more", catalogue, text, milliseconds=1500)
+        yield Hostile("cycles", "19 undirected after three more", catalogue, text, milliseconds=1500)
 
 
-def filled(front, unit, back="", between=", ", longest=LONGEST):
+def filled(front: str, unit: str, back: str = "", between: str = ", ", longest: int = LONGEST) -> str:
     """`unit` between `front` and `back` as often as it fits, with its number for each `#`."""
-    units, left, at = [], longest - len(front) - len(back) - 1, 0
+    units: list[str] = []
+    left, at = longest - len(front) - len(back) - 1, 0
     while True:
         one = unit.replace("#", str(at))
         left -= len(one) + len(between)
@@ -95,7 +98,7 @@ NINE = "MATCH " + ", ".join(["()"] * 9)
 MIXED = "-->".join(f"(v{at})" for at in range(15)) + "--" + walk(range(15, 24), "--")  # 512 alternatives over one table
 
 
-def copies():
+def copies() -> Iterator[Hostile]:
     """Tests that each of 512 alternatives has its own copies of."""
     most = " AND ".join(["1=1"] * 8115)
     yield Hostile("copies", "9 nodes, 8,115 times 1=1", "two", f"{NINE} WHERE {most} RETURN 1")
@@ -110,7 +113,7 @@ def copies():
     yield Hostile("copies", "9 nodes, a long text", "two", f"{NINE} WHERE 'a' = '{'b' * 8000}' RETURN 1")
 
 
-def rows():
+def rows() -> Iterator[Hostile]:
     """Items of ORDER BY that are compared with columns, or stand for them."""
     long = "+".join(["1"] * 15000)
     yield Hostile("rows", "DISTINCT, a long column named often", "loop",
@@ -127,11 +130,11 @@ def rows():
     yield Hostile("rows", "many items", "one type", filled("MATCH (a) RETURN 1 ORDER BY ", "a.x", between=","))
 
 
-def tree(depth):
+def tree(depth: int) -> str:
     return f"({tree(depth - 1)}+{tree(depth - 1)})" if depth else "1"
 
 
-def names():
+def names() -> Iterator[Hostile]:
     yield Hostile("names", "different node patterns", "loop", filled("MATCH ", "(v#)", " RETURN 1"))
     yield Hostile("names", "the same with RETURN *", "loop", filled("MATCH ", "(v#)", " RETURN *"))
     yield Hostile("names", "a long path of names", "loop", filled("MATCH ", "(v#)-[r#]->", "() RETURN 1", ""))
@@ -144,7 +147,7 @@ def names():
     yield Hostile("names", "the entries of a map", "one type", filled("MATCH (a {", "x#:1", "}) RETURN 1"))
 
 
-def texts():
+def texts() -> Iterator[Hostile]:
     yield Hostile("texts", "a sum", "loop", filled("MATCH (a) RETURN ", "1", "", "+"))
     yield Hostile("texts", "a chain of <", "loop", filled("MATCH (a) RETURN ", "1", "", "<"))
     yield Hostile("texts", "chains of < in one another", "loop", "MATCH (a) RETURN " + "1<(" * 60 + "1" + ")<1" * 60)
@@ -161,8 +164,8 @@ def texts():
     yield Hostile("texts", "a long name", "loop", f"MATCH (`{'a' * 65000}`) RETURN 1")
 
 
-def optional():
-    """Clauses behind OPTIONAL: many, with long conditions and maps, of many alternatives, and such as contradict themselves."""
+def optional() -> Iterator[Hostile]:
+    """Clauses after OPTIONAL: many, with long conditions and maps, of many alternatives, and such as contradict themselves."""
     yield Hostile("optional", "clauses", "loop", filled("MATCH(a)", "OPTIONAL MATCH(a)", " RETURN 1", ""))
     yield Hostile("optional", "clauses with conditions", "loop",
                   filled("MATCH(a)", "OPTIONAL MATCH(b#)WHERE b#.x=a.x", " RETURN 1", " "))
@@ -181,7 +184,7 @@ def optional():
         yield Hostile("optional", "a cycle of 21 undirected", catalogue, text)
 
 
-def exists():
+def exists() -> Iterator[Hostile]:
     """Tests of paths with long maps: each path has 64 alternatives, which have copies of their own."""
     test = f"exists(({{{','.join(['x:1'] * 1300)}}}))"
     for count in (1, 7):
@@ -191,29 +194,30 @@ def exists():
     yield Hostile("exists", "a path of 23", "line", text, answered=True)
 
 
-def kept():
+def kept() -> Iterator[Hostile]:
     """Statements that would keep gigabytes: wide rows, joined parts, optional clauses and tests of paths."""
-    pairs = "MATCH (a:Many), (b:Many) "  # 4,194,304
+    product = "MATCH (a:Many), (b:Many) "  # 4,194,304
     properties = ", ".join(f"a.x AS c{at}" for at in range(64))
     sums = ", ".join(f"a.x + {at} AS c{at}" for at in range(64))
-    texts = {
-        "64 properties": f"{pairs}RETURN {properties}",
-        "64 sums": f"{pairs}RETURN {sums}",
-        "64 sums, ORDER BY": f"{pairs}RETURN {sums} ORDER BY c0",
-        "64 properties, DISTINCT": f"{pairs}RETURN DISTINCT b.x AS b, {properties[:properties.rindex(',')]}",
-        "two nodes, DISTINCT": f"{pairs}RETURN DISTINCT a, b",
+    asked = {
+        "64 properties": f"{product}RETURN {properties}",
+        "64 sums": f"{product}RETURN {sums}",
+        "64 sums, ORDER BY": f"{product}RETURN {sums} ORDER BY c0",
+        "64 properties, DISTINCT": f"{product}RETURN DISTINCT b.x AS b, {properties[:properties.rindex(',')]}",
+        "two nodes, DISTINCT": f"{product}RETURN DISTINCT a, b",
     }
     walks = [f"(a{at}:Few)-->(b{at})-->(c{at})" for at in range(8)]  # 4,070,400 each
-    texts["7 joined parts of two relationships"] = f"MATCH {', '.join(walks)} RETURN 1 LIMIT 1"
-    texts["7 optional clauses of two relationships"] = (
+    asked["7 joined parts of two relationships"] = f"MATCH {', '.join(walks)} RETURN 1 LIMIT 1"
+    asked["7 optional clauses of two relationships"] = (
         "MATCH (m:Many {id: 1})" + "".join(f" OPTIONAL MATCH {walk}" for walk in walks[:7]) + " RETURN 1 LIMIT 1")
     tests = " AND ".join(f"exists((a)-->(b)-->(c {{x: {at}}})-->({{x: {at}}}))" for at in range(2))
-    texts["tests of paths with three nodes of the query"] = f"MATCH (a:Few), (b:Few), (c:Few) WHERE {tests} RETURN 1 LIMIT 1"
+    asked["tests of paths with three nodes of the query"] = f"MATCH (a:Few), (b:Few), (c:Few) WHERE {tests} RETURN 1 LIMIT 1"
     tests = " AND ".join("exists((a)-->(b)-->(c))" for _ in range(3))
-    texts["tests of paths that all hold"] = f"MATCH (a:Few), (b:Few), (c:Few) WHERE {tests} RETURN 1 LIMIT 1"
-    for name, text in texts.items():
+    asked["tests of paths that all hold"] = f"MATCH (a:Few), (b:Few), (c:Few) WHERE {tests} RETURN 1 LIMIT 1"
+    for name, text in asked.items():
         yield Hostile("kept", name, CROWD, text, milliseconds=60_000, megabytes=1000)
 
 
-KINDS = {"pairs": pairs, "paths": paths, "cycles": cycles, "copies": copies, "rows": rows, "names": names, "texts": texts,
+KINDS: dict[str, Callable[[], Iterator[Hostile]]] = {
+         "pairs": pairs, "paths": paths, "cycles": cycles, "copies": copies, "rows": rows, "names": names, "texts": texts,
          "optional": optional, "exists": exists, "kept": kept}

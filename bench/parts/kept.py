@@ -3,6 +3,7 @@ import hashlib
 import os
 import shutil
 import subprocess
+from collections.abc import Callable
 
 from . import graphs
 
@@ -11,7 +12,8 @@ SOURCES = {"floor": "floor", "bag": "tools", "once": "tools"}
 OPTIONS = {"floor": ["-O3", "-march=native"], "bag": ["-O2"], "once": ["-O2"]}
 
 
-def checksum(*files):
+def checksum(*files: str) -> str:
+    """Twelve digits for what files hold."""
     total = hashlib.sha256()
     for file in files:
         with open(file, "rb") as source:
@@ -22,10 +24,10 @@ def checksum(*files):
 class Kept:
     """A folder of what was made; `room` is a folder inside it for what is being made and for one run's files."""
 
-    def __init__(self, folder, room):
+    def __init__(self, folder: str, room: str) -> None:
         self.folder, self.room = folder, room
 
-    def keep(self, name, make):
+    def keep(self, name: str, make: Callable[[str], object]) -> str:
         """The path of `name`, made by `make(place)` where it is missing. Two runs at once do not disturb one another."""
         path, place = os.path.join(self.folder, name), os.path.join(self.room, name)
         if not os.path.exists(path):
@@ -37,7 +39,7 @@ class Kept:
                     raise
         return path
 
-    def program(self, name):
+    def program(self, name: str) -> str | None:
         """A C++ program, or nothing where there is no compiler."""
         if not shutil.which("g++"):
             return None
@@ -47,7 +49,7 @@ class Kept:
         command = ["g++", "-std=c++17", *OPTIONS[name], main, "-o"]
         return self.keep(f"{name}-{checksum(main, *headers)}", lambda place: subprocess.run([*command, place], check=True))
 
-    def graph(self, kind, count):
+    def graph(self, kind: str, count: int) -> str:
         """The folder of a graph."""
         stamp = checksum(graphs.__file__)
         return self.keep(f"{kind}-{count}-{stamp}", lambda place: graphs.make(kind, count, place))

@@ -5,7 +5,7 @@ import subprocess
 TOP = os.path.dirname(os.path.dirname(os.path.dirname(os.path.abspath(__file__))))
 
 
-def graphq_of(path, command):
+def graphq_of(path: str | None, command: str) -> str:
     """The one given, else the one built here where it is newer than its sources, else the released one."""
     built, released = os.path.join(TOP, "crates/graphq/out/graphq"), os.path.join(TOP, "release/graphq")
     if path is None:

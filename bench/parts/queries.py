@@ -6,6 +6,7 @@ takes less time than a recursive query that carries a path. The hand-written C++
 """
 import itertools
 import os
+from collections.abc import Callable
 from dataclasses import dataclass
 
 
@@ -17,17 +18,17 @@ class Query:
     text: str
     sql: str
     kinds: str
-    numbers: tuple = ()
+    numbers: tuple[int, ...] = ()
     some: bool = False     # LIMIT without ORDER BY: any so many rows of the whole bag are right
     ordered: bool = False  # the order of the rows counts
 
-    def header(self):
+    def header(self) -> str:
         """The first line of graphq's reply."""
         columns = self.text.split(" RETURN ", 1)[1].split(" ORDER BY ")[0].split(" LIMIT ")[0]
         return "\t".join(column.strip() for column in columns.removeprefix("DISTINCT ").split(","))
 
 
-def filters():
+def filters() -> list[Query]:
     return [
         Query("range_filter", "a filter over one table",
               "MATCH (p:Person) WHERE p.age >= 20 AND p.age < 40 RETURN p.id, p.name, p.age",
@@ -41,7 +42,7 @@ def filters():
     ]
 
 
-def hops(hundredth, tenth):
+def hops(hundredth: int, tenth: int) -> list[Query]:
     return [
         Query("one_hop", "neighbours of some",
               "MATCH (a:Person)-[:KNOWS]->(b:Person) WHERE a.age = 30 RETURN a.id, b.id",
@@ -74,9 +75,10 @@ def hops(hundredth, tenth):
     ]
 
 
-def walks(columns, first="knows k1", where="", last=""):
+def walks(columns: str, first: str = "knows k1", where: str = "", last: str = "") -> str:
     """The SQL of all walks of one to three relationships KNOWS that take none twice, where `last` is asked of the last one's row."""
-    selects, joined, apart = [], f" FROM {first}", [where]
+    selects: list[str] = []
+    joined, apart = f" FROM {first}", [where]
     for length in (1, 2, 3):
         if length > 1:
             joined += f" JOIN knows k{length} ON k{length}.src = k{length - 1}.dst"
@@ -86,7 +88,7 @@ def walks(columns, first="knows k1", where="", last=""):
     return " UNION ALL ".join(selects)
 
 
-def trails(start, tenth):
+def trails(start: int, tenth: int) -> list[Query]:
     """From one person, who is busy, so that the walks are the work; from some; and to one person, whom many know."""
     end = 1
     between = walks("k1.src, k{}.dst", where=f"k1.src = {start}", last=f"k{{}}.dst = {end}")
@@ -107,7 +109,7 @@ def trails(start, tenth):
     ]
 
 
-def busy(folder):
+def busy(folder: str) -> int:
     """The first person of a social graph from whom a hundred relationships KNOWS go, or more; or the first of all."""
     with open(os.path.join(folder, "knows.csv"), encoding="utf8") as file:
         next(file)
@@ -117,7 +119,7 @@ def busy(folder):
     return 1
 
 
-def joins(few, hundredth):
+def joins(few: int, hundredth: int) -> list[Query]:
     return [
         Query("single_hop", "along a single relationship, with a filter on its far end",
               "MATCH (p:Person)-[:LIVES_IN]->(c:City) WHERE c.pop >= 3000 RETURN p.id, c.name",
@@ -135,7 +137,7 @@ def joins(few, hundredth):
     ]
 
 
-def windows(tenth):
+def windows(tenth: int) -> list[Query]:
     most = 100_000
     return [
         Query("two_lists_limit", "two lists of one node, with LIMIT",
@@ -158,7 +160,7 @@ def windows(tenth):
     ]
 
 
-def social(count, start=1):
+def social(count: int, start: int = 1) -> list[Query]:
     """`start` is the person from whom the trails of one person go."""
     few, hundredth, tenth = max(5, count // 1000), max(20, count // 100), max(50, count // 10)
     listing = Query("every_relationship", "every relationship with a property",
@@ -167,7 +169,7 @@ def social(count, start=1):
     return filters() + hops(hundredth, tenth) + trails(start, tenth) + joins(few, hundredth) + windows(tenth) + [listing]
 
 
-def star(count, _start=1):
+def star(count: int, _start: int = 1) -> list[Query]:
     share = max(1, 1_000_000 // count)  # of a thousand weights, so that some thousand leaves of each list are kept
     share = min(share, 500)
     return [
@@ -182,9 +184,16 @@ def star(count, _start=1):
     ]
 
 
-def integer_keys(_count, _start=1):
+def integer_keys(_count: int, _start: int = 1) -> list[Query]:
     return [Query("every_name", "one column of texts", "MATCH (p:Person) RETURN p.name", "SELECT name FROM person", "s")]
 
 
-QUERIES = {"social": social, "star": star, "integer_keys": integer_keys,
-           "text_keys": lambda *_: [], "chosen_keys": lambda *_: []}
+def none(_count: int, _start: int = 1) -> list[Query]:
+    """Of some graphs the loads alone are measured."""
+    return []
+
+
+# By the kind of the graph: the queries over so many, and from a node from which the trails of one node go.
+QUERIES: dict[str, Callable[..., list[Query]]] = {
+    "social": social, "star": star, "integer_keys": integer_keys, "text_keys": none, "chosen_keys": none,
+}

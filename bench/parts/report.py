@@ -1,13 +1,16 @@
 """The tables of a run, in Markdown, and the same as JSON."""
 import json
 import math
+from collections.abc import Mapping, Sequence
+
+from .results import Answer, Graph
 
 PROGRAMS = ("C++", "sqlite3", "graphq")
 FROM, TO = "<!-- from here on by bench/run --page -->", "<!-- up to here -->"
 ROUGH = 1.2  # a number is rough whose second least measure is more than so many times the least
 
 
-def number(value, digits=3):
+def number(value: float | None, digits: int = 3) -> str:
     """A number with so many digits that count; a dash where there is none."""
     if value is None:
         return "-"
@@ -17,18 +20,21 @@ def number(value, digits=3):
     return f"{value:,.{places}f}"
 
 
-def table(header, rows):
+def table(header: Sequence[str], rows: Sequence[Sequence[str]]) -> str:
+    """A table of Markdown."""
     lines = [header, ["---"] * len(header), *rows]
     return "\n".join("| " + " | ".join(line) + " |" for line in lines)
 
 
-def ratio(seconds, program):
+def ratio(seconds: Mapping[str, float], program: str) -> float | None:
+    """A program's time as a multiple of the C++'s, where both are there."""
     if program not in seconds or not seconds.get("C++"):
         return None
     return seconds[program] / seconds["C++"]
 
 
-def loads(graph):
+def loads(graph: Graph) -> str:
+    """The table of a graph's loads."""
     seconds = seconds_of(graph)
     rows = [[name, number(load["seconds"]), number(ratio(seconds, name)), number(load["peak_mb"]),
              number(load["resident_mb"])]
@@ -36,7 +42,8 @@ def loads(graph):
     return table(["load", "seconds", "ratio to C++", "peak MB", "resident MB"], rows)
 
 
-def query_row(answer):
+def query_row(answer: Answer) -> list[str]:
+    """The row of a query in the table of a graph."""
     seconds, peaks = answer["seconds"], answer["peak_mb"]
     milliseconds = [number(1000 * seconds[one]) if one in seconds else "-" for one in PROGRAMS]
     ratios = [number(ratio(seconds, one), 2) for one in PROGRAMS[1:]]
@@ -53,7 +60,7 @@ HEADER = ["query", "what", "rows", "C++ ms", "sqlite3 ms", "graphq ms", "sqlite3
           "graphq MB", "notes"]
 
 
-def graph_text(graph):
+def graph_text(graph: Graph) -> str:
     """The tables of one graph."""
     before, after = graph["machine_load"]
     title = f"### {graph['kind']}:{graph['count']}"
@@ -64,10 +71,14 @@ def graph_text(graph):
     return "\n\n".join(parts)
 
 
-def page_text(graphs):
+def shown(seconds: Mapping[str, float]) -> list[str]:
+    """The C++'s milliseconds, and the others' times as multiples of it."""
+    floor = number(1000 * seconds["C++"], 2) if "C++" in seconds else "-"
+    return [floor, *(number(ratio(seconds, one), 2) for one in PROGRAMS[1:])]
+
+
+def page_text(graphs: Sequence[Graph]) -> str:
     """What a page gets: of each graph with queries the C++'s milliseconds, and the others' times as multiples of it; and all loads."""
-    shown = lambda seconds: [number(1000 * seconds["C++"], 2) if "C++" in seconds else "-",
-                             *(number(ratio(seconds, one), 2) for one in PROGRAMS[1:])]
     parts = []
     for graph in [one for one in graphs if one["queries"]]:
         rows = [[answer["subject"], f"{answer['rows']:,}" if answer["rows"] is not None else "-", *shown(answer["seconds"])]
@@ -79,8 +90,8 @@ def page_text(graphs):
     return "\n\n".join([*parts, table(["the load of", "MB of CSV", *PROGRAMS], rows)])
 
 
-def load_cell(graph, name):
-    """The seconds of a load, what that is of the C++'s, the most memory and what is held behind it."""
+def load_cell(graph: Graph, name: str) -> str:
+    """The seconds of a load, what that is of the C++'s, the most memory and what is held after it."""
     load = graph["loads"].get(name)
     if not load:
         return "-"
@@ -88,7 +99,7 @@ def load_cell(graph, name):
     return f"{number(load['seconds'], 2)} s{times}, {load['peak_mb']:,.0f} MB, {load['resident_mb']:,.0f} held"
 
 
-def put_into(path, text):
+def put_into(path: str, text: str) -> None:
     """Puts text into a page, in place of what stands there between the lines FROM and TO."""
     with open(path, encoding="utf8") as file:
         before, _, rest = file.read().partition(FROM)
@@ -99,7 +110,7 @@ def put_into(path, text):
         file.write(f"{before}{FROM}\n\n{text}\n\n{TO}{after}")
 
 
-def growth_text(graphs):
+def growth_text(graphs: Sequence[Graph]) -> str:
     """How fast each query's time grows from the least to the greatest graph of one kind, as a power of their sizes."""
     rows = []
     for kind in dict.fromkeys(graph["kind"] for graph in graphs):
@@ -115,15 +126,18 @@ def growth_text(graphs):
     return "### Growth: the power of the size\n\n" + table(["query", "graph", *PROGRAMS], rows) if rows else ""
 
 
-def seconds_of(graph):
+def seconds_of(graph: Graph) -> dict[str, float]:
+    """The seconds of a graph's loads."""
     return {name: load["seconds"] for name, load in graph["loads"].items()}
 
 
-def power(before, after, grown):
+def power(before: float | None, after: float | None, grown: float) -> float | None:
+    """The power of the growth by which a time grew."""
     return math.log(after / before) / math.log(grown) if before and after and grown > 1 else None
 
 
-def write(path, result):
+def write(path: str, result: object) -> None:
+    """Writes results.json."""
     with open(path, "w", encoding="utf8") as file:
         json.dump(result, file, indent=1)
         file.write("\n")

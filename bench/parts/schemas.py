@@ -1,5 +1,6 @@
 """The tables and indexes that sqlite3 gets for each kind of graph: an index on both ends of each type of relationship, and on
 the properties that are asked for. Where keys are measured it checks that both ends of each relationship are there."""
+from collections.abc import Iterator
 from dataclasses import dataclass, field
 
 
@@ -9,17 +10,17 @@ class Table:
     name: str
     columns: str
     file: str
-    nulls: tuple = ()
+    nulls: tuple[str, ...] = ()
 
 
 @dataclass
 class Schema:
-    tables: list
-    indexes: list = field(default_factory=list)
-    more: list = field(default_factory=list)  # statements behind the tables
-    checked: bool = False                     # whether foreign keys are checked
+    tables: list[Table]
+    indexes: list[str] = field(default_factory=list)
+    more: list[str] = field(default_factory=list)  # statements after the tables
+    checked: bool = False  # whether foreign keys are checked
 
-    def statements(self, folder):
+    def statements(self, folder: str) -> Iterator[str]:
         """What makes and fills the tables out of the files of a folder."""
         yield f"PRAGMA foreign_keys = {'ON' if self.checked else 'OFF'};"
         for table in self.tables:
@@ -53,7 +54,8 @@ STAR = Schema(
     ["has(src, dst)", "has(dst, src)", "leaf(w)"])
 
 
-def keyed(kind):
+def keyed(kind: str) -> Schema:
+    """Persons and whom they know, by keys of this kind of SQL."""
     ends = ", ".join(f"{end} {kind} REFERENCES person(id)" for end in ("src", "dst"))
     return Schema([Table("person", f"id {kind} PRIMARY KEY, name TEXT, age INTEGER", "person.csv", ("age",)),
                    Table("knows", f"{ends}, since INTEGER", "knows.csv")], checked=True)
