@@ -4,10 +4,12 @@ from __future__ import annotations
 
 import re
 import subprocess
-import xml.etree.ElementTree as ElementTree
 from unittest import mock
+from xml.etree import ElementTree
 
-from graphq_tools.drawing.pictures import draw_plan, read_plan
+from graphq_tools.drawing.plans import draw_plan
+from graphq_tools.drawing.spent import profiled, read_spent
+from graphq_tools.drawing.steps import read_plan
 
 from .support import METRO, PEOPLE, PROGRAM, TOP, ToolTest, needs_program
 
@@ -75,14 +77,48 @@ class Draw(ToolTest):
         text = self.dot(":plan MATCH (p:Person) OPTIONAL MATCH (p)-[:LIVES_IN]->(c) RETURN c")
         self.assertIn('label="OPTIONAL MATCH 1: 1 alternative"', text)
 
+    def test_what_was_spent(self) -> None:
+        """docs/language.md has these numbers: the joined part took 3 chunks, the alternative 4 and a column, for 4 rows."""
+        query = ":profile MATCH (a)-[:KNOWS]->(b), (c)-[:KNOWS]->(b) RETURN a.id, c.id"
+        text = self.dot(query, "--order", "given")
+        self.assertIn('label="4 rows", labelloc=t', text)
+        self.assertIn('label="alternative 1, 4 chunks, 1 column"', text)
+        self.assertIn('s5 -> s3 [style=dashed, label="3 chunks, 0 columns"];', text)
+        self.assertNotIn("pipeline", text)
+
+    def test_what_was_spent_before_the_alternatives(self) -> None:
+        """Three persons, two of whom know somebody: the path's plan is no alternative of the query, and comes first."""
+        text = self.dot("/* all */ : profile MATCH (p:Person) WHERE exists((p)-[:KNOWS]->()) RETURN p")
+        self.assertRegex(text, r'label="exists 1: 1 alternative".*\n.*label="pipeline 1: [0-9]+ chunks?, 0 columns"')
+        self.assertRegex(text, r'label="alternative 1, 1 chunk, 0 columns"')
+
+    def test_whose_pipeline_it_is(self) -> None:
+        """With a LIMIT and a test of a path it cannot be told; without a test the alternatives that were not reached say so."""
+        two = [line for number in (1, 2) for line in (f"alternative {number}", "scan a:T", "columns 0")]
+        plan = read_plan([*two, "alternatives 2"])
+        one = ["pipeline 1 chunks 1 columns 0"]
+        spent = read_spent(plan, one, 5, "MATCH (a) RETURN a LIMIT 5")
+        self.assertEqual(([*map(len, spent.alternatives)], spent.others), ([1], []))
+        self.assertIn('label="alternative 2, not gone through"', draw_plan(plan, spent))
+        plan = read_plan([*two, "alternatives 2", "exists 1 alternatives 1"])
+        spent = read_spent(plan, one * 2, 5, "MATCH (a) WHERE exists((a)-->()) RETURN a LIMIT 5")
+        self.assertEqual((spent.alternatives, len(spent.others)), ([], 2))
+        spent = read_spent(plan, one * 3, 5, "MATCH (a) WHERE exists((a)-->()) RETURN a")
+        self.assertEqual((len(spent.alternatives), len(spent.others)), (2, 1))
+
+    def test_profile_is_told_from_a_query(self) -> None:
+        self.assertEqual(profiled("// why\n :PROFILE MATCH (n) RETURN n"), " MATCH (n) RETURN n")
+        self.assertIsNone(profiled("MATCH (n) RETURN n"))
+        self.assertIsNone(profiled(":profiles MATCH (n) RETURN n"))
+
     def test_wide_plan(self) -> None:
         """Of many alternatives six stand beside one another, each over the one six further on."""
         lines = [line for number in range(1, 15) for line in (f"alternative {number}", f"scan a:T{number}")]
-        text = draw_plan([*lines, "alternatives 14"])
+        text = draw_plan(read_plan([*lines, "alternatives 14"]))
         self.assertEqual(re.findall(r"(s\d+) -> (s\d+) \[style=invis\];", text)[:2], [("s1", "s7"), ("s2", "s8")])
         self.assertEqual(text.count("style=invis"), 8)
 
-    @needs_program("dot", "graphviz")
+    @needs_program("dot")
     def test_forms(self) -> None:
         for name, front in (("a.png", b"\x89PNG"), ("a.svg", b"<?xml"), ("a.pdf", b"%PDF"), ("a.dot", b"digraph")):
             with self.subTest(name=name):
@@ -95,7 +131,7 @@ class Draw(ToolTest):
         why = "its name ends with none of .svg, .png, .pdf, .dot, and --dot is not there"
         self.assertEqual((ended, errors), (2, f"graphq-draw: --out a.jpg: {why}\n"))
 
-    @needs_program("dot", "graphviz")
+    @needs_program("dot")
     def test_layout_that_does_not_end(self) -> None:
         late = subprocess.TimeoutExpired("dot", 1)
         with mock.patch("graphq_tools.drawing.main.subprocess.run", side_effect=late):
@@ -110,7 +146,7 @@ class Draw(ToolTest):
         text = self.done("graphq-draw", "--manifest", "g.manifest", "--dot", "MATCH (n) RETURN n")
         self.assertIn('label="\\\\x1b[31m\\\\x00"', text)
 
-    @needs_program("dot", "graphviz")
+    @needs_program("dot")
     def test_svg(self) -> None:
         query = "MATCH (a:Station)-[t:TRACK {line: 'Ring'}]->(b) RETURN a, t, b"
         words = ("--manifest", METRO, "--caption", "Station=name", "--out", self.folder / "ring.svg")

@@ -1,8 +1,7 @@
-"""Pictures of graphs in Graphviz's language: the nodes and relationships of rows, and the steps of a plan."""
+"""Pictures of graphs in Graphviz's language: the nodes and relationships of rows."""
 
 from __future__ import annotations
 
-import re
 from collections.abc import Iterable
 from dataclasses import dataclass, field
 
@@ -14,21 +13,6 @@ from ..text_table import visible
 
 # Light colours that a black text can be read on, one for each table of nodes in turn.
 _COLOURS = ("#bcd8f0", "#f8d7a8", "#c9e6c3", "#f2c4c4", "#d9ccec", "#f4f0a8", "#c8e8e6", "#e8d3bd")
-_STEP_COLOURS = {
-    "scan": "#c9e6c3",
-    "extend": "#bcd8f0",
-    "column": "#bcd8f0",
-    "close": "#d9ccec",
-    "column-close": "#d9ccec",
-    "join": "#f8d7a8",
-    "keep": "#f4f0a8",
-    "differ": "#f2c4c4",
-    "noloop": "#f2c4c4",
-    "late": "#f4f0a8",
-    "trail": "#c8e8e6",
-    "exists": "#e8d3bd",
-    "OPTIONAL": "#e8d3bd",
-}
 
 
 def quoted(text: str) -> str:
@@ -123,135 +107,3 @@ def draw_rows(drawn: Picture, graph: Graph) -> str:
 
 def _html(text: str) -> str:
     return visible(text).replace("&", "&amp;").replace("<", "&lt;").replace(">", "&gt;").replace('"', "&quot;")
-
-
-@dataclass
-class Step:
-    """A step of a plan, and the steps of the part that it joins."""
-
-    text: str
-    part: list[Step] = field(default_factory=list)
-
-
-def read_steps(lines: list[str]) -> list[Step]:
-    """The steps of an alternative: the lines of a joined part follow two spaces further in."""
-    top: list[Step] = []
-    open_parts = [top]
-    for line in lines:
-        depth = (len(line) - len(line.lstrip(" "))) // 2
-        step = Step(line.strip())
-        del open_parts[depth + 1 :]
-        open_parts[-1].append(step)
-        open_parts.append(step.part)
-    return top
-
-
-@dataclass
-class Plan:
-    """A plan: the steps of each alternative with its costs, and the lines that are about trails, tests and clauses."""
-
-    alternatives: list[list[Step]] = field(default_factory=list)
-    costs: list[str] = field(default_factory=list)
-    trails: list[str] = field(default_factory=list)
-    beside: list[str] = field(default_factory=list)
-
-
-def read_plan(lines: list[str]) -> Plan:
-    """Reads the reply to `:plan`."""
-    plan, own = Plan(), list[list[str]]()
-    ended = False
-    for line in lines:
-        word = line.split(" ", 1)[0]
-        if re.match(r"alternatives [0-9]+\Z", line):
-            ended = True
-        elif not ended and re.match(r"alternative [0-9]+\Z", line):
-            own.append([])
-        elif not ended and own:
-            own[-1].append(line)
-        elif word == "cost":
-            plan.costs.append(" ".join(line.split(" ")[2:]))
-        elif word == "trail":
-            plan.trails.append(line)
-        elif word in ("exists", "optional"):
-            plan.beside.append(line)
-    plan.alternatives = [read_steps(one) for one in own]
-    return plan
-
-
-# So many alternatives stand beside one another.
-ALTERNATIVES_OF_A_ROW = 6
-_ENDS = {"left": "from its left end", "right": "from its right end", "both": "both ends are known"}
-
-
-class _PlanWriter:
-    """Writes steps, each with a name of its own."""
-
-    def __init__(self) -> None:
-        self.lines: list[str] = []
-        self._count = 0
-
-    def box(self, text: str, colour: str, indent: str) -> str:
-        """Writes a box, and gives its name."""
-        self._count += 1
-        name = f"s{self._count}"
-        self.lines.append(f'{indent}{name} [label={quoted(text)}, fillcolor="{colour}"];')
-        return name
-
-    def chain(self, steps: list[Step], indent: str) -> tuple[str, str]:
-        """Writes steps one after another; gives the names of the first and the last."""
-        first = last = ""
-        for step in steps:
-            name = self.box(step.text, _STEP_COLOURS.get(step.text.split(" ", 1)[0], "#eeeeee"), indent)
-            if last:
-                self.lines.append(f"{indent}{last} -> {name};")
-            if step.part:
-                _, end = self.chain(step.part, indent)
-                self.lines.append(f"{indent}{end} -> {name} [style=dashed];")
-            first, last = first or name, name
-        return first, last
-
-    def frame(self, name: str, label: str, boxes: list[Step]) -> tuple[str, str]:
-        """Writes a frame with steps; gives the names of the first and the last."""
-        self.lines.append(f"  subgraph cluster_{name} {{")
-        self.lines.append(f'    label={quoted(label)}; color="#999999"; style=rounded;')
-        ends = self.chain(boxes, "    ")
-        self.lines.append("  }")
-        return ends
-
-
-def _trail(line: str) -> str:
-    """A trail's line in words: which trail, and from where it is walked."""
-    _, name, end = line.split(" ", 2)
-    return f"trail {name}: {_ENDS.get(end, end)}"
-
-
-def _beside(line: str) -> str:
-    """The line of a test of a path, or of an optional clause, in words."""
-    word, number, _, count = line.split(" ", 3)
-    what = "exists" if word == "exists" else "OPTIONAL MATCH"
-    return f"{what} {number}: {count} alternative{'' if count == '1' else 's'}"
-
-
-def draw_plan(lines: list[str]) -> str:
-    """A plan in Graphviz's language: a frame for each alternative, its steps downwards, a joined part dashed.
-
-    What is found for each match of an alternative, the trails, stands at its end; what is found once, the tests of paths
-    and the optional clauses, stands in a frame of its own.
-    """
-    plan, writer, ends = read_plan(lines), _PlanWriter(), list[tuple[str, str]]()
-    trails = [Step(_trail(line)) for line in plan.trails]
-    for number, steps in enumerate(plan.alternatives, 1):
-        cost = f", cost {plan.costs[number - 1]}" if number <= len(plan.costs) else ""
-        shown = [step for step in steps if not step.text.startswith("columns ")]
-        ends.append(writer.frame(str(number), f"alternative {number}{cost}", [*shown, *trails]))
-    if plan.beside:
-        writer.frame("beside", "found once, before", [Step(_beside(line)) for line in plan.beside])
-    for above, below in zip(ends, ends[ALTERNATIVES_OF_A_ROW:], strict=False):
-        writer.lines.append(f"  {above[1]} -> {below[0]} [style=invis];")
-    head = [
-        "digraph plan {",
-        '  graph [fontname="sans-serif", fontsize=11];',
-        '  node [fontname="monospace", fontsize=10, style=filled, shape=box, margin="0.1,0.05"];',
-        '  edge [color="#666666"];',
-    ]
-    return "\n".join([*head, *writer.lines, "}", ""])
