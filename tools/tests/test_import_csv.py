@@ -2,7 +2,15 @@
 
 from __future__ import annotations
 
+import contextlib
+import csv
+import io
+import random
 from unittest import mock
+
+from graphq_tools.importing import naturals
+from graphq_tools.importing.blocks import Blocks, Form
+from graphq_tools.importing.quoted import QuotedText
 
 from .support import ToolTest, ask
 
@@ -278,3 +286,68 @@ class CsvRefusals(ToolTest):
             with self.subTest(words=words):
                 self.assertEqual(self.tool("graphq-import", "csv", *words, "--out", "g")[0], 2)
                 self.assertFalse((self.folder / "g").exists())
+
+
+class Cutting(ToolTest):
+    """What is cut as whole texts is what Python's CSV reader reads."""
+
+    PARTS = ("a", '"', '""', ",", ";", "\n", "7", " ", "é", "#", "")
+
+    def records(self, text: str, delimiter: str, by_reader: bool) -> tuple[list[list[str]], list[tuple[int, str]], int]:
+        """The columns of a file, what cannot be taken of it, and how many blocks were cut."""
+        blocks = Blocks(self.write("n.csv", text), Form(delimiter))
+        with mock.patch.object(Blocks, "_cut_quoted", return_value=None) if by_reader else contextlib.nullcontext():
+            found = list(blocks.read())
+        columns = [list(block.column(place)) for block in found for place in range(block.width)]
+        for block in found:
+            self.assertEqual(columns[: block.width], [list(column) for column in block.columns])
+            if block.raw is not None:
+                rows = filter(None, csv.reader(io.StringIO(block.raw.decode(), newline="")))
+                self.assertEqual([list(column) for column in zip(*rows, strict=True)], columns)
+        bad = [(one.number, one.why) for one in blocks.bad]
+        return columns, bad, sum(isinstance(block.source, QuotedText) for block in found)
+
+    def test_quoted_fields(self) -> None:
+        chance = random.Random(5)
+        cut = 0
+        for number in range(300):
+            delimiter, width = chance.choice(",;\t|"), chance.randrange(1, 4)
+            text = io.StringIO()
+            quoting = csv.QUOTE_ALL if number % 2 else csv.QUOTE_MINIMAL
+            write = csv.writer(text, delimiter=delimiter, quoting=quoting, lineterminator="\n").writerow
+            write([f"h{place}" for place in range(width)])
+            for _ in range(chance.randrange(5)):
+                write(["".join(chance.choices(self.PARTS, k=chance.randrange(5))) for _ in range(width)])
+            whole = text.getvalue()
+            head = whole.index("\n") + 1
+            # Some have a sign too many.
+            at = chance.randrange(head, len(whole) + 1)
+            broken = whole[:at] + chance.choice(["", "", '"', delimiter, "z", "\n"]) + whole[at:]
+            with self.subTest(text=broken, delimiter=delimiter):
+                columns, bad, count = self.records(broken, delimiter, by_reader=False)
+                self.assertEqual((columns, bad), self.records(broken, delimiter, by_reader=True)[:2])
+                cut += count
+        self.assertGreater(cut, 100)
+
+    def test_natural_numbers(self) -> None:
+        """With numpy and without it numbers are the same, and what is no natural number is none."""
+        many = [str(number * number) for number in range(50_000)]
+        for values in (
+            many,
+            [*many, "0"],
+            [*many, "01"],
+            [*many, ""],
+            ["", *many],
+            [*many[:9], "", *many],
+            [*many, "-1"],
+            [*many, "99999999999999999999"],
+            [*many, "9223372036854775807"],
+            [*many, "1\n2"],
+        ):
+            found = []
+            for least in (1, 1 << 40):
+                with mock.patch("graphq_tools.importing.naturals.MANY_BYTES", least):
+                    numbers = naturals.naturals(values)
+                    found.append(None if numbers is None else list(map(int, numbers)))
+            plain = all(map(str.isdecimal, values)) and all(str(int(value)) == value for value in values)
+            self.assertEqual(found, [list(map(int, values)) if plain else None] * 2)

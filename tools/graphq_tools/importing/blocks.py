@@ -1,7 +1,7 @@
 """Reads a file of records in blocks of some megabytes, each by its columns: what is done to a value is done to a block of them.
 
-A block without quotes is cut by the string methods of Python, one with quotes by its CSV reader. Which line a record
-begins at is found by reading once more, where somebody wants to know.
+A block is cut by the string methods of Python, where each of its quotes is around a whole field, and else by the CSV reader.
+Which line a record begins at is found by reading once more, where somebody wants to know.
 """
 
 from __future__ import annotations
@@ -9,7 +9,6 @@ from __future__ import annotations
 import contextlib
 import csv
 import io
-import json
 import re
 from collections.abc import Collection, Iterator, Sequence
 from dataclasses import dataclass, field
@@ -18,6 +17,8 @@ from typing import IO
 
 from ..csvfile import not_utf8, open_bytes
 from ..outcome import BadRow, Refusal, Status
+from .naturals import Numbers, natural_columns
+from .quoted import MARKS, QuotedText
 
 # So many bytes are read at once.
 BLOCK_BYTES = 1 << 21
@@ -42,14 +43,15 @@ class Block:
     """Some records by their columns, the first of which has this number in the file, from 0.
 
     `raw` are the records as graphq reads them, fields with commas between and lines ended by LF, where they stand so in
-    the file. `plain` says that no cell has to be quoted, and `returns` that a cell may hold a CR. `numbers` are those of
+    the file. `source` is the text that the columns are cut out of where somebody asks for them: with its delimiter, where
+    no field is quoted. `plain` says that no cell has to be quoted, and `returns` that a cell may hold a CR. `numbers` are those of
     the records, where some are left out.
     """
 
     def __init__(
         self,
         first: int,
-        columns: list[Sequence[str]],
+        columns: Sequence[Sequence[str]],
         plain: bool = False,
         returns: bool = False,
         numbers: Sequence[int] | None = None,
@@ -61,9 +63,9 @@ class Block:
         self.plain = plain
         self.returns = returns
         self.numbers = numbers
-        self._columns: list[Sequence[str]] | None = columns
-        self._text: tuple[str, str] = "", ","
-        self._naturals: list[list[int]] | None = None
+        self._columns: Sequence[Sequence[str]] | None = columns
+        self.source: tuple[str, str] | QuotedText = "", ","
+        self._naturals: list[Numbers] | None = None
         self._looked = False
 
     @classmethod
@@ -71,31 +73,44 @@ class Block:
         """A block whose text is cut into fields where somebody asks for them: the delimiter is between, and nothing quoted."""
         block = cls(first, [], raw is not None)
         block.rows, block.width, block.raw = rows, width, raw
-        block._columns, block._text = None, (text, delimiter)
+        block._columns, block.source = None, (text, delimiter)
+        return block
+
+    @classmethod
+    def quoted(cls, first: int, rows: int, width: int, text: QuotedText, raw: bytes | None) -> Block:
+        """The same with some fields quoted."""
+        block = cls(first, [])
+        block.rows, block.width, block.raw = rows, width, raw
+        block._columns, block.source, block._looked = None, text, True
         return block
 
     @property
-    def columns(self) -> list[Sequence[str]]:
+    def columns(self) -> Sequence[Sequence[str]]:
         """The columns, with a text for each record."""
         if self._columns is None:
-            text, delimiter = self._text
-            cells = text.replace("\n", delimiter).split(delimiter)
-            cells.pop()
-            self._columns = [cells[place :: self.width] for place in range(self.width)]
+            if isinstance(self.source, QuotedText):
+                self._columns = self.source.columns(self.width)
+            else:
+                text, delimiter = self.source
+                cells = text.replace("\n", delimiter).split(delimiter)
+                cells.pop()
+                self._columns = [cells[place :: self.width] for place in range(self.width)]
         return self._columns
 
-    def naturals(self) -> list[list[int]] | None:
+    def column(self, place: int) -> Sequence[str]:
+        """One of the columns."""
+        if self._columns is None and isinstance(self.source, QuotedText):
+            return self.source.column(place, self.width)
+        return self.columns[place]
+
+    def naturals(self) -> list[Numbers] | None:
         """The columns as integers, where all fields are natural numbers without a sign or zeros in front, in a block as it is."""
         if not self._looked:
             self._looked = True
-            if self.raw and not self.raw.translate(None, b"0123456789,\n"):
-                # The scanner of JSON makes numbers of a long list fastest, and takes no zeros in front either.
-                with contextlib.suppress(ValueError):
-                    cells = json.loads(b"[" + self.raw[:-1].replace(b"\n", b",") + b"]")
-                    self._naturals = [cells[place :: self.width] for place in range(self.width)]
+            self._naturals = natural_columns(self.raw, self.width) if self.raw else None
         return self._naturals
 
-    def with_columns(self, columns: list[Sequence[str]], numbers: Sequence[int] | None = None) -> Block:
+    def with_columns(self, columns: Sequence[Sequence[str]], numbers: Sequence[int] | None = None) -> Block:
         """A block with other columns made of these, and with these numbers, where rows are left out."""
         return Block(self.first, columns, self.plain, self.returns, self.numbers if numbers is None else numbers)
 
@@ -188,7 +203,8 @@ class Blocks:
     def _block(self, chunk: _Chunk, width: int) -> Iterator[Block]:
         """The block of a chunk, by the quickest way that reads it right."""
         if chunk.data:
-            block = None if chunk.quotes and self.delimiter != BLANKS else self._cut(chunk.data, width)
+            is_quoted = chunk.quotes and self.delimiter != BLANKS
+            block = (self._cut_quoted if is_quoted else self._cut)(chunk.data, width)
             block = block or self._parsed(chunk.data, width)
             if block.rows:
                 yield block
@@ -219,6 +235,27 @@ class Blocks:
         first, self.records = self.records, self.records + rows
         raw = data.replace(delimiter, b",") if plain else None
         return Block.cut(first, rows, width, text, delimiter.decode(), raw)
+
+    def _cut_quoted(self, data: bytes, width: int) -> Block | None:
+        """The block of bytes with quotes, or None where one is not around a whole field, or a line is no record of this width."""
+        try:
+            text = data.decode("utf-8")
+        except UnicodeDecodeError as error:
+            raise self._not_utf8() from error
+        if "\r" in text or any(mark in text for mark in MARKS):
+            return None
+        text += "" if text.endswith("\n") else "\n"
+        quoted = QuotedText(text, self.delimiter, self.form.quote)
+        outside = quoted.skeleton.encode()
+        rows = outside.count(b"\n")
+        if not quoted.is_regular() or outside[:1] == b"\n" or b"\n\n" in outside or _has_comment(outside, self.form.comments):
+            return None
+        if not _even(outside, self.delimiter.encode(), width, rows):
+            return None
+        first, self.records = self.records, self.records + rows
+        # graphq reads such records as they are: the crate csv takes them as Python's reader does.
+        held = text if self.delimiter == "," else quoted.with_commas()
+        return Block.quoted(first, rows, width, quoted, held.encode() if held and self.form.quote == '"' else None)
 
     def _parsed(self, data: bytes, width: int) -> Block:
         """The block of any bytes, by the CSV reader."""

@@ -9,6 +9,7 @@ from ..model import Field
 from .blocks import BadRecord, Block
 from .guesses import Guess, are_integers
 from .kinds import Treatment, as_integer, as_is, fits
+from .naturals import greatest
 
 _NOTES = {"decimal": "decimals, as their texts: --scale {}=2 makes integers of those with two digits after the point"}
 
@@ -27,20 +28,20 @@ class Column:
         if self.treatment is None:
             naturals = block.naturals()
             if naturals is not None:
-                self.guess.meet_naturals(max(naturals[self.place]))
+                self.guess.meet_naturals(greatest(naturals[self.place]))
             else:
-                self.guess.meet(block.columns[self.place])
+                self.guess.meet(block.column(self.place))
 
     def taken_as_is(self, block: Block) -> bool:
         """Whether the values in a block stay the texts that they are."""
         if self.treatment is None or self.treatment.convert is as_is:
             return True
         naturals = block.naturals() if self.treatment.convert is as_integer else None
-        return naturals is not None and fits(max(naturals[self.place]))
+        return naturals is not None and fits(greatest(naturals[self.place]))
 
     def values(self, block: Block, bad: list[BadRecord]) -> Sequence[str]:
         """The values of the column in a block. Where one cannot be taken, it is put into `bad`."""
-        values = block.columns[self.place]
+        values = block.column(self.place)
         if self.treatment is None:
             self.guess.meet(values)
             return values

@@ -16,7 +16,7 @@ from .blocks import BadRecord, Block, Blocks, Form
 from .columns import Column
 from .guesses import Guess
 from .intake import Intake
-from .tables import NodeRows, RelRows
+from .tables import NodeRows
 
 _NODE = "it is LABEL=FILE or LABEL=FILE:KEY, and LABEL alone for nodes that relationships name"
 _FAMILIES = {"int": "int", "bool": "bool", "decimal": "decimal", "date": "moment", "datetime": "moment"}
@@ -206,7 +206,7 @@ def _bad_keys(table: NodeRows, files: CsvFiles) -> list[BadRecord]:
     for file in table.sources:
         bad.clear()
         for block in files.blocks(file).read():
-            for row, key in enumerate(block.columns[table.key.place]):
+            for row, key in enumerate(block.column(table.key.place)):
                 if not key:
                     bad.append(BadRecord(block.number(row), "the key is empty"))
                 elif key in seen:
@@ -272,7 +272,7 @@ def _nodes(label: str, word: RelWord, intake: Intake) -> NodeRows:
 
 def _joined(block: Block, ends: tuple[int, int]) -> tuple[Block, int]:
     """The rows of a block that have both ends, and how many have not."""
-    kept = [row for row, pair in enumerate(zip(*(block.columns[end] for end in ends), strict=True)) if all(pair)]
+    kept = [row for row, pair in enumerate(zip(*(block.column(end) for end in ends), strict=True)) if all(pair)]
     if len(kept) == block.rows:
         return block, 0
     columns: list[Sequence[str]] = [[column[row] for row in kept] for column in block.columns]
@@ -313,4 +313,3 @@ def read_csv(nodes: Sequence[str], rels: Sequence[str], form: Form, intake: Inta
             read_rels(rel, files, {node.file for node in node_words}, intake)
     finally:
         files.close()
-

@@ -17,7 +17,6 @@ from .labels import Labels, asked_labels
 from .spool import Property
 from .tables import Tables
 
-
 # So many refusals of a file are said at once.
 MOST_REFUSALS = 20
 

@@ -2,38 +2,24 @@
 
 from __future__ import annotations
 
-from collections import deque
 from collections.abc import Iterable, Iterator, Sequence
-from itertools import chain, compress, repeat
+from itertools import chain, compress
 
 from .blocks import Block
-from .guesses import ZERO_IN_FRONT
+from .naturals import Numbers, all_marked, greatest, mark, naturals
 
 # Integers below this are marked in an array.
 MOST_MARKS = 1 << 26
 
 
-def naturals(values: Sequence[str]) -> list[int] | None:
-    """The values as integers, where each of them is a natural number without a sign and without zeros in front."""
-    joined = "\n".join(values)
-    if not joined.isascii():
-        return None
-    data = b"\n" + joined.encode() + b"\n"
-    if data.translate(None, b"0123456789\n") or b"\n\n" in data or data.count(b"\n") != len(values) + 1:
-        return None
-    if ZERO_IN_FRONT.search(data):
-        return None
-    return list(map(int, values)) if len(data) > 1 else []
-
-
-def _numbers(block: Block, places: Sequence[int]) -> list[list[int]] | None:
+def _numbers(block: Block, places: Sequence[int]) -> list[Numbers] | None:
     """Columns of a block as natural numbers, where they are such."""
     all_of_them = block.naturals()
     if all_of_them is not None:
         return [all_of_them[place] for place in places]
     found = []
     for place in places:
-        one = naturals(block.columns[place])
+        one = naturals(block.column(place))
         if one is None:
             return None
         found.append(one)
@@ -66,16 +52,16 @@ class Keys:
             numbers = _numbers(block, places)
             if numbers is not None and self._room(numbers):
                 for one in numbers:
-                    deque(map(self._marks.__setitem__, one, repeat(1)), maxlen=0)
+                    mark(self._marks, one)
                 return
             self._others, self._marks = dict.fromkeys(self), bytearray()
-        columns = [block.columns[place] for place in places]
+        columns = [block.column(place) for place in places]
         several: Iterable[str] = chain.from_iterable(zip(*columns, strict=True)) if len(columns) > 1 else columns[0]
         self._others.update(dict.fromkeys(several))
 
-    def _room(self, numbers: list[list[int]]) -> bool:
+    def _room(self, numbers: list[Numbers]) -> bool:
         """Makes room for marks of these numbers, if they are not too great."""
-        top = max((max(one) for one in numbers if one), default=0)
+        top = max(map(greatest, numbers), default=-1)
         if top >= MOST_MARKS:
             return False
         if top >= len(self._marks):
@@ -85,12 +71,9 @@ class Keys:
     def has_all(self, block: Block, place: int) -> bool:
         """Whether each value of a column of a block is a key."""
         if self._others is not None:
-            return all(map(self._others.__contains__, block.columns[place]))
+            return all(map(self._others.__contains__, block.column(place)))
         numbers = _numbers(block, [place])
-        try:
-            return numbers is not None and all(map(self._marks.__getitem__, numbers[0]))
-        except IndexError:
-            return False
+        return numbers is not None and all_marked(self._marks, numbers[0])
 
     def drop(self, key: str) -> None:
         """Takes a key out."""

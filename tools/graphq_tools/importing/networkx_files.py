@@ -58,7 +58,7 @@ def _load(path: Path) -> Any:
     try:
         import networkx
     except ImportError as error:
-        raise package("networkx", "python3-networkx") from error
+        raise package("networkx") from error
     form = _form(path)
     if not form:
         raise Refusal(f"{path}: its name ends with none of {', '.join(FORMS)}")

@@ -89,13 +89,13 @@ class RelRows:
             if ("" in nodes.keys) if nodes.made else not nodes.keys.has_all(block, place):
                 bad += [
                     BadRecord(block.number(row), f"no {nodes.word} has the key '{key}'" if key else "an end is empty")
-                    for row, key in enumerate(block.columns[place])
+                    for row, key in enumerate(block.column(place))
                     if not key or key not in nodes.keys
                 ]
                 nodes.keys.drop("")
         if self.both is None:
             if self.strict:
-                self._watch(block.columns[ends[0]], block.columns[ends[1]])
+                self._watch(block.column(ends[0]), block.column(ends[1]))
             _add(self.file, block, ends, self.columns, bad)
         else:
             self._add_both(block, ends, [column.values(block, bad) for column in self.columns])
@@ -120,7 +120,7 @@ class RelRows:
 
     def _add_both(self, block: Block, ends: tuple[int, int], rest: list[Sequence[str]]) -> None:
         """Adds relationships in both directions: the other one right after each, and a self-loop once."""
-        sources, targets = (block.columns[place] for place in ends)
+        sources, targets = (block.column(place) for place in ends)
         if self.source is not self.target:
             assert self.both is not None
             if self.strict:
@@ -162,7 +162,7 @@ def _add(file: RowFile, block: Block, leading: Sequence[int], columns: Sequence[
             column.look(block)
         if file.add_raw(block):
             return
-    file.add([*(block.columns[place] for place in leading), *(column.values(block, bad) for column in columns)], block)
+    file.add([*(block.column(place) for place in leading), *(column.values(block, bad) for column in columns)], block)
 
 
 def _twice(one: Sequence[str], other: Sequence[str]) -> list[str]:
