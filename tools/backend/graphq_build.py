@@ -8,6 +8,7 @@ from __future__ import annotations
 
 import base64
 import hashlib
+import runpy
 import subprocess
 import tomllib
 import zipfile
@@ -36,6 +37,12 @@ def program() -> Path | None:
     return None
 
 
+def extras() -> dict[str, list[str]]:
+    """The extras and their modules, as packages.py has them."""
+    found: dict[str, list[str]] = runpy.run_path(str(HERE / "graphq_tools/packages.py"))["EXTRAS"]
+    return found
+
+
 def _metadata(project: dict[str, Any]) -> str:
     lines = [
         "Metadata-Version: 2.1",
@@ -45,7 +52,7 @@ def _metadata(project: dict[str, Any]) -> str:
         f"Requires-Python: {project['requires-python']}",
     ]
     lines += [f"Requires-Dist: {one}" for one in project.get("dependencies", [])]
-    for extra, wanted in project.get("optional-dependencies", {}).items():
+    for extra, wanted in extras().items():
         lines.append(f"Provides-Extra: {extra}")
         lines += [f"Requires-Dist: {one}; extra == '{extra}'" for one in wanted]
     return "\n".join([*lines, ""])

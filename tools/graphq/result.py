@@ -7,6 +7,7 @@ import importlib
 from collections.abc import Iterator
 from typing import TYPE_CHECKING, Any, overload
 
+from graphq_tools.packages import package_of
 from graphq_tools.text_table import visible
 
 from .connection import Reply
@@ -87,6 +88,7 @@ class Result:
     def __getitem__(self, at: int) -> tuple[Value, ...]: ...
     @overload
     def __getitem__(self, at: slice) -> list[tuple[Value, ...]]: ...
+
     def __getitem__(self, at: int | slice) -> tuple[Value, ...] | list[tuple[Value, ...]]:
         while isinstance(at, int) and 0 <= at and len(self._rows) <= at and self._more():
             pass
@@ -98,7 +100,7 @@ class Result:
 
     def to_pandas(self) -> Any:
         """A `DataFrame`: integers as `Int64` and booleans as `boolean`, which may be null; nodes and relationships as they are."""
-        pandas = _module("pandas", "python3-pandas")
+        pandas = _module("pandas")
         columns = self._columns()
         kinds = {"int": "Int64", "bool": "boolean"}
         made = {
@@ -110,7 +112,7 @@ class Result:
 
     def to_arrow(self) -> Any:
         """A `pyarrow.Table`: nodes and relationships by their texts, as `(Person 1)`; a column of several kinds by its texts too."""
-        pyarrow = _module("pyarrow", "pyarrow of PyPI")
+        pyarrow = _module("pyarrow")
         kinds = {"int": pyarrow.int64(), "bool": pyarrow.bool_()}
         arrays = []
         for values in self._columns():
@@ -125,7 +127,7 @@ class Result:
         Nodes are `Node` values and the keys of edges `Rel` values. Both have their properties as attributes, which are read
         from the files of the graph, as the ends are, and nodes also `label`; relationships have `type`.
         """
-        networkx = _module("networkx", "python3-networkx")
+        networkx = _module("networkx")
         values = [value for row in self for value in row if isinstance(value, Node | Rel)]
         return network_of(networkx.MultiDiGraph(), values, self._graph.manifest, self._graph.folder, properties)
 
@@ -171,8 +173,8 @@ def _kind(values: list[Value]) -> str:
     return "int" if kinds == {int} else "bool" if kinds == {bool} else "object"
 
 
-def _module(name: str, package: str) -> Any:
+def _module(name: str) -> Any:
     try:
         return importlib.import_module(name)
     except ImportError as error:
-        raise NotInstalled(f"the Python module {name} is missing: it is in {package}") from error
+        raise NotInstalled(f"the Python module {name} is missing: it is in {package_of(name)}") from error

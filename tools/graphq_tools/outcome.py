@@ -12,6 +12,8 @@ import sys
 from collections.abc import Callable, Iterator, Sequence
 from pathlib import Path
 
+from .packages import package_of
+
 
 class Status(enum.IntEnum):
     """Exit statuses. 0 to 7 mean what they mean of graphq, see docs/language.md; 69 is a missing program or package."""
@@ -92,9 +94,9 @@ def reading(path: str | os.PathLike[str]) -> Iterator[None]:
         raise Refusal(f"{os.fspath(path)}: {error.strerror or error}", Status.CANNOT_READ) from error
 
 
-def package(module: str, name: str) -> Refusal:
+def package(module: str) -> Refusal:
     """The refusal for want of a Python module, with the Debian package that brings it."""
-    why = f"the Python module {module} is missing: tools/setup installs {name}"
+    why = f"the Python module {module} is missing: tools/setup installs {package_of(module)}"
     return Refusal(why, Status.NOT_INSTALLED)
 
 
