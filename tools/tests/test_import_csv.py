@@ -293,17 +293,19 @@ class Cutting(ToolTest):
 
     PARTS = ("a", '"', '""', ",", ";", "\n", "7", " ", "é", "#", "")
 
-    def records(self, text: str, delimiter: str, by_reader: bool) -> tuple[list[list[str]], list[tuple[int, str]], int]:
-        """The columns of a file, what cannot be taken of it, and how many blocks were cut."""
+    def records(self, text: str, delimiter: str, by_reader: bool) -> tuple[list[list[list[str]]], list[tuple[int, str]], int]:
+        """The columns of a file's blocks, what cannot be taken of it, and how many blocks with quotes were cut."""
         blocks = Blocks(self.write("n.csv", text), Form(delimiter))
-        with mock.patch.object(Blocks, "_cut_quoted", return_value=None) if by_reader else contextlib.nullcontext():
+        with contextlib.ExitStack() as stack:
+            if by_reader:
+                stack.enter_context(mock.patch.object(Blocks, "_cut_quoted", return_value=None))
             found = list(blocks.read())
-        columns = [list(block.column(place)) for block in found for place in range(block.width)]
-        for block in found:
-            self.assertEqual(columns[: block.width], [list(column) for column in block.columns])
+        columns = [[list(block.column(place)) for place in range(block.width)] for block in found]
+        for block, own in zip(found, columns, strict=True):
+            self.assertEqual([list(column) for column in block.columns], own)
             if block.raw is not None:
                 rows = filter(None, csv.reader(io.StringIO(block.raw.decode(), newline="")))
-                self.assertEqual([list(column) for column in zip(*rows, strict=True)], columns)
+                self.assertEqual([list(column) for column in zip(*rows, strict=True)], own)
         bad = [(one.number, one.why) for one in blocks.bad]
         return columns, bad, sum(isinstance(block.source, QuotedText) for block in found)
 
@@ -346,7 +348,7 @@ class Cutting(ToolTest):
         ):
             found = []
             for least in (1, 1 << 40):
-                with mock.patch("graphq_tools.importing.naturals.MANY_BYTES", least):
+                with mock.patch("graphq_tools.importing.arrays.MANY_BYTES", least):
                     numbers = naturals.naturals(values)
                     found.append(None if numbers is None else list(map(int, numbers)))
             plain = all(map(str.isdecimal, values)) and all(str(int(value)) == value for value in values)

@@ -17,7 +17,7 @@ from typing import IO
 
 from ..csvfile import not_utf8, open_bytes
 from ..outcome import BadRow, Refusal, Status
-from .naturals import Numbers, natural_columns
+from .naturals import Numbers, natural_columns, naturals
 from .quoted import MARKS, QuotedText
 
 # So many bytes are read at once.
@@ -67,6 +67,7 @@ class Block:
         self.source: tuple[str, str] | QuotedText = "", ","
         self._naturals: list[Numbers] | None = None
         self._looked = False
+        self._integers: dict[int, Numbers | None] = {}
 
     @classmethod
     def cut(cls, first: int, rows: int, width: int, text: str, delimiter: str, raw: bytes | None) -> Block:
@@ -109,6 +110,15 @@ class Block:
             self._looked = True
             self._naturals = natural_columns(self.raw, self.width) if self.raw else None
         return self._naturals
+
+    def integers(self, place: int) -> Numbers | None:
+        """One of the columns as integers, where all of its fields are such numbers."""
+        whole = self.naturals()
+        if whole is not None:
+            return whole[place]
+        if place not in self._integers:
+            self._integers[place] = naturals(self.column(place))
+        return self._integers[place]
 
     def with_columns(self, columns: Sequence[Sequence[str]], numbers: Sequence[int] | None = None) -> Block:
         """A block with other columns made of these, and with these numbers, where rows are left out."""
@@ -238,15 +248,14 @@ class Blocks:
 
     def _cut_quoted(self, data: bytes, width: int) -> Block | None:
         """The block of bytes with quotes, or None where one is not around a whole field, or a line is no record of this width."""
+        if b"\r" in data or any(mark in data for mark in MARKS):
+            return None
         try:
-            text = data.decode("utf-8")
+            data.decode("utf-8")
         except UnicodeDecodeError as error:
             raise self._not_utf8() from error
-        if "\r" in text or any(mark in text for mark in MARKS):
-            return None
-        text += "" if text.endswith("\n") else "\n"
-        quoted = QuotedText(text, self.delimiter, self.form.quote)
-        outside = quoted.skeleton.encode()
+        quoted = QuotedText(data if data[-1:] == b"\n" else data + b"\n", self.delimiter, self.form.quote)
+        outside = quoted.skeleton
         rows = outside.count(b"\n")
         if not quoted.is_regular() or outside[:1] == b"\n" or b"\n\n" in outside or _has_comment(outside, self.form.comments):
             return None
@@ -254,8 +263,7 @@ class Blocks:
             return None
         first, self.records = self.records, self.records + rows
         # graphq reads such records as they are: the crate csv takes them as Python's reader does.
-        held = text if self.delimiter == "," else quoted.with_commas()
-        return Block.quoted(first, rows, width, quoted, held.encode() if held and self.form.quote == '"' else None)
+        return Block.quoted(first, rows, width, quoted, quoted.with_commas() if self.form.quote == '"' else None)
 
     def _parsed(self, data: bytes, width: int) -> Block:
         """The block of any bytes, by the CSV reader."""

@@ -25,10 +25,10 @@ class Column:
 
     def look(self, block: Block) -> None:
         """Looks at the values of the column in a block, where its kind is open and they are taken as they are."""
-        if self.treatment is None:
-            naturals = block.naturals()
-            if naturals is not None:
-                self.guess.meet_naturals(greatest(naturals[self.place]))
+        if self.treatment is None and not self.guess.is_settled:
+            numbers = block.integers(self.place)
+            if numbers is not None and len(numbers):
+                self.guess.meet_naturals(greatest(numbers))
             else:
                 self.guess.meet(block.column(self.place))
 

@@ -83,13 +83,18 @@ class Guess:
         """Whether no value was there."""
         return self._met is None
 
+    @property
+    def is_settled(self) -> bool:
+        """Whether no value that comes may change the kind."""
+        return self._met == "string"
+
     def meet_naturals(self, greatest: int) -> None:
         """Takes in natural numbers, of which this is the greatest."""
         self._become("int" if fits(greatest) else "decimal")
 
     def meet(self, values: Sequence[str]) -> None:
         """Takes in some values; the empty text is none."""
-        if self._met == "string" or not any(values):
+        if self.is_settled or not any(values):
             return
         self._become(_kind(values, self._dates))
 

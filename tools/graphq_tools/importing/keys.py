@@ -6,7 +6,7 @@ from collections.abc import Iterable, Iterator, Sequence
 from itertools import chain, compress
 
 from .blocks import Block
-from .naturals import Numbers, all_marked, greatest, mark, naturals
+from .naturals import Numbers, all_marked, count, greatest, mark
 
 # Integers below this are marked in an array.
 MOST_MARKS = 1 << 26
@@ -14,16 +14,8 @@ MOST_MARKS = 1 << 26
 
 def _numbers(block: Block, places: Sequence[int]) -> list[Numbers] | None:
     """Columns of a block as natural numbers, where they are such."""
-    all_of_them = block.naturals()
-    if all_of_them is not None:
-        return [all_of_them[place] for place in places]
-    found = []
-    for place in places:
-        one = naturals(block.column(place))
-        if one is None:
-            return None
-        found.append(one)
-    return found
+    found = [block.integers(place) for place in places]
+    return None if any(one is None for one in found) else found
 
 
 class Keys:
@@ -34,7 +26,7 @@ class Keys:
         self._others: dict[str, None] | None = None
 
     def __len__(self) -> int:
-        return self._marks.count(1) if self._others is None else len(self._others)
+        return count(self._marks) if self._others is None else len(self._others)
 
     def __iter__(self) -> Iterator[str]:
         """The keys: numbers in their order, and others in the order in which they came."""

@@ -3,7 +3,6 @@
 from __future__ import annotations
 
 import contextlib
-import functools
 import importlib
 import json
 import re
@@ -12,23 +11,15 @@ from collections.abc import Sequence
 from itertools import repeat
 from typing import Any
 
-# So many bytes are worth the time that it takes to load numpy.
-MANY_BYTES = 1 << 18
+from .arrays import numpy
+
 # Numbers of more digits are read as integers of any size.
 _MOST = 10**18
-_ZERO_IN_FRONT = re.compile(rb"(?:\A|,)0[0-9]")
+_FRONT = 4096
+_ZERO_IN_FRONT = re.compile(rb",0[0-9]")
 
 # An array of numpy, or a list of integers.
 Numbers = Any
-
-
-@functools.cache
-def _numpy() -> Any:
-    """The module numpy, or None."""
-    try:
-        return importlib.import_module("numpy")
-    except ImportError:
-        return None
 
 
 def natural_columns(raw: bytes, width: int) -> list[Numbers] | None:
@@ -36,7 +27,8 @@ def natural_columns(raw: bytes, width: int) -> list[Numbers] | None:
 
     None where something else stands there, where a field is empty, or has a zero in front of others.
     """
-    if not raw or raw.translate(None, b"0123456789,\n"):
+    # Its front tells most blocks that are not so.
+    if not raw or any(part.translate(None, b"0123456789,\n") for part in (raw[:_FRONT], raw)):
         return None
     text = raw[:-1].replace(b"\n", b",")
     cells = _array(text)
@@ -49,22 +41,24 @@ def natural_columns(raw: bytes, width: int) -> list[Numbers] | None:
 
 def _array(text: bytes) -> Any:
     """The numbers between commas as an array, or None where numpy is not there, or may not read them right."""
-    numpy = _numpy() if len(text) >= MANY_BYTES else None
-    if numpy is None or b",," in text or text[:1] == b"," or text[-1:] == b",":
+    library = numpy(text)
+    if library is None or b",," in text or text[:1] == b"," or text[-1:] == b",":
         return None
-    if (text[:1] == b"0" or b",0" in text) and _ZERO_IN_FRONT.search(text):
+    if (text[:1] == b"0" and text[1:2].isdigit()) or _ZERO_IN_FRONT.search(text):
         return None
-    numbers = numpy.fromstring(text, dtype=numpy.int64, sep=",")
+    numbers = library.fromstring(text, dtype=library.int64, sep=",")
     return numbers if len(numbers) == text.count(b",") + 1 and numbers.max() < _MOST else None
 
 
 def naturals(values: Sequence[str]) -> Numbers | None:
     """Texts as numbers, where each of them is a natural number without a sign and without zeros in front."""
+    if not values:
+        return []
+    if not values[0].isdecimal():
+        return None
     joined = "\n".join(values)
     if not joined.isascii():
         return None
-    if not values:
-        return []
     data = joined.encode() + b"\n"
     found = natural_columns(data, 1) if data.count(b"\n") == len(values) and b"," not in data else None
     return None if found is None else found[0]
@@ -77,12 +71,23 @@ def greatest(numbers: Numbers) -> int:
     return int(numbers.max()) if len(numbers) else -1
 
 
+def _view(marks: bytearray) -> Any:
+    """Marks as an array; they cannot grow while it is there."""
+    return importlib.import_module("numpy").frombuffer(marks, dtype="uint8")
+
+
 def mark(marks: bytearray, numbers: Numbers) -> None:
     """Sets the marks of numbers, for which there is room."""
     if isinstance(numbers, list):
         deque(map(marks.__setitem__, numbers, repeat(1)), maxlen=0)
     else:
-        _numpy().frombuffer(marks, dtype="uint8")[numbers] = 1
+        _view(marks)[numbers] = 1
+
+
+def count(marks: bytearray) -> int:
+    """How many numbers have a mark."""
+    library = numpy(marks)
+    return marks.count(1) if library is None else int(library.count_nonzero(_view(marks)))
 
 
 def all_marked(marks: bytearray, numbers: Numbers) -> bool:
@@ -91,4 +96,4 @@ def all_marked(marks: bytearray, numbers: Numbers) -> bool:
         return False
     if isinstance(numbers, list):
         return all(map(marks.__getitem__, numbers))
-    return bool(_numpy().frombuffer(marks, dtype="uint8")[numbers].all())
+    return bool(_view(marks)[numbers].all())
