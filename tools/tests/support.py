@@ -19,6 +19,7 @@ from unittest import mock
 from graphq_tools.__main__ import MAINS
 from graphq_tools.manifest import read_manifest
 from graphq_tools.outcome import run
+from graphq_tools.packages import package_of
 
 TOP = Path(__file__).resolve().parent.parent.parent
 TOOLS = TOP / "tools"
@@ -30,14 +31,14 @@ PROGRAM = os.environ["GRAPHQ"]
 Tests = TypeVar("Tests", bound=Callable[..., Any] | type)
 
 
-def needs_module(module: str, package: str) -> Callable[[Tests], Tests]:
+def needs_module(module: str) -> Callable[[Tests], Tests]:
     """A decorator: the tests need a Python module, and are skipped without it, with the name of its package."""
-    return unittest.skipUnless(importlib.util.find_spec(module), f"the package {package} is missing")
+    return unittest.skipUnless(importlib.util.find_spec(module), f"the package {package_of(module)} is missing")
 
 
-def needs_program(program: str, package: str) -> Callable[[Tests], Tests]:
+def needs_program(program: str) -> Callable[[Tests], Tests]:
     """A decorator: the tests need a program, and are skipped without it, with the name of its package."""
-    return unittest.skipUnless(shutil.which(program), f"the package {package} is missing")
+    return unittest.skipUnless(shutil.which(program), f"the package {package_of(program)} is missing")
 
 
 def ask(manifest: str | Path, text: str, cwd: Path = TOP, words: Sequence[str] = ()) -> tuple[int, str]:

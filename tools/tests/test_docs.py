@@ -60,7 +60,7 @@ class Links(unittest.TestCase):
                 self.assertIn(page.resolve(), linked)
 
 
-@needs_program("sqlite3", "sqlite3")
+@needs_program("sqlite3")
 class Pages(ToolTest):
     def test_commands(self) -> None:
         for name in ("tools", "examples", "release"):

@@ -129,7 +129,7 @@ class Refusals(ToolTest):
 class GraphML(ToolTest):
     """GraphML by networkx, with texts that XML writes in its own way."""
 
-    @needs_module("networkx", "python3-networkx")
+    @needs_module("networkx")
     def test_awkward_texts(self) -> None:
         import networkx
 

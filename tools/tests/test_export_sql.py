@@ -111,7 +111,7 @@ class Awkward(ToolTest):
         self.assertEqual(rows, [("a'b", "x\\y\nz\t", -(2**63), 1), ("c", None, 7, None)])
         self.assertEqual(database.execute('SELECT * FROM "GROUP"').fetchall(), [(0, "a'b", "c", "s", 5)])
 
-    @needs_program("sqlite3", "sqlite3")
+    @needs_program("sqlite3")
     def test_texts_through_the_shell_of_sqlite(self) -> None:
         texts = ["a\nb", "a\r\nb", "a\rb", "\r", "a\0b", "it's\r\n;\n.quit\n--", "\\", "\ufeff"]
         quoted = [text.replace('"', '""') for text in texts]

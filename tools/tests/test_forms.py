@@ -25,7 +25,7 @@ class Forms(ToolTest):
     def test_kuzu(self) -> None:
         self.answers("kuzu", FORMS / "kuzu/schema.cypher")
 
-    @needs_module("networkx", "python3-networkx")
+    @needs_module("networkx")
     def test_graphml(self) -> None:
         self.answers("networkx", FORMS / "library.graphml")
 

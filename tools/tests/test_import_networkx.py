@@ -52,7 +52,7 @@ NODE_LINK = """\
 """
 
 
-@needs_module("networkx", "python3-networkx")
+@needs_module("networkx")
 class NetworkxImport(ToolTest):
     def run_import(self, name: str, text: str, *words: str) -> list[str]:
         self.write(name, text)

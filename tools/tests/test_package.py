@@ -239,7 +239,7 @@ class Streams(PackageTest):
 
 
 class Conversions(PackageTest):
-    @needs_module("pandas", "python3-pandas")
+    @needs_module("pandas")
     def test_pandas(self) -> None:
         frame = self.open(PEOPLE).query("MATCH (p:Person) RETURN p, p.name, p.age, p.age > 26 AS old ORDER BY p.id").to_pandas()
         self.assertEqual([str(kind) for kind in frame.dtypes], ["object", "object", "Int64", "boolean"])
@@ -248,12 +248,12 @@ class Conversions(PackageTest):
         self.assertEqual(frame["p"][0], graphq.Node("Person", 1))
         self.assertEqual(self.open(PEOPLE).query("MATCH (x:Nobody) RETURN x.a").to_pandas().shape, (0, 1))
 
-    @needs_module("pyarrow", "pyarrow of PyPI")
+    @needs_module("pyarrow")
     def test_arrow(self) -> None:
         table = self.open(PEOPLE).query("MATCH (p:Person) RETURN p, p.age ORDER BY p.id").to_arrow()
         self.assertEqual(table.to_pydict(), {"p": ["(Person 1)", "(Person 2)", "(Person 3)"], "p.age": [30, None, 25]})
 
-    @needs_module("networkx", "python3-networkx")
+    @needs_module("networkx")
     def test_networkx(self) -> None:
         network = self.open(PEOPLE).query("MATCH (p)-[r:KNOWS]->(q {id: 2}) RETURN r").to_networkx()
         ann, bob = graphq.Node("Person", 1), graphq.Node("Person", 2)
@@ -273,7 +273,7 @@ class Conversions(PackageTest):
 
 
 class Installed(ToolTest):
-    @needs_module("pip", "python3-pip")
+    @needs_module("pip")
     def test_without_a_network(self) -> None:
         """pip finds all it wants here; what it installs has its own program, and stands on nothing of the clone."""
         words = ("--quiet", "--no-index", "--no-deps", "--disable-pip-version-check", "--root-user-action=ignore")
@@ -298,7 +298,9 @@ class Installed(ToolTest):
         with open(TOOLS / "pyproject.toml", "rb") as stream:
             project = tomllib.load(stream)["project"]
         wanted = {*packages.MODULES, *packages.OPTIONAL_MODULES}
-        self.assertEqual({one for extra in project["optional-dependencies"].values() for one in extra}, wanted)
+        self.assertTrue(packages.LEFT_OUT <= {*packages.OPTIONAL_MODULES.values(), *packages.TEST_PROGRAMS.values()})
+        self.assertEqual({one for extra in packages.EXTRAS.values() for one in extra}, wanted)
+        self.assertEqual((project["dynamic"], "optional-dependencies" in project), (["optional-dependencies"], False))
         self.assertEqual((project["version"], project["dependencies"]), (graphq.__version__, []))
         text = (TOP / "docs/tools/README.md").read_text(encoding="utf-8")
         self.assertIn(f"apt-get install --no-install-recommends {' '.join(packages.wanted())}\n", text)

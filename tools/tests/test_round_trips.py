@@ -61,7 +61,7 @@ class RoundTrips(RoundTrip):
     def test_people_by_csv(self) -> None:
         self.through_csv(PEOPLE)
 
-    @needs_module("networkx", "python3-networkx")
+    @needs_module("networkx")
     def test_people_by_graphml(self) -> None:
         """networkx brings edges in the order of their sources, so the numbers of relationships are others."""
         self.done("graphq-export", "graphml", "--manifest", PEOPLE, "--out", self.folder / "there", cwd=TOP)

@@ -467,7 +467,7 @@ class Terminal:
         os.write(self._end, text.encode())
 
 
-@needs_module("prompt_toolkit", "python3-prompt-toolkit")
+@needs_module("prompt_toolkit")
 class AtTerminal(ToolTest):
     def test_answer_stop_and_go_on(self) -> None:
         """Six patterns over 35 stations have 1,838,265,625 matches, which keep the program busy until Ctrl-C."""
