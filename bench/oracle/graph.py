@@ -141,7 +141,7 @@ def read_graph(manifest: str, files: Mapping[str, str]) -> Graph:
 def read_table(text: str, beside: int = 0) -> tuple[list[Field], list[list[str]]]:
     """The fields of a table behind so many other columns, and its records behind the header."""
     source = io.StringIO(text.removeprefix("\ufeff"), newline="")
-    header, *records = [record for record in csv.reader(source) if record]
+    header, *records = (record for record in csv.reader(source) if record)
     fields = [Field(*column.split(":")) for column in header[beside:]]
     return fields, records
 

@@ -7,7 +7,7 @@ from collections.abc import Callable
 
 from . import graphs
 
-TOP = os.path.dirname(os.path.dirname(os.path.abspath(__file__)))
+TOP = os.path.dirname(os.path.dirname(__file__))
 SOURCES = {"floor": "floor", "bag": "tools", "once": "tools"}
 OPTIONS = {"floor": ["-O3", "-march=native"], "bag": ["-O2"], "once": ["-O2"]}
 

@@ -2,7 +2,7 @@
 import os
 import subprocess
 
-TOP = os.path.dirname(os.path.dirname(os.path.dirname(os.path.abspath(__file__))))
+TOP = os.path.dirname(os.path.dirname(os.path.dirname(__file__)))
 
 
 def graphq_of(path: str | None, command: str) -> str:

@@ -99,4 +99,5 @@ def value_of(text: str) -> Value:
 
 def row_of(line: bytes) -> tuple[Value, ...]:
     """The values of a line of a reply."""
-    return tuple([_READ[text[0]](text) for text in line.decode("utf-8").split("\t")])
+    values = [_READ[text[0]](text) for text in line.decode("utf-8").split("\t")]
+    return tuple(values)

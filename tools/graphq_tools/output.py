@@ -11,7 +11,6 @@ from pathlib import Path
 
 from .outcome import Refusal, Status, writing
 
-
 # So many characters have at most so many bytes as a name of a file has room for, with what comes after.
 MOST_STEM = 50
 

@@ -11,9 +11,9 @@ from .support import PEOPLE, PROGRAM, TOP, ToolTest
 
 sys.path.append(str(TOP / "bench"))
 
-from oracle.graph import Graph, read_graph
-from oracle.replies import Permitted, Settings
-from oracle.session import Session
+from oracle.graph import Graph, read_graph  # noqa: E402
+from oracle.replies import Permitted, Settings  # noqa: E402
+from oracle.session import Session  # noqa: E402
 
 DIFFER = TOP / "bench/differ"
 LANGUAGE = TOP / "docs/language.md"
