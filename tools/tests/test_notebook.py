@@ -2,6 +2,7 @@
 
 from __future__ import annotations
 
+import asyncio
 import importlib
 import json
 import os
@@ -52,7 +53,7 @@ class Notebook(ToolTest):
                 cell.outputs = []
         with mock.patch.dict(os.environ, environment):
             where = {"metadata": {"path": str(NOTEBOOK.parent)}}
-            nbclient.NotebookClient(notebook, timeout=60, resources=where).execute()
+            asyncio.run(nbclient.NotebookClient(notebook, timeout=60, resources=where).async_execute())
         wanted = shown(json.loads(NOTEBOOK.read_text(encoding="utf-8"))["cells"])
         self.assertTrue(all(wanted.values()))
         self.assertEqual(shown(notebook.cells), wanted)
