@@ -9,7 +9,7 @@ use Rattle.gq_order.specs.Orders.{plan_by, read_by, with_piece, with_pieces, wit
 use Rattle.gq_order.specs.declared.order.Piece.{Piece}
 use Rattle.gq_order.specs.declared.order.Turn.{Turn}
 use Rattle.gq_order.specs.declared.stats.Stats.{Stats}
-use Rattle.gq_pipe.specs.steps.Cuts.{begins}
+use Rattle.gq_homes.specs.Cuts.{begins}
 use Rattle.gq_plan.proofs.Binding.{covers_nodes}
 use Rattle.gq_plan.specs.Covers.{Covers, after}
 use Rattle.gq_plan.specs.Known.{Known}

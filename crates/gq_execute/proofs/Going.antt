@@ -4,7 +4,7 @@ use Rattle.std.specs.Prelude.{◌⊎◌, ◌||◌, flat_map}
 use Rattle.std.specs.List.{AllZip, fold}
 use Rattle.std.proofs.lemmas.Grind.{flat_map-append}
 use Rattle.gq_pipe.specs.Spending.{up_to_most}
-use Rattle.gq_pipe.specs.declared.pipeline.Spent.{Spent}
+use Rattle.gq_homes.specs.declared.spent.Spent.{Spent}
 use Rattle.std.proofs.lemmas.List.{take-append-drop}
 use Rattle.std.proofs.lemmas.List.Sorted.{IsPermutation-sym}
 use Rattle.gq_base.specs.Values.{Val}

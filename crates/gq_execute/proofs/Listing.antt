@@ -16,8 +16,8 @@ use Rattle.gq_law_plans.proofs.Wholes.{plans_mean}
 use Rattle.gq_optional.specs.Made.{AreFew, AreListed, IsFew, IsPast, IsRefusal, SomeClausePast, SomePast}
 use Rattle.gq_optional.specs.Spending.{HasListed, HasSpentListed, HaveListed, Listing}
 use Rattle.gq_pipe.specs.Spending.{HasSpentAll}
-use Rattle.gq_pipe.specs.declared.pipeline.Spent.{Spent}
-use Rattle.gq_pipe.specs.steps.Cuts.{begins}
+use Rattle.gq_homes.specs.declared.spent.Spent.{Spent}
+use Rattle.gq_homes.specs.Cuts.{begins}
 use Rattle.gq_plan.specs.Assignments.{Assignment}
 use Rattle.gq_plan.specs.Covers.{Covers}
 use Rattle.gq_plan.specs.Meaning.{meaning}

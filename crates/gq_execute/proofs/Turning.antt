@@ -11,7 +11,7 @@ use Rattle.gq_expr.specs.declared.Fault.{Fault}
 use Rattle.gq_pipe.specs.Keys.{key_count}
 use Rattle.gq_pipe.specs.Rest.{Rest}
 use Rattle.gq_pipe.specs.Spending.{HasOneEach, HasSpent, HasSpentAll, runs_of, up_to_most}
-use Rattle.gq_pipe.specs.declared.pipeline.Spent.{Spent}
+use Rattle.gq_homes.specs.declared.spent.Spent.{Spent}
 use Rattle.gq_plan.specs.Columns.{columns_of}
 use Rattle.gq_plan.specs.Covers.{Covers}
 use Rattle.gq_plan.specs.Flat.{is_flat}

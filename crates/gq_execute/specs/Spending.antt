@@ -6,7 +6,7 @@ use Rattle.gq_bound.specs.Binding.{IsBound}
 use Rattle.gq_exists.specs.Spending.{HasSpentEach}
 use Rattle.gq_optional.specs.Spending.{Listing, spent_on_each}
 use Rattle.gq_pipe.specs.Spending.{HasOneEach, HasSpent, HasSpentAll, up_to_most}
-use Rattle.gq_pipe.specs.declared.pipeline.Spent.{Spent}
+use Rattle.gq_homes.specs.declared.spent.Spent.{Spent}
 use Rattle.gq_plan.specs.Covers.{Covers}
 use Rattle.gq_plan.specs.Parts.{sides}
 use Rattle.gq_plan.specs.Plans.{Plan}

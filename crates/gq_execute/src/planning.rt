@@ -5,7 +5,7 @@ ghost use Rattle.gq_execute.specs.Planned.{ArePlansIn, IsPlanIn, sizes};
 ghost use Rattle.gq_execute.specs.Replies.{parts_by};
 ghost use Rattle.gq_execute.specs.steps.Clauses.{IsPlanned};
 ghost use Rattle.gq_execute.specs.steps.Costing.{last_cost};
-ghost use Rattle.gq_pipe.specs.steps.Cuts.{begins};
+ghost use Rattle.gq_homes.specs.Cuts.{begins};
 ghost use Rattle.gq_plan.specs.Covers.{Covers};
 ghost use Rattle.gq_plan.specs.Flat.{is_flat};
 ghost use Rattle.gq_plan.specs.Parts.{IsSide, sides};

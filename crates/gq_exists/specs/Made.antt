@@ -8,7 +8,7 @@ use Rattle.gq_expr.specs.Reading as reading
 use Rattle.gq_join.specs.declared.build.JoinRefusal.{JoinRefusal}
 use Rattle.gq_join.specs.declared.build.JoinRefusal.TheVariants as refusal
 use Rattle.gq_law_answers.specs.Answered.{meanings}
-use Rattle.gq_pipe.specs.declared.pipeline.Spent.{Spent}
+use Rattle.gq_homes.specs.declared.spent.Spent.{Spent}
 use Rattle.gq_plan.specs.Allowed.{at_same}
 use Rattle.gq_plan.specs.Keys.{key_of}
 use Rattle.gq_plan.specs.Plans.{Plan}

@@ -2,7 +2,7 @@
 use Rattle.std.specs.Prelude.{◌≡◌, ℕ, zero, suc, List, [], ◌∷◌}
 use Rattle.gq_base.specs.Plain.{Graph}
 use Rattle.gq_pipe.specs.Spending.{HasSpentAll}
-use Rattle.gq_pipe.specs.declared.pipeline.Spent.{Spent}
+use Rattle.gq_homes.specs.declared.spent.Spent.{Spent}
 use Rattle.gq_plan.specs.Assignments.{Assignment}
 use Rattle.gq_plan.specs.Columns.{columns_of}
 use Rattle.gq_plan.specs.Meaning.{meaning}

@@ -12,7 +12,7 @@ ghost use Rattle.gq_exists.specs.steps.Running.{made_keys, owed_keys};
 ghost use Rattle.gq_pipe.specs.Bound.{binds_all};
 ghost use Rattle.gq_pipe.specs.Progress.{plan_in};
 ghost use Rattle.gq_pipe.specs.Serving.{Serves};
-ghost use Rattle.gq_pipe.specs.steps.Cuts.{begins};
+ghost use Rattle.gq_homes.specs.Cuts.{begins};
 ghost use Rattle.gq_plan.specs.Covers.{Covers};
 ghost use Rattle.gq_law_answers.specs.Answered.{meanings};
 ghost use Rattle.gq_plan.specs.Keys.{has_key, key_of};

@@ -9,9 +9,9 @@ use Rattle.gq_base.specs.Catalogs.{Tables}
 use Rattle.gq_base.specs.Plain.{Graph}
 use Rattle.gq_join.specs.Kept.{Held, Kept, no_row, node_in, place_of, rel_in, row_at}
 use Rattle.gq_pipe.proofs.Assigned.{covers_bind_all, whole_assigned}
-use Rattle.gq_pipe.proofs.Binding.{looks_given}
-use Rattle.gq_pipe.specs.Built.{IsBuildOf, whole_row}
-use Rattle.gq_pipe.specs.Levels.{given}
+use Rattle.gq_steps.proofs.Binding.{looks_given}
+use Rattle.gq_steps.specs.Built.{IsBuildOf, whole_row}
+use Rattle.gq_steps.specs.Given.{given}
 use Rattle.gq_pipe.specs.Sized.{AreSized, HasNumbers}
 use Rattle.gq_plan.specs.Covers.{Covers, after}
 use Rattle.gq_plan.specs.Known.{none}

@@ -3,7 +3,7 @@ use Rattle.std.specs.Prelude.{◌≡◌, List, [], ◌∷◌, ◌++◌, flat_map
 use Rattle.std.specs.List.{AllZip}
 use Rattle.gq_base.specs.Plain.{Graph}
 use Rattle.gq_pipe.specs.Spending.{HasSpentAll, runs_of}
-use Rattle.gq_pipe.specs.declared.pipeline.Spent.{Spent}
+use Rattle.gq_homes.specs.declared.spent.Spent.{Spent}
 use Rattle.gq_plan.specs.Plans.{Plan}
 use Rattle.gq_plan.specs.declared.bound.OptionalPart.{OptionalPart}
 use Rattle.gq_plan.specs.declared.typed.Typed.{Typed}

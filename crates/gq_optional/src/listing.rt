@@ -6,7 +6,7 @@ ghost use Rattle.gq_optional.specs.Made.{IsFew};
 ghost use Rattle.gq_optional.specs.steps.Looked.{places_of};
 ghost use Rattle.gq_optional.specs.steps.Making.{AddsMatches, HasSpentEach, HasSpentOne};
 ghost use Rattle.gq_optional.specs.steps.Making.{IsEachRefusal, IsMatches, IsOneRefusal};
-ghost use Rattle.gq_pipe.specs.steps.Cuts.{begins};
+ghost use Rattle.gq_homes.specs.Cuts.{begins};
 ghost use Rattle.gq_plan.specs.Covers.{Covers};
 ghost use Rattle.gq_plan.specs.Plans.{plan_of};
 ghost use Rattle.gq_plan.specs.Soundness.{IsSound, has_number};

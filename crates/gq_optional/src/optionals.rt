@@ -9,7 +9,7 @@ ghost use Rattle.gq_optional.specs.steps.Levels.{AreLevels, clauses_of};
 ghost use Rattle.gq_optional.specs.steps.Listed.{IsClause};
 ghost use Rattle.gq_optional.specs.steps.Making.{AddsClauses, HasSpentClauses, HasSpentEach};
 ghost use Rattle.gq_optional.specs.steps.Making.{CanHold, IsClauseOf, IsEachRefusal};
-ghost use Rattle.gq_pipe.specs.steps.Cuts.{begins};
+ghost use Rattle.gq_homes.specs.Cuts.{begins};
 ghost use Rattle.gq_plan.specs.Plans.{plan_of};
 ghost use Rattle.gq_pool.specs.Pool.{spare_of};
 ghost use Rattle.gq_wide.specs.Placed.{IsPlaced};

@@ -13,17 +13,17 @@ use Rattle.gq_plan.specs.Rows.{node_table, rel_table}
 use Rattle.gq_plan.specs.declared.assignment.Assignment.{Assignment}
 use Rattle.gq_store.proofs.Reading.{neighbours_below}
 use Rattle.gq_store.specs.Neighbours.{neighbours, numbers}
-use Rattle.gq_pipe.specs.steps.Hops.{IsHop}
-use Rattle.gq_pipe.specs.steps.Levels.{Run, step_at, known}
-use Rattle.gq_pipe.specs.steps.Moves.{IsRun, IsHeld, IsTried}
-use Rattle.gq_pipe.specs.steps.Outcomes.{set_all, with_kept, with_row, with_number}
-use Rattle.gq_pipe.specs.declared.plan_run.Tried.{Tried}
-use Rattle.gq_pipe.specs.declared.plan_run.Tried.TheVariants.{Past, Missed, Made}
-use Rattle.gq_pipe.proofs.Following.{as_many}
-use Rattle.gq_pipe.proofs.Joined.{h, join_tried}
-use Rattle.gq_pipe.proofs.Stepping.{Follows, follows}
-use Rattle.gq_pipe.proofs.Testing.{keep_tried, differ_tried, no_loop_tried}
-use Rattle.gq_pipe.proofs.Tried.{scan_tried, extend_tried, extend_goes, close_tried, close_goes}
+use Rattle.gq_steps.specs.steps.Hops.{IsHop}
+use Rattle.gq_steps.specs.Levels.{Run, step_at, known}
+use Rattle.gq_steps.specs.Moves.{IsRun, IsHeld, IsTried}
+use Rattle.gq_steps.specs.steps.Outcomes.{set_all, with_kept, with_row, with_number}
+use Rattle.gq_steps.specs.declared.plan_run.Tried.{Tried}
+use Rattle.gq_steps.specs.declared.plan_run.Tried.TheVariants.{Past, Missed, Made}
+use Rattle.gq_steps.proofs.Followed.{as_many}
+use Rattle.gq_steps.proofs.Joined.{h, join_tried}
+use Rattle.gq_steps.proofs.Stepping.{Follows, follows}
+use Rattle.gq_steps.proofs.Testing.{keep_tried, differ_tried, no_loop_tried}
+use Rattle.gq_steps.proofs.Trying.{scan_tried, extend_tried, extend_goes, close_tried, close_goes}
 
 -- what is written there already
 row_again : (a : Assignment) (v r : ℕ) → slice_index a.nodes v ≡ r → a ≡ with_row v r a

@@ -1,7 +1,7 @@
 -- The rows and load numbers at one selected position of each group of a chunk are those of the walk of these positions.
-use Rattle.std.proofs.Common.{◌≡◌, ◌⊎◌, inl, inr, ℕ, zero, suc, ◌+◌, ◌-◌, ◌*◌, ◌^◌, ◌<◌, ◌≤◌, Bool, min, true, false, not, ◌&&◌, Some, None, List, [], ◌∷◌, filter, map, length, drop, refl, sym, ap, ap₂, ◌∙◌, subst, arith, true≢false, zero-add}
+use Rattle.std.proofs.Common.{◌≡◌, ◌⊎◌, inl, inr, ℕ, zero, suc, ◌+◌, ◌-◌, ◌*◌, ◌^◌, ◌<◌, ◌≤◌, Bool, min, true, false, not, Some, None, List, [], ◌∷◌, filter, map, length, drop, refl, sym, ap, ap₂, ◌∙◌, subst, arith, true≢false, zero-add}
 use Rattle.std.specs.Prelude.{slice_get, slice_index, slice_index_or, nat_eq, if◌then◌else◌}
-use Rattle.std.specs.List.{list_all, range_with_len, AllByRecursion}
+use Rattle.std.specs.List.{range_with_len, AllByRecursion}
 use Rattle.std.specs.Option.{unwrap_or}
 use Rattle.std.proofs.lemmas.Bool.{and_parts, cases_eq, eq-eqb, ne_eqb}
 use Rattle.std.proofs.lemmas.List.{get_or_default, length-drop, length-map, length-take, drop_more, drop_all}
@@ -21,8 +21,7 @@ use Rattle.gq_group.specs.declared.chunk.Chunk.{Chunk}
 use Rattle.gq_group.specs.declared.home.NodeHome.{NodeHome}
 use Rattle.gq_group.specs.declared.home.NodeHome.TheVariants as node
 use Rattle.gq_group.specs.declared.home.RelHome.TheVariants as rel
-use Rattle.gq_join.specs.Kept.{has_key, matches, matches_of, place_of, rel_in, values_of}
-use Rattle.gq_join.specs.Kept.{node_in as node_in_build}
+use Rattle.gq_join.specs.Kept.{has_key, matches, matches_of, place_of, rel_in, values_of, node_in as node_in_build}
 use Rattle.gq_plan.specs.Covers.{after, fits_step}
 use Rattle.gq_plan.specs.Known.{Known, none}
 use Rattle.gq_plan.specs.Meaning.{nothing}
@@ -37,38 +36,42 @@ use Rattle.gq_walks.specs.Layouts.{piece_of}
 use Rattle.gq_walks.specs.Running.{Runs, cursor_at, keys_of, prefix}
 use Rattle.gq_walks.specs.declared.walker.Cursor.{Cursor}
 use Rattle.gq_walks.proofs.Runs.{length-keys}
-use Rattle.gq_pipe.specs.Built.{HasBuild}
-use Rattle.gq_pipe.specs.Levels.{given}
-use Rattle.gq_pipe.specs.steps.Chunks.{AreStanding, HasKept, KeepsOf, list_of, matches_in, part}
+use Rattle.gq_steps.specs.Built.{HasBuild}
+use Rattle.gq_steps.specs.Given.{given}
+use Rattle.gq_pipe.specs.steps.Chunks.{AreStanding}
+use Rattle.gq_steps.specs.Pieces.{HasKept, KeepsOf, list_of, matches_in, part}
 use Rattle.gq_pipe.specs.Serving.{row_of}
-use Rattle.gq_pipe.specs.steps.Cells.{build_in, cell_of, filled, has_cell, item_in, marks_in, kept_row, led, near_in}
-use Rattle.gq_pipe.specs.steps.Homes.{AreHomes, HasColumn, HasKeptColumn, HasMatch, IsFilling, IsHoused, column_group, filling_at, filling_of, is_forward, kept_of, leading_of, node_home, rel_home}
-use Rattle.gq_pipe.specs.steps.Keeps.{IsRange, IsTriedAt}
-use Rattle.gq_pipe.specs.steps.Levels.{Run, step_at, built_at, known, before}
-use Rattle.gq_pipe.specs.steps.Lists.{no_group, group_at, group_in, groups_in, rows_in, layout_in, Tiles, Stands, EarlierStand}
-use Rattle.gq_pipe.specs.steps.Moves.{IsRun, IsHeld, IsTried}
-use Rattle.gq_pipe.specs.declared.homes.Filling.{Filling}
-use Rattle.gq_pipe.specs.declared.places.GroupSteps.{GroupSteps}
-use Rattle.gq_pipe.specs.declared.plan_run.Tried.{Tried}
-use Rattle.gq_pipe.specs.declared.plan_run.Tried.TheVariants.{Past, Missed, Made}
+use Rattle.gq_homes.specs.Homes.{AreHomes, HasColumn, HasKeptColumn, HasMatch, IsFilling, IsHoused, column_group, filling_at, filling_of, is_forward, kept_of, leading_of, node_home, rel_home}
+use Rattle.gq_homes.specs.steps.Housing.{build_in}
+use Rattle.gq_pipe.specs.steps.Cells.{cell_of, filled, has_cell, item_in, marks_in, kept_row, led, near_in}
+use Rattle.gq_steps.specs.Keeps.{IsRange, IsTriedAt}
+use Rattle.gq_steps.specs.Levels.{Run, step_at, built_at, known, before}
+use Rattle.gq_steps.specs.steps.Lists.{rows_in, layout_in, Stands, EarlierStand}
+use Rattle.gq_steps.specs.Groups.{no_group, group_at, group_in, groups_in, Tiles}
+use Rattle.gq_steps.specs.Moves.{IsRun, IsHeld, IsTried}
+use Rattle.gq_homes.specs.declared.homes.Filling.{Filling}
+use Rattle.gq_steps.specs.declared.group_steps.GroupSteps.{GroupSteps}
+use Rattle.gq_steps.specs.declared.plan_run.Tried.{Tried}
+use Rattle.gq_steps.specs.declared.plan_run.Tried.TheVariants.{Past, Missed, Made}
 use Rattle.gq_pipe.proofs.Agreeing.{TriesItself, joined, join_itself, scan_itself, extend_itself, close_itself, keep_itself, differ_itself, no_loop_itself}
-use Rattle.gq_pipe.proofs.Binding.{fits_at, given_all}
-use Rattle.gq_pipe.proofs.Brings.{side_low}
-use Rattle.gq_pipe.proofs.Brought.{each_passes}
+use Rattle.gq_steps.proofs.Binding.{fits_at, given_all}
+use Rattle.gq_homes.proofs.Brings.{side_low}
+use Rattle.gq_homes.proofs.Brought.{each_passes}
 use Rattle.gq_pipe.proofs.Filling.{AreCells, cell_marked, led_within}
-use Rattle.gq_pipe.proofs.Going.{IsGoing, begins, ends, tried_made, tried_missed, tried_past}
-use Rattle.gq_pipe.proofs.Here.{group_range, group_held, group_makes, group_size, group_told, group_next, group_place, group_others}
-use Rattle.gq_pipe.proofs.Joined.{build, join_count, key_value, IsLow}
-use Rattle.gq_pipe.proofs.Joining.{has, has_kept}
-use Rattle.gq_pipe.proofs.Matched.{match_key, match_low}
+use Rattle.gq_steps.proofs.Going.{IsGoing, begins, ends, tried_made, tried_missed, tried_past}
+use Rattle.gq_steps.proofs.Here.{group_range, group_held, group_makes, group_size, group_told, group_next, group_place, group_others}
+use Rattle.gq_steps.proofs.Joined.{build, join_count, key_value, IsLow}
+use Rattle.gq_steps.proofs.Joining.{has, has_kept}
+use Rattle.gq_steps.proofs.Matched.{match_key, match_low}
 use Rattle.gq_pipe.proofs.Piecing.{list_size}
 use Rattle.gq_pipe.proofs.Pushing.{place_has}
 use Rattle.gq_pipe.proofs.Reading.{place_at, IsHere, here, item_is, first_is, position_small}
 use Rattle.gq_pipe.proofs.Resting.{stands_first}
 use Rattle.gq_pipe.proofs.Sources.{IsIn, fits_there, set_before, known_before}
-use Rattle.gq_pipe.proofs.Standings.{Met, both_stand, same_row, stands_part, prefix_more, tile_at, IsWithin}
-use Rattle.gq_pipe.proofs.Stepping.{Follows, follows}
-use Rattle.gq_pipe.proofs.Tried.{scan_low, scan_count, extend_goes, extend_parts, close_goes}
+use Rattle.gq_steps.proofs.Standings.{Met, both_stand, same_row, stands_part, prefix_more, tile_at, IsWithin}
+use Rattle.gq_steps.proofs.Stepping.{Follows, follows}
+use Rattle.gq_steps.proofs.Trying.{scan_low, scan_count, extend_goes, extend_parts, close_goes}
+use Rattle.gq_sift.proofs.Matching.{join_reads, same_values}
 
 pub way_is : (w : Direction) → way_of (is_forward w) ≡ w
 way_is Forward = refl
@@ -82,19 +85,6 @@ extend_reads catalog y k column x from to w fit = (and_parts (k.nodes from) _ (a
 pub close_reads : (catalog : Tables) (y : Typed) (k : Known) (column : Bool) (x from to : ℕ) (w : Direction) → fits_step catalog y (Close column x from to w) k ≡ true → k.nodes from ≡ true
 unfolding fits_step
 close_reads catalog y k column x from to w fit = (and_parts (k.nodes from) _ (and_parts (not (k.rels x)) _ (and_parts _ _ fit).1).1).0
-
--- numbers that agree at keys which are known twice
-pub same_values : (a k m : ℕ → Bool) (vs xs ys : List ℕ) → list_all (λ v. a v && k v) vs ≡ true → list_all (λ v. a v && m v) vs ≡ true → ((v : ℕ) → k v ≡ true → m v ≡ true → slice_index xs v ≡ slice_index ys v) → values_of vs xs ≡ values_of vs ys
-same_values a k m [] xs ys h e same = refl
-same_values a k m (v ∷ vs) xs ys h e same =
-    let hs = and_parts (a v && k v) (list_all (λ v. a v && k v) vs) h in
-    let es = and_parts (a v && m v) (list_all (λ v. a v && m v) vs) e in
-    ap₂ (λ (x : ℕ) (l : List ℕ). x ∷ l) (same v (and_parts (a v) (k v) hs.0).1 (and_parts (a v) (m v) es.0).1) (same_values a k m vs xs ys hs.1 es.1 same)
-
--- the keys of a join are known where it fits
-pub join_reads : (catalog : Tables) (y : Typed) (k : Known) (side : Plan) (keys : List ℕ) → fits_step catalog y (Join side keys) k ≡ true → list_all (λ v. (after side none).nodes v && k.nodes v) keys ≡ true
-unfolding fits_step
-join_reads catalog y k side keys fit = (and_parts _ _ (and_parts _ _ fit).1).0
 
 module _ (c : Run) (ss : List GroupSteps) (row : Assignment) (cs : List Cursor) (ms : List (List Bool)) (ch : Chunk) (ps : List ℕ) (runs : Runs (layout_in c ss) [] cs ms) (many : length cs ≡ length ss)
     (groups : AreStanding c ss row cs ms ch.groups.now (length ss)) (sel : AreSelected ch.groups.now ps)
@@ -153,7 +143,7 @@ module _ (c : Run) (ss : List GroupSteps) (row : Assignment) (cs : List Cursor) 
     few : j + 1 < 2 ^ 32
     few = let inside = spot.place.inside in let most = spot.few in omega (arith, inside, most)
 
-    inside_of : (n : ℕ) → length (Rattle.gq_pipe.specs.steps.Tries.tries c.graph c.typed (built_at c s.first) (step_at c s.first) (before c read s.first)) ≡ n → j < n
+    inside_of : (n : ℕ) → length (Rattle.gq_steps.specs.Tries.tries c.graph c.typed (built_at c s.first) (step_at c s.first) (before c read s.first)) ≡ n → j < n
     inside_of n e = let inside = spot.place.inside in omega (arith, inside, group_size c ss read i low s found pre long at, e)
 
     -- the load number of a relationship of the group's list

@@ -1,5 +1,5 @@
 -- The chunk of a pipeline that stands.
-use Rattle.std.proofs.Common.{◌≡◌, ℕ, ◌<◌, ◌≤◌, true, false, List, [], ◌∷◌, map, filter, length, refl, sym, ap, ap₂, ◌∙◌, subst, true≢false}
+use Rattle.std.proofs.Common.{◌≡◌, ℕ, ◌≤◌, true, false, List, [], ◌∷◌, map, filter, length, refl, sym, ap, ap₂, ◌∙◌, subst, true≢false}
 use Rattle.std.specs.List.{AllZip}
 use Rattle.std.proofs.lemmas.List.FromFn.{length-map-range_with_len}
 use Rattle.gq_group.specs.Chunks.{IsChunkOf, assignment_at, chunk_meaning}
@@ -20,23 +20,23 @@ use Rattle.gq_walks.specs.declared.walker.State.TheVariants.{Fresh, Standing, Do
 use Rattle.gq_pipe.specs.Bound.{binds_all}
 use Rattle.gq_law_groups.specs.Groups.{makes_group}
 use Rattle.gq_pipe.specs.Keys.{Maker, makers_in}
-use Rattle.gq_pipe.specs.Levels.{given}
+use Rattle.gq_steps.specs.Given.{given}
 use Rattle.gq_pipe.specs.Progress.{plan_in}
 use Rattle.gq_pipe.specs.steps.Chunks.{AreStanding}
-use Rattle.gq_pipe.specs.steps.Homes.{AreHomes}
+use Rattle.gq_homes.specs.Homes.{AreHomes}
 use Rattle.gq_pipe.specs.steps.Given.{bound_by, given_plan}
-use Rattle.gq_pipe.specs.steps.Levels.{Run, step_at}
-use Rattle.gq_pipe.specs.steps.Lists.{layout_in, EarlierStand}
+use Rattle.gq_steps.specs.Levels.{Run, step_at}
+use Rattle.gq_steps.specs.steps.Lists.{layout_in, EarlierStand}
 use Rattle.gq_pipe.specs.steps.Matches.{lists_in, StandNow}
-use Rattle.gq_pipe.specs.steps.Moves.{run_of}
+use Rattle.gq_steps.specs.Moves.{run_of}
 use Rattle.gq_pipe.specs.steps.Search.{has_chunk, layout_of_lists, machine_of, maker_in, rest_of, walked, IsSearch}
-use Rattle.gq_pipe.specs.declared.places.GroupSteps.{GroupSteps}
+use Rattle.gq_steps.specs.declared.group_steps.GroupSteps.{GroupSteps}
 use Rattle.gq_pipe.specs.declared.pipeline.Pipeline.TheInside.{Inside}
 use Rattle.gq_pipe.proofs.Assigned.{whole_assigned}
-use Rattle.gq_pipe.proofs.Binding.{looks_given}
+use Rattle.gq_steps.proofs.Binding.{looks_given}
 use Rattle.gq_pipe.proofs.Chunking.{is_chunk_of, chunk_binds}
 use Rattle.gq_pipe.proofs.Rebinding.{bound_given}
-use Rattle.gq_pipe.proofs.Joined.{IsLow, low_after, low_none}
+use Rattle.gq_steps.proofs.Joined.{IsLow, low_after, low_none}
 use Rattle.gq_pipe.specs.Serving.{HasCells, Serves}
 use Rattle.gq_pool.specs.Slots.{Holds}
 use Rattle.gq_pipe.specs.Shown.{HasShape, IsPieceIn}

@@ -25,40 +25,41 @@ use Rattle.gq_plan.specs.Plans.{Plan, Step, Scan, Extend, Close, Join, Keep, Dif
 use Rattle.gq_plan.specs.Rows.{rel_table}
 use Rattle.gq_plan.specs.Soundness.{has_number}
 use Rattle.gq_plan.specs.declared.assignment.Assignment.{Assignment}
-use Rattle.gq_law_groups.specs.Groups.{decode}
+use Rattle.gq_law_groups.specs.Groups.{decode, makes_group}
 use Rattle.gq_walks.specs.Layouts.{piece_of}
 use Rattle.gq_walks.specs.Running as walk
 use Rattle.gq_walks.specs.Running.{Runs, cursor_at, keys_of, prefix}
 use Rattle.gq_walks.specs.declared.walker.Cursor.{Cursor}
-use Rattle.gq_pipe.specs.Built.{HasBuild}
-use Rattle.gq_pipe.specs.Levels.{given}
-use Rattle.gq_pipe.specs.steps.Chunks.{AreStanding, HasKept, IsGroupAt, KeepsOf, marked_at, current_at}
+use Rattle.gq_steps.specs.Built.{HasBuild}
+use Rattle.gq_steps.specs.Given.{given}
+use Rattle.gq_pipe.specs.steps.Chunks.{AreStanding, IsGroupAt, marked_at, current_at}
+use Rattle.gq_steps.specs.Pieces.{HasKept, KeepsOf}
 use Rattle.gq_pipe.specs.steps.Cells.{has_cell, marks_in}
-use Rattle.gq_pipe.specs.steps.Homes.{AreHomes, InGroup, IsHoused, column_group, filling_at, is_forward, node_home, rel_home}
-use Rattle.gq_pipe.specs.steps.Levels.{Run, step_at, built_at, known, before}
-use Rattle.gq_pipe.specs.steps.Lists.{group_at, groups_in, rows_in, layout_in, Tiles, EarlierStand}
-use Rattle.gq_pipe.specs.declared.homes.Filling.{Filling}
-use Rattle.gq_pipe.specs.declared.places.GroupSteps.{GroupSteps}
-use Rattle.gq_pipe.proofs.Binding.{fits_at}
-use Rattle.gq_pipe.proofs.Brings.{knows_keys}
+use Rattle.gq_homes.specs.Homes.{AreHomes, InGroup, IsHoused, column_group, filling_at, is_forward, node_home, rel_home}
+use Rattle.gq_steps.specs.Levels.{Run, step_at, built_at, known, before}
+use Rattle.gq_steps.specs.steps.Lists.{rows_in, layout_in, EarlierStand}
+use Rattle.gq_steps.specs.Groups.{group_at, groups_in, Tiles}
+use Rattle.gq_homes.specs.declared.homes.Filling.{Filling}
+use Rattle.gq_steps.specs.declared.group_steps.GroupSteps.{GroupSteps}
+use Rattle.gq_steps.proofs.Binding.{fits_at}
+use Rattle.gq_homes.proofs.Brings.{knows_keys}
 use Rattle.gq_pipe.proofs.Chosen.{way_is, reads_walk, node_read, all_stand, AllMade, made}
 use Rattle.gq_pipe.proofs.Filling.{AreCells, cell_marked, out_at}
-use Rattle.gq_pipe.proofs.Homing.{makes_first}
+use Rattle.gq_homes.proofs.Homing.{makes_first}
 use Rattle.gq_pipe.proofs.Matched.{build_of, keeps_rel, piece_rows}
 use Rattle.gq_pipe.proofs.Piecing.{group_here, list_size, list_few, flat_here, piece_inside}
 use Rattle.gq_pipe.proofs.Products.{first_at, shift, shift_long, shift_at, chunk_walks, all_selected, same_on, as_many, items_long, h}
 use Rattle.gq_pipe.proofs.Reading.{place_at, first_is}
-use Rattle.gq_pipe.proofs.Going.{less_held}
-use Rattle.gq_pipe.proofs.Here.{group_makes}
-use Rattle.gq_pipe.proofs.Standings.{all_held, stands_part}
-use Rattle.gq_pipe.proofs.Tried.{extend_can, extend_count, close_can, close_count}
-use Rattle.gq_pipe.specs.steps.Moves.{IsHeld, IsMade}
-use Rattle.gq_pipe.specs.steps.Outcomes.{CanFollow}
-use Rattle.gq_pipe.specs.steps.Tries.{tries}
+use Rattle.gq_steps.proofs.Going.{less_held}
+use Rattle.gq_steps.proofs.Here.{group_makes}
+use Rattle.gq_steps.proofs.Standings.{all_held, stands_part}
+use Rattle.gq_steps.proofs.Trying.{extend_can, extend_count, close_can, close_count}
+use Rattle.gq_steps.specs.Moves.{IsHeld, IsMade}
+use Rattle.gq_steps.specs.Follows.{CanFollow}
+use Rattle.gq_steps.specs.Tries.{tries}
 use Rattle.gq_store.specs.Neighbours.{neighbours}
 use Rattle.gq_walks.proofs.Runs.{length-keys}
 use Rattle.gq_base.specs.declared.direction.Direction.{Direction}
-use Rattle.gq_law_groups.specs.Groups.{makes_group}
 
 map_map : {X Y Z : Type 0} (f : Y → Z) (h : X → Y) (xs : List X) → map f (map h xs) ≡ map (λ x. f (h x)) xs
 map_map f h [] = refl
@@ -362,7 +363,7 @@ module _ (c : Run) (ss : List GroupSteps) (row : Assignment) (cs : List Cursor) 
         behind i e low there none = by (cases_eq e (group_at ss i).first)
           where
             by : (e ≡ (group_at ss i).first) ⊎ (e ≡ (group_at ss i).first → ⊥) → (group_at ss i).first < e
-            by (inl first) = absurd (true≢false (sym (group_makes c ss row i low (group_at ss i) (get_or_default ss i Rattle.gq_pipe.specs.steps.Lists.no_group (group_at ss i) low) (prefix cs i) (length-keys cs i (omega (arith, low, many))) (stands_part c ss row cs i low st)) ∙ ap (λ n. makes_group (step_at c n)) (sym first) ∙ none))
+            by (inl first) = absurd (true≢false (sym (group_makes c ss row i low (group_at ss i) (get_or_default ss i Rattle.gq_steps.specs.Groups.no_group (group_at ss i) low) (prefix cs i) (length-keys cs i (omega (arith, low, many))) (stands_part c ss row cs i low st)) ∙ ap (λ n. makes_group (step_at c n)) (sym first) ∙ none))
             by (inr other) = let above = there.low in omega (arith, above, other)
 
         bound : (e i : ℕ) → e < length c.steps → (low : i < length ss) → InGroup ss i e → (s : Step) → step_at c e ≡ s → IsHoused fs ch.homes.now i s → (known c e).rels x ≡ false → (after_step s (known c e)).rels x ≡ true → IsEdge c.graph (rel_table c.typed x) (edge_at ch ps x)

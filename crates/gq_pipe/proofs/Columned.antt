@@ -14,13 +14,13 @@ use Rattle.gq_pool.specs.Pool.{Pool, IsOut, cell_at, cells_of}
 use Rattle.gq_pipe.specs.Serving.{HasCell, HasCells}
 use Rattle.gq_pool.specs.Slots.{Holds}
 use Rattle.gq_pipe.specs.steps.Cells.{HasSource, cell_of, cell_seen, filled, has_cell, marks_in}
-use Rattle.gq_pipe.specs.steps.Homes.{IsColumnOf, IsFilling, column_group, filling_at, node_home}
-use Rattle.gq_pipe.specs.steps.Levels.{Run}
+use Rattle.gq_homes.specs.Homes.{IsColumnOf, IsFilling, column_group, filling_at, node_home}
+use Rattle.gq_steps.specs.Levels.{Run}
 use Rattle.gq_pipe.specs.steps.Origins.{CanRead, row_from}
-use Rattle.gq_pipe.specs.declared.homes.Filling.{Filling}
-use Rattle.gq_pipe.specs.declared.homes.Filling.TheVariants.{Led, Kept}
+use Rattle.gq_homes.specs.declared.homes.Filling.{Filling}
+use Rattle.gq_homes.specs.declared.homes.Filling.TheVariants.{Led, Kept}
 use Rattle.gq_pipe.specs.declared.origins.Origin.{Origin}
-use Rattle.gq_pipe.specs.declared.places.GroupSteps.{GroupSteps}
+use Rattle.gq_steps.specs.declared.group_steps.GroupSteps.{GroupSteps}
 use Rattle.gq_pipe.proofs.Filling.{cells_more, cells_still, holds_still, length-filled, seen_cell, source_there}
 
 -- the group of a column is one of the groups

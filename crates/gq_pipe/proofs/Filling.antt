@@ -1,9 +1,8 @@
 -- The cells of columns: those that are written, and those that stay.
-use Rattle.std.proofs.Common.{◌≡◌, ◌≢◌, ◌⊎◌, inl, inr, ℕ, zero, suc, ◌+◌, ◌^◌, ◌<◌, ◌≤◌, Bool, true, false, nat_eq, pos, None, Some, List, [], ◌∷◌, ◌++◌, length, refl, sym, ap, ◌∙◌, subst, arith}
-use Rattle.std.specs.Prelude.{slice_get, slice_index, slice_index_or, if◌then◌else◌}
+use Rattle.std.proofs.Common.{◌≡◌, ◌≢◌, ◌⊎◌, inl, inr, ℕ, zero, suc, ◌+◌, ◌<◌, ◌≤◌, Bool, true, false, nat_eq, pos, None, Some, List, [], ◌∷◌, ◌++◌, length, refl, sym, ap, ◌∙◌, subst, arith}
+use Rattle.std.specs.Prelude.{slice_get, slice_index, slice_index_or, if◌then◌else◌, Option}
 use Rattle.std.specs.List.{AllByRecursion}
 use Rattle.std.specs.Option.{unwrap_or}
-use Rattle.std.specs.Prelude.{Option}
 use Rattle.std.proofs.lemmas.Option.{unwrap_or-slice_get}
 use Rattle.std.proofs.lemmas.Bool.{cases_lt, eq-eqb, eqb-true, lt-ltb}
 use Rattle.std.proofs.lemmas.List.{get_or_append_left, get_or_past, get_or_push, length_push}
@@ -26,13 +25,13 @@ use Rattle.gq_pool.specs.Pool.{Pool, IsOut, cells_of}
 use Rattle.gq_pipe.specs.Serving.{HasCell, HasCells, Serves, row_of}
 use Rattle.gq_pool.specs.Slots.{AreApart, Holds}
 use Rattle.gq_pipe.specs.steps.Cells.{HasSource, cell_of, cell_seen, column_of, filled, has_cell, led, marks_in, near_in, near_seen}
-use Rattle.gq_pipe.specs.steps.Homes.{IsColumnOf, IsFilling, filling_at, node_home}
-use Rattle.gq_pipe.specs.steps.Levels.{Run}
+use Rattle.gq_homes.specs.Homes.{IsColumnOf, IsFilling, filling_at, node_home}
+use Rattle.gq_steps.specs.Levels.{Run}
 use Rattle.gq_pipe.specs.steps.Search.{cells_in, cells_when, has_chunk, rest_of}
-use Rattle.gq_pipe.specs.declared.homes.Filling.{Filling}
-use Rattle.gq_pipe.specs.declared.homes.Filling.TheVariants.{Led, Kept}
-use Rattle.gq_pipe.specs.declared.homes.Leading.{Leading}
-use Rattle.gq_pipe.specs.declared.places.GroupSteps.{GroupSteps}
+use Rattle.gq_homes.specs.declared.homes.Filling.{Filling}
+use Rattle.gq_homes.specs.declared.homes.Filling.TheVariants.{Led, Kept}
+use Rattle.gq_homes.specs.declared.homes.Leading.{Leading}
+use Rattle.gq_steps.specs.declared.group_steps.GroupSteps.{GroupSteps}
 use Rattle.gq_plan.specs.Known.{Known}
 use Rattle.gq_pipe.specs.declared.pipeline.Pipeline.TheInside.{Inside}
 use Rattle.gq_walks.specs.declared.walker.State.{State}

@@ -21,9 +21,9 @@ use Rattle.gq_plan.specs.Known.{none}
 use Rattle.gq_plan.specs.Plans.{Plan, Done, Then, Step, Keep, steps, step_of}
 use Rattle.gq_plan.specs.declared.plan.Step as code
 use Rattle.gq_plan.specs.declared.typed.Typed.{Typed}
-use Rattle.gq_pipe.specs.Built.{AreBuilds, FitsBuild}
-use Rattle.gq_pipe.specs.steps.Moves.{referred}
-use Rattle.gq_pipe.proofs.Tried.{get_mapped}
+use Rattle.gq_steps.specs.Built.{AreBuilds, FitsBuild}
+use Rattle.gq_steps.specs.Moves.{referred}
+use Rattle.gq_steps.proofs.Trying.{get_mapped}
 
 module _ (g : Graph) (y : Typed) where
   -- the step and the build of a number

@@ -31,15 +31,16 @@ use Rattle.gq_walks.specs.Different.{AreKeysOf, same_key}
 use Rattle.gq_walks.specs.Layouts.{number_of, walks, key_of}
 use Rattle.gq_walks.proofs.Different.{keys_counted}
 use Rattle.gq_pipe.specs.Keys.{Maker, no_maker, makers_of, build_rows, no_rows, key_count}
-use Rattle.gq_pipe.specs.declared.places.GroupSteps.{GroupSteps}
-use Rattle.gq_pipe.specs.steps.Cuts.{IsCutTo, flag, groups_of}
+use Rattle.gq_steps.specs.declared.group_steps.GroupSteps.{GroupSteps}
+use Rattle.gq_homes.specs.Cuts.{IsCutTo, flag, groups_of}
 use Rattle.gq_pipe.specs.steps.Given.{bound_by, rows_of}
-use Rattle.gq_pipe.specs.steps.Levels.{Run, step_at, built_of}
-use Rattle.gq_pipe.specs.steps.Lists.{no_group, group_at, group_in, groups_in, flat_in, layout_in, rows_in}
-use Rattle.gq_pipe.specs.steps.Moves.{IsRun}
+use Rattle.gq_steps.specs.Levels.{Run, step_at, built_of}
+use Rattle.gq_steps.specs.Groups.{no_group, group_at, group_in, groups_in}
+use Rattle.gq_steps.specs.steps.Lists.{flat_in, layout_in, rows_in}
+use Rattle.gq_steps.specs.Moves.{IsRun}
 use Rattle.gq_pipe.specs.steps.Search.{maker_in}
-use Rattle.gq_pipe.proofs.Binding.{Looks, looks_given}
-use Rattle.gq_pipe.proofs.Cutting.{tiles_plan}
+use Rattle.gq_steps.proofs.Binding.{Looks, looks_given}
+use Rattle.gq_homes.proofs.Cutting.{tiles_plan}
 use Rattle.gq_pipe.proofs.InOrder.{no_joins}
 use Rattle.gq_pipe.proofs.Makers.{made_steps}
 use Rattle.gq_pipe.proofs.Rebinding.{AreRead, AreTabled, own_read, tabled_mean}
@@ -129,7 +130,7 @@ counted_keys g y p rows ks owed flat bag are =
 
 -- ---- a run
 
-module _ (c : Run) (run : IsRun c) (flat : List Bool) (ss : List GroupSteps) (cut : IsCutTo c.steps flat ss (length c.steps)) (begins : Rattle.gq_pipe.specs.steps.Cuts.begins (steps c.steps) ≡ true) (enough : AreFlatEnough c.graph.catalog c.typed (flag flat) 0 (groups_of (steps c.steps)) none)
+module _ (c : Run) (run : IsRun c) (flat : List Bool) (ss : List GroupSteps) (cut : IsCutTo c.steps flat ss (length c.steps)) (begins : Rattle.gq_homes.specs.Cuts.begins (steps c.steps) ≡ true) (enough : AreFlatEnough c.graph.catalog c.typed (flag flat) 0 (groups_of (steps c.steps)) none)
     (p : Plan) (same : after p none ≡ after (steps c.steps) none) (os : List (Option Held)) (made : makers_of (steps_of p) os ≡ map (maker_in c) ss) (each : length os ≡ length (steps_of p)) (told : flat ≡ flags_of c.typed p) where
   abbrev decoded : List ℕ → Partial
   decoded w = decode c.graph c.typed (rows_in c ss) 0 (groups_in c ss) nothing w

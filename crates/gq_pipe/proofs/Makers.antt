@@ -14,9 +14,9 @@ use Rattle.gq_plan.specs.Columns.{steps_of}
 use Rattle.gq_plan.specs.Plans.{Plan, Step, Keep}
 use Rattle.gq_plan.specs.declared.typed.Typed.{Typed}
 use Rattle.gq_pipe.specs.Keys.{Maker, makers_of}
-use Rattle.gq_pipe.specs.declared.places.GroupSteps.{GroupSteps}
-use Rattle.gq_pipe.specs.steps.Levels.{Run}
-use Rattle.gq_pipe.specs.steps.Lists.{Tiles, groups_in}
+use Rattle.gq_steps.specs.declared.group_steps.GroupSteps.{GroupSteps}
+use Rattle.gq_steps.specs.Levels.{Run}
+use Rattle.gq_steps.specs.Groups.{Tiles, groups_in}
 use Rattle.gq_pipe.specs.steps.Search.{maker_in}
 
 -- ---- by numbers

@@ -1,37 +1,26 @@
--- A row that a build has for a key: it is one of the build's rows, and has the key.
-use Rattle.std.proofs.Common.{◌≡◌, ◌∙◌, ℕ, zero, suc, ◌<◌, true, None, Some, List, [], ◌∷◌, map, length, take, drop, slice_get, sym, ap, subst, arith}
-use Rattle.std.specs.Prelude.{slice_index, slice_index_or}
-use Rattle.std.specs.List.{range_with_len, AllByRecursion}
+-- The rows that the build of a join has for the key that stands, and what they have of the kept variables.
+use Rattle.std.proofs.Common.{◌≡◌, ◌∙◌, ℕ, zero, suc, ◌<◌, true, None, Some, List, [], ◌∷◌, length, take, drop, slice_get, sym, ap, subst}
+use Rattle.std.specs.Prelude.{slice_index_or}
+use Rattle.std.specs.List.{AllByRecursion}
 use Rattle.gq_bits.specs.declared.TheConstants.{VECTOR}
 use Rattle.gq_group.specs.Pieces.{items_of}
 use Rattle.gq_group.specs.declared.piece.Piece.{Piece}
-use Rattle.gq_join.specs.Kept.{Held, columns, has_key, matches_of, node_in, place_of}
+use Rattle.gq_join.specs.Kept.{Held, matches_of, place_of}
 use Rattle.gq_plan.specs.Covers.{after, fits_step}
 use Rattle.gq_plan.specs.Known.{none}
 use Rattle.gq_plan.specs.Plans.{Plan, Join}
 use Rattle.gq_plan.specs.declared.assignment.Assignment.{Assignment}
-use Rattle.gq_pipe.specs.Built.{FitsBuild, HasBuild, IsBuildOf}
+use Rattle.gq_steps.specs.Built.{FitsBuild, HasBuild, IsBuildOf}
 use Rattle.gq_pipe.specs.steps.Cells.{CanKeep}
-use Rattle.gq_pipe.specs.steps.Chunks.{IsPieceOf, list_of, matches_in, part}
-use Rattle.gq_pipe.specs.steps.Levels.{Run, known, step_at}
-use Rattle.gq_pipe.specs.steps.Moves.{IsRun}
-use Rattle.gq_pipe.proofs.Binding.{fits_at}
-use Rattle.gq_pipe.proofs.Brings.{side_low}
-use Rattle.gq_pipe.proofs.Joined.{IsLow, all_pass, build_at, filter_low, found_all, range_low}
-use Rattle.gq_pipe.proofs.Joining.{has, has_kept}
+use Rattle.gq_steps.specs.Pieces.{IsPieceOf, list_of, matches_in, part}
+use Rattle.gq_steps.specs.Levels.{Run, known, step_at}
+use Rattle.gq_steps.specs.Moves.{IsRun}
+use Rattle.gq_steps.proofs.Binding.{fits_at}
+use Rattle.gq_homes.proofs.Brings.{side_low}
+use Rattle.gq_steps.proofs.Joined.{IsLow, build_at}
+use Rattle.gq_steps.proofs.Joining.{has, has_kept}
 use Rattle.gq_pipe.proofs.Pushing.{place_has}
-
-module _ (h : Held) (row : Assignment) where
-  -- all matches are rows of the build
-  pub matches_low : AllByRecursion (λ i. i < length h.rows) (matches_of h row)
-  matches_low = filter_low (has_key (columns h) (map (slice_index row.nodes) h.keys)) 0 (length h.rows) (range_with_len 0 (length h.rows)) (range_low 0 (length h.rows) (length h.rows) (omega arith))
-
-  module _ (place i : ℕ) (match : slice_get (matches_of h row) place ≡ Some i) where
-    pub match_low : i < length h.rows
-    match_low = found_all (λ i. i < length h.rows) (matches_of h row) place i matches_low match
-
-    pub match_key : has_key (map (node_in h) h.keys) (map (slice_index row.nodes) h.keys) i ≡ true
-    match_key = found_all (λ j. has_key (columns h) (map (slice_index row.nodes) h.keys) j ≡ true) (matches_of h row) place i (all_pass (has_key (columns h) (map (slice_index row.nodes) h.keys)) (range_with_len 0 (length h.rows))) match
+use Rattle.gq_steps.proofs.Matched.{matches_low}
 
 -- what holds of each number of a list holds of each of a part of it
 pub all_part : (P : ℕ → Type 0) (n m : ℕ) (xs : List ℕ) → AllByRecursion P xs → AllByRecursion P (take n (drop m xs))

@@ -1,65 +1,20 @@
--- The matches of joins: which steps have none, and that they stay while places are tried.
-use Rattle.std.proofs.Common.{Bor, ◌≡◌, ◌⊎◌, inl, inr, ℕ, zero, suc, ◌+◌, ◌-◌, ◌<◌, ◌≤◌, Bool, true, false, None, List, [], ◌∷◌, ◌++◌, length, sym, ap, ◌∙◌, subst, arith, true≢false}
+-- The matches of the groups of a plan stay while places are tried, and one group more has its own.
+use Rattle.std.proofs.Common.{Bor, ◌≡◌, ◌⊎◌, inl, inr, ℕ, zero, suc, ◌+◌, ◌-◌, ◌<◌, ◌≤◌, List, [], ◌∷◌, ◌++◌, length, sym, ap, ◌∙◌, subst, arith}
 use Rattle.std.specs.Prelude.{slice_index_or, slice_set}
 use Rattle.std.proofs.lemmas.Bool.{cases_eq}
 use Rattle.std.proofs.lemmas.List.{get_or_default, get_or-map, get_or-set_same, get_or-set_other, length-append, length-map, length-set, map-set, take-append-le}
-use Rattle.gq_join.specs.Kept.{matches, values_of}
-use Rattle.gq_plan.specs.Covers.{after, fits_step}
-use Rattle.gq_plan.specs.Known.{none}
-use Rattle.gq_plan.specs.Plans.{Plan, Step, Join, step_of}
+use Rattle.gq_join.specs.Kept.{matches}
 use Rattle.gq_plan.specs.declared.assignment.Assignment.{Assignment}
-use Rattle.gq_plan.specs.declared.plan.Step as code
-use Rattle.gq_law_groups.specs.Groups.{makes_group}
-use Rattle.gq_pipe.specs.Built.{HasBuild}
-use Rattle.gq_pipe.specs.steps.Chunks.{matches_in}
-use Rattle.gq_pipe.specs.steps.Keeps.{IsRange}
-use Rattle.gq_pipe.specs.steps.Levels.{Run, step_at, known}
-use Rattle.gq_pipe.specs.steps.Lists.{no_group, group_at, Tiles, Stands, EarlierStand}
-use Rattle.gq_pipe.specs.steps.Matches.{AreMatches, HaveMatches, StandNow, StandOpen, lists_in}
-use Rattle.gq_pipe.specs.steps.Moves.{run_of, steps_in, IsRun, IsHeld, IsAlike}
-use Rattle.gq_pipe.specs.declared.places.GroupSteps.{GroupSteps}
-use Rattle.gq_pipe.specs.declared.plan_run.PlanRun.{PlanRun}
-use Rattle.gq_pipe.proofs.Binding.{fits_at}
-use Rattle.gq_pipe.proofs.Chosen.{join_reads, same_values}
-use Rattle.gq_pipe.proofs.Going.{IsGoing, less_alike, less_held}
-use Rattle.gq_pipe.proofs.Joined.{build}
-use Rattle.gq_pipe.proofs.Standings.{IsWithin, tile_at}
-use Rattle.gq_pipe.proofs.Tried.{step_is}
-
-abbrev pub is_join : Step → Bool
-is_join (Join side keys) = true
-is_join s = false
-
--- another step has none
-pub no_matches : (k : PlanRun) (d : ℕ) → d < length (steps_in k) → (row : Assignment) (x s : code.Step) (t : Step) → slice_index_or (steps_in k) d x ≡ s → step_of s ≡ t → is_join t ≡ false → AreMatches (run_of k) d row []
-no_matches k d low row x s t is same other = record {
-  few = omega arith;
-  are = λ side keys e. absurd (true≢false (ap is_join (sym e ∙ step_is k d low x s t is same) ∙ other));
-}
-
--- they stay where what is bound before the step does
-pub same_matches : (c : Run) → IsRun c → (d : ℕ) → d < length c.steps → (old new : Assignment) → IsHeld c old (known c d) → IsAlike (known c d) old new → (ms : List ℕ) → AreMatches c d old ms → AreMatches c d new ms
-same_matches c run d low old new held alike ms m = record { few = m.few; are = λ side keys is. m.are side keys is ∙ same side keys is }
-  where
-    same : (side : Plan) (keys : List ℕ) → step_at c d ≡ Join side keys → matches_in (slice_index_or c.builds d None) old ≡ matches_in (slice_index_or c.builds d None) new
-    same side keys is =
-        let b : HasBuild c.graph c.typed side keys (slice_index_or c.builds d None) = build c run d low old held side keys is in
-        let reads = join_reads c.graph.catalog c.typed (known c d) side keys (subst (λ t. fits_step c.graph.catalog c.typed t (known c d) ≡ true) is (fits_at c run d low)) in
-        let values : values_of b.build.keys old.nodes ≡ values_of b.build.keys new.nodes =
-        ap (λ ks. values_of ks old.nodes) b.is.key_list
-        ∙ same_values (after side none).nodes (known c d).nodes (known c d).nodes keys old.nodes new.nodes reads reads (λ v one two. sym (alike.nodes v one))
-        ∙ ap (λ ks. values_of ks new.nodes) (sym b.is.key_list) in
-        ap (λ o. matches_in o old) b.there ∙ ap (matches b.build) values ∙ sym (ap (λ o. matches_in o new) b.there)
-
--- behind the step that makes a group no step of it is a join
-pub going_matches : (c : Run) (group : GroupSteps) → IsRange c group → (place : ℕ) (old : Assignment) (d : ℕ) (row : Assignment) → IsGoing c group place old d row → d < group.end → (ms : List ℕ) → AreMatches c group.first old ms → AreMatches c d row ms
-going_matches c group range place old d row g below ms m = go (cases_eq d group.first)
-  where
-    go : (d ≡ group.first) ⊎ (d ≡ group.first → ⊥) → AreMatches c d row ms
-    go (inl e) = subst (λ n. AreMatches c n row ms) (sym e) (subst (λ (r : Assignment). AreMatches c group.first r ms) (sym (g.start e)) m)
-    go (inr other) =
-        let low = g.low in
-        record { few = m.few; are = λ side keys is. absurd (true≢false (sym (ap makes_group is) ∙ range.tests d (omega (arith, low, other)) below)) }
+use Rattle.gq_steps.specs.Levels.{Run, known}
+use Rattle.gq_steps.specs.steps.Lists.{Stands, EarlierStand}
+use Rattle.gq_steps.specs.Groups.{no_group, group_at, Tiles}
+use Rattle.gq_steps.specs.Matches.{AreMatches}
+use Rattle.gq_pipe.specs.steps.Matches.{HaveMatches, StandNow, StandOpen, lists_in}
+use Rattle.gq_steps.specs.Moves.{IsRun, IsHeld, IsAlike}
+use Rattle.gq_steps.specs.declared.group_steps.GroupSteps.{GroupSteps}
+use Rattle.gq_steps.proofs.Going.{less_alike, less_held}
+use Rattle.gq_steps.proofs.Standings.{IsWithin, tile_at}
+use Rattle.gq_sift.proofs.Matching.{same_matches}
 
 -- ---- those of the first groups
 

@@ -1,53 +1,31 @@
 -- The whole list of a group has as many items as its step has places, and a piece is a part of it.
-use Rattle.std.proofs.Common.{◌≡◌, ◌≢◌, ◌⊎◌, inl, inr, set, ℕ, zero, suc, ◌+◌, ◌*◌, ◌^◌, ◌<◌, Bool, true, false, not, ◌&&◌, nat_eq, Some, List, [], ◌∷◌, length, slice_get, refl, sym, ap, ◌∙◌, subst, arith, true≢false}
+use Rattle.std.proofs.Common.{◌≡◌, ◌≢◌, ◌⊎◌, inl, inr, set, ℕ, zero, suc, ◌+◌, ◌*◌, ◌^◌, ◌<◌, Bool, true, false, Some, List, [], ◌∷◌, length, slice_get, refl, sym, ap, ◌∙◌, subst, arith, true≢false}
 use Rattle.std.specs.Int.{div_ceil}
 use Rattle.std.specs.Prelude.{slice_index_or}
-use Rattle.std.proofs.lemmas.Bool.{and_parts, cases_eq}
+use Rattle.std.proofs.lemmas.Bool.{cases_eq}
 use Rattle.std.proofs.lemmas.List.{get_or_default}
 use Rattle.std.proofs.lemmas.List.FromFn.{length-range_with_len}
 use Rattle.gq_bits.specs.declared.TheConstants.{VECTOR}
-use Rattle.gq_base.specs.Valid.{is_single}
-use Rattle.gq_base.specs.declared.RelTable.{RelTable}
-use Rattle.gq_base.specs.declared.direction.Direction.{Direction}
 use Rattle.gq_law_groups.specs.Groups.{makes_group}
-use Rattle.gq_plan.specs.Covers.{goes, start_of, end_of, agrees}
-use Rattle.gq_plan.specs.Meaning.{holds}
 use Rattle.gq_plan.specs.Plans.{Step, Scan, Extend, Close, Join, Keep, Differ, NoLoop}
-use Rattle.gq_plan.specs.Rows.{rel_table, table_of}
 use Rattle.gq_plan.specs.declared.assignment.Assignment.{Assignment}
-use Rattle.gq_store.specs.Neighbours.{is_listed, allows_many, mult_of}
 use Rattle.gq_walks.specs.Layouts.{numbers_in, piece_of}
 use Rattle.gq_walks.specs.Running.{IsGroup, Runs, cursor_at, keys_of, prefix}
 use Rattle.gq_walks.specs.declared.walker.Cursor.{Cursor}
 use Rattle.gq_walks.proofs.Runs.{length-keys}
 use Rattle.gq_group.specs.declared.group.Group.{Group}
-use Rattle.gq_pipe.specs.steps.Chunks.{AreStanding, CanStand, HasGroup, IsGroupAt, list_of, matches_in}
-use Rattle.gq_pipe.specs.steps.Levels.{Run, step_at, built_at, known, before}
-use Rattle.gq_pipe.specs.steps.Lists.{no_group, group_at, flat_in, layout_in, Stands, EarlierStand}
-use Rattle.gq_pipe.specs.steps.Moves.{IsRun, IsHeld}
-use Rattle.gq_pipe.specs.steps.Tries.{tries}
-use Rattle.gq_pipe.specs.declared.places.GroupSteps.{GroupSteps}
-use Rattle.gq_pipe.proofs.Here.{group_held, group_makes, group_size}
-use Rattle.gq_pipe.proofs.Joined.{build, join_count}
-use Rattle.gq_pipe.proofs.Standings.{group_runs, stands_part, tile_at, IsWithin}
-use Rattle.gq_pipe.proofs.Stepping.{holds_some}
-use Rattle.gq_pipe.proofs.Tried.{scan_count, extend_count, close_count}
-
--- where a step that makes a group follows relationships, these stand in a list
-pub listed_is : (c : Run) (from to x : ℕ) (way : Direction) → holds (goes c.graph.catalog false from to way) (slice_get c.typed.rels x) ≡ true → is_listed c.graph (rel_table c.typed x) way ≡ true
-listed_is c from to x way h =
-    let r = holds_some (goes c.graph.catalog false from to way) (slice_get c.typed.rels x) h in
-    let both = and_parts (nat_eq from (start_of way r.0) && nat_eq to (end_of way r.0)) _ r.2 in
-    let t = holds_some (λ (table : RelTable). agrees false (is_single table.mult way)) (slice_get c.graph.catalog.rels r.0.table) both.1 in
-    ap (λ o. allows_many (mult_of (slice_get c.graph.catalog.rels (table_of o))) way) r.1 ∙ ap (λ o. allows_many (mult_of o) way) t.1 ∙ t.2
-
--- where a step follows relationships of which a row has one at most, these do not
-pub single_is : (c : Run) (from to x : ℕ) (way : Direction) → holds (goes c.graph.catalog true from to way) (slice_get c.typed.rels x) ≡ true → is_listed c.graph (rel_table c.typed x) way ≡ false
-single_is c from to x way h =
-    let r = holds_some (goes c.graph.catalog true from to way) (slice_get c.typed.rels x) h in
-    let both = and_parts (nat_eq from (start_of way r.0) && nat_eq to (end_of way r.0)) _ r.2 in
-    let t = holds_some (λ (table : RelTable). agrees true (is_single table.mult way)) (slice_get c.graph.catalog.rels r.0.table) both.1 in
-    ap (λ o. allows_many (mult_of (slice_get c.graph.catalog.rels (table_of o))) way) r.1 ∙ ap (λ o. allows_many (mult_of o) way) t.1 ∙ ap not t.2
+use Rattle.gq_pipe.specs.steps.Chunks.{AreStanding, CanStand, HasGroup, IsGroupAt}
+use Rattle.gq_steps.specs.Pieces.{list_of, matches_in}
+use Rattle.gq_steps.specs.Levels.{Run, step_at, built_at, known, before}
+use Rattle.gq_steps.specs.steps.Lists.{flat_in, layout_in, Stands, EarlierStand}
+use Rattle.gq_steps.specs.Groups.{no_group, group_at}
+use Rattle.gq_steps.specs.Moves.{IsRun, IsHeld}
+use Rattle.gq_steps.specs.Tries.{tries}
+use Rattle.gq_steps.specs.declared.group_steps.GroupSteps.{GroupSteps}
+use Rattle.gq_steps.proofs.Here.{group_held, group_makes, group_size}
+use Rattle.gq_steps.proofs.Joined.{build, join_count}
+use Rattle.gq_steps.proofs.Standings.{group_runs, stands_part, tile_at, IsWithin}
+use Rattle.gq_steps.proofs.Trying.{scan_count, extend_count, close_count}
 
 module _ (c : Run) (run : IsRun c) (d : ℕ) (low : d < length c.steps) (row : Assignment) (held : IsHeld c row (known c d)) where
   pub list_long : makes_group (step_at c d) ≡ true → length (tries c.graph c.typed (built_at c d) (step_at c d) (before c row d)) ≡ length (list_of c d row (step_at c d))

@@ -16,12 +16,14 @@ use Rattle.gq_walks.specs.Running as walk
 use Rattle.gq_walks.specs.Running.{IsGroup, Runs, cursor_at, keys_of, no_cursor, prefix}
 use Rattle.gq_walks.specs.declared.walker.Cursor.{Cursor}
 use Rattle.gq_walks.proofs.Runs.{live-flat}
-use Rattle.gq_pipe.specs.steps.Chunks.{AreStanding, HasGroup, list_of}
-use Rattle.gq_pipe.specs.steps.Levels.{Run, step_at}
-use Rattle.gq_pipe.specs.steps.Lists.{group_at, layout_in, EarlierStand}
-use Rattle.gq_pipe.specs.declared.places.GroupSteps.{GroupSteps}
+use Rattle.gq_pipe.specs.steps.Chunks.{AreStanding, HasGroup}
+use Rattle.gq_steps.specs.Pieces.{list_of}
+use Rattle.gq_steps.specs.Levels.{Run, step_at}
+use Rattle.gq_steps.specs.steps.Lists.{layout_in, EarlierStand}
+use Rattle.gq_steps.specs.Groups.{group_at}
+use Rattle.gq_steps.specs.declared.group_steps.GroupSteps.{GroupSteps}
 use Rattle.gq_pipe.proofs.Piecing.{group_here, list_size, flat_here, piece_inside}
-use Rattle.gq_pipe.proofs.Standings.{prefix_more}
+use Rattle.gq_steps.proofs.Standings.{prefix_more}
 
 -- ---- selected positions
 

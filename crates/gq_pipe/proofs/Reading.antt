@@ -14,11 +14,13 @@ use Rattle.gq_walks.specs.Layouts.{Layout, IsPlace, piece_of}
 use Rattle.gq_walks.specs.Running.{IsGroup, Runs, cursor_at, prefix}
 use Rattle.gq_walks.specs.declared.walker.Cursor.{Cursor}
 use Rattle.gq_walks.proofs.Runs.{flat-place, piece-place}
-use Rattle.gq_pipe.specs.steps.Chunks.{AreStanding, HasGroup, IsGroupAt, marked_at, list_of}
-use Rattle.gq_pipe.specs.steps.Levels.{Run, step_at}
-use Rattle.gq_pipe.specs.steps.Lists.{group_at, flat_in, layout_in}
-use Rattle.gq_pipe.specs.declared.places.GroupSteps.{GroupSteps}
-use Rattle.gq_pipe.proofs.Standings.{group_runs}
+use Rattle.gq_pipe.specs.steps.Chunks.{AreStanding, HasGroup, IsGroupAt, marked_at}
+use Rattle.gq_steps.specs.Pieces.{list_of}
+use Rattle.gq_steps.specs.Levels.{Run, step_at}
+use Rattle.gq_steps.specs.steps.Lists.{flat_in, layout_in}
+use Rattle.gq_steps.specs.Groups.{group_at}
+use Rattle.gq_steps.specs.declared.group_steps.GroupSteps.{GroupSteps}
+use Rattle.gq_steps.proofs.Standings.{group_runs}
 
 -- ---- the position of a group in its whole list
 

@@ -19,21 +19,21 @@ use Rattle.gq_plan.specs.Plans.{Plan}
 use Rattle.gq_plan.specs.Rows.{node_at, node_table}
 use Rattle.gq_plan.specs.declared.assignment.Assignment.{Assignment}
 use Rattle.gq_plan.specs.declared.typed.Typed.{Typed}
-use Rattle.gq_pipe.specs.Built.{IsBuildOf, kept_nodes, kept_rels, whole_row}
+use Rattle.gq_steps.specs.Built.{IsBuildOf, kept_nodes, kept_rels, whole_row}
 use Rattle.gq_pipe.specs.Keys.{key_count}
-use Rattle.gq_pipe.specs.Levels.{given}
+use Rattle.gq_steps.specs.Given.{given}
 use Rattle.gq_pipe.specs.Rest.{Rest}
 use Rattle.gq_pipe.specs.Sized.{AreSized, HasNumbers}
 use Rattle.gq_pipe.specs.Spending.{HasSpentAll, up_to_most}
 use Rattle.gq_plan.specs.Columns.{columns_of}
-use Rattle.gq_pipe.specs.declared.pipeline.Spent.{Spent}
+use Rattle.gq_homes.specs.declared.spent.Spent.{Spent}
 use Rattle.gq_pipe.specs.steps.Built.{side_build}
 use Rattle.gq_pipe.specs.steps.Filled.{HasRun, IsFilled}
 use Rattle.gq_pipe.specs.steps.Limits.{IsRefusal}
-use Rattle.gq_pipe.specs.steps.Moves.{IsAlike}
-use Rattle.gq_pipe.proofs.Binding.{given_alike, looks_given}
-use Rattle.gq_pipe.proofs.Joined.{IsLow}
-use Rattle.gq_pipe.proofs.Joining.{has, has_kept}
+use Rattle.gq_steps.specs.Moves.{IsAlike}
+use Rattle.gq_steps.proofs.Binding.{given_alike, looks_given}
+use Rattle.gq_steps.proofs.Joined.{IsLow}
+use Rattle.gq_steps.proofs.Joining.{has, has_kept}
 use Rattle.gq_pipe.proofs.Pushing.{place_has, length-meaning}
 use Rattle.gq_pipe.proofs.Stored.{Stores, look_stored, mean_stores}
 

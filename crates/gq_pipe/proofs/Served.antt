@@ -10,22 +10,25 @@ use Rattle.gq_group.specs.declared.home.NodeHome.TheVariants.{Column}
 use Rattle.gq_walks.specs.Layouts.{piece_of}
 use Rattle.gq_walks.specs.Running.{cursor_at, keys_of, prefix}
 use Rattle.gq_walks.specs.declared.walker.State.TheVariants.{Standing}
-use Rattle.gq_pipe.specs.Built.{HasBuild}
-use Rattle.gq_pipe.specs.steps.Cells.{CanKeep, HasMatches, build_in, item_in}
-use Rattle.gq_pipe.specs.steps.Chunks.{HasGroup, IsPieceOf}
-use Rattle.gq_pipe.specs.steps.Homes.{IsColumnOf, IsFilling, filling_at, node_home}
-use Rattle.gq_pipe.specs.steps.Levels.{Run, known}
-use Rattle.gq_pipe.specs.steps.Lists.{EarlierStand, no_group, group_at}
+use Rattle.gq_steps.specs.Built.{HasBuild}
+use Rattle.gq_pipe.specs.steps.Cells.{CanKeep, HasMatches, item_in}
+use Rattle.gq_homes.specs.Homes.{IsColumnOf, IsFilling, filling_at, node_home}
+use Rattle.gq_homes.specs.steps.Housing.{build_in}
+use Rattle.gq_pipe.specs.steps.Chunks.{HasGroup}
+use Rattle.gq_steps.specs.Pieces.{IsPieceOf}
+use Rattle.gq_steps.specs.Levels.{Run, known}
+use Rattle.gq_steps.specs.steps.Lists.{EarlierStand}
+use Rattle.gq_steps.specs.Groups.{no_group, group_at}
 use Rattle.gq_pipe.specs.steps.Matches.{lists_in, StandNow}
-use Rattle.gq_pipe.specs.steps.Moves.{run_of, IsRun}
+use Rattle.gq_steps.specs.Moves.{run_of, IsRun}
 use Rattle.gq_pipe.specs.steps.Search.{IsSearch}
-use Rattle.gq_pipe.specs.declared.homes.Filling.{Filling}
-use Rattle.gq_pipe.specs.declared.homes.Filling.TheVariants.{Led, Kept}
+use Rattle.gq_homes.specs.declared.homes.Filling.{Filling}
+use Rattle.gq_homes.specs.declared.homes.Filling.TheVariants.{Led, Kept}
 use Rattle.gq_pipe.specs.declared.pipeline.Pipeline.TheInside.{Inside}
-use Rattle.gq_pipe.proofs.Here.{group_held}
+use Rattle.gq_steps.proofs.Here.{group_held}
 use Rattle.gq_pipe.proofs.Matched.{build_of, keeps_node, piece_rows, row_kept}
 use Rattle.gq_pipe.proofs.Resting.{stands_now}
-use Rattle.gq_pipe.proofs.Standings.{stands_part}
+use Rattle.gq_steps.proofs.Standings.{stands_part}
 
 module _ (p : Inside) (inv : IsSearch p) (now : p.walker.state ≡ Standing) where
   abbrev c : Run

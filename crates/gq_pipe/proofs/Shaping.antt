@@ -19,19 +19,21 @@ use Rattle.gq_walks.specs.Running.{Runs, cursor_at, keys_of, prefix}
 use Rattle.gq_walks.specs.declared.walker.Cursor.{Cursor}
 use Rattle.gq_walks.proofs.Runs.{length-keys}
 use Rattle.gq_pipe.specs.Shown.{IsPieceIn, whole_list}
-use Rattle.gq_pipe.specs.steps.Chunks.{AreStanding, HasGroup, list_of, matches_in, part}
-use Rattle.gq_pipe.specs.steps.Homes.{AreHomes}
-use Rattle.gq_pipe.specs.steps.Levels.{Run, step_at}
-use Rattle.gq_pipe.specs.steps.Lists.{no_group, group_at, layout_in, EarlierStand, Stands}
+use Rattle.gq_pipe.specs.steps.Chunks.{AreStanding, HasGroup}
+use Rattle.gq_steps.specs.Pieces.{list_of, matches_in, part}
+use Rattle.gq_homes.specs.Homes.{AreHomes}
+use Rattle.gq_steps.specs.Levels.{Run, step_at}
+use Rattle.gq_steps.specs.Groups.{no_group, group_at}
+use Rattle.gq_steps.specs.steps.Lists.{layout_in, EarlierStand, Stands}
 use Rattle.gq_pipe.specs.steps.Search.{maker_in}
-use Rattle.gq_pipe.specs.declared.homes.Filling.{Filling}
-use Rattle.gq_pipe.specs.declared.places.GroupSteps.{GroupSteps}
+use Rattle.gq_homes.specs.declared.homes.Filling.{Filling}
+use Rattle.gq_steps.specs.declared.group_steps.GroupSteps.{GroupSteps}
 use Rattle.gq_pipe.proofs.Chosen.{all_stand}
 use Rattle.gq_pipe.proofs.Filling.{AreCells}
-use Rattle.gq_pipe.proofs.Here.{group_held, group_makes}
+use Rattle.gq_steps.proofs.Here.{group_held, group_makes}
 use Rattle.gq_pipe.proofs.Products.{all_selected}
 use Rattle.gq_pipe.proofs.Showing.{HasItem, IsMadeBy, zip_at, zip_mapped}
-use Rattle.gq_pipe.proofs.Standings.{IsWithin, Met, both_stand, stands_part, tile_at}
+use Rattle.gq_steps.proofs.Standings.{IsWithin, Met, both_stand, stands_part, tile_at}
 use Rattle.gq_pipe.proofs.Staying.{same_list}
 
 whole_is : (c : Run) (d : ℕ) (row : Assignment) (s : Step) → list_of c d row s ≡ whole_list c.graph c.typed s (slice_index_or c.builds d None) row

@@ -13,11 +13,12 @@ use Rattle.gq_plan.specs.Plans.{Plan, Done, Then, Step, Scan, Extend, Close, Joi
 use Rattle.gq_plan.specs.Shapes.{all_flat, form_of, next_group, places, shape_from, shape_with}
 use Rattle.gq_plan.specs.Soundness.{has_number}
 use Rattle.gq_plan.specs.declared.typed.Typed.{Typed}
-use Rattle.gq_pipe.specs.Shown.{HasForm, HasShape, form_in, is_flat, shape_in}
+use Rattle.gq_steps.specs.Pieces.{HasForm}
+use Rattle.gq_pipe.specs.Shown.{HasShape, form_in, is_flat, shape_in}
 use Rattle.gq_pipe.specs.steps.Chunks.{current_at}
-use Rattle.gq_pipe.specs.steps.Levels.{Run, step_at}
-use Rattle.gq_pipe.specs.steps.Lists.{no_group, group_at}
-use Rattle.gq_pipe.specs.declared.places.GroupSteps.{GroupSteps}
+use Rattle.gq_steps.specs.Levels.{Run, step_at}
+use Rattle.gq_steps.specs.Groups.{no_group, group_at}
+use Rattle.gq_steps.specs.declared.group_steps.GroupSteps.{GroupSteps}
 
 -- ---- two lists, place by place
 

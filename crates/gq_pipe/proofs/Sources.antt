@@ -13,14 +13,14 @@ use Rattle.gq_plan.specs.Known.{Known, none}
 use Rattle.gq_plan.specs.Plans.{Step, Scan, Extend, Close, Join, Keep, Differ, NoLoop}
 use Rattle.gq_plan.specs.declared.typed.Typed.{Typed}
 use Rattle.gq_plan.specs.Soundness.{has_number}
-use Rattle.gq_pipe.specs.steps.Homes.{IsHoused, node_home}
-use Rattle.gq_pipe.specs.steps.Levels.{Run, step_at, known}
-use Rattle.gq_pipe.specs.steps.Lists.{group_in}
-use Rattle.gq_pipe.specs.steps.Moves.{IsRun}
-use Rattle.gq_pipe.specs.declared.homes.Filling.{Filling}
-use Rattle.gq_pipe.specs.declared.places.GroupSteps.{GroupSteps}
-use Rattle.gq_pipe.proofs.Binding.{fits_at}
-use Rattle.gq_pipe.proofs.Brings.{KnowsKeys, knows_keys, no_keys}
+use Rattle.gq_homes.specs.Homes.{IsHoused, node_home}
+use Rattle.gq_steps.specs.Levels.{Run, step_at, known}
+use Rattle.gq_steps.specs.Groups.{group_in}
+use Rattle.gq_steps.specs.Moves.{IsRun}
+use Rattle.gq_homes.specs.declared.homes.Filling.{Filling}
+use Rattle.gq_steps.specs.declared.group_steps.GroupSteps.{GroupSteps}
+use Rattle.gq_steps.proofs.Binding.{fits_at}
+use Rattle.gq_homes.proofs.Brings.{KnowsKeys, knows_keys, no_keys}
 
 -- a step behind the first of a group fits where what the steps before it bind is known
 placed_fits : (catalog : Tables) (y : Typed) (checks : List Step) (k : Known) (n : ℕ) → n < length checks → ArePlaced catalog y checks k → fits_step catalog y (slice_index_or checks n (Keep 0)) (after_all (take n checks) k) ≡ true

@@ -31,21 +31,22 @@ use Rattle.gq_plan.specs.declared.typed.Typed.{Typed}
 use Rattle.gq_plan.specs.Flat.{is_flat}
 use Rattle.gq_walks.specs.Different.{AreKeysOf}
 use Rattle.gq_walks.specs.Layouts.{walks}
-use Rattle.gq_pipe.specs.Built.{AreBuilds}
+use Rattle.gq_steps.specs.Built.{AreBuilds}
 use Rattle.gq_pipe.specs.Keys.{assignment_key, build_rows, makers_in, makers_of, key_count}
-use Rattle.gq_pipe.specs.Levels.{given}
-use Rattle.gq_pipe.specs.steps.Cuts.{begins, flag, groups_of, IsCutTo}
+use Rattle.gq_steps.specs.Given.{given}
+use Rattle.gq_homes.specs.Cuts.{begins, flag, groups_of, IsCutTo}
 use Rattle.gq_pipe.specs.steps.Given.{RunsPlan, bound_by, given_plan, numbers_of}
-use Rattle.gq_pipe.specs.steps.Homes.{AreHomes}
-use Rattle.gq_pipe.specs.steps.Levels.{Run}
-use Rattle.gq_pipe.specs.steps.Lists.{IsGrouped, groups_in, layout_in, rows_in}
-use Rattle.gq_pipe.specs.steps.Moves.{IsRun, builds_in, run_of, steps_in}
-use Rattle.gq_pipe.specs.declared.homes.Filling.{Filling}
-use Rattle.gq_pipe.specs.declared.places.GroupSteps.{GroupSteps}
-use Rattle.gq_pipe.specs.declared.plan_run.PlanRun.{PlanRun}
+use Rattle.gq_homes.specs.Homes.{AreHomes}
+use Rattle.gq_steps.specs.Levels.{Run}
+use Rattle.gq_steps.specs.steps.Lists.{IsGrouped, layout_in, rows_in}
+use Rattle.gq_steps.specs.Groups.{groups_in}
+use Rattle.gq_steps.specs.Moves.{IsRun, builds_in, run_of, steps_in}
+use Rattle.gq_homes.specs.declared.homes.Filling.{Filling}
+use Rattle.gq_steps.specs.declared.group_steps.GroupSteps.{GroupSteps}
+use Rattle.gq_steps.specs.declared.plan_run.PlanRun.{PlanRun}
 use Rattle.gq_pipe.specs.steps.Search.{AreGiven, maker_in, source_in}
 use Rattle.gq_pipe.proofs.InOrder.{builds_ordered, ordered_sum, same_bound}
-use Rattle.gq_pipe.proofs.Joined.{builds_many}
+use Rattle.gq_steps.proofs.Joined.{builds_many}
 use Rattle.gq_pipe.proofs.Keyed.{counted_keys, keyed}
 use Rattle.gq_pipe.proofs.Makers.{makers_ordered, makers_run}
 use Rattle.gq_pipe.proofs.Rebinding.{bound_self}

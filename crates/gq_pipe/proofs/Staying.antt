@@ -19,18 +19,21 @@ use Rattle.gq_walks.specs.Marked.{IsMarkedAt}
 use Rattle.gq_walks.specs.Running.{Runs, cursor_at, keys_of, prefix}
 use Rattle.gq_walks.specs.declared.walker.Cursor.{Cursor}
 use Rattle.gq_walks.proofs.Runs.{length-keys}
-use Rattle.gq_pipe.specs.Built.{HasBuild}
-use Rattle.gq_pipe.specs.steps.Chunks.{AreStanding, HasGroup, IsGroupAt, ShowsNumber, StoodAt, current_at, list_of, marked_at, matches_in, part}
-use Rattle.gq_pipe.specs.steps.Levels.{Run, step_at, known}
-use Rattle.gq_pipe.specs.steps.Lists.{no_group, group_at, layout_in, EarlierStand}
-use Rattle.gq_pipe.specs.steps.Moves.{IsRun, IsHeld}
-use Rattle.gq_pipe.specs.declared.places.GroupSteps.{GroupSteps}
-use Rattle.gq_pipe.proofs.Binding.{fits_at}
-use Rattle.gq_pipe.proofs.Chosen.{close_reads, extend_reads, join_reads, same_values}
-use Rattle.gq_pipe.proofs.Here.{group_held, group_makes}
-use Rattle.gq_pipe.proofs.Joined.{build}
+use Rattle.gq_steps.specs.Built.{HasBuild}
+use Rattle.gq_pipe.specs.steps.Chunks.{AreStanding, HasGroup, IsGroupAt, ShowsNumber, StoodAt, current_at, marked_at}
+use Rattle.gq_steps.specs.Pieces.{list_of, matches_in, part}
+use Rattle.gq_steps.specs.Levels.{Run, step_at, known}
+use Rattle.gq_steps.specs.steps.Lists.{layout_in, EarlierStand}
+use Rattle.gq_steps.specs.Groups.{no_group, group_at}
+use Rattle.gq_steps.specs.Moves.{IsRun, IsHeld}
+use Rattle.gq_steps.specs.declared.group_steps.GroupSteps.{GroupSteps}
+use Rattle.gq_steps.proofs.Binding.{fits_at}
+use Rattle.gq_pipe.proofs.Chosen.{close_reads, extend_reads}
+use Rattle.gq_sift.proofs.Matching.{join_reads, same_values}
+use Rattle.gq_steps.proofs.Here.{group_held, group_makes}
+use Rattle.gq_steps.proofs.Joined.{build}
 use Rattle.gq_pipe.proofs.Piecing.{flat_here, group_here}
-use Rattle.gq_pipe.proofs.Standings.{IsWithin, Met, both_stand, same_row, stands_part, tile_at}
+use Rattle.gq_steps.proofs.Standings.{IsWithin, Met, both_stand, same_row, stands_part, tile_at}
 
 -- the list of a step is the same for two assignments with which the groups before it stand
 module _ (c : Run) (run : IsRun c) (one two : Assignment) (s : GroupSteps) (m : Met c one two s) (low : s.first < length c.steps) (makes : makes_group (step_at c s.first) ≡ true) (held : IsHeld c one (known c s.first)) where
@@ -94,7 +97,7 @@ module _ (c : Run) (ss : List GroupSteps) (row : Assignment) (cs : List Cursor) 
 
   met : Met c w.row row s
   met = subst (λ n. Met c w.row row (group_at ss n)) long
-      (both_stand c ss w.row row (prefix cs i) (omega (arith, low, long)) (subst (Rattle.gq_pipe.specs.steps.Lists.Stands c ss w.row) before (stands_part c ss w.row w.cursors i low w.stands)) (stands_part c ss row cs i low st))
+      (both_stand c ss w.row row (prefix cs i) (omega (arith, low, long)) (subst (Rattle.gq_steps.specs.steps.Lists.Stands c ss w.row) before (stands_part c ss w.row w.cursors i low w.stands)) (stands_part c ss row cs i low st))
 
   lists : list_of c s.first w.row (step_at c s.first) ≡ list_of c s.first row (step_at c s.first)
   lists =
@@ -102,7 +105,7 @@ module _ (c : Run) (ss : List GroupSteps) (row : Assignment) (cs : List Cursor) 
       let some = within.some in
       let inside = within.inside in
       same_list c st.runs w.row row s met (omega (arith, some, inside)) (group_makes c ss row i low s found (prefix cs i) long (stands_part c ss row cs i low st))
-      (group_held c ss w.row i low s found (prefix cs i) long (subst (Rattle.gq_pipe.specs.steps.Lists.Stands c ss w.row) before (stands_part c ss w.row w.cursors i low w.stands)))
+      (group_held c ss w.row i low s found (prefix cs i) long (subst (Rattle.gq_steps.specs.steps.Lists.Stands c ss w.row) before (stands_part c ss w.row w.cursors i low w.stands)))
 
   -- the marks of its piece are the same
   was : IsMarkedAt (layout_in c ss) (prefix cs i) (piece_of s.flat k) (slice_index_or w.marks i [])

@@ -11,7 +11,7 @@ use Rattle.gq_plan.specs.Plans.{Plan, Step, Keep}
 use Rattle.gq_plan.specs.declared.typed.Typed.{Typed}
 use Rattle.gq_walks.specs.Different.{same_key}
 use Rattle.gq_pipe.specs.Progress.{Source, plan_in}
-use Rattle.gq_pipe.specs.steps.Levels.{built_of}
+use Rattle.gq_steps.specs.Levels.{built_of}
 
 -- a step that makes a group, with its build if it joins
 pub record Maker : Type 0 where

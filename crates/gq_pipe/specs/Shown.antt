@@ -24,14 +24,6 @@ use Rattle.gq_pipe.specs.Progress.{Source}
 
 -- ---- the shape
 
--- a scan has rows of a table, a step that follows relationships has neighbours, a join has rows of a build
-abbrev pub HasForm : Step → Piece → Type 0
-HasForm (Scan v) (piece.Span low high) = Unit {0}
-HasForm (Extend column x from to way) (piece.List ids first) = Unit {0}
-HasForm (Close column x from to way) (piece.List ids first) = Unit {0}
-HasForm (Join side keys) (piece.Matches rows first) = Unit {0}
-HasForm s p = ⊥
-
 abbrev pub form_in : Piece → Form
 form_in (piece.Span low high) = Form.Span
 form_in (piece.List ids first) = Form.List

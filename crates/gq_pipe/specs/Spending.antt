@@ -7,7 +7,7 @@ use Rattle.gq_plan.specs.Meaning.{meaning}
 use Rattle.gq_plan.specs.Plans.{Plan, Done, Then, Step, Scan, Extend, Close, Join, Keep, Differ, NoLoop}
 use Rattle.gq_plan.specs.declared.typed.Typed.{Typed}
 use Rattle.gq_pipe.specs.Keys.{key_count}
-use Rattle.gq_pipe.specs.declared.pipeline.Spent.{Spent}
+use Rattle.gq_homes.specs.declared.spent.Spent.{Spent}
 
 -- a count that stands still at the greatest of its type
 abbrev pub up_to_most : ℕ → ℕ

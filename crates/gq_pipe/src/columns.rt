@@ -5,18 +5,17 @@ ghost use Rattle.gq_pool.specs.Pool.{IsOut, cell_at, cells_of};
 ghost use Rattle.gq_pipe.specs.Serving.{HasCell, HasCells};
 ghost use Rattle.gq_pool.specs.Slots.{Holds};
 ghost use Rattle.gq_pipe.specs.steps.Cells.{HasMatches, filled};
-ghost use Rattle.gq_pipe.specs.steps.Homes.{IsColumnOf, IsFilling, column_group, filling_at};
-ghost use Rattle.gq_pipe.specs.steps.Homes.{node_home};
-ghost use Rattle.gq_pipe.specs.steps.Levels.{known};
-ghost use Rattle.gq_pipe.specs.steps.Moves.{run_of, IsRun};
+ghost use Rattle.gq_homes.specs.Homes.{IsColumnOf, IsFilling, column_group, filling_at, node_home};
+ghost use Rattle.gq_steps.specs.Levels.{known};
+ghost use Rattle.gq_steps.specs.Moves.{run_of, IsRun};
 ghost use Rattle.gq_pipe.specs.steps.Origins.{CanRead, row_from};
 ghost use Rattle.gq_group.specs.declared.home.NodeHome.TheVariants.{Column};
 
-use crate::homes::{Filling, Housing};
 use crate::lists::Lists;
 use crate::origins::{Origin, origin_of};
 use gq_bits::VECTOR;
 use gq_group::Group;
+use gq_homes::{Filling, Housing};
 use gq_pool::{Slot, VectorPool};
 
 /// Fills the columns of the groups that stand, each in the slot of its number. It takes no memory.

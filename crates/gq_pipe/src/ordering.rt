@@ -3,7 +3,7 @@ ghost use Rattle.std.specs.Prelude.{◌≡◌, ◌<◌, length, map, slice_index
 ghost use Rattle.std.specs.Option.{option_copied};
 ghost use Rattle.gq_plan.specs.Arranged.{at_numbers};
 ghost use Rattle.gq_plan.specs.Plans.{step_of};
-ghost use Rattle.gq_pipe.specs.steps.Moves.{referred};
+ghost use Rattle.gq_steps.specs.Moves.{referred};
 
 use gq_base::Memory;
 use gq_join::Sealed;

@@ -6,26 +6,27 @@ ghost use Rattle.gq_group.specs.Pieces.{items_of};
 ghost use Rattle.gq_group.specs.declared.home.NodeHome.TheVariants.{Column};
 ghost use Rattle.gq_plan.specs.Rows.{rel_table};
 ghost use Rattle.gq_plan.specs.Soundness.{IsSound};
-ghost use Rattle.gq_pipe.specs.steps.Cells.{HasMatches, HasSource, build_in, cell_seen, led};
+ghost use Rattle.gq_pipe.specs.steps.Cells.{HasMatches, HasSource, cell_seen, led};
+ghost use Rattle.gq_homes.specs.steps.Housing.{build_in};
 ghost use Rattle.gq_pipe.specs.steps.Cells.{near_seen};
-ghost use Rattle.gq_pipe.specs.steps.Homes.{CanFill, IsFilling, filling_at, node_home};
-ghost use Rattle.gq_pipe.specs.steps.Levels.{known};
-ghost use Rattle.gq_pipe.specs.steps.Moves.{builds_in, run_of, IsRun};
+ghost use Rattle.gq_homes.specs.Homes.{CanFill, IsFilling, filling_at, node_home};
+ghost use Rattle.gq_steps.specs.Levels.{known};
+ghost use Rattle.gq_steps.specs.Moves.{builds_in, run_of, IsRun};
 ghost use Rattle.gq_pipe.specs.steps.Origins.{CanKeepAt, CanLead, CanRead, IsNear};
 ghost use Rattle.gq_pipe.specs.steps.Origins.{kept_at, near_at, place_in, row_from};
-ghost use Rattle.gq_pipe.specs.declared.homes.Filling.TheVariants as filling;
+ghost use Rattle.gq_homes.specs.declared.homes.Filling.TheVariants as filling;
 ghost use Rattle.gq_pipe.specs.declared.origins.Origin.TheVariants as origin;
 ghost use Rattle.gq_pool.specs.Pool.{Pool, IsOut, cell_at};
 
-use crate::homes::{Filling, Housing, Keeping, Leading};
 use crate::lists::Lists;
-use crate::plan_run::PlanRun;
 use gq_base::Direction;
 use gq_bits::VECTOR;
 use gq_group::{Group, Homes, NodeHome, Piece};
+use gq_homes::{Filling, Housing, Keeping, Leading};
 use gq_join::Sealed;
 use gq_plan::Assignment;
 use gq_pool::{Slot, VectorPool};
+use gq_steps::PlanRun;
 use gq_store::Graph;
 
 /// What the cells of a column are read from.
@@ -95,11 +96,11 @@ pub(crate) fn origin_of<'s, 'g>(
     match housing.fillings[number] {
         Filling::Led(leading) => {
             let near = near_of(&lists.row, &housing.homes, groups, leading, slots);
-            Origin::Led(lists.plan_run.led(leading, near))
+            Origin::Led(led_rows(&lists.plan_run, leading, near))
         }
         Filling::Kept(keeping) => {
             let rows = groups[keeping.group as usize].piece;
-            Origin::Kept(lists.plan_run.kept_rows(keeping, rows))
+            Origin::Kept(kept_rows(&lists.plan_run, keeping, rows))
         }
     }
 }
@@ -151,48 +152,46 @@ fn home_of(homes: &Homes, variable: u32) -> NodeHome
     }
 }
 
-impl<'g> PlanRun<'g> {
-    // The rows to which single relationships lead from such rows.
-    fn led<'s>(&self, leading: Leading, near: Near<'s, 'g>) -> LedRows<'s, 'g>
-        requires sound { IsSound self.now.graph.now.catalog self.now.typed.now }
-        requires fill { CanFill (run_of self.now) leading }
-        ensures near { result.near ≡ near.entry }
-        ensures led { (q : Pool) (p : ℕ) → row_from (origin.Led result) q p
-            ≡ led (run_of self.now) leading (near_at near.entry q p) }
-        ensures can { CanLead result }
-    {
-        LedRows {
-            graph: self.graph,
-            table: self.table(leading.rel),
-            direction: leading.direction,
-            count: self.row_count(leading.from),
-            near,
-        }
+// The rows to which single relationships lead from such rows.
+fn led_rows<'s, 'g>(plan_run: &PlanRun<'g>, leading: Leading, near: Near<'s, 'g>) -> LedRows<'s, 'g>
+    requires sound { IsSound plan_run.now.graph.now.catalog plan_run.now.typed.now }
+    requires fill { CanFill (run_of plan_run.now) leading }
+    ensures near { result.near ≡ near.entry }
+    ensures led { (q : Pool) (p : ℕ) → row_from (origin.Led result) q p
+        ≡ led (run_of plan_run.now) leading (near_at near.entry q p) }
+    ensures can { CanLead result }
+{
+    LedRows {
+        graph: plan_run.graph,
+        table: table(plan_run, leading.rel),
+        direction: leading.direction,
+        count: plan_run.row_count(leading.from),
+        near,
     }
+}
 
-    // What the build of the step of a column keeps of a node variable, in some of its rows.
-    fn kept_rows(&self, keeping: Keeping, rows: Piece<'g>) -> KeptRows<'g>
-        requires { keeping.depth < length (builds_in self.now) }
-        ensures rows { result.rows ≡ rows.entry }
-        ensures build { option_copied result.build ≡ build_in (run_of self.now) keeping.depth }
-        ensures place { result.place
-            ≡ place_in (build_in (run_of self.now) keeping.depth) keeping.node }
-    {
-        let build = self.build_at(keeping.depth);
-        let place = match build {
-            None => 0,
-            Some(build) => build.node_place(keeping.node),
-        };
-        KeptRows { build, place, rows }
-    }
+// What the build of the step of a column keeps of a node variable, in some of its rows.
+fn kept_rows<'g>(plan_run: &PlanRun<'g>, keeping: Keeping, rows: Piece<'g>) -> KeptRows<'g>
+    requires { keeping.depth < length (builds_in plan_run.now) }
+    ensures rows { result.rows ≡ rows.entry }
+    ensures build { option_copied result.build ≡ build_in (run_of plan_run.now) keeping.depth }
+    ensures place { result.place
+        ≡ place_in (build_in (run_of plan_run.now) keeping.depth) keeping.node }
+{
+    let build = plan_run.build_at(keeping.depth);
+    let place = match build {
+        None => 0,
+        Some(build) => build.node_place(keeping.node),
+    };
+    KeptRows { build, place, rows }
+}
 
-    // The table of a relationship variable.
-    fn table(&self, rel: u32) -> u32
-        requires { rel < length self.now.typed.now.rels }
-        ensures { result ≡ rel_table self.now.typed.now rel }
-    {
-        self.typed.rels.as_slice()[rel as usize].table
-    }
+// The table of a relationship variable.
+fn table(plan_run: &PlanRun<'_>, rel: u32) -> u32
+    requires { rel < length plan_run.now.typed.now.rels }
+    ensures { result ≡ rel_table plan_run.now.typed.now rel }
+{
+    plan_run.typed.rels.as_slice()[rel as usize].table
 }
 
 impl Origin<'_, '_> {

@@ -3,17 +3,17 @@ ghost use Rattle.std.specs.Prelude.{◌≡◌, ℕ, length, true, []};
 ghost use Rattle.gq_bits.specs.Places.{is_marked};
 ghost use Rattle.gq_pipe.specs.steps.Chunks.{AreStanding, CanStand, IsGroupAt, ShowsNumber};
 ghost use Rattle.gq_pipe.specs.steps.Chunks.{StoodAt, marked_at};
-ghost use Rattle.gq_pipe.specs.steps.Lists.{layout_in, EarlierStand};
-ghost use Rattle.gq_pipe.specs.steps.Matches.{lists_in, AreMatches, HaveMatches};
-ghost use Rattle.gq_pipe.specs.steps.Moves.{run_of};
+ghost use Rattle.gq_steps.specs.steps.Lists.{layout_in, EarlierStand};
+ghost use Rattle.gq_pipe.specs.steps.Matches.{lists_in, HaveMatches};
+ghost use Rattle.gq_steps.specs.Matches.{AreMatches};
+ghost use Rattle.gq_steps.specs.Moves.{run_of};
 ghost use Rattle.gq_walks.specs.Running.{Runs, keys_of};
 
 use crate::lists::Lists;
-use crate::places::GroupSteps;
-use crate::plan_run::PlanRun;
 use gq_bits::{Marks, VECTOR};
 use gq_group::Group;
 use gq_plan::Assignment;
+use gq_steps::{GroupSteps, PlanRun};
 use gq_walks::{Cursor, State, Walker};
 
 /// Puts each group at the number at which the walker stands, if it stands. It is told whether the

@@ -21,7 +21,7 @@ use Rattle.gq_io.specs.Causes.{HasCause}
 use Rattle.gq_io.proofs.Moved.{Appends-both, front_after, front_longer}
 use Rattle.gq_io.specs.Outside.{AppendsFront, Writes}
 use Rattle.std.specs.Io.KnownBytes.{Appends}
-use Rattle.gq_pipe.specs.declared.pipeline.Spent.{Spent}
+use Rattle.gq_homes.specs.declared.spent.Spent.{Spent}
 use Rattle.gq_io.specs.declared.Failed.{Failed}
 use Rattle.gq_lexer.specs.Tokens.{Lexed, lexed}
 use Rattle.gq_lexer.specs.declared.token.Token.{Token}

@@ -1,6 +1,6 @@
 -- The lines of what pipelines spent, one after another.
 use Rattle.std.proofs.Common.{◌≡◌, ◌∙◌, ◌+◌, ◌<◌, ◌++◌, ℕ, zero, suc, List, [], ◌∷◌, codes, drop, get_or, length, take, refl, sym, ap, append_assoc, append-nil, arith}
-use Rattle.gq_pipe.specs.declared.pipeline.Spent.{Spent}
+use Rattle.gq_homes.specs.declared.spent.Spent.{Spent}
 use Rattle.gq_reply.specs.ReplyTexts.{spent_line, spent_text}
 
 -- three counts with their words, and the end of the line

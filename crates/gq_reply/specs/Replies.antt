@@ -12,7 +12,7 @@ use Rattle.gq_bound.specs.declared.refusal.BindRefusal.{BindRefusal}
 use Rattle.gq_execute.specs.Replies.{Question, Reply, Rows, Faulted, TooManyRows, IsPermitted}
 use Rattle.gq_execute.specs.Spending.{AreSpent}
 use Rattle.gq_execute.specs.declared.settings.Settings.{Settings}
-use Rattle.gq_pipe.specs.declared.pipeline.Spent.{Spent}
+use Rattle.gq_homes.specs.declared.spent.Spent.{Spent}
 use Rattle.gq_explain.specs.Schema.{schema_text}
 use Rattle.gq_expr.specs.declared.Fault.{Fault}
 use Rattle.gq_lexer.specs.Tokens.{lexed}

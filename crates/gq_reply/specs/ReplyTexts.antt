@@ -20,7 +20,7 @@ use Rattle.gq_plan.specs.declared.Plan as code_plan
 use Rattle.gq_plan.specs.declared.typed.Typed.{Typed}
 use Rattle.gq_render.specs.Listings.{ends_text, listing_text}
 use Rattle.gq_render.specs.Texts.{line, refusal_line}
-use Rattle.gq_pipe.specs.declared.pipeline.Spent.{Spent}
+use Rattle.gq_homes.specs.declared.spent.Spent.{Spent}
 use Rattle.gq_reply.specs.Arrows.{trail_arrows}
 use Rattle.gq_reply.specs.declared.replier.Form.{Form}
 use Rattle.gq_reply.specs.declared.replier.Form.TheVariants as form

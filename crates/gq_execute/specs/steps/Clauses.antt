@@ -4,8 +4,8 @@ use Rattle.std.specs.List.{All, AllZip, list_all, list_any}
 use Rattle.gq_base.specs.Plain.{Graph}
 use Rattle.gq_law_clauses.specs.Laws.{AreCovered, AreSameBags, lists_made}
 use Rattle.gq_optional.specs.Spending.{Listing, spent_on_each}
-use Rattle.gq_pipe.specs.declared.pipeline.Spent.{Spent}
-use Rattle.gq_pipe.specs.steps.Cuts.{begins}
+use Rattle.gq_homes.specs.declared.spent.Spent.{Spent}
+use Rattle.gq_homes.specs.Cuts.{begins}
 use Rattle.gq_plan.specs.Assignments.{Assignment}
 use Rattle.gq_plan.specs.Covers.{Covers}
 use Rattle.gq_plan.specs.Flat.{is_flat}

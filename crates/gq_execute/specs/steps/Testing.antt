@@ -6,7 +6,7 @@ use Rattle.gq_base.specs.declared.NodeId.{NodeId}
 use Rattle.gq_exists.specs.Different.{HasMany, HasNoMore}
 use Rattle.gq_exists.specs.Made.{keys_of, some_stand_on}
 use Rattle.gq_expr.specs.Reading as reading
-use Rattle.gq_pipe.specs.declared.pipeline.Spent.{Spent}
+use Rattle.gq_homes.specs.declared.spent.Spent.{Spent}
 use Rattle.gq_plan.specs.Covers.{Covers}
 use Rattle.gq_plan.specs.Keys.{has_key}
 use Rattle.gq_plan.specs.Plans.{Plan}

@@ -4,7 +4,7 @@ use Rattle.gq_base.specs.Plain.{Graph}
 use Rattle.gq_base.specs.declared.NodeId.{NodeId}
 use Rattle.gq_pipe.specs.Rest.{Rest}
 use Rattle.gq_pipe.specs.Spending.{up_to_most}
-use Rattle.gq_pipe.specs.declared.pipeline.Spent.{Spent}
+use Rattle.gq_homes.specs.declared.spent.Spent.{Spent}
 use Rattle.gq_plan.specs.Keys.{has_key, key_of}
 use Rattle.gq_plan.specs.Meaning.{meaning, whole}
 use Rattle.gq_plan.specs.Plans.{Plan, plan_of}

@@ -5,7 +5,7 @@ use Rattle.gq_base.specs.Catalogs.{Tables}
 use Rattle.gq_base.specs.Plain.{Graph}
 use Rattle.gq_join.specs.declared.build.JoinRefusal.{JoinRefusal}
 use Rattle.gq_join.specs.declared.build.JoinRefusal.TheVariants as refusal
-use Rattle.gq_pipe.specs.declared.pipeline.Spent.{Spent}
+use Rattle.gq_homes.specs.declared.spent.Spent.{Spent}
 use Rattle.gq_plan.specs.Meaning.{meaning}
 use Rattle.gq_plan.specs.Plans.{Plan}
 use Rattle.gq_plan.specs.Soundness.{IsSound, has_number}

@@ -1,5 +1,5 @@
 -- The cells of the columns of the chunk that stands: each has a row for each marked position of its group.
-use Rattle.std.specs.Prelude.{◌≡◌, ◌≢◌, ◌<◌, ℕ, zero, suc, nat_eq, nat_lt, if◌then◌else◌, Bool, Option, Some, None, List, [], ◌∷◌, ◌++◌, map, length, slice_get, slice_index, slice_index_or}
+use Rattle.std.specs.Prelude.{◌≡◌, ◌≢◌, ◌<◌, ℕ, zero, suc, nat_eq, nat_lt, if◌then◌else◌, Bool, Option, Some, None, List, [], ◌∷◌, ◌++◌, map, length, slice_get, slice_index}
 use Rattle.std.specs.List.{range_with_len}
 use Rattle.std.specs.Option.{unwrap_or}
 use Rattle.gq_bits.specs.declared.TheConstants.{VECTOR}
@@ -17,11 +17,12 @@ use Rattle.gq_pool.specs.Pool as pool
 use Rattle.gq_pool.specs.Pool.{Pool, IsOut}
 use Rattle.gq_store.specs.Neighbours.{neighbours}
 use Rattle.gq_pipe.specs.Serving.{row_of}
-use Rattle.gq_pipe.specs.steps.Homes.{column_group, filling_at, node_home}
-use Rattle.gq_pipe.specs.steps.Levels.{Run}
-use Rattle.gq_pipe.specs.declared.homes.Filling.{Filling}
-use Rattle.gq_pipe.specs.declared.homes.Filling.TheVariants.{Led, Kept}
-use Rattle.gq_pipe.specs.declared.homes.Leading.{Leading}
+use Rattle.gq_homes.specs.Homes.{column_group, filling_at, node_home}
+use Rattle.gq_homes.specs.steps.Housing.{build_in}
+use Rattle.gq_steps.specs.Levels.{Run}
+use Rattle.gq_homes.specs.declared.homes.Filling.{Filling}
+use Rattle.gq_homes.specs.declared.homes.Filling.TheVariants.{Led, Kept}
+use Rattle.gq_homes.specs.declared.homes.Leading.{Leading}
 
 -- the row to which the single relationship of a row leads
 abbrev pub led : Run → Leading → ℕ → ℕ
@@ -39,9 +40,6 @@ near_in row gs done i v p (node.Column j m) = if nat_eq j i then unwrap_or (row_
 abbrev pub kept_row : Option Held → Option ℕ → ℕ → ℕ
 kept_row (Some b) (Some r) v = node_in b v r
 kept_row o i v = 0
-
-abbrev pub build_in : Run → ℕ → Option Held
-build_in c d = slice_index_or c.builds d None
 
 abbrev pub item_in : List Group → ℕ → ℕ → Option ℕ
 item_in gs i p = slice_get (items_in (slice_get gs i)) p

@@ -11,9 +11,9 @@ use Rattle.gq_plan.specs.Meaning.{Partial, nothing}
 use Rattle.gq_plan.specs.Plans.{Plan, steps, step_of}
 use Rattle.gq_plan.specs.declared.assignment.Assignment.{Assignment}
 use Rattle.gq_plan.specs.declared.typed.Typed.{Typed}
-use Rattle.gq_pipe.specs.Levels.{given}
-use Rattle.gq_pipe.specs.steps.Moves.{run_of}
-use Rattle.gq_pipe.specs.declared.plan_run.PlanRun.{PlanRun}
+use Rattle.gq_steps.specs.Given.{given}
+use Rattle.gq_steps.specs.Moves.{run_of}
+use Rattle.gq_steps.specs.declared.plan_run.PlanRun.{PlanRun}
 
 -- the rows and load numbers of an assignment
 abbrev pub numbers_of : plain.Assignment → Assignment

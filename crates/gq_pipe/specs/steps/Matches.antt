@@ -1,17 +1,12 @@
--- The places of joins: the rows of a build with the key that stands.
-use Rattle.std.specs.Prelude.{◌≡◌, ℕ, ◌+◌, ◌^◌, ◌<◌, None, List, [], map, length, slice_index_or}
+-- The matches of the groups of a plan, where the first of them stand.
+use Rattle.std.specs.Prelude.{◌≡◌, ℕ, ◌+◌, ◌<◌, List, [], map, length, slice_index_or}
 use Rattle.std.specs.Borrow.{Bor}
-use Rattle.gq_plan.specs.Plans.{Plan, Join}
 use Rattle.gq_plan.specs.declared.assignment.Assignment.{Assignment}
-use Rattle.gq_pipe.specs.steps.Chunks.{matches_in}
-use Rattle.gq_pipe.specs.steps.Levels.{Run, step_at}
-use Rattle.gq_pipe.specs.steps.Lists.{group_at, EarlierStand}
-use Rattle.gq_pipe.specs.declared.places.GroupSteps.{GroupSteps}
-
--- they are those of the step at a depth, if it is a join
-pub record AreMatches (c : Run) (d : ℕ) (row : Assignment) (matches : List ℕ) : Type 0 where
-  pub few : length matches < 2 ^ 32
-  pub are : (side : Plan) (keys : List ℕ) → step_at c d ≡ Join side keys → matches ≡ matches_in (slice_index_or c.builds d None) row
+use Rattle.gq_steps.specs.Levels.{Run}
+use Rattle.gq_steps.specs.steps.Lists.{EarlierStand}
+use Rattle.gq_steps.specs.Groups.{group_at}
+use Rattle.gq_steps.specs.declared.group_steps.GroupSteps.{GroupSteps}
+use Rattle.gq_steps.specs.Matches.{AreMatches}
 
 -- the lists that are referred to
 abbrev pub lists_in : List (Bor (List ℕ)) → List (List ℕ)

@@ -16,7 +16,7 @@ use Rattle.gq_io.specs.declared.Failed.{Failed}
 use Rattle.gq_plan.specs.Covers.{Covers}
 use Rattle.gq_plan.specs.Plans.{plan_of}
 use Rattle.gq_plan.specs.declared.Bound.{Bound}
-use Rattle.gq_pipe.specs.declared.pipeline.Spent.{Spent}
+use Rattle.gq_homes.specs.declared.spent.Spent.{Spent}
 use Rattle.gq_reply.specs.Arrows.{trail_arrows}
 use Rattle.gq_reply.specs.Replies.{Context, IsText, memory_line, question}
 use Rattle.gq_reply.specs.ReplyTexts.{IsPlanText, columns_each, fault_text, many_text, rows_text, spent_text}

@@ -1,6 +1,6 @@
 use Rattle.std.proofs.Common.{◌≡◌, map, take, true}
 use Rattle.std.specs.List.{All, AllZip}
-use Rattle.gq_pipe.specs.steps.Cuts.{begins}
+use Rattle.gq_homes.specs.Cuts.{begins}
 use Rattle.gq_plan.specs.Covers.{Covers}
 use Rattle.gq_plan.specs.Plans.{plan_of}
 use Rattle.gq_plan.specs.declared.plan.Plan as code_plan

@@ -1,6 +1,6 @@
 use Rattle.std.proofs.Common.{◌∙◌, ◌∷◌, ◌++◌, [], List, ap, append_assoc, append-nil, get_or, length, refl, sym}
 use Rattle.std.proofs.lemmas.Bool.{lt-ltb}
-use Rattle.gq_pipe.specs.declared.pipeline.Spent.{Spent}
+use Rattle.gq_homes.specs.declared.spent.Spent.{Spent}
 use Rattle.gq_plan.proofs.Binding.{covers_nodes}
 use Rattle.gq_plan.specs.Plans.{plan_of}
 use Rattle.gq_optional.proofs.Holding.{is_matches}

@@ -2,7 +2,7 @@ use Rattle.std.proofs.Common.{◌≡◌, ◌∙◌, ◌∷◌, ◌++◌, List, a
 use Rattle.std.specs.Prelude.{All}
 use Rattle.std.specs.List.{AllZip}
 use Rattle.std.proofs.lemmas.List.Elements.{All-head, All-tail}
-use Rattle.gq_pipe.specs.steps.Cuts.{begins}
+use Rattle.gq_homes.specs.Cuts.{begins}
 use Rattle.gq_plan.specs.Plans.{Plan, plan_of}
 use Rattle.gq_plan.specs.declared.plan.Plan as code
 use Rattle.gq_optional.specs.Made.{AreCovered}

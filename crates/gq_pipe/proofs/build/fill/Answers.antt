@@ -2,7 +2,7 @@ use Rattle.std.proofs.Common.{◌≡◌, ◌∙◌, ap, map}
 use Rattle.gq_group.specs.Chunks.{chunk_meaning}
 use Rattle.gq_join.specs.Kept.{Growing}
 use Rattle.gq_plan.specs.Meaning.{nothing}
-use Rattle.gq_pipe.specs.Levels.{given}
+use Rattle.gq_steps.specs.Given.{given}
 use Rattle.gq_pipe.specs.Progress.{Source, plan_in}
 use Rattle.gq_pipe.specs.Rest.{counted}
 use Rattle.gq_pipe.proofs.Loading.{binds_in, came_more, counted_more, less_owed, refused}

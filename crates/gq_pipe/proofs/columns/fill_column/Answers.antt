@@ -6,9 +6,9 @@ use Rattle.std.proofs.lemmas.Option.{slice_get-get_or}
 use Rattle.gq_bits.specs.Places.{is_marked}
 use Rattle.gq_group.specs.declared.group.Group.{Group}
 use Rattle.gq_pipe.specs.steps.Cells.{marks_in}
-use Rattle.gq_pipe.specs.steps.Homes.{column_group, filling_at, no_filling}
-use Rattle.gq_pipe.specs.steps.Levels.{Run, known}
-use Rattle.gq_pipe.specs.steps.Moves.{run_of}
+use Rattle.gq_homes.specs.Homes.{column_group, filling_at, no_filling}
+use Rattle.gq_steps.specs.Levels.{Run, known}
+use Rattle.gq_steps.specs.Moves.{run_of}
 use Rattle.gq_pipe.proofs.Columned.{can_fill, columned_all, columned_more, group_low}
 use Rattle.gq_pipe.proofs.columns.fill_column.Goals as goal
 

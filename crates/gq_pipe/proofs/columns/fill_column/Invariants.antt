@@ -1,4 +1,4 @@
-use Rattle.gq_pipe.specs.steps.Moves.{run_of}
+use Rattle.gq_steps.specs.Moves.{run_of}
 use Rattle.gq_pipe.proofs.Columned.{AreColumned}
 use Rattle.gq_pipe.proofs.columns.fill_column.Given as goal
 

@@ -1,5 +1,5 @@
 use Rattle.std.proofs.Common.{refl}
-use Rattle.gq_pipe.specs.steps.Moves.{run_of}
+use Rattle.gq_steps.specs.Moves.{run_of}
 use Rattle.gq_pipe.proofs.Filling.{cells_none}
 use Rattle.gq_pipe.proofs.columns.fill_columns.Goals as goal
 

@@ -2,7 +2,7 @@ use Rattle.std.proofs.Common.{◌≡◌}
 use Rattle.gq_pipe.specs.Serving.{HasCells}
 use Rattle.gq_pool.specs.Slots.{Holds}
 use Rattle.gq_pipe.specs.steps.Cells.{filled}
-use Rattle.gq_pipe.specs.steps.Moves.{run_of}
+use Rattle.gq_steps.specs.Moves.{run_of}
 use Rattle.gq_pipe.proofs.columns.fill_columns.Given as goal
 
 abbrev pub invariant-loop-number : goal.invariant-loop-number

@@ -1,6 +1,6 @@
 use Rattle.std.proofs.Common.{◌∙◌, map, ap}
 use Rattle.gq_plan.specs.Plans.{step_of}
-use Rattle.gq_pipe.specs.steps.Moves.{referred}
+use Rattle.gq_steps.specs.Moves.{referred}
 use Rattle.gq_pipe.proofs.InOrder.{steps_more}
 use Rattle.gq_pipe.proofs.ordering.steps_in_order.Goals as goal
 

@@ -1,7 +1,7 @@
 use Rattle.std.proofs.Common.{◌≡◌, map, take}
 use Rattle.gq_plan.specs.Arranged.{at_numbers}
 use Rattle.gq_plan.specs.Plans.{step_of}
-use Rattle.gq_pipe.specs.steps.Moves.{referred}
+use Rattle.gq_steps.specs.Moves.{referred}
 use Rattle.gq_pipe.proofs.ordering.steps_in_order.Given as goal
 
 abbrev pub invariant-loop-number : goal.invariant-loop-number

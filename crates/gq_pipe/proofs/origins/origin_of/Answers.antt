@@ -4,13 +4,14 @@ use Rattle.std.proofs.lemmas.List.{get_or_default}
 use Rattle.std.proofs.lemmas.Option.{slice_get-get_or}
 use Rattle.gq_group.specs.Chunks.{items_in}
 use Rattle.gq_group.specs.Pieces.{items_of}
-use Rattle.gq_pipe.specs.steps.Cells.{CanKeep, HasMatches, build_in, cell_seen, item_in}
-use Rattle.gq_pipe.specs.steps.Homes.{IsFilling, filling_at, kept_of, no_filling}
-use Rattle.gq_pipe.specs.steps.Levels.{known}
-use Rattle.gq_pipe.specs.steps.Moves.{builds_in, run_of}
+use Rattle.gq_pipe.specs.steps.Cells.{CanKeep, HasMatches, cell_seen, item_in}
+use Rattle.gq_homes.specs.steps.Housing.{build_in}
+use Rattle.gq_homes.specs.Homes.{IsFilling, filling_at, kept_of, no_filling}
+use Rattle.gq_steps.specs.Levels.{known}
+use Rattle.gq_steps.specs.Moves.{builds_in, run_of}
 use Rattle.gq_pipe.specs.steps.Origins.{CanKeepAt, kept_at}
-use Rattle.gq_pipe.specs.declared.homes.Keeping.{Keeping}
-use Rattle.gq_pipe.proofs.Joined.{builds_many}
+use Rattle.gq_homes.specs.declared.homes.Keeping.{Keeping}
+use Rattle.gq_steps.proofs.Joined.{builds_many}
 use Rattle.gq_pipe.proofs.Supplied.{can_keep, kept_is}
 use Rattle.gq_pipe.proofs.origins.origin_of.Goals as goal
 

@@ -4,13 +4,13 @@ use Rattle.std.proofs.lemmas.List.{get_or_default, length-map, length-set}
 use Rattle.gq_walks.specs.Running.{no_cursor, cursor_at, keys_of}
 use Rattle.gq_walks.specs.declared.walker.Cursor.{Cursor}
 use Rattle.gq_pipe.specs.steps.Chunks.{AreStanding, CanStand, HasGroup, IsGroupAt, ShowsNumber, StoodAt}
-use Rattle.gq_pipe.specs.steps.Lists.{no_group}
-use Rattle.gq_pipe.specs.steps.Moves.{run_of}
-use Rattle.gq_pipe.specs.declared.places.GroupSteps.{GroupSteps}
+use Rattle.gq_steps.specs.Groups.{no_group}
+use Rattle.gq_steps.specs.Moves.{run_of}
+use Rattle.gq_steps.specs.declared.group_steps.GroupSteps.{GroupSteps}
 use Rattle.gq_pipe.proofs.Matching.{group_matches}
 use Rattle.gq_pipe.proofs.Piecing.{can_stand, group_here, standing_more}
 use Rattle.gq_group.specs.declared.group.Group.{Group}
-use Rattle.gq_pipe.proofs.Standings.{prefix_more}
+use Rattle.gq_steps.proofs.Standings.{prefix_more}
 use Rattle.gq_pipe.proofs.Staying.{shown_key, standing_on, stays}
 use Rattle.gq_pipe.proofs.standing.put_groups.Goals as goal
 use Rattle.gq_pipe.proofs.standing.put_groups.Goals.{then-same, else-same, then-not-same, else-not-same}

@@ -1,5 +1,5 @@
 use Rattle.std.proofs.Common.{◌≡◌, ◌∙◌, ◌++◌, ℕ, [], codes, decimal, refl}
-use Rattle.gq_pipe.specs.declared.pipeline.Spent.{Spent}
+use Rattle.gq_homes.specs.declared.spent.Spent.{Spent}
 use Rattle.gq_render.proofs.Sequence.{first_broke, puts_then}
 use Rattle.gq_reply.specs.ReplyTexts.{spent_line}
 use Rattle.gq_reply.proofs.Spendings.{one_line}

@@ -5,7 +5,7 @@ use Rattle.gq_plan.specs.Meaning.{nothing, whole}
 use Rattle.gq_plan.specs.Rows.{assigned}
 use Rattle.gq_pipe.specs.Bound.{binds_all}
 use Rattle.gq_pipe.specs.Keys.{makers_in}
-use Rattle.gq_pipe.specs.Levels.{given}
+use Rattle.gq_steps.specs.Given.{given}
 use Rattle.gq_pipe.specs.Progress.{plan_in}
 use Rattle.gq_pipe.specs.Rest.{Rest}
 use Rattle.gq_pipe.specs.Serving.{Serves}

@@ -1,0 +1,4 @@
+pub mod Brings
+pub mod Brought
+pub mod Cutting
+pub mod Homing

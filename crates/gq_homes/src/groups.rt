@@ -1,0 +1,56 @@
+//! A plan's steps cut into its groups.
+ghost use Rattle.std.specs.Prelude.{◌≡◌, ◌<◌, length, map, true, IfOk};
+ghost use Rattle.gq_law_groups.specs.Groups.{makes_group};
+ghost use Rattle.gq_plan.specs.Plans.{step_of};
+ghost use Rattle.gq_homes.specs.Cuts.{IsCutTo, flag, step_in};
+ghost use Rattle.gq_steps.specs.Moves.{referred};
+
+use gq_base::Memory;
+use gq_plan::Step;
+use gq_steps::GroupSteps;
+use std::alloc::Global;
+
+/// The groups of steps of which the first makes one: each with the steps up to the next one that
+/// does, and flat as it is told.
+pub fn cut_groups(alloc: Global, steps: &[&Step], flat: &[bool]) -> Result<Vec<GroupSteps>, Memory>
+    requires some { 0 < length steps.now }
+    requires begins { makes_group (step_in (map step_of (referred steps.now)) 0) ≡ true }
+    ensures { IfOk result (λ gs. IsCutTo (map step_of (referred steps.now)) flat.now gs.items
+        (length steps.now)) }
+{
+    let mut groups = Vec::new(alloc);
+    let mut first = 0;
+    let mut end = 1;
+    while end < steps.len() {
+        if starts_group(steps[end]) {
+            let flat = flag(flat, groups.len());
+            groups.push(GroupSteps { first, end, flat })?;
+            first = end;
+        }
+        end += 1;
+    }
+    let flat = flag(flat, groups.len());
+    groups.push(GroupSteps { first, end, flat })?;
+    Ok(groups)
+}
+
+fn flag(flat: &[bool], group: usize) -> bool
+    ensures { result ≡ flag flat.now group }
+{
+    match flat.get(group) {
+        Some(flat) => *flat,
+        None => false,
+    }
+}
+
+/// Whether a step makes a group.
+#[tactic(auto, using(gq_plan::proofs::StepEquations::equations))]
+pub fn starts_group(step: &Step) -> bool
+    ensures { result ≡ makes_group (step_of step.now) }
+{
+    match step {
+        Step::Scan { .. } | Step::Extend { .. } | Step::Close { .. } | Step::Join { .. } => true,
+        Step::ColumnExtend { .. } | Step::ColumnClose { .. } => false,
+        Step::Keep { .. } | Step::Differ { .. } | Step::NoLoop { .. } => false,
+    }
+}

@@ -1,0 +1,9 @@
+pub mod Apart
+pub mod Ascending
+pub mod Closed
+pub mod Judged
+pub mod Listed
+pub mod Matching
+pub mod Scanned
+pub mod Sifting
+pub mod Unlooped

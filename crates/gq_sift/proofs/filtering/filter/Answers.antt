@@ -1,0 +1,41 @@
+use Rattle.std.proofs.Common.{◌≡◌, ◌<◌, ◌+◌, ◌&&◌, ℕ, Some, ap, refl, sym, subst, ◌∙◌, arith, length}
+use Rattle.gq_bits.specs.Places.{is_marked}
+use Rattle.gq_plan.specs.declared.assignment.Assignment.{Assignment}
+use Rattle.gq_steps.specs.Keeps.{IsSifted}
+use Rattle.gq_steps.specs.Levels.{step_at}
+use Rattle.gq_steps.specs.Moves.{run_of}
+use Rattle.gq_steps.specs.steps.Outcomes.{passes_at, with_row}
+use Rattle.gq_sift.specs.steps.RowTests.{test_of}
+use Rattle.gq_sift.proofs.Scanned.{filtering_from, filtering_next, filtering_node, filtering_within, filtered}
+use Rattle.gq_sift.proofs.filtering.filter.Goals as goal
+
+pub loop-depth-init : goal.loop-depth-init
+loop-depth-init c = (
+  filtering_from (run_of c.args.plan_run.now) c.requires.run c.args.group c.requires.steps c.args.node c.requires.filters c.args.first c.args.count c.args.row.now c.requires.held c.requires.inside c.requires.fits c.first-marks.result c.first-marks.ensures.below,
+  refl,
+)
+
+pub keep_rows-requires-clause-node : goal.keep_rows-requires-clause-node
+keep_rows-requires-clause-node c =
+    let low = filtering_node (run_of c.args.plan_run.now) c.requires.run c.args.group c.requires.steps c.args.node c.requires.filters c.args.first c.args.count c.args.row.now c.requires.held in
+    omega (arith, low, ap (λ (r : Assignment). length r.nodes) c.loop-depth.invariant.1)
+
+pub keep_rows-requires-clause-within : goal.keep_rows-requires-clause-within
+keep_rows-requires-clause-within c =
+    filtering_within (run_of c.args.plan_run.now) c.args.group c.args.node c.args.first c.args.count c.args.row.now c.loop-depth.depth c.loop-depth.marks c.loop-depth.invariant.0
+
+pub loop-depth-preserved : goal.loop-depth-preserved
+loop-depth-preserved c =
+    let k = run_of c.args.plan_run.now in
+    let above : c.args.group.first < c.loop-depth.depth = (let low = c.loop-depth.auto.depth in omega arith) in
+    let kept : (i : ℕ) → test_of (step_at k c.loop-depth.depth) ≡ Some i → (j : ℕ) → is_marked c.keep_rows.new.marks j ≡ (is_marked c.loop-depth.marks j && passes_at k.graph k.typed (with_row c.args.node (c.args.first + j) c.args.row.now) i) =
+    subst (λ (r : Assignment). (i : ℕ) → test_of (step_at k c.loop-depth.depth) ≡ Some i → (j : ℕ) → is_marked c.keep_rows.new.marks j ≡ (is_marked c.loop-depth.marks j && passes_at k.graph k.typed (with_row c.args.node (c.args.first + j) r) i)) c.loop-depth.invariant.1 c.keep_rows.ensures.kept in (
+      filtering_next k c.requires.run c.args.group c.requires.steps c.args.node c.requires.filters c.args.first c.args.count c.args.row.now c.requires.held c.loop-depth.depth above c.loop-depth-test.true c.loop-depth.marks c.keep_rows.new.marks c.loop-depth.invariant.0 kept,
+      c.keep_rows.ensures.row ∙ c.loop-depth.invariant.1,
+    )
+
+pub returns : goal.returns
+returns c =
+    let k = run_of c.args.plan_run.now in
+    subst (λ (r : Assignment). IsSifted k c.args.group c.args.first c.args.count c.args.row.now r c.loop-depth.marks) (sym c.loop-depth.invariant.1)
+    (filtered k c.requires.run c.args.group c.requires.steps c.args.node c.requires.filters c.args.first c.args.count c.args.row.now c.requires.held c.loop-depth.depth c.loop-depth.marks c.word-whole.ensures.whole c.loop-depth.invariant.0 c.loop-depth-test.false)

@@ -1,0 +1,6 @@
+pub mod Candidates
+pub mod Differing
+pub mod Filters
+pub mod Judged
+pub mod Loops
+pub mod RowTests

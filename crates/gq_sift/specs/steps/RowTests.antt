@@ -1,0 +1,34 @@
+-- Groups whose tests rows alone decide, or the relationship that they follow.
+use Rattle.std.specs.Prelude.{◌≡◌, ◌⊎◌, ℕ, ◌<◌, Bool, Option, Some, None}
+use Rattle.gq_plan.specs.Plans.{Step, Extend, Keep}
+use Rattle.gq_plan.specs.declared.assignment.Assignment.{Assignment}
+use Rattle.gq_sift.specs.steps.Differing.{IsPairTest}
+use Rattle.gq_steps.specs.Levels.{Run, step_at}
+use Rattle.gq_sift.specs.steps.Loops.{IsLoopTest}
+use Rattle.gq_steps.specs.steps.Outcomes.{passes_at}
+use Rattle.gq_steps.specs.declared.group_steps.GroupSteps.{GroupSteps}
+use Rattle.gq_steps.specs.declared.plan_run.Follow.{Follow}
+
+-- the step at a depth follows a relationship so to a node that was not bound
+abbrev pub Extends : Run → ℕ → Follow → Type 0
+Extends c d f = (column : Bool) × (step_at c d ≡ Extend column f.rel f.from f.to f.direction)
+
+-- the test that a step asks for, if it is one
+abbrev pub test_of : Step → Option ℕ
+test_of (Keep i) = Some i
+test_of s = None
+
+-- the step at a depth is a test that rows alone decide
+pub record IsRowTest (c : Run) (d : ℕ) : Type 0 where
+  pub test : ℕ
+  pub is : test_of (step_at c d) ≡ Some test
+  pub reads : (old new : Assignment) → old.nodes ≡ new.nodes → passes_at c.graph c.typed old test ≡ passes_at c.graph c.typed new test
+
+-- the step at a depth is such a test, or asks that the relationship that a group follows differs from another one or is no loop
+abbrev pub IsListTest : Run → ℕ → Follow → Type 0
+IsListTest c d f = IsRowTest c d ⊎ (IsPairTest c d f.rel ⊎ IsLoopTest c d f)
+
+-- a group follows a relationship to a node that was not bound, and its other steps are such tests
+pub record ReadsRows (c : Run) (group : GroupSteps) (f : Follow) : Type 0 where
+  pub extends : Extends c group.first f
+  pub tests : (d : ℕ) → group.first < d → d < group.end → IsListTest c d f

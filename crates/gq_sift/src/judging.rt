@@ -1,0 +1,94 @@
+//! Groups that follow relationships, and whose tests rows alone decide, or those relationships do.
+ghost use Rattle.std.specs.Prelude.{◌≡◌, ◌<◌, length, IfSome, IsTrue};
+ghost use Rattle.gq_steps.specs.Keeps.{IsRange};
+ghost use Rattle.gq_steps.specs.Levels.{step_at};
+ghost use Rattle.gq_steps.specs.Moves.{run_of, steps_in, IsRun};
+ghost use Rattle.gq_sift.specs.steps.RowTests.{Extends, IsListTest, IsRowTest, ReadsRows, test_of};
+
+use crate::differing::is_pair_test;
+use crate::looping::is_loop_test;
+use gq_plan::Step;
+use gq_steps::{Follow, GroupSteps, PlanRun, following};
+
+/// How a group follows a relationship to a node that was not bound, where rows alone decide its
+/// tests, or they ask that this relationship differs from another one or is no loop.
+pub(crate) fn reads_rows(plan_run: &PlanRun<'_>, group: GroupSteps) -> Option<Follow>
+    requires run { IsRun (run_of plan_run.now) }
+    requires steps { IsRange (run_of plan_run.now) group }
+    ensures { IfSome result (ReadsRows (run_of plan_run.now) group) }
+{
+    let follow = extends(plan_run, group.first)?;
+    for depth in group.first + 1..group.end {
+        if !is_list_test(plan_run, depth, follow) {
+            return None;
+        }
+    }
+    Some(follow)
+}
+
+// How the step at a depth follows a relationship to a node that was not bound, if it does.
+fn extends(plan_run: &PlanRun<'_>, depth: usize) -> Option<Follow>
+    requires { depth < length (steps_in plan_run.now) }
+    ensures { IfSome result (Extends (run_of plan_run.now) depth) }
+{
+    match plan_run.step(depth) {
+        Step::Extend {
+            rel,
+            from,
+            to,
+            direction,
+        } => Some(following(*rel, *from, *to, *direction)),
+        Step::ColumnExtend {
+            rel,
+            from,
+            to,
+            direction,
+        } => Some(following(*rel, *from, *to, *direction)),
+        _ => None,
+    }
+}
+
+// Whether the step at a depth is a test that rows alone decide, or asks that a relationship that
+// is followed differs from another one or is no loop.
+fn is_list_test(plan_run: &PlanRun<'_>, depth: usize, follow: Follow) -> bool
+    requires run { IsRun (run_of plan_run.now) }
+    requires depth { depth < length (steps_in plan_run.now) }
+    ensures { IsTrue result → IsListTest (run_of plan_run.now) depth follow }
+{
+    is_row_test(plan_run, depth)
+        || is_pair_test(plan_run, depth, follow.rel)
+        || is_loop_test(plan_run, depth, follow)
+}
+
+// Whether the step at a depth is a test that rows alone decide.
+fn is_row_test(plan_run: &PlanRun<'_>, depth: usize) -> bool
+    requires run { IsRun (run_of plan_run.now) }
+    requires depth { depth < length (steps_in plan_run.now) }
+    ensures { IsTrue result → IsRowTest (run_of plan_run.now) depth }
+{
+    match test_at(plan_run, depth) {
+        None => false,
+        Some(test) => match plan_run.tests.get(test as usize) {
+            None => false,
+            Some(test) => test.reads_rows(),
+        },
+    }
+}
+
+/// The test that the step at a depth asks for, if it is one.
+pub(crate) fn test_at(plan_run: &PlanRun<'_>, depth: usize) -> Option<u32>
+    requires { depth < length (steps_in plan_run.now) }
+    ensures { result ≡ test_of (step_at (run_of plan_run.now) depth) }
+{
+    match plan_run.step(depth) {
+        Step::Keep { test } => Some(*test),
+        Step::Scan { .. } => None,
+        Step::Extend { .. } => None,
+        Step::ColumnExtend { .. } => None,
+        Step::Close { .. } => None,
+        Step::ColumnClose { .. } => None,
+        Step::Join { .. } => None,
+        Step::Differ { .. } => None,
+        Step::NoLoop { .. } => None,
+    }
+}

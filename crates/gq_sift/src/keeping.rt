@@ -1,0 +1,71 @@
+//! The places of a piece of a group's list that all its steps keep.
+ghost use Rattle.std.specs.Prelude.{◌<◌, ◌≤◌, ◌+◌, ◌^◌, length};
+ghost use Rattle.gq_steps.specs.Keeps.{IsRange, IsSifted};
+ghost use Rattle.gq_steps.specs.Levels.{before, built_at, known, step_at};
+ghost use Rattle.gq_steps.specs.Matches.{AreMatches};
+ghost use Rattle.gq_steps.specs.Moves.{run_of, IsRun, IsHeld};
+ghost use Rattle.gq_steps.specs.Tries.{tries};
+
+use crate::closing::candidates;
+use crate::filtering::{filter, filter_list, filters, filters_list};
+use crate::places::keep_place;
+use gq_bits::{Marks, VECTOR};
+use gq_plan::Assignment;
+use gq_steps::{GroupSteps, PlanRun};
+
+/// The places of a part of a group's list that all its steps keep. If it joins, its matches are
+/// told.
+pub fn sift(
+    plan_run: &PlanRun<'_>,
+    group: GroupSteps,
+    matches: &[u32],
+    first: u32,
+    count: u32,
+    row: &mut Assignment,
+) -> Marks
+    requires run { IsRun (run_of plan_run.now) }
+    requires steps { IsRange (run_of plan_run.now) group }
+    requires held { IsHeld (run_of plan_run.now) row.old (known (run_of plan_run.now) group.first) }
+    requires matches { AreMatches (run_of plan_run.now) group.first row.old matches.now }
+    requires count { count ≤ VECTOR }
+    requires fits { first + count < 2 ^ 32 }
+    requires inside { let c = run_of plan_run.now in first + count ≤ length (tries c.graph c.typed
+        (built_at c group.first) (step_at c group.first) (before c row.old group.first)) }
+    ensures { IsSifted (run_of plan_run.now) group first count row.old row.new result }
+{
+    match filters(plan_run, group) {
+        Some(node) => filter(plan_run, group, node, first, count, row),
+        None => match filters_list(plan_run, group) {
+            Some(follow) => filter_list(plan_run, group, follow, first, count, row),
+            None => sift_each(plan_run, group, matches, first, count, row),
+        },
+    }
+}
+
+// The same, place by place.
+fn sift_each(
+    plan_run: &PlanRun<'_>,
+    group: GroupSteps,
+    matches: &[u32],
+    first: u32,
+    count: u32,
+    row: &mut Assignment,
+) -> Marks
+    requires run { IsRun (run_of plan_run.now) }
+    requires steps { IsRange (run_of plan_run.now) group }
+    requires held { IsHeld (run_of plan_run.now) row.old (known (run_of plan_run.now) group.first) }
+    requires matches { AreMatches (run_of plan_run.now) group.first row.old matches.now }
+    requires count { count ≤ VECTOR }
+    requires fits { first + count < 2 ^ 32 }
+    ensures { IsSifted (run_of plan_run.now) group first count row.old row.new result }
+{
+    let mut marks = candidates(plan_run, group.first, first, count, row);
+    let mut place = 0;
+    'places: while let Some(offset) = marks.next_from(place) {
+        if !keep_place(plan_run, group, matches, first + offset, row) {
+            marks.set(offset, false);
+        }
+        place = offset + 1;
+    }
+    marks
+}

@@ -1,0 +1,16 @@
+//! The places of a piece of a group's list that all steps of the group keep: whole pieces at once
+//! where rows or relationships decide its tests, and else one place after another. The crate
+//! stands on the steps of `gq_steps` and the marks of `gq_bits`.
+#![tactic(auto)]
+
+mod closing;
+mod differing;
+mod filtering;
+mod finding;
+mod judging;
+mod keeping;
+mod looping;
+mod places;
+
+pub use keeping::sift;
+pub use places::keep_place;

@@ -1,0 +1,16 @@
+pub mod Binding
+pub mod Followed
+pub mod Going
+pub mod Here
+pub mod Hopping
+pub mod Joined
+pub mod Joining
+pub mod Levels
+pub mod Matched
+pub mod Matching
+pub mod Piecing
+pub mod Standings
+pub mod Stepping
+pub mod Testing
+pub mod Trying
+pub mod Whole

@@ -1,0 +1,11 @@
+pub mod Built
+pub mod Follows
+pub mod Given
+pub mod Groups
+pub mod Keeps
+pub mod Levels
+pub mod Matches
+pub mod Moves
+pub mod Pieces
+pub mod Tries
+pub mod steps

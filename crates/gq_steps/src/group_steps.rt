@@ -1,0 +1,9 @@
+//! The steps of one group of a plan.
+
+/// The steps of one group: the one that makes it, and those that are placed at it.
+#[derive(Clone, Copy)]
+pub struct GroupSteps {
+    pub first: usize,
+    pub end: usize,
+    pub flat: bool,
+}
