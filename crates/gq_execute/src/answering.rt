@@ -20,6 +20,7 @@ ghost use Rattle.gq_law_plans.specs.Safe.{IsMade};
 ghost use Rattle.gq_pipe.specs.Serving.{Serves};
 ghost use Rattle.gq_plan.specs.Soundness.{IsSound};
 ghost use Rattle.gq_pool.specs.Pool.{spare_of};
+ghost use Rattle.gq_rows.specs.Growing.{IsTested};
 ghost use Rattle.gq_trails.specs.Trekking.{AreInTurn, HasLength};
 ghost use Rattle.gq_wide.specs.Placed.{IsPlaced};
 
@@ -50,6 +51,7 @@ fn push<'g>(
     graph: &'g Graph,
     tests: &Tests<'_>,
 ) -> Result<More, RowRefusal>
+    requires tested { (tests.now.all ≡ [] → ⊥) → IsTested table.old.bound }
     requires started { IsSome table.old.alternative }
     requires graph { table.old.graph ≡ graph.now }
     requires chunk { IsChunkIn graph.now table.old.alternative chunk.now }
@@ -76,6 +78,7 @@ fn drain<'g>(
     pool: &mut VectorPool,
     table: &mut RowTable<'g>,
 ) -> Result<(), AnswerRefusal>
+    requires tested { (tests.now.all ≡ [] → ⊥) → IsTested table.old.bound }
     requires run { IsRunOf graph.now table.old pipeline.old }
     requires fresh { pipeline.old.chunks ≡ 0 }
     requires serves { Serves pipeline.old pool.old }

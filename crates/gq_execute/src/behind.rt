@@ -15,6 +15,7 @@ ghost use Rattle.gq_optional.specs.Walks.{IsOptionals, IsSameWalk, IsWalk, lists
 ghost use Rattle.gq_pipe.specs.Serving.{Serves};
 ghost use Rattle.gq_plan.specs.Assignments.{row_of};
 ghost use Rattle.gq_plan.specs.Marked.{Marked, ending};
+ghost use Rattle.gq_rows.specs.Growing.{IsContinued};
 
 use crate::copied::{copy_nodes, copy_rels};
 use crate::late::judge_late;
@@ -47,6 +48,7 @@ fn push_walk<'g>(
     walk: &mut OptionalWalk<'_>,
     graph: &'g Graph,
 ) -> Result<More, RowRefusal>
+    requires continued { IsContinued table.old.bound }
     requires walk { IsWalk walk.old }
     requires started { IsSome table.old.alternative }
     requires graph { table.old.graph ≡ graph.now }
@@ -78,6 +80,7 @@ fn push_copied<'g>(
     typed: &Typed,
     graph: &'g Graph,
 ) -> Result<More, RowRefusal>
+    requires continued { IsContinued table.old.bound }
     requires nodes { length row.now.nodes ≡ length typed.now.nodes }
     requires rels { length row.now.rels ≡ length typed.now.rels }
     requires behind { IsBehind graph.now table.old.bound typed.now prepared.now behind.old }
@@ -111,6 +114,7 @@ fn push_row<'g>(
     typed: &Typed,
     graph: &'g Graph,
 ) -> Result<More, RowRefusal>
+    requires continued { IsContinued table.old.bound }
     requires nodes { length row.now.nodes ≡ length typed.now.nodes }
     requires rels { length row.now.rels ≡ length typed.now.rels }
     requires asked { prepared.now.conjuncts ≡ asked_of graph.now table.old.bound.conjuncts }
@@ -146,6 +150,7 @@ fn push_rows<'g>(
     typed: &Typed,
     graph: &'g Graph,
 ) -> Result<More, RowRefusal>
+    requires continued { IsContinued table.old.bound }
     requires chunk { IsChunkOf graph.now typed.now chunk.now }
     requires asked { prepared.now.conjuncts ≡ asked_of graph.now table.old.bound.conjuncts }
     requires behind { IsBehind graph.now table.old.bound typed.now prepared.now behind.old }

@@ -1,5 +1,5 @@
 //! The tests of paths of a query, each by the keys of its path's matches.
-ghost use Rattle.std.specs.Prelude.{◌≡◌, ◌≤◌, ◌<◌, ◌++◌, [], true, flat_map, length, All, IfOk, IfErr, OnOk};
+ghost use Rattle.std.specs.Prelude.{◌≡◌, ◌≤◌, ◌<◌, ◌++◌, ◌↔◌, [], true, flat_map, length, All, IfOk, IfErr, OnOk};
 ghost use Rattle.std.specs.List.{AllZip, list_all};
 ghost use Rattle.gq_execute.specs.Planned.{sizes};
 ghost use Rattle.gq_execute.specs.Spending.{IsSpentOn};
@@ -61,7 +61,7 @@ fn all_admit<R: Assigned>(tests: &[Test<'_>], row: &R) -> bool
 impl<'q> Tests<'q> {
     /// Whether there are none.
     pub(crate) fn is_empty(&self) -> bool
-        ensures { result ≡ true → self.now.all ≡ [] }
+        ensures { (result ≡ true) ↔ (self.now.all ≡ []) }
     {
         self.all.is_empty()
     }

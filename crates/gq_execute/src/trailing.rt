@@ -16,6 +16,7 @@ ghost use Rattle.gq_kept.specs.Chunks.{PushesAll, assignments_of};
 ghost use Rattle.gq_kept.specs.Tables.{IsSameQuery, StandsForSome, is_full_table};
 ghost use Rattle.gq_law_plans.specs.Safe.{IsMade};
 ghost use Rattle.gq_pipe.specs.Serving.{Serves};
+ghost use Rattle.gq_rows.specs.Growing.{IsContinued};
 ghost use Rattle.gq_trails.specs.Trekking.{HasLength};
 ghost use Rattle.gq_wide.specs.Rows.{read};
 
@@ -51,6 +52,7 @@ fn push_judged<'g>(
     typed: &Typed,
     graph: &'g Graph,
 ) -> Result<More, RowRefusal>
+    requires continued { IsContinued table.old.bound }
     requires asked { prepared.now.conjuncts ≡ asked_of graph.now table.old.bound.conjuncts }
     requires started { IsSome table.old.alternative }
     requires graph { table.old.graph ≡ graph.now }
@@ -81,6 +83,7 @@ fn push_reached<'g>(
     typed: &Typed,
     graph: &'g Graph,
 ) -> Result<More, RowRefusal>
+    requires continued { IsContinued table.old.bound }
     requires trails { AreTrailsOf graph.now table.old.bound trails.old }
     requires asked { prepared.now.conjuncts ≡ asked_of graph.now table.old.bound.conjuncts }
     requires started { IsSome table.old.alternative }
@@ -112,6 +115,7 @@ fn push_continued<'g, 'w>(
     typed: &'w Typed,
     graph: &'g Graph,
 ) -> Result<More, RowRefusal>
+    requires continued { IsContinued table.old.bound }
     requires made { IsMade graph.now typed.now row.now }
     requires asked { prepared.now.conjuncts ≡ asked_of graph.now table.old.bound.conjuncts }
     requires walking { IsWalking graph.now table.old.bound typed.now walking.old }
@@ -141,6 +145,7 @@ fn push_walked<'g, 'w>(
     typed: &'w Typed,
     graph: &'g Graph,
 ) -> Result<More, RowRefusal>
+    requires continued { IsContinued table.old.bound }
     requires chunk { IsChunkOf graph.now typed.now chunk.now }
     requires made { let ts = assignments_of graph.now typed.now chunk.now in
         AllByRecursion (IsMade graph.now typed.now) ts }

@@ -12,6 +12,7 @@ ghost use Rattle.gq_listed.specs.Listed.{is_listing};
 ghost use Rattle.gq_plan.specs.Assignments.{row_of};
 ghost use Rattle.gq_plan.specs.Marked.{Marked, ending};
 ghost use Rattle.gq_project.specs.Reading.{IsReading};
+ghost use Rattle.gq_rows.specs.Growing.{IsContinued, IsTested};
 ghost use Rattle.gq_wide.specs.Rows.{read};
 
 use crate::room::row_bytes;
@@ -159,11 +160,34 @@ impl<'g> RowTable<'g> {
         ensures counted { let all = choices chunk.now.groups.now in
             OnOk result (self.new.pushed ≡ counted self.old.pushed all) }
     {
-        self.push_admitted(chunk, graph, &Everything)
+        self.push_those(chunk, graph, &Everything)
     }
 
-    /// Takes those of the assignments that are admitted, in the same way.
+    /// Takes those of the assignments that are admitted, in the same way. It is called for queries
+    /// with tests of paths alone.
     pub fn push_admitted<A: Admits>(
+        &mut self,
+        chunk: &Chunk<'_, '_>,
+        graph: &'g Graph,
+        admits: &A,
+    ) -> Result<More, RowRefusal>
+        requires tested { IsTested self.old.bound }
+        requires started { IsSome self.old.alternative }
+        requires graph { self.old.graph ≡ graph.now }
+        requires chunk { IsChunkIn graph.now self.old.alternative chunk.now }
+        requires stands { StandsForSome self.old }
+        requires room { is_full_table self.old ≡ false }
+        ensures pushes { let admitted = A.admitted admits.now in
+            PushesAdmitted admitted graph.now chunk.now self.old self.new result }
+        ensures query { OnOk result (IsSameQuery self.old self.new) }
+        ensures counted { let all = choices chunk.now.groups.now in
+            OnOk result (self.new.pushed ≡ counted self.old.pushed all) }
+    {
+        self.push_those(chunk, graph, admits)
+    }
+
+    // Takes those of the assignments of a chunk that are admitted.
+    fn push_those<A: Admits>(
         &mut self,
         chunk: &Chunk<'_, '_>,
         graph: &'g Graph,
@@ -196,8 +220,8 @@ impl<'g> RowTable<'g> {
 
     /// Takes a row that gives each variable a node, a relationship or nothing: it has no further
     /// conjuncts. Its outcome is the given fault; where none is given, it is the first fault of its
-    /// columns and keys, or their values. It is called for the rows of queries with optional
-    /// clauses. After a refusal the table may only be dropped.
+    /// columns and keys, or their values. It is called for queries with optional clauses or trails
+    /// alone, whose rows these make. After a refusal the table may only be dropped.
     ///
     /// It refuses with the fault of an outcome that is looked at, or where the kept rows would be
     /// more than the limit. It takes no memory but that in which the table grows.
@@ -207,6 +231,7 @@ impl<'g> RowTable<'g> {
         fault: Option<Fault>,
         graph: &'g Graph,
     ) -> Result<More, RowRefusal>
+        requires continued { IsContinued self.old.bound }
         requires started { IsSome self.old.alternative }
         requires graph { self.old.graph ≡ graph.now }
         requires stands { StandsForSome self.old }

@@ -1,4 +1,4 @@
-use Rattle.std.proofs.Common.{◌∙◌, ap, refl, sym, Some, Ok, Err}
+use Rattle.std.proofs.Common.{◌∙◌, ap, refl, sym, Some, Ok, Err, subst}
 use Rattle.gq_group.specs.Groups.{choices}
 use Rattle.gq_pipe.specs.Bound.{binds_all}
 use Rattle.gq_pipe.specs.Progress.{Source, plan_in}
@@ -7,6 +7,7 @@ use Rattle.gq_kept.specs.declared.refusal.More.TheVariants as more
 use Rattle.gq_execute.proofs.Draining.{all_taken, bag_here, chunk_in, counted_here, counted_more, counted_none, full_here, has_choice, in_order, less_owed, met, pushed_more, pushed_none, pushes_here, run_full, run_out}
 use Rattle.gq_execute.specs.steps.Taking.{given_by, if_admitted}
 use Rattle.gq_execute.specs.steps.Testing.{admitted_by}
+use Rattle.gq_rows.specs.Growing.{IsTested}
 use Rattle.gq_execute.proofs.answering.drain.Goals as goal
 
 pub chunks-init : goal.chunks-init
@@ -129,3 +130,6 @@ returns c =
       serves = c.advance.ensures.serves;
       slots = c.advance.ensures.pool ∙ i.slots;
     }
+
+pub push-requires-clause-tested : goal.push-requires-clause-tested
+push-requires-clause-tested c some = subst IsTested (sym c.chunks.invariant.same.bound) (c.requires.tested some)

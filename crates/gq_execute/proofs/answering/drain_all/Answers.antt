@@ -5,6 +5,7 @@ use Rattle.gq_execute.specs.steps.Prepared.{known_by, later_by}
 use Rattle.gq_execute.specs.steps.Taking.{TakesAll, if_admitted, owed_by}
 use Rattle.gq_execute.specs.steps.Testing.{admitted_by}
 use Rattle.gq_execute.proofs.Making.{alone_on, plainly_on}
+use Rattle.std.specs.List.{AllZip}
 use Rattle.gq_execute.proofs.answering.drain_all.Goals as goal
 
 -- where one list is empty unless another is, and is not empty, the other is
@@ -42,3 +43,12 @@ returns-clause-takes c =
     let no_trails = ap (λ (q : Bound). q.trails) (sym c.requires.prepared.bound) ∙ c.is_empty.ensures.0 c.if-not-is_empty.false in
     subst (λ os. TakesAll os c.args.table.now c.drain_behind.new.table c.drain_behind.result)
     (alone_on (later_by g c.args.prepared.now) g b no_trails y (owed_by y c.args.pipeline.now)) c.drain_behind.ensures.takes
+
+-- where some tests are of some paths, and there are tests, there are paths
+some_paths : {X Y : Type 0} (R : X → Y → Type 0) (xs : List X) (ys : List Y) → AllZip R xs ys → (ys ≡ [] → ⊥) → xs ≡ [] → ⊥
+some_paths R [] [] each some none = some refl
+some_paths R [] (y ∷ ys) each some none = absurd each
+some_paths R (x ∷ xs) ys each some none = absurd (cc none)
+
+pub drain-requires-clause-tested : goal.drain-requires-clause-tested
+drain-requires-clause-tested c = some_paths _ c.args.table.now.bound.patterns c.args.prepared.now.tests.all c.requires.prepared.tests

@@ -10,6 +10,7 @@ use Rattle.gq_execute.proofs.Draining.{all_taken, bag_here, chunk_of, counted_mo
 use Rattle.gq_execute.specs.steps.Behind.{IsBehind, IsWalkOf}
 use Rattle.gq_execute.specs.steps.Prepared.{later_by}
 use Rattle.gq_execute.specs.steps.Taking.{given_by}
+use Rattle.gq_rows.specs.Growing.{IsContinued}
 use Rattle.gq_execute.proofs.behind.drain_behind.Goals as goal
 
 pub chunks-init : goal.chunks-init
@@ -166,3 +167,6 @@ returns-in-Ok-Enough-clause-graph c = c.in-Ok-Enough.ensures.query.graph ∙ c.c
 
 pub returns-clause-graph : goal.returns-clause-graph
 returns-clause-graph c = c.chunks.invariant.same.graph
+
+pub push_rows-requires-clause-continued : goal.push_rows-requires-clause-continued
+push_rows-requires-clause-continued c = subst IsContinued (sym c.chunks.invariant.same.bound) (λ none _. c.requires.some none)

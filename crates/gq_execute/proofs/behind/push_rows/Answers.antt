@@ -1,4 +1,4 @@
-use Rattle.std.proofs.Common.{◌∙◌, Err, Ok, ap, length, refl, subst}
+use Rattle.std.proofs.Common.{◌∙◌, Err, Ok, ap, length, refl, subst, sym}
 use Rattle.gq_group.specs.Groups.{choices, later_choices}
 use Rattle.gq_plan.specs.Assignments.{Assignment}
 use Rattle.gq_kept.proofs.Chunking.{same_again, same_table}
@@ -8,6 +8,7 @@ use Rattle.gq_execute.proofs.Pushing.{taken_full, taken_more, taken_none, taken_
 use Rattle.gq_execute.proofs.behind.push_rows.Goals as goal
 use Rattle.gq_execute.specs.steps.Behind.{IsBehind, Taken}
 use Rattle.gq_execute.specs.steps.Prepared.{later_by}
+use Rattle.gq_rows.specs.Growing.{IsContinued}
 use Rattle.gq_execute.specs.steps.Taking.{given_by}
 
 pub choices-init : goal.choices-init
@@ -78,3 +79,6 @@ choices-preserved c =
       stands = next_chosen gs c.next-found.result c.choices.choice c.next-found.new.self c.next-found.ensures;
       came = subst (λ l. Taken (out (choices gs)) (out l) old new) (next_left gs c.next-found.result c.choices.choice c.next-found.new.self c.next-found.ensures) more_taken;
     }
+
+pub push_row-requires-clause-continued : goal.push_row-requires-clause-continued
+push_row-requires-clause-continued c = subst IsContinued (sym c.choices.invariant.same.bound) c.requires.continued

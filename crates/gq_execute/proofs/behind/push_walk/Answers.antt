@@ -1,8 +1,9 @@
-use Rattle.std.proofs.Common.{ap, map, Err, Ok}
+use Rattle.std.proofs.Common.{ap, map, Err, Ok, subst, sym}
 use Rattle.gq_plan.specs.Marked.{ending}
 use Rattle.gq_kept.proofs.Chunking.{same_again, same_table}
 use Rattle.gq_kept.specs.declared.refusal.More.TheVariants as more
 use Rattle.gq_execute.proofs.Pushing.{marked_pushed, same_walk_again, same_walk_now, taken_full, taken_more, taken_none, taken_refused}
+use Rattle.gq_rows.specs.Growing.{IsContinued}
 use Rattle.gq_execute.proofs.behind.push_walk.Goals as goal
 
 pub rows-init : goal.rows-init
@@ -46,3 +47,6 @@ returns-in-Err-clause-pushes c =
     let pushes = marked_pushed c.args.graph.now c.args.table.now.bound c.rows.table c.push_wide.new.self c.row.result.now c.fault.result c.advance.new.self (Err c.in-Err.refusal) i.same.bound c.row.ensures c.fault.ensures tt
     c.in-Err.ensures.pushes in
     taken_refused _ c.args.table.now c.rows.table _ _ _ (ap out (c.advance.ensures.next c.rows-test.true)) i.came i.same c.push_wide.new.self c.in-Err.refusal pushes
+
+pub push_wide-requires-clause-continued : goal.push_wide-requires-clause-continued
+push_wide-requires-clause-continued c = subst IsContinued (sym c.rows.invariant.same.bound) c.requires.continued

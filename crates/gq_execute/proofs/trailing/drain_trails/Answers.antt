@@ -13,6 +13,7 @@ use Rattle.gq_execute.specs.steps.Behind.{IsBlankFrom}
 use Rattle.gq_execute.specs.steps.Taking.{given_on, if_admitted}
 use Rattle.gq_execute.specs.steps.Testing.{admitted_by}
 use Rattle.gq_execute.specs.steps.Walking.{AreTrailsOf, IsWalking}
+use Rattle.gq_rows.specs.Growing.{IsContinued}
 use Rattle.gq_execute.proofs.trailing.drain_trails.Goals as goal
 
 pub chunks-init : goal.chunks-init
@@ -184,3 +185,6 @@ returns-in-Ok-Enough-clause-graph c = c.in-Ok-Enough.ensures.query.graph ∙ c.c
 
 pub returns-clause-graph : goal.returns-clause-graph
 returns-clause-graph c = c.chunks.invariant.same.graph
+
+pub push_walked-requires-clause-continued : goal.push_walked-requires-clause-continued
+push_walked-requires-clause-continued c = subst IsContinued (sym c.chunks.invariant.same.bound) (λ _ none. c.requires.some none)

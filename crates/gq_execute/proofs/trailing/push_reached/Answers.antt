@@ -1,4 +1,4 @@
-use Rattle.std.proofs.Common.{◌∙◌, ap, flat_map, Err, Ok}
+use Rattle.std.proofs.Common.{◌∙◌, ap, flat_map, Err, Ok, subst, sym}
 use Rattle.gq_law_trails.specs.Trails.{Trailing}
 use Rattle.std.specs.Prelude.{List}
 use Rattle.gq_kept.proofs.Chunking.{same_again, same_table}
@@ -8,6 +8,7 @@ use Rattle.gq_execute.proofs.Reaching.{judged_here}
 use Rattle.gq_execute.proofs.trailing.push_reached.Goals as goal
 use Rattle.gq_execute.specs.steps.Continuing.{reached_in}
 use Rattle.gq_execute.specs.steps.Taking.{if_admitted, outcomes_on}
+use Rattle.gq_rows.specs.Growing.{IsContinued}
 use Rattle.gq_execute.specs.steps.Testing.{admitted_by}
 
 pub rows-init : goal.rows-init
@@ -63,3 +64,6 @@ returns-in-Err-clause-pushes c =
     let out = outcomes_on later g b y in
     let pushes = judged_here later g b y c.rows.table c.push_judged.new.table c.advance.new.self.reached c.row.result.now (Err c.in-Err.refusal) i.same.bound c.row.ensures c.in-Err.ensures.pushes in
     taken_refused _ c.args.table.now c.rows.table _ _ _ (ap (λ (ms : List Trailing). flat_map out (reached_in ms)) (c.advance.ensures.next c.rows-test.true)) i.came i.same c.push_judged.new.table c.in-Err.refusal pushes
+
+pub push_judged-requires-clause-continued : goal.push_judged-requires-clause-continued
+push_judged-requires-clause-continued c = subst IsContinued (sym c.rows.invariant.same.bound) c.requires.continued

@@ -13,6 +13,7 @@ use Rattle.gq_execute.proofs.trailing.push_walked.Goals as goal
 use Rattle.gq_execute.specs.steps.Behind.{Taken}
 use Rattle.gq_execute.specs.steps.Taking.{given_on, if_admitted}
 use Rattle.gq_execute.specs.steps.Testing.{admitted_by}
+use Rattle.gq_rows.specs.Growing.{IsContinued}
 use Rattle.gq_execute.specs.steps.Walking.{IsWalking}
 
 pub choices-init : goal.choices-init
@@ -95,3 +96,6 @@ choices-preserved c =
       made = subst (AllByRecursion (λ ps. IsMade g y (assigned y (assignment_at g y c.args.chunk.now ps)))) left (rw c.choices-test.true at i.made).1;
       came = subst (λ l. Taken (out (choices gs)) (out l) old new) left more_taken;
     }
+
+pub push_continued-requires-clause-continued : goal.push_continued-requires-clause-continued
+push_continued-requires-clause-continued c = subst IsContinued (sym c.choices.invariant.same.bound) c.requires.continued
