@@ -90,6 +90,7 @@ module _ (g : Graph) (order : Order) where
       costs = are.0.costs;
       planned = are.0.planned;
       covers = are.0.covers;
+      means = are.0.means;
       sides = subst (λ rs. AllZip (HasSpentAll g y) rs l.sides) (runs_sides p are.0.alone) listed.0.sides;
       own = listed.0.own;
     },

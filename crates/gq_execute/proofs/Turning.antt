@@ -23,7 +23,7 @@ use Rattle.gq_plan.specs.declared.Bound.{Bound}
 use Rattle.gq_plan.specs.declared.typed.Typed.{Typed}
 use Rattle.gq_kept.specs.Answers.{cut_of}
 use Rattle.gq_kept.specs.Tables.{Table, is_full, is_full_table}
-use Rattle.gq_execute.specs.Planned.{IsPlanIn, sizes}
+use Rattle.gq_execute.specs.Planned.{IsPlanIn, Means, sizes}
 use Rattle.gq_execute.specs.Spending.{IsPlain, IsTurn}
 use Rattle.gq_execute.specs.steps.Answering.{Drains, Runs}
 use Rattle.gq_execute.specs.Replies.{has_large_part}
@@ -139,13 +139,14 @@ module _ (g : Graph) (y : Typed) (p : Plan) (old new : Table) (begun now : Rest)
 
 -- the turn of an alternative, whose plan has side plans without joins
 pub turn_spent : (g : Graph) (b : Bound) (order : Order) (y : Typed) (p : Plan) (costs : List (Option ℕ)) (ss : List Spent) (own : Spent) → IsPlanIn order g.catalog (sizes g) y p costs
-    → Covers g.catalog y p → list_all is_flat (sides p) ≡ true → AllZip (HasSpentAll g y) (runs_of p) ss → HasSpent g y p own → (cut_of b ≡ None → HasOneEach g y p own)
+    → Covers g.catalog y p → Means g y p → list_all is_flat (sides p) ≡ true → AllZip (HasSpentAll g y) (runs_of p) ss → HasSpent g y p own → (cut_of b ≡ None → HasOneEach g y p own)
     → IsTurn g b order y (record { sides = ss; own = own })
-turn_spent g b order y p costs ss own planned covers alone spent own_is one_each = record {
+turn_spent g b order y p costs ss own planned covers means alone spent own_is one_each = record {
   plan = p;
   costs = costs;
   planned = planned;
   covers = covers;
+  means = means;
   sides = subst (λ l. AllZip (HasSpentAll g y) l ss) (runs_sides p alone) spent;
   own = own_is;
   one_each = one_each;

@@ -1,5 +1,6 @@
 -- Which plans the alternatives of a query have over a graph, and what they cost (this project's profile).
 use Rattle.std.specs.Prelude.{◌≡◌, ℕ, Option, Some, None, List, [], ◌∷◌, map, length}
+use Rattle.std.specs.List.Sorted.{IsPermutation}
 use Rattle.std.specs.List.{range_with_len}
 use Rattle.gq_base.specs.Catalogs.{Tables}
 use Rattle.gq_base.specs.Plain.{Graph, rels_at}
@@ -11,6 +12,8 @@ use Rattle.gq_order.specs.Given.{given_plan}
 use Rattle.gq_order.specs.Greedy.{greedy_plan}
 use Rattle.gq_order.specs.Orders.{plan_by}
 use Rattle.gq_order.specs.declared.stats.Stats.{Stats}
+use Rattle.gq_law_answers.specs.Answered.{allowed}
+use Rattle.gq_plan.specs.Meaning.{meaning}
 use Rattle.gq_plan.specs.Plans.{Plan}
 use Rattle.gq_plan.specs.declared.typed.Typed.{Typed}
 use Rattle.gq_execute.specs.declared.settings.Order.{Order}
@@ -43,6 +46,10 @@ abbrev pub IsPlanIn : Order → Tables → Stats → Typed → Plan → List (Op
 IsPlanIn order.Given catalog stats y p costs = (p ≡ given_plan catalog y) × (costs ≡ [])
 IsPlanIn order.Greedy catalog stats y p costs = (p ≡ greedy_plan catalog y stats) × (costs ≡ [])
 IsPlanIn order.Least catalog stats y p costs = IsLeastPlan catalog stats y p costs
+
+-- a plan means, as a bag, the matches of an alternative that make its tests true and its pairs of relationships different
+abbrev pub Means : Graph → Typed → Plan → Type 0
+Means g y p = IsPermutation (meaning g y p) (allowed g y)
 
 -- the plan of each alternative, by the sizes of the graph's tables, and its costs
 abbrev pub ArePlansIn : Order → Graph → List Typed → List Plan → List (List (Option ℕ)) → Type 0

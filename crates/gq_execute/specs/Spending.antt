@@ -17,7 +17,7 @@ use Rattle.gq_plan.specs.declared.Typed.{Typed}
 use Rattle.gq_kept.specs.Answers.{cut_of, rows_in}
 use Rattle.gq_ast.specs.declared.Query.{Query}
 use Rattle.gq_execute.specs.Answering.{question}
-use Rattle.gq_execute.specs.Planned.{ArePlansIn, IsPlanIn, sizes}
+use Rattle.gq_execute.specs.Planned.{ArePlansIn, IsPlanIn, Means, sizes}
 use Rattle.gq_execute.specs.Replies.{Question, has_turn, has_turns, outcomes_in}
 use Rattle.gq_execute.specs.declared.found.Answer.{Answer}
 use Rattle.gq_execute.specs.declared.refusal.AnswerRefusal.{AnswerRefusal}
@@ -44,36 +44,39 @@ spent_in turns = flat_map (λ (t : Turn). t.sides ++ t.own ∷ []) turns
 abbrev pub own_chunks : List Turn → ℕ
 own_chunks turns = sum_by (λ (t : Turn). t.own.chunks) turns
 
--- the plan of an alternative, which covers it, and what its pipelines spent; its own hands out all where all outcomes are
--- looked at
+-- the plan of an alternative, which covers it and means all of its matches, and what its pipelines spent; its own hands out all
+-- where all outcomes are looked at
 pub record IsTurn (g : Graph) (b : Bound) (order : Order) (y : Typed) (t : Turn) : Type 0 where
   pub plan : Plan
   pub costs : List (Option ℕ)
   pub planned : IsPlanIn order g.catalog (sizes g) y plan costs
   pub covers : Covers g.catalog y plan
+  pub means : Means g y plan
   pub sides : AllZip (HasSpentAll g y) (sides plan) t.sides
   pub own : HasSpent g y plan t.own
   pub one_each : cut_of b ≡ None → HasOneEach g y plan t.own
 
--- what was spent on a test of a path: on pipelines of the plans of the path's alternatives, which cover them
+-- what was spent on a test of a path: on pipelines of the plans of the path's alternatives, which cover them and mean their matches
 pub record IsSpentOn (g : Graph) (order : Order) (part : ExistsPart) (spent : List Spent) : Type 0 where
   pub plans : List Plan
   pub costs : List (List (Option ℕ))
   pub planned : ArePlansIn order g part.alternatives plans costs
   pub covers : AllZip (Covers g.catalog) part.alternatives plans
+  pub mean : AllZip (Means g) part.alternatives plans
   pub each : HasSpentEach (length part.nodes) g part.alternatives plans spent
 
 -- the tests that are made: all of them, where some alternative's turn comes
 abbrev pub tests_made : Question → List ExistsPart
 tests_made a = if has_turns a then a.bound.patterns else []
 
--- what was spent to list the matches of an alternative of an optional clause: on pipelines of its plan, which covers it; those of
--- the side plans and its own all hand out all
+-- what was spent to list the matches of an alternative of an optional clause: on pipelines of its plan, which covers it and means
+-- them; those of the side plans and its own all hand out all
 pub record IsSpentOnListing (g : Graph) (order : Order) (y : Typed) (l : Listing) : Type 0 where
   pub plan : Plan
   pub costs : List (Option ℕ)
   pub planned : IsPlanIn order g.catalog (sizes g) y plan costs
   pub covers : Covers g.catalog y plan
+  pub means : Means g y plan
   pub sides : AllZip (HasSpentAll g y) (sides plan) l.sides
   pub own : HasSpentAll g y plan l.own
 

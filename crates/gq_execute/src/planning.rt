@@ -1,7 +1,7 @@
 //! The plans of alternatives, in the order that the settings name, and what they cost.
 ghost use Rattle.std.specs.Prelude.{◌≡◌, ◌<◌, [], true, length, map, All, IfOk, IsTrue};
 ghost use Rattle.std.specs.List.{AllZip, list_all};
-ghost use Rattle.gq_execute.specs.Planned.{ArePlansIn, IsPlanIn, sizes};
+ghost use Rattle.gq_execute.specs.Planned.{ArePlansIn, IsPlanIn, Means, sizes};
 ghost use Rattle.gq_execute.specs.Replies.{parts_by};
 ghost use Rattle.gq_execute.specs.steps.Clauses.{IsPlanned};
 ghost use Rattle.gq_execute.specs.steps.Costing.{last_cost};
@@ -141,7 +141,7 @@ pub(crate) fn plan_for(
 }
 
 /// The plan of each alternative of a bound query, in this order and by the sizes of the graph's
-/// tables, with its costs; each covers its alternative. After `Memory` there is none.
+/// tables, with its costs; each covers its alternative, and means all of its matches. After `Memory` there is none.
 pub fn plans(
     alloc: Global,
     graph: &Graph,
@@ -154,6 +154,8 @@ pub fn plans(
         ArePlansIn order graph.now bound.now.alternatives (map plan_of made.plans) made.costs) }
     ensures covers { IfOk result (λ made.
         AllZip (Covers graph.now.catalog) bound.now.alternatives (map plan_of made.plans)) }
+    ensures mean { IfOk result (λ made.
+        AllZip (Means graph.now) bound.now.alternatives (map plan_of made.plans)) }
 {
     let stats = stats_of(alloc, graph)?;
     plans_in(alloc, order, graph, &stats, bound.alternatives.as_slice())
@@ -174,6 +176,8 @@ pub(crate) fn plans_in(
         ArePlansIn order graph.now alternatives.now (map plan_of made.plans) made.costs) }
     ensures covers { IfOk result (λ made.
         AllZip (Covers graph.now.catalog) alternatives.now (map plan_of made.plans)) }
+    ensures mean { IfOk result (λ made.
+        AllZip (Means graph.now) alternatives.now (map plan_of made.plans)) }
     ensures begins { IfOk result (λ made.
         All (λ p. begins (plan_of p) ≡ true) made.plans) }
     ensures each { IfOk result (λ made.

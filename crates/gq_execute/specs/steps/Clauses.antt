@@ -14,7 +14,7 @@ use Rattle.gq_plan.specs.Plans.{Plan, plan_of}
 use Rattle.gq_plan.specs.declared.bound.OptionalPart.{OptionalPart}
 use Rattle.gq_plan.specs.declared.plan.Plan as code
 use Rattle.gq_plan.specs.declared.typed.Typed.{Typed}
-use Rattle.gq_execute.specs.Planned.{IsPlanIn, sizes}
+use Rattle.gq_execute.specs.Planned.{IsPlanIn, Means, sizes}
 use Rattle.gq_execute.specs.Replies.{is_heavy_clause, parts_by}
 use Rattle.gq_execute.specs.Spending.{IsSpentOnClause}
 use Rattle.gq_execute.specs.declared.refusal.AnswerRefusal.{AnswerRefusal}
@@ -23,11 +23,12 @@ use Rattle.gq_execute.specs.declared.settings.Order.{Order}
 
 -- ---- plans
 
--- a plan of an alternative in an order: it covers the alternative, and joins one side plan without joins for each part
+-- a plan of an alternative in an order: it covers the alternative, means its matches, and joins one side plan without joins for each part
 pub record IsPlanned (order : Order) (g : Graph) (y : Typed) (p : Plan) : Type 0 where
   pub costs : List (Option ℕ)
   pub planned : IsPlanIn order g.catalog (sizes g) y p costs
   pub covers : Covers g.catalog y p
+  pub means : Means g y p
   pub parts : AllZip (IsSide g.catalog y) (parts_by order y) (sides p)
   pub alone : list_all is_flat (sides p) ≡ true
 

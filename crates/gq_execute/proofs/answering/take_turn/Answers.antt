@@ -19,6 +19,7 @@ use Rattle.gq_execute.specs.Spending.{IsPlain}
 use Rattle.gq_execute.proofs.Begins.{plan_begins}
 use Rattle.gq_execute.proofs.Parting.{sides_light, sides_refused}
 use Rattle.gq_pipe.proofs.Assigned.{covers_bind_all}
+use Rattle.gq_law_plans.proofs.Wholes.{plans_mean}
 use Rattle.gq_execute.proofs.Turning.{own_counted, own_keys, own_spent, turn_spent, turn_stops, turned}
 use Rattle.gq_execute.specs.steps.Prepared.{later_by}
 use Rattle.gq_execute.specs.steps.Taking.{given_on}
@@ -108,7 +109,7 @@ returns-clause-spends c =
     let same_bound = ends.takes.alike.bound ∙ ap (λ (t : Table). t.bound) c.start_alternative.ensures in
     record {
       turn = record { sides = c.in-Ok.builds.spent; own = own };
-      is = turn_spent g c.args.table.now.bound order y plan costs c.in-Ok.builds.spent own (subst (λ (s : Stats). IsPlanIn order g.catalog s y plan costs) c.requires.stats made.plan) made.covers made.alone c.in-Ok.ensures.spent
+      is = turn_spent g c.args.table.now.bound order y plan costs c.in-Ok.builds.spent own (subst (λ (s : Stats). IsPlanIn order g.catalog s y plan costs) c.requires.stats made.plan) made.covers (plans_mean g y plan c.stands_valid.ensures c.requires.sound made.covers) made.alone c.in-Ok.ensures.spent
           (own_spent g y plan start new begun now own p.meaning p.count p.columns ends.ran c.drain_all-drained.ensures.columns c.finish-own.ensures.chunks c.finish-own.ensures.columns)
           (λ uncut. own_keys g y plan start new begun now own p.meaning p.count p.columns ends.ran c.drain_all-drained.ensures.columns c.finish-own.ensures.chunks c.finish-own.ensures.columns (ap cut_of same_bound ∙ uncut));
       all = c.in_ok-push.ensures.pushed ∙ ap (λ l. l ++ own ∷ []) c.into_spent-spent.ensures;

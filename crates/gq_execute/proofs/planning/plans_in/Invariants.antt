@@ -4,7 +4,7 @@ use Rattle.gq_homes.specs.Cuts.{begins}
 use Rattle.gq_plan.specs.Covers.{Covers}
 use Rattle.gq_plan.specs.Plans.{plan_of}
 use Rattle.gq_plan.specs.declared.plan.Plan as code_plan
-use Rattle.gq_execute.specs.Planned.{ArePlansIn}
+use Rattle.gq_execute.specs.Planned.{ArePlansIn, Means}
 use Rattle.gq_execute.specs.steps.Clauses.{IsPlanned}
 use Rattle.gq_execute.proofs.planning.plans_in.Given as goal
 
@@ -13,5 +13,6 @@ invariant-alternatives l = record {
   plans : ArePlansIn l.order l.graph (take l.typed-index l.alternatives) (map plan_of l.plans) l.costs;
   begins : All (λ (p : code_plan.Plan). begins (plan_of p) ≡ true) l.plans;
   each : AllZip (IsPlanned l.order l.graph) (take l.typed-index l.alternatives) (map plan_of l.plans);
+  mean : AllZip (Means l.graph) (take l.typed-index l.alternatives) (map plan_of l.plans);
   covers : AllZip (Covers l.graph.catalog) (take l.typed-index l.alternatives) (map plan_of l.plans);
 }
