@@ -90,6 +90,7 @@ fn drain<'g>(
     ensures ran { OnOk result (HasRun table.old table.new pipeline.old pipeline.new) }
     ensures graph { OnOk result (table.new.graph ≡ table.old.graph) }
     ensures columns { pipeline.new.columns ≡ pipeline.old.columns }
+    ensures held { pipeline.new.slots ≡ pipeline.old.slots }
     ensures serves { Serves pipeline.new pool.new }
     ensures slots { pool.new.out ≡ pool.old.out }
 {
@@ -133,6 +134,7 @@ fn drain_all<'g>(
     ensures ran { OnOk result (HasRun table.old table.new pipeline.old pipeline.new) }
     ensures graph { OnOk result (table.new.graph ≡ table.old.graph) }
     ensures columns { pipeline.new.columns ≡ pipeline.old.columns }
+    ensures held { pipeline.new.slots ≡ pipeline.old.slots }
     ensures serves { Serves pipeline.new pool.new }
     ensures slots { pool.new.out ≡ pool.old.out }
 {
@@ -177,7 +179,7 @@ fn take_turn<'g>(
     ensures spends { IfOk result
         (SpendsTurn graph.now settings.now.order typed.now table.old table.new) }
     ensures graph { OnOk result (table.new.graph ≡ table.old.graph) }
-    ensures slots { spare_of pool.new ≡ spare_of pool.old }
+    ensures slots { pool.new.out ≡ pool.old.out }
 {
     graph.stands_valid();
     let planned = plan_for(alloc, settings.order, graph, stats, typed)?;
@@ -229,7 +231,7 @@ fn take_turns<'g>(
     ensures fills { Fills graph.now bound.now settings.now table.new result }
     ensures stands { OnOk result (StandsForSome table.new) }
     ensures bound { OnOk result (table.new.bound ≡ bound.now) }
-    ensures slots { spare_of pool.new ≡ spare_of pool.old }
+    ensures slots { pool.new.out ≡ pool.old.out }
 {
     graph.stands_valid();
     let mut spent = List::new(alloc);
@@ -278,7 +280,7 @@ fn fill<'g>(
     ensures answers { AnswersAll graph.now bound.now settings.now table.new result }
     ensures stands { OnOk result (StandsForSome table.new) }
     ensures bound { OnOk result (table.new.bound ≡ bound.now) }
-    ensures slots { spare_of pool.new ≡ spare_of pool.old }
+    ensures slots { pool.new.out ≡ pool.old.out }
 {
     graph.stands_valid();
     if bound.alternatives.is_empty() || table.enough() {
@@ -313,7 +315,7 @@ fn fill<'g>(
 ///
 /// The rows are made of the chunks that the pipelines hand out, and of no others; behind optional
 /// clauses, or where there are trails, of what these make of the assignments of the chunks. All
-/// pipelines take their slots from the pool, which has as many free afterwards, at a refusal too.
+/// pipelines take their slots from the pool, of which the same are out afterwards, at a refusal too.
 pub fn answer<'g>(
     alloc: Global,
     graph: &'g Graph,
@@ -346,7 +348,7 @@ pub fn answer<'g>(
     ensures spends { SpendsToEach graph.now bound.now settings.now result }
     ensures columns { IfOk result (λ found.
         found.listing.columns ≡ length bound.now.columns) }
-    ensures slots { spare_of pool.new ≡ spare_of pool.old }
+    ensures slots { pool.new.out ≡ pool.old.out }
 {
     graph.stands_valid();
     let room = row_bytes(settings.rows);

@@ -44,7 +44,7 @@ fn clause_plans(
 
 /// Lists the matches of optional clauses of a query whose rows have this shape, by plans of their
 /// alternatives; what is listed takes of the room. `TooManyRows` comes where a clause is heavy. All
-/// pipelines take their slots from the pool, which has as many free afterwards, at a refusal too.
+/// pipelines take their slots from the pool, of which the same are out afterwards, at a refusal too.
 pub(crate) fn list_clauses<'q>(
     alloc: Global,
     graph: &'q Graph,
@@ -69,7 +69,7 @@ pub(crate) fn list_clauses<'q>(
         AreSpentOn graph.now settings.now.order parts.now o.spent) }
     ensures refused { IfErr result
         (RefusesClauses graph.now settings.now.order settings.now.rows parts.now) }
-    ensures slots { spare_of pool.new ≡ spare_of pool.old }
+    ensures slots { pool.new.out ≡ pool.old.out }
 {
     graph.stands_valid();
     let plans = clause_plans(alloc, graph, stats, parts, settings.order, shape)?;

@@ -109,7 +109,7 @@ pub(crate) fn prepare<'q>(
     ensures spent { IfOk result (λ p.
         AreSpentOn graph.now settings.now.order bound.now.optionals p.optionals.spent) }
     ensures refused { IfErr result (RefusesBefore graph.now settings.now bound.now) }
-    ensures slots { spare_of pool.new ≡ spare_of pool.old }
+    ensures slots { pool.new.out ≡ pool.old.out }
 {
     let nodes = bound.node_names.len();
     let rels = bound.rel_names.len();

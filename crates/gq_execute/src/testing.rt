@@ -124,7 +124,7 @@ fn test_of<'q>(
     ensures spent { IfOk result (λ test.
         IsSpentOn graph.now settings.now.order part.now test.keys.spent) }
     ensures refused { IfErr result (RefusesTest graph.now settings.now.rows part.now) }
-    ensures slots { spare_of pool.new ≡ spare_of pool.old }
+    ensures slots { pool.new.out ≡ pool.old.out }
 {
     let alternatives = part.alternatives.as_slice();
     let planned = plans_in(alloc, settings.order, graph, stats, alternatives)?;
@@ -154,7 +154,7 @@ pub(crate) fn tests_of<'q>(
     ensures spent { IfOk result (λ tests.
         AllZip (IsSpentOn graph.now settings.now.order) parts.now (spent_on tests.all)) }
     ensures refused { IfErr result (RefusesTests graph.now settings.now.rows parts.now) }
-    ensures slots { spare_of pool.new ≡ spare_of pool.old }
+    ensures slots { pool.new.out ≡ pool.old.out }
 {
     let mut all = List::new(alloc);
     'parts: for part in parts {

@@ -224,6 +224,7 @@ pub(crate) fn drain_trails<'g>(
     ensures ran { OnOk result (HasRun table.old table.new pipeline.old pipeline.new) }
     ensures graph { OnOk result (table.new.graph ≡ table.old.graph) }
     ensures columns { pipeline.new.columns ≡ pipeline.old.columns }
+    ensures held { pipeline.new.slots ≡ pipeline.old.slots }
     ensures serves { Serves pipeline.new pool.new }
     ensures slots { pool.new.out ≡ pool.old.out }
 {

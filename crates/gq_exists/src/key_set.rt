@@ -59,8 +59,8 @@ impl KeySet {
     /// where more keys differ than the limit; want of memory comes also where an alternative has
     /// fewer variables than the path shares with its query, as none has, and where the room has
     /// fewer bytes than the different keys take, which go out of it. Without a shared variable it
-    /// ends at the first chunk. The slots that it takes of the pool it gives back, after a refusal
-    /// too.
+    /// ends at the first chunk. The slots of the pool that are out afterwards are those that were
+    /// before, after a refusal too.
     pub fn make(
         alloc: Global,
         graph: &Graph,
@@ -84,7 +84,7 @@ impl KeySet {
         ensures spent { let shared = length part.now.nodes in
             IfOk result (λ s. HasSpentEach shared graph.now part.now.alternatives
             (map plan_of plans.now) s.spent) }
-        ensures pool { spare_of pool.new ≡ spare_of pool.old }
+        ensures pool { pool.new.out ≡ pool.old.out }
     {
         graph.stands_valid();
         if part.nodes.len() > u32::MAX as usize {
@@ -163,6 +163,7 @@ fn fill(
         Gathers all gathering.old gathering.new result }
     ensures ran { OnOk result (HasRun gathering.old.width pipeline.old pipeline.new) }
     ensures columns { pipeline.new.columns ≡ pipeline.old.columns }
+    ensures held { pipeline.new.slots ≡ pipeline.old.slots }
     ensures serves { Serves pipeline.new pool.new }
     ensures slots { pool.new.out ≡ pool.old.out }
 {
@@ -201,7 +202,7 @@ fn run(
         Gathers all gathering.old gathering.new result }
     ensures spent { OnOk result (HasSpentOne gathering.old.width
         graph.now typed.now (plan_of plan.now) spent.old spent.new) }
-    ensures pool { spare_of pool.new ≡ spare_of pool.old }
+    ensures pool { pool.new.out ≡ pool.old.out }
 {
     graph.stands_valid();
     if gathering.width as usize > typed.nodes.len() {
@@ -247,7 +248,7 @@ fn run_each(
     ensures spent { let full = is_full_at gathering.old in
         OnOk result (HasSpentMore full gathering.old.width
         graph.now alternatives.now (map plan_of plans.now) spent.old spent.new) }
-    ensures pool { spare_of pool.new ≡ spare_of pool.old }
+    ensures pool { pool.new.out ≡ pool.old.out }
 {
     let Some((typed, alternatives)) = alternatives.split_first() else {
         return Ok(());

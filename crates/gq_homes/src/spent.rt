@@ -1,7 +1,7 @@
 //! What a pipeline spent, which is told when its slots are given back.
 ghost use Rattle.std.specs.Prelude.{◌≡◌, ◌+◌, length};
 ghost use Rattle.gq_pool.specs.Pool.{spare_of};
-ghost use Rattle.gq_pool.specs.Slots.{Holds};
+ghost use Rattle.gq_pool.specs.Slots.{Holds, all_freed};
 
 use gq_pool::{SlotList, VectorPool};
 
@@ -36,6 +36,7 @@ pub fn give_back(mut slots: SlotList, columns: u32, chunks: u64, pool: &mut Vect
     ensures chunks { result.chunks ≡ chunks }
     ensures columns { result.columns ≡ columns }
     ensures slots { spare_of pool.new ≡ spare_of pool.old + columns }
+    ensures back { pool.new ≡ all_freed pool.old slots.numbers }
 {
     pool.give_all(&mut slots);
     slots.close();

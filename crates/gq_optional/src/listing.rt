@@ -88,7 +88,7 @@ fn list_one<'b>(
         OnOk result (HasSpentOne graph.now typed.now p spent.old spent.new) }
     ensures few { OnOk result (IsFew graph.now limit typed.now (plan_of plan.now)) }
     ensures refused { IfErr result (IsOneRefusal graph.now limit typed.now (plan_of plan.now)) }
-    ensures pool { spare_of pool.new ≡ spare_of pool.old }
+    ensures pool { pool.new.out ≡ pool.old.out }
 {
     graph.stands_valid();
     // The builds of the plan's joins are dropped here, and take nothing of the room then.
@@ -138,7 +138,7 @@ pub(crate) fn list_each<'b>(
         OnOk result (AllZip (IsFew graph.now limit) alternatives.now ps) }
     ensures refused { let ps = map plan_of plans.now in
         IfErr result (IsEachRefusal graph.now limit alternatives.now ps) }
-    ensures pool { spare_of pool.new ≡ spare_of pool.old }
+    ensures pool { pool.new.out ≡ pool.old.out }
 {
     let Some((typed, alternatives)) = alternatives.split_first() else {
         return Ok(());

@@ -53,7 +53,7 @@ impl<'b> Optionals<'b> {
     /// What these plans make of the alternatives of optional clauses. `TooManyRows` comes exactly
     /// where one of them, or a side plan of one, makes more assignments than the limit; want of
     /// memory comes also where the room has fewer bytes than the matches take, which go out of it.
-    /// The slots that it takes of the pool it gives back, after a refusal too.
+    /// The slots of the pool that are out afterwards are those that were before, after a refusal too.
     pub fn make(
         alloc: Global,
         graph: &'b Graph,
@@ -82,7 +82,7 @@ impl<'b> Optionals<'b> {
             OnOk result (AreFew graph.now limit parts.now pss) }
         ensures refused { let pss = map (map plan_of) plans.now in
             IfErr result (IsRefusal graph.now limit parts.now pss) }
-        ensures pool { spare_of pool.new ≡ spare_of pool.old }
+        ensures pool { pool.new.out ≡ pool.old.out }
     {
         graph.stands_valid();
         let mut known = first_variables(alloc, shape.first)?;
@@ -195,7 +195,7 @@ fn hold<'b>(
         OnOk result (AllZip (IsFew graph.now limit) part.now.alternatives ps) }
     ensures refused { let ps = map plan_of plans.now in
         IfErr result (IsEachRefusal graph.now limit part.now.alternatives ps) }
-    ensures pool { spare_of pool.new ≡ spare_of pool.old }
+    ensures pool { pool.new.out ≡ pool.old.out }
 {
     graph.stands_valid();
     let nodes = part.nodes.as_slice();
@@ -258,7 +258,7 @@ fn hold_each<'b>(
         OnOk result (AreFew graph.now limit parts.now pss) }
     ensures refused { let pss = map (map plan_of) plans.now in
         IfErr result (IsRefusal graph.now limit parts.now pss) }
-    ensures pool { spare_of pool.new ≡ spare_of pool.old }
+    ensures pool { pool.new.out ≡ pool.old.out }
 {
     let Some((part, parts)) = parts.split_first() else {
         return Ok(());

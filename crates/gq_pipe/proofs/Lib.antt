@@ -19,10 +19,12 @@ pub mod Pushing
 pub mod Reading
 pub mod Rebinding
 pub mod Resting
+pub mod Rooms
 pub mod Sealing
 pub mod Served
 pub mod Shaping
 pub mod Showing
+pub mod Slots
 pub mod Sources
 pub mod Starting
 pub mod Staying

@@ -3,7 +3,6 @@ use Rattle.std.proofs.Common.{Bor, ◌≡◌, ◌⊎◌, inl, inr, ℕ, zero, su
 use Rattle.std.specs.Prelude.{slice_index_or, slice_set}
 use Rattle.std.proofs.lemmas.Bool.{cases_eq}
 use Rattle.std.proofs.lemmas.List.{get_or_default, get_or-map, get_or-set_same, get_or-set_other, length-append, length-map, length-set, map-set, take-append-le}
-use Rattle.gq_join.specs.Kept.{matches}
 use Rattle.gq_plan.specs.declared.assignment.Assignment.{Assignment}
 use Rattle.gq_steps.specs.Levels.{Run, known}
 use Rattle.gq_steps.specs.steps.Lists.{Stands, EarlierStand}

@@ -29,7 +29,7 @@ use Rattle.gq_plan.specs.Columns.{columns_of}
 use Rattle.gq_homes.specs.declared.spent.Spent.{Spent}
 use Rattle.gq_pipe.specs.steps.Built.{side_build}
 use Rattle.gq_pipe.specs.steps.Filled.{HasRun, IsFilled}
-use Rattle.gq_pipe.specs.steps.Limits.{IsRefusal}
+use Rattle.gq_pipe.specs.Limits.{IsRefusal}
 use Rattle.gq_steps.specs.Moves.{IsAlike}
 use Rattle.gq_steps.proofs.Binding.{given_alike, looks_given}
 use Rattle.gq_steps.proofs.Joined.{IsLow}

@@ -16,6 +16,7 @@ chunks-init c = record {
   same = record { bound = refl; most = refl; alternative = refl; graph = refl };
   source = refl;
   columns = refl;
+  held = refl;
   serves = c.requires.serves;
   slots = refl;
   room = c.requires.room;
@@ -56,6 +57,7 @@ chunks-preserved c =
       same = record { bound = query.bound ∙ i.same.bound; most = query.most ∙ i.same.most; alternative = query.alternative ∙ i.same.alternative; graph = query.graph ∙ i.same.graph };
       source = source ∙ i.source;
       columns = c.advance.ensures.columns ∙ i.columns;
+      held = c.advance.ensures.held ∙ i.held;
       serves = c.advance.ensures.serves;
       slots = c.advance.ensures.pool ∙ i.slots;
       room = pushes.1;
@@ -91,6 +93,7 @@ returns-in-Ok-Enough c =
           (λ none. counted_here c.chunks.table.pushed c.push.new.table.pushed (choices chunk.groups.now) c.in-Ok-Enough.ensures.counted (has_choice g begun.source.typed chunk after.chunk here some)) pushes.1;
       graph = query.graph ∙ i.same.graph;
       columns = c.advance.ensures.columns ∙ i.columns;
+      held = c.advance.ensures.held ∙ i.held;
       serves = c.advance.ensures.serves;
       slots = c.advance.ensures.pool ∙ i.slots;
     }
@@ -113,6 +116,7 @@ returns-in-Err c =
       ran = tt;
       graph = tt;
       columns = c.advance.ensures.columns ∙ i.columns;
+      held = c.advance.ensures.held ∙ i.held;
       serves = c.advance.ensures.serves;
       slots = c.advance.ensures.pool ∙ i.slots;
     }
@@ -127,6 +131,7 @@ returns c =
           (c.advance.ensures.chunks ∙ ap (λ t. counted t c.chunks.pipeline.chunks) c.chunks-test.false);
       graph = i.same.graph;
       columns = c.advance.ensures.columns ∙ i.columns;
+      held = c.advance.ensures.held ∙ i.held;
       serves = c.advance.ensures.serves;
       slots = c.advance.ensures.pool ∙ i.slots;
     }

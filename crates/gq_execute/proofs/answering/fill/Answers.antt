@@ -1,10 +1,11 @@
-use Rattle.std.proofs.Common.{◌≡◌, ◌∙◌, ◌++◌, ap, false, inl, inr, subst, sym, true}
+use Rattle.std.proofs.Common.{◌≡◌, ◌∙◌, ◌++◌, ap, false, inl, inr, subst, sym, true, arith}
 use Rattle.std.specs.Prelude.{◌⊎◌}
 use Rattle.gq_base.specs.Lists.{is_empty}
 use Rattle.gq_kept.specs.Tables.{is_full_table}
 use Rattle.gq_execute.specs.steps.Answering.{AnswersWith}
 use Rattle.gq_execute.proofs.Ending.{all_done, before_refused, empty_tells, nothing_done}
 use Rattle.gq_execute.proofs.answering.fill.Goals as goal
+use Rattle.gq_pipe.proofs.Rooms.{spare_same}
 use Rattle.gq_execute.proofs.answering.fill.Goals.{then-is_empty-via-then-is_empty, then-is_empty-via-else-is_empty+then-enough}
 
 pub returns-then-is_empty-clause-answers : goal.returns-then-is_empty-clause-answers
@@ -36,3 +37,6 @@ returns-clause-answers c =
     all_done g b settings c.args.table.now c.stands_valid.ensures c.requires.fresh some room c.take_turns.new.table c.in-Ok.prepared c.in-Ok-take_turns.turns c.append.new.spent
     made.prepared made.light made.tested made.spent c.in-Ok-take_turns.ensures.fills
     (c.in_ok-append.ensures ∙ ap (λ l. l ++ c.in-Ok-take_turns.turns) c.in_ok-spent.ensures)
+
+pub take_turns-requires-clause-slots : goal.take_turns-requires-clause-slots
+take_turns-requires-clause-slots c = omega (arith, c.requires.slots, spare_same c.args.pool.now c.prepare.new.pool c.prepare.ensures.slots)

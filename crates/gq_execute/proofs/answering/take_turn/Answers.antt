@@ -1,4 +1,4 @@
-use Rattle.std.proofs.Common.{◌∙◌, ◌++◌, ◌∷◌, [], ap, map, sym, subst, Some, arith, length}
+use Rattle.std.proofs.Common.{◌≡◌, ◌∙◌, ◌++◌, ◌∷◌, [], ap, map, sym, subst, Some, arith, length}
 use Rattle.std.proofs.lemmas.List.Elements.{recursion_from_All}
 use Rattle.std.proofs.lemmas.List.FromFn.{length-map-range_with_len}
 use Rattle.std.proofs.lemmas.List.Sorted.{All-permutation, IsPermutation-sym}
@@ -19,17 +19,24 @@ use Rattle.gq_execute.specs.Spending.{IsPlain}
 use Rattle.gq_execute.proofs.Begins.{plan_begins}
 use Rattle.gq_execute.proofs.Parting.{sides_light, sides_refused}
 use Rattle.gq_pipe.proofs.Assigned.{covers_bind_all}
+use Rattle.gq_pipe.proofs.Rooms.{most_rooms, spare_same}
+use Rattle.gq_pipe.proofs.Slots.{all_back}
 use Rattle.gq_law_plans.proofs.Wholes.{plans_mean}
 use Rattle.gq_execute.proofs.Turning.{own_counted, own_keys, own_spent, turn_spent, turn_stops, turned}
 use Rattle.gq_execute.specs.steps.Prepared.{later_by}
 use Rattle.gq_execute.specs.steps.Taking.{given_on}
 use Rattle.gq_execute.proofs.answering.take_turn.Goals as goal
+use Rattle.gq_execute.proofs.answering.take_turn.Goals.{After-finish-own}
 
 pub plan_for-requires-clause-nodes : goal.plan_for-requires-clause-nodes
 plan_for-requires-clause-nodes c = ap (λ (s : Stats). length s.nodes) c.requires.stats ∙ length-map-range_with_len _ 0 _
 
 pub plan_for-requires-clause-rels : goal.plan_for-requires-clause-rels
 plan_for-requires-clause-rels c = ap (λ (s : Stats). length s.rels) c.requires.stats ∙ length-map-range_with_len _ 0 _
+
+pub make_builds-requires-clause-room : goal.make_builds-requires-clause-room
+make_builds-requires-clause-room c =
+    most_rooms c.args.pool.now c.args.typed.now c.args.graph.now.catalog c.requires.sound c.requires.slots (plan_of c.in_ok-planned.planned.plan) c.in_ok-planned.ensures.covers.fits
 
 pub start-requires-clause-begins : goal.start-requires-clause-begins
 start-requires-clause-begins c =
@@ -39,7 +46,7 @@ start-requires-clause-begins c =
 pub start-requires-clause-room : goal.start-requires-clause-room
 start-requires-clause-room c =
     let few = columns_bound c.args.graph.now.catalog c.args.typed.now (plan_of c.in_ok-planned.planned.plan) c.requires.sound c.in_ok-planned.ensures.covers.fits in
-    omega (arith, few, c.requires.slots, c.make_builds.ensures.pool)
+    omega (arith, few, c.requires.slots, spare_same c.args.pool.now c.make_builds.new.pool c.make_builds.ensures.pool)
 
 pub returns-in-Err : goal.returns-in-Err
 returns-in-Err c = record {
@@ -120,3 +127,18 @@ returns-clause-spends c =
 
 pub returns-clause-graph : goal.returns-clause-graph
 returns-clause-graph c = c.in-Ok-drained.ensures.graph ∙ ap (λ (t : Table). t.graph) c.start_alternative.ensures
+
+-- the slots that are out when the pipeline has ended are those that were before the turn
+kept : (c : After-finish-own) → c.finish-own.new.pool.out ≡ c.args.pool.now.out
+kept c =
+    all_back c.make_builds.new.pool c.start.new.pool c.drain_all-drained.new.pool c.finish-own.new.pool c.in_ok-pipeline.pipeline.slots c.drain_all-drained.new.pipeline.slots
+    c.in_ok-pipeline.ensures.back c.drain_all-drained.ensures.slots c.drain_all-drained.ensures.held c.finish-own.ensures.back ∙ c.make_builds.ensures.pool
+
+pub returns-in-Err-drained-clause-slots : goal.returns-in-Err-drained-clause-slots
+returns-in-Err-drained-clause-slots c = kept (goal.at.returns-in-Err-drained-clause-slots c).After-finish-own
+
+pub returns-in_err-push-clause-slots : goal.returns-in_err-push-clause-slots
+returns-in_err-push-clause-slots c = kept (goal.at.returns-in_err-push-clause-slots c).After-finish-own
+
+pub returns-clause-slots : goal.returns-clause-slots
+returns-clause-slots c = kept (goal.at.returns-clause-slots c).After-finish-own

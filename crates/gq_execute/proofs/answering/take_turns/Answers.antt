@@ -5,6 +5,7 @@ use Rattle.gq_execute.proofs.Making.{made_here}
 use Rattle.gq_execute.proofs.Parted.{bound_parted}
 use Rattle.gq_execute.specs.steps.Prepared.{later_by}
 use Rattle.gq_execute.specs.steps.Taking.{given_on}
+use Rattle.gq_pipe.proofs.Rooms.{spare_same}
 use Rattle.gq_execute.proofs.answering.take_turns.Goals as goal
 
 pub alternatives-init : goal.alternatives-init
@@ -86,3 +87,6 @@ returns c =
       bound = i.bound;
       slots = i.slots;
     }
+
+pub take_turn-requires-clause-slots : goal.take_turn-requires-clause-slots
+take_turn-requires-clause-slots c = omega (arith, c.requires.slots, spare_same c.args.pool.now c.alternatives.pool c.alternatives.invariant.slots)

@@ -1,6 +1,5 @@
 use Rattle.std.proofs.Common.{◌≡◌, List, ℕ, take}
 use Rattle.gq_bound.specs.Binding.{IsBound}
-use Rattle.gq_pool.specs.Pool.{spare_of}
 use Rattle.gq_execute.specs.Answering.{question}
 use Rattle.gq_execute.specs.Planned.{sizes}
 use Rattle.gq_execute.specs.steps.Answering.{Came, Spends}
@@ -15,7 +14,7 @@ invariant-alternatives l = record {
   bound : l.table.bound ≡ l.bound;
   most : l.table.most ≡ l.settings.rows;
   some : StandsForSome l.table;
-  slots : spare_of l.pool ≡ spare_of l.initial.pool;
+  slots : l.pool.out ≡ l.initial.pool.out;
   spends : Spends l.graph l.bound l.settings.order (take l.typed-index l.bound.alternatives) l.table l.spent;
   came : (query : Query) (text : List ℕ) → IsBound query text l.graph.catalog l.bound
       → Came (question l.graph query l.bound l.settings) (take l.typed-index l.bound.alternatives) l.table;

@@ -33,6 +33,7 @@ chunks-init c =
       same = record { bound = refl; most = refl; alternative = refl; graph = refl };
       source = refl;
       columns = refl;
+      held = refl;
       serves = c.requires.serves;
       slots = refl;
       room = c.requires.room;
@@ -88,6 +89,7 @@ chunks-preserved c =
       same = record { bound = query.bound ∙ i.same.bound; most = query.most ∙ i.same.most; alternative = query.alternative ∙ i.same.alternative; graph = query.graph ∙ i.same.graph };
       source = source ∙ i.source;
       columns = c.advance.ensures.columns ∙ i.columns;
+      held = c.advance.ensures.held ∙ i.held;
       serves = c.advance.ensures.serves;
       slots = c.advance.ensures.pool ∙ i.slots;
       room = pushes.1;
@@ -122,6 +124,9 @@ returns-in-Ok-Enough-clause-ran c =
 pub returns-in-Ok-Enough-clause-columns : goal.returns-in-Ok-Enough-clause-columns
 returns-in-Ok-Enough-clause-columns c = c.advance.ensures.columns ∙ c.chunks.invariant.columns
 
+pub returns-in-Ok-Enough-clause-held : goal.returns-in-Ok-Enough-clause-held
+returns-in-Ok-Enough-clause-held c = c.advance.ensures.held ∙ c.chunks.invariant.held
+
 pub returns-in-Ok-Enough-clause-slots : goal.returns-in-Ok-Enough-clause-slots
 returns-in-Ok-Enough-clause-slots c = c.advance.ensures.pool ∙ c.chunks.invariant.slots
 
@@ -143,6 +148,9 @@ returns-in-Err-clause-takes c =
 pub returns-in-Err-clause-columns : goal.returns-in-Err-clause-columns
 returns-in-Err-clause-columns c = c.advance.ensures.columns ∙ c.chunks.invariant.columns
 
+pub returns-in-Err-clause-held : goal.returns-in-Err-clause-held
+returns-in-Err-clause-held c = c.advance.ensures.held ∙ c.chunks.invariant.held
+
 pub returns-in-Err-clause-slots : goal.returns-in-Err-clause-slots
 returns-in-Err-clause-slots c = c.advance.ensures.pool ∙ c.chunks.invariant.slots
 
@@ -158,6 +166,9 @@ returns-clause-ran c =
 
 pub returns-clause-columns : goal.returns-clause-columns
 returns-clause-columns c = c.advance.ensures.columns ∙ c.chunks.invariant.columns
+
+pub returns-clause-held : goal.returns-clause-held
+returns-clause-held c = c.advance.ensures.held ∙ c.chunks.invariant.held
 
 pub returns-clause-slots : goal.returns-clause-slots
 returns-clause-slots c = c.advance.ensures.pool ∙ c.chunks.invariant.slots

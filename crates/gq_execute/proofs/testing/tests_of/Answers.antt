@@ -1,4 +1,4 @@
-use Rattle.std.proofs.Common.{◌∙◌, ◌∷◌, [], ap}
+use Rattle.std.proofs.Common.{◌∙◌, ◌∷◌, [], ap, arith}
 use Rattle.std.proofs.lemmas.List.{map-append}
 use Rattle.gq_execute.specs.Spending.{IsSpentOn}
 use Rattle.gq_execute.specs.declared.testing.Test.{Test}
@@ -6,6 +6,7 @@ use Rattle.gq_execute.specs.steps.Testing.{IsTestOf, spent_on}
 use Rattle.gq_execute.proofs.Covering.{zip_next}
 use Rattle.gq_execute.proofs.Ending.{one_refuses}
 use Rattle.gq_execute.proofs.Going.{item_at}
+use Rattle.gq_pipe.proofs.Rooms.{spare_same}
 use Rattle.gq_execute.proofs.testing.tests_of.Goals as goal
 
 pub returns-in-Err-clause-refused : goal.returns-in-Err-clause-refused
@@ -32,3 +33,6 @@ parts-preserved c =
       spent = zip_next (IsSpentOn g c.args.settings.now.order) parts (spent_on c.parts.all) (spent_on c.push.new.self) k part test.keys.spent i.spent low is
           (ap spent_on pushed ∙ map-append (λ (t : Test). t.keys.spent) c.parts.all (test ∷ [])) c.in-Ok.ensures.spent;
     }
+
+pub test_of-requires-clause-slots : goal.test_of-requires-clause-slots
+test_of-requires-clause-slots c = omega (arith, c.requires.slots, spare_same c.args.pool.now c.parts.pool c.parts.invariant.slots)

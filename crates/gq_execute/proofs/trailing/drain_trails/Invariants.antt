@@ -16,6 +16,7 @@ invariant-chunks l = record {
   same : IsSameQuery l.initial.table l.table;
   source : l.pipeline.source ≡ l.initial.pipeline.source;
   columns : l.pipeline.columns ≡ l.initial.pipeline.columns;
+  held : l.pipeline.slots ≡ l.initial.pipeline.slots;
   serves : Serves l.pipeline l.pool;
   slots : l.pool.out ≡ l.initial.pool.out;
   room : is_full_table l.table ≡ false;

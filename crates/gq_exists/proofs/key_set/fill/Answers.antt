@@ -28,6 +28,7 @@ pub chunks-init : goal.chunks-init
 chunks-init c = record {
   source = λ i. c.args.pipeline.now.source;
   columns = λ i. c.args.pipeline.now.columns;
+  held = λ i. c.args.pipeline.now.slots;
   serves = c.requires.serves;
   slots = λ i. c.args.pool.now.out;
   fresh = λ z. c.requires.fresh;
@@ -44,6 +45,7 @@ chunks-preserved c =
     record {
       source = c.advance.ensures.source ∙ i.source;
       columns = c.advance.ensures.columns ∙ i.columns;
+      held = c.advance.ensures.held ∙ i.held;
       serves = c.advance.ensures.serves;
       slots = c.advance.ensures.pool ∙ i.slots;
       fresh = λ z. absurd (omega (arith, z, c.if-gathering-eq0.false));

@@ -8,6 +8,7 @@ abbrev pub invariant-chunks : goal.invariant-chunks
 invariant-chunks l = record {
   source : l.pipeline.source ≡ l.initial.pipeline.source;
   columns : l.pipeline.columns ≡ l.initial.pipeline.columns;
+  held : l.pipeline.slots ≡ l.initial.pipeline.slots;
   serves : Serves l.pipeline l.pool;
   slots : l.pool.out ≡ l.initial.pool.out;
   fresh : l.gathering.width ≡ 0 → l.pipeline.chunks ≡ 0;

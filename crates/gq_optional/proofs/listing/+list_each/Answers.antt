@@ -3,6 +3,7 @@ use Rattle.std.specs.Prelude.{All}
 use Rattle.std.specs.List.{AllZip}
 use Rattle.std.proofs.lemmas.List.Elements.{All-head, All-tail}
 use Rattle.gq_homes.specs.Cuts.{begins}
+use Rattle.gq_pipe.proofs.Rooms.{spare_same}
 use Rattle.gq_plan.specs.Covers.{Covers}
 use Rattle.gq_plan.specs.Plans.{plan_of}
 use Rattle.gq_plan.specs.Soundness.{IsSound}
@@ -31,7 +32,7 @@ list_each-requires t c =
     let sounds = All-tail sound y ys (subst (All sound) e c.requires.sound) in
     let begun = All-tail begin c.in-Some-split_first.plan.now c.in-Some-split_first.plans.now (subst (All begin) f c.requires.begins) in
     let keys = All-tail keyed y ys (subst (All keyed) e c.requires.keys) in
-    (omega (arith, c.decreases, ap length f), (sounds, (later.1, (begun, (keys, omega (arith, c.list_one.ensures.pool, c.requires.room))))))
+    (omega (arith, c.decreases, ap length f), (sounds, (later.1, (begun, (keys, omega (arith, spare_same c.args.pool.now c.list_one.new.pool c.list_one.ensures.pool, c.requires.room))))))
 
 pub returns-clause-adds : goal.returns-clause-adds
 returns-clause-adds t c =

@@ -1,10 +1,21 @@
-use Rattle.std.proofs.Common.{◌∙◌, ◌∷◌, ◌++◌, [], List, ap, append_assoc, append-nil, get_or, length, refl, sym}
+use Rattle.std.proofs.Common.{◌∙◌, ◌∷◌, ◌++◌, [], List, ap, append_assoc, append-nil, arith, get_or, length, refl, sym}
 use Rattle.std.proofs.lemmas.Bool.{lt-ltb}
 use Rattle.gq_homes.specs.declared.spent.Spent.{Spent}
+use Rattle.gq_pipe.proofs.Rooms.{most_rooms, spare_same}
 use Rattle.gq_plan.proofs.Binding.{covers_nodes}
+use Rattle.gq_plan.proofs.ColumnBounds.{columns_bound}
 use Rattle.gq_plan.specs.Plans.{plan_of}
 use Rattle.gq_optional.proofs.Holding.{is_matches}
 use Rattle.gq_optional.proofs.listing.list_one.Goals as goal
+
+pub make_builds-requires-clause-room : goal.make_builds-requires-clause-room
+make_builds-requires-clause-room c =
+    most_rooms c.args.pool.now c.args.typed.now c.args.graph.now.catalog c.requires.sound c.requires.room (plan_of c.args.plan.now) c.requires.covers.fits
+
+pub make_build-requires-clause-room : goal.make_build-requires-clause-room
+make_build-requires-clause-room c =
+    let few = columns_bound c.args.graph.now.catalog c.args.typed.now (plan_of c.args.plan.now) c.requires.sound c.requires.covers.fits in
+    omega (arith, few, c.requires.room, spare_same c.args.pool.now c.make_builds.new.pool c.make_builds.ensures.pool)
 
 pub make_build-requires-clause-keys : goal.make_build-requires-clause-keys
 make_build-requires-clause-keys c k d low =

@@ -3,6 +3,7 @@ use Rattle.std.specs.Prelude.{All}
 use Rattle.std.specs.List.{AllZip}
 use Rattle.std.proofs.lemmas.List.Elements.{All-head, All-tail}
 use Rattle.gq_homes.specs.Cuts.{begins}
+use Rattle.gq_pipe.proofs.Rooms.{spare_same}
 use Rattle.gq_plan.specs.Plans.{Plan, plan_of}
 use Rattle.gq_plan.specs.declared.plan.Plan as code
 use Rattle.gq_optional.specs.Made.{AreCovered}
@@ -37,7 +38,7 @@ hold_each-requires t c =
     let later = subst (λ l. AllZip covers (part ∷ parts) (plans_of l)) f both in
     let cans = All-tail can part parts (subst (All can) e c.requires.parts) in
     let begun = All-tail Begin c.in-Some-split_first.own.now c.in-Some-split_first.plans.now (subst (All Begin) f c.requires.begins) in
-    (omega (arith, c.decreases, ap length f), (cans, (later.1, (begun, omega (arith, c.hold.ensures.pool, c.requires.room)))))
+    (omega (arith, c.decreases, ap length f), (cans, (later.1, (begun, omega (arith, spare_same c.args.pool.now c.hold.new.pool c.hold.ensures.pool, c.requires.room)))))
 
 pub returns-clause-adds : goal.returns-clause-adds
 returns-clause-adds t c =

@@ -32,6 +32,7 @@ chunks-preserved c =
     record {
       source = c.advance.ensures.source ∙ i.source;
       columns = c.advance.ensures.columns ∙ i.columns;
+      held = c.advance.ensures.held ∙ i.held;
       serves = c.advance.ensures.serves;
       slots = c.advance.ensures.pool ∙ i.slots;
       usable = ap (λ (b : Growing). b.usable) pushed;
