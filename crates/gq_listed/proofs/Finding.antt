@@ -2,6 +2,7 @@
 use Rattle.std.proofs.Common.{◌≡◌, ◌∙◌, ◌<◌, ℕ, zero, suc, List, [], ◌∷◌, ◌++◌, length, min, take, drop, get_or, Some, Ok, refl, sym, ap, subst, arith, ◌+◌}
 use Rattle.std.specs.Prelude.{slice_get}
 use Rattle.std.proofs.lemmas.List.{drop_all, drop_more, map-append, take_more}
+use Rattle.std.proofs.lemmas.List.Elements.{All-cons}
 use Rattle.std.proofs.lemmas.Slice.Zip.{AllZip-long, all_zipped_more}
 use Rattle.gq_base.specs.Plain.{Graph}
 use Rattle.gq_base.specs.Values.{Val}
@@ -16,7 +17,7 @@ use Rattle.gq_plan.specs.Outcomes.{then_with}
 use Rattle.gq_plan.specs.declared.bound.NamedExpr.{NamedExpr}
 use Rattle.gq_listed.specs.Finding.{Extends, Finds, FindsBy, HasNumber, IsFinder, PutsColumn}
 use Rattle.gq_project.specs.Judged.{values_after}
-use Rattle.gq_listed.specs.Listed.{AreFinders}
+use Rattle.gq_listed.specs.Listed.{AreFinders, AreOver}
 use Rattle.gq_listed.specs.declared.finder.Finder.{Finder}
 use Rattle.gq_listed.specs.declared.finder.Way.{Way}
 use Rattle.gq_listed.specs.declared.finder.Way.TheVariants as way
@@ -46,12 +47,12 @@ extends_self a place s h = h
 
 -- ---- a number that is found
 
-pub number_fits : (g : Graph) (ss : List Source) (place : ℕ) (e : Expr) (w : Way) → FindsBy g ss place e w → (here : reading.Assignment) (n : ℕ) → HasNumber w here n → IsNumber (slice_get ss place) n
+pub number_fits : (g : Graph) (ss : List Source) (place : ℕ) (e : Expr) (w : Way) → FindsBy g ss place e w → (here : reading.Assignment) (n : ℕ) → HasNumber g w here n → IsNumber (slice_get ss place) n
 number_fits g ss place e way.Value h here n has = absurd has
 number_fits g ss place e (way.Node r) h here n has = subst (λ o. IsNumber o n) (sym h.at) (h.number here n has)
 number_fits g ss place e (way.Rel r) h here n has = subst (λ o. IsNumber o n) (sym h.at) (h.number here n has)
 
-pub number_means : (g : Graph) (ss : List Source) (place : ℕ) (e : Expr) (w : Way) → FindsBy g ss place e w → (here : reading.Assignment) (n : ℕ) → HasNumber w here n → meaning g here e ≡ Ok (number_val (slice_get ss place) n)
+pub number_means : (g : Graph) (ss : List Source) (place : ℕ) (e : Expr) (w : Way) → FindsBy g ss place e w → (here : reading.Assignment) (n : ℕ) → HasNumber g w here n → meaning g here e ≡ Ok (number_val (slice_get ss place) n)
 number_means g ss place e way.Value h here n has = absurd has
 number_means g ss place e (way.Node r) h here n has = h.means here n has ∙ ap (λ o. Ok (number_val o n)) (sym h.at)
 number_means g ss place e (way.Rel r) h here n has = h.means here n has ∙ ap (λ o. Ok (number_val o n)) (sym h.at)
@@ -111,3 +112,9 @@ module _ (g : Graph) (old new : List Source) (s : Source) (is : new ≡ old ++ s
   pub finds : (Has : reading.Assignment → ℕ → Type 0) (place : ℕ) → place ≡ length old → ((here : reading.Assignment) (n : ℕ) → Has here n → IsNumber (Some s) n)
       → ((here : reading.Assignment) (n : ℕ) → Has here n → meaning g here e ≡ Ok (source_val s n)) → Finds g new place e Has
   finds Has place at number means = record { source = s; at = ap (slice_get new) at ∙ at_end old new s is; number = number; means = means }
+
+-- ---- the graph of all columns
+
+pub all_over : (g : Graph) (cs : List NamedExpr) → AreOver g (asked_of g cs)
+all_over g [] = λ k d lt. absurd (omega (arith, lt))
+all_over g (c ∷ cs) = All-cons (λ (a : Asked). a.graph ≡ g) (asked c.expr g) (asked_of g cs) refl (all_over g cs)

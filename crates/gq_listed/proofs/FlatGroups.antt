@@ -1,7 +1,7 @@
 -- Variables in flat groups have one node at all choices of a chunk.
-use Rattle.std.proofs.Common.{◌≡◌, ◌∙◌, ℕ, zero, suc, ◌+◌, ◌<◌, true, List, [], ◌∷◌, ◌++◌, length, map, take, get_or, Option, Some, None, refl, sym, ap, subst, arith}
+use Rattle.std.proofs.Common.{◌≡◌, ◌∙◌, ℕ, zero, suc, ◌+◌, ◌<◌, true, List, [], ◌∷◌, ◌++◌, length, map, take, get_or, Some, refl, sym, ap, subst, arith}
 use Rattle.std.specs.Prelude.{nat_eq, slice_get, slice_index_or}
-use Rattle.std.specs.List.{All, range_with_len}
+use Rattle.std.specs.List.{range_with_len}
 use Rattle.std.proofs.lemmas.Bool.{and_parts}
 use Rattle.std.proofs.lemmas.List.{get_or_default, take_more}
 use Rattle.std.proofs.lemmas.List.Elements.{All-append, All-cons}
@@ -11,7 +11,6 @@ use Rattle.gq_eval.specs.Asked.{Asked}
 use Rattle.std.proofs.lemmas.Bool.Decides.{nat_tests}
 use Rattle.gq_base.specs.Plain.{Graph}
 use Rattle.gq_base.specs.declared.NodeId.{NodeId}
-use Rattle.gq_expr.specs.Reading as reading
 use Rattle.gq_group.specs.Chunks.{assignment_at, cell_at, group_of, items_in, node_at, node_in, row_in}
 use Rattle.gq_group.specs.Groups.{AreSelected, is_current, is_selected}
 use Rattle.gq_group.specs.declared.chunk.Chunk.{Chunk}
@@ -72,7 +71,7 @@ node_again f h a (t ∷ ts) zero e =
     ap (λ row. let n : NodeId = record { table = t; row = row } in Some n) (subst (λ k. f k ≡ h k) here e)
 node_again f h a (t ∷ ts) (suc v) e = let up : a + suc v ≡ a + 1 + v = omega arith in node_again f h (a + 1) ts v (subst (λ k. f k ≡ h k) up e)
 
-pub held_number_is : (g : Graph) (y : Typed) (c : Chunk) (w : Way) (n : ℕ) (qs : List ℕ) → AreSelected c.groups.now qs → IsFlatWay c w → HasNumber w (as_read y (assignment_at g y c qs)) n → IsHeldNumber g y c w n
+pub held_number_is : (g : Graph) (y : Typed) (c : Chunk) (w : Way) (n : ℕ) (qs : List ℕ) → AreSelected c.groups.now qs → IsFlatWay c w → HasNumber g w (as_read y (assignment_at g y c qs)) n → IsHeldNumber g y c w n
 held_number_is g y c way.Value n qs b flat h = absurd flat
 held_number_is g y c (way.Node r) n qs b flat h = λ ps a.
     let same : 0 + r.variable ≡ r.variable = omega arith in

@@ -1,22 +1,30 @@
 -- What is found where the numbers of a chunk's columns lie.
-use Rattle.std.proofs.Common.{◌≡◌, ◌∙◌, ℕ, zero, suc, ◌+◌, ◌<◌, true, List, [], ◌∷◌, length, map, get_or, Some, sym, ap, ap₂, subst, arith}
+use Rattle.std.proofs.Common.{◌≡◌, ◌∙◌, ℕ, zero, suc, ◌+◌, ◌<◌, true, List, [], ◌∷◌, length, map, None, Some, refl, sym, ap, ap₂, subst, arith}
 use Rattle.std.specs.Prelude.{slice_get, slice_index}
 use Rattle.std.specs.List.{All, range_with_len}
 use Rattle.std.proofs.lemmas.Bool.{and_parts}
 use Rattle.gq_base.specs.Plain.{Graph}
 use Rattle.gq_base.specs.declared.NodeId.{NodeId}
-use Rattle.gq_group.specs.Chunks.{IsChunk, IsNodeHome, assignment_at, group_of, items_in, node_at, node_in}
+use Rattle.gq_base.specs.declared.RelId.{RelId}
+use Rattle.gq_base.specs.declared.direction.Direction.{Direction}
+use Rattle.gq_group.specs.Chunks.{IsChunk, IsChunkOf, IsNodeHome, assignment_at, edge_at, group_of, node_at, node_in}
+use Rattle.gq_group.specs.Edges.{IsEdge, number_of}
 use Rattle.gq_group.specs.Groups.{AreSelected, IsGroup, is_current, is_selected}
 use Rattle.gq_group.specs.Pieces.{IsPiece, items_of}
 use Rattle.gq_group.specs.declared.chunk.Chunk.{Chunk}
+use Rattle.gq_group.specs.declared.edge.EdgeAt.{EdgeAt}
 use Rattle.gq_group.specs.declared.group.Group.{Group}
 use Rattle.gq_group.specs.declared.home.NodeHome.{NodeHome}
 use Rattle.gq_group.specs.declared.home.NodeHome.TheVariants as home
-use Rattle.gq_plan.specs.Rows.{as_read, nodes_of_tables}
+use Rattle.gq_plan.specs.Rows.{as_read, nodes_of_tables, rel_table, rels_of_tables, table_of}
 use Rattle.gq_plan.specs.declared.typed.Typed.{Typed}
+use Rattle.gq_plan.specs.declared.typed.TypedRel.{TypedRel}
+use Rattle.gq_store.specs.Neighbours.{numbers}
+use Rattle.gq_store.specs.Places.{number_at}
 use Rattle.gq_listed.proofs.FlatGroups.{home_is}
-use Rattle.gq_listed.specs.Finding.{HasNode}
-use Rattle.gq_listed.specs.Leads.{HasTable, LivesAt}
+use Rattle.gq_listed.specs.Finding.{HasLoad, HasNode}
+use Rattle.gq_listed.specs.Leads.{HasRelTable, HasTable, LivesAt}
+use Rattle.gq_listed.specs.declared.finder.Range.{Range}
 use Rattle.gq_listed.specs.declared.finder.Way.{Way}
 use Rattle.gq_listed.specs.declared.finder.Way.TheVariants as way
 
@@ -83,3 +91,37 @@ pub node_has : (g : Graph) (y : Typed) (c : Chunk) (ps : List ℕ) (v table n : 
 node_has g y c ps v table n has e =
     let same : 0 + v ≡ v = omega arith in
     node_from (node_at c ps) 0 y.nodes v table has ∙ ap (λ row. let id : NodeId = record { table = table; row = row } in Some id) (ap (node_at c ps) same ∙ sym e)
+
+-- ---- the place of a relationship
+
+rel_from : (f : ℕ → ℕ) (a : ℕ) (rs : List TypedRel) (x : ℕ) (r : TypedRel) → slice_get rs x ≡ Some r → slice_get (rels_of_tables rs (map f (range_with_len a (length rs)))) x ≡ Some (record { table = r.table; row = f (a + x) })
+rel_from f a [] x r is = absurd (none_there r x is)
+rel_from f a (q ∷ rs) zero r is = let here : a ≡ a + 0 = omega arith in ap₂ (λ t n. let id : RelId = record { table = t; row = n } in Some id) (ap (λ (q : TypedRel). q.table) (one is)) (ap f here)
+rel_from f a (q ∷ rs) (suc x) r is = let up : a + 1 + x ≡ a + suc x = omega arith in rel_from f (a + 1) rs x r is ∙ ap (λ k. let id : RelId = record { table = r.table; row = f k } in Some id) up
+
+module _ (g : Graph) (y : Typed) (c : Chunk) (ps : List ℕ) (r : Range) (edge : EdgeAt) (has : HasRelTable y (way.Rel r)) (is : edge ≡ edge_at c ps r.variable) where
+  table_is : rel_table y r.variable ≡ r.table
+  table_is = ap table_of has.1 ∙ has.2
+
+  -- a relationship of the graph is there
+  pub edge_stands : IsChunkOf g y c → AreSelected c.groups.now ps → IsEdge g r.table edge
+  edge_stands ok selected = subst (IsEdge g r.table) (sym is) (subst (λ t. IsEdge g t (edge_at c ps r.variable)) table_is (ok.edges ps selected r.variable (there_within y.rels r.variable has.0 has.1)))
+
+  -- it is the variable's
+  pub edge_loads : HasLoad r (as_read y (assignment_at g y c ps)) (number_of g r.table edge)
+  edge_loads =
+      let number : ℕ → ℕ = λ x. number_of g (rel_table y x) (edge_at c ps x) in
+      let same : 0 + r.variable ≡ r.variable = omega arith in
+      rel_from number 0 y.rels r.variable has.0 has.1
+      ∙ ap₂ (λ t n. let id : RelId = record { table = t; row = n } in Some id) has.2
+      (ap number same ∙ ap (λ t. number_of g t (edge_at c ps r.variable)) table_is ∙ ap (number_of g r.table) (sym is))
+
+-- the number at a place of a list
+some_index : (xs : List ℕ) (p : ℕ) → (slice_get xs p ≡ None → ⊥) → slice_get xs p ≡ Some (slice_index xs p)
+some_index [] p h = absurd (h refl)
+some_index (x ∷ xs) zero h = refl
+some_index (x ∷ xs) (suc p) h = some_index xs p h
+
+pub placed : (g : Graph) (table place : ℕ) (d : Direction) (row position : ℕ) → number_at g table place ≡ slice_get (numbers g table d row) position → (number_at g table place ≡ None → ⊥)
+    → number_at g table place ≡ Some (slice_index (numbers g table d row) position)
+placed g table place d row position is there = is ∙ some_index (numbers g table d row) position (λ none. there (is ∙ none))

@@ -3,6 +3,7 @@ use Rattle.std.specs.Prelude.{◌≡◌, ℕ, ◌<◌, Some, None, Result, Ok, E
 use Rattle.gq_base.specs.Plain.{Graph}
 use Rattle.gq_base.specs.Values.{Val, null}
 use Rattle.gq_base.specs.declared.value.Value.TheVariants as value
+use Rattle.gq_store.specs.Places.{number_at}
 use Rattle.gq_cells.specs.Numbers.{IsNumber, source_val}
 use Rattle.gq_cells.specs.declared.source.Source.{Source}
 use Rattle.gq_cells.specs.declared.source.Source.TheVariants as source
@@ -29,15 +30,25 @@ pub record HasRow (r : Range) (here : reading.Assignment) (row : ℕ) : Type 0 w
   pub below : row < r.count
   pub is : here.nodes r.variable ≡ Some (record { table = r.table; row = row })
 
--- the same of a load number of a relationship variable
-pub record HasLoad (r : Range) (here : reading.Assignment) (number : ℕ) : Type 0 where
-  pub below : number < r.count
-  pub is : here.rels r.variable ≡ Some (record { table = r.table; row = number })
+-- a relationship variable has this load number of the table
+abbrev pub HasLoad : Range → reading.Assignment → ℕ → Type 0
+HasLoad r here number = here.rels r.variable ≡ Some (record { table = r.table; row = number })
 
-abbrev pub HasNumber : Way → reading.Assignment → ℕ → Type 0
-HasNumber way.Value here n = ⊥
-HasNumber (way.Node r) here n = HasRow r here n
-HasNumber (way.Rel r) here n = HasLoad r here n
+-- its relationship is at this place of the table
+pub record IsPlaced (g : Graph) (r : Range) (here : reading.Assignment) (place : ℕ) : Type 0 where
+  pub number : ℕ
+  pub at : number_at g r.table place ≡ Some number
+  pub is : HasLoad r here number
+
+-- and the place is below the count
+pub record HasPlace (g : Graph) (r : Range) (here : reading.Assignment) (place : ℕ) : Type 0 where
+  pub below : place < r.count
+  pub placed : IsPlaced g r here place
+
+abbrev pub HasNumber : Graph → Way → reading.Assignment → ℕ → Type 0
+HasNumber g way.Value here n = ⊥
+HasNumber g (way.Node r) here n = HasRow r here n
+HasNumber g (way.Rel r) here n = HasPlace g r here n
 
 -- a node variable has this row of the table
 abbrev pub HasNode : Way → reading.Assignment → ℕ → Type 0
@@ -50,10 +61,10 @@ HasNothing way.Value here = ⊥
 HasNothing (way.Node r) here = here.nodes r.variable ≡ None
 HasNothing (way.Rel r) here = here.rels r.variable ≡ None
 
-abbrev pub IsFound : Way → reading.Assignment → Found → Type 0
-IsFound w here (found.Number n) = HasNumber w here n
-IsFound w here found.Null = HasNothing w here
-IsFound w here found.Other = Unit {0}
+abbrev pub IsFound : Graph → Way → reading.Assignment → Found → Type 0
+IsFound g w here (found.Number n) = HasNumber g w here n
+IsFound g w here found.Null = HasNothing w here
+IsFound g w here found.Other = Unit {0}
 
 -- the source at the place has each number that may be found, and it stands for the value of the expression
 pub record Finds (g : Graph) (sources : List Source) (place : ℕ) (e : Expr) (Has : reading.Assignment → ℕ → Type 0) : Type 0 where
@@ -65,7 +76,7 @@ pub record Finds (g : Graph) (sources : List Source) (place : ℕ) (e : Expr) (H
 abbrev pub FindsBy : Graph → List Source → ℕ → Expr → Way → Type 0
 FindsBy g sources place e way.Value = Unit {0}
 FindsBy g sources place e (way.Node r) = Finds g sources place e (HasRow r)
-FindsBy g sources place e (way.Rel r) = Finds g sources place e (HasLoad r)
+FindsBy g sources place e (way.Rel r) = Finds g sources place e (HasPlace g r)
 
 -- the source of null stands at the place
 abbrev pub IsNullAt : List Source → ℕ → Type 0

@@ -1,7 +1,6 @@
 -- What it means that a number is found of a variable at each choice of a chunk.
 use Rattle.std.specs.Prelude.{◌≡◌, ℕ, Option, Some, None, List}
 use Rattle.gq_base.specs.Plain.{Graph}
-use Rattle.gq_expr.specs.Reading as reading
 use Rattle.gq_group.specs.Chunks.{assignment_at, node_at, node_in}
 use Rattle.gq_group.specs.Groups.{AreSelected}
 use Rattle.gq_group.specs.declared.chunk.Chunk.{Chunk}
@@ -33,4 +32,4 @@ IsFlatWay c (way.Rel r) = ⊥
 
 -- the number is found at each choice
 abbrev pub IsHeldNumber : Graph → Typed → Chunk → Way → ℕ → Type 0
-IsHeldNumber g y c w n = (ps : List ℕ) → AreSelected c.groups.now ps → HasNumber w (as_read y (assignment_at g y c ps)) n
+IsHeldNumber g y c w n = (ps : List ℕ) → AreSelected c.groups.now ps → HasNumber g w (as_read y (assignment_at g y c ps)) n

@@ -1,5 +1,5 @@
 -- Where the numbers of columns lie in a chunk.
-use Rattle.std.specs.Prelude.{◌≡◌, ℕ, Some, List, slice_get}
+use Rattle.std.specs.Prelude.{◌≡◌, Some, List, slice_get}
 use Rattle.std.specs.List.{All}
 use Rattle.gq_base.specs.Plain.{Graph}
 use Rattle.gq_expr.specs.Reading as reading
@@ -9,8 +9,9 @@ use Rattle.gq_group.specs.declared.chunk.Chunk.{Chunk}
 use Rattle.gq_group.specs.declared.home.NodeHome.{NodeHome}
 use Rattle.gq_group.specs.declared.home.NodeHome.TheVariants as home
 use Rattle.gq_plan.specs.Assignments as plain
-use Rattle.gq_plan.specs.Rows.{as_read, assigned}
+use Rattle.gq_plan.specs.Rows.{assigned}
 use Rattle.gq_plan.specs.declared.typed.Typed.{Typed}
+use Rattle.gq_plan.specs.declared.typed.TypedRel.{TypedRel}
 use Rattle.gq_listed.specs.Flat.{IsHeldNumber}
 use Rattle.gq_listed.specs.declared.finder.Finder.{Finder}
 use Rattle.gq_listed.specs.declared.finder.Lead.{Lead}
@@ -25,6 +26,12 @@ HasTable y way.Value = ⊥
 HasTable y (way.Node r) = slice_get y.nodes r.variable ≡ Some r.table
 HasTable y (way.Rel r) = ⊥
 
+-- the same of a relationship variable
+abbrev pub HasRelTable : Typed → Way → Type 0
+HasRelTable y way.Value = ⊥
+HasRelTable y (way.Node r) = ⊥
+HasRelTable y (way.Rel r) = (rel : TypedRel) × (slice_get y.rels r.variable ≡ Some rel) × (rel.table ≡ r.table)
+
 -- it lives there
 abbrev pub LivesAt : Chunk → Way → NodeHome → Type 0
 LivesAt c way.Value h = ⊥
@@ -37,6 +44,7 @@ IsLedBy g y c w lead.Unknown = Unit {0}
 IsLedBy g y c w (lead.Held n) = IsHeldNumber g y c w n
 IsLedBy g y c w (lead.Item i) = HasTable y w × LivesAt c w (home.Item i)
 IsLedBy g y c w lead.Home = HasTable y w
+IsLedBy g y c w lead.Edge = HasRelTable y w
 
 abbrev pub IsLed : Graph → Typed → Chunk → Finder → Type 0
 IsLed g y c f = IsLedBy g y c f.way f.lead

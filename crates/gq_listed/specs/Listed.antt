@@ -1,7 +1,8 @@
 -- Rows that are held as cells, of a query without DISTINCT and without ORDER BY.
 use Rattle.std.specs.Prelude.{◌≡◌, ◌+◌, ◌<◌, ◌≤◌, ◌^◌, ◌&&◌, not, Bool, true, false, Option, Some, None, Result, Ok, Err, List, [], ◌++◌, length, if◌then◌else◌}
-use Rattle.std.specs.List.{AllZip}
+use Rattle.std.specs.List.{All, AllZip}
 use Rattle.gq_base.specs.Lists.{is_empty}
+use Rattle.gq_base.specs.Plain.{Graph}
 use Rattle.gq_base.specs.Values.{Val}
 use Rattle.gq_cells.specs.declared.source.Source.{Source}
 use Rattle.gq_eval.specs.Asked.{Asked, asked_of}
@@ -58,6 +59,10 @@ pub record IsListing (q : question.Asked) : Type 0 where
 -- these expressions over a graph, each with what finds its values
 abbrev pub AreFinders : List Source → List Asked → List Finder → Type 0
 AreFinders sources asks fs = AllZip (IsFinder sources) asks fs
+
+-- they are over this graph
+abbrev pub AreOver : Graph → List Asked → Type 0
+AreOver g asks = All (λ (a : Asked). a.graph ≡ g) asks
 
 abbrev pub Finding : question.Asked → List Source → List Finder → Type 0
 Finding q sources fs = AreFinders sources (asked_of q.graph.now q.bound.now.columns) fs

@@ -1,24 +1,27 @@
 //! How the value of a column is kept for an assignment: as the row or the load number of the
 //! column's variable, or else as the value itself.
-ghost use Rattle.std.specs.Prelude.{◌≡◌, ◌++◌, ◌∷◌, [], IfOk, OnOk};
+ghost use Rattle.std.specs.Prelude.{◌≡◌, ◌++◌, ◌∷◌, ◌<◌, [], IfOk, IfSome, OnOk, length};
 ghost use Rattle.gq_base.specs.Plain.{Graph as Plain};
 ghost use Rattle.gq_base.specs.Values.{val};
 ghost use Rattle.gq_eval.specs.Asked.{asked};
 ghost use Rattle.gq_expr.specs.Meaning.{meaning};
-ghost use Rattle.gq_listed.specs.Finding.{Extends, IsFinder, IsFound, IsNullAt, PutsColumn};
+ghost use Rattle.gq_expr.specs.Reading.{Assignment};
+ghost use Rattle.gq_listed.specs.Finding.{Extends, HasLoad, IsFinder, IsFound, IsNullAt};
+ghost use Rattle.gq_listed.specs.Finding.{IsPlaced, PutsColumn};
 ghost use Rattle.gq_listed.specs.Leads.{IsLedAt, IsSpot, here_at};
+ghost use Rattle.gq_listed.specs.declared.finder.Way.TheVariants.{Rel};
 
 use crate::leads::Spot;
 use crate::places::{Reader, reader_of};
 use crate::tables::Tables;
 use gq_base::{Memory, Value};
-use gq_cells::{Cells, Source};
+use gq_cells::{Cells, Source, node_property, rel_places, rel_property};
 use gq_eval::Evaluator;
 use gq_expr::{Assigned, Expr};
 use gq_kept::RowRefusal;
 use gq_store::Graph;
 
-/// The rows below a count, or the load numbers, that a variable may have in a table.
+/// The rows below a count, or the places, that a variable may have in a table.
 #[derive(Clone, Copy)]
 pub struct Range {
     pub(crate) variable: u32,
@@ -33,7 +36,7 @@ pub enum Way {
     Value,
     /// The row of a node variable.
     Node(Range),
-    /// The load number of a relationship variable.
+    /// The place of a relationship variable's relationship.
     Rel(Range),
 }
 
@@ -48,6 +51,8 @@ pub enum Lead {
     Item { group: u32 },
     /// It is the row of the variable's node, which is of the way's table.
     Home,
+    /// It is the place of the variable's relationship, which is of the way's table.
+    Edge,
 }
 
 /// What tells the number that stands for the value of a column, and the places of the source of
@@ -88,13 +93,9 @@ impl Finder {
         ensures values { cells.new.values ≡ cells.old.values }
     {
         match reader_of(expr, tables, graph) {
-            Reader::Plain => Finder::plain(cells, null, expr, tables),
+            Reader::Plain => Finder::plain(cells, null, expr, tables, graph),
             Reader::Node(property) => {
-                let source = cells.add(Source::NodeProperty {
-                    graph,
-                    table: property.table,
-                    property: property.place,
-                })?;
+                let source = cells.add(node_property(graph, property.table, property.place))?;
                 let way = Way::Node(Range {
                     variable: property.variable,
                     table: property.table,
@@ -108,15 +109,11 @@ impl Finder {
                 })
             }
             Reader::Rel(property) => {
-                let source = cells.add(Source::RelProperty {
-                    graph,
-                    table: property.table,
-                    property: property.place,
-                })?;
+                let source = cells.add(rel_property(graph, property.table, property.place))?;
                 let way = Way::Rel(Range {
                     variable: property.variable,
                     table: property.table,
-                    count: graph.rel_count(property.table),
+                    count: rel_places(graph, property.table, property.place),
                 });
                 Ok(Finder {
                     way,
@@ -129,15 +126,15 @@ impl Finder {
     }
 
     // The same of an expression that is no property.
-    fn plain(
-        cells: &mut Cells<'_>,
+    fn plain<'g>(
+        cells: &mut Cells<'g>,
         null: u32,
         expr: &Expr,
         tables: &Tables<'_>,
+        graph: &'g Graph,
     ) -> Result<Finder, Memory>
         requires { IsNullAt cells.old.sources null }
-        ensures finds { (g : Plain)
-            → IfOk result (IsFinder cells.new.sources (asked expr.now g)) }
+        ensures finds { IfOk result (IsFinder cells.new.sources (asked expr.now graph.now)) }
         ensures more { OnOk result (Extends cells.old.sources cells.new.sources) }
         ensures values { cells.new.values ≡ cells.old.values }
     {
@@ -159,8 +156,8 @@ impl Finder {
                 }
             }
             Expr::Rel(variable) => {
-                if let Some(table) = tables.of_rel(*variable) {
-                    let source = cells.add(Source::Rel(table))?;
+                if let Some(table) = rel_table(tables, *variable, graph) {
+                    let source = cells.add(Source::Rel { graph, table })?;
                     let way = Way::Rel(Range {
                         variable: *variable,
                         table,
@@ -185,9 +182,45 @@ impl Finder {
     }
 }
 
+// The table in which a relationship variable is looked for first, if the graph has it.
+fn rel_table(tables: &Tables<'_>, variable: u32, graph: &Graph) -> Option<u32>
+    ensures { IfSome result (λ table. table < length graph.now.catalog.rels) }
+{
+    let table = tables.of_rel(variable)?;
+    if table < graph.catalog().rel_tables() {
+        Some(table)
+    } else {
+        None
+    }
+}
+
+// A place at which the relationship of a variable may be, where it is below the count.
+#[inline(always)]
+pub(crate) fn found_place(range: Range, place: u32) -> Found
+    ensures { (g : Plain) (here : Assignment) → IsPlaced g range here place
+        → IsFound g (Rel range) here result }
+{
+    if place < range.count {
+        Found::Number(place)
+    } else {
+        Found::Other
+    }
+}
+
+// What is found of a relationship, by its load number in the table of a range.
+pub(crate) fn found_number(range: Range, graph: &Graph, number: u32) -> Found
+    ensures { (here : Assignment) → HasLoad range here number
+        → IsFound graph.now (Rel range) here result }
+{
+    if range.table >= graph.catalog().rel_tables() || number >= graph.rel_count(range.table) {
+        return Found::Other;
+    }
+    found_place(range, graph.number_place(range.table, number))
+}
+
 /// What is found of the variable of a column.
-pub(crate) fn find<R: Assigned>(way: Way, row: &R) -> Found
-    ensures { IsFound way (R.assignment row.now) result }
+pub(crate) fn find<R: Assigned>(way: Way, graph: &Graph, row: &R) -> Found
+    ensures { IsFound graph.now way (R.assignment row.now) result }
 {
     match way {
         Way::Value => Found::Other,
@@ -201,8 +234,8 @@ pub(crate) fn find<R: Assigned>(way: Way, row: &R) -> Found
         },
         Way::Rel(range) => match row.rel(range.variable) {
             None => Found::Null,
-            Some(rel) => if rel.table == range.table && rel.row < range.count {
-                Found::Number(rel.row)
+            Some(rel) => if rel.table == range.table {
+                found_number(range, graph, rel.row)
             } else {
                 Found::Other
             },
@@ -247,14 +280,16 @@ pub(crate) fn put_column<'g, R: Assigned>(
     made: &mut usize,
     finder: &Finder,
     column: &Evaluator<'g>,
+    graph: &Graph,
     row: &R,
 ) -> Result<(), RowRefusal>
-    requires { IsFinder cells.old.sources column.now finder.now }
+    requires finder { IsFinder cells.old.sources column.now finder.now }
+    requires graph { column.now.graph ≡ graph.now }
     ensures puts { PutsColumn (meaning column.now.graph (R.assignment row.now) column.now.expr)
         cells.old.values cells.new.values result }
     ensures more { OnOk result (Extends cells.old.sources cells.new.sources) }
 {
-    match find(finder.way, row) {
+    match find(finder.way, graph, row) {
         Found::Number(number) => Ok(cells.put(finder.source, number)?),
         Found::Null => Ok(cells.put(finder.null, 0)?),
         Found::Other => put_evaluated(cells, made, column, row),
@@ -271,6 +306,7 @@ pub(crate) fn put_led_column<'g>(
     spot: &Spot<'_, '_, '_>,
 ) -> Result<(), RowRefusal>
     requires finder { IsFinder cells.old.sources column.now finder.now }
+    requires graph { column.now.graph ≡ spot.now.graph.now }
     requires spot { IsSpot spot.now }
     requires led { IsLedAt spot.now finder.now }
     ensures puts { PutsColumn (meaning column.now.graph (here_at spot.now) column.now.expr)

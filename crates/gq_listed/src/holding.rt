@@ -6,6 +6,7 @@ ghost use Rattle.gq_cells.specs.declared.source.Source.{Source};
 ghost use Rattle.gq_eval.specs.Asked.{Asked};
 ghost use Rattle.gq_group.specs.Chunks.{IsChunkOf, group_of};
 ghost use Rattle.gq_group.specs.Groups.{AreSelected};
+ghost use Rattle.gq_group.specs.declared.chunk.Chunk.{Chunk as Parts};
 ghost use Rattle.gq_listed.specs.Flat.{IsFlat, IsFlatHome, IsFlatWay, IsHeldNumber};
 ghost use Rattle.gq_listed.specs.Leads.{AreLed, HasTable, IsLedBy};
 ghost use Rattle.gq_listed.specs.Listed.{AreFinders};
@@ -77,7 +78,8 @@ fn lead_of(
         Some(number) => Lead::Held(number),
         None => match way {
             Way::Node(range) => home_of(range, typed, chunk),
-            Way::Value | Way::Rel(_) => Lead::Unknown,
+            Way::Rel(range) => edge_of(range, typed),
+            Way::Value => Lead::Unknown,
         },
     }
 }
@@ -105,6 +107,21 @@ fn home_of(range: Range, typed: &Typed, chunk: &Chunk<'_, '_>) -> Lead
     }
 }
 
+// Whether the relationships of a variable are of the table.
+fn edge_of(range: Range, typed: &Typed) -> Lead
+    ensures { (g : Plain) (c : Parts)
+        → IsLedBy g typed.now c (ways.Rel range) result }
+{
+    match typed.rels.get(range.variable as usize) {
+        Some(rel) => if rel.table == range.table {
+            Lead::Edge
+        } else {
+            Lead::Unknown
+        },
+        None => Lead::Unknown,
+    }
+}
+
 // The number that is found of a variable at each choice of a chunk, where it lives in a flat group.
 fn held_number(
     way: Way,
@@ -121,7 +138,7 @@ fn held_number(
         return None;
     }
     let row = ChunkRow::new(graph, typed, chunk, positions);
-    match find(way, &row) {
+    match find(way, graph, &row) {
         Found::Number(number) => Some(number),
         Found::Null | Found::Other => None,
     }

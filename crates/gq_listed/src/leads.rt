@@ -1,14 +1,17 @@
 //! What is found of the variables of columns at one selected position of each group of a chunk.
 ghost use Rattle.std.specs.Prelude.{◌≡◌, ◌<◌, length};
+ghost use Rattle.gq_base.specs.Plain.{Graph as Plain};
 ghost use Rattle.gq_expr.specs.Reading as reading;
 ghost use Rattle.gq_group.specs.Chunks.{node_in};
+ghost use Rattle.gq_group.specs.Edges as edges;
 ghost use Rattle.gq_group.specs.declared.home.NodeHome.TheVariants as home;
 ghost use Rattle.gq_listed.specs.Finding.{HasNode, IsFound};
-ghost use Rattle.gq_listed.specs.Leads.{HasTable, IsLedAt, IsSpot, assignment_of};
-ghost use Rattle.gq_listed.specs.Leads.{here_at};
+ghost use Rattle.gq_listed.specs.Leads.{HasRelTable, HasTable, IsLedAt, IsSpot};
+ghost use Rattle.gq_listed.specs.Leads.{assignment_of, here_at};
 
-use crate::finder::{Finder, Found, Lead, Way, find};
-use gq_group::{Chunk, ChunkRow};
+use crate::finder::{Finder, Found, Lead, Way, find, found_number, found_place};
+use gq_base::Direction;
+use gq_group::{Chunk, ChunkRow, EdgeAt};
 use gq_plan::Typed;
 use gq_store::Graph;
 
@@ -48,13 +51,14 @@ impl<'r, 'c, 'g> Spot<'r, 'c, 'g> {
     pub(crate) fn find(&self, finder: &Finder) -> Found
         requires spot { IsSpot self.now }
         requires led { IsLedAt self.now finder.now }
-        ensures { IsFound finder.now.way (here_at self.now) result }
+        ensures { IsFound self.now.graph.now finder.now.way (here_at self.now) result }
     {
         match finder.lead {
             Lead::Unknown => self.find_anew(finder.way),
             Lead::Held(number) => Found::Number(number),
             Lead::Item { group } => found_within(finder.way, self.item(group)),
             Lead::Home => self.find_home(finder.way),
+            Lead::Edge => self.find_edge(finder.way),
         }
     }
 
@@ -62,7 +66,7 @@ impl<'r, 'c, 'g> Spot<'r, 'c, 'g> {
     fn find_home(&self, way: Way) -> Found
         requires spot { IsSpot self.now }
         requires table { HasTable self.now.typed.now way }
-        ensures { IsFound way (here_at self.now) result }
+        ensures { IsFound self.now.graph.now way (here_at self.now) result }
     {
         match way {
             Way::Node(range) => {
@@ -73,20 +77,48 @@ impl<'r, 'c, 'g> Spot<'r, 'c, 'g> {
         }
     }
 
+    // The same where the variable has a relationship of the way's table.
+    fn find_edge(&self, way: Way) -> Found
+        requires spot { IsSpot self.now }
+        requires table { HasRelTable self.now.typed.now way }
+        ensures { IsFound self.now.graph.now way (here_at self.now) result }
+    {
+        let Way::Rel(range) = way else {
+            return Found::Other;
+        };
+        let graph = self.graph;
+        match self.chunk.edge_at(range.variable, self.positions) {
+            EdgeAt::Listed {
+                forward,
+                row,
+                position,
+            } => {
+                let place = graph.edge_place(range.table, direction(forward), row, position);
+                found_place(range, place)
+            }
+            EdgeAt::Single { forward, row } => {
+                let place = graph.edge_place(range.table, direction(forward), row, 0);
+                found_place(range, place)
+            }
+            EdgeAt::Number { number } => found_number(range, graph, number),
+        }
+    }
+
     // The same where no lead is known.
     #[inline(never)]
     fn find_anew(&self, way: Way) -> Found
         requires { IsSpot self.now }
-        ensures { IsFound way (here_at self.now) result }
+        ensures { IsFound self.now.graph.now way (here_at self.now) result }
     {
-        find(way, &self.row())
+        find(way, self.graph, &self.row())
     }
 }
 
 // A row that a node variable has, where it is below the count of the variable's table.
 #[inline(always)]
 fn found_within(way: Way, row: u32) -> Found
-    ensures { (here : reading.Assignment) → HasNode way here row → IsFound way here result }
+    ensures { (g : Plain) (here : reading.Assignment) → HasNode way here row
+        → IsFound g way here result }
 {
     match way {
         Way::Node(range) => if row < range.count {
@@ -95,5 +127,16 @@ fn found_within(way: Way, row: u32) -> Found
             Found::Other
         },
         Way::Value | Way::Rel(_) => Found::Other,
+    }
+}
+
+// The direction in which a vertex's relationships are followed.
+fn direction(forward: bool) -> Direction
+    ensures { result ≡ edges.way forward }
+{
+    if forward {
+        Direction::Forward
+    } else {
+        Direction::Backward
     }
 }

@@ -8,7 +8,7 @@ ghost use Rattle.gq_kept.specs.Forms.{TellsFull};
 ghost use Rattle.gq_kept.specs.Tables.{Pushes, StandsForSome, is_full_table};
 ghost use Rattle.gq_listed.specs.Finding.{Extends};
 ghost use Rattle.gq_listed.specs.Leads.{AreLed, AreLedAt, IsSpot, here_at};
-ghost use Rattle.gq_listed.specs.Listed.{AddsIn, AreFinders, Finding, IsAsked};
+ghost use Rattle.gq_listed.specs.Listed.{AddsIn, AreFinders, AreOver, Finding, IsAsked};
 ghost use Rattle.gq_listed.specs.Listed.{IsListing, PutsRow, held_in, is_listing, outcome_in};
 ghost use Rattle.gq_listed.specs.Listed.{outcome_within, table_in};
 ghost use Rattle.gq_project.specs.Judged.{check_after};
@@ -96,15 +96,17 @@ fn put_row<'g, R: Assigned>(
     made: &mut usize,
     finders: &[Finder],
     columns: &[Evaluator<'g>],
+    graph: &Graph,
     row: &R,
 ) -> Result<(), RowRefusal>
-    requires { AreFinders cells.old.sources columns.now finders.now }
+    requires finders { AreFinders cells.old.sources columns.now finders.now }
+    requires graph { AreOver graph.now columns.now }
     ensures puts { PutsRow (answers (R.assignment row.now) columns.now)
         cells.old.values cells.new.values result }
     ensures more { OnOk result (Extends cells.old.sources cells.new.sources) }
 {
     'values: for (column, finder) in columns.iter().zip(finders) {
-        match put_column(cells, made, finder, column, row) {
+        match put_column(cells, made, finder, column, graph, row) {
             Ok(()) => {}
             Err(refusal) => return Err(refusal),
         }
@@ -122,6 +124,7 @@ fn put_led_row<'g>(
     spot: &Spot<'_, '_, '_>,
 ) -> Result<(), RowRefusal>
     requires finders { AreFinders cells.old.sources columns.now finders.now }
+    requires graph { AreOver spot.now.graph.now columns.now }
     requires spot { IsSpot spot.now }
     requires led { AreLedAt spot.now finders.now }
     ensures puts { PutsRow (answers (here_at spot.now) columns.now)
@@ -171,7 +174,14 @@ impl<'g> Listed<'g> {
             Checked::Met => {}
         }
         let columns = asked.reading.columns.as_slice();
-        match put_row(&mut self.cells, &mut self.made, finders, columns, row) {
+        match put_row(
+            &mut self.cells,
+            &mut self.made,
+            finders,
+            columns,
+            asked.graph,
+            row,
+        ) {
             Ok(()) => {}
             Err(refusal) => return Err(refusal),
         }
@@ -197,6 +207,7 @@ impl<'g> Listed<'g> {
         requires keyless { asked.now.bound.now.keys ≡ [] }
         requires reading { IsAsked asked.now }
         requires finders { Finding asked.now self.old.cells.sources finders.now }
+        requires graph { spot.now.graph.now ≡ asked.now.graph.now }
         requires spot { IsSpot spot.now }
         requires led { AreLedAt spot.now finders.now }
         ensures adds { AddsIn asked.now (outcome_in asked.now (here_at spot.now))
@@ -278,6 +289,7 @@ impl<'g> Listed<'g> {
         requires listing { IsListing asked.now }
         requires reading { IsAsked asked.now }
         requires finders { Finding asked.now self.old.cells.sources finders.now }
+        requires graph { spot.now.graph.now ≡ asked.now.graph.now }
         requires spot { IsSpot spot.now }
         requires led { AreLedAt spot.now finders.now }
         requires stands { StandsForSome (table_in asked.now self.old) }
@@ -304,6 +316,7 @@ impl<'g> Listed<'g> {
         requires listing { IsListing asked.now }
         requires reading { IsAsked asked.now }
         requires finders { Finding asked.now self.old.cells.sources finders.now }
+        requires graph { spot.now.graph.now ≡ asked.now.graph.now }
         requires spot { IsSpot spot.now }
         requires led { AreLedAt spot.now finders.now }
         requires stands { StandsForSome (table_in asked.now self.old) }

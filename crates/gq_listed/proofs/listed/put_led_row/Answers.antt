@@ -1,8 +1,8 @@
 use Rattle.std.proofs.Common.{◌≡◌, ◌∙◌, ◌+◌, ◌++◌, [], ◌∷◌, ap, drop, length, length-append, sym}
 use Rattle.std.proofs.lemmas.Slice.Zip.{zip_end, zip_turn}
-use Rattle.gq_eval.specs.Asked.{answers}
+use Rattle.gq_eval.specs.Asked.{Asked, answers}
 use Rattle.gq_project.specs.Judged.{values_after}
-use Rattle.gq_listed.specs.Leads.{AreLedAt, IsLedAt, here_at}
+use Rattle.gq_listed.specs.Leads.{here_at}
 use Rattle.gq_listed.proofs.Finding.{extends_again, finder_at, put, put_all, stay}
 use Rattle.gq_listed.proofs.listed.put_led_row.Goals as goal
 
@@ -37,3 +37,12 @@ returns-clause-puts c =
     let n = length c.values.yielded in
     let all = zip_end asks fs c.values.yielded _ c.values.column-iterator c.next.new.self c.next.result (cc) (cc) c.values.yielded_by c.in-None.is c.next.ensures.steps in
     sym c.values.invariant.after ∙ put_all here c.values.cells.sources asks fs n c.values.cells.values c.values.invariant.finders all
+
+pub put_led_column-requires-clause-graph : goal.put_led_column-requires-clause-graph
+put_led_column-requires-clause-graph c =
+    let asks = c.args.columns.now in
+    let fs = c.args.finders.now in
+    let n = length c.values.yielded in
+    let a = c.in-Some.column.now in
+    let turn = zip_turn asks fs c.values.yielded _ c.values.column-iterator c.next.new.self c.next.result (cc) (cc) c.values.yielded_by _ c.in-Some.is c.next.ensures.steps in
+    ap (λ (x : Asked). x.graph) (turn.2 a) ∙ c.requires.graph n a turn.0

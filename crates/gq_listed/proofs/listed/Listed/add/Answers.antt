@@ -1,7 +1,8 @@
 use Rattle.std.proofs.Common.{◌∙◌, ◌+◌, ap, refl, subst, sym}
 use Rattle.gq_project.specs.declared.judging.Checked.TheVariants.{Met}
 use Rattle.gq_project.specs.Judged.{check_after}
-use Rattle.gq_listed.specs.Listed.{AreFinders}
+use Rattle.gq_listed.specs.Listed.{AreFinders, AreOver}
+use Rattle.gq_listed.proofs.Finding.{all_over}
 use Rattle.gq_listed.proofs.ListedRows.{failed, kept, many}
 use Rattle.gq_project.proofs.Looking.{when_dropped, when_faulty}
 use Rattle.gq_project.proofs.Ready.{late_mean}
@@ -19,8 +20,8 @@ returns-in-Faulty-clause-adds g c =
     let late = late_mean q.graph.now (g.R.Assigned.assignment c.args.row.now) q.bound.now.conjuncts q.reading.now.conjuncts q.late.now c.requires.reading.conjuncts in
     when_faulty _ _ _ _ _ (sym c.in-Faulty.is ∙ c.check_late.ensures ∙ ap (check_after Met) late)
 
-pub put_row-requires : goal.put_row-requires
-put_row-requires g c = subst (λ asks. AreFinders c.args.self.now.cells.sources asks c.args.finders.now) (sym (c.as_slice-columns.ensures ∙ c.requires.reading.columns)) c.requires.finders
+pub put_row-requires-clause-finders : goal.put_row-requires-clause-finders
+put_row-requires-clause-finders g c = subst (λ asks. AreFinders c.args.self.now.cells.sources asks c.args.finders.now) (sym (c.as_slice-columns.ensures ∙ c.requires.reading.columns)) c.requires.finders
 
 pub returns-in-Err-clause-adds : goal.returns-in-Err-clause-adds
 returns-in-Err-clause-adds g c =
@@ -47,3 +48,8 @@ returns-then-not-may_keep-clause-adds g c =
       c.may_keep.ensures.no c.if-not-may_keep.true,
       many q here c.as_slice-columns.result.now (c.as_slice-columns.ensures ∙ c.requires.reading.columns) c.requires.keyless (sym c.in-Met.is ∙ c.check_late.ensures ∙ ap (check_after Met) late) c.args.self.now c.put_row.new.cells.values c.in-Ok.ensures.puts,
     )
+
+pub put_row-requires-clause-graph : goal.put_row-requires-clause-graph
+put_row-requires-clause-graph g c =
+    let q = c.args.asked.now in
+    subst (AreOver q.graph.now) (sym (c.as_slice-columns.ensures ∙ c.requires.reading.columns)) (all_over q.graph.now q.bound.now.columns)

@@ -5,7 +5,8 @@ use Rattle.gq_plan.specs.Assignments.{row_of}
 use Rattle.gq_project.specs.Judged.{check_after}
 use Rattle.gq_project.specs.Reading.{at_numbers}
 use Rattle.gq_listed.specs.Leads.{here_at}
-use Rattle.gq_listed.specs.Listed.{AreFinders}
+use Rattle.gq_listed.specs.Listed.{AreFinders, AreOver}
+use Rattle.gq_listed.proofs.Finding.{all_over}
 use Rattle.gq_listed.proofs.ListedRows.{failed, kept, many}
 use Rattle.gq_project.proofs.Looking.{when_dropped, when_faulty}
 use Rattle.gq_project.proofs.Ready.{late_mean}
@@ -51,3 +52,8 @@ returns-then-not-may_keep-clause-adds c =
       c.may_keep.ensures.no c.if-not-may_keep.true,
       many q here c.as_slice-columns.result.now (c.as_slice-columns.ensures ∙ c.requires.reading.columns) c.requires.keyless (sym c.in-Met.is ∙ c.check_left.ensures ∙ ap (λ t. check_after Met (answers (row_of t) (at_numbers q.reading.now.conjuncts q.late.now))) c.row.ensures ∙ ap (check_after Met) late) c.args.self.now c.put_led_row.new.cells.values c.in-Ok.ensures.puts,
     )
+
+pub put_led_row-requires-clause-graph : goal.put_led_row-requires-clause-graph
+put_led_row-requires-clause-graph c =
+    let q = c.args.asked.now in
+    subst (λ h. AreOver h c.as_slice-columns.result.now) (sym c.requires.graph) (subst (AreOver q.graph.now) (sym (c.as_slice-columns.ensures ∙ c.requires.reading.columns)) (all_over q.graph.now q.bound.now.columns))
