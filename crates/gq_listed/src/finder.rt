@@ -1,5 +1,5 @@
-//! How the value of a column is kept for an assignment: as the row or the load number of the
-//! column's variable, or else as the value itself.
+//! How the value of a column is kept for an assignment: as the row or the place that the column's
+//! variable has in its table, or else as the value itself.
 ghost use Rattle.std.specs.Prelude.{◌≡◌, ◌++◌, ◌∷◌, ◌<◌, [], IfOk, IfSome, OnOk, length};
 ghost use Rattle.gq_base.specs.Plain.{Graph as Plain};
 ghost use Rattle.gq_base.specs.Values.{val};
