@@ -1,13 +1,14 @@
 -- When a count of faults or misses rose, and the answers that need it (this project's profile).
-use Rattle.std.specs.Prelude.{ℕ, ◌+◌, ◌-◌, ◌^◌, ◌≤◌, min, Result, OnErr, Bool, true, false, IfOk}
+use Rattle.std.specs.Prelude.{◌≡◌, ℕ, ◌+◌, ◌-◌, ◌^◌, ◌≤◌, min, Result, OnOk, OnErr, Bool, true, false, IfOk}
 
 -- a count of 64 bits rose, or stands at its last value
 abbrev pub Rose : ℕ → ℕ → Type 0
 Rose before now = min (before + 1) (2 ^ 64 - 1) ≤ now
 
--- the count of faults did not fall, and an `Err` comes only where it rose
+-- the count of faults did not fall: an `Ok` leaves it as it was, and an `Err` comes only where it rose
 pub record HasCause {T E : Type 0} (before now : ℕ) (result : Result T E) : Type 0 where
   pub later : before ≤ now
+  pub kept : OnOk result (now ≡ before)
   pub failed : OnErr result (Rose before now)
 
 -- a name that was not found raised the count

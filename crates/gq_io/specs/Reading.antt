@@ -1,5 +1,5 @@
 -- What a bounded read of all that is left answers (this project's profile).
-use Rattle.std.specs.Prelude.{◌≡◌, ℕ, ◌+◌, ◌<◌, ◌≤◌, List, length, Result, Ok, Err}
+use Rattle.std.specs.Prelude.{◌≡◌, ◌≢◌, ℕ, ◌+◌, ◌<◌, ◌≤◌, List, length, Result, Ok, Err}
 use Rattle.std.specs.declared.option.Option.{Option}
 use Rattle.std.specs.Io.KnownBytes.{Consumes, IsAtEnd}
 use Rattle.gq_io.specs.Causes.{Rose}
@@ -26,7 +26,8 @@ pub record ReadsWithin (most : ℕ) (old new : Option (List ℕ)) (result : Resu
   pub few : length eaten ≤ most + 1
   pub ends : EndsAfter most eaten new result
 
--- the count of faults did not fall, and `Failed` comes only where it rose
+-- the count of faults did not fall: it rose where a read failed, and is as it was after each other answer
 pub record FailsByFault (before now : ℕ) (result : Result ReadFile ReadStop) : Type 0 where
   pub later : before ≤ now
+  pub kept : result ≢ Err stop.Failed → now ≡ before
   pub failed : result ≡ Err stop.Failed → Rose before now

@@ -1,5 +1,5 @@
 -- What a load does to the files that it reads (this project's profile).
-use Rattle.std.specs.Prelude.{◌≡◌, ℕ, ◌+◌, ◌≤◌, List, length, IfSome, IsSome, Err}
+use Rattle.std.specs.Prelude.{◌≡◌, ◌≢◌, ℕ, ◌+◌, ◌≤◌, List, length, IfSome, IsSome, Err}
 use Rattle.std.specs.declared.option.Option.{Option}
 use Rattle.std.specs.declared.result.Result.{Result}
 use Rattle.std.specs.Io.KnownBytes.{Consumes}
@@ -9,9 +9,10 @@ use Rattle.gq_loader.specs.declared.refusal.LoadRefusal.TheVariants as refusal
 use Rattle.gq_loader.specs.declared.refusal.LoadStop.{LoadStop}
 use Rattle.gq_loader.specs.declared.refusal.LoadStop.TheVariants as stop
 
--- the count of faults did not fall, and `ReadFault` comes only where it rose
+-- the count of faults did not fall: it rose where the answer is `ReadFault`, and is as it was after each other answer
 pub record ByFault {T : Type 0} (before now : ℕ) (result : Result T LoadStop) : Type 0 where
   pub later : before ≤ now
+  pub kept : ((name : List ℕ) → result ≢ Err (stop.ReadFault name)) → now ≡ before
   pub failed : (name : List ℕ) → result ≡ Err (stop.ReadFault name) → Rose before now
 
 -- the count of misses did not fall, and `NoFile` comes only where it rose

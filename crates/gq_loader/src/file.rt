@@ -23,24 +23,18 @@ pub(crate) fn read_file<F: Files>(
         (told_of F.held F.left F.faults F.misses files.old)
         (told_of F.held F.left F.faults F.misses files.new) result }
 {
+    // Behind a call that failed no memory is wanted, so that nothing but the fault is told.
+    let named = Text::new(alloc, name)?;
     let Ok(found) = files.select(name) else {
-        return Err(LoadStop::ReadFault {
-            name: Text::new(alloc, name)?,
-        });
+        return Err(LoadStop::ReadFault { name: named });
     };
     if !found {
-        return Err(LoadStop::Refused(LoadRefusal::NoFile {
-            name: Text::new(alloc, name)?,
-        }));
+        return Err(LoadStop::Refused(LoadRefusal::NoFile { name: named }));
     }
     match read_chosen(alloc, files, most) {
         Ok(ReadFile::Whole(bytes)) => Ok(bytes),
-        Ok(ReadFile::TooLong) => Err(LoadStop::Refused(LoadRefusal::FileTooLong {
-            name: Text::new(alloc, name)?,
-        })),
-        Err(ReadStop::Failed) => Err(LoadStop::ReadFault {
-            name: Text::new(alloc, name)?,
-        }),
+        Ok(ReadFile::TooLong) => Err(LoadStop::Refused(LoadRefusal::FileTooLong { name: named })),
+        Err(ReadStop::Failed) => Err(LoadStop::ReadFault { name: named }),
         Err(ReadStop::Memory) => Err(LoadStop::Memory),
     }
 }

@@ -10,9 +10,9 @@ use Rattle.gq_session.specs.Scanning.{Place, start, step, ended_by, place_after,
 use Rattle.std.specs.Prelude.{Ok, Err}
 use Rattle.std.specs.Io.KnownBytes.{Consumes, IsAtEnd, Keeps}
 use Rattle.gq_io.specs.Causes.{Rose}
-use Rattle.gq_io.proofs.Counts.{Rose-later}
+use Rattle.gq_io.proofs.Counts.{Rose-since}
 use Rattle.gq_io.proofs.Moved.{Consumes-both, Consumes-kept, Consumes-none}
-use Rattle.gq_session.specs.Sessions.{Broke, Session, Span, statements_of}
+use Rattle.gq_session.specs.Sessions.{Broke, IsStill, Session, Span, statements_of}
 use Rattle.gq_session.specs.declared.run.Stop.TheVariants as stop
 use Rattle.gq_session.specs.declared.answering.Tone.{Tone}
 use Rattle.gq_session.specs.declared.answering.Tone.TheVariants as tone
@@ -98,8 +98,8 @@ pub record Going {S : Type 0} (answers : Rule S) (before after : S) (long most :
   pub came : Came answers before after long most start eaten q t out.old out.new
   pub small : q.count ≤ most
   pub live : q.stopped ≡ false
-  pub input_later : input.before ≤ input.now
-  pub out_later : out.before ≤ out.now
+  pub input_still : IsStill input
+  pub out_still : IsStill out
 
 pub going-start : {S : Type 0} (answers : Rule S) (before : S) (long most : ℕ) (a o : Option (List ℕ)) (m n : ℕ) → Going answers before before long most start tone.Good (span a a m m) (span o o n n)
 going-start answers before long most a o m n = record {
@@ -108,8 +108,8 @@ going-start answers before long most a o m n = record {
   came = came-none answers before long most start o;
   small = omega arith;
   live = refl;
-  input_later = omega arith;
-  out_later = omega arith;
+  input_still = refl;
+  out_still = refl;
 }
 
 pub going-size : {S : Type 0} (answers : Rule S) (before after : S) (long most : ℕ) (q : Place) (t : Tone) (input out : Span) (h : Going answers before after long most q t input out) → length h.eaten ≡ q.count
@@ -132,9 +132,9 @@ broke-further answers before mid long most p q xs ys t a b c h k = record {
 module _ {S : Type 0} (answers : Rule S) (before mid : S) (long most : ℕ) (q : Place) (t : Tone) (a b c : Option (List ℕ)) (i j k : ℕ) (x y z : Option (List ℕ)) (m n o : ℕ)
     (h : Going answers before mid long most q t (span a b i j) (span x y m n)) where
   -- another piece was taken whole
-  pub further : (after : S) (r : Place) (u : Tone) (ys : List ℕ) → Consumes b c ys → j ≤ k → n ≤ o → r.stopped ≡ false → Came answers mid after long most q ys r u y z
+  pub further : (after : S) (r : Place) (u : Tone) (ys : List ℕ) → Consumes b c ys → k ≡ j → o ≡ n → r.stopped ≡ false → Came answers mid after long most q ys r u y z
       → Going answers before after long most r (worse t u) (span a c i k) (span x z m o)
-  further after r u ys took le le' live more =
+  further after r u ys took same same' live more =
       let came = came-further answers before mid after long most start q r h.eaten ys t u x y z h.came more in
       record {
         eaten = h.eaten ++ ys;
@@ -142,8 +142,8 @@ module _ {S : Type 0} (answers : Rule S) (before mid : S) (long most : ℕ) (q :
         came = came;
         small = omega (arith, count-within long most start (h.eaten ++ ys) (omega arith) (ap (λ z. z.stopped) came.place ∙ live), ap (λ z. z.count) came.place);
         live = live;
-        input_later = omega (arith, h.input_later, le);
-        out_later = omega (arith, h.out_later, le');
+        input_still = same ∙ h.input_still;
+        out_still = same' ∙ h.out_still;
       }
 
   pub read_failed : Keeps b c → j ≤ k → Rose j k → Session answers before mid long most (span a c i k) (span x y m n) (Err stop.Read)
@@ -151,36 +151,39 @@ module _ {S : Type 0} (answers : Rule S) (before mid : S) (long most : ℕ) (q :
     eaten = h.eaten;
     took = Consumes-kept a b c h.eaten h.took kept;
     few = omega (arith, h.small, going-size answers before mid long most q t (span a b i j) (span x y m n) h);
-    ends = (t, h.came.wrote, Rose-later i j k h.input_later rose);
-    input_later = omega (arith, h.input_later, le);
-    out_later = h.out_later;
+    ends = (t, h.came.wrote, Rose-since i j k h.input_still rose);
+    input_later = omega (arith, h.input_still, le);
+    out_later = omega (arith, h.out_still);
+    first = h.out_still;
   }
 
   few-more : (ys : List ℕ) → length ys ≤ most - q.count + 1 → length (h.eaten ++ ys) ≤ most + 1
   few-more ys le = omega (arith, length-append h.eaten ys, le, h.small, going-size answers before mid long most q t (span a b i j) (span x y m n) h)
 
-  pub write_failed : (after : S) (ys : List ℕ) → Consumes b c ys → j ≤ k → n ≤ o → length ys ≤ most - q.count + 1 → Broke answers mid long most q ys y z → Rose n o
+  pub write_failed : (after : S) (ys : List ℕ) → Consumes b c ys → k ≡ j → n ≤ o → length ys ≤ most - q.count + 1 → Broke answers mid long most q ys y z → Rose n o
       → Session answers before after long most (span a c i k) (span x z m o) (Err stop.Write)
-  write_failed after ys took le le' few broke rose = record {
+  write_failed after ys took same le few broke rose = record {
     eaten = h.eaten ++ ys;
     took = Consumes-both a b c h.eaten ys h.took took;
     few = few-more ys few;
-    ends = (inl (broke-further answers before mid long most start q h.eaten ys t x y z h.came broke), Rose-later m n o h.out_later rose);
-    input_later = omega (arith, h.input_later, le);
-    out_later = omega (arith, h.out_later, le');
+    ends = (inl (broke-further answers before mid long most start q h.eaten ys t x y z h.came broke), Rose-since m n o h.out_still rose);
+    input_later = omega (arith, h.input_still, same);
+    out_later = omega (arith, h.out_still, le);
+    first = same ∙ h.input_still;
   }
 
-  pub too_long : (after : S) (ys : List ℕ) → Consumes b c ys → j ≤ k → n ≤ o → length ys ≤ most - q.count + 1
+  pub too_long : (after : S) (ys : List ℕ) → Consumes b c ys → k ≡ j → o ≡ n → length ys ≤ most - q.count + 1
       → ((place_after long most q ys).stopped ≡ true) × (u : Tone) × Wrote answers mid after (ended_in long most q ys) u y z → Session answers before after long most (span a c i k) (span x z m o) (Err stop.TooLong)
-  too_long after ys took le le' few (stopped, u, wrote) =
+  too_long after ys took same same' few (stopped, u, wrote) =
       let came = came-further answers before mid after long most start q (place_after long most q ys) h.eaten ys t u x y z h.came (record { place = refl; wrote = wrote }) in
       record {
         eaten = h.eaten ++ ys;
         took = Consumes-both a b c h.eaten ys h.took took;
         few = few-more ys few;
         ends = (ap (λ z. z.stopped) came.place ∙ stopped, worse t u, came.wrote);
-        input_later = omega (arith, h.input_later, le);
-        out_later = omega (arith, h.out_later, le');
+        input_later = omega (arith, h.input_still, same);
+        out_later = omega (arith, h.out_still, same');
+        first = (same ∙ h.input_still, same' ∙ h.out_still);
       }
 
   all-statements : ended_in long most start h.eaten ++ q.rest ∷ [] ≡ statements_of long most h.eaten
@@ -189,9 +192,9 @@ module _ {S : Type 0} (answers : Rule S) (before mid : S) (long most : ℕ) (q :
   ate-all : Consumes b c [] → Consumes a c h.eaten
   ate-all took = rw (← append-nil h.eaten) (Consumes-both a b c h.eaten [] h.took took)
 
-  pub done : (after : S) (u : Tone) → Consumes b c [] → IsAtEnd c → j ≤ k → n ≤ o → (text : List ℕ) × answers mid q.rest u text after × Appends y z text
+  pub done : (after : S) (u : Tone) → Consumes b c [] → IsAtEnd c → k ≡ j → o ≡ n → (text : List ℕ) × answers mid q.rest u text after × Appends y z text
       → Session answers before after long most (span a c i k) (span x z m o) (Ok (worse t u))
-  done after u took end le le' said = record {
+  done after u took end same same' said = record {
     eaten = h.eaten;
     took = ate-all took;
     few = omega (arith, h.small, going-size answers before mid long most q t (span a b i j) (span x y m n) h);
@@ -201,17 +204,19 @@ module _ {S : Type 0} (answers : Rule S) (before mid : S) (long most : ℕ) (q :
       subst (λ l. Wrote answers before after l (worse t u) x z) all-statements
           (wrote-more answers before mid after _ _ t u x y z h.came.wrote (wrote-one answers mid after q.rest u y z said)),
     );
-    input_later = omega (arith, h.input_later, le);
-    out_later = omega (arith, h.out_later, le');
+    input_later = omega (arith, h.input_still, same);
+    out_later = omega (arith, h.out_still, same');
+    first = (same ∙ h.input_still, same' ∙ h.out_still);
   }
 
-  pub done-part : (after : S) → Consumes b c [] → IsAtEnd c → j ≤ k → n ≤ o → (u : Tone) × (text : List ℕ) × (later : S) × answers mid q.rest u text later × AppendsFront y z text → Rose n o
+  pub done-part : (after : S) → Consumes b c [] → IsAtEnd c → k ≡ j → n ≤ o → (u : Tone) × (text : List ℕ) × (later : S) × answers mid q.rest u text later × AppendsFront y z text → Rose n o
       → Session answers before after long most (span a c i k) (span x z m o) (Err stop.Write)
-  done-part after took end le le' said rose = record {
+  done-part after took end same le said rose = record {
     eaten = h.eaten;
     took = ate-all took;
     few = omega (arith, h.small, going-size answers before mid long most q t (span a b i j) (span x y m n) h);
-    ends = (inr (end, subst (λ l. WroteFront answers before l x z) all-statements (front-more answers before mid _ _ t x y z h.came.wrote (front-one answers mid q.rest y z said))), Rose-later m n o h.out_later rose);
-    input_later = omega (arith, h.input_later, le);
-    out_later = omega (arith, h.out_later, le');
+    ends = (inr (end, subst (λ l. WroteFront answers before l x z) all-statements (front-more answers before mid _ _ t x y z h.came.wrote (front-one answers mid q.rest y z said))), Rose-since m n o h.out_still rose);
+    input_later = omega (arith, h.input_still, same);
+    out_later = omega (arith, h.out_still, le);
+    first = same ∙ h.input_still;
   }

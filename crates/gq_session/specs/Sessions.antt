@@ -33,10 +33,20 @@ TakenBy answers before after long most p piece q out (Ok t) = (place_after long 
 TakenBy answers before after long most p piece q out (Err piece_stop.Write) = Broke answers before long most p piece out.old out.new × Rose out.before out.now
 TakenBy answers before after long most p piece q out (Err piece_stop.TooLong) = ((place_after long most p piece).stopped ≡ true) × (t : Tone) × Wrote answers before after (ended_in long most p piece) t out.old out.new
 
+-- the count of faults is what it was
+abbrev pub IsStill : Span → Type 0
+IsStill span = span.now ≡ span.before
+
+-- it is, unless the piece ended with a failed write
+abbrev pub IsStillBut : Span → Result Tone PieceStop → Type 0
+IsStillBut out (Err piece_stop.Write) = Unit {0}
+IsStillBut out result = IsStill out
+
 -- what a piece did: from which state to which, and from which place to which
 pub record Taken {S : Type 0} (answers : Rule S) (before after : S) (long most : ℕ) (p : Place) (piece : List ℕ) (q : Place) (out : Span) (result : Result Tone PieceStop) : Type 0 where
   pub taken : TakenBy answers before after long most p piece q out result
   pub later : out.before ≤ out.now
+  pub still : IsStillBut out result
 
 -- the statements of a whole input: those that ended, and the last bytes where no limit stopped it
 abbrev pub statements_of : ℕ → ℕ → List ℕ → List (List ℕ)
@@ -53,6 +63,12 @@ Ends answers before after long most eaten input out (Err stop.Write) =
 Ends answers before after long most eaten input out (Err stop.TooLong) =
     ((place_after long most start eaten).stopped ≡ true) × (t : Tone) × Wrote answers before after (ended_in long most start eaten) t out.old out.new
 
+-- the first call that failed ended the session: no other count of faults than that of what failed is another
+abbrev pub EndsAtFault : Span → Span → Result Tone Stop → Type 0
+EndsAtFault input out (Err stop.Read) = IsStill out
+EndsAtFault input out (Err stop.Write) = IsStill input
+EndsAtFault input out result = IsStill input × IsStill out
+
 -- what a session did, from which state to which
 pub record Session {S : Type 0} (answers : Rule S) (before after : S) (long most : ℕ) (input out : Span) (result : Result Tone Stop) : Type 0 where
   pub eaten : List ℕ
@@ -61,3 +77,4 @@ pub record Session {S : Type 0} (answers : Rule S) (before after : S) (long most
   pub ends : Ends answers before after long most eaten input out result
   pub input_later : input.before ≤ input.now
   pub out_later : out.before ≤ out.now
+  pub first : EndsAtFault input out result

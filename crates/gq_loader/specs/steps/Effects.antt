@@ -1,5 +1,5 @@
 -- What is told of the files before a part of a load and after it (this project's profile).
-use Rattle.std.specs.Prelude.{◌≡◌, ℕ, List}
+use Rattle.std.specs.Prelude.{◌≡◌, ℕ, List, OnOk}
 use Rattle.std.specs.declared.option.Option.{Option}
 use Rattle.std.specs.declared.result.Result.{Result}
 use Rattle.gq_io.specs.Outside.{Names}
@@ -22,10 +22,12 @@ told_of held left faults misses files = record {
   misses = misses files;
 }
 
--- what a part of a load does to the files: it changes none, its faults and misses have their
--- causes, and of a file that it refuses as too long it read no more than shows that
+-- what a part of a load does to the files: it changes none, no call failed where it goes on, its
+-- faults and misses have their causes, and of a file that it refuses as too long it read no more than
+-- shows that
 pub record Reads {T : Type 0} (most : ℕ) (old new : Told) (result : Result T LoadStop) : Type 0 where
   pub held : new.held ≡ old.held
+  pub still : OnOk result (new.faults ≡ old.faults)
   pub faults : ByFault old.faults new.faults result
   pub misses : ByMiss old.misses new.misses result
   pub few : ReadsFew old.held new.left most result

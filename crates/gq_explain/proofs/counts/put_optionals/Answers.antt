@@ -1,4 +1,4 @@
-use Rattle.std.proofs.Common.{◌+◌, length, drop, flat_map, arith, subst}
+use Rattle.std.proofs.Common.{◌∙◌, ◌+◌, length, drop, flat_map, arith, subst}
 use Rattle.std.specs.List.{range_with_len}
 use Rattle.gq_explain.specs.Plans.{optional_at}
 use Rattle.gq_io.specs.Putting.{Put}
@@ -16,7 +16,7 @@ returns-in_err-put_optional_at-clause-bytes g c =
 pub loop-at-preserved : goal.loop-at-preserved
 loop-at-preserved g c = (
   put_then _ _ _ _ _ _ _ _ _ c.loop-at.invariant.0 c.in_ok-put_optional_at.ensures.bytes (numbers_next (optional_at c.args.bound.now) (length c.args.bound.now.optionals) c.loop-at.at (omega arith)),
-  omega (arith, c.loop-at.invariant.1, c.in_ok-put_optional_at.ensures.cause.later),
+  c.in_ok-put_optional_at.ensures.cause.kept ∙ c.loop-at.invariant.1,
 )
 
 pub returns-clause-bytes : goal.returns-clause-bytes

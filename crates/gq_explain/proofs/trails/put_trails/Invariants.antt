@@ -1,4 +1,4 @@
-use Rattle.std.proofs.Common.{◌≤◌, length, take, flat_map}
+use Rattle.std.proofs.Common.{◌≡◌, length, take, flat_map}
 use Rattle.std.specs.List.{range_with_len}
 use Rattle.gq_io.specs.Putting.{Put}
 use Rattle.gq_explain.specs.Plans.{trail_at}
@@ -7,4 +7,4 @@ use Rattle.gq_explain.proofs.trails.put_trails.Given as goal
 abbrev pub invariant-loop-at : goal.invariant-loop-at
 invariant-loop-at g l =
     Put (g.O.Sink.taken l.initial.out) (g.O.Sink.taken l.out) l.initial.batch l.batch (flat_map (trail_at l.bound l.rightward) (take l.at (range_with_len 0 (length l.bound.trails))))
-    × (g.O.Sink.faults l.initial.out ≤ g.O.Sink.faults l.out)
+    × (g.O.Sink.faults l.out ≡ g.O.Sink.faults l.initial.out)

@@ -1,7 +1,7 @@
 use Rattle.std.proofs.Common.{arith}
 use Rattle.std.proofs.lemmas.Result.{err_from_is_err_and}
 use Rattle.gq_loader.specs.Limits.{most_bytes}
-use Rattle.gq_loader.proofs.Effecting.{reads_less, stops_few, then_answers, then_reads}
+use Rattle.gq_loader.proofs.Effecting.{reads_less, stops_fault, stops_few, then_answers, then_reads}
 use Rattle.gq_loader.proofs.Keeping.{unread_next}
 use Rattle.gq_loader.proofs.Rest.{meant_first, meant_next, meant_stops, numbers_stay}
 use Rattle.gq_loader.proofs.loading.load.Goals as goal
@@ -18,7 +18,7 @@ loop-table-init g c =
       meant = rw items (meant_first c.args.manifest.now c.args.limits.now
           (g.F.Files.held c.args.files.now) c.in_ok-loading.field-0 b.answers);
       reads = reads_less _ (most_bytes c.args.limits.now) _ _ _ (omega arith)
-          (then_answers _ _ _ _ _ b.reads (λ n e. cc) (λ n e. cc) (λ n e. cc));
+          (then_answers _ _ _ _ _ b.reads (λ n e. cc) (λ n e. cc) (λ n e. cc) (λ n e. cc));
     }
 
 pub returns-in_err-loading-clause-few : goal.returns-in_err-loading-clause-few
@@ -47,6 +47,16 @@ returns-in_err-take_table-clause-few g c =
     stops_few _ _ _ c.take_table.result c.from_residual-in_err-take_table.result
     c.in_err-take_table.field-0.0 c.in_err-take_table.was (cc (p.1, p.2)) reads.few
 
+pub returns-in_err-take_table-clause-faults : goal.returns-in_err-take_table-clause-faults
+returns-in_err-take_table-clause-faults g c =
+    let i = c.loop-table.invariant in
+    let p = err_from_is_err_and c.from_residual-in_err-take_table.result
+    c.from_residual-in_err-take_table.ensures.1 in
+    let reads = then_reads _ _ _ _ _ _ i.reads (reads_less _ (most_bytes c.args.limits.now) _ _ _ (omega arith)
+    c.take_table.ensures.reads) in
+    stops_fault _ _ c.take_table.result c.from_residual-in_err-take_table.result
+    c.in_err-take_table.field-0.0 c.in_err-take_table.was (cc (p.1, p.2)) reads.faults
+
 pub loop-table-preserved : goal.loop-table-preserved
 loop-table-preserved g c =
     let i = c.loop-table.invariant in
@@ -63,5 +73,5 @@ loop-table-preserved g c =
           i.reads.held t.leaves i.meant;
       reads = then_answers _ _ _ _ _ (then_reads _ _ _ _ _ _ i.reads
           (reads_less _ (most_bytes c.args.limits.now) _ _ _ (omega arith) t.reads)) (λ n e. cc)
-          (λ n e. cc) (λ n e. cc);
+          (λ n e. cc) (λ n e. cc) (λ n e. cc);
     }

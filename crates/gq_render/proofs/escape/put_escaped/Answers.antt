@@ -17,7 +17,7 @@ loop-at-preserved g c = elim c.match-escape_of.branch [
   | in-Some+in_ok-put_run w ↦ rw (w.start-is, w.batch-is, w.out-is) (
     run_none _ _ _,
     put_then _ _ _ _ _ _ _ _ _ c.loop-at.invariant.1 w.in_ok-put_run.ensures.bytes (run_ends _ _ _ _ _ c.loop-at-test.true w.in-Some.ensures c.loop-at.invariant.0),
-    omega (arith, c.loop-at.invariant.2, w.in_ok-put_run.ensures.cause.later),
+    w.in_ok-put_run.ensures.cause.kept ∙ c.loop-at.invariant.2,
   )
   | in_default w ↦ rw (w.start-is, w.batch-is, w.out-is) (run_more _ _ _ _ c.loop-at-test.true w.in_default.ensures c.loop-at.invariant.0, c.loop-at.invariant.1, c.loop-at.invariant.2)
 ]

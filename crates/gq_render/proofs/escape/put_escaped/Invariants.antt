@@ -1,4 +1,4 @@
-use Rattle.std.proofs.Common.{◌≤◌, take, flat_map}
+use Rattle.std.proofs.Common.{◌≡◌, take, flat_map}
 use Rattle.gq_io.specs.Putting.{Put}
 use Rattle.gq_render.specs.steps.Escapes.{byte_text}
 use Rattle.gq_render.proofs.Runs.{PlainRun}
@@ -7,4 +7,4 @@ use Rattle.gq_render.proofs.escape.put_escaped.Given as goal
 abbrev pub invariant-loop-at : goal.invariant-loop-at
 invariant-loop-at g l = PlainRun (byte_text l.form) l.text l.start l.at
     × Put (g.O.Sink.taken l.initial.out) (g.O.Sink.taken l.out) l.initial.batch l.batch (flat_map (byte_text l.form) (take l.start l.text))
-    × (g.O.Sink.faults l.initial.out ≤ g.O.Sink.faults l.out)
+    × (g.O.Sink.faults l.out ≡ g.O.Sink.faults l.initial.out)

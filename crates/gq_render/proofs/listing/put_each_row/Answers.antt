@@ -16,7 +16,7 @@ loop-row-preserved g c =
     let row = c.loop-row.row in
     let line = slice_index_or lines row [] in (
       put_then _ _ _ _ _ _ _ _ _ c.loop-row.invariant.0 c.in_ok-put_next_row.ensures.bytes (flat_map_next (row_text c.args.graph.now) lines row [] line (omega arith) refl),
-      omega (arith, c.loop-row.invariant.1, c.in_ok-put_next_row.ensures.cause.later),
+      c.in_ok-put_next_row.ensures.cause.kept ∙ c.loop-row.invariant.1,
       c.put_next_row.ensures.front,
     )
 

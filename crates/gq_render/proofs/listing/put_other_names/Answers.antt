@@ -1,4 +1,4 @@
-use Rattle.std.proofs.Common.{◌+◌, ◌++◌, drop, flat_map, ap, ◌∙◌, arith, List, ℕ, ◌≡◌, ◌<◌, length, take, get_or}
+use Rattle.std.proofs.Common.{◌+◌, ◌++◌, drop, flat_map, ap, ◌∙◌, List, ℕ, ◌≡◌, ◌<◌, length, take, get_or}
 use Rattle.gq_base.proofs.ListFacts.{flat_map_next, flat_map_split}
 use Rattle.gq_plan.specs.declared.bound.NamedExpr.{NamedExpr}
 use Rattle.gq_render.specs.Texts.{after_tab, name_text}
@@ -21,5 +21,5 @@ returns-in_err-put_next_name-clause-bytes g c =
 pub loop-column-preserved : goal.loop-column-preserved
 loop-column-preserved g c = (
   put_then _ _ _ _ _ _ _ _ _ c.loop-column.invariant.0 c.in_ok-put_next_name.ensures.bytes (next c.args.columns.now _ _ _ c.loop-column-test.true c.column-item.is c.as_str.ensures.bytes),
-  omega (arith, c.loop-column.invariant.1, c.in_ok-put_next_name.ensures.cause.later),
+  c.in_ok-put_next_name.ensures.cause.kept ∙ c.loop-column.invariant.1,
 )

@@ -33,5 +33,5 @@ pub loop-column-preserved : goal.loop-column-preserved
 loop-column-preserved g c =
     let line = slice_index_or c.args.listing.now.lines c.args.row [] in (
       put_then _ _ _ _ _ _ _ _ _ c.loop-column.invariant.0 c.in_ok-put_next_value.ensures.bytes (next c.args.graph.now line c.args.first c.loop-column.column _ (omega arith) (omega (arith, c.width-column-end.ensures)) c.value.ensures),
-      omega (arith, c.loop-column.invariant.1, c.in_ok-put_next_value.ensures.cause.later),
+      c.in_ok-put_next_value.ensures.cause.kept ∙ c.loop-column.invariant.1,
     )

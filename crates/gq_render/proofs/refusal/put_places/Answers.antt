@@ -1,4 +1,4 @@
-use Rattle.std.proofs.Common.{◌≡◌, ℕ, ◌+◌, ◌<◌, List, ◌++◌, length, take, drop, get_or, flat_map, refl, ap, ◌∙◌, arith}
+use Rattle.std.proofs.Common.{◌≡◌, ℕ, ◌+◌, ◌<◌, List, ◌++◌, length, take, drop, get_or, flat_map, refl, ap, ◌∙◌}
 use Rattle.gq_base.proofs.ListFacts.{flat_map_next, flat_map_split}
 use Rattle.gq_render.specs.Places.{seen_place}
 use Rattle.gq_render.specs.Texts.{place_text}
@@ -21,5 +21,5 @@ returns-in_err-put_place-clause-bytes g c =
 pub loop-place-preserved : goal.loop-place-preserved
 loop-place-preserved g c = (
   put_then _ _ _ _ _ _ _ _ _ c.loop-place.invariant.0 c.in_ok-put_place.ensures.bytes (next c.args.places.now _ _ c.loop-place-test.true),
-  omega (arith, c.loop-place.invariant.1, c.in_ok-put_place.ensures.cause.later),
+  c.in_ok-put_place.ensures.cause.kept ∙ c.loop-place.invariant.1,
 )

@@ -30,7 +30,7 @@ pieces-preserved g c =
       fits = c.in-Ok-take_piece.ensures.fits;
       ready = c.in-Ok-take_piece.ensures.ready;
       going = further _ _ _ _ _ _ _ _ _ _ _ _ _ _ _ _ _ _ _ c.pieces.invariant.going _ (scan_of c.take_piece.new.scan c.take_piece.new.statement) c.in-Ok-take_piece.tone
-          (take c.in-Ok.count c.read.new.into) read.bytes.0 read.cause.later took.later refl (record { place = took.taken.0; wrote = took.taken.1 });
+          (take c.in-Ok.count c.read.new.into) read.bytes.0 read.cause.kept took.still refl (record { place = took.taken.0; wrote = took.taken.1 });
     })
 
 smaller : (long most : ℕ) (p q : Place) (ys : List ℕ) (count : ℕ) → place_after long most p ys ≡ q → (place_after long most p ys).stopped ≡ false → p.count ≤ most → (count ≡ 0 → ⊥) → count ≡ length ys
@@ -47,13 +47,13 @@ pub returns-in-Err-Write-clause-read : goal.returns-in-Err-Write-clause-read
 returns-in-Err-Write-clause-read g c =
     let read = c.in-Ok.ensures in
     let took = rw (front-read c.in-Ok.count c.read.new.into (drop c.min-room.result c.pieces.piece) read.bound.0, c.pieces.auto.statement, c.in-Err-Write.field-0-is) at c.in-Err-Write.ensures.taken in
-    write_failed _ _ _ _ _ _ _ _ _ _ _ _ _ _ _ _ _ _ _ c.pieces.invariant.going _ (take c.in-Ok.count c.read.new.into) read.bytes.0 read.cause.later took.later (few _ _ _ _ _ read.bound.0 read.bound.1 c.read.auto.into c.min-room.ensures) took.taken.0 took.taken.1
+    write_failed _ _ _ _ _ _ _ _ _ _ _ _ _ _ _ _ _ _ _ c.pieces.invariant.going _ (take c.in-Ok.count c.read.new.into) read.bytes.0 read.cause.kept took.later (few _ _ _ _ _ read.bound.0 read.bound.1 c.read.auto.into c.min-room.ensures) took.taken.0 took.taken.1
 
 pub returns-in-Err-TooLong-clause-read : goal.returns-in-Err-TooLong-clause-read
 returns-in-Err-TooLong-clause-read g c =
     let read = c.in-Ok.ensures in
     let took = rw (front-read c.in-Ok.count c.read.new.into (drop c.min-room.result c.pieces.piece) read.bound.0, c.pieces.auto.statement, c.in-Err-TooLong.field-0-is) at c.in-Err-TooLong.ensures.taken in
-    too_long _ _ _ _ _ _ _ _ _ _ _ _ _ _ _ _ _ _ _ c.pieces.invariant.going _ (take c.in-Ok.count c.read.new.into) read.bytes.0 read.cause.later took.later (few _ _ _ _ _ read.bound.0 read.bound.1 c.read.auto.into c.min-room.ensures) took.taken
+    too_long _ _ _ _ _ _ _ _ _ _ _ _ _ _ _ _ _ _ _ c.pieces.invariant.going _ (take c.in-Ok.count c.read.new.into) read.bytes.0 read.cause.kept took.still (few _ _ _ _ _ read.bound.0 read.bound.1 c.read.auto.into c.min-room.ensures) took.taken
 
 pub returns-in-Ok-answer-clause-read : goal.returns-in-Ok-answer-clause-read
 returns-in-Ok-answer-clause-read g c =
@@ -61,10 +61,10 @@ returns-in-Ok-answer-clause-read g c =
     let room = c.min-room.ensures in
     let auto = c.read.auto.into in
     let said = c.in-Ok-answer.ensures in
-    rw c.worse.ensures (done _ _ _ _ _ _ _ _ _ _ _ _ _ _ _ _ _ _ _ c.pieces.invariant.going _ c.in-Ok-answer.tone read.bytes.0 (read.bytes.1 refl (grind (arith, common_steps, c.min-room.ensures, c.read.auto.into))) read.cause.later said.cause.later said.bytes)
+    rw c.worse.ensures (done _ _ _ _ _ _ _ _ _ _ _ _ _ _ _ _ _ _ _ c.pieces.invariant.going _ c.in-Ok-answer.tone read.bytes.0 (read.bytes.1 refl (grind (arith, common_steps, c.min-room.ensures, c.read.auto.into))) read.cause.kept said.cause.kept said.bytes)
 
 pub returns-in-Err-clause-read : goal.returns-in-Err-clause-read
 returns-in-Err-clause-read g c =
     let read = rw c.if-count-eq0.true at c.in-Ok.ensures in
     let said = c.in-Err.ensures in
-    done-part _ _ _ _ _ _ _ _ _ _ _ _ _ _ _ _ _ _ _ c.pieces.invariant.going _ read.bytes.0 (read.bytes.1 refl (grind (arith, common_steps, c.min-room.ensures, c.read.auto.into))) read.cause.later said.cause.later said.bytes said.cause.failed
+    done-part _ _ _ _ _ _ _ _ _ _ _ _ _ _ _ _ _ _ _ c.pieces.invariant.going _ read.bytes.0 (read.bytes.1 refl (grind (arith, common_steps, c.min-room.ensures, c.read.auto.into))) read.cause.kept said.cause.later said.bytes said.cause.failed
