@@ -8,11 +8,14 @@ something. It lists the kit's words and what it cannot resolve, and counts no bl
     docs/reading.py                  each file, with its lines that are reached and all its lines; the kit; the total
     docs/reading.py --definitions    the same, with each definition by name
     docs/reading.py --unreached      what of specs/ no public function's clause uses, nor a definition that one reaches: specs/steps/
+    docs/reading.py --inner          which public clauses, or definitions that one reaches, name a definition of specs/steps/ or of
+                                     proofs/; it ends with 1 where there is one of a crate that is not among those that still do
 """
 from __future__ import annotations
 
 import argparse
 import re
+import sys
 from collections.abc import Iterable, Iterator
 from itertools import takewhile
 from pathlib import Path
@@ -30,6 +33,8 @@ OF_KIT = re.compile(r"(?:std|core|clap|csv|indexmap|itoa|memchr)\b")
 NO_CODE = re.compile(r" *(?:--|//|#|infix|(?:pub )?mod |module _ |(?:unfoldable )?mutual$)")
 ITEM = re.compile(r"(?:pub(?:\(crate\))? )?(fn|struct|enum|trait|type|const|impl)\b(?:<.*?>)? (?:(\w+).* for )?(\w+)")
 FUNCTION = re.compile(r"^(?= *(?:pub(?:\(crate\))? )?(?:const )?fn )", re.M)
+# The crates whose public clauses still name definitions of specs/steps/ or proofs/: none may come to them.
+STILL_INNER = set("gq_bound gq_cuts gq_exists gq_law_cuts gq_law_reaches gq_law_trails gq_optional gq_pipe gq_plan gq_trails".split())
 BODY = re.compile(r"^( *)(?:(?:\)|(?:pub(?:\(crate\))? )?(?:const )?fn ).*)?\{\n(?:(?!\1\S).*\n)*\1\}$", re.M)
 CLAUSE = re.compile(r"\b(?:requires|ensures|ghost)\*?(?: \w+)?(?: ?[:=])? \{((?:[^{}]|\{(?:[^{}]|\{[^{}]*\})*\})*)\}")
 
@@ -139,17 +144,46 @@ def rust_parts(head: str, text: str) -> tuple[str, set[str], set[str]]:
     return "\n".join(CLAUSE.findall(text)), words, bound
 
 
-def main(flags: list[str]) -> None:
+def public_items() -> list[Item]:  # a crate shows its root file's items, and what this passes on
+    items: list[Item] = []
+    for source in SOURCES.values():
+        root = SOURCES.get(f"{source.crate}/src/lib")
+        shown = re.findall(r"\w+", " ".join(re.findall(r"^pub use [^;]*", root.text if root else "", re.M)))
+        items += (item for item in source.items if source.is_rust and (source is root or item.name in shown))
+    return items
+
+
+def inner_name(meant: Meant) -> str:  # where a definition stands that no public clause is to name
+    if isinstance(meant, tuple):
+        return f"{meant[1]} of {meant[0]}" if re.match(r"Rattle\.gq_\w+\.proofs\.", meant[0]) else ""
+    return f"{meant.name} of {meant.source.path}" if meant and "steps" in meant.source.path.parts else ""
+
+
+def show_inner() -> int:  # from the public clauses on, and not beyond a definition that none of them is to name
+    todo, reached, lines, is_new = public_items(), set[Item](), set[str](), False
+    while todo:
+        item = todo.pop()
+        for _, meant in item.uses() if item not in reached else ():
+            if name := inner_name(meant):
+                lines.add(f"{item.source.path}: {item.name} names {name}")
+                is_new = is_new or item.source.crate not in STILL_INNER
+            elif isinstance(meant, Item):
+                todo.append(meant)
+        reached.add(item)
+    print(*sorted(lines), sep="\n")
+    return int(is_new)
+
+
+def main(flags: list[str]) -> int:
     for path in sorted(CRATES.glob("*/s*/**/*.*t")):
         if "formers" not in path.parts:  # there the kit wants how a type may stand inside itself, which no clause names
             SOURCES[str(path.relative_to(CRATES).with_suffix(""))] = Source(path)
+    if "--inner" in flags:
+        return show_inner()
     of_claim = "--unreached" not in flags
     reached, kit, unresolved, total, count = set[Item](), dict[str, set[str]](), set[str](), 0, 0
     todo = [item for item in SOURCES["gq_shell/src/program"].items if item.name == "run"]
-    for source in SOURCES.values() if not of_claim else ():  # a crate shows its root file's items, and what this passes on
-        root = SOURCES.get(f"{source.crate}/src/lib")
-        shown = re.findall(r"\w+", " ".join(re.findall(r"^pub use [^;]*", root.text if root else "", re.M)))
-        todo += (item for item in source.items if source.is_rust and (source is root or item.name in shown))
+    todo += public_items() if not of_claim else []
     while todo:
         item = todo.pop()
         for word, meant in item.uses() if item not in reached else ():
@@ -169,6 +203,7 @@ def main(flags: list[str]) -> None:
             print(*(f"{'':17}{item.name}\n" for item in chosen if flags), sep="", end="")
     kit_lines = (f"the kit's {module}: {' '.join(sorted(kit[module]))}\n" for module in sorted(kit) if of_claim)
     print(*kit_lines, *sorted(unresolved), f"{total} lines of {count} definitions", sep="")
+    return 0
 
 
 def arguments() -> argparse.Namespace:
@@ -177,8 +212,9 @@ def arguments() -> argparse.Namespace:
     what = parser.add_mutually_exclusive_group()
     what.add_argument("--definitions", action="store_true", help="each definition by name")
     what.add_argument("--unreached", action="store_true", help="what of specs/ nothing reaches")
+    what.add_argument("--inner", action="store_true", help="what public clauses name and are not to")
     return parser.parse_args()
 
 
 if __name__ == "__main__":
-    main([f"--{name}" for name, said in vars(arguments()).items() if said])
+    sys.exit(main([f"--{name}" for name, said in vars(arguments()).items() if said]))
