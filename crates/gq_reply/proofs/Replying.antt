@@ -61,8 +61,8 @@ use Rattle.gq_tokens.specs.declared.params.Param.{Param}
 -- a text that a statement may have by this tone was written, or a front of it
 pub replied : (May : Tone → List ℕ → Type 0) (t : Tone) (text : List ℕ) → May t text → (out : Span) (written : Result (Unit {0}) Failed)
     → Writes out.old out.new text written → HasCause out.before out.now written → (result : Result Tone Failed) → result ≡ toned written t → Replied May out result
-replied May t text may out (Ok done) bytes cause result is = rw is (record { bytes = (text, may, bytes); cause = record { later = cause.later; failed = tt } })
-replied May t text may out (Err failed) bytes cause result is = rw is (record { bytes = (t, text, may, bytes); cause = record { later = cause.later; failed = cause.failed } })
+replied May t text may out (Ok done) bytes cause result is = rw is (record { bytes = (text, may, bytes); cause = record { later = cause.later; kept = cause.kept; failed = tt } })
+replied May t text may out (Err failed) bytes cause result is = rw is (record { bytes = (t, text, may, bytes); cause = record { later = cause.later; kept = tt; failed = cause.failed } })
 
 -- a reply of fewer forms is one of more
 pub replied_as : (May Might : Tone → List ℕ → Type 0) → ((t : Tone) (text : List ℕ) → May t text → Might t text) → (out : Span) (result : Result Tone Failed)

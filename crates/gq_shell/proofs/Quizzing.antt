@@ -8,7 +8,6 @@ use Rattle.std.proofs.lemmas.List.FromFn.{map-range_with_len_more}
 use Rattle.std.proofs.lemmas.List.{map-append}
 use Rattle.std.proofs.lemmas.Option.{get_or_from_slice_get, slice_get-get_or}
 use Rattle.gq_base.specs.declared.memory.Memory.TheVariants.{Exhausted}
-use Rattle.gq_io.proofs.Counts.{Rose-later}
 use Rattle.gq_io.proofs.Moved.{Appends-both, front_after, front_longer}
 use Rattle.gq_io.specs.Causes.{HasCause}
 use Rattle.gq_io.specs.Outside.{AppendsFront}
@@ -140,7 +139,6 @@ all_asked c params behind n most least t a b wrote =
     let last : n ≡ 7 = omega (arith, most, least) in
     subst (λ m. Wrote (IsNumbered c) params behind (first c (m - 1)) t a b) last wrote
 
--- a count that rose in a later part rose in the whole
-pub later_cause : (i j k : ℕ) (result : Result Tone Failed) → i ≤ j → HasCause j k result → HasCause i k result
-later_cause i j k (Ok t) le cause = record { later = omega (arith, le, cause.later); failed = tt }
-later_cause i j k (Err failed) le cause = record { later = omega (arith, le, cause.later); failed = Rose-later i j k le cause.failed }
+-- a count that did not rise before rose in a later part as in the whole
+pub later_cause : (i j k : ℕ) (result : Result Tone Failed) → j ≡ i → HasCause j k result → HasCause i k result
+later_cause i j k result same cause = subst (λ l. HasCause l k result) same cause

@@ -30,7 +30,7 @@ use Rattle.gq_session.specs.declared.answering.Tone.{Tone}
 use Rattle.gq_session.specs.declared.answering.Tone.TheVariants as tone
 use Rattle.gq_session.specs.declared.run.Stop.{Stop}
 use Rattle.gq_session.specs.declared.run.Stop.TheVariants as stop
-use Rattle.gq_shell.specs.Claim.{AnswersEnded, EatsAll, EatsFor, Ends, IsPath, IsQuiz, OnSample, Outside, Over, Permits, Runs, WroteFront, full, long, most, settings_of, short, usage_text, with_eaten}
+use Rattle.gq_shell.specs.Claim.{AnswersEnded, EatsAll, EatsFor, Ends, EndsAtFault, IsPath, IsQuiz, IsStill, OnSample, Outside, Over, Permits, Runs, WroteFront, full, long, most, settings_of, short, usage_text, with_eaten}
 use Rattle.gq_shell.specs.LoadLines.{load_line}
 use Rattle.gq_shell.specs.Questions.{IsNumbered}
 use Rattle.gq_shell.specs.steps.Statuses.{status_of}
@@ -46,7 +46,7 @@ use Rattle.gq_words.specs.declared.meaning.Words.{Words}
 -- a line ended the run, or the sink failed in it
 pub told_by : (text : List ℕ) (s : Status) (out : Span) (written : Result (Unit {0}) Failed) → Writes out.old out.new text written → HasCause out.before out.now written
     → (answer : Status) → answer ≡ told written s → Told text s out answer
-told_by text s out (Ok done) bytes cause answer is = inl (is, bytes)
+told_by text s out (Ok done) bytes cause answer is = inl (is, bytes, cause.kept)
 told_by text s out (Err failed) bytes cause answer is = inr (is, bytes, cause.failed)
 
 abbrev pub input_of : Outside → Span
@@ -98,7 +98,7 @@ module _ (words : List (List ℕ)) (o : Outside) where
   broken_line answer s text permitted ate is front rose = rw is (record { answer = s; text = text; permitted = permitted; moved = front }, ate, rose)
 
   misused : (answer : Status) → IsMisused words → Told usage_text status.Usage (out_of o) answer → Ends words o [] answer
-  misused answer wrong (inl (is, moved)) = rw is (record { text = usage_text; permitted = (wrong, refl); moved = moved }, refl)
+  misused answer wrong (inl (is, moved, still)) = rw is (record { text = usage_text; permitted = (wrong, refl); moved = moved }, refl)
   misused answer wrong (inr (is, front, rose)) = broken_line answer status.Usage usage_text (wrong, refl) refl is front rose
 
   module _ (read : Words) (given : IsRead words read) where
@@ -106,7 +106,7 @@ module _ (words : List (List ℕ)) (o : Outside) where
       by_line : (answer : Status) (e : LoadRefusal) → IfSome o.held (λ files. load_of path files standard ≡ Err e)
           → ((name : List ℕ) → e ≡ refused.NoFile name → Rose o.files_misses.before o.files_misses.now)
           → Told (load_line e) status.NotLoaded (out_of o) answer → Ends words o [] answer
-      by_line answer e meant missed (inl (is, moved)) = rw is (
+      by_line answer e meant missed (inl (is, moved, still)) = rw is (
         record {
           refusal = e;
           permitted = record { read = read; given = given; path = path; from = from; told = meant };
@@ -126,8 +126,8 @@ module _ (words : List (List ℕ)) (o : Outside) where
       not_loaded answer graph (load.Refused e) is loads fault miss ends =
           let meant : IfSome o.held (λ files. load_of path files standard ≡ Err e) = rw is at loads in
           by_line answer e meant (λ name no. miss.missed name (subst (λ r. graph ≡ Err (load.Refused r)) no is)) ends
-      not_loaded answer graph (load.ReadFault name) is loads fault miss (kept, ends) = rw ends (inl ((kept, refl), fault.failed name is))
-      not_loaded answer graph load.Memory is loads fault miss (kept, ends) = for_memory answer ends kept
+      not_loaded answer graph (load.ReadFault name) is loads fault miss ((kept, still), ends) = rw ends (inl ((kept, refl), fault.failed name is))
+      not_loaded answer graph load.Memory is loads fault miss ((kept, still), ends) = for_memory answer ends kept
 
       module _ (graph : Graph) (loads : IfSome o.held (λ files. load_of path files standard ≡ Ok graph)) where
         abbrev here : Context
@@ -244,8 +244,8 @@ module _ (words : List (List ℕ)) (o : Outside) where
       part_shown (tone.Memory why) text says moved = (record { answer = status.Memory why; text = text; permitted = inr (record { read = read; given = given; size = size; from = from; says = says }); moved = moved }, inr (on_sample, refl))
 
       quizzed : (answer : Status) → Quizzed size (settings_of read) (out_of o) answer → Ends words o [] answer
-      quizzed answer (inl (is, kept)) = for_memory answer is kept
-      quizzed answer (inr (inl (t, behind, is, wrote))) = rw is (shown t behind wrote)
+      quizzed answer (inl (is, kept, still)) = for_memory answer is kept
+      quizzed answer (inr (inl (t, behind, is, wrote, still))) = rw is (shown t behind wrote)
       quizzed answer (inr (inr (is, front, rose))) =
           let part = part_shown front.tone front.text (front.after, front.replies) front.moved in
           rw is (part.0, part.1, rose)
@@ -272,6 +272,12 @@ module _ (c : Context) (behind : List Param) (out : Span) where
   ends_at_end input (Err stop.Write) eaten (inl part, rose) = (inl part, rose)
   ends_at_end input (Err stop.Write) eaten (inr (end, part), rose) = (inr (refl, part), rose)
 
+  first_alike : (input : Span) (result : Result Tone Stop) (eaten : List ℕ) → sessions.EndsAtFault input out result → sessions.EndsAtFault (only_eaten input eaten) out result
+  first_alike input (Ok t) eaten h = h
+  first_alike input (Err stop.Read) eaten h = h
+  first_alike input (Err stop.TooLong) eaten h = h
+  first_alike input (Err stop.Write) eaten h = h
+
   had_alike : (input : Span) (result : Result Tone Stop) (read : HadOver input result) → HadOver (only_eaten input read.eaten) result
   had_alike input result read = record {
     eaten = read.eaten;
@@ -280,21 +286,58 @@ module _ (c : Context) (behind : List Param) (out : Span) where
     ends = ends_at_end input result read.eaten read.ends;
     input_later = read.input_later;
     out_later = read.out_later;
+    first = first_alike input result read.eaten read.first;
   }
+
+-- ---- the first call that failed ended the run
+
+module _ (o : Outside) where
+  -- no call failed
+  abbrev NoneFailed : Type 0
+  NoneFailed = IsStill o.files_faults × IsStill o.input_faults × IsStill o.out_faults
+
+  first_memory : (answer : Status) → answer ≡ status.Memory Exhausted → NoneFailed → EndsAtFault o answer
+  first_memory answer is none = rw is none
+
+  first_line : (answer s : Status) (text : List ℕ) → (NoneFailed → EndsAtFault o s) → IsStill o.files_faults → IsStill o.input_faults → Told text s (out_of o) answer → EndsAtFault o answer
+  first_line answer s text go files input (inl (is, moved, still)) = rw is (go (files, input, still))
+  first_line answer s text go files input (inr (is, front, rose)) = rw is (files, input)
+
+  first_load : (answer : Status) (graph : Result Graph LoadStop) (e : LoadStop) → graph ≡ Err e → ByFault o.files_faults.before o.files_faults.now graph → IsStill o.input_faults
+      → EndsLoad e (out_of o) answer → EndsAtFault o answer
+  first_load answer graph (load.Refused e) is fault input ends =
+      first_line answer status.NotLoaded (load_line e) (λ none. none) (fault.kept (λ n was. let not : ◌≡◌ {A = Result Graph LoadStop} (Err (load.Refused e)) (Err (load.ReadFault n)) = sym is ∙ was in cc not)) input ends
+  first_load answer graph (load.ReadFault name) is fault input ((kept, still), ends) = rw ends (still, inr input)
+  first_load answer graph load.Memory is fault input ((kept, still), ends) =
+      first_memory answer ends (fault.kept (λ n was. let not : ◌≡◌ {A = Result Graph LoadStop} (Err load.Memory) (Err (load.ReadFault n)) = sym is ∙ was in cc not), input, still)
+
+  first_served : (result : Result Tone Stop) → IsStill o.files_faults → sessions.EndsAtFault (input_of o) (out_of o) result → EndsAtFault o (status_of result)
+  first_served (Ok tone.Good) files still = (files, still)
+  first_served (Ok tone.Refused) files still = (files, still)
+  first_served (Ok (tone.Memory why)) files still = (files, still)
+  first_served (Err stop.TooLong) files still = (files, still)
+  first_served (Err stop.Read) files still = (still, inl files)
+  first_served (Err stop.Write) files still = (files, still)
+
+  first_quizzed : (size : ℕ) (settings : Settings) (answer : Status) → IsStill o.files_faults → IsStill o.input_faults → Quizzed size settings (out_of o) answer → EndsAtFault o answer
+  first_quizzed size settings answer files input (inl (is, kept, still)) = first_memory answer is (files, input, still)
+  first_quizzed size settings answer files input (inr (inl (t, behind, is, wrote, still))) = rw is (first_served (Ok t) files (input, still))
+  first_quizzed size settings answer files input (inr (inr (is, front, rose))) = rw is (files, input)
 
 module _ (words : List (List ℕ)) (o : Outside) where
   abbrev alike : List ℕ → Outside
   alike eaten = with_eaten o eaten
 
   -- a run that read no input
-  unread : (answer : Status) → o.unread ≡ o.left → Ends words o [] answer → Ends words (alike []) [] answer → Runs words o answer
-  unread answer same ends also = record { eaten = []; ate = rw same (Consumes-none o.left); few = grind arith; ends = ends; ends_alike = also }
+  unread : (answer : Status) → o.unread ≡ o.left → EndsAtFault o answer → Ends words o [] answer → Ends words (alike []) [] answer → Runs words o answer
+  unread answer same first ends also = record { eaten = []; ate = rw same (Consumes-none o.left); few = grind arith; ends = ends; ends_alike = also; first = first }
 
-  pub exit_memory : (answer : Status) → answer ≡ status.Memory Exhausted → o.unread ≡ o.left → Keeps o.taken o.took → Runs words o answer
-  exit_memory answer is same kept = unread answer same (for_memory words o answer is kept) (for_memory words (alike []) answer is kept)
+  pub exit_memory : (answer : Status) → answer ≡ status.Memory Exhausted → o.unread ≡ o.left → Keeps o.taken o.took → NoneFailed o → Runs words o answer
+  exit_memory answer is same kept none = unread answer same (first_memory o answer is none) (for_memory words o answer is kept) (for_memory words (alike []) answer is kept)
 
-  pub exit_misused : (answer : Status) → IsMisused words → o.unread ≡ o.left → Told usage_text status.Usage (out_of o) answer → Runs words o answer
-  exit_misused answer wrong same line = unread answer same (misused words o answer wrong line) (misused words (alike []) answer wrong line)
+  pub exit_misused : (answer : Status) → IsMisused words → o.unread ≡ o.left → IsStill o.files_faults → IsStill o.input_faults → Told usage_text status.Usage (out_of o) answer → Runs words o answer
+  exit_misused answer wrong same files input line =
+      unread answer same (first_line o answer status.Usage usage_text (λ none. none) files input line) (misused words o answer wrong line) (misused words (alike []) answer wrong line)
 
   module _ (read : Words) (given : IsRead words read) where
     module _ (path : List ℕ) (from : IsPath path read.source) where
@@ -302,19 +345,19 @@ module _ (words : List (List ℕ)) (o : Outside) where
       pub exit_refused : (answer : Status) (graph : Result Graph LoadStop) (e : LoadStop)
           → graph ≡ Err e → Answers o.held (λ files. load_of path files standard) graph
           → ByFault o.files_faults.before o.files_faults.now graph → ByMiss o.files_misses.before o.files_misses.now graph
-          → o.unread ≡ o.left → EndsLoad e (out_of o) answer → Runs words o answer
-      exit_refused answer graph e is loads fault miss same ends =
-          unread answer same (not_loaded words o read given path from answer graph e is loads fault miss ends)
+          → o.unread ≡ o.left → IsStill o.input_faults → EndsLoad e (out_of o) answer → Runs words o answer
+      exit_refused answer graph e is loads fault miss same input ends =
+          unread answer same (first_load o answer graph e is fault input ends) (not_loaded words o read given path from answer graph e is loads fault miss ends)
           (not_loaded words (alike []) read given path from answer graph e is loads fault miss ends)
 
       module _ (graph : Graph) (loads : IfSome o.held (λ files. load_of path files standard ≡ Ok graph)) where
         abbrev asked : Context
         asked = full graph (settings_of read)
 
-        pub exit_served : (answer : Status) → Served graph (settings_of read) (input_of o) (out_of o) answer → Runs words o answer
+        pub exit_served : (answer : Status) → IsStill o.files_faults → Served graph (settings_of read) (input_of o) (out_of o) answer → Runs words o answer
         unfolding had_alike
-        exit_served answer (inl (is, same, kept)) = exit_memory answer is same kept
-        exit_served answer (inr served) =
+        exit_served answer files (inl (is, same, input, kept, out)) = exit_memory answer is same kept (files, input, out)
+        exit_served answer files (inr served) =
             let also = had_alike asked served.behind (out_of o) (input_of o) served.result served.read in
             let all = complete (IsTurn asked) (has_reply asked) [] served.behind long most (input_of (alike served.read.eaten)) (out_of o) served.result also in
             rw served.is (record {
@@ -323,8 +366,9 @@ module _ (words : List (List ℕ)) (o : Outside) where
               few = served.read.few;
               ends = ended words o read given path from graph loads served.behind served.result served.read served.whole;
               ends_alike = ended words (alike served.read.eaten) read given path from graph loads served.behind served.result also all;
+              first = first_served o served.result files served.read.first;
             })
 
     module _ (size : ℕ) (from : read.source ≡ source.Sample size) where
-      pub exit_quizzed : (answer : Status) → o.unread ≡ o.left → Quizzed size (settings_of read) (out_of o) answer → Runs words o answer
-      exit_quizzed answer same said = unread answer same (quizzed words o read given size from answer said) (quizzed words (alike []) read given size from answer said)
+      pub exit_quizzed : (answer : Status) → o.unread ≡ o.left → IsStill o.files_faults → IsStill o.input_faults → Quizzed size (settings_of read) (out_of o) answer → Runs words o answer
+      exit_quizzed answer same files input said = unread answer same (first_quizzed o size (settings_of read) answer files input said) (quizzed words o read given size from answer said) (quizzed words (alike []) read given size from answer said)

@@ -220,6 +220,16 @@ Ends words o eaten status.Usage = Wrote words o.held o.left status.Usage o.taken
 Ends words o eaten status.NotLoaded = RefusedLoad words o × (eaten ≡ [])
 Ends words o eaten status.TooLong = Wrote words o.held o.left status.TooLong o.taken o.took
 
+-- the count is what it was
+abbrev pub IsStill : Count → Type 0
+IsStill count = count.now ≡ count.before
+
+-- the first call that failed ended the run: no other count of faults rose than that of what failed, as the status tells
+abbrev pub EndsAtFault : Outside → Status → Type 0
+EndsAtFault o status.ReadFault = IsStill o.out_faults × (IsStill o.files_faults ⊎ IsStill o.input_faults)
+EndsAtFault o status.WriteFault = IsStill o.files_faults × IsStill o.input_faults
+EndsAtFault o answer = IsStill o.files_faults × IsStill o.input_faults × IsStill o.out_faults
+
 -- the same, but that the input is told, and is just what was eaten
 abbrev pub with_eaten : Outside → List ℕ → Outside
 with_eaten o eaten = record o { left = Some eaten; unread = Some [] }
@@ -232,6 +242,7 @@ pub record Runs (words : List (List ℕ)) (outside : Outside) (answer : Status) 
   pub few : length eaten ≤ most + 1
   pub ends : Ends words outside eaten answer
   pub ends_alike : Ends words (with_eaten outside eaten) eaten answer
+  pub first : EndsAtFault outside answer
 
 -- ---- the same in short, where all is told and nothing fails
 

@@ -1,5 +1,5 @@
 -- How a part of a run ends, for the contracts of its helpers.
-use Rattle.std.specs.Prelude.{◌≡◌, ◌⊎◌, ℕ, ◌-◌, ◌≤◌, List, [], get_or, true, Result, Ok, Err}
+use Rattle.std.specs.Prelude.{◌≡◌, ◌⊎◌, ℕ, ◌-◌, List, [], get_or, true, Result, Ok, Err}
 use Rattle.std.specs.Io.KnownBytes.{Appends, Keeps}
 use Rattle.gq_base.specs.Plain.{Graph}
 use Rattle.gq_base.specs.declared.memory.Memory.TheVariants.{Exhausted}
@@ -14,7 +14,7 @@ use Rattle.gq_pool.specs.Pool.{spare_of}
 use Rattle.gq_reply.specs.declared.replier.Workspace.{Workspace}
 use Rattle.gq_sample.specs.Questions.{questions}
 use Rattle.gq_session.specs.Replies.{Answered, Wrote, WroteFront}
-use Rattle.gq_session.specs.Sessions.{Session, Span}
+use Rattle.gq_session.specs.Sessions.{IsStill, Session, Span}
 use Rattle.gq_session.specs.Whole as session
 use Rattle.gq_session.specs.declared.answering.Tone.{Tone}
 use Rattle.gq_session.specs.declared.run.Stop.{Stop}
@@ -32,18 +32,22 @@ abbrev pub told : Result (Unit {0}) Failed → Status → Status
 told (Ok _) s = s
 told (Err _) s = status.WriteFault
 
+-- nothing was written, and no write failed
+abbrev pub IsUntouched : Span → Type 0
+IsUntouched out = Keeps out.old out.new × IsStill out
+
 -- a line was written and this is the status, or a front of it was and the sink failed
 abbrev pub Told : List ℕ → Status → Span → Status → Type 0
 Told text s out answer =
-    ((answer ≡ s) × Appends out.old out.new text)
+    ((answer ≡ s) × Appends out.old out.new text × IsStill out)
     ⊎ ((answer ≡ status.WriteFault) × AppendsFront out.old out.new text × Rose out.before out.now)
 
 -- what becomes of a load that gave no graph: the line of its refusal is written, or nothing after a
 -- fault and for want of memory
 abbrev pub EndsLoad : LoadStop → Span → Status → Type 0
 EndsLoad (load.Refused e) out answer = Told (load_line e) status.NotLoaded out answer
-EndsLoad (load.ReadFault name) out answer = Keeps out.old out.new × (answer ≡ status.ReadFault)
-EndsLoad load.Memory out answer = Keeps out.old out.new × (answer ≡ status.Memory Exhausted)
+EndsLoad (load.ReadFault name) out answer = IsUntouched out × (answer ≡ status.ReadFault)
+EndsLoad load.Memory out answer = IsUntouched out × (answer ≡ status.Memory Exhausted)
 
 -- how a session over a graph ended
 pub record IsServed (graph : Graph) (settings : Settings) (input out : Span) (answer : Status) : Type 0 where
@@ -56,7 +60,7 @@ pub record IsServed (graph : Graph) (settings : Settings) (input out : Span) (an
 -- there was not enough memory to begin, or a session was had
 abbrev pub Served : Graph → Settings → Span → Span → Status → Type 0
 Served graph settings input out answer =
-    ((answer ≡ status.Memory Exhausted) × (input.new ≡ input.old) × Keeps out.old out.new)
+    ((answer ≡ status.Memory Exhausted) × (input.new ≡ input.old) × IsStill input × IsUntouched out)
     ⊎ IsServed graph settings input out answer
 
 -- the question of a number from 1 to 6
@@ -65,15 +69,15 @@ question_of number = get_or questions (number - 1) []
 
 -- the questions were answered, or a front of their answers was written and the sink failed
 abbrev pub Asked : Context → Span → Result Tone Failed → Type 0
-Asked c out (Ok t) = ((behind : List Param) × Wrote (IsNumbered c) [] behind questions t out.old out.new) × (out.before ≤ out.now)
+Asked c out (Ok t) = ((behind : List Param) × Wrote (IsNumbered c) [] behind questions t out.old out.new) × IsStill out
 Asked c out (Err failed) = WroteFront (IsNumbered c) [] questions out.old out.new × Rose out.before out.now
 
 -- there was not enough memory for the sample graph, or it was asked the questions
 abbrev pub Quizzed : ℕ → Settings → Span → Status → Type 0
 Quizzed size settings out answer =
-    ((answer ≡ status.Memory Exhausted) × Keeps out.old out.new)
+    ((answer ≡ status.Memory Exhausted) × IsUntouched out)
     ⊎ ((t : Tone) × (behind : List Param) × (answer ≡ status_of (Ok t))
-    × Wrote (IsNumbered (short size settings)) [] behind questions t out.old out.new)
+    × Wrote (IsNumbered (short size settings)) [] behind questions t out.old out.new × IsStill out)
     ⊎ ((answer ≡ status.WriteFault) × WroteFront (IsNumbered (short size settings)) [] questions out.old out.new
     × Rose out.before out.now)
 

@@ -14,5 +14,5 @@ returns-in_err-put_spent-clause-bytes g c =
 pub loop-index-preserved : goal.loop-index-preserved
 loop-index-preserved g c = (
   put_then _ _ _ _ _ _ _ _ _ c.loop-index.invariant.0 c.in_ok-put_spent.ensures.bytes (spent_next c.args.spent.now c.loop-index.index _ (omega arith)),
-  omega (arith, c.loop-index.invariant.1, c.in_ok-put_spent.ensures.cause.later),
+  c.in_ok-put_spent.ensures.cause.kept ∙ c.loop-index.invariant.1,
 )

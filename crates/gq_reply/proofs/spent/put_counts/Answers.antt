@@ -1,4 +1,4 @@
-use Rattle.std.proofs.Common.{◌≡◌, ℕ, ◌+◌, ◌<◌, List, ◌++◌, length, take, drop, get_or, flat_map, refl, ap, ◌∙◌, arith}
+use Rattle.std.proofs.Common.{◌≡◌, ℕ, ◌+◌, ◌<◌, List, ◌++◌, length, take, drop, get_or, flat_map, refl, ap, ◌∙◌}
 use Rattle.gq_base.proofs.ListFacts.{flat_map_next, flat_map_split}
 use Rattle.gq_render.proofs.Sequence.{next_broke, put_then}
 use Rattle.gq_reply.specs.declared.spent.Count.{Count}
@@ -17,5 +17,5 @@ returns-in_err-put_count-clause-bytes g c =
 pub loop-count-preserved : goal.loop-count-preserved
 loop-count-preserved g c = (
   put_then _ _ _ _ _ _ _ _ _ c.loop-count.invariant.0 c.in_ok-put_count.ensures.bytes (next c.args.counts.now _ _ c.loop-count-test.true),
-  omega (arith, c.loop-count.invariant.1, c.in_ok-put_count.ensures.cause.later),
+  c.in_ok-put_count.ensures.cause.kept ∙ c.loop-count.invariant.1,
 )

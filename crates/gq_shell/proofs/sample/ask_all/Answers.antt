@@ -1,5 +1,5 @@
-use Rattle.std.proofs.Common.{◌-◌, [], arith}
-use Rattle.gq_io.proofs.Counts.{Rose-later}
+use Rattle.std.proofs.Common.{◌-◌, ◌∙◌, [], arith}
+use Rattle.gq_io.proofs.Counts.{Rose-since}
 use Rattle.gq_reply.specs.Replies.{context_of}
 use Rattle.gq_shell.proofs.Quizzing.{all_asked, broke, next_number}
 use Rattle.gq_shell.proofs.sample.ask_all.Goals as goal
@@ -8,7 +8,7 @@ pub returns-in-Err : goal.returns-in-Err
 returns-in-Err g c = (
   broke (context_of c.args.replier.now) [] _ (c.loop-number.number - 1) c.loop-number.number (omega (arith, c.loop-number.invariant.0))
       (omega (arith, c.loop-number.invariant.0, c.loop-number-test.true)) c.loop-number.worst _ _ _ c.loop-number.invariant.2 c.in-Err.ensures.replies.bytes,
-  Rose-later _ _ _ c.loop-number.invariant.3 c.in-Err.ensures.replies.cause.failed,
+  Rose-since _ _ _ c.loop-number.invariant.3 c.in-Err.ensures.replies.cause.failed,
 )
 
 pub loop-number-preserved : goal.loop-number-preserved
@@ -16,7 +16,7 @@ loop-number-preserved g c = (
   omega (arith, c.loop-number.invariant.0),
   omega (arith, c.loop-number-test.true),
   rw c.worse-worst.ensures (next_number (context_of c.args.replier.now) [] _ _ c.loop-number.number c.loop-number.invariant.0 c.loop-number.worst c.in-Ok.tone _ _ _ c.loop-number.invariant.2 c.in-Ok.ensures.replies.bytes),
-  omega (arith, c.loop-number.invariant.3, c.in-Ok.ensures.replies.cause.later),
+  c.in-Ok.ensures.replies.cause.kept ∙ c.loop-number.invariant.3,
   c.in-Ok.ensures.ready,
 )
 

@@ -10,7 +10,7 @@ use Rattle.gq_reply.proofs.replier.Replier.reply.Goals as goal
 pub returns-then-is_white-clause-replies : goal.returns-then-is_white-clause-replies
 returns-then-is_white-clause-replies g c =
     let blank = white_blank _ (sym c.is_white.ensures ∙ c.if-is_white.true) in
-    record { bytes = ([], inl (blank, refl), Appends-none _); cause = record { later = omega arith; failed = tt } }
+    record { bytes = ([], inl (blank, refl), Appends-none _); cause = record { later = omega arith; kept = refl; failed = tt } }
 
 pub returns-then-is_white-clause-behind : goal.returns-then-is_white-clause-behind
 returns-then-is_white-clause-behind g c = inl (white_blank _ (sym c.is_white.ensures ∙ c.if-is_white.true), refl)

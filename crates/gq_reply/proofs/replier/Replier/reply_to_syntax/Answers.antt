@@ -7,7 +7,7 @@ use Rattle.gq_reply.proofs.replier.Replier.reply_to_syntax.Goals as goal
 pub returns-in-Ok-true-clause-replies : goal.returns-in-Ok-true-clause-replies
 returns-in-Ok-true-clause-replies g c = λ params.
     let blank = rw c.in-Ok-true.field-0-test at c.in-Ok-true.ensures in
-    record { bytes = ([], inl (blank.0 refl, refl), Appends-none _); cause = record { later = omega arith; failed = tt } }
+    record { bytes = ([], inl (blank.0 refl, refl), Appends-none _); cause = record { later = omega arith; kept = refl; failed = tt } }
 
 pub returns-in-Ok-true-clause-blank : goal.returns-in-Ok-true-clause-blank
 returns-in-Ok-true-clause-blank g c = λ params.
