@@ -30,27 +30,39 @@ fn end(rt: &HostRuntime, status: Status) -> ExitCode {
     ExitCode::from(status.code())
 }
 
-// Says why the words cannot be read: there was not enough memory for them, or they are no text.
-fn end_without_words(rt: &HostRuntime, kind: io::ErrorKind) -> ExitCode {
-    if kind == io::ErrorKind::OutOfMemory {
-        return end(rt, Status::Memory(Memory::Exhausted));
+// The words; or none, with a line that says so, where they are no text: no words are no use of the program either.
+fn words_of(rt: &HostRuntime) -> Result<Vec<String>, Memory> {
+    match env::args(rt) {
+        Ok(args) => {
+            let Ok(words) = args.collect::<Vec<String>>(rt.alloc()) else {
+                return Err(Memory::Exhausted);
+            };
+            Ok(words)
+        }
+        Err(error) => {
+            if error.kind() == io::ErrorKind::OutOfMemory {
+                return Err(Memory::Exhausted);
+            }
+            let _ = eprintln!(rt; "graphq: the words are no text");
+            Ok(Vec::new(rt.alloc()))
+        }
     }
-    let _ = eprintln!(rt; "graphq: the words are no text");
-    ExitCode::from(Status::Usage.code())
 }
 
 fn main(rt: HostRuntime) -> ExitCode {
-    let alloc = rt.alloc();
-    let args = match env::args(&rt) {
-        Ok(args) => args,
-        Err(error) => return end_without_words(&rt, error.kind()),
-    };
-    let Ok(words) = args.collect::<Vec<String>>(alloc) else {
-        return end_without_words(&rt, io::ErrorKind::OutOfMemory);
+    let words = match words_of(&rt) {
+        Ok(words) => words,
+        Err(memory) => return end(&rt, Status::Memory(memory)),
     };
     let mut files = RealFiles::new(&rt);
     let mut input = RealSource::new(rt.reader());
     let mut out = RealSink::new(io::writer(&rt));
-    let status = run(alloc, words.as_slice(), &mut files, &mut input, &mut out);
+    let status = run(
+        rt.alloc(),
+        words.as_slice(),
+        &mut files,
+        &mut input,
+        &mut out,
+    );
     end(&rt, status)
 }
