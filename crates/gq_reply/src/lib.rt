@@ -16,3 +16,4 @@ mod statement;
 mod tone;
 
 pub use replier::{Form, Replier, Workspace};
+pub use spent::write_spent;

@@ -91,7 +91,7 @@ fn put_all<O: Sink>(batch: &mut Batch, out: &mut O, spent: &[Spent]) -> Result<(
 /// Writes a line for each pipeline, numbered from 1: how many chunks it handed out, and how many
 /// columns of the pool it held. It takes no memory. After `Failed` the sink took some front of that
 /// text.
-pub(crate) fn write_spent<O: Sink>(out: &mut O, spent: &List<Spent>) -> Result<(), Failed>
+pub fn write_spent<O: Sink>(out: &mut O, spent: &List<Spent>) -> Result<(), Failed>
     ensures bytes { Writes (O.taken out.old) (O.taken out.new) (spent_text 1 spent.now) result }
     ensures cause { HasCause (O.faults out.old) (O.faults out.new) result }
 {

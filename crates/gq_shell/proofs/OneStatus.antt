@@ -24,8 +24,7 @@ use Rattle.gq_session.specs.declared.answering.Tone.TheVariants as tone
 use Rattle.gq_shell.specs.Claim.{AreOpen, AsksOpenQuery, IsNotLoaded, IsPath, IsQuiz, IsToTheEnd, IsWhole, OnSample, Outside, Over, Permits, Runs, Whole, full, long, most, order_of, settings_of, short}
 use Rattle.gq_shell.specs.LoadLines.{load_line}
 use Rattle.gq_shell.specs.Questions.{IsNumbered}
-use Rattle.gq_shell.specs.Statuses.{IsMemory}
-use Rattle.gq_shell.specs.steps.Statuses.{status_of}
+use Rattle.gq_shell.specs.Statuses.{IsMemory, status_of}
 use Rattle.gq_shell.specs.declared.status.Status.{Status}
 use Rattle.gq_shell.specs.declared.status.Status.TheVariants as status
 use Rattle.gq_tokens.specs.declared.params.Param.{Param}

@@ -33,8 +33,9 @@ use Rattle.gq_session.specs.declared.run.Stop.TheVariants as stop
 use Rattle.gq_shell.specs.Claim.{AnswersEnded, EatsAll, EatsFor, Ends, EndsAtFault, IsPath, IsQuiz, IsStill, OnSample, Outside, Over, Permits, Runs, WroteFront, full, long, most, settings_of, short, usage_text, with_eaten}
 use Rattle.gq_shell.specs.LoadLines.{load_line}
 use Rattle.gq_shell.specs.Questions.{IsNumbered}
-use Rattle.gq_shell.specs.steps.Statuses.{status_of}
-use Rattle.gq_shell.specs.steps.Steps.{EndsLoad, Quizzed, Served, Told, told}
+use Rattle.gq_shell.specs.Statuses.{status_of}
+use Rattle.gq_shell.specs.Serving.{Served}
+use Rattle.gq_shell.specs.steps.Steps.{EndsLoad, Quizzed, Told, told}
 use Rattle.gq_shell.specs.declared.status.Status.{Status}
 use Rattle.gq_shell.specs.declared.status.Status.TheVariants as status
 use Rattle.gq_tokens.specs.declared.params.Param.{Param}
@@ -244,7 +245,7 @@ module _ (words : List (List ℕ)) (o : Outside) where
       part_shown (tone.Memory why) text says moved = (record { answer = status.Memory why; text = text; permitted = inr (record { read = read; given = given; size = size; from = from; says = says }); moved = moved }, inr (on_sample, refl))
 
       quizzed : (answer : Status) → Quizzed size (settings_of read) (out_of o) answer → Ends words o [] answer
-      quizzed answer (inl (is, kept, still)) = for_memory answer is kept
+      quizzed answer (inl (is, (kept, still))) = for_memory answer is kept
       quizzed answer (inr (inl (t, behind, is, wrote, still))) = rw is (shown t behind wrote)
       quizzed answer (inr (inr (is, front, rose))) =
           let part = part_shown front.tone front.text (front.after, front.replies) front.moved in
@@ -312,15 +313,15 @@ module _ (o : Outside) where
       first_memory answer ends (fault.kept (λ n was. let not : ◌≡◌ {A = Result Graph LoadStop} (Err load.Memory) (Err (load.ReadFault n)) = sym is ∙ was in cc not), input, still)
 
   first_served : (result : Result Tone Stop) → IsStill o.files_faults → sessions.EndsAtFault (input_of o) (out_of o) result → EndsAtFault o (status_of result)
-  first_served (Ok tone.Good) files still = (files, still)
-  first_served (Ok tone.Refused) files still = (files, still)
-  first_served (Ok (tone.Memory why)) files still = (files, still)
-  first_served (Err stop.TooLong) files still = (files, still)
+  first_served (Ok tone.Good) files still = (files, still.0, still.1)
+  first_served (Ok tone.Refused) files still = (files, still.0, still.1)
+  first_served (Ok (tone.Memory why)) files still = (files, still.0, still.1)
+  first_served (Err stop.TooLong) files still = (files, still.0, still.1)
   first_served (Err stop.Read) files still = (still, inl files)
   first_served (Err stop.Write) files still = (files, still)
 
   first_quizzed : (size : ℕ) (settings : Settings) (answer : Status) → IsStill o.files_faults → IsStill o.input_faults → Quizzed size settings (out_of o) answer → EndsAtFault o answer
-  first_quizzed size settings answer files input (inl (is, kept, still)) = first_memory answer is (files, input, still)
+  first_quizzed size settings answer files input (inl (is, (kept, still))) = first_memory answer is (files, input, still)
   first_quizzed size settings answer files input (inr (inl (t, behind, is, wrote, still))) = rw is (first_served (Ok t) files (input, still))
   first_quizzed size settings answer files input (inr (inr (is, front, rose))) = rw is (files, input)
 
@@ -356,7 +357,7 @@ module _ (words : List (List ℕ)) (o : Outside) where
 
         pub exit_served : (answer : Status) → IsStill o.files_faults → Served graph (settings_of read) (input_of o) (out_of o) answer → Runs words o answer
         unfolding had_alike
-        exit_served answer files (inl (is, same, input, kept, out)) = exit_memory answer is same kept (files, input, out)
+        exit_served answer files (inl (is, same, input, (kept, out))) = exit_memory answer is same kept (files, input, out)
         exit_served answer files (inr served) =
             let also = had_alike asked served.behind (out_of o) (input_of o) served.result served.read in
             let all = complete (IsTurn asked) (has_reply asked) [] served.behind long most (input_of (alike served.read.eaten)) (out_of o) served.result also in

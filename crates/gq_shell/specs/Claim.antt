@@ -109,8 +109,7 @@ IsQuiz c t text = (behind : List Param) × Replies (IsNumbered c) [] behind ques
 
 -- all statements, from no parameters on, or all questions, were answered: the text is their replies, the worst of which has this tone
 abbrev pub Finished : List (List ℕ) → Option Names → Option (List ℕ) → Tone → List ℕ → Type 0
-Finished words held left t text =
-    Over words held left (λ c input. session.Permits (IsTurn c) [] long most input (Ok t) text)
+Finished words held left t text = Over words held left (λ c input. session.Permits (IsTurn c) [] long most input (Ok t) text)
     ⊎ OnSample words (λ c. IsQuiz c t text)
 
 -- the status may be answered for these words, files and input, and the text is all that is written then
@@ -184,8 +183,7 @@ EatsAll words o eaten =
 abbrev pub EatsFor : List (List ℕ) → Outside → List ℕ → Status → Type 0
 EatsFor words o eaten status.Usage = eaten ≡ []
 EatsFor words o eaten status.NotLoaded = eaten ≡ []
-EatsFor words o eaten answer =
-    Over words o.held o.left (λ c input. Unit {0})
+EatsFor words o eaten answer = Over words o.held o.left (λ c input. Unit {0})
     ⊎ (OnSample words (λ c. Unit {0}) × (eaten ≡ []))
 
 -- the line of the files' first refusal was written; where it is that a file is not there, some name was not found in this run
@@ -274,8 +272,7 @@ pub record AsksOpenQuery (c : Context) (statements : List (List ℕ)) : Type 0 w
 pub record AreOpen (words : List (List ℕ)) (files : Names) (input : List ℕ) (one other : Status) : Type 0 where
   pub first : IsToTheEnd one
   pub second : IsToTheEnd other
-  pub why : IsMemory one ⊎ IsMemory other
-      ⊎ OnSample words (λ c. AsksOpenQuery c questions)
+  pub why : IsMemory one ⊎ IsMemory other ⊎ OnSample words (λ c. AsksOpenQuery c questions)
       ⊎ Over words (Some files) (Some input) (λ c text. AsksOpenQuery c (session.statements text))
 
 -- a permitted text was written whole, and no other status is permitted

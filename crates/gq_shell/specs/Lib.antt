@@ -1,5 +1,6 @@
 pub mod LoadLines
 pub mod Questions
+pub mod Serving
 pub mod Statuses
 pub mod Claim
 pub mod steps

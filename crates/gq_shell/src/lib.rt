@@ -5,10 +5,14 @@
 
 mod load_line;
 mod program;
-mod sample;
-mod session;
+mod serving;
+mod showing;
 mod status;
 mod workspace;
 
+pub use gq_execute::{Answer, AnswerRefusal, Order, Settings, answer};
+pub use gq_reply::{Workspace, write_spent};
+pub use gq_sample::sample;
 pub use program::run;
+pub use serving::session;
 pub use status::Status;

@@ -8,8 +8,8 @@ ghost use Rattle.gq_shell.specs.Claim.{Runs, Whole, outside_of, settings_of, usa
 ghost use Rattle.gq_shell.specs.steps.Steps.{EndsLoad, told};
 
 use crate::load_line::write_load_line;
-use crate::sample::show_sample;
-use crate::session::serve;
+use crate::serving::serve;
+use crate::showing::show_sample;
 use crate::status::Status;
 use gq_base::Memory;
 use gq_execute::{Order, Settings};

@@ -1,7 +1,7 @@
 //! What a session begins with.
 
 ghost use Rattle.std.specs.Prelude.{◌≡◌, [], IfOk};
-ghost use Rattle.gq_shell.specs.steps.Steps.{IsReady};
+ghost use Rattle.gq_shell.specs.Serving.{IsReady};
 
 use gq_base::Memory;
 use gq_pool::VectorPool;

@@ -1,7 +1,6 @@
 -- How a part of a run ends, for the contracts of its helpers.
-use Rattle.std.specs.Prelude.{◌≡◌, ◌⊎◌, ℕ, ◌-◌, List, [], get_or, true, Result, Ok, Err}
-use Rattle.std.specs.Io.KnownBytes.{Appends, Keeps}
-use Rattle.gq_base.specs.Plain.{Graph}
+use Rattle.std.specs.Prelude.{◌≡◌, ◌⊎◌, ℕ, ◌-◌, List, [], get_or, Result, Ok, Err}
+use Rattle.std.specs.Io.KnownBytes.{Appends}
 use Rattle.gq_base.specs.declared.memory.Memory.TheVariants.{Exhausted}
 use Rattle.gq_execute.specs.declared.settings.Settings.{Settings}
 use Rattle.gq_io.specs.Causes.{HasCause, Rose}
@@ -9,32 +8,24 @@ use Rattle.gq_io.specs.Outside.{AppendsFront}
 use Rattle.gq_io.specs.declared.Failed.{Failed}
 use Rattle.gq_loader.specs.declared.LoadStop.{LoadStop}
 use Rattle.gq_loader.specs.declared.LoadStop.TheVariants as load
-use Rattle.gq_reply.specs.Replies.{Context, IsTurn}
-use Rattle.gq_pool.specs.Pool.{spare_of}
-use Rattle.gq_reply.specs.declared.replier.Workspace.{Workspace}
+use Rattle.gq_reply.specs.Replies.{Context}
 use Rattle.gq_sample.specs.Questions.{questions}
 use Rattle.gq_session.specs.Replies.{Answered, Wrote, WroteFront}
-use Rattle.gq_session.specs.Sessions.{IsStill, Session, Span}
-use Rattle.gq_session.specs.Whole as session
+use Rattle.gq_session.specs.Sessions.{IsStill, Span}
 use Rattle.gq_session.specs.declared.answering.Tone.{Tone}
-use Rattle.gq_session.specs.declared.run.Stop.{Stop}
-use Rattle.gq_shell.specs.Claim.{full, long, most, short}
+use Rattle.gq_shell.specs.Claim.{short}
 use Rattle.gq_shell.specs.LoadLines.{load_line}
 use Rattle.gq_shell.specs.Questions.{IsNumbered}
-use Rattle.gq_shell.specs.steps.Statuses.{status_of}
+use Rattle.gq_shell.specs.Serving.{IsUntouched}
+use Rattle.gq_shell.specs.Statuses.{status_of}
 use Rattle.gq_shell.specs.declared.status.Status.{Status}
 use Rattle.gq_shell.specs.declared.status.Status.TheVariants as status
-use Rattle.gq_tokens.specs.Parameters.{are_params}
 use Rattle.gq_tokens.specs.declared.params.Param.{Param}
 
 -- the status of a run that ended with a line
 abbrev pub told : Result (Unit {0}) Failed → Status → Status
 told (Ok _) s = s
 told (Err _) s = status.WriteFault
-
--- nothing was written, and no write failed
-abbrev pub IsUntouched : Span → Type 0
-IsUntouched out = Keeps out.old out.new × IsStill out
 
 -- a line was written and this is the status, or a front of it was and the sink failed
 abbrev pub Told : List ℕ → Status → Span → Status → Type 0
@@ -48,20 +39,6 @@ abbrev pub EndsLoad : LoadStop → Span → Status → Type 0
 EndsLoad (load.Refused e) out answer = Told (load_line e) status.NotLoaded out answer
 EndsLoad (load.ReadFault name) out answer = IsUntouched out × (answer ≡ status.ReadFault)
 EndsLoad load.Memory out answer = IsUntouched out × (answer ≡ status.Memory Exhausted)
-
--- how a session over a graph ended
-pub record IsServed (graph : Graph) (settings : Settings) (input out : Span) (answer : Status) : Type 0 where
-  pub result : Result Tone Stop
-  pub is : answer ≡ status_of result
-  pub behind : List Param
-  pub read : Session (IsTurn (full graph settings)) [] behind long most input out result
-  pub whole : session.Whole (IsTurn (full graph settings)) [] long most input out result
-
--- there was not enough memory to begin, or a session was had
-abbrev pub Served : Graph → Settings → Span → Span → Status → Type 0
-Served graph settings input out answer =
-    ((answer ≡ status.Memory Exhausted) × (input.new ≡ input.old) × IsStill input × IsUntouched out)
-    ⊎ IsServed graph settings input out answer
 
 -- the question of a number from 1 to 6
 abbrev pub question_of : ℕ → List ℕ
@@ -85,7 +62,3 @@ Quizzed size settings out answer =
 pub record AskedOne (c : Context) (number : ℕ) (before after : List Param) (out : Span) (result : Result Tone Failed) : Type 0 where
   pub bytes : Answered (IsNumbered c before (question_of number)) after out.old out.new result
   pub cause : HasCause out.before out.now result
-
--- a session can go on with this workspace: a pipeline has room in its pool, and its parameters are few and distinct
-abbrev pub IsReady : Workspace → Type 0
-IsReady w = (112 ≤ spare_of w.pool) × (are_params w.params ≡ true)

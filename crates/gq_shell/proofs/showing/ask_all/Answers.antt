@@ -2,7 +2,7 @@ use Rattle.std.proofs.Common.{◌-◌, ◌∙◌, [], arith}
 use Rattle.gq_io.proofs.Counts.{Rose-since}
 use Rattle.gq_reply.specs.Replies.{context_of}
 use Rattle.gq_shell.proofs.Quizzing.{all_asked, broke, next_number}
-use Rattle.gq_shell.proofs.sample.ask_all.Goals as goal
+use Rattle.gq_shell.proofs.showing.ask_all.Goals as goal
 
 pub returns-in-Err : goal.returns-in-Err
 returns-in-Err g c = (

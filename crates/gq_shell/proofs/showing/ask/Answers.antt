@@ -1,7 +1,7 @@
 use Rattle.std.proofs.Common.{sym}
 use Rattle.gq_reply.specs.Replies.{context_of}
 use Rattle.gq_shell.proofs.Quizzing.{asked_text, later_cause, numbered, unnumbered}
-use Rattle.gq_shell.proofs.sample.ask.Goals as goal
+use Rattle.gq_shell.proofs.showing.ask.Goals as goal
 
 pub returns-in-Ok-clause-replies : goal.returns-in-Ok-clause-replies
 returns-in-Ok-clause-replies g c = record {

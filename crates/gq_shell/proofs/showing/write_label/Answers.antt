@@ -1,7 +1,7 @@
 use Rattle.std.proofs.Common.{codes, subst}
 use Rattle.gq_io.specs.Outside.{Writes}
 use Rattle.gq_reply.proofs.Replying.{at_byte}
-use Rattle.gq_shell.proofs.sample.write_label.Goals as goal
+use Rattle.gq_shell.proofs.showing.write_label.Goals as goal
 
 pub returns-clause-bytes : goal.returns-clause-bytes
 returns-clause-bytes g c =

@@ -3,8 +3,8 @@ use Rattle.gq_reply.specs.Replies.{context_of}
 use Rattle.gq_session.specs.Replies.{Wrote}
 use Rattle.gq_shell.proofs.Quizzing.{first}
 use Rattle.gq_shell.specs.Questions.{IsNumbered}
-use Rattle.gq_shell.specs.steps.Steps.{IsReady}
-use Rattle.gq_shell.proofs.sample.ask_all.Given as goal
+use Rattle.gq_shell.specs.Serving.{IsReady}
+use Rattle.gq_shell.proofs.showing.ask_all.Given as goal
 
 abbrev pub invariant-loop-number : goal.invariant-loop-number
 invariant-loop-number g l =

@@ -6,9 +6,10 @@ ghost use Rattle.gq_io.specs.Outside.{Writes};
 ghost use Rattle.gq_reply.specs.Replies.{context_of};
 ghost use Rattle.gq_session.specs.Sessions.{span_of};
 ghost use Rattle.gq_shell.specs.Questions.{label_text};
-ghost use Rattle.gq_shell.specs.steps.Steps.{Asked, AskedOne, IsReady, Quizzed};
+ghost use Rattle.gq_shell.specs.Serving.{IsReady};
+ghost use Rattle.gq_shell.specs.steps.Steps.{Asked, AskedOne, Quizzed};
 
-use crate::session::status_of;
+use crate::serving::status_of;
 use crate::status::Status;
 use crate::workspace::new_workspace;
 use gq_base::Memory;
