@@ -1,4 +1,5 @@
 pub mod OneStatus
+pub mod Ordering
 pub mod Quizzing
 pub mod Running
 pub mod Sequence

@@ -21,12 +21,14 @@ use Rattle.gq_session.specs.Tones as tones
 use Rattle.gq_session.specs.Whole as session
 use Rattle.gq_session.specs.declared.answering.Tone.{Tone}
 use Rattle.gq_session.specs.declared.answering.Tone.TheVariants as tone
+use Rattle.gq_shell.proofs.Ordering.{no_open}
 use Rattle.gq_shell.specs.Claim.{AreOpen, AsksOpenQuery, IsNotLoaded, IsPath, IsQuiz, IsToTheEnd, IsWhole, OnSample, Outside, Over, Permits, Runs, Whole, full, long, most, order_of, settings_of, short}
 use Rattle.gq_shell.specs.LoadLines.{load_line}
 use Rattle.gq_shell.specs.Questions.{IsNumbered}
 use Rattle.gq_shell.specs.Statuses.{IsMemory, status_of}
 use Rattle.gq_shell.specs.declared.status.Status.{Status}
 use Rattle.gq_shell.specs.declared.status.Status.TheVariants as status
+use Rattle.gq_tokens.specs.Parameters.{values_of}
 use Rattle.gq_tokens.specs.declared.params.Param.{Param}
 use Rattle.gq_words.specs.Meaning.{IsOrder, IsRows, IsSource, Means}
 use Rattle.gq_words.specs.Reading.{IsMisused, IsRead}
@@ -199,8 +201,7 @@ module _ (words : List (List ℕ)) (files : Names) (input : List ℕ) where
   Only s s' = (s ≡ s') ⊎ AreOpen words files input s s'
 
   abbrev Why : Status → Status → Type 0
-  Why s s' = IsMemory s ⊎ IsMemory s' ⊎ OnSample words (λ c. AsksOpenQuery c questions)
-      ⊎ OnInput (λ c i. AsksOpenQuery c (session.statements i))
+  Why s s' = IsMemory s ⊎ IsMemory s' ⊎ OnInput (λ c i. AsksOpenQuery c (session.statements i))
 
   -- two ends, by how their tones agree
   module _ (s s' : Status) (t t' : Tone) (is : s ≡ status_of (Ok t)) (is' : s' ≡ status_of (Ok t')) where
@@ -239,7 +240,7 @@ module _ (words : List (List ℕ)) (files : Names) (input : List ℕ) where
     two_ends : Only s s'
     two_ends =
         ends_by s s' t t' is is' (AsksSome (full graph (settings_of one.read)) [] (session.statements input))
-        (λ asks. inr (inr (inr (record {
+        (λ asks. inr (inr (record {
           read = one.read;
           given = one.given;
           path = one.path;
@@ -247,7 +248,7 @@ module _ (words : List (List ℕ)) (files : Names) (input : List ℕ) where
           graph = graph;
           loads = one.loads;
           says = opened (full graph (settings_of one.read)) (session.statements input) asks;
-        }))))
+        })))
         (tones_agree graph (settings_of one.read) Full Full [] one.says.1.0 behind' (session.statements input) t t' text text' one.says.1.1 replied)
 
   -- two ends of the questions
@@ -264,13 +265,8 @@ module _ (words : List (List ℕ)) (files : Names) (input : List ℕ) where
         let (first, replied) = unnumbered (short one.size (settings_of one.read)) [] behind questions t text says in
         let (second, otherwise) = unnumbered (short one.size (settings_of one.read)) [] behind' questions t' text' says' in
         ends_by s s' t t' is is' (AsksSome (short one.size (settings_of one.read)) [] questions)
-        (λ asks. inr (inr (inl (record {
-          read = one.read;
-          given = one.given;
-          size = one.size;
-          from = one.from;
-          says = opened (short one.size (settings_of one.read)) questions asks;
-        }))))
+        (λ asks. let one_asked = asks.asks.asked in
+        absurd (no_open (values_of asks.behind) asks.place asks.statement asks.at asks.behind refl one_asked.profiled asks.asks.query one_asked.spelled asks.asks.cut.unordered))
         (tones_agree (sample_graph one.size) (settings_of one.read) Short Short [] behind behind' questions t t' first second replied otherwise)
 
   one_by : (s s' : Status) → Sort s → Sort s' → Only s s'

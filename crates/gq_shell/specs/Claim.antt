@@ -268,12 +268,11 @@ pub record AsksOpenQuery (c : Context) (statements : List (List ℕ)) : Type 0 w
   pub unordered : query.order ≡ []
 
 -- two statuses may be permitted at once: all statements or questions are answered, and one of them may want memory, or
--- one of them asks such a query
+-- a statement asks such a query
 pub record AreOpen (words : List (List ℕ)) (files : Names) (input : List ℕ) (one other : Status) : Type 0 where
   pub first : IsToTheEnd one
   pub second : IsToTheEnd other
-  pub why : IsMemory one ⊎ IsMemory other ⊎ OnSample words (λ c. AsksOpenQuery c questions)
-      ⊎ Over words (Some files) (Some input) (λ c text. AsksOpenQuery c (session.statements text))
+  pub why : IsMemory one ⊎ IsMemory other ⊎ Over words (Some files) (Some input) (λ c text. AsksOpenQuery c (session.statements text))
 
 -- a permitted text was written whole, and no other status is permitted
 pub record IsWhole (words : List (List ℕ)) (files : Names) (input : List ℕ) (answer : Status) (old new : Option (List ℕ)) : Type 0 where
