@@ -1,5 +1,5 @@
 //! Calls of the crates below that no run of the program shows, each on small values worked out by
-//! hand: limits, failing calls, kernels and columns.
+//! hand: limits, failing calls, kernels and columns, plans and their costs.
 #![tactic(auto)]
 
 #[cfg(test)]
@@ -21,15 +21,23 @@ mod io;
 #[cfg(test)]
 mod lanes;
 #[cfg(test)]
+mod least;
+#[cfg(test)]
 mod loader;
 #[cfg(test)]
 mod made;
 #[cfg(test)]
 mod plain;
 #[cfg(test)]
+mod plans;
+#[cfg(test)]
 mod pool;
 #[cfg(test)]
+mod queries;
+#[cfg(test)]
 mod reference;
+#[cfg(test)]
+mod render;
 #[cfg(test)]
 mod session;
 #[cfg(test)]

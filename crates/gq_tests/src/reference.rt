@@ -2,11 +2,12 @@
 
 use crate::graph::{KNOWS, LIVES, people};
 use crate::made::Test;
+use crate::queries::queried;
 use gq_base::{Mult, NodeId, RelId};
 use gq_plain::PlainGraph;
 use gq_reference::{Match, matches};
 use gq_scopes::Pattern;
-use gq_syntax::{Params, Query, Statement, parse};
+use gq_syntax::Query;
 
 const PERSONS: [&str; 3] = ["1", "2", "3"];
 
@@ -43,15 +44,6 @@ fn push_match(rt: &impl Test, text: &mut String, found: &Match) {
     }
     for rel in found.rels.as_slice() {
         text.push_str(shown_rel(*rel)).expect(rt, "memory");
-    }
-}
-
-fn queried(rt: &impl Test, text: &str) -> Query {
-    let text = text.as_bytes();
-    assert!(rt; text.len() <= 65536);
-    match parse(rt.alloc(), text, &Params::new(rt.alloc())) {
-        Ok(Statement::Query(query)) => query,
-        _ => panic!(rt; "no query"),
     }
 }
 
