@@ -7,6 +7,7 @@ use crate::made::{Test, bytes, text};
 use gq_base::List;
 use gq_io::SureFiles;
 use gq_loader::{Limits, LoadRefusal, LoadStop, load};
+use gq_store::Graph;
 use gq_tables::TableRefusal;
 
 // Two lines name one file, which counts for each of them.
@@ -72,13 +73,23 @@ fn is_stopped(stop: &LoadStop, wanted: Wanted) -> bool {
     }
 }
 
+fn is_ended(ended: &Result<Graph, LoadStop>, wanted: Wanted) -> bool {
+    match ended {
+        Ok(_) => matches!(wanted, Wanted::Nothing),
+        Err(stop) => is_stopped(stop, wanted),
+    }
+}
+
 // Whether the load within the limits ends as it should.
 fn ends(rt: &impl Test, limits: &Limits, wanted: Wanted) -> bool {
+    let mut files = files(rt);
+    loads(rt, &mut files, limits, wanted)
+}
+
+fn loads(rt: &impl Test, files: &mut SureFiles, limits: &Limits, wanted: Wanted) -> bool {
     assert!(rt; is_standard(limits));
-    match load(rt.alloc(), &mut files(rt), "g.manifest", limits) {
-        Ok(_graph) => matches!(wanted, Wanted::Nothing),
-        Err(stop) => is_stopped(&stop, wanted),
-    }
+    let ended = load(rt.alloc(), files, "g.manifest", limits);
+    is_ended(&ended, wanted)
 }
 
 // The two tables of 13 bytes and three rows, and the one of 28 bytes and five relationships.

@@ -48,21 +48,21 @@ impl Answerer for Echo {
 
 // How a session over so many `;` ended, and how many bytes it wrote, where the input comes in such pieces.
 fn ran(rt: &impl Test, count: usize, piece: u32) -> (Result<Tone, Stop>, usize) {
+    let mut out = sink(rt);
+    let result = run(rt, &mut source(rt, count, piece), &mut out);
+    (result, out.taken().len())
+}
+
+fn source(rt: &impl Test, count: usize, piece: u32) -> MemorySource {
     assert!(rt; piece > 0, "a piece has a byte");
     let text = vec![in rt.alloc(); b';'; count].expect(rt, "memory");
-    let mut input = MemorySource::new(Bytes::from_vec(text), piece, List::new(rt.alloc()));
-    let mut out = sink(rt);
+    MemorySource::new(Bytes::from_vec(text), piece, List::new(rt.alloc()))
+}
+
+fn run(rt: &impl Test, input: &mut MemorySource, out: &mut MemorySink) -> Result<Tone, Stop> {
     let mut statement = vec![in rt.alloc(); 0u8; 65_536].expect(rt, "memory");
     let mut workspace = ();
-    let result = session(
-        &Echo,
-        &mut workspace,
-        &mut statement,
-        MOST,
-        &mut input,
-        &mut out,
-    );
-    (result, out.taken().len())
+    session(&Echo, &mut workspace, &mut statement, MOST, input, out)
 }
 
 fn sink(rt: &impl Test) -> MemorySink {
