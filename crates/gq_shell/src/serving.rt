@@ -36,7 +36,7 @@ pub(crate) fn status_of(ended: Result<Tone, Stop>) -> Status
 }
 
 /// Answers the statements of the input over a graph, each as it ends, from no parameters on, and says how that ended: by
-/// `Ended`, `Refused`, `ReadFault`, `WriteFault`, `TooLong` or `Memory`, as `run` does behind a load. The pool has room for a
+/// `Ended`, `Refused`, `ReadFault`, `WriteFault`, `TooLong` or `Memory`, as `run` does after a load. The pool has room for a
 /// pipeline, and has it afterwards too, however the session ended.
 pub fn session<I: Source, O: Sink>(
     alloc: Global,
