@@ -1,5 +1,5 @@
 //! The relationships that a walk is kept from.
-ghost use Rattle.std.specs.Prelude.{◌≡◌, ◌≤◌, length, take, [], IfOk};
+ghost use Rattle.std.specs.Prelude.{◌≡◌, ◌≤◌, length, take, [], true, IfOk};
 ghost use Rattle.std.specs.List.{list_any};
 ghost use Rattle.gq_plan.specs.Assignments.{same_rel};
 ghost use Rattle.gq_hops.specs.steps.Marks.{AreMarked, is_marked};
@@ -58,6 +58,13 @@ impl Used {
         clear(&mut self.marks);
         mark_all(&mut self.marks, used);
         self.count = used.len();
+    }
+
+    /// Whether none is used.
+    pub(crate) fn is_empty(&self) -> bool
+        ensures { result ≡ true → self.now ≡ [] }
+    {
+        self.count == 0
     }
 
     /// Whether a relationship is used.

@@ -1,6 +1,7 @@
 -- Relationships of a type that are met at a node, one after another.
 use Rattle.std.specs.Prelude.{◌≡◌, ℕ, ◌+◌, ◌^◌, ◌<◌, All, length, if◌then◌else◌, nat_eq, Bool, true, ◌&&◌, Option, Some, None, MatchOption, List, [], ◌∷◌, ◌++◌, filter, flat_map, drop, slice_get}
 use Rattle.std.specs.Cmp.Lexicographic.{pointwise}
+use Rattle.std.specs.List.{list_any}
 use Rattle.gq_base.specs.Plain.{Graph}
 use Rattle.gq_base.specs.declared.NodeId.{NodeId}
 use Rattle.gq_base.specs.declared.RelId.{RelId}
@@ -107,8 +108,13 @@ pub record IsFirst (f : Follow) (old new : Level) (h : Hop) : Type 0 where
   pub leads : far f.graph.now f.way h.rel ≡ Some h.node
   pub there : is_node f.graph.now h.node ≡ true
 
+-- relationships of some table lead to the nodes of a table
+abbrev pub is_far : List Followed → ℕ → Bool
+is_far es table = list_any (λ (e : Followed). nat_eq e.far table) es
+
 -- where a relationship stands that is met at a node
 pub record IsSite (f : Follow) (m : Met) : Type 0 where
+  pub far : is_far f.tables.items m.node.table ≡ true
   pub within : m.table < length f.graph.now.catalog.rels
   pub near : m.near < near_rows f.graph.now m.table f.way
   pub leads : slice_get (neighbours f.graph.now m.table f.way m.near) m.place ≡ Some m.node.row
