@@ -29,7 +29,7 @@ settled_rels p row n = go p.both
     go true = refl
     go false = refl
 
-settled_length : (p : TrailPart) (row : Wide) (n : NodeId) → length (settled p row n).nodes ≡ length row.nodes
+pub settled_length : (p : TrailPart) (row : Wide) (n : NodeId) → length (settled p row n).nodes ≡ length row.nodes
 settled_length p row n = go p.both
   where
     go : (b : Bool) → length (if b then row else record row { nodes = set row.nodes p.to (Some n) }).nodes ≡ length row.nodes

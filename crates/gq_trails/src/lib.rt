@@ -1,10 +1,16 @@
-//! Trails over a stored graph: all ways to walk the trails of a query, one after another. The walks
-//! of each are those of `gq_hops`.
+//! Trails over a stored graph: all ways to walk the trails of a query, one after another, and the rows
+//! by which they continue a row. The walks of each are those of `gq_hops`, and so are the nodes to
+//! which a trail leads.
 #![tactic(auto)]
 
 mod ends;
+mod law;
+mod reached;
+mod rows;
 mod taken;
 mod trails;
 mod trek;
 
+pub use law::{rows_are_of_ways, rows_stand_for_ways};
+pub use rows::TrailRows;
 pub use trails::Trails;

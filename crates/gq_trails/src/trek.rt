@@ -272,8 +272,8 @@ fn take_walks(
     }
 }
 
-// Adds what the relationship patterns of a clause have.
-fn take_patterns(taken: &mut Taken, patterns: &[TypedRel], row: &WideRow, clause: u32)
+/// Adds what the relationship patterns of a clause have.
+pub(crate) fn take_patterns(taken: &mut Taken, patterns: &[TypedRel], row: &WideRow, clause: u32)
     requires { length taken.old + length patterns.now ≤ 384 }
     ensures taken { taken.new ≡ taken.old ++ patterns_in patterns.now row.now.rels clause }
     ensures few { length taken.new ≤ length taken.old + length patterns.now }

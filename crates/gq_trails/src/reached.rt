@@ -1,0 +1,115 @@
+//! A trail that is gone through by its ends: the row at each node to which it leads, once.
+ghost use Rattle.std.specs.Prelude.{◌≡◌, ◌≤◌, ◌∷◌, [], true, false, length, IfOk, None};
+ghost use Rattle.std.specs.Prelude.{if◌then◌else◌};
+ghost use Rattle.gq_trails.specs.Continued.{rows_at_ends};
+ghost use Rattle.gq_trails.specs.Trekking.{CanTrek, HasLength, partial_of, patterns_in};
+ghost use Rattle.gq_trails.specs.steps.Reached.{AreEnds, AreSameEnds, behind_end, rows_left};
+ghost use Rattle.gq_wide.specs.Rows.{item_at};
+
+use crate::ends::arrives;
+use crate::taken::Taken;
+use crate::trek::take_patterns;
+use gq_base::{List, Memory, NodeId};
+use gq_eval::{Evaluator, evaluators};
+use gq_expr::Assigned;
+use gq_hops::Reacher;
+use gq_plan::{TrailPart, TypedRel};
+use gq_store::Graph;
+use gq_wide::WideRow;
+use std::alloc::Global;
+
+/// The rows at the ends of one trail.
+#[derive(Drop)]
+pub(crate) struct Ends<'g> {
+    pub(crate) graph: &'g Graph,
+    pub(crate) part: &'g TrailPart,
+    // The tests of the trail's other end.
+    pub(crate) tests: List<Evaluator<'g>>,
+    pub(crate) reacher: Reacher<'g>,
+    // What is bound, and behind the first end that was reached the node there too.
+    pub(crate) row: WideRow,
+    // What the trail may not take.
+    pub(crate) taken: Taken,
+}
+
+impl<'g> Ends<'g> {
+    /// The ends of a trail, of which none is owed, and an empty row of so many variables.
+    pub(crate) fn new(
+        alloc: Global,
+        graph: &'g Graph,
+        part: &'g TrailPart,
+        nodes: u32,
+        rels: u32,
+    ) -> Result<Ends<'g>, Memory>
+        requires { HasLength part.now }
+        ensures ends { IfOk result AreEnds }
+        ensures graph { IfOk result (λ e. e.graph.now ≡ graph.now) }
+        ensures part { IfOk result (λ e. e.part.now ≡ part.now) }
+        ensures nodes { IfOk result (λ e. length e.row.nodes ≡ nodes) }
+        ensures rels { IfOk result (λ e. length e.row.rels ≡ rels) }
+        ensures owed { IfOk result (λ e. rows_left e ≡ []) }
+    {
+        Ok(Ends {
+            graph,
+            part,
+            tests: evaluators(alloc, part.tests.as_slice(), graph)?,
+            reacher: Reacher::new(alloc, graph, part)?,
+            row: WideRow::new(alloc, nodes, rels)?,
+            taken: Taken::new(alloc)?,
+        })
+    }
+
+    /// From now on the rows at the ends to which the trail leads from a row are owed, without the
+    /// relationships that the patterns of its clause have there.
+    pub(crate) fn begin(&mut self, base: &WideRow, rels: &[TypedRel])
+        requires ends { AreEnds self.old }
+        requires walks { CanTrek self.old.graph.now (self.old.part.now ∷ []) base.now }
+        requires nodes { length self.old.row.nodes ≡ length base.now.nodes }
+        requires rels { length self.old.row.rels ≡ length base.now.rels }
+        requires few { length rels.now ≤ 24 }
+        ensures owed { rows_left self.new ≡ rows_at_ends self.old.graph.now
+            (patterns_in rels.now base.now.rels) self.old.part.now (partial_of base.now) }
+        ensures ends { AreEnds self.new }
+        ensures same { AreSameEnds self.old self.new }
+    {
+        self.row.copy_from(base);
+        self.taken.clear();
+        take_patterns(&mut self.taken, rels, base, self.part.clause);
+        match base.node(self.part.from) {
+            None => (),
+            Some(start) => {
+                let used = self.taken.as_slice();
+                match known_end(self.part, base) {
+                    None => self.reacher.begin(start, used),
+                    Some(end) => self.reacher.begin_to(start, used, end),
+                }
+            }
+        }
+    }
+
+    /// Goes on to the next row, or answers false where none is owed.
+    pub(crate) fn advance(&mut self) -> bool
+        requires { AreEnds self.old }
+        ensures next { result ≡ true → rows_left self.old
+            ≡ behind_end self.new.part.now self.new.row ∷ rows_left self.new }
+        ensures none { result ≡ false → rows_left self.old ≡ [] }
+        ensures over { result ≡ false → rows_left self.new ≡ [] }
+        ensures ends { AreEnds self.new }
+        ensures same { AreSameEnds self.old self.new }
+    {
+        'ends: while let Some(end) = self.reacher.next() {
+            let tests = self.tests.as_slice();
+            if arrives(self.graph, self.part, tests, end, &mut self.row) {
+                return true;
+            }
+        }
+        false
+    }
+}
+
+// The other end of a trail, where it is bound in a row.
+fn known_end(part: &TrailPart, row: &WideRow) -> Option<NodeId>
+    ensures { result ≡ (if part.now.both then item_at row.now.nodes part.now.to else None) }
+{
+    if part.both { row.node(part.to) } else { None }
+}
