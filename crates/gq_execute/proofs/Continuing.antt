@@ -32,10 +32,11 @@ use Rattle.gq_plan.specs.declared.Bound.{Bound}
 use Rattle.gq_plan.specs.declared.TrailPart.{TrailPart}
 use Rattle.gq_plan.specs.declared.Typed.{Typed}
 use Rattle.gq_scopes.specs.Patterns.{Pattern}
-use Rattle.gq_trails.specs.Trekking.{AreInTurn, AreNodes, CanTrek, IsRowOf, continuations, patterns_from, placed_from}
+use Rattle.gq_trails.specs.Continued.{rows_continued, rows_from}
+use Rattle.gq_trails.specs.Trekking.{AreInTurn, AreNodes, CanTrek, continuations, patterns_from, placed_from}
 use Rattle.gq_wide.specs.Rows.{Wide, item_at, read}
 use Rattle.gq_execute.specs.Replies.{Question, rows_of}
-use Rattle.gq_execute.specs.steps.Continuing.{reached_in, rows_by, wide_of}
+use Rattle.gq_execute.specs.steps.Continuing.{continued_by, reached_in, rows_by, wide_of}
 use Rattle.gq_execute.specs.steps.Walking.{CanWalk}
 
 -- ---- rows that have what an assignment has
@@ -55,10 +56,11 @@ core_row t r same = record {
 }
 
 -- trails continue them alike
-pub same_rows : (g : Graph) (parts : List TrailPart) (y : Typed) (t : Assignment) (r : Wide) → IsCoreRow t r
-    → reached_in (continuations g parts y.rels r) ≡ rows_by g parts y t
-same_rows g parts y t r is =
-    ap₂ (λ (get : ℕ → Option RelId) (a : Partial). reached_in (after_trails g (patterns_from 0 y.rels get) parts a []))
+pub same_rows : (g : Graph) (b : Bound) (y : Typed) (t : Assignment) (r : Wide) → IsCoreRow t r
+    → map row (rows_continued b.distinct g b.trails y.rels r) ≡ continued_by g b y t
+unfolding rows_continued
+same_rows g b y t r is =
+    ap₂ (λ (get : ℕ → Option RelId) (a : Partial). map row (rows_from b.distinct g (patterns_from 0 y.rels get) b.trails a))
     (λ i x. (is.rels x ∙ sym (items_are t.rels x)) i) (begin_so t r is ∙ sym (begin_so t (wide_of t) (own_row t)))
 
 -- without trails an assignment has its own row alone
@@ -67,10 +69,6 @@ unfolding after_trails
 own_alone g y t =
     ap (λ (a : Partial). row a ∷ []) (begin_so t (wide_of t) (own_row t))
     ∙ (λ i. record { nodes = λ v. look_first t.nodes v i; rels = λ x. look_first t.rels x i } ∷ [])
-
--- a row of what was reached
-pub reached_read : (m : Trailing) (r : Wide) → IsRowOf m r → read r ≡ row m.row
-reached_read m r is = λ i. record { nodes = λ v. is.nodes v i; rels = λ x. is.rels x i }
 
 -- ---- where trails start
 

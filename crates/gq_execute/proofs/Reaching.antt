@@ -4,9 +4,8 @@ use Rattle.std.specs.List.{AllByRecursion}
 use Rattle.gq_base.specs.Plain.{Graph}
 use Rattle.gq_expr.specs.Reading as reading
 use Rattle.gq_expr.specs.declared.Fault.{Fault}
-use Rattle.gq_law_trails.specs.Trails.{Trailing}
 use Rattle.gq_plan.specs.Marked.{Marked, ending, marks}
-use Rattle.gq_plan.specs.Meaning.{row}
+use Rattle.gq_plan.specs.Meaning.{Partial, row}
 use Rattle.gq_plan.specs.Outcomes.{late_conjuncts, meanings_of}
 use Rattle.gq_plan.specs.declared.Bound.{Bound}
 use Rattle.gq_plan.specs.declared.Typed.{Typed}
@@ -14,11 +13,9 @@ use Rattle.gq_kept.specs.Chunks.{PushesAll}
 use Rattle.gq_kept.specs.Tables.{Table}
 use Rattle.gq_kept.specs.declared.refusal.More.{More}
 use Rattle.gq_kept.specs.declared.refusal.RowRefusal.{RowRefusal}
-use Rattle.gq_trails.specs.Trekking.{IsRowOf}
 use Rattle.gq_wide.specs.Rows.{Wide, read}
 use Rattle.gq_execute.specs.steps.Taking.{Admission, Later, if_admitted, outcomes_on}
 use Rattle.gq_execute.proofs.Chosen.{row_marked}
-use Rattle.gq_execute.proofs.Continuing.{reached_read}
 
 module _ (admitted : Admission) (g : Graph) (b : Bound) (y : Typed) (row : reading.Assignment) (mark : Option Fault) (says : mark ∷ [] ≡ marks (meanings_of g row (late_conjuncts b y))) where
   abbrev marked_row : Marked
@@ -33,9 +30,9 @@ module _ (admitted : Admission) (g : Graph) (b : Bound) (y : Typed) (row : readi
   judged_in e = ap (λ v. cond v (ending g b marked_row ∷ []) []) e ∙ row_marked (if_admitted admitted g) g b y row mark says
 
 -- told of the query that was begun with and of what was reached
-pub judged_here : (later : Later) (g : Graph) (b : Bound) (y : Typed) (mid new : Table) (m : Trailing) (w : Wide) (r : Result More RowRefusal) → mid.bound ≡ b → IsRowOf m w
-    → PushesAll (outcomes_on later g mid.bound y (read w)) mid new r → PushesAll (outcomes_on later g b y (row m.row)) mid new r
-judged_here later g b y mid new m w r same is h = subst (λ os. PushesAll os mid new r) (λ i. outcomes_on later g (same i) y (reached_read m w is i)) h
+pub judged_here : (later : Later) (g : Graph) (b : Bound) (y : Typed) (mid new : Table) (a : Partial) (w : Wide) (r : Result More RowRefusal) → mid.bound ≡ b → read w ≡ row a
+    → PushesAll (outcomes_on later g mid.bound y (read w)) mid new r → PushesAll (outcomes_on later g b y (row a)) mid new r
+judged_here later g b y mid new a w r same is h = subst (λ os. PushesAll os mid new r) (λ i. outcomes_on later g (same i) y (is i)) h
 
 -- what is so of items that are made in two steps is so of what they are made of
 pub each_made_of : {A B C : Type 0} (P : C → Type 0) (f : B → C) (h : A → B) (xs : List A) → AllByRecursion P (map f (map h xs)) → AllByRecursion (λ x. P (f (h x))) xs

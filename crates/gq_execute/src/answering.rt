@@ -107,11 +107,11 @@ fn drain<'g>(
 
 // Pushes what a pipeline owes: the outcomes of its rows, each behind the optional clauses or
 // continued by the trails.
-fn drain_all<'g>(
+fn drain_all<'g, 'w>(
     alloc: Global,
     graph: &'g Graph,
-    prepared: &Prepared<'_>,
-    typed: &Typed,
+    prepared: &'w Prepared<'_>,
+    typed: &'w Typed,
     pipeline: &mut Pipeline<'_>,
     pool: &mut VectorPool,
     table: &mut RowTable<'g>,

@@ -26,10 +26,11 @@ use gq_pool::VectorPool;
 use gq_store::Graph;
 use std::alloc::Global;
 
-/// A query, its conjuncts over a graph where optional clauses or trails ask them, its tests of paths,
+/// A graph and a query, its conjuncts over the graph where optional clauses or trails ask them, its tests of paths,
 /// and the matches of its optional clauses.
 #[derive(Drop)]
 pub struct Prepared<'q> {
+    pub(crate) graph: &'q Graph,
     pub(crate) bound: &'q Bound,
     pub(crate) conjuncts: List<Evaluator<'q>>,
     // The variables of its rows.
@@ -45,6 +46,7 @@ impl<'q> Prepared<'q> {
             IfOk result (λ spent. spent ≡ tested ++ self.entry.optionals.spent) }
     {
         let Prepared {
+            graph: _,
             bound: _,
             conjuncts: _,
             shape: _,
@@ -132,6 +134,7 @@ pub(crate) fn prepare<'q>(
     };
     match list_clauses(alloc, graph, stats, parts, shape, pool, settings, room) {
         Ok(optionals) => Ok(Prepared {
+            graph,
             bound,
             conjuncts,
             shape,

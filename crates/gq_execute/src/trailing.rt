@@ -1,13 +1,13 @@
 //! Drains a pipeline of a query with trails: the outcomes of the rows by which the trails continue
 //! its rows go into the table.
-ghost use Rattle.std.specs.Prelude.{◌≡◌, ◌≤◌, ◌<◌, [], false, flat_map, length, IfOk, IsSome};
+ghost use Rattle.std.specs.Prelude.{◌≡◌, ◌≤◌, ◌<◌, [], false, flat_map, length, map, IfOk, IsSome};
 ghost use Rattle.std.specs.Prelude.{All, OnOk, Some};
 ghost use Rattle.std.specs.List.{AllByRecursion};
 ghost use Rattle.gq_eval.specs.Asked.{asked_of};
 ghost use Rattle.gq_execute.specs.steps.Behind.{IsBlank};
-ghost use Rattle.gq_execute.specs.steps.Continuing.{reached_in};
 ghost use Rattle.gq_execute.specs.steps.Prepared.{IsPrepared};
-ghost use Rattle.gq_execute.specs.steps.Taking.{HasRun, IsRunOf, TakesAll, given_on, if_admitted};
+ghost use Rattle.gq_execute.specs.steps.Taking.{HasRun, IsRunOf, TakesAll, continued_on};
+ghost use Rattle.gq_execute.specs.steps.Taking.{given_on, if_admitted};
 ghost use Rattle.gq_execute.specs.steps.Taking.{outcomes_by, outcomes_on, owed_by, owed_outcomes};
 ghost use Rattle.gq_execute.specs.steps.Testing.{admitted_by};
 ghost use Rattle.gq_execute.specs.steps.Walking.{AreTrailsOf, CanWalk, IsWalking};
@@ -16,6 +16,7 @@ ghost use Rattle.gq_kept.specs.Chunks.{PushesAll, assignments_of};
 ghost use Rattle.gq_kept.specs.Tables.{IsSameQuery, StandsForSome, is_full_table};
 ghost use Rattle.gq_law_plans.specs.Safe.{IsMade};
 ghost use Rattle.gq_pipe.specs.Serving.{Serves};
+ghost use Rattle.gq_plan.specs.Meaning as meaning;
 ghost use Rattle.gq_rows.specs.Growing.{IsContinued};
 ghost use Rattle.gq_trails.specs.Trekking.{HasLength};
 ghost use Rattle.gq_wide.specs.Rows.{read};
@@ -32,15 +33,15 @@ use gq_plan::Typed;
 use gq_pool::VectorPool;
 use gq_rows::{More, RowRefusal, RowTable};
 use gq_store::Graph;
-use gq_trails::Trails;
+use gq_trails::TrailRows;
 use gq_wide::WideRow;
 use std::alloc::Global;
 
-/// A row of all variables of a query, and the trails that are walked from it.
+/// A row of all variables of a query, and the trails that continue it.
 #[derive(Drop)]
 pub(crate) struct Walking<'w> {
     pub(crate) row: WideRow,
-    pub(crate) trails: Trails<'w>,
+    pub(crate) trails: TrailRows<'w>,
 }
 
 // Pushes the outcome of a row, if the conjuncts that are left do not drop it and the tests admit
@@ -74,11 +75,11 @@ fn push_judged<'g>(
     table.push_wide(row, fault, graph)
 }
 
-// Pushes the outcomes of the rows that trails owe, one after another, until nothing is owed or the
-// table has enough.
+// Pushes the outcomes of the rows that are owed, one after another, until none is owed or the table
+// has enough.
 fn push_reached<'g>(
     table: &mut RowTable<'g>,
-    trails: &mut Trails<'_>,
+    trails: &mut TrailRows<'_>,
     prepared: &Prepared<'_>,
     typed: &Typed,
     graph: &'g Graph,
@@ -92,7 +93,7 @@ fn push_reached<'g>(
     requires room { is_full_table table.old ≡ false }
     ensures pushes { let later = if_admitted (admitted_by prepared.now.tests.all) graph.now in
         let out = outcomes_on later graph.now table.old.bound typed.now in
-        PushesAll (flat_map out (reached_in trails.old.owed)) table.old table.new result }
+        PushesAll (flat_map out (map meaning.row trails.old.owed)) table.old table.new result }
     ensures query { OnOk result (IsSameQuery table.old table.new) }
     ensures trails { AreTrailsOf graph.now table.old.bound trails.new }
 {
@@ -124,7 +125,7 @@ fn push_continued<'g, 'w>(
     requires stands { StandsForSome table.old }
     requires room { is_full_table table.old ≡ false }
     ensures pushes { let later = if_admitted (admitted_by prepared.now.tests.all) graph.now in
-        PushesAll (given_on later graph.now table.old.bound typed.now row.now)
+        PushesAll (continued_on later graph.now table.old.bound typed.now row.now)
         table.old table.new result }
     ensures query { OnOk result (IsSameQuery table.old table.new) }
     ensures walking { IsWalking graph.now table.old.bound typed.now walking.new }
@@ -157,7 +158,7 @@ fn push_walked<'g, 'w>(
     requires room { is_full_table table.old ≡ false }
     ensures pushes { let later = if_admitted (admitted_by prepared.now.tests.all) graph.now in
         let ts = assignments_of graph.now typed.now chunk.now in
-        PushesAll (outcomes_by (given_on later) graph.now table.old.bound typed.now ts)
+        PushesAll (outcomes_by (continued_on later) graph.now table.old.bound typed.now ts)
         table.old table.new result }
     ensures query { OnOk result (IsSameQuery table.old table.new) }
     ensures walking { IsWalking graph.now table.old.bound typed.now walking.new }
@@ -175,33 +176,74 @@ fn push_walked<'g, 'w>(
     Ok(More::Go)
 }
 
-// A row of the variables of a query, of which nothing has one yet, and the query's trails.
-fn walking_of<'w>(
-    alloc: Global,
-    graph: &'w Graph,
-    prepared: &'w Prepared<'_>,
-) -> Result<Walking<'w>, Memory>
+// A row of the variables of a query, of which nothing has one yet, and the rows by which the query's
+// trails continue it: each counts once where DISTINCT keeps one of those that are the same.
+fn walking_of<'w>(alloc: Global, prepared: &'w Prepared<'_>) -> Result<Walking<'w>, Memory>
     requires lengths { All HasLength prepared.now.bound.now.trails }
     requires nodes { prepared.now.shape.nodes ≡ length prepared.now.bound.now.node_names }
     requires rels { prepared.now.shape.rels ≡ length prepared.now.bound.now.rel_names }
     ensures row { let b = prepared.now.bound.now in
         IfOk result (λ h. IsBlank (length b.node_names) (length b.rel_names) h.row) }
-    ensures trails { IfOk result (λ h. AreTrailsOf graph.now prepared.now.bound.now h.trails) }
+    ensures trails { IfOk result (λ h. AreTrailsOf prepared.now.graph.now prepared.now.bound.now h.trails) }
 {
     let shape = prepared.shape;
-    let parts = prepared.bound.trails.as_slice();
+    let graph = prepared.graph;
+    let bound = prepared.bound;
+    let parts = bound.trails.as_slice();
     let row = WideRow::new(alloc, shape.nodes, shape.rels)?;
-    let trails = Trails::new(alloc, graph, parts, shape.nodes, shape.rels)?;
+    let trails = TrailRows::new(alloc, graph, parts, bound.distinct, shape.nodes, shape.rels)?;
     Ok(Walking { row, trails })
+}
+
+// Pushes the outcomes of the rows by which the trails continue what a pipeline owes.
+fn drain_walked<'g, 'w>(
+    graph: &'g Graph,
+    prepared: &Prepared<'_>,
+    typed: &'w Typed,
+    pipeline: &mut Pipeline<'_>,
+    pool: &mut VectorPool,
+    table: &mut RowTable<'g>,
+    choice: &mut Choice,
+    walking: &mut Walking<'w>,
+) -> Result<(), AnswerRefusal>
+    requires some { table.old.bound.trails ≡ [] → ⊥ }
+    requires asked { prepared.now.conjuncts ≡ asked_of graph.now table.old.bound.conjuncts }
+    requires walking { IsWalking graph.now table.old.bound typed.now walking.old }
+    requires made { AllByRecursion (IsMade graph.now typed.now) (owed_by typed.now pipeline.old) }
+    requires run { IsRunOf graph.now table.old pipeline.old }
+    requires typed { pipeline.old.source.typed ≡ typed.now }
+    requires fresh { pipeline.old.chunks ≡ 0 }
+    requires serves { Serves pipeline.old pool.old }
+    requires stands { StandsForSome table.old }
+    requires room { is_full_table table.old ≡ false }
+    ensures takes { let later = if_admitted (admitted_by prepared.now.tests.all) graph.now in
+        TakesAll (owed_outcomes (continued_on later) graph.now table.old pipeline.old)
+        table.old table.new result }
+    ensures ran { OnOk result (HasRun table.old table.new pipeline.old pipeline.new) }
+    ensures graph { OnOk result (table.new.graph ≡ table.old.graph) }
+    ensures columns { pipeline.new.columns ≡ pipeline.old.columns }
+    ensures held { pipeline.new.slots ≡ pipeline.old.slots }
+    ensures serves { Serves pipeline.new pool.new }
+    ensures slots { pool.new.out ≡ pool.old.out }
+{
+    'chunks: while pipeline.advance(pool) {
+        let chunk = pipeline.chunk(pool);
+        match push_walked(table, &chunk, choice, walking, prepared, typed, graph) {
+            Ok(More::Go) => {}
+            Ok(More::Enough) => return Ok(()),
+            Err(refusal) => return Err(AnswerRefusal::from(refusal)),
+        }
+    }
+    Ok(())
 }
 
 /// Pushes what a pipeline of a query with trails owes: the outcomes of the rows by which the trails
 /// continue its rows.
-pub(crate) fn drain_trails<'g>(
+pub(crate) fn drain_trails<'g, 'w>(
     alloc: Global,
     graph: &'g Graph,
-    prepared: &Prepared<'_>,
-    typed: &Typed,
+    prepared: &'w Prepared<'_>,
+    typed: &'w Typed,
     pipeline: &mut Pipeline<'_>,
     pool: &mut VectorPool,
     table: &mut RowTable<'g>,
@@ -228,23 +270,16 @@ pub(crate) fn drain_trails<'g>(
     ensures serves { Serves pipeline.new pool.new }
     ensures slots { pool.new.out ≡ pool.old.out }
 {
-    let mut walking = walking_of(alloc, graph, prepared)?;
+    let mut walking = walking_of(alloc, prepared)?;
     let mut choice = Choice::new(alloc);
-    'chunks: while pipeline.advance(pool) {
-        let chunk = pipeline.chunk(pool);
-        match push_walked(
-            table,
-            &chunk,
-            &mut choice,
-            &mut walking,
-            prepared,
-            typed,
-            graph,
-        ) {
-            Ok(More::Go) => {}
-            Ok(More::Enough) => return Ok(()),
-            Err(refusal) => return Err(AnswerRefusal::from(refusal)),
-        }
-    }
-    Ok(())
+    drain_walked(
+        graph,
+        prepared,
+        typed,
+        pipeline,
+        pool,
+        table,
+        &mut choice,
+        &mut walking,
+    )
 }

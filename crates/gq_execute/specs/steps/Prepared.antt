@@ -29,6 +29,7 @@ AreAsked g b all = (b.optionals ≡ [] → b.trails ≡ [] → ⊥) → all ≡ 
 
 -- the conjuncts of a query over a graph, its tests, and the matches of its optional clauses
 pub record IsPrepared (g : Graph) (most : ℕ) (b : Bound) (p : Prepared) : Type 0 where
+  pub over : p.graph.now ≡ g
   pub bound : p.bound.now ≡ b
   pub asked : AreAsked g b p.conjuncts
   pub tests : AreTestsOf g most b.patterns p.tests.all

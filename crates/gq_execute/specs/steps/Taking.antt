@@ -19,7 +19,7 @@ use Rattle.gq_kept.specs.Chunks.{Stands}
 use Rattle.gq_kept.specs.Tables.{Table, is_full_table}
 use Rattle.gq_execute.specs.Replies.{outcomes_behind}
 use Rattle.gq_execute.specs.Spending.{IsPlain}
-use Rattle.gq_execute.specs.steps.Continuing.{rows_by}
+use Rattle.gq_execute.specs.steps.Continuing.{continued_by, rows_by}
 use Rattle.gq_execute.specs.declared.refusal.AnswerRefusal.{AnswerRefusal}
 use Rattle.gq_execute.specs.declared.refusal.AnswerRefusal.TheVariants as refusal
 
@@ -103,6 +103,10 @@ given_by later g b y t = outcomes_on later g b y (row_of t)
 -- those of the rows by which trails continue it
 abbrev pub given_on : Later → Becomes
 given_on later g b y t = flat_map (outcomes_on later g b y) (rows_by g b.trails y t)
+
+-- those of as many of these rows as stand for them where each counts once
+abbrev pub continued_on : Later → Becomes
+continued_on later g b y t = flat_map (outcomes_on later g b y) (continued_by g b y t)
 
 -- the outcomes of assignments
 abbrev pub outcomes_by : Becomes → Graph → Bound → Typed → List Assignment → List (Result Row Fault)

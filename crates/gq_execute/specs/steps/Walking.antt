@@ -4,7 +4,8 @@ use Rattle.gq_base.specs.Plain.{Graph}
 use Rattle.gq_plan.specs.declared.Bound.{Bound}
 use Rattle.gq_plan.specs.declared.TrailPart.{TrailPart}
 use Rattle.gq_plan.specs.declared.Typed.{Typed}
-use Rattle.gq_trails.specs.Trekking.{AreInTurn, HasLength, Trekking}
+use Rattle.gq_trails.specs.Continued.{Continuing}
+use Rattle.gq_trails.specs.Trekking.{AreInTurn, HasLength}
 use Rattle.gq_execute.specs.declared.trailing.Walking.{Walking}
 use Rattle.gq_execute.specs.steps.Behind.{IsBlankFrom}
 
@@ -15,10 +16,11 @@ pub record CanWalk (b : Bound) (y : Typed) : Type 0 where
   pub turns : AreInTurn b.trails (λ v. nat_lt v (length y.nodes))
   pub few : length b.trails + length y.rels ≤ 24
 
--- trails of a query over a graph
-pub record AreTrailsOf (g : Graph) (b : Bound) (t : Trekking) : Type 0 where
+-- trails of a query over a graph; each row that they make counts once where the query has DISTINCT
+pub record AreTrailsOf (g : Graph) (b : Bound) (t : Continuing) : Type 0 where
   pub graph : t.graph ≡ g
   pub parts : t.parts ≡ b.trails
+  pub once : t.once ≡ b.distinct
   pub nodes : t.nodes ≡ length b.node_names
   pub rels : t.rels ≡ length b.rel_names
 

@@ -1,12 +1,12 @@
-use Rattle.std.proofs.Common.{◌∙◌, List, ap, flat_map, length, subst, sym}
-use Rattle.gq_law_trails.specs.Trails.{Trailing}
+use Rattle.std.proofs.Common.{◌∙◌, List, ap, flat_map, length, map, subst, sym}
+use Rattle.gq_plan.specs.Meaning.{Partial, row}
 use Rattle.gq_kept.specs.Chunks.{PushesAll}
-use Rattle.gq_trails.specs.Trekking.{CanTrek, continuations}
+use Rattle.gq_trails.specs.Continued.{rows_continued}
+use Rattle.gq_trails.specs.Trekking.{CanTrek}
 use Rattle.gq_execute.proofs.Continuing.{can_trek, core_row, same_rows}
 use Rattle.gq_execute.proofs.Copying.{both_copied}
 use Rattle.gq_execute.proofs.trailing.push_continued.Goals as goal
 use Rattle.gq_execute.specs.steps.Behind.{IsBlankFrom}
-use Rattle.gq_execute.specs.steps.Continuing.{reached_in}
 use Rattle.gq_execute.specs.steps.Taking.{if_admitted, outcomes_on}
 use Rattle.gq_execute.specs.steps.Testing.{admitted_by}
 
@@ -52,8 +52,8 @@ returns c =
     let out = outcomes_on (if_admitted (admitted_by c.args.prepared.now.tests.all) g) g b y in
     record {
       pushes = subst (λ os. PushesAll os c.args.table.now c.push_reached.new.table c.push_reached.result)
-          (ap (λ (ms : List Trailing). flat_map out (reached_in ms)) (c.begin.ensures.owed ∙ (λ i. continuations (h.trails.graph i) (h.trails.parts i) (c.as_slice.ensures i) w))
-          ∙ ap (flat_map out) (same_rows g b.trails y t w (core_row t w copied.0)))
+          (ap (λ (bs : List Partial). flat_map out (map row bs)) (c.begin.ensures.owed ∙ (λ i. rows_continued (h.trails.once i) (h.trails.graph i) (h.trails.parts i) (c.as_slice.ensures i) w))
+          ∙ ap (flat_map out) (same_rows g b y t w (core_row t w copied.0)))
           c.push_reached.ensures.pushes;
       query = c.push_reached.ensures.query;
       walking = record {

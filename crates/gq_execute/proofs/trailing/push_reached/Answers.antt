@@ -1,12 +1,11 @@
-use Rattle.std.proofs.Common.{◌∙◌, ap, flat_map, Err, Ok, subst, sym}
-use Rattle.gq_law_trails.specs.Trails.{Trailing}
+use Rattle.std.proofs.Common.{◌∙◌, ap, flat_map, map, Err, Ok, subst, sym}
 use Rattle.std.specs.Prelude.{List}
+use Rattle.gq_plan.specs.Meaning.{Partial, row}
 use Rattle.gq_kept.proofs.Chunking.{same_again, same_table}
 use Rattle.gq_kept.specs.declared.refusal.More.TheVariants as more
 use Rattle.gq_execute.proofs.Pushing.{taken_full, taken_more, taken_none, taken_refused}
 use Rattle.gq_execute.proofs.Reaching.{judged_here}
 use Rattle.gq_execute.proofs.trailing.push_reached.Goals as goal
-use Rattle.gq_execute.specs.steps.Continuing.{reached_in}
 use Rattle.gq_execute.specs.steps.Taking.{if_admitted, outcomes_on}
 use Rattle.gq_rows.specs.Growing.{IsContinued}
 use Rattle.gq_execute.specs.steps.Testing.{admitted_by}
@@ -34,13 +33,14 @@ rows-preserved c =
       trails = record {
         graph = c.advance.ensures.graph ∙ i.trails.graph;
         parts = c.advance.ensures.parts ∙ i.trails.parts;
+        once = c.advance.ensures.once ∙ i.trails.once;
         nodes = c.advance.ensures.nodes ∙ i.trails.nodes;
         rels = c.advance.ensures.rels ∙ i.trails.rels;
       };
       same = same_again c.args.table.now c.rows.table c.push_judged.new.table i.same query;
       room = pushes.1;
       some = (_, pushes.0 i.some.0 i.some.1);
-      came = taken_more _ c.args.table.now c.rows.table _ _ _ (ap (λ (ms : List Trailing). flat_map out (reached_in ms)) (c.advance.ensures.next c.rows-test.true)) i.came c.push_judged.new.table pushes.0;
+      came = taken_more _ c.args.table.now c.rows.table _ _ _ (ap (λ (bs : List Partial). flat_map out (map row bs)) (c.advance.ensures.next c.rows-test.true)) i.came c.push_judged.new.table pushes.0;
     }
 
 pub returns-in-Ok-Enough-clause-pushes : goal.returns-in-Ok-Enough-clause-pushes
@@ -52,7 +52,7 @@ returns-in-Ok-Enough-clause-pushes c =
     let later = if_admitted (admitted_by c.args.prepared.now.tests.all) g in
     let out = outcomes_on later g b y in
     let pushes = judged_here later g b y c.rows.table c.push_judged.new.table c.advance.new.self.reached c.row.result.now (Ok more.Enough) i.same.bound c.row.ensures (rw c.in-Ok-Enough.field-0-is at c.in-Ok-Enough.ensures.pushes) in
-    (taken_full _ c.args.table.now c.rows.table _ _ _ (ap (λ (ms : List Trailing). flat_map out (reached_in ms)) (c.advance.ensures.next c.rows-test.true)) i.came c.push_judged.new.table pushes.0 pushes.1, pushes.1)
+    (taken_full _ c.args.table.now c.rows.table _ _ _ (ap (λ (bs : List Partial). flat_map out (map row bs)) (c.advance.ensures.next c.rows-test.true)) i.came c.push_judged.new.table pushes.0 pushes.1, pushes.1)
 
 pub returns-in-Err-clause-pushes : goal.returns-in-Err-clause-pushes
 returns-in-Err-clause-pushes c =
@@ -63,7 +63,7 @@ returns-in-Err-clause-pushes c =
     let later = if_admitted (admitted_by c.args.prepared.now.tests.all) g in
     let out = outcomes_on later g b y in
     let pushes = judged_here later g b y c.rows.table c.push_judged.new.table c.advance.new.self.reached c.row.result.now (Err c.in-Err.refusal) i.same.bound c.row.ensures c.in-Err.ensures.pushes in
-    taken_refused _ c.args.table.now c.rows.table _ _ _ (ap (λ (ms : List Trailing). flat_map out (reached_in ms)) (c.advance.ensures.next c.rows-test.true)) i.came i.same c.push_judged.new.table c.in-Err.refusal pushes
+    taken_refused _ c.args.table.now c.rows.table _ _ _ (ap (λ (bs : List Partial). flat_map out (map row bs)) (c.advance.ensures.next c.rows-test.true)) i.came i.same c.push_judged.new.table c.in-Err.refusal pushes
 
 pub push_judged-requires-clause-continued : goal.push_judged-requires-clause-continued
 push_judged-requires-clause-continued c = subst IsContinued (sym c.rows.invariant.same.bound) c.requires.continued

@@ -1,7 +1,7 @@
-use Rattle.std.proofs.Common.{◌≡◌, false, flat_map, length}
+use Rattle.std.proofs.Common.{◌≡◌, false, flat_map, length, map}
+use Rattle.gq_plan.specs.Meaning.{row}
 use Rattle.gq_kept.specs.Tables.{IsSameQuery, StandsForSome, is_full_table}
 use Rattle.gq_execute.specs.steps.Behind.{Taken}
-use Rattle.gq_execute.specs.steps.Continuing.{reached_in}
 use Rattle.gq_execute.specs.steps.Taking.{if_admitted, outcomes_on}
 use Rattle.gq_execute.specs.steps.Testing.{admitted_by}
 use Rattle.gq_execute.specs.steps.Walking.{AreTrailsOf}
@@ -14,7 +14,7 @@ invariant-rows l = record {
   room : is_full_table l.table ≡ false;
   some : StandsForSome l.table;
   came : let out = outcomes_on (if_admitted (admitted_by l.prepared.tests.all) l.graph) l.graph l.initial.table.bound l.typed in
-      Taken (flat_map out (reached_in l.initial.trails.owed)) (flat_map out (reached_in l.trails.owed)) l.initial.table l.table;
+      Taken (flat_map out (map row l.initial.trails.owed)) (flat_map out (map row l.trails.owed)) l.initial.table l.table;
 }
 
 abbrev pub decreases-rows : goal.decreases-rows

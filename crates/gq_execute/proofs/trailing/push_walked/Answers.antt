@@ -11,7 +11,7 @@ use Rattle.gq_execute.proofs.Pushing.{taken_full, taken_more, taken_none, taken_
 use Rattle.gq_execute.proofs.Reaching.{each_made_of}
 use Rattle.gq_execute.proofs.trailing.push_walked.Goals as goal
 use Rattle.gq_execute.specs.steps.Behind.{Taken}
-use Rattle.gq_execute.specs.steps.Taking.{given_on, if_admitted}
+use Rattle.gq_execute.specs.steps.Taking.{continued_on, if_admitted}
 use Rattle.gq_execute.specs.steps.Testing.{admitted_by}
 use Rattle.gq_rows.specs.Growing.{IsContinued}
 use Rattle.gq_execute.specs.steps.Walking.{IsWalking}
@@ -22,7 +22,7 @@ choices-init c =
     let t = c.args.table.now in
     let y = c.args.typed.now in
     let gs = c.args.chunk.now.groups.now in
-    let out = outs (given_on (if_admitted (admitted_by c.args.prepared.now.tests.all) g)) g t.bound y c.args.chunk.now in
+    let out = outs (continued_on (if_admitted (admitted_by c.args.prepared.now.tests.all) g)) g t.bound y c.args.chunk.now in
     let left = first_left gs c.in_ok-found.found c.first.new.self c.in_ok-found.ensures in
     record {
       walking = c.requires.walking;
@@ -53,7 +53,7 @@ returns-in-Ok-Enough-clause-pushes c =
     let old = c.args.table.now in
     let mid = c.choices.table in
     let new = c.push_continued.new.table in
-    let becomes = given_on (if_admitted (admitted_by c.args.prepared.now.tests.all) g) in
+    let becomes = continued_on (if_admitted (admitted_by c.args.prepared.now.tests.all) g) in
     let i = c.choices.invariant in
     let pushes = choice_pushed becomes g old.bound c.args.typed.now c.args.chunk.now mid new c.new-row.result c.positions.result.now c.choices.choice.positions (Ok more.Enough) i.same.bound c.new-row.ensures c.positions.ensures
     (rw c.in-Ok-Enough.field-0-is at c.in-Ok-Enough.ensures.pushes) in
@@ -65,7 +65,7 @@ returns-in-Err-clause-pushes c =
     let old = c.args.table.now in
     let mid = c.choices.table in
     let new = c.push_continued.new.table in
-    let becomes = given_on (if_admitted (admitted_by c.args.prepared.now.tests.all) g) in
+    let becomes = continued_on (if_admitted (admitted_by c.args.prepared.now.tests.all) g) in
     let i = c.choices.invariant in
     let pushes = choice_pushed becomes g old.bound c.args.typed.now c.args.chunk.now mid new c.new-row.result c.positions.result.now c.choices.choice.positions (Err c.in-Err.refusal) i.same.bound c.new-row.ensures c.positions.ensures
     c.in-Err.ensures.pushes in
@@ -78,7 +78,7 @@ choices-preserved c =
     let old = c.args.table.now in
     let mid = c.choices.table in
     let new = c.push_continued.new.table in
-    let becomes = given_on (if_admitted (admitted_by c.args.prepared.now.tests.all) g) in
+    let becomes = continued_on (if_admitted (admitted_by c.args.prepared.now.tests.all) g) in
     let gs = c.args.chunk.now.groups.now in
     let out = outs becomes g old.bound y c.args.chunk.now in
     let i = c.choices.invariant in

@@ -7,7 +7,7 @@ use Rattle.gq_law_plans.specs.Safe.{IsMade}
 use Rattle.gq_plan.specs.Rows.{assigned}
 use Rattle.gq_kept.specs.Tables.{IsSameQuery, StandsForSome, is_full_table}
 use Rattle.gq_execute.specs.steps.Behind.{Taken}
-use Rattle.gq_execute.specs.steps.Taking.{given_on, if_admitted}
+use Rattle.gq_execute.specs.steps.Taking.{continued_on, if_admitted}
 use Rattle.gq_execute.specs.steps.Testing.{admitted_by}
 use Rattle.gq_execute.specs.steps.Walking.{IsWalking}
 use Rattle.gq_execute.proofs.Chosen.{choices_left, outs}
@@ -21,7 +21,7 @@ invariant-choices l = record {
   some : StandsForSome l.table;
   stands : l.found ≡ true → IsChoice l.chunk.groups.now l.choice;
   made : AllByRecursion (λ ps. IsMade l.graph l.typed (assigned l.typed (assignment_at l.graph l.typed l.chunk ps))) (choices_left l.chunk.groups.now l.found l.choice);
-  came : let out = outs (given_on (if_admitted (admitted_by l.prepared.tests.all) l.graph)) l.graph l.initial.table.bound l.typed l.chunk in
+  came : let out = outs (continued_on (if_admitted (admitted_by l.prepared.tests.all) l.graph)) l.graph l.initial.table.bound l.typed l.chunk in
       Taken (out (choices l.chunk.groups.now)) (out (choices_left l.chunk.groups.now l.found l.choice)) l.initial.table l.table;
 }
 

@@ -9,6 +9,7 @@ pub returns-clause-trails : goal.returns-clause-trails
 returns-clause-trails c = record {
   graph = c.in_ok-trails.ensures.graph;
   parts = c.in_ok-trails.ensures.parts ∙ c.as_slice-parts.ensures;
+  once = c.in_ok-trails.ensures.once;
   nodes = c.in_ok-trails.ensures.nodes ∙ c.requires.nodes;
   rels = c.in_ok-trails.ensures.rels ∙ c.requires.rels;
 }

@@ -3,10 +3,10 @@ use Rattle.std.specs.List.{AllByRecursion}
 use Rattle.gq_law_plans.specs.Safe.{IsMade}
 use Rattle.gq_pipe.specs.Serving.{Serves}
 use Rattle.gq_kept.specs.Tables.{IsSameQuery, StandsForSome, is_full_table}
-use Rattle.gq_execute.specs.steps.Taking.{Counted, IsRunOf, Pushed, given_on, if_admitted, owed_by}
+use Rattle.gq_execute.specs.steps.Taking.{Counted, IsRunOf, Pushed, continued_on, if_admitted, owed_by}
 use Rattle.gq_execute.specs.steps.Testing.{admitted_by}
 use Rattle.gq_execute.specs.steps.Walking.{IsWalking}
-use Rattle.gq_execute.proofs.trailing.drain_trails.Given as goal
+use Rattle.gq_execute.proofs.trailing.drain_walked.Given as goal
 
 abbrev pub invariant-chunks : goal.invariant-chunks
 invariant-chunks l = record {
@@ -21,7 +21,7 @@ invariant-chunks l = record {
   slots : l.pool.out ≡ l.initial.pool.out;
   room : is_full_table l.table ≡ false;
   some : StandsForSome l.table;
-  came : Pushed (given_on (if_admitted (admitted_by l.prepared.tests.all) l.graph)) l.graph l.initial.table l.table l.initial.pipeline l.pipeline;
+  came : Pushed (continued_on (if_admitted (admitted_by l.prepared.tests.all) l.graph)) l.graph l.initial.table l.table l.initial.pipeline l.pipeline;
   counted : Counted l.initial.table l.table l.initial.pipeline l.pipeline;
 }
 
