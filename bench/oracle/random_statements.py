@@ -44,9 +44,9 @@ class Writer:
         self.random = random
         self.nodes: list[str] = []
         self.relationships: list[str] = []
-        with_trails = random.random() < 0.35
-        self.trails = random.choice((1, 1, 1, 2, 2, 3)) if with_trails else 0
-        with_optionals = random.random() < (0.04 if with_trails else 0.5)
+        self.has_trails = random.random() < 0.35
+        self.trails = random.choice((1, 1, 1, 2, 2, 3)) if self.has_trails else 0
+        with_optionals = random.random() < (0.04 if self.has_trails else 0.5)
         self.optionals = random.choice((1, 1, 1, 2, 3)) if with_optionals else 0
         self.is_mild = random.random() < 0.6
 
@@ -110,7 +110,7 @@ class Writer:
         """A query."""
         clauses = [self.clause(False) for _ in range(self.random.choice((1, 1, 1, 2)))]
         clauses += [self.clause(True) for _ in range(self.optionals)]
-        is_distinct = self.chance(0.2)
+        is_distinct = self.chance(0.5 if self.has_trails else 0.2)
         columns = self.columns()
         text = f"{' '.join(clauses)} RETURN {'DISTINCT ' * is_distinct}{', '.join(columns)}"
         if self.chance(0.35):
