@@ -104,7 +104,7 @@ class Extract(ToolTest):
 
     def test_graphq_answers_the_same(self) -> None:
         questions = sorted((DEBIAN / "questions").glob("*.cypher"))
-        self.assertEqual(len(questions), 10)
+        self.assertEqual(len(questions), 12)
         for question in questions:
             with self.subTest(question=question.stem):
                 wanted = question.with_suffix(".expected").read_text()
