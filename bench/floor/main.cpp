@@ -12,12 +12,16 @@
 #include "keyed.hpp"
 #include "social_jobs.hpp"
 #include "star.hpp"
+#include "trails.hpp"
 
 static std::unique_ptr<Graph> load(const std::string& kind, const std::string& folder) {
   if (kind == "social") return std::make_unique<Social>(folder);
   if (kind == "star") return std::make_unique<Star>(folder);
   if (kind == "integer_keys" || kind == "chosen_keys") return std::make_unique<Keyed>(folder, false);
   if (kind == "text_keys") return std::make_unique<Keyed>(folder, true);
+  if (kind == "acquaintances") return std::make_unique<Trails>(folder + "/person.csv", folder + "/knows.csv", false);
+  if (kind == "imports") return std::make_unique<Trails>(folder + "/module.csv", folder + "/imports.csv", true);
+  if (kind == "hubs") return std::make_unique<Trails>(folder + "/place.csv", folder + "/leads.csv", false);
   stop("no such kind of graph: " + kind);
 }
 

@@ -28,7 +28,6 @@ class Social : public Graph {
   void two_lists_limit(Reply&, const Parameters&) const;
   void triangle(Reply&, const Parameters&) const;
   void close_triangles(Reply&, Front&, uint32_t a, uint32_t first, const std::vector<uint32_t>& back) const;
-  template <uint32_t MOST, class Each> void walk(uint32_t start, Each each) const;
   void trail(Reply&, const Parameters&) const;
   void trail_of_some(Reply&, const Parameters&) const;
   void trail_between(Reply&, const Parameters&) const;

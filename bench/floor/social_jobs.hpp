@@ -2,6 +2,7 @@
 #pragma once
 #include <queue>
 #include "social.hpp"
+#include "walks.hpp"
 
 inline void put(Reply& out, const Texts& column, uint32_t row) {
   if (column.nulls[row]) out.null();
@@ -175,35 +176,8 @@ inline void Social::close_triangles(Reply& out, Front& front, uint32_t a, uint32
   }
 }
 
-// Whether a relationship is one of the walk's, of which `next` has the place behind that of each.
-inline bool stands(uint32_t place, const uint32_t* next, uint32_t length) {
-  for (uint32_t i = 0; i < length; i++)
-    if (next[i] - 1 == place) return true;
-  return false;
-}
-// Calls `each` with all walks from a node of one to `MOST` relationships KNOWS, none twice: where it ends, and its places.
-template <uint32_t MOST, class Each> inline void Social::walk(uint32_t start, Each each) const {
-  const Lists& to = knows.forward;
-  uint32_t next[MOST], last[MOST], depth = 0;
-  next[0] = to.begin(start);
-  last[0] = to.end(start);
-  while (true) {
-    if (next[depth] == last[depth]) {
-      if (depth-- == 0) return;
-      continue;
-    }
-    const uint32_t place = next[depth]++;
-    if (stands(place, next, depth)) continue;
-    const uint32_t node = to.neighbours[place];
-    each(node, next, depth + 1);
-    if (depth + 1 == MOST) continue;
-    next[++depth] = to.begin(node);
-    last[depth] = to.end(node);
-  }
-}
-
 inline void Social::trail(Reply& out, const Parameters& given) const {
-  walk<3>(people_keys.row(given[0]), [&](uint32_t b, const uint32_t*, uint32_t) {
+  walk<3>(knows.forward, people_keys.row(given[0]), [&](uint32_t b, const uint32_t*, uint32_t) {
     out.number(person_id[b]);
     out.end();
   });
@@ -215,7 +189,7 @@ inline void Social::trail_of_some(Reply& out, const Parameters& given) const {
     if (age.nulls[a] || age.values[a] != given[0] || person_id[a] > given[1]) continue;
     front.cut(0);
     front.number(person_id[a]);
-    walk<3>(a, [&](uint32_t b, const uint32_t*, uint32_t) { out.row(front, person_id[b]); });
+    walk<3>(knows.forward, a, [&](uint32_t b, const uint32_t*, uint32_t) { out.row(front, person_id[b]); });
   }
 }
 
@@ -233,7 +207,7 @@ inline void Social::trail_between(Reply& out, const Parameters& given) const {
       if (to.neighbours[place] == b && !stands(place, next, length)) out.row(front, given[1]);
   };
   close(a, nullptr, 0);
-  walk<2>(a, close);
+  walk<2>(to, a, close);
 }
 
 inline void Social::single_hop(Reply& out, const Parameters& given) const {

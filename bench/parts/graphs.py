@@ -1,4 +1,4 @@
-"""The graphs: a manifest and CSV files in graphq's load format. The same kind and size give the same bytes.
+"""The graphs: a manifest and CSV files in graphq's load format. The same kind, size and seed give the same bytes.
 
 social N         Person 1..N, City 1..max(10, N/100), Post 1..N. KNOWS has some 10 relationships a person, by a power law: half of
                  the targets are near, a quarter is popular; loops and parallel relationships occur. LIKES has some 3 a person;
@@ -7,7 +7,11 @@ star N           One Hub, N Leaf, HAS from the hub to each leaf, in the order of
 integer_keys N   N persons and 5 N relationships KNOWS between them, by keys from 1 on.
 text_keys N      The same by texts that share a long front.
 chosen_keys N    The same by integers that are chosen to fall on one another: multiples of the number of a hash table's slots.
+imports N        N modules in packages of twenty, and 43,219 imports between 12,000 of them, a fifth by the first module of a package.
+                 A third stay in the package, and the others go to lower numbers, by a power law: the first module has thousands.
+hubs N           A chain of a hub for each thousand nodes: each leads to its 999 spokes, and 50 of these to the next hub.
 """
+import itertools
 import os
 import random
 from collections.abc import Callable, Iterable, Iterator
@@ -18,6 +22,8 @@ FILE_MOST, ALL_MOST = 268_435_456, 536_870_912
 SYLLABLES = [consonant + vowel for consonant in "bdfgjklmnprstvz" for vowel in "aeiou"]
 LANGUAGES = ("en", "de", "fr", "es", "zh")
 YEAR = 27.77  # how many years a unit of chance has, so that `since` goes from 2000 to 2024
+PACKAGE = 20
+SPOKES, LEADING_ON = 1000, 50
 
 
 def write(path: str, header: str, lines: Iterable[str]) -> None:
@@ -83,8 +89,7 @@ def likes(chance: Chance, count: int, most: int) -> Iterator[str]:
             yield f"{person},{1 + int(count * chance() ** 1.5)}"
 
 
-def social(count: int, place: Place) -> list[str]:
-    chance = random.Random(1).random
+def social(count: int, place: Place, chance: Chance) -> list[str]:
     towns, most = max(10, count // 100), max(20, min(count // 10, 3000))
     homes: list[int | str] = ["" if chance() < 0.05 else 1 + int(towns * chance() ** 2) for _ in range(count)]
     creators = ["" if chance() < 0.05 else 1 + int(count * chance() ** 2) for _ in range(count)]
@@ -101,18 +106,15 @@ def social(count: int, place: Place) -> list[str]:
             "rel LIKES Person Post many_many likes.csv", "rel HAS_CREATOR Post Person many_one creator.csv"]
 
 
-def star(count: int, place: Place) -> list[str]:
-    chance = random.Random(1).random
+def star(count: int, place: Place, chance: Chance) -> list[str]:
     write(place("hub.csv"), "id:int", ["1"])
     write(place("leaf.csv"), "id:int,w:int", (f"{leaf},{int(1000 * chance())}" for leaf in range(1, count + 1)))
     write(place("has.csv"), "from,to", (f"1,{leaf}" for leaf in range(1, count + 1)))
     return ["node Hub hub.csv", "node Leaf leaf.csv", "rel HAS Hub Leaf many_many has.csv"]
 
 
-def keyed(count: int, place: Place, kind: str, key: Callable[[int], str]) -> list[str]:
+def keyed(count: int, place: Place, chance: Chance, kind: str, key: Callable[[int], str]) -> list[str]:
     """Persons and five times as many relationships, where `key` spells the key of a number from 1 on."""
-    chance = random.Random(1).random
-
     def any_key() -> str:
         return key(1 + int(chance() * count))
 
@@ -123,19 +125,45 @@ def keyed(count: int, place: Place, kind: str, key: Callable[[int], str]) -> lis
     return ["node Person person.csv", "rel KNOWS Person Person many_many knows.csv"]
 
 
-KINDS: dict[str, Callable[[int, Place], list[str]]] = {
+def imports(count: int, place: Place, chance: Chance) -> list[str]:
+    def one() -> str:
+        module = int(count * chance())
+        package = module - module % PACKAGE
+        if chance() < 1 / 5:
+            module = package
+        if chance() < 1 / 3:
+            return f"{module + 1},{package + 1 + int(chance() * min(PACKAGE, count - package))}"
+        return f"{module + 1},{1 + int((module + 1) * chance() ** 4)}"
+
+    write(place("module.csv"), "id:int,name:string", (f"{module},module {module}" for module in range(1, count + 1)))
+    write(place("imports.csv"), "from,to", (one() for _ in range(count * 43_219 // 12_000)))
+    return ["node Module module.csv", "rel IMPORTS Module Module many_many imports.csv"]
+
+
+def hubs(count: int, place: Place, _chance: Chance) -> list[str]:
+    write(place("place.csv"), "id:int", map(str, range(1, count + 1)))
+    chain = range(1, count + 1, SPOKES)
+    out = (f"{hub},{spoke}" for hub in chain for spoke in range(hub + 1, min(hub + SPOKES, count + 1)))
+    on = (f"{spoke},{hub + SPOKES}" for hub in chain[:-1] for spoke in range(hub + 1, hub + SPOKES, SPOKES // LEADING_ON))
+    write(place("leads.csv"), "from,to", itertools.chain(out, on))
+    return ["node Place place.csv", "rel LEADS Place Place many_many leads.csv"]
+
+
+KINDS: dict[str, Callable[[int, Place, Chance], list[str]]] = {
     "social": social,
     "star": star,
-    "integer_keys": lambda count, place: keyed(count, place, "int", str),
-    "text_keys": lambda count, place: keyed(count, place, "string", lambda number: f"person-{number:08}"),
-    "chosen_keys": lambda count, place: keyed(count, place, "int", lambda number: str(number * (4 * count + 1))),
+    "integer_keys": lambda count, place, chance: keyed(count, place, chance, "int", str),
+    "text_keys": lambda count, place, chance: keyed(count, place, chance, "string", lambda number: f"person-{number:08}"),
+    "chosen_keys": lambda count, place, chance: keyed(count, place, chance, "int", lambda number: str(number * (4 * count + 1))),
+    "imports": imports,
+    "hubs": hubs,
 }
 
 
-def make(kind: str, count: int, folder: str) -> None:
+def make(kind: str, count: int, folder: str, seed: int = 1) -> None:
     """Makes a graph in a folder that is not there yet."""
     os.makedirs(folder)
-    lines = KINDS[kind](count, lambda file: os.path.join(folder, file))
+    lines = KINDS[kind](count, lambda file: os.path.join(folder, file), random.Random(seed).random)
     sizes = [os.path.getsize(os.path.join(folder, line.split()[-1])) for line in lines]
     if max(sizes) > FILE_MOST or sum(sizes) > ALL_MOST:
         raise SystemExit(f"bench/run: {kind}:{count} is past the bounds of what graphq loads")

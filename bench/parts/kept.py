@@ -49,7 +49,7 @@ class Kept:
         command = ["g++", "-std=c++17", *OPTIONS[name], main, "-o"]
         return self.keep(f"{name}-{checksum(main, *headers)}", lambda place: subprocess.run([*command, place], check=True))
 
-    def graph(self, kind: str, count: int) -> str:
+    def graph(self, kind: str, count: int, seed: int = 1) -> str:
         """The folder of a graph."""
-        stamp = checksum(graphs.__file__)
-        return self.keep(f"{kind}-{count}-{stamp}", lambda place: graphs.make(kind, count, place))
+        name = f"{kind}-{count}-{seed}-{checksum(graphs.__file__)}"
+        return self.keep(name, lambda place: graphs.make(kind, count, place, seed))

@@ -22,6 +22,33 @@ LONG = 2       # seconds: the measures of one program and query take no longer, 
 LOADS = 10     # seconds: the loads of one program take no longer, but for the first
 
 
+class Measures:
+    """The measures of one program and query: how many requests go in each, and what each gave for one of them."""
+
+    def __init__(self, session: Session, query: Query, first: float = 0) -> None:
+        """`first` is what a request took that was checked: where it took long, it is the one measure. Else the first request that is
+        not checked says how many make a measure."""
+        self.session, self.query, self.copies = session, query, 1
+        self.times: list[float] = []
+        if first >= LONG:
+            self.times, self.peak = [first], session.peak()
+            return
+        session.forget_peak()
+        seconds = session.measure(query)
+        self.peak = session.peak()
+        self.copies = max(1, min(MOST_COPIES, math.ceil(ENOUGH / max(seconds, 1e-6))))
+
+    def left(self) -> bool:
+        """Whether there is time for one more."""
+        return not self.times or (sum(self.times) + min(self.times)) * self.copies <= LONG
+
+    def take(self) -> None:
+        """One measure more."""
+        if self.copies > 1:
+            self.session.measure(self.query)
+        self.times.append(self.session.measure(self.query, self.copies))
+
+
 class Bench:
     """The programs over one graph."""
 
@@ -96,9 +123,7 @@ class Turns:
     def __init__(self, bench: Bench, query: Query) -> None:
         self.bench, self.query = bench, query
         self.notes: list[str] = []
-        self.peaks: dict[str, float] = {}
-        self.copies: dict[Session, int] = {}
-        self.times: dict[Session, list[float]] = {}
+        self.measures: dict[Session, Measures] = {}
         self.rows: int | None = None
         self.calls: dict[str, int] | None = None
 
@@ -108,29 +133,21 @@ class Turns:
         self.first_sqlite(wanted)
         self.first_graphq(wanted)
         for turn in range(self.bench.options.repeat):
-            for session in [one for one, times in self.times.items() if len(times) == turn and self.left(one)]:
+            for session in [one for one, measures in self.measures.items() if len(measures.times) == turn and measures.left()]:
                 self.measure(session)
-        times = {session.name: sorted(times) for session, times in self.times.items() if times}
+        by_name = {session.name: measures for session, measures in self.measures.items()}
+        times = {name: sorted(measures.times) for name, measures in by_name.items() if measures.times}
         return Answer(
             query=self.query.name, subject=self.query.subject, text=self.query.text, rows=self.rows,
             seconds={name: all_of[0] for name, all_of in times.items()},
             second={name: all_of[1] for name, all_of in times.items() if len(all_of) > 1},
-            copies={session.name: copies for session, copies in self.copies.items()},
-            peak_mb=self.peaks, notes=self.notes, calls=self.calls,
+            copies={name: measures.copies for name, measures in by_name.items()},
+            peak_mb={name: measures.peak for name, measures in by_name.items()}, notes=self.notes, calls=self.calls,
         )
 
-    def left(self, session: Session) -> bool:
-        """Whether there is time for one more measure."""
-        times = self.times[session]
-        return not times or (sum(times) + min(times)) * self.copies[session] <= LONG
-
-    def begin(self, session: Session) -> None:
-        """The first request that is not checked: how long it takes says how many make a measure."""
-        session.forget_peak()
-        seconds = session.measure(self.query)
-        self.peaks[session.name] = session.peak()
-        self.copies[session] = max(1, min(MOST_COPIES, math.ceil(ENOUGH / max(seconds, 1e-6))))
-        self.times[session] = []
+    def begin(self, session: Session, first: float = 0) -> None:
+        """Begins to measure a program whose first answer, which is checked, took so long."""
+        self.measures[session] = Measures(session, self.query, first)
 
     def first_floor(self) -> list[str] | None:
         """The bag of the floor's answer."""
@@ -157,10 +174,7 @@ class Turns:
             return
         try:
             seconds = sqlite.measure(self.query, out=self.bench.place("sqlite"))
-            if seconds < LONG:
-                self.begin(sqlite)
-            else:  # it is as good a measure as one more
-                self.copies[sqlite], self.times[sqlite], self.peaks["sqlite3"] = 1, [seconds], sqlite.peak()
+            self.begin(sqlite, seconds)
         except Stopped as why:
             self.give_up(sqlite, why)
             return
@@ -195,17 +209,14 @@ class Turns:
 
     def measure(self, session: Session) -> None:
         """One measure more."""
-        copies = self.copies[session]
         try:
-            if copies > 1:
-                session.measure(self.query)
-            self.times[session].append(session.measure(self.query, copies))
+            self.measures[session].take()
         except Stopped as why:
             self.give_up(session, why)
 
     def give_up(self, session: Session, why: Stopped) -> None:
         """A query that a program does not end: it is loaded anew for the next. That graphq does not is a failure."""
-        self.times.pop(session, None)
+        self.measures.pop(session, None)
         self.notes.append(f"{session.name}: {why}")
         if session.name == "graphq":
             self.bench.fail(f"{self.query.name}: {why}")

@@ -6,7 +6,7 @@ from collections.abc import Mapping, Sequence
 from .results import Answer, Graph
 
 PROGRAMS = ("C++", "sqlite3", "graphq")
-FROM, TO = "<!-- from here on by bench/run --page -->", "<!-- up to here -->"
+FROM, TO = "<!-- from here on by {} --page -->", "<!-- up to here -->"
 ROUGH = 1.2  # a number is rough whose second least measure is more than so many times the least
 
 
@@ -99,15 +99,16 @@ def load_cell(graph: Graph, name: str) -> str:
     return f"{number(load['seconds'], 2)} s{times}, {load['peak_mb']:,.0f} MB, {load['resident_mb']:,.0f} held"
 
 
-def put_into(path: str, text: str) -> None:
-    """Puts text into a page, in place of what stands there between the lines FROM and TO."""
+def put_into(path: str, text: str, command: str = "bench/run") -> None:
+    """Puts text into a page, in place of what stands there between the lines FROM, with the command, and TO."""
+    begin = FROM.format(command)
     with open(path, encoding="utf8") as file:
-        before, _, rest = file.read().partition(FROM)
+        before, _, rest = file.read().partition(begin)
     _, end, after = rest.partition(TO)
     if not end:
-        raise SystemExit(f"bench/run: the page {path} has no place for tables: the lines {FROM} and {TO}")
+        raise SystemExit(f"{command}: the page {path} has no place for tables: the lines {begin} and {TO}")
     with open(path, "w", encoding="utf8") as file:
-        file.write(f"{before}{FROM}\n\n{text}\n\n{TO}{after}")
+        file.write(f"{before}{begin}\n\n{text}\n\n{TO}{after}")
 
 
 def growth_text(graphs: Sequence[Graph]) -> str:
