@@ -50,10 +50,10 @@ class Sqlite(ToolTest):
         self.database.execute("PRAGMA foreign_keys = ON")
         self.database.executescript((self.folder / "sql/graph.sql").read_text())
 
-    def test_there_are_eighteen_questions(self) -> None:
+    def test_there_are_nineteen_questions(self) -> None:
         names = sorted(path.stem for path in QUESTIONS.glob("*.cypher"))
         self.assertEqual(names, sorted(path.stem for path in SQL.glob("*.sql")))
-        self.assertEqual(len(names), 18)
+        self.assertEqual(len(names), 19)
 
     def test_questions(self) -> None:
         for question in sorted(QUESTIONS.glob("*.cypher")):
