@@ -5,7 +5,8 @@ It follows every name from the signature and the clauses of `run`: to definition
 src/, and from a struct with an `impl Model` to its `Value`; a word that a definition binds is followed too where it names
 something. It lists the kit's words and what it cannot resolve, and counts no blank lines, imports and bodies of functions.
 
-    docs/reading.py                  each file, with its lines that are reached and all its lines; the kit; the total
+    docs/reading.py                  each file, with its lines that are reached and all its lines: first what carries the rows, then
+                                     grammar, binding, load, texts and session, then `:plan` and `:profile`; the kit; the total
     docs/reading.py --definitions    the same, with each definition by name
     docs/reading.py --unreached      what of specs/ no public function's clause uses, nor a definition that one reaches: specs/steps/
     docs/reading.py --inner          which public clauses, or definitions that one reaches, name a definition of specs/steps/ or of
@@ -34,7 +35,7 @@ NO_CODE = re.compile(r" *(?:--|//|#|infix|(?:pub )?mod |module _ |(?:unfoldable 
 ITEM = re.compile(r"(?:pub(?:\(crate\))? )?(fn|struct|enum|trait|type|const|impl)\b(?:<.*?>)? (?:(\w+).* for )?(\w+)")
 FUNCTION = re.compile(r"^(?= *(?:pub(?:\(crate\))? )?(?:const )?fn )", re.M)
 # The crates whose public clauses still name definitions of specs/steps/ or proofs/: none may come to them.
-STILL_INNER = set("gq_bound gq_cuts gq_exists gq_law_cuts gq_law_reaches gq_law_trails gq_optional gq_pipe gq_plan gq_trails".split())
+STILL_INNER = set("gq_bound gq_cells gq_cuts gq_hops gq_law_cuts gq_law_reaches gq_law_trails gq_optional gq_plan gq_trails".split())
 BODY = re.compile(r"^( *)(?:(?:\)|(?:pub(?:\(crate\))? )?(?:const )?fn ).*)?\{\n(?:(?!\1\S).*\n)*\1\}$", re.M)
 CLAUSE = re.compile(r"\b(?:requires|ensures|ghost)\*?(?: \w+)?(?: ?[:=])? \{((?:[^{}]|\{(?:[^{}]|\{[^{}]*\})*\})*)\}")
 
@@ -174,19 +175,12 @@ def show_inner() -> int:  # from the public clauses on, and not beyond a definit
     return int(is_new)
 
 
-def main(flags: list[str]) -> int:
-    for path in sorted(CRATES.glob("*/s*/**/*.*t")):
-        if "formers" not in path.parts:  # there the kit wants how a type may stand inside itself, which no clause names
-            SOURCES[str(path.relative_to(CRATES).with_suffix(""))] = Source(path)
-    if "--inner" in flags:
-        return show_inner()
-    of_claim = "--unreached" not in flags
-    reached, kit, unresolved, total, count = set[Item](), dict[str, set[str]](), set[str](), 0, 0
-    todo = [item for item in SOURCES["gq_shell/src/program"].items if item.name == "run"]
-    todo += public_items() if not of_claim else []
+def reached_from(roots: Iterable[Item], without: Iterable[Item] = ()) -> tuple[set[Item], dict[str, set[str]], set[str]]:
+    """What some items reach, but through none of these; the kit's words that they name, by module; and what is not resolved."""
+    todo, passed, reached, kit, unresolved = list(roots), set(without), set[Item](), dict[str, set[str]](), set[str]()
     while todo:
         item = todo.pop()
-        for word, meant in item.uses() if item not in reached else ():
+        for word, meant in item.uses() if item not in reached | passed else ():
             if isinstance(meant, tuple):
                 kit.setdefault(meant[0], set()).add(meant[1])
             elif meant:
@@ -194,15 +188,53 @@ def main(flags: list[str]) -> int:
             else:
                 unresolved.add(f"unresolved: {word} in {item.name} of {item.source.path}\n")
         reached.add(item)
+    return reached, kit, unresolved
+
+
+def named(path: str, *names: str) -> list[Item]:
+    return [item for item in SOURCES[path].items if item.name in names]
+
+
+def show_files(chosen: set[Item], with_names: bool) -> tuple[int, str]:  # how many lines these items are, and the line of each file
+    total, shown = 0, ""
     for source in SOURCES.values():
-        chosen = [item for item in source.items if (item in reached) == of_claim and (of_claim or not source.is_rust)]
-        lines = len(set().union(*(item.lines for item in chosen)))
-        total, count = total + lines, count + len(chosen)
-        if chosen:
-            print(f"{lines:5} of {source.text.count(chr(10)):3}  {source.path}")
-            print(*(f"{'':17}{item.name}\n" for item in chosen if flags), sep="", end="")
-    kit_lines = (f"the kit's {module}: {' '.join(sorted(kit[module]))}\n" for module in sorted(kit) if of_claim)
-    print(*kit_lines, *sorted(unresolved), f"{total} lines of {count} definitions", sep="")
+        if items := [item for item in source.items if item in chosen]:
+            lines = len(set().union(*(item.lines for item in items)))
+            total += lines
+            shown += f"{lines:5} of {source.text.count(chr(10)):3}  {source.path}\n"
+            shown += "".join(f"{'':17}{item.name}\n" for item in items if with_names)
+    return total, shown
+
+
+def show_claim(with_names: bool) -> None:  # in parts: who believes the first believes the rows of a bound query
+    run = named("gq_shell/src/program", "run")
+    reached, kit, unresolved = reached_from(run)
+    rows = reached_from(named("gq_execute/specs/Replies", "IsPermitted"))[0]
+    plain = reached_from(run, named("gq_reply/specs/Replies", "ShowsPlans", "IsProfile"))[0]
+    total = 0
+    for title, part in (("rows: which are permitted to a query that is bound", rows),
+                        ("grammar, binding, load, texts and session", (reached & plain) - rows),
+                        (":plan and :profile", reached - plain - rows)):
+        lines, shown = show_files(part, with_names)
+        total += lines
+        print(f"{title}: {lines} lines\n{shown}")
+    print(*(f"the kit's {module}: {' '.join(sorted(kit[module]))}\n" for module in sorted(kit)), *sorted(unresolved),
+          f"{total} lines of {len(reached)} definitions", sep="")
+
+
+def main(flags: list[str]) -> int:
+    for path in sorted(CRATES.glob("*/s*/**/*.*t")):
+        if "formers" not in path.parts:  # there the kit wants how a type may stand inside itself, which no clause names
+            SOURCES[str(path.relative_to(CRATES).with_suffix(""))] = Source(path)
+    if "--inner" in flags:
+        return show_inner()
+    if "--unreached" in flags:
+        reached, _, unresolved = reached_from(public_items())
+        others = {item for source in SOURCES.values() if not source.is_rust for item in source.items} - reached
+        lines, shown = show_files(others, True)
+        print(shown, *sorted(unresolved), f"{lines} lines of {len(others)} definitions", sep="")
+        return 0
+    show_claim("--definitions" in flags)
     return 0
 
 
