@@ -54,7 +54,11 @@ impl<'r, 'c, 'g> Spot<'r, 'c, 'g> {
         ensures { IsFound self.now.graph.now finder.now.way (here_at self.now) result }
     {
         match finder.lead {
-            Lead::Unknown => self.find_anew(finder.way),
+            // That nothing is found of an expression with a value of its own needs no call.
+            Lead::Unknown => match finder.way {
+                Way::Value => Found::Other,
+                Way::Node(_) | Way::Rel(_) => self.find_anew(finder.way),
+            },
             Lead::Held(number) => Found::Number(number),
             Lead::Item { group } => found_within(finder.way, self.item(group)),
             Lead::Home => self.find_home(finder.way),
