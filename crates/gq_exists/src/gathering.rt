@@ -11,40 +11,28 @@ use crate::keys::Keys;
 use crate::settled::{are_settled, item_group};
 use gq_base::{Memory, NodeId};
 use gq_group::{Choice, Chunk};
-use gq_join::{JoinRefusal, Room};
+use gq_join::JoinRefusal;
 use gq_plan::Typed;
 use std::alloc::Global;
 
-/// The keys that came so far, of so many nodes each, how many there may be, and what they may still
-/// take.
+/// The keys that came so far, of so many nodes each, and how many there may be.
 #[derive(Drop)]
 pub struct Gathering {
     pub(crate) keys: Keys,
     pub(crate) width: u32,
     pub(crate) limit: u32,
-    pub(crate) room: Room,
 }
 
 impl Gathering {
     /// No keys yet.
-    pub(crate) fn new(
-        alloc: Global,
-        width: u32,
-        limit: u32,
-        room: Room,
-    ) -> Result<Gathering, Memory>
+    pub(crate) fn new(alloc: Global, width: u32, limit: u32) -> Result<Gathering, Memory>
         ensures is { IfOk result IsGathering }
         ensures width { IfOk result (λ g. g.width ≡ width) }
         ensures limit { IfOk result (λ g. g.limit ≡ limit) }
         ensures none { IfOk result (λ g. keys_in g.keys ≡ []) }
     {
         let keys = Keys::new(alloc, width as usize)?;
-        Ok(Gathering {
-            keys,
-            width,
-            limit,
-            room,
-        })
+        Ok(Gathering { keys, width, limit })
     }
 
     /// Whether no further key can differ from those that came: each has no nodes, and there is one.
@@ -61,7 +49,7 @@ impl Gathering {
         requires wide { length key.now ≡ self.old.width }
         ensures { Gathers (key.now ∷ []) self.old self.new result }
     {
-        self.keys.insert(key, &mut self.room)?;
+        self.keys.insert(key)?;
         if self.keys.len() > self.limit as usize {
             return Err(JoinRefusal::TooManyRows { limit: self.limit });
         }

@@ -25,7 +25,7 @@ use crate::keys::Keys;
 use gq_base::{List, Memory, NodeId};
 use gq_expr::Assigned;
 use gq_group::Choice;
-use gq_join::{JoinRefusal, Room};
+use gq_join::JoinRefusal;
 use gq_pipe::{Pipeline, Spent, make_builds};
 use gq_plan::{ExistsPart, Plan, Typed};
 use gq_pool::VectorPool;
@@ -57,9 +57,8 @@ impl Model for KeySet {
 impl KeySet {
     /// The keys of what these plans make of the alternatives of a path. `TooManyRows` comes exactly
     /// where more keys differ than the limit; want of memory comes also where an alternative has
-    /// fewer variables than the path shares with its query, as none has, and where the room has
-    /// fewer bytes than the different keys take, which go out of it. Without a shared variable it
-    /// ends at the first chunk. The slots of the pool that are out afterwards are those that were
+    /// fewer variables than the path shares with its query, as none has. Without a shared variable
+    /// it ends at the first chunk. The slots of the pool that are out afterwards are those that were
     /// before, after a refusal too.
     pub fn make(
         alloc: Global,
@@ -68,7 +67,6 @@ impl KeySet {
         plans: &[Plan],
         pool: &mut VectorPool,
         limit: u32,
-        room: &mut Room,
     ) -> Result<KeySet, JoinRefusal>
         requires sound { All (IsSound graph.now.catalog) part.now.alternatives }
         requires covers { let ps = map plan_of plans.now in
@@ -90,7 +88,7 @@ impl KeySet {
         if part.nodes.len() > u32::MAX as usize {
             return Err(JoinRefusal::Memory(Memory::Limit));
         }
-        let mut gathering = Gathering::new(alloc, part.nodes.len() as u32, limit, *room)?;
+        let mut gathering = Gathering::new(alloc, part.nodes.len() as u32, limit)?;
         let mut spent = List::new(alloc);
         let alternatives = part.alternatives.as_slice();
         match run_each(
@@ -105,12 +103,7 @@ impl KeySet {
             Ok(()) => {}
             Err(refusal) => return Err(refusal),
         }
-        let Gathering {
-            keys,
-            room: left,
-            ..
-        } = gathering;
-        *room = left;
+        let Gathering { keys, .. } = gathering;
         Ok(KeySet { keys, spent })
     }
 
@@ -183,7 +176,7 @@ fn fill(
 }
 
 // Takes the keys of what a plan makes of an alternative. It has no joins and so no builds: of these
-// nothing but memory can be wanting, and they take none of the room.
+// nothing but memory can be wanting.
 fn run(
     gathering: &mut Gathering,
     spent: &mut List<Spent>,
@@ -208,8 +201,7 @@ fn run(
     if gathering.width as usize > typed.nodes.len() {
         return Err(JoinRefusal::Memory(Memory::Limit));
     }
-    let mut side = gathering.room;
-    let builds = match make_builds(alloc, graph, plan, typed, pool, gathering.limit, &mut side) {
+    let builds = match make_builds(alloc, graph, plan, typed, pool, gathering.limit) {
         Ok(builds) => builds,
         Err(JoinRefusal::Memory(memory)) => return Err(JoinRefusal::Memory(memory)),
         // A plan without joins has no side plan that could make too many assignments.

@@ -10,7 +10,6 @@ use crate::paths::Paths;
 use crate::rows::Rows;
 use gq_base::{Memory, NodeId};
 use gq_expr::Assigned;
-use gq_join::Room;
 use std::alloc::Global;
 
 /// Lists of so many nodes, each once, in the order of their first.
@@ -67,9 +66,8 @@ impl Keys {
         }
     }
 
-    /// Adds a list, unless it is among them. What it takes goes out of the room; `Memory` comes
-    /// also where that has too little.
-    pub(crate) fn insert(&mut self, key: &[NodeId], room: &mut Room) -> Result<(), Memory>
+    /// Adds a list, unless it is among them.
+    pub(crate) fn insert(&mut self, key: &[NodeId]) -> Result<(), Memory>
         requires are { AreKeys self.old }
         requires wide { IsWide (length key.now) self.old }
         ensures keys { OnOk result (keys_in self.new ≡ with_key (keys_in self.old) key.now) }
@@ -77,8 +75,8 @@ impl Keys {
         ensures are { OnOk result (AreKeys self.new) }
     {
         match self {
-            Keys::Rows(rows) => rows.insert(key, room),
-            Keys::Paths(paths) => paths.insert(key, room),
+            Keys::Rows(rows) => rows.insert(key),
+            Keys::Paths(paths) => paths.insert(key),
         }
     }
 }

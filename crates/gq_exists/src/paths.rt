@@ -7,13 +7,8 @@ ghost use Rattle.gq_plan.specs.Keys.{has_key};
 
 use gq_base::{Memory, NodeId};
 use gq_expr::Assigned;
-use gq_join::Room;
 use indexmap::IndexSet;
 use std::alloc::Global;
-
-/// What a link takes, in bytes: its own 16, 8 for its bucket and 8 of a group of nine buckets'
-/// places, all twice, since a level grows to twice what it held.
-const LINK_BYTES: u64 = 64;
 
 /// A node behind the front of a number.
 #[derive(Clone, Copy, PartialEq, Eq, Hash)]
@@ -82,9 +77,8 @@ impl Paths {
         self.any && is_found_at(self.levels.as_slice(), 0, nodes, row)
     }
 
-    /// Adds a list, unless it is among them. What it takes goes out of the room; `Memory` comes
-    /// also where that has too little.
-    pub(crate) fn insert(&mut self, key: &[NodeId], room: &mut Room) -> Result<(), Memory>
+    /// Adds a list, unless it is among them.
+    pub(crate) fn insert(&mut self, key: &[NodeId]) -> Result<(), Memory>
         requires are { ArePaths self.old }
         requires wide { length key.now ≡ length self.old.levels.items }
         ensures keys { OnOk result (
@@ -94,7 +88,7 @@ impl Paths {
         ensures are { OnOk result (ArePaths self.new) }
     {
         self.any = true;
-        insert_behind(self.levels.as_mut_slice(), 0, key, room)?;
+        insert_behind(self.levels.as_mut_slice(), 0, key)?;
         Ok(())
     }
 }
@@ -147,12 +141,7 @@ fn is_found_at<R: Assigned>(levels: &[IndexSet<Link>], front: usize, nodes: &[u3
 }
 
 // Makes nodes lead on from a front through all levels.
-fn insert_behind(
-    levels: &mut [IndexSet<Link>],
-    front: usize,
-    key: &[NodeId],
-    room: &mut Room,
-) -> Result<(), Memory>
+fn insert_behind(levels: &mut [IndexSet<Link>], front: usize, key: &[NodeId]) -> Result<(), Memory>
     ensures { OnOk result (links_of levels.new ≡ grown (links_of levels.old) front key.now) }
 {
     let Some((level, levels)) = levels.split_first_mut() else {
@@ -161,15 +150,6 @@ fn insert_behind(
     let Some((node, key)) = key.split_first() else {
         return Ok(());
     };
-    let (number, is_new) = level.insert_full(Link::new(front, *node))?;
-    count_link(room, is_new)?;
-    insert_behind(levels, number, key, room)
-}
-
-// Takes what a link takes out of the room, where it is a new one.
-fn count_link(room: &mut Room, is_new: bool) -> Result<(), Memory> {
-    if is_new {
-        room.take(LINK_BYTES)?;
-    }
-    Ok(())
+    let (number, _) = level.insert_full(Link::new(front, *node))?;
+    insert_behind(levels, number, key)
 }

@@ -12,17 +12,7 @@ ghost use Rattle.gq_plan.specs.Keys.{has_key};
 use gq_base::{Memory, NodeId};
 use gq_bits::{Marks, VECTOR};
 use gq_expr::Assigned;
-use gq_join::Room;
 use std::alloc::Global;
-
-/// What a node takes, in bytes: twice its own, since a list grows to twice what it held.
-const NODE_BYTES: u64 = 16;
-
-/// What a block of marks takes, in bytes: twice its own 256.
-const BLOCK_BYTES: u64 = 512;
-
-/// What the list of the blocks of a table takes, in bytes: twice its own.
-const TABLE_BYTES: u64 = 48;
 
 /// Nodes, each once, in the order of their first. Which rows of a table they are is told by bits,
 /// in blocks of `VECTOR` rows; past the last block of a table none is there.
@@ -81,9 +71,8 @@ impl Rows {
         }
     }
 
-    /// Adds the node of a list, unless it is among these. What it takes goes out of the room;
-    /// `Memory` comes also where that has too little.
-    pub(crate) fn insert(&mut self, key: &[NodeId], room: &mut Room) -> Result<(), Memory>
+    /// Adds the node of a list, unless it is among these.
+    pub(crate) fn insert(&mut self, key: &[NodeId]) -> Result<(), Memory>
         requires are { AreRows self.old }
         requires wide { length key.now ≡ 1 }
         ensures keys { OnOk result (rows_in self.new ≡ with_key (rows_in self.old) key.now) }
@@ -92,7 +81,7 @@ impl Rows {
         let Some((node, _others)) = key.split_first() else {
             return Ok(());
         };
-        self.insert_node(*node, room)
+        self.insert_node(*node)
     }
 
     // Whether a node is among these.
@@ -107,15 +96,14 @@ impl Rows {
     }
 
     // Adds a node, unless it is among these.
-    fn insert_node(&mut self, node: NodeId, room: &mut Room) -> Result<(), Memory>
+    fn insert_node(&mut self, node: NodeId) -> Result<(), Memory>
         requires { AreRows self.old }
         ensures nodes { OnOk result (self.new.nodes.items ≡ with_node self.old.nodes.items node) }
         ensures are { OnOk result (AreRows self.new) }
     {
         let table = node.table as usize;
-        reach_table(&mut self.tables, self.alloc, table, room)?;
-        if mark(&mut self.tables[table], node.row, room)? {
-            room.take(NODE_BYTES)?;
+        reach_table(&mut self.tables, self.alloc, table)?;
+        if mark(&mut self.tables[table], node.row)? {
             self.nodes.push(node)?;
         }
         Ok(())
@@ -133,13 +121,13 @@ fn has_row(blocks: &[Marks], row: u32) -> bool
 }
 
 // Marks a row, and answers whether it was not marked before.
-fn mark(blocks: &mut Vec<Marks>, row: u32, room: &mut Room) -> Result<bool, Memory>
+fn mark(blocks: &mut Vec<Marks>, row: u32) -> Result<bool, Memory>
     ensures first { IfOk result (λ first. first ≡ not (marked_in blocks.old.items row)) }
     ensures marked { OnOk result ((r : ℕ) → marked_in blocks.new.items r
         ≡ (nat_eq r row || marked_in blocks.old.items r)) }
 {
     let block = (row / VECTOR) as usize;
-    reach_block(blocks, block, room)?;
+    reach_block(blocks, block)?;
     let marks = &mut blocks[block];
     let known = marks.get(row % VECTOR);
     marks.set(row % VECTOR, true);
@@ -147,31 +135,24 @@ fn mark(blocks: &mut Vec<Marks>, row: u32, room: &mut Room) -> Result<bool, Memo
 }
 
 // Makes blocks up to one of this number.
-fn reach_block(blocks: &mut Vec<Marks>, block: usize, room: &mut Room) -> Result<(), Memory>
+fn reach_block(blocks: &mut Vec<Marks>, block: usize) -> Result<(), Memory>
     ensures there { OnOk result (block < length blocks.new.items) }
     ensures same { OnOk result (
         (r : ℕ) → marked_in blocks.new.items r ≡ marked_in blocks.old.items r) }
 {
     'blocks: while blocks.len() <= block {
-        room.take(BLOCK_BYTES)?;
         blocks.push(Marks::none())?;
     }
     Ok(())
 }
 
 // Makes tables up to one of this number.
-fn reach_table(
-    tables: &mut Vec<Vec<Marks>>,
-    alloc: Global,
-    table: usize,
-    room: &mut Room,
-) -> Result<(), Memory>
+fn reach_table(tables: &mut Vec<Vec<Marks>>, alloc: Global, table: usize) -> Result<(), Memory>
     ensures there { OnOk result (table < length tables.new.items) }
     ensures same { OnOk result ((n : NodeId) →
         marked_at (blocks_of tables.new.items) n ≡ marked_at (blocks_of tables.old.items) n) }
 {
     'tables: while tables.len() <= table {
-        room.take(TABLE_BYTES)?;
         tables.push(Vec::new(alloc))?;
     }
     Ok(())
