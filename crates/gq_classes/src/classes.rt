@@ -12,9 +12,6 @@ use indexmap::IndexSet;
 use std::alloc::Global;
 use std::marker::Model;
 
-// What a key or a text takes in its table, in bytes: an entry of 24, and 16 at most in the index.
-const ENTRY_BYTES: u64 = 40;
-
 /// Rows of values, each once, in the order of their first. A row is held as a path through levels,
 /// one for each of its values: it takes no memory of its own, and what it begins with is shared.
 #[derive(Drop)]
@@ -60,15 +57,6 @@ impl<'g> Classes<'g> {
         ensures { result ≡ nat_eq (length self.now) 0 }
     {
         self.len() == 0
-    }
-
-    /// What the rows take at most, in bytes, without what tables have to spare.
-    pub fn bytes(&self) -> u64 {
-        let mut entries = self.texts.len() as u64;
-        for level in self.levels.as_slice() {
-            entries = entries.saturating_add(level.keys.len() as u64);
-        }
-        entries.saturating_mul(ENTRY_BYTES)
     }
 
     /// Adds a row, unless there is one with the same values, and tells whether it was added.

@@ -21,7 +21,7 @@ pub enum RowRefusal {
     Fault(Fault),
     /// The kept rows would be more than the limit.
     TooManyRows { limit: u32 },
-    /// There was not enough memory, or one more row has no room in the bytes that kept rows may take.
+    /// There was not enough memory.
     Memory(Memory),
 }
 

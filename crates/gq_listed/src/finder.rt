@@ -252,11 +252,10 @@ fn put_value<'g>(cells: &mut Cells<'g>, value: Value<'g>) -> Result<(), Memory>
     cells.put(source, 0)
 }
 
-// Evaluates a column, and appends its value: one more value is kept itself.
+// Evaluates a column, and appends its value, which is kept itself.
 #[inline(never)]
 fn put_evaluated<'g, R: Assigned>(
     cells: &mut Cells<'g>,
-    made: &mut usize,
     column: &Evaluator<'g>,
     row: &R,
 ) -> Result<(), RowRefusal>
@@ -267,17 +266,15 @@ fn put_evaluated<'g, R: Assigned>(
     match column.value(row) {
         Ok(value) => {
             put_value(cells, value)?;
-            *made = made.saturating_add(1);
             Ok(())
         }
         Err(fault) => Err(RowRefusal::Fault(fault)),
     }
 }
 
-/// Appends the value of a column for a row, and counts the values that are kept themselves.
+/// Appends the value of a column for a row.
 pub(crate) fn put_column<'g, R: Assigned>(
     cells: &mut Cells<'g>,
-    made: &mut usize,
     finder: &Finder,
     column: &Evaluator<'g>,
     graph: &Graph,
@@ -292,7 +289,7 @@ pub(crate) fn put_column<'g, R: Assigned>(
     match find(finder.way, graph, row) {
         Found::Number(number) => Ok(cells.put(finder.source, number)?),
         Found::Null => Ok(cells.put(finder.null, 0)?),
-        Found::Other => put_evaluated(cells, made, column, row),
+        Found::Other => put_evaluated(cells, column, row),
     }
 }
 
@@ -300,7 +297,6 @@ pub(crate) fn put_column<'g, R: Assigned>(
 #[inline(always)]
 pub(crate) fn put_led_column<'g>(
     cells: &mut Cells<'g>,
-    made: &mut usize,
     finder: &Finder,
     column: &Evaluator<'g>,
     spot: &Spot<'_, '_, '_>,
@@ -316,6 +312,6 @@ pub(crate) fn put_led_column<'g>(
     match spot.find(finder) {
         Found::Number(number) => Ok(cells.put(finder.source, number)?),
         Found::Null => Ok(cells.put(finder.null, 0)?),
-        Found::Other => put_evaluated(cells, made, column, &spot.row()),
+        Found::Other => put_evaluated(cells, column, &spot.row()),
     }
 }

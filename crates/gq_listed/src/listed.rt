@@ -27,7 +27,6 @@ use gq_kept::{Form, More, RowRefusal, may_keep};
 use gq_plan::{Bound, Typed};
 use gq_project::{Admits, Checked, Reading, check_late};
 use gq_store::Graph;
-use std::mem::size_of;
 
 /// What is asked of each row where the rows are listed as they come, and the most rows that are
 /// kept.
@@ -38,19 +37,16 @@ pub struct Asked<'q, 'g> {
     /// The numbers of the conjuncts that are left.
     pub late: &'g [u32],
     pub limit: u32,
-    /// The bytes that the rows may take.
-    pub room: u64,
     pub form: Form,
     /// The columns and the conjuncts as they are evaluated over the graph.
     pub reading: &'q Reading<'g>,
 }
 
-/// The values of rows, one row after another, as cells, and how many of them are kept themselves.
+/// The values of rows, one row after another, as cells, and how many rows they are.
 #[derive(Drop)]
 pub struct Listed<'g> {
     pub cells: Cells<'g>,
     pub count: usize,
-    pub made: usize,
 }
 
 /// Whether the rows of a query are listed as they come.
@@ -90,10 +86,9 @@ pub fn find_columns<'g>(
     Ok(())
 }
 
-// Appends the values of columns for an assignment, and counts those that are kept themselves.
+// Appends the values of columns for an assignment.
 fn put_row<'g, R: Assigned>(
     cells: &mut Cells<'g>,
-    made: &mut usize,
     finders: &[Finder],
     columns: &[Evaluator<'g>],
     graph: &Graph,
@@ -106,7 +101,7 @@ fn put_row<'g, R: Assigned>(
     ensures more { OnOk result (Extends cells.old.sources cells.new.sources) }
 {
     'values: for (column, finder) in columns.iter().zip(finders) {
-        match put_column(cells, made, finder, column, graph, row) {
+        match put_column(cells, finder, column, graph, row) {
             Ok(()) => {}
             Err(refusal) => return Err(refusal),
         }
@@ -118,7 +113,6 @@ fn put_row<'g, R: Assigned>(
 #[inline(always)]
 fn put_led_row<'g>(
     cells: &mut Cells<'g>,
-    made: &mut usize,
     finders: &[Finder],
     columns: &[Evaluator<'g>],
     spot: &Spot<'_, '_, '_>,
@@ -132,7 +126,7 @@ fn put_led_row<'g>(
     ensures more { OnOk result (Extends cells.old.sources cells.new.sources) }
 {
     'values: for (column, finder) in columns.iter().zip(finders) {
-        match put_led_column(cells, made, finder, column, spot) {
+        match put_led_column(cells, finder, column, spot) {
             Ok(()) => {}
             Err(refusal) => return Err(refusal),
         }
@@ -174,22 +168,12 @@ impl<'g> Listed<'g> {
             Checked::Met => {}
         }
         let columns = asked.reading.columns.as_slice();
-        match put_row(
-            &mut self.cells,
-            &mut self.made,
-            finders,
-            columns,
-            asked.graph,
-            row,
-        ) {
+        match put_row(&mut self.cells, finders, columns, asked.graph, row) {
             Ok(()) => {}
             Err(refusal) => return Err(refusal),
         }
         if !may_keep(self.count, asked.limit) {
             return Err(RowRefusal::TooManyRows { limit: asked.limit });
-        }
-        if self.bytes() > asked.room {
-            return Err(RowRefusal::Memory(Memory::Limit));
         }
         self.count += 1;
         Ok(true)
@@ -220,26 +204,15 @@ impl<'g> Listed<'g> {
             Checked::Met => {}
         }
         let columns = asked.reading.columns.as_slice();
-        match put_led_row(&mut self.cells, &mut self.made, finders, columns, spot) {
+        match put_led_row(&mut self.cells, finders, columns, spot) {
             Ok(()) => {}
             Err(refusal) => return Err(refusal),
         }
         if !may_keep(self.count, asked.limit) {
             return Err(RowRefusal::TooManyRows { limit: asked.limit });
         }
-        if self.bytes() > asked.room {
-            return Err(RowRefusal::Memory(Memory::Limit));
-        }
         self.count += 1;
         Ok(true)
-    }
-
-    // The bytes that the values take: 8 for each, and those of its source for one that is kept
-    // itself.
-    fn bytes(&self) -> u64 {
-        let cells = (self.cells.len() as u64).saturating_mul(8);
-        let sources = (self.made as u64).saturating_mul(size_of::<Source<'_>>() as u64);
-        cells.saturating_add(sources)
     }
 
     // Whether another row can change what is answered.

@@ -24,9 +24,6 @@ pub struct Question<'q, 'g> {
     /// The numbers of the conjuncts that are left.
     pub late: &'g [u32],
     pub limit: u32,
-    /// The bytes that kept rows may take, and what each of them takes beside its class.
-    pub room: u64,
-    pub row_bytes: u64,
     /// Each column and each key is sure to have a value.
     pub sure: bool,
     /// The columns, the keys and the conjuncts as they are evaluated over the graph.

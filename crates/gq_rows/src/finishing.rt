@@ -78,11 +78,7 @@ fn lines_of<'g>(bound: &Bound, listed: Listed<'g>) -> Lines<'g>
         → Lists bound.now list result }
     ensures wide { All (λ line. length line ≡ length bound.now.columns) result }
 {
-    let Listed {
-        cells,
-        count,
-        made: _,
-    } = listed;
+    let Listed { cells, count } = listed;
     // The number of values fits its type.
     let _ = cells.len();
     Lines {
@@ -131,8 +127,6 @@ impl<'g> RowTable<'g> {
             typed: _,
             graph: _,
             limit: _,
-            room: _,
-            row_bytes: _,
             form: _,
             sure: _,
             rows,

@@ -15,7 +15,6 @@ ghost use Rattle.gq_project.specs.Reading.{IsReading};
 ghost use Rattle.gq_rows.specs.Growing.{IsContinued, IsTested};
 ghost use Rattle.gq_wide.specs.Rows.{read};
 
-use crate::room::row_bytes;
 use gq_cells::Cells;
 use gq_classes::Classes;
 use gq_expr::{Assigned, Fault};
@@ -43,9 +42,6 @@ pub struct RowTable<'g> {
     pub(crate) typed: Option<&'g Typed>,
     pub(crate) graph: &'g Graph,
     pub(crate) limit: u32,
-    // The bytes that kept rows may take, and what each takes that is held as values.
-    pub(crate) room: u64,
-    pub(crate) row_bytes: u64,
     pub(crate) form: Form,
     // Each column and each key is sure to have a value.
     pub(crate) sure: bool,
@@ -81,17 +77,9 @@ impl<'g> Model for RowTable<'g> {
 }
 
 impl<'g> RowTable<'g> {
-    /// A table without rows, for the rows of a query over a graph, of which at most `limit` are kept,
-    /// and no more than take `room` bytes: a row for which there is no room is refused by the
-    /// limit of what is kept. What vectors have to spare is not counted. It takes no memory: columns,
-    /// keys and conjuncts are made ready once, at the first push.
-    pub fn new(
-        alloc: Global,
-        bound: &'g Bound,
-        graph: &'g Graph,
-        limit: u32,
-        room: u64,
-    ) -> RowTable<'g>
+    /// A table without rows, for the rows of a query over a graph, of which at most `limit` are kept.
+    /// It takes no memory: columns, keys and conjuncts are made ready once, at the first push.
+    pub fn new(alloc: Global, bound: &'g Bound, graph: &'g Graph, limit: u32) -> RowTable<'g>
         ensures none { StandsFor bound.now limit [] result.held }
         ensures bound { result.bound ≡ bound.now }
         ensures most { result.most ≡ limit }
@@ -105,8 +93,6 @@ impl<'g> RowTable<'g> {
             typed: None,
             graph,
             limit,
-            room,
-            row_bytes: row_bytes(bound),
             form: form_of(bound),
             sure: are_sure(bound),
             rows: Rows {
@@ -119,7 +105,6 @@ impl<'g> RowTable<'g> {
             listed: Listed {
                 cells: Cells::new(alloc),
                 count: 0,
-                made: 0,
             },
             done: false,
             finders: Vec::new(alloc),
@@ -327,7 +312,6 @@ impl<'g> RowTable<'g> {
             bound: self.bound,
             late: typed.late.as_slice(),
             limit: self.limit,
-            room: self.room,
             form: self.form,
             reading: &self.reading,
         };
@@ -370,7 +354,6 @@ impl<'g> RowTable<'g> {
             bound: self.bound,
             late: &[],
             limit: self.limit,
-            room: self.room,
             form: self.form,
             reading: &self.reading,
         };
@@ -497,8 +480,6 @@ impl<'g> RowTable<'g> {
             bound: self.bound,
             late,
             limit: self.limit,
-            room: self.room,
-            row_bytes: self.row_bytes,
             sure: self.sure,
             reading,
         };

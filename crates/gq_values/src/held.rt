@@ -58,9 +58,6 @@ impl<'g> Rows<'g> {
                         limit: question.limit,
                     });
                 }
-                if !has_bytes(question, self.count, 0) {
-                    return Err(RowRefusal::Memory(Memory::Limit));
-                }
                 self.count += 1;
                 Ok(true)
             }
@@ -188,7 +185,7 @@ impl<'g> Rows<'g> {
             Ok(false) => return Ok(More::Go),
             Err(refusal) => return Err(refusal),
         }
-        if is_to_cut(self.count, n, has_bytes(question, self.count, 0)) {
+        if is_to_cut(self.count, n) {
             self.keep_first(alloc, n, question.bound)?;
         }
         Ok(More::Go)
@@ -237,28 +234,18 @@ impl<'g> Rows<'g> {
                 limit: question.limit,
             });
         }
-        if !has_bytes(question, self.count, self.seen.bytes()) {
-            return Err(RowRefusal::Memory(Memory::Limit));
-        }
         self.count += 1;
         Ok(More::Go)
     }
 }
 
-// Whether there is room for one more row behind so many, whose classes take so many bytes.
-fn has_bytes(question: &Question<'_, '_>, rows: usize, classes: u64) -> bool {
-    let rows = (rows as u64).saturating_add(1);
-    let values = rows.saturating_mul(question.row_bytes);
-    values.saturating_add(classes) <= question.room
-}
-
-// Whether rows are to be cut to the `n` that come first: they are twice as many, or there is no room
-// for another and they are enough more that a cut is worth its time.
-fn is_to_cut(count: usize, n: usize, has_room: bool) -> bool
+// Whether rows are to be cut to the `n` that come first: they are twice as many, so that a cut is
+// worth its time.
+fn is_to_cut(count: usize, n: usize) -> bool
     ensures yes { result ≡ true → n ≤ count }
     ensures no { result ≡ false → count ≤ 2 * n }
 {
-    count / 2 >= n || (!has_room && count.saturating_sub(n) > n / 4)
+    count / 2 >= n
 }
 
 // Whether one more row of those that come first passes no limit.

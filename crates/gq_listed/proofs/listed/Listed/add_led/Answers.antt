@@ -33,7 +33,7 @@ returns-in-Err-clause-adds c =
     let here = here_at c.args.spot.now in
     let late = late_mean q.graph.now here q.bound.now.conjuncts q.reading.now.conjuncts q.late.now c.requires.reading.conjuncts in
     failed q here c.as_slice-columns.result.now (c.as_slice-columns.ensures ∙ c.requires.reading.columns) c.requires.keyless (sym c.in-Met.is ∙ c.check_left.ensures ∙ ap (λ t. check_after Met (answers (row_of t) (at_numbers q.reading.now.conjuncts q.late.now))) c.row.ensures ∙ ap (check_after Met) late)
-    c.args.self.now (record c.args.self.now { cells = c.put_led_row.new.cells; made = c.put_led_row.new.made }) c.put_led_row.new.cells.values c.in-Err.refusal c.in-Err.ensures.puts
+    c.args.self.now (record c.args.self.now { cells = c.put_led_row.new.cells }) c.put_led_row.new.cells.values c.in-Err.refusal c.in-Err.ensures.puts
 
 pub returns-clause-adds : goal.returns-clause-adds
 returns-clause-adds c =
@@ -41,7 +41,7 @@ returns-clause-adds c =
     let here = here_at c.args.spot.now in
     let late = late_mean q.graph.now here q.bound.now.conjuncts q.reading.now.conjuncts q.late.now c.requires.reading.conjuncts in
     kept q here c.as_slice-columns.result.now (c.as_slice-columns.ensures ∙ c.requires.reading.columns) c.requires.keyless (sym c.in-Met.is ∙ c.check_left.ensures ∙ ap (λ t. check_after Met (answers (row_of t) (at_numbers q.reading.now.conjuncts q.late.now))) c.row.ensures ∙ ap (check_after Met) late)
-    c.args.self.now (record { cells = c.put_led_row.new.cells; count = c.args.self.now.count + 1; made = c.put_led_row.new.made }) c.in-Ok.ensures.puts refl (c.may_keep.ensures.yes c.if-not-may_keep.false)
+    c.args.self.now (record { cells = c.put_led_row.new.cells; count = c.args.self.now.count + 1 }) c.in-Ok.ensures.puts refl (c.may_keep.ensures.yes c.if-not-may_keep.false)
 
 pub returns-then-not-may_keep-clause-adds : goal.returns-then-not-may_keep-clause-adds
 returns-then-not-may_keep-clause-adds c =
