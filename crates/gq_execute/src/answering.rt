@@ -25,7 +25,6 @@ ghost use Rattle.gq_trails.specs.Trekking.{AreInTurn, HasLength};
 ghost use Rattle.gq_wide.specs.Placed.{IsPlaced};
 
 use crate::behind::drain_behind;
-use crate::budget::{joined_room, row_bytes};
 use crate::found::Answer;
 use crate::planning::{plan_for, stats_of};
 use crate::prepared::{Prepared, prepare};
@@ -35,7 +34,6 @@ use crate::testing::{Tests, append};
 use crate::trailing::drain_trails;
 use gq_base::List;
 use gq_group::Chunk;
-use gq_join::Room;
 use gq_order::Stats;
 use gq_pipe::{Pipeline, Spent, make_builds};
 use gq_plan::{Bound, Typed};
@@ -148,7 +146,7 @@ fn drain_all<'g, 'w>(
 }
 
 // Takes the turn of an alternative: runs its plan, and pushes what the plan makes. Answers what its
-// pipelines spent. The builds of its joins have this room, and are dropped here.
+// pipelines spent. The builds of its joins are dropped here.
 fn take_turn<'g>(
     alloc: Global,
     graph: &'g Graph,
@@ -158,7 +156,6 @@ fn take_turn<'g>(
     table: &mut RowTable<'g>,
     pool: &mut VectorPool,
     settings: &Settings,
-    room: Room,
 ) -> Result<List<Spent>, AnswerRefusal>
     requires sound { IsSound graph.now.catalog typed.now }
     requires begins { 0 < length typed.now.nodes }
@@ -184,8 +181,7 @@ fn take_turn<'g>(
     graph.stands_valid();
     let planned = plan_for(alloc, settings.order, graph, stats, typed)?;
     let plan = &planned.plan;
-    let mut left = room;
-    let builds = match make_builds(alloc, graph, plan, typed, pool, settings.rows, &mut left) {
+    let builds = match make_builds(alloc, graph, plan, typed, pool, settings.rows) {
         Ok(builds) => builds,
         Err(refusal) => return Err(AnswerRefusal::from(refusal)),
     };
@@ -213,7 +209,6 @@ fn take_turns<'g>(
     table: &mut RowTable<'g>,
     pool: &mut VectorPool,
     settings: &Settings,
-    room: Room,
 ) -> Result<List<Spent>, AnswerRefusal>
     requires sound { All (IsSound graph.now.catalog) bound.now.alternatives }
     requires begins { All (λ y. 0 < length y.nodes) bound.now.alternatives }
@@ -239,9 +234,7 @@ fn take_turns<'g>(
         if table.enough() {
             return Ok(spent);
         }
-        match take_turn(
-            alloc, graph, stats, typed, prepared, table, pool, settings, room,
-        ) {
+        match take_turn(alloc, graph, stats, typed, prepared, table, pool, settings) {
             Ok(turn) => append(&mut spent, turn)?,
             Err(refusal) => return Err(refusal),
         }
@@ -250,8 +243,7 @@ fn take_turns<'g>(
 }
 
 // Makes the tests, lists the matches of the optional clauses, and takes the turns of the
-// alternatives; where no turn comes, it does nothing of this. Answers what the pipelines spent. The
-// tests, the optional clauses and the joins of one turn have one room.
+// alternatives; where no turn comes, it does nothing of this. Answers what the pipelines spent.
 fn fill<'g>(
     alloc: Global,
     graph: &'g Graph,
@@ -287,13 +279,12 @@ fn fill<'g>(
         return Ok(List::new(alloc));
     }
     let stats = stats_of(alloc, graph)?;
-    let mut room = joined_room(settings.rows);
-    let prepared = match prepare(alloc, graph, &stats, bound, pool, settings, &mut room) {
+    let prepared = match prepare(alloc, graph, &stats, bound, pool, settings) {
         Ok(prepared) => prepared,
         Err(refusal) => return Err(refusal),
     };
     let turns = match take_turns(
-        alloc, graph, &stats, bound, &prepared, table, pool, settings, room,
+        alloc, graph, &stats, bound, &prepared, table, pool, settings,
     ) {
         Ok(turns) => turns,
         Err(refusal) => return Err(refusal),
@@ -351,8 +342,7 @@ pub fn answer<'g>(
     ensures slots { pool.new.out ≡ pool.old.out }
 {
     graph.stands_valid();
-    let room = row_bytes(settings.rows);
-    let mut table = RowTable::new(alloc, bound, graph, settings.rows, room);
+    let mut table = RowTable::new(alloc, bound, graph, settings.rows);
     let spent = match fill(alloc, graph, bound, &mut table, pool, settings) {
         Ok(spent) => spent,
         Err(refusal) => return Err(refusal),

@@ -12,7 +12,6 @@ use crate::planning::plans_in;
 use crate::refusal::AnswerRefusal;
 use crate::settings::{Order, Settings};
 use gq_base::{List, Memory};
-use gq_join::Room;
 use gq_optional::{Optionals, RowShape};
 use gq_order::Stats;
 use gq_plan::{OptionalPart, Plan};
@@ -43,8 +42,8 @@ fn clause_plans(
 }
 
 /// Lists the matches of optional clauses of a query whose rows have this shape, by plans of their
-/// alternatives; what is listed takes of the room. `TooManyRows` comes where a clause is heavy. All
-/// pipelines take their slots from the pool, of which the same are out afterwards, at a refusal too.
+/// alternatives. `TooManyRows` comes where a clause is heavy. All pipelines take their slots from
+/// the pool, of which the same are out afterwards, at a refusal too.
 pub(crate) fn list_clauses<'q>(
     alloc: Global,
     graph: &'q Graph,
@@ -53,7 +52,6 @@ pub(crate) fn list_clauses<'q>(
     shape: RowShape,
     pool: &mut VectorPool,
     settings: &Settings,
-    room: &mut Room,
 ) -> Result<Optionals<'q>, AnswerRefusal>
     requires placed { All (IsPlaced shape.nodes shape.rels graph.now.catalog) parts.now }
     requires stats { stats.now ≡ sizes graph.now }
@@ -74,7 +72,7 @@ pub(crate) fn list_clauses<'q>(
     graph.stands_valid();
     let plans = clause_plans(alloc, graph, stats, parts, settings.order, shape)?;
     let plans = plans.as_slice();
-    match Optionals::make(alloc, graph, parts, plans, shape, pool, settings.rows, room) {
+    match Optionals::make(alloc, graph, parts, plans, shape, pool, settings.rows) {
         Ok(optionals) => Ok(optionals),
         Err(refusal) => Err(AnswerRefusal::from(refusal)),
     }

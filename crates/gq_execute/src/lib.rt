@@ -7,7 +7,6 @@
 
 mod answering;
 mod behind;
-mod budget;
 mod clauses;
 mod copied;
 mod found;

@@ -17,7 +17,6 @@ use crate::settings::Settings;
 use crate::testing::{Tests, append, tests_of};
 use gq_base::{List, Memory};
 use gq_eval::{Evaluator, evaluators};
-use gq_join::Room;
 use gq_optional::{Optionals, RowShape};
 use gq_order::Stats;
 use gq_pipe::Spent;
@@ -84,8 +83,7 @@ fn conjuncts_for<'q>(
     evaluators(alloc, bound.conjuncts.as_slice(), graph)
 }
 
-/// Makes the tests of a query, and lists the matches of its optional clauses. What both keep takes
-/// of the room.
+/// Makes the tests of a query, and lists the matches of its optional clauses.
 pub(crate) fn prepare<'q>(
     alloc: Global,
     graph: &'q Graph,
@@ -93,7 +91,6 @@ pub(crate) fn prepare<'q>(
     bound: &'q Bound,
     pool: &mut VectorPool,
     settings: &Settings,
-    room: &mut Room,
 ) -> Result<Prepared<'q>, AnswerRefusal>
     requires tests_sound { let sound = All (IsSound graph.now.catalog) in
         All (λ p. sound p.alternatives) bound.now.patterns }
@@ -122,7 +119,7 @@ pub(crate) fn prepare<'q>(
     }
     let conjuncts = conjuncts_for(alloc, bound, graph)?;
     let patterns = bound.patterns.as_slice();
-    let tests = match tests_of(alloc, graph, stats, patterns, pool, settings, room) {
+    let tests = match tests_of(alloc, graph, stats, patterns, pool, settings) {
         Ok(tests) => tests,
         Err(refusal) => return Err(refusal),
     };
@@ -132,7 +129,7 @@ pub(crate) fn prepare<'q>(
         rels: rels as u32,
         first: first as u32,
     };
-    match list_clauses(alloc, graph, stats, parts, shape, pool, settings, room) {
+    match list_clauses(alloc, graph, stats, parts, shape, pool, settings) {
         Ok(optionals) => Ok(Prepared {
             graph,
             bound,

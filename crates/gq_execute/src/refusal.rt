@@ -16,8 +16,7 @@ pub enum AnswerRefusal {
     /// More rows would be kept than this limit, or a part that is joined has more assignments, or
     /// the path of a test more different keys, or an alternative of an optional clause more matches.
     TooManyRows { limit: u32 },
-    /// There was not enough memory, or the query takes more work, or more memory, than one statement
-    /// may.
+    /// There was not enough memory.
     Memory(Memory),
 }
 

@@ -18,7 +18,7 @@ pub struct Settings {
     /// The order of the plans.
     pub order: Order,
     /// The most rows that are kept, and the most assignments that a part may have, keys the path
-    /// of a test, and matches an alternative of an optional clause. What these keep may
-    /// take 48 bytes for each row together, and at least 32 MiB; the rows 128, and at least 64 MiB.
+    /// of a test, and matches an alternative of an optional clause. How many bytes they take is
+    /// not bounded.
     pub rows: u32,
 }

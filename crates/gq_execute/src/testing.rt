@@ -16,7 +16,6 @@ use gq_base::{List, Memory};
 use gq_exists::KeySet;
 use gq_expr::Assigned;
 use gq_group::ChunkRow;
-use gq_join::Room;
 use gq_order::Stats;
 use gq_pipe::Spent;
 use gq_plan::ExistsPart;
@@ -105,8 +104,7 @@ pub(crate) fn append(spent: &mut List<Spent>, more: List<Spent>) -> Result<(), M
     Ok(())
 }
 
-// Makes a test of a part: plans of the path's alternatives, and the keys of what they make, which
-// take of the room.
+// Makes a test of a part: plans of the path's alternatives, and the keys of what they make.
 fn test_of<'q>(
     alloc: Global,
     graph: &Graph,
@@ -114,7 +112,6 @@ fn test_of<'q>(
     part: &'q ExistsPart,
     pool: &mut VectorPool,
     settings: &Settings,
-    room: &mut Room,
 ) -> Result<Test<'q>, AnswerRefusal>
     requires sound { All (IsSound graph.now.catalog) part.now.alternatives }
     requires begins { All (λ y. 0 < length y.nodes) part.now.alternatives }
@@ -129,13 +126,13 @@ fn test_of<'q>(
     let alternatives = part.alternatives.as_slice();
     let planned = plans_in(alloc, settings.order, graph, stats, alternatives)?;
     let plans = planned.plans.as_slice();
-    match KeySet::make(alloc, graph, part, plans, pool, settings.rows, room) {
+    match KeySet::make(alloc, graph, part, plans, pool, settings.rows) {
         Ok(keys) => Ok(Test { part, keys }),
         Err(refusal) => Err(AnswerRefusal::from(refusal)),
     }
 }
 
-/// Makes the tests of parts, one after another. Their keys take of the room.
+/// Makes the tests of parts, one after another.
 pub(crate) fn tests_of<'q>(
     alloc: Global,
     graph: &Graph,
@@ -143,7 +140,6 @@ pub(crate) fn tests_of<'q>(
     parts: &'q [ExistsPart],
     pool: &mut VectorPool,
     settings: &Settings,
-    room: &mut Room,
 ) -> Result<Tests<'q>, AnswerRefusal>
     requires sound { All (λ p. All (IsSound graph.now.catalog) p.alternatives) parts.now }
     requires begins { All (λ p. All (λ y. 0 < length y.nodes) p.alternatives) parts.now }
@@ -158,7 +154,7 @@ pub(crate) fn tests_of<'q>(
 {
     let mut all = List::new(alloc);
     'parts: for part in parts {
-        match test_of(alloc, graph, stats, part, pool, settings, room) {
+        match test_of(alloc, graph, stats, part, pool, settings) {
             Ok(test) => all.push(test)?,
             Err(refusal) => return Err(refusal),
         }

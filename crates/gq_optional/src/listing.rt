@@ -14,7 +14,7 @@ ghost use Rattle.gq_pool.specs.Pool.{spare_of};
 
 use crate::clause::Matches;
 use gq_base::{List, Memory};
-use gq_join::{JoinRefusal, Room};
+use gq_join::JoinRefusal;
 use gq_pipe::{Filled, Spent, make_build, make_builds};
 use gq_plan::{Plan, Typed};
 use gq_pool::VectorPool;
@@ -64,8 +64,7 @@ fn append(spent: &mut List<Spent>, more: List<Spent>, own: Spent) -> Result<(), 
     Ok(())
 }
 
-// The matches that a plan makes of an alternative, to be found by the nodes of these variables. The
-// bytes of their rows are taken of the room.
+// The matches that a plan makes of an alternative, to be found by the nodes of these variables.
 fn list_one<'b>(
     spent: &mut List<Spent>,
     alloc: Global,
@@ -75,7 +74,6 @@ fn list_one<'b>(
     keys: &[u32],
     pool: &mut VectorPool,
     limit: u32,
-    room: &mut Room,
 ) -> Result<Matches<'b>, JoinRefusal>
     requires sound { IsSound graph.now.catalog typed.now }
     requires covers { Covers graph.now.catalog typed.now (plan_of plan.now) }
@@ -91,20 +89,14 @@ fn list_one<'b>(
     ensures pool { pool.new.out ≡ pool.old.out }
 {
     graph.stands_valid();
-    // The builds of the plan's joins are dropped here, and take nothing of the room then.
-    let mut rest = *room;
-    let builds = match make_builds(alloc, graph, plan, typed, pool, limit, &mut rest) {
+    let builds = match make_builds(alloc, graph, plan, typed, pool, limit) {
         Ok(builds) => builds,
         Err(refusal) => return Err(refusal),
     };
-    let before = rest.left();
-    let filled = match make_build(
-        alloc, graph, &builds, plan, typed, keys, pool, limit, &mut rest,
-    ) {
+    let filled = match make_build(alloc, graph, &builds, plan, typed, keys, pool, limit) {
         Ok(filled) => filled,
         Err(refusal) => return Err(refusal),
     };
-    room.take(before.saturating_sub(rest.left()))?;
     let Filled { build, spent: own } = filled;
     append(spent, builds.into_spent(), own)?;
     Ok(Matches { typed, build })
@@ -121,7 +113,6 @@ pub(crate) fn list_each<'b>(
     keys: &[u32],
     pool: &mut VectorPool,
     limit: u32,
-    room: &mut Room,
 ) -> Result<(), JoinRefusal>
     requires sound { All (IsSound graph.now.catalog) alternatives.now }
     requires covers { let ps = map plan_of plans.now in
@@ -146,7 +137,7 @@ pub(crate) fn list_each<'b>(
     let Some((plan, plans)) = plans.split_first() else {
         return Ok(());
     };
-    let one = match list_one(spent, alloc, graph, typed, plan, keys, pool, limit, room) {
+    let one = match list_one(spent, alloc, graph, typed, plan, keys, pool, limit) {
         Ok(one) => one,
         Err(refusal) => return Err(refusal),
     };
@@ -161,6 +152,5 @@ pub(crate) fn list_each<'b>(
         keys,
         pool,
         limit,
-        room,
     )
 }

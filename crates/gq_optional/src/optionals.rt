@@ -20,7 +20,7 @@ use crate::listing::{list_each, places_of, shared_of};
 use crate::walk::OptionalWalk;
 use gq_base::{List, Memory};
 use gq_eval::evaluators;
-use gq_join::{JoinRefusal, Room};
+use gq_join::JoinRefusal;
 use gq_pipe::Spent;
 use gq_plan::{OptionalPart, Plan};
 use gq_pool::VectorPool;
@@ -51,9 +51,8 @@ pub struct Optionals<'b> {
 
 impl<'b> Optionals<'b> {
     /// What these plans make of the alternatives of optional clauses. `TooManyRows` comes exactly
-    /// where one of them, or a side plan of one, makes more assignments than the limit; want of
-    /// memory comes also where the room has fewer bytes than the matches take, which go out of it.
-    /// The slots of the pool that are out afterwards are those that were before, after a refusal too.
+    /// where one of them, or a side plan of one, makes more assignments than the limit. The slots of
+    /// the pool that are out afterwards are those that were before, after a refusal too.
     pub fn make(
         alloc: Global,
         graph: &'b Graph,
@@ -62,7 +61,6 @@ impl<'b> Optionals<'b> {
         shape: RowShape,
         pool: &mut VectorPool,
         limit: u32,
-        room: &mut Room,
     ) -> Result<Optionals<'b>, JoinRefusal>
         requires placed { let placed = IsPlaced shape.nodes shape.rels graph.now.catalog in
             All placed parts.now }
@@ -98,7 +96,6 @@ impl<'b> Optionals<'b> {
             plans,
             pool,
             limit,
-            room,
         ) {
             Ok(()) => {}
             Err(refusal) => return Err(refusal),
@@ -181,7 +178,6 @@ fn hold<'b>(
     plans: &[Plan],
     pool: &mut VectorPool,
     limit: u32,
-    room: &mut Room,
 ) -> Result<Clause<'b>, JoinRefusal>
     requires part { CanHold graph.now.catalog part.now }
     requires covers { AreCovered graph.now.catalog part.now (map plan_of plans.now) }
@@ -217,7 +213,6 @@ fn hold<'b>(
         keys.as_slice(),
         pool,
         limit,
-        room,
     ) {
         Ok(()) => {}
         Err(refusal) => return Err(refusal),
@@ -242,7 +237,6 @@ fn hold_each<'b>(
     plans: &[List<Plan>],
     pool: &mut VectorPool,
     limit: u32,
-    room: &mut Room,
 ) -> Result<(), JoinRefusal>
     requires parts { All (CanHold graph.now.catalog) parts.now }
     requires covers { let pss = map (map plan_of) plans.now in
@@ -276,7 +270,6 @@ fn hold_each<'b>(
         own.as_slice(),
         pool,
         limit,
-        room,
     ) {
         Ok(clause) => clause,
         Err(refusal) => return Err(refusal),
@@ -284,7 +277,7 @@ fn hold_each<'b>(
     clauses.push(clause)?;
     make_known(known, part.nodes.as_slice())?;
     hold_each(
-        clauses, spent, known, alloc, graph, parts, plans, pool, limit, room,
+        clauses, spent, known, alloc, graph, parts, plans, pool, limit,
     )
 }
 
