@@ -18,6 +18,7 @@ class Hostile:
     milliseconds: int = 500
     megabytes: int = 100
     answered: bool = False
+    rows: int = 4_194_304  # how many rows may be kept
 
 
 def walk(nodes: Iterable[int], arrow: str) -> str:
@@ -195,27 +196,31 @@ def exists() -> Iterator[Hostile]:
 
 
 def kept() -> Iterator[Hostile]:
-    """Statements that would keep gigabytes: wide rows, joined parts, optional clauses and tests of paths."""
-    product = "MATCH (a:Many), (b:Many) "  # 4,194,304
+    """Statements that keep as many wide rows, joined parts, matches of optional clauses and keys of paths as they may."""
+    most = 262_144  # a sixteenth of what may be kept without --rows
+    product = "MATCH (a:Many), (b:Many) WHERE b.id < 128 "  # as many
+    last = f"SKIP {most - 1}"
     properties = ", ".join(f"a.x AS c{at}" for at in range(64))
     sums = ", ".join(f"a.x + {at} AS c{at}" for at in range(64))
     asked = {
-        "64 properties": f"{product}RETURN {properties}",
-        "64 sums": f"{product}RETURN {sums}",
-        "64 sums, ORDER BY": f"{product}RETURN {sums} ORDER BY c0",
-        "64 properties, DISTINCT": f"{product}RETURN DISTINCT b.x AS b, {properties[:properties.rindex(',')]}",
-        "two nodes, DISTINCT": f"{product}RETURN DISTINCT a, b",
+        "64 properties": f"{product}RETURN {properties} {last}",
+        "64 sums": f"{product}RETURN {sums} {last}",
+        "64 sums, ORDER BY": f"{product}RETURN {sums} ORDER BY c0 {last}",
+        "64 properties, DISTINCT": f"{product}RETURN DISTINCT b.x AS b, {properties[:properties.rindex(',')]} {last}",
+        "two nodes, DISTINCT": f"{product}RETURN DISTINCT a, b {last}",
     }
-    walks = [f"(a{at}:Few)-->(b{at})-->(c{at})" for at in range(8)]  # 4,070,400 each
-    asked["7 joined parts of two relationships"] = f"MATCH {', '.join(walks)} RETURN 1 LIMIT 1"
-    asked["7 optional clauses of two relationships"] = (
-        "MATCH (m:Many {id: 1})" + "".join(f" OPTIONAL MATCH {walk}" for walk in walks[:7]) + " RETURN 1 LIMIT 1")
+    walks = [f"(a{at}:Few)-->(b{at})-->(c{at})" for at in range(8)]
+    starts = " AND ".join(f"a{at}.id < 10" for at in range(8))  # 255,990 each
+    asked["7 joined parts of two relationships"] = f"MATCH {', '.join(walks)} WHERE {starts} RETURN 1 LIMIT 1"
+    clauses = "".join(f" OPTIONAL MATCH (a{at}:Few)-->(b{at})-->(c{at} {{id: 1}})" for at in range(7))  # 25,599 each
+    asked["7 optional clauses of two relationships"] = f"MATCH (m:Many {{id: 1}}){clauses} RETURN 1 LIMIT 1"
     tests = " AND ".join(f"exists((a)-->(b)-->(c {{x: {at}}})-->({{x: {at}}}))" for at in range(2))
     asked["tests of paths with three nodes of the query"] = f"MATCH (a:Few), (b:Few), (c:Few) WHERE {tests} RETURN 1 LIMIT 1"
-    tests = " AND ".join("exists((a)-->(b)-->(c))" for _ in range(3))
-    asked["tests of paths that all hold"] = f"MATCH (a:Few), (b:Few), (c:Few) WHERE {tests} RETURN 1 LIMIT 1"
+    tests = " AND ".join("exists((a)-->(b)-->(c {id: 1}))" for _ in range(3))
+    asked["tests of paths that all hold"] = f"MATCH (a:Few), (b:Few), (c:Few {{id: 1}}) WHERE {tests} RETURN 1 LIMIT 1"
+    asked["a joined part of too many"] = f"MATCH (m:Many), {walks[0]} RETURN 1 LIMIT 1"
     for name, text in asked.items():
-        yield Hostile("kept", name, CROWD, text, milliseconds=60_000, megabytes=1000)
+        yield Hostile("kept", name, CROWD, text, milliseconds=60_000, megabytes=2000, rows=most)
 
 
 KINDS: dict[str, Callable[[], Iterator[Hostile]]] = {

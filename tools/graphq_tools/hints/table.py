@@ -279,7 +279,7 @@ REFUSALS: dict[str, str] = {
     "Fault Kind": "a text or a node stands where an integer has to, or a condition is neither true nor false",
     "TooManyRows": "more than {name} rows would be kept: add LIMIT, or start with a greater --rows (16777216 at most)",
     "Memory": "the statement asks for more work or memory than one may take: name labels and types, add conditions or "
-    "LIMIT, or return fewer columns; a greater --rows allows more",
+    "LIMIT, or return fewer columns",
 }
 
 # Where a statement ends too early: how it ends, and the hint.
