@@ -14,20 +14,19 @@ use Rattle.gq_io.specs.declared.reading.ReadStop.TheVariants as read_stop
 use Rattle.gq_io.proofs.Counts.{Rose-later, Rose-since}
 use Rattle.gq_loader.specs.Effects.{ByFault, ReadsFew, TookAtMost}
 use Rattle.gq_loader.specs.steps.Effects.{Reads, Told}
+use Rattle.gq_loader.specs.declared.refusal.LoadRefusal.{LoadRefusal}
 use Rattle.gq_loader.specs.declared.refusal.LoadRefusal.TheVariants as refusal
-use Rattle.gq_loader.specs.declared.refusal.LoadStop.{LoadStop}
-use Rattle.gq_loader.specs.declared.refusal.LoadStop.TheVariants as stop
 
 -- a part that goes on had no fault
-still_of : {T : Type 0} (P : Type 0) (r : Result T LoadStop)
-    → (((n : List ℕ) → r ≢ Err (stop.ReadFault n)) → P) → OnOk r P
+still_of : {T : Type 0} (P : Type 0) (r : Result T LoadRefusal)
+    → (((n : List ℕ) → r ≢ Err (refusal.ReadFault n)) → P) → OnOk r P
 still_of P (Ok value) kept = kept (λ n e. cc e)
 still_of P (Err e) kept = tt
 
 -- ---- one file
 
 -- no file was touched
-pub untouched : {T : Type 0} (most : ℕ) (at : Told) (r : Result T LoadStop) → r ≡ Err stop.Memory
+pub untouched : {T : Type 0} (most : ℕ) (at : Told) (r : Result T LoadRefusal) → r ≡ Err refusal.Memory
     → Reads most at at r
 untouched most at r is = record {
   held = refl;
@@ -40,7 +39,7 @@ untouched most at r is = record {
 -- the choice of a file failed
 pub choice_failed : {T : Type 0} (most : ℕ) (name : List ℕ) (old new : Told) → new.held ≡ old.held
     → old.faults ≤ new.faults → Rose old.faults new.faults → old.misses ≤ new.misses
-    → Reads {T = T} most old new (Err (stop.ReadFault name))
+    → Reads {T = T} most old new (Err (refusal.ReadFault name))
 choice_failed most name old new held faults rose misses = record {
   held = held;
   still = tt;
@@ -52,7 +51,7 @@ choice_failed most name old new held faults rose misses = record {
 -- there is no file of this name
 pub not_there : {T : Type 0} (most : ℕ) (name : List ℕ) (old new : Told) → new.held ≡ old.held
     → new.faults ≡ old.faults → old.misses ≤ new.misses → Rose old.misses new.misses
-    → Reads {T = T} most old new (Err (stop.Refused (refusal.NoFile name)))
+    → Reads {T = T} most old new (Err (refusal.NoFile name))
 not_there most name old new held same misses rose = record {
   held = held;
   still = tt;
@@ -63,15 +62,15 @@ not_there most name old new held same misses rose = record {
 
 -- a file was chosen and read
 pub file_read : {T : Type 0} (most : ℕ) (name : List ℕ) (old mid new : Told)
-    (read : Result ReadFile ReadStop) (r : Result T LoadStop)
+    (read : Result ReadFile ReadStop) (r : Result T LoadRefusal)
     → mid.held ≡ old.held → mid.faults ≡ old.faults → old.misses ≤ mid.misses
     → Selects old.held name mid.left true
     → new.held ≡ mid.held → FailsByFault mid.faults new.faults read → mid.misses ≤ new.misses
     → ReadsWithin most mid.left new.left read
-    → ((n : List ℕ) → r ≡ Err (stop.ReadFault n) → read ≡ Err read_stop.Failed)
-    → (read ≡ Err read_stop.Failed → (n : List ℕ) × (r ≡ Err (stop.ReadFault n)))
-    → ((n : List ℕ) → r ≢ Err (stop.Refused (refusal.NoFile n)))
-    → ((n : List ℕ) → r ≡ Err (stop.Refused (refusal.FileTooLong n)) → name ≡ n) → Reads most old new r
+    → ((n : List ℕ) → r ≡ Err (refusal.ReadFault n) → read ≡ Err read_stop.Failed)
+    → (read ≡ Err read_stop.Failed → (n : List ℕ) × (r ≡ Err (refusal.ReadFault n)))
+    → ((n : List ℕ) → r ≢ Err (refusal.NoFile n))
+    → ((n : List ℕ) → r ≡ Err (refusal.FileTooLong n) → name ≡ n) → Reads most old new r
 file_read most name old mid new read r held still misses chosen
     same fails later within only fault other this = record {
       held = same ∙ held;
@@ -95,7 +94,7 @@ file_read most name old mid new read r held still misses chosen
 -- ---- one part after another
 
 -- a part is followed by another
-pub then_reads : {S T : Type 0} (most : ℕ) (a b c : Told) (done : S) (r : Result T LoadStop)
+pub then_reads : {S T : Type 0} (most : ℕ) (a b c : Told) (done : S) (r : Result T LoadRefusal)
     → Reads {T = S} most a b (Ok done) → Reads most b c r → Reads most a c r
 then_reads most a b c done r p s = record {
   held = s.held ∙ p.held;
@@ -113,14 +112,12 @@ then_reads most a b c done r p s = record {
 }
 
 -- a part is followed by what reads no file
-pub then_answers : {S T : Type 0} (most : ℕ) (a b : Told) (q : Result S LoadStop)
-    (r : Result T LoadStop) → Reads most a b q
-    → ((n : List ℕ) → q ≡ Err (stop.ReadFault n) → r ≡ Err (stop.ReadFault n))
-    → ((n : List ℕ) → r ≡ Err (stop.ReadFault n) → q ≡ Err (stop.ReadFault n))
-    → ((n : List ℕ) → r ≡ Err (stop.Refused (refusal.NoFile n))
-    → q ≡ Err (stop.Refused (refusal.NoFile n)))
-    → ((n : List ℕ) → r ≡ Err (stop.Refused (refusal.FileTooLong n))
-    → q ≡ Err (stop.Refused (refusal.FileTooLong n)))
+pub then_answers : {S T : Type 0} (most : ℕ) (a b : Told) (q : Result S LoadRefusal)
+    (r : Result T LoadRefusal) → Reads most a b q
+    → ((n : List ℕ) → q ≡ Err (refusal.ReadFault n) → r ≡ Err (refusal.ReadFault n))
+    → ((n : List ℕ) → r ≡ Err (refusal.ReadFault n) → q ≡ Err (refusal.ReadFault n))
+    → ((n : List ℕ) → r ≡ Err (refusal.NoFile n) → q ≡ Err (refusal.NoFile n))
+    → ((n : List ℕ) → r ≡ Err (refusal.FileTooLong n) → q ≡ Err (refusal.FileTooLong n))
     → Reads most a b r
 then_answers most a b q r p stops fault miss long = record {
   held = p.held;
@@ -135,7 +132,7 @@ then_answers most a b q r p stops fault miss long = record {
 }
 
 -- a part that reads less than it might
-pub reads_less : {T : Type 0} (some most : ℕ) (a b : Told) (r : Result T LoadStop) → some ≤ most
+pub reads_less : {T : Type 0} (some most : ℕ) (a b : Told) (r : Result T LoadRefusal) → some ≤ most
     → Reads some a b r → Reads most a b r
 reads_less some most a b r less p = record {
   held = p.held;
@@ -151,13 +148,20 @@ reads_less some most a b r less p = record {
 }
 
 -- what stopped a part stops the whole
+pub stops_reads : {S T : Type 0} (most : ℕ) (a b : Told) (part : Result S LoadRefusal)
+    (whole : Result T LoadRefusal) (why : LoadRefusal) → part ≡ Err why → whole ≡ Err why
+    → Reads most a b part → Reads most a b whole
+stops_reads most a b part whole why was is p = then_answers most a b part whole p
+    (λ n e. cc (was, is, e)) (λ n e. cc (was, is, e)) (λ n e. cc (was, is, e))
+    (λ n e. cc (was, is, e))
+
 pub stops_few : {S T : Type 0} (held : Option Names) (left : Option (List ℕ)) (most : ℕ)
-    (part : Result S LoadStop) (whole : Result T LoadStop) (why : LoadStop) → part ≡ Err why
+    (part : Result S LoadRefusal) (whole : Result T LoadRefusal) (why : LoadRefusal) → part ≡ Err why
     → whole ≡ Err why → ReadsFew held left most part → ReadsFew held left most whole
 stops_few held left most part whole why was is few = λ n e. few n (cc (was, is, e))
 
-pub stops_fault : {S T : Type 0} (before now : ℕ) (part : Result S LoadStop) (whole : Result T LoadStop)
-    (why : LoadStop) → part ≡ Err why → whole ≡ Err why → ByFault before now part → ByFault before now whole
+pub stops_fault : {S T : Type 0} (before now : ℕ) (part : Result S LoadRefusal) (whole : Result T LoadRefusal)
+    (why : LoadRefusal) → part ≡ Err why → whole ≡ Err why → ByFault before now part → ByFault before now whole
 stops_fault before now part whole why was is fault = record {
   later = fault.later;
   kept = λ none. fault.kept (λ n e. none n (cc (was, is, e)));

@@ -19,14 +19,22 @@ use Rattle.gq_loader.specs.Loads.{beginning_of, load_of, take_table, take_tables
 use Rattle.gq_loader.specs.declared.limits.Limits.{Limits}
 use Rattle.gq_loader.specs.declared.loading.Beginning.{Beginning}
 use Rattle.gq_loader.specs.declared.refusal.LoadRefusal.{LoadRefusal}
-use Rattle.gq_loader.specs.declared.refusal.LoadStop.{LoadStop}
-use Rattle.gq_loader.specs.declared.refusal.LoadStop.TheVariants as stop
+use Rattle.gq_loader.specs.declared.refusal.LoadRefusal.TheVariants as refusal
 use Rattle.gq_loader.specs.declared.tables.Loading.{Loading}
 
 if_both : {X : Type 0} {P Q R : X → Type 0} (o : Option X) → IfSome o P → IfSome o Q
     → ((x : X) → P x → Q x → R x) → IfSome o R
 if_both None p q f = tt
 if_both (Some x) p q f = f x p q
+
+-- what is meant of a part is meant of the whole, where the refusal is one of the files
+refuses_on : {S T : Type 0} (held : Option Names) (part : Names → Result S LoadRefusal)
+    (whole : Names → Result T LoadRefusal) (e : LoadRefusal)
+    → (IfSome held (λ files. part files ≡ Err e) → IfSome held (λ files. whole files ≡ Err e))
+    → Refuses held part e → Refuses held whole e
+refuses_on held part whole (refusal.ReadFault name) on h = tt
+refuses_on held part whole refusal.Memory on h = tt
+refuses_on held part whole e on h = on h
 
 -- the numbers are still those of tables
 number_stays : (old new : Tables) (number : TableNumber) → AsMany old new → IsNumberOf old number
@@ -59,13 +67,13 @@ module _ (name : List ℕ) (limits : Limits) (held : Option Names) where
   next_of loading after next more step m =
       record { is = if_both held m.is step (λ files e k. e ∙ rw k refl) }
 
-  stop_of : (loading : Loading) (next : TableNumber) (more : List TableNumber) (e : LoadStop)
+  stop_of : (loading : Loading) (next : TableNumber) (more : List TableNumber) (e : LoadRefusal)
       → Refuses held (λ files. take_table files limits loading next) e → Meant loading (next ∷ more)
       → Refuses held (λ files. load_of name files limits) e
-  stop_of loading next more (stop.Refused e) step m =
-      if_both held m.is step (λ files is k. is ∙ rw k refl)
-  stop_of loading next more (stop.ReadFault name) step m = tt
-  stop_of loading next more stop.Memory step m = tt
+  stop_of loading next more e step m =
+      refuses_on held (λ files. take_table files limits loading next)
+      (λ files. load_of name files limits) e
+      (λ refused. if_both held m.is refused (λ files is k. is ∙ rw k refl)) step
 
   -- the next table was read
   pub meant_next : (loading after : Loading) (order : List TableNumber) (at : ℕ) (d : TableNumber)
@@ -82,7 +90,7 @@ module _ (name : List ℕ) (limits : Limits) (held : Option Names) where
   -- the next table was refused
   pub meant_stops : {T : Type 0} (loading after : Loading) (order : List TableNumber) (at : ℕ)
       (d : TableNumber)
-      (now : Option Names) (e : LoadStop) (q : Result T LoadStop) (r : Result Graph LoadStop)
+      (now : Option Names) (e : LoadRefusal) (q : Result T LoadRefusal) (r : Result Graph LoadRefusal)
       → at < length order → now ≡ held
       → Leaves now (λ files. take_table files limits loading (get_or order at d)) after q
       → q ≡ Err e → r ≡ Err e

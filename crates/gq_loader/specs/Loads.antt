@@ -26,10 +26,9 @@ use Rattle.gq_tables.specs.declared.rels.RelTableRows.{RelTableRows}
 use Rattle.gq_tables.specs.declared.refusal.TableRefusal.{TableRefusal}
 use Rattle.gq_loader.specs.Files.{file_of}
 use Rattle.gq_loader.specs.Limits.{is_short, is_short_manifest}
-use Rattle.gq_loader.specs.Refusals.{refused_as}
+use Rattle.gq_loader.specs.Refusals.{of_manifest, of_table, refused_as}
 use Rattle.gq_loader.specs.declared.limits.Limits.{Limits}
 use Rattle.gq_loader.specs.declared.refusal.LoadRefusal.{LoadRefusal}
-use Rattle.gq_loader.specs.declared.refusal.LoadRefusal.TheVariants as refusal
 use Rattle.gq_loader.specs.declared.loading.Beginning.{Beginning}
 use Rattle.gq_loader.specs.declared.tables.Loading.{Loading}
 
@@ -82,7 +81,7 @@ module _ (files : Names) (limits : Limits) where
       → Result Loading LoadRefusal
   take_file loading file read =
       and_then (file_of files (is_short limits loading.total) file) (λ bytes.
-      and_then (refused_as (refusal.Table file) (read bytes)) (λ graph.
+      and_then (refused_as (of_table file) (read bytes)) (λ graph.
       Ok (record { graph = graph; total = loading.total + length bytes })))
 
   -- a node table
@@ -126,7 +125,7 @@ begun manifest = record {
 abbrev pub beginning_of : List ℕ → Names → Result Beginning LoadRefusal
 beginning_of name files =
     and_then (file_of files is_short_manifest name) (λ text.
-    and_then (refused_as refusal.Manifest (manifest_of text)) (λ manifest.
+    and_then (refused_as of_manifest (manifest_of text)) (λ manifest.
     Ok (begun manifest)))
 
 -- the load of the manifest of this name: first the manifest, and then the file of each of its

@@ -4,7 +4,7 @@ ghost use Rattle.gq_loader.specs.Answers.{Answers};
 ghost use Rattle.gq_loader.specs.steps.Effects.{Reads, told_of};
 ghost use Rattle.gq_loader.specs.Files.{file_of};
 
-use crate::refusal::{LoadRefusal, LoadStop};
+use crate::refusal::LoadRefusal;
 use gq_base::{Bytes, Text};
 use gq_io::{Files, ReadFile, ReadStop, read_chosen};
 use std::alloc::Global;
@@ -15,7 +15,7 @@ pub(crate) fn read_file<F: Files>(
     files: &mut F,
     name: &str,
     most: usize,
-) -> Result<Bytes, LoadStop>
+) -> Result<Bytes, LoadRefusal>
     ensures answers { Answers (F.held files.old)
         (λ names. file_of names (λ length. nat_le length most) name.now) result }
     ensures few { IfOk result (λ bytes. length bytes ≤ most) }
@@ -26,15 +26,15 @@ pub(crate) fn read_file<F: Files>(
     // Behind a call that failed no memory is wanted, so that nothing but the fault is told.
     let named = Text::new(alloc, name)?;
     let Ok(found) = files.select(name) else {
-        return Err(LoadStop::ReadFault { name: named });
+        return Err(LoadRefusal::ReadFault { name: named });
     };
     if !found {
-        return Err(LoadStop::Refused(LoadRefusal::NoFile { name: named }));
+        return Err(LoadRefusal::NoFile { name: named });
     }
     match read_chosen(alloc, files, most) {
         Ok(ReadFile::Whole(bytes)) => Ok(bytes),
-        Ok(ReadFile::TooLong) => Err(LoadStop::Refused(LoadRefusal::FileTooLong { name: named })),
-        Err(ReadStop::Failed) => Err(LoadStop::ReadFault { name: named }),
-        Err(ReadStop::Memory) => Err(LoadStop::Memory),
+        Ok(ReadFile::TooLong) => Err(LoadRefusal::FileTooLong { name: named }),
+        Err(ReadStop::Failed) => Err(LoadRefusal::ReadFault { name: named }),
+        Err(ReadStop::Memory) => Err(LoadRefusal::Memory),
     }
 }

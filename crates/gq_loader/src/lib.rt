@@ -11,4 +11,4 @@ mod tables;
 
 pub use limits::Limits;
 pub use loading::load;
-pub use refusal::{LoadRefusal, LoadStop};
+pub use refusal::LoadRefusal;

@@ -11,7 +11,7 @@ ghost use Rattle.gq_loader.specs.Loads.{beginning_of, load_of};
 
 use crate::file::read_file;
 use crate::limits::Limits;
-use crate::refusal::LoadStop;
+use crate::refusal::LoadRefusal;
 use crate::tables::{Loading, take_table};
 use gq_base::List;
 use gq_io::Files;
@@ -43,7 +43,7 @@ pub fn load<F: Files>(
     files: &mut F,
     manifest: &str,
     limits: &Limits,
-) -> Result<Graph, LoadStop>
+) -> Result<Graph, LoadRefusal>
     requires { IsWithin limits.now }
     ensures loads { Answers (F.held files.old)
         (λ names. load_of manifest.now names limits.now) result }
@@ -61,7 +61,7 @@ pub fn load<F: Files>(
 }
 
 // Reads the manifest of this name.
-fn begin<F: Files>(alloc: Global, files: &mut F, manifest: &str) -> Result<Beginning, LoadStop>
+fn begin<F: Files>(alloc: Global, files: &mut F, manifest: &str) -> Result<Beginning, LoadRefusal>
     ensures answers { Answers (F.held files.old) (λ names. beginning_of manifest.now names) result }
     ensures fresh { IfOk result (λ tables. IsFresh tables.loading) }
     ensures numbers { IfOk result (λ tables.

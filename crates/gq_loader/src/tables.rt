@@ -15,7 +15,7 @@ ghost use Rattle.gq_tables.specs.Tables.{IsRelTable};
 
 use crate::file::read_file;
 use crate::limits::Limits;
-use crate::refusal::LoadStop;
+use crate::refusal::LoadRefusal;
 use gq_base::{Bytes, Field, Kind, RelTable};
 use gq_io::Files;
 use gq_manifest::TableNumber;
@@ -37,7 +37,7 @@ pub(crate) fn take_table<F: Files>(
     limits: &Limits,
     loading: &mut Loading,
     table: TableNumber,
-) -> Result<(), LoadStop>
+) -> Result<(), LoadRefusal>
     requires number { IsNumberOf loading.old.graph.catalog table }
     requires going { IsGoing limits.now loading.old }
     requires within { IsWithin limits.now }
@@ -65,7 +65,7 @@ fn take_nodes<F: Files>(
     limits: &Limits,
     loading: &mut Loading,
     number: u32,
-) -> Result<(), LoadStop>
+) -> Result<(), LoadRefusal>
     requires number { number < length loading.old.graph.catalog.nodes }
     requires going { IsGoing limits.now loading.old }
     requires within { IsWithin limits.now }
@@ -86,7 +86,7 @@ fn take_nodes<F: Files>(
     let bytes = read_table_file(alloc, files, limits, loading.total, file)?;
     let read = match read_nodes(alloc, bytes.as_slice(), limits.nodes) {
         Ok(read) => read,
-        Err(why) => return Err(LoadStop::at_table(alloc, file, why)?),
+        Err(why) => return Err(LoadRefusal::at_table(alloc, file, why)?),
     };
     loading.total += bytes.len() as u32;
     loading.graph.set_node_fields(number, read.fields);
@@ -100,7 +100,7 @@ fn take_rels<F: Files>(
     limits: &Limits,
     loading: &mut Loading,
     number: u32,
-) -> Result<(), LoadStop>
+) -> Result<(), LoadRefusal>
     requires number { number < length loading.old.graph.catalog.rels }
     requires going { IsGoing limits.now loading.old }
     requires within { IsWithin limits.now }
@@ -121,7 +121,7 @@ fn take_rels<F: Files>(
     let bytes = read_table_file(alloc, files, limits, loading.total, file)?;
     let read = match read_between(alloc, bytes.as_slice(), limits, loading, table) {
         Ok(read) => read,
-        Err(why) => return Err(LoadStop::at_table(alloc, file, why)?),
+        Err(why) => return Err(LoadRefusal::at_table(alloc, file, why)?),
     };
     loading.total += bytes.len() as u32;
     loading.graph.set_rel_fields(number, read.fields);
@@ -164,7 +164,7 @@ fn read_table_file<F: Files>(
     limits: &Limits,
     before: u32,
     name: &str,
-) -> Result<Bytes, LoadStop>
+) -> Result<Bytes, LoadRefusal>
     requires { before ≤ limits.now.total_bytes }
     ensures answers { Answers (F.held files.old)
         (λ names. file_of names (is_short limits.now before) name.now) result }

@@ -1,5 +1,4 @@
 pub mod Answers
 pub mod Lines
 pub mod Manifests
-pub mod Refusals
 pub mod steps

@@ -9,27 +9,26 @@ use Rattle.gq_io.specs.Outside.{Names}
 use Rattle.gq_manifest.specs.declared.manifest.TableNumber.{TableNumber}
 use Rattle.gq_manifest.specs.declared.manifest.TableNumber.TheVariants as table
 use Rattle.gq_tables.specs.declared.refusal.TableStop.{TableStop}
-use Rattle.gq_tables.specs.declared.refusal.TableStop.TheVariants as table_stop
+use Rattle.gq_tables.specs.declared.refusal.TableStop.TheVariants as stop
 use Rattle.gq_loader.specs.Answers.{Refuses}
+use Rattle.gq_loader.specs.Refusals.{of_table}
 use Rattle.gq_loader.specs.declared.limits.Limits.{Limits}
 use Rattle.gq_loader.specs.declared.refusal.LoadRefusal.{LoadRefusal}
 use Rattle.gq_loader.specs.declared.refusal.LoadRefusal.TheVariants as refusal
-use Rattle.gq_loader.specs.declared.refusal.LoadStop.{LoadStop}
-use Rattle.gq_loader.specs.declared.refusal.LoadStop.TheVariants as stop
 use Rattle.gq_loader.specs.declared.tables.Loading.{Loading}
 
 -- ---- what is meant
 
 -- where the files are told, `Ok` leaves behind what is meant, and a refusal is the one that is meant
 abbrev pub Leaves : {S T : Type 0} → Option Names → (Names → Result S LoadRefusal) → S
-    → Result T LoadStop → Type 0
+    → Result T LoadRefusal → Type 0
 Leaves held meant left (Ok done) = IfSome held (λ files. meant files ≡ Ok left)
 Leaves held meant left (Err e) = Refuses held meant e
 
 -- what stopped the reading of the file of a table, for a load
-abbrev pub of_table : List ℕ → TableStop → LoadStop
-of_table file (table_stop.Refused e) = stop.Refused (refusal.Table file e)
-of_table file table_stop.Memory = stop.Memory
+abbrev pub stopped_by : List ℕ → TableStop → LoadRefusal
+stopped_by file (stop.Refused e) = of_table file e
+stopped_by file stop.Memory = refusal.Memory
 
 -- ---- a graph, table by table
 

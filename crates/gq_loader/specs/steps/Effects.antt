@@ -4,7 +4,7 @@ use Rattle.std.specs.declared.option.Option.{Option}
 use Rattle.std.specs.declared.result.Result.{Result}
 use Rattle.gq_io.specs.Outside.{Names}
 use Rattle.gq_loader.specs.Effects.{ByFault, ByMiss, ReadsFew}
-use Rattle.gq_loader.specs.declared.refusal.LoadStop.{LoadStop}
+use Rattle.gq_loader.specs.declared.refusal.LoadRefusal.{LoadRefusal}
 
 -- what is told of the files at one time
 pub record Told : Type 0 where
@@ -25,7 +25,7 @@ told_of held left faults misses files = record {
 -- what a part of a load does to the files: it changes none, no call failed where it goes on, its
 -- faults and misses have their causes, and of a file that it refuses as too long it read no more than
 -- shows that
-pub record Reads {T : Type 0} (most : ℕ) (old new : Told) (result : Result T LoadStop) : Type 0 where
+pub record Reads {T : Type 0} (most : ℕ) (old new : Told) (result : Result T LoadRefusal) : Type 0 where
   pub held : new.held ≡ old.held
   pub still : OnOk result (new.faults ≡ old.faults)
   pub faults : ByFault old.faults new.faults result

@@ -1,7 +1,15 @@
 use Rattle.std.proofs.Common.{◌≤◌, ◌^◌, ap, ◌∙◌, arith, length}
+use Rattle.std.proofs.lemmas.Result.{err_from_is_err_and}
 use Rattle.std.specs.Prelude.{slice_set}
+use Rattle.gq_loader.proofs.Effecting.{stops_reads}
 use Rattle.gq_loader.proofs.Keeping.{nodes_valid, others_keep}
 use Rattle.gq_loader.proofs.tables.take_nodes.Goals as goal
+
+pub returns-in_err-bytes-clause-reads : goal.returns-in_err-bytes-clause-reads
+returns-in_err-bytes-clause-reads g c =
+    let p = err_from_is_err_and c.from_residual.result c.from_residual.ensures.1 in
+    stops_reads _ _ _ c.read_table_file.result c.from_residual.result c.in_err-bytes.field-0.0
+    c.in_err-bytes.was (cc (p.1, p.2)) c.read_table_file.ensures.reads
 
 pub returns-clause-valid : goal.returns-clause-valid
 returns-clause-valid g c =
