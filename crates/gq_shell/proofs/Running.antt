@@ -11,14 +11,13 @@ use Rattle.gq_io.specs.Causes.{HasCause, Rose}
 use Rattle.gq_io.specs.Outside.{AppendsFront, Names, Writes}
 use Rattle.gq_io.specs.declared.Failed.{Failed}
 use Rattle.gq_io.proofs.Moved.{Consumes-none}
-use Rattle.gq_loader.specs.Answers.{Answers}
+use Rattle.gq_loader.specs.Answers.{Answers, Refuses}
 use Rattle.gq_loader.specs.Effects.{ByFault, ByMiss}
 use Rattle.gq_loader.specs.Limits.{standard}
 use Rattle.gq_loader.specs.Loads.{load_of}
+use Rattle.gq_loader.specs.Refusals.{IsOfFiles}
 use Rattle.gq_loader.specs.declared.refusal.LoadRefusal.{LoadRefusal}
-use Rattle.gq_loader.specs.declared.refusal.LoadRefusal.TheVariants as refused
-use Rattle.gq_loader.specs.declared.refusal.LoadStop.{LoadStop}
-use Rattle.gq_loader.specs.declared.refusal.LoadStop.TheVariants as load
+use Rattle.gq_loader.specs.declared.refusal.LoadRefusal.TheVariants as load
 use Rattle.gq_reply.specs.Replies.{Context, IsTurn, memory_line}
 use Rattle.gq_sample.specs.Questions.{questions}
 use Rattle.gq_session.specs.Replies as replies
@@ -49,6 +48,13 @@ pub told_by : (text : List ℕ) (s : Status) (out : Span) (written : Result (Uni
     → (answer : Status) → answer ≡ told written s → Told text s out answer
 told_by text s out (Ok done) bytes cause answer is = inl (is, bytes, cause.kept)
 told_by text s out (Err failed) bytes cause answer is = inr (is, bytes, cause.failed)
+
+-- the files were refused, and their line ended the run
+pub line_ended : (e : LoadRefusal) (out : Span) (answer : Status) → ((name : List ℕ) → e ≡ load.ReadFault name → ⊥) → (e ≡ load.Memory → ⊥)
+    → Told (load_line e) status.NotLoaded out answer → EndsLoad e out answer
+line_ended (load.ReadFault name) out answer fault memory line = absurd (fault name refl)
+line_ended load.Memory out answer fault memory line = absurd (memory refl)
+line_ended e out answer fault memory line = line
 
 abbrev pub input_of : Outside → Span
 input_of o = record { old = o.left; new = o.unread; before = o.input_faults.before; now = o.input_faults.now }
@@ -104,31 +110,41 @@ module _ (words : List (List ℕ)) (o : Outside) where
 
   module _ (read : Words) (given : IsRead words read) where
     module _ (path : List ℕ) (from : IsPath path read.source) where
-      by_line : (answer : Status) (e : LoadRefusal) → IfSome o.held (λ files. load_of path files standard ≡ Err e)
-          → ((name : List ℕ) → e ≡ refused.NoFile name → Rose o.files_misses.before o.files_misses.now)
+      by_line : (answer : Status) (e : LoadRefusal) → IsOfFiles e → IfSome o.held (λ files. load_of path files standard ≡ Err e)
+          → ((name : List ℕ) → e ≡ load.NoFile name → Rose o.files_misses.before o.files_misses.now)
           → Told (load_line e) status.NotLoaded (out_of o) answer → Ends words o [] answer
-      by_line answer e meant missed (inl (is, moved, still)) = rw is (
+      by_line answer e of_files meant missed (inl (is, moved, still)) = rw is (
         record {
           refusal = e;
-          permitted = record { read = read; given = given; path = path; from = from; told = meant };
+          permitted = record { read = read; given = given; path = path; from = from; of_files = of_files; told = meant };
           missed = missed;
           moved = moved;
         },
         refl,
       )
-      by_line answer e meant missed (inr (is, front, rose)) =
-          broken_line answer status.NotLoaded (load_line e) (e, record { read = read; given = given; path = path; from = from; told = meant }, refl) refl is front rose
+      by_line answer e of_files meant missed (inr (is, front, rose)) =
+          broken_line answer status.NotLoaded (load_line e) (e, record { read = read; given = given; path = path; from = from; of_files = of_files; told = meant }, refl) refl is front rose
+
+      -- the files were refused
+      refused : (answer : Status) (graph : Result Graph LoadRefusal) (e : LoadRefusal) → IsOfFiles e → graph ≡ Err e
+          → IfSome o.held (λ files. load_of path files standard ≡ Err e) → ByMiss o.files_misses.before o.files_misses.now graph
+          → Told (load_line e) status.NotLoaded (out_of o) answer → Ends words o [] answer
+      refused answer graph e of_files is meant miss ends =
+          by_line answer e of_files meant (λ name no. miss.missed name (subst (λ r. graph ≡ Err r) no is)) ends
+
+      -- what is meant of an answer that is this refusal
+      meant_of : (graph : Result Graph LoadRefusal) (e : LoadRefusal) → graph ≡ Err e → Answers o.held (λ files. load_of path files standard) graph
+          → Refuses o.held (λ files. load_of path files standard) e
+      meant_of graph e is loads = rw is at loads
 
       -- the load gave no graph
-      not_loaded : (answer : Status) (graph : Result Graph LoadStop) (e : LoadStop)
+      not_loaded : (answer : Status) (graph : Result Graph LoadRefusal) (e : LoadRefusal)
           → graph ≡ Err e → Answers o.held (λ files. load_of path files standard) graph
           → ByFault o.files_faults.before o.files_faults.now graph → ByMiss o.files_misses.before o.files_misses.now graph
           → EndsLoad e (out_of o) answer → Ends words o [] answer
-      not_loaded answer graph (load.Refused e) is loads fault miss ends =
-          let meant : IfSome o.held (λ files. load_of path files standard ≡ Err e) = rw is at loads in
-          by_line answer e meant (λ name no. miss.missed name (subst (λ r. graph ≡ Err (load.Refused r)) no is)) ends
       not_loaded answer graph (load.ReadFault name) is loads fault miss ((kept, still), ends) = rw ends (inl ((kept, refl), fault.failed name is))
       not_loaded answer graph load.Memory is loads fault miss ((kept, still), ends) = for_memory answer ends kept
+      not_loaded answer graph e is loads fault miss ends = refused answer graph e tt is (meant_of graph e is loads) miss ends
 
       module _ (graph : Graph) (loads : IfSome o.held (λ files. load_of path files standard ≡ Ok graph)) where
         abbrev here : Context
@@ -304,13 +320,16 @@ module _ (o : Outside) where
   first_line answer s text go files input (inl (is, moved, still)) = rw is (go (files, input, still))
   first_line answer s text go files input (inr (is, front, rose)) = rw is (files, input)
 
-  first_load : (answer : Status) (graph : Result Graph LoadStop) (e : LoadStop) → graph ≡ Err e → ByFault o.files_faults.before o.files_faults.now graph → IsStill o.input_faults
+  -- a refusal of the files is no call of them that failed
+  no_fault : (graph : Result Graph LoadRefusal) (e : LoadRefusal) → IsOfFiles e → graph ≡ Err e → ByFault o.files_faults.before o.files_faults.now graph → IsStill o.files_faults
+  no_fault graph e of_files is fault = fault.kept (λ name was. let same : e ≡ load.ReadFault name = cc in subst IsOfFiles same of_files)
+
+  first_load : (answer : Status) (graph : Result Graph LoadRefusal) (e : LoadRefusal) → graph ≡ Err e → ByFault o.files_faults.before o.files_faults.now graph → IsStill o.input_faults
       → EndsLoad e (out_of o) answer → EndsAtFault o answer
-  first_load answer graph (load.Refused e) is fault input ends =
-      first_line answer status.NotLoaded (load_line e) (λ none. none) (fault.kept (λ n was. let not : ◌≡◌ {A = Result Graph LoadStop} (Err (load.Refused e)) (Err (load.ReadFault n)) = sym is ∙ was in cc not)) input ends
   first_load answer graph (load.ReadFault name) is fault input ((kept, still), ends) = rw ends (still, inr input)
   first_load answer graph load.Memory is fault input ((kept, still), ends) =
-      first_memory answer ends (fault.kept (λ n was. let not : ◌≡◌ {A = Result Graph LoadStop} (Err load.Memory) (Err (load.ReadFault n)) = sym is ∙ was in cc not), input, still)
+      first_memory answer ends (fault.kept (λ n was. let not : ◌≡◌ {A = Result Graph LoadRefusal} (Err load.Memory) (Err (load.ReadFault n)) = sym is ∙ was in cc not), input, still)
+  first_load answer graph e is fault input ends = first_line answer status.NotLoaded (load_line e) (λ none. none) (no_fault graph e tt is fault) input ends
 
   first_served : (result : Result Tone Stop) → IsStill o.files_faults → sessions.EndsAtFault (input_of o) (out_of o) result → EndsAtFault o (status_of result)
   first_served (Ok tone.Good) files still = (files, still.0, still.1)
@@ -343,7 +362,7 @@ module _ (words : List (List ℕ)) (o : Outside) where
   module _ (read : Words) (given : IsRead words read) where
     module _ (path : List ℕ) (from : IsPath path read.source) where
       -- the load gave no graph
-      pub exit_refused : (answer : Status) (graph : Result Graph LoadStop) (e : LoadStop)
+      pub exit_refused : (answer : Status) (graph : Result Graph LoadRefusal) (e : LoadRefusal)
           → graph ≡ Err e → Answers o.held (λ files. load_of path files standard) graph
           → ByFault o.files_faults.before o.files_faults.now graph → ByMiss o.files_misses.before o.files_misses.now graph
           → o.unread ≡ o.left → IsStill o.input_faults → EndsLoad e (out_of o) answer → Runs words o answer

@@ -12,6 +12,7 @@ use Rattle.gq_io.specs.Causes.{Rose}
 use Rattle.gq_io.specs.Outside.{AppendsFront, Names}
 use Rattle.gq_loader.specs.Limits.{standard}
 use Rattle.gq_loader.specs.Loads.{load_of}
+use Rattle.gq_loader.specs.Refusals.{IsOfFiles}
 use Rattle.gq_loader.specs.declared.refusal.LoadRefusal.{LoadRefusal}
 use Rattle.gq_loader.specs.declared.refusal.LoadRefusal.TheVariants as refused
 use Rattle.gq_plan.specs.declared.Bound.{Bound}
@@ -81,6 +82,7 @@ pub record IsNotLoaded (words : List (List ℕ)) (held : Option Names) (refusal 
   pub given : IsRead words read
   pub path : List ℕ
   pub from : IsPath path read.source
+  pub of_files : IsOfFiles refusal
   pub told : IfSome held (λ files. load_of path files standard ≡ Err refusal)
 
 -- the words name a manifest, and the input is read, where it is told, over some graph, which is that of the files where they are told

@@ -1,17 +1,14 @@
 //! The line of a load that was refused.
 
-ghost use Rattle.std.specs.Prelude.{[], ◌∷◌, codes};
 ghost use Rattle.gq_io.specs.Causes.{HasCause};
 ghost use Rattle.gq_io.specs.Outside.{Writes};
-ghost use Rattle.gq_render.specs.Texts.{refusal_line};
-ghost use Rattle.gq_shell.specs.LoadLines.{at_column, at_line, at_record, load_line, place_line};
-ghost use Rattle.gq_shell.specs.LoadLines.{places_of};
+ghost use Rattle.gq_shell.specs.LoadLines.{in_field, in_file, in_record, load_line, on_line};
+ghost use Rattle.gq_shell.specs.LoadLines.{place_line};
 
 use gq_base::Text;
 use gq_io::{Failed, Sink, write_all};
 use gq_loader::LoadRefusal;
 use gq_render::{Place, write_refusal};
-use gq_tables::TablePlace;
 
 /// Writes the line of a refusal: its name, and where it is.
 pub fn write_load_line<O: Sink>(out: &mut O, refusal: &LoadRefusal) -> Result<(), Failed>
@@ -28,16 +25,37 @@ fn write_place<O: Sink>(out: &mut O, refusal: &LoadRefusal) -> Result<(), Failed
     ensures cause { HasCause (O.faults out.old) (O.faults out.new) result }
 {
     match refusal {
-        LoadRefusal::NoFile { name } => in_file(out, name, TablePlace::File),
-        LoadRefusal::FileTooLong { name } => in_file(out, name, TablePlace::File),
-        LoadRefusal::Manifest(refusal) => on_line(out, refusal.line),
-        LoadRefusal::Table { file, refusal } => in_file(out, file, refusal.place()),
+        LoadRefusal::NoFile { name } => in_file(out, name),
+        LoadRefusal::FileTooLong { name } => in_file(out, name),
+        LoadRefusal::BadLine { line } => on_line(out, *line),
+        LoadRefusal::LabelRepeated { line } => on_line(out, *line),
+        LoadRefusal::TypeRepeated { line } => on_line(out, *line),
+        LoadRefusal::NoSuchLabel { line } => on_line(out, *line),
+        LoadRefusal::TooManyTables { line } => on_line(out, *line),
+        LoadRefusal::BadHeader { file } => in_file(out, file),
+        LoadRefusal::TooManyProperties { file } => in_file(out, file),
+        LoadRefusal::TooManyRows { file } => in_file(out, file),
+        LoadRefusal::FieldCount { file, number } => in_record(out, file, *number),
+        LoadRefusal::BadField {
+            file,
+            number,
+            column,
+        } => in_field(out, file, *number, *column),
+        LoadRefusal::NullKey { file, number } => in_record(out, file, *number),
+        LoadRefusal::NoSuchNode {
+            file,
+            number,
+            column,
+        } => in_field(out, file, *number, *column),
+        LoadRefusal::KeyRepeated { file, number } => in_record(out, file, *number),
+        LoadRefusal::NotSingle { file, number } => in_record(out, file, *number),
+        LoadRefusal::ReadFault { name } => in_file(out, name),
+        LoadRefusal::Memory => write_refusal(out, "", "", &[]),
     }
 }
 
 fn on_line<O: Sink>(out: &mut O, line: u32) -> Result<(), Failed>
-    ensures bytes { Writes (O.taken out.old) (O.taken out.new)
-        (refusal_line [] [] (at_line line ∷ [])) result }
+    ensures bytes { Writes (O.taken out.old) (O.taken out.new) (on_line line) result }
     ensures cause { HasCause (O.faults out.old) (O.faults out.new) result }
 {
     let places = [Place {
@@ -47,21 +65,15 @@ fn on_line<O: Sink>(out: &mut O, line: u32) -> Result<(), Failed>
     write_refusal(out, "", "", places.as_slice())
 }
 
-fn in_file<O: Sink>(out: &mut O, file: &Text, place: TablePlace) -> Result<(), Failed>
-    ensures bytes { Writes (O.taken out.old) (O.taken out.new)
-        (refusal_line (codes " ") file.now (places_of place)) result }
+fn in_file<O: Sink>(out: &mut O, file: &Text) -> Result<(), Failed>
+    ensures bytes { Writes (O.taken out.old) (O.taken out.new) (in_file file.now) result }
     ensures cause { HasCause (O.faults out.old) (O.faults out.new) result }
 {
-    match place {
-        TablePlace::File => write_refusal(out, " ", file.as_str(), &[]),
-        TablePlace::Record { number } => in_record(out, file, number),
-        TablePlace::Field { number, column } => in_field(out, file, number, column),
-    }
+    write_refusal(out, " ", file.as_str(), &[])
 }
 
 fn in_record<O: Sink>(out: &mut O, file: &Text, number: u32) -> Result<(), Failed>
-    ensures bytes { Writes (O.taken out.old) (O.taken out.new)
-        (refusal_line (codes " ") file.now (at_record number ∷ [])) result }
+    ensures bytes { Writes (O.taken out.old) (O.taken out.new) (in_record file.now number) result }
     ensures cause { HasCause (O.faults out.old) (O.faults out.new) result }
 {
     let places = [Place {
@@ -73,7 +85,7 @@ fn in_record<O: Sink>(out: &mut O, file: &Text, number: u32) -> Result<(), Faile
 
 fn in_field<O: Sink>(out: &mut O, file: &Text, number: u32, column: u32) -> Result<(), Failed>
     ensures bytes { Writes (O.taken out.old) (O.taken out.new)
-        (refusal_line (codes " ") file.now (at_record number ∷ at_column column ∷ [])) result }
+        (in_field file.now number column) result }
     ensures cause { HasCause (O.faults out.old) (O.faults out.new) result }
 {
     let places = [

@@ -14,7 +14,7 @@ use crate::status::Status;
 use gq_base::Memory;
 use gq_execute::{Order, Settings};
 use gq_io::{Failed, Files, Sink, Source, write_all};
-use gq_loader::{Limits, LoadStop, load};
+use gq_loader::{Limits, LoadRefusal, load};
 use gq_words::{Order as OrderWord, Source as SourceWord, Words, WordsRefusal, read_words};
 use std::alloc::Global;
 
@@ -55,13 +55,13 @@ fn write_usage<O: Sink>(out: &mut O) -> Result<(), Failed>
 
 // Ends a run whose files gave no graph: with the line of the refusal, or with nothing after a fault
 // and for want of memory.
-fn end_load<O: Sink>(out: &mut O, why: &LoadStop) -> Status
+fn end_load<O: Sink>(out: &mut O, why: &LoadRefusal) -> Status
     ensures { EndsLoad why.now (span_of O.taken O.faults out.old out.new) result }
 {
     match why {
-        LoadStop::Refused(refusal) => told(write_load_line(out, refusal), Status::NotLoaded),
-        LoadStop::ReadFault { .. } => Status::ReadFault,
-        LoadStop::Memory => Status::Memory(Memory::Exhausted),
+        LoadRefusal::ReadFault { .. } => Status::ReadFault,
+        LoadRefusal::Memory => Status::Memory(Memory::Exhausted),
+        _ => told(write_load_line(out, why), Status::NotLoaded),
     }
 }
 

@@ -6,8 +6,8 @@ use Rattle.gq_execute.specs.declared.settings.Settings.{Settings}
 use Rattle.gq_io.specs.Causes.{HasCause, Rose}
 use Rattle.gq_io.specs.Outside.{AppendsFront}
 use Rattle.gq_io.specs.declared.Failed.{Failed}
-use Rattle.gq_loader.specs.declared.LoadStop.{LoadStop}
-use Rattle.gq_loader.specs.declared.LoadStop.TheVariants as load
+use Rattle.gq_loader.specs.declared.refusal.LoadRefusal.{LoadRefusal}
+use Rattle.gq_loader.specs.declared.refusal.LoadRefusal.TheVariants as load
 use Rattle.gq_reply.specs.Replies.{Context}
 use Rattle.gq_sample.specs.Questions.{questions}
 use Rattle.gq_session.specs.Replies.{Answered, Wrote, WroteFront}
@@ -35,10 +35,10 @@ Told text s out answer =
 
 -- what becomes of a load that gave no graph: the line of its refusal is written, or nothing after a
 -- fault and for want of memory
-abbrev pub EndsLoad : LoadStop → Span → Status → Type 0
-EndsLoad (load.Refused e) out answer = Told (load_line e) status.NotLoaded out answer
+abbrev pub EndsLoad : LoadRefusal → Span → Status → Type 0
 EndsLoad (load.ReadFault name) out answer = IsUntouched out × (answer ≡ status.ReadFault)
 EndsLoad load.Memory out answer = IsUntouched out × (answer ≡ status.Memory Exhausted)
+EndsLoad e out answer = Told (load_line e) status.NotLoaded out answer
 
 -- the question of a number from 1 to 6
 abbrev pub question_of : ℕ → List ℕ
