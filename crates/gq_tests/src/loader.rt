@@ -6,9 +6,8 @@ ghost use Rattle.gq_loader.specs.Limits.{IsWithin};
 use crate::made::{Test, bytes, text};
 use gq_base::List;
 use gq_io::SureFiles;
-use gq_loader::{Limits, LoadRefusal, LoadStop, load};
+use gq_loader::{Limits, LoadRefusal, load};
 use gq_store::Graph;
-use gq_tables::TableRefusal;
 
 // Two lines name one file, which counts for each of them.
 const FILES: [(&str, &str); 3] = [
@@ -54,29 +53,16 @@ enum Wanted {
 
 fn is_refused(refusal: &LoadRefusal, wanted: Wanted) -> bool {
     match (refusal, wanted) {
-        (LoadRefusal::Table { file, refusal }, Wanted::Rows(name)) => {
-            file.is(name) && is_of_rows(refusal)
-        }
+        (LoadRefusal::TooManyRows { file }, Wanted::Rows(name)) => file.is(name),
         (LoadRefusal::FileTooLong { name: file }, Wanted::Bytes(name)) => file.is(name),
         _ => false,
     }
 }
 
-fn is_of_rows(refusal: &TableRefusal) -> bool {
-    matches!(refusal, TableRefusal::TooManyRows)
-}
-
-fn is_stopped(stop: &LoadStop, wanted: Wanted) -> bool {
-    match stop {
-        LoadStop::Refused(refusal) => is_refused(refusal, wanted),
-        _ => false,
-    }
-}
-
-fn is_ended(ended: &Result<Graph, LoadStop>, wanted: Wanted) -> bool {
+fn is_ended(ended: &Result<Graph, LoadRefusal>, wanted: Wanted) -> bool {
     match ended {
         Ok(_) => matches!(wanted, Wanted::Nothing),
-        Err(stop) => is_stopped(stop, wanted),
+        Err(refusal) => is_refused(refusal, wanted),
     }
 }
 
