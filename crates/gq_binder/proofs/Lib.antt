@@ -1,2 +1,3 @@
 pub mod Checked
+mod Parted
 pub mod Unnamed

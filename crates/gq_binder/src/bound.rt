@@ -1,6 +1,7 @@
 //! The bound form of a query, or why it has none.
 ghost use Rattle.std.specs.Prelude.{◌≡◌, ◌++◌, None, [], map, filter_map, IfOk, IfSome, OnOk};
 ghost use Rattle.gq_alternatives.specs.Alternatives.{pattern_alternatives, typed_of};
+ghost use Rattle.gq_binder.specs.Parted.{PartMatches};
 ghost use Rattle.gq_bound.specs.Binding.{Answers};
 ghost use Rattle.gq_bound.specs.Columns.{column_expr, sort_expr};
 ghost use Rattle.gq_bound.specs.Refusals.{first_of_all};
@@ -29,6 +30,8 @@ use std::mem;
 
 /// Binds a query, which a text spells, over a catalogue. The answer is the bound query, whose
 /// alternatives are sound for the catalogue, or the first refusal that applies, or want of memory.
+/// In each valid graph the alternatives part the matches of the MATCH clauses, with trails those of
+/// their core.
 pub fn bind(
     alloc: Global,
     query: &Query,
@@ -36,7 +39,8 @@ pub fn bind(
     catalog: &Catalog,
 ) -> Result<Bound, BindRefusal>
     requires { SpelledQuery text.now query.now }
-    ensures { Answers query.now text.now catalog.now result }
+    ensures answers { Answers query.now text.now catalog.now result }
+    ensures parted { IfOk result (PartMatches query.now catalog.now) }
 {
     let mut parts = QueryParts::new(alloc);
     bind_parts(alloc, text, catalog, query, &mut parts)
