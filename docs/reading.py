@@ -35,7 +35,7 @@ NO_CODE = re.compile(r" *(?:--|//|#|infix|(?:pub )?mod |module _ |(?:unfoldable 
 ITEM = re.compile(r"(?:pub(?:\(crate\))? )?(fn|struct|enum|trait|type|const|impl)\b(?:<.*?>)? (?:(\w+).* for )?(\w+)")
 FUNCTION = re.compile(r"^(?= *(?:pub(?:\(crate\))? )?(?:const )?fn )", re.M)
 # The crates whose public clauses still name definitions of specs/steps/ or proofs/: none may come to them.
-STILL_INNER = set("gq_bound gq_cells gq_cuts gq_hops gq_law_cuts gq_law_reaches gq_law_trails gq_optional gq_plan gq_trails".split())
+STILL_INNER = set("gq_bound gq_cells gq_cuts gq_hops gq_law_cuts gq_law_reaches gq_law_trails gq_plan gq_trails".split())
 BODY = re.compile(r"^( *)(?:(?:\)|(?:pub(?:\(crate\))? )?(?:const )?fn ).*)?\{\n(?:(?!\1\S).*\n)*\1\}$", re.M)
 CLAUSE = re.compile(r"\b(?:requires|ensures|ghost)\*?(?: \w+)?(?: ?[:=])? \{((?:[^{}]|\{(?:[^{}]|\{[^{}]*\})*\})*)\}")
 

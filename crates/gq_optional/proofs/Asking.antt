@@ -7,7 +7,7 @@ use Rattle.gq_eval.specs.Asked.{Asked, answers}
 use Rattle.gq_expr.specs.Reading as reading
 use Rattle.gq_plan.specs.Marked.{marks}
 use Rattle.gq_plan.specs.Outcomes.{meanings_of}
-use Rattle.gq_optional.specs.Asking.{AllAsk, Asks}
+use Rattle.gq_optional.specs.steps.Asking.{AllAsk, Asks}
 use Rattle.gq_optional.specs.declared.clause.Clause.{Clause}
 use Rattle.gq_optional.specs.declared.level.Level.{Level}
 use Rattle.gq_optional.specs.steps.Levels.{clauses_of}

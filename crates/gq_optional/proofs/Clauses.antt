@@ -14,10 +14,10 @@ use Rattle.gq_plan.specs.declared.bound.OptionalPart.{OptionalPart}
 use Rattle.gq_plan.specs.declared.typed.Typed.{Typed}
 use Rattle.gq_wide.specs.Placed.{IsPlaced}
 use Rattle.gq_eval.specs.Asked.{asked_of}
-use Rattle.gq_optional.specs.Asking.{AllAsk}
+use Rattle.gq_optional.specs.steps.Asking.{AllAsk}
 use Rattle.gq_optional.specs.Made.{AreListed}
 use Rattle.gq_law_answers.specs.Answered.{meanings}
-use Rattle.gq_optional.specs.Walks.{AreShared, lists_of, parts_of}
+use Rattle.gq_optional.specs.steps.Walks.{AreShared, lists_of, parts_of}
 use Rattle.gq_optional.specs.declared.clause.Clause.{Clause}
 use Rattle.gq_optional.specs.declared.clause.Matches.{Matches}
 use Rattle.gq_optional.specs.steps.Listed.{IsClause, IsSized, IsWhole, matches_in}

@@ -10,7 +10,7 @@ use Rattle.gq_plan.specs.Marked.{Marked}
 use Rattle.gq_plan.specs.Soundness.{has_number}
 use Rattle.gq_wide.specs.Clauses.{after_clause, after_clauses, joined, or_alone, unless_marked, unmarked}
 use Rattle.gq_wide.specs.Rows.{Wide, read}
-use Rattle.gq_optional.specs.Walks.{AreShared, lists_of, parts_of}
+use Rattle.gq_optional.specs.steps.Walks.{AreShared, lists_of, parts_of}
 use Rattle.gq_optional.specs.declared.clause.Clause.{Clause}
 use Rattle.gq_optional.specs.declared.level.Level.{Level}
 use Rattle.gq_optional.specs.steps.Levels.{AreLevels, HasRows, IsLevel, IsSameClause, clauses_of, last_mark, last_row, last_wide, left_of, made_by, made_by_all, now_at, still}

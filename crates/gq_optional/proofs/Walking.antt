@@ -1,11 +1,14 @@
 -- A walk from one row to the next: what is owed, and that it stays a walk.
-use Rattle.std.proofs.Common.{◌≡◌, ℕ, ◌∙◌, Bool, true, false, List, [], ◌∷◌, length, sym, ap, ap₂, subst, refl, Option, None, ◌++◌}
-use Rattle.std.proofs.lemmas.List.{length-map}
+use Rattle.std.proofs.Common.{◌≡◌, ℕ, ◌+◌, ◌-◌, ◌∙◌, Bool, true, false, List, [], ◌∷◌, drop, length, sym, ap, ap₂, subst, refl, arith, Option, None, ◌++◌}
+use Rattle.std.proofs.lemmas.List.{drop-drop, drop_all, length-drop, length-map}
 use Rattle.gq_base.specs.Plain.{Graph}
 use Rattle.gq_expr.specs.declared.Fault.{Fault}
+use Rattle.gq_plan.specs.Marked.{Marked}
 use Rattle.gq_wide.specs.Clauses.{unmarked}
 use Rattle.gq_wide.specs.Rows.{Wide, read}
-use Rattle.gq_optional.specs.Walks.{owed_as}
+use Rattle.gq_optional.specs.Held.{last_rows, rows_behind, rows_owed}
+use Rattle.gq_optional.specs.declared.walk.Walk.{Walk}
+use Rattle.gq_optional.specs.steps.Walks.{held_by, owed_as, owed_by, row_by, walking_of}
 use Rattle.gq_optional.specs.declared.level.Level.{Level}
 use Rattle.gq_optional.specs.steps.Levels.{AreLevels, HasRows, IsAlike, IsLevel, StepsOn, clauses_of, last_mark, last_row, last_wide, made_by_all, still}
 use Rattle.gq_optional.proofs.Stepped.{last_alike}
@@ -73,3 +76,36 @@ alike_then a b c e f = record { nodes = e.nodes ∙ f.nodes; rels = e.rels ∙ f
 pub levels_pushed : (n m : ℕ) (ls : List Level) (l : Level) → AreLevels n m ls → IsLevel l → HasRows l → length l.row.nodes ≡ n → length l.row.rels ≡ m → AreLevels n m (ls ++ l ∷ [])
 levels_pushed n m [] l all level rows e f = ((level, rows), (e, f), tt)
 levels_pushed n m (k ∷ ls) l all level rows e f = (all.0, all.1, levels_pushed n m ls l all.2 level rows e f)
+
+-- ---- what is owed, as the last of the rows that the clauses make
+
+last_none : (all owed : List Marked) → owed ≡ [] → last_rows (length owed) all ≡ owed
+last_none all owed none =
+    let whole : length all - length owed ≡ length all = omega (arith, ap length none) in
+    ap (λ k. drop k all) whole ∙ drop_all (length all) all (omega arith) ∙ sym none
+
+last_all : (all owed : List Marked) → all ≡ owed → last_rows (length owed) all ≡ owed
+last_all all owed same =
+    let first : length all - length owed ≡ 0 = omega (arith, ap length same) in
+    ap (λ k. drop k all) first ∙ same
+
+-- one was taken
+last_next : (all old new : List Marked) (m : Marked) → last_rows (length old) all ≡ old → old ≡ m ∷ new → last_rows (length new) all ≡ new
+last_next all old new m last next =
+    let long = ap length next in
+    let dropped = sym (length-drop (length all - length old) all) ∙ ap length last in
+    let one : length all - length new ≡ (length all - length old) + 1 = omega (arith, long, dropped) in
+    ap (λ k. drop k all) one ∙ sym (drop-drop 1 (length all - length old) all) ∙ ap (drop 1) (last ∙ next)
+
+pub none_owed : (w : Walk) → owed_by w ≡ [] → rows_owed (walking_of w) ≡ owed_by w
+none_owed w none = last_none (rows_behind (held_by w) w.base) (owed_by w) none
+
+pub all_owed : (w new : Walk) (base : Wide) → owed_by new ≡ rows_behind (held_by w) base → held_by new ≡ held_by w → new.base ≡ base → rows_owed (walking_of new) ≡ owed_by new
+all_owed w new base owed held same = last_all (rows_behind (held_by new) new.base) (owed_by new) (ap₂ rows_behind held same ∙ sym owed)
+
+pub still_owed : (w new : Walk) (found : Bool) → rows_owed (walking_of w) ≡ owed_by w → held_by new ≡ held_by w → new.base ≡ w.base
+    → (found ≡ true → owed_by w ≡ row_by new ∷ owed_by new) → (found ≡ false → owed_by new ≡ []) → rows_owed (walking_of new) ≡ owed_by new
+still_owed w new true last held base next over =
+    let all = ap₂ rows_behind held base in
+    ap (last_rows (length (owed_by new))) all ∙ last_next (rows_behind (held_by w) w.base) (owed_by w) (owed_by new) (row_by new) last (next refl)
+still_owed w new false last held base next over = none_owed new (over refl)

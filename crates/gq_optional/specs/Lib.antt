@@ -1,5 +1,4 @@
-pub mod Asking
+pub mod Held
 pub mod Made
 pub mod Spending
-pub mod Walks
 pub mod steps

@@ -1,7 +1,7 @@
 //! One optional clause at work: the rows that it makes of a row, one after another.
 ghost use Rattle.std.specs.Prelude.{◌≡◌, ◌∷◌, ◌<◌, [], IfOk, Some, length};
 ghost use Rattle.gq_base.specs.Plain.{Graph};
-ghost use Rattle.gq_optional.specs.Asking.{Asks};
+ghost use Rattle.gq_optional.specs.steps.Asking.{Asks};
 ghost use Rattle.gq_optional.specs.steps.Levels.{Finds, GoesOn, HasRows, IsAsWide, IsLevel};
 ghost use Rattle.gq_optional.specs.steps.Levels.{IsSameClause, agreeing_in, left_of, made_by};
 ghost use Rattle.gq_optional.specs.steps.Levels.{matches_left, now_at, pending};

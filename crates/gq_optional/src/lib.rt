@@ -7,9 +7,10 @@ mod clause;
 mod level;
 mod listing;
 mod looking;
+mod optional_walk;
 mod optionals;
 mod placing;
 mod walk;
 
+pub use optional_walk::OptionalWalk;
 pub use optionals::{Optionals, RowShape};
-pub use walk::OptionalWalk;

@@ -1,12 +1,9 @@
 //! The optional clauses of a query: what plans of their alternatives make.
-ghost use Rattle.std.specs.Prelude.{◌≡◌, ◌++◌, ◌≤◌, [], true, length, map, All, IfOk, IfErr, OnOk};
+ghost use Rattle.std.specs.Prelude.{◌≡◌, ◌++◌, ◌≤◌, [], true, map, All, IfOk, IfErr, OnOk};
 ghost use Rattle.std.specs.List.{AllZip, range_with_len};
+ghost use Rattle.gq_optional.specs.Held.{rows_owed};
 ghost use Rattle.gq_optional.specs.Made.{AreCovered, AreFew, AreListed, IsFew, IsRefusal};
 ghost use Rattle.gq_optional.specs.Spending.{HasSpentListed};
-ghost use Rattle.gq_optional.specs.Walks.{IsOptionals, IsWalk, known_by, lists_by, lists_in};
-ghost use Rattle.gq_optional.specs.Walks.{owed_by, parts_by, parts_in};
-ghost use Rattle.gq_optional.specs.steps.Levels.{AreLevels, clauses_of};
-ghost use Rattle.gq_optional.specs.steps.Listed.{IsClause};
 ghost use Rattle.gq_optional.specs.steps.Making.{AddsClauses, HasSpentClauses, HasSpentEach};
 ghost use Rattle.gq_optional.specs.steps.Making.{CanHold, IsClauseOf, IsEachRefusal};
 ghost use Rattle.gq_homes.specs.Cuts.{begins};
@@ -15,9 +12,8 @@ ghost use Rattle.gq_pool.specs.Pool.{spare_of};
 ghost use Rattle.gq_wide.specs.Placed.{IsPlaced};
 
 use crate::clause::Clause;
-use crate::level::Stage;
 use crate::listing::{list_each, places_of, shared_of};
-use crate::walk::OptionalWalk;
+use crate::optional_walk::OptionalWalk;
 use gq_base::{List, Memory};
 use gq_eval::evaluators;
 use gq_join::JoinRefusal;
@@ -25,8 +21,8 @@ use gq_pipe::Spent;
 use gq_plan::{OptionalPart, Plan};
 use gq_pool::VectorPool;
 use gq_store::Graph;
-use gq_wide::WideRow;
 use std::alloc::Global;
+use std::marker::Model;
 
 /// Which variables the rows of a query have.
 #[derive(Clone, Copy)]
@@ -43,10 +39,26 @@ pub struct RowShape {
 /// by the variables that stand before each clause.
 #[derive(Drop)]
 pub struct Optionals<'b> {
-    pub(crate) graph: &'b Graph,
-    pub(crate) shape: RowShape,
-    pub(crate) clauses: List<Clause<'b>>,
-    pub(crate) spent: List<Spent>,
+    graph: &'b Graph,
+    shape: RowShape,
+    clauses: List<Clause<'b>>,
+    spent: List<Spent>,
+}
+
+impl<'b> Model for Optionals<'b> {
+    ghost use Rattle.std.specs.Coded.{codes};
+    ghost use Rattle.gq_expr.specs.contracts.expr.Expr as expr;
+    ghost use Rattle.gq_optional.specs.Held.{Holding};
+
+    ghost Value = { Holding };
+
+    ghost coded = { Prim.hlevel (codes, expr.the_row.coded) };
+
+    ghost use Rattle.gq_optional.specs.steps.Walks.{holding_of, IsHolding};
+
+    ghost view = { holding_of };
+
+    ghost invariant = { IsHolding };
 }
 
 impl<'b> Optionals<'b> {
@@ -68,12 +80,11 @@ impl<'b> Optionals<'b> {
             AllZip covered parts.now (map (map plan_of) plans.now) }
         requires begins { All (λ ps. All (λ p. begins (plan_of p) ≡ true) ps) plans.now }
         requires room { 112 ≤ spare_of pool.old }
-        ensures is { IfOk result IsOptionals }
-        ensures graph { IfOk result (λ o. o.graph.now ≡ graph.now) }
-        ensures shape { IfOk result (λ o. o.shape ≡ shape) }
-        ensures parts { IfOk result (λ o. parts_in o ≡ parts.now) }
+        ensures graph { IfOk result (λ o. o.held.graph ≡ graph.now) }
+        ensures shape { IfOk result (λ o. o.held.shape ≡ shape) }
+        ensures parts { IfOk result (λ o. o.held.parts ≡ parts.now) }
         ensures lists { let pss = map (map plan_of) plans.now in
-            IfOk result (λ o. AreListed graph.now parts.now pss (lists_in o)) }
+            IfOk result (λ o. AreListed graph.now parts.now pss o.held.lists) }
         ensures spent { let pss = map (map plan_of) plans.now in
             IfOk result (λ o. HasSpentListed graph.now parts.now pss o.spent) }
         ensures few { let pss = map (map plan_of) plans.now in
@@ -110,27 +121,10 @@ impl<'b> Optionals<'b> {
 
     /// A walk over the rows that the clauses make of rows, which owes nothing yet.
     pub fn walk<'w>(&'w self, alloc: Global) -> Result<OptionalWalk<'w>, Memory>
-        requires { IsOptionals self.now }
-        ensures walk { IfOk result IsWalk }
-        ensures graph { IfOk result (λ w. w.graph.now ≡ self.now.graph.now) }
-        ensures known { IfOk result (λ w. known_by w ≡ range_with_len 0 self.now.shape.first) }
-        ensures parts { IfOk result (λ w. parts_by w ≡ parts_in self.now) }
-        ensures lists { IfOk result (λ w. lists_by w ≡ lists_in self.now) }
-        ensures nodes { IfOk result (λ w. length w.base.nodes ≡ self.now.shape.nodes) }
-        ensures rels { IfOk result (λ w. length w.base.rels ≡ self.now.shape.rels) }
-        ensures owed { IfOk result (λ w. owed_by w ≡ []) }
+        ensures held { IfOk result (λ w. w.held ≡ self.now.held) }
+        ensures owed { IfOk result (λ w. rows_owed w ≡ []) }
     {
-        let shape = self.shape;
-        Ok(OptionalWalk {
-            graph: self.graph,
-            first: shape.first,
-            base: WideRow::new(alloc, shape.nodes, shape.rels)?,
-            row: WideRow::new(alloc, shape.nodes, shape.rels)?,
-            mark: None,
-            levels: stages_of(alloc, self.clauses.as_slice(), shape)?,
-            fresh: false,
-            standing: false,
-        })
+        OptionalWalk::new(alloc, self.graph, self.shape, self.clauses.as_slice())
     }
 
     /// What the pipelines spent that made them.
@@ -144,7 +138,12 @@ impl<'b> Optionals<'b> {
     pub fn into_spent(self) -> List<Spent>
         ensures { result ≡ self.entry.spent }
     {
-        let Optionals { spent, .. } = self;
+        let Optionals {
+            graph: _,
+            shape: _,
+            clauses: _,
+            spent,
+        } = self;
         spent
     }
 }
@@ -279,21 +278,4 @@ fn hold_each<'b>(
     hold_each(
         clauses, spent, known, alloc, graph, parts, plans, pool, limit,
     )
-}
-
-// Clauses that have made no rows, for rows of this shape.
-fn stages_of<'w>(
-    alloc: Global,
-    clauses: &'w [Clause<'w>],
-    shape: RowShape,
-) -> Result<Vec<Stage<'w>>, Memory>
-    requires { All (IsClause shape.nodes shape.rels) clauses.now }
-    ensures levels { IfOk result (λ ls. AreLevels shape.nodes shape.rels ls.items) }
-    ensures clauses { IfOk result (λ ls. clauses_of ls.items ≡ clauses.now) }
-{
-    let mut stages = Vec::with_capacity(alloc, clauses.len())?;
-    'clauses: for clause in clauses {
-        stages.push(Stage::new(alloc, clause, shape)?)?;
-    }
-    Ok(stages)
 }

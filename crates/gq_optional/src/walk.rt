@@ -1,25 +1,31 @@
-//! The rows that optional clauses make of a row, one after another.
+//! A walk over the rows that optional clauses make of a row, one after another.
 ghost use Rattle.std.specs.Prelude.{◌≡◌, ◌∷◌, ◌≤◌, [], None, drop, false, length, take, true};
+ghost use Rattle.std.specs.Prelude.{All, IfOk};
+ghost use Rattle.std.specs.List.{range_with_len};
 ghost use Rattle.gq_base.specs.Plain.{Graph as Plain};
-ghost use Rattle.gq_optional.specs.Asking.{AllAsk};
-ghost use Rattle.gq_optional.specs.Walks.{IsAsWide, IsSameWalk, IsWalk, known_by, lists_by};
-ghost use Rattle.gq_optional.specs.Walks.{owed_by, parts_by, row_by};
+ghost use Rattle.gq_optional.specs.Held.{rows_behind};
+ghost use Rattle.gq_optional.specs.steps.Asking.{AllAsk};
 ghost use Rattle.gq_optional.specs.steps.Levels.{AreLevels, IsAlike, StepsOn, clauses_of};
 ghost use Rattle.gq_optional.specs.steps.Levels.{last_mark, last_row, last_wide, made_by_all};
 ghost use Rattle.gq_optional.specs.steps.Levels.{still};
+ghost use Rattle.gq_optional.specs.steps.Listed.{IsClause};
+ghost use Rattle.gq_optional.specs.steps.Walks.{AreShared, IsWalk, held_by, held_of, owed_by};
+ghost use Rattle.gq_optional.specs.steps.Walks.{row_by};
 ghost use Rattle.gq_plan.specs.Marked.{Marked};
-ghost use Rattle.gq_wide.specs.Clauses.{after_clauses, unmarked};
 ghost use Rattle.gq_wide.specs.Rows.{read};
 
+use crate::clause::Clause;
 use crate::level::Stage;
+use crate::optionals::RowShape;
+use gq_base::Memory;
 use gq_expr::Fault;
 use gq_store::Graph;
 use gq_wide::WideRow;
+use std::alloc::Global;
 
-/// The rows that optional clauses make of a row, one after another, the last clause's deciding
-/// last.
+/// A walk over the rows that clauses make of a row: where it is, clause by clause.
 #[derive(Drop)]
-pub struct OptionalWalk<'w> {
+pub struct Walk<'w> {
     // The graph over which the clauses ask their conjuncts.
     pub(crate) graph: &'w Graph,
     // How many node variables the clauses before have.
@@ -34,17 +40,43 @@ pub struct OptionalWalk<'w> {
     pub(crate) standing: bool,
 }
 
-impl<'w> OptionalWalk<'w> {
+impl<'w> Walk<'w> {
+    /// A walk over what clauses make of rows of this shape, which owes nothing yet.
+    pub(crate) fn new(
+        alloc: Global,
+        graph: &'w Graph,
+        shape: RowShape,
+        clauses: &'w [Clause<'w>],
+    ) -> Result<Walk<'w>, Memory>
+        requires clauses { All (IsClause shape.nodes shape.rels) clauses.now }
+        requires shared { AreShared (range_with_len 0 shape.first) clauses.now }
+        requires asks { AllAsk graph.now clauses.now }
+        ensures walk { IfOk result IsWalk }
+        ensures held { IfOk result (λ w. held_by w ≡ held_of graph.now shape clauses.now) }
+        ensures owed { IfOk result (λ w. owed_by w ≡ []) }
+    {
+        Ok(Walk {
+            graph,
+            first: shape.first,
+            base: WideRow::new(alloc, shape.nodes, shape.rels)?,
+            row: WideRow::new(alloc, shape.nodes, shape.rels)?,
+            mark: None,
+            levels: stages_of(alloc, clauses, shape)?,
+            fresh: false,
+            standing: false,
+        })
+    }
+
     /// Owes the rows that the clauses make of a row which no fault marks. It takes no memory.
-    pub fn begin(&mut self, base: &WideRow)
+    pub(crate) fn begin(&mut self, base: &WideRow)
         requires walk { IsWalk self.old }
-        requires wide { IsAsWide base.now self.old }
+        requires nodes { length self.old.base.nodes ≡ length base.now.nodes }
+        requires rels { length self.old.base.rels ≡ length base.now.rels }
         ensures walk { IsWalk self.new }
-        ensures owed { let w = self.old in
-            owed_by self.new ≡ after_clauses w.graph.now (known_by w) (parts_by w) (lists_by w)
-            (unmarked (read base.now)) }
+        ensures owed { owed_by self.new ≡ rows_behind (held_by self.old) base.now }
         ensures standing { self.new.standing ≡ false }
-        ensures same { IsSameWalk self.old self.new }
+        ensures held { held_by self.new ≡ held_by self.old }
+        ensures base { self.new.base ≡ base.now }
     {
         self.base.copy_from(base);
         self.fresh = true;
@@ -53,14 +85,15 @@ impl<'w> OptionalWalk<'w> {
 
     /// Goes on to the next row that is owed, and answers whether there is one. It takes no memory.
     #[tactic(auto, using(crate::proofs::Walking::owed_none))]
-    pub fn advance(&mut self) -> bool
+    pub(crate) fn advance(&mut self) -> bool
         requires walk { IsWalk self.old }
         ensures walk { IsWalk self.new }
         ensures next { result ≡ true → owed_by self.old ≡ row_by self.new ∷ owed_by self.new }
         ensures none { result ≡ false → owed_by self.old ≡ [] }
         ensures over { result ≡ false → owed_by self.new ≡ [] }
         ensures standing { self.new.standing ≡ result }
-        ensures same { IsSameWalk self.old self.new }
+        ensures held { held_by self.new ≡ held_by self.old }
+        ensures base { self.new.base ≡ self.old.base }
     {
         if self.fresh {
             self.make_first();
@@ -80,7 +113,8 @@ impl<'w> OptionalWalk<'w> {
         ensures next { owed_by self.old ≡ row_by self.new ∷ owed_by self.new }
         ensures standing { self.new.standing ≡ true }
         ensures fresh { self.new.fresh ≡ false }
-        ensures same { IsSameWalk self.old self.new }
+        ensures held { held_by self.new ≡ held_by self.old }
+        ensures base { self.new.base ≡ self.old.base }
     {
         self.fresh = false;
         self.standing = true;
@@ -98,7 +132,8 @@ impl<'w> OptionalWalk<'w> {
         ensures none { result ≡ false → owed_by self.old ≡ [] }
         ensures over { result ≡ false → owed_by self.new ≡ [] }
         ensures standing { self.new.standing ≡ result }
-        ensures same { IsSameWalk self.old self.new }
+        ensures held { held_by self.new ≡ held_by self.old }
+        ensures base { self.new.base ≡ self.old.base }
     {
         self.standing = step_from(
             self.levels.as_mut_slice(),
@@ -111,18 +146,35 @@ impl<'w> OptionalWalk<'w> {
     }
 
     /// The row that stands.
-    pub fn row(&self) -> &WideRow
-        ensures { read result.now ≡ (row_by self.now).row }
+    pub(crate) fn row(&self) -> &WideRow
+        ensures { result.now ≡ self.now.row }
     {
         &self.row
     }
 
     /// The fault that marks it, if one does.
-    pub fn fault(&self) -> Option<Fault>
-        ensures { result ≡ (row_by self.now).mark }
+    pub(crate) fn fault(&self) -> Option<Fault>
+        ensures { result ≡ self.now.mark }
     {
         self.mark
     }
+}
+
+// Clauses that have made no rows, for rows of this shape.
+fn stages_of<'w>(
+    alloc: Global,
+    clauses: &'w [Clause<'w>],
+    shape: RowShape,
+) -> Result<Vec<Stage<'w>>, Memory>
+    requires { All (IsClause shape.nodes shape.rels) clauses.now }
+    ensures levels { IfOk result (λ ls. AreLevels shape.nodes shape.rels ls.items) }
+    ensures clauses { IfOk result (λ ls. clauses_of ls.items ≡ clauses.now) }
+{
+    let mut stages = Vec::with_capacity(alloc, clauses.len())?;
+    'clauses: for clause in clauses {
+        stages.push(Stage::new(alloc, clause, shape)?)?;
+    }
+    Ok(stages)
 }
 
 // Makes the first row of the row that stands, by the clauses from a depth on. The row that they

@@ -2,7 +2,7 @@ use Rattle.std.proofs.Common.{◌≡◌, ◌∙◌, ℕ, ◌+◌, ◌<◌, None,
 use Rattle.std.specs.Prelude.{slice_set}
 use Rattle.std.proofs.lemmas.List.{drop_more, get_or-set_same}
 use Rattle.gq_wide.specs.Rows.{Wide, read}
-use Rattle.gq_optional.specs.Asking.{Asks}
+use Rattle.gq_optional.specs.steps.Asking.{Asks}
 use Rattle.gq_optional.specs.declared.level.Level.{Level}
 use Rattle.gq_optional.specs.steps.Levels.{AreLevels, clauses_of, last_mark, last_wide}
 use Rattle.gq_optional.proofs.Asking.{all_same, ask_behind, ask_here}

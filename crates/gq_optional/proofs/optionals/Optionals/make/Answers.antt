@@ -23,13 +23,13 @@ held c =
     subst (λ k. AreClausesOf c.args.graph.now k c.args.parts.now pss c.hold_each.new.clauses) c.in_ok-known.ensures
     (subst (AreClausesOf c.args.graph.now c.in_ok-known.known.items c.args.parts.now pss) (sym (adds.all ∙ ap (λ l. l ++ adds.more) c.new-clauses.ensures)) adds.are)
 
-pub returns-clause-is : goal.returns-clause-is
-returns-clause-is c =
+pub invariant_of-result : goal.invariant_of-result
+invariant_of-result c =
     let g = c.args.graph.now in
     let s = c.args.shape in
     let cs = c.hold_each.new.clauses in
     let pss = map (map plan_of) c.args.plans.now in
-    let are = held (goal.at.returns-clause-is c).In-Ok in
+    let are = held (goal.at.invariant_of-result c).In-Ok in
     record {
       clauses = All-from_recursion (IsClause s.nodes s.rels) cs
           (clauses_are g s.nodes s.rels g.catalog (range_with_len 0 s.first) c.args.parts.now pss cs (recursion_from_All (IsPlaced s.nodes s.rels g.catalog) c.args.parts.now c.requires.placed) are);

@@ -1,6 +1,6 @@
 use Rattle.std.proofs.Common.{◌≡◌, take}
 use Rattle.gq_optional.specs.steps.Levels.{AreLevels, clauses_of}
-use Rattle.gq_optional.proofs.optionals.stages_of.Given as goal
+use Rattle.gq_optional.proofs.walk.stages_of.Given as goal
 
 abbrev pub invariant-clauses : goal.invariant-clauses
 invariant-clauses l = record {

@@ -4,7 +4,7 @@ use Rattle.gq_optional.specs.declared.level.Level.{Level}
 use Rattle.gq_optional.specs.steps.Levels.{AreLevels, clauses_of}
 use Rattle.gq_optional.specs.steps.Listed.{IsClause}
 use Rattle.gq_optional.proofs.Walking.{levels_pushed}
-use Rattle.gq_optional.proofs.optionals.stages_of.Goals as goal
+use Rattle.gq_optional.proofs.walk.stages_of.Goals as goal
 
 pub new-requires : goal.new-requires
 new-requires c =

@@ -1,12 +1,12 @@
 use Rattle.std.proofs.Common.{◌≡◌, ◌∙◌, ap, length, refl, subst, sym, arith}
 use Rattle.std.proofs.lemmas.List.{with_items_is}
 use Rattle.std.specs.Vec.{with_items}
-use Rattle.gq_optional.specs.Asking.{AllAsk}
-use Rattle.gq_optional.specs.Walks.{AreShared, known_by}
+use Rattle.gq_optional.specs.steps.Asking.{AllAsk}
 use Rattle.gq_optional.specs.steps.Levels.{clauses_of}
+use Rattle.gq_optional.specs.steps.Walks.{AreShared, held_of, known_by, shape_by}
 use Rattle.gq_optional.proofs.Stepped.{levels_sized}
 use Rattle.gq_optional.proofs.Walking.{alike_then, as_many, next_none, next_owed, owed_none}
-use Rattle.gq_optional.proofs.walk.OptionalWalk.make_next.Goals as goal
+use Rattle.gq_optional.proofs.walk.Walk.make_next.Goals as goal
 
 pub step_from-self-requires-clause-levels : goal.step_from-self-requires-clause-levels
 step_from-self-requires-clause-levels c =
@@ -51,17 +51,11 @@ returns-clause-over c over =
     let w = c.args.self.now in
     owed_none w.graph.now w.base (with_items w.levels c.step_from-self.new.levels).items w.fresh c.step_from-self.result c.requires.fresh over
 
-pub returns-clause-same : goal.returns-clause-same
-returns-clause-same c =
+pub returns-clause-held : goal.returns-clause-held
+returns-clause-held c =
     let w = c.args.self.now in
     let step = c.step_from-self in
     let new = step.new.levels in
     let slice = c.as_mut_slice.ensures.value in
     let long : length new ≡ w.levels.len = omega (arith, as_many new c.as_mut_slice.result.now step.ensures.clauses, ap length slice, w.levels.ok.0) in
-    record {
-      graph = refl;
-      first = refl;
-      clauses = ap clauses_of (with_items_is w.levels new long) ∙ step.ensures.clauses ∙ ap clauses_of slice;
-      nodes = refl;
-      rels = refl;
-    }
+    ap (held_of w.graph.now (shape_by w)) (ap clauses_of (with_items_is w.levels new long) ∙ step.ensures.clauses ∙ ap clauses_of slice)
