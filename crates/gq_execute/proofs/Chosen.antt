@@ -9,7 +9,6 @@ use Rattle.gq_group.specs.Chunks.{assignment_at}
 use Rattle.gq_group.specs.Groups.{choices, later_choices}
 use Rattle.gq_group.specs.declared.chunk.Chunk.{Chunk}
 use Rattle.gq_group.specs.declared.group.Group.{Group}
-use Rattle.gq_optional.specs.Walks.{lists_in}
 use Rattle.gq_plan.specs.Assignments.{Assignment, row_of}
 use Rattle.gq_plan.specs.Marked.{marked, marks}
 use Rattle.gq_plan.specs.Outcomes.{Row, late_conjuncts, meanings_of}
@@ -96,9 +95,9 @@ module _ (g : Graph) (p : Prepared) (b : Bound) (y : Typed) (t : Assignment) (ma
   -- where the tests do not admit it, that is nothing
   pub row_out : false ≡ admitted_by p.tests.all (row_of t) → [] ≡ given_by (later_by g p) g b y t
   row_out e =
-      ap (λ v. cond v (outcomes_behind g b (known_by p) (lists_in p.optionals) (record { row = row_of t; mark = mark })) []) e ∙ row_marked (later_by g p) g b y (row_of t) mark says
+      ap (λ v. cond v (outcomes_behind g b (known_by p) p.optionals.held.lists (record { row = row_of t; mark = mark })) []) e ∙ row_marked (later_by g p) g b y (row_of t) mark says
 
   -- else it goes behind the optional clauses
-  pub row_behind : true ≡ admitted_by p.tests.all (row_of t) → outcomes_behind g b (known_by p) (lists_in p.optionals) (record { row = row_of t; mark = mark }) ≡ given_by (later_by g p) g b y t
+  pub row_behind : true ≡ admitted_by p.tests.all (row_of t) → outcomes_behind g b (known_by p) p.optionals.held.lists (record { row = row_of t; mark = mark }) ≡ given_by (later_by g p) g b y t
   row_behind e =
-      ap (λ v. cond v (outcomes_behind g b (known_by p) (lists_in p.optionals) (record { row = row_of t; mark = mark })) []) e ∙ row_marked (later_by g p) g b y (row_of t) mark says
+      ap (λ v. cond v (outcomes_behind g b (known_by p) p.optionals.held.lists (record { row = row_of t; mark = mark })) []) e ∙ row_marked (later_by g p) g b y (row_of t) mark says

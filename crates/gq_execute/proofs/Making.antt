@@ -23,7 +23,6 @@ use Rattle.gq_law_cuts.proofs.Plain.{plain_cuts}
 use Rattle.gq_law_cuts.specs.Cuts.{HaveLengths, core_size, cored_of}
 use Rattle.gq_law_cuts.specs.Plain.{HaveNoTrail}
 use Rattle.gq_law_cuts.specs.Shaped.{core_pattern_of}
-use Rattle.gq_optional.specs.Walks.{lists_in}
 use Rattle.gq_plan.specs.Assignments.{Assignment}
 use Rattle.gq_plan.specs.Marked.{Marked, ending, marked}
 use Rattle.gq_plan.specs.Meaning.{meaning}
@@ -136,8 +135,8 @@ pub made_here : (g : Graph) (query : Query) (b : Bound) (settings : Settings) (t
     → MakeOutcomes (question g query b settings) (given_on (later_by g p))
 made_here g query b settings text p real is h k y e plan covers =
     let a : Question = question g query b settings in
-    outcomes_made a (known_by p) (known_same g b query text p is h k y e) (admitted_by p.tests.all) (admitted_means a text real is p.tests.all h.tests) (lists_in p.optionals)
-    (bags_trans (lists_in p.optionals) _ _ h.listed.same (clauses_planned g text (length query.clauses) (pattern_of query.clauses) query.optionals b.optionals h.listed.plans real is.optionals h.listed.covers))
+    outcomes_made a (known_by p) (known_same g b query text p is h k y e) (admitted_by p.tests.all) (admitted_means a text real is p.tests.all h.tests) p.optionals.held.lists
+    (bags_trans p.optionals.held.lists _ _ h.listed.same (clauses_planned g text (length query.clauses) (pattern_of query.clauses) query.optionals b.optionals h.listed.plans real is.optionals h.listed.covers))
     text real is k y e plan covers
 
 -- ---- without optional clauses, and without trails

@@ -6,10 +6,8 @@ use Rattle.std.specs.List.{Contains}
 use Rattle.gq_base.specs.Plain.{Graph}
 use Rattle.gq_expr.specs.Reading as reading
 use Rattle.gq_expr.specs.declared.Fault.{Fault}
-use Rattle.gq_optional.specs.Walks.{IsSameWalk, row_by}
-use Rattle.gq_optional.specs.declared.walk.OptionalWalk.{OptionalWalk}
 use Rattle.gq_plan.specs.Assignments.{Assignment}
-use Rattle.gq_plan.specs.Marked.{ending}
+use Rattle.gq_plan.specs.Marked.{Marked, ending}
 use Rattle.gq_plan.specs.Outcomes.{Row}
 use Rattle.gq_plan.specs.declared.Bound.{Bound}
 use Rattle.gq_plan.specs.declared.bound.OptionalPart.{OptionalPart}
@@ -38,29 +36,15 @@ one_pushed o mid new (Err (row_refusal.Fault f)) same h =
 one_pushed o mid new (Err (row_refusal.TooManyRows l)) same h = (h.0, λ before s. h.1 before s)
 one_pushed o mid new (Err (row_refusal.Memory why)) same h = tt
 
--- a row that is marked, told of the query that was begun with and of the walk that it stands in
-pub marked_pushed : (g : Graph) (b : Bound) (mid new : Table) (row : Wide) (mark : Option Fault) (w : OptionalWalk) (r : Result More RowRefusal) → mid.bound ≡ b → read row ≡ (row_by w).row → mark ≡ (row_by w).mark
-    → OnOk r (IsSameQuery mid new) → Pushes (Some (ending g mid.bound (record { row = read row; mark = mark }))) mid new r → PushesAll (ending g b (row_by w) ∷ []) mid new r
-marked_pushed g b mid new row mark w r same row_is mark_is query pushes =
+-- a row that is marked, told of the query that was begun with
+pub marked_pushed : (g : Graph) (b : Bound) (mid new : Table) (row : Wide) (mark : Option Fault) (m : Marked) (r : Result More RowRefusal) → mid.bound ≡ b → read row ≡ m.row → mark ≡ m.mark
+    → OnOk r (IsSameQuery mid new) → Pushes (Some (ending g mid.bound (record { row = read row; mark = mark }))) mid new r → PushesAll (ending g b m ∷ []) mid new r
+marked_pushed g b mid new row mark m r same row_is mark_is query pushes =
     subst (λ o. PushesAll (o ∷ []) mid new r) (λ i. ending g (same i) (record { row = row_is i; mark = mark_is i }))
     (one_pushed (ending g mid.bound (record { row = read row; mark = mark })) mid new r query pushes)
 
 pub none_pushed : (t : Table) → is_full_table t ≡ false → PushesAll [] t t (Ok more.Go)
 none_pushed t room = (λ before s. subst (λ l. Stands l t) (sym (append-nil before)) s, room)
-
--- ---- walks
-
-pub same_walk_now : (w : OptionalWalk) → IsSameWalk w w
-same_walk_now w = record { graph = refl; first = refl; clauses = refl; nodes = refl; rels = refl }
-
-pub same_walk_again : (a b c : OptionalWalk) → IsSameWalk a b → IsSameWalk b c → IsSameWalk a c
-same_walk_again a b c ab bc = record {
-  graph = bc.graph ∙ ab.graph;
-  first = bc.first ∙ ab.first;
-  clauses = bc.clauses ∙ ab.clauses;
-  nodes = bc.nodes ∙ ab.nodes;
-  rels = bc.rels ∙ ab.rels;
-}
 
 -- ---- one after another
 

@@ -4,14 +4,14 @@ ghost use Rattle.std.specs.Prelude.{◌≡◌, ◌≤◌, ◌<◌, [], false, le
 ghost use Rattle.std.specs.Prelude.{OnOk, Some};
 ghost use Rattle.gq_eval.specs.Asked.{asked_of};
 ghost use Rattle.gq_execute.specs.Replies.{outcomes_behind};
-ghost use Rattle.gq_execute.specs.steps.Behind.{IsBehind, IsBlank, IsWalkOf};
+ghost use Rattle.gq_execute.specs.steps.Behind.{IsBehind, IsBlank};
 ghost use Rattle.gq_execute.specs.steps.Prepared.{IsPrepared, known_by, later_by};
 ghost use Rattle.gq_execute.specs.steps.Taking.{HasRun, IsRunOf, TakesAll, given_by, outcomes_by};
 ghost use Rattle.gq_execute.specs.steps.Taking.{owed_outcomes};
 ghost use Rattle.gq_group.specs.Chunks.{IsChunkOf};
 ghost use Rattle.gq_kept.specs.Chunks.{PushesAll, assignments_of};
 ghost use Rattle.gq_kept.specs.Tables.{IsSameQuery, StandsForSome, is_full_table};
-ghost use Rattle.gq_optional.specs.Walks.{IsOptionals, IsSameWalk, IsWalk, lists_in, owed_by};
+ghost use Rattle.gq_optional.specs.Held.{rows_owed};
 ghost use Rattle.gq_pipe.specs.Serving.{Serves};
 ghost use Rattle.gq_plan.specs.Assignments.{row_of};
 ghost use Rattle.gq_plan.specs.Marked.{Marked, ending};
@@ -49,16 +49,14 @@ fn push_walk<'g>(
     graph: &'g Graph,
 ) -> Result<More, RowRefusal>
     requires continued { IsContinued table.old.bound }
-    requires walk { IsWalk walk.old }
     requires started { IsSome table.old.alternative }
     requires graph { table.old.graph ≡ graph.now }
     requires stands { StandsForSome table.old }
     requires room { is_full_table table.old ≡ false }
-    ensures pushes { let os = map (ending graph.now table.old.bound) (owed_by walk.old) in
+    ensures pushes { let os = map (ending graph.now table.old.bound) (rows_owed walk.old) in
         PushesAll os table.old table.new result }
     ensures query { OnOk result (IsSameQuery table.old table.new) }
-    ensures walk { IsWalk walk.new }
-    ensures same { IsSameWalk walk.old walk.new }
+    ensures held { walk.new.held ≡ walk.old.held }
 {
     'rows: while walk.advance() {
         match table.push_wide(walk.row(), walk.fault(), graph) {
@@ -89,7 +87,7 @@ fn push_copied<'g>(
     requires stands { StandsForSome table.old }
     requires room { is_full_table table.old ≡ false }
     ensures pushes { let m : Marked = record { row = row_of row.now; mark = fault } in
-        let lists = lists_in prepared.now.optionals in
+        let lists = prepared.now.optionals.held.lists in
         let os = outcomes_behind graph.now table.old.bound (known_by prepared.now) lists m in
         PushesAll os table.old table.new result }
     ensures query { OnOk result (IsSameQuery table.old table.new) }
@@ -181,12 +179,10 @@ fn push_rows<'g>(
 // A row of the variables of a query, of which nothing has one yet, and a walk over the matches of
 // its optional clauses.
 fn behind_of<'w>(alloc: Global, prepared: &'w Prepared<'_>) -> Result<Behind<'w>, Memory>
-    requires is { IsOptionals prepared.now.optionals }
-    requires shape { prepared.now.optionals.shape ≡ prepared.now.shape }
-    ensures row { let shape = prepared.now.optionals.shape in
+    requires { prepared.now.optionals.held.shape ≡ prepared.now.shape }
+    ensures row { let shape = prepared.now.optionals.held.shape in
         IfOk result (λ h. IsBlank shape.nodes shape.rels h.row) }
-    ensures walk { let graph = prepared.now.optionals.graph in
-        IfOk result (λ h. IsWalkOf graph.now prepared.now h.walk) }
+    ensures walk { IfOk result (λ h. h.walk.held ≡ prepared.now.optionals.held) }
 {
     let shape = prepared.shape;
     let row = WideRow::new(alloc, shape.nodes, shape.rels)?;

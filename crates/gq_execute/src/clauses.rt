@@ -4,7 +4,6 @@ ghost use Rattle.std.specs.List.{AllZip};
 ghost use Rattle.gq_execute.specs.Planned.{sizes};
 ghost use Rattle.gq_execute.specs.steps.Clauses.{AreOfPlans, AreSpentOn, IsPlannedClause};
 ghost use Rattle.gq_execute.specs.steps.Clauses.{RefusesClauses, some_heavy_clause};
-ghost use Rattle.gq_optional.specs.Walks.{IsOptionals, lists_in, parts_in};
 ghost use Rattle.gq_pool.specs.Pool.{spare_of};
 ghost use Rattle.gq_wide.specs.Placed.{IsPlaced};
 
@@ -56,11 +55,10 @@ pub(crate) fn list_clauses<'q>(
     requires placed { All (IsPlaced shape.nodes shape.rels graph.now.catalog) parts.now }
     requires stats { stats.now ≡ sizes graph.now }
     requires slots { 112 ≤ spare_of pool.old }
-    ensures is { IfOk result IsOptionals }
-    ensures graph { IfOk result (λ o. o.graph.now ≡ graph.now) }
-    ensures shape { IfOk result (λ o. o.shape ≡ shape) }
-    ensures parts { IfOk result (λ o. parts_in o ≡ parts.now) }
-    ensures listed { IfOk result (λ o. AreOfPlans graph.now parts.now (lists_in o)) }
+    ensures graph { IfOk result (λ o. o.held.graph ≡ graph.now) }
+    ensures shape { IfOk result (λ o. o.held.shape ≡ shape) }
+    ensures parts { IfOk result (λ o. o.held.parts ≡ parts.now) }
+    ensures listed { IfOk result (λ o. AreOfPlans graph.now parts.now o.held.lists) }
     ensures light { let heavy = some_heavy_clause graph.now settings.now.order settings.now.rows in
         OnOk result (heavy parts.now ≡ false) }
     ensures spent { IfOk result (λ o.

@@ -2,9 +2,6 @@
 use Rattle.std.specs.Prelude.{◌≡◌, ◌^◌, ◌<◌, ◌≤◌, ℕ, None, Result, List, ◌++◌, length}
 use Rattle.gq_base.specs.Plain.{Graph}
 use Rattle.gq_expr.specs.declared.Fault.{Fault}
-use Rattle.gq_optional.specs.Walks.{lists_in, parts_in, IsWalk}
-use Rattle.gq_optional.specs.Walks as walks
-use Rattle.gq_optional.specs.declared.walk.OptionalWalk.{OptionalWalk}
 use Rattle.gq_plan.specs.Outcomes.{Row}
 use Rattle.gq_plan.specs.declared.Bound.{Bound}
 use Rattle.gq_plan.specs.declared.Typed.{Typed}
@@ -13,7 +10,6 @@ use Rattle.gq_kept.specs.Tables.{Table}
 use Rattle.gq_wide.specs.Rows.{Wide, item_at}
 use Rattle.gq_execute.specs.declared.behind.Behind.{Behind}
 use Rattle.gq_execute.specs.declared.prepared.Prepared.{Prepared}
-use Rattle.gq_execute.specs.steps.Prepared.{known_by}
 
 -- ---- rows
 
@@ -28,25 +24,16 @@ pub record IsBlankFrom (k l n m : ℕ) (w : Wide) : Type 0 where
 abbrev pub IsBlank : ℕ → ℕ → Wide → Type 0
 IsBlank n m w = IsBlankFrom 0 0 n m w
 
--- a walk over what was listed of the optional clauses of a query
-pub record IsWalkOf (g : Graph) (p : Prepared) (w : OptionalWalk) : Type 0 where
-  pub walk : IsWalk w
-  pub graph : w.graph.now ≡ g
-  pub known : walks.known_by w ≡ known_by p
-  pub parts : walks.parts_by w ≡ parts_in p.optionals
-  pub lists : walks.lists_by w ≡ lists_in p.optionals
-  pub nodes : length w.base.nodes ≡ p.optionals.shape.nodes
-  pub rels : length w.base.rels ≡ p.optionals.shape.rels
-
--- a row for the assignments of an alternative, and such a walk
+-- a row for the assignments of an alternative, and a walk over what was listed of the optional clauses of a query
 pub record IsBehind (g : Graph) (b : Bound) (y : Typed) (p : Prepared) (h : Behind) : Type 0 where
-  pub row : IsBlankFrom (length y.nodes) (length y.rels) p.optionals.shape.nodes p.optionals.shape.rels h.row
-  pub walk : IsWalkOf g p h.walk
-  pub parts : parts_in p.optionals ≡ b.optionals
-  pub nodes : length y.nodes ≤ p.optionals.shape.nodes
-  pub rels : length y.rels ≤ p.optionals.shape.rels
-  pub few_nodes : p.optionals.shape.nodes < 2 ^ 32
-  pub few_rels : p.optionals.shape.rels < 2 ^ 32
+  pub row : IsBlankFrom (length y.nodes) (length y.rels) p.optionals.held.shape.nodes p.optionals.held.shape.rels h.row
+  pub walk : h.walk.held ≡ p.optionals.held
+  pub graph : p.optionals.held.graph ≡ g
+  pub parts : p.optionals.held.parts ≡ b.optionals
+  pub nodes : length y.nodes ≤ p.optionals.held.shape.nodes
+  pub rels : length y.rels ≤ p.optionals.held.shape.rels
+  pub few_nodes : p.optionals.held.shape.nodes < 2 ^ 32
+  pub few_rels : p.optionals.held.shape.rels < 2 ^ 32
 
 -- ---- outcomes
 

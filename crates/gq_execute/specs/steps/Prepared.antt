@@ -1,10 +1,10 @@
 -- What is made before the first alternative whose turn comes, and why it is not.
 use Rattle.std.specs.Prelude.{◌≡◌, ◌⊎◌, ◌<◌, ◌^◌, ℕ, true, List, [], ◌∷◌, length}
-use Rattle.std.specs.List.{AllZip, range_with_len}
+use Rattle.std.specs.List.{AllZip}
 use Rattle.gq_base.specs.Plain.{Graph}
 use Rattle.gq_plan.specs.declared.Bound.{Bound}
 use Rattle.gq_eval.specs.Asked.{Asked, asked_of}
-use Rattle.gq_optional.specs.Walks.{IsOptionals, lists_in, parts_in}
+use Rattle.gq_optional.specs.Held.{first_known}
 use Rattle.gq_plan.specs.declared.ExistsPart.{ExistsPart}
 use Rattle.gq_plan.specs.declared.Typed.{Typed}
 use Rattle.gq_execute.specs.Spending.{IsSpentOn}
@@ -33,24 +33,23 @@ pub record IsPrepared (g : Graph) (most : ℕ) (b : Bound) (p : Prepared) : Type
   pub bound : p.bound.now ≡ b
   pub asked : AreAsked g b p.conjuncts
   pub tests : AreTestsOf g most b.patterns p.tests.all
-  pub is : IsOptionals p.optionals
-  pub graph : p.optionals.graph.now ≡ g
-  pub shape : p.optionals.shape ≡ p.shape
-  pub nodes : p.optionals.shape.nodes ≡ length b.node_names
-  pub rels : p.optionals.shape.rels ≡ length b.rel_names
+  pub graph : p.optionals.held.graph ≡ g
+  pub shape : p.optionals.held.shape ≡ p.shape
+  pub nodes : p.optionals.held.shape.nodes ≡ length b.node_names
+  pub rels : p.optionals.held.shape.rels ≡ length b.rel_names
   pub few_nodes : length b.node_names < 2 ^ 32
   pub few_rels : length b.rel_names < 2 ^ 32
-  pub first : p.optionals.shape.first ≡ first_nodes b.alternatives
-  pub parts : parts_in p.optionals ≡ b.optionals
-  pub listed : AreOfPlans g b.optionals (lists_in p.optionals)
+  pub first : p.optionals.held.shape.first ≡ first_nodes b.alternatives
+  pub parts : p.optionals.held.parts ≡ b.optionals
+  pub listed : AreOfPlans g b.optionals p.optionals.held.lists
 
 -- the variables that stand before the optional clauses
 abbrev pub known_by : Prepared → List ℕ
-known_by p = range_with_len 0 p.optionals.shape.first
+known_by p = first_known p.optionals.held
 
 -- what becomes of a row: where the tests admit it, it goes behind the optional clauses
 abbrev pub later_by : Graph → Prepared → Later
-later_by g p = if_admitted_behind (admitted_by p.tests.all) g (known_by p) (lists_in p.optionals)
+later_by g p = if_admitted_behind (admitted_by p.tests.all) g (known_by p) p.optionals.held.lists
 
 -- what was spent on tests
 abbrev pub AreSpentOnTests : Graph → Order → List ExistsPart → List Test → Type 0

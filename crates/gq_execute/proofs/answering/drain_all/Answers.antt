@@ -1,5 +1,4 @@
 use Rattle.std.proofs.Common.{◌≡◌, ◌∙◌, List, [], ◌∷◌, ap, refl, subst, sym, true≢false}
-use Rattle.gq_optional.specs.Walks.{lists_in}
 use Rattle.gq_plan.specs.declared.Bound.{Bound}
 use Rattle.gq_execute.specs.steps.Prepared.{known_by, later_by}
 use Rattle.gq_execute.specs.steps.Taking.{TakesAll, if_admitted, owed_by}
@@ -21,7 +20,7 @@ returns-then-not-is_empty-clause-takes c =
     let none = other_empty b.optionals b.trails c.requires.apart
     (λ e. absurd (true≢false (sym (c.is_empty.ensures.1 (ap (λ (q : Bound). q.trails) c.requires.prepared.bound ∙ e)) ∙ c.if-not-is_empty.true))) in
     subst (λ os. TakesAll os c.args.table.now c.drain_trails.new.table c.drain_trails.result)
-    (plainly_on (admitted_by p.tests.all) c.args.graph.now (known_by p) (lists_in p.optionals) b none y (owed_by y c.args.pipeline.now)) c.drain_trails.ensures.takes
+    (plainly_on (admitted_by p.tests.all) c.args.graph.now (known_by p) p.optionals.held.lists b none y (owed_by y c.args.pipeline.now)) c.drain_trails.ensures.takes
 
 pub returns-then-is_empty-clause-takes : goal.returns-then-is_empty-clause-takes
 returns-then-is_empty-clause-takes c =
@@ -33,7 +32,7 @@ returns-then-is_empty-clause-takes c =
     let no_trails = ap (λ (q : Bound). q.trails) (sym c.requires.prepared.bound) ∙ c.is_empty.ensures.0 c.if-not-is_empty.false in
     let none = ap (λ (q : Bound). q.optionals) (sym c.requires.prepared.bound) ∙ c.is_empty-2.ensures.0 c.if-is_empty.true in
     subst (λ os. TakesAll os c.args.table.now c.drain.new.table c.drain.result)
-    (alone_on (if_admitted (admitted_by p.tests.all) g) g b no_trails y ts ∙ plainly_on (admitted_by p.tests.all) g (known_by p) (lists_in p.optionals) b none y ts) c.drain.ensures.takes
+    (alone_on (if_admitted (admitted_by p.tests.all) g) g b no_trails y ts ∙ plainly_on (admitted_by p.tests.all) g (known_by p) p.optionals.held.lists b none y ts) c.drain.ensures.takes
 
 pub returns-clause-takes : goal.returns-clause-takes
 returns-clause-takes c =

@@ -7,7 +7,7 @@ use Rattle.gq_plan.specs.declared.Bound.{Bound}
 use Rattle.gq_kept.specs.declared.refusal.More.TheVariants as more
 use Rattle.gq_execute.proofs.Copying.{blank_further}
 use Rattle.gq_execute.proofs.Draining.{all_taken, bag_here, chunk_of, counted_more, counted_none, full_here, in_order, less_owed, met, pushed_more, pushed_none, rows_here, run_full, run_out}
-use Rattle.gq_execute.specs.steps.Behind.{IsBehind, IsWalkOf}
+use Rattle.gq_execute.specs.steps.Behind.{IsBehind}
 use Rattle.gq_execute.specs.steps.Prepared.{later_by}
 use Rattle.gq_execute.specs.steps.Taking.{given_by}
 use Rattle.gq_rows.specs.Growing.{IsContinued}
@@ -16,13 +16,14 @@ use Rattle.gq_execute.proofs.behind.drain_behind.Goals as goal
 pub chunks-init : goal.chunks-init
 chunks-init c =
     let p = c.args.prepared.now in
-    let shape = p.optionals.shape in
+    let shape = p.optionals.held.shape in
     let is = c.requires.prepared in
     let y = c.args.typed.now in
     record {
       behind = record {
         row = blank_further (length y.nodes) (length y.rels) shape.nodes shape.rels c.in_ok-behind.behind.row c.in_ok-behind.ensures.row;
-        walk = subst (λ k. IsWalkOf k p c.in_ok-behind.behind.walk) is.graph c.in_ok-behind.ensures.walk;
+        walk = c.in_ok-behind.ensures.walk;
+        graph = is.graph;
         parts = is.parts;
         nodes = omega (arith, is.nodes, c.requires.nodes);
         rels = omega (arith, is.rels, c.requires.rels);

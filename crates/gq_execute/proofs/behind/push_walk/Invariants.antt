@@ -1,5 +1,5 @@
 use Rattle.std.proofs.Common.{◌≡◌, false, length, map}
-use Rattle.gq_optional.specs.Walks.{IsSameWalk, IsWalk, owed_by}
+use Rattle.gq_optional.specs.Held.{rows_owed}
 use Rattle.gq_plan.specs.Marked.{ending}
 use Rattle.gq_kept.specs.Tables.{IsSameQuery, StandsForSome, is_full_table}
 use Rattle.gq_execute.specs.steps.Behind.{Taken}
@@ -7,14 +7,13 @@ use Rattle.gq_execute.proofs.behind.push_walk.Given as goal
 
 abbrev pub invariant-rows : goal.invariant-rows
 invariant-rows l = record {
-  walk : IsWalk l.walk;
-  same_walk : IsSameWalk l.initial.walk l.walk;
+  held : l.walk.held ≡ l.initial.walk.held;
   same : IsSameQuery l.initial.table l.table;
   room : is_full_table l.table ≡ false;
   some : StandsForSome l.table;
   came : let out = map (ending l.graph l.initial.table.bound) in
-      Taken (out (owed_by l.initial.walk)) (out (owed_by l.walk)) l.initial.table l.table;
+      Taken (out (rows_owed l.initial.walk)) (out (rows_owed l.walk)) l.initial.table l.table;
 }
 
 abbrev pub decreases-rows : goal.decreases-rows
-decreases-rows l = length (owed_by l.walk)
+decreases-rows l = length (rows_owed l.walk)
