@@ -1,5 +1,5 @@
 //! Calls of the crates below that no run of the program shows, each on small values worked out by
-//! hand: limits, failing calls, kernels and columns, plans and their costs.
+//! hand: limits, failing calls, kernels and columns, plans, their costs and their pools.
 #![tactic(auto)]
 
 #[cfg(test)]
@@ -26,6 +26,8 @@ mod least;
 mod loader;
 #[cfg(test)]
 mod made;
+#[cfg(test)]
+mod pipe;
 #[cfg(test)]
 mod plain;
 #[cfg(test)]

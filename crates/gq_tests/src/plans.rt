@@ -13,7 +13,7 @@ use gq_order::given;
 use gq_plan::{Bound, Form, GroupShape, Plan, Step, Typed, covers, fits, shape};
 
 // In text order the second path is joined, on `b`.
-const JOINED: &str = "MATCH (a)-[:KNOWS]->(b), (c)-[:KNOWS]->(b) RETURN a.id, c.id";
+pub const JOINED: &str = "MATCH (a)-[:KNOWS]->(b), (c)-[:KNOWS]->(b) RETURN a.id, c.id";
 
 // The list of acquaintances is followed from one person at a time, and those who know somebody are looked up by one person
 // at a time; of these nothing more is asked.
