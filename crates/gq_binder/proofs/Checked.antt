@@ -13,9 +13,10 @@ use Rattle.gq_bound.proofs.OwnBound.{bound_by_core, counted_core}
 use Rattle.gq_bound.proofs.SoundAlternatives.{each_none, reads_listed}
 use Rattle.gq_binder.proofs.Unnamed.{all_unnamed}
 use Rattle.gq_bound.specs.Binding.{Answers, IsBound}
-use Rattle.gq_bound.specs.steps.Checks.{IsOfQuery}
+use Rattle.gq_bound.specs.Checks.{IsOfQuery}
 use Rattle.gq_bound.specs.Columns.{conditions, columns, optional_conditions, sort_scope, whole_pattern}
-use Rattle.gq_bound.specs.steps.Names.{FirstNames, query_names}
+use Rattle.gq_bound.specs.steps.Names.{query_names}
+use Rattle.gq_bound.specs.Names.{FirstNames}
 use Rattle.gq_bound.specs.Tested.{SharedTest, seen_elsewhere}
 use Rattle.gq_bound.specs.steps.Parts.{bound_by, clause_reads, clauses_parts, counted_in, last_checks_in, known_conjuncts, known_seen, own_patterns, parts_of, ambiguous_in, reads_in, checks_in}
 use Rattle.gq_bound.specs.Refusals.{first_of_all, trail_length, trail_with_optional, unknown_variable, variable_conflict, relationship_repeated, column_repeated, nothing_to_return, order_out_of_scope, ambiguous_order_name, function_unknown, argument_count, over_limit, max_columns, max_alternatives, alternatives_in, alternatives_of, each_alone, others, paths_of, too_many_patterns, too_many_reads, all_reads, first_refusal, checks_of, too_many_alternatives, exists_place, expressions, conflicting, first_in, seen}

@@ -6,7 +6,7 @@ ghost use Rattle.std.specs.List.{list_any};
 ghost use Rattle.gq_base.specs.Lists.{is_empty};
 ghost use Rattle.gq_alternatives.specs.Alternatives.{pattern_alternatives};
 ghost use Rattle.gq_alternatives.specs.Searching.{at_most};
-ghost use Rattle.gq_bound.specs.steps.Checks.{Checks};
+ghost use Rattle.gq_bound.specs.Checks.{Checks};
 ghost use Rattle.gq_bound.specs.steps.Parts.{checks_in, clause_reads, exists_part, own_patterns};
 ghost use Rattle.gq_bound.specs.steps.Parts.{counted_in, last_checks_in};
 ghost use Rattle.gq_bound.specs.steps.Parts.{parts_reads, reads_in};

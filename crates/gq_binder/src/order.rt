@@ -1,7 +1,7 @@
 //! What ORDER BY may not ask.
 ghost use Rattle.std.specs.Prelude.{◌≡◌, All, IfOk};
 ghost use Rattle.std.specs.Option.{option_copied, option_map};
-ghost use Rattle.gq_bound.specs.steps.Checks.{Checks};
+ghost use Rattle.gq_bound.specs.Checks.{Checks};
 ghost use Rattle.gq_bound.specs.steps.Parts.{ambiguous_in, out_of_scope_in};
 ghost use Rattle.gq_bound.specs.Refusals as refusals;
 ghost use Rattle.gq_bound.specs.Refusals.{first_in, out_of_scope_from, sorts_in};

@@ -4,7 +4,7 @@ ghost use Rattle.std.specs.Prelude.{IfSome, OnOk, ◌+◌, length};
 ghost use Rattle.gq_alternatives.specs.Alternatives.{pattern_alternatives, typed_of};
 ghost use Rattle.gq_bound.specs.Refusals.{alternatives_in, over_limit, paths_of};
 ghost use Rattle.gq_bound.specs.declared.refusal.BindRefusal.TheVariants as refusal;
-ghost use Rattle.gq_bound.specs.steps.Checks.{Checks};
+ghost use Rattle.gq_bound.specs.Checks.{Checks};
 ghost use Rattle.gq_bound.specs.steps.Parts as steps;
 ghost use Rattle.gq_bound.specs.steps.Parts.{shared_in};
 ghost use Rattle.gq_bound.specs.Refusals.{items_in, sorts_in};

@@ -1,9 +1,9 @@
 //! The first names and calls of a query's patterns and expressions that the checks of names refuse.
 ghost use Rattle.std.specs.Prelude.{◌≡◌, not, OnOk};
 ghost use Rattle.std.specs.Option.{option_copied, option_map, option_or};
-ghost use Rattle.gq_bound.specs.steps.Checks.{Checks};
-ghost use Rattle.gq_bound.specs.steps.Names.{no_names, with_added, with_expression};
-ghost use Rattle.gq_bound.specs.steps.Names.{with_expressions, with_name, with_named};
+ghost use Rattle.gq_bound.specs.Checks.{Checks};
+ghost use Rattle.gq_bound.specs.Names.{no_names, with_added, with_expression};
+ghost use Rattle.gq_bound.specs.Names.{with_expressions, with_name, with_named};
 ghost use Rattle.gq_bound.specs.Refusals.{items_in, sorts_in};
 ghost use Rattle.gq_bound.specs.declared.refusal.BindRefusal.TheVariants as refusal;
 ghost use Rattle.gq_scopes.specs.Patterns.{with_paths};
@@ -35,7 +35,7 @@ pub struct FirstNames<'q> {
 
 impl<'q> Model for FirstNames<'q> {
     ghost use Rattle.std.specs.Option.{option_copied};
-    ghost use Rattle.gq_bound.specs.steps.Names.{FirstNames};
+    ghost use Rattle.gq_bound.specs.Names.{FirstNames};
 
     ghost Value = { FirstNames };
 

@@ -2,7 +2,7 @@ use Rattle.std.proofs.Common.{sym, subst}
 use Rattle.std.specs.Option.{option_map}
 use Rattle.gq_bound.specs.Refusals.{first_in, sorts_in}
 use Rattle.gq_bound.specs.declared.refusal.BindRefusal.TheVariants as refusal
-use Rattle.gq_bound.specs.steps.Checks.{Checks}
+use Rattle.gq_bound.specs.Checks.{Checks}
 use Rattle.gq_scopes.specs.Scopes.{Scope}
 use Rattle.gq_trees.specs.Renames.{ambiguous_name}
 use Rattle.gq_binder.proofs.order.ambiguous_order_name.Goals as goal

@@ -1,6 +1,6 @@
 use Rattle.std.proofs.Common.{◌∙◌, ap}
 use Rattle.gq_bound.proofs.PartLemmas.{next_pattern, next_names, next_conjuncts, next_seen, read_names}
-use Rattle.gq_bound.specs.steps.Names.{with_added}
+use Rattle.gq_bound.specs.Names.{with_added}
 use Rattle.gq_scopes.specs.Patterns.{with_paths}
 use Rattle.gq_binder.proofs.parts.read_clauses.Goals as goal
 
