@@ -1,6 +1,6 @@
 //! Lists that are put into what is lent.
 ghost use Rattle.std.specs.Prelude.{◌≡◌, ◌++◌, map, All, OnOk};
-ghost use Rattle.gq_ast.specs.steps.Spans.{IsWholeEntry};
+ghost use Rattle.gq_ast.specs.Spans.{IsWholeEntry};
 ghost use Rattle.gq_cuts.specs.Entries.{entry_test};
 
 use gq_base::{List, Memory};

@@ -19,8 +19,8 @@ ghost use Rattle.gq_bound.specs.steps.Parts.{own_patterns};
 ghost use Rattle.gq_bound.specs.Fresh.{no_clause_parts};
 ghost use Rattle.gq_scopes.specs.Patterns.{known_as, no_pattern, with_clauses, with_paths};
 ghost use Rattle.gq_scopes.specs.Scopes.{scope_of};
-ghost use Rattle.gq_ast.specs.Spans.{IsWholeTree};
-ghost use Rattle.gq_ast.specs.steps.Spans.{IsWholeClause, IsWholeEntry};
+ghost use Rattle.gq_ast.specs.Spans.{IsWholeEntry, IsWholeTree};
+ghost use Rattle.gq_ast.specs.steps.Spans.{IsWholeClause};
 
 use crate::bound::{MOST_TESTS, push_typed};
 use crate::lists::{push_all, put_entry_tests};

@@ -15,8 +15,8 @@ ghost use Rattle.gq_bound.specs.Tested.{seen_elsewhere};
 ghost use Rattle.gq_scopes.specs.Patterns.{no_pattern, pattern_of, with_clauses};
 ghost use Rattle.gq_trees.specs.Resolving.{functions};
 ghost use Rattle.gq_scopes.specs.Scopes.{scope_of};
-ghost use Rattle.gq_ast.specs.Spans.{IsWholeTree};
-ghost use Rattle.gq_ast.specs.steps.Spans.{IsWholeClause, IsWholeEntry, StandsIn};
+ghost use Rattle.gq_ast.specs.Spans.{IsWholeEntry, IsWholeTree};
+ghost use Rattle.gq_ast.specs.steps.Spans.{IsWholeClause, StandsIn};
 
 use crate::columns::push_columns;
 use crate::lists::{push_all, put_entry_tests};

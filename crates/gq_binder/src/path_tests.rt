@@ -11,7 +11,8 @@ ghost use Rattle.gq_bound.specs.Refusals.{items_in, sorts_in};
 ghost use Rattle.gq_bound.specs.Tested.{seen_elsewhere, stray_test};
 ghost use Rattle.gq_cuts.specs.Entries.{entry_test};
 ghost use Rattle.gq_scopes.specs.PathPatterns.{path_pattern};
-ghost use Rattle.gq_ast.specs.steps.Spans.{IsWholeEntry, IsWholePath};
+ghost use Rattle.gq_ast.specs.Spans.{IsWholeEntry};
+ghost use Rattle.gq_ast.specs.steps.Spans.{IsWholePath};
 ghost use Rattle.gq_trees.specs.Places.{strays};
 
 use crate::bound::{MOST_TESTS, push_typed};

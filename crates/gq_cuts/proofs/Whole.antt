@@ -14,7 +14,8 @@ use Rattle.gq_ast.specs.declared.Hop.{Hop}
 use Rattle.gq_ast.specs.declared.NodePart.{NodePart}
 use Rattle.gq_ast.specs.declared.Path.{Path}
 use Rattle.gq_ast.specs.declared.Range.{Range}
-use Rattle.gq_ast.specs.steps.Spans.{IsWholeClause, IsWholeEntry, IsWholeHop, IsWholePath}
+use Rattle.gq_ast.specs.Spans.{IsWholeEntry}
+use Rattle.gq_ast.specs.steps.Spans.{IsWholeClause, IsWholeHop, IsWholePath}
 use Rattle.gq_law_cuts.specs.Cuts.{alone_in, core_first, cored_of, in_pattern, piece_behind, trailed_of, variable_in, with_clauses, with_hop, with_hops, with_path, with_paths}
 use Rattle.gq_law_reaches.specs.Reaches.{Trailed}
 

@@ -4,7 +4,7 @@ ghost use Rattle.gq_base.specs.declared.operator.CompareOp.TheVariants as compar
 ghost use Rattle.gq_expr.specs.declared.expr.Expr.TheVariants as variant;
 ghost use Rattle.gq_cuts.specs.Entries as asked;
 ghost use Rattle.gq_ast.specs.Sources as sources;
-ghost use Rattle.gq_ast.specs.steps.Spans.{IsWholeEntry};
+ghost use Rattle.gq_ast.specs.Spans.{IsWholeEntry};
 
 use gq_base::{Boxed, CompareOp, List, Literal, Memory, Text};
 use gq_expr::{CompareOperand, Expr, Operand};

@@ -6,7 +6,7 @@ ghost use Rattle.gq_law_cuts.specs.Cuts.{leads_right};
 ghost use Rattle.gq_law_reaches.specs.Core as reached;
 ghost use Rattle.gq_law_reaches.specs.Core.{entries_at};
 ghost use Rattle.gq_scopes.specs.Patterns as patterns;
-ghost use Rattle.gq_ast.specs.steps.Spans.{IsWholeEntry};
+ghost use Rattle.gq_ast.specs.Spans.{IsWholeEntry};
 
 use crate::choosing::{copied, core_nodes, has, put_front};
 use crate::cored::Core;
