@@ -7,7 +7,8 @@ use Rattle.gq_base.specs.Catalogs.{Tables}
 use Rattle.gq_base.specs.Plain.{Graph}
 use Rattle.gq_base.specs.Valid.{is_valid}
 use Rattle.gq_alternatives.proofs.Partition.{lies_once}
-use Rattle.gq_alternatives.proofs.SoundPatterns.{IsChoice, each_alternative}
+use Rattle.gq_alternatives.proofs.SoundPatterns.{each_alternative}
+use Rattle.gq_alternatives.specs.Choices.{IsChoice}
 use Rattle.gq_alternatives.specs.Alternatives.{Choice, agrees, pattern_alternatives, typed_of}
 use Rattle.gq_alternatives.specs.Matches.{is_match, pattern_matches}
 use Rattle.gq_ast.specs.declared.Query.{Query}

@@ -7,7 +7,8 @@ use Rattle.std.proofs.lemmas.Option.{get_or_from_slice_get, slice_get_within}
 use Rattle.gq_base.specs.Plain.{Graph}
 use Rattle.gq_base.specs.declared.NodeId.{NodeId}
 use Rattle.gq_base.specs.declared.RelId.{RelId}
-use Rattle.gq_alternatives.proofs.SoundPatterns.{IsChoice, each_alternative}
+use Rattle.gq_alternatives.proofs.SoundPatterns.{each_alternative}
+use Rattle.gq_alternatives.specs.Choices.{IsChoice}
 use Rattle.gq_alternatives.specs.Alternatives.{Choice, Reading, agrees, pattern_alternatives, typed_of, typed_rels}
 use Rattle.gq_bound.specs.Binding.{IsBound}
 use Rattle.gq_cuts.specs.Entries.{entry_test}

@@ -16,7 +16,7 @@ use Rattle.gq_alternatives.specs.Alternatives.{Choice, agrees, alternatives, typ
 use Rattle.gq_alternatives.specs.Matches.{matches, pattern_matches}
 use Rattle.gq_alternatives.proofs.Partition.{alternatives_part}
 use Rattle.gq_alternatives.proofs.Searches.{flat_map_flat_map}
-use Rattle.gq_alternatives.proofs.SoundPatterns.{IsChoice}
+use Rattle.gq_alternatives.specs.Choices.{IsChoice}
 use Rattle.gq_law_cuts.specs.Plain.{HaveNoTrail}
 use Rattle.gq_law_answers.specs.Answered.{allowed, lying}
 use Rattle.gq_law_answers.proofs.Alone.{some_drops, without}

@@ -21,7 +21,8 @@ use Rattle.gq_alternatives.specs.Alternatives.{Choice, agrees, typed_of, alterna
 use Rattle.gq_alternatives.specs.Matches.{matches}
 use Rattle.gq_alternatives.proofs.Partition.{alternatives_part}
 use Rattle.gq_alternatives.proofs.Searches.{flat_map_flat_map}
-use Rattle.gq_alternatives.proofs.SoundPatterns.{IsChoice, each_alternative}
+use Rattle.gq_alternatives.proofs.SoundPatterns.{each_alternative}
+use Rattle.gq_alternatives.specs.Choices.{IsChoice}
 use Rattle.gq_scopes.specs.Patterns.{Pattern, pattern_of}
 use Rattle.gq_ast.specs.declared.Query.{Query}
 use Rattle.gq_law_answers.specs.Answered.{allowed, meanings, lying, passing, outcomes_of, outcomes_in, LateDecide}

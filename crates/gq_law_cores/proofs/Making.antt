@@ -14,7 +14,8 @@ use Rattle.gq_alternatives.specs.Alternatives.{Choice, agrees, pattern_alternati
 use Rattle.gq_alternatives.specs.Matches.{entry_holds, is_match, node_holds, pair_holds, pairs_from, pattern_matches, rels_hold}
 use Rattle.gq_alternatives.proofs.Partition.{lies_once}
 use Rattle.gq_alternatives.proofs.Searches.{flat_map_flat_map}
-use Rattle.gq_alternatives.proofs.SoundPatterns.{IsChoice, each_alternative}
+use Rattle.gq_alternatives.proofs.SoundPatterns.{each_alternative}
+use Rattle.gq_alternatives.specs.Choices.{IsChoice}
 use Rattle.gq_cuts.specs.Entries.{entry_test}
 use Rattle.gq_law_answers.specs.Answered.{allowed}
 use Rattle.gq_law_answers.proofs.Alone.{allows_passing, some_drops}

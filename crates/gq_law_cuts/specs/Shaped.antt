@@ -3,7 +3,7 @@ use Rattle.std.specs.Prelude.{◌≡◌, ◌≤◌, Bool, true, false, All, List
 use Rattle.gq_base.specs.Catalogs.{Tables}
 use Rattle.gq_expr.specs.Kinds.{can_fault}
 use Rattle.gq_alternatives.specs.Alternatives.{Choice, agrees}
-use Rattle.gq_alternatives.proofs.SoundPatterns.{IsChoice}
+use Rattle.gq_alternatives.specs.Choices.{IsChoice}
 use Rattle.gq_plan.specs.Reads.{distinct, properties}
 use Rattle.gq_plan.specs.Soundness.{HasVariable, IsSound, kinds_of, max_reads, max_variables, test_reads}
 use Rattle.gq_plan.specs.declared.NamedExpr.{NamedExpr}
