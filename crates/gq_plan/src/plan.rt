@@ -9,6 +9,9 @@ pub struct Plan {
     pub steps: List<Step>,
 }
 
+/// Plans, one for each alternative.
+pub type PlanList = List<Plan>;
+
 /// A step of a plan: what it adds to each assignment that the steps before it have made, or which assignments it
 /// keeps. Nodes, relationships, tests and pairs are those of a typed alternative, by number.
 #[cycle(plan)]
