@@ -43,13 +43,6 @@ pub fn can_fault(expr: &Expr, kinds: &Kinds) -> bool
     misfits(summarize(expr, kinds))
 }
 
-/// Whether an expression may fault, as far as the kinds tell, whatever its value's kind is.
-pub fn may_fault(expr: &Expr, kinds: &Kinds) -> bool
-    ensures { result ≡ rule.may_fault (may kinds.now expr.now) }
-{
-    summarize(expr, kinds).faults
-}
-
 /// Whether an expression is a literal, a variable or a property. These have a value in every graph,
 /// under each assignment.
 #[tactic(auto, using(crate::proofs::Equations::equations))]
