@@ -23,7 +23,8 @@ use Rattle.gq_law_cuts.proofs.Plain.{plain_cuts}
 use Rattle.gq_law_cuts.specs.Cuts.{core_size}
 use Rattle.gq_law_cuts.specs.Shaped.{core_pattern_of}
 use Rattle.gq_law_cuts.specs.Typing.{core_typed, stays_in}
-use Rattle.gq_plan.proofs.Counts.{bit, hits, total_map}
+use Rattle.gq_plan.specs.Counts.{bit, hits}
+use Rattle.gq_plan.proofs.Counts.{total_map}
 use Rattle.gq_plan.proofs.Each.{each_kept, each_map, each_then}
 use Rattle.gq_plan.proofs.Products.{IsSized, each_sized}
 use Rattle.gq_plan.specs.Allowed.{lies_in}

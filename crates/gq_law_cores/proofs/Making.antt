@@ -29,7 +29,7 @@ use Rattle.gq_law_plans.proofs.Reordered.{permuted_flat_map}
 use Rattle.gq_law_plans.proofs.Wholes.{plans_mean}
 use Rattle.gq_law_plans.specs.Safe.{IsMade}
 use Rattle.gq_plan.proofs.Bags.{parts_of_list}
-use Rattle.gq_plan.proofs.Counts.{hits}
+use Rattle.gq_plan.specs.Counts.{hits}
 use Rattle.gq_plan.proofs.Each.{each_kept, each_map, each_of, each_then}
 use Rattle.gq_plan.proofs.Products.{IsSized, each_sized, same_assignment, same_assignment_is, same_assignment_refl}
 use Rattle.gq_plan.specs.Allowed.{lies_in}

@@ -14,7 +14,7 @@ use Rattle.gq_base.specs.declared.direction.Direction.{Direction}
 use Rattle.gq_plan.specs.Allowed.{at_same}
 use Rattle.gq_plan.specs.Assignments.{all_rels, is_rel, same_rel}
 use Rattle.gq_plan.specs.Meaning.{far, near}
-use Rattle.gq_plan.proofs.Counts.{bit, hits}
+use Rattle.gq_plan.specs.Counts.{bit, hits}
 use Rattle.gq_plan.proofs.Permuted.{list_any_map}
 use Rattle.gq_plan.proofs.Products.{same_list, same_list_is, same_rel_is}
 use Rattle.gq_law_plans.proofs.Wholes.{bool_iff}

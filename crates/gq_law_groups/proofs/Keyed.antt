@@ -22,7 +22,8 @@ use Rattle.gq_plan.specs.Plans.{Plan, Step, Scan, Extend, Close, Join, Keep, Dif
 use Rattle.gq_plan.specs.Soundness.{IsSound}
 use Rattle.gq_plan.specs.declared.typed.Typed.{Typed}
 use Rattle.gq_plan.specs.declared.typed.TypedRel.{TypedRel}
-use Rattle.gq_plan.proofs.Counts.{bit, hits, total, total_map, total_filter, hits_and_const}
+use Rattle.gq_plan.specs.Counts.{bit, hits, total}
+use Rattle.gq_plan.proofs.Counts.{total_map, total_filter, hits_and_const}
 use Rattle.gq_plan.proofs.Demands.{total_sum}
 use Rattle.gq_plan.proofs.Each.{each_of, each_map, each_flat_map, each_kept, each_then}
 use Rattle.gq_plan.proofs.Pieces.{holds_some}

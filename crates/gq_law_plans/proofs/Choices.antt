@@ -4,7 +4,8 @@ use Rattle.std.proofs.Common.{◌≡◌, ℕ, zero, suc, ◌+◌, ◌<◌, ◌�
 use Rattle.std.specs.List.{AllByRecursion, range_with_len, list_all}
 use Rattle.std.proofs.lemmas.Bool.{eq-eqb, ne_eqb, cases_eq, cases_lt, or_right}
 use Rattle.gq_plan.specs.Parts.{bindings}
-use Rattle.gq_plan.proofs.Counts.{bit, hits, total_map, total_flat_map, total_same, hits_const_and, hits_and_const, cond_and}
+use Rattle.gq_plan.specs.Counts.{bit, hits}
+use Rattle.gq_plan.proofs.Counts.{total_map, total_flat_map, total_same, hits_const_and, hits_and_const, cond_and}
 use Rattle.gq_plan.proofs.Each.{each_of, each_map, each_flat_map}
 use Rattle.gq_law_plans.proofs.Counting.{cond_both}
 use Rattle.gq_law_plans.proofs.Filled.{among}

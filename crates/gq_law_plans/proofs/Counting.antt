@@ -18,7 +18,8 @@ use Rattle.gq_plan.specs.declared.demand.Demand.{Demand}
 use Rattle.gq_plan.specs.declared.demand.Demand.TheVariants.{InTable, Joins, Passes, Differs, IsNoLoop}
 use Rattle.gq_plan.specs.declared.typed.Typed.{Typed}
 use Rattle.gq_plan.specs.declared.typed.TypedRel.{TypedRel}
-use Rattle.gq_plan.proofs.Counts.{bit, hits, total_map, total_none, hits_at, hits_range, cond_and}
+use Rattle.gq_plan.specs.Counts.{bit, hits}
+use Rattle.gq_plan.proofs.Counts.{total_map, total_none, hits_at, hits_range, cond_and}
 use Rattle.gq_plan.proofs.Products.{same_node_is, same_rel_is}
 use Rattle.gq_law_plans.proofs.Lookups.{bound, bound_append, look_is}
 

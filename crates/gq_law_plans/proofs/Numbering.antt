@@ -7,7 +7,8 @@ use Rattle.gq_base.specs.Plain.{Graph, rels_at, rows_at}
 use Rattle.gq_base.specs.declared.NodeId.{NodeId}
 use Rattle.gq_base.specs.declared.RelId.{RelId}
 use Rattle.gq_plan.specs.Assignments.{Assignment, tuples, assignments, nodes_of, all_nodes, rels_of, all_rels, same_node, same_rel, is_node, is_rel}
-use Rattle.gq_plan.proofs.Counts.{bit, hits, total_map, total_flat_map, total_same, hits_const_and, hits_and_const, hits_range, cond_and}
+use Rattle.gq_plan.specs.Counts.{bit, hits}
+use Rattle.gq_plan.proofs.Counts.{total_map, total_flat_map, total_same, hits_const_and, hits_and_const, hits_range, cond_and}
 use Rattle.gq_plan.proofs.Products.{same_list, same_assignment}
 use Rattle.gq_law_plans.proofs.Counting.{cond_both, hits_nodes_of, hits_rels_of}
 

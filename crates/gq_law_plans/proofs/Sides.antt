@@ -23,7 +23,8 @@ use Rattle.gq_plan.specs.declared.typed.RelPair.{RelPair}
 use Rattle.gq_plan.specs.declared.typed.Typed.{Typed}
 use Rattle.gq_plan.specs.declared.typed.TypedRel.{TypedRel}
 use Rattle.gq_plan.proofs.Binding.{is_table, is_joins, any_demand, plan_binds, plan_joins}
-use Rattle.gq_plan.proofs.Counts.{bit, hits, total_map, total_flat_map, total_filter, total_none, total_same, hits_const_and, hits_and_const, cond_and}
+use Rattle.gq_plan.specs.Counts.{bit, hits}
+use Rattle.gq_plan.proofs.Counts.{total_map, total_flat_map, total_filter, total_none, total_same, hits_const_and, hits_and_const, cond_and}
 use Rattle.gq_plan.proofs.Each.{each_then, each_map, each_flat_map, each_kept, each_below}
 use Rattle.gq_plan.proofs.Permuted.{all_permuted, all_kept, all_and, any_none}
 use Rattle.gq_plan.proofs.Values.{values_agree}

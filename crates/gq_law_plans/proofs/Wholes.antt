@@ -14,7 +14,8 @@ use Rattle.gq_plan.specs.Law.{PlansMeanAllowed}
 use Rattle.gq_plan.specs.Meaning.{Partial, nothing, look, mean, meaning, whole}
 use Rattle.gq_plan.specs.declared.typed.Typed.{Typed}
 use Rattle.gq_plan.proofs.Bags.{permutation_from_hits}
-use Rattle.gq_plan.proofs.Counts.{bit, hits, total_map, total_filter, total_same, hits_at, cond_and}
+use Rattle.gq_plan.specs.Counts.{bit, hits}
+use Rattle.gq_plan.proofs.Counts.{total_map, total_filter, total_same, hits_at, cond_and}
 use Rattle.gq_plan.proofs.Each.{each_then, each_map, each_kept}
 use Rattle.gq_plan.proofs.Products.{IsSized, each_sized, same_assignment, same_assignment_refl, same_assignment_is}
 use Rattle.gq_law_plans.proofs.Counting.{met, extends, nodes_in, rels_in, is_rel_at, known_by, node_look, rel_look}

@@ -12,7 +12,8 @@ use Rattle.gq_plan.specs.Assignments.{Assignment, assignments, is_rel}
 use Rattle.gq_plan.specs.Meaning.{Partial}
 use Rattle.gq_plan.specs.declared.NamedExpr.{NamedExpr}
 use Rattle.gq_plan.proofs.Bags.{permutation_from_hits}
-use Rattle.gq_plan.proofs.Counts.{bit, hits, total_map}
+use Rattle.gq_plan.specs.Counts.{bit, hits}
+use Rattle.gq_plan.proofs.Counts.{total_map}
 use Rattle.gq_plan.proofs.Each.{each_flat_map, each_kept, each_map, each_then}
 use Rattle.gq_plan.proofs.Products.{IsSized, each_sized, same_list}
 use Rattle.gq_law_plans.proofs.Lookups.{Found, bound}

@@ -12,7 +12,8 @@ use Rattle.gq_law_plans.proofs.Wholes.{rel_self}
 use Rattle.gq_law_trails.proofs.Numbering.{assignment_hits, list_hits, rel_hits}
 use Rattle.gq_law_trails.specs.Real.{is_real}
 use Rattle.gq_law_trails.specs.Walks.{chained}
-use Rattle.gq_plan.proofs.Counts.{bit, hits, total_map, total_flat_map, total_filter, total_none, total_same, hits_and_const, hits_at, hits_const_and, hits_range, cond_and}
+use Rattle.gq_plan.specs.Counts.{bit, hits}
+use Rattle.gq_plan.proofs.Counts.{total_map, total_flat_map, total_filter, total_none, total_same, hits_and_const, hits_at, hits_const_and, hits_range, cond_and}
 use Rattle.gq_plan.proofs.Each.{each_flat_map, each_kept, each_map, each_of, each_then}
 use Rattle.gq_plan.proofs.Products.{IsSized, each_sized, each_tuple, same_assignment, same_assignment_is, same_assignment_refl, same_list, same_list_is, same_list_refl, same_rel_is}
 use Rattle.gq_plan.specs.Assignments.{Assignment, all_rels, assignments, is_rel, same_rel, tuples}

@@ -2,7 +2,7 @@
 use Rattle.std.proofs.Common.{◌≡◌, ℕ, suc, ◌&&◌, List, [], ◌∷◌, length, refl, ap, ap₂, ◌∙◌, arith}
 use Rattle.gq_base.specs.declared.RelId.{RelId}
 use Rattle.gq_alternatives.specs.Matches.{is_match}
-use Rattle.gq_plan.proofs.Counts.{bit}
+use Rattle.gq_plan.specs.Counts.{bit}
 use Rattle.gq_law_trails.specs.Real.{is_real}
 use Rattle.gq_scopes.specs.Patterns.{Pattern, MapEntry}
 use Rattle.gq_law_reaches.proofs.Meant.{core_meant}

@@ -5,7 +5,8 @@ use Rattle.gq_base.specs.Plain.{Graph}
 use Rattle.gq_alternatives.specs.Matches.{is_match, pattern_matches}
 use Rattle.gq_plan.specs.Allowed.{at_same}
 use Rattle.gq_plan.specs.Assignments.{Assignment, assignments, same_node, same_rel}
-use Rattle.gq_plan.proofs.Counts.{bit, hits, total_map, total_filter, total_same, hits_at, cond_and}
+use Rattle.gq_plan.specs.Counts.{bit, hits}
+use Rattle.gq_plan.proofs.Counts.{total_map, total_filter, total_same, hits_at, cond_and}
 use Rattle.gq_plan.proofs.Each.{each_kept, each_map, each_then}
 use Rattle.gq_plan.proofs.Permuted.{range_any}
 use Rattle.gq_plan.proofs.Products.{IsSized, each_sized, same_list, same_assignment, same_assignment_is}

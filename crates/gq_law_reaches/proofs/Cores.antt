@@ -2,7 +2,7 @@
 use Rattle.std.proofs.Common.{◌≡◌, ℕ, ◌<◌, Bool, true, false, ◌&&◌, nat_lt, length, refl, sym, ap, ◌∙◌, subst}
 use Rattle.std.specs.List.{AllByRecursion, list_all, list_any}
 use Rattle.std.proofs.lemmas.Bool.{and_parts}
-use Rattle.gq_plan.proofs.Counts.{bit}
+use Rattle.gq_plan.specs.Counts.{bit}
 use Rattle.gq_plan.specs.Assignments.{is_rel}
 use Rattle.gq_plan.specs.declared.Variable.TheVariants.{Node as node}
 use Rattle.gq_alternatives.specs.Matches.{is_match}

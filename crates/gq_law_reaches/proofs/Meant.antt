@@ -7,7 +7,7 @@ use Rattle.gq_base.specs.Lists.{all_distinct}
 use Rattle.gq_base.specs.declared.RelId.{RelId}
 use Rattle.gq_alternatives.specs.Matches.{entry_holds, is_match, node_holds, pair_holds, pairs_from, pairs_with, rels_hold}
 use Rattle.gq_plan.specs.Assignments.{Assignment, same_rel}
-use Rattle.gq_plan.proofs.Counts.{bit}
+use Rattle.gq_plan.specs.Counts.{bit}
 use Rattle.gq_law_plans.proofs.Lookups.{eqb_swap}
 use Rattle.gq_law_trails.specs.Real.{is_real}
 use Rattle.gq_law_trails.specs.Met.{trails_met}

@@ -4,7 +4,7 @@ use Rattle.std.specs.List.{list_all}
 use Rattle.gq_base.specs.Lists.{all_distinct}
 use Rattle.gq_alternatives.specs.Matches.{is_match}
 use Rattle.gq_law_trails.specs.Real.{is_real}
-use Rattle.gq_plan.proofs.Counts.{bit}
+use Rattle.gq_plan.specs.Counts.{bit}
 use Rattle.gq_plan.specs.Assignments.{is_rel, same_rel}
 use Rattle.gq_plan.specs.declared.TrailPart.{TrailPart}
 use Rattle.gq_law_reaches.proofs.Outer.{matches_part}

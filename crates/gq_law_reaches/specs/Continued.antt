@@ -5,7 +5,7 @@ use Rattle.gq_base.specs.Lists.{all_distinct}
 use Rattle.gq_base.specs.Plain.{Graph}
 use Rattle.gq_base.specs.declared.RelId.{RelId}
 use Rattle.gq_alternatives.specs.Matches.{is_match, pair_holds, pairs_from, pattern_matches}
-use Rattle.gq_plan.proofs.Counts.{bit, hits}
+use Rattle.gq_plan.specs.Counts.{bit, hits}
 use Rattle.gq_plan.specs.Assignments.{Assignment, same_rel}
 use Rattle.gq_scopes.specs.Patterns.{Pattern, RelPattern}
 use Rattle.gq_law_trails.specs.Apart.{lists_for}

@@ -4,7 +4,7 @@ use Rattle.std.specs.List.{AllByRecursion, list_all, list_any}
 use Rattle.gq_base.specs.Plain.{Graph}
 use Rattle.gq_base.specs.Valid.{is_valid}
 use Rattle.gq_base.specs.declared.RelId.{RelId}
-use Rattle.gq_plan.proofs.Counts.{bit, hits}
+use Rattle.gq_plan.specs.Counts.{bit, hits}
 use Rattle.gq_plan.specs.Assignments.{Assignment, is_rel}
 use Rattle.gq_plan.specs.Soundness.{has_number}
 use Rattle.gq_plan.specs.declared.Variable.TheVariants.{Node as node}

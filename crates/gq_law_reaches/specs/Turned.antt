@@ -11,7 +11,7 @@ use Rattle.gq_law_trails.specs.Walks.{chained}
 use Rattle.gq_base.specs.declared.RelId.{RelId}
 use Rattle.gq_alternatives.specs.Matches.{entry_holds, is_match, node_holds}
 use Rattle.gq_base.specs.declared.NodeId.{NodeId}
-use Rattle.gq_plan.proofs.Counts.{bit, hits}
+use Rattle.gq_plan.specs.Counts.{bit, hits}
 use Rattle.gq_law_trails.specs.Real.{is_real}
 use Rattle.gq_plan.specs.Assignments.{Assignment, is_node, is_rel, same_rel}
 use Rattle.gq_scopes.specs.Patterns.{MapEntry, NodePattern, Pattern, RelPattern, Name}

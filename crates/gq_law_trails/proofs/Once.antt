@@ -4,7 +4,8 @@ use Rattle.std.proofs.Math.Bool.{and_assoc}
 use Rattle.gq_base.specs.declared.RelId.{RelId}
 use Rattle.gq_plan.specs.Assignments.{all_rels, is_rel, same_rel}
 use Rattle.gq_plan.specs.Meaning.{far}
-use Rattle.gq_plan.proofs.Counts.{bit, hits, total, total_append, total_map, total_flat_map, total_filter, total_none, total_same, hits_at, hits_const_and, cond_and}
+use Rattle.gq_plan.specs.Counts.{bit, hits, total}
+use Rattle.gq_plan.proofs.Counts.{total_append, total_map, total_flat_map, total_filter, total_none, total_same, hits_at, hits_const_and, cond_and}
 use Rattle.gq_plan.proofs.Products.{same_list, same_rel_is}
 use Rattle.gq_law_trails.proofs.Numbering.{rel_hits}
 use Rattle.gq_law_trails.specs.Walks.{is_walk, may_follow, pred, walks}

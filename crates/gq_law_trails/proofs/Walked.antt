@@ -6,7 +6,8 @@ use Rattle.gq_base.specs.declared.RelId.{RelId}
 use Rattle.gq_plan.specs.Allowed.{at_same}
 use Rattle.gq_plan.specs.Assignments.{Assignment, same_rel}
 use Rattle.gq_plan.specs.Meaning.{Partial, keep_if, look, with_node}
-use Rattle.gq_plan.proofs.Counts.{bit, hits, total, total_map, total_flat_map, total_none, total_same, hits_at, hits_and_const, hits_const_and, cond_and}
+use Rattle.gq_plan.specs.Counts.{bit, hits, total}
+use Rattle.gq_plan.proofs.Counts.{total_map, total_flat_map, total_none, total_same, hits_at, hits_and_const, hits_const_and, cond_and}
 use Rattle.gq_plan.proofs.Products.{same_list, same_list_is, same_rel_is}
 use Rattle.gq_law_plans.proofs.Counting.{extends, extends_with_node, node_look}
 use Rattle.gq_law_plans.proofs.Lookups.{bound}

@@ -4,7 +4,7 @@ use Rattle.gq_base.specs.Plain.{Graph}
 use Rattle.gq_base.specs.declared.NodeId.{NodeId}
 use Rattle.gq_base.specs.declared.RelId.{RelId}
 use Rattle.gq_base.specs.declared.direction.Direction.{Direction}
-use Rattle.gq_plan.proofs.Counts.{hits, bit}
+use Rattle.gq_plan.specs.Counts.{hits, bit}
 use Rattle.gq_plan.proofs.Products.{same_list}
 use Rattle.gq_plan.specs.Assignments.{same_rel}
 use Rattle.gq_law_trails.specs.Walks.{is_walk, walks}

@@ -6,7 +6,7 @@ use Rattle.gq_base.specs.declared.NodeId.{NodeId}
 use Rattle.gq_base.specs.declared.RelId.{RelId}
 use Rattle.gq_base.specs.declared.direction.Direction.{Direction}
 use Rattle.gq_base.specs.declared.direction.Direction.TheVariants.{Forward, Backward}
-use Rattle.gq_plan.proofs.Counts.{hits, bit}
+use Rattle.gq_plan.specs.Counts.{hits, bit}
 use Rattle.gq_plan.proofs.Products.{same_list}
 use Rattle.gq_plan.specs.Allowed.{at_same}
 use Rattle.gq_plan.specs.Assignments.{Assignment, is_rel, same_rel}

@@ -2,7 +2,8 @@
 use Rattle.std.proofs.Common.{◌≡◌, ℕ, ◌+◌, ◌*◌, ◌<◌, Bool, true, false, cond, List, [], ◌∷◌, ◌++◌, filter, flat_map, IsPermutation, refl, sym, ap, ◌∙◌, subst, arith}
 use Rattle.std.specs.List.{AllByRecursion}
 use Rattle.std.proofs.lemmas.List.Sorted.{IsPermutation-refl, IsPermutation-sym, IsPermutation-cons, IsPermutation-trans, IsPermutation-middle}
-use Rattle.gq_plan.proofs.Counts.{bit, total, hits, total_append, total_flat_map, total_filter, total_same, hits_at, cond_and}
+use Rattle.gq_plan.specs.Counts.{bit, total, hits}
+use Rattle.gq_plan.proofs.Counts.{total_append, total_flat_map, total_filter, total_same, hits_at, cond_and}
 use Rattle.gq_plan.proofs.Each.{each_of, each_then, each_flat_map, each_kept}
 
 module _ {X : Type 0} (same : X → X → Bool) (same_refl : (x : X) → same x x ≡ true) (same_is : (x z : X) → same x z ≡ true → z ≡ x) where

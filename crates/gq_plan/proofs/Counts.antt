@@ -1,19 +1,8 @@
 -- How many items of a list pass a test, as a sum by recursion.
 use Rattle.std.proofs.Common.{◌≡◌, ℕ, zero, suc, ◌+◌, ◌<◌, ◌≤◌, Bool, true, false, ◌&&◌, cond, eqb, ltb, List, [], ◌∷◌, ◌++◌, map, filter, flat_map, refl, sym, ap, ap₂, ◌∙◌, arith, add_assoc, zero-add, true≢false}
 use Rattle.std.specs.List.{range_with_len}
+use Rattle.gq_plan.specs.Counts.{bit, total, hits}
 use Rattle.std.proofs.lemmas.Bool.{eqb-true, eqb-false, ne_eqb, lt-ltb, le-ltb}
-
-abbrev pub bit : Bool → ℕ
-bit true = 1
-bit false = 0
-
-abbrev pub total : {X : Type 0} → (X → ℕ) → List X → ℕ
-total f [] = 0
-total f (x ∷ xs) = f x + total f xs
-
--- the items that pass
-abbrev pub hits : {X : Type 0} → (X → Bool) → List X → ℕ
-hits p = total (λ x. bit (p x))
 
 pub total_append : {X : Type 0} (f : X → ℕ) (xs ys : List X) → total f (xs ++ ys) ≡ total f xs + total f ys
 total_append f [] ys = sym (zero-add _)

@@ -8,7 +8,8 @@ use Rattle.std.proofs.lemmas.List.Sums.{sum_by-cons}
 use Rattle.std.proofs.lemmas.Option.{slice_get_within}
 use Rattle.gq_base.specs.Catalogs.{Tables}
 use Rattle.gq_plan.proofs.Bags.{permutation_from_hits}
-use Rattle.gq_plan.proofs.Counts.{bit, total, hits, total_map, total_none, total_filter, total_same, hits_range, hits_and_const}
+use Rattle.gq_plan.specs.Counts.{bit, total, hits}
+use Rattle.gq_plan.proofs.Counts.{total_map, total_none, total_filter, total_same, hits_range, hits_and_const}
 use Rattle.gq_plan.proofs.Each.{each_then, each_map, each_append, each_below, each_kept}
 use Rattle.gq_plan.specs.Covers.{fits, fits_step, after_step, placed, placed_step, demands, is_key, leaves_loops_out, is_new, goes, test_bound, pair_bound, loop_bound, Covers}
 use Rattle.gq_plan.specs.Known.{Known, none}

@@ -6,7 +6,8 @@ use Rattle.gq_base.specs.Plain.{Graph, rels_at, rows_at}
 use Rattle.gq_base.specs.declared.NodeId.{NodeId}
 use Rattle.gq_base.specs.declared.RelId.{RelId}
 use Rattle.gq_plan.specs.Assignments.{Assignment, tuples, assignments, nodes_of, all_nodes, rels_of, all_rels, same_node, same_rel}
-use Rattle.gq_plan.proofs.Counts.{bit, hits, total_map, total_flat_map, total_same, hits_const_and, cond_bit}
+use Rattle.gq_plan.specs.Counts.{bit, hits}
+use Rattle.gq_plan.proofs.Counts.{total_map, total_flat_map, total_same, hits_const_and, cond_bit}
 use Rattle.gq_plan.proofs.Each.{each_of, each_map, each_flat_map, each_below}
 
 -- a tuple stands once where a test of tuples is one test an item, and each item is picked once

@@ -3,6 +3,7 @@ pub mod Arranged
 pub mod Assignments
 pub mod Columns
 pub mod Conditions
+pub mod Counts
 pub mod Covers
 pub mod Flat
 pub mod Keys
