@@ -16,7 +16,8 @@ use Rattle.gq_plan.specs.Assignments.{all_rels, is_rel, same_rel}
 use Rattle.gq_plan.specs.Meaning.{far, near}
 use Rattle.gq_plan.specs.Counts.{bit, hits}
 use Rattle.gq_plan.proofs.Permuted.{list_any_map}
-use Rattle.gq_plan.proofs.Products.{same_list, same_list_is, same_rel_is}
+use Rattle.std.specs.Cmp.Lexicographic.{pointwise}
+use Rattle.gq_plan.proofs.Products.{same_list_is, same_rel_is}
 use Rattle.gq_law_plans.proofs.Wholes.{bool_iff}
 use Rattle.gq_law_trails.specs.Walks.{are_free, chained_by, end_of, is_of_type, is_walk, may_follow, pred, walks}
 use Rattle.gq_law_ends.specs.Leading.{WalksLead, leads_to}
@@ -341,7 +342,7 @@ walks_lead g kind way high at used n =
         let both = walks_are g kind way 1 high at (Some n) used l
         ∙ and_from (list_all (is_rel g) l) _ (c.kept _ s.there) (and_from _ (are_free used l) (and_from _ _ lengths follow) free) in
         let parts = and_parts (is_walk g kind way 1 high at used l) (at_same (end_of g way at l) (Some n)) both in
-        any_there (same_list same_rel l) (ends_there g kind way n at) (λ z e. subst (λ k. at_same (end_of g way at k) (Some n) ≡ true) (sym (same_list_is same_rel same_rel_is l z e)) parts.1)
+        any_there (pointwise same_rel l) (ends_there g kind way n at) (λ z e. subst (λ k. at_same (end_of g way at k) (Some n) ≡ true) (sym (same_list_is same_rel same_rel_is l z e)) parts.1)
         (walks g kind way 1 high at used) (one_hit _ (is_walk g kind way 1 high at used l) (walks_once g kind way 1 high at used l) parts.0)
 
 -- ---- from no node

@@ -15,7 +15,8 @@ use Rattle.gq_plan.proofs.Bags.{permutation_from_hits}
 use Rattle.gq_plan.specs.Counts.{bit, hits}
 use Rattle.gq_plan.proofs.Counts.{total_map}
 use Rattle.gq_plan.proofs.Each.{each_flat_map, each_kept, each_map, each_then}
-use Rattle.gq_plan.proofs.Products.{IsSized, each_sized, same_list}
+use Rattle.std.specs.Cmp.Lexicographic.{pointwise}
+use Rattle.gq_plan.proofs.Products.{IsSized, each_sized}
 use Rattle.gq_law_plans.proofs.Lookups.{Found, bound}
 use Rattle.gq_law_plans.proofs.PlanCounts.{total_same_on}
 use Rattle.gq_law_plans.proofs.Wholes.{bool_iff}
@@ -46,7 +47,7 @@ turned_swap Backward l m =
     (λ e. subst (λ z. same_rels l z ≡ true) (sym (reverse-reverse l) ∙ ap reverse (sym (same_rels_is (reverse l) m e))) (same_rels_refl l))
 
 all_swap : (parts : List TrailPart) (ls ms : List (List RelId)) → length ls ≡ length parts → length ms ≡ length parts
-    → same_list same_rels ls (turned_all parts ms) ≡ same_list same_rels (turned_all parts ls) ms
+    → pointwise same_rels ls (turned_all parts ms) ≡ pointwise same_rels (turned_all parts ls) ms
 all_swap [] [] [] e f = refl
 all_swap [] (l ∷ ls) ms e f = absurd (omega arith)
 all_swap [] [] (m ∷ ms) e f = absurd (omega arith)

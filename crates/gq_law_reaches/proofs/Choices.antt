@@ -15,7 +15,8 @@ use Rattle.gq_law_trails.specs.Walks.{chained}
 use Rattle.gq_plan.specs.Counts.{bit, hits}
 use Rattle.gq_plan.proofs.Counts.{total_map, total_flat_map, total_filter, total_none, total_same, hits_and_const, hits_at, hits_const_and, hits_range, cond_and}
 use Rattle.gq_plan.proofs.Each.{each_flat_map, each_kept, each_map, each_of, each_then}
-use Rattle.gq_plan.proofs.Products.{IsSized, each_sized, each_tuple, same_assignment, same_assignment_is, same_assignment_refl, same_list, same_list_is, same_list_refl, same_rel_is}
+use Rattle.std.specs.Cmp.Lexicographic.{pointwise}
+use Rattle.gq_plan.proofs.Products.{IsSized, each_sized, each_tuple, same_assignment, same_assignment_is, same_assignment_refl, same_list_is, same_list_refl, same_rel_is}
 use Rattle.gq_plan.specs.Assignments.{Assignment, all_rels, assignments, is_rel, same_rel, tuples}
 use Rattle.gq_law_reaches.specs.Bags.{AreShort}
 use Rattle.gq_law_reaches.specs.Reaches.{Reach, TrailPattern, Trailed, differ_in, end_of, is_reach, reach_choices, reaches, start_of, trail_holds, trail_lists, trails_hold}
@@ -23,7 +24,7 @@ use Rattle.gq_law_reaches.specs.Reaches.{Reach, TrailPattern, Trailed, differ_in
 -- ---- the same lists
 
 abbrev pub same_rels : List RelId → List RelId → Bool
-same_rels l m = same_list same_rel l m
+same_rels l m = pointwise same_rel l m
 
 pub same_rels_is : (l m : List RelId) → same_rels l m ≡ true → m ≡ l
 same_rels_is = same_list_is same_rel same_rel_is
@@ -33,44 +34,44 @@ same_rels_refl = same_list_refl same_rel rel_self
 
 -- nodes, relationships and lists are the same
 abbrev pub same_reach : Reach → Reach → Bool
-same_reach r s = same_assignment r.base s.base && same_list same_rels r.trails s.trails
+same_reach r s = same_assignment r.base s.base && pointwise same_rels r.trails s.trails
 
 pub same_reach_refl : (r : Reach) → same_reach r r ≡ true
 same_reach_refl r =
-    and_from (same_assignment r.base r.base) (same_list same_rels r.trails r.trails) (same_assignment_refl r.base) (same_list_refl same_rels same_rels_refl r.trails)
+    and_from (same_assignment r.base r.base) (pointwise same_rels r.trails r.trails) (same_assignment_refl r.base) (same_list_refl same_rels same_rels_refl r.trails)
 
 pub same_reach_is : (r s : Reach) → same_reach r s ≡ true → s ≡ r
 same_reach_is r s e =
-    let parts = and_parts (same_assignment r.base s.base) (same_list same_rels r.trails s.trails) e in
+    let parts = and_parts (same_assignment r.base s.base) (pointwise same_rels r.trails s.trails) e in
     λ i. record { base = same_assignment_is r.base s.base parts.0 i; trails = same_list_is same_rels same_rels_is r.trails s.trails parts.1 i }
 
 -- ---- lists of at most so many items
 
 module _ {X : Type 0} (same : X → X → Bool) where
-  same_many : (l m : List X) → same_list same l m ≡ true → length m ≡ length l
+  same_many : (l m : List X) → pointwise same l m ≡ true → length m ≡ length l
   same_many [] [] e = refl
   same_many [] (z ∷ m) e = absurd (true≢false (sym e))
   same_many (x ∷ l) [] e = absurd (true≢false (sym e))
-  same_many (x ∷ l) (z ∷ m) e = ap suc (same_many l m (and_parts (same x z) (same_list same l m) e).1)
+  same_many (x ∷ l) (z ∷ m) e = ap suc (same_many l m (and_parts (same x z) (pointwise same l m) e).1)
 
-  other_many : (l m : List X) → (length m ≡ length l → ⊥) → same_list same l m ≡ false
-  other_many l m other = go (same_list same l m) refl
+  other_many : (l m : List X) → (length m ≡ length l → ⊥) → pointwise same l m ≡ false
+  other_many l m other = go (pointwise same l m) refl
     where
-      go : (b : Bool) → same_list same l m ≡ b → b ≡ false
+      go : (b : Bool) → pointwise same l m ≡ b → b ≡ false
       go true e = absurd (other (same_many l m e))
       go false e = refl
 
   -- a list stands among those of n items only where it has n
   so_many : (stands : X → Bool) (xs : List X) → ((x : X) → hits (same x) xs ≡ bit (stands x)) → (n : ℕ) (l : List X)
-      → hits (same_list same l) (tuples n xs) ≡ cond (nat_eq (length l) n) (bit (list_all stands l)) 0
+      → hits (pointwise same l) (tuples n xs) ≡ cond (nat_eq (length l) n) (bit (list_all stands l)) 0
   so_many stands xs once n l = go (cases_eq (length l) n)
     where
-      go : (length l ≡ n) ⊎ (length l ≡ n → ⊥) → hits (same_list same l) (tuples n xs) ≡ cond (nat_eq (length l) n) (bit (list_all stands l)) 0
+      go : (length l ≡ n) ⊎ (length l ≡ n → ⊥) → hits (pointwise same l) (tuples n xs) ≡ cond (nat_eq (length l) n) (bit (list_all stands l)) 0
       go (inl e) =
-          ap (λ k. hits (same_list same l) (tuples k xs)) (sym e) ∙ list_hits same stands xs once l
+          ap (λ k. hits (pointwise same l) (tuples k xs)) (sym e) ∙ list_hits same stands xs once l
           ∙ ap (λ b. cond b (bit (list_all stands l)) 0) (sym (eq-eqb (length l) n e))
       go (inr other) =
-          total_same_on (λ m. AllByRecursion (λ (x : X). Unit {0}) m × (length m ≡ n)) (λ m. bit (same_list same l m)) (λ m. 0)
+          total_same_on (λ m. AllByRecursion (λ (x : X). Unit {0}) m × (length m ≡ n)) (λ m. bit (pointwise same l m)) (λ m. 0)
           (λ m h. ap bit (other_many l m (λ e. other (sym e ∙ h.1)))) (tuples n xs) (each_tuple (λ (x : X). Unit {0}) n xs (each_of (λ (x : X). Unit {0}) (λ x. tt) xs))
           ∙ total_none (λ (m : List X). 0) (λ m. refl) (tuples n xs)
           ∙ ap (λ b. cond b (bit (list_all stands l)) 0) (sym (ne_eqb (length l) n other))
@@ -110,9 +111,9 @@ module _ (g : Graph) (q : Trailed) where
       total_flat_map (λ s. bit (same_reach r s)) (λ t. map (λ ls. record { base = t; trails = ls }) lists) all
       ∙ total_same _ (λ t. bit (same_assignment r.base t && list_all (is_listed most g) r.trails))
       (λ t. total_map (λ s. bit (same_reach r s)) (λ ls. record { base = t; trails = ls }) lists
-      ∙ hits_const_and (same_assignment r.base t) (same_list same_rels r.trails) lists
+      ∙ hits_const_and (same_assignment r.base t) (pointwise same_rels r.trails) lists
       ∙ ap (λ c. cond (same_assignment r.base t) c 0)
-      (ap (λ n. hits (same_list same_rels r.trails) (tuples n (trail_lists most g))) (sym is.lists) ∙ list_hits same_rels (is_listed most g) (trail_lists most g) (listed most g) r.trails)
+      (ap (λ n. hits (pointwise same_rels r.trails) (tuples n (trail_lists most g))) (sym is.lists) ∙ list_hits same_rels (is_listed most g) (trail_lists most g) (listed most g) r.trails)
       ∙ cond_both (same_assignment r.base t) (list_all (is_listed most g) r.trails)) all
       ∙ hits_and_const (same_assignment r.base) (list_all (is_listed most g) r.trails) all
       ∙ ap (λ c. cond (list_all (is_listed most g) r.trails) c 0) (assignment_hits g (length q.pattern.names) (length q.pattern.rels) r.base is.nodes is.rels)

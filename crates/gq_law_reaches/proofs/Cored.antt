@@ -9,7 +9,8 @@ use Rattle.gq_plan.specs.Counts.{bit, hits}
 use Rattle.gq_plan.proofs.Counts.{total_map, total_filter, total_same, hits_at, cond_and}
 use Rattle.gq_plan.proofs.Each.{each_kept, each_map, each_then}
 use Rattle.gq_plan.proofs.Permuted.{range_any}
-use Rattle.gq_plan.proofs.Products.{IsSized, each_sized, same_list, same_assignment, same_assignment_is}
+use Rattle.std.specs.Cmp.Lexicographic.{pointwise}
+use Rattle.gq_plan.proofs.Products.{IsSized, each_sized, same_assignment, same_assignment_is}
 use Rattle.gq_law_plans.proofs.Counting.{extends, is_rel_at}
 use Rattle.gq_law_plans.proofs.Lookups.{bound}
 use Rattle.gq_law_trails.proofs.Numbering.{assignment_hits}
@@ -28,7 +29,7 @@ use Rattle.gq_law_reaches.specs.Reaches.{rels_in}
 module _ {X : Type 0} where
   -- they are what a reader reads where they are the same items
   numbered_same : (test : Option X → X → Bool) (same : X → X → Bool) → ((y x : X) → test (Some y) x ≡ same y x) → (get : ℕ → Option X) (i : ℕ) (ys xs : List X) → length ys ≡ length xs
-      → ((j : ℕ) → j < length ys → get (i + j) ≡ slice_get ys j) → list_all (λ (b : ℕ × X). test (get b.0) b.1) (numbered i xs) ≡ same_list same ys xs
+      → ((j : ℕ) → j < length ys → get (i + j) ≡ slice_get ys j) → list_all (λ (b : ℕ × X). test (get b.0) b.1) (numbered i xs) ≡ pointwise same ys xs
   numbered_same test same is get i [] [] e at = refl
   numbered_same test same is get i [] (x ∷ xs) e at = absurd (omega arith)
   numbered_same test same is get i (y ∷ ys) [] e at = absurd (omega arith)

@@ -5,7 +5,8 @@ use Rattle.std.proofs.lemmas.Bool.{and_from, eq-eqb, lt-ltb, ltb-true, or_left, 
 use Rattle.gq_plan.specs.Allowed.{at_same}
 use Rattle.gq_plan.specs.Assignments.{Assignment, same_node, same_rel}
 use Rattle.gq_plan.specs.Meaning.{Partial, found, look}
-use Rattle.gq_plan.proofs.Products.{same_assignment, same_list, same_list_is, same_list_refl, same_node_is, same_rel_is}
+use Rattle.std.specs.Cmp.Lexicographic.{pointwise}
+use Rattle.gq_plan.proofs.Products.{same_assignment, same_list_is, same_list_refl, same_node_is, same_rel_is}
 use Rattle.gq_law_plans.proofs.Counting.{at_same_is, extends, is_rel_at, is_rel_at_is}
 use Rattle.gq_law_plans.proofs.Lookups.{Found, bound, lists_same, look_is, read_at, read_length}
 use Rattle.gq_law_plans.proofs.Wholes.{bool_iff, node_self, rel_self}
@@ -34,12 +35,12 @@ module _ {X : Type 0} (bs : List (ℕ × X)) (n : ℕ) (all : (v : ℕ) → boun
         (ap (λ o. test o d.1) (items_at d.0 (low d.0 (or_left (nat_eq d.0 d.0) (bound ds d.0) (eq-eqb d.0 d.0 refl))) ∙ h.0) ∙ test_self d.1)
         (have ds h.1 (λ v k. low v (or_right (nat_eq v d.0) (bound ds v) k)))
 
-    pub same_items : Found bs bs → (xs : List X) → length xs ≡ n → same_list same xs items ≡ list_all (λ b. test (slice_get xs b.0) b.1) bs
+    pub same_items : Found bs bs → (xs : List X) → length xs ≡ n → pointwise same xs items ≡ list_all (λ b. test (slice_get xs b.0) b.1) bs
     same_items own xs many =
-        bool_iff (same_list same xs items) (list_all (λ b. test (slice_get xs b.0) b.1) bs)
+        bool_iff (pointwise same xs items) (list_all (λ b. test (slice_get xs b.0) b.1) bs)
         (λ e. subst (λ l. list_all (λ b. test (slice_get l b.0) b.1) bs ≡ true) (same_list_is same same_is xs items e)
         (have bs own (λ v h. ltb-true v n (sym (all v) ∙ h))))
-        (λ h. subst (λ l. same_list same xs l ≡ true)
+        (λ h. subst (λ l. pointwise same xs l ≡ true)
         (lists_same xs items (many ∙ sym items_length)
         (λ i low. sym (look_is test test_is (slice_get xs) i bs h (all i ∙ lt-ltb i n (omega (arith, low, many)))) ∙ sym (items_at i (omega (arith, low, many)))))
         (same_list_refl same same_self xs))

@@ -9,21 +9,22 @@ use Rattle.gq_base.specs.declared.RelId.{RelId}
 use Rattle.gq_plan.specs.Assignments.{Assignment, tuples, assignments, nodes_of, all_nodes, rels_of, all_rels, same_node, same_rel, is_node, is_rel}
 use Rattle.gq_plan.specs.Counts.{bit, hits}
 use Rattle.gq_plan.proofs.Counts.{total_map, total_flat_map, total_same, hits_const_and, hits_and_const, hits_range, cond_and}
-use Rattle.gq_plan.proofs.Products.{same_list, same_assignment}
+use Rattle.std.specs.Cmp.Lexicographic.{pointwise}
+use Rattle.gq_plan.proofs.Products.{same_assignment}
 use Rattle.gq_law_plans.proofs.Counting.{cond_both, hits_nodes_of, hits_rels_of}
 use Rattle.gq_law_trails.specs.Real.{is_real}
 
 -- a list stands once among the lists of so many items where each of its items stands once, and else not at all
 pub list_hits : {X : Type 0} (same : X → X → Bool) (stands : X → Bool) (xs : List X) → ((x : X) → hits (same x) xs ≡ bit (stands x)) → (l : List X)
-    → hits (same_list same l) (tuples (length l) xs) ≡ bit (list_all stands l)
+    → hits (pointwise same l) (tuples (length l) xs) ≡ bit (list_all stands l)
 unfolding tuples
 list_hits same stands xs once [] = refl
 list_hits same stands xs once (x ∷ l) =
     let rest = tuples (length l) xs in
-    total_flat_map (λ k. bit (same_list same (x ∷ l) k)) (λ z. map (λ k. z ∷ k) rest) xs
+    total_flat_map (λ k. bit (pointwise same (x ∷ l) k)) (λ z. map (λ k. z ∷ k) rest) xs
     ∙ total_same _ _
-    (λ z. total_map (λ k. bit (same_list same (x ∷ l) k)) (λ k. z ∷ k) rest
-    ∙ hits_const_and (same x z) (same_list same l) rest
+    (λ z. total_map (λ k. bit (pointwise same (x ∷ l) k)) (λ k. z ∷ k) rest
+    ∙ hits_const_and (same x z) (pointwise same l) rest
     ∙ ap (λ n. cond (same x z) n 0) (list_hits same stands xs once l)
     ∙ cond_both (same x z) (list_all stands l)) xs
     ∙ hits_and_const (same x) (list_all stands l) xs
@@ -86,11 +87,11 @@ assignment_hits g n m t many_nodes many_rels =
     total_flat_map (λ s. bit (same_assignment t s)) (λ ns. map (λ rs. record { nodes = ns; rels = rs }) rss) nss
     ∙ total_same _ _
     (λ ns. total_map (λ s. bit (same_assignment t s)) (λ rs. record { nodes = ns; rels = rs }) rss
-    ∙ hits_const_and (same_list same_node t.nodes ns) (same_list same_rel t.rels) rss
-    ∙ ap (λ c. cond (same_list same_node t.nodes ns) c 0)
-    (ap (λ k. hits (same_list same_rel t.rels) (tuples k (all_rels g))) (sym many_rels) ∙ list_hits same_rel (is_rel g) (all_rels g) (rel_hits g) t.rels)
-    ∙ cond_both (same_list same_node t.nodes ns) (list_all (is_rel g) t.rels)) nss
-    ∙ hits_and_const (same_list same_node t.nodes) (list_all (is_rel g) t.rels) nss
+    ∙ hits_const_and (pointwise same_node t.nodes ns) (pointwise same_rel t.rels) rss
+    ∙ ap (λ c. cond (pointwise same_node t.nodes ns) c 0)
+    (ap (λ k. hits (pointwise same_rel t.rels) (tuples k (all_rels g))) (sym many_rels) ∙ list_hits same_rel (is_rel g) (all_rels g) (rel_hits g) t.rels)
+    ∙ cond_both (pointwise same_node t.nodes ns) (list_all (is_rel g) t.rels)) nss
+    ∙ hits_and_const (pointwise same_node t.nodes) (list_all (is_rel g) t.rels) nss
     ∙ ap (λ c. cond (list_all (is_rel g) t.rels) c 0)
-    (ap (λ k. hits (same_list same_node t.nodes) (tuples k (all_nodes g))) (sym many_nodes) ∙ list_hits same_node (is_node g) (all_nodes g) (node_hits g) t.nodes)
+    (ap (λ k. hits (pointwise same_node t.nodes) (tuples k (all_nodes g))) (sym many_nodes) ∙ list_hits same_node (is_node g) (all_nodes g) (node_hits g) t.nodes)
     ∙ cond_and (list_all (is_node g) t.nodes) (list_all (is_rel g) t.rels)

@@ -8,7 +8,8 @@ use Rattle.gq_plan.specs.Assignments.{Assignment, same_rel}
 use Rattle.gq_plan.specs.Meaning.{Partial, keep_if, look, with_node}
 use Rattle.gq_plan.specs.Counts.{bit, hits, total}
 use Rattle.gq_plan.proofs.Counts.{total_map, total_flat_map, total_none, total_same, hits_at, hits_and_const, hits_const_and, cond_and}
-use Rattle.gq_plan.proofs.Products.{same_list, same_list_is, same_rel_is}
+use Rattle.std.specs.Cmp.Lexicographic.{pointwise}
+use Rattle.gq_plan.proofs.Products.{same_list_is, same_rel_is}
 use Rattle.gq_law_plans.proofs.Counting.{extends, extends_with_node, node_look}
 use Rattle.gq_law_plans.proofs.Lookups.{bound}
 use Rattle.gq_law_plans.proofs.PlanCounts.{total_same_on}
@@ -101,7 +102,7 @@ module _ (g : Graph) (patterns : ℕ → List RelId) (t : Assignment) where
   -- ---- all trails
 
   abbrev same_lists : List (List RelId) → List (List RelId) → Bool
-  same_lists ls ms = same_list (same_list same_rel) ls ms
+  same_lists ls ms = pointwise (pointwise same_rel) ls ms
 
   walked : (ps : List TrailPart) (a : Partial) (ws : List (ℕ × List RelId)) (ls : List (List RelId)) (k : ℕ → Bool) → ((v : ℕ) → bound a.nodes v ≡ k v) → AreOrdered ps k
       → hits (is_trailed t ls) (after_trails g patterns ps a ws) ≡ bit (extends a t && trails_met g patterns ps t ws ls)
@@ -124,16 +125,16 @@ module _ (g : Graph) (patterns : ℕ → List RelId) (t : Assignment) where
       let rest : List RelId → Bool = λ z. trails_met g patterns ps t ((p.clause, z) ∷ ws) ls in
       let meets : List RelId → Bool = λ z. (extends a t && end_met g p t (end_of g p.way from z)) && rest z in
       total_flat_map (λ m. bit (is_trailed t (l ∷ ls) m)) (λ z. flat_map (λ b. map (with_list z) (after_trails g patterns ps b ((p.clause, z) ∷ ws))) (arrivals g p a (end_of g p.way from z))) (walks_from g patterns p a ws)
-      ∙ total_same _ (λ z. bit (same_list same_rel l z && meets z))
+      ∙ total_same _ (λ z. bit (pointwise same_rel l z && meets z))
       (λ z. total_flat_map (λ m. bit (is_trailed t (l ∷ ls) m)) (λ b. map (with_list z) (after_trails g patterns ps b ((p.clause, z) ∷ ws))) (arrivals g p a (end_of g p.way from z))
-      ∙ total_same _ (λ b. cond (same_list same_rel l z) (hits (is_trailed t ls) (after_trails g patterns ps b ((p.clause, z) ∷ ws))) 0)
+      ∙ total_same _ (λ b. cond (pointwise same_rel l z) (hits (is_trailed t ls) (after_trails g patterns ps b ((p.clause, z) ∷ ws))) 0)
       (λ b. total_map (λ m. bit (is_trailed t (l ∷ ls) m)) (with_list z) (after_trails g patterns ps b ((p.clause, z) ∷ ws))
-      ∙ total_same _ _ (λ m. ap bit (swap_in (extends m.row t) (same_list same_rel l z) (same_lists ls m.lists))) (after_trails g patterns ps b ((p.clause, z) ∷ ws))
-      ∙ hits_const_and (same_list same_rel l z) (is_trailed t ls) (after_trails g patterns ps b ((p.clause, z) ∷ ws)))
+      ∙ total_same _ _ (λ m. ap bit (swap_in (extends m.row t) (pointwise same_rel l z) (same_lists ls m.lists))) (after_trails g patterns ps b ((p.clause, z) ∷ ws))
+      ∙ hits_const_and (pointwise same_rel l z) (is_trailed t ls) (after_trails g patterns ps b ((p.clause, z) ∷ ws)))
       (arrivals g p a (end_of g p.way from z))
-      ∙ picked z (λ b h. walked ps b ((p.clause, z) ∷ ws) ls (knows_more p.both p.to k) h ordered.2) (same_list same_rel l z) (end_of g p.way from z))
+      ∙ picked z (λ b h. walked ps b ((p.clause, z) ∷ ws) ls (knows_more p.both p.to k) h ordered.2) (pointwise same_rel l z) (end_of g p.way from z))
       (walks_from g patterns p a ws)
-      ∙ hits_at (same_list same_rel l) meets l (same_list_is same_rel same_rel_is l) (walks_from g patterns p a ws)
+      ∙ hits_at (pointwise same_rel l) meets l (same_list_is same_rel same_rel_is l) (walks_from g patterns p a ws)
       ∙ ap (λ n. cond (meets l) n 0) (walks_once g p.kind p.way p.low p.high from used l)
       ∙ at_start (extends a t) refl (rest l)
     where

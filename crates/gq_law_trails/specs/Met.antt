@@ -7,7 +7,7 @@ use Rattle.gq_base.specs.declared.RelId.{RelId}
 use Rattle.gq_base.specs.declared.direction.Direction.{Direction}
 use Rattle.gq_base.specs.declared.direction.Direction.TheVariants.{Forward, Backward}
 use Rattle.gq_plan.specs.Counts.{hits, bit}
-use Rattle.gq_plan.proofs.Products.{same_list}
+use Rattle.std.specs.Cmp.Lexicographic.{pointwise}
 use Rattle.gq_plan.specs.Allowed.{at_same}
 use Rattle.gq_plan.specs.Assignments.{Assignment, is_rel, same_rel}
 use Rattle.gq_plan.specs.Meaning.{Partial}
@@ -54,7 +54,7 @@ AreOrdered (p ∷ ps) k = (k p.from ≡ true) × EndBound p.both (k p.to) × Are
 
 -- an assignment has what is bound, and these are its lists
 abbrev pub is_trailed : Assignment → List (List RelId) → Trailing → Bool
-is_trailed t ls m = extends m.row t && same_list (same_list same_rel) ls m.lists
+is_trailed t ls m = extends m.row t && pointwise (pointwise same_rel) ls m.lists
 
 -- how often an assignment stands with its lists among what is walked from something bound: once, where it has what is bound and
 -- its lists are as the trails ask, and else not at all

@@ -1,5 +1,6 @@
 -- Each tuple stands once in a product of lists whose items stand once, and items of a product are of the lists.
-use Rattle.std.proofs.Common.{◌≡◌, ℕ, zero, suc, ◌+◌, ◌<◌, Bool, true, false, ◌&&◌, cond, eqb, List, [], ◌∷◌, map, length, refl, sym, ap, ap₂, ◌∙◌, arith, true≢false}
+use Rattle.std.proofs.Common.{◌≡◌, ℕ, zero, suc, ◌+◌, ◌<◌, Bool, true, ◌&&◌, cond, eqb, List, [], ◌∷◌, map, length, refl, sym, ap, ap₂, ◌∙◌, arith, true≢false}
+use Rattle.std.specs.Cmp.Lexicographic.{pointwise}
 use Rattle.std.specs.List.{range_with_len, AllByRecursion}
 use Rattle.std.proofs.lemmas.Bool.{eqb-true, eq-eqb, and_parts, and_from}
 use Rattle.gq_base.specs.Plain.{Graph, rels_at, rows_at}
@@ -78,19 +79,13 @@ same_rel_is q r e =
     λ i. record { table = sym tables i; row = sym rows i }
 
 module _ {X : Type 0} (same : X → X → Bool) where
-  abbrev pub same_list : List X → List X → Bool
-  same_list [] [] = true
-  same_list [] (z ∷ zs) = false
-  same_list (x ∷ xs) [] = false
-  same_list (x ∷ xs) (z ∷ zs) = same x z && same_list xs zs
-
-  pub same_list_is : ((x z : X) → same x z ≡ true → z ≡ x) → (xs zs : List X) → same_list xs zs ≡ true → zs ≡ xs
+  pub same_list_is : ((x z : X) → same x z ≡ true → z ≡ x) → (xs zs : List X) → pointwise same xs zs ≡ true → zs ≡ xs
   same_list_is is [] [] e = refl
   same_list_is is [] (z ∷ zs) e = absurd (true≢false (sym e))
   same_list_is is (x ∷ xs) [] e = absurd (true≢false (sym e))
-  same_list_is is (x ∷ xs) (z ∷ zs) e = let parts = and_parts (same x z) (same_list xs zs) e in ap₂ ◌∷◌ (is x z parts.0) (same_list_is is xs zs parts.1)
+  same_list_is is (x ∷ xs) (z ∷ zs) e = let parts = and_parts (same x z) (pointwise same xs zs) e in ap₂ ◌∷◌ (is x z parts.0) (same_list_is is xs zs parts.1)
 
-  pub same_list_refl : ((x : X) → same x x ≡ true) → (xs : List X) → same_list xs xs ≡ true
+  pub same_list_refl : ((x : X) → same x x ≡ true) → (xs : List X) → pointwise same xs xs ≡ true
   same_list_refl is [] = refl
   same_list_refl is (x ∷ xs) = and_from _ _ (is x) (same_list_refl is xs)
 
@@ -102,12 +97,12 @@ same_rel_refl r = and_from (eqb r.table r.table) (eqb r.row r.row) (eq-eqb _ _ r
 
 -- two assignments are one
 abbrev pub same_assignment : Assignment → Assignment → Bool
-same_assignment s t = same_list same_node s.nodes t.nodes && same_list same_rel s.rels t.rels
+same_assignment s t = pointwise same_node s.nodes t.nodes && pointwise same_rel s.rels t.rels
 
 pub same_assignment_refl : (t : Assignment) → same_assignment t t ≡ true
 same_assignment_refl t = and_from _ _ (same_list_refl same_node same_node_refl t.nodes) (same_list_refl same_rel same_rel_refl t.rels)
 
 pub same_assignment_is : (s t : Assignment) → same_assignment s t ≡ true → t ≡ s
 same_assignment_is s t e =
-    let parts = and_parts (same_list same_node s.nodes t.nodes) (same_list same_rel s.rels t.rels) e in
+    let parts = and_parts (pointwise same_node s.nodes t.nodes) (pointwise same_rel s.rels t.rels) e in
     λ i. record { nodes = same_list_is same_node same_node_is s.nodes t.nodes parts.0 i; rels = same_list_is same_rel same_rel_is s.rels t.rels parts.1 i }
