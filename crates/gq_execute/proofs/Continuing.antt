@@ -20,7 +20,7 @@ use Rattle.gq_law_cores.specs.Walking.{IsCoreRow}
 use Rattle.gq_law_cuts.specs.Cuts.{core_size, cored_of}
 use Rattle.gq_law_cuts.specs.Shaped.{core_pattern_of}
 use Rattle.gq_law_cuts.specs.Typing.{core_typed, stays_in}
-use Rattle.gq_law_plans.proofs.Lookups.{bound}
+use Rattle.gq_law_plans.specs.Bindings.{bound}
 use Rattle.gq_law_plans.specs.Safe.{IsMade}
 use Rattle.gq_law_reaches.proofs.Filled.{numbers_bound}
 use Rattle.gq_law_reaches.specs.Core.{numbered, trail_parts}

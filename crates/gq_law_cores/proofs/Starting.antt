@@ -7,7 +7,7 @@ use Rattle.gq_base.specs.Plain.{Graph}
 use Rattle.gq_base.specs.declared.NodeId.{NodeId}
 use Rattle.gq_base.specs.declared.RelId.{RelId}
 use Rattle.gq_alternatives.specs.Alternatives.{Reading, typed_rels}
-use Rattle.gq_law_plans.proofs.Lookups.{bound}
+use Rattle.gq_law_plans.specs.Bindings.{bound}
 use Rattle.gq_law_reaches.specs.Core.{begin_of, core_nodes, numbered, part_of, parts_from, patterns_of, trail_parts}
 use Rattle.gq_law_reaches.specs.Cores.{AreReached}
 use Rattle.gq_law_reaches.specs.Reaches.{TrailPattern, rels_in}

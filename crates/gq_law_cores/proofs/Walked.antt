@@ -13,7 +13,8 @@ use Rattle.gq_expr.specs.declared.Fault.{Fault}
 use Rattle.gq_alternatives.specs.Matches.{pattern_matches}
 use Rattle.gq_alternatives.proofs.Searches.{flat_map_flat_map}
 use Rattle.gq_law_answers.proofs.Matched.{flat_map_same_on}
-use Rattle.gq_law_plans.proofs.Lookups.{bound, eqb_swap, read_at, read_length}
+use Rattle.gq_law_plans.specs.Bindings.{bound}
+use Rattle.gq_law_plans.proofs.Lookups.{eqb_swap, read_at, read_length}
 use Rattle.gq_law_plans.proofs.Reordered.{permuted_flat_map}
 use Rattle.gq_law_reaches.specs.Bags.{reach_of}
 use Rattle.gq_law_reaches.specs.Core.{begin_of, continued, core_nodes, core_pattern, numbered, patterns_of, trail_parts}

@@ -27,8 +27,9 @@ use Rattle.gq_plan.proofs.Counts.{total_map, total_filter, hits_and_const}
 use Rattle.gq_plan.proofs.Demands.{total_sum}
 use Rattle.gq_plan.proofs.Each.{each_of, each_map, each_flat_map, each_kept, each_then}
 use Rattle.gq_plan.proofs.Pieces.{holds_some}
-use Rattle.gq_law_plans.proofs.Counting.{extends, nodes_in, rels_in, known_by, is_rel_at, at_same_is, extends_with_rel, hits_rels_at, passes_in}
-use Rattle.gq_law_plans.proofs.Lookups.{bound, eqb_swap, look_some, look_bound, Found, found_bind}
+use Rattle.gq_law_plans.specs.Bindings.{extends, nodes_in, rels_in, is_rel_at, bound}
+use Rattle.gq_law_plans.proofs.Counting.{known_by, at_same_is, extends_with_rel, hits_rels_at, passes_in}
+use Rattle.gq_law_plans.proofs.Lookups.{eqb_swap, look_some, look_bound, Found, found_bind}
 use Rattle.gq_law_plans.proofs.Owning.{Owns, owns_nothing, owns_mean, owns_step}
 use Rattle.gq_law_plans.proofs.PlanCounts.{count_step}
 use Rattle.gq_plan.proofs.Products.{same_rel_is}

@@ -9,7 +9,8 @@ use Rattle.gq_plan.proofs.Counts.{total_map, total_flat_map, total_same, hits_co
 use Rattle.gq_plan.proofs.Each.{each_of, each_map, each_flat_map}
 use Rattle.gq_law_plans.proofs.Counting.{cond_both}
 use Rattle.gq_law_plans.proofs.Filled.{among}
-use Rattle.gq_law_plans.proofs.Lookups.{bound, Found, found_bind}
+use Rattle.gq_law_plans.specs.Bindings.{bound}
+use Rattle.gq_law_plans.proofs.Lookups.{Found, found_bind}
 
 -- ---- numbers that pass a test
 

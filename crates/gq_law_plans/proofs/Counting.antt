@@ -1,7 +1,7 @@
 -- Nodes and relationships of tables, counted against an assignment; which demands it meets, and which partial assignments it extends.
-use Rattle.std.proofs.Common.{◌≡◌, ℕ, Bool, true, false, ◌&&◌, cond, nat_eq, nat_lt, Option, Some, None, List, length, slice_get, refl, sym, ap, ap₂, ◌∙◌, arith, zero-add, true≢false}
+use Rattle.std.proofs.Common.{◌≡◌, ℕ, Bool, true, false, ◌&&◌, cond, nat_eq, nat_lt, Option, Some, None, length, slice_get, refl, sym, ap, ap₂, ◌∙◌, arith, zero-add, true≢false}
 use Rattle.gq_base.proofs.BoolLaws.{and_pairs}
-use Rattle.std.specs.List.{range_with_len, list_all}
+use Rattle.std.specs.List.{range_with_len}
 use Rattle.std.proofs.Math.Bool.{and_assoc}
 use Rattle.std.proofs.lemmas.Bool.{eqb-true, and_parts}
 use Rattle.std.proofs.lemmas.List.Folds.{list_all-append}
@@ -21,7 +21,8 @@ use Rattle.gq_plan.specs.declared.typed.TypedRel.{TypedRel}
 use Rattle.gq_plan.specs.Counts.{bit, hits}
 use Rattle.gq_plan.proofs.Counts.{total_map, total_none, hits_at, hits_range, cond_and}
 use Rattle.gq_plan.proofs.Products.{same_node_is, same_rel_is}
-use Rattle.gq_law_plans.proofs.Lookups.{bound, bound_append, look_is}
+use Rattle.gq_law_plans.specs.Bindings.{extends, is_rel_at, nodes_in, rels_in, bound}
+use Rattle.gq_law_plans.proofs.Lookups.{bound_append, look_is}
 
 pub and_swap : (a b c : Bool) → (a && (b && c)) ≡ (b && (a && c))
 and_swap true true c = refl
@@ -38,10 +39,6 @@ cond_both false h = refl
 abbrev pub is_in : Graph → ℕ → Option NodeId → Bool
 is_in g table None = false
 is_in g table (Some n) = nat_eq n.table table && is_node g n
-
-abbrev pub is_rel_at : Option RelId → RelId → Bool
-is_rel_at None r = false
-is_rel_at (Some q) r = same_rel q r
 
 -- the relationship that stands for a variable is one of a table, and passes a test
 abbrev pub passes_in : Graph → ℕ → (RelId → Bool) → Option RelId → Bool
@@ -95,16 +92,6 @@ met g y t (Differs p) = holds (differs (row_of t)) (slice_get y.pairs p)
 met g y t (IsNoLoop x) = holds (no_loop (row_of t)) (slice_get y.rels x)
 
 -- ---- partial assignments
-
--- an assignment has what is bound
-abbrev pub nodes_in : Assignment → List (ℕ × NodeId) → Bool
-nodes_in t bs = list_all (λ b. at_same (slice_get t.nodes b.0) (Some b.1)) bs
-
-abbrev pub rels_in : Assignment → List (ℕ × RelId) → Bool
-rels_in t bs = list_all (λ b. is_rel_at (slice_get t.rels b.0) b.1) bs
-
-abbrev pub extends : Partial → Assignment → Bool
-extends a t = nodes_in t a.nodes && rels_in t a.rels
 
 -- what is bound
 abbrev pub known_by : Partial → Known

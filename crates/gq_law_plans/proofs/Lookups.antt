@@ -3,6 +3,7 @@ use Rattle.std.proofs.Common.{◌≡◌, ℕ, zero, suc, ◌+◌, ◌<◌, ◌�
 use Rattle.std.specs.List.{range_with_len, AllByRecursion, list_all}
 use Rattle.std.proofs.lemmas.Bool.{eqb-true, eq-eqb, ne_eqb, cases_eq, and_parts, or_parts}
 use Rattle.gq_plan.specs.Meaning.{look, found}
+use Rattle.gq_law_plans.specs.Bindings.{bound}
 
 pub eqb_swap : (a b : ℕ) → nat_eq a b ≡ nat_eq b a
 eqb_swap a b = go (cases_eq a b)
@@ -25,10 +26,6 @@ lists_same (x ∷ xs) (y ∷ ys) e h =
 -- ---- bindings
 
 module _ {X : Type 0} where
-  abbrev pub bound : List (ℕ × X) → ℕ → Bool
-  bound [] v = false
-  bound (b ∷ bs) v = nat_eq v b.0 || bound bs v
-
   pub bound_append : (bs cs : List (ℕ × X)) (v : ℕ) → bound (bs ++ cs) v ≡ (bound bs v || bound cs v)
   bound_append [] cs v = refl
   bound_append (b ∷ bs) cs v = ap (λ c. nat_eq v b.0 || c) (bound_append bs cs v) ∙ go (nat_eq v b.0)

@@ -18,7 +18,8 @@ use Rattle.gq_plan.specs.declared.typed.Typed.{Typed}
 use Rattle.gq_plan.proofs.Each.{each_of, each_map, each_flat_map, each_kept}
 use Rattle.gq_law_plans.proofs.Counting.{known_by, known_by_all, at_same_is}
 use Rattle.gq_plan.proofs.Pieces.{holds_some}
-use Rattle.gq_law_plans.proofs.Lookups.{bound, bound_append, Found, found_bind, found_join}
+use Rattle.gq_law_plans.specs.Bindings.{bound}
+use Rattle.gq_law_plans.proofs.Lookups.{bound_append, Found, found_bind, found_join}
 use Rattle.gq_plan.proofs.Permuted.{range_all, all_numbers}
 
 pub agree_look : (ks : List ℕ) (a b : Partial) → agree ks a b ≡ true → (v : ℕ) → has_number ks v ≡ true → look a.nodes v ≡ look b.nodes v

@@ -18,8 +18,9 @@ use Rattle.gq_plan.specs.declared.demand.Demand.TheVariants.{InTable, Joins, Pas
 use Rattle.gq_plan.specs.declared.typed.Typed.{Typed}
 use Rattle.gq_plan.specs.Counts.{bit, hits, total}
 use Rattle.gq_plan.proofs.Counts.{total_map, total_flat_map, total_filter, hits_and_const}
-use Rattle.gq_law_plans.proofs.Counting.{cond_both, met, extends, known_by, extends_with_all, node_look}
-use Rattle.gq_law_plans.proofs.Lookups.{bound, look_some}
+use Rattle.gq_law_plans.specs.Bindings.{extends, bound}
+use Rattle.gq_law_plans.proofs.Counting.{cond_both, met, known_by, extends_with_all, node_look}
+use Rattle.gq_law_plans.proofs.Lookups.{look_some}
 use Rattle.gq_law_plans.proofs.Owning.{Owns, owns_nothing, owns_mean, owns_step}
 use Rattle.gq_law_plans.proofs.StepCounts.{scanned, extended, closed, tested, different, unlooped}
 

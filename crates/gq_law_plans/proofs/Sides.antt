@@ -30,12 +30,13 @@ use Rattle.gq_plan.proofs.Permuted.{all_permuted, all_kept, all_and, any_none}
 use Rattle.gq_plan.proofs.Values.{values_agree}
 use Rattle.gq_law_plans.specs.Sides.{SidesCountParts}
 use Rattle.gq_law_plans.proofs.Choices.{bindings_made, bindings_hits, pass_in, pass_once, pass_below}
-use Rattle.gq_law_plans.proofs.Counting.{cond_both, hits_nodes_of, hits_rels_of, joins, met, extends, nodes_in, rels_in, is_rel_at, known_by, node_look, rel_look}
+use Rattle.gq_law_plans.specs.Bindings.{extends, nodes_in, rels_in, is_rel_at, bound}
+use Rattle.gq_law_plans.proofs.Counting.{cond_both, hits_nodes_of, hits_rels_of, joins, met, known_by, node_look, rel_look}
 use Rattle.gq_law_plans.proofs.Covering.{placed_same}
 use Rattle.gq_law_plans.proofs.Demanded.{all_demand, range_get}
 use Rattle.gq_law_plans.proofs.Filled.{among, Binds, counted}
 use Rattle.gq_plan.proofs.Pieces.{given_pieces, greedy_pieces, some_at, holds_some}
-use Rattle.gq_law_plans.proofs.Lookups.{bound, Found}
+use Rattle.gq_law_plans.proofs.Lookups.{Found}
 use Rattle.gq_law_plans.proofs.Owning.{Owns, owns_nothing, owns_mean}
 use Rattle.gq_law_plans.proofs.PlanCounts.{count_mean, total_same_on}
 

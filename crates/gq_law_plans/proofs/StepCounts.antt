@@ -25,10 +25,10 @@ use Rattle.gq_plan.specs.declared.typed.Typed.{Typed}
 use Rattle.gq_plan.specs.declared.typed.TypedRel.{TypedRel}
 use Rattle.gq_plan.specs.Counts.{bit, hits, total}
 use Rattle.gq_plan.proofs.Counts.{total_map, total_flat_map, total_filter, total_same, hits_and_const}
-use Rattle.gq_law_plans.proofs.Counting.{is_in, is_rel_at, passes_in, joins, met, extends, known_by, hits_nodes_of, hits_rels_at, extends_with_node, extends_with_rel, at_same_is, node_look, rel_look}
+use Rattle.gq_law_plans.specs.Bindings.{is_rel_at, extends, bound}
+use Rattle.gq_law_plans.proofs.Counting.{is_in, passes_in, joins, met, known_by, hits_nodes_of, hits_rels_at, extends_with_node, extends_with_rel, at_same_is, node_look, rel_look}
 use Rattle.gq_law_plans.proofs.Ends.{HasEnds, ends_of}
 use Rattle.gq_plan.proofs.Pieces.{some_at, holds_some}
-use Rattle.gq_law_plans.proofs.Lookups.{bound}
 use Rattle.gq_plan.proofs.Values.{values_agree}
 
 -- ---- truth tables

@@ -18,11 +18,12 @@ use Rattle.gq_plan.specs.Counts.{bit, hits}
 use Rattle.gq_plan.proofs.Counts.{total_map, total_filter, total_same, hits_at, cond_and}
 use Rattle.gq_plan.proofs.Each.{each_then, each_map, each_kept}
 use Rattle.gq_plan.proofs.Products.{IsSized, each_sized, same_assignment, same_assignment_refl, same_assignment_is}
-use Rattle.gq_law_plans.proofs.Counting.{met, extends, nodes_in, rels_in, is_rel_at, known_by, node_look, rel_look}
+use Rattle.gq_law_plans.specs.Bindings.{extends, nodes_in, rels_in, is_rel_at, bound}
+use Rattle.gq_law_plans.proofs.Counting.{met, known_by, node_look, rel_look}
 use Rattle.gq_plan.proofs.Binding.{covers_nodes, covers_rels}
 use Rattle.gq_law_plans.proofs.Covering.{placed_same}
 use Rattle.gq_law_plans.proofs.Demanded.{demanded}
-use Rattle.gq_law_plans.proofs.Lookups.{bound, Found, lists_same, read, read_length, read_at}
+use Rattle.gq_law_plans.proofs.Lookups.{Found, lists_same, read, read_length, read_at}
 use Rattle.gq_law_plans.proofs.Numbering.{is_real, assignment_hits}
 use Rattle.gq_law_plans.proofs.Owning.{Owns, owns_nothing, owns_mean}
 use Rattle.gq_plan.proofs.Permuted.{all_permuted}

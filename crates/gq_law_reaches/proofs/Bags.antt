@@ -17,7 +17,8 @@ use Rattle.gq_plan.proofs.Counts.{total_map}
 use Rattle.gq_plan.proofs.Each.{each_flat_map, each_kept, each_map, each_then}
 use Rattle.std.specs.Cmp.Lexicographic.{pointwise}
 use Rattle.gq_plan.proofs.Products.{IsSized, each_sized}
-use Rattle.gq_law_plans.proofs.Lookups.{Found, bound}
+use Rattle.gq_law_plans.specs.Bindings.{bound}
+use Rattle.gq_law_plans.proofs.Lookups.{Found}
 use Rattle.gq_law_plans.proofs.PlanCounts.{total_same_on}
 use Rattle.gq_law_plans.proofs.Wholes.{bool_iff}
 use Rattle.gq_law_trails.specs.Met.{is_trailed, turned}

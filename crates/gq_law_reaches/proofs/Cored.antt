@@ -11,8 +11,7 @@ use Rattle.gq_plan.proofs.Each.{each_kept, each_map, each_then}
 use Rattle.gq_plan.proofs.Permuted.{range_any}
 use Rattle.std.specs.Cmp.Lexicographic.{pointwise}
 use Rattle.gq_plan.proofs.Products.{IsSized, each_sized, same_assignment, same_assignment_is}
-use Rattle.gq_law_plans.proofs.Counting.{extends, is_rel_at}
-use Rattle.gq_law_plans.proofs.Lookups.{bound}
+use Rattle.gq_law_plans.specs.Bindings.{extends, is_rel_at, bound}
 use Rattle.gq_law_trails.proofs.Numbering.{assignment_hits}
 use Rattle.gq_law_trails.specs.Real.{is_real}
 use Rattle.gq_law_plans.proofs.PlanCounts.{total_same_on}

@@ -12,7 +12,8 @@ use Rattle.gq_plan.specs.Soundness.{has_number}
 use Rattle.gq_plan.specs.declared.NamedExpr.{NamedExpr}
 use Rattle.gq_plan.proofs.Each.{each_flat_map, each_map, each_of}
 use Rattle.gq_plan.proofs.Permuted.{range_any}
-use Rattle.gq_law_plans.proofs.Lookups.{Found, bound, eqb_swap, found_bind}
+use Rattle.gq_law_plans.specs.Bindings.{bound}
+use Rattle.gq_law_plans.proofs.Lookups.{Found, eqb_swap, found_bind}
 use Rattle.gq_law_trails.specs.Met.{knows_more}
 use Rattle.gq_law_trails.specs.Trails.{Trailing, after_trails, arrivals, arrive_at, fits_end, walks_from, with_list}
 use Rattle.gq_law_trails.specs.Walks.{end_of}

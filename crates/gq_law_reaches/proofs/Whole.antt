@@ -7,8 +7,9 @@ use Rattle.gq_plan.specs.Assignments.{Assignment, same_node, same_rel}
 use Rattle.gq_plan.specs.Meaning.{Partial, found, look}
 use Rattle.std.specs.Cmp.Lexicographic.{pointwise}
 use Rattle.gq_plan.proofs.Products.{same_assignment, same_list_is, same_list_refl, same_node_is, same_rel_is}
-use Rattle.gq_law_plans.proofs.Counting.{at_same_is, extends, is_rel_at, is_rel_at_is}
-use Rattle.gq_law_plans.proofs.Lookups.{Found, bound, lists_same, look_is, read_at, read_length}
+use Rattle.gq_law_plans.specs.Bindings.{extends, is_rel_at, bound}
+use Rattle.gq_law_plans.proofs.Counting.{at_same_is, is_rel_at_is}
+use Rattle.gq_law_plans.proofs.Lookups.{Found, lists_same, look_is, read_at, read_length}
 use Rattle.gq_law_plans.proofs.Wholes.{bool_iff, node_self, rel_self}
 use Rattle.gq_law_reaches.specs.Bags.{assigned}
 

@@ -10,8 +10,8 @@ use Rattle.gq_plan.specs.Counts.{bit, hits, total}
 use Rattle.gq_plan.proofs.Counts.{total_map, total_flat_map, total_none, total_same, hits_at, hits_and_const, hits_const_and, cond_and}
 use Rattle.std.specs.Cmp.Lexicographic.{pointwise}
 use Rattle.gq_plan.proofs.Products.{same_list_is, same_rel_is}
-use Rattle.gq_law_plans.proofs.Counting.{extends, extends_with_node, node_look}
-use Rattle.gq_law_plans.proofs.Lookups.{bound}
+use Rattle.gq_law_plans.specs.Bindings.{extends, bound}
+use Rattle.gq_law_plans.proofs.Counting.{extends_with_node, node_look}
 use Rattle.gq_law_plans.proofs.PlanCounts.{total_same_on}
 use Rattle.gq_law_trails.specs.Trails.{after_trails, arrivals, arrive_at, fits_end, used_in, walks_from, with_list}
 use Rattle.gq_law_trails.specs.Walks.{end_of, is_walk}

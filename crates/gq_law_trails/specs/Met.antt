@@ -11,8 +11,7 @@ use Rattle.std.specs.Cmp.Lexicographic.{pointwise}
 use Rattle.gq_plan.specs.Allowed.{at_same}
 use Rattle.gq_plan.specs.Assignments.{Assignment, is_rel, same_rel}
 use Rattle.gq_plan.specs.Meaning.{Partial}
-use Rattle.gq_law_plans.proofs.Counting.{extends}
-use Rattle.gq_law_plans.proofs.Lookups.{bound}
+use Rattle.gq_law_plans.specs.Bindings.{extends, bound}
 use Rattle.gq_law_trails.specs.Trails.{Trailing, after_trails, fits_end, used_in}
 use Rattle.gq_law_trails.specs.Walks.{are_free, chained, end_of, is_of_type, is_walk}
 use Rattle.gq_plan.specs.declared.TrailPart.{TrailPart}

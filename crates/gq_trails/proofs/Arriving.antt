@@ -13,7 +13,7 @@ use Rattle.gq_hops.proofs.Reaching.{spreads_as_led}
 use Rattle.gq_hops.specs.Levels.{ends_met}
 use Rattle.gq_hops.specs.Reaching.{Reaching}
 use Rattle.gq_law_ends.proofs.Reaching.{node_is, node_itself}
-use Rattle.gq_law_plans.proofs.Lookups.{bound}
+use Rattle.gq_law_plans.specs.Bindings.{bound}
 use Rattle.gq_plan.specs.Allowed.{at_same}
 use Rattle.gq_plan.specs.Assignments.{is_node, same_node}
 use Rattle.gq_plan.specs.Meaning.{Partial, keep_if, look, with_node}

@@ -10,7 +10,8 @@ use Rattle.gq_plan.specs.Assignments.{is_node}
 use Rattle.gq_plan.specs.declared.TrailPart.{TrailPart}
 use Rattle.gq_plan.specs.Meaning.{Partial, keep_if, look}
 use Rattle.gq_wide.specs.Rows.{Wide, item_at}
-use Rattle.gq_law_plans.proofs.Lookups.{bound, look_some}
+use Rattle.gq_law_plans.specs.Bindings.{bound}
+use Rattle.gq_law_plans.proofs.Lookups.{look_some}
 use Rattle.gq_trails.specs.Trekking.{AreInTurn}
 use Rattle.gq_hops.specs.Walking.{Walking}
 use Rattle.gq_trails.specs.steps.Ends.{may_end, settled}

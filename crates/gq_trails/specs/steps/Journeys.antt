@@ -5,7 +5,7 @@ use Rattle.gq_base.specs.Plain.{Graph}
 use Rattle.gq_base.specs.declared.NodeId.{NodeId}
 use Rattle.gq_base.specs.declared.RelId.{RelId}
 use Rattle.gq_base.specs.declared.direction.Direction.TheVariants.{Forward}
-use Rattle.gq_law_plans.proofs.Lookups.{bound}
+use Rattle.gq_law_plans.specs.Bindings.{bound}
 use Rattle.gq_law_trails.specs.Trails.{Trailing, walks_from}
 use Rattle.gq_law_trails.specs.Walks.{end_of}
 use Rattle.gq_plan.specs.declared.TrailPart.{TrailPart}
