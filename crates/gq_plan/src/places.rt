@@ -5,10 +5,9 @@ ghost use Rattle.gq_plan.specs.Arranged.{at_after, at_step, close_group};
 ghost use Rattle.gq_plan.specs.Columns.{FitsSound, binds};
 ghost use Rattle.gq_plan.specs.Plans.{plan_of, step_of};
 ghost use Rattle.gq_plan.specs.Shapes as shapes;
-ghost use Rattle.gq_plan.specs.Shapes.{put, put_all};
+ghost use Rattle.gq_plan.specs.Shapes.{groups_of, places_of, put, put_all};
 ghost use Rattle.gq_plan.specs.Soundness.{has_number, max_variables};
-ghost use Rattle.gq_plan.specs.steps.Places.{IsNamed, binds_rel, groups_of, places_of};
-ghost use Rattle.gq_plan.specs.steps.Places.{step_binds_rel};
+ghost use Rattle.gq_plan.specs.steps.Places.{IsNamed, binds_rel, step_binds_rel};
 
 use crate::filling::{binds, has_number};
 use crate::known::MAX_VARIABLES;

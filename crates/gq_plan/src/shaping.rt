@@ -5,10 +5,9 @@ ghost use Rattle.std.specs.Prelude.{filter, flat_map, length, map, nat_lt, slice
 ghost use Rattle.gq_plan.specs.Columns.{FitsSound};
 ghost use Rattle.gq_plan.specs.Plans.{plan_of, step_of};
 ghost use Rattle.gq_plan.specs.Shapes as plan_groups;
-ghost use Rattle.gq_plan.specs.Shapes.{all_flat, flat_by, shape_with};
+ghost use Rattle.gq_plan.specs.Shapes.{all_flat, flat_by, places_of, shape_with};
 ghost use Rattle.gq_plan.specs.Soundness as soundness;
 ghost use Rattle.gq_plan.specs.steps.Groups.{read_groups, tester_groups};
-ghost use Rattle.gq_plan.specs.steps.Places.{places_of};
 
 use crate::places::{Places, place_variables};
 use crate::plan::{Plan, Step};

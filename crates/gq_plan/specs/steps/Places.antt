@@ -1,17 +1,8 @@
--- In which group each variable stands, as the program keeps it, and the plans whose variables have room there.
-use Rattle.std.specs.Prelude.{ℕ, nat_eq, ◌<◌, ◌≡◌, Bool, true, false, slice_index_or, if◌then◌else◌}
+-- Which relationship variables a plan binds, and the plans whose variables have room among the groups that the program keeps.
+use Rattle.std.specs.Prelude.{ℕ, nat_eq, ◌<◌, ◌≡◌, Bool, true, false, if◌then◌else◌}
 use Rattle.gq_plan.specs.Columns.{binds}
 use Rattle.gq_plan.specs.Plans.{Plan, Done, Then, Step, Scan, Extend, Close, Join, Keep, Differ, NoLoop}
-use Rattle.gq_plan.specs.Shapes.{Places}
 use Rattle.gq_plan.specs.Soundness.{max_variables}
-use Rattle.gq_plan.specs.declared.places.Places as code
-use Rattle.gq_plan.specs.declared.places.VariableGroups.{VariableGroups}
-
-abbrev pub groups_of : VariableGroups → ℕ → ℕ
-groups_of w v = slice_index_or w.groups v 0
-
-abbrev pub places_of : code.Places → Places
-places_of p = record { count = p.count; nodes = groups_of p.nodes; rels = groups_of p.rels }
 
 unfoldable mutual
   -- a plan, or a step, binds a relationship variable

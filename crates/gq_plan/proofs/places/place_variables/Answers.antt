@@ -8,10 +8,10 @@ use Rattle.gq_plan.proofs.StepEquations.{plan_is}
 use Rattle.gq_plan.specs.Covers.{fits}
 use Rattle.gq_plan.specs.Known.{none}
 use Rattle.gq_plan.specs.Plans.{steps, step_of}
-use Rattle.gq_plan.specs.Shapes.{Places, nowhere}
+use Rattle.gq_plan.specs.Shapes.{Places, nowhere, places_of}
 use Rattle.gq_plan.specs.Arranged.{at_step, at_after}
 use Rattle.gq_plan.specs.declared.plan.Step as code
-use Rattle.gq_plan.specs.steps.Places.{IsNamed, places_of}
+use Rattle.gq_plan.specs.steps.Places.{IsNamed}
 use Rattle.gq_plan.proofs.places.place_variables.Goals as goal
 
 -- the groups after steps, by the first of them

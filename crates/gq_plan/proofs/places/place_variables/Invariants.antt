@@ -1,8 +1,7 @@
 use Rattle.std.proofs.Common.{◌≡◌, ◌≤◌, drop, map}
 use Rattle.gq_plan.specs.Plans.{steps, step_of}
 use Rattle.gq_plan.specs.Arranged.{at_after}
-use Rattle.gq_plan.specs.Shapes.{nowhere}
-use Rattle.gq_plan.specs.steps.Places.{places_of}
+use Rattle.gq_plan.specs.Shapes.{nowhere, places_of}
 use Rattle.gq_plan.proofs.places.place_variables.Given as goal
 
 abbrev pub invariant-loop-step : goal.invariant-loop-step

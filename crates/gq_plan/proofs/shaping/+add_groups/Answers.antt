@@ -1,7 +1,7 @@
 use Rattle.std.proofs.Common.{◌∙◌, ◌++◌, ap, append-nil, sym}
 use Rattle.gq_plan.proofs.GroupReads.{groups_Literal}
 use Rattle.gq_plan.specs.steps.Groups.{read_groups}
-use Rattle.gq_plan.specs.steps.Places.{places_of}
+use Rattle.gq_plan.specs.Shapes.{places_of}
 use Rattle.gq_plan.proofs.shaping.+add_groups.Goals as goal
 
 pub add_groups-returns-in-Literal : goal.add_groups-returns-in-Literal

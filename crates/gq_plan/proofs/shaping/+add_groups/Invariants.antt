@@ -1,6 +1,6 @@
 use Rattle.std.proofs.Common.{◌≡◌, ◌++◌, drop, flat_map}
 use Rattle.gq_plan.specs.steps.Groups.{read_groups, tester_groups}
-use Rattle.gq_plan.specs.steps.Places.{places_of}
+use Rattle.gq_plan.specs.Shapes.{places_of}
 use Rattle.gq_plan.proofs.shaping.+add_groups.Given as goal
 
 abbrev pub invariant-add_each-loop-part : goal.invariant-add_each-loop-part

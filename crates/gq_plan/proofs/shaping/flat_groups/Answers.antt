@@ -3,10 +3,9 @@ use Rattle.std.proofs.lemmas.List.{drop_all}
 use Rattle.gq_plan.proofs.FirstSteps.{first_of_rest}
 use Rattle.gq_plan.proofs.StepEquations.{plan_is}
 use Rattle.gq_plan.specs.Plans.{steps, step_of}
-use Rattle.gq_plan.specs.Shapes.{Places, all_flat, flat_by}
+use Rattle.gq_plan.specs.Shapes.{Places, all_flat, flat_by, places_of}
 use Rattle.gq_plan.specs.declared.plan.Step as code
 use Rattle.gq_plan.specs.declared.typed.Typed.{Typed}
-use Rattle.gq_plan.specs.steps.Places.{places_of}
 use Rattle.gq_plan.proofs.shaping.flat_groups.Goals as goal
 
 -- the flat groups because of steps, by the first of them

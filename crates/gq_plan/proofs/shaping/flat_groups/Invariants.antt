@@ -1,7 +1,6 @@
 use Rattle.std.proofs.Common.{◌≡◌, ◌++◌, drop, map}
 use Rattle.gq_plan.specs.Plans.{steps, step_of}
-use Rattle.gq_plan.specs.Shapes.{all_flat}
-use Rattle.gq_plan.specs.steps.Places.{places_of}
+use Rattle.gq_plan.specs.Shapes.{all_flat, places_of}
 use Rattle.gq_plan.proofs.shaping.flat_groups.Given as goal
 
 abbrev pub invariant-loop-step : goal.invariant-loop-step

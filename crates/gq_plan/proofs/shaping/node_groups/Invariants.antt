@@ -1,5 +1,5 @@
 use Rattle.std.proofs.Common.{◌≡◌, map, take}
-use Rattle.gq_plan.specs.steps.Places.{places_of}
+use Rattle.gq_plan.specs.Shapes.{places_of}
 use Rattle.gq_plan.proofs.shaping.node_groups.Given as goal
 
 abbrev pub invariant-loop-node : goal.invariant-loop-node

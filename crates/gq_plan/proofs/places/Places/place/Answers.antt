@@ -7,8 +7,8 @@ use Rattle.gq_plan.specs.Known.{none}
 use Rattle.gq_plan.specs.Soundness.{has_number}
 use Rattle.gq_plan.specs.Plans.{Join, plan_of, step_of}
 use Rattle.gq_plan.specs.Shapes as shapes
-use Rattle.gq_plan.specs.Shapes.{put_all}
-use Rattle.gq_plan.specs.steps.Places.{HasRoom, IsNamed, groups_of, places_of}
+use Rattle.gq_plan.specs.Shapes.{groups_of, places_of, put_all}
+use Rattle.gq_plan.specs.steps.Places.{HasRoom, IsNamed}
 use Rattle.gq_plan.proofs.places.Places.place.Goals as goal
 
 pub put-requires : goal.put-requires

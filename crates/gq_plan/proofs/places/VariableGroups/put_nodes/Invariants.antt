@@ -2,7 +2,7 @@ use Rattle.std.proofs.Common.{◌≡◌, ◌<◌, ◌≤◌, ◌&&◌, not, cond
 use Rattle.gq_plan.specs.Columns.{binds}
 use Rattle.gq_plan.specs.Plans.{plan_of}
 use Rattle.gq_plan.specs.Soundness.{has_number}
-use Rattle.gq_plan.specs.steps.Places.{groups_of}
+use Rattle.gq_plan.specs.Shapes.{groups_of}
 use Rattle.gq_plan.proofs.places.VariableGroups.put_nodes.Given as goal
 
 abbrev pub invariant-loop-at : goal.invariant-loop-at

@@ -1,6 +1,7 @@
 use Rattle.std.proofs.Common.{◌≡◌, ◌<◌, ◌≤◌, cond, ℕ}
 use Rattle.gq_plan.specs.Plans.{plan_of}
-use Rattle.gq_plan.specs.steps.Places.{binds_rel, groups_of}
+use Rattle.gq_plan.specs.Shapes.{groups_of}
+use Rattle.gq_plan.specs.steps.Places.{binds_rel}
 use Rattle.gq_plan.proofs.places.VariableGroups.put_rels.Given as goal
 
 abbrev pub invariant-loop-at : goal.invariant-loop-at
