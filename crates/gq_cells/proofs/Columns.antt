@@ -13,9 +13,8 @@ use Rattle.gq_base.specs.declared.cell.Cell.{Cell}
 use Rattle.gq_base.specs.declared.cell.Cell.TheVariants as cell
 use Rattle.gq_base.specs.declared.cell.PlainRel.{PlainRel}
 use Rattle.gq_store.specs.Cells.{cell_in, node_cell, node_fields, node_fields_of, rel_fields, rel_fields_of}
-use Rattle.gq_store.specs.Columns.{AreCells, IsCellOf, IsDictOf, column_of, flag_code, node_cells}
+use Rattle.gq_store.specs.Columns.{AreCells, IsCellOf, IsDictOf, IsKept, cell_of, cells_of, column_of, flag_code, flag_of, node_cells}
 use Rattle.gq_store.specs.RelColumns.{cell_numbered, numbers_by_place, rel_cells}
-use Rattle.gq_store.specs.steps.Columns.{IsKept, cell_of, cells_of, flag_of}
 use Rattle.gq_store.proofs.Keeping.{kinds, numbered_kinds, rels_fit}
 use Rattle.gq_store.proofs.Placing.{length-rel_cells, numbers_within, rel_column_at}
 use Rattle.gq_store.proofs.Validity.{node_table, rel_table}

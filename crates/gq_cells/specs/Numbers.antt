@@ -4,7 +4,7 @@ use Rattle.gq_base.specs.Plain.{Graph, cell_val}
 use Rattle.gq_base.specs.Values.{Val, null, node, rel, val}
 use Rattle.gq_base.specs.declared.catalog.Kind.{Kind}
 use Rattle.gq_store.specs.Places.{number_at}
-use Rattle.gq_store.specs.steps.Columns.{IsKept, cell_of}
+use Rattle.gq_store.specs.Columns.{IsKept, cell_of}
 use Rattle.gq_cells.specs.declared.source.Source.{Source}
 use Rattle.gq_cells.specs.declared.source.Source.TheVariants as source
 

@@ -3,7 +3,7 @@ ghost use Rattle.std.specs.Prelude.{◌≡◌, ◌<◌, None, Some, length, slic
 ghost use Rattle.gq_base.specs.Plain.{cell_val};
 ghost use Rattle.gq_base.specs.Values.{val};
 ghost use Rattle.gq_cells.specs.Numbers.{IsNumber, source_val};
-ghost use Rattle.gq_store.specs.steps.Columns.{IsKept, cell_of};
+ghost use Rattle.gq_store.specs.Columns.{IsKept, cell_of};
 
 use gq_base::{Kind, NodeId, RelId, Value};
 use gq_column::Column;

@@ -14,8 +14,7 @@ use Rattle.gq_base.specs.declared.cell.Cell.{Cell}
 use Rattle.gq_base.specs.declared.cell.Cell.TheVariants as cell
 use Rattle.gq_dict.specs.Texts.{AreCodes, IsAscending, text_at}
 use Rattle.gq_dict.proofs.OneDict.{one_dict}
-use Rattle.gq_store.specs.Columns.{AreCells, IsCellOf, IsCode, IsDictOf, flag_code, texts_in}
-use Rattle.gq_store.specs.steps.Columns.{IsKept, cell_of, cells_of, flag_of, natural}
+use Rattle.gq_store.specs.Columns.{AreCells, IsCellOf, IsCode, IsDictOf, IsKept, cell_of, cells_of, flag_code, flag_of, natural, texts_in}
 
 -- ---- one cell
 

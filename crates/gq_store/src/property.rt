@@ -32,7 +32,7 @@ impl Model for Property {
 
     ghost Value = { List (Option Cell) };
 
-    ghost use Rattle.gq_store.specs.steps.Columns.{IsKept, cells_of};
+    ghost use Rattle.gq_store.specs.Columns.{IsKept, cells_of};
 
     ghost view = { λ p. cells_of p.kind p.dict p.column };
 
