@@ -19,7 +19,8 @@ use Rattle.gq_plan.specs.Allowed.{at_same}
 use Rattle.gq_plan.specs.Assignments.{all_rels, is_node, rels_of}
 use Rattle.gq_plan.specs.Meaning.{far, holds, near}
 use Rattle.gq_store.specs.Neighbours.{near_rows, neighbours, numbers, opposite, end_rows}
-use Rattle.gq_hops.specs.steps.Hops.{IsLevelIn, IsNearIn, far_table, followed, is_met, left_at, left_from, met_all, met_in, near_in, near_table, tables_in, tables_of}
+use Rattle.gq_hops.specs.Levels.{is_met, met_all}
+use Rattle.gq_hops.specs.steps.Hops.{IsLevelIn, IsNearIn, far_table, followed, left_at, left_from, met_in, near_in, near_table, tables_in, tables_of}
 use Rattle.gq_hops.specs.declared.follow.Followed.{Followed}
 use Rattle.gq_hops.specs.declared.follow.Level.{Level}
 use Rattle.gq_hops.specs.declared.hop.Near.{Near}

@@ -15,7 +15,8 @@ use Rattle.gq_law_trails.proofs.Bounded.{filter_map, short_walks_end_nowhere}
 use Rattle.gq_law_trails.specs.Bounds.{AreBounds, comes, may_end_at}
 use Rattle.gq_law_trails.specs.Walks.{end_of, may_follow, pred, walks}
 use Rattle.gq_hops.specs.Walking.{Course}
-use Rattle.gq_hops.specs.steps.Hops.{is_met, left_at}
+use Rattle.gq_hops.specs.Levels.{is_met}
+use Rattle.gq_hops.specs.steps.Hops.{left_at}
 use Rattle.gq_hops.specs.steps.Searches.{Run, after, ahead, behind, left_in, level_at, onto, rel_at, taken}
 use Rattle.gq_hops.specs.declared.follow.Level.{Level}
 use Rattle.gq_hops.proofs.Hopping.{all_met}

@@ -21,11 +21,11 @@ use Rattle.gq_law_ends.proofs.Levels.{one_leads, one_more_leads}
 use Rattle.gq_law_ends.proofs.Reaching.{node_is, node_turn}
 use Rattle.gq_marks.proofs.Nodes.{any_pushed, distinct_more, or_none}
 use Rattle.gq_hops.specs.Law.{SpreadsAsLed}
-use Rattle.gq_hops.specs.Levels.{ends_met, spread_each, spread_levels, spread_over, with_end}
+use Rattle.gq_hops.specs.Levels.{ends_met, is_met, met_all, spread_each, spread_levels, spread_over, with_end}
 use Rattle.gq_hops.specs.declared.follow.Follow.{Follow}
 use Rattle.gq_hops.specs.declared.follow.Hop.{Hop}
 use Rattle.gq_hops.specs.declared.follow.Met.{Met}
-use Rattle.gq_hops.specs.steps.Hops.{IsHop, is_met, met_all}
+use Rattle.gq_hops.specs.steps.Hops.{IsHop}
 use Rattle.gq_hops.specs.steps.Sizes.{AreNodes}
 use Rattle.gq_marks.specs.Visiting.{with_node}
 

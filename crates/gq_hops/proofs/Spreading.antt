@@ -18,7 +18,8 @@ use Rattle.gq_plan.proofs.Each.{each_then}
 use Rattle.std.specs.Prelude.{slice_get}
 use Rattle.gq_store.specs.Neighbours.{opposite}
 use Rattle.gq_hops.specs.steps.Aims.{AreHit, AreInside, IsHit, IsUnderWay}
-use Rattle.gq_hops.specs.steps.Hops.{IsFirst, IsStart, is_met, left_at, left_of}
+use Rattle.gq_hops.specs.Levels.{is_met}
+use Rattle.gq_hops.specs.steps.Hops.{IsFirst, IsStart, left_at, left_of}
 use Rattle.gq_hops.specs.declared.follow.Follow.{Follow}
 use Rattle.gq_hops.specs.declared.follow.Hop.{Hop}
 use Rattle.gq_hops.specs.declared.follow.Level.{Level}

@@ -5,7 +5,7 @@ use Rattle.gq_base.specs.declared.NodeId.{NodeId}
 use Rattle.gq_base.specs.declared.RelId.{RelId}
 use Rattle.gq_plan.specs.Meaning.{far}
 use Rattle.gq_hops.specs.Walking.{Course}
-use Rattle.gq_hops.specs.steps.Hops.{met_all}
+use Rattle.gq_hops.specs.Levels.{met_all}
 use Rattle.gq_hops.specs.steps.Searches.{Run, left_in, level_at}
 use Rattle.gq_hops.specs.declared.follow.Level.{Level}
 use Rattle.gq_hops.proofs.Owing.{AreSameLevels, fresh_left}

@@ -1,14 +1,23 @@
 -- Breadth-first search over relationships of a type, as a function of lists.
-use Rattle.std.specs.Prelude.{ℕ, zero, suc, ◌-◌, Option, Some, None, List, [], ◌∷◌, drop, length, if◌then◌else◌}
+use Rattle.std.specs.Prelude.{ℕ, zero, suc, ◌-◌, Bool, ◌&&◌, Option, Some, None, List, [], ◌∷◌, drop, filter, length, if◌then◌else◌}
 use Rattle.std.specs.List.{list_any}
 use Rattle.gq_base.specs.Plain.{Graph}
 use Rattle.gq_base.specs.declared.NodeId.{NodeId}
 use Rattle.gq_base.specs.declared.RelId.{RelId}
 use Rattle.gq_base.specs.declared.direction.Direction.{Direction}
+use Rattle.gq_law_trails.specs.Walks.{is_of_type}
 use Rattle.gq_marks.specs.Visiting.{with_node}
-use Rattle.gq_plan.specs.Assignments.{same_rel}
-use Rattle.gq_plan.specs.Meaning.{far}
-use Rattle.gq_hops.specs.steps.Hops.{met_all}
+use Rattle.gq_plan.specs.Allowed.{at_same}
+use Rattle.gq_plan.specs.Assignments.{all_rels, same_rel}
+use Rattle.gq_plan.specs.Meaning.{far, near}
+
+-- a relationship is of a type, and is met at a node
+abbrev pub is_met : Graph → List ℕ → Direction → Option NodeId → RelId → Bool
+is_met g kind way at r = is_of_type g kind r && at_same at (near g way r)
+
+-- those of a graph
+abbrev pub met_all : Graph → List ℕ → Direction → Option NodeId → List RelId
+met_all g kind way at = filter (is_met g kind way at) (all_rels g)
 
 abbrev pub with_end : List NodeId → Option NodeId → List NodeId
 with_end ns None = ns

@@ -3,9 +3,9 @@ ghost use Rattle.std.specs.Prelude.{◌≡◌, ◌≤◌, ◌-◌, false, true, 
 ghost use Rattle.std.specs.List.{list_any};
 ghost use Rattle.gq_marks.specs.Places.{IsWithin};
 ghost use Rattle.gq_plan.specs.Assignments.{is_node, same_node, same_rel};
-ghost use Rattle.gq_hops.specs.Levels.{ends_met, spread_each, spread_levels, spread_over};
+ghost use Rattle.gq_hops.specs.Levels.{ends_met, met_all, spread_each, spread_levels, spread_over};
 ghost use Rattle.gq_hops.specs.declared.follow.Hop.{Hop as Step};
-ghost use Rattle.gq_hops.specs.steps.Hops.{AreTables, IsHop, IsSite, met_all};
+ghost use Rattle.gq_hops.specs.steps.Hops.{AreTables, IsHop, IsSite};
 ghost use Rattle.gq_hops.specs.steps.Sizes.{AreNodes, AreSizes};
 
 use crate::follow::{Follow, Met, hop_of, level_at, next_met};

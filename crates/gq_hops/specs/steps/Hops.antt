@@ -1,5 +1,5 @@
 -- Relationships of a type that are met at a node, one after another.
-use Rattle.std.specs.Prelude.{◌≡◌, ℕ, ◌+◌, ◌^◌, ◌<◌, All, length, if◌then◌else◌, nat_eq, Bool, true, ◌&&◌, Option, Some, None, MatchOption, List, [], ◌∷◌, ◌++◌, filter, flat_map, drop, slice_get}
+use Rattle.std.specs.Prelude.{◌≡◌, ℕ, ◌+◌, ◌^◌, ◌<◌, All, length, if◌then◌else◌, nat_eq, Bool, true, Option, Some, None, MatchOption, List, [], ◌∷◌, ◌++◌, filter, flat_map, drop, slice_get}
 use Rattle.std.specs.Cmp.Lexicographic.{pointwise}
 use Rattle.std.specs.List.{list_any}
 use Rattle.gq_base.specs.Plain.{Graph}
@@ -8,17 +8,16 @@ use Rattle.gq_base.specs.declared.RelId.{RelId}
 use Rattle.gq_base.specs.declared.RelTable.{RelTable}
 use Rattle.gq_base.specs.declared.direction.Direction.{Direction}
 use Rattle.gq_base.specs.declared.direction.Direction.TheVariants.{Forward, Backward}
-use Rattle.gq_plan.specs.Allowed.{at_same}
-use Rattle.gq_plan.specs.Assignments.{all_rels, is_node, rels_of}
-use Rattle.gq_plan.specs.Meaning.{far, near}
+use Rattle.gq_plan.specs.Assignments.{is_node, rels_of}
+use Rattle.gq_plan.specs.Meaning.{far}
 use Rattle.gq_store.specs.Neighbours.{near_rows, neighbours, numbers, opposite}
-use Rattle.gq_law_trails.specs.Walks.{is_of_type}
 use Rattle.gq_hops.specs.declared.follow.Follow.{Follow}
 use Rattle.gq_hops.specs.declared.follow.Hop.{Hop}
 use Rattle.gq_hops.specs.declared.follow.Level.{Level}
 use Rattle.gq_hops.specs.declared.follow.Met.{Met}
 use Rattle.gq_hops.specs.declared.hop.Near.{Near}
 use Rattle.gq_hops.specs.declared.follow.Followed.{Followed}
+use Rattle.gq_hops.specs.Levels.{is_met}
 use Rattle.gq_hops.specs.steps.Nears.{rows_in}
 
 -- ---- tables
@@ -48,16 +47,9 @@ AreTables f = f.tables.items ≡ tables_in f.graph.now f.kind.now f.way
 
 -- ---- what is left at a node
 
--- a relationship is of a type, and is met at a node
-abbrev pub is_met : Graph → List ℕ → Direction → Option NodeId → RelId → Bool
-is_met g kind way at r = is_of_type g kind r && at_same at (near g way r)
-
+-- the relationships of a table that are met at a node
 abbrev pub met_in : Graph → List ℕ → Direction → Option NodeId → ℕ → List RelId
 met_in g kind way at table = filter (is_met g kind way at) (rels_of g table)
-
--- those of all tables
-abbrev pub met_all : Graph → List ℕ → Direction → Option NodeId → List RelId
-met_all g kind way at = filter (is_met g kind way at) (all_rels g)
 
 -- those of the first of these tables from a place on, and those of the others
 abbrev pub left_from : Graph → List ℕ → Direction → NodeId → ℕ → List Followed → List RelId

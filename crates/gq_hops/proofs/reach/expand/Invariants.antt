@@ -1,7 +1,7 @@
 use Rattle.std.proofs.Common.{◌≡◌, Some, length}
-use Rattle.gq_hops.specs.Levels.{spread_over}
+use Rattle.gq_hops.specs.Levels.{met_all, spread_over}
 use Rattle.gq_hops.specs.steps.Sizes.{AreNodes}
-use Rattle.gq_hops.specs.steps.Hops.{IsLevel, left_of, met_all}
+use Rattle.gq_hops.specs.steps.Hops.{IsLevel, left_of}
 use Rattle.gq_hops.proofs.reach.expand.Given as goal
 
 abbrev pub invariant-loop-met : goal.invariant-loop-met

@@ -1,8 +1,7 @@
 use Rattle.std.proofs.Common.{◌≡◌, ◌<◌, ◌+◌, ◌∷◌, Some, drop, length, get_or, sym, ap, ◌∙◌, subst}
 use Rattle.std.proofs.lemmas.List.{get_or_append_left}
 use Rattle.std.proofs.lemmas.Option.{get_or_from_slice_get}
-use Rattle.gq_hops.specs.Levels.{spread_each}
-use Rattle.gq_hops.specs.steps.Hops.{met_all}
+use Rattle.gq_hops.specs.Levels.{met_all, spread_each}
 use Rattle.gq_hops.proofs.Reaching.{Longer, drop_at, longer_both, longer_over}
 use Rattle.gq_hops.proofs.reach.expand_from.Goals as goal
 

@@ -1,7 +1,6 @@
 use Rattle.std.proofs.Common.{◌-◌, Some, ap, ◌∙◌}
 use Rattle.gq_marks.specs.Visiting.{Visiting}
-use Rattle.gq_hops.specs.Levels.{ends_met, spread_levels, spread_over}
-use Rattle.gq_hops.specs.steps.Hops.{met_all}
+use Rattle.gq_hops.specs.Levels.{ends_met, met_all, spread_levels, spread_over}
 use Rattle.gq_hops.proofs.reach.reach.Goals as goal
 
 pub returns-clause-nodes : goal.returns-clause-nodes

@@ -2,8 +2,7 @@ use Rattle.std.proofs.Common.{◌-◌, Some, ap, ◌∙◌}
 use Rattle.std.specs.List.{list_any}
 use Rattle.gq_marks.specs.Visiting.{Visiting}
 use Rattle.gq_plan.specs.Assignments.{same_node}
-use Rattle.gq_hops.specs.Levels.{ends_met, spread_levels, spread_over}
-use Rattle.gq_hops.specs.steps.Hops.{met_all}
+use Rattle.gq_hops.specs.Levels.{ends_met, met_all, spread_levels, spread_over}
 use Rattle.gq_hops.proofs.reach.seek.Goals as goal
 
 pub returns-clause-met : goal.returns-clause-met

@@ -3,8 +3,7 @@ use Rattle.std.proofs.lemmas.List.{get_or_append_left}
 use Rattle.std.proofs.lemmas.Option.{get_or_from_slice_get}
 use Rattle.std.specs.List.{list_any}
 use Rattle.gq_plan.specs.Assignments.{same_node}
-use Rattle.gq_hops.specs.Levels.{spread_each}
-use Rattle.gq_hops.specs.steps.Hops.{met_all}
+use Rattle.gq_hops.specs.Levels.{met_all, spread_each}
 use Rattle.gq_hops.proofs.Reaching.{Longer, drop_at, longer_both, longer_each, longer_over, there_longer}
 use Rattle.gq_hops.proofs.reach.seek_from.Goals as goal
 
