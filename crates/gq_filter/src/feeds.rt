@@ -2,7 +2,7 @@
 ghost use Rattle.std.specs.Prelude.{◌≡◌, ◌<◌, length, IfSome, IfNone, None};
 ghost use Rattle.gq_base.specs.Catalogs.{find_field};
 ghost use Rattle.gq_store.specs.Cells.{node_fields, rel_fields};
-ghost use Rattle.gq_filter.specs.Feeds.{IsNodeFeed, IsRelFeed, NodeLanesHold, RelLanesHold};
+ghost use Rattle.gq_filter.specs.Feeds.{IsNodeFeed, IsRelFeed};
 
 use crate::source::{ColumnId, LaneSource};
 use gq_base::{Text, find_field};
@@ -75,16 +75,3 @@ pub fn rel_feed<'g>(graph: &'g Graph, variable: u32, rel: u32, name: &'g Text) -
         column: graph.rel_column(rel, property),
     })
 }
-
-/// A law for the crates above: a lane that was gathered from the column of a feed holds the values
-/// that its source has in the rows whose nodes were gathered. It does nothing.
-#[tactic(auto, using(crate::proofs::Feeding::node_lanes))]
-pub fn node_lanes_hold()
-    ensures { NodeLanesHold }
-{}
-
-/// The same law of relationships by their places.
-#[tactic(auto, using(crate::proofs::Feeding::rel_lanes))]
-pub fn rel_lanes_hold()
-    ensures { RelLanesHold }
-{}
