@@ -7,7 +7,7 @@ ghost use Rattle.gq_expr.specs.steps.Kinds.{summary_of, both};
 ghost use Rattle.gq_expr.specs.Kinds.{safe, all_of, truth, misfits, test_may, term_faults};
 ghost use Rattle.gq_expr.specs.Kinds.{tester_faults};
 ghost use Rattle.gq_expr.specs.steps.Parts.{operand_with, tester_with};
-ghost use Rattle.gq_expr.specs.Safety.{FaultsPromise, HasValue, KindsPromise};
+ghost use Rattle.gq_expr.specs.Safety.{HasTruth, HasValue};
 
 use crate::expr::{CompareOperand, Expr, ExprTester, Tester};
 use gq_base::{Field, Kind, List, Literal, Text, find_field};
@@ -36,9 +36,12 @@ struct Summary {
 /// Whether a condition may fault, or have another value than true, false and null, as far as the
 /// kinds tell. It may where it has a sign or an operator on integers, where an operand of a logical
 /// operator may be no boolean, where an argument of `type` may be no relationship, and where it may
-/// itself be no boolean. Null fits everywhere.
+/// itself be no boolean. Null fits everywhere. One that cannot fault is true, false or null in every
+/// graph, under each assignment that fits the kinds.
+#[tactic(auto, using(crate::proofs::Promise::kinds_promise))]
 pub fn can_fault(expr: &Expr, kinds: &Kinds) -> bool
-    ensures { result ≡ rule.can_fault kinds.now expr.now }
+    ensures told { result ≡ rule.can_fault kinds.now expr.now }
+    ensures sound { result ≡ false → HasTruth kinds.now expr.now }
 {
     misfits(summarize(expr, kinds))
 }
@@ -55,20 +58,6 @@ pub fn is_sure(expr: &Expr) -> bool
         _ => false,
     }
 }
-
-/// A law for the crates above: an expression that may not fault has a value in every graph, under
-/// each assignment that fits the kinds. It does nothing.
-#[tactic(auto, using(crate::proofs::Promise::faults_promise))]
-pub fn kinds_keep_faults_out()
-    ensures { FaultsPromise }
-{}
-
-/// A law for the crates above: a condition that cannot fault is true, false or null in every graph,
-/// under each assignment that fits the kinds. It does nothing.
-#[tactic(auto, using(crate::proofs::Promise::kinds_promise))]
-pub fn kinds_keep_their_promise()
-    ensures { KindsPromise }
-{}
 
 #[cycle(summarize)]
 #[tactic(auto, using(crate::proofs::KindEquations::equations))]

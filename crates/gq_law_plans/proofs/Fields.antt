@@ -150,4 +150,4 @@ pub never_fault : TestsNeverFault
 never_fault g y t real sound lies =
     All-from_recursion _ y.tests
     (each_then (λ e. can_fault (kinds_of g.catalog y) e.expr ≡ false) (λ e. IsTruth (expr.meaning g (row_of t) e.expr))
-    (λ e h. kinds_promise (kinds_of g.catalog y) g (row_of t) e.expr (lying_fits g y t real lies) h) y.tests (recursion_from_All _ y.tests sound.never_fault))
+    (λ e h. kinds_promise (kinds_of g.catalog y) e.expr h g (row_of t) (lying_fits g y t real lies)) y.tests (recursion_from_All _ y.tests sound.never_fault))
