@@ -10,7 +10,7 @@ something. It lists the kit's words and what it cannot resolve, and counts no bl
     docs/reading.py --definitions    the same, with each definition by name
     docs/reading.py --unreached      what of specs/ no public function's clause uses, nor a definition that one reaches: specs/steps/
     docs/reading.py --inner          which public clauses, or definitions that one reaches, name a definition of specs/steps/ or of
-                                     proofs/; it ends with 1 where there is one of a crate that is not among those that still do
+                                     proofs/; it ends with 1 where there is one
 """
 from __future__ import annotations
 
@@ -34,8 +34,6 @@ OF_KIT = re.compile(r"(?:std|core|clap|csv|indexmap|itoa|memchr)\b")
 NO_CODE = re.compile(r" *(?:--|//|#|infix|(?:pub )?mod |module _ |(?:unfoldable )?mutual$)")
 ITEM = re.compile(r"(?:pub(?:\(crate\))? )?(fn|struct|enum|trait|type|const|impl)\b(?:<.*?>)? (?:(\w+).* for )?(\w+)")
 FUNCTION = re.compile(r"^(?= *(?:pub(?:\(crate\))? )?(?:const )?fn )", re.M)
-# The crates whose public clauses still name definitions of specs/steps/ or proofs/: none may come to them.
-STILL_INNER = set("gq_bound gq_cells gq_cuts gq_hops gq_law_cuts gq_law_reaches gq_law_trails gq_plan gq_trails".split())
 BODY = re.compile(r"^( *)(?:(?:\)|(?:pub(?:\(crate\))? )?(?:const )?fn ).*)?\{\n(?:(?!\1\S).*\n)*\1\}$", re.M)
 CLAUSE = re.compile(r"\b(?:requires|ensures|ghost)\*?(?: \w+)?(?: ?[:=])? \{((?:[^{}]|\{(?:[^{}]|\{[^{}]*\})*\})*)\}")
 
@@ -161,18 +159,17 @@ def inner_name(meant: Meant) -> str:  # where a definition stands that no public
 
 
 def show_inner() -> int:  # from the public clauses on, and not beyond a definition that none of them is to name
-    todo, reached, lines, is_new = public_items(), set[Item](), set[str](), False
+    todo, reached, lines = public_items(), set[Item](), set[str]()
     while todo:
         item = todo.pop()
         for _, meant in item.uses() if item not in reached else ():
             if name := inner_name(meant):
                 lines.add(f"{item.source.path}: {item.name} names {name}")
-                is_new = is_new or item.source.crate not in STILL_INNER
             elif isinstance(meant, Item):
                 todo.append(meant)
         reached.add(item)
-    print(*sorted(lines), sep="\n")
-    return int(is_new)
+    print(*(f"{line}\n" for line in sorted(lines)), sep="", end="")
+    return int(bool(lines))
 
 
 def reached_from(roots: Iterable[Item], without: Iterable[Item] = ()) -> tuple[set[Item], dict[str, set[str]], set[str]]:
