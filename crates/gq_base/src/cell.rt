@@ -33,16 +33,6 @@ impl Cell {
     }
 }
 
-/// The value of an optional cell: null where there is none.
-pub fn cell_value(cell: &Option<Cell>) -> Value<'_>
-    ensures { val result ≡ cell_val cell.now }
-{
-    match cell {
-        Some(cell) => cell.value(),
-        None => Value::Null,
-    }
-}
-
 /// The key of a node's row, its first cell, or `None` where that is null or missing.
 pub fn key_of(row: &[Option<Cell>]) -> Option<Value<'_>>
     ensures { option_map val result ≡ valid.key_of row.now }

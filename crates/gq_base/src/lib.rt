@@ -22,7 +22,7 @@ mod word;
 pub use boxed::Boxed;
 pub use bytes::Bytes;
 pub use catalog::{Catalog, Field, Kind, Mult, NodeTable, RelTable, find_field};
-pub use cell::{Cell, PlainRel, Row, cell_value, key_of};
+pub use cell::{Cell, PlainRel, Row, key_of};
 pub use direction::Direction;
 pub use list::List;
 pub use literal::Literal;

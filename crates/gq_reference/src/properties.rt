@@ -4,7 +4,7 @@ ghost use Rattle.gq_base.specs.Plain.{cell_val, property_of};
 ghost use Rattle.gq_base.specs.Values.{val};
 ghost use Rattle.gq_expr.specs.Reading as reading;
 
-use gq_base::{Cell, Field, NodeId, RelId, Text, Value, cell_value, find_field};
+use gq_base::{Cell, Field, NodeId, RelId, Text, Value, find_field};
 use gq_plain::PlainGraph;
 
 /// A property of a node, null where it is missing.
@@ -49,5 +49,15 @@ fn property_of<'g>(fields: &[Field], name: &Text, row: &'g [Option<Cell>]) -> Va
     match row.get(place) {
         None => Value::Null,
         Some(cell) => cell_value(cell),
+    }
+}
+
+// The value of an optional cell: null where there is none.
+fn cell_value(cell: &Option<Cell>) -> Value<'_>
+    ensures { val result ≡ cell_val cell.now }
+{
+    match cell {
+        Some(cell) => cell.value(),
+        None => Value::Null,
     }
 }
