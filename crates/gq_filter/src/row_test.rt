@@ -14,9 +14,9 @@ use crate::conditions::compile;
 use crate::feeds::Feed;
 use crate::kernels::keep_lanes;
 use crate::lane_test::LaneTest;
+use crate::recall::Recall;
 use crate::row_cells::RowCells;
 use crate::row_feeds::add_feeds;
-use crate::row_lists::keep_list;
 use crate::rows::Rows;
 use crate::span_lanes::SpanLanes;
 use crate::text_test::{TextTest, text_test};
@@ -42,6 +42,8 @@ pub struct RowTest<'g> {
     text: Option<TextTest<'g>>,
     // What decides it where neither does.
     evaluator: Option<Evaluator<'g>>,
+    // What is remembered of the test of lanes.
+    recall: Recall,
 }
 
 impl<'g> Model for RowTest<'g> {
@@ -49,6 +51,7 @@ impl<'g> Model for RowTest<'g> {
     ghost use Rattle.gq_expr.specs.contracts.expr.Expr as expr;
     ghost use Rattle.gq_filter.specs.RowTests.{RowCondition};
     ghost use Rattle.gq_filter.specs.steps.Evaluating.{Evaluates};
+    ghost use Rattle.gq_filter.specs.steps.Recalling.{TellsOf};
     ghost use Rattle.gq_filter.specs.steps.RowCells.{AreInside, DecidesRows};
     ghost use Rattle.gq_filter.specs.steps.Texts.{TextDecides};
 
@@ -65,7 +68,8 @@ impl<'g> Model for RowTest<'g> {
     ghost invariant = { λ t. AreInside t.graph.now t.feeds.items
         × DecidesRows t.graph.now t.typed.now t.condition.now t.feeds.items t.test
         × TextDecides t.graph.now t.typed.now t.condition.now t.text
-        × Evaluates t.graph.now t.condition.now t.test t.text t.evaluator };
+        × Evaluates t.graph.now t.condition.now t.test t.text t.evaluator
+        × TellsOf t.feeds.items t.test t.recall.passed.told };
 }
 
 impl<'g> RowTest<'g> {
@@ -93,7 +97,39 @@ impl<'g> RowTest<'g> {
             feeds,
             text,
             evaluator,
+            recall: Recall::none(alloc),
         })
+    }
+
+    /// From now on it is remembered which rows of a node variable's table the condition is true of,
+    /// where lanes decide it by that variable alone, where the table has at most so many pieces, and
+    /// where the memory is there, which is taken here. It answers how many pieces that is for.
+    pub fn remember(&mut self, alloc: Global, variable: u32, room: u32) -> u32
+        ensures same { self.new ≡ self.old }
+        ensures within { result ≤ room }
+    {
+        let rows = self.spanned_rows(variable);
+        let pieces = rows.div_ceil(VECTOR);
+        if pieces > room {
+            return 0;
+        }
+        match Recall::with_room(alloc, rows) {
+            Ok(recall) => self.recall = recall,
+            Err(_) => return 0,
+        }
+        pieces
+    }
+
+    // How many rows the table of a node variable has, where lanes decide the condition by it alone.
+    fn spanned_rows(&self, variable: u32) -> u32 {
+        let feeds = self.feeds.as_slice();
+        if self.test.is_none() || !are_spanned(feeds, variable, 0) {
+            return 0;
+        }
+        match feeds.first() {
+            Some(feed) => feed.column.len(),
+            None => 0,
+        }
     }
 
     /// Whether the rows alone decide the condition, and no load number.
@@ -139,13 +175,20 @@ impl<'g> RowTest<'g> {
 impl RowTest<'_> {
     /// Keeps the marked places at whose row the condition is true: a node variable has that row, and
     /// all others have what they have in one row. It takes no memory.
-    pub fn keep_rows(&self, variable: u32, rows: Rows<'_>, row: &mut Assignment, marks: &mut Marks)
+    pub fn keep_rows(
+        &mut self,
+        variable: u32,
+        rows: Rows<'_>,
+        row: &mut Assignment,
+        marks: &mut Marks,
+    )
         requires few { count_in rows ≤ VECTOR }
         requires variable { variable < length row.old.nodes }
         requires within { (k : ℕ) → count_in rows ≤ k → is_marked marks.old k ≡ false }
         ensures kept { (k : ℕ) → is_marked marks.new k ≡ (is_marked marks.old k
-            && is_true_of self.now (with_row variable (row_in rows.entry k) row.old)) }
+            && is_true_of self.old (with_row variable (row_in rows.entry k) row.old)) }
         ensures row { row.new ≡ row.old }
+        ensures same { self.new ≡ self.old }
     {
         match rows {
             Rows::List(list) => match &self.test {
@@ -154,7 +197,7 @@ impl RowTest<'_> {
                     let feeds = self.feeds.as_slice();
                     // Where all lanes are of this variable, no row has to be put in.
                     if are_spanned(feeds, variable, 0) {
-                        keep_list(test, feeds, list, marks);
+                        self.recall.keep(test, feeds, list, marks);
                     } else {
                         self.keep_each(variable, rows, row, marks);
                     }

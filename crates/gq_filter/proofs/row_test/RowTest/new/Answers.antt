@@ -1,5 +1,6 @@
 use Rattle.std.proofs.Common.{subst}
 use Rattle.gq_filter.specs.steps.RowCells.{DecidesRows}
+use Rattle.gq_filter.proofs.Recalled.{tells_none}
 use Rattle.gq_filter.proofs.RowLanes.{all_inside}
 use Rattle.gq_filter.proofs.row_test.RowTest.new.Goals as goal
 
@@ -9,4 +10,5 @@ invariant_of-result c = (
   subst (λ feeds. DecidesRows c.args.graph.now c.args.typed.now c.args.condition.now feeds c.in_ok-test.test) c.as_slice.ensures.value c.in_ok-test.ensures,
   c.text_test-text.ensures,
   c.in_ok-evaluator.ensures,
+  tells_none c.add_feeds.new.feeds.items c.in_ok-test.test c.none.result.passed.told c.none.ensures,
 )
