@@ -1,5 +1,4 @@
-use Rattle.std.proofs.Common.{length, ◌≡◌, ◌∷◌, ℕ, ◌+◌, ◌-◌, ◌*◌, ◌<◌, ◌≤◌}
-use Rattle.gq_expr.specs.Operators.{occurs}
+use Rattle.std.proofs.Common.{length}
 use Rattle.gq_filter.proofs.text_test.+is_within.Given as goal
 
 -- the text is shorter at each call
