@@ -52,22 +52,23 @@ fn scans(plan_run: &PlanRun<'_>, depth: usize) -> Option<u32>
 
 /// Of so many places of a scan, from one on, those that the group's conditions keep.
 pub(crate) fn filter(
-    plan_run: &PlanRun<'_>,
+    plan_run: &mut PlanRun<'_>,
     group: GroupSteps,
     node: u32,
     first: u32,
     count: u32,
     row: &mut Assignment,
 ) -> Marks
-    requires run { IsRun (run_of plan_run.now) }
-    requires steps { IsRange (run_of plan_run.now) group }
-    requires filters { Filters (run_of plan_run.now) group node }
-    requires held { IsHeld (run_of plan_run.now) row.old (known (run_of plan_run.now) group.first) }
+    requires run { IsRun (run_of plan_run.old) }
+    requires steps { IsRange (run_of plan_run.old) group }
+    requires filters { Filters (run_of plan_run.old) group node }
+    requires held { IsHeld (run_of plan_run.old) row.old (known (run_of plan_run.old) group.first) }
     requires count { count ≤ VECTOR }
-    requires inside { first + count ≤ row_count plan_run.now.graph.now.nodes
-        (node_table plan_run.now.typed.now node) }
+    requires inside { first + count ≤ row_count plan_run.old.graph.now.nodes
+        (node_table plan_run.old.typed.now node) }
     requires fits { first + count < 2 ^ 32 }
-    ensures { IsSifted (run_of plan_run.now) group first count row.old row.new result }
+    ensures sifted { IsSifted (run_of plan_run.old) group first count row.old row.new result }
+    ensures same { plan_run.new ≡ plan_run.old }
 {
     let mut marks = Marks::first(count);
     let rows = Rows::Span {
@@ -109,23 +110,24 @@ fn is_listed(plan_run: &PlanRun<'_>, depth: usize) -> bool
 
 /// Of so many places of a list, from one on, those that the group's conditions keep.
 pub(crate) fn filter_list(
-    plan_run: &PlanRun<'_>,
+    plan_run: &mut PlanRun<'_>,
     group: GroupSteps,
     follow: Follow,
     first: u32,
     count: u32,
     row: &mut Assignment,
 ) -> Marks
-    requires run { IsRun (run_of plan_run.now) }
-    requires steps { IsRange (run_of plan_run.now) group }
-    requires filters { FiltersList (run_of plan_run.now) group follow }
-    requires held { IsHeld (run_of plan_run.now) row.old (known (run_of plan_run.now) group.first) }
+    requires run { IsRun (run_of plan_run.old) }
+    requires steps { IsRange (run_of plan_run.old) group }
+    requires filters { FiltersList (run_of plan_run.old) group follow }
+    requires held { IsHeld (run_of plan_run.old) row.old (known (run_of plan_run.old) group.first) }
     requires count { count ≤ VECTOR }
-    requires inside { let table = rel_table plan_run.now.typed.now follow.rel in first + count
-        ≤ length (neighbours plan_run.now.graph.now table follow.direction
+    requires inside { let table = rel_table plan_run.old.typed.now follow.rel in first + count
+        ≤ length (neighbours plan_run.old.graph.now table follow.direction
         (slice_index row.old.nodes follow.from)) }
     requires fits { first + count < 2 ^ 32 }
-    ensures { IsSifted (run_of plan_run.now) group first count row.old row.new result }
+    ensures sifted { IsSifted (run_of plan_run.old) group first count row.old row.new result }
+    ensures same { plan_run.new ≡ plan_run.old }
 {
     let mut marks = Marks::first(count);
     let list = plan_run.list(follow, row);
@@ -141,7 +143,7 @@ pub(crate) fn filter_list(
 // for: a condition is true at their row, or their relationship differs from another one or is no
 // loop.
 fn keep_places(
-    plan_run: &PlanRun<'_>,
+    plan_run: &mut PlanRun<'_>,
     depth: usize,
     follow: Follow,
     first: u32,
@@ -149,31 +151,32 @@ fn keep_places(
     row: &mut Assignment,
     marks: &mut Marks,
 )
-    requires run { IsRun (run_of plan_run.now) }
-    requires depth { depth < length (steps_in plan_run.now) }
-    requires can { CanFollow plan_run.now.graph.now plan_run.now.typed.now row.old follow }
+    requires run { IsRun (run_of plan_run.old) }
+    requires depth { depth < length (steps_in plan_run.old) }
+    requires can { CanFollow plan_run.old.graph.now plan_run.old.typed.now row.old follow }
     requires few { length ids.now ≤ VECTOR }
     requires fits { first + length ids.now < 2 ^ 32 }
-    requires inside { let table = rel_table plan_run.now.typed.now follow.rel in first + length
-        ids.now ≤ length (neighbours plan_run.now.graph.now table follow.direction
+    requires inside { let table = rel_table plan_run.old.typed.now follow.rel in first + length
+        ids.now ≤ length (neighbours plan_run.old.graph.now table follow.direction
         (slice_index row.old.nodes follow.from)) }
-    requires others { (number : ℕ) → pair_of (step_at (run_of plan_run.now) depth) ≡ Some number →
-        IfSome (slice_get plan_run.now.typed.now.pairs number) (λ pair. other_of follow.rel pair
+    requires others { (number : ℕ) → pair_of (step_at (run_of plan_run.old) depth) ≡ Some number →
+        IfSome (slice_get plan_run.old.typed.now.pairs number) (λ pair. other_of follow.rel pair
         < length row.old.rels) }
     requires within { (j : ℕ) → length ids.now ≤ j → is_marked marks.old j ≡ false }
-    ensures tests { (i : ℕ) → test_of (step_at (run_of plan_run.now) depth) ≡ Some i → (j : ℕ)
-        → is_marked marks.new j ≡ (is_marked marks.old j && passes_at plan_run.now.graph.now
-        plan_run.now.typed.now (with_row follow.to (slice_index ids.now j) row.old) i) }
-    ensures pairs { let table = rel_table plan_run.now.typed.now follow.rel in let list = numbers
-        plan_run.now.graph.now table follow.direction (slice_index row.old.nodes follow.from) in
-        (number : ℕ) → pair_of (step_at (run_of plan_run.now) depth) ≡ Some number →
-        (pair : RelPair) → slice_get plan_run.now.typed.now.pairs number ≡ Some pair → (j : ℕ)
+    ensures tests { (i : ℕ) → test_of (step_at (run_of plan_run.old) depth) ≡ Some i → (j : ℕ)
+        → is_marked marks.new j ≡ (is_marked marks.old j && passes_at plan_run.old.graph.now
+        plan_run.old.typed.now (with_row follow.to (slice_index ids.now j) row.old) i) }
+    ensures pairs { let table = rel_table plan_run.old.typed.now follow.rel in let list = numbers
+        plan_run.old.graph.now table follow.direction (slice_index row.old.nodes follow.from) in
+        (number : ℕ) → pair_of (step_at (run_of plan_run.old) depth) ≡ Some number →
+        (pair : RelPair) → slice_get plan_run.old.typed.now.pairs number ≡ Some pair → (j : ℕ)
         → is_marked marks.new j ≡ (is_marked marks.old j && not (leads_to list (first + j)
         (slice_index row.old.rels (other_of follow.rel pair)))) }
-    ensures loops { loop_of (step_at (run_of plan_run.now) depth) ≡ Some follow.rel → (j : ℕ) →
+    ensures loops { loop_of (step_at (run_of plan_run.old) depth) ≡ Some follow.rel → (j : ℕ) →
         is_marked marks.new j ≡ (is_marked marks.old j && not (slice_index ids.now j ==
         slice_index row.old.nodes follow.from)) }
     ensures row { row.new ≡ row.old }
+    ensures same { plan_run.new ≡ plan_run.old }
 {
     match pair_at(plan_run, depth) {
         None => match loop_at(plan_run, depth) {
@@ -193,26 +196,27 @@ fn keep_places(
 // Keeps the marked places at whose row the condition is true that the step at a depth asks for:
 // a node variable has that row.
 fn keep_rows(
-    plan_run: &PlanRun<'_>,
+    plan_run: &mut PlanRun<'_>,
     depth: usize,
     node: u32,
     rows: Rows<'_>,
     row: &mut Assignment,
     marks: &mut Marks,
 )
-    requires run { IsRun (run_of plan_run.now) }
-    requires depth { depth < length (steps_in plan_run.now) }
+    requires run { IsRun (run_of plan_run.old) }
+    requires depth { depth < length (steps_in plan_run.old) }
     requires node { node < length row.old.nodes }
     requires few { count_in rows ≤ VECTOR }
     requires within { (j : ℕ) → count_in rows ≤ j → is_marked marks.old j ≡ false }
-    ensures kept { (i : ℕ) → test_of (step_at (run_of plan_run.now) depth) ≡ Some i → (j : ℕ)
-        → is_marked marks.new j ≡ (is_marked marks.old j && passes_at plan_run.now.graph.now
-        plan_run.now.typed.now (with_row node (row_in rows.entry j) row.old) i) }
+    ensures kept { (i : ℕ) → test_of (step_at (run_of plan_run.old) depth) ≡ Some i → (j : ℕ)
+        → is_marked marks.new j ≡ (is_marked marks.old j && passes_at plan_run.old.graph.now
+        plan_run.old.typed.now (with_row node (row_in rows.entry j) row.old) i) }
     ensures row { row.new ≡ row.old }
+    ensures same { plan_run.new ≡ plan_run.old }
 {
     match test_at(plan_run, depth) {
         None => {}
-        Some(test) => match plan_run.tests.get(test as usize) {
+        Some(test) => match plan_run.tests.get_mut(test as usize) {
             None => *marks = Marks::none(),
             Some(test) => test.keep_rows(node, rows, row, marks),
         },

@@ -1,5 +1,5 @@
 //! The places of a piece of a group's list that all its steps keep.
-ghost use Rattle.std.specs.Prelude.{◌<◌, ◌≤◌, ◌+◌, ◌^◌, length};
+ghost use Rattle.std.specs.Prelude.{◌≡◌, ◌<◌, ◌≤◌, ◌+◌, ◌^◌, length};
 ghost use Rattle.gq_steps.specs.Keeps.{IsRange, IsSifted};
 ghost use Rattle.gq_steps.specs.Levels.{before, built_at, known, step_at};
 ghost use Rattle.gq_steps.specs.Matches.{AreMatches};
@@ -16,22 +16,23 @@ use gq_steps::{GroupSteps, PlanRun};
 /// The places of a part of a group's list that all its steps keep. If it joins, its matches are
 /// told.
 pub fn sift(
-    plan_run: &PlanRun<'_>,
+    plan_run: &mut PlanRun<'_>,
     group: GroupSteps,
     matches: &[u32],
     first: u32,
     count: u32,
     row: &mut Assignment,
 ) -> Marks
-    requires run { IsRun (run_of plan_run.now) }
-    requires steps { IsRange (run_of plan_run.now) group }
-    requires held { IsHeld (run_of plan_run.now) row.old (known (run_of plan_run.now) group.first) }
-    requires matches { AreMatches (run_of plan_run.now) group.first row.old matches.now }
+    requires run { IsRun (run_of plan_run.old) }
+    requires steps { IsRange (run_of plan_run.old) group }
+    requires held { IsHeld (run_of plan_run.old) row.old (known (run_of plan_run.old) group.first) }
+    requires matches { AreMatches (run_of plan_run.old) group.first row.old matches.now }
     requires count { count ≤ VECTOR }
     requires fits { first + count < 2 ^ 32 }
-    requires inside { let c = run_of plan_run.now in first + count ≤ length (tries c.graph c.typed
+    requires inside { let c = run_of plan_run.old in first + count ≤ length (tries c.graph c.typed
         (built_at c group.first) (step_at c group.first) (before c row.old group.first)) }
-    ensures { IsSifted (run_of plan_run.now) group first count row.old row.new result }
+    ensures sifted { IsSifted (run_of plan_run.old) group first count row.old row.new result }
+    ensures same { plan_run.new ≡ plan_run.old }
 {
     match filters(plan_run, group) {
         Some(node) => filter(plan_run, group, node, first, count, row),
