@@ -1,0 +1,67 @@
+//! Tests of the nodes to which lists lead: they remember which rows they pass.
+ghost use Rattle.std.specs.Prelude.{◌≡◌, ◌≤◌, IfOk};
+ghost use Rattle.gq_filter.specs.RowTests.{conditions_of};
+ghost use Rattle.gq_plan.specs.Soundness.{IsSound};
+
+use gq_base::Memory;
+use gq_filter::{RowTest, row_tests};
+use gq_plan::{Step, Typed};
+use gq_store::Graph;
+use std::alloc::Global;
+
+// The tests of a pipeline remember rows of so many pieces together, at most.
+const ROOM: u32 = 8192;
+
+/// The tests of an alternative, in their order. Those of nodes to which lists lead remember which
+/// rows they pass, where there is memory for it, which is taken here.
+pub(crate) fn remembering_tests<'g>(
+    alloc: Global,
+    graph: &'g Graph,
+    typed: &'g Typed,
+    steps: &[&Step],
+) -> Result<Vec<RowTest<'g>>, Memory>
+    requires { IsSound graph.now.catalog typed.now }
+    ensures { IfOk result (λ tests. tests.items ≡ conditions_of graph.now typed.now) }
+{
+    let mut tests = row_tests(alloc, graph, typed)?;
+    remember(alloc, steps, &mut tests);
+    Ok(tests)
+}
+
+// Has the tests of nodes to which lists lead remember which rows they pass.
+fn remember(alloc: Global, steps: &[&Step], tests: &mut Vec<RowTest<'_>>)
+    ensures { tests.new.items ≡ tests.old.items }
+{
+    let mut room = ROOM;
+    let mut near = None;
+    for step in steps {
+        match *step {
+            Step::Extend { to, .. } => near = Some(*to),
+            Step::Keep { test } => room -= remember_test(alloc, *test, near, room, tests),
+            Step::Differ { .. } | Step::NoLoop { .. } => {}
+            Step::Scan { .. } | Step::Close { .. } | Step::Join { .. } => near = None,
+            Step::ColumnExtend { .. } | Step::ColumnClose { .. } => near = None,
+        }
+    }
+}
+
+// Has a test remember which rows of a node variable it passes, if one is told. It answers for how
+// many pieces.
+fn remember_test(
+    alloc: Global,
+    test: u32,
+    near: Option<u32>,
+    room: u32,
+    tests: &mut Vec<RowTest<'_>>,
+) -> u32
+    ensures within { result ≤ room }
+    ensures same { tests.new.items ≡ tests.old.items }
+{
+    match near {
+        None => 0,
+        Some(node) => match tests.get_mut(test as usize) {
+            None => 0,
+            Some(test) => test.remember(alloc, node, room),
+        },
+    }
+}
