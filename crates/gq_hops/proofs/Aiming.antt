@@ -11,9 +11,10 @@ use Rattle.gq_base.specs.declared.RelId.{RelId}
 use Rattle.gq_base.specs.declared.direction.Direction.{Direction}
 use Rattle.gq_law_trails.specs.Bounds.{AreBounds, IsBounded}
 use Rattle.gq_law_trails.specs.Walks.{is_of_type}
-use Rattle.gq_marks.specs.Marking.{AreKnown, IsSpread, Marking, bound_of, is_marked, mark_at}
+use Rattle.gq_marks.specs.Marking.{AreKnown, IsSpread, Marking, bound_by, bound_of, is_marked, mark_at}
 use Rattle.gq_plan.specs.Assignments.{all_rels}
 use Rattle.gq_plan.specs.Meaning.{far, near}
+use Rattle.gq_plan.proofs.Each.{each_then}
 use Rattle.gq_hops.specs.steps.Aims.{IsAimed, IsSettled}
 
 -- ---- lists
@@ -70,6 +71,10 @@ module _ (m : Marking) (n : NodeId) where
       go : (b : Bool) → nat_eq (mark_at m.sheets n) 255 ≡ b → cond b m.rest (mark_at m.sheets n) ≡ m.rest
       go true e = refl
       go false e = absurd (let lost : true ≡ false = ap not (sym e) ∙ marked in cc lost)
+
+-- nodes that are marked with 0 have the number 0
+pub bounds_zero : (m : Marking) (ns : List NodeId) → AllByRecursion (λ n. mark_at m.sheets n ≡ 0) ns → AllByRecursion (λ n. bound_of m n ≡ 0) ns
+bounds_zero m ns zeros = each_then (λ n. mark_at m.sheets n ≡ 0) (λ n. bound_of m n ≡ 0) (λ n zero. ap (bound_by m.rest) zero) ns zeros
 
 is_mark : (mark k : ℕ) → mark ≡ k → k < 255 → not (nat_eq mark 255) ≡ true
 is_mark mark k is low = let no : nat_eq mark 255 ≡ false = grind (arith, nat_tests, is, low) in ap not no

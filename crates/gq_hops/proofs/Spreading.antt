@@ -1,5 +1,5 @@
 -- How marks spread, node by node.
-use Rattle.std.proofs.Common.{◌≡◌, ℕ, ◌<◌, nat_eq, Bool, true, false, not, ◌&&◌, Some, List, [], ◌∷◌, ◌++◌, refl, sym, ap, ap₂, ◌∙◌, subst, arith, inl, inr}
+use Rattle.std.proofs.Common.{◌≡◌, ℕ, zero, suc, ◌<◌, nat_eq, get_or, length, Bool, true, false, not, ◌&&◌, Some, List, [], ◌∷◌, ◌++◌, refl, sym, ap, ap₂, ◌∙◌, subst, arith, inl, inr}
 use Rattle.std.specs.List.{AllByRecursion}
 use Rattle.std.proofs.lemmas.Bool.Decides.{nat_tests}
 use Rattle.std.proofs.lemmas.List.{append_assoc, append-nil}
@@ -67,6 +67,11 @@ module _ (mark : ℕ) (few : mark < 255) (a b c : Marking) (one : IsSpread mark 
 pub inside_more : (g : Graph) (n : NodeId) (old new : List NodeId) → is_node g n ≡ true → AreInside g old → IsMore n old new → AreInside g new
 inside_more g n old new node inside (inl same) = subst (AreInside g) (sym same) inside
 inside_more g n old new node inside (inr more) = subst (AreInside g) (sym more) (each_append (λ k. is_node g k ≡ true) old (n ∷ []) inside (node, tt))
+
+pub inside_at : (g : Graph) (ns : List NodeId) (i : ℕ) (d : NodeId) → i < length ns → AreInside g ns → is_node g (get_or ns i d) ≡ true
+inside_at g [] i d low inside = absurd (omega arith)
+inside_at g (n ∷ ns) zero d low inside = inside.0
+inside_at g (n ∷ ns) (suc i) d low inside = inside_at g ns i d (omega arith) inside.1
 
 -- ---- the relationships at a node
 

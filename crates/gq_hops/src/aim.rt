@@ -1,9 +1,11 @@
 //! Bounds of how many relationships lead from a node to one where a walk may end. They are found
-//! backward from that node, some relationships far.
+//! backward from the nodes where it may, some relationships far.
 ghost use Rattle.std.specs.Prelude.{◌≡◌, ◌<◌, ◌≤◌, suc, true, IfOk, length};
+ghost use Rattle.std.specs.List.{AllByRecursion};
+ghost use Rattle.gq_base.specs.Plain.{Graph as Plain};
 ghost use Rattle.gq_base.specs.declared.NodeId.{NodeId as Node};
 ghost use Rattle.gq_law_trails.specs.Bounds.{AreBounds};
-ghost use Rattle.gq_marks.specs.Marking.{IsSpread, bound_of};
+ghost use Rattle.gq_marks.specs.Marking.{IsSpread, bound_of, is_marked};
 ghost use Rattle.gq_plan.specs.Assignments.{is_node};
 ghost use Rattle.gq_store.specs.Neighbours.{opposite};
 ghost use Rattle.gq_hops.specs.steps.Aims.{AreHit, AreInside, IsAimed};
@@ -17,7 +19,7 @@ use std::alloc::Global;
 /// The most nodes that have bounds of their own.
 const MAX_REACHED: usize = 8_192;
 
-/// The bound of all others where none of them comes to the end: more than a walk may have.
+/// The bound of all others where none of them comes to an end: more than a walk may have.
 const NEVER: u8 = 255;
 
 /// Bounds by which a walk may end at each node, with places for others at so many nodes, a byte each:
@@ -40,18 +42,19 @@ pub(crate) fn marks_for(alloc: Global, back: &Follow<'_>, places: usize) -> Resu
     Ok(Marks::new(alloc, sizes.as_slice(), room)?)
 }
 
-/// Finds how many relationships a walk needs at least to come to a node: less than so many, from
-/// each node that is as near, and so many from all others.
-pub(crate) fn aim_at(marks: &mut Marks, back: &Follow<'_>, end: NodeId, rounds: u8)
+/// Finds how many relationships a walk needs at least to come to one of some nodes: less than so
+/// many, from each node that is as near, and so many from all others. Where there is no room for
+/// these nodes, a walk may end at each node.
+pub(crate) fn aim_at(marks: &mut Marks, back: &Follow<'_>, ends: &[NodeId], rounds: u8)
     requires tables { AreTables back.now }
-    requires node { is_node back.now.graph.now end ≡ true }
+    requires inside { AreInside back.now.graph.now ends.now }
     requires few { rounds ≤ 16 }
     ensures bounds { AreBounds back.now.graph.now back.now.kind.now (opposite back.now.way)
         (bound_of marks.new) }
-    ensures end { bound_of marks.new end ≡ 0 }
+    ensures ends { AllByRecursion (λ n. bound_of marks.new n ≡ 0) ends.now }
 {
     marks.clear();
-    if !marks.put(end, 0) {
+    if !put_each(marks, ends) {
         return;
     }
     marks.set_rest(1);
@@ -70,6 +73,22 @@ pub(crate) fn aim_at(marks: &mut Marks, back: &Follow<'_>, end: NodeId, rounds: 
         from = stop;
     }
     let _ = marks.count();
+}
+
+// Marks nodes with 0, and answers whether there was room for all.
+fn put_each(marks: &mut Marks, nodes: &[NodeId]) -> bool
+    ensures spread { IsSpread 0 marks.old marks.new }
+    ensures inside { (g : Plain) → AreInside g nodes.now → AreInside g marks.old.reached →
+        AreInside g marks.new.reached }
+    ensures all { result ≡ true → AllByRecursion (λ n. is_marked marks.new n ≡ true) nodes.now }
+{
+    'nodes: for place in 0..nodes.len() {
+        let node = nodes[place];
+        if !marks.put(node, 0) {
+            return false;
+        }
+    }
+    true
 }
 
 // Marks those from which a relationship leads to one of the nodes that were reached from a place

@@ -1,6 +1,7 @@
 //! The walks of one trail, one after another.
 ghost use Rattle.std.specs.Prelude.{◌≡◌, ◌∷◌, [], ◌≤◌, ◌<◌, true, false, length, filter};
 ghost use Rattle.std.specs.Prelude.{IfOk, Option, Some};
+ghost use Rattle.std.specs.List.{AllByRecursion};
 ghost use Rattle.gq_base.specs.declared.NodeId.{NodeId as Node};
 ghost use Rattle.gq_plan.specs.Assignments.{is_node};
 ghost use Rattle.gq_law_trails.specs.Bounds.{comes};
@@ -20,6 +21,10 @@ use gq_store::Graph;
 use std::alloc::Global;
 use std::marker::Model;
 
+/// The most nodes from which bounds are found some relationships far. From more than these, one
+/// relationship back leads to so many that the search costs more than it saves.
+const MAX_SPREAD: usize = 512;
+
 /// The walks of one trail from a node: lists of relationships of the trail's type that follow one
 /// another, of which none stands twice and none is one of those that are used. It goes depth first,
 /// and has room for the longest walk and for 384 used relationships from the start, so that walking
@@ -31,7 +36,7 @@ pub struct Walker<'g> {
     state: State,
     // The relationships of the type, followed to where they come from.
     back: Follow<'g>,
-    // The node where a walk may end, if it may end at one alone.
+    // The node to which it was aimed last, if it was aimed at one.
     aimed: Option<NodeId>,
 }
 
@@ -48,7 +53,7 @@ impl<'g> Model for Walker<'g> {
 }
 
 impl<'g> Walker<'g> {
-    /// A walker that owes nothing. Where the trail's other end is bound, so many nodes have a place
+    /// A walker that owes nothing, and whose walks may end at each node. So many nodes have a place
     /// for a bound, a byte each. After `Memory` there is none.
     pub fn new(
         alloc: Global,
@@ -60,10 +65,11 @@ impl<'g> Walker<'g> {
         requires ordered { part.now.low ≤ part.now.high }
         requires few { part.now.high ≤ 16 }
         ensures course { IfOk result (λ w. w.course ≡ course_of graph.now part.now) }
+        ensures bounds { IfOk result (λ w. (n : Node) → bound_of w.bounds n ≡ 0) }
         ensures owed { IfOk result (λ w. w.owed ≡ []) }
     {
         let back = follow_type(alloc, graph, &part.kind, opposite_way(part.way))?;
-        let bounds = marks_for(alloc, &back, if part.both { places } else { 0 })?;
+        let bounds = marks_for(alloc, &back, places)?;
         Ok(Walker {
             run: Run {
                 follow: follow_type(alloc, graph, &part.kind, part.way)?,
@@ -89,20 +95,23 @@ impl<'g> Walker<'g> {
         self.state = State::Over;
         if self.aimed != Some(end) {
             let rounds = (self.run.high / 2) as u8;
-            aim_at(&mut self.run.bounds, &self.back, end, rounds);
+            aim_at(&mut self.run.bounds, &self.back, &[end], rounds);
             self.aimed = Some(end);
         }
     }
 
-    /// From now on a walk may end at each node, and none is owed.
-    pub fn aim_nowhere(&mut self)
-        ensures bounds { (n : Node) → bound_of self.new.bounds n ≡ 0 }
+    /// From now on a walk may end at each of these nodes, and maybe at others, and none is owed. It
+    /// takes no memory.
+    pub fn aim_at_each(&mut self, ends: &[NodeId])
+        requires ends { AllByRecursion (λ n. is_node self.old.course.graph n ≡ true) ends.now }
+        ensures ends { AllByRecursion (λ n. bound_of self.new.bounds n ≡ 0) ends.now }
         ensures course { self.new.course ≡ self.old.course }
         ensures owed { self.new.owed ≡ [] }
     {
         self.state = State::Over;
-        self.run.bounds.clear();
         self.aimed = None;
+        let rounds = rounds_from(ends.len(), self.run.high);
+        aim_at(&mut self.run.bounds, &self.back, ends, rounds);
     }
 
     /// From now on the walks from this node are owed that end where they may, without those
@@ -155,5 +164,17 @@ impl<'g> Walker<'g> {
         ensures few { length result.now ≤ 16 }
     {
         self.search.rels()
+    }
+}
+
+// How many relationships far from so many nodes bounds are found for walks of at most so many.
+fn rounds_from(ends: usize, high: usize) -> u8
+    requires { high ≤ 16 }
+    ensures { result ≤ 16 }
+{
+    if ends <= MAX_SPREAD {
+        (high / 2) as u8
+    } else {
+        0
     }
 }

@@ -1,4 +1,5 @@
 use Rattle.std.proofs.Common.{◌≡◌, ◌≤◌, suc, length}
+use Rattle.std.specs.List.{AllByRecursion}
 use Rattle.gq_marks.specs.Marking.{mark_at}
 use Rattle.gq_store.specs.Neighbours.{opposite}
 use Rattle.gq_hops.specs.steps.Aims.{AreInside, IsAimed}
@@ -11,5 +12,5 @@ invariant-rounds l = record {
   rest : l.marks.rest ≡ suc l.level;
   inside : AreInside l.back.graph.now l.marks.reached;
   aimed : IsAimed l.back.graph.now l.back.kind.now (opposite l.back.way) l.level l.from l.marks;
-  end : mark_at l.marks.sheets l.fn.end ≡ 0;
+  ends : AllByRecursion (λ n. mark_at l.marks.sheets n ≡ 0) l.fn.ends;
 }
