@@ -8,8 +8,9 @@ use Rattle.gq_law_trails.specs.Trails.{Trailing, after_trails, with_list}
 use Rattle.gq_plan.specs.declared.TrailPart.{TrailPart}
 use Rattle.gq_plan.specs.Meaning.{Partial, look}
 use Rattle.gq_wide.specs.Rows.{Wide}
-use Rattle.gq_hops.specs.Walking.{Walking, course_of}
-use Rattle.gq_trails.specs.steps.Journeys.{AreWalkers, DropsMissed, HaveCourses, IsAt, IsFit, Journey, bound_by, frame_of, frames_at, no_walk, owed_at, owed_behind, part_at, patterns_of, reached_at, row_at, turn_at, walk_at, walked_at, walks_on}
+use Rattle.gq_hops.specs.Walking.{Walking}
+use Rattle.gq_marks.specs.Marking.{Marking, bound_of}
+use Rattle.gq_trails.specs.steps.Journeys.{AreWalkers, DropsMissed, HaveCourses, IsAt, IsFit, IsWalkerFor, Journey, bound_by, frame_of, frames_at, no_walk, owed_at, owed_behind, part_at, patterns_of, reached_at, row_at, turn_at, walk_at, walked_at, walks_on}
 use Rattle.gq_trails.specs.steps.Treks.{Frame, Turn, around, met_by, ways_by}
 use Rattle.gq_trails.proofs.Fitting.{split_parts}
 use Rattle.gq_trails.proofs.Moves.{arrives, first_of, goes_back, misses, starts}
@@ -57,13 +58,13 @@ module _ (ws : List Walking) (n : ℕ) (w : Walking) (low : n < length ws) where
   pub put_below : AreSameWalks (set ws n w) ws n
   put_below i less = let other : i ≢ n = omega arith in put_other i other
 
-  pub courses_put : (g : Graph) (parts : List TrailPart) (m : ℕ) → w.course ≡ (walk_at ws n).course → HaveCourses g parts ws m → HaveCourses g parts (set ws n w) m
-  courses_put g parts m same have i less = go (cases_eq i n)
+  pub courses_put : (g : Graph) (parts : List TrailPart) (m : ℕ) → IsWalkerFor g (part_at parts n) w → HaveCourses g parts ws m → HaveCourses g parts (set ws n w) m
+  courses_put g parts m goes have i less = go (cases_eq i n)
     where
-      go : (i ≡ n) ⊎ (i ≡ n → ⊥) → (walk_at (set ws n w) i).course ≡ course_of g (part_at parts i)
+      go : (i ≡ n) ⊎ (i ≡ n → ⊥) → IsWalkerFor g (part_at parts i) (walk_at (set ws n w) i)
       go (inl here) =
-          ap (λ k. (walk_at (set ws n w) k).course) here ∙ ap (λ (v : Walking). v.course) put_here ∙ same ∙ ap (λ k. (walk_at ws k).course) (sym here) ∙ have i less
-      go (inr other) = ap (λ (v : Walking). v.course) (put_other i other) ∙ have i less
+          subst (λ k. IsWalkerFor g (part_at parts k) (walk_at (set ws n w) k)) (sym here) (subst (IsWalkerFor g (part_at parts n)) (sym put_here) goes)
+      go (inr other) = subst (IsWalkerFor g (part_at parts i)) (sym (put_other i other)) (have i less)
 
   pub at_put : (j : Journey) (row : Wide) → IsAt j ws row n → IsAt j (set ws n w) row n
   at_put j row at = record {
@@ -72,10 +73,10 @@ module _ (ws : List Walking) (n : ℕ) (w : Walking) (low : n < length ws) where
     agrees = λ v free. at.agrees v free ∙ ap (λ (a : Partial). look a.nodes v) (sym (row_alike j (set ws n w) ws n put_below));
   }
 
-  pub walkers_put : (j : Journey) (row : Wide) → w.course ≡ (walk_at ws n).course → AreWalkers j ws row → AreWalkers j (set ws n w) row
-  walkers_put j row same are = record {
+  pub walkers_put : (j : Journey) (row : Wide) → IsWalkerFor j.graph (part_at j.parts n) w → AreWalkers j ws row → AreWalkers j (set ws n w) row
+  walkers_put j row goes are = record {
     count = length-set ws n w ∙ are.count;
-    courses = courses_put j.graph j.parts (length j.parts) same are.courses;
+    courses = courses_put j.graph j.parts (length j.parts) goes are.courses;
     ends = are.ends;
     base = are.base;
     rels = are.rels;
@@ -83,14 +84,21 @@ module _ (ws : List Walking) (n : ℕ) (w : Walking) (low : n < length ws) where
   }
 
 -- one more walker
-pub courses_push : (g : Graph) (parts : List TrailPart) (ws : List Walking) (w : Walking) (n : ℕ) → length ws ≡ n → HaveCourses g parts ws n → w.course ≡ course_of g (part_at parts n)
+pub courses_push : (g : Graph) (parts : List TrailPart) (ws : List Walking) (w : Walking) (n : ℕ) → length ws ≡ n → HaveCourses g parts ws n → IsWalkerFor g (part_at parts n) w
     → HaveCourses g parts (ws ++ w ∷ []) (n + 1)
-courses_push g parts ws w n many have is i less = elim (cases_lt i n) [
-  | inl low ↦ ap (λ (v : Walking). v.course) (get_or_append_left ws (w ∷ []) no_walk i (omega (arith, low, many))) ∙ have i low
+courses_push g parts ws w n many have goes i less = elim (cases_lt i n) [
+  | inl low ↦ subst (IsWalkerFor g (part_at parts i)) (sym (get_or_append_left ws (w ∷ []) no_walk i (omega (arith, low, many)))) (have i low)
   | inr high ↦
       let at : n ≡ i = omega (arith, less, high) in
-      subst (λ k. (walk_at (ws ++ w ∷ []) k).course ≡ course_of g (part_at parts k)) at (ap (λ (v : Walking). v.course) (get_or_push ws w no_walk n many) ∙ is)
+      subst (λ k. IsWalkerFor g (part_at parts k) (walk_at (ws ++ w ∷ []) k)) at (subst (IsWalkerFor g (part_at parts n)) (sym (get_or_push ws w no_walk n many)) goes)
 ]
+
+-- a walker that stays on its course and keeps its bounds
+pub stays_for : (g : Graph) (p : TrailPart) (old new : Walking) → new.course ≡ old.course → new.bounds ≡ old.bounds → IsWalkerFor g p old → IsWalkerFor g p new
+stays_for g p old new course bounds goes = record {
+  course = course ∙ goes.course;
+  fits = λ other n node fits. ap (λ (m : Marking). bound_of m n) bounds ∙ goes.fits other n node fits;
+}
 
 -- ---- what is owed
 

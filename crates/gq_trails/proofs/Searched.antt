@@ -1,6 +1,7 @@
 -- The steps of the search for ways to walk all trails.
 use Rattle.std.proofs.Common.{◌≡◌, ◌≢◌, ℕ, suc, ◌+◌, ◌-◌, ◌<◌, ◌≤◌, nat_eq, Bool, true, false, Option, Some, None, List, [], ◌∷◌, drop, filter, flat_map, length, set, refl, sym, ap, ap₂, ◌∙◌, subst, arith}
 use Rattle.std.proofs.lemmas.List.{drop_all, length-set}
+use Rattle.gq_base.specs.Valid.{is_valid}
 use Rattle.gq_base.specs.declared.NodeId.{NodeId}
 use Rattle.gq_base.specs.declared.RelId.{RelId}
 use Rattle.gq_law_trails.specs.Bounds.{comes, may_end_at}
@@ -15,7 +16,7 @@ use Rattle.gq_law_plans.proofs.Lookups.{look_some}
 use Rattle.gq_trails.specs.Trekking.{AreInTurn}
 use Rattle.gq_hops.specs.Walking.{Walking}
 use Rattle.gq_trails.specs.steps.Ends.{may_end, settled}
-use Rattle.gq_trails.specs.steps.Journeys.{AreWalkers, DropsMissed, HaveWalks, IsAt, IsDone, IsFound, IsStarted, Journey, frames_at, journey_of, owed_at, owed_behind, part_at, patterns_of, reached_at, row_at, turn_at, walk_at, walked_at, walks_on}
+use Rattle.gq_trails.specs.steps.Journeys.{AreWalkers, DropsMissed, HaveWalks, IsAt, IsDone, IsFound, IsStarted, IsWalkerFor, Journey, frames_at, journey_of, owed_at, owed_behind, part_at, patterns_of, reached_at, row_at, turn_at, walk_at, walked_at, walks_on}
 use Rattle.gq_trails.specs.steps.Treks.{around, met_by, ways_by}
 use Rattle.gq_trails.specs.steps.Standing.{IsCome, IsOut, IsOver}
 use Rattle.gq_trails.specs.declared.trek.Route.{Route}
@@ -23,6 +24,7 @@ use Rattle.gq_trails.specs.declared.trek.Trek.{Trek}
 use Rattle.gq_trails.proofs.Costs.{cost_at, less_back, less_missed, less_next}
 use Rattle.gq_trails.proofs.Fitting.{look_node, met_is, not_bound, split_parts}
 use Rattle.gq_trails.proofs.Going.{at_back, at_next, at_still, met_here, walkers_settled}
+use Rattle.gq_trails.proofs.Inside.{end_inside}
 use Rattle.gq_trails.proofs.Journeying.{AreSameWalks, at_put, frames_alike, owed_arrived, owed_back, owed_first, owed_missed, owed_none, owed_reached, owed_started, put_below, turn_alike, walkers_put}
 
 -- the search has come to a depth: what was owed at first is owed there
@@ -47,7 +49,7 @@ owed_alike j vs ws n same =
     ap₂ (λ fs t. around j.graph (patterns_of j) fs (flat_map (ways_by j.graph (patterns_of j) t) (walk_at vs n).owed)) (frames_alike j vs ws n below) (turn_alike j vs ws n below)
     ∙ ap (λ (w : Walking). around j.graph (patterns_of j) (frames_at j ws n) (flat_map (ways_by j.graph (patterns_of j) (turn_at j ws n)) w.owed)) (same n (omega arith))
 
-module _ (j : Journey) (owed : List Trailing) (ws : List Walking) (row : Wide) (n : ℕ) (going : IsGoing j owed ws row n) (w : Walking) (course : w.course ≡ (walk_at ws n).course) where
+module _ (j : Journey) (owed : List Trailing) (ws : List Walking) (row : Wide) (n : ℕ) (going : IsGoing j owed ws row n) (w : Walking) (goes : IsWalkerFor j.graph (part_at j.parts n) w) where
   abbrev vs : List Walking
   vs = set ws n w
 
@@ -58,7 +60,7 @@ module _ (j : Journey) (owed : List Trailing) (ws : List Walking) (row : Wide) (
   mid_at = at_put ws n w inside j row going.here
 
   pub mid_walkers : AreWalkers j (set ws n w) row
-  mid_walkers = walkers_put ws n w inside j row course going.walkers
+  mid_walkers = walkers_put ws n w inside j row goes going.walkers
 
   -- ---- its walker owes nothing
 
@@ -128,7 +130,7 @@ module _ (j : Journey) (owed : List Trailing) (ws : List Walking) (row : Wide) (
       -- and the next trail begins
       module _ (more : suc n < length j.parts) where
         module _ (u : Walking) (test : List RelId → Bool) (begins : u.owed ≡ filter test (walks_on j (set ws n w) (suc n))) (missed : DropsMissed j (set ws n w) (suc n) test)
-            (same : u.course ≡ (walk_at (set ws n w) (suc n)).course) where
+            (begun : IsWalkerFor j.graph (part_at j.parts (suc n)) u) where
           room : suc n < length (set ws n w)
           room = omega (arith, more, there_walkers.count)
 
@@ -136,7 +138,7 @@ module _ (j : Journey) (owed : List Trailing) (ws : List Walking) (row : Wide) (
           going_on = record {
             low = more;
             here = at_put (set ws n w) (suc n) u room j after there_at;
-            walkers = walkers_put (set ws n w) (suc n) u room j after same there_walkers;
+            walkers = walkers_put (set ws n w) (suc n) u room j after begun there_walkers;
             owed_is = owed_there ∙ owed_started j (set ws n w) (suc n) u test room more begins missed;
           }
 
@@ -150,10 +152,11 @@ module _ (j : Journey) (owed : List Trailing) (ws : List Walking) (row : Wide) (
             let begins : st.walk.owed ≡ filter st.test (walks_on j (set ws n w) (suc n)) = st.owed ∙ ap (filter st.test) (ap (λ (i : Journey). walks_on i mid.walkers.items m) same ∙ ap₂ (walks_on j) walkers at) in
             let missed : DropsMissed j (set ws n w) (suc n) st.test =
             subst (λ i. DropsMissed j (set ws n w) i st.test) at (subst (λ us. DropsMissed j us m st.test) walkers (subst (λ (i : Journey). DropsMissed i mid.walkers.items m st.test) same st.missed)) in
-            let course_is : st.walk.course ≡ (walk_at (set ws n w) (suc n)).course = st.course ∙ ap₂ (λ us i. (walk_at us i).course) walkers at in
+            let begun : IsWalkerFor j.graph (part_at j.parts (suc n)) st.walk =
+            subst (λ i. IsWalkerFor j.graph (part_at j.parts i) st.walk) at (subst (λ (i : Journey). IsWalkerFor i.graph (part_at i.parts m) st.walk) same st.goes) in
             let items : new.walkers.items ≡ set (set ws n w) (suc n) st.walk = st.is ∙ ap₂ (λ us i. set us i st.walk) walkers at in (
-              carried (IsGoing j owed) (going_on st.walk st.test begins missed course_is) items (st.row ∙ same_row) at,
-              carried (λ us r i. cost_at j us i < cost_at j ws n) (cost_on st.walk st.test begins missed course_is) items (st.row ∙ same_row) at,
+              carried (IsGoing j owed) (going_on st.walk st.test begins missed begun) items (st.row ∙ same_row) at,
+              carried (λ us r i. cost_at j us i < cost_at j ws n) (cost_on st.walk st.test begins missed begun) items (st.row ∙ same_row) at,
             )
 
 -- ---- what it has come to, in the words of the row that there is now
@@ -234,7 +237,7 @@ pub first_walkers : (r : Route) (old mid : Trek) → 0 < length old.walkers.item
     → AreWalkers (journey_of r old.row) old.walkers.items old.row → AreWalkers (journey_of r mid.row) mid.walkers.items mid.row
 first_walkers r old mid some st are =
     subst (λ (row : Wide). AreWalkers (journey_of r row) mid.walkers.items row) (sym st.row)
-    (subst (λ us. AreWalkers (journey_of r old.row) us old.row) (sym st.is) (walkers_put old.walkers.items 0 st.walk some (journey_of r old.row) old.row st.course are))
+    (subst (λ us. AreWalkers (journey_of r old.row) us old.row) (sym st.is) (walkers_put old.walkers.items 0 st.walk some (journey_of r old.row) old.row st.goes are))
 
 -- ---- the trail whose turn has come begins at a node
 
@@ -259,9 +262,9 @@ module _ (j : Journey) (ws : List Walking) (row : Wide) (n : ℕ) (low : n < len
       look_node j.graph (row_at j ws n).nodes (part_at j.parts n).to end (at.fits n (omega arith)).nodes (sym same ∙ is)
 
   -- a walk that ends where none may, meets nothing
-  pub met_not : (l : List RelId) (d : NodeId → ℕ) → ((end : NodeId) → may_end j.graph (part_at j.parts n) row end ≡ true → d end ≡ 0)
+  pub met_not : is_valid j.graph ≡ true → (l : List RelId) (d : NodeId → ℕ) → ((end : NodeId) → is_node j.graph end ≡ true → may_end j.graph (part_at j.parts n) row end ≡ true → d end ≡ 0)
       → comes j.graph (part_at j.parts n).way d (look (row_at j ws n).nodes (part_at j.parts n).from) l ≡ false → met_by j.graph (patterns_of j) (turn_at j ws n) l ≡ []
-  met_not l d zeros drops = go (end_of j.graph p.way (look (row_at j ws n).nodes p.from) l) refl drops
+  met_not valid l d zeros drops = go (end_of j.graph p.way (look (row_at j ws n).nodes p.from) l) refl drops
     where
       p : TrailPart
       p = part_at j.parts n
@@ -273,9 +276,12 @@ module _ (j : Journey) (ws : List Walking) (row : Wide) (n : ℕ) (low : n < len
       go None ends dropped = ap (arrivals j.graph p (row_at j ws n)) ends
       go (Some end) ends dropped = may (may_end j.graph p row end) refl
         where
+          there : is_node j.graph end ≡ true
+          there = end_inside j.graph valid p.way (look (row_at j ws n).nodes p.from) (λ m is. look_node j.graph (row_at j ws n).nodes p.from m (at.fits n (omega arith)).nodes is) l end ends
+
           may : (b : Bool) → may_end j.graph p row end ≡ b → met_by j.graph (patterns_of j) (turn_at j ws n) l ≡ []
           may false told = met_is j.graph p (row_at j ws n) l end ends false row known_there (sym told)
-          may true told = absurd (let lost : true ≡ false = sym (ap (λ k. nat_eq k 0) (zeros end told)) ∙ dropped in cc lost)
+          may true told = absurd (let lost : true ≡ false = sym (ap (λ k. nat_eq k 0) (zeros end there told)) ∙ dropped in cc lost)
 
   pub from_node : (start : NodeId) → item_at row.nodes (part_at j.parts n).from ≡ Some start → is_node j.graph start ≡ true
   from_node start is = look_node j.graph (row_at j ws n).nodes (part_at j.parts n).from start (at.fits n (omega arith)).nodes (sym from_is ∙ is)

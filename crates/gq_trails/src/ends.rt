@@ -1,13 +1,13 @@
 //! What is asked of the node where a walk of a trail ends.
-ghost use Rattle.std.specs.Prelude.{◌≡◌, ◌<◌, length, slice_get, IfOk, Some};
+ghost use Rattle.std.specs.Prelude.{◌≡◌, ◌<◌, length, IfOk, Some};
 ghost use Rattle.std.specs.List.{list_all};
-ghost use Rattle.gq_base.specs.Catalogs.{has_label};
 ghost use Rattle.gq_law_trails.specs.Trails.{fits_end};
 ghost use Rattle.gq_plan.specs.Allowed.{at_same};
 ghost use Rattle.gq_plan.specs.Meaning.{row, nothing, with_node};
 ghost use Rattle.gq_trails.specs.steps.Ends.{AreTests, holds, may_end, settled, tests_of};
 
-use gq_base::{Catalog, List, Memory, NodeId, RelId, Text, Value};
+use gq_base::{List, Memory, NodeId, RelId, Value};
+use gq_ends::has_labels;
 use gq_eval::{Evaluator, evaluators};
 use gq_expr::Assigned;
 use gq_plan::TrailPart;
@@ -93,28 +93,7 @@ fn fits(graph: &Graph, part: &TrailPart, tests: &[Evaluator<'_>], end: NodeId) -
         variable: part.to,
         node: end,
     };
-    has_labels(graph, part.labels.as_slice(), end) && pass(tests, &row)
-}
-
-fn has_labels(graph: &Graph, labels: &[Text], node: NodeId) -> bool
-    ensures { let table = slice_get graph.now.catalog.nodes node.table in
-        result ≡ list_all (has_label table) labels.now }
-{
-    let catalog = graph.catalog();
-    labels
-        .iter()
-        .all(|label| is_labelled(catalog, node.table, label))
-}
-
-// Whether there is a node table of this number, which has a label.
-#[tactic(auto, using(std::proofs::lemmas::Option::slice_get_past))]
-fn is_labelled(catalog: &Catalog, table: u32, label: &Text) -> bool
-    ensures { result ≡ has_label (slice_get catalog.now.nodes table) label.now }
-{
-    if catalog.node_tables() <= table {
-        return false;
-    }
-    catalog.has_label(table, label.as_str())
+    has_labels(graph, part.labels.as_slice(), end.table) && pass(tests, &row)
 }
 
 // Whether all tests are true of a row.

@@ -1,9 +1,9 @@
 //! The search for ways to walk all trails of a query: the walkers of the trails, and the row that
 //! their walks make.
 ghost use Rattle.std.specs.Prelude.{◌≡◌, ◌+◌, ◌*◌, ◌<◌, ◌≤◌, ◌++◌, ℕ, true, All, IfOk, length};
-ghost use Rattle.std.specs.Prelude.{None, Some, [], filter, nat_eq, if◌then◌else◌};
-ghost use Rattle.gq_base.specs.Plain.{Graph as Plain};
+ghost use Rattle.std.specs.Prelude.{None, Some, [], IfSome, filter, nat_eq, if◌then◌else◌};
 ghost use Rattle.gq_base.specs.declared.NodeId.{NodeId as Node};
+ghost use Rattle.gq_ends.specs.Ends.{AreEnds};
 ghost use Rattle.gq_law_trails.specs.Bounds.{comes};
 ghost use Rattle.gq_law_trails.specs.Walks.{walks};
 ghost use Rattle.gq_marks.specs.Marking.{bound_of};
@@ -11,7 +11,8 @@ ghost use Rattle.gq_plan.specs.Assignments.{is_node};
 ghost use Rattle.gq_law_trails.specs.Trails.{after_trails, taken_in};
 ghost use Rattle.gq_trails.specs.Trekking.{HasLength, patterns_in};
 ghost use Rattle.gq_trails.specs.steps.Ends.{AreTests, may_end, tests_of};
-ghost use Rattle.gq_trails.specs.steps.Journeys.{AreWalkers, HaveCourses, IsAt, IsFound, IsMade};
+ghost use Rattle.gq_trails.specs.steps.Journeys.{AreWalkers, GoesToFits, HaveCourses, IsAt, IsFound};
+ghost use Rattle.gq_trails.specs.steps.Journeys.{IsMade, IsWalkerFor};
 ghost use Rattle.gq_trails.specs.steps.Journeys.{IsStarted, IsTried, journey_of, owed_at, owed_behind};
 ghost use Rattle.gq_trails.specs.steps.Journeys.{part_at, patterns_of, walk_at, walked_at};
 ghost use Rattle.gq_trails.specs.steps.Standing.{IsOver};
@@ -20,6 +21,7 @@ ghost use Rattle.gq_wide.specs.Rows.{item_at};
 use crate::ends::arrives;
 use crate::taken::Taken;
 use gq_base::{List, Memory, NodeId, RelId};
+use gq_ends::end_nodes;
 use gq_eval::Evaluator;
 use gq_expr::Assigned;
 use gq_hops::Walker;
@@ -101,6 +103,7 @@ impl<'g> Trek<'g> {
         match self.row.node(part.from) {
             None => (),
             Some(start) => {
+                route.graph.stands_valid();
                 let taken = self.taken.as_slice();
                 begin_at(&mut self.walkers[depth], part, &self.row, start, taken);
             }
@@ -210,21 +213,36 @@ fn begin_at(
     requires few { length taken.now ≤ 384 }
     requires end { part.now.both ≡ true → (n : Node) → item_at row.now.nodes part.now.to ≡ Some n →
         is_node walker.old.course.graph n ≡ true }
+    requires fits { GoesToFits walker.old.course.graph part.now walker.old.bounds }
     ensures owed { let c = walker.old.course in
         walker.new.owed ≡ filter (comes c.graph c.way (bound_of walker.new.bounds) (Some start))
         (walks c.graph c.kind c.way c.low c.high (Some start) taken.now) }
-    ensures bounds { (g : Plain) (n : Node) → may_end g part.now row.now n ≡ true →
-        bound_of walker.new.bounds n ≡ 0 }
+    ensures bounds { let g = walker.old.course.graph in (n : Node) → is_node g n ≡ true →
+        may_end g part.now row.now n ≡ true → bound_of walker.new.bounds n ≡ 0 }
+    ensures fits { GoesToFits walker.old.course.graph part.now walker.new.bounds }
     ensures course { walker.new.course ≡ walker.old.course }
 {
-    if part.both {
-        if let Some(end) = row.node(part.to) {
-            walker.aim(end);
-        }
-    } else {
-        walker.aim_nowhere();
-    }
+    aim_for(walker, part, row);
     walker.begin(start, taken);
+}
+
+// Where the other end of a walker's trail is bound in a row, the walker goes there.
+fn aim_for(walker: &mut Walker<'_>, part: &TrailPart, row: &WideRow)
+    requires end { part.now.both ≡ true → (n : Node) → item_at row.now.nodes part.now.to ≡ Some n →
+        is_node walker.old.course.graph n ≡ true }
+    requires fits { GoesToFits walker.old.course.graph part.now walker.old.bounds }
+    ensures bounds { let g = walker.old.course.graph in (n : Node) → is_node g n ≡ true →
+        may_end g part.now row.now n ≡ true → bound_of walker.new.bounds n ≡ 0 }
+    ensures fits { GoesToFits walker.old.course.graph part.now walker.new.bounds }
+    ensures course { walker.new.course ≡ walker.old.course }
+{
+    if !part.both {
+        return;
+    }
+    match row.node(part.to) {
+        None => (),
+        Some(end) => walker.aim(end),
+    }
 }
 
 // A walker for each trail.
@@ -243,9 +261,48 @@ fn walkers_for<'g>(
     };
     let mut walkers = Vec::with_capacity(alloc, parts.len())?;
     'parts: for part in parts {
-        walkers.push(Walker::new(alloc, graph, part, places)?)?;
+        walkers.push(walker_for(alloc, graph, part, places)?)?;
     }
     Ok(walkers)
+}
+
+// A walker for a trail, with so many places for bounds where it has an aim: it goes where the nodes
+// are that the trail asks for, if they are found.
+fn walker_for<'g>(
+    alloc: Global,
+    graph: &'g Graph,
+    part: &'g TrailPart,
+    places: usize,
+) -> Result<Walker<'g>, Memory>
+    requires { HasLength part.now }
+    ensures { IfOk result (IsWalkerFor graph.now part.now) }
+{
+    match ends_for(alloc, graph, part) {
+        None => {
+            let places = if part.both { places } else { 0 };
+            let walker = Walker::new(alloc, graph, part, places)?;
+            Ok(walker)
+        }
+        Some(ends) => {
+            let mut walker = Walker::new(alloc, graph, part, places)?;
+            walker.aim_at_each(ends.as_slice());
+            Ok(walker)
+        }
+    }
+}
+
+// The nodes at which a walk of a trail may end, where the trail binds its other end and asks
+// something of it, if they are found. They only save time, so that without memory there are none.
+fn ends_for(alloc: Global, graph: &Graph, part: &TrailPart) -> Option<Vec<NodeId>>
+    ensures { IfSome result (λ ends. AreEnds graph.now part.now ends.items) }
+{
+    if part.both || (part.labels.is_empty() && part.tests.is_empty()) {
+        return None;
+    }
+    match end_nodes(alloc, graph, part) {
+        Ok(found) => found,
+        Err(_) => None,
+    }
 }
 
 // Adds what those of the first trails have walked that are of a clause, the latest first.

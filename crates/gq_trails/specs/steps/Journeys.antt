@@ -6,7 +6,7 @@ use Rattle.gq_base.specs.declared.NodeId.{NodeId}
 use Rattle.gq_base.specs.declared.RelId.{RelId}
 use Rattle.gq_base.specs.declared.direction.Direction.TheVariants.{Forward}
 use Rattle.gq_law_plans.specs.Bindings.{bound}
-use Rattle.gq_law_trails.specs.Trails.{Trailing, walks_from}
+use Rattle.gq_law_trails.specs.Trails.{Trailing, fits_end, walks_from}
 use Rattle.gq_law_trails.specs.Walks.{end_of}
 use Rattle.gq_plan.specs.declared.TrailPart.{TrailPart}
 use Rattle.gq_plan.specs.Assignments.{is_node}
@@ -15,6 +15,7 @@ use Rattle.gq_plan.specs.declared.TypedRel.{TypedRel}
 use Rattle.gq_wide.specs.Rows.{Wide, item_at}
 use Rattle.gq_trails.specs.Trekking.{AreInTurn, AreNodes, patterns_in, placed_from}
 use Rattle.gq_hops.specs.Walking.{Walking, course_of}
+use Rattle.gq_marks.specs.Marking.{Marking, bound_of}
 use Rattle.gq_trails.specs.steps.Ends.{may_end, settled}
 use Rattle.gq_trails.specs.steps.Treks.{Frame, Turn, around, met_by, ways_by, wrapped}
 use Rattle.gq_trails.specs.declared.trek.Route.{Route}
@@ -121,9 +122,18 @@ pub record IsAt (j : Journey) (ws : List Walking) (row : Wide) (n : ℕ) : Type 
   pub fits : (i : ℕ) → i ≤ n → IsFit j.graph (drop i j.parts) (row_at j ws i)
   pub agrees : (v : ℕ) → list_any (binds v) (drop n j.parts) ≡ false → item_at row.nodes v ≡ look (row_at j ws n).nodes v
 
+-- where a trail binds its other end, a walk may end at each node that is as the trail asks
+abbrev pub GoesToFits : Graph → TrailPart → Marking → Type 0
+GoesToFits g p m = p.both ≡ false → (n : NodeId) → is_node g n ≡ true → fits_end g p n ≡ true → bound_of m n ≡ 0
+
+-- a walker goes over a trail
+pub record IsWalkerFor (g : Graph) (p : TrailPart) (w : Walking) : Type 0 where
+  pub course : w.course ≡ course_of g p
+  pub fits : GoesToFits g p w.bounds
+
 -- the first walkers, so many of them, go over the trails
 abbrev pub HaveCourses : Graph → List TrailPart → List Walking → ℕ → Type 0
-HaveCourses g parts ws n = (i : ℕ) → i < n → (walk_at ws i).course ≡ course_of g (part_at parts i)
+HaveCourses g parts ws n = (i : ℕ) → i < n → IsWalkerFor g (part_at parts i) (walk_at ws i)
 
 -- there is a walker for each trail, and the row has their variables and the base
 pub record AreWalkers (j : Journey) (ws : List Walking) (row : Wide) : Type 0 where
@@ -166,7 +176,7 @@ pub record IsStarted (j : Journey) (n : ℕ) (old new : Trek) : Type 0 where
   pub test : List RelId → Bool
   pub owed : walk.owed ≡ filter test (walks_on j old.walkers.items n)
   pub missed : DropsMissed j old.walkers.items n test
-  pub course : walk.course ≡ (walk_at old.walkers.items n).course
+  pub goes : IsWalkerFor j.graph (part_at j.parts n) walk
   pub row : new.row ≡ old.row
 
 -- each trail has a walk: the first of what was owed is reached, and the rest is owed

@@ -3,9 +3,9 @@ use Rattle.std.proofs.lemmas.List.{get_or_read}
 use Rattle.gq_base.specs.declared.NodeId.{NodeId}
 use Rattle.gq_law_trails.specs.Walks.{end_of}
 use Rattle.gq_hops.specs.Walking.{Walking}
-use Rattle.gq_trails.specs.steps.Journeys.{AreWalkers, HaveWalks, IsAt, Journey, journey_of, no_walk, owed_at, part_at, walk_at}
+use Rattle.gq_trails.specs.steps.Journeys.{AreWalkers, HaveWalks, IsAt, IsWalkerFor, Journey, journey_of, no_walk, owed_at, part_at, walk_at}
 use Rattle.gq_trails.proofs.Costs.{cost_at}
-use Rattle.gq_trails.proofs.Journeying.{put_here}
+use Rattle.gq_trails.proofs.Journeying.{put_here, stays_for}
 use Rattle.gq_trails.proofs.Searched.{IsGoing, carried, cost_back, cost_still, done, going_back, going_still, mid_walkers, same_journey, started_on, there_at, there_walkers, walks_there}
 use Rattle.gq_trails.proofs.trek.Trek.next.Goals as goal
 
@@ -19,13 +19,14 @@ returns-then-depth-route c =
     let owed = owed_at j c.args.self.now.walkers.items c.args.from in
     let going : IsGoing j owed s.walkers.items s.row n = c.loop-self.invariant in
     let elem : c.index_mut.result.now ≡ walk_at s.walkers.items n = get_or_read s.walkers.items n c.index_mut.result.now (omega (arith, going.low, going.walkers.count)) c.index_mut.ensures.value no_walk in
-    let course : w.course ≡ (walk_at s.walkers.items n).course = c.advance.ensures.course ∙ ap (λ (v : Walking). v.course) elem in
+    let goes : IsWalkerFor j.graph (part_at j.parts n) w =
+    stays_for j.graph (part_at j.parts n) (walk_at s.walkers.items n) w (c.advance.ensures.course ∙ ap (λ (v : Walking). v.course) elem) (c.advance.ensures.bounds ∙ ap (λ (v : Walking). v.bounds) elem) (going.walkers.courses n going.low) in
     let next : (walk_at s.walkers.items n).owed ≡ w.rels ∷ w.owed = ap (λ (v : Walking). v.owed) (sym elem) ∙ c.advance.ensures.next c.if-advance.true in
     let here : walk_at (set s.walkers.items n w) n ≡ w = put_here s.walkers.items n w (omega (arith, going.low, going.walkers.count)) in
     let tried = c.goes_on.ensures in
     let ends : (at : Option NodeId) → end_of j.graph (part_at j.parts n).way at w.rels ≡ Some tried.end = λ at. ap (λ (v : Walking). end_of j.graph (part_at j.parts n).way at v.rels) (sym here) ∙ tried.ends at in
     let last : suc n ≡ length j.parts = omega (arith, c.if-depth-route.true) in
-    let h : HaveWalks j owed (set s.walkers.items n w) _ = walks_there j owed s.walkers.items s.row n going w course next (c.advance.ensures.stands c.if-advance.true) tried.end ends tried.there (sym c.if-goes_on.true ∙ tried.told) last in
+    let h : HaveWalks j owed (set s.walkers.items n w) _ = walks_there j owed s.walkers.items s.row n going w goes next (c.advance.ensures.stands c.if-advance.true) tried.end ends tried.there (sym c.if-goes_on.true ∙ tried.told) last in
     carried (λ us row i. HaveWalks j owed us row) {n = 0} {m = 0} h tried.walkers tried.row refl
 
 pub start-requires-clause-at : goal.start-requires-clause-at
@@ -38,15 +39,36 @@ start-requires-clause-at c =
     let owed = owed_at j c.args.self.now.walkers.items c.args.from in
     let going : IsGoing j owed s.walkers.items s.row n = c.loop-self.invariant in
     let elem : c.index_mut.result.now ≡ walk_at s.walkers.items n = get_or_read s.walkers.items n c.index_mut.result.now (omega (arith, going.low, going.walkers.count)) c.index_mut.ensures.value no_walk in
-    let course : w.course ≡ (walk_at s.walkers.items n).course = c.advance.ensures.course ∙ ap (λ (v : Walking). v.course) elem in
+    let goes : IsWalkerFor j.graph (part_at j.parts n) w =
+    stays_for j.graph (part_at j.parts n) (walk_at s.walkers.items n) w (c.advance.ensures.course ∙ ap (λ (v : Walking). v.course) elem) (c.advance.ensures.bounds ∙ ap (λ (v : Walking). v.bounds) elem) (going.walkers.courses n going.low) in
     let next : (walk_at s.walkers.items n).owed ≡ w.rels ∷ w.owed = ap (λ (v : Walking). v.owed) (sym elem) ∙ c.advance.ensures.next c.if-advance.true in
     let here : walk_at (set s.walkers.items n w) n ≡ w = put_here s.walkers.items n w (omega (arith, going.low, going.walkers.count)) in
     let tried = c.goes_on.ensures in
     let ends : (at : Option NodeId) → end_of j.graph (part_at j.parts n).way at w.rels ≡ Some tried.end = λ at. ap (λ (v : Walking). end_of j.graph (part_at j.parts n).way at v.rels) (sym here) ∙ tried.ends at in
     let one : n + 1 ≡ suc n = omega arith in
-    let are = carried (λ us row i. AreWalkers j us row) (there_walkers j owed s.walkers.items s.row n going w course next (c.advance.ensures.stands c.if-advance.true) tried.end ends tried.there (sym c.if-goes_on.true ∙ tried.told)) tried.walkers tried.row one in
-    let at = carried (IsAt j) (there_at j owed s.walkers.items s.row n going w course next (c.advance.ensures.stands c.if-advance.true) tried.end ends tried.there (sym c.if-goes_on.true ∙ tried.told)) tried.walkers tried.row one in
+    let are = carried (λ us row i. AreWalkers j us row) (there_walkers j owed s.walkers.items s.row n going w goes next (c.advance.ensures.stands c.if-advance.true) tried.end ends tried.there (sym c.if-goes_on.true ∙ tried.told)) tried.walkers tried.row one in
+    let at = carried (IsAt j) (there_at j owed s.walkers.items s.row n going w goes next (c.advance.ensures.stands c.if-advance.true) tried.end ends tried.there (sym c.if-goes_on.true ∙ tried.told)) tried.walkers tried.row one in
     subst (λ k. IsAt k c.goes_on.new.self.walkers.items c.goes_on.new.self.row (n + 1)) (sym (same_journey r c.args.self.now.row c.goes_on.new.self.row c.goes_on.new.self.walkers.items are)) at
+
+pub start-requires-clause-walkers : goal.start-requires-clause-walkers
+start-requires-clause-walkers c =
+    let r = c.args.route.now in
+    let j : Journey = journey_of r c.args.self.now.row in
+    let s = c.loop-self.self in
+    let n = c.loop-self.depth in
+    let w : Walking = c.advance.new.self in
+    let owed = owed_at j c.args.self.now.walkers.items c.args.from in
+    let going : IsGoing j owed s.walkers.items s.row n = c.loop-self.invariant in
+    let elem : c.index_mut.result.now ≡ walk_at s.walkers.items n = get_or_read s.walkers.items n c.index_mut.result.now (omega (arith, going.low, going.walkers.count)) c.index_mut.ensures.value no_walk in
+    let goes : IsWalkerFor j.graph (part_at j.parts n) w =
+    stays_for j.graph (part_at j.parts n) (walk_at s.walkers.items n) w (c.advance.ensures.course ∙ ap (λ (v : Walking). v.course) elem) (c.advance.ensures.bounds ∙ ap (λ (v : Walking). v.bounds) elem) (going.walkers.courses n going.low) in
+    let next : (walk_at s.walkers.items n).owed ≡ w.rels ∷ w.owed = ap (λ (v : Walking). v.owed) (sym elem) ∙ c.advance.ensures.next c.if-advance.true in
+    let here : walk_at (set s.walkers.items n w) n ≡ w = put_here s.walkers.items n w (omega (arith, going.low, going.walkers.count)) in
+    let tried = c.goes_on.ensures in
+    let ends : (at : Option NodeId) → end_of j.graph (part_at j.parts n).way at w.rels ≡ Some tried.end = λ at. ap (λ (v : Walking). end_of j.graph (part_at j.parts n).way at v.rels) (sym here) ∙ tried.ends at in
+    let one : n + 1 ≡ suc n = omega arith in
+    let are = carried (λ us row i. AreWalkers j us row) (there_walkers j owed s.walkers.items s.row n going w goes next (c.advance.ensures.stands c.if-advance.true) tried.end ends tried.there (sym c.if-goes_on.true ∙ tried.told)) tried.walkers tried.row one in
+    subst (λ k. AreWalkers k c.goes_on.new.self.walkers.items c.goes_on.new.self.row) (sym (same_journey r c.args.self.now.row c.goes_on.new.self.row c.goes_on.new.self.walkers.items are)) are
 
 pub loop-self-smaller-then-goes_on : goal.loop-self-smaller-then-goes_on
 loop-self-smaller-then-goes_on c =
@@ -58,15 +80,16 @@ loop-self-smaller-then-goes_on c =
     let owed = owed_at j c.args.self.now.walkers.items c.args.from in
     let going : IsGoing j owed s.walkers.items s.row n = c.loop-self.invariant in
     let elem : c.index_mut.result.now ≡ walk_at s.walkers.items n = get_or_read s.walkers.items n c.index_mut.result.now (omega (arith, going.low, going.walkers.count)) c.index_mut.ensures.value no_walk in
-    let course : w.course ≡ (walk_at s.walkers.items n).course = c.advance.ensures.course ∙ ap (λ (v : Walking). v.course) elem in
+    let goes : IsWalkerFor j.graph (part_at j.parts n) w =
+    stays_for j.graph (part_at j.parts n) (walk_at s.walkers.items n) w (c.advance.ensures.course ∙ ap (λ (v : Walking). v.course) elem) (c.advance.ensures.bounds ∙ ap (λ (v : Walking). v.bounds) elem) (going.walkers.courses n going.low) in
     let next : (walk_at s.walkers.items n).owed ≡ w.rels ∷ w.owed = ap (λ (v : Walking). v.owed) (sym elem) ∙ c.advance.ensures.next c.if-advance.true in
     let here : walk_at (set s.walkers.items n w) n ≡ w = put_here s.walkers.items n w (omega (arith, going.low, going.walkers.count)) in
     let tried = c.goes_on.ensures in
     let ends : (at : Option NodeId) → end_of j.graph (part_at j.parts n).way at w.rels ≡ Some tried.end = λ at. ap (λ (v : Walking). end_of j.graph (part_at j.parts n).way at v.rels) (sym here) ∙ tried.ends at in
     let one : n + 1 ≡ suc n = omega arith in
     let more : suc n < length j.parts = omega (arith, c.if-depth-route.false, going.low) in
-    let are = carried (λ us row i. AreWalkers j us row) (there_walkers j owed s.walkers.items s.row n going w course next (c.advance.ensures.stands c.if-advance.true) tried.end ends tried.there (sym c.if-goes_on.true ∙ tried.told)) tried.walkers tried.row one in
-    (started_on j owed s.walkers.items s.row n going w course next (c.advance.ensures.stands c.if-advance.true) tried.end ends tried.there (sym c.if-goes_on.true ∙ tried.told) more c.goes_on.new.self c.start.new.self (n + 1) (journey_of r c.goes_on.new.self.row)
+    let are = carried (λ us row i. AreWalkers j us row) (there_walkers j owed s.walkers.items s.row n going w goes next (c.advance.ensures.stands c.if-advance.true) tried.end ends tried.there (sym c.if-goes_on.true ∙ tried.told)) tried.walkers tried.row one in
+    (started_on j owed s.walkers.items s.row n going w goes next (c.advance.ensures.stands c.if-advance.true) tried.end ends tried.there (sym c.if-goes_on.true ∙ tried.told) more c.goes_on.new.self c.start.new.self (n + 1) (journey_of r c.goes_on.new.self.row)
     tried.walkers tried.row one (same_journey r c.args.self.now.row c.goes_on.new.self.row c.goes_on.new.self.walkers.items are) c.start.ensures).1
 
 pub loop-self-preserved-then-goes_on : goal.loop-self-preserved-then-goes_on
@@ -79,15 +102,16 @@ loop-self-preserved-then-goes_on c =
     let owed = owed_at j c.args.self.now.walkers.items c.args.from in
     let going : IsGoing j owed s.walkers.items s.row n = c.loop-self.invariant in
     let elem : c.index_mut.result.now ≡ walk_at s.walkers.items n = get_or_read s.walkers.items n c.index_mut.result.now (omega (arith, going.low, going.walkers.count)) c.index_mut.ensures.value no_walk in
-    let course : w.course ≡ (walk_at s.walkers.items n).course = c.advance.ensures.course ∙ ap (λ (v : Walking). v.course) elem in
+    let goes : IsWalkerFor j.graph (part_at j.parts n) w =
+    stays_for j.graph (part_at j.parts n) (walk_at s.walkers.items n) w (c.advance.ensures.course ∙ ap (λ (v : Walking). v.course) elem) (c.advance.ensures.bounds ∙ ap (λ (v : Walking). v.bounds) elem) (going.walkers.courses n going.low) in
     let next : (walk_at s.walkers.items n).owed ≡ w.rels ∷ w.owed = ap (λ (v : Walking). v.owed) (sym elem) ∙ c.advance.ensures.next c.if-advance.true in
     let here : walk_at (set s.walkers.items n w) n ≡ w = put_here s.walkers.items n w (omega (arith, going.low, going.walkers.count)) in
     let tried = c.goes_on.ensures in
     let ends : (at : Option NodeId) → end_of j.graph (part_at j.parts n).way at w.rels ≡ Some tried.end = λ at. ap (λ (v : Walking). end_of j.graph (part_at j.parts n).way at v.rels) (sym here) ∙ tried.ends at in
     let one : n + 1 ≡ suc n = omega arith in
     let more : suc n < length j.parts = omega (arith, c.if-depth-route.false, going.low) in
-    let are = carried (λ us row i. AreWalkers j us row) (there_walkers j owed s.walkers.items s.row n going w course next (c.advance.ensures.stands c.if-advance.true) tried.end ends tried.there (sym c.if-goes_on.true ∙ tried.told)) tried.walkers tried.row one in
-    (started_on j owed s.walkers.items s.row n going w course next (c.advance.ensures.stands c.if-advance.true) tried.end ends tried.there (sym c.if-goes_on.true ∙ tried.told) more c.goes_on.new.self c.start.new.self (n + 1) (journey_of r c.goes_on.new.self.row)
+    let are = carried (λ us row i. AreWalkers j us row) (there_walkers j owed s.walkers.items s.row n going w goes next (c.advance.ensures.stands c.if-advance.true) tried.end ends tried.there (sym c.if-goes_on.true ∙ tried.told)) tried.walkers tried.row one in
+    (started_on j owed s.walkers.items s.row n going w goes next (c.advance.ensures.stands c.if-advance.true) tried.end ends tried.there (sym c.if-goes_on.true ∙ tried.told) more c.goes_on.new.self c.start.new.self (n + 1) (journey_of r c.goes_on.new.self.row)
     tried.walkers tried.row one (same_journey r c.args.self.now.row c.goes_on.new.self.row c.goes_on.new.self.walkers.items are) c.start.ensures).0
 
 pub loop-self-smaller-else-goes_on : goal.loop-self-smaller-else-goes_on
@@ -100,13 +124,14 @@ loop-self-smaller-else-goes_on c =
     let owed = owed_at j c.args.self.now.walkers.items c.args.from in
     let going : IsGoing j owed s.walkers.items s.row n = c.loop-self.invariant in
     let elem : c.index_mut.result.now ≡ walk_at s.walkers.items n = get_or_read s.walkers.items n c.index_mut.result.now (omega (arith, going.low, going.walkers.count)) c.index_mut.ensures.value no_walk in
-    let course : w.course ≡ (walk_at s.walkers.items n).course = c.advance.ensures.course ∙ ap (λ (v : Walking). v.course) elem in
+    let goes : IsWalkerFor j.graph (part_at j.parts n) w =
+    stays_for j.graph (part_at j.parts n) (walk_at s.walkers.items n) w (c.advance.ensures.course ∙ ap (λ (v : Walking). v.course) elem) (c.advance.ensures.bounds ∙ ap (λ (v : Walking). v.bounds) elem) (going.walkers.courses n going.low) in
     let next : (walk_at s.walkers.items n).owed ≡ w.rels ∷ w.owed = ap (λ (v : Walking). v.owed) (sym elem) ∙ c.advance.ensures.next c.if-advance.true in
     let here : walk_at (set s.walkers.items n w) n ≡ w = put_here s.walkers.items n w (omega (arith, going.low, going.walkers.count)) in
     let tried = c.goes_on.ensures in
     let ends : (at : Option NodeId) → end_of j.graph (part_at j.parts n).way at w.rels ≡ Some tried.end = λ at. ap (λ (v : Walking). end_of j.graph (part_at j.parts n).way at v.rels) (sym here) ∙ tried.ends at in
     subst (λ us. cost_at j us n < cost_at j s.walkers.items n) (sym tried.walkers)
-    (cost_still j owed s.walkers.items s.row n going w course next (c.advance.ensures.stands c.if-advance.true) tried.end ends tried.there)
+    (cost_still j owed s.walkers.items s.row n going w goes next (c.advance.ensures.stands c.if-advance.true) tried.end ends tried.there)
 
 pub loop-self-preserved-else-goes_on : goal.loop-self-preserved-else-goes_on
 loop-self-preserved-else-goes_on c =
@@ -118,12 +143,13 @@ loop-self-preserved-else-goes_on c =
     let owed = owed_at j c.args.self.now.walkers.items c.args.from in
     let going : IsGoing j owed s.walkers.items s.row n = c.loop-self.invariant in
     let elem : c.index_mut.result.now ≡ walk_at s.walkers.items n = get_or_read s.walkers.items n c.index_mut.result.now (omega (arith, going.low, going.walkers.count)) c.index_mut.ensures.value no_walk in
-    let course : w.course ≡ (walk_at s.walkers.items n).course = c.advance.ensures.course ∙ ap (λ (v : Walking). v.course) elem in
+    let goes : IsWalkerFor j.graph (part_at j.parts n) w =
+    stays_for j.graph (part_at j.parts n) (walk_at s.walkers.items n) w (c.advance.ensures.course ∙ ap (λ (v : Walking). v.course) elem) (c.advance.ensures.bounds ∙ ap (λ (v : Walking). v.bounds) elem) (going.walkers.courses n going.low) in
     let next : (walk_at s.walkers.items n).owed ≡ w.rels ∷ w.owed = ap (λ (v : Walking). v.owed) (sym elem) ∙ c.advance.ensures.next c.if-advance.true in
     let here : walk_at (set s.walkers.items n w) n ≡ w = put_here s.walkers.items n w (omega (arith, going.low, going.walkers.count)) in
     let tried = c.goes_on.ensures in
     let ends : (at : Option NodeId) → end_of j.graph (part_at j.parts n).way at w.rels ≡ Some tried.end = λ at. ap (λ (v : Walking). end_of j.graph (part_at j.parts n).way at v.rels) (sym here) ∙ tried.ends at in
-    carried (IsGoing j owed) (going_still j owed s.walkers.items s.row n going w course next (c.advance.ensures.stands c.if-advance.true) tried.end ends tried.there (sym c.if-goes_on.false ∙ tried.told)) tried.walkers tried.row refl
+    carried (IsGoing j owed) (going_still j owed s.walkers.items s.row n going w goes next (c.advance.ensures.stands c.if-advance.true) tried.end ends tried.there (sym c.if-goes_on.false ∙ tried.told)) tried.walkers tried.row refl
 
 pub returns-then-depth-eq0 : goal.returns-then-depth-eq0
 returns-then-depth-eq0 c =
@@ -135,9 +161,10 @@ returns-then-depth-eq0 c =
     let owed = owed_at j c.args.self.now.walkers.items c.args.from in
     let going : IsGoing j owed s.walkers.items s.row n = c.loop-self.invariant in
     let elem : c.index_mut.result.now ≡ walk_at s.walkers.items n = get_or_read s.walkers.items n c.index_mut.result.now (omega (arith, going.low, going.walkers.count)) c.index_mut.ensures.value no_walk in
-    let course : w.course ≡ (walk_at s.walkers.items n).course = c.advance.ensures.course ∙ ap (λ (v : Walking). v.course) elem in
+    let goes : IsWalkerFor j.graph (part_at j.parts n) w =
+    stays_for j.graph (part_at j.parts n) (walk_at s.walkers.items n) w (c.advance.ensures.course ∙ ap (λ (v : Walking). v.course) elem) (c.advance.ensures.bounds ∙ ap (λ (v : Walking). v.bounds) elem) (going.walkers.courses n going.low) in
     let none : (walk_at s.walkers.items n).owed ≡ [] = ap (λ (v : Walking). v.owed) (sym elem) ∙ c.advance.ensures.none c.if-advance.false in
-    record { walkers = mid_walkers j owed s.walkers.items s.row n going w course; none = done j owed s.walkers.items s.row n going w course none c.if-depth-eq0.true }
+    record { walkers = mid_walkers j owed s.walkers.items s.row n going w goes; none = done j owed s.walkers.items s.row n going w goes none c.if-depth-eq0.true }
 
 pub loop-self-smaller : goal.loop-self-smaller
 loop-self-smaller c =
@@ -149,9 +176,10 @@ loop-self-smaller c =
     let owed = owed_at j c.args.self.now.walkers.items c.args.from in
     let going : IsGoing j owed s.walkers.items s.row n = c.loop-self.invariant in
     let elem : c.index_mut.result.now ≡ walk_at s.walkers.items n = get_or_read s.walkers.items n c.index_mut.result.now (omega (arith, going.low, going.walkers.count)) c.index_mut.ensures.value no_walk in
-    let course : w.course ≡ (walk_at s.walkers.items n).course = c.advance.ensures.course ∙ ap (λ (v : Walking). v.course) elem in
+    let goes : IsWalkerFor j.graph (part_at j.parts n) w =
+    stays_for j.graph (part_at j.parts n) (walk_at s.walkers.items n) w (c.advance.ensures.course ∙ ap (λ (v : Walking). v.course) elem) (c.advance.ensures.bounds ∙ ap (λ (v : Walking). v.bounds) elem) (going.walkers.courses n going.low) in
     let none : (walk_at s.walkers.items n).owed ≡ [] = ap (λ (v : Walking). v.owed) (sym elem) ∙ c.advance.ensures.none c.if-advance.false in
-    cost_back j owed s.walkers.items s.row n going w course none c.if-depth-eq0.false
+    cost_back j owed s.walkers.items s.row n going w goes none c.if-depth-eq0.false
 
 pub loop-self-preserved : goal.loop-self-preserved
 loop-self-preserved c =
@@ -163,6 +191,7 @@ loop-self-preserved c =
     let owed = owed_at j c.args.self.now.walkers.items c.args.from in
     let going : IsGoing j owed s.walkers.items s.row n = c.loop-self.invariant in
     let elem : c.index_mut.result.now ≡ walk_at s.walkers.items n = get_or_read s.walkers.items n c.index_mut.result.now (omega (arith, going.low, going.walkers.count)) c.index_mut.ensures.value no_walk in
-    let course : w.course ≡ (walk_at s.walkers.items n).course = c.advance.ensures.course ∙ ap (λ (v : Walking). v.course) elem in
+    let goes : IsWalkerFor j.graph (part_at j.parts n) w =
+    stays_for j.graph (part_at j.parts n) (walk_at s.walkers.items n) w (c.advance.ensures.course ∙ ap (λ (v : Walking). v.course) elem) (c.advance.ensures.bounds ∙ ap (λ (v : Walking). v.bounds) elem) (going.walkers.courses n going.low) in
     let none : (walk_at s.walkers.items n).owed ≡ [] = ap (λ (v : Walking). v.owed) (sym elem) ∙ c.advance.ensures.none c.if-advance.false in
-    going_back j owed s.walkers.items s.row n going w course none c.if-depth-eq0.false
+    going_back j owed s.walkers.items s.row n going w goes none c.if-depth-eq0.false
