@@ -6,21 +6,22 @@ use Rattle.std.proofs.lemmas.Bool.{and_parts, eq-eqb}
 use Rattle.gq_base.specs.Catalogs.{has_label}
 use Rattle.gq_base.specs.Plain.{Graph}
 use Rattle.gq_base.specs.Valid.{row_count}
-use Rattle.gq_expr.specs.Reading.{Assignment}
+use Rattle.gq_column.specs.Cells.{cell_at}
+use Rattle.gq_expr.specs.Reading.{Assignment, node_property, property_at}
 use Rattle.gq_filter.specs.Cells.{IsInLane}
 use Rattle.gq_filter.specs.Deciding.{Decides}
 use Rattle.gq_filter.specs.Feeds.{IsNodeFeed}
-use Rattle.gq_filter.specs.Sources.{AreLanes, AreSources, value_of}
+use Rattle.gq_filter.specs.Sources.{AreLanes, AreSources, property_of, value_of}
 use Rattle.gq_filter.specs.declared.feeds.Feed.{Feed}
 use Rattle.gq_filter.specs.declared.lane_test.LaneTest.{LaneTest}
 use Rattle.gq_filter.specs.declared.source.LaneSource.{LaneSource}
 use Rattle.gq_filter.proofs.Deciding.{kept_by}
-use Rattle.gq_filter.proofs.Feeding.{node_lanes}
 use Rattle.gq_law_trails.specs.Trails.{fits_end}
 use Rattle.gq_plan.specs.Conditions.{passes}
 use Rattle.gq_plan.specs.Meaning as meaning
 use Rattle.gq_plan.specs.declared.TrailPart.{TrailPart}
 use Rattle.gq_plan.specs.declared.bound.NamedExpr.{NamedExpr}
+use Rattle.gq_plan.specs.declared.variable.Variable.TheVariants as variables
 use Rattle.gq_store.proofs.Validity.{all-at}
 use Rattle.gq_ends.specs.steps.Tests.{IsNeeded, row_cell}
 
@@ -31,6 +32,15 @@ one_is x y e = cc e
 only : (source : LaneSource) (lane : ℕ) (s : LaneSource) → slice_get (source ∷ []) lane ≡ Some s → source ≡ s
 only source zero s is = one_is source s is
 only source (suc lane) s is = absurd (cc is)
+
+-- where a variable has a node of a table, the lane of a feed has the value of the node's property, by its row
+node_lane : (g : Graph) (variable table row : ℕ) (name : List ℕ) (feed : Feed) (at : Assignment) → IsNodeFeed g variable table name feed →
+    at.nodes variable ≡ Some (record { table = table; row = row }) → row < row_count g.nodes table →
+    IsInLane feed.source.kind feed.source.dict.now (value_of g at feed.source) (cell_at feed.column.now row)
+node_lane g variable table row name feed at feeds is h =
+    let value : value_of g at feed.source ≡ node_property g (record { table = table; row = row }) name =
+    ap (λ v. property_of g at v feed.source.name.now) feeds.variable_is ∙ ap (property_of g at (variables.Node variable)) feeds.name_is ∙ ap (λ o. property_at (node_property g) o name) is in
+    subst (λ v. IsInLane feed.source.kind feed.source.dict.now v (cell_at feed.column.now row)) (sym value) (feeds.cells row h)
 
 module _ (g : Graph) (p : TrailPart) (table : ℕ) (name : List ℕ) (feed : Feed) (feeds : IsNodeFeed g p.to table name feed) where
   pub source_of : AreSources (feed.source ∷ [])
@@ -49,7 +59,7 @@ module _ (g : Graph) (p : TrailPart) (table : ℕ) (name : List ℕ) (feed : Fee
   lanes_are : (r : ℕ) → r < row_count g.nodes table → AreLanes g (end_row r) (feed.source ∷ []) (row_cell feed.column.now r)
   lanes_are r low zero s is =
       subst (λ (t : LaneSource). IsInLane t.kind t.dict.now (value_of g (end_row r) t) (row_cell feed.column.now r 0)) (one_is feed.source s is)
-      (node_lanes g p.to table r name feed (end_row r) (row_cell feed.column.now r 0) feeds (node_there r) low refl)
+      (node_lane g p.to table r name feed (end_row r) feeds (node_there r) low)
   lanes_are r low (suc lane) s is = absurd (cc is)
 
   module _ (asked : NamedExpr) (has : Contains p.tests asked) where
