@@ -1,10 +1,8 @@
--- In a valid graph an assignment that lies in an alternative fits the kinds that the alternative gives its variables; so
--- no test of a sound alternative faults.
-use Rattle.std.proofs.Common.{◌≡◌, ℕ, zero, suc, true, false, nat_eq, Option, Some, None, List, [], ◌∷◌, map, slice_get, IsTrue, refl, sym, ap, subst, true≢false}
+-- In a valid graph an assignment that lies in an alternative fits the kinds that the alternative gives its variables.
+use Rattle.std.proofs.Common.{◌≡◌, ℕ, zero, suc, true, nat_eq, Option, Some, None, List, [], ◌∷◌, map, slice_get, IsTrue, refl, sym, ap, subst, true≢false}
 use Rattle.std.specs.List.{list_all}
 use Rattle.std.specs.Option.{option_map}
 use Rattle.std.proofs.lemmas.Bool.{eqb-true, and_parts}
-use Rattle.std.proofs.lemmas.List.Elements.{All-from_recursion, recursion_from_All}
 use Rattle.gq_base.specs.Catalogs.{find_field}
 use Rattle.gq_base.specs.Lists.{all_zip}
 use Rattle.gq_base.specs.Plain.{Graph, cell_val, cell_at, property_of, flat}
@@ -19,17 +17,14 @@ use Rattle.gq_base.specs.declared.NodeTable.{NodeTable}
 use Rattle.gq_base.specs.declared.PlainRel.{PlainRel}
 use Rattle.gq_base.specs.declared.RelId.{RelId}
 use Rattle.gq_base.specs.declared.RelTable.{RelTable}
-use Rattle.gq_expr.specs.Kinds.{kind_in, field_kind, can_fault, kind_of, kind_at}
-use Rattle.gq_expr.specs.Meaning as expr
+use Rattle.gq_expr.specs.Kinds.{kind_in, field_kind, kind_of, kind_at}
 use Rattle.gq_expr.specs.Reading.{node_property, rel_property, property_at, get_in, node_cell, rel_cell}
-use Rattle.gq_expr.specs.Safety.{IsOfKind, IsTruth}
-use Rattle.gq_expr.proofs.Promise.{kinds_promise}
+use Rattle.gq_expr.specs.Safety.{IsOfKind}
 use Rattle.gq_plan.specs.Allowed.{in_tables, rel_lies, rels_lie}
-use Rattle.gq_plan.specs.Assignments.{Assignment, row_of}
-use Rattle.gq_plan.specs.Soundness.{kinds_of, node_fields, rel_fields}
+use Rattle.gq_plan.specs.Assignments.{Assignment}
+use Rattle.gq_plan.specs.Soundness.{node_fields, rel_fields}
 use Rattle.gq_plan.specs.declared.typed.TypedRel.{TypedRel}
-use Rattle.gq_plan.proofs.Each.{each_then}
-use Rattle.gq_law_plans.specs.Safe.{LyingFitsKinds, TestsNeverFault}
+use Rattle.gq_law_plans.specs.Safe.{LyingFitsKinds}
 use Rattle.gq_law_plans.proofs.Ends.{zip_at, all_get}
 
 -- ---- cells
@@ -145,9 +140,3 @@ lying_fits g y t real lies =
     rel_fits : (name : List ℕ) (o : Option RelId) → IsOfKind (field_kind (option_map (λ r. rel_fields (slice_get g.catalog.rels r.table)) o) name) (property_at (rel_property g) o name)
     rel_fits name None = tt
     rel_fits name (Some r) = rel_held g real name r
-
-pub never_fault : TestsNeverFault
-never_fault g y t real sound lies =
-    All-from_recursion _ y.tests
-    (each_then (λ e. can_fault (kinds_of g.catalog y) e.expr ≡ false) (λ e. IsTruth (expr.meaning g (row_of t) e.expr))
-    (λ e h. kinds_promise (kinds_of g.catalog y) e.expr h g (row_of t) (lying_fits g y t real lies)) y.tests (recursion_from_All _ y.tests sound.never_fault))

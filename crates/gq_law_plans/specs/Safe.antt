@@ -1,10 +1,9 @@
--- The laws that no test of an alternative faults where an assignment lies in the alternative, and of what plans make.
+-- What plans make, and the laws that they make only this and that what lies in an alternative fits its kinds.
 use Rattle.std.specs.Prelude.{◌≡◌, IsTrue, All, length}
 use Rattle.std.specs.List.{list_all}
 use Rattle.gq_base.specs.Plain.{Graph}
 use Rattle.gq_base.specs.Valid.{is_valid}
-use Rattle.gq_expr.specs.Meaning as expr
-use Rattle.gq_expr.specs.Safety.{FitsKinds, IsTruth}
+use Rattle.gq_expr.specs.Safety.{FitsKinds}
 use Rattle.gq_plan.specs.Allowed.{lies_in}
 use Rattle.gq_plan.specs.Assignments.{Assignment, row_of, is_node, is_rel}
 use Rattle.gq_plan.specs.Conditions.{passes, differs}
@@ -19,13 +18,6 @@ abbrev pub LyingFitsKinds : Type 0
 LyingFitsKinds =
     (g : Graph) (y : Typed) (t : Assignment) → IsTrue (is_valid g) → IsTrue (lies_in g y t)
     → FitsKinds (kinds_of g.catalog y) g (row_of t)
-
--- in a valid graph, each test of a sound alternative is true, false or null of an assignment that lies in the alternative
-abbrev pub TestsNeverFault : Type 0
-TestsNeverFault =
-    (g : Graph) (y : Typed) (t : Assignment)
-    → IsTrue (is_valid g) → IsSound g.catalog y → IsTrue (lies_in g y t)
-    → All (λ e. IsTruth (expr.meaning g (row_of t) e.expr)) y.tests
 
 -- an assignment is of the graph and of an alternative: it has one node and one relationship for each of the alternative's
 -- variables, all of the graph, lies in the alternative, and makes all its tests true and all its pairs different
