@@ -1,7 +1,3 @@
-//! What rows that come again do to an answer: with DISTINCT nothing. The crate stands on what
-//! `gq_kept` says of answers, and does nothing at run time.
+//! What rows that come again do to an answer: with DISTINCT nothing. The law is a lemma, in `proofs/`,
+//! over what `gq_kept` says of answers: the crate has no code.
 #![tactic(auto)]
-
-mod law;
-
-pub use law::outcomes_may_stand_again;

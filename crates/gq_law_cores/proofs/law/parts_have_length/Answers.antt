@@ -1,5 +1,0 @@
-use Rattle.gq_law_cores.proofs.Starting.{parts_have_length}
-use Rattle.gq_law_cores.proofs.law.parts_have_length.Goals as goal
-
-pub returns : goal.returns
-returns c = parts_have_length
