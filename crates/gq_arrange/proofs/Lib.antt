@@ -2,6 +2,7 @@ pub mod Arranged
 pub mod Between
 pub mod Grouped
 pub mod Homes
+pub mod Led
 pub mod Inserting
 pub mod Loops
 pub mod Numbers

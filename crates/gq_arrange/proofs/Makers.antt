@@ -1,5 +1,5 @@
 -- The steps that make groups stand in the order of a plan's groups as they stand in the plan, each at its number.
-use Rattle.std.proofs.Common.{◌≡◌, ◌∙◌, ◌<◌, ◌≤◌, ◌+◌, ap, ap₂, sym, refl, ℕ, zero, suc, Bool, true, false, cond, List, [], ◌∷◌, ◌++◌, length, nat_eq, flat_map, filter, get_or, arith, true≢false}
+use Rattle.std.proofs.Common.{◌≡◌, ◌∙◌, ◌<◌, ◌≤◌, ◌+◌, ap, ap₂, sym, refl, ℕ, zero, suc, Bool, true, false, cond, List, [], ◌∷◌, ◌++◌, length, nat_eq, flat_map, filter, arith}
 use Rattle.std.specs.Prelude.{slice_index_or}
 use Rattle.std.specs.List.{range_with_len}
 use Rattle.std.proofs.lemmas.Bool.{eq-eqb}
@@ -7,7 +7,7 @@ use Rattle.gq_law_groups.specs.Groups.{makes_group}
 use Rattle.gq_plan.proofs.Placing.{after_same}
 use Rattle.gq_plan.specs.Arranged.{at_step, at_after, binders, home, homes, numbers_at, order_of}
 use Rattle.gq_plan.specs.Columns.{steps_of}
-use Rattle.gq_plan.specs.Plans.{Plan, Done, Then, Step, Scan, Extend, Close, Join, Keep, Differ, NoLoop}
+use Rattle.gq_plan.specs.Plans.{Plan, Done, Then, Step, Keep}
 use Rattle.gq_plan.specs.Shapes.{Places, nowhere, places, form_of, next_group}
 use Rattle.gq_plan.specs.declared.typed.Typed.{Typed}
 use Rattle.gq_walks.proofs.Cells.{filter-flat_map}

@@ -3,9 +3,10 @@
 use Rattle.std.proofs.Common.{◌≡◌, refl, true, false, [], ◌∷◌}
 use Rattle.gq_base.specs.declared.direction.Direction.TheVariants.{Forward, Backward}
 use Rattle.gq_plan.specs.Arranged.{at_after, homes, is_regular, order_of, flags_of}
-use Rattle.gq_plan.specs.Plans.{Plan, Scan, Extend, Close, Differ, NoLoop, steps}
+use Rattle.gq_plan.specs.Plans.{Plan, Scan, Extend, Close, Keep, Differ, NoLoop, steps}
 use Rattle.gq_plan.specs.Shapes.{all_flat, place_step, places_after}
 use Rattle.gq_plan.specs.declared.typed.Typed.{Typed}
+use Rattle.gq_arrange.specs.Law.{led_order}
 
 abbrev boss : Typed
 boss = record {
@@ -63,3 +64,11 @@ r_between_order = refl
 r_between_flat : flags_of boss r_between ≡ true ∷ false ∷ false ∷ []
 unfolding at_after homes places_after place_step all_flat
 r_between_flat = refl
+
+-- tests in front of the first group: the step that makes it goes in front of them
+abbrev tests_first : Plan
+tests_first = steps (Keep 0 ∷ Keep 1 ∷ Scan 0 ∷ Extend false 0 0 1 Forward ∷ [])
+
+tests_first_order : led_order boss tests_first ≡ 2 ∷ 0 ∷ 1 ∷ 3 ∷ []
+unfolding at_after homes places_after place_step
+tests_first_order = refl

@@ -1,4 +1,4 @@
-use Rattle.gq_arrange.proofs.Arranged.{arranged_plans}
+use Rattle.gq_arrange.proofs.Led.{arranged_plans}
 use Rattle.gq_arrange.proofs.law.arranged_plans_fit.Goals as goal
 
 pub returns : goal.returns
