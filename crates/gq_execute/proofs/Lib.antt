@@ -1,5 +1,4 @@
 pub mod Again
-pub mod Begins
 pub mod Chosen
 pub mod Continuing
 pub mod Copying

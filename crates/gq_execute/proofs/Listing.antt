@@ -17,11 +17,11 @@ use Rattle.gq_optional.specs.Made.{AreFew, AreListed, IsFew, IsPast, IsRefusal, 
 use Rattle.gq_optional.specs.Spending.{HasListed, HasSpentListed, HaveListed, Listing}
 use Rattle.gq_pipe.specs.Spending.{HasSpentAll}
 use Rattle.gq_homes.specs.declared.spent.Spent.{Spent}
-use Rattle.gq_homes.specs.Cuts.{begins}
 use Rattle.gq_plan.specs.Assignments.{Assignment}
 use Rattle.gq_plan.specs.Covers.{Covers}
 use Rattle.gq_plan.specs.Meaning.{meaning}
 use Rattle.gq_plan.specs.Plans.{Plan, plan_of}
+use Rattle.gq_plan.specs.Shapes.{places}
 use Rattle.gq_plan.specs.Soundness.{IsSound}
 use Rattle.gq_plan.specs.declared.bound.OptionalPart.{OptionalPart}
 use Rattle.gq_plan.specs.declared.plan.Plan as code
@@ -54,14 +54,18 @@ module _ (g : Graph) (order : Order) where
   all_covered (part ∷ parts) [] are = absurd are
   all_covered (part ∷ parts) (ps ∷ pss) are = (each_covers part.alternatives (map plan_of ps) are.0.each, all_covered parts pss are.1)
 
-  each_begin : (parts : List OptionalPart) (pss : List (List code.Plan)) → AllZip (IsPlannedClause order g) parts pss → AllByRecursion (All (λ (p : code.Plan). begins (plan_of p) ≡ true)) pss
-  each_begin [] [] are = tt
-  each_begin [] (ps ∷ pss) are = absurd are
-  each_begin (part ∷ parts) [] are = absurd are
-  each_begin (part ∷ parts) (ps ∷ pss) are = (are.0.begin, each_begin parts pss are.1)
+  -- some step of a plan makes a group
+  abbrev Grouped : code.Plan → Type 0
+  Grouped p = 0 < (places (plan_of p)).count
 
-  pub all_begin : (parts : List OptionalPart) (pss : List (List code.Plan)) → AllZip (IsPlannedClause order g) parts pss → All (All (λ (p : code.Plan). begins (plan_of p) ≡ true)) pss
-  all_begin parts pss are = All-from_recursion (All (λ (p : code.Plan). begins (plan_of p) ≡ true)) pss (each_begin parts pss are)
+  each_grouped : (parts : List OptionalPart) (pss : List (List code.Plan)) → AllZip (IsPlannedClause order g) parts pss → AllByRecursion (All Grouped) pss
+  each_grouped [] [] are = tt
+  each_grouped [] (ps ∷ pss) are = absurd are
+  each_grouped (part ∷ parts) [] are = absurd are
+  each_grouped (part ∷ parts) (ps ∷ pss) are = (are.0.groups, each_grouped parts pss are.1)
+
+  pub all_grouped : (parts : List OptionalPart) (pss : List (List code.Plan)) → AllZip (IsPlannedClause order g) parts pss → All (All Grouped) pss
+  all_grouped parts pss are = All-from_recursion (All Grouped) pss (each_grouped parts pss are)
 
   -- ---- what was listed
 

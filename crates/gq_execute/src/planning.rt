@@ -1,14 +1,14 @@
 //! The plans of alternatives, in the order that the settings name, and what they cost.
-ghost use Rattle.std.specs.Prelude.{◌≡◌, ◌<◌, [], true, length, map, All, IfOk, IsTrue};
+ghost use Rattle.std.specs.Prelude.{◌≡◌, ◌<◌, [], length, map, All, IfOk, IsTrue};
 ghost use Rattle.std.specs.List.{AllZip, list_all};
 ghost use Rattle.gq_execute.specs.Planned.{ArePlansIn, IsPlanIn, Means, sizes};
 ghost use Rattle.gq_execute.specs.Replies.{parts_by};
 ghost use Rattle.gq_execute.specs.steps.Clauses.{IsPlanned};
 ghost use Rattle.gq_execute.specs.steps.Costing.{last_cost};
-ghost use Rattle.gq_homes.specs.Cuts.{begins};
 ghost use Rattle.gq_plan.specs.Covers.{Covers};
 ghost use Rattle.gq_plan.specs.Flat.{is_flat};
 ghost use Rattle.gq_plan.specs.Parts.{IsSide, sides};
+ghost use Rattle.gq_plan.specs.Shapes.{places};
 ghost use Rattle.gq_plan.specs.Soundness.{IsSound};
 ghost use Rattle.gq_plan.specs.Plans.{plan_of};
 
@@ -161,7 +161,7 @@ pub fn plans(
     plans_in(alloc, order, graph, &stats, bound.alternatives.as_slice())
 }
 
-/// The same of any alternatives; each plan begins with a scan.
+/// The same of any alternatives; some step of each plan makes a group.
 pub(crate) fn plans_in(
     alloc: Global,
     order: Order,
@@ -178,8 +178,8 @@ pub(crate) fn plans_in(
         AllZip (Covers graph.now.catalog) alternatives.now (map plan_of made.plans)) }
     ensures mean { IfOk result (λ made.
         AllZip (Means graph.now) alternatives.now (map plan_of made.plans)) }
-    ensures begins { IfOk result (λ made.
-        All (λ p. begins (plan_of p) ≡ true) made.plans) }
+    ensures groups { IfOk result (λ made.
+        All (λ p. 0 < (places (plan_of p)).count) made.plans) }
     ensures each { IfOk result (λ made.
         AllZip (IsPlanned order graph.now) alternatives.now (map plan_of made.plans)) }
 {

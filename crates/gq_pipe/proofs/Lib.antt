@@ -25,6 +25,7 @@ pub mod Served
 pub mod Shaping
 pub mod Showing
 pub mod Slots
+pub mod SomeGroup
 pub mod Sources
 pub mod Starting
 pub mod Staying

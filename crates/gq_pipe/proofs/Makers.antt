@@ -5,13 +5,18 @@ use Rattle.std.specs.List.{AllByRecursion, range_with_len}
 use Rattle.std.specs.Option.{option_to_list}
 use Rattle.std.proofs.lemmas.List.{drop_more, drop_all, drop-drop, length-drop}
 use Rattle.std.proofs.lemmas.Option.{slice_get-get_or}
-use Rattle.gq_arrange.proofs.Makers.{makes_at, makers_in_order}
+use Rattle.gq_arrange.proofs.Led.{makers_led}
+use Rattle.gq_arrange.proofs.Makers.{makes_at}
+use Rattle.gq_arrange.specs.Law.{led_order}
+use Rattle.gq_base.specs.Catalogs.{Tables}
 use Rattle.gq_join.specs.Kept.{Held}
 use Rattle.gq_law_groups.specs.Groups.{makes_group}
 use Rattle.gq_law_groups.specs.Order.{NoGroups, AreCut}
-use Rattle.gq_plan.specs.Arranged.{at_numbers, order_of}
+use Rattle.gq_plan.specs.Arranged.{at_numbers}
 use Rattle.gq_plan.specs.Columns.{steps_of}
+use Rattle.gq_plan.specs.Covers.{Fits}
 use Rattle.gq_plan.specs.Plans.{Plan, Step, Keep}
+use Rattle.gq_plan.specs.Shapes.{places}
 use Rattle.gq_plan.specs.declared.typed.Typed.{Typed}
 use Rattle.gq_pipe.specs.Keys.{Maker, makers_of}
 use Rattle.gq_steps.specs.declared.group_steps.GroupSteps.{GroupSteps}
@@ -58,11 +63,11 @@ all_from (s ∷ ss) (o ∷ os) j at many told =
     go false first is more = more ∙ sym (ap (λ c. map at (cond c (j ∷ rest) rest)) is)
 
 -- in the order of the groups they stand as in the plan
-pub makers_ordered : (y : Typed) (p : Plan) (os : List (Option Held)) → length os ≡ length (steps_of p) → AllByRecursion (λ n. n < length (steps_of p)) (order_of y p)
-    → makers_of (at_numbers (steps_of p) (order_of y p)) (map (λ n. slice_index_or os n None) (order_of y p)) ≡ makers_of (steps_of p) os
-makers_ordered y p os many low =
-    ordered (steps_of p) os (order_of y p) low
-    ∙ ap (map (numbered (steps_of p) os)) (makers_in_order y p)
+pub makers_ordered : (catalog : Tables) (y : Typed) (p : Plan) (os : List (Option Held)) → Fits catalog y p → 0 < (places p).count → length os ≡ length (steps_of p) → AllByRecursion (λ n. n < length (steps_of p)) (led_order y p)
+    → makers_of (at_numbers (steps_of p) (led_order y p)) (map (λ n. slice_index_or os n None) (led_order y p)) ≡ makers_of (steps_of p) os
+makers_ordered catalog y p os fit some many low =
+    ordered (steps_of p) os (led_order y p) low
+    ∙ ap (map (numbered (steps_of p) os)) (makers_led catalog y p fit some)
     ∙ sym (all_from (steps_of p) os 0 (numbered (steps_of p) os) many (λ k inside. let z : 0 + k ≡ k = omega arith in ap (numbered (steps_of p) os) z))
 
 -- ---- by groups

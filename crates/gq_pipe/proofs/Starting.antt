@@ -6,8 +6,8 @@ use Rattle.std.proofs.lemmas.List.{length-map, take_all}
 use Rattle.std.proofs.lemmas.List.Elements.{recursion_from_All}
 use Rattle.std.proofs.lemmas.List.Sorted.{IsPermutation-map, IsPermutation-sym, IsPermutation-trans}
 use Rattle.gq_arrange.proofs.Loops.{steps_back}
-use Rattle.gq_arrange.specs.Keys.{plan_key}
-use Rattle.gq_arrange.specs.Law.{IsArranged}
+use Rattle.gq_arrange.specs.Keys.{led, plan_key}
+use Rattle.gq_arrange.specs.Law.{IsArranged, led_order}
 use Rattle.gq_base.specs.Plain.{Graph}
 use Rattle.gq_base.specs.Valid.{is_valid}
 use Rattle.gq_filter.specs.RowTests.{conditions_of}
@@ -18,13 +18,14 @@ use Rattle.gq_law_groups.specs.Groups.{decode}
 use Rattle.gq_law_groups.specs.Law.{read_all}
 use Rattle.gq_law_groups.specs.Layout.{AreFlatEnough}
 use Rattle.gq_plan.proofs.StepEquations.{plan_is}
-use Rattle.gq_plan.specs.Arranged.{arranged, at_numbers, flags_of, in_order, order_of}
+use Rattle.gq_plan.specs.Arranged.{at_numbers, flags_of, in_order}
 use Rattle.gq_plan.specs.Assignments as plain
 use Rattle.gq_plan.specs.Columns.{columns_of, own_columns, steps_of}
 use Rattle.gq_plan.specs.Covers.{Fits}
 use Rattle.gq_plan.specs.Known.{none}
 use Rattle.gq_plan.specs.Meaning.{Partial, mean, nothing}
 use Rattle.gq_plan.specs.Plans.{plan_of, steps, step_of}
+use Rattle.gq_plan.specs.Shapes.{places}
 use Rattle.gq_plan.specs.Soundness.{IsSound}
 use Rattle.gq_plan.specs.declared.plan.Plan as code_plan
 use Rattle.gq_plan.specs.declared.typed.Typed.{Typed}
@@ -77,7 +78,8 @@ pub record IsStarted (k : PlanRun) (p : code_plan.Plan) (os : List (Option Held)
   pub fits : Fits k.graph.now.catalog k.typed.now (plan_of p)
   pub builds : AreBuilds k.graph.now k.typed.now (plan_of p) os
   pub plan : k.plan.now ≡ p.steps
-  pub order_is : order ≡ order_of k.typed.now (plan_of p)
+  pub some : 0 < (places (plan_of p)).count
+  pub order_is : order ≡ led_order k.typed.now (plan_of p)
   pub flat_is : flat ≡ flags_of k.typed.now (plan_of p)
   pub within : All (λ n. n < length p.steps) order
   pub arranged : IsArranged k.graph.now.catalog k.typed.now (plan_of p) order flat
@@ -105,8 +107,8 @@ module _ (k : PlanRun) (p : code_plan.Plan) (os : List (Option Held)) (order : L
   runs_are : steps c.steps ≡ in_order (plan_of p) order
   runs_are = ap steps s.steps_are ∙ ap (λ ss. steps (at_numbers ss order)) (sym steps_same)
 
-  runs_arranged : steps c.steps ≡ arranged y (plan_of p)
-  runs_arranged = runs_are ∙ ap (in_order (plan_of p)) s.order_is
+  runs_led : steps c.steps ≡ led y (plan_of p)
+  runs_led = runs_are ∙ ap (in_order (plan_of p)) s.order_is
 
   fits_run : Fits g.catalog y (steps c.steps)
   fits_run = subst (Fits g.catalog y) (sym runs_are) s.arranged.fits
@@ -125,7 +127,7 @@ module _ (k : PlanRun) (p : code_plan.Plan) (os : List (Option Held)) (order : L
 
   pub runs_plan : RunsPlan k
   runs_plan = record {
-    order = runs_arranged ∙ ap (arranged y) plan_same;
+    order = runs_led ∙ ap (led y) plan_same;
     bound = ap (λ q. Rattle.gq_plan.specs.Covers.after q none) (sym plan_same) ∙ same_bound g.catalog y (plan_of p) (in_order (plan_of p) order) s.fits s.arranged.fits (IsPermutation-sym _ _ s.arranged.placed)
         ∙ ap (λ q. Rattle.gq_plan.specs.Covers.after q none) (sym runs_are);
   }
@@ -194,7 +196,7 @@ module _ (k : PlanRun) (p : code_plan.Plan) (os : List (Option Held)) (order : L
         (subst (λ n. AllByRecursion (λ m. m < n) order) (sym (length-map p.steps step_of)) (recursion_from_All (λ n. n < length p.steps) order s.within)) in
         let made : makers_of (steps_of (given_plan k)) os ≡ map (maker_in c) ss =
         ap (λ q. makers_of (steps_of q) os) (sym plan_same)
-        ∙ sym (makers_ordered y (plan_of p) os many (subst (AllByRecursion (λ n. n < length (steps_of (plan_of p)))) s.order_is low))
+        ∙ sym (makers_ordered g.catalog y (plan_of p) os s.fits s.some many (subst (AllByRecursion (λ n. n < length (steps_of (plan_of p)))) s.order_is low))
         ∙ ap (λ ns. makers_of (at_numbers (steps_of (plan_of p)) ns) (map (λ n. slice_index_or os n None) ns)) (sym s.order_is)
         ∙ ap₂ makers_of (ap (λ ss. at_numbers ss order) steps_same ∙ sym s.steps_are) (sym s.builds_are)
         ∙ makers_run c (builds_many g y c.steps c.builds run.builds) ss grouped_run.tiles grouped_run.cut in

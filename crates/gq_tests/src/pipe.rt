@@ -1,6 +1,5 @@
 //! Pipelines in a pool of just as many slots as their plans have columns, worked out by hand.
-ghost use Rattle.std.specs.Prelude.{◌≡◌, ◌≤◌, All};
-ghost use Rattle.gq_homes.specs.Cuts.{begins};
+ghost use Rattle.std.specs.Prelude.{◌≤◌, All};
 ghost use Rattle.gq_pipe.specs.Serving.{Serves};
 ghost use Rattle.gq_plan.specs.Columns.{columns_of};
 ghost use Rattle.gq_plan.specs.Covers.{Fits};
@@ -13,9 +12,8 @@ use crate::made::Test;
 use crate::plans::JOINED;
 use crate::queries::bound;
 use crate::store::example;
-use gq_homes::starts_group;
 use gq_order::given;
-use gq_pipe::{Builds, Pipeline, Spent, make_builds};
+use gq_pipe::{Builds, Pipeline, Spent, make_builds, makes_groups};
 use gq_plan::{Bound, Plan, Typed, columns};
 use gq_pool::VectorPool;
 use gq_store::Graph;
@@ -23,16 +21,6 @@ use gq_store::Graph;
 // A column has since when somebody knows another, and each of the three persons has a chunk: somebody knows him since 2011 or
 // later.
 const BACKWARD: &str = "MATCH (b)<-[r:KNOWS]-(a) WHERE r.since >= 2011 RETURN r";
-
-// Whether a plan begins with a step that makes a group.
-fn begins(plan: &Plan) -> bool
-    ensures { result ≡ begins (plan_of plan.now) }
-{
-    match plan.steps.as_slice().first() {
-        Some(step) => starts_group(step),
-        None => false,
-    }
-}
 
 // Hands out all chunks, while no slot of the pool is free.
 fn hand_out(rt: &impl Test, pipeline: &mut Pipeline<'_>, pool: &mut VectorPool)
@@ -58,7 +46,7 @@ fn spend(
     requires builds { AreBuilds graph.now typed.now (plan_of plan.now) builds.now.levels }
     requires room { columns_of typed.now (plan_of plan.now) ≤ spare_of pool.old }
 {
-    assert!(rt; begins(plan));
+    assert!(rt; makes_groups(plan, typed));
     let started = Pipeline::start(rt.alloc(), graph, builds, plan, typed, pool);
     let mut pipeline = started.expect(rt, "memory");
     assert!(rt; pool.spare() == 0);

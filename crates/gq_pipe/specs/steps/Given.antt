@@ -1,9 +1,9 @@
 -- Callers see what is bound in the order of the plan as it was given, in whatever order its steps run.
 use Rattle.std.specs.Prelude.{◌≡◌, map}
+use Rattle.gq_arrange.specs.Keys.{led}
 use Rattle.gq_base.specs.declared.NodeId.{NodeId}
 use Rattle.gq_base.specs.declared.RelId.{RelId}
 use Rattle.gq_law_groups.specs.Law.{read_all}
-use Rattle.gq_plan.specs.Arranged.{arranged}
 use Rattle.gq_plan.specs.Assignments as plain
 use Rattle.gq_plan.specs.Covers.{after}
 use Rattle.gq_plan.specs.Known.{none}
@@ -32,5 +32,5 @@ given_plan k = steps (map step_of k.plan.now)
 
 -- the steps run in the order of the plan's groups, and bind what the plan binds
 pub record RunsPlan (k : PlanRun) : Type 0 where
-  pub order : steps (run_of k).steps ≡ arranged k.typed.now (given_plan k)
+  pub order : steps (run_of k).steps ≡ led k.typed.now (given_plan k)
   pub bound : after (given_plan k) none ≡ after (steps (run_of k).steps) none
