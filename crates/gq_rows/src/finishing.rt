@@ -13,7 +13,7 @@ use crate::table::RowTable;
 use gq_base::Memory;
 use gq_listed::{Listed, is_listing};
 use gq_plan::Bound;
-use gq_values::{Rows, first_rows, sorted};
+use gq_values::{Rows, first_rows, sort};
 use std::alloc::Global;
 
 // The rows of which any arrangement answers.
@@ -34,7 +34,8 @@ fn arranged<'g>(alloc: Global, bound: &Bound, rows: Rows<'g>) -> Result<Rows<'g>
         return Ok(rows);
     }
     let most = rows.count;
-    let all = sorted(alloc, &rows, bound, most)?;
+    let mut all = rows;
+    sort(alloc, &mut all, bound, most)?;
     Ok(all)
 }
 

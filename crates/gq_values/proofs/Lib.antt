@@ -2,6 +2,6 @@ mod Bars
 mod ByKeys
 pub mod ClassRows
 mod Pieces
-mod ShownOrder
+mod PlaceOrder
 mod SureRows
 mod TopRows

@@ -200,8 +200,7 @@ impl<'g> Rows<'g> {
             self.old self.new) }
         ensures bar { OnOk result (HasLastKeys (length bound.now.keys) self.new) }
     {
-        *self = cut(alloc, self, bound, n)?;
-        Ok(())
+        cut(alloc, self, bound, n)
     }
 
     /// Keeps the first row of each class.

@@ -9,4 +9,4 @@ mod sorting;
 
 pub use bar::are_sure;
 pub use held::{Rows, first_rows};
-pub use sorting::sorted;
+pub use sorting::sort;
