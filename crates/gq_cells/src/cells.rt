@@ -72,6 +72,15 @@ impl<'g> Cells<'g> {
         Ok(())
     }
 
+    /// What a number stands for by the source at a place. It is kept nowhere.
+    #[inline(always)]
+    pub fn read(&self, source: u32, number: u32) -> Value<'g>
+        requires { IsNumber (slice_get self.now.sources source) number }
+        ensures { val result ≡ number_val (slice_get self.now.sources source) number }
+    {
+        self.sources[source as usize].value(number)
+    }
+
     /// How many values there are.
     pub fn len(&self) -> usize
         ensures { result ≡ length self.now.values }

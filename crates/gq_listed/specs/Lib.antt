@@ -1,5 +1,6 @@
 pub mod Finding
 pub mod Flat
+pub mod Keys
 pub mod Leads
 pub mod Listed
 pub mod steps

@@ -43,8 +43,8 @@ pub fn hold_columns(
     Ok(())
 }
 
-// Whether a chunk may have so many assignments that it pays to find leads.
-fn has_many(chunk: &Chunk<'_, '_>) -> bool {
+/// Whether a chunk may have so many assignments that it pays to find leads.
+pub(crate) fn has_many(chunk: &Chunk<'_, '_>) -> bool {
     let Some(group) = chunk.groups.last() else {
         return false;
     };
@@ -58,8 +58,8 @@ fn has_many(chunk: &Chunk<'_, '_>) -> bool {
     }
 }
 
-// Where the number that is found of a variable lies in a chunk with many assignments.
-fn lead_of(
+/// Where the number that is found of a variable lies in a chunk with many assignments.
+pub(crate) fn lead_of(
     many: bool,
     way: Way,
     graph: &Graph,

@@ -6,6 +6,7 @@
 
 mod finder;
 mod holding;
+mod keys;
 mod leads;
 mod listed;
 mod places;
@@ -13,4 +14,5 @@ mod tables;
 
 pub use finder::Finder;
 pub use holding::hold_columns;
+pub use keys::{KeyFinder, hold_key};
 pub use listed::{Asked, Listed, find_columns, is_listing};

@@ -136,6 +136,7 @@ impl<'g> RowTable<'g> {
             finders: _,
             held: _,
             reading: _,
+            first: _,
             pushed,
             choice: _,
         } = self;

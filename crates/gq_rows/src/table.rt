@@ -1,26 +1,36 @@
 //! The table that takes the rows of a query.
-ghost use Rattle.std.specs.Prelude.{◌≡◌, [], None, Some, IsSome, OnOk, false, true};
+ghost use Rattle.std.specs.Prelude.{◌≡◌, [], IfOk, IfSome, None, Ok, Some, IsSome, OnOk, false, true};
+ghost use Rattle.gq_base.specs.Plain.{Graph as Plain};
+ghost use Rattle.gq_expr.specs.Reading as reads;
 ghost use Rattle.gq_group.specs.Choices.{Begins};
-ghost use Rattle.gq_group.specs.Chunks.{IsChunkOf};
-ghost use Rattle.gq_group.specs.Groups.{choices};
+ghost use Rattle.gq_group.specs.Chunks.{IsChunkOf, assignment_at};
+ghost use Rattle.gq_group.specs.Groups.{AreSelected, choices};
 ghost use Rattle.gq_kept.specs.Chunks.{IsChunkIn, PushesAdmitted, PushesAll, PushesChunk};
 ghost use Rattle.gq_kept.specs.Chunks.{admitted_outcomes, counted};
 ghost use Rattle.gq_kept.specs.Forms.{HasForm};
 ghost use Rattle.gq_kept.specs.Tables.{IsSameQuery, Pushes, StandsFor, StandsForSome};
 ghost use Rattle.gq_kept.specs.Tables.{is_full_table, outcome_admitted, outcome_numbered};
+ghost use Rattle.gq_kept.specs.declared.refusal.More.TheVariants.{Go};
 ghost use Rattle.gq_listed.specs.Listed.{is_listing};
 ghost use Rattle.gq_plan.specs.Assignments.{row_of};
 ghost use Rattle.gq_plan.specs.Marked.{Marked, ending};
+ghost use Rattle.gq_plan.specs.Rows.{assigned};
+ghost use Rattle.gq_plan.specs.declared.bound.Bound.{Bound as Query};
+ghost use Rattle.gq_plan.specs.declared.typed.Typed.{Typed as Alternative};
 ghost use Rattle.gq_project.specs.Reading.{IsReading};
 ghost use Rattle.gq_rows.specs.Growing.{IsContinued, IsTested};
+ghost use Rattle.gq_rows.specs.steps.Keyed.{FindsFirst, IsLeading, IsLedValue, LeadsSome};
 ghost use Rattle.gq_wide.specs.Rows.{read};
 
+use gq_base::{Memory, Value};
 use gq_cells::Cells;
 use gq_classes::Classes;
 use gq_expr::{Assigned, Fault};
 use gq_group::{Choice, Chunk, ChunkRow};
 use gq_kept::{Form, More, RowRefusal, form_of};
-use gq_listed::{Asked, Finder, Listed, find_columns, hold_columns, is_listing};
+use gq_listed::{
+    Asked, Finder, KeyFinder, Listed, find_columns, hold_columns, hold_key, is_listing,
+};
 use gq_plan::{Bound, Typed};
 use gq_project::{Admits, Everything, Question, Reading};
 use gq_store::Graph;
@@ -55,6 +65,8 @@ pub struct RowTable<'g> {
     // The finders as they were for the last chunk.
     pub(crate) held: Vec<Finder>,
     pub(crate) reading: Reading<'g>,
+    // What finds the value of the first key, for the alternative.
+    pub(crate) first: KeyFinder<'g>,
     // The chunks with a row that were pushed, and the positions of the last one.
     pub(crate) pushed: u64,
     pub(crate) choice: Choice,
@@ -110,6 +122,7 @@ impl<'g> RowTable<'g> {
             finders: Vec::new(alloc),
             held: Vec::new(alloc),
             reading: Reading::new(alloc),
+            first: KeyFinder::new(alloc),
             pushed: 0,
             choice: Choice::new(alloc),
         }
@@ -122,6 +135,7 @@ impl<'g> RowTable<'g> {
     {
         self.typed = Some(typed);
         self.done = false;
+        self.first.finder = None;
     }
 
     /// Takes the assignments of a chunk of the alternative that was started, by ascending
@@ -266,13 +280,46 @@ impl<'g> RowTable<'g> {
         }
         let mut reading = mem::replace(&mut self.reading, Reading::new(self.alloc));
         reading.prepare(self.alloc, self.bound, graph)?;
-        match self.push_choices(choice, chunk, &reading, typed, graph, admits) {
+        let mut first = mem::replace(&mut self.first, KeyFinder::new(self.alloc));
+        let lead = self.lead_first(&mut first, chunk, typed, graph, choice.positions())?;
+        match self.push_choices(choice, chunk, &reading, &first, lead, typed, graph, admits) {
             Ok(more) => {
                 self.reading = reading;
+                self.first = first;
                 Ok(more)
             }
             Err(refusal) => Err(refusal),
         }
+    }
+
+    // What finds the first key in a chunk, where it may tell that a row comes behind the bar: there is
+    // one, each row has its values, and no conjunct is left.
+    fn lead_first(
+        &self,
+        first: &mut KeyFinder<'g>,
+        chunk: &Chunk<'_, '_>,
+        typed: &Typed,
+        graph: &'g Graph,
+        positions: &[u32],
+    ) -> Result<Option<Finder>, Memory>
+        requires chunk { IsChunkOf graph.now typed.now chunk.now }
+        requires selected { AreSelected chunk.now.groups.now positions.now }
+        requires ready { FindsFirst graph.now self.now.bound first.old }
+        ensures leads { let leads = IsLeading graph.now self.now.bound typed.now chunk.now in
+            IfOk result (λ lead. IfSome lead (leads first.new.cells.sources)) }
+        ensures ready { FindsFirst graph.now self.now.bound first.new }
+    {
+        if !self.sure || self.rows.bar.is_none() {
+            return Ok(None);
+        }
+        let [] = typed.late.as_slice() else {
+            return Ok(None);
+        };
+        let Some(sort) = self.bound.keys.get(0) else {
+            return Ok(None);
+        };
+        let finder = first.prepare(&sort.expr, self.bound, typed, graph)?;
+        Ok(hold_key(finder, graph, typed, chunk, positions))
     }
 
     // Takes the admitted assignments of the choices from the one that stands on, where the rows are
@@ -401,6 +448,8 @@ impl<'g> RowTable<'g> {
         choice: &mut Choice,
         chunk: &Chunk<'_, '_>,
         reading: &Reading<'g>,
+        first: &KeyFinder<'g>,
+        lead: Option<Finder>,
         typed: &'g Typed,
         graph: &'g Graph,
         admits: &A,
@@ -408,6 +457,8 @@ impl<'g> RowTable<'g> {
         requires valued { is_listing self.old.bound ≡ false }
         requires chunk { IsChunkOf graph.now typed.now chunk.now }
         requires reading { IsReading graph.now self.old.bound reading.now }
+        requires lead { let leads = IsLeading graph.now self.old.bound typed.now chunk.now in
+            IfSome lead (leads first.now.cells.sources) }
         requires stands { StandsForSome self.old }
         requires room { is_full_table self.old ≡ false }
         requires begins { Begins chunk.now.groups.now true choice.old }
@@ -420,8 +471,10 @@ impl<'g> RowTable<'g> {
     {
         let mut found = true;
         'choices: while found {
-            let row = ChunkRow::new(graph, typed, chunk, choice.positions());
-            match self.push_row(&row, reading, typed, graph, admits) {
+            let positions = choice.positions();
+            let row = ChunkRow::new(graph, typed, chunk, positions);
+            let value = first_value(first, &lead, graph, typed, chunk, positions);
+            match self.push_row(&row, value, reading, typed, graph, admits) {
                 Ok(More::Go) => {}
                 Ok(More::Enough) => return Ok(More::Enough),
                 Err(refusal) => return Err(refusal),
@@ -431,10 +484,11 @@ impl<'g> RowTable<'g> {
         Ok(More::Go)
     }
 
-    // Takes an assignment, if it is admitted.
+    // Takes an assignment, if it is admitted. The value is that of its first key, if it was found.
     fn push_row<A: Admits>(
         &mut self,
         row: &ChunkRow<'_, '_, '_, '_, '_>,
+        value: Option<Value<'g>>,
         reading: &Reading<'g>,
         typed: &'g Typed,
         graph: &'g Graph,
@@ -442,6 +496,8 @@ impl<'g> RowTable<'g> {
     ) -> Result<More, RowRefusal>
         requires valued { is_listing self.old.bound ≡ false }
         requires reading { IsReading graph.now self.old.bound reading.now }
+        requires value { IfSome value
+            (IsLedValue graph.now self.old.bound typed.now (row_of row.now)) }
         requires stands { StandsForSome self.old }
         requires room { is_full_table self.old ≡ false }
         ensures pushes { let admitted = A.admitted admits.now in
@@ -453,7 +509,29 @@ impl<'g> RowTable<'g> {
         if !admits.admits(row) {
             return Ok(More::Go);
         }
+        if self.passes_over(&value) {
+            return Ok(More::Go);
+        }
         self.push(row, reading, typed.late.as_slice(), graph)
+    }
+
+    // Whether nothing changes with an assignment of this value of the first key.
+    #[inline(always)]
+    fn passes_over(&self, value: &Option<Value<'g>>) -> bool
+        requires valued { is_listing self.now.bound ≡ false }
+        requires stands { StandsForSome self.now }
+        requires room { is_full_table self.now ≡ false }
+        ensures { (g : Plain) (y : Alternative) (here : reads.Assignment) → result ≡ true
+            → IfSome value.now (IsLedValue g self.now.bound y here)
+            → Pushes (outcome_numbered g self.now.bound y.late here) self.now self.now (Ok Go) }
+    {
+        let Form::Top(_) = self.form else {
+            return false;
+        };
+        match value {
+            None => false,
+            Some(value) => self.rows.passes_over(self.bound, value),
+        }
     }
 
     // Takes what expressions read of a row, where the rows are held as values. Of the conjuncts
@@ -511,5 +589,31 @@ impl<'g> RowTable<'g> {
             Form::First(n) => count >= n,
             Form::All | Form::Top(_) | Form::Classes => false,
         }
+    }
+}
+
+// The value of the first key of a query at one selected position of each group, if something finds
+// it.
+#[inline(always)]
+fn first_value<'g>(
+    first: &KeyFinder<'g>,
+    lead: &Option<Finder>,
+    graph: &Graph,
+    typed: &Typed,
+    chunk: &Chunk<'_, '_>,
+    positions: &[u32],
+) -> Option<Value<'g>>
+    requires chunk { IsChunkOf graph.now typed.now chunk.now }
+    requires selected { AreSelected chunk.now.groups.now positions.now }
+    requires lead { LeadsSome graph.now typed.now chunk.now first.now.cells.sources lead.now }
+    ensures { let here = assignment_at graph.now typed.now chunk.now positions.now in
+        let read = row_of (assigned typed.now here) in
+        let sources = first.now.cells.sources in
+        (b : Query) → IfSome lead.now (IsLeading graph.now b typed.now chunk.now sources)
+        → IfSome result (IsLedValue graph.now b typed.now read) }
+{
+    match lead {
+        None => None,
+        Some(finder) => first.value_at(finder, graph, typed, chunk, positions),
     }
 }

@@ -1,7 +1,8 @@
 -- An assignment of which each column and each key is sure to have a value has a row.
 use Rattle.std.proofs.Common.{◌≡◌, ◌∙◌, ◌-◌, ◌≤◌, true, List, [], ◌∷◌, length, take, drop, get_or, Ok, Err, Some, refl, sym, ap, subst, arith}
+use Rattle.std.specs.Prelude.{slice_get}
 use Rattle.std.specs.List.{AllByRecursion}
-use Rattle.std.specs.Ordering.{is_le, ordering_then}
+use Rattle.std.specs.Ordering.{is_le, is_lt, ordering_then}
 use Rattle.std.specs.declared.cmp.Ordering.{Ordering}
 use Rattle.std.specs.declared.cmp.Ordering.TheVariants.{Equal, Greater, Less}
 use Rattle.std.proofs.lemmas.List.{take_all}
@@ -17,7 +18,7 @@ use Rattle.gq_plan.specs.declared.bound.Bound.{Bound}
 use Rattle.gq_plan.specs.declared.bound.NamedExpr.{NamedExpr}
 use Rattle.gq_plan.specs.declared.bound.SortExpr.{SortExpr}
 use Rattle.gq_kept.specs.Answers.{by_direction, first_value, keys_order, other_values}
-use Rattle.gq_values.specs.Sure.{AreSure, AreValues, HasSureColumn, HasSureKey}
+use Rattle.gq_values.specs.Sure.{AreSure, AreValues, HasSureColumn, HasSureKey, StartsWith}
 use Rattle.gq_project.specs.Judged.{check_after}
 use Rattle.gq_values.specs.Keeping.{ComesBehind, IsBehind, bar_of}
 use Rattle.gq_values.specs.declared.held.Rows.{Rows}
@@ -111,3 +112,27 @@ level_at here (s ∷ ss) (a ∷ asks) sort ask bar others keys first v order som
     (level ∙ ap (λ (q : SortExpr). by_direction q.down first v) is ∙ ap (λ x. by_direction s.down x v) first_of)
     (subst (λ o. AreValues keys (o ∷ answers here asks)) (sym (key ∙ ap (λ (q : Asked). meaning q.graph here q.expr) at)) are)
     (λ ks h. next ks (subst (λ l. AreValues ks (answers here l)) (sym behind) h) ∙ ap (λ l. keys_order l others ks) whole ∙ ap (λ b. keys_order ss b ks) others_of)
+
+-- ---- the first key alone
+
+pub lt_is : (o : Ordering) → is_lt o ≡ true → Less ≡ o
+lt_is Less e = refl
+lt_is Equal e = cc
+lt_is Greater e = cc
+
+keys_from : (ss : List SortExpr) (s : SortExpr) → slice_get ss 0 ≡ Some s → (others : List SortExpr) × (ss ≡ s ∷ others)
+keys_from [] s at = absurd (let x : ⊥ = cc in x)
+keys_from (t ∷ ss) s at = (ss, cc)
+
+-- a row whose first key comes behind that of the bar
+pub starts_behind : (g : Graph) (here : reading.Assignment) (b : Bound) (v : Rows) (bar : List Val) (first : Val) (s : SortExpr) → AreSure b → StartsWith g here b first → slice_get b.keys 0 ≡ Some s → Some bar ≡ bar_of v
+    → Less ≡ by_direction s.down (first_value bar) first → ComesBehind b (outcome_by g b [] here) v
+starts_behind g here b v bar first s sure k at has_bar less =
+    let others = keys_from b.keys k.sort k.first in
+    let same : s ≡ k.sort = cc in
+    let decides : (keys : List Val) → AreValues keys (key_meanings g here (k.sort ∷ others.0)) → Less ≡ keys_order (k.sort ∷ others.0) bar keys =
+    λ keys are.
+    first_decides k.sort others.0 bar keys first (key_meanings g here others.0) Less (λ e. cc)
+    (less ∙ ap (λ (x : SortExpr). by_direction x.down (first_value bar) first) same)
+    (subst (λ o. AreValues keys (o ∷ key_meanings g here others.0)) k.means are) in
+    left_behind g here b [] v bar Less sure refl has_bar (subst (λ ks. (keys : List Val) → AreValues keys (key_meanings g here ks) → Less ≡ keys_order ks bar keys) (sym others.1) decides) refl

@@ -1,7 +1,10 @@
 -- What it means that a query is sure of the values of its rows.
-use Rattle.std.specs.Prelude.{◌≡◌, Ok, List, map}
+use Rattle.std.specs.Prelude.{◌≡◌, Some, Ok, List, map, slice_get}
+use Rattle.gq_base.specs.Plain.{Graph}
 use Rattle.gq_base.specs.Values.{Val}
+use Rattle.gq_expr.specs.Meaning.{meaning}
 use Rattle.gq_expr.specs.Operators.{Outcome}
+use Rattle.gq_expr.specs.Reading as reading
 use Rattle.gq_expr.specs.Safety.{HasValue}
 use Rattle.gq_plan.specs.declared.bound.Bound.{Bound}
 use Rattle.gq_plan.specs.declared.bound.NamedExpr.{NamedExpr}
@@ -21,3 +24,9 @@ AreSure b = AllByRecursion HasSureColumn b.columns × AllByRecursion HasSureKey 
 -- the outcomes are these values
 abbrev pub AreValues : List Val → List Outcome → Type 0
 AreValues vs os = os ≡ map Ok vs
+
+-- the first key of a query has this value in what expressions read
+pub record StartsWith (g : Graph) (here : reading.Assignment) (b : Bound) (v : Val) : Type 0 where
+  pub sort : SortExpr
+  pub first : slice_get b.keys 0 ≡ Some sort
+  pub means : meaning g here sort.expr ≡ Ok v

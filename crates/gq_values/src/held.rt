@@ -1,19 +1,23 @@
 //! The rows that a table holds, as values.
 ghost use Rattle.std.specs.Prelude.{◌≡◌, ◌+◌, ◌*◌, ◌<◌, ◌≤◌, ◌^◌, IfOk, OnOk, false, length, map};
-ghost use Rattle.std.specs.Prelude.{min, true};
+ghost use Rattle.std.specs.Prelude.{Ok, [], min, true, ℕ};
+ghost use Rattle.gq_base.specs.Plain.{Graph};
 ghost use Rattle.gq_base.specs.Values.{val};
 ghost use Rattle.gq_classes.specs.Rows.{AreWide};
+ghost use Rattle.gq_expr.specs.Reading.{Assignment};
 ghost use Rattle.gq_kept.specs.Answers.{by_keys};
 ghost use Rattle.gq_kept.specs.declared.form.Form.TheVariants.{All, Classes, First, Top};
+ghost use Rattle.gq_kept.specs.declared.refusal.More.TheVariants.{Go};
+ghost use Rattle.gq_plan.specs.Outcomes.{outcome_by};
 ghost use Rattle.gq_project.specs.Judged.{IsRead, asked_outcome, column_count, key_count};
 ghost use Rattle.gq_project.specs.Judged.{late_checked};
 ghost use Rattle.gq_values.specs.Keeping.{Adds, AddsFirst, ComesBehind, IsBehind, IsOpen, PushesBy};
 ghost use Rattle.gq_values.specs.Keeping.{bar_of, last_of};
 ghost use Rattle.gq_values.specs.Sorting.{HasFirsts, HasLastKeys, Sorts};
-ghost use Rattle.gq_values.specs.Sure.{AreSure};
+ghost use Rattle.gq_values.specs.Sure.{AreSure, StartsWith};
 
 use crate::bar::rank_of_bar;
-use crate::sorting::{cut, is_level_or_behind, last_keys};
+use crate::sorting::{cut, direct, is_level_or_behind, last_keys, split_first};
 use gq_base::{Memory, Value};
 use gq_classes::Classes as ClassRows;
 use gq_expr::Assigned;
@@ -83,6 +87,26 @@ impl<'g> Rows<'g> {
             Ok(_) => Ok(More::Go),
             Err(refusal) => Err(refusal),
         }
+    }
+
+    /// Whether each assignment of this value of the first key has a row that comes behind the bar, so
+    /// that nothing changes with it. No conjunct is left, and each column and each key is sure to
+    /// have a value.
+    #[inline(always)]
+    pub fn passes_over(&self, bound: &Bound, first: &Value<'_>) -> bool
+        ensures { (g : Graph) (here : Assignment) (n : ℕ) (most : ℕ) → AreSure bound.now
+            → StartsWith g here bound.now (val first.now) → result ≡ true
+            → PushesBy (Top n) bound.now most (outcome_by g bound.now [] here)
+            self.now self.now (Ok Go) }
+    {
+        let Some(bar) = &self.bar else {
+            return false;
+        };
+        let Some(sort) = bound.keys.get(0) else {
+            return false;
+        };
+        let (value, _) = split_first(bar.as_slice());
+        direct(sort.down, &value, first).is_lt()
     }
 
     // Whether no row is answered, or the last row comes behind the bar or level with it.

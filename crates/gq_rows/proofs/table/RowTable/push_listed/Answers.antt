@@ -39,6 +39,7 @@ invariant_of-self-in-Ok t c =
       done = λ e.
           subst (λ x. IsDone x new) (sym has)
           (stay c.find_columns.new.cells.sources c.push_choices.new.self.cells.sources c.in-Ok.ensures.more (asked_of c.args.graph.now t.bound.now.columns) c.find_columns.new.finders.items c.in_ok-find_columns.ensures.finds);
+      first = c.self.invariant.first;
     }
 
 pub returns-in-Err-clause-pushes : goal.returns-in-Err-clause-pushes

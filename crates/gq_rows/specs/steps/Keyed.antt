@@ -1,0 +1,41 @@
+-- What is known of the first key of a query at the positions of a chunk.
+use Rattle.std.specs.Prelude.{◌≡◌, IfSome, Option, Some, List, [], slice_get}
+use Rattle.gq_base.specs.Plain.{Graph}
+use Rattle.gq_base.specs.Values.{val}
+use Rattle.gq_base.specs.declared.Value.{Value}
+use Rattle.gq_cells.specs.declared.source.Source.{Source}
+use Rattle.gq_eval.specs.Asked.{asked}
+use Rattle.gq_expr.specs.Reading as reading
+use Rattle.gq_group.specs.declared.chunk.Chunk.{Chunk}
+use Rattle.gq_listed.specs.Finding.{IsFinder}
+use Rattle.gq_listed.specs.Keys.{FindsKey}
+use Rattle.gq_listed.specs.Leads.{IsLed}
+use Rattle.gq_listed.specs.declared.finder.Finder.{Finder}
+use Rattle.gq_listed.specs.declared.keys.KeyFinder.{KeyFinder}
+use Rattle.gq_plan.specs.declared.bound.Bound.{Bound}
+use Rattle.gq_plan.specs.declared.bound.SortExpr.{SortExpr}
+use Rattle.gq_plan.specs.declared.typed.Typed.{Typed}
+use Rattle.gq_values.specs.Sure.{AreSure, StartsWith}
+
+-- where anything was made ready, it finds the values of the first key over this graph
+abbrev pub FindsFirst : Graph → Bound → KeyFinder → Type 0
+FindsFirst g b k = (sort : SortExpr) → slice_get b.keys 0 ≡ Some sort → FindsKey (asked sort.expr g) k
+
+-- what finds the first key in a chunk, of a query that is sure of its rows and an alternative without conjuncts that are left
+pub record IsLeading (g : Graph) (b : Bound) (y : Typed) (c : Chunk) (sources : List Source) (f : Finder) : Type 0 where
+  pub sure : AreSure b
+  pub late : y.late ≡ []
+  pub sort : SortExpr
+  pub first : slice_get b.keys 0 ≡ Some sort
+  pub finder : IsFinder sources (asked sort.expr g) f
+  pub led : IsLed g y c f
+
+-- where anything does, of some query
+abbrev pub LeadsSome : Graph → Typed → Chunk → List Source → Option Finder → Type 0
+LeadsSome g y c sources lead = (b : Bound) × IfSome lead (IsLeading g b y c sources)
+
+-- the value of the first key of such a query in what expressions read
+pub record IsLedValue (g : Graph) (b : Bound) (y : Typed) (here : reading.Assignment) (v : Value) : Type 0 where
+  pub sure : AreSure b
+  pub late : y.late ≡ []
+  pub starts : StartsWith g here b (val v)
