@@ -307,14 +307,17 @@ impl<'g> RowTable<'g> {
         requires ready { FindsFirst graph.now self.now.bound first.old }
         ensures leads { let leads = IsLeading graph.now self.now.bound typed.now chunk.now in
             IfOk result (λ lead. IfSome lead (leads first.new.cells.sources)) }
-        ensures ready { FindsFirst graph.now self.now.bound first.new }
+        ensures ready { OnOk result (FindsFirst graph.now self.now.bound first.new) }
     {
-        if !self.sure || self.rows.bar.is_none() {
+        if !self.sure {
             return Ok(None);
         }
-        let [] = typed.late.as_slice() else {
+        if self.rows.bar.is_none() {
             return Ok(None);
-        };
+        }
+        if !typed.late.is_empty() {
+            return Ok(None);
+        }
         let Some(sort) = self.bound.keys.get(0) else {
             return Ok(None);
         };
