@@ -21,7 +21,7 @@ use Rattle.gq_execute.specs.declared.refusal.AnswerRefusal.{AnswerRefusal}
 use Rattle.gq_execute.specs.declared.refusal.AnswerRefusal.TheVariants as refusal
 use Rattle.gq_execute.specs.declared.settings.Settings.{Settings}
 use Rattle.gq_execute.specs.steps.Answering.{AnswersWith, FillsWith, IsFresh}
-use Rattle.gq_execute.specs.declared.prepared.Prepared.{Prepared}
+use Rattle.gq_drain.specs.declared.prepared.Prepared.{Prepared}
 use Rattle.gq_execute.specs.steps.Clauses.{AreSpentOn, some_heavy_clause}
 use Rattle.gq_execute.specs.steps.Prepared.{AreSpentOnTests, IsPrepared, RefusesBefore}
 use Rattle.gq_execute.specs.steps.Testing.{RefusesTest, RefusesTests, SomeHasMany, spent_on}

@@ -21,10 +21,11 @@ use Rattle.gq_execute.specs.declared.settings.Settings.{Settings}
 use Rattle.gq_execute.specs.Answering.{Replies}
 use Rattle.gq_execute.specs.steps.Answering.{AreParted, Came, MakeOutcomes, Drains, IsFresh, Reached, Runs, Spends, SpendsTurn}
 use Rattle.gq_execute.specs.Replies.{Question, IsPermitted, Rows, TooManyRows, has_heavy_clause, has_heavy_test, has_large_part, has_turn}
-use Rattle.gq_execute.specs.Spending.{AreSpent, IsPlain, IsSpentOn, IsSpentOnClause, IsTurn, Turn, clauses_made, own_chunks, tests_made, with_turns}
+use Rattle.gq_execute.specs.Spending.{AreSpent, IsSpentOn, IsSpentOnClause, IsTurn, Turn, clauses_made, own_chunks, tests_made, with_turns}
+use Rattle.gq_drain.specs.Taking.{IsPlain, MeetsMany, Takes}
 use Rattle.gq_optional.specs.Spending.{Listing, spent_on_each}
 use Rattle.gq_kept.specs.Chunks.{Stands}
-use Rattle.gq_execute.specs.steps.Taking.{Becomes, MeetsMany, Takes, outcomes_by}
+use Rattle.gq_drain.specs.Becoming.{Becomes, outcomes_by}
 use Rattle.gq_execute.specs.declared.refusal.AnswerRefusal.{AnswerRefusal}
 use Rattle.gq_execute.specs.declared.refusal.AnswerRefusal.TheVariants as refusal
 use Rattle.gq_execute.proofs.Replying.{reached_start, reached_next, reached_more, fault_permitted, many_permitted, rows_permitted, heavy_permitted, rows_of, turn_comes, turned_all}

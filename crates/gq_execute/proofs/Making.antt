@@ -1,6 +1,6 @@
 -- What a plan makes, behind the matches that are listed of the optional clauses or continued by the trails, are the outcomes of a
 -- query's matches.
-use Rattle.std.proofs.Common.{◌≡◌, ℕ, ◌≤◌, Bool, true, false, cond, Some, Result, List, [], ◌∷◌, append-nil, map, flat_map, length, slice_get, IsTrue, ap, refl, sym, subst, ◌∙◌, arith}
+use Rattle.std.proofs.Common.{◌≡◌, ℕ, ◌≤◌, Bool, true, false, cond, Some, Result, List, [], ◌∷◌, map, flat_map, length, slice_get, IsTrue, ap, refl, sym, subst, ◌∙◌, arith}
 use Rattle.std.specs.Prelude.{All, IsPermutation}
 use Rattle.std.specs.List.{range_with_len}
 use Rattle.std.proofs.lemmas.List.Sorted.{IsPermutation-map, IsPermutation-refl, IsPermutation-trans}
@@ -35,15 +35,15 @@ use Rattle.gq_ast.specs.declared.Clause.{Clause}
 use Rattle.gq_ast.specs.declared.Query.{Query}
 use Rattle.gq_wide.specs.Clauses.{after_clauses}
 use Rattle.gq_execute.specs.Answering.{question}
-use Rattle.gq_execute.specs.Replies.{Question, behind_optionals, later_of, outcomes_behind, rows_of, tests_of}
-use Rattle.gq_execute.specs.declared.prepared.Prepared.{Prepared}
+use Rattle.gq_execute.specs.Replies.{Question, behind_optionals, later_of, rows_of, tests_of}
+use Rattle.gq_drain.specs.Becoming.{given_on, if_admitted_behind, outcomes_behind, outcomes_by, outcomes_on}
+use Rattle.gq_drain.specs.declared.prepared.Prepared.{Prepared}
 use Rattle.gq_execute.specs.declared.settings.Settings.{Settings}
 use Rattle.gq_execute.specs.steps.Answering.{MakeOutcomes}
-use Rattle.gq_execute.specs.steps.Continuing.{rows_by}
-use Rattle.gq_execute.specs.steps.Prepared.{IsPrepared, first_nodes, known_by, later_by}
-use Rattle.gq_execute.specs.steps.Taking.{Admission, given_by, given_on, if_admitted, if_admitted_behind, outcomes_by, outcomes_on}
-use Rattle.gq_execute.specs.steps.Testing.{admitted_by}
-use Rattle.gq_execute.proofs.Continuing.{own_alone, rows_are}
+use Rattle.gq_execute.specs.steps.Prepared.{IsPrepared, first_nodes}
+use Rattle.gq_drain.specs.Prepared.{known_by, later_by}
+use Rattle.gq_drain.specs.Testing.{Admission, admitted_by}
+use Rattle.gq_execute.proofs.Continuing.{rows_are}
 use Rattle.gq_execute.proofs.Parted.{admitted_means}
 
 bags_trans : (xss yss zss : List (List Assignment)) → AreSameBags xss yss → AreSameBags yss zss → AreSameBags xss zss
@@ -138,30 +138,3 @@ made_here g query b settings text p real is h k y e plan covers =
     outcomes_made a (known_by p) (known_same g b query text p is h k y e) (admitted_by p.tests.all) (admitted_means a text real is p.tests.all h.tests) p.optionals.held.lists
     (bags_trans p.optionals.held.lists _ _ h.listed.same (clauses_planned g text (length query.clauses) (pattern_of query.clauses) query.optionals b.optionals h.listed.plans real is.optionals h.listed.covers))
     text real is k y e plan covers
-
--- ---- without optional clauses, and without trails
-
-module _ (admitted : Admission) (g : Graph) (known : List ℕ) (mss : List (List Assignment)) (b : Bound) (none : b.optionals ≡ []) where
-  no_clauses : (m : Marked) → map (ending g b) (after_clauses g known [] mss m) ≡ ending g b m ∷ []
-  unfolding after_clauses
-  no_clauses m = refl
-
-  plain_row : (m : Marked) → if_admitted admitted g b m ≡ if_admitted_behind admitted g known mss b m
-  plain_row m =
-      sym (ap (λ l. cond (admitted m.row) l []) (ap (λ parts. map (ending g b) (after_clauses g known parts mss m)) none ∙ no_clauses m))
-
-  -- without optional clauses rows have one outcome each
-  pub plainly : (y : Typed) (row : reading.Assignment) → outcomes_on (if_admitted admitted g) g b y row ≡ outcomes_on (if_admitted_behind admitted g known mss) g b y row
-  plainly y row = λ i. flat_map (λ m. plain_row m i) (marked g (late_conjuncts b y) row)
-
-  pub plainly_on : (y : Typed) (ts : List Assignment) → outcomes_by (given_on (if_admitted admitted g)) g b y ts ≡ outcomes_by (given_on (if_admitted_behind admitted g known mss)) g b y ts
-  plainly_on y ts = λ i. flat_map (λ t. flat_map (λ r. plainly y r i) (rows_by g b.trails y t)) ts
-
--- without trails assignments have one row each
-pub alone_on : (later : Bound → Marked → List (Result Row Fault)) (g : Graph) (b : Bound) → b.trails ≡ [] → (y : Typed) (ts : List Assignment)
-    → outcomes_by (given_by later) g b y ts ≡ outcomes_by (given_on later) g b y ts
-alone_on later g b none y ts = λ i. flat_map (λ t. one t i) ts
-  where
-    one : (t : Assignment) → given_by later g b y t ≡ given_on later g b y t
-    one t =
-        sym (ap (flat_map (outcomes_on later g b y)) (ap (λ parts. rows_by g parts y t) none ∙ own_alone g y t) ∙ append-nil (given_by later g b y t))

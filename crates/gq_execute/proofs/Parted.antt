@@ -29,9 +29,10 @@ use Rattle.gq_trees.specs.Conjuncts as trees
 use Rattle.gq_trees.specs.PathTests.{PathTest}
 use Rattle.gq_trees.specs.Resolving.{Conjunct, functions, split}
 use Rattle.gq_execute.specs.Replies.{Question, all_outcomes, cores_in, has_heavy_test, has_many_keys, has_turns, later_of, shared_nodes, some_many_keys, tests_of}
-use Rattle.gq_execute.specs.declared.testing.Test.{Test}
+use Rattle.gq_drain.specs.declared.testing.Test.{Test}
 use Rattle.gq_execute.specs.steps.Answering.{AreParted}
-use Rattle.gq_execute.specs.steps.Testing.{AreTestsOf, HasManyKeys, IsTestOf, SomeHasMany, admitted_by, passes_test}
+use Rattle.gq_execute.specs.steps.Testing.{AreTestsOf, HasManyKeys, IsTestOf, SomeHasMany}
+use Rattle.gq_drain.specs.Testing.{admitted_by, passes_test}
 
 pub bound_parted : (a : Question) (text : List ℕ) → IsTrue (is_valid a.graph) → IsBound a.query text a.graph.catalog a.bound → AreParted a
 bound_parted a text real is =

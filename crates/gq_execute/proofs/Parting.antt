@@ -22,7 +22,7 @@ use Rattle.gq_plan.specs.Soundness.{IsSound}
 use Rattle.gq_plan.specs.Plans.{Plan}
 use Rattle.gq_plan.specs.declared.Typed.{Typed}
 use Rattle.gq_execute.specs.steps.Answering.{Drains}
-use Rattle.gq_execute.specs.steps.Taking.{Becomes}
+use Rattle.gq_drain.specs.Becoming.{Becomes}
 use Rattle.gq_execute.specs.Replies.{has_large_part, parts_by}
 use Rattle.gq_execute.specs.declared.settings.Order.{Order}
 use Rattle.gq_execute.specs.declared.settings.Order.TheVariants as order

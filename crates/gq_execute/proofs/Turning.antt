@@ -24,14 +24,16 @@ use Rattle.gq_plan.specs.declared.typed.Typed.{Typed}
 use Rattle.gq_kept.specs.Answers.{cut_of}
 use Rattle.gq_kept.specs.Tables.{Table, is_full, is_full_table}
 use Rattle.gq_execute.specs.Planned.{IsPlanIn, Means, sizes}
-use Rattle.gq_execute.specs.Spending.{IsPlain, IsTurn}
+use Rattle.gq_drain.specs.Taking.{Cut, HasRun, IsPlain, MeetsFault, MeetsMany, Takes, TakesAll}
+use Rattle.gq_execute.specs.Spending.{IsTurn}
 use Rattle.gq_execute.specs.steps.Answering.{Drains, Runs}
 use Rattle.gq_execute.specs.Replies.{has_large_part}
-use Rattle.gq_execute.specs.steps.Taking.{Becomes, Cut, HasRun, MeetsFault, MeetsMany, Takes, TakesAll, outcomes_by, owed_outcomes}
-use Rattle.gq_execute.specs.declared.refusal.AnswerRefusal.{AnswerRefusal}
-use Rattle.gq_execute.specs.declared.refusal.AnswerRefusal.TheVariants as refusal
+use Rattle.gq_drain.specs.Becoming.{Becomes, outcomes_by, owed_outcomes}
+use Rattle.gq_kept.specs.declared.refusal.RowRefusal.{RowRefusal}
+use Rattle.gq_kept.specs.declared.refusal.RowRefusal.TheVariants as refusal
+use Rattle.gq_execute.specs.Refusals.{of_rows}
 use Rattle.gq_execute.specs.declared.settings.Order.{Order}
-use Rattle.gq_execute.proofs.Draining.{outcomes_bag}
+use Rattle.gq_drain.proofs.Drained.{outcomes_bag}
 
 -- ---- what goes into the table
 
@@ -68,7 +70,7 @@ module _ (becomes : Becomes) (g : Graph) (order : Order) (y : Typed) (old new : 
         }
 
     -- or it was stopped
-    pub turn_stops : (e : AnswerRefusal) → TakesAll (owed_outcomes becomes g start pipeline) start new (Err e) → Drains becomes g old.bound order y old new (Err e)
+    pub turn_stops : (e : RowRefusal) → TakesAll (owed_outcomes becomes g start pipeline) start new (Err e) → Drains becomes g old.bound order y old new (Err (of_rows e))
     turn_stops (refusal.Fault f) takes =
         let t = subst (λ (s : Table). MeetsFault (owed_outcomes becomes g start pipeline) s f) is takes in
         record { plan = p; covers = covers; light = light; meets = record { cut = recut (owed_outcomes becomes g start pipeline) owed_bag t.cut; seen = t.seen } }

@@ -10,6 +10,7 @@ use Rattle.gq_base.specs.declared.NodeId.{NodeId}
 use Rattle.gq_alternatives.specs.Matches.{pattern_matches}
 use Rattle.gq_bound.specs.Optionals.{clause_matches, known_first}
 use Rattle.gq_bound.specs.Tested.{ScopedTest, tests, where_met}
+use Rattle.gq_drain.specs.Becoming.{outcomes_behind}
 use Rattle.gq_expr.specs.Reading as reading
 use Rattle.gq_expr.specs.declared.Fault.{Fault}
 use Rattle.gq_law_answers.specs.Answered.{allowed}
@@ -20,7 +21,7 @@ use Rattle.gq_law_cuts.specs.Shaped.{core_pattern_of}
 use Rattle.gq_plan.specs.Allowed.{lies_in}
 use Rattle.gq_plan.specs.Keys.{different, key_of}
 use Rattle.gq_plan.specs.Assignments.{Assignment}
-use Rattle.gq_plan.specs.Marked.{Marked, ending, made_of}
+use Rattle.gq_plan.specs.Marked.{Marked, made_of}
 use Rattle.gq_plan.specs.Outcomes.{Row}
 use Rattle.gq_plan.specs.Parts.{Part, given_parts, greedy_parts, part_assignments}
 use Rattle.gq_plan.specs.declared.Bound.{Bound}
@@ -30,7 +31,6 @@ use Rattle.gq_plan.specs.declared.Typed.{Typed}
 use Rattle.gq_scopes.specs.PathPatterns.{path_pattern}
 use Rattle.gq_kept.specs.Answers.{Answers, cut_of, kept, looked_at, rows_in}
 use Rattle.gq_ast.specs.declared.Query.{Query}
-use Rattle.gq_wide.specs.Clauses.{after_clauses}
 use Rattle.gq_execute.specs.declared.settings.Order.{Order}
 use Rattle.gq_execute.specs.declared.settings.Order.TheVariants as order
 
@@ -51,10 +51,6 @@ parts_by order.Least y = greedy_parts y
 -- the tests of paths among the conditions of a query (what they are called plays no part)
 abbrev pub tests_of : Query → List ScopedTest
 tests_of query = tests [] query
-
--- the outcomes of what the optional clauses make of a row, each with its matches; these variables stood before them
-abbrev pub outcomes_behind : Graph → Bound → List ℕ → List (List Assignment) → Marked → List (Result Row Fault)
-outcomes_behind g b known mss m = map (ending g b) (after_clauses g known b.optionals mss m)
 
 -- those behind the optional clauses of a query, each with its own matches
 abbrev pub behind_optionals : Question → Marked → List (Result Row Fault)

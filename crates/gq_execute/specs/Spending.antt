@@ -3,6 +3,7 @@ use Rattle.std.specs.Prelude.{◌≡◌, ℕ, ◌+◌, Option, None, Result, Ok,
 use Rattle.std.specs.List.{AllZip}
 use Rattle.gq_base.specs.Plain.{Graph}
 use Rattle.gq_bound.specs.Binding.{IsBound}
+use Rattle.gq_drain.specs.Taking.{IsPlain}
 use Rattle.gq_exists.specs.Spending.{HasSpentEach}
 use Rattle.gq_optional.specs.Spending.{Listing, spent_on_each}
 use Rattle.gq_pipe.specs.Spending.{HasOneEach, HasSpent, HasSpentAll, up_to_most}
@@ -87,10 +88,6 @@ IsSpentOnClause g order part listings = AllZip (IsSpentOnListing g order) part.a
 -- the optional clauses whose matches are listed: all of them, where some alternative's turn comes
 abbrev pub clauses_made : Question → List OptionalPart
 clauses_made a = if has_turns a then a.bound.optionals else []
-
--- a query has neither optional clauses nor trails
-abbrev pub IsPlain : Bound → Type 0
-IsPlain b = (b.optionals ≡ []) × (b.trails ≡ [])
 
 -- what all pipelines spent: those of the tests of paths, behind them those of the optional clauses, clause by clause, and behind
 -- these those of the alternatives whose turn comes; where a query is plain, the chunks with a row that were pushed are those of the

@@ -1,11 +1,5 @@
 pub mod Answering
-pub mod Behind
 pub mod Clauses
-pub mod Continuing
-pub mod Copied
 pub mod Costing
-pub mod Late
 pub mod Prepared
-pub mod Taking
 pub mod Testing
-pub mod Walking

@@ -1,149 +1,35 @@
 //! Answers a query alternative by alternative: the pipelines of the plan of each one run, and what
 //! its own hands out goes into one table of rows, behind the optional clauses where there are some,
 //! or continued by the trails.
-ghost use Rattle.std.specs.Prelude.{◌≡◌, ◌+◌, ◌≤◌, ◌<◌, [], false, length, nat_lt, All, IfOk};
-ghost use Rattle.std.specs.Prelude.{IsSome, OnOk};
-ghost use Rattle.std.specs.List.{AllByRecursion};
+ghost use Rattle.std.specs.Prelude.{◌≡◌, ◌+◌, ◌≤◌, ◌<◌, [], false, length, nat_lt, All, IfOk, OnOk};
+ghost use Rattle.gq_drain.specs.Becoming.{given_on};
+ghost use Rattle.gq_drain.specs.Prepared.{CanWalk, later_by};
 ghost use Rattle.gq_execute.specs.Answering.{RepliesToEach, lines_in};
 ghost use Rattle.gq_execute.specs.Planned.{sizes};
 ghost use Rattle.gq_execute.specs.Spending.{SpendsToEach};
 ghost use Rattle.gq_execute.specs.steps.Answering.{AnswersAll, Drains, Fills, IsFresh, SpendsTurn};
-ghost use Rattle.gq_execute.specs.steps.Prepared.{IsPrepared, later_by};
-ghost use Rattle.gq_execute.specs.steps.Taking.{HasRun, IsRunOf, TakesAll, given_by, given_on};
-ghost use Rattle.gq_execute.specs.steps.Taking.{if_admitted, owed_by, owed_outcomes};
-ghost use Rattle.gq_execute.specs.steps.Testing.{admitted_by};
-ghost use Rattle.gq_execute.specs.steps.Walking.{CanWalk};
-ghost use Rattle.gq_group.specs.Groups.{choices};
-ghost use Rattle.gq_kept.specs.Chunks.{IsChunkIn, PushesAdmitted, counted};
-ghost use Rattle.gq_kept.specs.Tables.{IsSameQuery, StandsForSome, is_full_table};
-ghost use Rattle.gq_law_plans.specs.Safe.{IsMade};
-ghost use Rattle.gq_pipe.specs.Serving.{Serves};
+ghost use Rattle.gq_execute.specs.steps.Prepared.{IsPrepared};
+ghost use Rattle.gq_kept.specs.Tables.{StandsForSome, is_full_table};
 ghost use Rattle.gq_plan.specs.Soundness.{IsSound};
 ghost use Rattle.gq_pool.specs.Pool.{spare_of};
-ghost use Rattle.gq_rows.specs.Growing.{IsTested};
 ghost use Rattle.gq_trails.specs.Trekking.{AreInTurn, HasLength};
 ghost use Rattle.gq_wide.specs.Placed.{IsPlaced};
 
-use crate::behind::drain_behind;
 use crate::found::Answer;
 use crate::planning::{plan_for, stats_of};
-use crate::prepared::{Prepared, prepare};
+use crate::prepared::{prepare, spent_before};
 use crate::refusal::AnswerRefusal;
 use crate::settings::Settings;
-use crate::testing::{Tests, append};
-use crate::trailing::drain_trails;
+use crate::testing::append;
 use gq_base::List;
-use gq_group::Chunk;
+use gq_drain::{Prepared, drain_all};
 use gq_order::Stats;
 use gq_pipe::{Pipeline, Spent, make_builds};
 use gq_plan::{Bound, Typed};
 use gq_pool::VectorPool;
-use gq_rows::{More, RowRefusal, RowTable};
+use gq_rows::RowTable;
 use gq_store::Graph;
 use std::alloc::Global;
-
-// Pushes those assignments of a chunk that pass some tests.
-fn push<'g>(
-    table: &mut RowTable<'g>,
-    chunk: &Chunk<'_, '_>,
-    graph: &'g Graph,
-    tests: &Tests<'_>,
-) -> Result<More, RowRefusal>
-    requires tested { (tests.now.all ≡ [] → ⊥) → IsTested table.old.bound }
-    requires started { IsSome table.old.alternative }
-    requires graph { table.old.graph ≡ graph.now }
-    requires chunk { IsChunkIn graph.now table.old.alternative chunk.now }
-    requires stands { StandsForSome table.old }
-    requires room { is_full_table table.old ≡ false }
-    ensures pushes { let admitted = admitted_by tests.now.all in
-        PushesAdmitted admitted graph.now chunk.now table.old table.new result }
-    ensures query { OnOk result (IsSameQuery table.old table.new) }
-    ensures counted { let all = choices chunk.now.groups.now in
-        OnOk result (table.new.pushed ≡ counted table.old.pushed all) }
-{
-    if tests.is_empty() {
-        return table.push_chunk(chunk, graph);
-    }
-    table.push_admitted(chunk, graph, tests)
-}
-
-// Pushes the chunks that a pipeline owes, one after another, until nothing is owed or the table has
-// enough.
-fn drain<'g>(
-    graph: &'g Graph,
-    tests: &Tests<'_>,
-    pipeline: &mut Pipeline<'_>,
-    pool: &mut VectorPool,
-    table: &mut RowTable<'g>,
-) -> Result<(), AnswerRefusal>
-    requires tested { (tests.now.all ≡ [] → ⊥) → IsTested table.old.bound }
-    requires run { IsRunOf graph.now table.old pipeline.old }
-    requires fresh { pipeline.old.chunks ≡ 0 }
-    requires serves { Serves pipeline.old pool.old }
-    requires stands { StandsForSome table.old }
-    requires room { is_full_table table.old ≡ false }
-    ensures takes { let later = if_admitted (admitted_by tests.now.all) graph.now in
-        TakesAll (owed_outcomes (given_by later) graph.now table.old pipeline.old)
-        table.old table.new result }
-    ensures ran { OnOk result (HasRun table.old table.new pipeline.old pipeline.new) }
-    ensures graph { OnOk result (table.new.graph ≡ table.old.graph) }
-    ensures columns { pipeline.new.columns ≡ pipeline.old.columns }
-    ensures held { pipeline.new.slots ≡ pipeline.old.slots }
-    ensures serves { Serves pipeline.new pool.new }
-    ensures slots { pool.new.out ≡ pool.old.out }
-{
-    'chunks: while pipeline.advance(pool) {
-        let chunk = pipeline.chunk(pool);
-        match push(table, &chunk, graph, tests) {
-            Ok(More::Go) => {}
-            Ok(More::Enough) => return Ok(()),
-            Err(refusal) => return Err(AnswerRefusal::from(refusal)),
-        }
-    }
-    Ok(())
-}
-
-// Pushes what a pipeline owes: the outcomes of its rows, each behind the optional clauses or
-// continued by the trails.
-fn drain_all<'g, 'w>(
-    alloc: Global,
-    graph: &'g Graph,
-    prepared: &'w Prepared<'_>,
-    typed: &'w Typed,
-    pipeline: &mut Pipeline<'_>,
-    pool: &mut VectorPool,
-    table: &mut RowTable<'g>,
-) -> Result<(), AnswerRefusal>
-    requires prepared { IsPrepared graph.now table.old.most table.old.bound prepared.now }
-    requires apart { (table.old.bound.optionals ≡ [] → ⊥) → table.old.bound.trails ≡ [] }
-    requires walks { CanWalk table.old.bound typed.now }
-    requires made { AllByRecursion (IsMade graph.now typed.now) (owed_by typed.now pipeline.old) }
-    requires run { IsRunOf graph.now table.old pipeline.old }
-    requires typed { pipeline.old.source.typed ≡ typed.now }
-    requires nodes { length typed.now.nodes ≤ length table.old.bound.node_names }
-    requires rels { length typed.now.rels ≤ length table.old.bound.rel_names }
-    requires fresh { pipeline.old.chunks ≡ 0 }
-    requires serves { Serves pipeline.old pool.old }
-    requires stands { StandsForSome table.old }
-    requires room { is_full_table table.old ≡ false }
-    ensures takes { let later = later_by graph.now prepared.now in
-        TakesAll (owed_outcomes (given_on later) graph.now table.old pipeline.old)
-        table.old table.new result }
-    ensures ran { OnOk result (HasRun table.old table.new pipeline.old pipeline.new) }
-    ensures graph { OnOk result (table.new.graph ≡ table.old.graph) }
-    ensures columns { pipeline.new.columns ≡ pipeline.old.columns }
-    ensures held { pipeline.new.slots ≡ pipeline.old.slots }
-    ensures serves { Serves pipeline.new pool.new }
-    ensures slots { pool.new.out ≡ pool.old.out }
-{
-    if !prepared.bound.trails.is_empty() {
-        return drain_trails(alloc, graph, prepared, typed, pipeline, pool, table);
-    }
-    if prepared.bound.optionals.is_empty() {
-        return drain(graph, &prepared.tests, pipeline, pool, table);
-    }
-    drain_behind(alloc, graph, prepared, typed, pipeline, pool, table)
-}
 
 // Takes the turn of an alternative: runs its plan, and pushes what the plan makes. Answers what its
 // pipelines spent. The builds of its joins are dropped here.
@@ -191,7 +77,7 @@ fn take_turn<'g>(
     let own = pipeline.finish(pool);
     match drained {
         Ok(()) => {}
-        Err(refusal) => return Err(refusal),
+        Err(refusal) => return Err(AnswerRefusal::from(refusal)),
     }
     let mut spent = builds.into_spent();
     spent.push(own)?;
@@ -289,7 +175,7 @@ fn fill<'g>(
         Ok(turns) => turns,
         Err(refusal) => return Err(refusal),
     };
-    let mut spent = prepared.into_spent(alloc)?;
+    let mut spent = spent_before(alloc, prepared)?;
     append(&mut spent, turns)?;
     Ok(spent)
 }

@@ -1,22 +1,18 @@
 //! Executes a bound query over a stored graph: it is answered as openCypher's meaning permits, with
-//! its rows or with why it has none. The crate stands on the plans of `gq_order`, the assignments
-//! of `gq_pipe`, the optional clauses of `gq_optional`, the trails of `gq_trails` and the lines of
-//! `gq_rows`, and on the laws of `gq_law_cores` and `gq_law_clauses`, by which these are of all
-//! matches of the query.
+//! its rows or with why it has none. The crate stands on the plans of `gq_order`, the pipelines of
+//! `gq_pipe`, the tests of `gq_exists`, the optional clauses of `gq_optional`, and `gq_drain`, which
+//! drains a pipeline into the lines of `gq_rows`; and on the laws of `gq_law_cores` and
+//! `gq_law_clauses`, by which these are of all matches of the query.
 #![tactic(auto)]
 
 mod answering;
-mod behind;
 mod clauses;
-mod copied;
 mod found;
-mod late;
 mod planning;
 mod prepared;
 mod refusal;
 mod settings;
 mod testing;
-mod trailing;
 
 pub use answering::answer;
 pub use found::Answer;

@@ -2,10 +2,11 @@
 //! of paths by their keys, and the matches of the optional clauses.
 ghost use Rattle.std.specs.Prelude.{◌≡◌, ◌≤◌, ◌<◌, ◌++◌, false, flat_map, length, All, IfOk, IfErr};
 ghost use Rattle.std.specs.Prelude.{OnOk};
+ghost use Rattle.gq_drain.specs.Prepared.{AreAsked};
 ghost use Rattle.gq_execute.specs.Planned.{sizes};
 ghost use Rattle.gq_execute.specs.steps.Clauses.{AreSpentOn, some_heavy_clause};
-ghost use Rattle.gq_execute.specs.steps.Prepared.{AreAsked, AreSpentOnTests, IsPrepared};
-ghost use Rattle.gq_execute.specs.steps.Prepared.{RefusesBefore, first_nodes};
+ghost use Rattle.gq_execute.specs.steps.Prepared.{AreSpentOnTests, IsPrepared, RefusesBefore};
+ghost use Rattle.gq_execute.specs.steps.Prepared.{first_nodes};
 ghost use Rattle.gq_execute.specs.steps.Testing.{spent_on};
 ghost use Rattle.gq_plan.specs.Soundness.{IsSound};
 ghost use Rattle.gq_pool.specs.Pool.{spare_of};
@@ -14,10 +15,11 @@ ghost use Rattle.gq_wide.specs.Placed.{IsPlaced};
 use crate::clauses::list_clauses;
 use crate::refusal::AnswerRefusal;
 use crate::settings::Settings;
-use crate::testing::{Tests, append, tests_of};
+use crate::testing::{append, spent_of_tests, tests_of};
 use gq_base::{List, Memory};
+use gq_drain::Prepared;
 use gq_eval::{Evaluator, evaluators};
-use gq_optional::{Optionals, RowShape};
+use gq_optional::RowShape;
 use gq_order::Stats;
 use gq_pipe::Spent;
 use gq_plan::Bound;
@@ -25,37 +27,23 @@ use gq_pool::VectorPool;
 use gq_store::Graph;
 use std::alloc::Global;
 
-/// A graph and a query, its conjuncts over the graph where optional clauses or trails ask them, its tests of paths,
-/// and the matches of its optional clauses.
-#[derive(Drop)]
-pub struct Prepared<'q> {
-    pub(crate) graph: &'q Graph,
-    pub(crate) bound: &'q Bound,
-    pub(crate) conjuncts: List<Evaluator<'q>>,
-    // The variables of its rows.
-    pub(crate) shape: RowShape,
-    pub(crate) tests: Tests<'q>,
-    pub(crate) optionals: Optionals<'q>,
-}
-
-impl<'q> Prepared<'q> {
-    /// What was spent: on the tests, and behind them on the optional clauses.
-    pub(crate) fn into_spent(self, alloc: Global) -> Result<List<Spent>, Memory>
-        ensures { let tested = flat_map (λ s. s) (spent_on self.entry.tests.all) in
-            IfOk result (λ spent. spent ≡ tested ++ self.entry.optionals.spent) }
-    {
-        let Prepared {
-            graph: _,
-            bound: _,
-            conjuncts: _,
-            shape: _,
-            tests,
-            optionals,
-        } = self;
-        let mut spent = tests.into_spent(alloc)?;
-        append(&mut spent, optionals.into_spent())?;
-        Ok(spent)
-    }
+/// What was spent before the first alternative: on the tests, and behind them on the optional
+/// clauses.
+pub(crate) fn spent_before(alloc: Global, prepared: Prepared<'_>) -> Result<List<Spent>, Memory>
+    ensures { let tested = flat_map (λ s. s) (spent_on prepared.tests.all) in
+        IfOk result (λ spent. spent ≡ tested ++ prepared.optionals.spent) }
+{
+    let Prepared {
+        graph: _,
+        bound: _,
+        conjuncts: _,
+        shape: _,
+        tests,
+        optionals,
+    } = prepared;
+    let mut spent = spent_of_tests(alloc, tests)?;
+    append(&mut spent, optionals.into_spent())?;
+    Ok(spent)
 }
 
 // How many node variables the first alternative has.

@@ -1,10 +1,9 @@
 //! The tests of paths of a query, each by the keys of its path's matches.
-ghost use Rattle.std.specs.Prelude.{◌≡◌, ◌≤◌, ◌<◌, ◌++◌, ◌↔◌, [], true, flat_map, length, All, IfOk, IfErr, OnOk};
-ghost use Rattle.std.specs.List.{AllZip, list_all};
+ghost use Rattle.std.specs.Prelude.{◌≡◌, ◌≤◌, ◌<◌, ◌++◌, flat_map, length, All, IfOk, IfErr, OnOk};
+ghost use Rattle.std.specs.List.{AllZip};
 ghost use Rattle.gq_execute.specs.Planned.{sizes};
 ghost use Rattle.gq_execute.specs.Spending.{IsSpentOn};
-ghost use Rattle.gq_execute.specs.steps.Testing.{AreTestsOf, IsTestOf, RefusesTest};
-ghost use Rattle.gq_execute.specs.steps.Testing.{RefusesTests, admitted_by, passes_test};
+ghost use Rattle.gq_execute.specs.steps.Testing.{AreTestsOf, IsTestOf, RefusesTest, RefusesTests};
 ghost use Rattle.gq_execute.specs.steps.Testing.{spent_on};
 ghost use Rattle.gq_plan.specs.Soundness.{IsSound};
 ghost use Rattle.gq_pool.specs.Pool.{spare_of};
@@ -13,86 +12,14 @@ use crate::planning::plans_in;
 use crate::refusal::AnswerRefusal;
 use crate::settings::Settings;
 use gq_base::{List, Memory};
+use gq_drain::{Test, Tests};
 use gq_exists::KeySet;
-use gq_expr::Assigned;
-use gq_group::ChunkRow;
 use gq_order::Stats;
 use gq_pipe::Spent;
 use gq_plan::ExistsPart;
 use gq_pool::VectorPool;
-use gq_rows::Admits;
 use gq_store::Graph;
 use std::alloc::Global;
-
-/// A test of a path, and the keys of the path's matches.
-#[derive(Drop)]
-pub struct Test<'q> {
-    pub(crate) part: &'q ExistsPart,
-    pub(crate) keys: KeySet,
-}
-
-/// The tests of a query, in text order.
-#[derive(Drop)]
-pub struct Tests<'q> {
-    pub(crate) all: List<Test<'q>>,
-}
-
-impl<'q> Test<'q> {
-    // Whether a row passes the test.
-    fn admits<R: Assigned>(&self, row: &R) -> bool
-        ensures { result ≡ passes_test self.now (R.assignment row.now) }
-    {
-        let found = self.keys.holds_at(self.part.nodes.as_slice(), row);
-        if self.part.wanted { found } else { !found }
-    }
-}
-
-// Whether a row passes some tests.
-fn all_admit<R: Assigned>(tests: &[Test<'_>], row: &R) -> bool
-    ensures { result ≡ list_all (λ t. passes_test t (R.assignment row.now)) tests.now }
-{
-    let Some((test, tests)) = tests.split_first() else {
-        return true;
-    };
-    test.admits(row) && all_admit(tests, row)
-}
-
-impl<'q> Tests<'q> {
-    /// Whether there are none.
-    pub(crate) fn is_empty(&self) -> bool
-        ensures { (result ≡ true) ↔ (self.now.all ≡ []) }
-    {
-        self.all.is_empty()
-    }
-
-    /// Whether a row passes all of them.
-    pub(crate) fn pass<R: Assigned>(&self, row: &R) -> bool
-        ensures { result ≡ admitted_by self.now.all (R.assignment row.now) }
-    {
-        all_admit(self.all.as_slice(), row)
-    }
-
-    /// What was spent to find the keys, test by test.
-    pub(crate) fn into_spent(self, alloc: Global) -> Result<List<Spent>, Memory>
-        ensures { IfOk result (λ spent. spent ≡ flat_map (λ s. s) (spent_on self.entry.all)) }
-    {
-        let Tests { all } = self;
-        let mut spent = List::new(alloc);
-        for test in all.into_vec() {
-            let Test { part: _, keys } = test;
-            append(&mut spent, keys.into_spent())?;
-        }
-        Ok(spent)
-    }
-}
-
-impl Admits for Tests<'_> {
-    ghost admitted = { λ tests. admitted_by tests.all };
-
-    fn admits(&self, row: &ChunkRow<'_, '_, '_, '_, '_>) -> bool {
-        all_admit(self.all.as_slice(), row)
-    }
-}
 
 /// Appends what some pipelines spent.
 pub(crate) fn append(spent: &mut List<Spent>, more: List<Spent>) -> Result<(), Memory>
@@ -102,6 +29,19 @@ pub(crate) fn append(spent: &mut List<Spent>, more: List<Spent>) -> Result<(), M
         spent.push(one)?;
     }
     Ok(())
+}
+
+/// What was spent to find the keys of tests, test by test.
+pub(crate) fn spent_of_tests(alloc: Global, tests: Tests<'_>) -> Result<List<Spent>, Memory>
+    ensures { IfOk result (λ spent. spent ≡ flat_map (λ s. s) (spent_on tests.all)) }
+{
+    let Tests { all } = tests;
+    let mut spent = List::new(alloc);
+    for test in all.into_vec() {
+        let Test { part: _, keys } = test;
+        append(&mut spent, keys.into_spent())?;
+    }
+    Ok(spent)
 }
 
 // Makes a test of a part: plans of the path's alternatives, and the keys of what they make.

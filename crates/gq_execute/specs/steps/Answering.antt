@@ -17,9 +17,10 @@ use Rattle.gq_ast.specs.declared.Query.{Query}
 use Rattle.gq_base.specs.Plain.{Graph}
 use Rattle.gq_execute.specs.Answering.{question, RepliesToEach}
 use Rattle.gq_execute.specs.Replies.{Question, all_outcomes, has_heavy_clause, has_heavy_test, has_large_part, outcomes_in, some_heavy}
-use Rattle.gq_execute.specs.Spending.{IsPlain, IsSpentOn, IsSpentOnClause, IsTurn, Turn, clauses_made, own_chunks, spent_in, tests_made, with_turns}
+use Rattle.gq_drain.specs.Taking.{IsPlain, MeetsFault, MeetsMany, Takes}
+use Rattle.gq_execute.specs.Spending.{IsSpentOn, IsSpentOnClause, IsTurn, Turn, clauses_made, own_chunks, spent_in, tests_made, with_turns}
 use Rattle.gq_optional.specs.Spending.{Listing, spent_on_each}
-use Rattle.gq_execute.specs.steps.Taking.{Becomes, MeetsFault, MeetsMany, Takes, outcomes_by}
+use Rattle.gq_drain.specs.Becoming.{Becomes, outcomes_by}
 use Rattle.gq_execute.specs.declared.refusal.AnswerRefusal.{AnswerRefusal}
 use Rattle.gq_execute.specs.declared.refusal.AnswerRefusal.TheVariants as refusal
 use Rattle.gq_execute.specs.declared.settings.Order.{Order}

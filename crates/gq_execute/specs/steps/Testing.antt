@@ -1,11 +1,11 @@
--- Tests of paths by their keys: which rows they admit, and what they are to a query.
-use Rattle.std.specs.Prelude.{◌≡◌, ℕ, Bool, not, Some, List, map, slice_get, if◌then◌else◌}
-use Rattle.std.specs.List.{AllZip, list_all}
+-- Tests of paths by their keys: what they are to a query.
+use Rattle.std.specs.Prelude.{◌≡◌, ℕ, Some, List, map, slice_get}
+use Rattle.std.specs.List.{AllZip}
 use Rattle.gq_base.specs.Plain.{Graph}
 use Rattle.gq_base.specs.declared.NodeId.{NodeId}
+use Rattle.gq_drain.specs.declared.testing.Test.{Test}
 use Rattle.gq_exists.specs.Different.{HasMany, HasNoMore}
-use Rattle.gq_exists.specs.Made.{keys_of, some_stand_on}
-use Rattle.gq_expr.specs.Reading as reading
+use Rattle.gq_exists.specs.Made.{keys_of}
 use Rattle.gq_homes.specs.declared.spent.Spent.{Spent}
 use Rattle.gq_plan.specs.Covers.{Covers}
 use Rattle.gq_plan.specs.Keys.{has_key}
@@ -13,17 +13,6 @@ use Rattle.gq_plan.specs.Plans.{Plan}
 use Rattle.gq_plan.specs.declared.ExistsPart.{ExistsPart}
 use Rattle.gq_execute.specs.declared.refusal.AnswerRefusal.{AnswerRefusal}
 use Rattle.gq_execute.specs.declared.refusal.AnswerRefusal.TheVariants as refusal
-use Rattle.gq_execute.specs.declared.testing.Test.{Test}
-use Rattle.gq_execute.specs.steps.Taking.{Admission}
-
--- a row passes a test: it stands on a key of the path, or on none where that is wanted
-abbrev pub passes_test : Test → reading.Assignment → Bool
-passes_test t row =
-    let found = some_stand_on t.part.now.nodes row t.keys.keys in
-    if t.part.now.wanted then found else not found
-
-abbrev pub admitted_by : List Test → Admission
-admitted_by tests = λ row. list_all (λ t. passes_test t row) tests
 
 -- the keys of a test are those of what some covering plans make of the path's alternatives, and not too many
 pub record IsTestOf (g : Graph) (most : ℕ) (part : ExistsPart) (t : Test) : Type 0 where

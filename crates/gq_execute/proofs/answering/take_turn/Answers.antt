@@ -1,10 +1,12 @@
-use Rattle.std.proofs.Common.{◌≡◌, ◌∙◌, ◌++◌, ◌∷◌, [], ap, map, sym, subst, Some, arith, length}
+use Rattle.std.proofs.Common.{◌≡◌, ◌∙◌, ◌++◌, ◌∷◌, List, [], ap, map, refl, sym, subst, Some, arith, length}
+use Rattle.std.specs.List.{AllZip}
 use Rattle.std.proofs.lemmas.List.Elements.{recursion_from_All}
 use Rattle.std.proofs.lemmas.List.FromFn.{length-map-range_with_len}
 use Rattle.std.proofs.lemmas.List.Sorted.{All-permutation, IsPermutation-sym}
 use Rattle.gq_law_plans.proofs.Made.{plans_make}
 use Rattle.gq_law_plans.specs.Safe.{IsMade}
 use Rattle.gq_order.specs.declared.stats.Stats.{Stats}
+use Rattle.gq_rows.specs.Growing.{IsTested}
 use Rattle.gq_pipe.specs.Bound.{binds_all}
 use Rattle.gq_pipe.specs.Limits.{sides_within}
 use Rattle.gq_pipe.specs.Progress.{Source, plan_in}
@@ -15,7 +17,7 @@ use Rattle.gq_plan.specs.Plans.{plan_of}
 use Rattle.gq_kept.specs.Answers.{cut_of}
 use Rattle.gq_kept.specs.Tables.{Table}
 use Rattle.gq_execute.specs.Planned.{IsPlanIn}
-use Rattle.gq_execute.specs.Spending.{IsPlain}
+use Rattle.gq_drain.specs.Taking.{IsPlain}
 use Rattle.gq_execute.proofs.Parting.{sides_light, sides_refused}
 use Rattle.gq_pipe.proofs.Assigned.{covers_bind_all}
 use Rattle.gq_pipe.proofs.Rooms.{most_rooms, spare_same}
@@ -23,8 +25,8 @@ use Rattle.gq_pipe.proofs.SomeGroup.{covers_some}
 use Rattle.gq_pipe.proofs.Slots.{all_back}
 use Rattle.gq_law_plans.proofs.Wholes.{plans_mean}
 use Rattle.gq_execute.proofs.Turning.{own_counted, own_keys, own_spent, turn_spent, turn_stops, turned}
-use Rattle.gq_execute.specs.steps.Prepared.{later_by}
-use Rattle.gq_execute.specs.steps.Taking.{given_on}
+use Rattle.gq_drain.specs.Prepared.{IsPreparedFor, later_by}
+use Rattle.gq_drain.specs.Becoming.{given_on}
 use Rattle.gq_execute.proofs.answering.take_turn.Goals as goal
 use Rattle.gq_execute.proofs.answering.take_turn.Goals.{After-finish-own}
 
@@ -82,8 +84,8 @@ returns-in-Err-drained-clause-drains c =
     let plan = plan_of c.in_ok-planned.planned.plan in
     let few = ap (λ m. sides_within g y m plan) (sym c.requires.most) ∙ c.in-Ok.ensures.few in
     let light = sides_light g c.args.settings.now.order y c.args.table.now.most plan c.stands_valid.ensures c.requires.sound c.in_ok-planned.ensures.parts c.in_ok-planned.ensures.alone few in
-    turn_stops (given_on (later_by c.args.graph.now c.args.prepared.now)) g c.args.settings.now.order y c.args.table.now c.drain_all-drained.new.table plan c.in_ok-planned.ensures.covers light c.start_alternative.new.self c.in_ok-pipeline.pipeline
-    c.start_alternative.ensures (ap (λ (s : Source). s.typed) p.source) p.meaning c.in-Err-drained.refusal c.in-Err-drained.ensures.takes
+    rw c.from-2.ensures (turn_stops (given_on (later_by c.args.graph.now c.args.prepared.now)) g c.args.settings.now.order y c.args.table.now c.drain_all-drained.new.table plan c.in_ok-planned.ensures.covers light c.start_alternative.new.self c.in_ok-pipeline.pipeline
+    c.start_alternative.ensures (ap (λ (s : Source). s.typed) p.source) p.meaning c.in-Err-drained.refusal c.in-Err-drained.ensures.takes)
 
 pub returns-clause-drains : goal.returns-clause-drains
 returns-clause-drains c =
@@ -140,3 +142,18 @@ returns-in_err-push-clause-slots c = kept (goal.at.returns-in_err-push-clause-sl
 
 pub returns-clause-slots : goal.returns-clause-slots
 returns-clause-slots c = kept (goal.at.returns-clause-slots c).After-finish-own
+
+-- where some tests are of some paths, and there are tests, there are paths
+some_paths : {X Y : Type 0} (R : X → Y → Type 0) (xs : List X) (ys : List Y) → AllZip R xs ys → (ys ≡ [] → ⊥) → xs ≡ [] → ⊥
+some_paths R [] [] each some none = some refl
+some_paths R [] (y ∷ ys) each some none = absurd each
+some_paths R (x ∷ xs) ys each some none = absurd (cc none)
+
+pub drain_all-drained-requires-clause-tested : goal.drain_all-drained-requires-clause-tested
+drain_all-drained-requires-clause-tested c =
+    let same = ap (λ (t : Table). t.bound) c.start_alternative.ensures in
+    λ some. subst IsTested (sym same) (some_paths _ c.args.table.now.bound.patterns c.args.prepared.now.tests.all c.requires.prepared.tests some)
+
+pub drain_all-drained-requires-clause-prepared : goal.drain_all-drained-requires-clause-prepared
+drain_all-drained-requires-clause-prepared c =
+    subst (λ b. IsPreparedFor c.args.graph.now b c.args.prepared.now) (sym (ap (λ (t : Table). t.bound) c.start_alternative.ensures)) c.requires.prepared.ready

@@ -3,8 +3,8 @@ use Rattle.gq_execute.specs.Answering.{question}
 use Rattle.gq_execute.proofs.Going.{came_start, fresh_stands, item_at, spends_more, spends_none, taken_more, turn_ended, turn_taken}
 use Rattle.gq_execute.proofs.Making.{made_here}
 use Rattle.gq_execute.proofs.Parted.{bound_parted}
-use Rattle.gq_execute.specs.steps.Prepared.{later_by}
-use Rattle.gq_execute.specs.steps.Taking.{given_on}
+use Rattle.gq_drain.specs.Prepared.{later_by}
+use Rattle.gq_drain.specs.Becoming.{given_on}
 use Rattle.gq_pipe.proofs.Rooms.{spare_same}
 use Rattle.gq_execute.proofs.answering.take_turns.Goals as goal
 

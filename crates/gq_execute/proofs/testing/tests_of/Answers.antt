@@ -1,7 +1,7 @@
 use Rattle.std.proofs.Common.{◌∙◌, ◌∷◌, [], ap, arith}
 use Rattle.std.proofs.lemmas.List.{map-append}
 use Rattle.gq_execute.specs.Spending.{IsSpentOn}
-use Rattle.gq_execute.specs.declared.testing.Test.{Test}
+use Rattle.gq_drain.specs.declared.testing.Test.{Test}
 use Rattle.gq_execute.specs.steps.Testing.{IsTestOf, spent_on}
 use Rattle.gq_execute.proofs.Covering.{zip_next}
 use Rattle.gq_execute.proofs.Ending.{one_refuses}

@@ -1,0 +1,9 @@
+pub mod Again
+pub mod Alike
+pub mod Chosen
+pub mod Continuing
+pub mod Copying
+pub mod Drained
+pub mod Judging
+pub mod Pushing
+pub mod Reaching

@@ -1,0 +1,5 @@
+pub mod Becoming
+pub mod Prepared
+pub mod Taking
+pub mod Testing
+pub mod steps
