@@ -1,5 +1,6 @@
 pub mod Answering
 pub mod Planned
+pub mod Ready
 pub mod Refusals
 pub mod Replies
 pub mod Spending

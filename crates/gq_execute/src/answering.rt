@@ -1,18 +1,18 @@
 //! Answers a query alternative by alternative: the pipelines of the plan of each one run, and what
 //! its own hands out goes into one table of rows, behind the optional clauses where there are some,
 //! or continued by the trails.
-ghost use Rattle.std.specs.Prelude.{◌≡◌, ◌+◌, ◌≤◌, ◌<◌, [], false, length, nat_lt, All, IfOk, OnOk};
+ghost use Rattle.std.specs.Prelude.{◌≡◌, ◌≤◌, ◌<◌, [], false, length, All, IfOk, OnOk};
 ghost use Rattle.gq_drain.specs.Becoming.{given_on};
 ghost use Rattle.gq_drain.specs.Prepared.{CanWalk, later_by};
 ghost use Rattle.gq_execute.specs.Answering.{RepliesToEach, lines_in};
 ghost use Rattle.gq_execute.specs.Planned.{sizes};
+ghost use Rattle.gq_execute.specs.Ready.{IsReady};
 ghost use Rattle.gq_execute.specs.Spending.{SpendsToEach};
 ghost use Rattle.gq_execute.specs.steps.Answering.{AnswersAll, Drains, Fills, IsFresh, SpendsTurn};
 ghost use Rattle.gq_execute.specs.steps.Prepared.{IsPrepared};
 ghost use Rattle.gq_kept.specs.Tables.{StandsForSome, is_full_table};
 ghost use Rattle.gq_plan.specs.Soundness.{IsSound};
 ghost use Rattle.gq_pool.specs.Pool.{spare_of};
-ghost use Rattle.gq_trails.specs.Trekking.{AreInTurn, HasLength};
 ghost use Rattle.gq_wide.specs.Placed.{IsPlaced};
 
 use crate::found::Answer;
@@ -200,26 +200,7 @@ pub fn answer<'g>(
     pool: &mut VectorPool,
     settings: &Settings,
 ) -> Result<Answer<'g>, AnswerRefusal>
-    requires sound { All (IsSound graph.now.catalog) bound.now.alternatives }
-    requires begins { All (λ y. 0 < length y.nodes) bound.now.alternatives }
-    requires tests_sound { let sound = All (IsSound graph.now.catalog) in
-        All (λ p. sound p.alternatives) bound.now.patterns }
-    requires tests_begin { let begin = All (λ y. 0 < length y.nodes) in
-        All (λ p. begin p.alternatives) bound.now.patterns }
-    requires placed { let placed = IsPlaced (length bound.now.node_names) (length bound.now.rel_names) in
-        All (placed graph.now.catalog) bound.now.optionals }
-    requires nodes { let few = length bound.now.node_names in
-        All (λ y. length y.nodes ≤ few) bound.now.alternatives }
-    requires rels { let few = length bound.now.rel_names in
-        All (λ y. length y.rels ≤ few) bound.now.alternatives }
-    requires trails { All HasLength bound.now.trails }
-    requires ends { let few = length bound.now.node_names in
-        All (λ p. p.to < few) bound.now.trails }
-    requires turns { let turn = AreInTurn bound.now.trails in
-        All (λ y. turn (λ v. nat_lt v (length y.nodes))) bound.now.alternatives }
-    requires few { let trails = length bound.now.trails in
-        All (λ y. trails + length y.rels ≤ 24) bound.now.alternatives }
-    requires apart { (bound.now.optionals ≡ [] → ⊥) → bound.now.trails ≡ [] }
+    requires ready { IsReady graph.now.catalog bound.now }
     requires slots { 112 ≤ spare_of pool.old }
     ensures permitted { RepliesToEach graph.now bound.now settings.now (lines_in result) }
     ensures spends { SpendsToEach graph.now bound.now settings.now result }

@@ -30,8 +30,8 @@ use std::alloc::Global;
 /// What was spent before the first alternative: on the tests, and behind them on the optional
 /// clauses.
 pub(crate) fn spent_before(alloc: Global, prepared: Prepared<'_>) -> Result<List<Spent>, Memory>
-    ensures { let tested = flat_map (λ s. s) (spent_on prepared.tests.all) in
-        IfOk result (λ spent. spent ≡ tested ++ prepared.optionals.spent) }
+    ensures { let tested = flat_map (λ s. s) (spent_on prepared.entry.tests.all) in
+        IfOk result (λ spent. spent ≡ tested ++ prepared.entry.optionals.spent) }
 {
     let Prepared {
         graph: _,

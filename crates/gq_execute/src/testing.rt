@@ -33,7 +33,7 @@ pub(crate) fn append(spent: &mut List<Spent>, more: List<Spent>) -> Result<(), M
 
 /// What was spent to find the keys of tests, test by test.
 pub(crate) fn spent_of_tests(alloc: Global, tests: Tests<'_>) -> Result<List<Spent>, Memory>
-    ensures { IfOk result (λ spent. spent ≡ flat_map (λ s. s) (spent_on tests.all)) }
+    ensures { IfOk result (λ spent. spent ≡ flat_map (λ s. s) (spent_on tests.entry.all)) }
 {
     let Tests { all } = tests;
     let mut spent = List::new(alloc);

@@ -1,16 +1,14 @@
 //! The reply to a query that is bound.
 
-ghost use Rattle.std.specs.Prelude.{◌≡◌, ◌≤◌, ◌<◌, ◌+◌, [], All, length, nat_lt};
+ghost use Rattle.std.specs.Prelude.{◌≡◌, ◌≤◌};
+ghost use Rattle.gq_execute.specs.Ready.{IsReady};
 ghost use Rattle.gq_io.specs.Causes.{HasCause};
 ghost use Rattle.gq_io.specs.Outside.{Writes};
-ghost use Rattle.gq_plan.specs.Soundness.{IsSound};
 ghost use Rattle.gq_pool.specs.Pool.{spare_of};
 ghost use Rattle.gq_reply.specs.Replies.{context_of};
 ghost use Rattle.gq_reply.specs.ReplyTexts.{fault_text, many_text, rows_text};
 ghost use Rattle.gq_reply.specs.steps.Steps.{Asks, answer_text};
 ghost use Rattle.gq_session.specs.Sessions.{span_of};
-ghost use Rattle.gq_trails.specs.Trekking.{AreInTurn, HasLength};
-ghost use Rattle.gq_wide.specs.Placed.{IsPlaced};
 
 use crate::replier::{Form, Replier};
 use crate::spent::write_spent;
@@ -97,25 +95,7 @@ impl Replier<'_> {
         bound: &Bound,
         profiled: bool,
     ) -> Result<Tone, Failed>
-        requires sound { All (IsSound self.now.graph.now.catalog) bound.now.alternatives }
-        requires begins { All (λ y. 0 < length y.nodes) bound.now.alternatives }
-        requires tests_sound { let sound = All (IsSound self.now.graph.now.catalog) in
-            All (λ p. sound p.alternatives) bound.now.patterns }
-        requires tests_begin { let begin = All (λ y. 0 < length y.nodes) in
-            All (λ p. begin p.alternatives) bound.now.patterns }
-        requires placed { let placed = IsPlaced (length bound.now.node_names) (length bound.now.rel_names) in
-            All (placed self.now.graph.now.catalog) bound.now.optionals }
-        requires nodes { let most = length bound.now.node_names in
-            All (λ y. length y.nodes ≤ most) bound.now.alternatives }
-        requires rels { let most = length bound.now.rel_names in
-            All (λ y. length y.rels ≤ most) bound.now.alternatives }
-        requires trails { All HasLength bound.now.trails }
-        requires ends { All (λ p. p.to < length bound.now.node_names) bound.now.trails }
-        requires turns { let turn = AreInTurn bound.now.trails in
-            All (λ y. turn (λ v. nat_lt v (length y.nodes))) bound.now.alternatives }
-        requires few { let count = length bound.now.trails in
-            All (λ y. count + length y.rels ≤ 24) bound.now.alternatives }
-        requires apart { (bound.now.optionals ≡ [] → ⊥) → bound.now.trails ≡ [] }
+        requires ready { IsReady self.now.graph.now.catalog bound.now }
         requires slots { 112 ≤ spare_of pool.old }
         ensures asks { Asks (context_of self.now) profiled bound.now
             (span_of O.taken O.faults out.old out.new) result }

@@ -6,6 +6,35 @@ use Rattle.gq_execute.proofs.Going.{finished, spent_all}
 use Rattle.gq_execute.proofs.Parted.{bound_parted}
 use Rattle.gq_execute.proofs.answering.answer.Goals as goal
 
+pub fill-requires-clause-sound : goal.fill-requires-clause-sound
+fill-requires-clause-sound c = c.requires.ready.sound
+
+pub fill-requires-clause-begins : goal.fill-requires-clause-begins
+fill-requires-clause-begins c = c.requires.ready.begins
+
+pub fill-requires-clause-tests_sound : goal.fill-requires-clause-tests_sound
+fill-requires-clause-tests_sound c = c.requires.ready.tests_sound
+
+pub fill-requires-clause-tests_begin : goal.fill-requires-clause-tests_begin
+fill-requires-clause-tests_begin c = c.requires.ready.tests_begin
+
+pub fill-requires-clause-placed : goal.fill-requires-clause-placed
+fill-requires-clause-placed c = c.requires.ready.placed
+
+pub fill-requires-clause-nodes : goal.fill-requires-clause-nodes
+fill-requires-clause-nodes c = c.requires.ready.nodes
+
+pub fill-requires-clause-rels : goal.fill-requires-clause-rels
+fill-requires-clause-rels c = c.requires.ready.rels
+
+pub fill-requires-clause-apart : goal.fill-requires-clause-apart
+fill-requires-clause-apart c = c.requires.ready.apart
+
+pub fill-requires-clause-walks : goal.fill-requires-clause-walks
+fill-requires-clause-walks c =
+    let ready = c.requires.ready in
+    λ k d low. record { lengths = ready.trails; ends = ready.ends; turns = ready.turns k d low; few = ready.few k d low }
+
 pub returns-in-Ok-finish : goal.returns-in-Ok-finish
 returns-in-Ok-finish c =
     let answers = c.in-Ok.ensures.answers in

@@ -84,7 +84,7 @@ returns-in-Err-drained-clause-drains c =
     let plan = plan_of c.in_ok-planned.planned.plan in
     let few = ap (λ m. sides_within g y m plan) (sym c.requires.most) ∙ c.in-Ok.ensures.few in
     let light = sides_light g c.args.settings.now.order y c.args.table.now.most plan c.stands_valid.ensures c.requires.sound c.in_ok-planned.ensures.parts c.in_ok-planned.ensures.alone few in
-    rw c.from-2.ensures (turn_stops (given_on (later_by c.args.graph.now c.args.prepared.now)) g c.args.settings.now.order y c.args.table.now c.drain_all-drained.new.table plan c.in_ok-planned.ensures.covers light c.start_alternative.new.self c.in_ok-pipeline.pipeline
+    rw c.from-in-Err-drained.ensures (turn_stops (given_on (later_by c.args.graph.now c.args.prepared.now)) g c.args.settings.now.order y c.args.table.now c.drain_all-drained.new.table plan c.in_ok-planned.ensures.covers light c.start_alternative.new.self c.in_ok-pipeline.pipeline
     c.start_alternative.ensures (ap (λ (s : Source). s.typed) p.source) p.meaning c.in-Err-drained.refusal c.in-Err-drained.ensures.takes)
 
 pub returns-clause-drains : goal.returns-clause-drains
