@@ -11,7 +11,7 @@ use Rattle.gq_expr.specs.Operators.{Outcome}
 use Rattle.gq_expr.specs.Reading as reading
 use Rattle.gq_expr.specs.declared.Fault.{Fault}
 use Rattle.gq_expr.specs.declared.Kinds.{Kinds}
-use Rattle.gq_law_answers.proofs.LateOutcomes as safe
+use Rattle.gq_law_answers.proofs.Early as safe
 use Rattle.gq_plan.proofs.Marks.{dropped_row}
 use Rattle.gq_plan.specs.Assignments.{Assignment, row_of}
 use Rattle.gq_plan.specs.Conditions.{passes}

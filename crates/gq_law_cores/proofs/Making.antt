@@ -19,10 +19,9 @@ use Rattle.gq_alternatives.specs.Choices.{IsChoice}
 use Rattle.gq_cuts.specs.Entries.{entry_test}
 use Rattle.gq_law_answers.specs.Answered.{allowed}
 use Rattle.gq_law_answers.proofs.Alone.{allows_passing, some_drops}
+use Rattle.gq_law_answers.proofs.Early as safe
 use Rattle.gq_law_answers.proofs.Entries.{tests_entries}
-use Rattle.gq_law_answers.proofs.LateOutcomes as safe
-use Rattle.gq_law_answers.proofs.Laws.{both_then}
-use Rattle.gq_law_answers.proofs.Matched.{flat_map_same_on, has_tables}
+use Rattle.gq_law_answers.proofs.Matched.{both_then, flat_map_same_on, has_tables}
 use Rattle.gq_law_plans.proofs.Fields.{lying_fits}
 use Rattle.gq_law_plans.proofs.Made.{plans_make}
 use Rattle.gq_law_plans.proofs.Reordered.{permuted_flat_map}
