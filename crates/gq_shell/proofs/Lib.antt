@@ -1,3 +1,4 @@
+pub mod OneQuery
 pub mod OneStatus
 pub mod Ordering
 pub mod Quizzing

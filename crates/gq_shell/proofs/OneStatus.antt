@@ -57,10 +57,10 @@ no_sample None (Some text) (source.Manifest a) size p here there is = here
 no_sample None (Some text) (source.Sample n) size p here there is = is
 
 -- the same of what was found for the options
-same_paths : (found : List Row) (r r' : Words) (p q : List ℕ) → Means found r → Means found r' → IsPath p r.source → IsPath q r'.source → p ≡ q
+pub same_paths : (found : List Row) (r r' : Words) (p q : List ℕ) → Means found r → Means found r' → IsPath p r.source → IsPath q r'.source → p ≡ q
 same_paths found r r' p q m m' here there = same_path (first_of (codes "manifest") found) (first_of (codes "sample") found) r.source r'.source p q m.source m'.source here there
 
-no_samples : (found : List Row) (r r' : Words) (size : ℕ) (p : List ℕ) → Means found r → Means found r' → r'.source ≡ source.Sample size → IsPath p r.source → ⊥
+pub no_samples : (found : List Row) (r r' : Words) (size : ℕ) (p : List ℕ) → Means found r → Means found r' → r'.source ≡ source.Sample size → IsPath p r.source → ⊥
 no_samples found r r' size p m m' from here =
     no_sample (first_of (codes "manifest") found) (first_of (codes "sample") found) r.source size p m.source
     (subst (λ s. IsSource (first_of (codes "manifest") found) (first_of (codes "sample") found) s) from m'.source) here
@@ -102,14 +102,14 @@ same_rows : (o : Option Text) (x y : ℕ) → IsRows o x → IsRows o y → x �
 same_rows None x y is is' = is ∙ sym is'
 same_rows (Some text) x y is is' = is.value ∙ sym is'.value
 
-same_settings : (found : List Row) (r r' : Words) → Means found r → Means found r' → settings_of r ≡ settings_of r'
+pub same_settings : (found : List Row) (r r' : Words) → Means found r → Means found r' → settings_of r ≡ settings_of r'
 same_settings found r r' m m' =
     ap₂ (λ o n. settings_with o n) (same_order (first_of (codes "order") found) r.order r'.order m.order m'.order) (same_rows (first_of (codes "rows") found) r.rows r'.rows m.rows m'.rows)
   where
     settings_with : word.Order → ℕ → Settings
     settings_with o n = record { order = order_of o; rows = n }
 
-not_misused : (words : List (List ℕ)) (read : Words) → IsMisused words → IsRead words read → ⊥
+pub not_misused : (words : List (List ℕ)) (read : Words) → IsMisused words → IsRead words read → ⊥
 not_misused words read (inl some) is = some is.taken
 not_misused words read (inr none) is = none read is.means
 

@@ -5,6 +5,7 @@ ghost use Rattle.gq_io.specs.Causes.{HasCause, Rose};
 ghost use Rattle.gq_io.specs.Outside.{Writes};
 ghost use Rattle.gq_session.specs.Sessions.{span_of};
 ghost use Rattle.gq_shell.specs.Claim.{Runs, Whole, outside_of, settings_of, usage_text};
+ghost use Rattle.gq_shell.specs.OneQuery.{RepliesToOne};
 ghost use Rattle.gq_shell.specs.steps.Steps.{EndsLoad, told};
 
 use crate::load_line::write_load_line;
@@ -110,6 +111,9 @@ pub fn run<F: Files, I: Source, O: Sink>(
         (outside_of F.held F.faults F.misses files.old files.new I.left I.faults input.old input.new
         O.taken O.faults out.old out.new) result }
     ensures whole { Whole (map string_bytes words.entry.now)
+        (outside_of F.held F.faults F.misses files.old files.new I.left I.faults input.old input.new
+        O.taken O.faults out.old out.new) result }
+    ensures query { RepliesToOne (map string_bytes words.entry.now)
         (outside_of F.held F.faults F.misses files.old files.new I.left I.faults input.old input.new
         O.taken O.faults out.old out.new) result }
     ensures read_fault { result ≡ Status.ReadFault → Rose (F.faults files.old) (F.faults files.new)

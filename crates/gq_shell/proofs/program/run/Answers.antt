@@ -1,3 +1,4 @@
+use Rattle.gq_shell.proofs.OneQuery.{one_query}
 use Rattle.gq_shell.proofs.OneStatus.{read_fault, whole, write_fault}
 use Rattle.gq_shell.proofs.program.run.Goals as goal
 
@@ -9,3 +10,6 @@ returns-clause-read_fault g c is = read_fault _ _ _ c.execute.ensures is
 
 pub returns-clause-write_fault : goal.returns-clause-write_fault
 returns-clause-write_fault g c is = write_fault _ _ _ c.execute.ensures is
+
+pub returns-clause-query : goal.returns-clause-query
+returns-clause-query g c = one_query _ _ _ c.execute.ensures
