@@ -1,5 +1,5 @@
--- A match of a query's core as a row: trails can be walked from it, and the program's walker owes there the rows that trails make.
-use Rattle.std.proofs.Common.{◌≡◌, ℕ, suc, ◌+◌, ◌<◌, ◌≤◌, Bool, true, false, ◌||◌, cond, nat_eq, nat_lt, Option, Some, None, List, [], ◌∷◌, ◌++◌, map, length, slice_get, ◌⊎◌, inl, inr, refl, sym, ap, ap₂, ◌∙◌, subst, arith, true≢false}
+-- A match of a query's core as a row: the program's walker owes there the rows that trails make.
+use Rattle.std.proofs.Common.{◌≡◌, ℕ, suc, ◌+◌, ◌<◌, ◌≤◌, Bool, true, false, ◌||◌, cond, nat_eq, nat_lt, Option, Some, None, List, [], ◌∷◌, ◌++◌, map, length, slice_get, ◌⊎◌, inl, inr, refl, sym, ap, ap₂, ◌∙◌, arith, true≢false}
 use Rattle.std.specs.List.{AllByRecursion, list_all}
 use Rattle.std.proofs.lemmas.Bool.{and_parts, cases_eq, eq-eqb, ne_eqb}
 use Rattle.std.proofs.lemmas.List.Elements.{All-from_recursion}
@@ -7,23 +7,21 @@ use Rattle.gq_base.specs.Plain.{Graph}
 use Rattle.gq_base.specs.declared.NodeId.{NodeId}
 use Rattle.gq_base.specs.declared.RelId.{RelId}
 use Rattle.gq_alternatives.specs.Alternatives.{Reading, typed_rels}
-use Rattle.gq_law_plans.specs.Bindings.{bound}
 use Rattle.gq_law_reaches.specs.Core.{begin_of, core_nodes, numbered, part_of, parts_from, patterns_of, trail_parts}
 use Rattle.gq_law_reaches.specs.Cores.{AreReached}
 use Rattle.gq_law_reaches.specs.Reaches.{TrailPattern, rels_in}
 use Rattle.gq_law_reaches.proofs.Cored.{numbered_items}
-use Rattle.gq_law_reaches.proofs.Filled.{numbers_bound}
 use Rattle.gq_law_reaches.proofs.Orders.{core_reaches, ends_from}
 use Rattle.gq_law_trails.specs.Trails.{Trailing, after_trails}
 use Rattle.gq_plan.specs.declared.TrailPart.{TrailPart}
-use Rattle.gq_plan.specs.Assignments.{Assignment, is_node, is_rel}
+use Rattle.gq_plan.specs.Assignments.{Assignment, is_node}
 use Rattle.gq_plan.specs.Meaning.{Partial, found, row}
 use Rattle.gq_plan.specs.Soundness.{has_number}
 use Rattle.gq_plan.specs.declared.NamedExpr.{NamedExpr}
 use Rattle.gq_scopes.specs.Patterns.{MapEntry, Pattern, RelPattern}
 use Rattle.gq_trails.specs.Trekking.{AreInTurn, AreNodes, HasLength, partial_of, patterns_from, patterns_in, placed_from}
 use Rattle.gq_wide.specs.Rows.{Wide, item_at}
-use Rattle.gq_law_cores.specs.Walking.{CoresAreInTurn, CoresCanTrek, IsCoreRow, OwedAreTrailRows, PartsHaveEnds, PartsHaveLength}
+use Rattle.gq_law_cores.specs.Walking.{CoresAreInTurn, IsCoreRow, OwedAreTrailRows, PartsHaveEnds, PartsHaveLength}
 
 -- ---- a row of a match as what is bound
 
@@ -132,17 +130,6 @@ module _ (test : MapEntry → NamedExpr) (p : Pattern) where
 pub nodes_real : (g : Graph) (i : ℕ) (ns : List NodeId) → list_all (is_node g) ns ≡ true → AreNodes g (numbered i ns)
 nodes_real g i [] h = tt
 nodes_real g i (n ∷ ns) h = let parts = and_parts (is_node g n) (list_all (is_node g) ns) h in (parts.0, nodes_real g (i + 1) ns parts.1)
-
-pub cores_can_trek : CoresCanTrek
-cores_can_trek g test k q t r cored nodes real is many =
-    let placed : placed_from 0 r.nodes ≡ numbered 0 t.nodes = placed_so 0 r.nodes t.nodes is.nodes in
-    record {
-      ends = subst (λ n. AllByRecursion (λ (p : TrailPart). p.to < n) (trail_parts test q)) (sym many) (ends_from test q.pattern q.trails (core_nodes q) (length q.pattern.names) cored.ends);
-      turns =
-          turns_from test q.pattern q.trails (core_nodes q) (bound (placed_from 0 r.nodes))
-          (λ v. ap (λ bs. bound bs v) placed ∙ numbers_bound t.nodes v ∙ ap (nat_lt v) nodes ∙ sym (cored.core v)) (core_reaches q cored.ends);
-      nodes = subst (AreNodes g) (sym placed) (nodes_real g 0 t.nodes (and_parts (list_all (is_node g) t.nodes) (list_all (is_rel g) t.rels) real).0);
-    }
 
 pub parts_have_length : PartsHaveLength
 parts_have_length test q h = All-from_recursion HasLength (trail_parts test q) (lengths_from test q.pattern q.trails (core_nodes q) h)

@@ -1,19 +1,18 @@
--- The laws that the program's walker of all trails can start at each match of a query's core, and what it owes there.
-use Rattle.std.specs.Prelude.{◌≡◌, ℕ, ◌<◌, ◌≤◌, nat_lt, true, All, List, length, map, slice_get}
+-- The laws of what the program's walker of all trails owes at a match of a query's core, and where it can start.
+use Rattle.std.specs.Prelude.{◌≡◌, ℕ, ◌<◌, ◌≤◌, nat_lt, All, List, length, map, slice_get}
 use Rattle.std.specs.List.{AllByRecursion}
 use Rattle.gq_base.specs.Plain.{Graph}
 use Rattle.gq_alternatives.specs.Alternatives.{Reading, typed_rels}
 use Rattle.gq_law_reaches.specs.Core.{trail_parts}
 use Rattle.gq_law_reaches.specs.Cores.{IsCored}
 use Rattle.gq_law_reaches.specs.Reaches.{TrailPattern, Trailed}
-use Rattle.gq_law_trails.specs.Real.{is_real}
 use Rattle.gq_law_trails.specs.Trails.{Trailing}
 use Rattle.gq_plan.specs.Assignments.{Assignment}
 use Rattle.gq_plan.specs.Meaning.{row}
 use Rattle.gq_plan.specs.declared.NamedExpr.{NamedExpr}
 use Rattle.gq_plan.specs.declared.TrailPart.{TrailPart}
 use Rattle.gq_scopes.specs.Patterns.{MapEntry}
-use Rattle.gq_trails.specs.Trekking.{AreInTurn, CanTrek, HasLength, continuations}
+use Rattle.gq_trails.specs.Trekking.{AreInTurn, HasLength, continuations}
 use Rattle.gq_wide.specs.Rows.{Wide, item_at}
 use Rattle.gq_law_cores.specs.Made.{trail_rows}
 
@@ -22,14 +21,7 @@ pub record IsCoreRow (t : Assignment) (r : Wide) : Type 0 where
   pub nodes : (v : ℕ) → item_at r.nodes v ≡ slice_get t.nodes v
   pub rels : (x : ℕ) → item_at r.rels x ≡ slice_get t.rels x
 
--- trails can be walked from such a row of all variables
-abbrev pub CoresCanTrek : Type 0
-CoresCanTrek =
-    (g : Graph) (test : MapEntry → NamedExpr) (k : ℕ) (q : Trailed) (t : Assignment) (r : Wide)
-    → IsCored k q → length t.nodes ≡ k → is_real g t ≡ true → IsCoreRow t r → length r.nodes ≡ length q.pattern.names
-    → CanTrek g (trail_parts test q) r
-
--- and what is owed there are the rows by which trails continue the match
+-- what the walker owes at such a row of all variables are the rows by which trails continue the match
 abbrev pub OwedAreTrailRows : Type 0
 OwedAreTrailRows =
     (g : Graph) (test : MapEntry → NamedExpr) (q : Trailed) (cs : List Reading) (t : Assignment) (r : Wide)
