@@ -7,7 +7,6 @@
 mod aim;
 mod follow;
 mod hop;
-mod law;
 mod reach;
 mod reacher;
 mod search;
@@ -15,7 +14,6 @@ mod state;
 mod used;
 mod walker;
 
-pub use law::search_meets_what_is_led_to;
 pub use reacher::Reacher;
 pub use state::{State, state_after};
 pub use walker::Walker;

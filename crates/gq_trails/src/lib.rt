@@ -4,13 +4,11 @@
 #![tactic(auto)]
 
 mod ends;
-mod law;
 mod reached;
 mod rows;
 mod taken;
 mod trails;
 mod trek;
 
-pub use law::{rows_are_of_ways, rows_stand_for_ways};
 pub use rows::TrailRows;
 pub use trails::Trails;
