@@ -11,3 +11,5 @@ pub mod Swapped
 pub mod Standing
 pub mod Enough
 pub mod Keyed
+pub mod Ending
+pub mod Closing
