@@ -11,6 +11,7 @@ use Rattle.std.proofs.lemmas.Option.{unwrap_or-slice_get}
 use Rattle.gq_base.specs.Catalogs.{Tables}
 use Rattle.gq_law_groups.specs.Groups.{checked, makes_group}
 use Rattle.gq_law_groups.specs.Layout.{AreFlatEnough}
+use Rattle.gq_plan.proofs.Placing.{after_same}
 use Rattle.gq_plan.specs.Arranged.{at_after, at_numbers, at_step, binders, flags_of, home, homes, in_order, is_regular, numbers_at, order_of}
 use Rattle.gq_plan.specs.Columns.{steps_of}
 use Rattle.gq_plan.specs.Covers.{Fits, after_step, fits, fits_step, goes, loop_bound, pair_bound, placed, placed_step, test_bound}
@@ -27,7 +28,7 @@ use Rattle.gq_plan.specs.declared.variable.Variable.{Variable}
 use Rattle.gq_arrange.specs.Law.{IsArranged, ArrangedPlansFit, flag, grouped, groups_of, leading, led_number, led_order}
 use Rattle.gq_arrange.proofs.Arranged.{arranged_first}
 use Rattle.gq_arrange.proofs.Makers.{makes_at, makers_in_order}
-use Rattle.gq_arrange.proofs.Running.{home_made}
+use Rattle.gq_arrange.proofs.Running.{count_grows, count_made, home_made}
 
 -- ---- a test that reads nothing
 
@@ -55,7 +56,7 @@ and_false : (b : Bool) → (b && false) ≡ false
 and_false true = refl
 and_false false = refl
 
-record IsIdle (y : Typed) (s : Step) : Type 0 where
+pub record IsIdle (y : Typed) (s : Step) : Type 0 where
   pub number : ℕ
   pub is : s ≡ Keep number
   pub reads : holds (test_bound none) (slice_get y.tests number) ≡ true
@@ -74,7 +75,7 @@ idle catalog y (Differ d) m fit = absurd (holds_never (pair_bound none) (λ pair
 idle catalog y (NoLoop x) m fit = absurd (holds_never (loop_bound none x) (λ r. and_false r.no_loop) (slice_get y.rels x) fit)
 
 module _ (y : Typed) (s : Step) (h : IsIdle y s) where
-  idle_small : makes_group s ≡ false
+  pub idle_small : makes_group s ≡ false
   idle_small = ap makes_group h.is
 
   idle_tested : (w : Places) → tested y w s ≡ []
@@ -101,16 +102,16 @@ module _ (y : Typed) (s : Step) (h : IsIdle y s) where
   unfolding fits_step
   idle_fits catalog k = ap (λ t. fits_step catalog y t k) h.is ∙ bound_more (slice_get y.tests h.number) k h.reads
 
-  idle_after : (k : Known) → after_step s k ≡ k
+  pub idle_after : (k : Known) → after_step s k ≡ k
   unfolding after_step
   idle_after k = ap (λ t. after_step t k) h.is
 
 -- ---- such tests in front of a plan
 
-abbrev AreIdle : Typed → List Step → Type 0
+abbrev pub AreIdle : Typed → List Step → Type 0
 AreIdle y ts = AllByRecursion (IsIdle y) ts
 
-steps_checked : (ts : List Step) (p : Plan) → steps_of (checked ts p) ≡ ts ++ steps_of p
+pub steps_checked : (ts : List Step) (p : Plan) → steps_of (checked ts p) ≡ ts ++ steps_of p
 steps_checked [] p = refl
 steps_checked (t ∷ ts) p = ap (λ l. t ∷ l) (steps_checked ts p)
 
@@ -457,6 +458,28 @@ module _ (catalog : Tables) (y : Typed) (p : Plan) (ts : List Step) (s : Step) (
       ∙ sym (ap (λ l. l ++ filter f (k ∷ range_with_len (k + 1) m)) none_before)
       ∙ sym (filter-append f (range_with_len 0 k) (k ∷ range_with_len (k + 1) m))
       ∙ ap (filter f) (sym (all_parts k m)) ∙ ap (λ n. filter f (range_with_len 0 n)) (sym long)
+
+-- ---- a plan without groups has no step but such tests
+
+first_counts : (s : Step) (r : Plan) → makes_group s ≡ true → 0 < (places (Then s r)).count
+unfolding at_after
+first_counts s r made =
+    let same = ap (λ (w : Places). w.count) (after_same (Then s r) nowhere) in
+    omega (arith, count_made false s nowhere made, count_grows false r (at_step false s nowhere), same)
+
+module _ (catalog : Tables) (y : Typed) (p : Plan) (fit : Fits catalog y p) (none_made : (places p).count ≡ 0) where
+  pub idle_all : AreIdle y (leading p)
+  idle_all = (parted catalog y p fit).0
+
+  pub leading_all : checked (leading p) Done ≡ p
+  leading_all = go (grouped p) refl (starts p)
+    where
+      go : (q : Plan) → grouped p ≡ q → Starts q → checked (leading p) Done ≡ p
+      go Done e first = ap (checked (leading p)) (sym e) ∙ parts_whole p
+      go (Then s r) e first =
+          let same : places p ≡ places (Then s r) = ap places (sym (parts_whole p) ∙ ap (checked (leading p)) e) ∙ same_places y (leading p) (Then s r) nowhere idle_all in
+          let some = first_counts s r first in
+          absurd (omega (arith, ap (λ (w : Places). w.count) same, none_made, some))
 
 -- ---- the laws
 

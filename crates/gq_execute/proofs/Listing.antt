@@ -1,10 +1,10 @@
 -- The matches of optional clauses that were listed by plans: they are what the plans make, none is too many, or some are.
 use Rattle.std.proofs.Common.{◌≡◌, ℕ, ◌<◌, ◌≤◌, true, false, ◌||◌, ap₂, refl, subst, arith, List, [], ◌∷◌, length, map, IsTrue, inl, inr}
 use Rattle.std.specs.Prelude.{nat_lt}
-use Rattle.std.specs.List.{All, AllByRecursion, AllZip, list_any}
+use Rattle.std.specs.List.{AllByRecursion, AllZip, list_any}
 use Rattle.std.proofs.lemmas.Bool.{or_from, or_left, or_right}
 use Rattle.std.proofs.lemmas.Bool.Decides.{nat_tests}
-use Rattle.std.proofs.lemmas.List.Elements.{All-from_recursion, recursion_from_All}
+use Rattle.std.proofs.lemmas.List.Elements.{recursion_from_All}
 use Rattle.std.proofs.lemmas.List.Sorted.{length_permutation}
 use Rattle.gq_base.specs.Plain.{Graph}
 use Rattle.gq_base.specs.Valid.{is_valid}
@@ -21,7 +21,6 @@ use Rattle.gq_plan.specs.Assignments.{Assignment}
 use Rattle.gq_plan.specs.Covers.{Covers}
 use Rattle.gq_plan.specs.Meaning.{meaning}
 use Rattle.gq_plan.specs.Plans.{Plan, plan_of}
-use Rattle.gq_plan.specs.Shapes.{places}
 use Rattle.gq_plan.specs.Soundness.{IsSound}
 use Rattle.gq_plan.specs.declared.bound.OptionalPart.{OptionalPart}
 use Rattle.gq_plan.specs.declared.plan.Plan as code
@@ -53,19 +52,6 @@ module _ (g : Graph) (order : Order) where
   all_covered [] (ps ∷ pss) are = absurd are
   all_covered (part ∷ parts) [] are = absurd are
   all_covered (part ∷ parts) (ps ∷ pss) are = (each_covers part.alternatives (map plan_of ps) are.0.each, all_covered parts pss are.1)
-
-  -- some step of a plan makes a group
-  abbrev Grouped : code.Plan → Type 0
-  Grouped p = 0 < (places (plan_of p)).count
-
-  each_grouped : (parts : List OptionalPart) (pss : List (List code.Plan)) → AllZip (IsPlannedClause order g) parts pss → AllByRecursion (All Grouped) pss
-  each_grouped [] [] are = tt
-  each_grouped [] (ps ∷ pss) are = absurd are
-  each_grouped (part ∷ parts) [] are = absurd are
-  each_grouped (part ∷ parts) (ps ∷ pss) are = (are.0.groups, each_grouped parts pss are.1)
-
-  pub all_grouped : (parts : List OptionalPart) (pss : List (List code.Plan)) → AllZip (IsPlannedClause order g) parts pss → All (All Grouped) pss
-  all_grouped parts pss are = All-from_recursion (All Grouped) pss (each_grouped parts pss are)
 
   -- ---- what was listed
 

@@ -8,7 +8,6 @@ ghost use Rattle.gq_execute.specs.steps.Costing.{last_cost};
 ghost use Rattle.gq_plan.specs.Covers.{Covers};
 ghost use Rattle.gq_plan.specs.Flat.{is_flat};
 ghost use Rattle.gq_plan.specs.Parts.{IsSide, sides};
-ghost use Rattle.gq_plan.specs.Shapes.{places};
 ghost use Rattle.gq_plan.specs.Soundness.{IsSound};
 ghost use Rattle.gq_plan.specs.Plans.{plan_of};
 
@@ -161,7 +160,7 @@ pub fn plans(
     plans_in(alloc, order, graph, &stats, bound.alternatives.as_slice())
 }
 
-/// The same of any alternatives; some step of each plan makes a group.
+/// The same of any alternatives.
 pub(crate) fn plans_in(
     alloc: Global,
     order: Order,
@@ -178,8 +177,6 @@ pub(crate) fn plans_in(
         AllZip (Covers graph.now.catalog) alternatives.now (map plan_of made.plans)) }
     ensures mean { IfOk result (λ made.
         AllZip (Means graph.now) alternatives.now (map plan_of made.plans)) }
-    ensures groups { IfOk result (λ made.
-        All (λ p. 0 < (places (plan_of p)).count) made.plans) }
     ensures each { IfOk result (λ made.
         AllZip (IsPlanned order graph.now) alternatives.now (map plan_of made.plans)) }
 {

@@ -1,6 +1,6 @@
 //! The keys of a path: what the plans of its alternatives make, by the nodes of the variables that
 //! it shares with a query.
-ghost use Rattle.std.specs.Prelude.{◌≡◌, ◌<◌, ◌≤◌, true, List, length, map, All, IfOk, IfErr, OnOk};
+ghost use Rattle.std.specs.Prelude.{◌≡◌, ◌≤◌, true, List, length, map, All, IfOk, IfErr, OnOk};
 ghost use Rattle.std.specs.List.{AllZip};
 ghost use Rattle.gq_base.specs.declared.NodeId.{NodeId};
 ghost use Rattle.gq_exists.specs.Made.{IsRefusal, keys_of, some_stand_on};
@@ -16,7 +16,6 @@ ghost use Rattle.gq_plan.specs.Covers.{Covers};
 ghost use Rattle.gq_law_answers.specs.Answered.{meanings};
 ghost use Rattle.gq_plan.specs.Keys.{has_key, key_of};
 ghost use Rattle.gq_plan.specs.Plans.{plan_of};
-ghost use Rattle.gq_plan.specs.Shapes.{places};
 ghost use Rattle.gq_plan.specs.Soundness.{IsSound};
 ghost use Rattle.gq_pool.specs.Pool.{spare_of};
 
@@ -71,7 +70,6 @@ impl KeySet {
         requires sound { All (IsSound graph.now.catalog) part.now.alternatives }
         requires covers { let ps = map plan_of plans.now in
             AllZip (Covers graph.now.catalog) part.now.alternatives ps }
-        requires groups { All (λ p. 0 < (places (plan_of p)).count) plans.now }
         requires room { 112 ≤ spare_of pool.old }
         ensures keys { let all = keys_of graph.now part.now (map plan_of plans.now) in
             IfOk result (λ s. (key : List NodeId) → has_key key s.keys ≡ has_key key all) }
@@ -188,7 +186,6 @@ fn run(
 ) -> Result<(), JoinRefusal>
     requires sound { IsSound graph.now.catalog typed.now }
     requires covers { Covers graph.now.catalog typed.now (plan_of plan.now) }
-    requires groups { 0 < (places (plan_of plan.now)).count }
     requires is { IsGathering gathering.old }
     requires room { 112 ≤ spare_of pool.old }
     ensures gathers { let all = made_keys graph.now typed.now gathering.old.width plan.now in
@@ -231,7 +228,6 @@ fn run_each(
     requires sound { All (IsSound graph.now.catalog) alternatives.now }
     requires covers { let ps = map plan_of plans.now in
         AllZip (Covers graph.now.catalog) alternatives.now ps }
-    requires groups { All (λ p. 0 < (places (plan_of p)).count) plans.now }
     requires is { IsGathering gathering.old }
     requires room { 112 ≤ spare_of pool.old }
     ensures gathers { let made = meanings graph.now alternatives.now (map plan_of plans.now) in

@@ -11,14 +11,18 @@ use gq_steps::GroupSteps;
 use std::alloc::Global;
 
 /// The groups of steps of which the first makes one: each with the steps up to the next one that
-/// does, and flat as it is told.
+/// does, and flat as it is told. No steps have no groups.
 pub fn cut_groups(alloc: Global, steps: &[&Step], flat: &[bool]) -> Result<Vec<GroupSteps>, Memory>
-    requires some { 0 < length steps.now }
-    requires begins { makes_group (step_in (map step_of (referred steps.now)) 0) ≡ true }
+    requires begins { 0 < length steps.now
+        → makes_group (step_in (map step_of (referred steps.now)) 0) ≡ true }
     ensures { IfOk result (λ gs. IsCutTo (map step_of (referred steps.now)) flat.now gs.items
         (length steps.now)) }
 {
     let mut groups = Vec::new(alloc);
+    let count = steps.len();
+    if count == 0 {
+        return Ok(groups);
+    }
     let mut first = 0;
     let mut end = 1;
     while end < steps.len() {

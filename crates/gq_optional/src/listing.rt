@@ -8,7 +8,6 @@ ghost use Rattle.gq_optional.specs.steps.Making.{AddsMatches, HasSpentEach, HasS
 ghost use Rattle.gq_optional.specs.steps.Making.{IsEachRefusal, IsMatches, IsOneRefusal};
 ghost use Rattle.gq_plan.specs.Covers.{Covers};
 ghost use Rattle.gq_plan.specs.Plans.{plan_of};
-ghost use Rattle.gq_plan.specs.Shapes as shapes;
 ghost use Rattle.gq_plan.specs.Soundness.{IsSound, has_number};
 ghost use Rattle.gq_pool.specs.Pool.{spare_of};
 
@@ -77,7 +76,6 @@ fn list_one<'b>(
 ) -> Result<Matches<'b>, JoinRefusal>
     requires sound { IsSound graph.now.catalog typed.now }
     requires covers { Covers graph.now.catalog typed.now (plan_of plan.now) }
-    requires groups { 0 < (shapes.places (plan_of plan.now)).count }
     requires keys { All (λ v. v < length typed.now.nodes) keys.now }
     requires room { 112 ≤ spare_of pool.old }
     ensures matches { let p = plan_of plan.now in
@@ -117,7 +115,6 @@ pub(crate) fn list_each<'b>(
     requires sound { All (IsSound graph.now.catalog) alternatives.now }
     requires covers { let ps = map plan_of plans.now in
         AllZip (Covers graph.now.catalog) alternatives.now ps }
-    requires groups { All (λ p. 0 < (shapes.places (plan_of p)).count) plans.now }
     requires keys { All (λ y. All (λ v. v < length y.nodes) keys.now) alternatives.now }
     requires room { 112 ≤ spare_of pool.old }
     ensures adds { let ps = map plan_of plans.now in

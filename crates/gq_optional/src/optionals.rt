@@ -1,5 +1,5 @@
 //! The optional clauses of a query: what plans of their alternatives make.
-ghost use Rattle.std.specs.Prelude.{◌≡◌, ◌++◌, ◌<◌, ◌≤◌, [], map, All, IfOk, IfErr, OnOk};
+ghost use Rattle.std.specs.Prelude.{◌≡◌, ◌++◌, ◌≤◌, [], map, All, IfOk, IfErr, OnOk};
 ghost use Rattle.std.specs.List.{AllZip, range_with_len};
 ghost use Rattle.gq_optional.specs.Held.{rows_owed};
 ghost use Rattle.gq_optional.specs.Made.{AreCovered, AreFew, AreListed, IsFew, IsRefusal};
@@ -7,7 +7,6 @@ ghost use Rattle.gq_optional.specs.Spending.{HasSpentListed};
 ghost use Rattle.gq_optional.specs.steps.Making.{AddsClauses, HasSpentClauses, HasSpentEach};
 ghost use Rattle.gq_optional.specs.steps.Making.{CanHold, IsClauseOf, IsEachRefusal};
 ghost use Rattle.gq_plan.specs.Plans.{plan_of};
-ghost use Rattle.gq_plan.specs.Shapes.{places};
 ghost use Rattle.gq_pool.specs.Pool.{spare_of};
 ghost use Rattle.gq_wide.specs.Placed.{IsPlaced};
 
@@ -78,7 +77,6 @@ impl<'b> Optionals<'b> {
             All placed parts.now }
         requires covers { let covered = AreCovered graph.now.catalog in
             AllZip covered parts.now (map (map plan_of) plans.now) }
-        requires groups { All (λ ps. All (λ p. 0 < (places (plan_of p)).count) ps) plans.now }
         requires room { 112 ≤ spare_of pool.old }
         ensures graph { IfOk result (λ o. o.held.graph ≡ graph.now) }
         ensures shape { IfOk result (λ o. o.held.shape ≡ shape) }
@@ -180,7 +178,6 @@ fn hold<'b>(
 ) -> Result<Clause<'b>, JoinRefusal>
     requires part { CanHold graph.now.catalog part.now }
     requires covers { AreCovered graph.now.catalog part.now (map plan_of plans.now) }
-    requires groups { All (λ p. 0 < (places (plan_of p)).count) plans.now }
     requires room { 112 ≤ spare_of pool.old }
     ensures clause { let ps = map plan_of plans.now in
         IfOk result (IsClauseOf graph.now known.now part.now ps) }
@@ -240,7 +237,6 @@ fn hold_each<'b>(
     requires parts { All (CanHold graph.now.catalog) parts.now }
     requires covers { let pss = map (map plan_of) plans.now in
         AllZip (AreCovered graph.now.catalog) parts.now pss }
-    requires groups { All (λ ps. All (λ p. 0 < (places (plan_of p)).count) ps) plans.now }
     requires room { 112 ≤ spare_of pool.old }
     ensures adds { let pss = map (map plan_of) plans.now in
         OnOk result (AddsClauses graph.now known.old.items parts.now pss

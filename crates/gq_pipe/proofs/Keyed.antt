@@ -130,7 +130,7 @@ counted_keys g y p rows ks owed flat bag are =
 
 -- ---- a run
 
-module _ (c : Run) (run : IsRun c) (flat : List Bool) (ss : List GroupSteps) (cut : IsCutTo c.steps flat ss (length c.steps)) (begins : Rattle.gq_homes.specs.Cuts.begins (steps c.steps) ≡ true) (enough : AreFlatEnough c.graph.catalog c.typed (flag flat) 0 (groups_of (steps c.steps)) none)
+module _ (c : Run) (run : IsRun c) (flat : List Bool) (ss : List GroupSteps) (cut : IsCutTo c.steps flat ss (length c.steps)) (enough : AreFlatEnough c.graph.catalog c.typed (flag flat) 0 (groups_of (steps c.steps)) none)
     (p : Plan) (same : after p none ≡ after (steps c.steps) none) (os : List (Option Held)) (made : makers_of (steps_of p) os ≡ map (maker_in c) ss) (each : length os ≡ length (steps_of p)) (told : flat ≡ flags_of c.typed p) where
   abbrev decoded : List ℕ → Partial
   decoded w = decode c.graph c.typed (rows_in c ss) 0 (groups_in c ss) nothing w
@@ -148,7 +148,7 @@ module _ (c : Run) (run : IsRun c) (flat : List Bool) (ss : List GroupSteps) (cu
   walks_asked =
       subst (λ q. AllByRecursion (λ w. IsAs (after q none) (decoded w) (asked w)) (walks (layout_in c ss) (length (groups_in c ss)) [])) (sym whole)
       (walks_as c.graph c.typed p (steps c.steps) decoded (walks (layout_in c ss) (length (groups_in c ss)) []) run.valid run.sound run.fits same
-      (subst (λ n. IsPermutation (map decoded (walks (layout_in c ss) n [])) (mean c.graph c.typed (steps c.steps) nothing)) (sym many) (owed_mean c run flat ss cut begins enough)))
+      (subst (λ n. IsPermutation (map decoded (walks (layout_in c ss) n [])) (mean c.graph c.typed (steps c.steps) nothing)) (sym many) (owed_mean c run flat ss cut enough)))
 
   -- the plan's own key is that of the groups that run
   made_are : filter makes_group (steps_of p) ≡ makers (groups_in c ss)
@@ -180,5 +180,5 @@ module _ (c : Run) (run : IsRun c) (flat : List Bool) (ss : List GroupSteps) (cu
       (λ w. plan_key c.graph c.typed (build_rows c.typed (makers_of (steps_of p) os)) p (asked w) ≡ key_of (layout_in c ss) [] w)
       (λ w as_asked law. own_key (asked w) ∙ law (asked w) as_asked) (walks (layout_in c ss) (length (groups_in c ss)) []) walks_asked
       (keys_of_assignments c.graph c.typed (rows_in c ss) (flat_in ss) (groups_in c ss) run.valid run.sound (subst (Fits c.graph.catalog c.typed) (sym whole) run.fits) cut.cut
-      (have_rows c run ss ss 0 0 (λ k low. let e : 0 + k ≡ k = omega arith in ap (group_at ss) e) (grouped c run flat ss cut begins enough).tiles)
-      (grouped c run flat ss cut begins enough).enough))
+      (have_rows c run ss ss 0 0 (λ k low. let e : 0 + k ≡ k = omega arith in ap (group_at ss) e) (grouped c run flat ss cut enough).tiles)
+      (grouped c run flat ss cut enough).enough))

@@ -1,4 +1,5 @@
 pub mod Agreeing
+pub mod Groupless
 pub mod Assigned
 pub mod Chosen
 pub mod Chunked
@@ -8,14 +9,17 @@ pub mod Filling
 pub mod InOrder
 pub mod Keeping
 pub mod Keyed
+pub mod Lacking
 pub mod Loading
 pub mod Makers
 pub mod Making
 pub mod Matched
 pub mod Matching
+pub mod Nothing
 pub mod Piecing
 pub mod Products
 pub mod Pushing
+pub mod Reaching
 pub mod Reading
 pub mod Rebinding
 pub mod Resting
@@ -25,10 +29,10 @@ pub mod Served
 pub mod Shaping
 pub mod Showing
 pub mod Slots
-pub mod SomeGroup
 pub mod Sources
 pub mod Starting
 pub mod Staying
 pub mod Stored
 pub mod Supplied
+pub mod Telling
 pub mod Words

@@ -1,5 +1,5 @@
 -- What the columns of a chunk that stands are filled from.
-use Rattle.std.proofs.Common.{◌≡◌, ℕ, ◌*◌, ◌<◌, Some, [], length, slice_get, refl, sym, subst}
+use Rattle.std.proofs.Common.{◌≡◌, ℕ, ◌*◌, ◌<◌, Some, List, [], ◌∷◌, ap, arith, length, slice_get, refl, sym, subst}
 use Rattle.std.specs.Prelude.{slice_index_or}
 use Rattle.std.specs.List.{AllByRecursion}
 use Rattle.std.proofs.lemmas.List.{get_or_default}
@@ -17,7 +17,8 @@ use Rattle.gq_homes.specs.steps.Housing.{build_in}
 use Rattle.gq_pipe.specs.steps.Chunks.{HasGroup}
 use Rattle.gq_steps.specs.Pieces.{IsPieceOf}
 use Rattle.gq_steps.specs.Levels.{Run, known}
-use Rattle.gq_steps.specs.steps.Lists.{EarlierStand}
+use Rattle.gq_steps.specs.steps.Lists.{Chain, EarlierStand}
+use Rattle.gq_steps.specs.declared.group_steps.GroupSteps.{GroupSteps}
 use Rattle.gq_steps.specs.Groups.{no_group, group_at}
 use Rattle.gq_pipe.specs.steps.Matches.{lists_in, StandNow}
 use Rattle.gq_steps.specs.Moves.{run_of, IsRun}
@@ -41,8 +42,14 @@ module _ (p : Inside) (inv : IsSearch p) (now : p.walker.state ≡ Standing) whe
   run_there = st.runs
 
   pub row_there : length p.lists.row.nodes ≡ length c.typed.nodes
-  row_there =
-      (group_held c p.lists.groups.items p.lists.row 0 inv.sound.some (group_at p.lists.groups.items 0) (get_or_default p.lists.groups.items 0 no_group (group_at p.lists.groups.items 0) inv.sound.some) (prefix p.walker.cursors.items 0) refl (stands_part c p.lists.groups.items p.lists.row p.walker.cursors.items 0 inv.sound.some st)).node_count
+  unfolding Chain
+  row_there = go p.lists.groups.items refl st
+    where
+      go : (ss : List GroupSteps) → p.lists.groups.items ≡ ss → EarlierStand c ss p.lists.row (keys_of p.walker.cursors.items) → length p.lists.row.nodes ≡ length c.typed.nodes
+      go [] is early = early.chain.held.node_count
+      go (s ∷ ss) is early =
+          let some : 0 < length p.lists.groups.items = omega (arith, ap length is) in
+          (group_held c p.lists.groups.items p.lists.row 0 some (group_at p.lists.groups.items 0) (get_or_default p.lists.groups.items 0 no_group (group_at p.lists.groups.items 0) some) (prefix p.walker.cursors.items 0) refl (stands_part c p.lists.groups.items p.lists.row p.walker.cursors.items 0 some st)).node_count
 
   pub fillings_there : (m : ℕ) → m < length p.housing.fillings.items → IsFilling c p.lists.groups.items (known c (length c.steps)) p.housing.homes m (filling_at p.housing.fillings.items m)
   fillings_there m low = inv.chunk.homes.fillings m low

@@ -1,57 +1,67 @@
 -- A plan that is started: its steps run in the order of its groups, and what is owed is what the plan means.
-use Rattle.std.proofs.Common.{◌≡◌, ◌∙◌, ℕ, suc, ◌+◌, ◌<◌, ◌≤◌, Bool, true, false, Option, None, List, [], ◌∷◌, map, length, take, get_or, refl, sym, ap, ap₂, subst, arith}
+use Rattle.std.proofs.Common.{◌≡◌, ◌∙◌, ℕ, zero, suc, ◌+◌, ◌<◌, ◌≤◌, ◌⊎◌, inl, inr, Bool, true, false, cond, nat_eq, Option, None, List, [], ◌∷◌, map, length, take, get_or, refl, sym, ap, ap₂, subst, arith}
 use Rattle.std.specs.Prelude.{slice_index_or, All, IsPermutation}
-use Rattle.std.specs.List.{AllByRecursion, range_with_len, sum_by}
+use Rattle.std.specs.List.{AllByRecursion, list_all, range_with_len, sum_by}
+use Rattle.std.proofs.lemmas.Bool.{eq-eqb, ne_eqb}
 use Rattle.std.proofs.lemmas.List.{length-map, take_all}
 use Rattle.std.proofs.lemmas.List.Elements.{recursion_from_All}
-use Rattle.std.proofs.lemmas.List.Sorted.{IsPermutation-map, IsPermutation-sym, IsPermutation-trans}
+use Rattle.std.proofs.lemmas.List.FromFn.{length-map-range_with_len}
+use Rattle.std.proofs.lemmas.List.Sorted.{IsPermutation-map, IsPermutation-refl, IsPermutation-sym, IsPermutation-trans}
 use Rattle.gq_arrange.proofs.Loops.{steps_back}
 use Rattle.gq_arrange.specs.Keys.{led, plan_key}
 use Rattle.gq_arrange.specs.Law.{IsArranged, led_order}
+use Rattle.gq_base.specs.Catalogs.{Tables}
 use Rattle.gq_base.specs.Plain.{Graph}
 use Rattle.gq_base.specs.Valid.{is_valid}
 use Rattle.gq_filter.specs.RowTests.{conditions_of}
 use Rattle.gq_group.specs.declared.home.Homes.{Homes}
 use Rattle.gq_join.specs.Kept.{Held}
 use Rattle.gq_law_groups.proofs.Moved.{same_plans}
-use Rattle.gq_law_groups.specs.Groups.{decode}
+use Rattle.gq_law_groups.specs.Groups.{decode, makes_group}
 use Rattle.gq_law_groups.specs.Law.{read_all}
 use Rattle.gq_law_groups.specs.Layout.{AreFlatEnough}
 use Rattle.gq_plan.proofs.StepEquations.{plan_is}
 use Rattle.gq_plan.specs.Arranged.{at_numbers, flags_of, in_order}
 use Rattle.gq_plan.specs.Assignments as plain
 use Rattle.gq_plan.specs.Columns.{columns_of, own_columns, steps_of}
-use Rattle.gq_plan.specs.Covers.{Fits}
+use Rattle.gq_plan.specs.Covers.{Fits, after, fits, placed}
 use Rattle.gq_plan.specs.Known.{none}
-use Rattle.gq_plan.specs.Meaning.{Partial, mean, nothing}
-use Rattle.gq_plan.specs.Plans.{plan_of, steps, step_of}
+use Rattle.gq_plan.specs.Meaning.{Partial, keep_if, mean, nothing}
+use Rattle.gq_plan.specs.Plans.{Plan, Done, Step, plan_of, steps, step_of}
 use Rattle.gq_plan.specs.Shapes.{places}
 use Rattle.gq_plan.specs.Soundness.{IsSound}
+use Rattle.gq_plan.specs.declared.assignment.Assignment.{Assignment}
 use Rattle.gq_plan.specs.declared.plan.Plan as code_plan
 use Rattle.gq_plan.specs.declared.typed.Typed.{Typed}
 use Rattle.gq_plan.specs.Flat.{is_flat}
 use Rattle.gq_walks.specs.Different.{AreKeysOf}
-use Rattle.gq_walks.specs.Layouts.{walks}
+use Rattle.gq_walks.specs.Layouts.{owed_walks, walks}
+use Rattle.gq_walks.specs.Running.{spot_of}
+use Rattle.gq_walks.specs.declared.walker.Cursor.{Cursor}
+use Rattle.gq_walks.specs.declared.walker.State.{State}
 use Rattle.gq_steps.specs.Built.{AreBuilds}
 use Rattle.gq_pipe.specs.Keys.{assignment_key, build_rows, makers_in, makers_of, key_count}
 use Rattle.gq_steps.specs.Given.{given}
-use Rattle.gq_homes.specs.Cuts.{begins, flag, groups_of, IsCutTo}
-use Rattle.gq_pipe.specs.steps.Given.{RunsPlan, bound_by, given_plan, numbers_of}
+use Rattle.gq_homes.specs.Cuts.{begins, flag, groups_of, IsCutTo, step_in}
+use Rattle.gq_pipe.specs.steps.Alone.{first_state, is_kept}
+use Rattle.gq_pipe.specs.steps.Given.{RunsPlan, bound_by, given_plan, numbers_of, rows_of}
 use Rattle.gq_homes.specs.Homes.{AreHomes}
 use Rattle.gq_steps.specs.Levels.{Run}
 use Rattle.gq_steps.specs.steps.Lists.{IsGrouped, layout_in, rows_in}
-use Rattle.gq_steps.specs.Groups.{groups_in}
+use Rattle.gq_steps.specs.Groups.{group_in, groups_in}
+use Rattle.gq_steps.specs.steps.Outcomes.{passes_at}
 use Rattle.gq_steps.specs.Moves.{IsRun, builds_in, run_of, steps_in}
 use Rattle.gq_homes.specs.declared.homes.Filling.{Filling}
 use Rattle.gq_steps.specs.declared.group_steps.GroupSteps.{GroupSteps}
 use Rattle.gq_steps.specs.declared.plan_run.PlanRun.{PlanRun}
 use Rattle.gq_pipe.specs.steps.Search.{AreGiven, maker_in, source_in}
+use Rattle.gq_pipe.proofs.Groupless.{none_bound, none_flat, none_given, none_makers, none_mean, none_order}
 use Rattle.gq_pipe.proofs.InOrder.{builds_ordered, ordered_sum, same_bound}
 use Rattle.gq_steps.proofs.Joined.{builds_many}
 use Rattle.gq_pipe.proofs.Keyed.{counted_keys, keyed}
 use Rattle.gq_pipe.proofs.Makers.{makers_ordered, makers_run}
 use Rattle.gq_pipe.proofs.Rebinding.{bound_self}
-use Rattle.gq_pipe.proofs.Resting.{flats_are, grouped, owed_mean, some_group}
+use Rattle.gq_pipe.proofs.Resting.{flats_are, grouped, groups_are, owed_mean, some_step}
 
 map_map : {X Y Z : Type 0} (f : Y → Z) (h : X → Y) (xs : List X) → map f (map h xs) ≡ map (λ x. f (h x)) xs
 map_map f h [] = refl
@@ -71,6 +81,56 @@ all_got {X = X} d xs = from xs 0 (λ i. get_or xs i d) (λ i low. let e : 0 + i 
         let here : a + 0 ≡ a = omega arith in
         ap₂ ◌∷◌ (ap f (sym here) ∙ h 0 (omega arith)) (from ys (a + 1) f (λ i low. (let next : a + 1 + i ≡ a + suc i = omega arith in ap f next ∙ h (suc i) (omega (arith, low)))))
 
+-- what the steps of a plan in an order are, with flat groups: they begin with the step of a group, or are none
+pub record IsRunnable (catalog : Tables) (y : Typed) (p : Plan) (os : List (Option Held)) (order : List ℕ) (flat : List Bool) : Type 0 where
+  pub fits : Fits catalog y (in_order p order)
+  pub bound : after p none ≡ after (in_order p order) none
+  pub begins : (in_order p order ≡ Done) ⊎ (begins (in_order p order) ≡ true)
+  pub enough : AreFlatEnough catalog y (flag flat) 0 (groups_of (in_order p order)) none
+  pub count : length (groups_of (in_order p order)) ≡ length flat
+  pub columns : sum_by (own_columns y) (at_numbers (steps_of p) order) ≤ sum_by (own_columns y) (steps_of p)
+  pub makers : makers_of (at_numbers (steps_of p) order) (map (λ n. slice_index_or os n None) order) ≡ makers_of (steps_of p) os
+
+module _ (catalog : Tables) (y : Typed) (p : Plan) (os : List (Option Held)) (fit : Fits catalog y p) where
+  of_groups : (order : List ℕ) (flat : List Bool) → 0 < (places p).count → IsArranged catalog y p order flat → order ≡ led_order y p → length os ≡ length (steps_of p) → AllByRecursion (λ n. n < length (steps_of p)) order
+      → IsRunnable catalog y p os order flat
+  of_groups order flat some a is many low = record {
+    fits = a.fits;
+    bound = same_bound catalog y p (in_order p order) fit a.fits (IsPermutation-sym _ _ a.placed);
+    begins = inr a.begins;
+    enough = a.enough;
+    count = a.count;
+    columns = (let same = ordered_sum (own_columns y) (steps_of p) order a.each in omega (arith, same));
+    makers = subst (λ ns. makers_of (at_numbers (steps_of p) ns) (map (λ n. slice_index_or os n None) ns) ≡ makers_of (steps_of p) os) (sym is)
+        (makers_ordered catalog y p os fit some many (subst (AllByRecursion (λ n. n < length (steps_of p))) is low));
+  }
+
+  of_none : (places p).count ≡ 0 → IsRunnable catalog y p os [] []
+  unfolding fits after
+  of_none bare = record {
+    fits = refl;
+    bound = none_bound catalog y p fit bare;
+    begins = inl refl;
+    enough = tt;
+    count = refl;
+    columns = (let nothing_summed : sum_by (own_columns y) (at_numbers (steps_of p) []) ≡ 0 = refl in omega (arith, nothing_summed));
+    makers = sym (none_makers catalog y p fit bare os);
+  }
+
+  pub runnable : (order : List ℕ) (flat : List Bool) → (0 < (places p).count → IsArranged catalog y p order flat) → order ≡ led_order y p → flat ≡ flags_of y p → length os ≡ length (steps_of p) → AllByRecursion (λ n. n < length (steps_of p)) order
+      → IsRunnable catalog y p os order flat
+  runnable order flat a is told many low = go (places p).count refl
+    where
+      go : (n : ℕ) → (places p).count ≡ n → IsRunnable catalog y p os order flat
+      go zero e =
+          subst (λ ns. IsRunnable catalog y p os ns flat) (sym (is ∙ none_order y p e))
+          (subst (IsRunnable catalog y p os []) (sym (told ∙ none_flat y p e)) (of_none e))
+      go (suc n) e = of_groups order flat (omega (arith, e)) (a (omega (arith, e))) is many low
+
+steps_none : (ss : List Step) → steps ss ≡ Done → 0 < length ss → ⊥
+steps_none [] e some = omega (arith, some)
+steps_none (s ∷ ss) e some = cc e
+
 -- what runs are the steps of a plan and their builds, in the order of its groups
 pub record IsStarted (k : PlanRun) (p : code_plan.Plan) (os : List (Option Held)) (order : List ℕ) (flat : List Bool) : Type 0 where
   pub valid : is_valid k.graph.now ≡ true
@@ -78,11 +138,10 @@ pub record IsStarted (k : PlanRun) (p : code_plan.Plan) (os : List (Option Held)
   pub fits : Fits k.graph.now.catalog k.typed.now (plan_of p)
   pub builds : AreBuilds k.graph.now k.typed.now (plan_of p) os
   pub plan : k.plan.now ≡ p.steps
-  pub some : 0 < (places (plan_of p)).count
   pub order_is : order ≡ led_order k.typed.now (plan_of p)
   pub flat_is : flat ≡ flags_of k.typed.now (plan_of p)
   pub within : All (λ n. n < length p.steps) order
-  pub arranged : IsArranged k.graph.now.catalog k.typed.now (plan_of p) order flat
+  pub arranged : 0 < (places (plan_of p)).count → IsArranged k.graph.now.catalog k.typed.now (plan_of p) order flat
   pub steps_are : map step_of (steps_in k) ≡ at_numbers (map step_of p.steps) order
   pub builds_are : builds_in k ≡ map (λ n. slice_index_or os n None) order
   pub tests_are : k.tests.items ≡ conditions_of k.graph.now k.typed.now
@@ -110,8 +169,19 @@ module _ (k : PlanRun) (p : code_plan.Plan) (os : List (Option Held)) (order : L
   runs_led : steps c.steps ≡ led y (plan_of p)
   runs_led = runs_are ∙ ap (in_order (plan_of p)) s.order_is
 
+  many_builds : length os ≡ length (steps_of (plan_of p))
+  many_builds = builds_many g y (map step_of p.steps) os (subst (λ q. AreBuilds g y q os) (plan_is p) s.builds) ∙ sym (ap length steps_same)
+
+  low_order : AllByRecursion (λ n. n < length (steps_of (plan_of p))) order
+  low_order =
+      subst (λ l. AllByRecursion (λ n. n < length l) order) (sym steps_same)
+      (subst (λ n. AllByRecursion (λ m. m < n) order) (sym (length-map p.steps step_of)) (recursion_from_All (λ n. n < length p.steps) order s.within))
+
+  runs : IsRunnable g.catalog y (plan_of p) os order flat
+  runs = runnable g.catalog y (plan_of p) os s.fits order flat s.arranged s.order_is s.flat_is many_builds low_order
+
   fits_run : Fits g.catalog y (steps c.steps)
-  fits_run = subst (Fits g.catalog y) (sym runs_are) s.arranged.fits
+  fits_run = subst (Fits g.catalog y) (sym runs_are) runs.fits
 
   pub run : IsRun c
   run = record {
@@ -128,27 +198,28 @@ module _ (k : PlanRun) (p : code_plan.Plan) (os : List (Option Held)) (order : L
   pub runs_plan : RunsPlan k
   runs_plan = record {
     order = runs_led ∙ ap (led y) plan_same;
-    bound = ap (λ q. Rattle.gq_plan.specs.Covers.after q none) (sym plan_same) ∙ same_bound g.catalog y (plan_of p) (in_order (plan_of p) order) s.fits s.arranged.fits (IsPermutation-sym _ _ s.arranged.placed)
-        ∙ ap (λ q. Rattle.gq_plan.specs.Covers.after q none) (sym runs_are);
+    bound = ap (λ q. after q none) (sym plan_same) ∙ runs.bound ∙ ap (λ q. after q none) (sym runs_are);
   }
 
-  pub begins_run : begins (steps c.steps) ≡ true
-  begins_run = ap begins runs_are ∙ s.arranged.begins
+  pub first_run : 0 < length c.steps → makes_group (step_in c.steps 0) ≡ true
+  first_run = λ some. elim runs.begins [
+    | inl none_left ↦ absurd (steps_none c.steps (runs_are ∙ none_left) some)
+    | inr first ↦ (some_step c.steps (ap begins runs_are ∙ first)).1
+  ]
 
   pub enough_run : AreFlatEnough g.catalog y (flag flat) 0 (groups_of (steps c.steps)) none
-  enough_run = subst (λ q. AreFlatEnough g.catalog y (flag flat) 0 (groups_of q) none) (sym runs_are) s.arranged.enough
+  enough_run = subst (λ q. AreFlatEnough g.catalog y (flag flat) 0 (groups_of q) none) (sym runs_are) runs.enough
 
   many_groups : length (groups_of (steps c.steps)) ≡ length flat
-  many_groups = ap (λ q. length (groups_of q)) runs_are ∙ s.arranged.count
+  many_groups = ap (λ q. length (groups_of q)) runs_are ∙ runs.count
 
   -- there are no more columns than the plan counts
   pub columns_held : (ss : List GroupSteps) (n : ℕ) (fs : List Filling) (h : Homes) (held : ℕ) → held ≡ columns_of y (plan_of p) → AreHomes c ss n (length c.steps) fs h → length fs ≤ held
   columns_held ss n fs h held is homes =
       let few = homes.few in
-      let whole : sum_by (own_columns y) (take (length c.steps) c.steps) ≡ sum_by (own_columns y) (steps_of (plan_of p)) =
-      ap (sum_by (own_columns y)) (take_all (length c.steps) c.steps (omega arith) ∙ s.steps_are ∙ ap (λ ss. at_numbers ss order) (sym steps_same))
-      ∙ ordered_sum (own_columns y) (steps_of (plan_of p)) order s.arranged.each in
-      omega (arith, few, whole, is)
+      let whole : sum_by (own_columns y) (take (length c.steps) c.steps) ≡ sum_by (own_columns y) (at_numbers (steps_of (plan_of p)) order) =
+      ap (sum_by (own_columns y)) (take_all (length c.steps) c.steps (omega arith) ∙ s.steps_are ∙ ap (λ ss. at_numbers ss order) (sym steps_same)) in
+      omega (arith, few, whole, runs.columns, is)
 
   -- without joins the keys that are owed are as many as the plan has
   pub count_given : (lent : List (Option Held)) (ks : List (List ℕ)) (owed : List Partial) → is_flat (plan_of p) ≡ true → IsPermutation owed (mean g y (plan_of p) nothing) → AreKeysOf ks (map (assignment_key (source_in k lent)) owed)
@@ -159,51 +230,82 @@ module _ (k : PlanRun) (p : code_plan.Plan) (os : List (Option Held)) (order : L
 
   module _ (ss : List GroupSteps) (cut : IsCutTo c.steps flat ss (length c.steps)) where
     pub grouped_run : IsGrouped c ss
-    grouped_run = grouped c run flat ss cut begins_run enough_run
-
-    pub some_run : 0 < length ss
-    some_run = some_group c run flat ss cut begins_run enough_run
+    grouped_run = grouped c run flat ss cut enough_run
 
     -- what is owed, as the plan binds it
-    pub owed_given : IsPermutation (map (λ w. bound_by y (given_plan k) (decode g y (rows_in c ss) 0 (groups_in c ss) nothing w)) (walks (layout_in c ss) (length ss) [])) (mean g y (plan_of p) nothing)
-    owed_given =
+    owed_given : IsPermutation (placed (in_order (plan_of p) order)) (placed (plan_of p))
+        → IsPermutation (map (λ w. bound_by y (given_plan k) (decode g y (rows_in c ss) 0 (groups_in c ss) nothing w)) (walks (layout_in c ss) (length ss) [])) (mean g y (plan_of p) nothing)
+    owed_given same =
         let all = mean g y (plan_of p) nothing in
         let own = mean g y (steps c.steps) nothing in
         let there : bound_by y (given_plan k) ≡ bound_by y (plan_of p) = ap (bound_by y) (sym plan_same) in
         let asked : Rattle.gq_plan.specs.Assignments.Assignment → Partial = λ t. given y (numbers_of t) (plan_of p) nothing in
         subst (λ (f : Partial → Partial). IsPermutation (map (λ w. f (decode g y (rows_in c ss) 0 (groups_in c ss) nothing w)) (walks (layout_in c ss) (length ss) [])) all) (sym there)
         (subst (λ es. IsPermutation es all) (map_map (bound_by y (plan_of p)) (decode g y (rows_in c ss) 0 (groups_in c ss) nothing) (walks (layout_in c ss) (length ss) []))
-        (IsPermutation-trans _ _ _ (IsPermutation-map (bound_by y (plan_of p)) _ _ (owed_mean c run flat ss cut begins_run enough_run))
+        (IsPermutation-trans _ _ _ (IsPermutation-map (bound_by y (plan_of p)) _ _ (owed_mean c run flat ss cut enough_run))
         (subst (λ es. IsPermutation es all) (map_map asked (read_all y) own)
         (subst (IsPermutation (map asked (map (read_all y) own))) (map_map asked (read_all y) all ∙ map_self (bound_by y (plan_of p)) all (bound_self g y (plan_of p) s.valid s.sound s.fits))
-        (IsPermutation-map asked _ _ (same_plans g y (steps c.steps) (plan_of p) s.valid s.sound fits_run s.fits (subst (λ q. IsPermutation (Rattle.gq_plan.specs.Covers.placed q) (Rattle.gq_plan.specs.Covers.placed (plan_of p))) (sym runs_are) s.arranged.placed)))))))
+        (IsPermutation-map asked _ _ (same_plans g y (steps c.steps) (plan_of p) s.valid s.sound fits_run s.fits (subst (λ q. IsPermutation (placed q) (placed (plan_of p))) (sym runs_are) same)))))))
+
+    -- as many groups run as the plan has
+    many_run : length ss ≡ (places (plan_of p)).count
+    many_run =
+        sym (length-map ss (group_in c.steps)) ∙ ap length (sym (groups_are c run flat ss cut enough_run)) ∙ many_groups ∙ ap length s.flat_is ∙ length-map-range_with_len _ 0 _
+
+    -- without groups what is owed is nothing, or what is bound at the start
+    alone : (ts : List GroupSteps) (cs : List Cursor) → length ts ≡ 0 → (b : Bool) → bound_by y (given_plan k) nothing ≡ nothing → mean g y (plan_of p) nothing ≡ keep_if b nothing
+        → IsPermutation (map (λ w. bound_by y (given_plan k) (decode g y (rows_in c ts) 0 (groups_in c ts) nothing w)) (owed_walks (layout_in c ts) (length ts) (spot_of (first_state b) cs))) (mean g y (plan_of p) nothing)
+    alone [] cs e true bound all = subst (IsPermutation (bound_by y (given_plan k) nothing ∷ [])) (ap (λ a. a ∷ []) bound ∙ sym all) (IsPermutation-refl (bound_by y (given_plan k) nothing ∷ []))
+    alone [] cs e false bound all = subst (IsPermutation []) (sym all) (IsPermutation-refl [])
+    alone (t ∷ ts) cs e b bound all = absurd (omega (arith, e))
+
+    -- what is owed as the pipeline starts, which owes all, or without groups what its tests tell
+    owed_first : (owes : Bool) (row : Assignment) (cs : List Cursor) → owes ≡ cond (nat_eq (length ss) 0) (list_all (is_kept (passes_at g y row)) (map step_of k.plan.now)) true
+        → IsPermutation (map (λ w. bound_by y (given_plan k) (decode g y (rows_in c ss) 0 (groups_in c ss) nothing w)) (owed_walks (layout_in c ss) (length ss) (spot_of (first_state owes) cs))) (mean g y (plan_of p) nothing)
+    owed_first owes row cs is = go (places (plan_of p)).count refl
+      where
+        go : (n : ℕ) → (places (plan_of p)).count ≡ n
+            → IsPermutation (map (λ w. bound_by y (given_plan k) (decode g y (rows_in c ss) 0 (groups_in c ss) nothing w)) (owed_walks (layout_in c ss) (length ss) (spot_of (first_state owes) cs))) (mean g y (plan_of p) nothing)
+        go zero e =
+            let told : owes ≡ list_all (is_kept (passes_at g y row)) (steps_of (plan_of p)) =
+            is ∙ ap (λ b. cond b (list_all (is_kept (passes_at g y row)) (map step_of k.plan.now)) true) (eq-eqb (length ss) 0 (many_run ∙ e))
+            ∙ ap (list_all (is_kept (passes_at g y row))) (ap (map step_of) s.plan ∙ sym steps_same) in
+            alone ss cs (many_run ∙ e) owes
+            (ap (λ q. bound_by y q nothing) (sym plan_same) ∙ none_given g.catalog y (plan_of p) s.fits e (rows_of y nothing))
+            (none_mean g.catalog y (plan_of p) s.fits e g row ∙ ap (λ b. keep_if b nothing) (sym told))
+        go (suc n) e =
+            let on : owes ≡ true =
+            is ∙ ap (λ b. cond b (list_all (is_kept (passes_at g y row)) (map step_of k.plan.now)) true) (ne_eqb (length ss) 0 (λ none_left. (let many = many_run ∙ e in omega (arith, many, none_left)))) in
+            subst (λ b. IsPermutation (map (λ w. bound_by y (given_plan k) (decode g y (rows_in c ss) 0 (groups_in c ss) nothing w)) (owed_walks (layout_in c ss) (length ss) (spot_of (first_state b) cs))) (mean g y (plan_of p) nothing)) (sym on)
+            (owed_given (s.arranged (omega (arith, e))).placed)
+
+    pub owed_start : (owes : Bool) (row : Assignment) (cs : List Cursor) (state : State) (many : ℕ) → state ≡ first_state owes → many ≡ length ss
+        → owes ≡ cond (nat_eq many 0) (list_all (is_kept (passes_at g y row)) (map step_of k.plan.now)) true
+        → IsPermutation (map (λ w. bound_by y (given_plan k) (decode g y (rows_in c ss) 0 (groups_in c ss) nothing w)) (owed_walks (layout_in c ss) (length ss) (spot_of state cs))) (mean g y (plan_of p) nothing)
+    owed_start owes row cs state many st long is =
+        subst (λ t. IsPermutation (map (λ w. bound_by y (given_plan k) (decode g y (rows_in c ss) 0 (groups_in c ss) nothing w)) (owed_walks (layout_in c ss) (length ss) (spot_of t cs))) (mean g y (plan_of p) nothing)) (sym st)
+        (owed_first owes row cs (is ∙ ap (λ n. cond (nat_eq n 0) (list_all (is_kept (passes_at g y row)) (map step_of k.plan.now)) true) long))
 
     told : flat ≡ flags_of y (given_plan k)
     told = s.flat_is ∙ ap (flags_of y) plan_same
 
     pub flats_given : map (λ (t : GroupSteps). t.flat) ss ≡ flags_of y (plan_of p)
     flats_given =
-        flats_are c run flat ss cut begins_run enough_run
+        flats_are c run flat ss cut enough_run
         ∙ ap (λ n. map (flag flat) (range_with_len 0 n)) many_groups ∙ all_got false flat ∙ s.flat_is
 
     -- the groups that run are those of the plan as it was given
     pub given_run : AreGiven k ss os
     given_run =
-        let many : length os ≡ length (steps_of (plan_of p)) =
-        builds_many g y (map step_of p.steps) os (subst (λ q. AreBuilds g y q os) (plan_is p) s.builds) ∙ sym (ap length steps_same) in
-        let low : AllByRecursion (λ n. n < length (steps_of (plan_of p))) order =
-        subst (λ l. AllByRecursion (λ n. n < length l) order) (sym steps_same)
-        (subst (λ n. AllByRecursion (λ m. m < n) order) (sym (length-map p.steps step_of)) (recursion_from_All (λ n. n < length p.steps) order s.within)) in
         let made : makers_of (steps_of (given_plan k)) os ≡ map (maker_in c) ss =
         ap (λ q. makers_of (steps_of q) os) (sym plan_same)
-        ∙ sym (makers_ordered g.catalog y (plan_of p) os s.fits s.some many (subst (AllByRecursion (λ n. n < length (steps_of (plan_of p)))) s.order_is low))
-        ∙ ap (λ ns. makers_of (at_numbers (steps_of (plan_of p)) ns) (map (λ n. slice_index_or os n None) ns)) (sym s.order_is)
+        ∙ sym runs.makers
         ∙ ap₂ makers_of (ap (λ ss. at_numbers ss order) steps_same ∙ sym s.steps_are) (sym s.builds_are)
         ∙ makers_run c (builds_many g y c.steps c.builds run.builds) ss grouped_run.tiles grouped_run.cut in
-        let each : length os ≡ length (steps_of (given_plan k)) = many ∙ ap (λ q. length (steps_of q)) plan_same in
+        let each : length os ≡ length (steps_of (given_plan k)) = many_builds ∙ ap (λ q. length (steps_of q)) plan_same in
         record {
           many = each;
           makers = made;
           flats = flats_given ∙ ap (flags_of y) plan_same;
-          keys = keyed c run flat ss cut begins_run enough_run (given_plan k) runs_plan.bound os made each told;
+          keys = keyed c run flat ss cut enough_run (given_plan k) runs_plan.bound os made each told;
         }

@@ -1,10 +1,13 @@
+pub mod Alone
 pub mod Before
 pub mod Built
 pub mod Cells
 pub mod Chunks
+pub mod Closings
 pub mod Filled
 pub mod Given
 pub mod Limits
 pub mod Matches
 pub mod Origins
 pub mod Search
+pub mod Told

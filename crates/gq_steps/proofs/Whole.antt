@@ -27,7 +27,7 @@ use Rattle.gq_steps.proofs.Followed.{rel, far_is}
 use Rattle.gq_steps.proofs.Stepping.{Follows, follows}
 
 -- a list of lists of one
-abbrev one_if : Bool → Partial → List Partial
+abbrev pub one_if : Bool → Partial → List Partial
 one_if b e = cond b (e ∷ []) []
 
 map_map : {X Y Z : Type 0} (f : Y → Z) (h : X → Y) (xs : List X) → map f (map h xs) ≡ map (λ x. f (h x)) xs

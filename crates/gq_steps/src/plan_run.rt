@@ -1,7 +1,10 @@
 //! What a pipeline runs over, and one try of one step.
-ghost use Rattle.std.specs.Prelude.{◌≡◌, ◌<◌, ◌^◌, length, slice_index_or, None, All};
+ghost use Rattle.std.specs.Prelude.{◌≡◌, ◌<◌, ◌^◌, length, slice_get, slice_index_or, None, All};
 ghost use Rattle.std.specs.Option.{option_copied};
 ghost use Rattle.gq_join.specs.Kept.{matches_of, place_of};
+ghost use Rattle.gq_plan.specs.Conditions.{passes};
+ghost use Rattle.gq_plan.specs.Meaning.{holds};
+ghost use Rattle.gq_plan.specs.Rows.{as_read};
 ghost use Rattle.gq_plan.specs.Soundness.{IsSound};
 ghost use Rattle.gq_steps.specs.Levels.{known};
 ghost use Rattle.gq_steps.specs.Matches.{AreMatches};
@@ -9,7 +12,7 @@ ghost use Rattle.gq_steps.specs.Moves.{builds_in, run_of, steps_in, IsRun, IsHel
 ghost use Rattle.gq_steps.specs.steps.Outcomes.{IsScanned, IsHopFound, IsExtended, IsClosed};
 ghost use Rattle.gq_steps.specs.Follows.{IsSized, CanFollow};
 ghost use Rattle.gq_steps.specs.steps.Outcomes.{CanJoin, IsJoined, with_nodes, with_rels};
-ghost use Rattle.gq_steps.specs.steps.Outcomes.{passes_at, differs_at, no_loop_at, tested};
+ghost use Rattle.gq_steps.specs.steps.Outcomes.{differs_at, no_loop_at, tested};
 
 use crate::follow::{Hop, hop_at};
 use gq_base::{Direction, List};
@@ -202,10 +205,12 @@ impl<'g> PlanRun<'g> {
         hop_at(self.graph, table, follow.direction, from, place)
     }
 
-    // Whether a test is true.
-    fn keep(&self, test: u32, row: &Assignment) -> bool
+    /// Whether a test of the alternative is true of rows and load numbers.
+    pub fn keep(&self, test: u32, row: &Assignment) -> bool
         requires { IsRun (run_of self.now) }
-        ensures { result ≡ passes_at self.now.graph.now self.now.typed.now row.now test }
+        ensures { let read = as_read self.now.typed.now row.now in
+            result ≡ holds (passes self.now.graph.now read)
+            (slice_get self.now.typed.now.tests test) }
     {
         match self.tests.get(test as usize) {
             None => false,

@@ -13,7 +13,7 @@ use crate::plans::JOINED;
 use crate::queries::bound;
 use crate::store::example;
 use gq_order::given;
-use gq_pipe::{Builds, Pipeline, Spent, make_builds, makes_groups};
+use gq_pipe::{Builds, Pipeline, Spent, make_builds};
 use gq_plan::{Bound, Plan, Typed, columns};
 use gq_pool::VectorPool;
 use gq_store::Graph;
@@ -46,7 +46,6 @@ fn spend(
     requires builds { AreBuilds graph.now typed.now (plan_of plan.now) builds.now.levels }
     requires room { columns_of typed.now (plan_of plan.now) ≤ spare_of pool.old }
 {
-    assert!(rt; makes_groups(plan, typed));
     let started = Pipeline::start(rt.alloc(), graph, builds, plan, typed, pool);
     let mut pipeline = started.expect(rt, "memory");
     assert!(rt; pool.spare() == 0);

@@ -1,6 +1,6 @@
 -- The optional clauses of a query, of which the matches were listed.
-use Rattle.std.specs.Prelude.{◌≡◌, ◌<◌, ℕ, Bool, true, Option, List, map, flat_map}
-use Rattle.std.specs.List.{All, AllZip, list_all, list_any}
+use Rattle.std.specs.Prelude.{◌≡◌, ℕ, Bool, true, Option, List, map, flat_map}
+use Rattle.std.specs.List.{AllZip, list_all, list_any}
 use Rattle.gq_base.specs.Plain.{Graph}
 use Rattle.gq_law_clauses.specs.Laws.{AreCovered, AreSameBags, lists_made}
 use Rattle.gq_optional.specs.Spending.{Listing, spent_on_each}
@@ -10,7 +10,6 @@ use Rattle.gq_plan.specs.Covers.{Covers}
 use Rattle.gq_plan.specs.Flat.{is_flat}
 use Rattle.gq_plan.specs.Parts.{IsSide, sides}
 use Rattle.gq_plan.specs.Plans.{Plan, plan_of}
-use Rattle.gq_plan.specs.Shapes.{places}
 use Rattle.gq_plan.specs.declared.bound.OptionalPart.{OptionalPart}
 use Rattle.gq_plan.specs.declared.plan.Plan as code
 use Rattle.gq_plan.specs.declared.typed.Typed.{Typed}
@@ -32,10 +31,9 @@ pub record IsPlanned (order : Order) (g : Graph) (y : Typed) (p : Plan) : Type 0
   pub parts : AllZip (IsSide g.catalog y) (parts_by order y) (sides p)
   pub alone : list_all is_flat (sides p) ≡ true
 
--- the plans of the alternatives of a clause, some step of each of which makes a group
+-- the plans of the alternatives of a clause
 pub record IsPlannedClause (order : Order) (g : Graph) (part : OptionalPart) (ps : List code.Plan) : Type 0 where
   pub each : AllZip (IsPlanned order g) part.alternatives (map plan_of ps)
-  pub groups : All (λ (p : code.Plan). 0 < (places (plan_of p)).count) ps
 
 -- ---- matches
 

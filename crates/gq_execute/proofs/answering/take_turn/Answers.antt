@@ -21,7 +21,6 @@ use Rattle.gq_drain.specs.Taking.{IsPlain}
 use Rattle.gq_execute.proofs.Parting.{sides_light, sides_refused}
 use Rattle.gq_pipe.proofs.Assigned.{covers_bind_all}
 use Rattle.gq_pipe.proofs.Rooms.{most_rooms, spare_same}
-use Rattle.gq_pipe.proofs.SomeGroup.{covers_some}
 use Rattle.gq_pipe.proofs.Slots.{all_back}
 use Rattle.gq_law_plans.proofs.Wholes.{plans_mean}
 use Rattle.gq_execute.proofs.Turning.{own_counted, own_keys, own_spent, turn_spent, turn_stops, turned}
@@ -39,9 +38,6 @@ plan_for-requires-clause-rels c = ap (λ (s : Stats). length s.rels) c.requires.
 pub make_builds-requires-clause-room : goal.make_builds-requires-clause-room
 make_builds-requires-clause-room c =
     most_rooms c.args.pool.now c.args.typed.now c.args.graph.now.catalog c.requires.sound c.requires.slots (plan_of c.in_ok-planned.planned.plan) c.in_ok-planned.ensures.covers.fits
-
-pub start-requires-clause-groups : goal.start-requires-clause-groups
-start-requires-clause-groups c = covers_some c.args.graph.now.catalog c.args.typed.now (plan_of c.in_ok-planned.planned.plan) c.requires.begins c.in_ok-planned.ensures.covers
 
 pub start-requires-clause-room : goal.start-requires-clause-room
 start-requires-clause-room c =

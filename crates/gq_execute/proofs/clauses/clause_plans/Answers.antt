@@ -30,4 +30,4 @@ parts-preserved c =
     let made = c.in_ok-planned.planned in
     let each = subst (λ ys. AllZip (IsPlanned order g) ys (map plan_of made.plans)) c.as_slice-alternatives.ensures c.in_ok-planned.ensures.each in
     zip_next (IsPlannedClause order g) c.args.parts.now c.parts.plans c.push.new.self c.parts.part-index c.part-item.result made.plans c.parts.invariant c.parts-test.true c.part-item.is c.in_ok-push.ensures.pushed
-    (record { each = each; groups = c.in_ok-planned.ensures.groups })
+    (record { each = each })

@@ -1,12 +1,9 @@
 use Rattle.std.proofs.lemmas.List.Elements.{recursion_from_All}
-use Rattle.gq_execute.proofs.Listing.{all_covered, all_grouped, clauses_light, clauses_refused, clauses_spent, of_plans}
+use Rattle.gq_execute.proofs.Listing.{all_covered, clauses_light, clauses_refused, clauses_spent, of_plans}
 use Rattle.gq_execute.proofs.clauses.list_clauses.Goals as goal
 
 pub make-requires-clause-covers : goal.make-requires-clause-covers
 make-requires-clause-covers c = rw c.as_slice-plans.ensures (all_covered c.args.graph.now c.args.settings.now.order c.args.parts.now c.in_ok-plans.plans c.in_ok-plans.ensures)
-
-pub make-requires-clause-groups : goal.make-requires-clause-groups
-make-requires-clause-groups c = rw c.as_slice-plans.ensures (all_grouped c.args.graph.now c.args.settings.now.order c.args.parts.now c.in_ok-plans.plans c.in_ok-plans.ensures)
 
 pub returns-in-Ok-clause-listed : goal.returns-in-Ok-clause-listed
 returns-in-Ok-clause-listed c =

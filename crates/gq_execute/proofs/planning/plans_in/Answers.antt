@@ -1,14 +1,8 @@
-use Rattle.std.proofs.Common.{◌∙◌, ◌<◌, ap, length, subst, sym}
-use Rattle.std.specs.List.{All}
-use Rattle.std.proofs.lemmas.List.Elements.{All-push}
+use Rattle.std.proofs.Common.{◌∙◌, ap, length, subst, sym}
 use Rattle.std.proofs.lemmas.List.FromFn.{length-map-range_with_len}
 use Rattle.gq_order.specs.declared.stats.Stats.{Stats}
-use Rattle.gq_pipe.proofs.SomeGroup.{covers_some}
 use Rattle.gq_plan.specs.Covers.{Covers}
 use Rattle.gq_plan.specs.Plans.{plan_of}
-use Rattle.gq_plan.specs.Shapes.{places}
-use Rattle.gq_plan.specs.declared.plan.Plan as code
-use Rattle.gq_plan.specs.declared.typed.Typed.{Typed}
 use Rattle.gq_execute.proofs.Covering.{planned_more, zip_more}
 use Rattle.gq_execute.specs.Planned.{IsPlanIn, Means}
 use Rattle.gq_plan.specs.Soundness.{IsSound}
@@ -32,14 +26,10 @@ alternatives-preserved c =
     let p = c.in_ok-planned.ensures in
     let made = c.in_ok-planned.planned in
     let planned = subst (λ (s : Stats). IsPlanIn c.args.order g.catalog s c.typed-item.result (plan_of made.plan) made.costs) c.requires.stats p.plan in
-    let some = subst (λ (y : Typed). 0 < length y.nodes) (sym is) (c.requires.begins c.alternatives.typed-index c.typed-item.result low) in
-    let grouped : code.Plan → Type 0 = λ q. 0 < (places (plan_of q)).count in
-    let own = covers_some g.catalog c.typed-item.result (plan_of made.plan) some p.covers in
     let means = plans_mean g c.typed-item.result (plan_of made.plan) c.stands_valid.ensures
     (subst (IsSound g.catalog) (sym is) (c.requires.sound c.alternatives.typed-index c.typed-item.result low)) p.covers in
     record {
       plans = planned_more c.args.order g ys _ _ _ _ _ _ _ _ i.plans low is c.in_ok-push.ensures.pushed c.in_ok-push-2.ensures.pushed planned;
-      groups = subst (All grouped) (sym c.in_ok-push.ensures.pushed) (All-push grouped _ made.plan i.groups own);
       each = zip_more (IsPlanned c.args.order g) plan_of ys _ _ _ _ _ i.each low is c.in_ok-push.ensures.pushed
           (record { costs = made.costs; planned = planned; covers = p.covers; means = means; parts = p.parts; alone = p.alone });
       mean = zip_more (Means g) plan_of ys _ _ _ _ _ i.mean low is c.in_ok-push.ensures.pushed means;

@@ -1,4 +1,4 @@
-use Rattle.std.proofs.Common.{◌∙◌, ◌<◌, ◌∷◌, ap, length, map, subst, sym, arith, Err}
+use Rattle.std.proofs.Common.{◌∙◌, ◌∷◌, ap, length, map, subst, sym, arith, Err}
 use Rattle.std.specs.List.{All, AllZip}
 use Rattle.std.proofs.lemmas.List.Elements.{All-head, All-tail}
 use Rattle.gq_law_answers.specs.Answered.{meanings}
@@ -6,9 +6,7 @@ use Rattle.gq_pipe.proofs.Rooms.{spare_same}
 use Rattle.gq_plan.specs.Covers.{Covers}
 use Rattle.gq_plan.specs.Keys.{key_of}
 use Rattle.gq_plan.specs.Plans.{plan_of}
-use Rattle.gq_plan.specs.Shapes.{places}
 use Rattle.gq_plan.specs.Soundness.{IsSound}
-use Rattle.gq_plan.specs.declared.plan.Plan as code
 use Rattle.gq_exists.specs.steps.Gathered.{Gathers}
 use Rattle.gq_exists.specs.steps.Running.{made_keys}
 use Rattle.gq_exists.proofs.Filling.{each_keys, full_takes}
@@ -34,10 +32,8 @@ run_each-requires t c =
     let both = subst (λ ys. AllZip covers ys (map plan_of c.args.plans.now)) e c.requires.covers in
     let later = subst (λ ps. AllZip covers (c.in-Some.typed.now ∷ c.in-Some.alternatives.now) (map plan_of ps)) f both in
     let sounds = All-tail sound c.in-Some.typed.now c.in-Some.alternatives.now (subst (All sound) e c.requires.sound) in
-    let grouped : code.Plan → Type 0 = λ p. 0 < (places (plan_of p)).count in
-    let groups = All-tail grouped c.in-Some-split_first.plan.now c.in-Some-split_first.plans.now (subst (All grouped) f c.requires.groups) in
     let kept = spare_same c.args.pool.now c.run.new.pool c.run.ensures.pool in
-    (omega (arith, c.decreases, ap length f), (sounds, (later.1, (groups, (c.in-Ok.ensures.gathers.is, omega (arith, kept, c.requires.room))))))
+    (omega (arith, c.decreases, ap length f), (sounds, (later.1, (c.in-Ok.ensures.gathers.is, omega (arith, kept, c.requires.room)))))
 
 pub returns-in-Err-clause-gathers : goal.returns-in-Err-clause-gathers
 returns-in-Err-clause-gathers t c =

@@ -1,4 +1,4 @@
-use Rattle.std.proofs.Common.{Bor, ◌≡◌, ◌+◌, ◌<◌, List, [], ◌∷◌, ◌++◌, map, length, ◌∙◌, sym, ap, subst, arith}
+use Rattle.std.proofs.Common.{Bor, ◌≡◌, ◌≢◌, ◌+◌, ◌<◌, ℕ, zero, suc, refl, List, [], ◌∷◌, ◌++◌, map, length, ◌∙◌, sym, ap, subst, arith}
 use Rattle.std.proofs.lemmas.List.{length-map}
 use Rattle.gq_plan.specs.Plans.{step_of}
 use Rattle.gq_plan.specs.declared.plan.Step.{Step}
@@ -12,10 +12,20 @@ use Rattle.gq_steps.proofs.Trying.{get_mapped, step_read}
 use Rattle.gq_homes.proofs.groups.cut_groups.Goals as goal
 use Rattle.gq_homes.proofs.groups.cut_groups.Goals.{then-starts_group+in_ok-push, else-starts_group}
 
+some_steps : (n long : ℕ) → n ≢ 0 → n ≡ long → 0 < long
+some_steps zero long h e = absurd (h refl)
+some_steps (suc n) long h e = omega (arith, e)
+
+pub returns-then-count-eq0 : goal.returns-then-count-eq0
+returns-then-count-eq0 c =
+    subst (λ (gs : List GroupSteps). IsCutTo (map step_of (referred c.args.steps.now)) c.args.flat.now gs (length c.args.steps.now)) (sym c.new-groups.ensures.items)
+    (record { tiles = omega (arith, c.if-count-eq0.true); cut = tt; flags = λ i low. absurd (omega (arith, low)) })
+
 pub loop-end-init : goal.loop-end-init
 loop-end-init c =
     subst (λ (gs : List GroupSteps). IsCutting (map step_of (referred c.args.steps.now)) c.args.flat.now gs 0 1) (sym c.new-groups.ensures.items)
-    (cutting_from (map step_of (referred c.args.steps.now)) c.args.flat.now (let some = c.requires.some in omega (arith, some, length-map (referred c.args.steps.now) step_of, length-map c.args.steps.now (λ (s : Bor Step). s.now))) c.requires.begins)
+    (let some = some_steps (length c.args.steps.now) (length c.args.steps.now) c.if-count-eq0.false refl in
+    cutting_from (map step_of (referred c.args.steps.now)) c.args.flat.now (omega (arith, some, length-map (referred c.args.steps.now) step_of, length-map c.args.steps.now (λ (s : Bor Step). s.now))) (c.requires.begins some))
 
 pub loop-end-preserved : goal.loop-end-preserved
 loop-end-preserved c =

@@ -5,9 +5,7 @@ use Rattle.std.proofs.lemmas.List.Elements.{All-head, All-tail}
 use Rattle.gq_pipe.proofs.Rooms.{spare_same}
 use Rattle.gq_plan.specs.Covers.{Covers}
 use Rattle.gq_plan.specs.Plans.{plan_of}
-use Rattle.gq_plan.specs.Shapes.{places}
 use Rattle.gq_plan.specs.Soundness.{IsSound}
-use Rattle.gq_plan.specs.declared.plan.Plan as code
 use Rattle.gq_plan.specs.declared.typed.Typed.{Typed}
 use Rattle.gq_optional.specs.steps.Making.{AddsMatches, HasSpentEach}
 use Rattle.gq_optional.proofs.Gathered.{adds_more, on_ok, spends_more}
@@ -22,7 +20,6 @@ list_each-requires t c =
     let sound = IsSound c.args.graph.now.catalog in
     let covers = Covers c.args.graph.now.catalog in
     let keyed : Typed → Type 0 = λ y. All (λ v. v < length y.nodes) c.args.keys.now in
-    let grouped : code.Plan → Type 0 = λ p. 0 < (places (plan_of p)).count in
     let e = c.in-Some.ensures.cases.0 in
     let f = c.in-Some-split_first.ensures.cases.0 in
     let y = c.in-Some.typed.now in
@@ -30,9 +27,8 @@ list_each-requires t c =
     let both = subst (λ l. AllZip covers l (map plan_of c.args.plans.now)) e c.requires.covers in
     let later = subst (λ l. AllZip covers (y ∷ ys) (map plan_of l)) f both in
     let sounds = All-tail sound y ys (subst (All sound) e c.requires.sound) in
-    let groups = All-tail grouped c.in-Some-split_first.plan.now c.in-Some-split_first.plans.now (subst (All grouped) f c.requires.groups) in
     let keys = All-tail keyed y ys (subst (All keyed) e c.requires.keys) in
-    (omega (arith, c.decreases, ap length f), (sounds, (later.1, (groups, (keys, omega (arith, spare_same c.args.pool.now c.list_one.new.pool c.list_one.ensures.pool, c.requires.room))))))
+    (omega (arith, c.decreases, ap length f), (sounds, (later.1, (keys, omega (arith, spare_same c.args.pool.now c.list_one.new.pool c.list_one.ensures.pool, c.requires.room)))))
 
 pub returns-clause-adds : goal.returns-clause-adds
 returns-clause-adds t c =

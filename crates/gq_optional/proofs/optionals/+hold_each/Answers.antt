@@ -1,10 +1,9 @@
-use Rattle.std.proofs.Common.{◌∙◌, ◌<◌, ◌∷◌, ◌++◌, List, ap, length, map, subst, sym, arith, ℕ}
+use Rattle.std.proofs.Common.{◌∙◌, ◌∷◌, ◌++◌, List, ap, length, map, subst, sym, arith, ℕ}
 use Rattle.std.specs.Prelude.{All}
 use Rattle.std.specs.List.{AllZip}
 use Rattle.std.proofs.lemmas.List.Elements.{All-head, All-tail}
 use Rattle.gq_pipe.proofs.Rooms.{spare_same}
 use Rattle.gq_plan.specs.Plans.{Plan, plan_of}
-use Rattle.gq_plan.specs.Shapes.{places}
 use Rattle.gq_plan.specs.declared.plan.Plan as code
 use Rattle.gq_optional.specs.Made.{AreCovered}
 use Rattle.gq_optional.specs.steps.Making.{AddsClauses, CanHold, HasSpentClauses, HasSpentEach, IsClauseOf}
@@ -14,17 +13,9 @@ use Rattle.gq_optional.proofs.optionals.+hold_each.Goals as goal
 abbrev plans_of : List (List code.Plan) → List (List Plan)
 plans_of pss = map (map plan_of) pss
 
-abbrev Grouped : List code.Plan → Type 0
-Grouped ps = All {X = code.Plan} (λ p. 0 < (places (plan_of p)).count) ps
-
 pub hold-requires-clause-part : goal.hold-requires-clause-part
 hold-requires-clause-part t c =
     All-head (CanHold c.args.graph.now.catalog) c.in-Some.part.now c.in-Some.parts.now (subst (All (CanHold c.args.graph.now.catalog)) c.in-Some.ensures.cases.0 c.requires.parts)
-
-pub hold-requires-clause-groups : goal.hold-requires-clause-groups
-hold-requires-clause-groups t c =
-    subst Grouped (sym c.as_slice.ensures)
-    (All-head Grouped c.in-Some-split_first.own.now c.in-Some-split_first.plans.now (subst (All Grouped) c.in-Some-split_first.ensures.cases.0 c.requires.groups))
 
 pub hold_each-requires : goal.hold_each-requires
 hold_each-requires t c =
@@ -37,8 +28,7 @@ hold_each-requires t c =
     let both = subst (λ l. AllZip covers l (plans_of c.args.plans.now)) e c.requires.covers in
     let later = subst (λ l. AllZip covers (part ∷ parts) (plans_of l)) f both in
     let cans = All-tail can part parts (subst (All can) e c.requires.parts) in
-    let groups = All-tail Grouped c.in-Some-split_first.own.now c.in-Some-split_first.plans.now (subst (All Grouped) f c.requires.groups) in
-    (omega (arith, c.decreases, ap length f), (cans, (later.1, (groups, omega (arith, spare_same c.args.pool.now c.hold.new.pool c.hold.ensures.pool, c.requires.room)))))
+    (omega (arith, c.decreases, ap length f), (cans, (later.1, omega (arith, spare_same c.args.pool.now c.hold.new.pool c.hold.ensures.pool, c.requires.room))))
 
 pub returns-clause-adds : goal.returns-clause-adds
 returns-clause-adds t c =
