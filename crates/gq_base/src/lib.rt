@@ -32,5 +32,5 @@ pub use rels::{RelRef, RelRows};
 pub use rows::NodeRows;
 pub use text::Text;
 pub use truth::{and3, not3, or3, xor3};
-pub use value::{NodeId, RelId, Value, equal3, less3, order_is_total, order_of, same};
+pub use value::{NodeId, RelId, Value, equal3, less3, order_of, same};
 pub use word::{is_word_part, is_word_start, read_name, read_text};

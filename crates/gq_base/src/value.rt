@@ -92,12 +92,6 @@ pub fn less3(a: &Value<'_>, b: &Value<'_>) -> Option<bool>
     }
 }
 
-/// A law for the crates above: the ascending order is total. It does nothing.
-#[tactic(auto, using(crate::specs::ValueLaws::order_vals_total))]
-pub fn order_is_total()
-    ensures { IsTotalOrder order_vals }
-{}
-
 // `==` is sameness, so that values serve as keys.
 impl PartialEq for Value<'_> {
     ghost eq = { λ x y. is_eq (order_vals (val x) (val y)) };

@@ -5,7 +5,7 @@ use Rattle.std.specs.List.Sorted.{IsPermutation}
 use Rattle.std.proofs.lemmas.Bool.{and_parts}
 use Rattle.std.proofs.lemmas.Grind.{flat_map-append}
 use Rattle.std.proofs.lemmas.List.Elements.{Contains-append_left, Contains-append_right, Contains-append_cases}
-use Rattle.std.proofs.lemmas.List.Sorted.{Contains-permutation, IsPermutation-append_comm, IsPermutation-append_left, IsPermutation-append_right, IsPermutation-cons, IsPermutation-refl, IsPermutation-remove, IsPermutation-trans, list_any-IsPermutation}
+use Rattle.std.proofs.lemmas.List.Sorted.{IsPermutation-append_comm, IsPermutation-append_left, IsPermutation-append_right, IsPermutation-cons, IsPermutation-refl, IsPermutation-remove, IsPermutation-trans, list_any-IsPermutation}
 use Rattle.std.proofs.lemmas.Map.Views.{Contains-from_any}
 use Rattle.gq_base.specs.Lists.{all_distinct}
 use Rattle.gq_law_plans.proofs.Reordered.{permuted_flat_map}
@@ -78,22 +78,6 @@ stands_append p all q more s t = record {
     go : (x : _) → Contains s.rest x ⊎ Contains t.rest x → Contains (p ++ q) x
     go x (inl k) = Contains-append_left p q x (s.among x k)
     go x (inr k) = Contains-append_right p q x (t.among x k)
-
-pub stands_on : {X : Type 0} (a b c : List X) → StandFor a b → StandFor b c → StandFor a c
-stands_on a b c s t = record {
-  rest = s.rest ++ t.rest;
-  bag = subst (IsPermutation c) (append_assoc a s.rest t.rest)
-      (IsPermutation-trans c (b ++ t.rest) ((a ++ s.rest) ++ t.rest) t.bag (IsPermutation-append_left t.rest b (a ++ s.rest) s.bag));
-  among = λ x h. go x (Contains-append_cases s.rest t.rest x h);
-}
-  where
-    own : (x : _) → Contains a x ⊎ Contains s.rest x → Contains a x
-    own x (inl k) = k
-    own x (inr k) = s.among x k
-
-    go : (x : _) → Contains s.rest x ⊎ Contains t.rest x → Contains a x
-    go x (inl k) = s.among x k
-    go x (inr k) = own x (Contains-append_cases a s.rest x (Contains-permutation b (a ++ s.rest) x s.bag (t.among x k)))
 
 -- ---- different items
 

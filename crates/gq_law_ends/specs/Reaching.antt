@@ -56,7 +56,3 @@ LastOfTrailsReaches =
     (g : Graph) (patterns : ℕ → List RelId) (qs : List TrailPart) (p : TrailPart) (ends : Partial → List (ℕ × List RelId) → List NodeId) (a : Partial) (ws : List (ℕ × List RelId))
     → p.low ≡ 1 → ((b : Partial) (vs : List (ℕ × List RelId)) → AreLedTo g p.kind p.way (used_in patterns vs p.clause) p.high (look b.nodes p.from) (ends b vs))
     → StandFor (rows_reached g patterns (λ b vs. rows_at g p b (ends b vs)) qs a ws) (rows_in (after_trails g patterns (qs ++ p ∷ []) a ws))
-
--- rows that stand for rows which stand for others stand for these
-abbrev pub RowsStandOn : Type 0
-RowsStandOn = (a b c : List Partial) → StandFor a b → StandFor b c → StandFor a c
