@@ -232,6 +232,12 @@ rels_valid old new number t fields rels catalog nodes same valid is ends few nam
       rels = zip-set (are_rels old.nodes) old.catalog.rels old.rels number (record t { fields = fields }) rels h.rels good;
     })
 
+-- the node tables at the ends of one are there
+pub ends_there : (graph : Graph) (number : ℕ) (t : RelTable) → slice_get graph.catalog.rels number ≡ Some t
+    → All (λ y. (y.from < length graph.nodes) × (y.to < length graph.nodes)) graph.catalog.rels → (t.from < length graph.nodes) × (t.to < length graph.nodes)
+ends_there graph number t is ends =
+    rw (get_or_from_slice_get graph.catalog.rels number t t is) at (ends number t (slice_get_within graph.catalog.rels number t is))
+
 -- the node tables at the ends of relationships are there still
 pub ends_stay : (old new : Graph) (number : ℕ) (t : RelTable) (fields : List Field)
     → new.catalog ≡ record old.catalog { rels = with_rel_fields number fields old.catalog.rels } → new.nodes ≡ old.nodes

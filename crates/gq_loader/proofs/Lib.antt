@@ -1,3 +1,4 @@
 pub mod Effecting
 pub mod Keeping
+pub mod Naming
 pub mod Rest

@@ -1,10 +1,14 @@
 -- What a load does to the files that it reads (this project's profile).
-use Rattle.std.specs.Prelude.{◌≡◌, ◌≢◌, ℕ, ◌+◌, ◌≤◌, List, length, IfSome, IsSome, Err}
+use Rattle.std.specs.Prelude.{◌≡◌, ◌≢◌, ◌⊎◌, ℕ, ◌+◌, ◌≤◌, List, ◌++◌, length, map, IfSome, IsSome, Ok, Err}
+use Rattle.std.specs.List.{Contains}
 use Rattle.std.specs.declared.option.Option.{Option}
 use Rattle.std.specs.declared.result.Result.{Result}
 use Rattle.std.specs.Io.KnownBytes.{Consumes}
 use Rattle.gq_io.specs.Causes.{Rose}
+use Rattle.gq_base.specs.Catalogs.{Tables}
 use Rattle.gq_io.specs.Outside.{Names}
+use Rattle.gq_loader.specs.Loads.{beginning_of}
+use Rattle.gq_loader.specs.declared.loading.Beginning.{Beginning}
 use Rattle.gq_loader.specs.declared.refusal.LoadRefusal.{LoadRefusal}
 use Rattle.gq_loader.specs.declared.refusal.LoadRefusal.TheVariants as refusal
 
@@ -30,3 +34,17 @@ pub record TookAtMost (held : Option Names) (name : List ℕ) (left : Option (Li
 abbrev pub ReadsFew : {T : Type 0} → Option Names → Option (List ℕ) → ℕ → Result T LoadRefusal → Type 0
 ReadsFew held left most result = (name : List ℕ) → result ≡ Err (refusal.FileTooLong name)
     → TookAtMost held name left (most + 1)
+
+-- the names of the files of all tables
+abbrev pub files_of : Tables → List (List ℕ)
+files_of tables = map (λ t. t.file) tables.nodes ++ map (λ t. t.file) tables.rels
+
+-- the manifest of this name, which is there and all of whose lines are read, names the file
+abbrev pub IsLineFile : Names → List ℕ → List ℕ → Type 0
+IsLineFile files manifest name =
+    (b : Beginning) × (beginning_of manifest files ≡ Ok b) × Contains (files_of b.loading.graph.catalog) name
+
+-- `ReadFault` names the manifest, or where the files are told, a file that the manifest names
+abbrev pub NamesFile : {T : Type 0} → Option Names → List ℕ → Result T LoadRefusal → Type 0
+NamesFile held manifest result = (name : List ℕ) → result ≡ Err (refusal.ReadFault name)
+    → (name ≡ manifest) ⊎ IfSome held (λ files. IsLineFile files manifest name)

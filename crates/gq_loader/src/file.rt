@@ -1,7 +1,7 @@
 //! The bytes of one file, up to a limit.
 ghost use Rattle.std.specs.Prelude.{◌≤◌, IfOk, length, nat_le};
 ghost use Rattle.gq_loader.specs.Answers.{Answers};
-ghost use Rattle.gq_loader.specs.steps.Effects.{Reads, told_of};
+ghost use Rattle.gq_loader.specs.steps.Effects.{NamesOnly, Reads, told_of};
 ghost use Rattle.gq_loader.specs.Files.{file_of};
 
 use crate::refusal::LoadRefusal;
@@ -18,6 +18,7 @@ pub(crate) fn read_file<F: Files>(
 ) -> Result<Bytes, LoadRefusal>
     ensures answers { Answers (F.held files.old)
         (λ names. file_of names (λ length. nat_le length most) name.now) result }
+    ensures named { NamesOnly name.now result }
     ensures few { IfOk result (λ bytes. length bytes ≤ most) }
     ensures reads { Reads most
         (told_of F.held F.left F.faults F.misses files.old)

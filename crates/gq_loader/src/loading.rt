@@ -4,8 +4,8 @@ ghost use Rattle.gq_base.specs.Valid.{is_valid};
 ghost use Rattle.gq_manifest.specs.Manifests.{IsNumberOf};
 ghost use Rattle.gq_loader.specs.Answers.{Answers};
 ghost use Rattle.gq_loader.specs.steps.Answers.{IsFresh, IsUnread};
-ghost use Rattle.gq_loader.specs.Effects.{ByFault, ByMiss, ReadsFew};
-ghost use Rattle.gq_loader.specs.steps.Effects.{Reads, told_of};
+ghost use Rattle.gq_loader.specs.Effects.{ByFault, ByMiss, NamesFile, ReadsFew};
+ghost use Rattle.gq_loader.specs.steps.Effects.{NamesOnly, Reads, told_of};
 ghost use Rattle.gq_loader.specs.Limits.{IsWithin, most_bytes, most_manifest};
 ghost use Rattle.gq_loader.specs.Loads.{beginning_of, load_of};
 
@@ -49,6 +49,7 @@ pub fn load<F: Files>(
         (λ names. load_of manifest.now names limits.now) result }
     ensures valid { IfOk result (λ graph. is_valid graph ≡ true) }
     ensures faults { ByFault (F.faults files.old) (F.faults files.new) result }
+    ensures named { NamesFile (F.held files.old) manifest.now result }
     ensures misses { ByMiss (F.misses files.old) (F.misses files.new) result }
     ensures held { F.held files.new ≡ F.held files.old }
     ensures few { ReadsFew (F.held files.old) (F.left files.new) (most_bytes limits.now) result }
@@ -63,6 +64,7 @@ pub fn load<F: Files>(
 // Reads the manifest of this name.
 fn begin<F: Files>(alloc: Global, files: &mut F, manifest: &str) -> Result<Beginning, LoadRefusal>
     ensures answers { Answers (F.held files.old) (λ names. beginning_of manifest.now names) result }
+    ensures named { NamesOnly manifest.now result }
     ensures fresh { IfOk result (λ tables. IsFresh tables.loading) }
     ensures numbers { IfOk result (λ tables.
         All (IsNumberOf tables.loading.graph.catalog) tables.order) }

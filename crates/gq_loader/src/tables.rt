@@ -3,8 +3,9 @@ ghost use Rattle.std.specs.Prelude.{◌≡◌, ◌+◌, ◌<◌, ◌≤◌, ◌^
 ghost use Rattle.gq_base.specs.Valid.{is_valid};
 ghost use Rattle.gq_manifest.specs.Manifests.{IsNumberOf};
 ghost use Rattle.gq_loader.specs.Answers.{Answers};
+ghost use Rattle.gq_loader.specs.Effects.{files_of};
 ghost use Rattle.gq_loader.specs.steps.Answers.{AsMany, IsGoing, IsUnread, KeepsOthers, Leaves};
-ghost use Rattle.gq_loader.specs.steps.Effects.{Reads, told_of};
+ghost use Rattle.gq_loader.specs.steps.Effects.{NamesOnly, NamesTable, Reads, told_of};
 ghost use Rattle.gq_loader.specs.Files.{file_of};
 ghost use Rattle.gq_loader.specs.Limits.{IsWithin, is_short};
 ghost use Rattle.gq_loader.specs.Loads.{end_of, key_kind, take_nodes, take_rels, take_table};
@@ -49,6 +50,9 @@ pub(crate) fn take_table<F: Files>(
     ensures valid { OnOk result (is_valid loading.new.graph ≡ true) }
     ensures others { OnOk result (KeepsOthers table loading.old.graph loading.new.graph) }
     ensures tables { OnOk result (AsMany loading.old.graph.catalog loading.new.graph.catalog) }
+    ensures files { OnOk result
+        (files_of loading.new.graph.catalog ≡ files_of loading.old.graph.catalog) }
+    ensures named { NamesTable loading.old.graph.catalog result }
     ensures reads { Reads limits.now.file_bytes
         (told_of F.held F.left F.faults F.misses files.old)
         (told_of F.held F.left F.faults F.misses files.new) result }
@@ -78,6 +82,9 @@ fn take_nodes<F: Files>(
     ensures others { OnOk result
         (KeepsOthers (table.Node number) loading.old.graph loading.new.graph) }
     ensures tables { OnOk result (AsMany loading.old.graph.catalog loading.new.graph.catalog) }
+    ensures files { OnOk result
+        (files_of loading.new.graph.catalog ≡ files_of loading.old.graph.catalog) }
+    ensures named { NamesTable loading.old.graph.catalog result }
     ensures reads { Reads limits.now.file_bytes
         (told_of F.held F.left F.faults F.misses files.old)
         (told_of F.held F.left F.faults F.misses files.new) result }
@@ -112,6 +119,9 @@ fn take_rels<F: Files>(
     ensures others { OnOk result
         (KeepsOthers (table.Rel number) loading.old.graph loading.new.graph) }
     ensures tables { OnOk result (AsMany loading.old.graph.catalog loading.new.graph.catalog) }
+    ensures files { OnOk result
+        (files_of loading.new.graph.catalog ≡ files_of loading.old.graph.catalog) }
+    ensures named { NamesTable loading.old.graph.catalog result }
     ensures reads { Reads limits.now.file_bytes
         (told_of F.held F.left F.faults F.misses files.old)
         (told_of F.held F.left F.faults F.misses files.new) result }
@@ -168,6 +178,7 @@ fn read_table_file<F: Files>(
     requires { before ≤ limits.now.total_bytes }
     ensures answers { Answers (F.held files.old)
         (λ names. file_of names (is_short limits.now before) name.now) result }
+    ensures named { NamesOnly name.now result }
     ensures one { IfOk result (λ bytes. length bytes ≤ limits.now.file_bytes) }
     ensures all { IfOk result (λ bytes. before + length bytes ≤ limits.now.total_bytes) }
     ensures reads { Reads limits.now.file_bytes

@@ -3,7 +3,6 @@ pub mod Cells
 pub mod Keys
 pub mod Nodes
 pub mod Records
-pub mod Refusals
 pub mod Rels
 pub mod Tables
 pub mod steps

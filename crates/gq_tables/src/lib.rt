@@ -20,5 +20,5 @@ mod slots;
 
 pub use keys::End;
 pub use nodes::{NodeTableRows, read_nodes};
-pub use refusal::{TablePlace, TableRefusal, TableStop};
+pub use refusal::{TableRefusal, TableStop};
 pub use rels::{RelTableRows, read_rels, read_rels_within};

@@ -1,6 +1,5 @@
 //! Why the bytes of a file give no table.
 ghost use Rattle.std.specs.Prelude.{◌≡◌};
-ghost use Rattle.gq_tables.specs.Refusals.{name_of, place_of};
 ghost use Rattle.gq_tables.specs.declared.refusal.TableStop.TheVariants as stop;
 
 use gq_base::Memory;
@@ -31,17 +30,6 @@ pub enum TableRefusal {
     NotSingle { number: u32 },
 }
 
-/// Where a file is refused.
-#[derive(Clone, Copy, Debug, PartialEq, Eq)]
-pub enum TablePlace {
-    /// The file as a whole.
-    File,
-    /// The record of this number.
-    Record { number: u32 },
-    /// The field in this column of the record of this number.
-    Field { number: u32, column: u32 },
-}
-
 /// Why there is no table.
 #[derive(Clone, Copy, Debug, PartialEq, Eq)]
 pub enum TableStop {
@@ -49,41 +37,6 @@ pub enum TableStop {
     Refused(TableRefusal),
     /// There was not enough memory.
     Memory,
-}
-
-impl TableRefusal {
-    /// The name of the rule.
-    pub fn name(self) -> &'static str
-        ensures { result.now ≡ name_of self }
-    {
-        match self {
-            TableRefusal::BadHeader => "BadHeader",
-            TableRefusal::TooManyProperties => "TooManyProperties",
-            TableRefusal::TooManyRows => "TooManyRows",
-            TableRefusal::FieldCount { .. } => "FieldCount",
-            TableRefusal::BadField { .. } => "BadField",
-            TableRefusal::NullKey { .. } => "NullKey",
-            TableRefusal::NoSuchNode { .. } => "NoSuchNode",
-            TableRefusal::KeyRepeated { .. } => "KeyRepeated",
-            TableRefusal::NotSingle { .. } => "NotSingle",
-        }
-    }
-
-    /// The place that it refuses.
-    pub fn place(self) -> TablePlace
-        ensures { result ≡ place_of self }
-    {
-        match self {
-            TableRefusal::BadHeader | TableRefusal::TooManyProperties | TableRefusal::TooManyRows =>
-                TablePlace::File,
-            TableRefusal::FieldCount { number }
-            | TableRefusal::NullKey { number }
-            | TableRefusal::KeyRepeated { number }
-            | TableRefusal::NotSingle { number } => TablePlace::Record { number },
-            TableRefusal::BadField { number, column }
-            | TableRefusal::NoSuchNode { number, column } => TablePlace::Field { number, column },
-        }
-    }
 }
 
 impl From<TableRefusal> for TableStop {

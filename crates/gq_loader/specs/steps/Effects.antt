@@ -1,10 +1,13 @@
 -- What is told of the files before a part of a load and after it (this project's profile).
-use Rattle.std.specs.Prelude.{◌≡◌, ℕ, List, OnOk}
+use Rattle.std.specs.Prelude.{◌≡◌, ℕ, List, OnOk, Err}
+use Rattle.std.specs.List.{Contains}
 use Rattle.std.specs.declared.option.Option.{Option}
 use Rattle.std.specs.declared.result.Result.{Result}
 use Rattle.gq_io.specs.Outside.{Names}
-use Rattle.gq_loader.specs.Effects.{ByFault, ByMiss, ReadsFew}
+use Rattle.gq_base.specs.Catalogs.{Tables}
+use Rattle.gq_loader.specs.Effects.{ByFault, ByMiss, ReadsFew, files_of}
 use Rattle.gq_loader.specs.declared.refusal.LoadRefusal.{LoadRefusal}
+use Rattle.gq_loader.specs.declared.refusal.LoadRefusal.TheVariants as refusal
 
 -- what is told of the files at one time
 pub record Told : Type 0 where
@@ -31,3 +34,11 @@ pub record Reads {T : Type 0} (most : ℕ) (old new : Told) (result : Result T L
   pub faults : ByFault old.faults new.faults result
   pub misses : ByMiss old.misses new.misses result
   pub few : ReadsFew old.held new.left most result
+
+-- `ReadFault` names this file alone
+abbrev pub NamesOnly : {T : Type 0} → List ℕ → Result T LoadRefusal → Type 0
+NamesOnly file result = (name : List ℕ) → result ≡ Err (refusal.ReadFault name) → name ≡ file
+
+-- `ReadFault` names the file of one of these tables
+abbrev pub NamesTable : {T : Type 0} → Tables → Result T LoadRefusal → Type 0
+NamesTable tables result = (name : List ℕ) → result ≡ Err (refusal.ReadFault name) → Contains (files_of tables) name

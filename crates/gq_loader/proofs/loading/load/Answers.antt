@@ -3,6 +3,7 @@ use Rattle.std.proofs.lemmas.Result.{err_from_is_err_and}
 use Rattle.gq_loader.specs.Limits.{most_bytes}
 use Rattle.gq_loader.proofs.Effecting.{reads_less, stops_fault, stops_few, then_answers, then_reads}
 use Rattle.gq_loader.proofs.Keeping.{unread_next}
+use Rattle.gq_loader.proofs.Naming.{files_first, files_next, manifest_named, table_named}
 use Rattle.gq_loader.proofs.Rest.{meant_first, meant_next, meant_stops, numbers_stay}
 use Rattle.gq_loader.proofs.loading.load.Goals as goal
 
@@ -17,6 +18,7 @@ loop-table-init g c =
       unread = rw items (λ k d from within. b.unread k d within);
       meant = rw items (meant_first c.args.manifest.now c.args.limits.now
           (g.F.Files.held c.args.files.now) c.in_ok-loading.field-0 b.answers);
+      files = files_first (g.F.Files.held c.args.files.now) c.args.manifest.now c.in_ok-loading.field-0 b.answers;
       reads = reads_less _ (most_bytes c.args.limits.now) _ _ _ (omega arith)
           (then_answers _ _ _ _ _ b.reads (λ n e. cc) (λ n e. cc) (λ n e. cc) (λ n e. cc));
     }
@@ -27,6 +29,20 @@ returns-in_err-loading-clause-few g c =
     let reads = reads_less _ (most_bytes c.args.limits.now) _ _ _ (omega arith) c.begin.ensures.reads in
     stops_few _ _ _ c.begin.result c.from_residual.result c.in_err-loading.field-0.0
     c.in_err-loading.was (cc (p.1, p.2)) reads.few
+
+pub returns-in_err-loading-clause-named : goal.returns-in_err-loading-clause-named
+returns-in_err-loading-clause-named g c =
+    let p = err_from_is_err_and c.from_residual.result c.from_residual.ensures.1 in
+    manifest_named _ _ c.begin.result c.from_residual.result c.in_err-loading.field-0.0
+    c.in_err-loading.was (cc (p.1, p.2)) c.begin.ensures.named
+
+pub returns-in_err-take_table-clause-named : goal.returns-in_err-take_table-clause-named
+returns-in_err-take_table-clause-named g c =
+    let i = c.loop-table.invariant in
+    let p = err_from_is_err_and c.from_residual-in_err-take_table.result
+    c.from_residual-in_err-take_table.ensures.1 in
+    table_named _ _ c.loop-table.loading.graph.catalog c.take_table.result c.from_residual-in_err-take_table.result
+    c.in_err-take_table.field-0.0 c.in_err-take_table.was (cc (p.1, p.2)) i.files c.take_table.ensures.named
 
 pub returns-in_err-take_table-clause-loads : goal.returns-in_err-take_table-clause-loads
 returns-in_err-take_table-clause-loads g c =
@@ -71,6 +87,7 @@ loop-table-preserved g c =
           c.loop-table-test.true (rw items b.once) t.others i.unread;
       meant = meant_next c.args.manifest.now c.args.limits.now _ _ _ _ _ _ _ c.loop-table-test.true
           i.reads.held t.leaves i.meant;
+      files = files_next (g.F.Files.held c.args.files.now) c.args.manifest.now c.loop-table.loading.graph.catalog c.take_table.new.loading.graph.catalog t.files i.files;
       reads = then_answers _ _ _ _ _ (then_reads _ _ _ _ _ _ i.reads
           (reads_less _ (most_bytes c.args.limits.now) _ _ _ (omega arith) t.reads)) (λ n e. cc)
           (λ n e. cc) (λ n e. cc) (λ n e. cc);

@@ -5,6 +5,7 @@ use Rattle.gq_manifest.specs.declared.manifest.TableNumber.{TableNumber}
 use Rattle.gq_loader.specs.steps.Answers.{IsGoing, IsUnread}
 use Rattle.gq_loader.specs.steps.Effects.{Reads, told_of}
 use Rattle.gq_loader.specs.Limits.{most_bytes}
+use Rattle.gq_loader.proofs.Naming.{HaveFiles}
 use Rattle.gq_loader.proofs.Rest.{Meant}
 use Rattle.gq_loader.proofs.loading.load.Given as goal
 
@@ -17,6 +18,7 @@ invariant-loop-table g l = record {
       → IsUnread l.loading.graph (get_or l.table-items k d);
   meant : Meant l.manifest l.limits (g.F.Files.held l.fn.files) l.loading
       (drop l.table-index l.table-items);
+  files : HaveFiles (g.F.Files.held l.fn.files) l.manifest l.loading.graph.catalog;
   reads : Reads (most_bytes l.limits) (told_of g.F.Files.held g.F.Files.left g.F.Files.faults
       g.F.Files.misses l.fn.files) (told_of g.F.Files.held g.F.Files.left g.F.Files.faults
       g.F.Files.misses l.files) (Ok l.loading);
