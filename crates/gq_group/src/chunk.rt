@@ -17,16 +17,51 @@ use gq_store::Graph;
 /// relationships that builds keep.
 #[derive(Clone, Copy)]
 pub struct Chunk<'c, 'g> {
-    pub groups: &'c [Group<'g>],
-    /// Where the variables live.
-    pub homes: &'c Homes,
-    /// The slots of the columns, by the columns' numbers.
-    pub slots: &'c [Slot],
-    /// The pool that these slots are out of.
-    pub pool: &'c VectorPool,
+    pub(crate) groups: &'c [Group<'g>],
+    // Where the variables live.
+    homes: &'c Homes,
+    // The slots of the columns, by the columns' numbers.
+    slots: &'c [Slot],
+    // The pool that these slots are out of.
+    pool: &'c VectorPool,
 }
 
 impl<'c, 'g> Chunk<'c, 'g> {
+    /// A chunk of groups that are some, in which each variable has a home that can be read.
+    pub fn new(
+        groups: &'c [Group<'g>],
+        homes: &'c Homes,
+        slots: &'c [Slot],
+        pool: &'c VectorPool,
+    ) -> Chunk<'c, 'g>
+        requires { IsChunk (record { groups = groups; homes = homes; slots = slots; pool = pool }) }
+        ensures groups { result.groups.now ≡ groups.now }
+        ensures homes { result.homes.now ≡ homes.now }
+        ensures slots { result.slots.now ≡ slots.now }
+        ensures pool { result.pool.now ≡ pool.now }
+    {
+        Chunk {
+            groups,
+            homes,
+            slots,
+            pool,
+        }
+    }
+
+    /// Where the variables live.
+    pub fn homes(&self) -> &'c Homes
+        ensures { result.now ≡ self.now.homes.now }
+    {
+        self.homes
+    }
+
+    /// The groups.
+    pub fn groups(&self) -> &'c [Group<'g>]
+        ensures { result.now ≡ self.now.groups.now }
+    {
+        self.groups
+    }
+
     /// How many groups there are.
     pub fn group_count(&self) -> u32
         requires { IsChunk self.now }
