@@ -21,7 +21,7 @@ use Rattle.gq_filter.specs.steps.RowLists.{cells_at, feed_cell}
 use Rattle.gq_filter.specs.steps.SpanLanes.{AreSpanned, IsSpanned, span_cell}
 
 -- the row that was put in
-put_in : (nodes : List ℕ) (variable row : ℕ) → variable < length nodes → slice_get (slice_set nodes variable row) variable ≡ Some row
+pub put_in : (nodes : List ℕ) (variable row : ℕ) → variable < length nodes → slice_get (slice_set nodes variable row) variable ≡ Some row
 put_in nodes variable row inside =
     (let long : variable < length (slice_set nodes variable row) = (let same = length-set nodes variable row in omega (arith, inside, same)) in
     slice_get-get_or (slice_set nodes variable row) variable 0 long ∙ ap Some (get_or-set_same nodes variable row 0 inside))

@@ -1,16 +1,20 @@
 //! Conditions that are decided row by row: by the columns of what they read where lanes or a text
 //! can decide them, and else by evaluating them.
-ghost use Rattle.std.specs.Prelude.{◌≡◌, ◌≤◌, ◌<◌, ◌-◌, ◌&&◌, ℕ, IfOk, IsTrue, false, length};
+ghost use Rattle.std.specs.Prelude.{◌≡◌, ◌≤◌, ◌<◌, ◌-◌, ◌&&◌, ℕ, IfOk, IfSome, IsTrue, false, length};
+ghost use Rattle.std.specs.Prelude.{true};
 ghost use Rattle.gq_bits.specs.Places.{is_marked};
+ghost use Rattle.gq_filter.specs.Equal.{HaveOne};
 ghost use Rattle.gq_filter.specs.RowTests.{condition_over, conditions_of, is_true_of, ReadsRows};
 ghost use Rattle.gq_filter.specs.Rows.{count_in, row_in, with_row};
 ghost use Rattle.gq_filter.specs.steps.Evaluating.{Evaluates, is_true};
 ghost use Rattle.gq_filter.specs.steps.RowCells.{AreFeedsIn, AreOfNodes, DecidesRows};
 ghost use Rattle.gq_filter.specs.steps.SpanLanes.{AreSpanned, IsSpanned};
 ghost use Rattle.gq_plan.specs.Soundness.{IsSound};
+ghost use Rattle.gq_plan.specs.declared.assignment.Assignment.{Assignment};
 
 use crate::cells::holds_at;
 use crate::conditions::compile;
+use crate::equalities::{EqualColumns, equal_columns};
 use crate::feeds::Feed;
 use crate::kernels::keep_lanes;
 use crate::lane_test::LaneTest;
@@ -19,7 +23,7 @@ use crate::row_cells::RowCells;
 use crate::row_feeds::add_feeds;
 use crate::rows::Rows;
 use crate::span_lanes::SpanLanes;
-use crate::text_test::{TextTest, text_test};
+use crate::text_test::{CodeSet, TextTest, code_count, text_test};
 use gq_base::{Memory, Value};
 use gq_bits::{Marks, VECTOR};
 use gq_eval::Evaluator;
@@ -44,6 +48,8 @@ pub struct RowTest<'g> {
     evaluator: Option<Evaluator<'g>>,
     // What is remembered of the test of lanes.
     recall: Recall,
+    // What is remembered of the texts of the test of a text.
+    tried: CodeSet,
 }
 
 impl<'g> Model for RowTest<'g> {
@@ -53,7 +59,7 @@ impl<'g> Model for RowTest<'g> {
     ghost use Rattle.gq_filter.specs.steps.Evaluating.{Evaluates};
     ghost use Rattle.gq_filter.specs.steps.Recalling.{TellsOf};
     ghost use Rattle.gq_filter.specs.steps.RowCells.{AreInside, DecidesRows};
-    ghost use Rattle.gq_filter.specs.steps.Texts.{TextDecides};
+    ghost use Rattle.gq_filter.specs.steps.Texts.{AreKnown, TextDecides};
 
     ghost Value = { RowCondition };
 
@@ -69,7 +75,8 @@ impl<'g> Model for RowTest<'g> {
         × DecidesRows t.graph.now t.typed.now t.condition.now t.feeds.items t.test
         × TextDecides t.graph.now t.typed.now t.condition.now t.text
         × Evaluates t.graph.now t.condition.now t.test t.text t.evaluator
-        × TellsOf t.feeds.items t.test t.recall.passed.told };
+        × TellsOf t.feeds.items t.test t.recall.passed.told
+        × AreKnown t.text t.tried.known };
 }
 
 impl<'g> RowTest<'g> {
@@ -98,6 +105,7 @@ impl<'g> RowTest<'g> {
             text,
             evaluator,
             recall: Recall::none(alloc),
+            tried: CodeSet::none(alloc),
         })
     }
 
@@ -115,6 +123,25 @@ impl<'g> RowTest<'g> {
         }
         match Recall::with_room(alloc, rows) {
             Ok(recall) => self.recall = recall,
+            Err(_) => return 0,
+        }
+        pieces
+    }
+
+    /// From now on it is remembered which texts have the part that the condition asks for, where it
+    /// asks for one, where they are of at most so many pieces, and where the memory is there, which is
+    /// taken here. It answers how many pieces that is for.
+    pub fn remember_texts(&mut self, alloc: Global, room: u32) -> u32
+        ensures same { self.new ≡ self.old }
+        ensures within { result ≤ room }
+    {
+        let count = code_count(&self.text);
+        let pieces = count.div_ceil(VECTOR);
+        if pieces > room {
+            return 0;
+        }
+        match CodeSet::with_room(alloc, count) {
+            Ok(tried) => self.tried = tried,
             Err(_) => return 0,
         }
         pieces
@@ -142,6 +169,18 @@ impl<'g> RowTest<'g> {
         self.test.is_some() && are_of_nodes(self.feeds.as_slice())
     }
 
+    /// Properties of two node variables that are known and equal wherever the condition is true, if
+    /// lanes decide it and it is seen to ask for that.
+    pub fn equal_columns(&self) -> Option<EqualColumns<'g>>
+        ensures { IfSome result (λ e. (row : Assignment) → is_true_of self.now row ≡ true
+            → HaveOne e row) }
+    {
+        match &self.test {
+            None => None,
+            Some(test) => equal_columns(test, self.feeds.as_slice()),
+        }
+    }
+
     /// Whether the condition is true of rows and load numbers. It takes no memory.
     pub fn passes(&self, row: &Assignment) -> bool
         ensures { result ≡ is_true_of self.now row.now }
@@ -156,7 +195,7 @@ impl<'g> RowTest<'g> {
                 holds_at(test, &cells)
             }
             None => match &self.text {
-                Some(text) => text.passes(row),
+                Some(text) => text.passes(&self.tried, row),
                 None => {
                     let typed_row = TypedRow {
                         typed: self.typed,
@@ -192,7 +231,7 @@ impl RowTest<'_> {
     {
         match rows {
             Rows::List(list) => match &self.test {
-                None => self.keep_each(variable, rows, row, marks),
+                None => self.keep_ahead(variable, rows, row, marks),
                 Some(test) => {
                     let feeds = self.feeds.as_slice();
                     // Where all lanes are of this variable, no row has to be put in.
@@ -204,7 +243,7 @@ impl RowTest<'_> {
                 }
             },
             Rows::Span { low, high } => match &self.test {
-                None => self.keep_each(variable, rows, row, marks),
+                None => self.keep_ahead(variable, rows, row, marks),
                 Some(test) => {
                     let feeds = self.feeds.as_slice();
                     if low <= high && are_spanned(feeds, variable, high) {
@@ -215,6 +254,39 @@ impl RowTest<'_> {
                     }
                 }
             },
+        }
+    }
+
+    // The same where lanes do not decide: by a text of the variable, or row by row.
+    fn keep_ahead(&mut self, variable: u32, rows: Rows<'_>, row: &mut Assignment, marks: &mut Marks)
+        requires few { count_in rows ≤ VECTOR }
+        requires variable { variable < length row.old.nodes }
+        requires within { (k : ℕ) → count_in rows ≤ k → is_marked marks.old k ≡ false }
+        ensures kept { (k : ℕ) → is_marked marks.new k ≡ (is_marked marks.old k
+            && is_true_of self.old (with_row variable (row_in rows.entry k) row.old)) }
+        ensures row { row.new ≡ row.old }
+        ensures same { self.new ≡ self.old }
+    {
+        self.ask_codes(marks);
+        match &self.text {
+            None => self.keep_each(variable, rows, row, marks),
+            Some(text) => {
+                if text.is_of(variable) {
+                    text.keep(&self.tried, rows, marks);
+                } else {
+                    self.keep_each(variable, rows, row, marks);
+                }
+            }
+        }
+    }
+
+    // The marked rows are asked for.
+    fn ask_codes(&mut self, marks: &Marks)
+        ensures { self.new ≡ self.old }
+    {
+        match &self.text {
+            None => {}
+            Some(text) => self.tried.ask(text, marks),
         }
     }
 

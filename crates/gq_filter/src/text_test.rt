@@ -1,23 +1,38 @@
-//! Conditions on a text of a node: that it ends with a literal, or has it as a part.
-ghost use Rattle.std.specs.Prelude.{◌≡◌, ◌∷◌, ◌<◌, [], IfSome, length, slice_get};
+//! Conditions on a text of a node: that it ends with a literal, or has it as a part. Once many rows
+//! were asked for, it is found out of all texts, as they stand side by side, and remembered.
+ghost use Rattle.std.specs.Prelude.{◌≡◌, ◌∷◌, ◌<◌, ◌≤◌, ◌-◌, ◌+◌, ◌&&◌, ℕ, [], IfOk, IfSome, IsTrue};
+ghost use Rattle.std.specs.Prelude.{false, length};
+ghost use Rattle.gq_bits.specs.Places.{is_marked};
+ghost use Rattle.gq_column.specs.Cells.{cell_at};
+ghost use Rattle.gq_dict.specs.Texts.{text_at};
 ghost use Rattle.gq_expr.specs.Operators.{occurs};
-ghost use Rattle.gq_filter.specs.steps.RowCells.{cell_in};
-ghost use Rattle.gq_filter.specs.steps.Texts.{code_in, is_in, tester_of, text_passes, TextDecides};
+ghost use Rattle.gq_filter.specs.Rows.{count_in, row_in};
+ghost use Rattle.gq_filter.specs.steps.Texts.{IsKnown, TextDecides};
+ghost use Rattle.gq_filter.specs.steps.Texts.{code_in, is_in, row_passes, tester_of, text_passes};
 ghost use Rattle.gq_plan.specs.Soundness.{IsSound};
+ghost use Rattle.gq_row_sets.specs.Rows.{nothing_told};
 
 use crate::conditions::text_of;
 use crate::feeds::node_feed;
 use crate::row_cells::cell_at;
-use gq_base::{Kind, Text};
+use crate::rows::Rows;
+use gq_base::{Kind, Memory, Text};
+use gq_bits::{Marks, VECTOR};
 use gq_column::Column;
 use gq_dict::Dict;
 use gq_expr::{Expr, ExprTester, Tester};
 use gq_plan::{Assignment, NamedExpr, Typed};
+use gq_row_sets::RowSet;
 use gq_store::Graph;
 use memchr::memmem::Finder;
+use std::alloc::Global;
 
 // A text of so many bytes or fewer is searched place by place: a finder takes longer to begin.
 const SHORT: usize = 48;
+
+// To try so many codes takes about as long as to decide a row by its text: the texts of codes stand
+// side by side, where a row waits for the bytes of its own.
+const AHEAD: u32 = 8;
 
 /// A text property of a node variable, and what its text is to have.
 #[derive(Drop)]
@@ -35,25 +50,159 @@ enum Part<'g> {
     Inner(Finder<'g>),
 }
 
-impl TextTest<'_> {
-    /// Whether the text of the variable's node in a row is there and has the part.
-    pub(crate) fn passes(&self, row: &Assignment) -> bool
-        ensures { result ≡ text_passes self.now row.now }
+/// Which of the texts of a dictionary pass a test. Up to as many rows as an eighth of the texts are
+/// decided text by text, so that a statement that asks for few rows, or stops early, tries no others.
+/// Then all texts are tried, and from then on no row has to look at its text.
+#[derive(Drop)]
+pub(crate) struct CodeSet {
+    pub(crate) known: RowSet,
+    // How many rows are left to be asked for before the texts are tried.
+    left: u32,
+}
+
+impl CodeSet {
+    /// Nothing is known, and nothing will be.
+    pub(crate) fn none(alloc: Global) -> CodeSet
+        ensures { result.known ≡ nothing_told 0 }
     {
-        match self.code(row) {
-            None => false,
-            Some(code) => is_in(&self.part, self.dict.text(code)),
+        CodeSet {
+            known: RowSet::none(alloc),
+            left: 0,
         }
     }
 
-    // The code of the text of the variable's node.
-    fn code(&self, row: &Assignment) -> Option<u32>
+    /// Nothing is known yet. The memory for so many codes is taken.
+    pub(crate) fn with_room(alloc: Global, codes: u32) -> Result<CodeSet, Memory>
+        ensures { IfOk result (λ s. s.known ≡ nothing_told codes) }
+    {
+        let known = RowSet::with_room(alloc, codes)?;
+        let left = codes / AHEAD;
+        Ok(CodeSet { known, left })
+    }
+
+    /// The marked rows are asked for: tries all codes where enough were before. It takes no memory.
+    pub(crate) fn ask(&mut self, test: &TextTest<'_>, marks: &Marks)
+        requires { IsKnown test.now self.old.known }
+        ensures { IsKnown test.now self.new.known }
+    {
+        if self.known.told() == self.known.next_end() {
+            return;
+        }
+        if self.left > 0 {
+            self.left = self.left.saturating_sub(marks.count());
+            return;
+        }
+        'pieces: for _ in 0..test.dict.len().div_ceil(VECTOR) {
+            try_codes(&mut self.known, test);
+        }
+    }
+}
+
+// Tries the codes of the next piece.
+fn try_codes(known: &mut RowSet, test: &TextTest<'_>)
+    requires { IsKnown test.now known.old }
+    ensures { IsKnown test.now known.new }
+{
+    let low = known.told();
+    let high = known.next_end();
+    let marks = marks_of(&test.part, test.dict, low, high);
+    let _ = known.tell(marks);
+}
+
+// Which of the texts from one code on have a part.
+fn marks_of(part: &Part<'_>, dict: &Dict, low: u32, high: u32) -> Marks
+    requires ordered { low ≤ high }
+    requires few { high - low ≤ VECTOR }
+    requires inside { high ≤ length dict.now }
+    ensures { (k : ℕ) → k < high - low
+        → is_marked result k ≡ is_in part.now (text_at dict.now (low + k)) }
+{
+    let mut marks = Marks::first(0);
+    for place in 0..high - low {
+        let has = is_in(part, dict.text(low + place));
+        marks.set(place, has);
+    }
+    marks
+}
+
+/// How many codes the dictionary of a test has, if there is a test.
+pub(crate) fn code_count(test: &Option<TextTest<'_>>) -> u32
+    ensures { IfSome test.now (λ t. result ≡ length t.dict.now) }
+{
+    match test {
+        None => 0,
+        Some(test) => test.dict.len(),
+    }
+}
+
+impl TextTest<'_> {
+    /// Whether the test is of the text of a node variable.
+    pub(crate) fn is_of(&self, variable: u32) -> bool
+        ensures { IsTrue result → self.now.variable ≡ variable }
+    {
+        self.variable == variable
+    }
+
+    /// Whether the text of the variable's node in a row is there and has the part.
+    pub(crate) fn passes(&self, codes: &CodeSet, row: &Assignment) -> bool
+        requires { IsKnown self.now codes.now.known }
+        ensures { result ≡ text_passes self.now row.now }
+    {
+        match row.nodes.get(self.variable as usize) {
+            None => false,
+            Some(node) => self.passes_row(codes, *node),
+        }
+    }
+
+    /// Keeps the marked places at whose row of the variable the text is there and has the part.
+    pub(crate) fn keep(&self, codes: &CodeSet, rows: Rows<'_>, marks: &mut Marks)
+        requires known { IsKnown self.now codes.now.known }
+        requires few { count_in rows ≤ VECTOR }
+        requires within { (k : ℕ) → count_in rows ≤ k → is_marked marks.old k ≡ false }
+        ensures { (k : ℕ) → is_marked marks.new k ≡ (is_marked marks.old k
+            && row_passes self.now (row_in rows.entry k)) }
+    {
+        for place in 0..rows.len() {
+            if !marks.get(place) {
+                continue;
+            }
+            if !self.passes_row(codes, rows.row(place)) {
+                marks.set(place, false);
+            }
+        }
+    }
+
+    // Whether the text of a row of the variable is there and has the part.
+    fn passes_row(&self, codes: &CodeSet, row: u32) -> bool
+        requires { IsKnown self.now codes.now.known }
+        ensures { result ≡ row_passes self.now row }
+    {
+        match self.code(row) {
+            None => false,
+            Some(code) => self.passes_code(codes, code),
+        }
+    }
+
+    // Whether the text of a code has the part.
+    fn passes_code(&self, codes: &CodeSet, code: u32) -> bool
+        requires known { IsKnown self.now codes.now.known }
+        requires within { code < length self.now.dict.now }
+        ensures { result ≡ is_in self.now.part (text_at self.now.dict.now code) }
+    {
+        let told = codes.known.told();
+        if code < told {
+            return codes.known.has(code);
+        }
+        is_in(&self.part, self.dict.text(code))
+    }
+
+    // The code of the text of a row of the variable.
+    fn code(&self, row: u32) -> Option<u32>
         ensures value { result ≡ code_in (length self.now.dict.now)
-            (cell_in self.now.column.now (slice_get row.now.nodes self.now.variable)) }
+            (cell_at self.now.column.now row) }
         ensures within { IfSome result (λ code. code < length self.now.dict.now) }
     {
-        let node = *row.nodes.get(self.variable as usize)?;
-        let cell = cell_at(self.column, node)?;
+        let cell = cell_at(self.column, row)?;
         code_in(self.dict.len(), cell)
     }
 }

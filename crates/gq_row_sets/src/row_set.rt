@@ -117,8 +117,8 @@ impl RowSet {
         mask
     }
 
-    // Whether a row is in the set.
-    fn has(&self, row: u32) -> bool
+    /// Whether a row is in the set.
+    pub fn has(&self, row: u32) -> bool
         requires { row < length self.now.told }
         ensures { result ≡ is_marked self.now.told row }
     {

@@ -1,8 +1,10 @@
 -- Tests of a text of a node.
-use Rattle.std.specs.Prelude.{ℕ, ℤ, pos, negsuc, ◌≡◌, Bool, false, nat_eq, nat_lt, if◌then◌else◌, List, Option, Some, None, IfSome, length, slice_get}
+use Rattle.std.specs.Prelude.{ℕ, ℤ, pos, negsuc, ◌≡◌, ◌<◌, ◌≤◌, Bool, false, nat_eq, nat_lt, if◌then◌else◌, List, Option, Some, None, IfSome, length, slice_get}
 use Rattle.std.specs.List.{ends_with}
 use Rattle.gq_base.specs.Plain.{Graph}
 use Rattle.gq_base.specs.declared.Literal.TheVariants.{Str}
+use Rattle.gq_bits.specs.Places.{is_marked}
+use Rattle.gq_column.specs.Cells.{cell_at}
 use Rattle.gq_dict.specs.Texts.{text_at}
 use Rattle.gq_expr.specs.Operators.{occurs}
 use Rattle.gq_expr.specs.declared.expr.Expr.{Expr}
@@ -14,6 +16,7 @@ use Rattle.gq_plan.specs.Rows.{as_read}
 use Rattle.gq_plan.specs.declared.assignment.Assignment.{Assignment}
 use Rattle.gq_plan.specs.declared.bound.NamedExpr.{NamedExpr}
 use Rattle.gq_plan.specs.declared.typed.Typed.{Typed}
+use Rattle.gq_row_sets.specs.Rows.{RowsTold}
 use Rattle.gq_filter.specs.declared.text_test.Part.{Part}
 use Rattle.gq_filter.specs.declared.text_test.Part.TheVariants.{End, Inner}
 use Rattle.gq_filter.specs.declared.text_test.TextTest.{TextTest}
@@ -39,6 +42,10 @@ abbrev pub coded_passes : List (List ℕ) → Part → Option ℕ → Bool
 coded_passes dict part None = false
 coded_passes dict part (Some code) = is_in part (text_at dict code)
 
+-- the text of a row of the variable is there and has the part
+abbrev pub row_passes : TextTest → ℕ → Bool
+row_passes t row = coded_passes t.dict.now t.part (code_in (length t.dict.now) (cell_at t.column.now row))
+
 -- the text of the variable's node in a row is there and has the part
 abbrev pub text_passes : TextTest → Assignment → Bool
 text_passes t row = coded_passes t.dict.now t.part (code_in (length t.dict.now) (cell_in t.column.now (slice_get row.nodes t.variable)))
@@ -46,3 +53,12 @@ text_passes t row = coded_passes t.dict.now t.part (code_in (length t.dict.now) 
 -- a test, if there is one, holds in exactly the rows in which a condition is true
 abbrev pub TextDecides : Graph → Typed → NamedExpr → Option TextTest → Type 0
 TextDecides g y condition test = IfSome test (λ t. (row : Assignment) → text_passes t row ≡ passes g (as_read y row) condition)
+
+-- of the first codes of the dictionary it is told whether their texts have the part
+pub record IsKnown (t : TextTest) (s : RowsTold) : Type 0 where
+  pub few : s.rows ≤ length t.dict.now
+  pub tells : (code : ℕ) → code < length s.told → is_marked s.told code ≡ is_in t.part (text_at t.dict.now code)
+
+-- the same of a test that may be there
+abbrev pub AreKnown : Option TextTest → RowsTold → Type 0
+AreKnown test s = IfSome test (λ t. IsKnown t s)

@@ -21,7 +21,7 @@ invariant_of-self c =
     let i = c.self.inside in
     let told = c.keep.new.self.passed.told in
     let at_items = subst (λ (feeds : List Feed). TellsTest feeds c.in-Some.test told) c.as_slice-feeds.ensures.value c.keep.ensures.tells in
-    (c.self.invariant.0, c.self.invariant.1, c.self.invariant.2, c.self.invariant.3, subst {A = Option LaneTest} (λ t. TellsOf i.feeds.items t told) (sym c.in-Some.is) at_items)
+    (c.self.invariant.0, c.self.invariant.1, c.self.invariant.2, c.self.invariant.3, subst {A = Option LaneTest} (λ t. TellsOf i.feeds.items t told) (sym c.in-Some.is) at_items, c.self.invariant.5)
 
 pub returns-then-are_spanned-clause-kept : goal.returns-then-are_spanned-clause-kept
 returns-then-are_spanned-clause-kept c =
@@ -34,11 +34,11 @@ returns-then-are_spanned-clause-kept c =
 
 pub returns-then-are_spanned-2-clause-kept : goal.returns-then-are_spanned-2-clause-kept
 returns-then-are_spanned-2-clause-kept c =
-    let i = c.self.inside in
-    let at_items = subst {A = Option LaneTest} (DecidesRows i.graph.now i.typed.now i.condition.now i.feeds.items) c.in-Some-test.is c.self.invariant.1 in
+    let i = c.self-in-Span.inside in
+    let at_items = subst {A = Option LaneTest} (DecidesRows i.graph.now i.typed.now i.condition.now i.feeds.items) c.in-Some-test.is c.self-in-Span.invariant.1 in
     let decides = subst (λ (feeds : List Feed). DecidesRows i.graph.now i.typed.now i.condition.now feeds (Some c.in-Some-test.test)) (sym c.as_slice-feeds-in-Some-test.ensures.value) at_items in
     let within : (k : ℕ) → c.in-Span.high - c.in-Span.low ≤ k → is_marked c.args.marks.now k ≡ false =
     subst (λ (r : Rows). (k : ℕ) → count_in r ≤ k → is_marked c.args.marks.now k ≡ false) c.in-Span.is c.requires.within in
-    λ k. subst (λ (s : RowCondition). is_marked c.keep_lanes.new.marks k ≡ (is_marked c.args.marks.now k && is_true_of s (with_row c.args.variable (row_in c.args.rows k) c.args.row.now))) c.self.view_is
+    λ k. subst (λ (s : RowCondition). is_marked c.keep_lanes.new.marks k ≡ (is_marked c.args.marks.now k && is_true_of s (with_row c.args.variable (row_in c.args.rows k) c.args.row.now))) c.self-in-Span.view_is
     (subst (λ (r : Rows). is_marked c.keep_lanes.new.marks k ≡ (is_marked c.args.marks.now k && is_true_of (record { graph = i.graph.now; typed = i.typed.now; condition = i.condition.now }) (with_row c.args.variable (row_in r k) c.args.row.now))) (sym c.in-Span.is)
     (span_kept i.graph.now i.typed.now i.condition.now c.as_slice-feeds-in-Some-test.result.now _ decides c.args.variable c.in-Span.low c.in-Span.high (c.are_spanned-then-low-high.ensures c.if-are_spanned-2.true) c.args.row.now c.requires.variable c.args.marks.now c.keep_lanes.new.marks within c.keep_lanes.ensures k))

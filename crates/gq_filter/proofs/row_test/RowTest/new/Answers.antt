@@ -1,4 +1,5 @@
 use Rattle.std.proofs.Common.{subst}
+use Rattle.gq_filter.proofs.Codes.{known_none, no_codes}
 use Rattle.gq_filter.specs.steps.RowCells.{DecidesRows}
 use Rattle.gq_filter.proofs.Recalled.{tells_none}
 use Rattle.gq_filter.proofs.RowLanes.{all_inside}
@@ -11,4 +12,5 @@ invariant_of-result c = (
   c.text_test-text.ensures,
   c.in_ok-evaluator.ensures,
   tells_none c.add_feeds.new.feeds.items c.in_ok-test.test c.none.result.passed.told c.none.ensures,
+  known_none c.text_test-text.result 0 c.none-2.result.known (no_codes c.text_test-text.result) c.none-2.ensures,
 )
