@@ -1,5 +1,5 @@
--- The steps of a plan stand in its groups by its places, also where column closes count as the later of their ends.
-use Rattle.std.proofs.Common.{◌≡◌, ◌∙◌, ◌<◌, ◌≤◌, ◌+◌, ap, ap₂, sym, refl, ℕ, zero, suc, Bool, true, false, not, cond, ◌&&◌, Option, Some, List, [], ◌∷◌, ◌++◌, append_assoc, append-nil, length, length-append, slice_get, nat_eq, flat_map, subst, arith}
+-- The steps of a plan whose column closes run in halves stand in its groups by its places.
+use Rattle.std.proofs.Common.{◌≡◌, ◌∙◌, ◌<◌, ◌≤◌, ◌+◌, ap, ap₂, sym, refl, ℕ, zero, suc, Bool, true, false, cond, Option, Some, List, [], ◌∷◌, ◌++◌, append_assoc, append-nil, length, length-append, slice_get, nat_eq, flat_map, subst, arith}
 use Rattle.std.specs.List.{AllByRecursion}
 use Rattle.std.specs.Option.{option_to_list}
 use Rattle.std.proofs.lemmas.Bool.{and_parts, eqb-true}
@@ -7,45 +7,20 @@ use Rattle.gq_base.specs.Catalogs.{Tables}
 use Rattle.gq_law_groups.specs.Groups.{Group, makes_group, checked, cut_from}
 use Rattle.gq_law_groups.specs.Order.{NoGroups, BindsAt, StandsAt, AllAt, InOrder, Flats, FlatsOf}
 use Rattle.gq_law_groups.proofs.Shaped.{in_first, in_second}
-use Rattle.gq_plan.specs.Arranged.{at_step, at_after, home, homes, numbers_at, at_numbers}
+use Rattle.gq_plan.proofs.Halved.{is_half}
+use Rattle.gq_plan.specs.Arranged.{home, homes, numbers_at, at_numbers}
 use Rattle.gq_plan.specs.Columns.{steps_of}
-use Rattle.gq_plan.specs.Covers.{after, after_step, fits, fits_step}
-use Rattle.gq_plan.specs.Known.{Known, none}
-use Rattle.gq_plan.specs.Plans.{Plan, Done, Then, Step, Scan, Extend, Close, Join, Keep, Differ, NoLoop, steps}
-use Rattle.gq_plan.specs.Shapes.{Places, put, put_all, place_step, form_of, next_group, tested, last_of, flat_by, all_flat}
+use Rattle.gq_plan.specs.Covers.{after_step}
+use Rattle.gq_plan.specs.Halves.{runs_step, runs}
+use Rattle.gq_plan.specs.Known.{Known}
+use Rattle.gq_plan.specs.Plans.{Plan, Done, Then, Step, steps}
+use Rattle.gq_plan.specs.Shapes.{Places, place_step, places_after, form_of, next_group, flat_by, all_flat}
 use Rattle.gq_plan.specs.Soundness.{has_number}
 use Rattle.gq_plan.specs.declared.typed.Typed.{Typed}
 use Rattle.gq_arrange.proofs.Between.{of, between}
 use Rattle.gq_arrange.proofs.Homes.{binds_home, stands_home}
 use Rattle.gq_arrange.proofs.Running.{marks, count_next}
 use Rattle.gq_arrange.proofs.Sorting.{Begins}
-
--- ---- the places of a plan, and those in which column closes count as the later of their ends
-
--- nodes stand in the same groups
-pub record HaveSame (a b : Places) : Type 0 where
-  pub count : a.count ≡ b.count
-  pub nodes : a.nodes ≡ b.nodes
-
-same_step : (s : Step) (a b : Places) → HaveSame a b → HaveSame (at_step true s a) (at_step false s b)
-unfolding place_step
-same_step (Scan v) a b h = record { count = ap (λ c. c + 1) h.count; nodes = ap₂ (λ (c : ℕ) (f : ℕ → ℕ). put v c f) h.count h.nodes }
-same_step (Extend true x from to way) a b h = record { count = h.count; nodes = ap (λ (f : ℕ → ℕ). put to (f from) f) h.nodes }
-same_step (Extend false x from to way) a b h = record { count = ap (λ c. c + 1) h.count; nodes = ap₂ (λ (c : ℕ) (f : ℕ → ℕ). put to c f) h.count h.nodes }
-same_step (Close true x from to way) a b h = record { count = h.count; nodes = h.nodes }
-same_step (Close false x from to way) a b h = record { count = ap (λ c. c + 1) h.count; nodes = h.nodes }
-same_step (Join side keys) a b h = record {
-  count = ap (λ c. c + 1) h.count;
-  nodes = ap₂ (λ (c : ℕ) (f : ℕ → ℕ). put_all (λ v. (after side none).nodes v && not (has_number keys v)) c f) h.count h.nodes;
-}
-same_step (Keep i) a b h = h
-same_step (Differ d) a b h = h
-same_step (NoLoop x) a b h = h
-
-pub same_after : (p : Plan) (a b : Places) → HaveSame a b → HaveSame (at_after true p a) (at_after false p b)
-unfolding at_after
-same_after Done a b h = h
-same_after (Then s p) a b h = same_after p (at_step true s a) (at_step false s b) (same_step s a b h)
 
 -- ---- where steps stand
 
@@ -58,40 +33,20 @@ pub record IsAt (y : Typed) (u : Places) (flat : ℕ → Bool) (g : ℕ) (s : St
 abbrev pub AreAt : Typed → Places → (ℕ → Bool) → List (ℕ × Step) → Type 0
 AreAt y u flat ms = AllByRecursion (λ m. IsAt y u flat m.0 m.1) ms
 
-pub all_at : (catalog : Tables) (y : Typed) (late : Bool) (u : Places) (flat : ℕ → Bool) (p : Plan) (k : Known) (q : Places) → fits catalog y p k ≡ true → at_after late p q ≡ u
+pub all_at : (catalog : Tables) (y : Typed) (u : Places) (flat : ℕ → Bool) (p : Plan) (k : Known) (q : Places) → AllByRecursion (λ s. is_half s ≡ true) (steps_of p) → runs catalog y p k ≡ true → places_after p q ≡ u
     → ((j : ℕ) → has_number (all_flat y u p) j ≡ true → flat j ≡ true) → AreAt y u flat (marks y u q.count p)
-unfolding fits at_after marks all_flat
-all_at catalog y late u flat Done k q fit e asks = tt
-all_at catalog y late u flat (Then s p) k q fit e asks =
-    let parts = and_parts (fits_step catalog y s k) (fits catalog y p (after_step s k)) fit in (
+unfolding runs places_after marks all_flat
+all_at catalog y u flat Done k q whole fit e asks = tt
+all_at catalog y u flat (Then s p) k q whole fit e asks =
+    let parts = and_parts (runs_step catalog y s k) (runs catalog y p (after_step s k)) fit in (
       record {
-        binds = subst (λ (w : Places). BindsAt y w (home y w q.count s) s) e (binds_home catalog y late p k q s fit);
+        binds = subst (λ (w : Places). BindsAt y w (home y w q.count s) s) e (binds_home catalog y p k q s whole.0 fit);
         stands = λ small. stands_home catalog y u q.count s small;
         asks = λ j h. asks j (in_first (flat_by y u s) (all_flat y u p) j h);
       },
-      subst (λ c. AreAt y u flat (marks y u c p)) (sym (count_next late s q))
-          (all_at catalog y late u flat p (after_step s k) (at_step late s q) parts.1 e (λ j h. asks j (in_second (flat_by y u s) (all_flat y u p) j h))),
+      subst (λ c. AreAt y u flat (marks y u c p)) (sym (count_next s q))
+          (all_at catalog y u flat p (after_step s k) (place_step s q) whole.1 parts.1 e (λ j h. asks j (in_second (flat_by y u s) (all_flat y u p) j h))),
     )
-
--- where each test's latest group is the same by both places, so is each step's group
-abbrev pub AreSame : Typed → Places → Places → List Step → Type 0
-AreSame y a b ss = AllByRecursion (λ s. last_of (tested y a s) ≡ last_of (tested y b s)) ss
-
-home_same : (y : Typed) (a b : Places) → a.nodes ≡ b.nodes → (i : ℕ) (s : Step) → last_of (tested y a s) ≡ last_of (tested y b s) → home y a i s ≡ home y b i s
-home_same y a b e i (Scan v) h = refl
-home_same y a b e i (Extend true x from to way) h = ap (λ (f : ℕ → ℕ). f from) e
-home_same y a b e i (Extend false x from to way) h = refl
-home_same y a b e i (Close true x from to way) h = h
-home_same y a b e i (Close false x from to way) h = refl
-home_same y a b e i (Join side keys) h = refl
-home_same y a b e i (Keep n) h = h
-home_same y a b e i (Differ d) h = h
-home_same y a b e i (NoLoop x) h = h
-
-pub marks_same : (y : Typed) (a b : Places) → a.nodes ≡ b.nodes → (i : ℕ) (p : Plan) → AreSame y a b (steps_of p) → marks y a i p ≡ marks y b i p
-unfolding marks
-marks_same y a b e i Done h = refl
-marks_same y a b e i (Then s p) h = ap₂ (λ (g : ℕ) (ms : List (ℕ × Step)). (g, s) ∷ ms) (home_same y a b e i s h.0) (marks_same y a b e (next_group i (form_of s)) p h.1)
 
 -- ---- the groups that are cut
 
@@ -147,7 +102,7 @@ module _ (y : Typed) (u : Places) (flat : ℕ → Bool) (ms : List (ℕ × Step)
 
 -- ---- steps by their numbers
 
-at_append : (ss : List Step) (ms ns : List ℕ) → at_numbers ss (ms ++ ns) ≡ at_numbers ss ms ++ at_numbers ss ns
+pub at_append : {X : Type 0} (ss : List X) (ms ns : List ℕ) → at_numbers ss (ms ++ ns) ≡ at_numbers ss ms ++ at_numbers ss ns
 at_append ss [] ns = refl
 at_append ss (m ∷ ms) ns = ap (λ l. option_to_list (slice_get ss m) ++ l) (at_append ss ms ns) ∙ sym (append_assoc (option_to_list (slice_get ss m)) (at_numbers ss ms) (at_numbers ss ns))
 

@@ -9,7 +9,8 @@ use Rattle.gq_law_groups.proofs.Cutting.{cut_is, cut_cut}
 use Rattle.gq_law_groups.proofs.Keyed.{keys_of_rest}
 use Rattle.gq_plan.specs.Arranged.{flags_of}
 use Rattle.gq_plan.specs.Columns.{steps_of}
-use Rattle.gq_plan.specs.Covers.{Fits, after}
+use Rattle.gq_plan.specs.Covers.{after}
+use Rattle.gq_plan.specs.Halves.{Runs}
 use Rattle.gq_plan.specs.Known.{none}
 use Rattle.gq_plan.specs.Meaning.{nothing}
 use Rattle.gq_plan.specs.Plans.{Plan, Done, Then, Step}
@@ -44,7 +45,7 @@ pub keys_of_plans : KeysOfPlans
 keys_of_plans g y p rows means spot real sound fit some have as_means =
     subst (λ ss. AreKeysOf (owed_keys (layout_of g y rows flat gs) (length gs) spot) (map (key_in g y rows flat 0 ss) (map means (owed_walks (layout_of g y rows flat gs) (length gs) spot))))
     (makers_are q is.begins ∙ is.makers)
-    (keys_of_rest g y rows flat gs means spot real sound (subst (Fits g.catalog y) (sym (groups_are q is.begins)) is.fits) (groups_cut q is.begins) have is.enough
+    (keys_of_rest g y rows flat gs means spot real sound (subst (Runs g.catalog y) (sym (groups_are q is.begins)) is.runs) (groups_cut q is.begins) have is.enough
     (subst (λ z. AllByRecursion (λ w. IsAs (after z none) (decode g y rows 0 gs nothing w) (means w)) (walks (layout_of g y rows flat gs) (length gs) [])) (sym (groups_are q is.begins)) as_means))
   where
     q : Plan

@@ -10,14 +10,16 @@ use Rattle.std.proofs.lemmas.List.Sorted.{IsPermutation-append_comm, IsPermutati
 use Rattle.std.proofs.lemmas.Option.{unwrap_or-slice_get}
 use Rattle.gq_base.specs.Catalogs.{Tables}
 use Rattle.gq_law_groups.specs.Groups.{checked, makes_group}
+use Rattle.gq_law_groups.specs.Law.{HasStepsOf}
 use Rattle.gq_law_groups.specs.Layout.{AreFlatEnough}
-use Rattle.gq_plan.proofs.Placing.{after_same}
-use Rattle.gq_plan.specs.Arranged.{at_after, at_numbers, at_step, binders, flags_of, home, homes, in_order, is_regular, numbers_at, order_of}
+use Rattle.gq_law_groups.proofs.Halved.{after_halved, bound_permuted}
+use Rattle.gq_plan.specs.Arranged.{at_numbers, flags_of, home, homes, in_order, numbers_at, order_of}
 use Rattle.gq_plan.specs.Columns.{steps_of}
-use Rattle.gq_plan.specs.Covers.{Fits, after_step, fits, fits_step, goes, loop_bound, pair_bound, placed, placed_step, test_bound}
+use Rattle.gq_plan.specs.Covers.{Fits, after_step, fits, fits_step, goes, loop_bound, pair_bound, test_bound}
+use Rattle.gq_plan.specs.Halves.{Runs, halved, halves}
 use Rattle.gq_plan.specs.Known.{Known, is_bound, none}
 use Rattle.gq_plan.specs.Meaning.{holds}
-use Rattle.gq_plan.specs.Plans.{Plan, Done, Then, Step, Scan, Extend, Close, Join, Keep, Differ, NoLoop, steps}
+use Rattle.gq_plan.specs.Plans.{Plan, Done, Then, Step, Scan, Extend, Close, Join, Keep, Differ, NoLoop, Single, Meet, steps}
 use Rattle.gq_plan.specs.Reads.{Read, reads}
 use Rattle.gq_plan.specs.Shapes.{Places, all_flat, flat_by, form_of, group_of, last_of, next_group, nowhere, place_step, places, places_after, test_groups, tested}
 use Rattle.gq_plan.specs.Soundness.{has_number}
@@ -73,13 +75,12 @@ idle catalog y (Join side keys) m fit = absurd (true≢false m)
 idle catalog y (Keep i) m fit = record { number = i; is = refl; reads = fit }
 idle catalog y (Differ d) m fit = absurd (holds_never (pair_bound none) (λ pair. refl) (slice_get y.pairs d) fit)
 idle catalog y (NoLoop x) m fit = absurd (holds_never (loop_bound none x) (λ r. and_false r.no_loop) (slice_get y.rels x) fit)
+idle catalog y (Single x from to way) m fit = absurd (true≢false (sym fit))
+idle catalog y (Meet x from to way) m fit = absurd (true≢false (sym fit))
 
 module _ (y : Typed) (s : Step) (h : IsIdle y s) where
   pub idle_small : makes_group s ≡ false
   idle_small = ap makes_group h.is
-
-  idle_tested : (w : Places) → tested y w s ≡ []
-  idle_tested w = ap (tested y w) h.is ∙ nothing_tested (slice_get y.tests h.number) w h.reads
 
   idle_flat : (w : Places) → flat_by y w s ≡ []
   idle_flat w = ap (flat_by y w) h.is ∙ ap (λ l. filter (λ i. nat_lt i (last_of l)) l) (nothing_tested (slice_get y.tests h.number) w h.reads)
@@ -88,9 +89,8 @@ module _ (y : Typed) (s : Step) (h : IsIdle y s) where
   unfolding place_step
   idle_place w = ap (λ t. place_step t w) h.is
 
-  idle_at : (late : Bool) (w : Places) → at_step late s w ≡ w
-  unfolding place_step
-  idle_at late w = ap (λ t. at_step late t w) h.is
+  idle_halves : halves s ≡ s ∷ []
+  idle_halves = ap halves h.is ∙ ap (λ t. t ∷ []) (sym h.is)
 
   idle_home : (b : Places) (i : ℕ) → home y b i s ≡ 0
   idle_home b i = ap (home y b i) h.is ∙ ap last_of (nothing_tested (slice_get y.tests h.number) b h.reads)
@@ -115,10 +115,21 @@ pub steps_checked : (ts : List Step) (p : Plan) → steps_of (checked ts p) ≡ 
 steps_checked [] p = refl
 steps_checked (t ∷ ts) p = ap (λ l. t ∷ l) (steps_checked ts p)
 
-placed_checked : (ts : List Step) (p : Plan) → placed (checked ts p) ≡ flat_map placed_step ts ++ placed p
-unfolding placed
-placed_checked [] p = refl
-placed_checked (t ∷ ts) p = ap (λ l. placed_step t ++ l) (placed_checked ts p) ∙ sym (append_assoc (placed_step t) (flat_map placed_step ts) (placed p))
+-- a step that makes a group runs as a whole
+made_halves : (s : Step) → makes_group s ≡ true → halves s ≡ s ∷ []
+made_halves (Scan v) m = refl
+made_halves (Extend column x from to way) m = refl
+made_halves (Close true x from to way) m = absurd (true≢false (sym m))
+made_halves (Close false x from to way) m = refl
+made_halves (Join side keys) m = refl
+made_halves (Keep i) m = absurd (true≢false (sym m))
+made_halves (Differ d) m = absurd (true≢false (sym m))
+made_halves (NoLoop x) m = absurd (true≢false (sym m))
+made_halves (Single x from to way) m = absurd (true≢false (sym m))
+made_halves (Meet x from to way) m = absurd (true≢false (sym m))
+
+halved_made : (s : Step) (p : Plan) → makes_group s ≡ true → halved (Then s p) ≡ Then s (halved p)
+halved_made s p m = ap (λ l. steps (l ++ flat_map halves (steps_of p))) (made_halves s m)
 
 module _ (y : Typed) where
   none_made : (ts : List Step) (ss : List Step) → AreIdle y ts → filter makes_group (ts ++ ss) ≡ filter makes_group ss
@@ -136,10 +147,9 @@ module _ (y : Typed) where
   same_places [] p w h = refl
   same_places (t ∷ ts) p w h = ap (places_after (checked ts p)) (idle_place y t h.0 w) ∙ same_places ts p w h.1
 
-  same_late : (ts : List Step) (p : Plan) (w : Places) → AreIdle y ts → at_after true (checked ts p) w ≡ at_after true p w
-  unfolding at_after
-  same_late [] p w h = refl
-  same_late (t ∷ ts) p w h = ap (at_after true (checked ts p)) (idle_at y t h.0 true w) ∙ same_late ts p w h.1
+  halved_checked : (ts : List Step) (p : Plan) → AreIdle y ts → halved (checked ts p) ≡ checked ts (halved p)
+  halved_checked [] p h = refl
+  halved_checked (t ∷ ts) p h = ap (λ l. steps (l ++ flat_map halves (steps_of (checked ts p)))) (idle_halves y t h.0) ∙ ap (Then t) (halved_checked ts p h.1)
 
   same_flat : (ts : List Step) (p : Plan) (w : Places) → AreIdle y ts → all_flat y w (checked ts p) ≡ all_flat y w p
   unfolding all_flat
@@ -169,17 +179,9 @@ module _ (y : Typed) where
       ∙ ap (λ n. zeros ts ++ (n ∷ homes y b next r)) (sym (home_made y b 0 s m))
       ∙ sym (homes_checked b 0 ts (Then s r) h)
 
-  abbrev regular_by : Places → Places → List Step → Bool
-  regular_by u v ss = list_all (λ s. nat_eq (last_of (tested y u s)) (last_of (tested y v s))) ss
-
-  same_regular : (ts : List Step) (ss : List Step) (u v : Places) → AreIdle y ts → regular_by u v (ts ++ ss) ≡ regular_by u v ss
-  same_regular [] ss u v h = refl
-  same_regular (t ∷ ts) ss u v h =
-      ap₂ (λ (a b : List ℕ). nat_eq (last_of a) (last_of b) && regular_by u v (ts ++ ss)) (idle_tested y t h.0 u) (idle_tested y t h.0 v) ∙ same_regular ts ss u v h.1
-
   -- whether groups are flat, by what a plan tells
-  abbrev flags_by : Bool → Places → Places → (Places → List ℕ) → List Bool
-  flags_by regular u v all = map (λ i. has_number (all (cond regular u v)) i) (range_with_len 0 u.count)
+  abbrev flags_by : Places → (Places → List ℕ) → List Bool
+  flags_by u all = map (λ i. has_number (all u) i) (range_with_len 0 u.count)
 
   module _ (ts : List Step) (s : Step) (r : Plan) (h : AreIdle y ts) where
     abbrev q : Plan
@@ -187,49 +189,37 @@ module _ (y : Typed) where
 
     -- before the first group's step, and behind it
     flags_before : flags_of y (checked ts q) ≡ flags_of y q
-    flags_before =
-        let u = same_places ts q nowhere h in
-        let v = same_late ts q nowhere h in
-        let regular : is_regular y (checked ts q) ≡ is_regular y q =
-        ap (regular_by (places (checked ts q)) (binders (checked ts q))) (steps_checked ts q) ∙ same_regular ts (steps_of q) (places (checked ts q)) (binders (checked ts q)) h
-        ∙ ap₂ (λ (a b : Places). regular_by a b (steps_of q)) u v in
-        λ i. flags_by (regular i) (u i) (v i) (λ w. same_flat ts q w h i)
+    flags_before = let u = same_places ts q nowhere h in λ i. flags_by (u i) (λ w. same_flat ts q w h i)
 
     flags_led : flags_of y (Then s (checked ts r)) ≡ flags_of y q
-    unfolding places_after at_after all_flat
+    unfolding places_after all_flat
     flags_led =
         let l : Plan = Then s (checked ts r) in
         let u : places l ≡ places q = same_places ts r (place_step s nowhere) h in
-        let v : binders l ≡ binders q = same_late ts r (at_step true s nowhere) h in
-        let regular : is_regular y l ≡ is_regular y q =
-        ap (λ ss. regular_by (places l) (binders l) (s ∷ ss)) (steps_checked ts r)
-        ∙ ap (λ b. nat_eq (last_of (tested y (places l) s)) (last_of (tested y (binders l) s)) && b) (same_regular ts (steps_of r) (places l) (binders l) h)
-        ∙ ap₂ (λ (a b : Places). regular_by a b (steps_of q)) u v in
-        λ i. flags_by (regular i) (u i) (v i) (λ w. flat_by y w s ++ same_flat ts r w h i)
+        λ i. flags_by (u i) (λ w. flat_by y w s ++ same_flat ts r w h i)
 
-    -- their numbers are the same, group by group
+    -- as it runs
+    halved_before : makes_group s ≡ true → halved (checked ts q) ≡ checked ts (Then s (halved r))
+    halved_before m = halved_checked ts q h ∙ ap (checked ts) (halved_made s r m)
+
+    halved_led : makes_group s ≡ true → halved (Then s (checked ts r)) ≡ Then s (checked ts (halved r))
+    halved_led m = halved_made s (checked ts r) m ∙ ap (Then s) (halved_checked ts r h)
+
+    -- the numbers are the same, group by group
     numbers_same : makes_group s ≡ true → order_of y (Then s (checked ts r)) ≡ order_of y (checked ts q)
-    unfolding places_after at_after
+    unfolding places_after
     numbers_same m =
         let l : Plan = Then s (checked ts r) in
         let u : places l ≡ places (checked ts q) = same_places ts r (place_step s nowhere) h ∙ sym (same_places ts q nowhere h) in
-        let v : binders l ≡ binders (checked ts q) = same_late ts r (at_step true s nowhere) h ∙ sym (same_late ts q nowhere h) in
-        ap (λ hs. flat_map (λ g. numbers_at g 0 hs) (range_with_len 0 (places l).count)) (same_homes (binders l) ts s r m h)
-        ∙ ap₂ (λ (a b : Places). flat_map (λ g. numbers_at g 0 (homes y b 0 (checked ts q))) (range_with_len 0 a.count)) u v
+        ap (λ z. flat_map (λ g. numbers_at g 0 (homes y (places l) 0 z)) (range_with_len 0 (places l).count)) (halved_led m)
+        ∙ ap (λ hs. flat_map (λ g. numbers_at g 0 hs) (range_with_len 0 (places l).count)) (same_homes (places l) ts s (halved r) m h)
+        ∙ ap₂ (λ (a : Places) (z : Plan). flat_map (λ g. numbers_at g 0 (homes y a 0 z)) (range_with_len 0 a.count)) u (sym (halved_before m))
 
     same_made : filter makes_group (steps_of (Then s (checked ts r))) ≡ filter makes_group (steps_of (checked ts q))
     same_made =
         ap (λ ss. filter makes_group (s ∷ ss)) (steps_checked ts r)
         ∙ ap (λ l. cond (makes_group s) (s ∷ l) l) (none_made ts (steps_of r) h)
         ∙ sym (ap (filter makes_group) (steps_checked ts q) ∙ none_made ts (steps_of q) h)
-
-placed_led : (ts : List Step) (s : Step) (r : Plan) → IsPermutation (placed (Then s (checked ts r))) (placed (checked ts (Then s r)))
-unfolding placed
-placed_led ts s r =
-    let tests = flat_map placed_step ts in
-    subst (λ l. IsPermutation l (placed (checked ts (Then s r)))) (append_assoc (placed_step s) tests (placed r) ∙ ap (λ l. placed_step s ++ l) (sym (placed_checked ts r)))
-    (subst (IsPermutation ((placed_step s ++ tests) ++ placed r)) (append_assoc tests (placed_step s) (placed r) ∙ sym (placed_checked ts (Then s r)))
-    (IsPermutation-append_left (placed r) (placed_step s ++ tests) (tests ++ placed_step s) (IsPermutation-append_comm (placed_step s) tests)))
 
 -- ---- numbers
 
@@ -279,18 +269,6 @@ led_before k a (suc n) low = ap₂ ◌∷◌ (led_low k a (omega (arith, low))) 
 led_behind : (k a n : ℕ) → k ≤ a → map (led_number k) (range_with_len (a + 1) n) ≡ range_with_len (a + 1) n
 led_behind k a zero low = refl
 led_behind k a (suc n) low = ap₂ ◌∷◌ (led_high k a low) (led_behind k (a + 1) n (omega (arith, low)))
-
-pub led_within : (k n : ℕ) (ns : List ℕ) → k < n → AllByRecursion (λ j. j < n) ns → AllByRecursion (λ j. j < n) (map (led_number k) ns)
-led_within k n [] low all = tt
-led_within k n (j ∷ ns) low all = (one j all.0, led_within k n ns low all.1)
-  where
-    either : (c : Bool) (i : ℕ) → suc i < n → cond c i (suc i) < n
-    either true i less = omega (arith, less)
-    either false i less = less
-
-    one : (j : ℕ) → j < n → led_number k j < n
-    one zero less = low
-    one (suc i) less = either (nat_lt i k) i less
 
 -- the number of the first group's step, those before it, and those behind
 module _ (k m : ℕ) where
@@ -367,6 +345,10 @@ module _ (catalog : Tables) (y : Typed) (p : Plan) (ts : List Step) (s : Step) (
   abbrev order : List ℕ
   order = map (led_number k) (order_of y p)
 
+  -- the steps behind it, as they run
+  abbrev rs : List Step
+  rs = steps_of (halved r)
+
   numbers : order_of y p ≡ order_of y front
   numbers = ap (order_of y) (sym is) ∙ sym (numbers_same y ts s r idles made)
 
@@ -376,14 +358,17 @@ module _ (catalog : Tables) (y : Typed) (p : Plan) (ts : List Step) (s : Step) (
       let parts = and_parts (fits_step catalog y s none) (fits catalog y r (after_step s none)) fit in
       ap₂ ◌&&◌ parts.0 (fits_behind y catalog ts r (after_step s none) idles parts.1)
 
-  steps_are : steps_of p ≡ ts ++ s ∷ steps_of r
-  steps_are = ap steps_of (sym is) ∙ steps_checked ts (Then s r)
+  steps_are : steps_of (halved p) ≡ ts ++ s ∷ rs
+  steps_are = ap (λ q. steps_of (halved q)) (sym is) ∙ ap steps_of (halved_before y ts s r idles made) ∙ steps_checked ts (Then s (halved r))
+
+  front_are : steps_of (halved front) ≡ s ∷ (ts ++ rs)
+  front_are = ap steps_of (halved_led y ts s r idles made) ∙ ap (λ l. s ∷ l) (steps_checked ts (halved r))
 
   same_order : in_order p order ≡ in_order front (order_of y front)
   same_order =
-      ap (λ ss. steps (at_numbers ss order)) steps_are ∙ ap (λ ns. steps (at_numbers (ts ++ s ∷ steps_of r) (map (led_number k) ns))) numbers
-      ∙ ap steps (numbers_led ts s (steps_of r) (order_of y front))
-      ∙ ap (λ ss. steps (at_numbers (s ∷ ss) (order_of y front))) (sym (steps_checked ts r))
+      ap (λ ss. steps (at_numbers ss order)) steps_are ∙ ap (λ ns. steps (at_numbers (ts ++ s ∷ rs) (map (led_number k) ns))) numbers
+      ∙ ap steps (numbers_led ts s rs (order_of y front))
+      ∙ ap (λ ss. steps (at_numbers ss (order_of y front))) (sym front_are)
 
   same_flags : flags_of y front ≡ flags_of y p
   same_flags = flags_led y ts s r idles ∙ sym (flags_before y ts s r idles) ∙ ap (flags_of y) is
@@ -392,13 +377,23 @@ module _ (catalog : Tables) (y : Typed) (p : Plan) (ts : List Step) (s : Step) (
   same_makers = same_made y ts s r idles ∙ ap (λ q. filter makes_group (steps_of q)) is
 
   abbrev m : ℕ
-  m = length (steps_of r)
+  m = length rs
 
-  long_front : length (steps_of front) ≡ suc (k + m)
-  long_front = ap (λ l. suc (length l)) (steps_checked ts r) ∙ ap suc (length-append ts (steps_of r))
+  long_front : length (steps_of (halved front)) ≡ suc (k + m)
+  long_front = ap length front_are ∙ ap suc (length-append ts rs)
 
-  long : length (steps_of p) ≡ suc (k + m)
-  long = let next : k + suc m ≡ suc (k + m) = omega arith in ap length steps_are ∙ length-append ts (s ∷ steps_of r) ∙ next
+  long : length (steps_of (halved p)) ≡ suc (k + m)
+  long = let next : k + suc m ≡ suc (k + m) = omega arith in ap length steps_are ∙ length-append ts (s ∷ rs) ∙ next
+
+  -- it has the same steps
+  front_has : IsPermutation (steps_of (halved front)) (steps_of (halved p))
+  front_has =
+      subst (λ l. IsPermutation l (steps_of (halved p))) (sym front_are)
+      (subst (IsPermutation (s ∷ (ts ++ rs))) (append_assoc ts (s ∷ []) rs ∙ sym steps_are)
+      (IsPermutation-append_left rs (s ∷ ts) (ts ++ s ∷ []) (IsPermutation-append_comm (s ∷ []) ts)))
+
+  led_has : HasStepsOf (in_order front (order_of y front)) front → HasStepsOf (in_order p order) p
+  led_has has = subst (λ q. IsPermutation (steps_of q) (steps_of (halved p))) (sym same_order) (IsPermutation-trans _ _ _ has front_has)
 
   led_arranged : IsArranged catalog y front (order_of y front) (flags_of y front) → IsArranged catalog y p order (flags_of y p)
   led_arranged at = record {
@@ -408,26 +403,24 @@ module _ (catalog : Tables) (y : Typed) (p : Plan) (ts : List Step) (s : Step) (
         (IsPermutation-map (led_number k) (order_of y p) (range_with_len 0 (suc (k + m)))
         (subst (λ ns. IsPermutation ns (range_with_len 0 (suc (k + m)))) (sym numbers) (subst (λ n. IsPermutation (order_of y front) (range_with_len 0 n)) long_front at.each)))
         (led_each k m));
-    fits = subst (Fits catalog y) (sym same_order) at.fits;
-    placed =
-        subst (λ q. IsPermutation (placed q) (placed p)) (sym same_order)
-        (IsPermutation-trans _ _ _ at.placed (subst (λ q. IsPermutation (placed front) (placed q)) is (placed_led ts s r)));
+    runs = subst (Runs catalog y) (sym same_order) at.runs;
+    bound = bound_permuted (in_order p order) (halved p) (led_has at.has) ∙ after_halved p none;
+    has = led_has at.has;
     begins = ap Rattle.gq_arrange.specs.Law.begins same_order ∙ at.begins;
     enough =
         subst (λ flat. AreFlatEnough catalog y (flag flat) 0 (groups_of (in_order p order)) none) same_flags
         (subst (λ q. AreFlatEnough catalog y (flag (flags_of y front)) 0 (groups_of q) none) (sym same_order) at.enough);
     makers = ap (λ q. filter makes_group (steps_of q)) same_order ∙ at.makers ∙ same_makers;
     count = ap (λ q. length (groups_of q)) same_order ∙ at.count ∙ ap length same_flags;
-    shape = λ regular. ap (λ c. map (λ i. has_number (all_flat y (cond c (places p) (binders p)) p) i) (range_with_len 0 (places p).count)) regular;
   }
 
   -- ---- the steps that make groups, by their numbers
 
-  told : (n : ℕ) → makes_at (steps_of p) (led_number k n) ≡ makes_at (steps_of front) n
+  told : (n : ℕ) → makes_at (steps_of (halved p)) (led_number k n) ≡ makes_at (steps_of (halved front)) n
   told n =
       ap (λ ss. makes_at ss (led_number k n)) steps_are
-      ∙ ap makes_group (sym (unwrap_or-slice_get (ts ++ s ∷ steps_of r) (led_number k n) (Keep 0)) ∙ ap (λ o. unwrap_or o (Keep 0)) (number_led ts s (steps_of r) n) ∙ unwrap_or-slice_get (s ∷ (ts ++ steps_of r)) n (Keep 0))
-      ∙ ap (λ ss. makes_at (s ∷ ss) n) (sym (steps_checked ts r))
+      ∙ ap makes_group (sym (unwrap_or-slice_get (ts ++ s ∷ rs) (led_number k n) (Keep 0)) ∙ ap (λ o. unwrap_or o (Keep 0)) (number_led ts s rs n) ∙ unwrap_or-slice_get (s ∷ (ts ++ rs)) n (Keep 0))
+      ∙ ap (λ ss. makes_at ss n) (sym front_are)
 
   filter_led : (f h : ℕ → Bool) → ((n : ℕ) → f (led_number k n) ≡ h n) → (ns : List ℕ) → filter f (map (led_number k) ns) ≡ map (led_number k) (filter h ns)
   filter_led f h same [] = refl
@@ -438,21 +431,21 @@ module _ (catalog : Tables) (y : Typed) (p : Plan) (ts : List Step) (s : Step) (
       go true e on = ap (λ c. cond c (led_number k n ∷ filter f (map (led_number k) ns)) (filter f (map (led_number k) ns))) e ∙ ap (λ l. led_number k n ∷ l) on
       go false e on = ap (λ c. cond c (led_number k n ∷ filter f (map (led_number k) ns)) (filter f (map (led_number k) ns))) e ∙ on
 
-  none_before : filter (makes_at (steps_of p)) (range_with_len 0 k) ≡ []
-  none_before = from ts 0 idles (λ j. (let at : 0 + j ≡ j = omega arith in ap (makes_at (steps_of p)) at) ∙ ap (λ ss. makes_at ss j) steps_are)
+  none_before : filter (makes_at (steps_of (halved p))) (range_with_len 0 k) ≡ []
+  none_before = from ts 0 idles (λ j. (let at : 0 + j ≡ j = omega arith in ap (makes_at (steps_of (halved p))) at) ∙ ap (λ ss. makes_at ss j) steps_are)
     where
-      from : (us : List Step) (a : ℕ) → AreIdle y us → ((j : ℕ) → makes_at (steps_of p) (a + j) ≡ makes_at (us ++ s ∷ steps_of r) j) → filter (makes_at (steps_of p)) (range_with_len a (length us)) ≡ []
+      from : (us : List Step) (a : ℕ) → AreIdle y us → ((j : ℕ) → makes_at (steps_of (halved p)) (a + j) ≡ makes_at (us ++ s ∷ rs) j) → filter (makes_at (steps_of (halved p))) (range_with_len a (length us)) ≡ []
       from [] a h at = refl
       from (u ∷ us) a h at =
           let here : a ≡ a + 0 = omega arith in
-          ap (λ c. cond c (a ∷ filter (makes_at (steps_of p)) (range_with_len (a + 1) (length us))) (filter (makes_at (steps_of p)) (range_with_len (a + 1) (length us)))) (ap (makes_at (steps_of p)) here ∙ at 0 ∙ idle_small y u h.0)
-          ∙ from us (a + 1) h.1 (λ j. let next : a + 1 + j ≡ a + suc j = omega arith in ap (makes_at (steps_of p)) next ∙ at (suc j))
+          ap (λ c. cond c (a ∷ filter (makes_at (steps_of (halved p))) (range_with_len (a + 1) (length us))) (filter (makes_at (steps_of (halved p))) (range_with_len (a + 1) (length us)))) (ap (makes_at (steps_of (halved p))) here ∙ at 0 ∙ idle_small y u h.0)
+          ∙ from us (a + 1) h.1 (λ j. let next : a + 1 + j ≡ a + suc j = omega arith in ap (makes_at (steps_of (halved p))) next ∙ at (suc j))
 
-  led_makers : filter (makes_at (steps_of p)) order ≡ filter (makes_at (steps_of p)) (range_with_len 0 (length (steps_of p)))
+  led_makers : filter (makes_at (steps_of (halved p))) order ≡ filter (makes_at (steps_of (halved p))) (range_with_len 0 (length (steps_of (halved p))))
   led_makers =
-      let f = makes_at (steps_of p) in
-      ap (λ ns. filter f (map (led_number k) ns)) numbers ∙ filter_led f (makes_at (steps_of front)) told (order_of y front) ∙ ap (map (led_number k)) (makers_in_order y front)
-      ∙ sym (filter_led f (makes_at (steps_of front)) told (range_with_len 0 (length (steps_of front))))
+      let f = makes_at (steps_of (halved p)) in
+      ap (λ ns. filter f (map (led_number k) ns)) numbers ∙ filter_led f (makes_at (steps_of (halved front))) told (order_of y front) ∙ ap (map (led_number k)) (makers_in_order y front)
+      ∙ sym (filter_led f (makes_at (steps_of (halved front))) told (range_with_len 0 (length (steps_of (halved front)))))
       ∙ ap (λ n. filter f (map (led_number k) (range_with_len 0 n))) long_front ∙ ap (filter f) (led_all k m)
       ∙ ap (λ l. cond (f k) (k ∷ l) l) (filter-append f (range_with_len 0 k) (range_with_len (k + 1) m) ∙ ap (λ l. l ++ filter f (range_with_len (k + 1) m)) none_before)
       ∙ sym (ap (λ l. l ++ filter f (k ∷ range_with_len (k + 1) m)) none_before)
@@ -462,10 +455,8 @@ module _ (catalog : Tables) (y : Typed) (p : Plan) (ts : List Step) (s : Step) (
 -- ---- a plan without groups has no step but such tests
 
 first_counts : (s : Step) (r : Plan) → makes_group s ≡ true → 0 < (places (Then s r)).count
-unfolding at_after
-first_counts s r made =
-    let same = ap (λ (w : Places). w.count) (after_same (Then s r) nowhere) in
-    omega (arith, count_made false s nowhere made, count_grows false r (at_step false s nowhere), same)
+unfolding places_after
+first_counts s r made = omega (arith, count_made s nowhere made, count_grows r (place_step s nowhere))
 
 module _ (catalog : Tables) (y : Typed) (p : Plan) (fit : Fits catalog y p) (none_made : (places p).count ≡ 0) where
   pub idle_all : AreIdle y (leading p)
@@ -506,11 +497,6 @@ module _ (catalog : Tables) (y : Typed) (p : Plan) (fit : Fits catalog y p) (som
       go Done e first fit_q = absurd (let none = no_group y p idles e in omega (arith, some, none))
       go (Then s r) e first fit_q = record { step = s; rest = r; is = ap (checked (leading p)) (sym e) ∙ parts_whole p; made = first; fits = fit_q }
 
-  pub front_low : length (leading p) < length (steps_of p)
-  front_low =
-      let many = ap length (ap steps_of (sym front_of.is) ∙ steps_checked (leading p) (Then front_of.step front_of.rest)) ∙ length-append (leading p) (front_of.step ∷ steps_of front_of.rest) in
-      omega (arith, many)
-
   abbrev front_plan : Plan
   front_plan = Then front_of.step (checked (leading p) front_of.rest)
 
@@ -524,7 +510,7 @@ module _ (catalog : Tables) (y : Typed) (p : Plan) (fit : Fits catalog y p) (som
   plan_arranged = led_arranged catalog y p (leading p) front_of.step front_of.rest front_of.is front_of.made idles front_arranged
 
   -- the steps that make groups stand in the order as they stand in the plan
-  pub makers_led : filter (makes_at (steps_of p)) (led_order y p) ≡ filter (makes_at (steps_of p)) (range_with_len 0 (length (steps_of p)))
+  pub makers_led : filter (makes_at (steps_of (halved p))) (led_order y p) ≡ filter (makes_at (steps_of (halved p))) (range_with_len 0 (length (steps_of (halved p))))
   makers_led = led_makers catalog y p (leading p) front_of.step front_of.rest front_of.is front_of.made idles
 
 pub arranged_plans : ArrangedPlansFit

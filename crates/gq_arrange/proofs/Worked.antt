@@ -2,7 +2,7 @@
 -- (p)<-[2:BOSS]-(r), where a person has at most one boss, so that 1 is a column of the group of p and is tested where d stands.
 use Rattle.std.proofs.Common.{◌≡◌, refl, true, false, [], ◌∷◌}
 use Rattle.gq_base.specs.declared.direction.Direction.TheVariants.{Forward, Backward}
-use Rattle.gq_plan.specs.Arranged.{at_after, homes, is_regular, order_of, flags_of}
+use Rattle.gq_plan.specs.Arranged.{homes, order_of, flags_of}
 use Rattle.gq_plan.specs.Plans.{Plan, Scan, Extend, Close, Keep, Differ, NoLoop, steps}
 use Rattle.gq_plan.specs.Shapes.{all_flat, place_step, places_after}
 use Rattle.gq_plan.specs.declared.typed.Typed.{Typed}
@@ -21,48 +21,40 @@ boss = record {
   pairs = record { first = 1; second = 2 } ∷ [];
 }
 
--- d before r: the pair is tested at r, and 1 is known there since p is flat, so d is not flat
+-- d before r: 1 is taken at p and tested at d; the pair is tested at r, where p is flat
 abbrev d_first : Plan
 d_first = steps (Scan 0 ∷ Extend false 0 0 1 Forward ∷ Close true 1 0 1 Forward ∷ Extend false 2 0 2 Backward ∷ Differ 0 ∷ [])
 
-d_first_order : order_of boss d_first ≡ 0 ∷ 1 ∷ 2 ∷ 3 ∷ 4 ∷ []
-unfolding at_after homes places_after place_step
+d_first_order : order_of boss d_first ≡ 0 ∷ 2 ∷ 1 ∷ 3 ∷ 4 ∷ 5 ∷ []
+unfolding homes places_after place_step
 d_first_order = refl
 
 d_first_flat : flags_of boss d_first ≡ true ∷ false ∷ false ∷ []
-unfolding at_after homes places_after place_step all_flat
+unfolding places_after place_step all_flat
 d_first_flat = refl
 
-d_first_regular : is_regular boss d_first ≡ true
-unfolding at_after homes places_after place_step
-d_first_regular = refl
-
--- r before d: by the groups of what it reads the pair would be tested at r, but 1 is bound at d; so it is tested there, with r flat
+-- r before d: the pair is tested at r, before it is known where 1 leads; so r is not flat
 abbrev r_first : Plan
 r_first = steps (Scan 0 ∷ Extend false 2 0 2 Backward ∷ Extend false 0 0 1 Forward ∷ Close true 1 0 1 Forward ∷ Differ 0 ∷ [])
 
-r_first_order : order_of boss r_first ≡ 0 ∷ 1 ∷ 2 ∷ 3 ∷ 4 ∷ []
-unfolding at_after homes places_after place_step
+r_first_order : order_of boss r_first ≡ 0 ∷ 3 ∷ 1 ∷ 5 ∷ 2 ∷ 4 ∷ []
+unfolding homes places_after place_step
 r_first_order = refl
 
-r_first_flat : flags_of boss r_first ≡ true ∷ true ∷ false ∷ []
-unfolding at_after homes places_after place_step all_flat
+r_first_flat : flags_of boss r_first ≡ true ∷ false ∷ false ∷ []
+unfolding places_after place_step all_flat
 r_first_flat = refl
 
-r_first_regular : is_regular boss r_first ≡ false
-unfolding at_after homes places_after place_step
-r_first_regular = refl
-
--- steps that stand behind later groups: the close and the loop exclusion of d go before r
+-- steps that stand behind later groups: the test of the close and the loop exclusion of d go before r
 abbrev r_between : Plan
 r_between = steps (Scan 0 ∷ Extend false 0 0 1 Forward ∷ Extend false 2 0 2 Backward ∷ NoLoop 0 ∷ Close true 1 0 1 Forward ∷ Differ 0 ∷ [])
 
-r_between_order : order_of boss r_between ≡ 0 ∷ 1 ∷ 3 ∷ 4 ∷ 2 ∷ 5 ∷ []
-unfolding at_after homes places_after place_step
+r_between_order : order_of boss r_between ≡ 0 ∷ 4 ∷ 1 ∷ 3 ∷ 5 ∷ 2 ∷ 6 ∷ []
+unfolding homes places_after place_step
 r_between_order = refl
 
 r_between_flat : flags_of boss r_between ≡ true ∷ false ∷ false ∷ []
-unfolding at_after homes places_after place_step all_flat
+unfolding places_after place_step all_flat
 r_between_flat = refl
 
 -- tests in front of the first group: the step that makes it goes in front of them
@@ -70,5 +62,5 @@ abbrev tests_first : Plan
 tests_first = steps (Keep 0 ∷ Keep 1 ∷ Scan 0 ∷ Extend false 0 0 1 Forward ∷ [])
 
 tests_first_order : led_order boss tests_first ≡ 2 ∷ 0 ∷ 1 ∷ 3 ∷ []
-unfolding at_after homes places_after place_step
+unfolding homes places_after place_step
 tests_first_order = refl

@@ -13,8 +13,9 @@ use Rattle.gq_law_groups.specs.Groups.{makes_group}
 use Rattle.gq_plan.proofs.ColumnBounds.{binds_is}
 use Rattle.gq_plan.specs.Columns.{binds, brought}
 use Rattle.gq_plan.specs.Covers.{after, fits, fits_step, is_joined}
+use Rattle.gq_plan.specs.Halves.{runs_step}
 use Rattle.gq_plan.specs.Known.{Known, none}
-use Rattle.gq_plan.specs.Plans.{Plan, Step, Scan, Extend, Close, Join, Keep, Differ, NoLoop}
+use Rattle.gq_plan.specs.Plans.{Plan, Step, Scan, Extend, Close, Join, Keep, Differ, NoLoop, Single, Meet}
 use Rattle.gq_plan.specs.Soundness.{has_number}
 use Rattle.gq_plan.specs.declared.typed.Typed.{Typed}
 use Rattle.gq_steps.specs.Built.{HasBuild, IsBuildOf}
@@ -206,7 +207,7 @@ all_numbers p (n ∷ ns) v all h = go (or_cases (nat_eq v n) (has_number ns v) h
     go (inr more) rest = rest more
 
 module _ (catalog : Tables) (y : Typed) where
-  pub knows_keys : (s : Step) (k : Known) → fits_step catalog y s k ≡ true → KnowsKeys s k
+  pub knows_keys : (s : Step) (k : Known) → runs_step catalog y s k ≡ true → KnowsKeys s k
   unfolding fits_step
   knows_keys (Scan v) k fit = tt
   knows_keys (Extend column x from to way) k fit = tt
@@ -216,6 +217,8 @@ module _ (catalog : Tables) (y : Typed) where
   knows_keys (Keep t) k fit = tt
   knows_keys (Differ p) k fit = tt
   knows_keys (NoLoop x) k fit = tt
+  knows_keys (Single x from to way) k fit = tt
+  knows_keys (Meet x from to way) k fit = tt
 
 -- a step that makes no group is no join
 pub no_keys : (s : Step) (k : Known) → makes_group s ≡ false → KnowsKeys s k
@@ -226,3 +229,5 @@ no_keys (Join side keys) k none_made = absurd (true≢false none_made)
 no_keys (Keep t) k none_made = tt
 no_keys (Differ p) k none_made = tt
 no_keys (NoLoop x) k none_made = tt
+no_keys (Single x from to way) k none_made = tt
+no_keys (Meet x from to way) k none_made = tt

@@ -16,8 +16,9 @@ use Rattle.gq_law_groups.specs.Groups.{makes_group}
 use Rattle.gq_law_groups.specs.Order.{AreCut, NoGroups}
 use Rattle.gq_plan.specs.Columns.{own_columns}
 use Rattle.gq_plan.specs.Covers.{after, after_step, fits_step}
+use Rattle.gq_plan.specs.Halves.{runs_step}
 use Rattle.gq_plan.specs.Known.{Known, none}
-use Rattle.gq_plan.specs.Plans.{Step, Scan, Extend, Close, Join, Keep, Differ, NoLoop}
+use Rattle.gq_plan.specs.Plans.{Step, Scan, Extend, Close, Join, Keep, Differ, NoLoop, Single, Meet}
 use Rattle.gq_steps.specs.Built.{FitsBuild}
 use Rattle.gq_homes.specs.Homes.{AreHomes, HasKeptColumn, InGroup, IsColumnOf, IsFilling, IsHoused, column_group, filling_at, filling_of, is_forward, no_filling, node_home, rel_home}
 use Rattle.gq_homes.specs.steps.Housing.{build_in, AreHoused, CanHouse, CanHouseBuild, brought_by, fillings_of, housed, with_filling, with_node_home, with_rel_home}
@@ -76,6 +77,8 @@ longer o i d (Join side keys) fs = longer_behind fs (fillings_of i d (brought_by
 longer o i d (Keep t) fs = record { low = λ m h. h; same = λ m h. refl }
 longer o i d (Differ p) fs = record { low = λ m h. h; same = λ m h. refl }
 longer o i d (NoLoop x) fs = record { low = λ m h. h; same = λ m h. refl }
+longer o i d (Single x from to way) fs = record { low = λ m h. h; same = λ m h. refl }
+longer o i d (Meet x from to way) fs = record { low = λ m h. h; same = λ m h. refl }
 
 -- what a step binds is known behind it, so it stays where it lives
 stays_housed : (k : Known) (fs more : List Filling) (old new : Homes) (i : ℕ) (s : Step) (b : Known) → ((v : ℕ) → (after_step s b).nodes v ≡ true → k.nodes v ≡ true) → ((x : ℕ) → (after_step s b).rels x ≡ true → k.rels x ≡ true)
@@ -109,6 +112,8 @@ stays_housed k fs more old new i (Join side keys) b nodes rels long keep h = rec
 stays_housed k fs more old new i (Keep t) b nodes rels long keep h = tt
 stays_housed k fs more old new i (Differ p) b nodes rels long keep h = tt
 stays_housed k fs more old new i (NoLoop x) b nodes rels long keep h = tt
+stays_housed k fs more old new i (Single x from to way) b nodes rels long keep h = keep.rels x (rels x (or_left (nat_eq x x) (b.rels x) (eq-eqb x x refl))) ∙ h
+stays_housed k fs more old new i (Meet x from to way) b nodes rels long keep h = tt
 
 -- a variable that lives in a column lived there, or lives there now
 column_set : (h : Homes) (v w : ℕ) (o : NodeHome) (j m : ℕ) → v < length h.nodes → node_home (with_node_home v o h) w ≡ node.Column j m → (node_home h w ≡ node.Column j m) ⊎ (o ≡ node.Column j m)
@@ -145,7 +150,7 @@ not_same v w b e same = true≢false (sym (eq-eqb v w same) ∙ not_left (nat_eq
 
 module _ (c : Run) (run : IsRun c) (h : Homes) (nodes : length h.nodes ≡ length c.typed.nodes) (rels : length h.rels ≡ length c.typed.rels) (k : Known) (fs : List Filling) (o : Option Held) where
   -- the variables that a step binds are variables of the alternative
-  pub can_house : (s : Step) → fits_step c.graph.catalog c.typed s k ≡ true → FitsBuild c.graph c.typed s o → CanHouse o h s
+  pub can_house : (s : Step) → runs_step c.graph.catalog c.typed s k ≡ true → FitsBuild c.graph c.typed s o → CanHouse o h s
   unfolding fits_step
   can_house (Scan v) fit built = let low : v < length c.typed.nodes = ltb-true v (length c.typed.nodes) (and_parts _ _ fit).0 in omega (arith, low, nodes)
   can_house (Extend column x from to way) fit built =
@@ -165,6 +170,11 @@ module _ (c : Run) (run : IsRun c) (h : Homes) (nodes : length h.nodes ≡ lengt
   can_house (Keep t) fit built = tt
   can_house (Differ p) fit built = tt
   can_house (NoLoop x) fit built = tt
+  can_house (Single x from to way) fit built =
+      let f : Follows c x from to way = follows c run true x from to way (and_parts _ _ fit).0 in
+      let x_low : x < length c.typed.rels = slice_get_within c.typed.rels x _ f.rel_is in
+      omega (arith, x_low, rels)
+  can_house (Meet x from to way) fit built = tt
 
   only_rel : (i d x : ℕ) (home : RelHome) (s : Step) (new : Homes) → new ≡ with_rel_home x home h → x < length h.rels → k.rels x ≡ false
       → ((v : ℕ) → (after_step s k).rels v ≡ false → v ≢ x) → (rel_home new x ≡ home → IsHoused (with_filling o i d s fs) new i s) → Added c o i d s k fs h new
@@ -193,7 +203,7 @@ module _ (c : Run) (run : IsRun c) (h : Homes) (nodes : length h.nodes ≡ lengt
     columns = λ v j m e. inl e;
   }
 
-  pub added : (i d : ℕ) (s : Step) → fits_step c.graph.catalog c.typed s k ≡ true → FitsBuild c.graph c.typed s o → Added c o i d s k fs h (housed o i (length fs) s h)
+  pub added : (i d : ℕ) (s : Step) → runs_step c.graph.catalog c.typed s k ≡ true → FitsBuild c.graph c.typed s o → Added c o i d s k fs h (housed o i (length fs) s h)
   unfolding fits_step after_step
   added i d (Scan v) fit built =
       let parts = and_parts _ _ fit in
@@ -281,6 +291,9 @@ module _ (c : Run) (run : IsRun c) (h : Homes) (nodes : length h.nodes ≡ lengt
   added i d (Keep t) fit built = nothing_new i d (Keep t) tt
   added i d (Differ p) fit built = nothing_new i d (Differ p) tt
   added i d (NoLoop x) fit built = nothing_new i d (NoLoop x) tt
+  added i d (Single x from to way) fit built =
+      only_rel i d x (rel.Single from (is_forward way)) (Single x from to way) _ refl (can_house (Single x from to way) fit built) (not_true _ (and_parts _ _ (and_parts _ _ fit).1).0) (λ w e. not_same w x (k.rels w) e) (λ e. e)
+  added i d (Meet x from to way) fit built = nothing_new i d (Meet x from to way) tt
 
   -- the columns of before, and that of the step
   still_filling : (ss : List GroupSteps) (next : Known) (new : Homes) (m : ℕ) (f : Filling) → ((v : ℕ) → k.nodes v ≡ true → next.nodes v ≡ true) → Keeps k h new → IsFilling c ss k h m f → IsFilling c ss next new m f
@@ -292,7 +305,7 @@ module _ (c : Run) (run : IsRun c) (h : Homes) (nodes : length h.nodes ≡ lengt
   }
   still_filling ss next new m (Kept f) on keep is = is
 
-  new_filling : (ss : List GroupSteps) (i d m : ℕ) → i < length ss → d < length c.steps → (s : Step) → step_at c d ≡ s → (makes_group s ≡ true → d ≡ (group_at ss i).first) → fits_step c.graph.catalog c.typed s k ≡ true → FitsBuild c.graph c.typed s o
+  new_filling : (ss : List GroupSteps) (i d m : ℕ) → i < length ss → d < length c.steps → (s : Step) → step_at c d ≡ s → (makes_group s ≡ true → d ≡ (group_at ss i).first) → runs_step c.graph.catalog c.typed s k ≡ true → FitsBuild c.graph c.typed s o
       → ((v j q : ℕ) → node_home h v ≡ node.Column j q → q < length fs) → Keeps k h (housed o i (length fs) s h) → length fs ≤ m → m < length (with_filling o i d s fs)
       → IsFilling c ss (after_step s k) (housed o i (length fs) s h) m (filling_at (with_filling o i d s fs) m)
   unfolding fits_step after_step
@@ -326,8 +339,10 @@ module _ (c : Run) (run : IsRun c) (h : Homes) (nodes : length h.nodes ≡ lengt
   new_filling ss i d m low d_low (Keep t) at first fit built columns keep above inside = absurd (omega (arith, above, inside))
   new_filling ss i d m low d_low (Differ p) at first fit built columns keep above inside = absurd (omega (arith, above, inside))
   new_filling ss i d m low d_low (NoLoop x) at first fit built columns keep above inside = absurd (omega (arith, above, inside))
+  new_filling ss i d m low d_low (Single x from to way) at first fit built columns keep above inside = absurd (omega (arith, above, inside))
+  new_filling ss i d m low d_low (Meet x from to way) at first fit built columns keep above inside = absurd (omega (arith, above, inside))
 
-  pub fillings_more : (ss : List GroupSteps) (i d : ℕ) → i < length ss → d < length c.steps → (s : Step) → step_at c d ≡ s → (makes_group s ≡ true → d ≡ (group_at ss i).first) → fits_step c.graph.catalog c.typed s k ≡ true → FitsBuild c.graph c.typed s o
+  pub fillings_more : (ss : List GroupSteps) (i d : ℕ) → i < length ss → d < length c.steps → (s : Step) → step_at c d ≡ s → (makes_group s ≡ true → d ≡ (group_at ss i).first) → runs_step c.graph.catalog c.typed s k ≡ true → FitsBuild c.graph c.typed s o
       → ((v j m : ℕ) → node_home h v ≡ node.Column j m → m < length fs) → ((m : ℕ) → m < length fs → IsFilling c ss k h m (filling_at fs m)) → Added c o i d s k fs h (housed o i (length fs) s h)
       → (m : ℕ) → m < length (with_filling o i d s fs) → IsFilling c ss (after_step s k) (housed o i (length fs) s h) m (filling_at (with_filling o i d s fs) m)
   fillings_more ss i d low d_low s at first fit built columns old a m inside = go (cases_lt m (length fs))
@@ -359,7 +374,7 @@ less_rel s k x e = go (k.rels x) refl
 
 module _ (c : Run) (run : IsRun c) (ss : List GroupSteps) (i : ℕ) where
   -- a step has at least as many columns of its own
-  own : (o : Option Held) (d : ℕ) (s : Step) (fs : List Filling) (h : Homes) → length h.nodes ≡ length c.typed.nodes → length h.rels ≡ length c.typed.rels → (k : Known) → fits_step c.graph.catalog c.typed s k ≡ true → FitsBuild c.graph c.typed s o
+  own : (o : Option Held) (d : ℕ) (s : Step) (fs : List Filling) (h : Homes) → length h.nodes ≡ length c.typed.nodes → length h.rels ≡ length c.typed.rels → (k : Known) → runs_step c.graph.catalog c.typed s k ≡ true → FitsBuild c.graph c.typed s o
       → length (with_filling o i d s fs) ≤ length fs + own_columns c.typed s
   own o d (Scan v) fs h nodes rels k fit built = omega arith
   own o d (Extend true x from to way) fs h nodes rels k fit built = let one = length_push fs (filling_of i x from way) in omega (arith, one)
@@ -369,6 +384,8 @@ module _ (c : Run) (run : IsRun c) (ss : List GroupSteps) (i : ℕ) where
   own o d (Keep t) fs h nodes rels k fit built = omega arith
   own o d (Differ p) fs h nodes rels k fit built = omega arith
   own o d (NoLoop x) fs h nodes rels k fit built = omega arith
+  own o d (Single x from to way) fs h nodes rels k fit built = omega arith
+  own o d (Meet x from to way) fs h nodes rels k fit built = omega arith
 
   abbrev fillings_then : ℕ → List Filling → List Filling
   fillings_then d fs = with_filling (build_in c d) i d (step_at c d) fs

@@ -13,7 +13,7 @@ use Rattle.gq_join.specs.Kept.{place_of}
 use Rattle.gq_plan.specs.Columns.{own_columns}
 use Rattle.gq_plan.specs.Covers.{after}
 use Rattle.gq_plan.specs.Known.{Known, none}
-use Rattle.gq_plan.specs.Plans.{Plan, Step, Scan, Extend, Close, Join}
+use Rattle.gq_plan.specs.Plans.{Plan, Step, Scan, Extend, Close, Join, Single}
 use Rattle.gq_plan.specs.Soundness.{has_number}
 use Rattle.gq_plan.specs.Rows.{node_table, rel_table}
 use Rattle.gq_store.specs.Neighbours.{is_listed, near_rows}
@@ -89,6 +89,7 @@ IsHoused fs h i (Extend false x from to way) = (node_home h to ≡ node.Item i) 
 IsHoused fs h i (Extend true x from to way) = HasColumn fs h i x from to way
 IsHoused fs h i (Close false x from to way) = rel_home h x ≡ rel.Listed i from (is_forward way)
 IsHoused fs h i (Close true x from to way) = rel_home h x ≡ rel.Single from (is_forward way)
+IsHoused fs h i (Single x from to way) = rel_home h x ≡ rel.Single from (is_forward way)
 IsHoused fs h i (Join side keys) = HasMatch fs h i side keys
 IsHoused fs h i s = Unit {0}
 

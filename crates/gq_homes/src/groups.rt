@@ -1,21 +1,25 @@
 //! A plan's steps cut into its groups.
-ghost use Rattle.std.specs.Prelude.{◌≡◌, ◌<◌, length, map, true, IfOk};
+ghost use Rattle.std.specs.Prelude.{◌≡◌, ◌<◌, length, true, IfOk};
 ghost use Rattle.gq_law_groups.specs.Groups.{makes_group};
 ghost use Rattle.gq_plan.specs.Plans.{step_of};
 ghost use Rattle.gq_homes.specs.Cuts.{IsCutTo, flag, step_in};
-ghost use Rattle.gq_steps.specs.Moves.{referred};
+ghost use Rattle.gq_steps.specs.Moves.{run_steps};
 
 use gq_base::Memory;
 use gq_plan::Step;
-use gq_steps::GroupSteps;
+use gq_steps::{GroupSteps, RunStep};
 use std::alloc::Global;
 
 /// The groups of steps of which the first makes one: each with the steps up to the next one that
 /// does, and flat as it is told. No steps have no groups.
-pub fn cut_groups(alloc: Global, steps: &[&Step], flat: &[bool]) -> Result<Vec<GroupSteps>, Memory>
+pub fn cut_groups(
+    alloc: Global,
+    steps: &[RunStep<'_>],
+    flat: &[bool],
+) -> Result<Vec<GroupSteps>, Memory>
     requires begins { 0 < length steps.now
-        → makes_group (step_in (map step_of (referred steps.now)) 0) ≡ true }
-    ensures { IfOk result (λ gs. IsCutTo (map step_of (referred steps.now)) flat.now gs.items
+        → makes_group (step_in (run_steps steps.now) 0) ≡ true }
+    ensures { IfOk result (λ gs. IsCutTo (run_steps steps.now) flat.now gs.items
         (length steps.now)) }
 {
     let mut groups = Vec::new(alloc);
@@ -26,7 +30,7 @@ pub fn cut_groups(alloc: Global, steps: &[&Step], flat: &[bool]) -> Result<Vec<G
     let mut first = 0;
     let mut end = 1;
     while end < steps.len() {
-        if starts_group(steps[end]) {
+        if starts_group(steps[end].step) {
             let flat = flag(flat, groups.len());
             groups.push(GroupSteps { first, end, flat })?;
             first = end;

@@ -2,6 +2,7 @@
 ghost use Rattle.std.specs.Prelude.{◌≡◌, ◌∷◌, ◌++◌, ◌<◌, ◌^◌, [], length, All, IfOk, OnOk};
 ghost use Rattle.std.specs.Option.{option_copied};
 ghost use Rattle.gq_law_groups.specs.Order.{AreCut};
+ghost use Rattle.gq_plan.specs.Halves.{half_of};
 ghost use Rattle.gq_plan.specs.Plans.{step_of};
 ghost use Rattle.gq_plan.specs.Soundness as soundness;
 ghost use Rattle.gq_group.specs.declared.home.NodeHome.TheVariants.{Column};
@@ -17,7 +18,7 @@ ghost use Rattle.gq_steps.specs.Moves.{run_of, IsRun};
 use gq_base::{Direction, List, Memory};
 use gq_group::{Homes, NodeHome, RelHome};
 use gq_join::Sealed;
-use gq_plan::Step;
+use gq_plan::{Half, Step};
 use gq_steps::{GroupSteps, PlanRun};
 use std::alloc::Global;
 
@@ -117,26 +118,34 @@ fn house_group(
             depth: step,
         };
         let build = plan_run.build_at(step);
-        house(plan_run.step(step), build, spot, housing)?;
+        house(
+            plan_run.step(step),
+            plan_run.half(step),
+            build,
+            spot,
+            housing,
+        )?;
         step += 1;
     }
     Ok(())
 }
 
-// Puts what a step of a group binds into the group.
+// Puts what a step of a group binds, as much of it as runs, into the group.
 #[tactic(auto, using(gq_plan::proofs::StepEquations::equations))]
 fn house(
     step: &Step,
+    half: Half,
     build: Option<&Sealed>,
     spot: Spot,
     housing: &mut Housing,
 ) -> Result<(), Memory>
-    requires { CanHouse (option_copied build) housing.old.homes (step_of step.now) }
+    requires { CanHouse (option_copied build) housing.old.homes (half_of half (step_of step.now)) }
     ensures homes { OnOk result (housing.new.homes ≡ housed (option_copied build.entry) spot.group
-        (length housing.old.fillings.items) (step_of step.now) housing.old.homes) }
+        (length housing.old.fillings.items) (half_of half (step_of step.now))
+        housing.old.homes) }
     ensures fillings { OnOk result (housing.new.fillings.items ≡
-        with_filling (option_copied build.entry) spot.group spot.depth (step_of step.now)
-        housing.old.fillings.items) }
+        with_filling (option_copied build.entry) spot.group spot.depth
+        (half_of half (step_of step.now)) housing.old.fillings.items) }
 {
     let group = spot.group;
     let nodes = &mut housing.homes.nodes;
@@ -172,7 +181,10 @@ fn house(
             from,
             to: _,
             direction,
-        } => rels.set(*rel as usize, single(*from, *direction)),
+        } => match half {
+            Half::Whole | Half::First => rels.set(*rel as usize, single(*from, *direction)),
+            Half::Second => {}
+        },
         Step::Join { side: _, keys } => return house_build(build, keys.as_slice(), spot, housing),
         Step::Keep { .. } | Step::Differ { .. } | Step::NoLoop { .. } => {}
     }

@@ -9,7 +9,7 @@ use Rattle.gq_base.specs.declared.RelId.{RelId}
 use Rattle.gq_base.specs.declared.direction.Direction.{Direction}
 use Rattle.gq_plan.specs.Allowed.{at_same}
 use Rattle.gq_plan.specs.Meaning.{Partial, look, nothing, with_rel, with_all, agree, far, rels_from, mean, step}
-use Rattle.gq_plan.specs.Plans.{Plan, Step, Scan, Extend, Close, Join, Keep, Differ, NoLoop}
+use Rattle.gq_plan.specs.Plans.{Plan, Step, Scan, Extend, Close, Join, Keep, Differ, NoLoop, Single, Meet}
 use Rattle.gq_plan.specs.declared.typed.Typed.{Typed}
 use Rattle.gq_walks.specs.Layouts.{numbers_from, Layout, number_of, walks, has_one}
 use Rattle.gq_walks.proofs.Cells.{map-flat_map, flat_map-same, flat_map-flat_map, bag-flat_map, same_bag}
@@ -131,6 +131,8 @@ step-raw g y rows (Join side keys) a h =
 step-raw g y rows (Keep i) a h = absurd (true≢false (sym h.0))
 step-raw g y rows (Differ p) a h = absurd (true≢false (sym h.0))
 step-raw g y rows (NoLoop x) a h = absurd (true≢false (sym h.0))
+step-raw g y rows (Single x from to way) a h = absurd (true≢false (sym h.0))
+step-raw g y rows (Meet x from to way) a h = absurd (true≢false (sym h.0))
 
 pub mean-checked : (g : Graph) (y : Typed) (ks : List Step) (p : Plan) (e : Partial) → flat_map (mean g y p) (follow g y ks e) ≡ mean g y (checked ks p) e
 unfolding mean step

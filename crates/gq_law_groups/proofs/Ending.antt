@@ -1,19 +1,15 @@
 -- Behind a place of a flat group of which a later group makes nothing there is no walk.
-use Rattle.std.proofs.Common.{◌≡◌, ◌⊎◌, ℕ, ◌+◌, ◌<◌, Bool, true, false, cond, nat_eq, List, [], ◌∷◌, ◌++◌, map, flat_map, length, refl, sym, ap, ◌∙◌, inl, inr}
-use Rattle.std.specs.Prelude.{IsTrue}
+use Rattle.std.proofs.Common.{◌≡◌, ◌⊎◌, ℕ, ◌+◌, ◌<◌, Bool, true, false, List, [], ◌∷◌, ◌++◌, map, flat_map, length, refl, sym, ap, ◌∙◌, inl, inr}
 use Rattle.std.specs.List.{AllByRecursion}
-use Rattle.std.proofs.lemmas.Bool.{or_right}
 use Rattle.gq_base.specs.Plain.{Graph}
-use Rattle.gq_base.specs.Valid.{is_valid}
 use Rattle.gq_plan.specs.Covers.{after_step}
-use Rattle.gq_plan.specs.Known as known
 use Rattle.gq_plan.specs.Known.{Known}
 use Rattle.gq_plan.specs.Meaning.{Partial}
-use Rattle.gq_plan.specs.Plans.{Step, Scan, Extend, Close, Join, Keep, Differ, NoLoop}
+use Rattle.gq_plan.specs.Plans.{Step}
 use Rattle.gq_plan.specs.declared.typed.Typed.{Typed}
 use Rattle.gq_walks.specs.Layouts.{Layout, number_of, walks}
 use Rattle.gq_law_groups.specs.Groups.{Group, AreGroups, raw, kept, passes, raw_at, place, choices, decode, results, Follows}
-use Rattle.gq_law_groups.specs.Layout.{single, singles, after_all, ArePlaced, known_with, AreFlatEnough}
+use Rattle.gq_law_groups.specs.Layout.{after_all, ArePlaced, known_with, AreFlatEnough}
 use Rattle.gq_law_groups.proofs.Alike.{AreAlike, alike_self, alike_then}
 use Rattle.gq_law_groups.proofs.Bridge.{walks_are_choices, choices_are_results}
 use Rattle.gq_law_groups.proofs.Following.{known_node, known_rel, each_first, raw_keeps, kept_keeps, IsTail, tail_follows}
@@ -33,26 +29,9 @@ pub within-all : (ss : List Step) (k all : Known) → Within k all → Within k 
 within-all [] k all w = w
 within-all (s ∷ ss) k all w = within-all ss k (after_step s all) (within-step s k all w)
 
-within-single : (s : Step) (k all : Known) → Within k all → Within k (single s all)
-within-single (Close true x from to way) k all w = elim (all.nodes from) as (λ b. Within k (cond b (known.with_rel x all) all)) [
-  | true ↦ record { nodes = w.nodes; rels = λ z i. or_right (nat_eq z x) (all.rels z) (w.rels z i) }
-  | false ↦ w
-]
-within-single (Close false x from to way) k all w = w
-within-single (Scan v) k all w = w
-within-single (Extend column x from to way) k all w = w
-within-single (Join side keys) k all w = w
-within-single (Keep i) k all w = w
-within-single (Differ p) k all w = w
-within-single (NoLoop x) k all w = w
-
-within-singles : (ss : List Step) (k all : Known) → Within k all → Within k (singles ss all)
-within-singles [] k all w = w
-within-singles (s ∷ ss) k all w = within-singles ss k (single s all) (within-single s k all w)
-
 pub within-group : (f : Bool) (b : Group) (k all : Known) → Within k all → Within k (known_with f b all)
 within-group true b k all w = within-all b.checks k (after_step b.binds all) (within-step b.binds k all w)
-within-group false b k all w = within-singles b.checks k all w
+within-group false b k all w = w
 
 module _ (g : Graph) (y : Typed) (rows : ℕ → List Partial) where
   -- the groups from one on make nothing of each of these
@@ -101,15 +80,15 @@ module _ (g : Graph) (y : Typed) (rows : ℕ → List Partial) where
       none [] z = refl
       none (w ∷ ws) z = cc
 
-  pub nothing_behind : IsTrue (is_valid g) → (flat : ℕ → Bool) (l : Layout) (b : Group) (gs : List Group) (pre : List ℕ) (i : ℕ) (k : Known) (a : Partial) → IsTail g y rows flat l pre i (b ∷ gs) a → AreGroups g y rows i (b ∷ gs) → AreFlatEnough g.catalog y flat i (b ∷ gs) k
+  pub nothing_behind : (flat : ℕ → Bool) (l : Layout) (b : Group) (gs : List Group) (pre : List ℕ) (i : ℕ) (k : Known) (a : Partial) → IsTail g y rows flat l pre i (b ∷ gs) a → AreGroups g y rows i (b ∷ gs) → AreFlatEnough g.catalog y flat i (b ∷ gs) k
       → (j : ℕ) → j < l.size pre → l.keeps pre j ≡ true → flat i ≡ true → Ends (i + 1) gs (after_step b.binds k) (raw_at g y (rows i) b a j) → walks l (length gs) (pre ++ number_of (l.flat pre) j ∷ []) ≡ []
-  nothing_behind real flat l b gs pre i k a t are enough j low keeps is_flat ends =
+  nothing_behind flat l b gs pre i k a t are enough j low keeps is_flat ends =
       walks_are_choices g y rows l gs (pre ++ number_of (l.flat pre) j ∷ []) (i + 1) (place g y (rows i) b a j) (follows.2 j low keeps)
       ∙ no-choices gs (i + 1) (place g y (rows i) b a j) are.2
       (ends-none flat (i + 1) gs (after_step b.binds k) (known_with (flat i) b k) (raw_at g y (rows i) b a j) (place g y (rows i) b a j) ends (known-flat (flat i) is_flat) are.2 enough.2 place-as)
     where
       follows : Follows g y rows l pre i (b ∷ gs) a
-      follows = tail_follows g y rows real flat l (b ∷ gs) pre i k a a t are enough (alike_self k a)
+      follows = tail_follows g y rows flat l (b ∷ gs) pre i k a a t are enough (alike_self k a)
 
       there : passes g y b (raw_at g y (rows i) b a j) ≡ true
       there = sym (follows.1 j low) ∙ keeps

@@ -4,7 +4,6 @@ use Rattle.std.specs.Prelude.{IsPermutation, IsTrue}
 use Rattle.std.specs.List.{AllZip, AllByRecursion, list_all, range_with_len}
 use Rattle.std.specs.Option.{unwrap_or}
 use Rattle.std.proofs.lemmas.Bool.{eq-eqb, eqb-true, and_parts, and_from, or_left, or_right}
-use Rattle.std.proofs.lemmas.List.{append-nil, append_assoc}
 use Rattle.std.proofs.lemmas.List.Sorted.{IsPermutation-sym, All-permutation, sum_by-IsPermutation}
 use Rattle.std.proofs.lemmas.List.Elements.{All-from_recursion, recursion_from_All}
 use Rattle.gq_base.specs.Plain.{Graph}
@@ -15,10 +14,11 @@ use Rattle.gq_base.specs.declared.direction.Direction.{Direction}
 use Rattle.gq_plan.specs.Allowed.{at_same}
 use Rattle.gq_plan.specs.Assignments.{Assignment, rels_of, same_node, same_rel}
 use Rattle.gq_plan.specs.Covers.{after, after_step, fits, fits_step, goes}
+use Rattle.gq_plan.specs.Halves.{runs_step, runs}
 use Rattle.gq_plan.specs.Known as known
 use Rattle.gq_plan.specs.Known.{Known, none}
 use Rattle.gq_plan.specs.Meaning.{Partial, nothing, with_node, with_rel, with_all, look, near, far, arrive, agree, holds, nodes_for, rels_from, mean, step}
-use Rattle.gq_plan.specs.Plans.{Plan, Step, Scan, Extend, Close, Join, Keep, Differ, NoLoop}
+use Rattle.gq_plan.specs.Plans.{Plan, Step, Scan, Extend, Close, Join, Keep, Differ, NoLoop, Single, Meet}
 use Rattle.gq_plan.specs.Soundness.{IsSound}
 use Rattle.gq_plan.specs.declared.typed.Typed.{Typed}
 use Rattle.gq_plan.specs.declared.typed.TypedRel.{TypedRel}
@@ -29,7 +29,7 @@ use Rattle.gq_plan.proofs.Each.{each_of, each_map, each_flat_map, each_kept, eac
 use Rattle.gq_plan.proofs.Pieces.{holds_some}
 use Rattle.gq_law_plans.specs.Bindings.{extends, nodes_in, rels_in, is_rel_at, bound}
 use Rattle.gq_law_plans.proofs.Counting.{known_by, at_same_is, extends_with_rel, hits_rels_at, passes_in}
-use Rattle.gq_law_plans.proofs.Lookups.{eqb_swap, look_some, look_bound, Found, found_bind}
+use Rattle.gq_law_plans.proofs.Lookups.{eqb_swap, look_some, look_bound, Found}
 use Rattle.gq_law_plans.proofs.Owning.{Owns, owns_nothing, owns_mean, owns_step}
 use Rattle.gq_law_plans.proofs.PlanCounts.{count_step}
 use Rattle.gq_plan.proofs.Products.{same_rel_is}
@@ -44,6 +44,7 @@ use Rattle.gq_law_groups.specs.Order.{NoGroups, AreCut}
 use Rattle.gq_law_groups.proofs.Alike.{AreAlike, alike_then, close_parts}
 use Rattle.gq_law_groups.proofs.Bridge.{step-raw, walks_are_choices}
 use Rattle.gq_law_groups.proofs.Cutting.{no_join, are_groups}
+use Rattle.gq_law_groups.proofs.Halved.{made_rel, owns_run}
 use Rattle.gq_law_groups.proofs.Following.{less_known, zip_at, each_at, each_first, raw_alike, raw_keeps, kept_keeps, layout_follows}
 
 -- ---- a list of which few items pass
@@ -189,24 +190,6 @@ module _ (g : Graph) (y : Typed) (rows : List Partial) where
   abbrev Made : Known → Partial → Type 0
   Made k e = Owns y e × (known_by e ≡ k)
 
-  one_low : (x : ℕ) (r : RelId) (n : ℕ) (bs : List (ℕ × RelId)) → x < n → ((w : ℕ) → bound bs w ≡ true → w < n) → (w : ℕ) → bound ((x, r) ∷ bs) w ≡ true → w < n
-  one_low x r n bs low rest w h = go (nat_eq w x) refl h
-    where
-      go : (c : Bool) → nat_eq w x ≡ c → (c || bound bs w) ≡ true → w < n
-      go true e h = subst (λ u. u < n) (sym (eqb-true w x e)) low
-      go false e h = rest w h
-
-  closed_made : (x : ℕ) (r : RelId) (a : Partial) → Owns y a → x < length y.rels → bound a.rels x ≡ false → Made (known.with_rel x (known_by a)) (with_rel x r a)
-  closed_made x r a h low new = (
-    record {
-      nodes = h.nodes;
-      rels = found_bind x r a.rels new h.rels;
-      nodes_low = h.nodes_low;
-      rels_low = one_low x r (length y.rels) a.rels low h.rels_low;
-    },
-    refl,
-  )
-
   goes_in : (column : Bool) (x from to : ℕ) (way : Direction) (k : Known) → fits_step g.catalog y (Close column x from to way) k ≡ true → x < length y.rels
   unfolding fits_step
   goes_in column x from to way k fit =
@@ -217,20 +200,22 @@ module _ (g : Graph) (y : Typed) (rows : List Partial) where
   join-raw side keys a h = subst (λ l. IsPermutation l (step g y (Join side keys) a)) (filter_true (raw g y rows (Join side keys) a)) (step-raw g y rows (Join side keys) a (refl, h))
 
   -- each place binds just what was bound and what the step binds
-  raw-made : (s : Step) (a : Partial) → Owns y a → MakesGroup g y rows s → fits_step g.catalog y s (known_by a) ≡ true → AllByRecursion (Made (after_step s (known_by a))) (raw g y rows s a)
+  raw-made : (s : Step) (a : Partial) → Owns y a → MakesGroup g y rows s → runs_step g.catalog y s (known_by a) ≡ true → AllByRecursion (Made (after_step s (known_by a))) (raw g y rows s a)
   unfolding after_step
   raw-made (Scan v) a h m fit = owns_step g y (Scan v) a h fit
   raw-made (Extend false x from to way) a h m fit = owns_step g y (Extend false x from to way) a h fit
   raw-made (Extend true x from to way) a h m fit = absurd (true≢false (sym m.0))
   raw-made (Close false x from to way) a h m fit =
       let parts = close_parts g g.catalog y false x from to way (known_by a) fit in
-      each_map (λ r. Unit {0}) (Made (known.with_rel x (known_by a))) (λ r. with_rel x r a) (λ r _. closed_made x r a h (goes_in false x from to way (known_by a) fit) parts.0) (rels_from g y x way (look a.nodes from)) (each_of _ (λ n. tt) _)
+      each_map (λ r. Unit {0}) (Made (known.with_rel x (known_by a))) (λ r. with_rel x r a) (λ r _. made_rel y x r a h (goes_in false x from to way (known_by a) fit) parts.0) (rels_from g y x way (look a.nodes from)) (each_of _ (λ n. tt) _)
   raw-made (Close true x from to way) a h m fit = absurd (true≢false (sym m.0))
   raw-made (Join side keys) a h m fit =
       each_permuted (Made (after_step (Join side keys) (known_by a))) (raw g y rows (Join side keys) a) (step g y (Join side keys) a) (join-raw side keys a m.1) (owns_step g y (Join side keys) a h fit)
   raw-made (Keep i) a h m fit = absurd (true≢false (sym m.0))
   raw-made (Differ p) a h m fit = absurd (true≢false (sym m.0))
   raw-made (NoLoop x) a h m fit = absurd (true≢false (sym m.0))
+  raw-made (Single x from to way) a h m fit = absurd (true≢false (sym m.0))
+  raw-made (Meet x from to way) a h m fit = absurd (true≢false (sym m.0))
 
   module _ (real : IsTrue (is_valid g)) (sound : IsSound g.catalog y) (t : Assignment) where
     -- of the relationships at a node at most one is that of an assignment
@@ -263,7 +248,7 @@ module _ (g : Graph) (y : Typed) (rows : List Partial) where
     cond-few false n h = omega arith
 
     -- an assignment extends at most one place
-    raw-few : (s : Step) (a : Partial) → Owns y a → MakesGroup g y rows s → fits_step g.catalog y s (known_by a) ≡ true → hits (λ c. extends c t) (raw g y rows s a) ≤ 1
+    raw-few : (s : Step) (a : Partial) → Owns y a → MakesGroup g y rows s → runs_step g.catalog y s (known_by a) ≡ true → hits (λ c. extends c t) (raw g y rows s a) ≤ 1
     raw-few (Scan v) a h m fit = subst (λ n. n ≤ 1) (sym (count_step g y real sound t (Scan v) a h fit)) (bit-few _)
     raw-few (Extend false x from to way) a h m fit = subst (λ n. n ≤ 1) (sym (count_step g y real sound t (Extend false x from to way) a h fit)) (bit-few _)
     raw-few (Extend true x from to way) a h m fit = absurd (true≢false (sym m.0))
@@ -279,11 +264,13 @@ module _ (g : Graph) (y : Typed) (rows : List Partial) where
     raw-few (Keep i) a h m fit = absurd (true≢false (sym m.0))
     raw-few (Differ p) a h m fit = absurd (true≢false (sym m.0))
     raw-few (NoLoop x) a h m fit = absurd (true≢false (sym m.0))
+    raw-few (Single x from to way) a h m fit = absurd (true≢false (sym m.0))
+    raw-few (Meet x from to way) a h m fit = absurd (true≢false (sym m.0))
 
   -- ---- the place of an assignment
 
   -- a place that is alike to an assignment, in what was known and in what the step binds, reads alike throughout
-  raw-part : (s : Step) (k : Known) (e : Partial) → MakesGroup g y rows s → fits_step g.catalog y s k ≡ true → AllByRecursion (λ c. AreAlike (after_step s k) c e → ReadAlike c e) (raw g y rows s e)
+  raw-part : (s : Step) (k : Known) (e : Partial) → MakesGroup g y rows s → runs_step g.catalog y s k ≡ true → AllByRecursion (λ c. AreAlike (after_step s k) c e → ReadAlike c e) (raw g y rows s e)
   unfolding after_step step fits_step
   raw-part (Scan v) k e m fit =
       each_map (λ n. Unit {0}) (λ c. AreAlike (known.with_node v k) c e → ReadAlike c e) (λ n. with_node v n e)
@@ -318,10 +305,12 @@ module _ (g : Graph) (y : Typed) (rows : List Partial) where
   raw-part (Keep i) k e m fit = absurd (true≢false (sym m.0))
   raw-part (Differ p) k e m fit = absurd (true≢false (sym m.0))
   raw-part (NoLoop x) k e m fit = absurd (true≢false (sym m.0))
+  raw-part (Single x from to way) k e m fit = absurd (true≢false (sym m.0))
+  raw-part (Meet x from to way) k e m fit = absurd (true≢false (sym m.0))
 
   module _ (real : IsTrue (is_valid g)) (sound : IsSound g.catalog y) where
     -- the place of a whole list from which an assignment comes is the place that it has there
-    place-is : (s : Step) (a e : Partial) (j : ℕ) → MakesGroup g y rows s → Owns y a → fits_step g.catalog y s (known_by a) ≡ true → AreAlike (known_by a) a e
+    place-is : (s : Step) (a e : Partial) (j : ℕ) → MakesGroup g y rows s → Owns y a → runs_step g.catalog y s (known_by a) ≡ true → AreAlike (known_by a) a e
         → j < length (raw g y rows s a) → AreAlike (after_step s (known_by a)) (get_or (raw g y rows s a) j nothing) e → place_in g y rows s e ≡ j
     place-is s a e j m own_a fit h low as_e = first-at (λ c. is_part c e) (raw g y rows s e) nothing j low_e here before
       where
@@ -385,11 +374,11 @@ low-numbers x zero m h = tt
 low-numbers x (suc n) m h = (omega (arith, h), low-numbers (x + 1) n m (omega (arith, h)))
 
 module _ (g : Graph) (y : Typed) (real : IsTrue (is_valid g)) (sound : IsSound g.catalog y) (rows : ℕ → List Partial) (flat : ℕ → Bool) where
-  placed_in : (ks : List Step) (p : Plan) (k : Known) → NoGroups ks → fits g.catalog y (checked ks p) k ≡ true → ArePlaced g.catalog y ks k × (fits g.catalog y p (after_all ks k) ≡ true)
-  unfolding fits
+  placed_in : (ks : List Step) (p : Plan) (k : Known) → NoGroups ks → runs g.catalog y (checked ks p) k ≡ true → ArePlaced g.catalog y ks k × (runs g.catalog y p (after_all ks k) ≡ true)
+  unfolding runs
   placed_in [] p k small fit = (tt, fit)
   placed_in (s ∷ ks) p k small fit =
-      let parts = and_parts (fits_step g.catalog y s k) (fits g.catalog y (checked ks p) (after_step s k)) fit in
+      let parts = and_parts (runs_step g.catalog y s k) (runs g.catalog y (checked ks p) (after_step s k)) fit in
       let rest = placed_in ks p (after_step s k) small.1 parts.1 in
       ((no_join s small.0, parts.0, rest.0), rest.1)
 
@@ -399,7 +388,7 @@ module _ (g : Graph) (y : Typed) (real : IsTrue (is_valid g)) (sound : IsSound g
   follow-made (s ∷ ks) c k h is placed =
       each_flat_map (λ d. Owns y d × (known_by d ≡ after_step s (known_by c))) (λ d. Owns y d × (known_by d ≡ after_all ks (after_step s k))) (follow g y ks)
       (λ d made. follow-made ks d (after_step s k) made.0 (made.1 ∙ ap (after_step s) is) placed.2)
-      (step g y s c) (owns_step g y s c h (subst (λ q. fits_step g.catalog y s q ≡ true) (sym is) placed.1))
+      (step g y s c) (owns_run g y s c h (subst (λ q. runs_step g.catalog y s q ≡ true) (sym is) placed.1))
 
   kept-made : (i : ℕ) (b : Group) (c : Partial) (k : Known) → Owns y c → known_by c ≡ k → ArePlaced g.catalog y b.checks k → AllByRecursion (λ d. Owns y d × (known_by d ≡ after_all b.checks k)) (kept g y b c)
   kept-made i b c k h is placed = go (own g y b.binds c) (follow-made b.checks c k h is placed)
@@ -417,9 +406,9 @@ module _ (g : Graph) (y : Typed) (real : IsTrue (is_valid g)) (sound : IsSound g
   after-checked [] p k = refl
   after-checked (s ∷ ks) p k = after-checked ks p (after_step s k)
 
-  walked : (gs : List Group) (i : ℕ) (a : Partial) → Owns y a → fits g.catalog y (plan_of gs) (known_by a) ≡ true → AreCut gs → HaveRows g y rows i gs
+  walked : (gs : List Group) (i : ℕ) (a : Partial) → Owns y a → runs g.catalog y (plan_of gs) (known_by a) ≡ true → AreCut gs → HaveRows g y rows i gs
       → AllByRecursion (λ w. Goes i gs a (decode g y rows i gs a w) w) (choices g y rows i gs a)
-  unfolding fits after
+  unfolding runs after
   walked [] i a h fit cut have = ((refl, λ e as_e. (as_e, refl)), tt)
   walked (b ∷ gs) i a h fit cut have =
       each_flat_map (λ j. (j < length (raw g y (rows i) b.binds a)) × (passes g y b (raw_at g y (rows i) b a j) ≡ true)) (λ w. Goes i (b ∷ gs) a (decode g y rows i (b ∷ gs) a w) w)
@@ -427,17 +416,17 @@ module _ (g : Graph) (y : Typed) (real : IsTrue (is_valid g)) (sound : IsSound g
       (λ j there. each_map (λ w. Goes (i + 1) gs (place g y (rows i) b a j) (decode g y rows (i + 1) gs (place g y (rows i) b a j) w) w) (λ w. Goes i (b ∷ gs) a (decode g y rows i (b ∷ gs) a w) w) (λ w. j ∷ w)
       (λ w goes. further j there.0 there.1 (decode g y rows (i + 1) gs (place g y (rows i) b a j) w) w goes)
       (choices g y rows (i + 1) gs (place g y (rows i) b a j))
-      (walked gs (i + 1) (place g y (rows i) b a j) (here j there.0 there.1).0 (subst (λ q. fits g.catalog y (plan_of gs) q ≡ true) (sym (here j there.0 there.1).1) rest.1) cut.2 have.1))
+      (walked gs (i + 1) (place g y (rows i) b a j) (here j there.0 there.1).0 (subst (λ q. runs g.catalog y (plan_of gs) q ≡ true) (sym (here j there.0 there.1).1) rest.1) cut.2 have.1))
       (filter (λ j. passes g y b (raw_at g y (rows i) b a j)) (numbers_from 0 (length (raw g y (rows i) b.binds a))))
       (each_kept (λ j. j < length (raw g y (rows i) b.binds a)) (λ j. passes g y b (raw_at g y (rows i) b a j)) (numbers_from 0 (length (raw g y (rows i) b.binds a))) (low-numbers 0 (length (raw g y (rows i) b.binds a)) (length (raw g y (rows i) b.binds a)) (omega arith)))
     where
       k : Known
       k = after_step b.binds (known_by a)
 
-      parts : (fits_step g.catalog y b.binds (known_by a) ≡ true) × (fits g.catalog y (checked b.checks (plan_of gs)) k ≡ true)
-      parts = and_parts (fits_step g.catalog y b.binds (known_by a)) (fits g.catalog y (checked b.checks (plan_of gs)) (after_step b.binds (known_by a))) fit
+      parts : (runs_step g.catalog y b.binds (known_by a) ≡ true) × (runs g.catalog y (checked b.checks (plan_of gs)) k ≡ true)
+      parts = and_parts (runs_step g.catalog y b.binds (known_by a)) (runs g.catalog y (checked b.checks (plan_of gs)) (after_step b.binds (known_by a))) fit
 
-      rest : ArePlaced g.catalog y b.checks k × (fits g.catalog y (plan_of gs) (after_all b.checks k) ≡ true)
+      rest : ArePlaced g.catalog y b.checks k × (runs g.catalog y (plan_of gs) (after_all b.checks k) ≡ true)
       rest = placed_in b.checks (plan_of gs) k cut.1 parts.1
 
       made_at : (j : ℕ) → j < length (raw g y (rows i) b.binds a) → Owns y (raw_at g y (rows i) b a j) × (known_by (raw_at g y (rows i) b a j) ≡ k)
@@ -473,7 +462,7 @@ module _ (g : Graph) (y : Typed) (real : IsTrue (is_valid g)) (sound : IsSound g
 pub keys_of_assignments : KeysOfAssignments
 keys_of_assignments g y rows flat gs real sound fit cut have enough =
     subst (AllByRecursion Has)
-    (sym (walks_are_choices g y rows (layout_of g y rows flat gs) gs [] 0 nothing (layout_follows g y rows real flat gs (are_groups g y real rows 0 gs none cut fit have) enough)))
+    (sym (walks_are_choices g y rows (layout_of g y rows flat gs) gs [] 0 nothing (layout_follows g y rows flat gs (are_groups g y real rows 0 gs none cut fit have) enough)))
     (each_then (λ w. Goes g y real sound rows flat 0 gs nothing (decode g y rows 0 gs nothing w) w) Has
     (λ w walk e as_e. (walk.1 e (record { nodes = λ v is. as_e.nodes v (ap (λ (q : Known). q.nodes v) (sym walk.0) ∙ is); rels = λ x is. as_e.rels x (ap (λ (q : Known). q.rels x) (sym walk.0) ∙ is) })).1 ∙ sym (numbers_key g y real sound rows flat gs [] w 0 refl))
     (choices g y rows 0 gs nothing) (walked g y real sound rows flat gs 0 nothing (owns_nothing y) fit cut have))

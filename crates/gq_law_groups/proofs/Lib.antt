@@ -2,6 +2,7 @@ pub mod Bridge
 pub mod Moved
 pub mod Alike
 pub mod Following
+pub mod Halved
 pub mod Worked
 pub mod Single
 pub mod Cutting

@@ -4,10 +4,10 @@ use Rattle.std.specs.List.{AllByRecursion, list_all, range_with_len}
 use Rattle.std.proofs.lemmas.Bool.{eqb-true, eq-eqb, and_parts, and_from, or_cases, or_left, or_right, lt-ltb, cases_lt}
 use Rattle.gq_base.specs.Catalogs.{Tables}
 use Rattle.gq_plan.specs.Covers.{after, after_step, fits, fits_step, goes, is_new, is_joined, test_bound, pair_bound, loop_bound}
-use Rattle.gq_plan.specs.Known as known
+use Rattle.gq_plan.specs.Halves.{runs_step, runs}
 use Rattle.gq_plan.specs.Known.{Known, none, is_bound}
 use Rattle.gq_plan.specs.Meaning.{holds}
-use Rattle.gq_plan.specs.Plans.{Plan, Step, Scan, Extend, Close, Join, Keep, Differ, NoLoop}
+use Rattle.gq_plan.specs.Plans.{Plan, Step, Scan, Extend, Close, Join, Keep, Differ, NoLoop, Single, Meet}
 use Rattle.gq_plan.specs.Reads.{Read, reads}
 use Rattle.gq_plan.specs.Soundness.{has_number}
 use Rattle.gq_plan.specs.declared.bound.NamedExpr.{NamedExpr}
@@ -17,7 +17,7 @@ use Rattle.gq_plan.specs.declared.typed.TypedRel.{TypedRel}
 use Rattle.gq_plan.specs.declared.variable.Variable.TheVariants.{Node as node, Rel as rel}
 use Rattle.gq_plan.specs.declared.variable.Variable.{Variable}
 use Rattle.gq_law_groups.specs.Groups.{Group, makes_group}
-use Rattle.gq_law_groups.specs.Layout.{after_all, single, singles, ArePlaced, known_with, AreFlatEnough}
+use Rattle.gq_law_groups.specs.Layout.{after_all, ArePlaced, known_with, AreFlatEnough}
 use Rattle.gq_law_groups.specs.Order.{NoGroups, AreCut, BindsAt, StandsAt, AllAt, InOrder, Flats, FlatsOf}
 use Rattle.gq_plan.specs.Shapes.{Places, group_of, tested, flat_by, last_of}
 use Rattle.gq_law_groups.proofs.Cutting.{no_join}
@@ -45,6 +45,8 @@ module _ (catalog : Tables) (y : Typed) (w : Places) where
   Reads seen (Keep i) = (t : NamedExpr) → slice_get y.tests i ≡ Some t → AllByRecursion (λ (r : Read). seen (group_of w r.variable)) (reads t.expr)
   Reads seen (Differ p) = (q : RelPair) → slice_get y.pairs p ≡ Some q → seen (w.rels q.first) × seen (w.rels q.second)
   Reads seen (NoLoop x) = seen (w.rels x) × ((r : TypedRel) → slice_get y.rels x ≡ Some r → seen (w.nodes r.source) × seen (w.nodes r.target))
+  Reads seen (Single x from to way) = seen (w.nodes from)
+  Reads seen (Meet x from to way) = seen (w.nodes from) × seen (w.nodes to)
 
   module _ (all k : Known) (seen : ℕ → Type 0) (sees : Sees w all k seen) where
     new_still : (v : ℕ) → is_new y all v ≡ true → is_new y k v ≡ true
@@ -84,7 +86,7 @@ module _ (catalog : Tables) (y : Typed) (w : Places) where
     apart_still a b true h e = still_new a b h e
 
     -- a step fits where less is known, if what it reads is seen
-    pub fits_seen : (s : Step) → Reads seen s → fits_step catalog y s all ≡ true → fits_step catalog y s k ≡ true
+    pub fits_seen : (s : Step) → Reads seen s → runs_step catalog y s all ≡ true → runs_step catalog y s k ≡ true
     unfolding fits_step
     fits_seen (Scan v) r h = new_still v h
     fits_seen (Extend column x from to way) r h =
@@ -124,6 +126,14 @@ module _ (catalog : Tables) (y : Typed) (w : Places) where
             let b = and_parts (all.rels x) (all.nodes q.source && all.nodes q.target) a.1 in
             let c = and_parts (all.nodes q.source) (all.nodes q.target) b.1 in
             and_from _ _ a.0 (and_from _ _ (sees.rel_seen x b.0 r.0) (and_from _ _ (sees.node_seen q.source c.0 (e q refl).0) (sees.node_seen q.target c.1 (e q refl).1)))
+    fits_seen (Single x from to way) r h =
+        let a = and_parts (holds (goes catalog true from to way) (slice_get y.rels x)) (not (all.rels x) && all.nodes from) h in
+        let b = and_parts (not (all.rels x)) (all.nodes from) a.1 in
+        and_from _ _ a.0 (and_from _ _ (still_new (all.rels x) (k.rels x) (sees.rel_less x) b.0) (sees.node_seen from b.1 r))
+    fits_seen (Meet x from to way) r h =
+        let a = and_parts (holds (goes catalog true from to way) (slice_get y.rels x)) (all.nodes from && all.nodes to) h in
+        let b = and_parts (all.nodes from) (all.nodes to) a.1 in
+        and_from _ _ a.0 (and_from _ _ (sees.node_seen from b.0 r.0) (sees.node_seen to b.1 r.1))
 
 -- ---- what is seen after a step
 
@@ -161,6 +171,13 @@ sees_step w (Join side keys) all k seen more sees f h = record {
 sees_step w (Keep i) all k seen more sees f h = record { node_less = sees.node_less; rel_less = sees.rel_less; node_seen = λ v e m. sees.node_seen v e (f v e m); rel_seen = λ x e m. sees.rel_seen x e (h x e m) }
 sees_step w (Differ p) all k seen more sees f h = record { node_less = sees.node_less; rel_less = sees.rel_less; node_seen = λ v e m. sees.node_seen v e (f v e m); rel_seen = λ x e m. sees.rel_seen x e (h x e m) }
 sees_step w (NoLoop x) all k seen more sees f h = record { node_less = sees.node_less; rel_less = sees.rel_less; node_seen = λ v e m. sees.node_seen v e (f v e m); rel_seen = λ x e m. sees.rel_seen x e (h x e m) }
+sees_step w (Single z from to way) all k seen more sees f h = record {
+  node_less = sees.node_less;
+  rel_less = λ x e. or_map (nat_eq x z) (k.rels x) (all.rels x) (sees.rel_less x) e;
+  node_seen = λ v e m. sees.node_seen v e (f v e m);
+  rel_seen = λ x e m. or_map (nat_eq x z) (all.rels x) (k.rels x) (λ a. sees.rel_seen x a (h x a m)) e;
+}
+sees_step w (Meet z from to way) all k seen more sees f h = record { node_less = sees.node_less; rel_less = sees.rel_less; node_seen = λ v e m. sees.node_seen v e (f v e m); rel_seen = λ x e m. sees.rel_seen x e (h x e m) }
 
 -- ---- what is flat is seen
 
@@ -215,6 +232,8 @@ module _ (catalog : Tables) (y : Typed) (w : Places) (flat : ℕ → Bool) where
   binds_read (Keep i) m h = absurd (true≢false (sym m))
   binds_read (Differ p) m h = absurd (true≢false (sym m))
   binds_read (NoLoop x) m h = absurd (true≢false (sym m))
+  binds_read (Single x from to way) m h = absurd (true≢false (sym m))
+  binds_read (Meet x from to way) m h = absurd (true≢false (sym m))
 
   checks_read : (i : ℕ) (s : Step) → makes_group s ≡ false → StandsAt y w i s → AsksFlat s → Reads catalog y w (SeenIn flat i) s
   checks_read i (Scan v) m at h = absurd (true≢false m)
@@ -222,7 +241,6 @@ module _ (catalog : Tables) (y : Typed) (w : Places) (flat : ℕ → Bool) where
   checks_read i (Extend true x from to way) m at h = inl at
   checks_read i (Close false x from to way) m at h = absurd (true≢false m)
   checks_read i (Close true x from to way) m at h =
-      let js : List ℕ = w.nodes from ∷ w.nodes to ∷ [] in
       let a = all_seen flat i (last_of (w.nodes from ∷ w.nodes to ∷ [])) at (w.nodes from ∷ w.nodes to ∷ []) (low_from (last_of (w.nodes from ∷ w.nodes to ∷ [])) (w.nodes from ∷ w.nodes to ∷ []) (omega arith)) h in
       (a.0, a.1.0)
   checks_read i (Join side keys) m at h = absurd (true≢false m)
@@ -233,10 +251,14 @@ module _ (catalog : Tables) (y : Typed) (w : Places) (flat : ℕ → Bool) where
   checks_read i (NoLoop x) m at h =
       let a = all_seen flat i (last_of (tested y w (NoLoop x))) at (tested y w (NoLoop x)) (low_from (last_of (tested y w (NoLoop x))) (tested y w (NoLoop x)) (omega arith)) h in
       (a.0, λ q is. (let b = subst (λ o. AllByRecursion (SeenIn flat i) (Rattle.gq_plan.specs.Shapes.end_groups w o)) is a.1 in (b.0, b.1.0)))
+  checks_read i (Single x from to way) m at h = inl at
+  checks_read i (Meet x from to way) m at h =
+      let a = all_seen flat i (last_of (w.nodes from ∷ w.nodes to ∷ [])) at (w.nodes from ∷ w.nodes to ∷ []) (low_from (last_of (w.nodes from ∷ w.nodes to ∷ [])) (w.nodes from ∷ w.nodes to ∷ []) (omega arith)) h in
+      (a.0, a.1.0)
 
   -- ---- what was known, and what a group binds
 
-  new_at : (i : ℕ) (s : Step) (all : Known) → BindsAt y w i s → fits_step catalog y s all ≡ true → (v : ℕ) → (after_step s all).nodes v ≡ true → (all.nodes v ≡ true) ⊎ (w.nodes v ≡ i)
+  new_at : (i : ℕ) (s : Step) (all : Known) → BindsAt y w i s → runs_step catalog y s all ≡ true → (v : ℕ) → (after_step s all).nodes v ≡ true → (all.nodes v ≡ true) ⊎ (w.nodes v ≡ i)
   unfolding after_step fits_step
   new_at i (Scan u) all b fit v e = elim (or_cases (nat_eq v u) (all.nodes v) e) [ inl same ↦ inr (ap w.nodes (eqb-true v u same) ∙ b) | inr old ↦ inl old ]
   new_at i (Extend column x from to way) all b fit v e = elim (or_cases (nat_eq v to) (all.nodes v) e) [ inl same ↦ inr (ap w.nodes (eqb-true v to same) ∙ b.0) | inr old ↦ inl old ]
@@ -256,114 +278,70 @@ module _ (catalog : Tables) (y : Typed) (w : Places) (flat : ℕ → Bool) where
   new_at i (Keep n) all b fit v e = inl e
   new_at i (Differ p) all b fit v e = inl e
   new_at i (NoLoop x) all b fit v e = inl e
+  new_at i (Single x from to way) all b fit v e = inl e
+  new_at i (Meet x from to way) all b fit v e = inl e
 
-  new_rel_at : (i : ℕ) (s : Step) (all : Known) → makes_group s ≡ true → BindsAt y w i s → (x : ℕ) → (after_step s all).rels x ≡ true → (all.rels x ≡ true) ⊎ (w.rels x ≡ i)
+  new_rel_at : (i : ℕ) (s : Step) (all : Known) → BindsAt y w i s → (x : ℕ) → (after_step s all).rels x ≡ true → (all.rels x ≡ true) ⊎ (w.rels x ≡ i)
   unfolding after_step
-  new_rel_at i (Scan u) all m b x e = inl e
-  new_rel_at i (Extend column z from to way) all m b x e = elim (or_cases (nat_eq x z) (all.rels x) e) [ inl same ↦ inr (ap w.rels (eqb-true x z same) ∙ b.1) | inr old ↦ inl old ]
-  new_rel_at i (Close false z from to way) all m b x e = elim (or_cases (nat_eq x z) (all.rels x) e) [ inl same ↦ inr (ap w.rels (eqb-true x z same) ∙ b) | inr old ↦ inl old ]
-  new_rel_at i (Close true z from to way) all m b x e = absurd (true≢false (sym m))
-  new_rel_at i (Join side keys) all m b x e = elim (or_cases ((after side none).rels x) (all.rels x) e) [ inl own ↦ inr (b.1 x own) | inr old ↦ inl old ]
-  new_rel_at i (Keep n) all m b x e = inl e
-  new_rel_at i (Differ p) all m b x e = inl e
-  new_rel_at i (NoLoop z) all m b x e = inl e
-
-  -- what a check binds stands in its group, or in an earlier one
-  new_rel_upto : (i : ℕ) (s : Step) (all : Known) → makes_group s ≡ false → BindsAt y w i s → StandsAt y w i s → (x : ℕ) → (after_step s all).rels x ≡ true → (all.rels x ≡ true) ⊎ (w.rels x ≤ i)
-  unfolding after_step
-  new_rel_upto i (Scan u) all m b at x e = inl e
-  new_rel_upto i (Extend column z from to way) all m b at x e =
-      elim (or_cases (nat_eq x z) (all.rels x) e) [ inl same ↦ inr (let p : w.rels x ≡ i = ap w.rels (eqb-true x z same) ∙ b.1 in omega arith) | inr old ↦ inl old ]
-  new_rel_upto i (Close false z from to way) all m b at x e = absurd (true≢false m)
-  new_rel_upto i (Close true z from to way) all m b at x e =
-      elim (or_cases (nat_eq x z) (all.rels x) e) [ inl same ↦ inr (low same b) | inr old ↦ inl old ]
-    where
-      low : nat_eq x z ≡ true → (w.rels z ≡ w.nodes from) ⊎ (w.rels z ≡ i) → w.rels x ≤ i
-      low same (inl p) = (let q : w.rels x ≡ w.nodes from = ap w.rels (eqb-true x z same) ∙ p in omega arith)
-      low same (inr p) = (let q : w.rels x ≡ i = ap w.rels (eqb-true x z same) ∙ p in omega arith)
-  new_rel_upto i (Join side keys) all m b at x e = absurd (true≢false m)
-  new_rel_upto i (Keep n) all m b at x e = inl e
-  new_rel_upto i (Differ p) all m b at x e = inl e
-  new_rel_upto i (NoLoop z) all m b at x e = inl e
+  new_rel_at i (Scan u) all b x e = inl e
+  new_rel_at i (Extend column z from to way) all b x e = elim (or_cases (nat_eq x z) (all.rels x) e) [ inl same ↦ inr (ap w.rels (eqb-true x z same) ∙ b.1) | inr old ↦ inl old ]
+  new_rel_at i (Close column z from to way) all b x e = elim (or_cases (nat_eq x z) (all.rels x) e) [ inl same ↦ inr (ap w.rels (eqb-true x z same) ∙ b) | inr old ↦ inl old ]
+  new_rel_at i (Join side keys) all b x e = elim (or_cases ((after side none).rels x) (all.rels x) e) [ inl own ↦ inr (b.1 x own) | inr old ↦ inl old ]
+  new_rel_at i (Keep n) all b x e = inl e
+  new_rel_at i (Differ p) all b x e = inl e
+  new_rel_at i (NoLoop z) all b x e = inl e
+  new_rel_at i (Single z from to way) all b x e = elim (or_cases (nat_eq x z) (all.rels x) e) [ inl same ↦ inr (ap w.rels (eqb-true x z same) ∙ b) | inr old ↦ inl old ]
+  new_rel_at i (Meet z from to way) all b x e = inl e
 
   -- what is known before a group stands in groups before it
   pub record IsBefore (i : ℕ) (all : Known) : Type 0 where
     pub nodes : (v : ℕ) → all.nodes v ≡ true → w.nodes v < i
     pub rels : (x : ℕ) → all.rels x ≡ true → w.rels x < i
 
-  -- what is known in a group was known before it, or stands in it or in an earlier one
+  -- what is known in a group was known before it, or stands in it
   pub record IsIn (i : ℕ) (old all : Known) : Type 0 where
     pub nodes : (v : ℕ) → all.nodes v ≡ true → (old.nodes v ≡ true) ⊎ (w.nodes v ≡ i)
-    pub rels : (x : ℕ) → all.rels x ≡ true → (old.rels x ≡ true) ⊎ (w.rels x ≤ i)
+    pub rels : (x : ℕ) → all.rels x ≡ true → (old.rels x ≡ true) ⊎ (w.rels x ≡ i)
 
-  in_step : (i : ℕ) (s : Step) (old all : Known) → makes_group s ≡ false → BindsAt y w i s → StandsAt y w i s → fits_step catalog y s all ≡ true → IsIn i old all → IsIn i old (after_step s all)
-  in_step i s old all m b at fit h = record {
+  in_step : (i : ℕ) (s : Step) (old all : Known) → BindsAt y w i s → runs_step catalog y s all ≡ true → IsIn i old all → IsIn i old (after_step s all)
+  in_step i s old all b fit h = record {
     nodes = λ v e. (let hv = h.nodes v in elim (new_at i s all b fit v e) [ inl a ↦ hv a | inr q ↦ inr q ]);
-    rels = λ x e. (let hx = h.rels x in elim (new_rel_upto i s all m b at x e) [ inl a ↦ hx a | inr q ↦ inr q ]);
+    rels = λ x e. (let hx = h.rels x in elim (new_rel_at i s all b x e) [ inl a ↦ hx a | inr q ↦ inr q ]);
   }
 
-  -- ---- what is known of a group that is not flat: what its column closes bind from flat groups alone
+  -- ---- what is known of a group that is not flat: nothing that its steps bind
 
   abbrev FlatBeside : ℕ → ℕ → Type 0
   FlatBeside i j = (flat j ≡ true) × (j ≡ i → ⊥)
 
-  single_sees : (i : ℕ) (s : Step) (all k : Known) → makes_group s ≡ false → BindsAt y w i s → fits_step catalog y s all ≡ true → Sees w all k (FlatBeside i) → Sees w (after_step s all) (single s k) (FlatBeside i)
-  unfolding after_step fits_step
-  single_sees i (Scan u) all k m b fit sees = absurd (true≢false m)
-  single_sees i (Extend false x from to way) all k m b fit sees = absurd (true≢false m)
-  single_sees i (Extend true x from to way) all k m b fit sees = record {
-    node_less = λ v e. or_right (nat_eq v to) (all.nodes v) (sees.node_less v e);
-    rel_less = λ z e. or_right (nat_eq z x) (all.rels z) (sees.rel_less z e);
-    node_seen = λ v e f. (let old_seen = sees.node_seen v in elim (or_cases (nat_eq v to) (all.nodes v) e) [ inl same ↦ absurd (f.1 (ap w.nodes (eqb-true v to same) ∙ b.0)) | inr old ↦ old_seen old f ]);
-    rel_seen = λ z e f. (let old_seen = sees.rel_seen z in elim (or_cases (nat_eq z x) (all.rels z) e) [ inl same ↦ absurd (f.1 (ap w.rels (eqb-true z x same) ∙ b.1)) | inr old ↦ old_seen old f ]);
+  beside_step : (i : ℕ) (s : Step) (all k : Known) → BindsAt y w i s → runs_step catalog y s all ≡ true
+      → ((v : ℕ) → k.nodes v ≡ true → all.nodes v ≡ true) → ((x : ℕ) → k.rels x ≡ true → all.rels x ≡ true)
+      → ((v : ℕ) → all.nodes v ≡ true → FlatBeside i (w.nodes v) → k.nodes v ≡ true) → ((x : ℕ) → all.rels x ≡ true → FlatBeside i (w.rels x) → k.rels x ≡ true)
+      → Sees w (after_step s all) k (FlatBeside i)
+  beside_step i s all k b fit nodes_less rels_less nodes_seen rels_seen = record {
+    node_less = λ v e. known_node s all v (nodes_less v e);
+    rel_less = λ x e. known_rel s all x (rels_less x e);
+    node_seen = λ v e f. (let seen = nodes_seen v in elim (new_at i s all b fit v e) [ inl o ↦ seen o f | inr q ↦ absurd (f.1 q) ]);
+    rel_seen = λ x e f. (let seen = rels_seen x in elim (new_rel_at i s all b x e) [ inl o ↦ seen o f | inr q ↦ absurd (f.1 q) ]);
   }
-  single_sees i (Close false x from to way) all k m b fit sees = absurd (true≢false m)
-  single_sees i (Close true x from to way) all k m b fit sees = go (k.nodes from) refl
-    where
-      bound_from : all.nodes from ≡ true
-      bound_from =
-          (and_parts (all.nodes from) (all.nodes to)
-          (and_parts (not (all.rels x)) (all.nodes from && all.nodes to)
-          (and_parts (holds (goes catalog true from to way) (slice_get y.rels x)) (not (all.rels x) && (all.nodes from && all.nodes to)) fit).1).1).0
-
-      go : (c : Bool) → k.nodes from ≡ c → Sees w (after_step (Close true x from to way) all) (cond c (known.with_rel x k) k) (FlatBeside i)
-      go true is = record {
-        node_less = sees.node_less;
-        rel_less = λ z e. or_map (nat_eq z x) (k.rels z) (all.rels z) (sees.rel_less z) e;
-        node_seen = sees.node_seen;
-        rel_seen = λ z e f. or_map (nat_eq z x) (all.rels z) (k.rels z) (λ old. sees.rel_seen z old f) e;
-      }
-      go false is = record {
-        node_less = sees.node_less;
-        rel_less = λ z e. or_right (nat_eq z x) (all.rels z) (sees.rel_less z e);
-        node_seen = sees.node_seen;
-        rel_seen = λ z e f. (let old_seen = sees.rel_seen z in elim (or_cases (nat_eq z x) (all.rels z) e) [ inl same ↦ absurd (neither z same f b) | inr old ↦ old_seen old f ]);
-      }
-        where
-          neither : (z : ℕ) → nat_eq z x ≡ true → FlatBeside i (w.rels z) → (w.rels x ≡ w.nodes from) ⊎ (w.rels x ≡ i) → ⊥
-          neither z same f (inl p) = true≢false (sym (sees.node_seen from bound_from (subst (FlatBeside i) (ap w.rels (eqb-true z x same) ∙ p) f)) ∙ is)
-          neither z same f (inr p) = f.1 (ap w.rels (eqb-true z x same) ∙ p)
-  single_sees i (Join side keys) all k m b fit sees = absurd (true≢false m)
-  single_sees i (Keep n) all k m b fit sees = sees
-  single_sees i (Differ p) all k m b fit sees = sees
-  single_sees i (NoLoop x) all k m b fit sees = sees
 
   -- the steps that are placed at a group
 
-  checks_enough : (i : ℕ) (ks : List Step) (p : Plan) (old all k few : Known) → NoGroups ks → AllAt y w i ks → Flats y w flat ks → fits catalog y (Rattle.gq_law_groups.specs.Groups.checked ks p) all ≡ true
+  checks_enough : (i : ℕ) (ks : List Step) (p : Plan) (old all k few : Known) → NoGroups ks → AllAt y w i ks → Flats y w flat ks → runs catalog y (Rattle.gq_law_groups.specs.Groups.checked ks p) all ≡ true
       → Sees w all k (SeenIn flat i) → Sees w all few (FlatBeside i) → IsIn i old all
-      → ArePlaced catalog y ks k × Sees w (after_all ks all) (after_all ks k) (SeenIn flat i) × Sees w (after_all ks all) (singles ks few) (FlatBeside i) × IsIn i old (after_all ks all)
-      × (fits catalog y p (after_all ks all) ≡ true)
-  unfolding fits
+      → ArePlaced catalog y ks k × Sees w (after_all ks all) (after_all ks k) (SeenIn flat i) × Sees w (after_all ks all) few (FlatBeside i) × IsIn i old (after_all ks all)
+      × (runs catalog y p (after_all ks all) ≡ true)
+  unfolding runs
   checks_enough i [] p old all k few small at asks fit sees beside inside = (tt, sees, beside, inside, fit)
   checks_enough i (s ∷ ks) p old all k few small at asks fit sees beside inside =
-      let parts = and_parts (fits_step catalog y s all) (fits catalog y (Rattle.gq_law_groups.specs.Groups.checked ks p) (after_step s all)) fit in
+      let parts = and_parts (runs_step catalog y s all) (runs catalog y (Rattle.gq_law_groups.specs.Groups.checked ks p) (after_step s all)) fit in
       let here = fits_seen catalog y w all k (SeenIn flat i) sees s (checks_read i s small.0 at.1 asks.0) parts.0 in
-      let rest = checks_enough i ks p old (after_step s all) (after_step s k) (single s few) small.1 at.2 asks.1 parts.1
-      (sees_step w s all k (SeenIn flat i) (SeenIn flat i) sees (λ v e m. m) (λ x e m. m)) (single_sees i s all few small.0 at.0 parts.0 beside) (in_step i s old all small.0 at.0 at.1 parts.0 inside) in
+      let rest = checks_enough i ks p old (after_step s all) (after_step s k) few small.1 at.2 asks.1 parts.1
+      (sees_step w s all k (SeenIn flat i) (SeenIn flat i) sees (λ v e m. m) (λ x e m. m))
+      (beside_step i s all few at.0 parts.0 beside.node_less beside.rel_less beside.node_seen beside.rel_seen) (in_step i s old all at.0 parts.0 inside) in
       ((no_join s small.0, here, rest.0), rest.1, rest.2, rest.3, rest.4)
 
-  sees_next : (i : ℕ) (b : Group) (all k end : Known) → Sees w all end (SeenIn flat i) → Sees w all (singles b.checks k) (FlatBeside i) → (f : Bool) → flat i ≡ f
+  sees_next : (i : ℕ) (b : Group) (all k end : Known) → Sees w all end (SeenIn flat i) → Sees w all k (FlatBeside i) → (f : Bool) → flat i ≡ f
       → end ≡ after_all b.checks (after_step b.binds k) → Sees w all (known_with f b k) (FlatAt flat)
   sees_next i b all k end own beside true is e =
       subst (λ z. Sees w all z (FlatAt flat)) e (record { node_less = own.node_less; rel_less = own.rel_less; node_seen = λ v a m. own.node_seen v a (inr m); rel_seen = λ x a m. own.rel_seen x a (inr m) })
@@ -374,25 +352,20 @@ module _ (catalog : Tables) (y : Typed) (w : Places) (flat : ℕ → Bool) where
     rel_seen = λ x a m. beside.rel_seen x a (m, λ q. true≢false (sym m ∙ ap flat q ∙ is));
   }
 
-  pub groups_enough : (gs : List Group) (i : ℕ) (all k : Known) → AreCut gs → InOrder y w i gs → FlatsOf y w flat gs → fits catalog y (Rattle.gq_law_groups.specs.Groups.plan_of gs) all ≡ true → Sees w all k (FlatAt flat) → IsBefore i all
+  pub groups_enough : (gs : List Group) (i : ℕ) (all k : Known) → AreCut gs → InOrder y w i gs → FlatsOf y w flat gs → runs catalog y (Rattle.gq_law_groups.specs.Groups.plan_of gs) all ≡ true → Sees w all k (FlatAt flat) → IsBefore i all
       → AreFlatEnough catalog y flat i gs k
-  unfolding fits
+  unfolding runs
   groups_enough [] i all k cut order asks fit sees before = tt
   groups_enough (b ∷ gs) i all k cut order asks fit sees before =
-      let parts = and_parts (fits_step catalog y b.binds all) (fits catalog y (Rattle.gq_law_groups.specs.Groups.checked b.checks (Rattle.gq_law_groups.specs.Groups.plan_of gs)) (after_step b.binds all)) fit in
+      let parts = and_parts (runs_step catalog y b.binds all) (runs catalog y (Rattle.gq_law_groups.specs.Groups.checked b.checks (Rattle.gq_law_groups.specs.Groups.plan_of gs)) (after_step b.binds all)) fit in
       let here = fits_seen catalog y w all k (FlatAt flat) sees b.binds (binds_read b.binds cut.0 asks.0) parts.0 in
       let first : Sees w (after_step b.binds all) (after_step b.binds k) (SeenIn flat i) =
       sees_step w b.binds all k (FlatAt flat) (SeenIn flat i) sees (λ v e m. flat_of (w.nodes v) (before.nodes v e) m) (λ x e m. flat_of (w.rels x) (before.rels x e) m) in
       let inside : IsIn i all (after_step b.binds all) = record {
         nodes = λ v e. new_at i b.binds all order.0 parts.0 v e;
-        rels = λ x e. elim (new_rel_at i b.binds all cut.0 order.0 x e) [ inl o ↦ inl o | inr q ↦ inr (omega arith) ];
+        rels = λ x e. new_rel_at i b.binds all order.0 x e;
       } in
-      let beside : Sees w (after_step b.binds all) k (FlatBeside i) = record {
-        node_less = λ v e. known_node b.binds all v (sees.node_less v e);
-        rel_less = λ x e. known_rel b.binds all x (sees.rel_less x e);
-        node_seen = λ v e f. (let seen = sees.node_seen v in elim (new_at i b.binds all order.0 parts.0 v e) [ inl o ↦ seen o f.0 | inr q ↦ absurd (f.1 q) ]);
-        rel_seen = λ x e f. (let seen = sees.rel_seen x in elim (new_rel_at i b.binds all cut.0 order.0 x e) [ inl o ↦ seen o f.0 | inr q ↦ absurd (f.1 q) ]);
-      } in
+      let beside = beside_step i b.binds all k order.0 parts.0 sees.node_less sees.rel_less (λ v e f. sees.node_seen v e f.0) (λ x e f. sees.rel_seen x e f.0) in
       let on = checks_enough i b.checks (Rattle.gq_law_groups.specs.Groups.plan_of gs) all (after_step b.binds all) (after_step b.binds k) k cut.1 order.1 asks.1 parts.1 first beside inside in (
         here,
         on.0,

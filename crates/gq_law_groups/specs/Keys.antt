@@ -7,7 +7,8 @@ use Rattle.gq_base.specs.Valid.{is_valid}
 use Rattle.gq_base.specs.declared.RelId.{RelId}
 use Rattle.gq_plan.specs.Allowed.{at_same}
 use Rattle.gq_plan.specs.Assignments.{same_rel}
-use Rattle.gq_plan.specs.Covers.{Fits, after}
+use Rattle.gq_plan.specs.Covers.{after}
+use Rattle.gq_plan.specs.Halves.{Runs}
 use Rattle.gq_plan.specs.Known.{Known, none}
 use Rattle.gq_plan.specs.Meaning.{Partial, nothing, look}
 use Rattle.gq_plan.specs.Plans.{Step}
@@ -57,7 +58,7 @@ pub record IsAs (k : Known) (a b : Partial) : Type 0 where
 abbrev pub KeysOfAssignments : Type 0
 KeysOfAssignments =
     (g : Graph) (y : Typed) (rows : ℕ → List Partial) (flat : ℕ → Bool) (gs : List Group)
-    → IsTrue (is_valid g) → IsSound g.catalog y → Fits g.catalog y (plan_of gs) → AreCut gs → HaveRows g y rows 0 gs → AreFlatEnough g.catalog y flat 0 gs none
+    → IsTrue (is_valid g) → IsSound g.catalog y → Runs g.catalog y (plan_of gs) → AreCut gs → HaveRows g y rows 0 gs → AreFlatEnough g.catalog y flat 0 gs none
     → AllByRecursion (λ w. (e : Partial) → IsAs (after (plan_of gs) none) (decode g y rows 0 gs nothing w) e → key_in g y rows flat 0 (makers gs) e ≡ key_of (layout_of g y rows flat gs) [] w)
     (walks (layout_of g y rows flat gs) (length gs) [])
 
@@ -66,6 +67,6 @@ KeysOfAssignments =
 abbrev pub KeysOfRest : Type 0
 KeysOfRest =
     (g : Graph) (y : Typed) (rows : ℕ → List Partial) (flat : ℕ → Bool) (gs : List Group) (means : List ℕ → Partial) (spot : Spot)
-    → IsTrue (is_valid g) → IsSound g.catalog y → Fits g.catalog y (plan_of gs) → AreCut gs → HaveRows g y rows 0 gs → AreFlatEnough g.catalog y flat 0 gs none
+    → IsTrue (is_valid g) → IsSound g.catalog y → Runs g.catalog y (plan_of gs) → AreCut gs → HaveRows g y rows 0 gs → AreFlatEnough g.catalog y flat 0 gs none
     → AllByRecursion (λ w. IsAs (after (plan_of gs) none) (decode g y rows 0 gs nothing w) (means w)) (walks (layout_of g y rows flat gs) (length gs) [])
     → AreKeysOf (owed_keys (layout_of g y rows flat gs) (length gs) spot) (map (key_in g y rows flat 0 (makers gs)) (map means (owed_walks (layout_of g y rows flat gs) (length gs) spot)))

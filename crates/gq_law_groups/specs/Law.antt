@@ -7,7 +7,9 @@ use Rattle.gq_base.specs.Valid.{is_valid}
 use Rattle.gq_base.specs.declared.NodeId.{NodeId}
 use Rattle.gq_base.specs.declared.RelId.{RelId}
 use Rattle.gq_plan.specs.Assignments.{Assignment}
-use Rattle.gq_plan.specs.Covers.{Fits, placed}
+use Rattle.gq_plan.specs.Columns.{steps_of}
+use Rattle.gq_plan.specs.Covers.{Fits}
+use Rattle.gq_plan.specs.Halves.{halved, Runs}
 use Rattle.gq_plan.specs.Meaning.{Partial, nothing, look, mean}
 use Rattle.gq_plan.specs.Plans.{Plan}
 use Rattle.gq_plan.specs.Soundness.{IsSound}
@@ -35,11 +37,15 @@ WalksMean =
     → AreGroups g y rows 0 gs → Follows g y rows l [] 0 gs nothing
     → IsPermutation (map (decode g y rows 0 gs nothing) (walks l (length gs) [])) (mean g y (plan_of gs) nothing)
 
--- two plans that fit and meet the same demands mean the same, in whatever order their steps stand
+-- steps are those of a plan, its column closes in halves, in whatever order
+abbrev pub HasStepsOf : Plan → Plan → Type 0
+HasStepsOf q p = IsPermutation (steps_of q) (steps_of (halved p))
+
+-- what fits as it runs, with the steps of a plan that fits, means what the plan means
 abbrev pub SamePlansMean : Type 0
 SamePlansMean =
     (g : Graph) (y : Typed) (p q : Plan) → IsTrue (is_valid g) → IsSound g.catalog y
-    → Fits g.catalog y p → Fits g.catalog y q → IsPermutation (placed p) (placed q)
+    → Fits g.catalog y p → Runs g.catalog y q → HasStepsOf q p
     → IsPermutation (map (read_all y) (mean g y p nothing)) (map (read_all y) (mean g y q nothing))
 
 -- each group that joins, from a number on, has rows that stand for what its side plan means

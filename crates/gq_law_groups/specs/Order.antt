@@ -1,8 +1,8 @@
 -- Groups whose steps stand in the order of their groups.
-use Rattle.std.specs.Prelude.{◌≡◌, ℕ, ◌+◌, ◌⊎◌, Bool, true, false, not, ◌&&◌, List, [], ◌∷◌}
+use Rattle.std.specs.Prelude.{◌≡◌, ℕ, ◌+◌, Bool, true, false, not, ◌&&◌, List, [], ◌∷◌}
 use Rattle.gq_plan.specs.Covers.{after}
 use Rattle.gq_plan.specs.Known.{none}
-use Rattle.gq_plan.specs.Plans.{Step, Scan, Extend, Close, Join}
+use Rattle.gq_plan.specs.Plans.{Step, Scan, Extend, Close, Join, Single}
 use Rattle.gq_plan.specs.Soundness.{has_number}
 use Rattle.gq_plan.specs.declared.typed.Typed.{Typed}
 use Rattle.gq_law_groups.specs.Groups.{Group, makes_group}
@@ -19,19 +19,19 @@ AreCut [] = Unit {0}
 AreCut (b ∷ gs) = (makes_group b.binds ≡ true) × NoGroups b.checks × AreCut gs
 
 module _ (y : Typed) (w : Places) where
-  -- what a step binds stands in a group; what a column close binds stands in its source's, or in the one in which the
-  -- close is tested
+  -- what a step binds stands in a group
   abbrev pub BindsAt : ℕ → Step → Type 0
   BindsAt i (Scan v) = w.nodes v ≡ i
   BindsAt i (Extend column x from to direction) = (w.nodes to ≡ i) × (w.rels x ≡ i)
-  BindsAt i (Close false x from to direction) = w.rels x ≡ i
-  BindsAt i (Close true x from to direction) = (w.rels x ≡ w.nodes from) ⊎ (w.rels x ≡ i)
+  BindsAt i (Close column x from to direction) = w.rels x ≡ i
+  BindsAt i (Single x from to direction) = w.rels x ≡ i
   BindsAt i (Join side keys) = ((v : ℕ) → ((after side none).nodes v && not (has_number keys v)) ≡ true → w.nodes v ≡ i) × ((x : ℕ) → (after side none).rels x ≡ true → w.rels x ≡ i)
   BindsAt i s = Unit {0}
 
-  -- a test's latest group is this one; a column step's source stands in it
+  -- a test's latest group is this one; the source of a step that follows a column stands in it
   abbrev pub StandsAt : ℕ → Step → Type 0
   StandsAt i (Extend column x from to direction) = w.nodes from ≡ i
+  StandsAt i (Single x from to direction) = w.nodes from ≡ i
   StandsAt i s = last_of (tested y w s) ≡ i
 
   abbrev pub AllAt : ℕ → List Step → Type 0

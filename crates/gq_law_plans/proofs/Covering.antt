@@ -7,7 +7,7 @@ use Rattle.gq_base.specs.Catalogs.{Tables}
 use Rattle.gq_plan.specs.Covers.{after, after_step, fits, fits_step, is_joined, is_key, placed, placed_step}
 use Rattle.gq_plan.specs.Known.{Known, none}
 use Rattle.gq_plan.specs.Soundness.{has_number}
-use Rattle.gq_plan.specs.Plans.{Plan, Done, Then, Step, Scan, Extend, Close, Join, Keep, Differ, NoLoop}
+use Rattle.gq_plan.specs.Plans.{Plan, Done, Then, Step, Scan, Extend, Close, Join, Keep, Differ, NoLoop, Single, Meet}
 use Rattle.gq_plan.specs.declared.demand.Demand.{Demand}
 use Rattle.gq_plan.specs.declared.demand.Demand.TheVariants.{InTable, Joins, Passes, Differs, IsNoLoop}
 use Rattle.gq_plan.specs.declared.typed.Typed.{Typed}
@@ -39,6 +39,8 @@ module _ (catalog : Tables) (y : Typed) (met : Demand → Bool) where
     step_in (Keep i) k v before all h = before h
     step_in (Differ p) k v before all h = before h
     step_in (NoLoop x) k v before all h = before h
+    step_in (Single x from to way) k v before all h = before h
+    step_in (Meet x from to way) k v before all h = before h
 
   then_same : (a b c d : Bool) → a ≡ b → (a ≡ true → c ≡ d) → (a && c) ≡ (b && d)
   then_same true b c d e more = ap₂ ◌&&◌ e (more refl)
@@ -76,3 +78,5 @@ module _ (catalog : Tables) (y : Typed) (met : Demand → Bool) where
     step_same (Keep i) k fit before = refl
     step_same (Differ p) k fit before = refl
     step_same (NoLoop x) k fit before = refl
+    step_same (Single x from to way) k fit before = refl
+    step_same (Meet x from to way) k fit before = refl

@@ -13,7 +13,7 @@ use Rattle.gq_plan.specs.Known as known
 use Rattle.gq_plan.specs.Known.{Known, none}
 use Rattle.gq_plan.specs.Meaning.{Partial, nothing, with_node, with_rel, with_all, look, far, nodes_for, arrive, agree, holds, keep_if, mean, step}
 use Rattle.gq_plan.specs.Soundness.{has_number}
-use Rattle.gq_plan.specs.Plans.{Plan, Done, Then, Step, Scan, Extend, Close, Join, Keep, Differ, NoLoop}
+use Rattle.gq_plan.specs.Plans.{Plan, Done, Then, Step, Scan, Extend, Close, Join, Keep, Differ, NoLoop, Single, Meet}
 use Rattle.gq_plan.specs.declared.typed.Typed.{Typed}
 use Rattle.gq_plan.proofs.Each.{each_of, each_map, each_flat_map, each_kept}
 use Rattle.gq_law_plans.proofs.Counting.{known_by, known_by_all, at_same_is}
@@ -137,3 +137,5 @@ module _ (g : Graph) (y : Typed) where
     owns_step (Keep i) a h fit = kept_made a _ h
     owns_step (Differ p) a h fit = kept_made a _ h
     owns_step (NoLoop x) a h fit = kept_made a _ h
+    owns_step (Single x from to way) a h fit = absurd (true≢false (sym fit))
+    owns_step (Meet x from to way) a h fit = absurd (true≢false (sym fit))

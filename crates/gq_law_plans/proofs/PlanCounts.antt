@@ -12,7 +12,7 @@ use Rattle.gq_plan.specs.Covers.{after, after_step, fits, fits_step, is_joined}
 use Rattle.gq_plan.specs.Known.{none}
 use Rattle.gq_plan.specs.Meaning.{Partial, nothing, with_all, look, agree, mean, step}
 use Rattle.gq_plan.specs.Soundness.{IsSound}
-use Rattle.gq_plan.specs.Plans.{Plan, Done, Then, Step, Scan, Extend, Close, Join, Keep, Differ, NoLoop}
+use Rattle.gq_plan.specs.Plans.{Plan, Done, Then, Step, Scan, Extend, Close, Join, Keep, Differ, NoLoop, Single, Meet}
 use Rattle.gq_plan.specs.declared.demand.Demand.{Demand}
 use Rattle.gq_plan.specs.declared.demand.Demand.TheVariants.{InTable, Joins, Passes, Differs, IsNoLoop}
 use Rattle.gq_plan.specs.declared.typed.Typed.{Typed}
@@ -38,6 +38,8 @@ unfoldable mutual
   placed_all_step (Keep i) = Passes i ∷ []
   placed_all_step (Differ p) = Differs p ∷ []
   placed_all_step (NoLoop x) = IsNoLoop x ∷ []
+  placed_all_step (Single x from to way) = Joins x ∷ []
+  placed_all_step (Meet x from to way) = []
 
 pub total_same_on : {X : Type 0} (P : X → Type 0) (f h : X → ℕ) → ((x : X) → P x → f x ≡ h x) → (xs : List X) → AllByRecursion P xs → total f xs ≡ total h xs
 total_same_on P f h same [] all = refl
@@ -115,3 +117,5 @@ module _ (g : Graph) (y : Typed) (real : IsTrue (is_valid g)) (sound : IsSound g
     count_step (Keep i) a owns fit = tested g y real sound t a i fit
     count_step (Differ p) a owns fit = different g y real sound t a p fit
     count_step (NoLoop x) a owns fit = unlooped g y real sound t a x fit
+    count_step (Single x from to way) a owns fit = absurd (true≢false (sym fit))
+    count_step (Meet x from to way) a owns fit = absurd (true≢false (sym fit))

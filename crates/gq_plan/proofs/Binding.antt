@@ -12,7 +12,7 @@ use Rattle.gq_plan.specs.Covers.{after, after_step, fits, fits_step, is_joined, 
 use Rattle.gq_plan.specs.Known.{Known, none}
 use Rattle.gq_plan.specs.Meaning.{holds}
 use Rattle.gq_plan.specs.Soundness.{has_number}
-use Rattle.gq_plan.specs.Plans.{Plan, Done, Then, Step, Scan, Extend, Close, Join, Keep, Differ, NoLoop}
+use Rattle.gq_plan.specs.Plans.{Plan, Done, Then, Step, Scan, Extend, Close, Join, Keep, Differ, NoLoop, Single, Meet}
 use Rattle.gq_plan.specs.declared.demand.Demand.{Demand}
 use Rattle.gq_plan.specs.declared.demand.Demand.TheVariants.{InTable, Joins, Passes, Differs, IsNoLoop}
 use Rattle.gq_plan.specs.declared.typed.Typed.{Typed}
@@ -92,6 +92,8 @@ module _ (catalog : Tables) (y : Typed) (v : ℕ) where
     step_binds (Keep i) k fit = refl
     step_binds (Differ p) k fit = refl
     step_binds (NoLoop x) k fit = refl
+    step_binds (Single x from to way) k fit = refl
+    step_binds (Meet x from to way) k fit = refl
 
   mutual
     unfolding after after_step placed placed_step
@@ -114,6 +116,8 @@ module _ (catalog : Tables) (y : Typed) (v : ℕ) where
     step_joins (Keep i) k = refl
     step_joins (Differ p) k = refl
     step_joins (NoLoop x) k = refl
+    step_joins (Single x from to way) k = or_last (nat_eq v x) (k.rels v)
+    step_joins (Meet x from to way) k = refl
 
   -- ---- the variables of the demands are those of the alternative
 

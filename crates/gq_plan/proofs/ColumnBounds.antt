@@ -17,7 +17,7 @@ use Rattle.gq_plan.specs.Columns.{binds, step_binds, brought, own_columns, step_
 use Rattle.gq_plan.specs.Covers.{after, after_step, fits, fits_step, goes, is_joined}
 use Rattle.gq_plan.specs.Known.{Known, none}
 use Rattle.gq_plan.specs.Meaning.{holds}
-use Rattle.gq_plan.specs.Plans.{Plan, Done, Then, Step, Scan, Extend, Close, Join, Keep, Differ, NoLoop}
+use Rattle.gq_plan.specs.Plans.{Plan, Done, Then, Step, Scan, Extend, Close, Join, Keep, Differ, NoLoop, Single, Meet}
 use Rattle.gq_plan.specs.Reads.{Read, reads, is_property, properties, properties_of, with_reads}
 use Rattle.gq_plan.specs.Soundness.{has_number, max_reads, test_reads, IsSound}
 use Rattle.gq_plan.specs.declared.bound.NamedExpr.{NamedExpr}
@@ -123,6 +123,8 @@ mutual
   step_binds_is v (Keep i) k = refl
   step_binds_is v (Differ q) k = refl
   step_binds_is v (NoLoop x) k = refl
+  step_binds_is v (Single x from to way) k = refl
+  step_binds_is v (Meet x from to way) k = refl
 
 -- ---- the columns that steps fill, the reads of their tests apart
 
@@ -169,6 +171,8 @@ module _ (catalog : Tables) (y : Typed) where
   one_step (Keep i) k h = omega arith
   one_step (Differ q) k h = omega arith
   one_step (NoLoop x) k h = omega arith
+  one_step (Single x from to way) k h = absurd (true≢false (sym h))
+  one_step (Meet x from to way) k h = absurd (true≢false (sym h))
 
   own_bound : (p : Plan) (k : Known) → fits catalog y p k ≡ true → sum_by (own_columns y) (steps_of p) + (nodes_in k + rels_in k) ≤ length y.nodes + length y.rels
   unfolding fits
@@ -204,6 +208,8 @@ one_reads y (Join side keys) = tt
 one_reads y (Keep i) = one_test y.tests i
 one_reads y (Differ q) = tt
 one_reads y (NoLoop x) = tt
+one_reads y (Single x from to way) = tt
+one_reads y (Meet x from to way) = tt
 
 all_reads : (y : Typed) (p : Plan) → AllAmong (flat_map (step_reads y) (steps_of p)) (properties (test_reads y))
 all_reads y Done = tt

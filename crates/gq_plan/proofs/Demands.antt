@@ -14,7 +14,7 @@ use Rattle.gq_plan.proofs.Each.{each_then, each_map, each_append, each_below, ea
 use Rattle.gq_plan.specs.Covers.{fits, fits_step, after_step, placed, placed_step, demands, is_key, leaves_loops_out, is_new, goes, test_bound, pair_bound, loop_bound, Covers}
 use Rattle.gq_plan.specs.Known.{Known, none}
 use Rattle.gq_plan.specs.Meaning.{holds}
-use Rattle.gq_plan.specs.Plans.{Plan, Done, Then, Step, Scan, Extend, Close, Join, Keep, Differ, NoLoop}
+use Rattle.gq_plan.specs.Plans.{Plan, Done, Then, Step, Scan, Extend, Close, Join, Keep, Differ, NoLoop, Single, Meet}
 use Rattle.gq_plan.specs.steps.Times.{same_demand, one, times, is_once}
 use Rattle.gq_plan.specs.declared.demand.Demand.{Demand}
 use Rattle.gq_plan.specs.declared.demand.Demand.TheVariants.{InTable, Joins, Passes, Differs, IsNoLoop}
@@ -220,6 +220,8 @@ mutual
   step_named catalog y (Keep i) k h = (holds_within (test_bound k) y.tests i h, tt)
   step_named catalog y (Differ p) k h = (holds_within (pair_bound k) y.pairs p h, tt)
   step_named catalog y (NoLoop x) k h = (and_from _ _ (holds_within (loop_bound k x) y.rels x h) (loop_is k x (slice_get y.rels x) h), tt)
+  step_named catalog y (Single x from to way) k h = absurd (true≢false (sym h))
+  step_named catalog y (Meet x from to way) k h = tt
 
 -- ---- what is covered
 

@@ -1,9 +1,10 @@
 -- Whether a plan fits, what it binds and which demands it meets, by its first step.
-use Rattle.std.proofs.Common.{◌≡◌, ◌∙◌, ap, sym, ℕ, ◌+◌, ◌<◌, ◌&&◌, List, ◌∷◌, ◌++◌, map, length, drop, get_or, drop-cons, add-one, suc}
+use Rattle.std.proofs.Common.{◌≡◌, ◌∙◌, ap, refl, sym, ℕ, ◌+◌, ◌<◌, ◌&&◌, List, [], ◌∷◌, ◌++◌, map, length, drop, get_or, drop-cons, add-one, suc}
 use Rattle.gq_base.specs.Catalogs.{Tables}
+use Rattle.gq_plan.specs.Columns.{steps_of}
 use Rattle.gq_plan.specs.Covers.{fits, fits_step, after, after_step, placed, placed_step}
 use Rattle.gq_plan.specs.Known.{Known}
-use Rattle.gq_plan.specs.Plans.{steps, step_of}
+use Rattle.gq_plan.specs.Plans.{Step, steps, step_of}
 use Rattle.gq_plan.specs.declared.plan.Step as code
 use Rattle.gq_plan.specs.declared.typed.Typed.{Typed}
 
@@ -24,3 +25,8 @@ pub placed_first : (xs : List code.Step) (i : ℕ) (x : code.Step) → i < lengt
     → placed (steps (map step_of (drop i xs))) ≡ placed_step (step_of x) ++ placed (steps (map step_of (drop (i + 1) xs)))
 unfolding placed
 placed_first xs i x h is = ap (λ ys. placed (steps (map step_of ys))) (first_of_rest xs i x h is)
+
+-- the steps of a list of steps
+pub steps_back : (ss : List Step) → steps_of (steps ss) ≡ ss
+steps_back [] = refl
+steps_back (s ∷ ss) = ap (λ l. s ∷ l) (steps_back ss)

@@ -6,7 +6,7 @@ use Rattle.std.proofs.lemmas.Slice.Zip.{AllZip-long}
 use Rattle.gq_base.specs.Lists.{is_empty}
 use Rattle.gq_plan.specs.Flat.{is_flat}
 use Rattle.gq_plan.specs.Parts.{sides}
-use Rattle.gq_plan.specs.Plans.{Plan, Done, Then, Scan, Extend, Close, Join, Keep, Differ, NoLoop}
+use Rattle.gq_plan.specs.Plans.{Plan, Done, Then, Scan, Extend, Close, Join, Keep, Differ, NoLoop, Single, Meet}
 
 pub flat_is : (p : Plan) → is_flat p ≡ is_empty (sides p)
 unfolding sides
@@ -18,6 +18,8 @@ flat_is (Then (Join side keys) p) = sym (ne_eqb (suc (length (sides p))) 0 (λ e
 flat_is (Then (Keep i) p) = flat_is p
 flat_is (Then (Differ q) p) = flat_is p
 flat_is (Then (NoLoop x) p) = flat_is p
+flat_is (Then (Single x from to way) p) = flat_is p
+flat_is (Then (Meet x from to way) p) = flat_is p
 
 -- so where it has one side plan for each item of a list, it is without joins exactly where the list is empty
 pub flat_where : {X : Type 0} (R : X → Plan → Type 0) (xs : List X) (p : Plan) → AllZip R xs (sides p) → is_flat p ≡ is_empty xs

@@ -10,6 +10,7 @@ pub mod FewLemmas
 pub mod FirstSteps
 pub mod Flats
 pub mod GroupReads
+pub mod Halved
 pub mod Keyed
 pub mod Marks
 pub mod NameLemmas

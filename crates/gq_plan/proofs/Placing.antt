@@ -11,9 +11,8 @@ use Rattle.gq_plan.specs.Columns.{binds}
 use Rattle.gq_plan.specs.Covers.{after, after_step, fits, fits_step, goes, is_joined}
 use Rattle.gq_plan.specs.Known.{Known, none}
 use Rattle.gq_plan.specs.Meaning.{holds}
-use Rattle.gq_plan.specs.Plans.{Plan, Done, Then, Step, Scan, Extend, Close, Join, Keep, Differ, NoLoop, steps, step_of}
-use Rattle.gq_plan.specs.Arranged.{at_step, at_after}
-use Rattle.gq_plan.specs.Shapes.{Places, put_all, place_step, places_after}
+use Rattle.gq_plan.specs.Plans.{Plan, Done, Then, Step, Scan, Extend, Close, Join, Keep, Differ, NoLoop, Single, Meet, steps, step_of}
+use Rattle.gq_plan.specs.Shapes.{put_all}
 use Rattle.gq_plan.specs.Soundness.{has_number, max_variables}
 use Rattle.gq_plan.specs.declared.plan.Step as code
 use Rattle.gq_plan.specs.declared.typed.Typed.{Typed}
@@ -43,6 +42,8 @@ mutual
   step_rels_is x (Keep i) k = refl
   step_rels_is x (Differ q) k = refl
   step_rels_is x (NoLoop own) k = refl
+  step_rels_is x (Single own from to way) k = ap (λ b. b || k.rels x) (eqb_sym x own)
+  step_rels_is x (Meet own from to way) k = refl
 
 -- ---- what is bound has room
 
@@ -110,6 +111,8 @@ module _ (catalog : Tables) (y : Typed) where
     step_low (Keep i) k h low = low
     step_low (Differ q) k h low = low
     step_low (NoLoop x) k h low = low
+    step_low (Single x from to way) k h low = absurd (true≢false (sym h))
+    step_low (Meet x from to way) k h low = low
 
   module _ (nodes_fit : length y.nodes ≤ max_variables) (rels_fit : length y.rels ≤ max_variables) where
     step_named : (s : Step) (k : Known) → fits_step catalog y s k ≡ true → IsNamed s
@@ -127,6 +130,8 @@ module _ (catalog : Tables) (y : Typed) where
     step_named (Keep i) k h = tt
     step_named (Differ q) k h = tt
     step_named (NoLoop x) k h = tt
+    step_named (Single x from to way) k h = absurd (true≢false (sym h))
+    step_named (Meet x from to way) k h = tt
 
     -- so of each step of a plan that fits
     pub all_named : (ss : List code.Step) (k : Known) → fits catalog y (steps (map step_of ss)) k ≡ true → AllByRecursion (λ s. IsNamed (step_of s)) ss
@@ -177,22 +182,3 @@ joined_rels new old before side taken group at room s g o h =
     ∙ ap (λ (q : Plan). put_all (λ x. nat_lt x max_variables && binds_rel x q) at before) s
     ∙ ap₂ (λ (n : ℕ) (f : ℕ → ℕ). put_all (λ x. nat_lt x max_variables && binds_rel x side) n f) g o
     ∙ ap (λ own. put_all own group old) (brings_rels side room)
-
--- ---- the places of a plan
-
-step_same : (s : Step) (q : Places) → at_step false s q ≡ place_step s q
-unfolding place_step
-step_same (Scan v) q = refl
-step_same (Extend true x from to way) q = refl
-step_same (Extend false x from to way) q = refl
-step_same (Close true x from to way) q = refl
-step_same (Close false x from to way) q = refl
-step_same (Join side keys) q = refl
-step_same (Keep i) q = refl
-step_same (Differ d) q = refl
-step_same (NoLoop x) q = refl
-
-pub after_same : (p : Plan) (q : Places) → at_after false p q ≡ places_after p q
-unfolding at_after places_after
-after_same Done q = refl
-after_same (Then s p) q = after_same p (at_step false s q) ∙ ap (places_after p) (step_same s q)

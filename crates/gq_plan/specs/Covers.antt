@@ -8,7 +8,7 @@ use Rattle.gq_base.specs.declared.direction.Direction.TheVariants.{Forward, Back
 use Rattle.gq_plan.specs.Meaning.{holds}
 use Rattle.gq_plan.specs.Known.{Known, none, with_node, with_rel, with_both, reads_bound}
 use Rattle.gq_plan.specs.Soundness.{has_number}
-use Rattle.gq_plan.specs.Plans.{Plan, Done, Then, Step, Scan, Extend, Close, Join, Keep, Differ, NoLoop}
+use Rattle.gq_plan.specs.Plans.{Plan, Done, Then, Step, Scan, Extend, Close, Join, Keep, Differ, NoLoop, Single, Meet}
 use Rattle.gq_plan.specs.declared.bound.NamedExpr.{NamedExpr}
 use Rattle.gq_plan.specs.declared.demand.Demand.{Demand}
 use Rattle.gq_plan.specs.declared.demand.Demand.TheVariants.{InTable, Joins, Passes, Differs, IsNoLoop}
@@ -29,9 +29,8 @@ unfoldable mutual
   after_step (Extend column x from to direction) k = with_node to (with_rel x k)
   after_step (Close column x from to direction) k = with_rel x k
   after_step (Join side keys) k = with_both (after side none) k
-  after_step (Keep i) k = k
-  after_step (Differ p) k = k
-  after_step (NoLoop x) k = k
+  after_step (Single x from to direction) k = with_rel x k
+  after_step s k = k
 
 -- ---- what fits
 
@@ -104,6 +103,7 @@ module _ (catalog : Tables) (y : Typed) where
     fits_step (Keep i) k = holds (test_bound k) (slice_get y.tests i)
     fits_step (Differ p) k = holds (pair_bound k) (slice_get y.pairs p)
     fits_step (NoLoop x) k = holds (loop_bound k x) (slice_get y.rels x)
+    fits_step s k = false
 
 -- ---- what is covered
 
@@ -139,6 +139,8 @@ unfoldable mutual
   placed_step (Keep i) = Passes i ∷ []
   placed_step (Differ p) = Differs p ∷ []
   placed_step (NoLoop x) = IsNoLoop x ∷ []
+  placed_step (Single x from to direction) = Joins x ∷ []
+  placed_step (Meet x from to direction) = []
 
 -- a plan fits an alternative by itself
 abbrev pub Fits : Tables → Typed → Plan → Type 0

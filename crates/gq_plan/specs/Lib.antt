@@ -6,6 +6,7 @@ pub mod Conditions
 pub mod Counts
 pub mod Covers
 pub mod Flat
+pub mod Halves
 pub mod Keys
 pub mod Known
 pub mod Law

@@ -1,6 +1,6 @@
 -- What a plan means in a plain graph: the assignments that its steps make from nothing, depth first.
 use Rattle.std.specs.Prelude.{ℕ, nat_eq, Bool, true, false, Option, Some, None, List, [], ◌∷◌, ◌++◌, map, flat_map, filter, length, slice_get, if◌then◌else◌}
-use Rattle.std.specs.List.{range_with_len, list_all}
+use Rattle.std.specs.List.{range_with_len, list_all, list_any}
 use Rattle.gq_base.specs.Plain.{Graph}
 use Rattle.gq_base.specs.declared.NodeId.{NodeId}
 use Rattle.gq_base.specs.declared.RelId.{RelId}
@@ -10,7 +10,7 @@ use Rattle.gq_expr.specs.Reading as reading
 use Rattle.gq_plan.specs.Allowed.{at_same}
 use Rattle.gq_plan.specs.Assignments.{Assignment, nodes_of, rels_of, source, target}
 use Rattle.gq_plan.specs.Conditions.{passes, differs, no_loop}
-use Rattle.gq_plan.specs.Plans.{Plan, Done, Then, Step, Scan, Extend, Close, Join, Keep, Differ, NoLoop}
+use Rattle.gq_plan.specs.Plans.{Plan, Done, Then, Step, Scan, Extend, Close, Join, Keep, Differ, NoLoop, Single, Meet}
 use Rattle.gq_plan.specs.declared.typed.Typed.{Typed}
 use Rattle.gq_plan.specs.declared.typed.TypedRel.{TypedRel}
 
@@ -107,6 +107,9 @@ module _ (g : Graph) (y : Typed) where
     step (Keep i) a = keep_if (holds (passes g (row a)) (slice_get y.tests i)) a
     step (Differ p) a = keep_if (holds (differs (row a)) (slice_get y.pairs p)) a
     step (NoLoop x) a = keep_if (holds (no_loop (row a)) (slice_get y.rels x)) a
+    step (Single x from to direction) a = map (λ r. with_rel x r a) (rels_from g y x direction (look a.nodes from))
+    step (Meet x from to direction) a =
+        keep_if (list_any (λ r. at_same (look a.nodes to) (far g direction r)) (rels_from g y x direction (look a.nodes from))) a
 
 abbrev pub found : {X : Type 0} → Option X → List X
 found None = []

@@ -18,6 +18,10 @@ mutual
     Keep : (test : ℕ) → Step
     Differ : (pair : ℕ) → Step
     NoLoop : (rel : ℕ) → Step
+    -- the halves in which a column close runs, and which no plan of the program has: the relationship of the source, and whether it leads to
+    -- the target
+    Single : (rel from to : ℕ) → Direction → Step
+    Meet : (rel from to : ℕ) → Direction → Step
 
 -- steps one after another
 abbrev pub steps : List Step → Plan

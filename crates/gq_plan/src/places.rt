@@ -1,7 +1,6 @@
 //! In which group of a plan each variable stands.
 
 ghost use Rattle.std.specs.Prelude.{◌≡◌, ◌+◌, ◌^◌, ◌<◌, ◌≤◌, ◌&&◌, nat_lt, not};
-ghost use Rattle.gq_plan.specs.Arranged.{at_after, at_step, close_group};
 ghost use Rattle.gq_plan.specs.Columns.{FitsSound, binds};
 ghost use Rattle.gq_plan.specs.Plans.{plan_of, step_of};
 ghost use Rattle.gq_plan.specs.Shapes as shapes;
@@ -107,27 +106,15 @@ impl Places {
         group
     }
 
-    // The group of the relationship of a column close.
-    fn close_group(self, late: bool, from: u32, to: u32) -> usize
-        ensures { result ≡ close_group late (places_of self) from to }
-    {
-        let source = self.nodes.of(from);
-        if late {
-            source.max(self.nodes.of(to))
-        } else {
-            source
-        }
-    }
-
     // Takes a step: a scan, a list extend, a list close and a join make a group, and a column step
     // adds what it binds to the group of its source.
     #[tactic(auto, using(crate::proofs::StepEquations::equations), unfolding(crate::specs::Shapes::place_step))]
-    fn place(&mut self, step: &Step, late: bool)
+    fn place(&mut self, step: &Step)
         requires room { self.old.count + 1 < 2 ^ 64 }
         requires named { IsNamed (step_of step.now) }
         ensures few { self.new.count ≤ self.old.count + 1 }
         ensures placed { places_of self.new
-            ≡ at_step late (step_of step.now) (places_of self.old) }
+            ≡ shapes.place_step (step_of step.now) (places_of self.old) }
     {
         match step {
             Step::Scan { node } => {
@@ -148,8 +135,8 @@ impl Places {
                 let group = self.begin();
                 self.rels.put(*rel, group);
             }
-            Step::ColumnClose { rel, from, to, .. } => {
-                let group = self.close_group(late, *from, *to);
+            Step::ColumnClose { rel, from, .. } => {
+                let group = self.nodes.of(*from);
                 self.rels.put(*rel, group);
             }
             Step::Join { side, keys } => {
@@ -165,16 +152,14 @@ impl Places {
 }
 
 /// In which group each variable of a plan stands that fits a sound alternative: in the one that
-/// its step makes, or in the group of a column step's source. Where `late` is true, the
-/// relationship of a column close stands in the later group of its ends instead, where the close is
-/// tested.
-pub fn place_variables(plan: &Plan, typed: &Typed, late: bool) -> Places
+/// its step makes, or in the group of a column step's source.
+pub fn place_variables(plan: &Plan, typed: &Typed) -> Places
     requires { FitsSound typed.now (plan_of plan.now) }
-    ensures { places_of result ≡ at_after late (plan_of plan.now) shapes.nowhere }
+    ensures { places_of result ≡ shapes.places (plan_of plan.now) }
 {
     let mut places = Places::nowhere();
     for step in plan.steps.as_slice() {
-        places.place(step, late);
+        places.place(step);
     }
     places
 }

@@ -42,7 +42,7 @@ pub fn shape(alloc: Global, plan: &Plan, typed: &Typed) -> Result<List<GroupShap
     requires { FitsSound typed.now (plan_of plan.now) }
     ensures { IfOk result (λ all. all ≡ plan_groups.shape typed.now (plan_of plan.now)) }
 {
-    let places = place_variables(plan, typed, false);
+    let places = place_variables(plan, typed);
     let flat = flat_groups(alloc, plan, typed, places)?;
     let flat = flat.as_slice();
     let mut shapes = List::new(alloc);

@@ -1,12 +1,16 @@
 -- A group that makes something of a place makes it with the load number there, where rows or that number alone decide its tests.
-use Rattle.std.proofs.Common.{◌≡◌, ◌≢◌, inr, ℕ, suc, ◌+◌, ◌^◌, ◌<◌, ◌≤◌, ◌==◌, Bool, true, false, not, Some, length, refl, sym, ap, ◌∙◌, subst, arith}
+use Rattle.std.proofs.Common.{◌≡◌, ◌≢◌, inr, ℕ, suc, ◌+◌, ◌^◌, ◌<◌, ◌≤◌, ◌==◌, Bool, true, false, not, Some, None, length, refl, sym, ap, ◌∙◌, subst, arith}
 use Rattle.std.proofs.lemmas.Bool.{true≢false}
 use Rattle.std.specs.Prelude.{slice_get, slice_index}
 use Rattle.gq_plan.specs.Conditions.{differs}
+use Rattle.gq_plan.specs.Halves.{close_half}
 use Rattle.gq_plan.specs.Meaning.{holds}
-use Rattle.gq_plan.specs.Plans.{Step, Scan, Extend, Close, Join, Keep, Differ, NoLoop}
+use Rattle.gq_plan.specs.Plans.{Step, Scan, Extend, Close, Join, Keep, Differ, NoLoop, Single, Meet}
 use Rattle.gq_plan.specs.Rows.{as_read, rel_table}
+use Rattle.gq_base.specs.declared.direction.Direction.{Direction}
 use Rattle.gq_plan.specs.declared.assignment.Assignment.{Assignment}
+use Rattle.gq_plan.specs.declared.halves.Half.{Half}
+use Rattle.gq_plan.specs.declared.halves.Half.TheVariants.{Whole, First, Second}
 use Rattle.gq_store.specs.Neighbours.{near_rows, neighbours, numbers, opposite}
 use Rattle.gq_walks.specs.Layouts.{has_one}
 use Rattle.gq_sift.specs.steps.Differing.{IsPairTest, other_of, pair_of}
@@ -43,6 +47,8 @@ keep_of (Close column x from to way) i is = cc
 keep_of (Join side keys) i is = cc
 keep_of (Differ p) i is = cc
 keep_of (NoLoop x) i is = cc
+keep_of (Single x from to way) i is = cc
+keep_of (Meet x from to way) i is = cc
 
 pub differ_of : (s : Step) (i : ℕ) → pair_of s ≡ Some i → s ≡ Differ i
 differ_of (Differ j) i is = let same : j ≡ i = cc in ap Differ same
@@ -52,6 +58,8 @@ differ_of (Close column x from to way) i is = cc
 differ_of (Join side keys) i is = cc
 differ_of (Keep t) i is = cc
 differ_of (NoLoop x) i is = cc
+differ_of (Single x from to way) i is = cc
+differ_of (Meet x from to way) i is = cc
 
 pub no_loop_of : (s : Step) (i : ℕ) → loop_of s ≡ Some i → s ≡ NoLoop i
 no_loop_of (NoLoop j) i is = let same : j ≡ i = cc in ap NoLoop same
@@ -61,6 +69,24 @@ no_loop_of (Close column x from to way) i is = cc
 no_loop_of (Join side keys) i is = cc
 no_loop_of (Keep t) i is = cc
 no_loop_of (Differ p) i is = cc
+no_loop_of (Single x from to way) i is = cc
+no_loop_of (Meet x from to way) i is = cc
+
+-- no half of a column close is a test that is asked for
+pub no_test : (h : Half) (x from to : ℕ) (way : Direction) → test_of (close_half h x from to way) ≡ None
+no_test Whole x from to way = refl
+no_test First x from to way = refl
+no_test Second x from to way = refl
+
+pub no_pair : (h : Half) (x from to : ℕ) (way : Direction) → pair_of (close_half h x from to way) ≡ None
+no_pair Whole x from to way = refl
+no_pair First x from to way = refl
+no_pair Second x from to way = refl
+
+pub no_loop : (h : Half) (x from to : ℕ) (way : Direction) → loop_of (close_half h x from to way) ≡ None
+no_loop Whole x from to way = refl
+no_loop First x from to way = refl
+no_loop Second x from to way = refl
 
 -- with the load number of the relationship at a place, the steps of a group up to one make something of it
 pub record IsGoingBy (c : Run) (group : GroupSteps) (place : ℕ) (old : Assignment) (f : Follow) (d : ℕ) (row : Assignment) : Type 0 where

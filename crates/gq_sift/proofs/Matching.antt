@@ -6,6 +6,7 @@ use Rattle.std.proofs.lemmas.Bool.{and_parts, cases_eq}
 use Rattle.gq_base.specs.Catalogs.{Tables}
 use Rattle.gq_join.specs.Kept.{values_of, matches}
 use Rattle.gq_plan.specs.Covers.{after, fits_step}
+use Rattle.gq_plan.specs.Halves.{runs_step}
 use Rattle.gq_plan.specs.Known.{Known, none}
 use Rattle.gq_plan.specs.Plans.{Plan, Join}
 use Rattle.gq_plan.specs.declared.typed.Typed.{Typed}
@@ -31,7 +32,7 @@ same_values a k m (v ∷ vs) xs ys h e same =
     ap₂ (λ (x : ℕ) (l : List ℕ). x ∷ l) (same v (and_parts (a v) (k v) hs.0).1 (and_parts (a v) (m v) es.0).1) (same_values a k m vs xs ys hs.1 es.1 same)
 
 -- the keys of a join are known where it fits
-pub join_reads : (catalog : Tables) (y : Typed) (k : Known) (side : Plan) (keys : List ℕ) → fits_step catalog y (Join side keys) k ≡ true → list_all (λ v. (after side none).nodes v && k.nodes v) keys ≡ true
+pub join_reads : (catalog : Tables) (y : Typed) (k : Known) (side : Plan) (keys : List ℕ) → runs_step catalog y (Join side keys) k ≡ true → list_all (λ v. (after side none).nodes v && k.nodes v) keys ≡ true
 unfolding fits_step
 join_reads catalog y k side keys fit = (and_parts _ _ (and_parts _ _ fit).1).0
 
@@ -42,7 +43,7 @@ same_matches c run d low old new held alike ms m = record { few = m.few; are = �
     same : (side : Plan) (keys : List ℕ) → step_at c d ≡ Join side keys → matches_in (slice_index_or c.builds d None) old ≡ matches_in (slice_index_or c.builds d None) new
     same side keys is =
         let b : HasBuild c.graph c.typed side keys (slice_index_or c.builds d None) = build c run d low old held side keys is in
-        let reads = join_reads c.graph.catalog c.typed (known c d) side keys (subst (λ t. fits_step c.graph.catalog c.typed t (known c d) ≡ true) is (fits_at c run d low)) in
+        let reads = join_reads c.graph.catalog c.typed (known c d) side keys (subst (λ t. runs_step c.graph.catalog c.typed t (known c d) ≡ true) is (fits_at c run d low)) in
         let values : values_of b.build.keys old.nodes ≡ values_of b.build.keys new.nodes =
         ap (λ ks. values_of ks old.nodes) b.is.key_list
         ∙ same_values (after side none).nodes (known c d).nodes (known c d).nodes keys old.nodes new.nodes reads reads (λ v one two. sym (alike.nodes v one))

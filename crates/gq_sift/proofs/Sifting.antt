@@ -6,6 +6,7 @@ use Rattle.std.proofs.lemmas.List.{get_or-set_same, get_or-set_other, length-set
 use Rattle.gq_bits.specs.declared.TheConstants.{VECTOR}
 use Rattle.gq_plan.specs.declared.assignment.Assignment.{Assignment}
 use Rattle.gq_walks.specs.Layouts.{has_one}
+use Rattle.gq_sift.specs.Among.{IsAmong}
 use Rattle.gq_sift.specs.steps.Candidates.{AreCandidates}
 use Rattle.gq_steps.specs.Keeps.{made_at, made_by, makes_one, IsSifted}
 use Rattle.gq_sift.specs.steps.Judged.{IsJudged}
@@ -28,14 +29,22 @@ module _ (c : Run) (group : GroupSteps) (first count : ℕ) (old : Assignment) w
     pub below : (j : ℕ) → n ≤ j → slice_index_or marks j false ≡ true → j < count
     pub others : (j : ℕ) → n ≤ j → j < count → slice_index_or marks j false ≡ false → make j ≡ false
 
-  pub sifting_from : (marks : List Bool) → IsHeld c old (known c group.first) → AreCandidates c group.first first count old marks → IsSifting 0 old marks
-  sifting_from marks held can = record {
+  -- where the first step makes nothing, the steps make nothing
+  pub among_candidates : (marks : List Bool) → AreCandidates c group.first first count old marks → IsAmong c group first count old marks
+  among_candidates marks can = record {
+    len = can.len;
+    below = can.below;
+    others = λ j inside off. ap (λ ls. has_one (flat_map (made_by c (group.first + 1) group.end) ls)) (can.others j inside off);
+  }
+
+  pub sifting_from : (marks : List Bool) → IsHeld c old (known c group.first) → IsAmong c group first count old marks → IsSifting 0 old marks
+  sifting_from marks held among = record {
     held = held;
     alike = record { nodes = λ v e. refl; rels = λ x e. refl };
-    len = can.len;
+    len = among.len;
     done = λ j low high. absurd (omega (arith, low));
-    below = λ j low on. can.below j on;
-    others = λ j low inside off. ap (λ ls. has_one (flat_map (made_by c (group.first + 1) group.end) ls)) (can.others j inside off);
+    below = λ j low on. among.below j on;
+    others = λ j low inside off. among.others j inside off;
   }
 
   module _ (n : ℕ) (row : Assignment) (marks : List Bool) (s : IsSifting n row marks) (low : n < count) (few : count ≤ VECTOR) where

@@ -1,5 +1,6 @@
 //! The places of a piece of a group's list that all its steps keep.
 ghost use Rattle.std.specs.Prelude.{◌≡◌, ◌<◌, ◌≤◌, ◌+◌, ◌^◌, length};
+ghost use Rattle.gq_sift.specs.Among.{IsAmong};
 ghost use Rattle.gq_steps.specs.Keeps.{IsRange, IsSifted};
 ghost use Rattle.gq_steps.specs.Levels.{before, built_at, known, step_at};
 ghost use Rattle.gq_steps.specs.Matches.{AreMatches};
@@ -60,7 +61,31 @@ fn sift_each(
     requires fits { first + count < 2 ^ 32 }
     ensures { IsSifted (run_of plan_run.now) group first count row.old row.new result }
 {
-    let mut marks = candidates(plan_run, group.first, first, count, row);
+    let among = candidates(plan_run, group.first, first, count, row);
+    sift_among(plan_run, group, matches, first, count, among, row)
+}
+
+/// The same, place by place, where places of the part are told among which are all that its steps
+/// keep.
+pub fn sift_among(
+    plan_run: &PlanRun<'_>,
+    group: GroupSteps,
+    matches: &[u32],
+    first: u32,
+    count: u32,
+    among: Marks,
+    row: &mut Assignment,
+) -> Marks
+    requires run { IsRun (run_of plan_run.now) }
+    requires steps { IsRange (run_of plan_run.now) group }
+    requires held { IsHeld (run_of plan_run.now) row.old (known (run_of plan_run.now) group.first) }
+    requires matches { AreMatches (run_of plan_run.now) group.first row.old matches.now }
+    requires count { count ≤ VECTOR }
+    requires fits { first + count < 2 ^ 32 }
+    requires among { IsAmong (run_of plan_run.now) group first count row.old among }
+    ensures { IsSifted (run_of plan_run.now) group first count row.old row.new result }
+{
+    let mut marks = among;
     let mut place = 0;
     'places: while let Some(offset) = marks.next_from(place) {
         if !keep_place(plan_run, group, matches, first + offset, row) {

@@ -12,5 +12,5 @@ mod keeping;
 mod looping;
 mod places;
 
-pub use keeping::sift;
+pub use keeping::{sift, sift_among};
 pub use places::keep_place;

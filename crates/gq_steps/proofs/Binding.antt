@@ -4,10 +4,11 @@ use Rattle.std.specs.Option.{option_or}
 use Rattle.std.proofs.lemmas.Bool.{eqb-true, eq-eqb, ne_eqb, cases_eq, and_parts, or_left, or_right}
 use Rattle.gq_base.specs.declared.NodeId.{NodeId}
 use Rattle.gq_base.specs.declared.RelId.{RelId}
-use Rattle.gq_plan.specs.Covers.{after, after_step, fits, fits_step}
+use Rattle.gq_plan.specs.Covers.{after, after_step}
+use Rattle.gq_plan.specs.Halves.{runs_step, runs}
 use Rattle.gq_plan.specs.Known.{Known, none}
 use Rattle.gq_plan.specs.Meaning.{Partial, nothing, with_node, with_rel, with_all, look}
-use Rattle.gq_plan.specs.Plans.{Plan, Done, Then, Step, Scan, Extend, Close, Join, Keep, Differ, NoLoop, steps}
+use Rattle.gq_plan.specs.Plans.{Plan, Done, Then, Step, Scan, Extend, Close, Join, Keep, Differ, NoLoop, Single, Meet, steps}
 use Rattle.gq_plan.specs.declared.typed.Typed.{Typed}
 use Rattle.gq_steps.specs.Given.{given, given_step}
 use Rattle.gq_steps.specs.Levels.{Run, step_at, taken, known, before}
@@ -34,6 +35,8 @@ step_keeps_node (Join side keys) k v h = or_right ((after side none).nodes v) (k
 step_keeps_node (Keep i) k v h = h
 step_keeps_node (Differ p) k v h = h
 step_keeps_node (NoLoop x) k v h = h
+step_keeps_node (Single x from to way) k v h = h
+step_keeps_node (Meet x from to way) k v h = h
 
 pub step_keeps_rel : (s : Step) (k : Known) (v : ℕ) → k.rels v ≡ true → (after_step s k).rels v ≡ true
 unfolding after_step
@@ -44,6 +47,8 @@ step_keeps_rel (Join side keys) k v h = or_right ((after side none).rels v) (k.r
 step_keeps_rel (Keep i) k v h = h
 step_keeps_rel (Differ p) k v h = h
 step_keeps_rel (NoLoop x) k v h = h
+step_keeps_rel (Single x from to way) k v h = or_right (nat_eq v x) (k.rels v) h
+step_keeps_rel (Meet x from to way) k v h = h
 
 pub alike_before : (s : Step) (k : Known) (old new : Assignment) → IsAlike (after_step s k) old new → IsAlike k old new
 alike_before s k old new h = record { nodes = λ v e. h.nodes v (step_keeps_node s k v e); rels = λ x e. h.rels x (step_keeps_rel s k x e) }
@@ -91,6 +96,8 @@ module _ (y : Typed) (old new : Assignment) where
     given_step_alike (Keep i) k a h = refl
     given_step_alike (Differ p) k a h = refl
     given_step_alike (NoLoop x) k a h = refl
+    given_step_alike (Single x from to way) k a h = same_rel y old new x _ _ a (h.rels x (or_left (nat_eq x x) (k.rels x) (eq-eqb x x refl)))
+    given_step_alike (Meet x from to way) k a h = refl
 
 pub taken_given : (y : Typed) (row : Assignment) (s : Step) (a : Partial) → given_step y row s a ≡ taken y row s a
 unfolding given
@@ -101,6 +108,8 @@ taken_given y row (Join side keys) a = refl
 taken_given y row (Keep i) a = refl
 taken_given y row (Differ p) a = refl
 taken_given y row (NoLoop x) a = refl
+taken_given y row (Single x from to way) a = refl
+taken_given y row (Meet x from to way) a = refl
 
 pub taken_alike : (y : Typed) (old new : Assignment) (s : Step) (k : Known) (a : Partial) → IsAlike (after_step s k) old new → taken y new s a ≡ taken y old s a
 taken_alike y old new s k a h = sym (taken_given y new s a) ∙ given_step_alike y old new s k a h ∙ taken_given y old s a
@@ -181,6 +190,8 @@ module _ (y : Typed) (row : Assignment) where
     looks_step (Keep i) k a h = h
     looks_step (Differ p) k a h = h
     looks_step (NoLoop x) k a h = h
+    looks_step (Single x from to way) k a h = record { nodes = h.nodes; rels = one_rel x (rel_at y row x) k.rels a.rels refl h.rels }
+    looks_step (Meet x from to way) k a h = h
 
   looks_taken : (s : Step) (k : Known) (a : Partial) → Looks y row k a → Looks y row (after_step s k) (taken y row s a)
   looks_taken s k a h = subst (λ b. Looks y row (after_step s k) b) (taken_given y row s a) (looks_step s k a h)
@@ -192,26 +203,26 @@ module _ (c : Run) (run : IsRun c) where
   looks row (suc d) = looks_taken c.typed row (step_at c d) (known c d) (before c row d) (looks row d)
 
   -- the step at a depth fits what is bound there
-  fits_from : (d : ℕ) → d ≤ length c.steps → fits c.graph.catalog c.typed (steps (drop d c.steps)) (known c d) ≡ true
-  unfolding known fits
+  fits_from : (d : ℕ) → d ≤ length c.steps → runs c.graph.catalog c.typed (steps (drop d c.steps)) (known c d) ≡ true
+  unfolding known runs
   fits_from zero low = run.fits
   fits_from (suc d) low =
       let k = known c d in
       let s = step_at c d in
       let more : List Step = drop (d + 1) c.steps in
-      let split : (fits_step c.graph.catalog c.typed s k && fits c.graph.catalog c.typed (steps more) (after_step s k)) ≡ true =
-      ap (λ ss. fits c.graph.catalog c.typed (steps ss) k) (sym (steps_from c d (omega arith))) ∙ fits_from d (omega arith) in
+      let split : (runs_step c.graph.catalog c.typed s k && runs c.graph.catalog c.typed (steps more) (after_step s k)) ≡ true =
+      ap (λ ss. runs c.graph.catalog c.typed (steps ss) k) (sym (steps_from c d (omega arith))) ∙ fits_from d (omega arith) in
       let next : d + 1 ≡ suc d = omega arith in
-      ap (λ n. fits c.graph.catalog c.typed (steps (drop n c.steps)) (after_step s k)) (sym next) ∙ (and_parts _ _ split).1
+      ap (λ n. runs c.graph.catalog c.typed (steps (drop n c.steps)) (after_step s k)) (sym next) ∙ (and_parts _ _ split).1
 
-  pub fits_at : (d : ℕ) → d < length c.steps → fits_step c.graph.catalog c.typed (step_at c d) (known c d) ≡ true
-  unfolding fits
+  pub fits_at : (d : ℕ) → d < length c.steps → runs_step c.graph.catalog c.typed (step_at c d) (known c d) ≡ true
+  unfolding runs
   fits_at d low =
       let k = known c d in
       let s = step_at c d in
       let more : List Step = drop (d + 1) c.steps in
-      let split : (fits_step c.graph.catalog c.typed s k && fits c.graph.catalog c.typed (steps more) (after_step s k)) ≡ true =
-      ap (λ ss. fits c.graph.catalog c.typed (steps ss) k) (sym (steps_from c d low)) ∙ fits_from d (omega arith) in
+      let split : (runs_step c.graph.catalog c.typed s k && runs c.graph.catalog c.typed (steps more) (after_step s k)) ≡ true =
+      ap (λ ss. runs c.graph.catalog c.typed (steps ss) k) (sym (steps_from c d low)) ∙ fits_from d (omega arith) in
       (and_parts _ _ split).0
 
 -- ---- all variables

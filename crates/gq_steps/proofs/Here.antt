@@ -5,16 +5,17 @@ use Rattle.std.proofs.lemmas.Bool.{and_parts, cases_lt, lt-ltb, le-ltb, ltb-true
 use Rattle.std.proofs.lemmas.List.{length-map, get_or_default}
 use Rattle.gq_bits.specs.declared.TheConstants.{VECTOR}
 use Rattle.gq_plan.specs.Covers.{fits_step, goes, after_step}
+use Rattle.gq_plan.specs.Halves.{half_of, runs_step}
 use Rattle.gq_plan.specs.Known.{Known, none}
 use Rattle.gq_plan.specs.Meaning.{Partial, nothing, look, far, arrive, with_rel, keep_if, rels_from, holds, mean}
 use Rattle.gq_plan.specs.Allowed.{at_same}
-use Rattle.gq_plan.specs.Plans.{Step, Scan, Extend, Close, Join, Keep, Differ, NoLoop, step_of}
+use Rattle.gq_plan.specs.Plans.{Step, Scan, Extend, Close, Join, Keep, Differ, NoLoop, Single, Meet, step_of}
 use Rattle.gq_plan.specs.declared.plan.Step as code
 use Rattle.gq_plan.specs.declared.assignment.Assignment.{Assignment}
 use Rattle.gq_walks.specs.Layouts.{number_of, has_one}
 use Rattle.gq_walks.specs.Marked.{IsMarkedAt}
 use Rattle.gq_law_groups.specs.Groups.{Group, makes_group, HasRows, MakesGroup, raw, own, kept, passes, raw_at, first, place}
-use Rattle.gq_law_groups.specs.Layout.{with_group, with_singles, known_with, size_from, keeps_from, ArePlaced, AreFlatEnough}
+use Rattle.gq_law_groups.specs.Layout.{with_group, known_with, size_from, keeps_from, ArePlaced, AreFlatEnough}
 use Rattle.gq_law_groups.specs.Order.{NoGroups, AreCut}
 use Rattle.gq_law_groups.proofs.Alike.{AreAlike}
 use Rattle.gq_law_groups.proofs.Single.{from_small}
@@ -32,7 +33,7 @@ use Rattle.gq_steps.specs.declared.group_steps.GroupSteps.{GroupSteps}
 use Rattle.gq_steps.proofs.Binding.{before_alike, fits_at}
 use Rattle.gq_steps.proofs.Going.{less_held, less_alike}
 use Rattle.gq_steps.specs.declared.plan_run.PlanRun.{PlanRun}
-use Rattle.gq_steps.proofs.Trying.{step_is}
+use Rattle.gq_steps.proofs.Trying.{as_many_steps, half_at, step_is}
 use Rattle.gq_steps.proofs.Whole.{raw_long, made_is}
 
 -- rows and load numbers that changed behind a step
@@ -63,7 +64,7 @@ module _ (c : Run) (rows : ℕ → List Partial) (flat : ℕ → Bool) (row : As
     pub inside : s.end ≤ length c.steps
     pub makes : makes_group (step_at c s.first) ≡ true
     pub no_groups : NoGroups (group_in c.steps s).checks
-    pub fit : fits_step c.graph.catalog c.typed (step_at c s.first) set ≡ true
+    pub fit : runs_step c.graph.catalog c.typed (step_at c s.first) set ≡ true
     pub placed : ArePlaced c.graph.catalog c.typed (group_in c.steps s).checks (after_step (step_at c s.first) set)
     pub standing : IsAtStep c row s.first set bound
     pub size : size_from c.graph c.typed rows flat i (groups_in c ss) a pre ≡ length (raw c.graph c.typed (rows (i + length pre)) (step_at c s.first) bound)
@@ -140,7 +141,7 @@ none_at (s ∷ ss) (suc m) n i h low inside =
     ap (λ p. makes_group (get_or (s ∷ ss) p (Keep 0))) e ∙ none_at ss m n i h low (omega (arith, inside))
 
 module _ (c : Run) (run : IsRun c) where
-  one_try : (built : List Partial) (s : Step) (k : Known) (a : Partial) → makes_group s ≡ false → fits_step c.graph.catalog c.typed s k ≡ true → length (tries c.graph c.typed built s a) ≤ 1
+  one_try : (built : List Partial) (s : Step) (k : Known) (a : Partial) → makes_group s ≡ false → runs_step c.graph.catalog c.typed s k ≡ true → length (tries c.graph c.typed built s a) ≤ 1
   unfolding tries fits_step
   one_try built (Scan v) k a not_one fit = absurd (true≢false not_one)
   one_try built (Extend true x from to way) k a not_one fit =
@@ -155,6 +156,10 @@ module _ (c : Run) (run : IsRun c) where
   one_try built (Keep i) k a not_one fit = omega arith
   one_try built (Differ p) k a not_one fit = omega arith
   one_try built (NoLoop x) k a not_one fit = omega arith
+  one_try built (Single x from to way) k a not_one fit =
+      let small = from_small c.graph c.typed run.valid x from to way (and_parts (holds (goes c.graph.catalog true from to way) (slice_get c.typed.rels x)) _ fit).0 (look a.nodes from) in
+      omega (arith, small, length-map (rels_from c.graph c.typed x way (look a.nodes from)) (λ r. with_rel x r a ∷ []))
+  one_try built (Meet x from to way) k a not_one fit = omega arith
 
   has_rows : (s : Step) (o : Option Held) → FitsBuild c.graph c.typed s o → HasRows c.graph c.typed (built_of c.typed s o) s
   has_rows (Scan v) o h = tt
@@ -164,6 +169,8 @@ module _ (c : Run) (run : IsRun c) where
   has_rows (Keep i) o h = tt
   has_rows (Differ p) o h = tt
   has_rows (NoLoop x) o h = tt
+  has_rows (Single x from to way) o h = tt
+  has_rows (Meet x from to way) o h = tt
 
   pub rows_fit : (d : ℕ) → d < length c.steps → HasRows c.graph c.typed (built_at c d) (step_at c d)
   rows_fit d low = has_rows (step_at c d) (slice_index_or c.builds d None) (build_at c.graph c.typed c.steps c.builds d run.builds low)
@@ -269,9 +276,9 @@ module _ (c : Run) (ss : List GroupSteps) (row : Assignment) (pre : List ℕ) (s
 
         bound_next : AreAlike (known_with (flat_in ss (length pre)) (group_in c.steps at.s) at.set) (with_group c.graph c.typed (rows_in c ss) (flat_in ss) (length pre) (group_in c.steps at.s) at.bound n) (before c new at.s.end)
         bound_next =
-            subst (λ (r : List Partial). AreAlike (known_with (flat_in ss (length pre)) (group_in c.steps at.s) at.set) (cond (flat_in ss (length pre)) (place c.graph c.typed r (group_in c.steps at.s) at.bound n) (with_singles c.graph c.typed (group_in c.steps at.s).checks at.bound)) (before c new at.s.end)) (sym built)
-            (subst (AreAlike (known_with (flat_in ss (length pre)) (group_in c.steps at.s) at.set) (cond (flat_in ss (length pre)) (place c.graph c.typed (built_at c at.s.first) (group_in c.steps at.s) at.bound n) (with_singles c.graph c.typed (group_in c.steps at.s).checks at.bound))) place_is
-            (next_group c.graph c.typed (built_at c at.s.first) (group_in c.steps at.s) at.set at.bound (before c row at.s.first) m at.fit at.placed alike j in_list (sym keeps_row ∙ is_kept) st.runs.valid (flat_in ss (length pre)) n number_is))
+            subst (λ (r : List Partial). AreAlike (known_with (flat_in ss (length pre)) (group_in c.steps at.s) at.set) (cond (flat_in ss (length pre)) (place c.graph c.typed r (group_in c.steps at.s) at.bound n) at.bound) (before c new at.s.end)) (sym built)
+            (subst (AreAlike (known_with (flat_in ss (length pre)) (group_in c.steps at.s) at.set) (cond (flat_in ss (length pre)) (place c.graph c.typed (built_at c at.s.first) (group_in c.steps at.s) at.bound n) at.bound)) place_is
+            (next_group c.graph c.typed (built_at c at.s.first) (group_in c.steps at.s) at.set at.bound (before c row at.s.first) m at.fit at.placed alike j in_list (sym keeps_row ∙ is_kept) (flat_in ss (length pre)) n number_is))
 
         at_end : IsAtStep c new at.s.end (known_with (flat_in ss (0 + length pre)) (group_in c.steps at.s) at.set) (with_group c.graph c.typed (rows_in c ss) (flat_in ss) (0 + length pre) (group_in c.steps at.s) at.bound n)
         at_end =
@@ -379,7 +386,7 @@ group_low p ss row depth inside x found pre long st =
     let r : IsRange (run_of p) x = group_range (run_of p) ss row depth inside x found pre long st in
     let some = r.some in
     let within = r.inside in
-    let same : length (run_of p).steps ≡ length (steps_in p) = rw length-map refl in
+    let same : length (run_of p).steps ≡ length (steps_in p) = as_many_steps p in
     omega (arith, some, within, same)
 
 -- ---- groups of one step
@@ -391,5 +398,5 @@ untested c s short all e =
     rw (all e, none) refl
 
 pub untested_step : (p : PlanRun) (s : GroupSteps) (low : s.first < length (steps_in p)) (x : code.Step) (t : code.Step) (u : Step) → s.end ≤ s.first + 1 → slice_index_or (steps_in p) s.first x ≡ t → step_of t ≡ u
-    → ((e : Partial) → own (run_of p).graph (run_of p).typed u e ≡ true) → IsUntested (run_of p) s
+    → ((e : Partial) → own (run_of p).graph (run_of p).typed (half_of (half_at p s.first) u) e ≡ true) → IsUntested (run_of p) s
 untested_step p s low x t u short is same all = untested (run_of p) s short (λ e. ap (λ v. own (run_of p).graph (run_of p).typed v e) (step_is p s.first low x t u is same) ∙ all e)

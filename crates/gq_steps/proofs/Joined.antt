@@ -12,11 +12,13 @@ use Rattle.gq_base.specs.Plain.{Graph}
 use Rattle.gq_base.specs.Valid.{row_count}
 use Rattle.gq_join.specs.Kept.{Held, columns, has_key, matches_of, node_in, rel_in, place_of}
 use Rattle.gq_plan.specs.declared.assignment.Assignment.{Assignment}
-use Rattle.gq_plan.specs.Covers.{after, after_step, fits, fits_step, goes, is_joined}
+use Rattle.gq_plan.proofs.Halved.{fits_runs}
+use Rattle.gq_plan.specs.Covers.{after, after_step, fits, goes, is_joined}
+use Rattle.gq_plan.specs.Halves.{runs_step, runs}
 use Rattle.gq_plan.specs.Known.{Known, none, with_both}
 use Rattle.gq_plan.specs.Meaning.{Partial, nothing, with_all, holds}
 use Rattle.gq_plan.specs.Soundness.{has_number}
-use Rattle.gq_plan.specs.Plans.{Plan, Done, Then, Step, Scan, Extend, Close, Join, Keep, Differ, NoLoop, steps}
+use Rattle.gq_plan.specs.Plans.{Plan, Done, Then, Step, Scan, Extend, Close, Join, Keep, Differ, NoLoop, Single, Meet, steps}
 use Rattle.gq_plan.specs.declared.typed.Typed.{Typed}
 use Rattle.gq_steps.specs.Given.{given}
 use Rattle.gq_steps.specs.Built.{whole_row, HasBuild, FitsBuild, AreBuilds}
@@ -88,9 +90,9 @@ module _ (catalog : Tables) (y : Typed) where
 
     pub low_after : (p : Plan) (k : Known) → fits catalog y p k ≡ true → IsLow y k → IsLow y (after p k)
     low_after Done k fit is = is
-    low_after (Then s p) k fit is = let parts = and_parts _ _ fit in low_after p (after_step s k) parts.1 (low_step s k parts.0 is)
+    low_after (Then s p) k fit is = let parts = and_parts _ _ fit in low_after p (after_step s k) parts.1 (low_step s k (fits_runs catalog y s k parts.0) is)
 
-    low_step : (s : Step) (k : Known) → fits_step catalog y s k ≡ true → IsLow y k → IsLow y (after_step s k)
+    low_step : (s : Step) (k : Known) → runs_step catalog y s k ≡ true → IsLow y k → IsLow y (after_step s k)
     low_step (Scan v) k fit is = record { nodes = low_node k v (ltb-true v (length y.nodes) (and_parts _ _ fit).0) is; rels = is.rels }
     low_step (Extend column x from to way) k fit is =
         let parts = and_parts _ _ fit in
@@ -109,6 +111,14 @@ module _ (catalog : Tables) (y : Typed) where
     low_step (Keep i) k fit is = is
     low_step (Differ p) k fit is = is
     low_step (NoLoop x) k fit is = is
+    low_step (Single x from to way) k fit is = record { nodes = is.nodes; rels = low_rel k x (held_in (goes catalog true from to way) y.rels x (and_parts _ _ fit).0) is }
+    low_step (Meet x from to way) k fit is = is
+
+  -- and what runs
+  pub low_runs : (p : Plan) (k : Known) → runs catalog y p k ≡ true → IsLow y k → IsLow y (after p k)
+  unfolding runs after
+  low_runs Done k fit is = is
+  low_runs (Then s p) k fit is = let parts = and_parts _ _ fit in low_runs p (after_step s k) parts.1 (low_step s k parts.0 is)
 
 -- ---- places of variables
 
@@ -206,7 +216,7 @@ module _ (c : Run) (run : IsRun c) (d : ℕ) (low : d < length c.steps) (old : A
 
   join_fits : (fits c.graph.catalog y side none ≡ true) × (is_joined y keys (after side none) k ≡ true)
   unfolding fits
-  join_fits = and_parts _ _ (ap (λ s. fits_step c.graph.catalog y s k) (sym is) ∙ fits_at c run d low)
+  join_fits = and_parts _ _ (ap (λ s. runs_step c.graph.catalog y s k) (sym is) ∙ fits_at c run d low)
 
   own : IsLow y (after side none)
   own = low_after c.graph.catalog y side none join_fits.0 (low_none y)

@@ -5,7 +5,7 @@ use Rattle.std.proofs.lemmas.List.{append-nil}
 use Rattle.gq_base.specs.Plain.{Graph}
 use Rattle.gq_plan.specs.Allowed.{at_same}
 use Rattle.gq_plan.specs.Meaning.{Partial, with_rel, look, far, arrive, keep_if, step, rels_from}
-use Rattle.gq_plan.specs.Plans.{Step, Scan, Extend, Close, Join, Keep, Differ, NoLoop}
+use Rattle.gq_plan.specs.Plans.{Step, Scan, Extend, Close, Join, Keep, Differ, NoLoop, Single, Meet}
 use Rattle.gq_plan.specs.declared.typed.Typed.{Typed}
 use Rattle.gq_steps.specs.Tries.{tries}
 use Rattle.gq_law_groups.specs.Groups.{makes_group}
@@ -35,3 +35,10 @@ all_tries g y rows f (Join side keys) a h = absurd (true≢false h)
 all_tries g y rows f (Keep i) a h = append-nil (flat_map f (step g y (Keep i) a))
 all_tries g y rows f (Differ p) a h = append-nil (flat_map f (step g y (Differ p) a))
 all_tries g y rows f (NoLoop x) a h = append-nil (flat_map f (step g y (NoLoop x) a))
+all_tries g y rows f (Single x from to way) a h =
+    through f (λ r. with_rel x r a ∷ []) (rels_from g y x way (look a.nodes from)) ∙ ap (flat_map f) (one_each (λ r. with_rel x r a) (rels_from g y x way (look a.nodes from)))
+  where
+    one_each : {X : Type 0} (w : X → Partial) (xs : List X) → flat_map (λ x. w x ∷ []) xs ≡ map w xs
+    one_each w [] = refl
+    one_each w (x ∷ xs) = ap (λ l. w x ∷ l) (one_each w xs)
+all_tries g y rows f (Meet x from to way) a h = append-nil (flat_map f (step g y (Meet x from to way) a))

@@ -3,7 +3,8 @@ use Rattle.std.proofs.Common.{◌≡◌, ℕ, zero, suc, ◌+◌, ◌-◌, ◌<�
 use Rattle.std.specs.Prelude.{slice_index, slice_index_or}
 use Rattle.std.proofs.lemmas.List.{append_assoc, append-nil, take_all, take-map, take_more, map_push, take-append-drop}
 use Rattle.gq_base.specs.declared.NodeId.{NodeId}
-use Rattle.gq_plan.specs.Covers.{after_step, fits_step}
+use Rattle.gq_plan.specs.Covers.{after_step}
+use Rattle.gq_plan.specs.Halves.{runs_step}
 use Rattle.gq_plan.specs.Known.{Known, none}
 use Rattle.gq_plan.specs.Meaning.{Partial, nothing}
 use Rattle.gq_plan.specs.Rows.{node_at}
@@ -83,7 +84,7 @@ stands_at c ss row depth inside pre long s = subst (Stands c ss row) (take_all (
 pub record Met (c : Run) (one two : Assignment) (s : GroupSteps) : Type 0 where
   pub set : Known
   pub bound : Partial
-  pub fit : fits_step c.graph.catalog c.typed (step_at c s.first) set ≡ true
+  pub fit : runs_step c.graph.catalog c.typed (step_at c s.first) set ≡ true
   pub placed : ArePlaced c.graph.catalog c.typed (group_in c.steps s).checks (after_step (step_at c s.first) set)
   pub old : IsAtStep c one s.first set bound
   pub new : IsAtStep c two s.first set bound

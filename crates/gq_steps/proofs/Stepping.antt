@@ -1,7 +1,7 @@
 -- Each kind of step: what it does to rows and load numbers is what the plan's step makes at the place.
-use Rattle.std.proofs.Common.{◌≡◌, ◌≢◌, ℕ, zero, suc, ◌+◌, ◌^◌, ◌<◌, ◌≤◌, Bool, true, false, not, ◌&&◌, nat_eq, Option, Some, None, List, [], ◌∷◌, map, length, drop, get_or, set, slice_get, option_map, refl, sym, ap, ap₂, ◌∙◌, subst, arith, zero-add, inl, inr, ◌⊎◌, true≢false}
+use Rattle.std.proofs.Common.{◌≡◌, ◌≢◌, ℕ, zero, suc, ◌+◌, ◌^◌, ◌<◌, ◌≤◌, Bool, true, false, not, ◌&&◌, ◌||◌, nat_eq, Option, Some, None, List, [], ◌∷◌, map, length, drop, get_or, set, slice_get, option_map, refl, sym, ap, ap₂, ◌∙◌, subst, arith, zero-add, inl, inr, ◌⊎◌, true≢false}
 use Rattle.std.specs.Prelude.{slice_index, All}
-use Rattle.std.specs.List.{range_with_len}
+use Rattle.std.specs.List.{list_any, range_with_len}
 use Rattle.std.proofs.lemmas.Bool.{eqb-true, eq-eqb, ne_eqb, ltb-true, and_parts, or_cases}
 use Rattle.std.proofs.lemmas.List.{drop_more, drop_all, get_or-set_same, get_or-set_other, length-set}
 use Rattle.std.proofs.lemmas.List.FromFn.{length-range_with_len, get_or-range_with_len}
@@ -15,11 +15,12 @@ use Rattle.gq_base.specs.declared.direction.Direction.TheVariants.{Forward, Back
 use Rattle.gq_plan.specs.Allowed.{at_same}
 use Rattle.gq_plan.specs.Assignments.{nodes_of}
 use Rattle.gq_plan.specs.Covers.{after_step, fits_step, goes, start_of, end_of}
+use Rattle.gq_plan.specs.Halves.{runs_step}
 use Rattle.gq_plan.specs.Known as known_by
 use Rattle.gq_plan.specs.Known.{Known}
 use Rattle.gq_plan.specs.Meaning.{Partial, with_node, with_rel, look, far, arrive, holds, keep_if, rels_from}
 use Rattle.gq_plan.specs.Soundness.{EndsFit}
-use Rattle.gq_plan.specs.Plans.{Step, Scan, Extend, Close}
+use Rattle.gq_plan.specs.Plans.{Step, Scan, Extend, Close, Single}
 use Rattle.gq_plan.specs.declared.typed.Typed.{Typed}
 use Rattle.gq_plan.specs.declared.typed.TypedRel.{TypedRel}
 use Rattle.gq_store.specs.Neighbours.{near_rows, neighbours, numbers, end_rows, opposite}
@@ -198,7 +199,7 @@ module _ (g : Graph) (y : Typed) (v : ℕ) (low : v < length y.nodes) (a : Parti
       let many : length rows ≡ row_count g.nodes (node_table y v) = length-range_with_len 0 (row_count g.nodes (node_table y v)) in
       ap (drop place) (scans built) ∙ drop_map lists place rows ∙ ap (map lists) (drop_all place rows (omega arith))
 
-module _ (c : Run) (run : IsRun c) (old : Assignment) (k : Known) (held : IsHeld c old k) (a : Partial) (v place : ℕ) (fit : fits_step c.graph.catalog c.typed (Scan v) k ≡ true) where
+module _ (c : Run) (run : IsRun c) (old : Assignment) (k : Known) (held : IsHeld c old k) (a : Partial) (v place : ℕ) (fit : runs_step c.graph.catalog c.typed (Scan v) k ≡ true) where
   pub scan_parts : (v < length c.typed.nodes) × (k.nodes v ≡ false)
   unfolding fits_step
   scan_parts = let parts = and_parts _ _ fit in (ltb-true _ _ parts.0, not_true _ parts.1)
@@ -335,3 +336,53 @@ module _ (c : Run) (run : IsRun c) (x from to : ℕ) (way : Direction) (f : Foll
     pub close_past : (built : List Partial) (column : Bool) (place : ℕ) → length (neighbours c.graph table way (slice_index old.nodes from)) ≤ place → drop place (tries c.graph c.typed built (Close column x from to way) a) ≡ []
     unfolding tries
     close_past built column place high = hop_past (λ r. keep_if (at_same (look a.nodes to) (far c.graph way r)) (with_rel x r a)) place high
+
+    -- a relationship, wherever it leads
+
+    pub single_makes : (built : List Partial) (k : Known) → IsHeld c old k → k.rels x ≡ false → (place : ℕ) (h : Hop) → IsHop c.graph table way (slice_index old.nodes from) place h
+        → Makes c built (Single x from to way) k a place old (with_number x h.number old)
+    unfolding after_step tries
+    single_makes built k held new_rel place h is =
+        let rel_low : x < length c.typed.rels = slice_get_within c.typed.rels x _ f.rel_is in
+        let many_rels : length old.rels ≡ length c.typed.rels = held.rel_count in
+        record {
+          held = held_rel c run old k held x h.number rel_low;
+          alike = alike_rel c run old k held x h.number new_rel;
+          made = hop_here (λ r. with_rel x r a ∷ []) place h is
+              ∙ ap (λ n. (with_rel x (rel table n) a ∷ []) ∷ drop (place + 1) (tries c.graph c.typed built (Single x from to way) a))
+              (sym (get_or-set_same old.rels x h.number 0 (omega arith)));
+        }
+
+    pub single_past : (built : List Partial) (place : ℕ) → length (neighbours c.graph table way (slice_index old.nodes from)) ≤ place → drop place (tries c.graph c.typed built (Single x from to way) a) ≡ []
+    unfolding tries
+    single_past built place high = hop_past (λ r. with_rel x r a ∷ []) place high
+
+    -- whether the one relationship leads to the node that is bound
+
+    module _ (there : look a.nodes to ≡ Some (node_at c.typed old to)) (few : length (rels_from c.graph c.typed x way (look a.nodes from)) ≤ 1) where
+      abbrev leads_there : RelId → Bool
+      leads_there r = at_same (look a.nodes to) (far c.graph way r)
+
+      pub meets_none : length (neighbours c.graph table way (slice_index old.nodes from)) ≤ 0 → list_any leads_there (rels_from c.graph c.typed x way (look a.nodes from)) ≡ false
+      meets_none high = ap (list_any leads_there) (none_left (rels_from c.graph c.typed x way (look a.nodes from)) (hop_past (λ r. with_rel x r a ∷ []) 0 high))
+        where
+          none_left : (rs : List RelId) → map (λ r. with_rel x r a ∷ []) rs ≡ [] → rs ≡ []
+          none_left [] e = refl
+          none_left (r ∷ rs) e = absurd (cc e)
+
+      pub meets_one : (h : Hop) → IsHop c.graph table way (slice_index old.nodes from) 0 h → list_any leads_there (rels_from c.graph c.typed x way (look a.nodes from)) ≡ nat_eq (slice_index old.nodes to) h.row
+      meets_one h is = go (rels_from c.graph c.typed x way (look a.nodes from)) few met_is_here
+          ∙ ap₂ at_same there (leads (slice_index old.nodes from) 0 h is)
+          ∙ ap (λ b. b && nat_eq (slice_index old.nodes to) h.row) (eq-eqb (node_table c.typed to) (node_table c.typed to) refl)
+        where
+          met_is_here : rels_from c.graph c.typed x way (look a.nodes from) ≡ rel table h.number ∷ map (rel table) (drop 1 met)
+          met_is_here = met_is ∙ ap (map (rel table)) (hop_next c.graph table f.table f.table_is way (slice_index old.nodes from) 0 h is)
+
+          go : (rs : List RelId) → length rs ≤ 1 → rs ≡ rel table h.number ∷ map (rel table) (drop 1 met) → list_any leads_there rs ≡ leads_there (rel table h.number)
+          go [] low e = absurd (cc e)
+          go (r ∷ []) low e = or-none (leads_there r) ∙ ap leads_there (cc e)
+            where
+              or-none : (b : Bool) → (b || false) ≡ b
+              or-none true = refl
+              or-none false = refl
+          go (r ∷ q ∷ rs) low e = absurd (omega (arith, low))

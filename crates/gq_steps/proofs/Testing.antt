@@ -6,6 +6,7 @@ use Rattle.std.proofs.lemmas.Option.{slice_get-get_or}
 use Rattle.gq_plan.specs.Allowed.{at_same}
 use Rattle.gq_plan.specs.Conditions.{passes, differs, no_loop}
 use Rattle.gq_plan.specs.Covers.{after_step, fits_step, test_bound, pair_bound, loop_bound}
+use Rattle.gq_plan.specs.Halves.{runs_step}
 use Rattle.gq_plan.specs.Known.{Known}
 use Rattle.gq_plan.specs.Meaning.{Partial, look, row, holds, keep_if, step}
 use Rattle.gq_plan.specs.Plans.{Step, Keep, Differ, NoLoop}
@@ -83,20 +84,20 @@ module _ (c : Run) (run : IsRun c) (d : ℕ) (low : d < length c.steps) (old : A
   pub keep_tried : (i : ℕ) → step_at c d ≡ Keep i → (place : ℕ) → IsTried c d place old old (tested place (holds (passes c.graph (as_read c.typed old)) (slice_get c.typed.tests i)))
   unfolding tries step after_step fits_step
   keep_tried i is place =
-      let fit : fits_step c.graph.catalog c.typed (Keep i) (known c d) ≡ true = ap (λ s. fits_step c.graph.catalog c.typed s (known c d)) (sym is) ∙ fits_at c run d low in
+      let fit : runs_step c.graph.catalog c.typed (Keep i) (known c d) ≡ true = ap (λ s. runs_step c.graph.catalog c.typed s (known c d)) (sym is) ∙ fits_at c run d low in
       let same = passes_same c old (known c d) held (before c old d) (looks c run old d) (slice_get c.typed.tests i) fit in
       test_tried c d (Keep i) is old held _ refl refl (ap (λ b. keep_if b (before c old d) ∷ []) (sym same)) place
 
   pub differ_tried : (p : ℕ) → step_at c d ≡ Differ p → (place : ℕ) → IsTried c d place old old (tested place (holds (differs (as_read c.typed old)) (slice_get c.typed.pairs p)))
   unfolding tries step after_step fits_step
   differ_tried p is place =
-      let fit : fits_step c.graph.catalog c.typed (Differ p) (known c d) ≡ true = ap (λ s. fits_step c.graph.catalog c.typed s (known c d)) (sym is) ∙ fits_at c run d low in
+      let fit : runs_step c.graph.catalog c.typed (Differ p) (known c d) ≡ true = ap (λ s. runs_step c.graph.catalog c.typed s (known c d)) (sym is) ∙ fits_at c run d low in
       let same = differs_same c old (known c d) held (before c old d) (looks c run old d) (slice_get c.typed.pairs p) fit in
       test_tried c d (Differ p) is old held _ refl refl (ap (λ b. keep_if b (before c old d) ∷ []) (sym same)) place
 
   pub no_loop_tried : (x : ℕ) → step_at c d ≡ NoLoop x → (place : ℕ) → IsTried c d place old old (tested place (holds (no_loop (as_read c.typed old)) (slice_get c.typed.rels x)))
   unfolding tries step after_step fits_step
   no_loop_tried x is place =
-      let fit : fits_step c.graph.catalog c.typed (NoLoop x) (known c d) ≡ true = ap (λ s. fits_step c.graph.catalog c.typed s (known c d)) (sym is) ∙ fits_at c run d low in
+      let fit : runs_step c.graph.catalog c.typed (NoLoop x) (known c d) ≡ true = ap (λ s. runs_step c.graph.catalog c.typed s (known c d)) (sym is) ∙ fits_at c run d low in
       let same = no_loop_same c old (known c d) held (before c old d) (looks c run old d) x (slice_get c.typed.rels x) fit in
       test_tried c d (NoLoop x) is old held _ refl refl (ap (λ b. keep_if b (before c old d) ∷ []) (sym same)) place

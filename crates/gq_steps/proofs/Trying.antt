@@ -1,9 +1,9 @@
 -- What a try of a step of each kind makes is what is said of the step at its depth.
-use Rattle.std.proofs.Common.{Bor, ◌≡◌, ◌≢◌, ℕ, zero, suc, ◌<◌, Bool, true, false, cond, Some, None, List, [], ◌∷◌, map, length, get_or, slice_get, refl, sym, ap, ◌∙◌, subst, arith}
+use Rattle.std.proofs.Common.{◌≡◌, ◌≢◌, inl, inr, ℕ, zero, suc, ◌<◌, ◌≤◌, Bool, true, false, cond, Some, None, List, [], ◌∷◌, map, length, get_or, slice_get, refl, sym, ap, ◌∙◌, subst, arith}
 use Rattle.std.proofs.lemmas.Bool.{and_parts}
 use Rattle.std.proofs.lemmas.List.{get_or-map, length-map}
-use Rattle.std.specs.Prelude.{slice_index}
-use Rattle.std.specs.List.{range_with_len}
+use Rattle.std.specs.Prelude.{slice_index, slice_index_or}
+use Rattle.std.specs.List.{list_any, range_with_len}
 use Rattle.std.proofs.lemmas.List.FromFn.{length-range_with_len}
 use Rattle.std.proofs.lemmas.Option.{slice_get_within}
 use Rattle.gq_base.specs.Valid.{row_count}
@@ -12,43 +12,91 @@ use Rattle.gq_store.specs.Neighbours.{neighbours, numbers}
 use Rattle.gq_steps.specs.Tries.{tries}
 use Rattle.gq_steps.proofs.Followed.{rel, as_many}
 use Rattle.gq_base.specs.declared.direction.Direction.{Direction}
-use Rattle.gq_plan.specs.Covers.{fits_step, goes}
+use Rattle.gq_plan.specs.Covers.{after_step, fits_step, goes}
+use Rattle.gq_plan.specs.Flat.{is_join}
+use Rattle.gq_plan.specs.Halves.{close_half, half_of, runs_step}
 use Rattle.gq_plan.specs.Known.{Known}
-use Rattle.gq_plan.specs.Meaning.{Partial, look, holds, far, arrive, with_rel, keep_if, rels_from}
-use Rattle.gq_plan.specs.Plans.{Step, Scan, Extend, Close, Keep, step_of}
+use Rattle.gq_plan.specs.Meaning.{Partial, look, holds, far, arrive, with_rel, keep_if, rels_from, step}
+use Rattle.gq_plan.specs.Plans.{Step, Scan, Extend, Close, Join, Keep, Differ, NoLoop, Single, Meet, step_of}
+use Rattle.gq_plan.specs.declared.halves.Half.{Half}
+use Rattle.gq_plan.specs.declared.halves.Half.TheVariants.{Whole, First, Second}
 use Rattle.gq_plan.specs.declared.plan.Step as code
 use Rattle.gq_steps.specs.Levels.{Run, step_at, built_at, known, before}
-use Rattle.gq_steps.specs.Moves.{referred, run_of, steps_in, IsRun, IsHeld, IsTried}
-use Rattle.gq_steps.specs.steps.Outcomes.{IsScanned, IsExtended, IsClosed, tested}
+use Rattle.gq_steps.specs.Moves.{run_step, run_steps, run_of, steps_in, halves_in, IsRun, IsHeld, IsTried}
+use Rattle.gq_steps.specs.steps.Outcomes.{IsScanned, IsExtended, IsClosed, IsTaken, IsMet, IsClosedAs, tested}
 use Rattle.gq_steps.specs.Follows.{IsSized, CanFollow}
 use Rattle.gq_plan.specs.Rows.{node_at, node_table, rel_table}
 use Rattle.gq_plan.specs.declared.assignment.Assignment.{Assignment}
 use Rattle.gq_steps.specs.declared.plan_run.PlanRun.{PlanRun}
+use Rattle.gq_steps.specs.declared.plan_run.RunStep.{RunStep}
 use Rattle.gq_steps.specs.declared.plan_run.Follow.{Follow}
 use Rattle.gq_steps.specs.declared.plan_run.Tried.{Tried}
 use Rattle.gq_steps.specs.declared.plan_run.Tried.TheVariants.{Past, Missed, Made}
+use Rattle.gq_law_groups.specs.Groups.{makes_group}
+use Rattle.gq_law_groups.proofs.Single.{from_small}
 use Rattle.gq_steps.proofs.Binding.{looks, fits_at}
-use Rattle.gq_steps.proofs.Stepping.{not_true, Makes, is_made, is_missed, is_past, scan_parts, scan_makes, scan_makes_none, Follows, follows, near_rows_are, scans, lists, met_is, extend_makes, extend_past, close_makes, close_misses, close_past}
+use Rattle.gq_steps.proofs.Testing.{test_tried}
+use Rattle.gq_steps.proofs.Stepping.{not_true, Makes, is_made, is_missed, is_past, scan_parts, scan_makes, scan_makes_none, Follows, follows, near_rows_are, scans, lists, met_is, extend_makes, extend_past, close_makes, close_misses, close_past, single_makes, single_past, meets_none, meets_one}
 
--- the step at a depth of a run, by its step of the program
-pub get_mapped : (ss : List code.Step) (d : ℕ) (x : code.Step) → d < length ss → get_or (map step_of ss) d (Keep 0) ≡ step_of (get_or ss d x)
-get_mapped [] d x low = absurd (omega arith)
-get_mapped (s ∷ ss) zero x low = refl
-get_mapped (s ∷ ss) (suc d) x low = get_mapped ss d x (omega arith)
+-- the step at a depth of a run, by what is referred to there
+pub get_mapped : (rs : List RunStep) (d : ℕ) (r : RunStep) → d < length rs → get_or (run_steps rs) d (Keep 0) ≡ run_step (get_or rs d r)
+get_mapped [] d r low = absurd (omega arith)
+get_mapped (q ∷ rs) zero r low = refl
+get_mapped (q ∷ rs) (suc d) r low = get_mapped rs d r (omega arith)
 
--- the step that is referred to at a depth
-pub step_read : (rs : List (Bor code.Step)) (d : ℕ) (r : Bor code.Step) → r ≡ get_or rs d r → d < length rs → get_or (referred rs) d r.now ≡ r.now
-step_read rs d r is low = get_or-map (λ (s : Bor code.Step). s.now) rs d r r.now low ∙ ap (λ (s : Bor code.Step). s.now) (sym is)
+parts_mapped : (rs : List RunStep) (d : ℕ) (x : code.Step) → d < length rs
+    → get_or (run_steps rs) d (Keep 0) ≡ half_of (get_or (map (λ (r : RunStep). r.half) rs) d Whole) (step_of (get_or (map (λ (r : RunStep). r.step.now) rs) d x))
+parts_mapped [] d x low = absurd (omega arith)
+parts_mapped (q ∷ rs) zero x low = refl
+parts_mapped (q ∷ rs) (suc d) x low = parts_mapped rs d x (omega arith)
+
+-- the step that is referred to at a depth, and how much of it runs
+pub step_read : (rs : List RunStep) (d : ℕ) (r : RunStep) → r ≡ get_or rs d r → d < length rs → get_or (map (λ (q : RunStep). q.step.now) rs) d r.step.now ≡ r.step.now
+step_read rs d r is low = get_or-map (λ (q : RunStep). q.step.now) rs d r r.step.now low ∙ ap (λ (q : RunStep). q.step.now) (sym is)
+
+pub half_read : (rs : List RunStep) (d : ℕ) (r : RunStep) → r ≡ get_or rs d r → d < length rs → r.half ≡ get_or (map (λ (q : RunStep). q.half) rs) d Whole
+half_read rs d r is low = ap (λ (q : RunStep). q.half) is ∙ sym (get_or-map (λ (q : RunStep). q.half) rs d r Whole low)
+
+pub as_many_steps : (k : PlanRun) → length (run_of k).steps ≡ length (steps_in k)
+as_many_steps k = length-map k.steps.items run_step ∙ sym (length-map k.steps.items (λ (r : RunStep). r.step.now))
 
 pub step_below : (k : PlanRun) (d n : ℕ) → n ≡ length k.steps.items → d < n → d < length (run_of k).steps
-step_below k d n is low = omega (arith, low, is, length-map (steps_in k) step_of, length-map k.steps.items (λ (s : Bor code.Step). s.now))
+step_below k d n is low = omega (arith, low, is, length-map k.steps.items run_step)
+
+abbrev pub half_at : PlanRun → ℕ → Half
+half_at k d = slice_index_or (halves_in k) d Whole
 
 module _ (k : PlanRun) (d : ℕ) (low : d < length (steps_in k)) where
-  pub step_is : (x s : code.Step) (t : Step) → get_or (steps_in k) d x ≡ s → step_of s ≡ t → step_at (run_of k) d ≡ t
-  step_is x s t is e = get_mapped (steps_in k) d x low ∙ ap step_of is ∙ e
+  pub step_is : (x s : code.Step) (t : Step) → get_or (steps_in k) d x ≡ s → step_of s ≡ t → step_at (run_of k) d ≡ half_of (half_at k d) t
+  step_is x s t is e =
+      parts_mapped k.steps.items d x (omega (arith, low, length-map k.steps.items (λ (r : RunStep). r.step.now)))
+      ∙ ap (λ z. half_of (half_at k d) (step_of z)) is ∙ ap (half_of (half_at k d)) e
 
   pub low_step : d < length (run_of k).steps
-  low_step = rw length-map low
+  low_step = omega (arith, low, as_many_steps k)
+
+-- no half of a column close makes a group, or joins
+pub half_small : (h : Half) (x from to : ℕ) (way : Direction) → makes_group (close_half h x from to way) ≡ false
+half_small Whole x from to way = refl
+half_small First x from to way = refl
+half_small Second x from to way = refl
+
+pub half_makes : (h : Half) (s : Step) → makes_group (half_of h s) ≡ makes_group s
+half_makes h (Scan v) = refl
+half_makes h (Extend column x from to way) = refl
+half_makes h (Close true x from to way) = half_small h x from to way
+half_makes h (Close false x from to way) = refl
+half_makes h (Join side keys) = refl
+half_makes h (Keep i) = refl
+half_makes h (Differ p) = refl
+half_makes h (NoLoop x) = refl
+half_makes h (Single x from to way) = refl
+half_makes h (Meet x from to way) = refl
+
+pub half_joins : (h : Half) (x from to : ℕ) (way : Direction) → is_join (close_half h x from to way) ≡ false
+half_joins Whole x from to way = refl
+half_joins First x from to way = refl
+half_joins Second x from to way = refl
 
 -- a test is looked at at its one place only
 pub tested_past : (place : ℕ) (b p : Bool) → place ≢ 0 → tested place b ≡ tested place p
@@ -62,8 +110,8 @@ module _ (c : Run) (run : IsRun c) (d : ℕ) (low : d < length c.steps) (old : A
   abbrev a : Partial
   a = before c old d
 
-  pub fit : (s : Step) → step_at c d ≡ s → fits_step c.graph.catalog c.typed s k ≡ true
-  fit s is = ap (λ t. fits_step c.graph.catalog c.typed t k) (sym is) ∙ fits_at c run d low
+  pub fit : (s : Step) → step_at c d ≡ s → runs_step c.graph.catalog c.typed s k ≡ true
+  fit s is = ap (λ t. runs_step c.graph.catalog c.typed t k) (sym is) ∙ fits_at c run d low
 
   pub sized : IsSized c.typed old
   sized = record { nodes = held.node_count; rels = held.rel_count }
@@ -187,3 +235,82 @@ module _ (c : Run) (run : IsRun c) (d : ℕ) (low : d < length c.steps) (old : A
         is_made c d (Close column x from to way) is place old new
         (subst (λ row. Makes c (built_at c d) (Close column x from to way) k a place old row) (sym h.3)
         (close_makes c run x from to way closes old a (found from close_parts.1) (found to close_parts.2) (built_at c d) column k held close_parts.0 place h.0 h.1 h.2)) h.1.few
+
+  -- the halves of a step between bound node variables
+
+  module _ (x from to : ℕ) (way : Direction) (is : step_at c d ≡ Single x from to way) where
+    pub single_goes : holds (goes c.graph.catalog true from to way) (slice_get c.typed.rels x) ≡ true
+    single_goes = (and_parts _ _ (fit (Single x from to way) is)).0
+
+    single_parts : (k.rels x ≡ false) × (k.nodes from ≡ true)
+    single_parts =
+        let more = and_parts _ _ (and_parts _ _ (fit (Single x from to way) is)).1 in
+        (not_true _ more.0, more.1)
+
+    abbrev takes : Follows c x from to way
+    takes = follows c run true x from to way single_goes
+
+    pub single_can : CanFollow c.graph c.typed old (at x from to way)
+    single_can = can x from to way takes single_parts.1
+
+    pub single_tried : (place : ℕ) (new : Assignment) (told : Tried) → IsTaken c.graph c.typed (at x from to way) place old new told → IsTried c d place old new told
+    single_tried place new Past h =
+        is_past c d (Single x from to way) is place old new h.0
+        (single_past c run x from to way takes old a (found from single_parts.1) (built_at c d) place h.1)
+    single_tried place new Missed h = absurd h
+    single_tried place new Made h =
+        is_made c d (Single x from to way) is place old new
+        (subst (λ row. Makes c (built_at c d) (Single x from to way) k a place old row) (sym h.2)
+        (single_makes c run x from to way takes old a (found from single_parts.1) (built_at c d) k held single_parts.0 place h.0 h.1)) h.1.few
+
+    pub single_count : length (tries c.graph c.typed (built_at c d) (step_at c d) a) ≡ length (neighbours c.graph (rel_table c.typed x) way (slice_index old.nodes from))
+    unfolding tries
+    single_count =
+        ap (λ s. length (tries c.graph c.typed (built_at c d) s a)) is
+        ∙ length-map (rels_from c.graph c.typed x way (look a.nodes from)) (λ r. with_rel x r a ∷ [])
+        ∙ rels_count x from to way takes (found from single_parts.1)
+
+  module _ (x from to : ℕ) (way : Direction) (is : step_at c d ≡ Meet x from to way) where
+    pub meet_goes : holds (goes c.graph.catalog true from to way) (slice_get c.typed.rels x) ≡ true
+    meet_goes = (and_parts _ _ (fit (Meet x from to way) is)).0
+
+    meet_parts : (k.nodes from ≡ true) × (k.nodes to ≡ true)
+    meet_parts = and_parts _ _ (and_parts _ _ (fit (Meet x from to way) is)).1
+
+    abbrev meets : Follows c x from to way
+    meets = follows c run true x from to way meet_goes
+
+    meet_can : CanFollow c.graph c.typed old (at x from to way)
+    meet_can = can x from to way meets meet_parts.0
+
+    few : length (rels_from c.graph c.typed x way (look a.nodes from)) ≤ 1
+    few = from_small c.graph c.typed run.valid x from to way meet_goes (look a.nodes from)
+
+    told_is : (met : Bool) → IsMet c.graph c.typed (at x from to way) old met → list_any (λ r. at_same (look a.nodes to) (far c.graph way r)) (rels_from c.graph c.typed x way (look a.nodes from)) ≡ met
+    told_is met (inl n) = meets_none c run x from to way meets old a (found from meet_parts.0) (found to meet_parts.1) few n.0 ∙ sym n.1
+    told_is met (inr h) = meets_one c run x from to way meets old a (found from meet_parts.0) (found to meet_parts.1) few h.0 h.1 ∙ sym h.2
+
+    pub meet_tried : (place : ℕ) (met : Bool) → IsMet c.graph c.typed (at x from to way) old met → IsTried c d place old old (tested place met)
+    unfolding tries step after_step
+    meet_tried place met h = test_tried c d (Meet x from to way) is old held met refl refl (ap (λ b. keep_if b a ∷ []) (told_is met h)) place
+
+  -- a column close as it runs
+
+  module _ (h : Half) (x from to : ℕ) (way : Direction) where
+    pub half_can : step_at c d ≡ close_half h x from to way → CanFollow c.graph c.typed old (at x from to way)
+    half_can is = go h is
+      where
+        go : (h : Half) → step_at c d ≡ close_half h x from to way → CanFollow c.graph c.typed old (at x from to way)
+        go Whole is = close_can true x from to way is
+        go First is = single_can x from to way is
+        go Second is = meet_can x from to way is
+
+    pub half_tried : step_at c d ≡ close_half h x from to way → (place : ℕ) (new : Assignment) (told : Tried) → IsClosedAs h c.graph c.typed (at x from to way) place old new told → IsTried c d place old new told
+    half_tried is place new told closed = go h is closed
+      where
+        go : (h : Half) → step_at c d ≡ close_half h x from to way → IsClosedAs h c.graph c.typed (at x from to way) place old new told → IsTried c d place old new told
+        go Whole is closed = close_tried true x from to way is place new told closed
+        go First is closed = single_tried x from to way is place new told closed
+        go Second is closed =
+            subst (λ t. IsTried c d place old new t) (sym closed.1.2)
+            (subst (λ (row : Assignment). IsTried c d place old row (tested place closed.1.0)) (sym closed.0) (meet_tried x from to way is place closed.1.0 closed.1.1))

@@ -11,9 +11,10 @@ use Rattle.gq_base.specs.declared.direction.Direction.{Direction}
 use Rattle.gq_plan.specs.Allowed.{at_same}
 use Rattle.gq_plan.specs.Assignments.{rels_of}
 use Rattle.gq_plan.specs.Covers.{fits_step, goes}
+use Rattle.gq_plan.specs.Halves.{runs_step}
 use Rattle.gq_plan.specs.Known.{Known}
 use Rattle.gq_plan.specs.Meaning.{Partial, nothing, with_node, with_rel, with_all, look, near, far, nodes_for, rels_from, arrive, keep_if, agree, holds, mean, step}
-use Rattle.gq_plan.specs.Plans.{Step, Scan, Extend, Close, Join, Keep, Differ, NoLoop, steps}
+use Rattle.gq_plan.specs.Plans.{Step, Scan, Extend, Close, Join, Keep, Differ, NoLoop, Single, Meet, steps}
 use Rattle.gq_plan.specs.declared.assignment.Assignment.{Assignment}
 use Rattle.gq_plan.specs.declared.typed.Typed.{Typed}
 use Rattle.gq_law_groups.specs.Groups.{makes_group, raw, own, kept, raw_at, follow, checked}
@@ -78,7 +79,7 @@ module _ (c : Run) (run : IsRun c) where
   y = c.typed
 
   -- each place of the whole list is tried
-  pub raw_tries : (built : List Partial) (s : Step) (k : Known) (a : Partial) → makes_group s ≡ true → fits_step g.catalog y s k ≡ true → tries g y built s a ≡ map (λ e. one_if (own g y s e) e) (raw g y built s a)
+  pub raw_tries : (built : List Partial) (s : Step) (k : Known) (a : Partial) → makes_group s ≡ true → runs_step g.catalog y s k ≡ true → tries g y built s a ≡ map (λ e. one_if (own g y s e) e) (raw g y built s a)
   unfolding tries step fits_step
   raw_tries built (Scan v) k a makes fit = sym (map_map (λ e. e ∷ []) (λ n. with_node v n a) (nodes_for g y v))
   raw_tries built (Extend true x from to way) k a makes fit = absurd (true≢false (sym makes))
@@ -100,8 +101,10 @@ module _ (c : Run) (run : IsRun c) where
   raw_tries built (Keep i) k a makes fit = absurd (true≢false (sym makes))
   raw_tries built (Differ p) k a makes fit = absurd (true≢false (sym makes))
   raw_tries built (NoLoop x) k a makes fit = absurd (true≢false (sym makes))
+  raw_tries built (Single x from to way) k a makes fit = absurd (true≢false (sym makes))
+  raw_tries built (Meet x from to way) k a makes fit = absurd (true≢false (sym makes))
 
-  pub raw_long : (built : List Partial) (s : Step) (k : Known) (a : Partial) → makes_group s ≡ true → fits_step g.catalog y s k ≡ true → length (tries g y built s a) ≡ length (raw g y built s a)
+  pub raw_long : (built : List Partial) (s : Step) (k : Known) (a : Partial) → makes_group s ≡ true → runs_step g.catalog y s k ≡ true → length (tries g y built s a) ≡ length (raw g y built s a)
   raw_long built s k a makes fit = ap length (raw_tries built s k a makes fit) ∙ length-map (raw g y built s a) (λ e. one_if (own g y s e) e)
 
   same_plan : (ss : List Step) → steps ss ≡ checked ss Rattle.gq_plan.specs.Plans.Done
@@ -109,7 +112,7 @@ module _ (c : Run) (run : IsRun c) where
   same_plan (s ∷ ss) = ap (Rattle.gq_plan.specs.Plans.Then s) (same_plan ss)
 
   -- what the steps of a group make of a place
-  pub made_is : (s : GroupSteps) (k : Known) (row : Assignment) (place : ℕ) → makes_group (step_at c s.first) ≡ true → fits_step g.catalog y (step_at c s.first) k ≡ true
+  pub made_is : (s : GroupSteps) (k : Known) (row : Assignment) (place : ℕ) → makes_group (step_at c s.first) ≡ true → runs_step g.catalog y (step_at c s.first) k ≡ true
       → place < length (raw g y (built_at c s.first) (step_at c s.first) (before c row s.first))
       → made_at c s place row ≡ kept g y (group_in c.steps s) (raw_at g y (built_at c s.first) (group_in c.steps s) (before c row s.first) place)
   made_is s k row place makes fit low =

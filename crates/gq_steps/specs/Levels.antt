@@ -6,7 +6,7 @@ use Rattle.gq_filter.specs.RowTests.{RowCondition}
 use Rattle.gq_plan.specs.Covers.{after_step}
 use Rattle.gq_plan.specs.Known.{Known, none}
 use Rattle.gq_plan.specs.Meaning.{Partial, nothing, with_node, with_rel, with_all}
-use Rattle.gq_plan.specs.Plans.{Step, Scan, Extend, Close, Join, Keep, Differ, NoLoop}
+use Rattle.gq_plan.specs.Plans.{Step, Scan, Extend, Close, Join, Keep, Differ, NoLoop, Single, Meet}
 use Rattle.gq_plan.specs.declared.typed.Typed.{Typed}
 use Rattle.gq_join.specs.Kept.{Held}
 use Rattle.gq_plan.specs.Rows.{node_at, rel_at}
@@ -36,6 +36,8 @@ taken y row (Join side keys) a = with_all (given y row side nothing) a
 taken y row (Keep i) a = a
 taken y row (Differ p) a = a
 taken y row (NoLoop x) a = a
+taken y row (Single x from to direction) a = with_rel x (rel_at y row x) a
+taken y row (Meet x from to direction) a = a
 
 -- what is bound before the step at a depth
 unfoldable pub known : Run → ℕ → Known

@@ -1,15 +1,15 @@
 -- When a step can be tried, and what a try does.
 use Rattle.std.specs.Prelude.{◌≡◌, ℕ, Option, suc, ◌+◌, ◌^◌, ◌<◌, true, List, [], ◌∷◌, drop, length, map, slice_index}
 use Rattle.std.specs.Option.{option_copied}
-use Rattle.std.specs.Borrow.{Bor}
 use Rattle.gq_base.specs.Valid.{is_valid, row_count}
 use Rattle.gq_filter.specs.RowTests.{conditions_of}
 use Rattle.gq_join.specs.Kept.{Held}
-use Rattle.gq_plan.specs.Covers.{Fits}
+use Rattle.gq_plan.specs.Halves.{Runs, half_of}
 use Rattle.gq_plan.specs.Known.{Known}
 use Rattle.gq_plan.specs.Meaning.{Partial}
 use Rattle.gq_plan.specs.Soundness.{IsSound}
-use Rattle.gq_plan.specs.Plans.{steps, step_of}
+use Rattle.gq_plan.specs.Plans.{Step, steps, step_of}
+use Rattle.gq_plan.specs.declared.halves.Half.{Half}
 use Rattle.gq_plan.specs.declared.plan.Step as code
 use Rattle.gq_steps.specs.Built.{AreBuilds}
 use Rattle.gq_steps.specs.Levels.{Run, step_at, built_at, taken, known, before}
@@ -17,28 +17,35 @@ use Rattle.gq_plan.specs.Rows.{node_table}
 use Rattle.gq_steps.specs.Tries.{tries}
 use Rattle.gq_plan.specs.declared.assignment.Assignment.{Assignment}
 use Rattle.gq_steps.specs.declared.plan_run.PlanRun.{PlanRun}
+use Rattle.gq_steps.specs.declared.plan_run.RunStep.{RunStep}
 use Rattle.gq_steps.specs.declared.plan_run.Tried.{Tried}
 use Rattle.gq_steps.specs.declared.plan_run.Tried.TheVariants.{Past, Missed, Made}
 
--- the steps that are referred to
-abbrev pub referred : List (Bor code.Step) → List code.Step
-referred ss = map (λ s. s.now) ss
+-- a step as it runs
+abbrev pub run_step : RunStep → Step
+run_step r = half_of r.half (step_of r.step.now)
 
--- the steps of a plan in the order in which they run, and their builds
+abbrev pub run_steps : List RunStep → List Step
+run_steps rs = map run_step rs
+
+-- the steps of a plan in the order in which they run, how much of each runs, and their builds
 abbrev pub steps_in : PlanRun → List code.Step
-steps_in c = referred c.steps.items
+steps_in c = map (λ (r : RunStep). r.step.now) c.steps.items
+
+abbrev pub halves_in : PlanRun → List Half
+halves_in c = map (λ (r : RunStep). r.half) c.steps.items
 
 abbrev pub builds_in : PlanRun → List (Option Held)
 builds_in c = map option_copied c.builds.items
 
 abbrev pub run_of : PlanRun → Run
-run_of c = record { graph = c.graph.now; typed = c.typed.now; steps = map step_of (steps_in c); builds = builds_in c; tests = c.tests.items }
+run_of c = record { graph = c.graph.now; typed = c.typed.now; steps = run_steps c.steps.items; builds = builds_in c; tests = c.tests.items }
 
--- the graph is valid, the alternative is sound for it, the steps fit the alternative and have their builds, and the tests are the alternative's
+-- the graph is valid, the alternative is sound for it, the steps fit the alternative as they run and have their builds, and the tests are the alternative's
 pub record IsRun (c : Run) : Type 0 where
   pub valid : is_valid c.graph ≡ true
   pub sound : IsSound c.graph.catalog c.typed
-  pub fits : Fits c.graph.catalog c.typed (steps c.steps)
+  pub fits : Runs c.graph.catalog c.typed (steps c.steps)
   pub builds : AreBuilds c.graph c.typed (steps c.steps) c.builds
   pub tests : c.tests ≡ conditions_of c.graph c.typed
 

@@ -11,4 +11,4 @@ mod plan_run;
 mod sizes;
 
 pub use group_steps::GroupSteps;
-pub use plan_run::{Follow, PlanRun, Tried, following};
+pub use plan_run::{Follow, PlanRun, RunStep, Tried, following};

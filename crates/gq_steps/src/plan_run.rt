@@ -8,8 +8,10 @@ ghost use Rattle.gq_plan.specs.Rows.{as_read};
 ghost use Rattle.gq_plan.specs.Soundness.{IsSound};
 ghost use Rattle.gq_steps.specs.Levels.{known};
 ghost use Rattle.gq_steps.specs.Matches.{AreMatches};
-ghost use Rattle.gq_steps.specs.Moves.{builds_in, run_of, steps_in, IsRun, IsHeld, IsTried};
+ghost use Rattle.gq_steps.specs.Moves.{builds_in, halves_in, run_of, steps_in};
+ghost use Rattle.gq_steps.specs.Moves.{IsRun, IsHeld, IsTried};
 ghost use Rattle.gq_steps.specs.steps.Outcomes.{IsScanned, IsHopFound, IsExtended, IsClosed};
+ghost use Rattle.gq_steps.specs.steps.Outcomes.{IsClosedAs, IsMet, IsTaken};
 ghost use Rattle.gq_steps.specs.Follows.{IsSized, CanFollow};
 ghost use Rattle.gq_steps.specs.steps.Outcomes.{CanJoin, IsJoined, with_nodes, with_rels};
 ghost use Rattle.gq_steps.specs.steps.Outcomes.{differs_at, no_loop_at, tested};
@@ -19,8 +21,15 @@ use gq_base::{Direction, List};
 use gq_expr::Assigned;
 use gq_filter::RowTest;
 use gq_join::Sealed;
-use gq_plan::{Assignment, Step, Typed, TypedRow};
+use gq_plan::{Assignment, Half, Step, Typed, TypedRow};
 use gq_store::Graph;
+
+/// A step of a plan, and how much of it runs.
+#[derive(Clone, Copy)]
+pub struct RunStep<'g> {
+    pub step: &'g Step,
+    pub half: Half,
+}
 
 /// A graph, a typed alternative, and a plan for it.
 #[derive(Drop)]
@@ -29,7 +38,7 @@ pub struct PlanRun<'g> {
     pub typed: &'g Typed,
     /// The steps of the plan as it was given, and the same in the order in which they run.
     pub plan: &'g [Step],
-    pub steps: Vec<&'g Step>,
+    pub steps: Vec<RunStep<'g>>,
     /// The build of each step that runs, if it is a join.
     pub builds: Vec<Option<&'g Sealed>>,
     /// The tests of the alternative.
@@ -92,7 +101,10 @@ impl<'g> PlanRun<'g> {
                 from,
                 to,
                 direction,
-            } => self.close(following(*rel, *from, *to, *direction), place, row),
+            } => {
+                let follow = following(*rel, *from, *to, *direction);
+                self.close_as(self.half(depth), follow, place, row)
+            }
             Step::Keep { test } => tested(place, place == 0 && self.keep(*test, row)),
             Step::Differ { pair } => tested(place, place == 0 && self.differ(*pair, row)),
             Step::NoLoop { rel } => tested(place, place == 0 && self.no_loop(*rel, row)),
@@ -132,7 +144,15 @@ impl<'g> PlanRun<'g> {
         requires { depth < length (steps_in self.now) }
         ensures { slice_index_or (steps_in self.now) depth result.now ≡ result.now }
     {
-        self.steps[depth]
+        self.steps[depth].step
+    }
+
+    /// How much of the step at a depth runs.
+    pub fn half(&self, depth: usize) -> Half
+        requires { depth < length (steps_in self.now) }
+        ensures { result ≡ slice_index_or (halves_in self.now) depth Half.Whole }
+    {
+        self.steps[depth].half
     }
 
     /// The build of the step at a depth, if there is one.
@@ -192,6 +212,45 @@ impl<'g> PlanRun<'g> {
                 row.rels.set(follow.rel as usize, found.number);
                 Tried::Made
             }
+        }
+    }
+
+    // A column close as it runs.
+    fn close_as(&self, half: Half, follow: Follow, place: u32, row: &mut Assignment) -> Tried
+        requires { CanFollow self.now.graph.now self.now.typed.now row.old follow }
+        ensures { IsClosedAs half self.now.graph.now self.now.typed.now follow place
+            row.old row.new result }
+    {
+        match half {
+            Half::Whole => self.close(follow, place, row),
+            Half::First => self.take(follow, place, row),
+            Half::Second => tested(place, self.meets(follow, row)),
+        }
+    }
+
+    // The relationship at the place, for a relationship variable.
+    fn take(&self, follow: Follow, place: u32, row: &mut Assignment) -> Tried
+        requires { CanFollow self.now.graph.now self.now.typed.now row.old follow }
+        ensures { IsTaken self.now.graph.now self.now.typed.now follow place
+            row.old row.new result }
+    {
+        match self.hop(follow, place, row) {
+            None => Tried::Past,
+            Some(found) => {
+                row.rels.set(follow.rel as usize, found.number);
+                Tried::Made
+            }
+        }
+    }
+
+    // Whether the first relationship leads to the row that a node variable has.
+    fn meets(&self, follow: Follow, row: &Assignment) -> bool
+        requires { CanFollow self.now.graph.now self.now.typed.now row.now follow }
+        ensures { IsMet self.now.graph.now self.now.typed.now follow row.now result }
+    {
+        match self.hop(follow, 0, row) {
+            None => false,
+            Some(found) => row.nodes.as_slice()[follow.to as usize] == found.row,
         }
     }
 

@@ -6,7 +6,7 @@ use Rattle.gq_group.specs.declared.home.NodeHome.TheVariants as node
 use Rattle.gq_group.specs.declared.home.RelHome.{RelHome}
 use Rattle.gq_group.specs.declared.home.RelHome.TheVariants as rel
 use Rattle.gq_join.specs.Kept.{Held}
-use Rattle.gq_plan.specs.Plans.{Step, Scan, Extend, Close, Join}
+use Rattle.gq_plan.specs.Plans.{Step, Scan, Extend, Close, Join, Single}
 use Rattle.gq_plan.specs.Soundness.{has_number}
 use Rattle.gq_steps.specs.Levels.{Run, step_at}
 use Rattle.gq_steps.specs.Groups.{group_at}
@@ -51,6 +51,7 @@ housed o i column (Extend false x from to way) h = with_rel_home x (rel.Listed i
 housed o i column (Extend true x from to way) h = with_column (leading_of i x from way) to column h
 housed o i column (Close false x from to way) h = with_rel_home x (rel.Listed i from (is_forward way)) h
 housed o i column (Close true x from to way) h = with_rel_home x (rel.Single from (is_forward way)) h
+housed o i column (Single x from to way) h = with_rel_home x (rel.Single from (is_forward way)) h
 housed o i column (Join side keys) h = with_build o keys i column h
 housed o i column s h = h
 
@@ -79,6 +80,7 @@ abbrev pub CanHouse : Option Held → Homes → Step → Type 0
 CanHouse o h (Scan v) = v < length h.nodes
 CanHouse o h (Extend column x from to way) = (x < length h.rels) × (to < length h.nodes)
 CanHouse o h (Close column x from to way) = x < length h.rels
+CanHouse o h (Single x from to way) = x < length h.rels
 CanHouse o h (Join side keys) = CanHouseBuild o h
 CanHouse o h s = Unit {0}
 

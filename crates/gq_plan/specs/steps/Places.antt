@@ -1,7 +1,7 @@
 -- Which relationship variables a plan binds, and the plans whose variables have room among the groups that the program keeps.
 use Rattle.std.specs.Prelude.{ℕ, nat_eq, ◌<◌, ◌≡◌, Bool, true, false, if◌then◌else◌}
 use Rattle.gq_plan.specs.Columns.{binds}
-use Rattle.gq_plan.specs.Plans.{Plan, Done, Then, Step, Scan, Extend, Close, Join, Keep, Differ, NoLoop}
+use Rattle.gq_plan.specs.Plans.{Plan, Done, Then, Step, Scan, Extend, Close, Join, Keep, Differ, NoLoop, Single, Meet}
 use Rattle.gq_plan.specs.Soundness.{max_variables}
 
 unfoldable mutual
@@ -18,6 +18,8 @@ unfoldable mutual
   step_binds_rel rel (Keep test) = false
   step_binds_rel rel (Differ pair) = false
   step_binds_rel rel (NoLoop own) = false
+  step_binds_rel rel (Single own from to direction) = nat_eq own rel
+  step_binds_rel rel (Meet own from to direction) = false
 
 -- what a side plan binds is below the most variables of a query
 pub record HasRoom (side : Plan) : Type 0 where
@@ -33,3 +35,5 @@ IsNamed (Join side keys) = HasRoom side
 IsNamed (Keep i) = Unit {0}
 IsNamed (Differ q) = Unit {0}
 IsNamed (NoLoop x) = Unit {0}
+IsNamed (Single x from to direction) = x < max_variables
+IsNamed (Meet x from to direction) = Unit {0}

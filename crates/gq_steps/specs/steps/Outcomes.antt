@@ -1,10 +1,12 @@
 -- What a try of each kind of step does to rows and load numbers.
-use Rattle.std.specs.Prelude.{◌≡◌, ◌≢◌, ℕ, zero, suc, ◌+◌, ◌^◌, ◌<◌, ◌≤◌, Bool, true, false, Option, Some, List, [], ◌∷◌, All, length, slice_get, slice_index, slice_set}
+use Rattle.std.specs.Prelude.{◌≡◌, ◌≢◌, ◌⊎◌, ℕ, nat_eq, zero, suc, ◌+◌, ◌^◌, ◌<◌, ◌≤◌, Bool, true, false, Option, Some, List, [], ◌∷◌, All, length, slice_get, slice_index, slice_set}
 use Rattle.gq_base.specs.Plain.{Graph}
 use Rattle.gq_base.specs.Valid.{row_count}
 use Rattle.gq_join.specs.Kept.{Held, matches_of, node_in, rel_in, place_of}
 use Rattle.gq_plan.specs.Conditions.{passes, differs, no_loop}
 use Rattle.gq_plan.specs.Meaning.{holds}
+use Rattle.gq_plan.specs.declared.halves.Half.{Half}
+use Rattle.gq_plan.specs.declared.halves.Half.TheVariants.{Whole, First, Second}
 use Rattle.gq_plan.specs.declared.typed.Typed.{Typed}
 use Rattle.gq_store.specs.Neighbours.{neighbours}
 use Rattle.gq_steps.specs.steps.Hops.{IsHop, IsHopAt}
@@ -54,6 +56,17 @@ IsClosed g y f place old new Past = (new ≡ old) × IsNoHop g y f place old
 IsClosed g y f place old new Missed = (h : Hop) × IsHopOf g y f place old h × (h.row ≢ slice_index old.nodes f.to) × (new ≡ old)
 IsClosed g y f place old new Made = (h : Hop) × IsHopOf g y f place old h × (h.row ≡ slice_index old.nodes f.to) × (new ≡ with_number f.rel h.number old)
 
+-- the relationship at the place, wherever it leads
+abbrev pub IsTaken : Graph → Typed → Follow → ℕ → Assignment → Assignment → Tried → Type 0
+IsTaken g y f place old new Past = (new ≡ old) × IsNoHop g y f place old
+IsTaken g y f place old new Missed = ⊥
+IsTaken g y f place old new Made = (h : Hop) × IsHopOf g y f place old h × (new ≡ with_number f.rel h.number old)
+
+-- whether the first relationship leads to the row that is there
+abbrev pub IsMet : Graph → Typed → Follow → Assignment → Bool → Type 0
+IsMet g y f row told =
+    (IsNoHop g y f 0 row × (told ≡ false)) ⊎ ((h : Hop) × IsHopOf g y f 0 row h × (told ≡ nat_eq (slice_index row.nodes f.to) h.row))
+
 -- what the kept variables have in a row is written in the place of what they had
 abbrev pub set_all : List ℕ → (ℕ → ℕ) → List ℕ → List ℕ
 set_all [] f xs = xs
@@ -102,3 +115,9 @@ abbrev pub tested : ℕ → Bool → Tried
 tested zero true = Made
 tested zero false = Missed
 tested (suc place) passes = Past
+
+-- a column close as it runs
+abbrev pub IsClosedAs : Half → Graph → Typed → Follow → ℕ → Assignment → Assignment → Tried → Type 0
+IsClosedAs Whole g y f place old new told = IsClosed g y f place old new told
+IsClosedAs First g y f place old new told = IsTaken g y f place old new told
+IsClosedAs Second g y f place old new told = (new ≡ old) × ((met : Bool) × IsMet g y f old met × (told ≡ tested place met))

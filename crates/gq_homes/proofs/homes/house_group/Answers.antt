@@ -1,7 +1,8 @@
-use Rattle.std.proofs.Common.{◌≡◌, ◌∙◌, ℕ, ◌+◌, ◌<◌, length, sym, ap, ap₂, subst, arith}
+use Rattle.std.proofs.Common.{◌≡◌, ◌∙◌, ℕ, ◌+◌, ◌<◌, length, refl, sym, ap, ap₂, subst, arith}
 use Rattle.std.specs.Prelude.{slice_index_or}
-use Rattle.std.proofs.lemmas.List.{length-map}
+use Rattle.gq_plan.specs.Halves.{half_of}
 use Rattle.gq_plan.specs.Plans.{step_of}
+use Rattle.gq_plan.specs.declared.halves.Half.{Half}
 use Rattle.gq_plan.specs.declared.plan.Step as code
 use Rattle.gq_homes.specs.steps.Housing.{AreHoused, CanHouse, housed, with_filling, build_in}
 use Rattle.gq_steps.specs.Levels.{step_at, known}
@@ -11,11 +12,11 @@ use Rattle.gq_steps.proofs.Binding.{fits_at}
 use Rattle.gq_homes.proofs.Homing.{built_at, can_house, housed_first, housed_more, makes_first}
 use Rattle.gq_steps.proofs.Joined.{builds_many}
 use Rattle.gq_steps.proofs.Standings.{tile_at}
-use Rattle.gq_steps.proofs.Trying.{get_mapped}
+use Rattle.gq_steps.proofs.Trying.{as_many_steps, half_at, step_is}
 use Rattle.gq_homes.proofs.homes.house_group.Goals as goal
 
-step_there : (k : PlanRun) (d : _) (x : code.Step) → d < length (steps_in k) → slice_index_or (steps_in k) d x ≡ x → step_at (run_of k) d ≡ step_of x
-step_there k d x low is = get_mapped (steps_in k) d x low ∙ ap step_of is
+step_there : (k : PlanRun) (d : ℕ) (x : code.Step) (h : Half) → d < length (steps_in k) → slice_index_or (steps_in k) d x ≡ x → h ≡ half_at k d → step_at (run_of k) d ≡ half_of h (step_of x)
+step_there k d x h low is half = step_is k d low x x (step_of x) is refl ∙ ap (λ p. half_of p (step_of x)) (sym half)
 
 pub loop-step-init : goal.loop-step-init
 loop-step-init c =
@@ -24,12 +25,12 @@ loop-step-init c =
     let inside = w.inside in (
       omega arith,
       omega (arith, some),
-      omega (arith, inside, length-map (steps_in c.args.plan_run.now) step_of),
+      omega (arith, inside, as_many_steps c.args.plan_run.now),
       housed_first (run_of c.args.plan_run.now) c.requires.run c.args.groups.now c.args.number c.args.housing.now.fillings.items c.args.housing.now.homes c.requires.homes,
     )
 
 step_low : (k : PlanRun) (d : ℕ) → d < length (steps_in k) → d < length (run_of k).steps
-step_low k d low = omega (arith, low, length-map (steps_in k) step_of)
+step_low k d low = omega (arith, low, as_many_steps k)
 
 build_low : (k : PlanRun) → IsRun (run_of k) → (d : ℕ) → d < length (steps_in k) → d < length (builds_in k)
 build_low k run d low = let many = builds_many k.graph.now k.typed.now (run_of k).steps (builds_in k) run.builds in let inside = step_low k d low in omega (arith, inside, many)
@@ -48,8 +49,8 @@ house-requires c =
     let below = c.loop-step-test.true in
     let inside = c.loop-step.invariant.2 in
     let low : d < length (steps_in k) = omega (arith, below, inside) in
-    let there = step_there k d c.step.result.now low c.step.ensures in
-    subst (λ o. CanHouse o c.loop-step.housing.homes (step_of c.step.result.now)) (sym c.build_at-build.ensures)
+    let there = step_there k d c.step.result.now c.half.result low c.step.ensures c.half.ensures in
+    subst (λ o. CanHouse o c.loop-step.housing.homes (half_of c.half.result (step_of c.step.result.now))) (sym c.build_at-build.ensures)
     (subst (CanHouse (build_in (run_of k) d) c.loop-step.housing.homes) there
     (can_house (run_of k) c.requires.run c.loop-step.housing.homes old.homes.node_count old.homes.rel_count (known (run_of k) d) c.loop-step.housing.fillings.items (build_in (run_of k) d) (step_at (run_of k) d)
     (fits_at (run_of k) c.requires.run d (step_low k d low)) (built_at (run_of k) c.requires.run c.args.groups.now c.args.number d (step_low k d low))))
@@ -66,7 +67,7 @@ loop-step-preserved c =
     let i = c.args.number in
     let fs = c.loop-step.housing.fillings.items in
     let h = c.loop-step.housing.homes in
-    let there = step_there k d c.step.result.now low c.step.ensures in
+    let there = step_there k d c.step.result.now c.half.result low c.step.ensures c.half.ensures in
     let build : build_in c' d ≡ _ = sym c.build_at-build.ensures in
     let same : housed (build_in c' d) i (length fs) (step_at c' d) h ≡ c.house.new.housing.homes =
     ap₂ (λ o s. housed o i (length fs) s h) build there ∙ sym c.in_ok-house.ensures.homes in

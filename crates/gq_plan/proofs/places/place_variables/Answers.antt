@@ -1,4 +1,4 @@
-use Rattle.std.proofs.Common.{◌≡◌, ◌∙◌, ◌+◌, ◌<◌, ap, sym, subst, ℕ, Bool, List, map, drop, get_or, length, arith}
+use Rattle.std.proofs.Common.{◌≡◌, ◌∙◌, ◌+◌, ◌<◌, ap, sym, subst, ℕ, List, map, drop, get_or, length, arith}
 use Rattle.std.proofs.lemmas.List.{drop_all}
 use Rattle.std.specs.List.{AllByRecursion}
 use Rattle.gq_plan.proofs.Each.{each_at}
@@ -8,17 +8,16 @@ use Rattle.gq_plan.proofs.StepEquations.{plan_is}
 use Rattle.gq_plan.specs.Covers.{fits}
 use Rattle.gq_plan.specs.Known.{none}
 use Rattle.gq_plan.specs.Plans.{steps, step_of}
-use Rattle.gq_plan.specs.Shapes.{Places, nowhere, places_of}
-use Rattle.gq_plan.specs.Arranged.{at_step, at_after}
+use Rattle.gq_plan.specs.Shapes.{Places, nowhere, places_of, place_step, places_after}
 use Rattle.gq_plan.specs.declared.plan.Step as code
 use Rattle.gq_plan.specs.steps.Places.{IsNamed}
 use Rattle.gq_plan.proofs.places.place_variables.Goals as goal
 
 -- the groups after steps, by the first of them
-first : (late : Bool) (p : Places) (xs : List code.Step) (i : ℕ) (x : code.Step) → i < length xs → x ≡ get_or xs i x
-    → at_after late (steps (map step_of (drop i xs))) p ≡ at_after late (steps (map step_of (drop (i + 1) xs))) (at_step late (step_of x) p)
-unfolding at_after
-first late p xs i x h is = ap (λ ys. at_after late (steps (map step_of ys)) p) (first_of_rest xs i x h is)
+first : (p : Places) (xs : List code.Step) (i : ℕ) (x : code.Step) → i < length xs → x ≡ get_or xs i x
+    → places_after (steps (map step_of (drop i xs))) p ≡ places_after (steps (map step_of (drop (i + 1) xs))) (place_step (step_of x) p)
+unfolding places_after
+first p xs i x h is = ap (λ ys. places_after (steps (map step_of ys)) p) (first_of_rest xs i x h is)
 
 pub place-requires-clause-named : goal.place-requires-clause-named
 place-requires-clause-named c =
@@ -35,16 +34,16 @@ loop-step-preserved c =
     record {
       items = c.loop-step.invariant.items;
       few = omega (arith, c.loop-step.invariant.few, c.place.ensures.few);
-      placed = ap (at_after c.args.late rest) c.place.ensures.placed
-          ∙ sym (first c.args.late (places_of c.loop-step.places) items c.loop-step.step-index c.step-item.result c.loop-step-test.true c.step-item.is)
+      placed = ap (places_after rest) c.place.ensures.placed
+          ∙ sym (first (places_of c.loop-step.places) items c.loop-step.step-index c.step-item.result c.loop-step-test.true c.step-item.is)
           ∙ c.loop-step.invariant.placed;
     }
 
 pub returns : goal.returns
-unfolding at_after
+unfolding places_after
 returns c =
     let items = c.as_slice-step-items.result.now in
     let p = places_of c.loop-step.places in
-    sym (ap (λ ss. at_after c.args.late (steps (map step_of ss)) p) (drop_all c.loop-step.step-index items (omega arith)))
-    ∙ c.loop-step.invariant.placed ∙ ap (λ ss. at_after c.args.late (steps (map step_of ss)) nowhere) c.loop-step.invariant.items
-    ∙ ap (λ q. at_after c.args.late q nowhere) (sym (plan_is c.args.plan.now))
+    sym (ap (λ ss. places_after (steps (map step_of ss)) p) (drop_all c.loop-step.step-index items (omega arith)))
+    ∙ c.loop-step.invariant.placed ∙ ap (λ ss. places_after (steps (map step_of ss)) nowhere) c.loop-step.invariant.items
+    ∙ ap (λ q. places_after q nowhere) (sym (plan_is c.args.plan.now))

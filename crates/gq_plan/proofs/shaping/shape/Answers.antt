@@ -1,10 +1,9 @@
 use Rattle.std.proofs.Common.{◌≡◌, ◌∙◌, ◌+◌, ◌++◌, ◌<◌, ap, ap₂, sym, ℕ, Bool, Option, Some, None, List, map, drop, get_or, length, length-append, append_assoc, append-nil, arith}
 use Rattle.std.proofs.lemmas.List.{drop_all}
 use Rattle.gq_plan.proofs.FirstSteps.{first_of_rest}
-use Rattle.gq_plan.proofs.Placing.{after_same}
 use Rattle.gq_plan.proofs.StepEquations.{plan_is}
 use Rattle.gq_plan.specs.Plans.{plan_of, steps, step_of}
-use Rattle.gq_plan.specs.Shapes.{all_flat, nowhere, places, form_of, next_group, shape_from, shape_with}
+use Rattle.gq_plan.specs.Shapes.{all_flat, places, form_of, next_group, shape_from, shape_with}
 use Rattle.gq_plan.specs.Soundness.{has_number}
 use Rattle.gq_plan.specs.declared.plan.Step as code
 use Rattle.gq_plan.specs.declared.shaping.Form.{Form}
@@ -51,7 +50,7 @@ returns c =
     let y = c.args.typed.now in
     let flat = has_number c.as_slice-flat.result.now in
     let all : c.as_slice-flat.result.now ≡ all_flat y (places (plan_of c.args.plan.now)) (plan_of c.args.plan.now) = c.as_slice-flat.ensures ∙ c.in_ok-flat.ensures
-    ∙ ap (λ w. all_flat y w (plan_of c.args.plan.now)) (c.place_variables-places.ensures ∙ after_same (plan_of c.args.plan.now) nowhere) in
+    ∙ ap (λ w. all_flat y w (plan_of c.args.plan.now)) c.place_variables-places.ensures in
     let rest = ap (λ ss. shape_from flat (length c.loop-step.shapes) (steps (map step_of ss))) (drop_all c.loop-step.step-index items (omega arith)) in
     sym (append-nil c.loop-step.shapes) ∙ ap (λ gs. c.loop-step.shapes ++ gs) (sym rest) ∙ c.loop-step.invariant.shapes
     ∙ ap (λ ss. shape_from flat 0 (steps (map step_of ss))) c.loop-step.invariant.items

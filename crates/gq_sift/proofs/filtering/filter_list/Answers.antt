@@ -1,8 +1,6 @@
 use Rattle.std.proofs.Common.{◌≡◌, ◌<◌, ◌≤◌, ◌+◌, ◌==◌, ◌&&◌, ℕ, Some, ap, refl, sym, subst, ◌∙◌, arith, length}
-use Rattle.std.proofs.lemmas.List.{length-map}
 use Rattle.std.specs.Prelude.{Bool, IfSome, List, not, slice_get, slice_index}
 use Rattle.gq_bits.specs.Places.{is_marked}
-use Rattle.gq_plan.specs.Plans.{step_of}
 use Rattle.gq_plan.specs.Rows.{rel_table}
 use Rattle.gq_plan.specs.declared.typed.RelPair.{RelPair}
 use Rattle.gq_store.specs.Neighbours.{neighbours, numbers}
@@ -14,6 +12,7 @@ use Rattle.gq_steps.specs.Levels.{Run, step_at}
 use Rattle.gq_sift.specs.steps.Loops.{loop_of}
 use Rattle.gq_steps.specs.Moves.{IsRun, run_of, steps_in}
 use Rattle.gq_steps.specs.declared.plan_run.PlanRun.{PlanRun}
+use Rattle.gq_steps.proofs.Trying.{as_many_steps}
 use Rattle.gq_steps.specs.steps.Outcomes.{passes_at, with_row}
 use Rattle.gq_steps.specs.Follows.{CanFollow}
 use Rattle.gq_sift.specs.steps.RowTests.{test_of}
@@ -63,7 +62,7 @@ keep_places-requires-clause-run c = subst (λ (p : PlanRun). IsRun (run_of p)) (
 
 pub keep_places-requires-clause-depth : goal.keep_places-requires-clause-depth
 keep_places-requires-clause-depth c =
-    let low : c.loop-depth.depth < length (steps_in c.args.plan_run.now) = (let end = c.requires.steps.inside in let below = c.loop-depth-test.true in omega (arith, end, below, length-map (steps_in c.args.plan_run.now) step_of)) in
+    let low : c.loop-depth.depth < length (steps_in c.args.plan_run.now) = (let end = c.requires.steps.inside in let below = c.loop-depth-test.true in omega (arith, end, below, as_many_steps c.args.plan_run.now)) in
     subst (λ (p : PlanRun). c.loop-depth.depth < length (steps_in p)) (sym c.loop-depth.invariant.2) low
 
 pub keep_places-requires-clause-can : goal.keep_places-requires-clause-can

@@ -3,7 +3,8 @@ use Rattle.gq_plan.proofs.StepEquations.{scan_is, extend_is, column_extend_is, c
 use Rattle.gq_plan.specs.Plans.{Scan, Extend, Close, Join, Keep, Differ, NoLoop, plan_of}
 use Rattle.gq_plan.specs.declared.plan.Step as code
 use Rattle.gq_sift.specs.steps.RowTests.{test_of}
-use Rattle.gq_steps.proofs.Trying.{step_is}
+use Rattle.gq_steps.proofs.Trying.{half_at, step_is}
+use Rattle.gq_sift.proofs.Judged.{no_test}
 use Rattle.gq_sift.proofs.judging.test_at.Goals as goal
 
 pub returns-in-Keep : goal.returns-in-Keep
@@ -22,7 +23,8 @@ pub returns-in-Close : goal.returns-in-Close
 returns-in-Close c = sym (ap test_of (step_is c.args.plan_run.now c.args.depth c.requires _ (code.Close c.in-Close.rel c.in-Close.from c.in-Close.to c.in-Close.direction) (Close false c.in-Close.rel c.in-Close.from c.in-Close.to c.in-Close.direction) (c.step.ensures ∙ c.in-Close.is) (close_is c.in-Close.rel c.in-Close.from c.in-Close.to c.in-Close.direction)))
 
 pub returns-in-ColumnClose : goal.returns-in-ColumnClose
-returns-in-ColumnClose c = sym (ap test_of (step_is c.args.plan_run.now c.args.depth c.requires _ (code.ColumnClose c.in-ColumnClose.rel c.in-ColumnClose.from c.in-ColumnClose.to c.in-ColumnClose.direction) (Close true c.in-ColumnClose.rel c.in-ColumnClose.from c.in-ColumnClose.to c.in-ColumnClose.direction) (c.step.ensures ∙ c.in-ColumnClose.is) (column_close_is c.in-ColumnClose.rel c.in-ColumnClose.from c.in-ColumnClose.to c.in-ColumnClose.direction)))
+returns-in-ColumnClose c = sym (ap test_of (step_is c.args.plan_run.now c.args.depth c.requires _ (code.ColumnClose c.in-ColumnClose.rel c.in-ColumnClose.from c.in-ColumnClose.to c.in-ColumnClose.direction) (Close true c.in-ColumnClose.rel c.in-ColumnClose.from c.in-ColumnClose.to c.in-ColumnClose.direction) (c.step.ensures ∙ c.in-ColumnClose.is) (column_close_is c.in-ColumnClose.rel c.in-ColumnClose.from c.in-ColumnClose.to c.in-ColumnClose.direction))
+    ∙ no_test (half_at c.args.plan_run.now c.args.depth) c.in-ColumnClose.rel c.in-ColumnClose.from c.in-ColumnClose.to c.in-ColumnClose.direction)
 
 pub returns-in-Join : goal.returns-in-Join
 returns-in-Join c = sym (ap test_of (step_is c.args.plan_run.now c.args.depth c.requires _ (code.Join c.in-Join.side c.in-Join.keys) (Join (plan_of c.in-Join.side) c.in-Join.keys) (c.step.ensures ∙ c.in-Join.is) (join_is c.in-Join.side c.in-Join.keys)))

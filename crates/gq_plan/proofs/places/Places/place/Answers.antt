@@ -1,7 +1,6 @@
 use Rattle.std.proofs.Common.{◌≡◌, ◌∙◌, ◌+◌, ap, sym, subst, ◌&&◌, not}
 use Rattle.gq_plan.proofs.Placing.{joined_nodes, joined_rels}
 use Rattle.gq_plan.proofs.StepEquations.{scan_is, extend_is, column_extend_is, close_is, column_close_is, join_is}
-use Rattle.gq_plan.specs.Arranged.{at_step}
 use Rattle.gq_plan.specs.Covers.{after}
 use Rattle.gq_plan.specs.Known.{none}
 use Rattle.gq_plan.specs.Soundness.{has_number}
@@ -53,6 +52,6 @@ returns-in-Join-clause-placed c =
     joined_rels _ _ (groups_of c.begin-group-in-Join.new.self.rels) side (plan_of c.get-in-Join.result.now) _ c.begin-group-in-Join.result room
     (ap plan_of c.get-in-Join.ensures) first.number (ap (λ q. groups_of q.rels) first.next) c.put_rels.ensures in
     let count : c.begin-group-in-Join.new.self.count ≡ p.count + 1 = ap (λ q. q.count) first.next in
-    let made : places_of record { count = c.begin-group-in-Join.new.self.count; nodes = c.put_nodes.new.self; rels = c.put_rels.new.self } ≡ at_step c.args.late (Join side c.in-Join.keys) p =
+    let made : places_of record { count = c.begin-group-in-Join.new.self.count; nodes = c.put_nodes.new.self; rels = c.put_rels.new.self } ≡ shapes.place_step (Join side c.in-Join.keys) p =
     (λ i. record { count = count i; nodes = nodes i; rels = rels i }) in
-    made ∙ sym (ap (λ s. at_step c.args.late s p) (ap step_of c.in-Join.is ∙ join_is c.in-Join.side c.in-Join.keys))
+    made ∙ sym (ap (λ s. shapes.place_step s p) (ap step_of c.in-Join.is ∙ join_is c.in-Join.side c.in-Join.keys))

@@ -2,6 +2,7 @@ use Rattle.std.proofs.Common.{◌≡◌, ℕ, ◌<◌, List, length, refl, true,
 use Rattle.std.specs.Prelude.{slice_index, slice_index_or}
 use Rattle.gq_plan.proofs.StepEquations.{scan_is, extend_is, column_extend_is, close_is, column_close_is, join_is, keep_is, differ_is, no_loop_is}
 use Rattle.gq_plan.specs.Plans.{Step, Scan, Extend, Close, Join, Keep, Differ, NoLoop, plan_of, step_of}
+use Rattle.gq_plan.specs.Halves.{half_of}
 use Rattle.gq_plan.specs.declared.plan.Step as code
 use Rattle.gq_plan.specs.declared.plan.Plan as code_plan
 use Rattle.gq_law_groups.specs.Groups.{makes_group}
@@ -14,7 +15,7 @@ use Rattle.gq_steps.specs.Follows.{CanFollow}
 use Rattle.gq_steps.specs.declared.plan_run.Follow.{Follow}
 use Rattle.gq_steps.specs.declared.plan_run.PlanRun.{PlanRun}
 use Rattle.gq_steps.proofs.Joined.{build, join_count}
-use Rattle.gq_steps.proofs.Trying.{step_is, low_step, scan_low, scan_count, extend_can, extend_count, close_can, close_count}
+use Rattle.gq_steps.proofs.Trying.{half_at, half_small, step_is, low_step, scan_low, scan_count, extend_can, extend_count, close_can, close_count}
 use Rattle.gq_steps.proofs.plan_run.PlanRun.count.Goals as goal
 
 join_step : (k : PlanRun) (d : ℕ) → d < length (steps_in k) → (side : code_plan.Plan) (keys : List ℕ) (x : code.Step) → slice_index_or (steps_in k) d x ≡ code.Join side keys → step_at (run_of k) d ≡ Join (plan_of side) keys
@@ -55,20 +56,20 @@ returns-in-Join c =
     ∙ ap (λ o. length (matches_in o c.args.row.now)) (build k c.requires.run c.args.depth low c.args.row.now c.requires.held (plan_of c.in-Join.side) c.in-Join.keys is).there
     ∙ sym (join_count k c.requires.run c.args.depth low c.args.row.now c.requires.held (plan_of c.in-Join.side) c.in-Join.keys is)
 
-no_group : (k : PlanRun) (d : ℕ) → d < length (steps_in k) → makes_group (step_at (run_of k) d) ≡ true → (x s : code.Step) (t : Step) → slice_index_or (steps_in k) d x ≡ s → step_of s ≡ t → makes_group t ≡ false → ⊥
+no_group : (k : PlanRun) (d : ℕ) → d < length (steps_in k) → makes_group (step_at (run_of k) d) ≡ true → (x s : code.Step) (t : Step) → slice_index_or (steps_in k) d x ≡ s → step_of s ≡ t → makes_group (half_of (half_at k d) t) ≡ false → ⊥
 no_group k d low makes x s t is same none = true≢false (sym makes ∙ ap makes_group (step_is k d low x s t is same) ∙ none)
 
 pub unreachable-requires-in-ColumnExtend : goal.unreachable-requires-in-ColumnExtend
 unreachable-requires-in-ColumnExtend c =
-    let not_one : (s : code.Step) (t : Step) → c.step.result.now ≡ s → step_of s ≡ t → makes_group t ≡ false → ⊥ = λ s t is. no_group c.args.self.now c.args.depth c.requires.depth c.requires.makes c.step.result.now s t (c.step.ensures ∙ is) in
+    let not_one : (s : code.Step) (t : Step) → c.step.result.now ≡ s → step_of s ≡ t → makes_group (half_of (half_at c.args.self.now c.args.depth) t) ≡ false → ⊥ = λ s t is. no_group c.args.self.now c.args.depth c.requires.depth c.requires.makes c.step.result.now s t (c.step.ensures ∙ is) in
     elim c.in-ColumnExtend.is [
       | inl e ↦ not_one (code.ColumnExtend e.0 e.1 e.2 e.3) (Extend true e.0 e.1 e.2 e.3) e.4 (column_extend_is e.0 e.1 e.2 e.3) refl
-      | inr e ↦ not_one (code.ColumnClose e.0 e.1 e.2 e.3) (Close true e.0 e.1 e.2 e.3) e.4 (column_close_is e.0 e.1 e.2 e.3) refl
+      | inr e ↦ not_one (code.ColumnClose e.0 e.1 e.2 e.3) (Close true e.0 e.1 e.2 e.3) e.4 (column_close_is e.0 e.1 e.2 e.3) (half_small (half_at c.args.self.now c.args.depth) e.0 e.1 e.2 e.3)
     ]
 
 pub unreachable-requires : goal.unreachable-requires
 unreachable-requires c =
-    let not_one : (s : code.Step) (t : Step) → c.step.result.now ≡ s → step_of s ≡ t → makes_group t ≡ false → ⊥ = λ s t is. no_group c.args.self.now c.args.depth c.requires.depth c.requires.makes c.step.result.now s t (c.step.ensures ∙ is) in
+    let not_one : (s : code.Step) (t : Step) → c.step.result.now ≡ s → step_of s ≡ t → makes_group (half_of (half_at c.args.self.now c.args.depth) t) ≡ false → ⊥ = λ s t is. no_group c.args.self.now c.args.depth c.requires.depth c.requires.makes c.step.result.now s t (c.step.ensures ∙ is) in
     elim c.in-Keep.is [
       | inl e ↦ not_one (code.Keep e.0) (Keep e.0) e.1 (keep_is e.0) refl
       | inr f ↦ elim f [ inl e ↦ not_one (code.Differ e.0) (Differ e.0) e.1 (differ_is e.0) refl | inr e ↦ not_one (code.NoLoop e.0) (NoLoop e.0) e.1 (no_loop_is e.0) refl ]

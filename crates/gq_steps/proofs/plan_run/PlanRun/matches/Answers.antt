@@ -1,6 +1,5 @@
 use Rattle.std.proofs.Common.{◌≡◌, ◌∙◌, ◌<◌, length, None, refl, arith, true, false, sym, ap, subst}
 use Rattle.std.specs.Prelude.{All}
-use Rattle.std.proofs.lemmas.List.{length-map}
 use Rattle.gq_join.specs.Kept.{Held}
 use Rattle.gq_plan.proofs.StepEquations.{scan_is, extend_is, column_extend_is, close_is, column_close_is, join_is, keep_is, differ_is, no_loop_is}
 use Rattle.gq_plan.specs.Plans.{Scan, Extend, Close, Join, Keep, Differ, NoLoop, plan_of}
@@ -10,7 +9,7 @@ use Rattle.gq_steps.specs.Levels.{step_at}
 use Rattle.gq_steps.specs.Moves.{run_of, steps_in, builds_in}
 use Rattle.gq_steps.proofs.Joined.{builds_many, can_join, not_none, there}
 use Rattle.gq_steps.proofs.Matching.{no_matches}
-use Rattle.gq_steps.proofs.Trying.{step_is, low_step}
+use Rattle.gq_steps.proofs.Trying.{as_many_steps, half_at, half_joins, step_is, low_step}
 use Rattle.gq_steps.proofs.plan_run.PlanRun.matches.Goals as goal
 use Rattle.gq_steps.proofs.plan_run.PlanRun.matches.Goals.{In-Join}
 
@@ -23,7 +22,7 @@ build_low c =
     let k = c.args.self.now in
     let low = c.requires.depth in
     let many = builds_many k.graph.now k.typed.now (run_of k).steps (builds_in k) c.requires.run.builds in
-    let same : length (run_of k).steps ≡ length (steps_in k) = rw length-map refl in
+    let same : length (run_of k).steps ≡ length (steps_in k) = as_many_steps k in
     omega (arith, low, many, same)
 
 pub build_at-requires : goal.build_at-requires
@@ -64,7 +63,8 @@ pub returns-in-Close : goal.returns-in-Close
 returns-in-Close c = no_matches c.args.self.now c.args.depth c.requires.depth c.args.row.now _ (code.Close c.in-Close.rel c.in-Close.from c.in-Close.to c.in-Close.direction) (Close false c.in-Close.rel c.in-Close.from c.in-Close.to c.in-Close.direction) (c.step.ensures ∙ c.in-Close.is) (close_is c.in-Close.rel c.in-Close.from c.in-Close.to c.in-Close.direction) refl
 
 pub returns-in-ColumnClose : goal.returns-in-ColumnClose
-returns-in-ColumnClose c = no_matches c.args.self.now c.args.depth c.requires.depth c.args.row.now _ (code.ColumnClose c.in-ColumnClose.rel c.in-ColumnClose.from c.in-ColumnClose.to c.in-ColumnClose.direction) (Close true c.in-ColumnClose.rel c.in-ColumnClose.from c.in-ColumnClose.to c.in-ColumnClose.direction) (c.step.ensures ∙ c.in-ColumnClose.is) (column_close_is c.in-ColumnClose.rel c.in-ColumnClose.from c.in-ColumnClose.to c.in-ColumnClose.direction) refl
+returns-in-ColumnClose c = no_matches c.args.self.now c.args.depth c.requires.depth c.args.row.now _ (code.ColumnClose c.in-ColumnClose.rel c.in-ColumnClose.from c.in-ColumnClose.to c.in-ColumnClose.direction) (Close true c.in-ColumnClose.rel c.in-ColumnClose.from c.in-ColumnClose.to c.in-ColumnClose.direction) (c.step.ensures ∙ c.in-ColumnClose.is) (column_close_is c.in-ColumnClose.rel c.in-ColumnClose.from c.in-ColumnClose.to c.in-ColumnClose.direction)
+    (half_joins (half_at c.args.self.now c.args.depth) c.in-ColumnClose.rel c.in-ColumnClose.from c.in-ColumnClose.to c.in-ColumnClose.direction)
 
 pub returns-in-Keep : goal.returns-in-Keep
 returns-in-Keep c = no_matches c.args.self.now c.args.depth c.requires.depth c.args.row.now _ (code.Keep c.in-Keep.test) (Keep c.in-Keep.test) (c.step.ensures ∙ c.in-Keep.is) (keep_is c.in-Keep.test) refl

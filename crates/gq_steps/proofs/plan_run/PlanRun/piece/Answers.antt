@@ -5,6 +5,7 @@ use Rattle.std.proofs.lemmas.List.FromFn.{length-range_with_len}
 use Rattle.gq_bits.specs.declared.TheConstants.{VECTOR}
 use Rattle.gq_plan.proofs.StepEquations.{scan_is, extend_is, column_extend_is, close_is, column_close_is, join_is, keep_is, differ_is, no_loop_is}
 use Rattle.gq_plan.specs.Plans.{Step, Scan, Extend, Close, Join, Keep, Differ, NoLoop, plan_of, step_of}
+use Rattle.gq_plan.specs.Halves.{half_of}
 use Rattle.gq_plan.specs.declared.plan.Step as code
 use Rattle.gq_plan.specs.declared.plan.Plan as code_plan
 use Rattle.gq_law_groups.specs.Groups.{makes_group}
@@ -18,14 +19,14 @@ use Rattle.gq_steps.specs.Follows.{CanList}
 use Rattle.gq_steps.specs.declared.plan_run.Follow.{Follow}
 use Rattle.gq_steps.specs.declared.plan_run.PlanRun.{PlanRun}
 use Rattle.gq_steps.proofs.Piecing.{listed_is}
-use Rattle.gq_steps.proofs.Trying.{step_is, low_step, scan_low, extend_can, extend_goes, close_can, close_goes}
+use Rattle.gq_steps.proofs.Trying.{half_at, half_small, step_is, low_step, scan_low, extend_can, extend_goes, close_can, close_goes}
 use Rattle.gq_steps.proofs.plan_run.PlanRun.piece.Goals as goal
 use Rattle.gq_steps.proofs.plan_run.PlanRun.piece.Goals.{In-Join}
 
 join_step : (k : PlanRun) (d : ℕ) → d < length (steps_in k) → (side : code_plan.Plan) (keys : List ℕ) (x : code.Step) → slice_index_or (steps_in k) d x ≡ code.Join side keys → step_at (run_of k) d ≡ Join (plan_of side) keys
 join_step k d low side keys x is = step_is k d low x (code.Join side keys) (Join (plan_of side) keys) is (join_is side keys)
 
-no_group : (k : PlanRun) (d : ℕ) → d < length (steps_in k) → makes_group (step_at (run_of k) d) ≡ true → (x s : code.Step) (t : Step) → slice_index_or (steps_in k) d x ≡ s → step_of s ≡ t → makes_group t ≡ false → ⊥
+no_group : (k : PlanRun) (d : ℕ) → d < length (steps_in k) → makes_group (step_at (run_of k) d) ≡ true → (x s : code.Step) (t : Step) → slice_index_or (steps_in k) d x ≡ s → step_of s ≡ t → makes_group (half_of (half_at k d) t) ≡ false → ⊥
 no_group k d low makes x s t is same none = true≢false (sym makes ∙ ap makes_group (step_is k d low x s t is same) ∙ none)
 
 -- a part of a range
@@ -137,15 +138,15 @@ returns-in-Join c = record {
 
 pub unreachable-requires-in-ColumnExtend : goal.unreachable-requires-in-ColumnExtend
 unreachable-requires-in-ColumnExtend c =
-    let not_one : (s : code.Step) (t : Step) → c.step.result.now ≡ s → step_of s ≡ t → makes_group t ≡ false → ⊥ = λ s t is. no_group c.args.self.now c.args.depth c.requires.depth c.requires.makes c.step.result.now s t (c.step.ensures ∙ is) in
+    let not_one : (s : code.Step) (t : Step) → c.step.result.now ≡ s → step_of s ≡ t → makes_group (half_of (half_at c.args.self.now c.args.depth) t) ≡ false → ⊥ = λ s t is. no_group c.args.self.now c.args.depth c.requires.depth c.requires.makes c.step.result.now s t (c.step.ensures ∙ is) in
     elim c.in-ColumnExtend.is [
       | inl e ↦ not_one (code.ColumnExtend e.0 e.1 e.2 e.3) (Extend true e.0 e.1 e.2 e.3) e.4 (column_extend_is e.0 e.1 e.2 e.3) refl
-      | inr e ↦ not_one (code.ColumnClose e.0 e.1 e.2 e.3) (Close true e.0 e.1 e.2 e.3) e.4 (column_close_is e.0 e.1 e.2 e.3) refl
+      | inr e ↦ not_one (code.ColumnClose e.0 e.1 e.2 e.3) (Close true e.0 e.1 e.2 e.3) e.4 (column_close_is e.0 e.1 e.2 e.3) (half_small (half_at c.args.self.now c.args.depth) e.0 e.1 e.2 e.3)
     ]
 
 pub unreachable-requires : goal.unreachable-requires
 unreachable-requires c =
-    let not_one : (s : code.Step) (t : Step) → c.step.result.now ≡ s → step_of s ≡ t → makes_group t ≡ false → ⊥ = λ s t is. no_group c.args.self.now c.args.depth c.requires.depth c.requires.makes c.step.result.now s t (c.step.ensures ∙ is) in
+    let not_one : (s : code.Step) (t : Step) → c.step.result.now ≡ s → step_of s ≡ t → makes_group (half_of (half_at c.args.self.now c.args.depth) t) ≡ false → ⊥ = λ s t is. no_group c.args.self.now c.args.depth c.requires.depth c.requires.makes c.step.result.now s t (c.step.ensures ∙ is) in
     elim c.in-Keep.is [
       | inl e ↦ not_one (code.Keep e.0) (Keep e.0) e.1 (keep_is e.0) refl
       | inr f ↦ elim f [ inl e ↦ not_one (code.Differ e.0) (Differ e.0) e.1 (differ_is e.0) refl | inr e ↦ not_one (code.NoLoop e.0) (NoLoop e.0) e.1 (no_loop_is e.0) refl ]

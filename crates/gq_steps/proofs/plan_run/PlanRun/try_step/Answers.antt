@@ -1,15 +1,15 @@
-use Rattle.std.proofs.Common.{◌≡◌, ℕ, ◌<◌, List, length, None, refl, arith, Bool, false, true, slice_get, sym, ap, ◌∙◌, subst}
+use Rattle.std.proofs.Common.{◌≡◌, ℕ, ◌<◌, List, length, None, arith, Bool, false, true, slice_get, sym, ap, ◌∙◌, subst}
 use Rattle.std.specs.Prelude.{slice_index_or}
-use Rattle.std.proofs.lemmas.List.{length-map}
 use Rattle.gq_plan.proofs.StepEquations.{scan_is, extend_is, column_extend_is, close_is, column_close_is, join_is, keep_is, differ_is, no_loop_is}
 use Rattle.gq_plan.specs.Conditions.{passes, differs, no_loop}
 use Rattle.gq_plan.specs.Meaning.{holds}
 use Rattle.gq_plan.specs.Plans.{Scan, Extend, Close, Join, Keep, Differ, NoLoop, plan_of}
+use Rattle.gq_plan.specs.Halves.{close_half}
 use Rattle.gq_plan.specs.declared.plan.Step as code
 use Rattle.gq_steps.specs.Pieces.{matches_in}
 use Rattle.gq_steps.specs.Levels.{step_at}
 use Rattle.gq_steps.specs.Moves.{run_of, IsRun, IsTried, steps_in, builds_in}
-use Rattle.gq_steps.specs.steps.Outcomes.{IsExtended, IsClosed, tested, CanJoin, IsJoined}
+use Rattle.gq_steps.specs.steps.Outcomes.{IsExtended, IsClosed, IsClosedAs, tested, CanJoin, IsJoined}
 use Rattle.gq_steps.specs.Follows.{CanFollow}
 use Rattle.gq_plan.specs.Rows.{as_read}
 use Rattle.gq_steps.specs.declared.plan_run.Follow.{Follow}
@@ -19,9 +19,9 @@ use Rattle.gq_steps.specs.declared.plan_run.PlanRun.{PlanRun}
 use Rattle.gq_plan.specs.declared.plan.Plan as code_plan
 use Rattle.gq_steps.proofs.Joined.{builds_many, can_join, join_tried, not_none, there}
 use Rattle.gq_steps.proofs.Testing.{keep_tried, differ_tried, no_loop_tried}
-use Rattle.gq_steps.proofs.Trying.{step_is, low_step, tested_past, scan_low, scan_tried, extend_can, extend_tried, close_can, close_tried}
+use Rattle.gq_steps.proofs.Trying.{as_many_steps, half_at, half_can, half_tried, step_is, low_step, tested_past, scan_low, scan_tried, extend_can, extend_tried, close_can, close_tried}
 use Rattle.gq_steps.proofs.plan_run.PlanRun.try_step.Goals as goal
-use Rattle.gq_steps.proofs.plan_run.PlanRun.try_step.Goals.{then-place-eq0, else-place-eq0, then-place-eq0-2, else-place-eq0-2, then-place-eq0-3, else-place-eq0-3}
+use Rattle.gq_steps.proofs.plan_run.PlanRun.try_step.Goals.{In-ColumnClose, then-place-eq0, else-place-eq0, then-place-eq0-2, else-place-eq0-2, then-place-eq0-3, else-place-eq0-3}
 
 pub scan-requires-clause-node : goal.scan-requires-clause-node
 scan-requires-clause-node c = scan_low (run_of c.args.self.now) c.requires.run c.args.depth (low_step c.args.self.now c.args.depth c.requires.depth) c.args.row.now c.requires.held c.in-Scan.node (step_is c.args.self.now c.args.depth c.requires.depth _ (code.Scan c.in-Scan.node) (Scan c.in-Scan.node) (c.step.ensures ∙ c.in-Scan.is) (scan_is c.in-Scan.node))
@@ -65,23 +65,30 @@ returns-in-Close c =
     (step_is c.args.self.now c.args.depth c.requires.depth _ (code.Close c.in-Close.rel c.in-Close.from c.in-Close.to c.in-Close.direction) (Close false c.in-Close.rel c.in-Close.from c.in-Close.to c.in-Close.direction) (c.step.ensures ∙ c.in-Close.is) (close_is c.in-Close.rel c.in-Close.from c.in-Close.to c.in-Close.direction)) c.args.place c.close.new.row c.close.result
     (subst (λ (f : Follow). IsClosed c.args.self.now.graph.now c.args.self.now.typed.now f c.args.place c.args.row.now c.close.new.row c.close.result) c.following-in-Close.ensures c.close.ensures)
 
-pub close-requires-in-ColumnClose : goal.close-requires-in-ColumnClose
-close-requires-in-ColumnClose c =
-    subst (λ (f : Follow). CanFollow c.args.self.now.graph.now c.args.self.now.typed.now c.args.row.now f) (sym c.following-in-ColumnClose.ensures)
-    (close_can (run_of c.args.self.now) c.requires.run c.args.depth (low_step c.args.self.now c.args.depth c.requires.depth) c.args.row.now c.requires.held true c.in-ColumnClose.rel c.in-ColumnClose.from c.in-ColumnClose.to c.in-ColumnClose.direction
-    (step_is c.args.self.now c.args.depth c.requires.depth _ (code.ColumnClose c.in-ColumnClose.rel c.in-ColumnClose.from c.in-ColumnClose.to c.in-ColumnClose.direction) (Close true c.in-ColumnClose.rel c.in-ColumnClose.from c.in-ColumnClose.to c.in-ColumnClose.direction) (c.step.ensures ∙ c.in-ColumnClose.is) (column_close_is c.in-ColumnClose.rel c.in-ColumnClose.from c.in-ColumnClose.to c.in-ColumnClose.direction)))
+-- a column close as it runs
+closes : (c : In-ColumnClose) → step_at (run_of c.args.self.now) c.args.depth ≡ close_half (half_at c.args.self.now c.args.depth) c.in-ColumnClose.rel c.in-ColumnClose.from c.in-ColumnClose.to c.in-ColumnClose.direction
+closes c =
+    step_is c.args.self.now c.args.depth c.requires.depth _ (code.ColumnClose c.in-ColumnClose.rel c.in-ColumnClose.from c.in-ColumnClose.to c.in-ColumnClose.direction) (Close true c.in-ColumnClose.rel c.in-ColumnClose.from c.in-ColumnClose.to c.in-ColumnClose.direction)
+    (c.step.ensures ∙ c.in-ColumnClose.is) (column_close_is c.in-ColumnClose.rel c.in-ColumnClose.from c.in-ColumnClose.to c.in-ColumnClose.direction)
+
+pub close_as-requires : goal.close_as-requires
+close_as-requires c =
+    subst (λ (f : Follow). CanFollow c.args.self.now.graph.now c.args.self.now.typed.now c.args.row.now f) (sym c.following-follow.ensures)
+    (half_can (run_of c.args.self.now) c.requires.run c.args.depth (low_step c.args.self.now c.args.depth c.requires.depth) c.args.row.now c.requires.held (half_at c.args.self.now c.args.depth)
+    c.in-ColumnClose.rel c.in-ColumnClose.from c.in-ColumnClose.to c.in-ColumnClose.direction (closes (goal.at.close_as-requires c).In-ColumnClose))
 
 pub returns-in-ColumnClose : goal.returns-in-ColumnClose
 returns-in-ColumnClose c =
-    close_tried (run_of c.args.self.now) c.requires.run c.args.depth (low_step c.args.self.now c.args.depth c.requires.depth) c.args.row.now c.requires.held true c.in-ColumnClose.rel c.in-ColumnClose.from c.in-ColumnClose.to c.in-ColumnClose.direction
-    (step_is c.args.self.now c.args.depth c.requires.depth _ (code.ColumnClose c.in-ColumnClose.rel c.in-ColumnClose.from c.in-ColumnClose.to c.in-ColumnClose.direction) (Close true c.in-ColumnClose.rel c.in-ColumnClose.from c.in-ColumnClose.to c.in-ColumnClose.direction) (c.step.ensures ∙ c.in-ColumnClose.is) (column_close_is c.in-ColumnClose.rel c.in-ColumnClose.from c.in-ColumnClose.to c.in-ColumnClose.direction)) c.args.place c.close-in-ColumnClose.new.row c.close-in-ColumnClose.result
-    (subst (λ (f : Follow). IsClosed c.args.self.now.graph.now c.args.self.now.typed.now f c.args.place c.args.row.now c.close-in-ColumnClose.new.row c.close-in-ColumnClose.result) c.following-in-ColumnClose.ensures c.close-in-ColumnClose.ensures)
+    half_tried (run_of c.args.self.now) c.requires.run c.args.depth (low_step c.args.self.now c.args.depth c.requires.depth) c.args.row.now c.requires.held (half_at c.args.self.now c.args.depth)
+    c.in-ColumnClose.rel c.in-ColumnClose.from c.in-ColumnClose.to c.in-ColumnClose.direction (closes (goal.at.returns-in-ColumnClose c).In-ColumnClose) c.args.place c.close_as.new.row c.close_as.result
+    (subst (λ (f : Follow). IsClosedAs (half_at c.args.self.now c.args.depth) c.args.self.now.graph.now c.args.self.now.typed.now f c.args.place c.args.row.now c.close_as.new.row c.close_as.result) c.following-follow.ensures
+    (subst (λ h. IsClosedAs h c.args.self.now.graph.now c.args.self.now.typed.now c.following-follow.result c.args.place c.args.row.now c.close_as.new.row c.close_as.result) c.half.ensures c.close_as.ensures))
 
 join_step : (k : PlanRun) (d : ℕ) → d < length (steps_in k) → (side : code_plan.Plan) (keys : List ℕ) (x : code.Step) → slice_index_or (steps_in k) d x ≡ code.Join side keys → step_at (run_of k) d ≡ Join (plan_of side) keys
 join_step k d low side keys x is = step_is k d low x (code.Join side keys) (Join (plan_of side) keys) is (join_is side keys)
 
 build_low : (k : PlanRun) → IsRun (run_of k) → (d : ℕ) → d < length (steps_in k) → d < length (builds_in k)
-build_low k run d low = let many = builds_many k.graph.now k.typed.now (run_of k).steps (builds_in k) run.builds in let same : length (run_of k).steps ≡ length (steps_in k) = rw length-map refl in omega (arith, low, many, same)
+build_low k run d low = let many = builds_many k.graph.now k.typed.now (run_of k).steps (builds_in k) run.builds in let same : length (run_of k).steps ≡ length (steps_in k) = as_many_steps k in omega (arith, low, many, same)
 
 pub build_at-requires : goal.build_at-requires
 build_at-requires c = build_low c.args.self.now c.requires.run c.args.depth c.requires.depth

@@ -1,7 +1,7 @@
 use Rattle.std.proofs.Common.{◌-◌}
 use Rattle.gq_steps.specs.Moves.{run_of}
 use Rattle.gq_sift.proofs.Sifting.{IsSifting}
-use Rattle.gq_sift.proofs.keeping.sift_each.Given as goal
+use Rattle.gq_sift.proofs.keeping.sift_among.Given as goal
 
 abbrev pub invariant-places : goal.invariant-places
 invariant-places l = IsSifting (run_of l.fn.plan_run) l.group l.first l.count l.fn.row l.place l.row l.marks
