@@ -8,7 +8,6 @@ use Rattle.std.proofs.lemmas.List.{length-map}
 use Rattle.std.proofs.lemmas.List.Sorted.{IsPermutation-sym, IsPermutation-trans, length_permutation}
 use Rattle.gq_base.specs.Plain.{Graph}
 use Rattle.gq_expr.specs.declared.Fault.{Fault}
-use Rattle.gq_pipe.specs.Keys.{key_count}
 use Rattle.gq_pipe.specs.Rest.{Rest}
 use Rattle.gq_pipe.specs.Spending.{HasOneEach, HasSpent, HasSpentAll, runs_of, up_to_most}
 use Rattle.gq_homes.specs.declared.spent.Spent.{Spent}
@@ -18,7 +17,7 @@ use Rattle.gq_plan.specs.Flat.{is_flat}
 use Rattle.gq_plan.specs.Meaning.{meaning, whole}
 use Rattle.gq_plan.specs.Outcomes.{Row}
 use Rattle.gq_plan.specs.Parts.{sides}
-use Rattle.gq_plan.specs.Plans.{Plan, Done, Then, Scan, Extend, Close, Join, Keep, Differ, NoLoop}
+use Rattle.gq_plan.specs.Plans.{Plan, Done, Then, Scan, Extend, Close, Join, Keep, Differ, NoLoop, Single, Meet}
 use Rattle.gq_plan.specs.declared.Bound.{Bound}
 use Rattle.gq_plan.specs.declared.typed.Typed.{Typed}
 use Rattle.gq_kept.specs.Answers.{cut_of}
@@ -92,6 +91,8 @@ flat_runs (Then (Join side keys) p) h = absurd (true≢false (sym h))
 flat_runs (Then (Keep i) p) h = flat_runs p h
 flat_runs (Then (Differ i) p) h = flat_runs p h
 flat_runs (Then (NoLoop x) p) h = flat_runs p h
+flat_runs (Then (Single x from to way) p) h = flat_runs p h
+flat_runs (Then (Meet x from to way) p) h = flat_runs p h
 
 pub runs_sides : (p : Plan) → list_all is_flat (sides p) ≡ true → runs_of p ≡ sides p
 unfolding runs_of sides
@@ -105,13 +106,15 @@ runs_sides (Then (Join side keys) p) h =
 runs_sides (Then (Keep i) p) h = runs_sides p h
 runs_sides (Then (Differ i) p) h = runs_sides p h
 runs_sides (Then (NoLoop x) p) h = runs_sides p h
+runs_sides (Then (Single x from to way) p) h = runs_sides p h
+runs_sides (Then (Meet x from to way) p) h = runs_sides p h
 
 nothing_owed : {X : Type 0} (xs : List X) → length xs ≡ 0 → xs ≡ []
 nothing_owed [] h = refl
 nothing_owed (x ∷ xs) h = absurd (omega (arith, h))
 
 module _ (g : Graph) (y : Typed) (p : Plan) (old new : Table) (begun now : Rest) (own : Spent) (owed : IsPermutation (map (whole y) begun.owed) (meaning g y p))
-    (keys : is_flat p ≡ true → length begun.keys ≡ key_count g y p) (columns : begun.columns ≡ columns_of y p) (run : HasRun old new begun now) (same : now.columns ≡ begun.columns)
+    (each : (s : Spent) → s.chunks ≡ up_to_most (length begun.keys) → HasOneEach g y p s) (columns : begun.columns ≡ columns_of y p) (run : HasRun old new begun now) (same : now.columns ≡ begun.columns)
     (has_chunks : own.chunks ≡ now.chunks) (has_columns : own.columns ≡ now.columns) where
   counted : own.chunks ≡ up_to_most run.count
   counted = has_chunks ∙ run.chunks
@@ -127,11 +130,11 @@ module _ (g : Graph) (y : Typed) (p : Plan) (old new : Table) (begun now : Rest)
 
   -- all that is owed is handed out where the table never is full
   pub own_keys : cut_of new.bound ≡ None → HasOneEach g y p own
-  own_keys uncut flat = go run.keys
+  own_keys uncut = each own (go run.keys)
     where
-      go : (is_full_table new ≡ true) ⊎ (run.count ≡ length begun.keys) → own.chunks ≡ up_to_most (key_count g y p)
+      go : (is_full_table new ≡ true) ⊎ (run.count ≡ length begun.keys) → own.chunks ≡ up_to_most (length begun.keys)
       go (inl full) = absurd (true≢false (sym full ∙ ap (λ c. is_full c new.held) uncut))
-      go (inr all) = counted ∙ ap up_to_most (all ∙ keys flat)
+      go (inr all) = counted ∙ ap up_to_most all
 
   -- the table counts its chunks, where the query is plain
   pub own_counted : IsPlain old.bound → (before : ℕ) → old.pushed ≡ up_to_most before → new.pushed ≡ up_to_most (before + own.chunks)

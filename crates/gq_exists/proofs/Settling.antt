@@ -2,15 +2,18 @@
 use Rattle.std.proofs.Common.{◌≡◌, ◌∙◌, ap, ap₂, refl, sym, subst, ℕ, ◌+◌, ◌<◌, ◌≤◌, zero, suc, Bool, true, false, ◌||◌, Option, None, Some, List, [], ◌∷◌, ◌++◌, length, map, slice_get, slice_index_or, Result, arith, true≢false}
 use Rattle.std.specs.Prelude.{is_some, slice_index}
 use Rattle.std.specs.List.{AllByRecursion}
+use Rattle.std.specs.Option.{unwrap_or}
 use Rattle.std.proofs.lemmas.Bool.{and_parts, eqb-true}
 use Rattle.gq_base.specs.declared.NodeId.{NodeId}
 use Rattle.gq_group.specs.Chunks.{node_at, node_in}
 use Rattle.gq_group.specs.Groups.{AreSelected, choices, is_current, is_selected, later_choices}
 use Rattle.gq_group.specs.declared.chunk.Chunk.{Chunk}
 use Rattle.gq_group.specs.declared.group.Group.{Group}
+use Rattle.gq_group.specs.declared.home.Homes.{Homes}
 use Rattle.gq_group.specs.declared.home.NodeHome.{NodeHome}
 use Rattle.gq_group.specs.declared.home.NodeHome.TheVariants as node
 use Rattle.gq_join.specs.declared.build.JoinRefusal.{JoinRefusal}
+use Rattle.gq_pipe.proofs.Filling.{found_or}
 use Rattle.gq_pipe.proofs.Products.{all_selected}
 use Rattle.gq_plan.specs.Keys.{has_key, same_nodes}
 use Rattle.gq_plan.specs.declared.typed.Typed.{Typed}
@@ -41,6 +44,10 @@ all_current g (Some at) e some p q a b = at_current g at p e a ∙ sym (at_curre
 pub flat : (c : Chunk) (i : ℕ) (g : Group) → slice_get c.groups.now i ≡ Some g → is_some g.current ≡ true → IsFlat c i
 flat c i g there some ps qs a b =
     all_current g g.current refl some (slice_index ps i) (slice_index qs i) (selected_at i c.groups.now ps g a there) (selected_at i c.groups.now qs g b there)
+
+-- where a variable lives, told by the homes that a chunk hands out
+pub found_at : (c : Chunk) (hs : Homes) → hs ≡ c.homes.now → (v : ℕ) (o : Option NodeHome) → o ≡ slice_get hs.nodes v → unwrap_or o node.Nowhere ≡ slice_index_or c.homes.now.nodes v node.Nowhere
+found_at c hs same v o e = found_or c.homes.now.nodes v node.Nowhere o (e ∙ ap (λ (h : Homes). slice_get h.nodes v) same)
 
 -- what a variable has by its home
 pub settled : (c : Chunk) (v : ℕ) (h : NodeHome) → h ≡ slice_index_or c.homes.now.nodes v node.Nowhere

@@ -5,13 +5,11 @@ use Rattle.std.proofs.lemmas.Bool.Decides.{nat_tests}
 use Rattle.std.proofs.lemmas.List.{length-map}
 use Rattle.std.proofs.lemmas.List.Sorted.{length_permutation}
 use Rattle.gq_base.specs.Plain.{Graph}
-use Rattle.gq_pipe.specs.Keys.{key_count}
 use Rattle.gq_pipe.specs.Rest.{Rest}
-use Rattle.gq_pipe.specs.Spending.{HasSpentAll, up_to_most}
+use Rattle.gq_pipe.specs.Spending.{HasOneEach, HasSpentAll, up_to_most}
 use Rattle.gq_homes.specs.declared.spent.Spent.{Spent}
 use Rattle.gq_plan.specs.Assignments as plain
 use Rattle.gq_plan.specs.Columns.{columns_of}
-use Rattle.gq_plan.specs.Flat.{is_flat}
 use Rattle.gq_plan.specs.Keys.{has_key, key_of}
 use Rattle.gq_plan.specs.Meaning.{meaning, whole}
 use Rattle.gq_plan.specs.Plans.{Plan, plan_of}
@@ -92,7 +90,7 @@ one_same (x ∷ xs) [] e = absurd (omega (arith, e))
 one_same (x ∷ xs) (m ∷ ms) e = refl
 
 module _ (g : Graph) (y : Typed) (p : Plan) (begun now : Rest) (own : Spent) (owed : IsPermutation (map (whole y) begun.owed) (meaning g y p))
-    (keys : is_flat p ≡ true → length begun.keys ≡ key_count g y p) (columns : begun.columns ≡ columns_of y p) (same : now.columns ≡ begun.columns) (has_chunks : own.chunks ≡ now.chunks)
+    (each : (s : Spent) → s.chunks ≡ up_to_most (length begun.keys) → HasOneEach g y p s) (columns : begun.columns ≡ columns_of y p) (same : now.columns ≡ begun.columns) (has_chunks : own.chunks ≡ now.chunks)
     (has_columns : own.columns ≡ now.columns) where
   long : length begun.owed ≡ length (meaning g y p)
   long = omega (arith, length_permutation _ _ owed, length-map begun.owed (whole y))
@@ -104,7 +102,7 @@ module _ (g : Graph) (y : Typed) (p : Plan) (begun now : Rest) (own : Spent) (ow
       most = omega (arith, has_chunks, run.chunks, run.most, long);
       none = λ e. none_left (meaning g y p) (omega (arith, long, ap length (run.none (omega (arith, has_chunks, run.chunks, e)))));
     };
-    one_each = λ flat. has_chunks ∙ run.chunks ∙ ap up_to_most (run.keys ∙ keys flat);
+    one_each = each own (has_chunks ∙ run.chunks ∙ ap up_to_most run.keys);
   }
 
   own_spent : (width : ℕ) → HasRun width begun now → HasSpentFor width g y p own

@@ -90,13 +90,13 @@ impl Gathering {
             (choices chunk.now.groups.now) in
             Gathers all self.old self.new result }
     {
-        let mut found = choice.first(chunk.groups)?;
+        let mut found = choice.first(chunk)?;
         'choices: while found {
             match self.take_at(key, chunk, choice.positions(), typed) {
                 Ok(()) => {}
                 Err(refusal) => return Err(refusal),
             }
-            found = choice.next(chunk.groups);
+            found = choice.next(chunk);
         }
         Ok(())
     }
@@ -122,7 +122,7 @@ impl Gathering {
         let here = chunk.group(group);
         let mut next = here.next_selected(0);
         'positions: while let Some(position) = next {
-            let row = here.piece.item(position);
+            let row = here.item(position);
             match self.take(&[NodeId { table, row }]) {
                 Ok(()) => {}
                 Err(refusal) => return Err(refusal),
@@ -157,7 +157,7 @@ impl Gathering {
         if !are_settled(chunk, self.width) {
             return self.take_each(key, choice, chunk, typed);
         }
-        let found = choice.first(chunk.groups)?;
+        let found = choice.first(chunk)?;
         if !found {
             return Ok(());
         }

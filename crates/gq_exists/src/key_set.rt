@@ -33,8 +33,8 @@ use std::alloc::Global;
 use std::marker::Model;
 
 /// Which nodes the matches of a path have at the variables that it shares with a query. It is seen
-/// as the different lists of these nodes, in the order of their first, and what was spent to find
-/// them.
+/// as the lists of these nodes, of which the calls tell only which there are and in no order, and
+/// what was spent to find them.
 #[derive(Drop)]
 pub struct KeySet {
     keys: Keys,

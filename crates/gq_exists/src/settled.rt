@@ -21,7 +21,7 @@ pub(crate) fn are_settled(chunk: &Chunk<'_, '_>, count: u32) -> bool
 fn is_settled(chunk: &Chunk<'_, '_>, variable: u32) -> bool
     ensures { result ≡ true → IsSettled chunk.now variable }
 {
-    match chunk.homes.nodes.get(variable as usize) {
+    match chunk.homes().nodes.get(variable as usize) {
         None => true,
         Some(NodeHome::Nowhere) => true,
         Some(NodeHome::Item { group }) => is_flat(chunk, *group),
@@ -33,9 +33,9 @@ fn is_settled(chunk: &Chunk<'_, '_>, variable: u32) -> bool
 fn is_flat(chunk: &Chunk<'_, '_>, group: u32) -> bool
     ensures { result ≡ true → IsFlat chunk.now group }
 {
-    match chunk.groups.get(group as usize) {
+    match chunk.groups().get(group as usize) {
         None => false,
-        Some(group) => group.current.is_some(),
+        Some(group) => group.current().is_some(),
     }
 }
 
@@ -43,7 +43,7 @@ fn is_flat(chunk: &Chunk<'_, '_>, group: u32) -> bool
 pub(crate) fn item_group(chunk: &Chunk<'_, '_>) -> Option<u32>
     ensures { IfSome result (IsItem chunk.now) }
 {
-    match chunk.homes.nodes.get(0) {
+    match chunk.homes().nodes.get(0) {
         None => None,
         Some(NodeHome::Nowhere) => None,
         Some(NodeHome::Item { group }) => Some(*group),

@@ -1,5 +1,5 @@
 -- A try of a step on rows and load numbers that have what the step binds leaves them as they are.
-use Rattle.std.proofs.Common.{◌≡◌, ◌⊎◌, inl, inr, ℕ, ◌+◌, ◌^◌, ◌<◌, ◌≤◌, Bool, Some, List, [], ◌∷◌, length, refl, sym, ap, ap₂, ◌∙◌, arith}
+use Rattle.std.proofs.Common.{◌≡◌, ◌⊎◌, inl, inr, ℕ, ◌+◌, ◌^◌, ◌<◌, ◌≤◌, Bool, true, false, Some, List, [], ◌∷◌, length, refl, sym, ap, ap₂, ◌∙◌, arith}
 use Rattle.std.specs.Prelude.{slice_get, slice_index, slice_set}
 use Rattle.std.specs.List.{AllByRecursion}
 use Rattle.std.proofs.lemmas.Bool.{cases_eq, cases_lt}
@@ -8,7 +8,7 @@ use Rattle.std.proofs.lemmas.Option.{slice_get-get_or, slice_get_within}
 use Rattle.gq_base.specs.Valid.{row_count}
 use Rattle.gq_base.specs.declared.direction.Direction.{Direction}
 use Rattle.gq_join.specs.Kept.{Held, matches_of, node_in, rel_in}
-use Rattle.gq_plan.specs.Plans.{Plan, Scan, Extend, Close, Join, Keep, Differ, NoLoop}
+use Rattle.gq_plan.specs.Plans.{Plan, Scan, Extend, Close, Join, Keep, Differ, NoLoop, Single, Meet}
 use Rattle.gq_plan.specs.Rows.{node_table, rel_table}
 use Rattle.gq_plan.specs.declared.assignment.Assignment.{Assignment}
 use Rattle.gq_store.proofs.Reading.{neighbours_below}
@@ -23,7 +23,7 @@ use Rattle.gq_steps.proofs.Followed.{as_many}
 use Rattle.gq_steps.proofs.Joined.{h, join_tried}
 use Rattle.gq_steps.proofs.Stepping.{Follows, follows}
 use Rattle.gq_steps.proofs.Testing.{keep_tried, differ_tried, no_loop_tried}
-use Rattle.gq_steps.proofs.Trying.{scan_tried, extend_tried, extend_goes, close_tried, close_goes}
+use Rattle.gq_steps.proofs.Trying.{scan_tried, extend_tried, extend_goes, close_tried, close_goes, single_goes, single_tried, meet_goes, meet_tried}
 
 -- what is written there already
 row_again : (a : Assignment) (v r : ℕ) → slice_index a.nodes v ≡ r → a ≡ with_row v r a
@@ -107,6 +107,34 @@ module _ (c : Run) (run : IsRun c) (d : ℕ) (low : d < length c.steps) (row : A
         go : (place < length (neighbours c.graph table_of way near)) ⊎ (length (neighbours c.graph table_of way near) ≤ place) → TriesItself c d place row
         go (inl inside) = meets inside (cases_eq (slice_index (neighbours c.graph table_of way near) place) (slice_index row.nodes to))
         go (inr past) = record { told = Past; tried = close_tried c run d low row held column x from to way is place row Past (refl, past) }
+
+  -- the halves of a column close
+
+  module _ (x from to : ℕ) (way : Direction) (place : ℕ) (few : place + 1 < 2 ^ 32) where
+    pub single_itself : step_at c d ≡ Single x from to way
+        → (place < length (neighbours c.graph (rel_table c.typed x) way (slice_index row.nodes from)) → slice_index row.rels x ≡ slice_index (numbers c.graph (rel_table c.typed x) way (slice_index row.nodes from)) place)
+        → TriesItself c d place row
+    single_itself is rel_is = go (cases_lt place (length (neighbours c.graph (rel_table c.typed x) way (slice_index row.nodes from))))
+      where
+        f : Follows c x from to way
+        f = follows c run true x from to way (single_goes c run d low row held x from to way is)
+
+        go : (place < length (neighbours c.graph (rel_table c.typed x) way (slice_index row.nodes from))) ⊎ (length (neighbours c.graph (rel_table c.typed x) way (slice_index row.nodes from)) ≤ place) → TriesItself c d place row
+        go (inl inside) =
+            let h = hop_there c run x from to way f (slice_index row.nodes from) place inside few in
+            record { told = Made; tried = single_tried c run d low row held x from to way is place row Made (_, h, number_again row x _ (rel_is inside)) }
+        go (inr past) = record { told = Past; tried = single_tried c run d low row held x from to way is place row Past (refl, past) }
+
+  module _ (x from to : ℕ) (way : Direction) (is : step_at c d ≡ Meet x from to way) (place : ℕ) where
+    pub meet_itself : TriesItself c d place row
+    meet_itself = go (cases_lt 0 (length (neighbours c.graph (rel_table c.typed x) way (slice_index row.nodes from))))
+      where
+        f : Follows c x from to way
+        f = follows c run true x from to way (meet_goes c run d low row held x from to way is)
+
+        go : (0 < length (neighbours c.graph (rel_table c.typed x) way (slice_index row.nodes from))) ⊎ (length (neighbours c.graph (rel_table c.typed x) way (slice_index row.nodes from)) ≤ 0) → TriesItself c d place row
+        go (inl inside) = record { told = _; tried = meet_tried c run d low row held x from to way is place _ (inr (_, hop_there c run x from to way f (slice_index row.nodes from) 0 inside (omega arith), refl)) }
+        go (inr past) = record { told = _; tried = meet_tried c run d low row held x from to way is place false (inl (past, refl)) }
 
   pub keep_itself : (i : ℕ) → step_at c d ≡ Keep i → (place : ℕ) → TriesItself c d place row
   keep_itself i is place = record { told = _; tried = keep_tried c run d low row held i is place }

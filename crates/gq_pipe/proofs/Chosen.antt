@@ -23,9 +23,10 @@ use Rattle.gq_group.specs.declared.home.NodeHome.TheVariants as node
 use Rattle.gq_group.specs.declared.home.RelHome.TheVariants as rel
 use Rattle.gq_join.specs.Kept.{has_key, matches, matches_of, place_of, rel_in, values_of, node_in as node_in_build}
 use Rattle.gq_plan.specs.Covers.{after, fits_step}
+use Rattle.gq_plan.specs.Halves.{runs_step}
 use Rattle.gq_plan.specs.Known.{Known, none}
 use Rattle.gq_plan.specs.Meaning.{nothing}
-use Rattle.gq_plan.specs.Plans.{Plan, Step, Scan, Extend, Close, Join, Keep, Differ, NoLoop, steps}
+use Rattle.gq_plan.specs.Plans.{Plan, Step, Scan, Extend, Close, Join, Keep, Differ, NoLoop, Single, Meet, steps}
 use Rattle.gq_plan.specs.Rows.{node_table, rel_table}
 use Rattle.gq_plan.specs.Soundness.{has_number}
 use Rattle.gq_plan.specs.declared.assignment.Assignment.{Assignment}
@@ -53,7 +54,7 @@ use Rattle.gq_homes.specs.declared.homes.Filling.{Filling}
 use Rattle.gq_steps.specs.declared.group_steps.GroupSteps.{GroupSteps}
 use Rattle.gq_steps.specs.declared.plan_run.Tried.{Tried}
 use Rattle.gq_steps.specs.declared.plan_run.Tried.TheVariants.{Past, Missed, Made}
-use Rattle.gq_pipe.proofs.Agreeing.{TriesItself, joined, join_itself, scan_itself, extend_itself, close_itself, keep_itself, differ_itself, no_loop_itself}
+use Rattle.gq_pipe.proofs.Agreeing.{TriesItself, joined, join_itself, scan_itself, extend_itself, close_itself, keep_itself, differ_itself, no_loop_itself, single_itself, meet_itself}
 use Rattle.gq_steps.proofs.Binding.{fits_at, given_all}
 use Rattle.gq_homes.proofs.Brings.{side_low}
 use Rattle.gq_homes.proofs.Brought.{each_passes}
@@ -70,7 +71,7 @@ use Rattle.gq_pipe.proofs.Resting.{stands_first}
 use Rattle.gq_pipe.proofs.Sources.{IsIn, fits_there, set_before, known_before}
 use Rattle.gq_steps.proofs.Standings.{Met, both_stand, same_row, stands_part, prefix_more, tile_at, IsWithin}
 use Rattle.gq_steps.proofs.Stepping.{Follows, follows}
-use Rattle.gq_steps.proofs.Trying.{scan_low, scan_count, extend_goes, extend_parts, close_goes}
+use Rattle.gq_steps.proofs.Trying.{scan_low, scan_count, extend_goes, extend_parts, close_goes, single_goes}
 use Rattle.gq_sift.proofs.Matching.{join_reads, same_values}
 
 pub way_is : (w : Direction) → way_of (is_forward w) ≡ w
@@ -245,8 +246,8 @@ module _ (c : Run) (ss : List GroupSteps) (row : Assignment) (cs : List Cursor) 
     match_there side keys is =
         let run : IsRun c = at.runs in
         let b : HasBuild c.graph c.typed side keys (slice_index_or c.builds s.first None) = build c run s.first first_low read held side keys is in
-        let reads = join_reads c.graph.catalog c.typed met.set side keys (subst (λ t. fits_step c.graph.catalog c.typed t met.set ≡ true) is met.fit) in
-        let knows = join_reads c.graph.catalog c.typed (known c s.first) side keys (subst (λ t. fits_step c.graph.catalog c.typed t (known c s.first) ≡ true) is (fits_at c run s.first first_low)) in
+        let reads = join_reads c.graph.catalog c.typed met.set side keys (subst (λ t. runs_step c.graph.catalog c.typed t met.set ≡ true) is met.fit) in
+        let knows = join_reads c.graph.catalog c.typed (known c s.first) side keys (subst (λ t. runs_step c.graph.catalog c.typed t (known c s.first) ≡ true) is (fits_at c run s.first first_low)) in
         let values : values_of b.build.keys row.nodes ≡ values_of b.build.keys read.nodes =
         ap (λ ks. values_of ks row.nodes) b.is.key_list
         ∙ same_values (after side none).nodes met.set.nodes (known c s.first).nodes keys row.nodes read.nodes reads knows (λ v set bound. same_row c run row read s met v set bound)
@@ -306,7 +307,7 @@ module _ (c : Run) (ss : List GroupSteps) (row : Assignment) (cs : List Cursor) 
       has_match = subst (IsHoused fs ch.homes.now i) is (house s.first (omega arith) within.some)
 
       side_bound : IsLow c.typed (after side none)
-      side_bound = side_low c (known c s.first) side keys (subst (λ t. fits_step c.graph.catalog c.typed t (known c s.first) ≡ true) is (fits_at c at.runs s.first first_low))
+      side_bound = side_low c (known c s.first) side keys (subst (λ t. runs_step c.graph.catalog c.typed t (known c s.first) ≡ true) is (fits_at c at.runs s.first first_low))
 
       brought_there : (v : ℕ) → v < length c.typed.nodes → HasKeptColumn fs ch.homes.now i v → slice_index read.nodes v ≡ node_in_build (joined c at.runs s.first first_low read held side keys is) v item
       brought_there v v_low lives =
@@ -352,7 +353,7 @@ module _ (c : Run) (ss : List GroupSteps) (row : Assignment) (cs : List Cursor) 
         run : IsRun c
         run = at.runs
 
-        go : (t : Step) → step_at c s.first ≡ t → IsHoused fs ch.homes.now i (step_at c s.first) → makes_group (step_at c s.first) ≡ true → fits_step c.graph.catalog c.typed (step_at c s.first) met.set ≡ true → TriesItself c s.first j read
+        go : (t : Step) → step_at c s.first ≡ t → IsHoused fs ch.homes.now i (step_at c s.first) → makes_group (step_at c s.first) ≡ true → runs_step c.graph.catalog c.typed (step_at c s.first) met.set ≡ true → TriesItself c s.first j read
         go (Scan v) is home makes fit =
             let v_low : v < length c.typed.nodes = scan_low c run s.first first_low read held v is in
             let inside = inside_of _ (scan_count c run s.first first_low read held v is) in
@@ -366,7 +367,7 @@ module _ (c : Run) (ss : List GroupSteps) (row : Assignment) (cs : List Cursor) 
             let x_low : x < length c.typed.rels = slice_get_within c.typed.rels x _ f.rel_is in
             let from_low : from < length c.typed.nodes = slice_get_within c.typed.nodes from _ f.near in
             let to_low : to < length c.typed.nodes = slice_get_within c.typed.nodes to _ f.far in
-            let set : met.set.nodes from ≡ true = extend_reads c.graph.catalog c.typed met.set false x from to w (subst (λ t. fits_step c.graph.catalog c.typed t met.set ≡ true) is fit) in
+            let set : met.set.nodes from ≡ true = extend_reads c.graph.catalog c.typed met.set false x from to w (subst (λ t. runs_step c.graph.catalog c.typed t met.set ≡ true) is fit) in
             let bound = (extend_parts c run s.first first_low read held false x from to w is).1 in
             let near : slice_index row.nodes from ≡ slice_index read.nodes from = same_row c run row read s met from set bound in
             let both = subst (IsHoused fs ch.homes.now i) is home in
@@ -385,6 +386,8 @@ module _ (c : Run) (ss : List GroupSteps) (row : Assignment) (cs : List Cursor) 
         go (Keep k) is home makes fit = absurd (true≢false (sym makes ∙ ap makes_group is))
         go (Differ p) is home makes fit = absurd (true≢false (sym makes ∙ ap makes_group is))
         go (NoLoop x) is home makes fit = absurd (true≢false (sym makes ∙ ap makes_group is))
+        go (Single x from to w) is home makes fit = absurd (true≢false (sym makes ∙ ap makes_group is))
+        go (Meet x from to w) is home makes fit = absurd (true≢false (sym makes ∙ ap makes_group is))
 
     -- the steps behind it
     module _ (d : ℕ) (above : s.first < d) (below : d < s.end) (have : IsHeld c read (known c d)) where
@@ -395,8 +398,8 @@ module _ (c : Run) (ss : List GroupSteps) (row : Assignment) (cs : List Cursor) 
       reads_near : (x from to : ℕ) (w : Direction) → step_at c d ≡ Extend true x from to w → IsIn ch.homes.now i from ⊎ (slice_index row.nodes from ≡ slice_index read.nodes from)
       reads_near x from to w is =
           let there : Known = Rattle.gq_pipe.proofs.Sources.there c at.runs fs ch.homes.now i s within.inside house others d above below met.set met.fit met.placed in
-          let fit : fits_step c.graph.catalog c.typed (step_at c d) there ≡ true = fits_there c at.runs fs ch.homes.now i s within.inside house others d above below met.set met.fit met.placed in
-          let set : there.nodes from ≡ true = extend_reads c.graph.catalog c.typed there true x from to w (subst (λ t. fits_step c.graph.catalog c.typed t there ≡ true) is fit) in
+          let fit : runs_step c.graph.catalog c.typed (step_at c d) there ≡ true = fits_there c at.runs fs ch.homes.now i s within.inside house others d above below met.set met.fit met.placed in
+          let set : there.nodes from ≡ true = extend_reads c.graph.catalog c.typed there true x from to w (subst (λ t. runs_step c.graph.catalog c.typed t there ≡ true) is fit) in
           let bound = (extend_parts c at.runs d step_low read have true x from to w is).1 in
           go (set_before c at.runs fs ch.homes.now i s within.inside house others d above below met.set met.fit met.placed from set) (known_before c at.runs fs ch.homes.now i s within.inside house others d from (omega (arith, above)) (omega (arith, below)) bound)
         where
@@ -429,6 +432,11 @@ module _ (c : Run) (ss : List GroupSteps) (row : Assignment) (cs : List Cursor) 
           go (Keep k) is home none = keep_itself c run d step_low read have k is 0
           go (Differ p) is home none = differ_itself c run d step_low read have p is 0
           go (NoLoop x) is home none = no_loop_itself c run d step_low read have x is 0
+          go (Single x from to w) is home none =
+              let f : Follows c x from to w = follows c run true x from to w (single_goes c run d step_low read have x from to w is) in
+              single_itself c run d step_low read have x from to w 0 (omega arith) is
+              (λ inside. single_number x from w (subst (IsHoused fs ch.homes.now i) is home) (slice_get_within c.typed.rels x _ f.rel_is) (slice_get_within c.typed.nodes from _ f.near))
+          go (Meet x from to w) is home none = meet_itself c run d step_low read have x from to w is 0
 
     -- the place is kept, so each step makes something
     kept_all : IsTriedAt c s j read false read → ⊥

@@ -36,7 +36,7 @@ use Rattle.gq_pipe.proofs.Assigned.{whole_assigned}
 use Rattle.gq_steps.proofs.Binding.{looks_given}
 use Rattle.gq_pipe.proofs.Chunking.{is_chunk_of, chunk_binds}
 use Rattle.gq_pipe.proofs.Rebinding.{bound_given}
-use Rattle.gq_steps.proofs.Joined.{IsLow, low_after, low_none}
+use Rattle.gq_steps.proofs.Joined.{IsLow, low_none, low_runs}
 use Rattle.gq_pipe.specs.Serving.{HasCells, Serves}
 use Rattle.gq_pool.specs.Slots.{Holds}
 use Rattle.gq_pipe.specs.Shown.{HasShape, IsPieceIn}
@@ -102,7 +102,7 @@ module _ (p : Inside) (inv : IsSearch p) (now : (rest_of p).standing ≡ true) (
   -- ---- as the plan binds it
 
   low : IsLow c.typed (after (steps c.steps) none)
-  low = low_after c.graph.catalog c.typed (steps c.steps) none st.runs.fits (low_none c.typed)
+  low = low_runs c.graph.catalog c.typed (steps c.steps) none st.runs.fits (low_none c.typed)
 
   one_bound : (row : Assignment) → bound_by c.typed (given_plan p.lists.plan_run) (given c.typed row (steps c.steps) nothing) ≡ given c.typed row (given_plan p.lists.plan_run) nothing
   one_bound row = bound_given c.typed (given_plan p.lists.plan_run) (steps c.steps) row inv.plan.bound low.nodes low.rels

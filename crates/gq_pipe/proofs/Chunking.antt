@@ -18,10 +18,11 @@ use Rattle.gq_group.specs.declared.group.Group.{Group}
 use Rattle.gq_group.specs.declared.home.NodeHome.TheVariants as node
 use Rattle.gq_group.specs.declared.home.RelHome.TheVariants as rel
 use Rattle.gq_join.specs.Kept.{Held, place_of}
-use Rattle.gq_plan.specs.Covers.{after, after_step, fits_step}
+use Rattle.gq_plan.specs.Covers.{after, after_step}
+use Rattle.gq_plan.specs.Halves.{runs_step}
 use Rattle.gq_plan.specs.Known.{none}
 use Rattle.gq_plan.specs.Meaning.{nothing}
-use Rattle.gq_plan.specs.Plans.{Plan, Step, Scan, Extend, Close, Join, Keep, Differ, NoLoop, steps}
+use Rattle.gq_plan.specs.Plans.{Plan, Step, Scan, Extend, Close, Join, Keep, Differ, NoLoop, Single, Meet, steps}
 use Rattle.gq_plan.specs.Rows.{rel_table}
 use Rattle.gq_plan.specs.Soundness.{has_number}
 use Rattle.gq_plan.specs.declared.assignment.Assignment.{Assignment}
@@ -53,7 +54,7 @@ use Rattle.gq_pipe.proofs.Reading.{place_at, first_is}
 use Rattle.gq_steps.proofs.Going.{less_held}
 use Rattle.gq_steps.proofs.Here.{group_makes}
 use Rattle.gq_steps.proofs.Standings.{all_held, stands_part}
-use Rattle.gq_steps.proofs.Trying.{extend_can, extend_count, close_can, close_count}
+use Rattle.gq_steps.proofs.Trying.{extend_can, extend_count, close_can, close_count, single_can, single_count}
 use Rattle.gq_steps.specs.Moves.{IsHeld, IsMade}
 use Rattle.gq_steps.specs.Follows.{CanFollow}
 use Rattle.gq_steps.specs.Tries.{tries}
@@ -219,13 +220,15 @@ module _ (c : Run) (ss : List GroupSteps) (row : Assignment) (cs : List Cursor) 
       bound e i low inside (Join side keys) is house free now = go (has_number keys v) refl
         where
           go : (b : Bool) → has_number keys v ≡ b → IsNodeHome ch (node_home ch.homes.now v)
-          go true key = absurd (true≢false (sym (knows_keys c.graph.catalog c.typed (Join side keys) (known c e) (subst (λ t. fits_step c.graph.catalog c.typed t (known c e) ≡ true) is (fits_at c st.runs e low)) v key) ∙ free))
+          go true key = absurd (true≢false (sym (knows_keys c.graph.catalog c.typed (Join side keys) (known c e) (subst (λ t. runs_step c.graph.catalog c.typed t (known c e) ≡ true) is (fits_at c st.runs e low)) v key) ∙ free))
           go false other =
               let has = house.nodes v (right_true ((after side none).nodes v) ((known c e).nodes v) now free) other in
               subst (IsNodeHome ch) (sym has.node_is) (column_in i has.column inside has.inside (ap column_group has.filling))
       bound e i low inside (Keep t) is house free now = absurd (true≢false (sym now ∙ free))
       bound e i low inside (Differ p) is house free now = absurd (true≢false (sym now ∙ free))
       bound e i low inside (NoLoop x) is house free now = absurd (true≢false (sym now ∙ free))
+      bound e i low inside (Single x from to w) is house free now = absurd (true≢false (sym now ∙ free))
+      bound e i low inside (Meet x from to w) is house free now = absurd (true≢false (sym now ∙ free))
 
       go : (b : Bool) → (known c (length c.steps)).nodes v ≡ b → IsNodeHome ch (node_home ch.homes.now v)
       go false is = subst (IsNodeHome ch) (sym (homes.free_nodes v is)) tt
@@ -302,6 +305,10 @@ module _ (c : Run) (ss : List GroupSteps) (row : Assignment) (cs : List Cursor) 
       bound e i low inside there (Keep t) is house free now = absurd (true≢false (sym now ∙ free))
       bound e i low inside there (Differ p) is house free now = absurd (true≢false (sym now ∙ free))
       bound e i low inside there (NoLoop z) is house free now = absurd (true≢false (sym now ∙ free))
+      bound e i low inside there (Single z from to w) is house free now =
+          let home : rel_home ch.homes.now x ≡ rel.Single from (is_forward w) = ap (rel_home ch.homes.now) (sym (same_var x z ((known c e).rels x) now free)) ∙ house in
+          subst (IsRelHome ch) (sym home) tt
+      bound e i low inside there (Meet z from to w) is house free now = absurd (true≢false (sym now ∙ free))
 
       go : (b : Bool) → (known c (length c.steps)).rels x ≡ b → IsRelHome ch (rel_home ch.homes.now x)
       go false is = subst (IsRelHome ch) (sym (homes.free_rels x is)) tt
@@ -407,6 +414,16 @@ module _ (c : Run) (ss : List GroupSteps) (row : Assignment) (cs : List Cursor) 
         bound e i e_low low there (Keep t) is house free now = absurd (true≢false (sym now ∙ free))
         bound e i e_low low there (Differ p) is house free now = absurd (true≢false (sym now ∙ free))
         bound e i e_low low there (NoLoop z) is house free now = absurd (true≢false (sym now ∙ free))
+        bound e i e_low low there (Single z from to w) is house free now =
+            let same : z ≡ x = same_var x z ((known c e).rels x) now free in
+            let above : (group_at ss i).first < e = behind i e low there (ap makes_group is) in
+            let up = there.low in
+            let t : IsMade c e 0 a a = (module_made i low).others_made e above up there.high in
+            let inside = some_left (tries c.graph c.typed (built_at c e) (step_at c e) (before c a e)) 0 _ _ t.made in
+            let most = single_count c st.runs e e_low a (held_at e (omega (arith, e_low))) z from to w is in
+            subst (λ n. IsEdge c.graph (rel_table c.typed n) (edge_at ch ps n)) same
+            (single_edge z from to w house (single_can c st.runs e e_low a (held_at e (omega (arith, e_low))) z from to w is) (omega (arith, inside, most)))
+        bound e i e_low low there (Meet z from to w) is house free now = absurd (true≢false (sym now ∙ free))
 
         go : (b : Bool) → (known c (length c.steps)).rels x ≡ b → IsEdge c.graph (rel_table c.typed x) (edge_at ch ps x)
         go false is = subst (λ h. IsEdge c.graph (rel_table c.typed x) (edge_in ch ps h)) (sym (homes.free_rels x is)) tt

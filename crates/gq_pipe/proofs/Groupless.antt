@@ -9,15 +9,16 @@ use Rattle.gq_base.specs.Plain.{Graph}
 use Rattle.gq_join.specs.Kept.{Held}
 use Rattle.gq_law_groups.specs.Groups.{checked, makes_group}
 use Rattle.gq_plan.proofs.Values.{values_agree}
-use Rattle.gq_plan.specs.Arranged.{arranged_flat, binders, flags_of, homes, numbers_at}
+use Rattle.gq_plan.specs.Arranged.{flags_of, homes, numbers_at}
 use Rattle.gq_plan.specs.Columns.{steps_of}
 use Rattle.gq_plan.specs.Conditions.{passes}
 use Rattle.gq_plan.specs.Covers.{Fits, after, after_step, test_bound}
+use Rattle.gq_plan.specs.Halves.{halved}
 use Rattle.gq_plan.specs.Known.{Known, none}
 use Rattle.gq_plan.specs.Meaning.{Partial, holds, keep_if, mean, nothing, row, step}
 use Rattle.gq_plan.specs.Plans.{Plan, Done, Step, Keep}
 use Rattle.gq_plan.specs.Rows.{as_read}
-use Rattle.gq_plan.specs.Shapes.{places}
+use Rattle.gq_plan.specs.Shapes.{is_flat_group, places}
 use Rattle.gq_plan.specs.declared.assignment.Assignment.{Assignment}
 use Rattle.gq_plan.specs.declared.bound.NamedExpr.{NamedExpr}
 use Rattle.gq_plan.specs.declared.typed.Typed.{Typed}
@@ -68,10 +69,10 @@ module _ (g : Graph) (y : Typed) (r : Assignment) where
 -- ---- a plan without groups
 
 pub none_order : (y : Typed) (p : Plan) → (places p).count ≡ 0 → led_order y p ≡ []
-none_order y p e = ap (λ n. map (led_number (length (leading p))) (flat_map (λ h. numbers_at h 0 (homes y (binders p) 0 p)) (range_with_len 0 n))) e
+none_order y p e = ap (λ n. map (led_number (length (leading p))) (flat_map (λ h. numbers_at h 0 (homes y (places p) 0 (halved p))) (range_with_len 0 n))) e
 
 pub none_flat : (y : Typed) (p : Plan) → (places p).count ≡ 0 → flags_of y p ≡ []
-none_flat y p e = ap (λ n. map (arranged_flat y p) (range_with_len 0 n)) e
+none_flat y p e = ap (λ n. map (is_flat_group y p) (range_with_len 0 n)) e
 
 module _ (catalog : Tables) (y : Typed) (p : Plan) (fit : Fits catalog y p) (bare : (places p).count ≡ 0) where
   is : checked (leading p) Done ≡ p

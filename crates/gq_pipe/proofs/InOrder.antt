@@ -1,79 +1,111 @@
--- A plan's steps, and its builds, in an order that has each of them.
-use Rattle.std.proofs.Common.{Bor, ◌≡◌, ◌∙◌, take, ℕ, zero, suc, ◌+◌, ◌<◌, Bool, true, false, cond, true≢false, Option, Some, None, List, [], ◌∷◌, ◌++◌, map, length, get_or, slice_get, refl, sym, ap, subst, arith}
+-- A plan's steps as they run, and its builds, in an order that has each of them.
+use Rattle.std.proofs.Common.{◌≡◌, ◌∙◌, take, ℕ, zero, suc, ◌+◌, ◌<◌, Bool, true, false, cond, true≢false, Option, Some, None, List, [], ◌∷◌, ◌++◌, flat_map, map, length, get_or, slice_get, refl, sym, ap, ap₂, arith}
 use Rattle.std.specs.Prelude.{slice_index_or, IsPermutation}
-use Rattle.std.specs.List.{AllByRecursion, list_any, range_with_len, sum_by}
+use Rattle.std.specs.List.{AllByRecursion, range_with_len, sum_by}
 use Rattle.std.specs.Option.{option_to_list}
-use Rattle.std.proofs.Math.Bool.{or-false}
-use Rattle.std.proofs.lemmas.Grind.{flat_map-append}
-use Rattle.std.proofs.lemmas.List.{append_assoc, length-append, length-map, take_more}
-use Rattle.std.proofs.lemmas.Option.{slice_get-get_or}
-use Rattle.std.proofs.lemmas.List.Sorted.{list_any-IsPermutation, sum_by-IsPermutation}
-use Rattle.gq_base.specs.Catalogs.{Tables}
+use Rattle.std.proofs.lemmas.List.{append_assoc, get_or-map, length-append, map-append, take_more}
+use Rattle.std.proofs.lemmas.List.Sorted.{sum_by-IsPermutation}
+use Rattle.std.proofs.lemmas.List.Sums.{sum_by-cons}
 use Rattle.gq_base.specs.Plain.{Graph}
 use Rattle.gq_join.specs.Kept.{Held}
 use Rattle.gq_law_plans.proofs.Reordered.{permuted_flat_map}
-use Rattle.gq_plan.proofs.Binding.{is_table, is_joins, plan_binds, plan_joins}
 use Rattle.gq_plan.specs.Arranged.{at_numbers}
-use Rattle.gq_plan.specs.Columns.{steps_of}
-use Rattle.gq_plan.specs.Covers.{Fits, after, placed}
-use Rattle.gq_plan.specs.Flat.{is_flat, is_join}
-use Rattle.gq_plan.specs.Known.{none}
-use Rattle.gq_plan.specs.Plans.{Plan, Done, Then, Step, Keep, steps, step_of}
+use Rattle.gq_plan.specs.Columns.{own_columns, steps_of}
+use Rattle.gq_plan.specs.Halves.{close_half, half_of, halves, halves_of, part_in, parts_of}
+use Rattle.gq_plan.specs.Plans.{Plan, Done, Then, Step, Scan, Extend, Close, Join, Keep, Differ, NoLoop, Single, Meet, steps, step_of}
+use Rattle.gq_plan.specs.declared.halves.Half.{Half}
+use Rattle.gq_plan.specs.declared.halves.Half.TheVariants.{Whole, First, Second}
+use Rattle.gq_plan.specs.declared.halves.Part.{Part}
 use Rattle.gq_plan.specs.declared.plan.Step as code
 use Rattle.gq_plan.specs.declared.typed.Typed.{Typed}
 use Rattle.gq_steps.specs.Built.{AreBuilds, FitsBuild}
-use Rattle.gq_steps.specs.Moves.{referred}
-use Rattle.gq_steps.proofs.Trying.{get_mapped}
+use Rattle.gq_steps.specs.Moves.{run_step, run_steps}
+use Rattle.gq_steps.specs.declared.plan_run.RunStep.{RunStep}
+use Rattle.gq_steps.proofs.Joined.{build_at}
 
-module _ (g : Graph) (y : Typed) where
-  -- the step and the build of a number
-  record HasBoth (ss : List Step) (os : List (Option Held)) (n : ℕ) : Type 0 where
-    step : Step
-    there : slice_get ss n ≡ Some step
-    fits : FitsBuild g y step (slice_index_or os n None)
+-- ---- the parts of a plan
 
-  both_at : (ss : List Step) (os : List (Option Held)) (n : ℕ) → AreBuilds g y (steps ss) os → n < length ss → HasBoth ss os n
-  both_at [] os n h low = absurd (omega arith)
-  both_at (s ∷ ss) [] n h low = absurd h
-  both_at (s ∷ ss) (o ∷ os) zero h low = record { step = s; there = refl; fits = h.0 }
-  both_at (s ∷ ss) (o ∷ os) (suc n) h low = let b = both_at ss os n h.1 (omega arith) in record { step = b.step; there = b.there; fits = b.fits }
-
-  pub builds_ordered : (ss : List Step) (os : List (Option Held)) (ns : List ℕ) → AreBuilds g y (steps ss) os → AllByRecursion (λ n. n < length ss) ns → AreBuilds g y (steps (at_numbers ss ns)) (map (λ n. slice_index_or os n None) ns)
-  builds_ordered ss os [] h low = tt
-  builds_ordered ss os (n ∷ ns) h low =
-      let b = both_at ss os n h low.0 in
-      subst (λ o. AreBuilds g y (steps (option_to_list o ++ at_numbers ss ns)) (map (λ n. slice_index_or os n None) (n ∷ ns))) (sym b.there) (b.fits, builds_ordered ss os ns h low.1)
-
--- plans that meet the same demands bind the same
-pub same_bound : (catalog : Tables) (y : Typed) (p q : Plan) → Fits catalog y p → Fits catalog y q → IsPermutation (placed p) (placed q) → after p none ≡ after q none
-same_bound catalog y p q fp fq same = λ i. record { nodes = λ v. nodes v i; rels = λ x. rels x i }
+-- a half of a step asks for the build that the step asks for
+fits_half : (g : Graph) (y : Typed) (h : Half) (s : Step) (o : Option Held) → FitsBuild g y s o → FitsBuild g y (half_of h s) o
+fits_half g y h (Scan v) o b = b
+fits_half g y h (Extend column x from to way) o b = b
+fits_half g y h (Close true x from to way) o b = go h
   where
-    nodes : (v : ℕ) → (after p none).nodes v ≡ (after q none).nodes v
-    nodes v =
-        plan_binds catalog y v p none fp ∙ or-false (list_any (is_table v) (placed p)) ∙ list_any-IsPermutation (is_table v) (placed p) (placed q) same
-        ∙ sym (plan_binds catalog y v q none fq ∙ or-false (list_any (is_table v) (placed q)))
+    go : (h : Half) → FitsBuild g y (close_half h x from to way) o
+    go Whole = b
+    go First = b
+    go Second = b
+fits_half g y h (Close false x from to way) o b = b
+fits_half g y h (Join side keys) o b = b
+fits_half g y h (Keep i) o b = b
+fits_half g y h (Differ d) o b = b
+fits_half g y h (NoLoop x) o b = b
+fits_half g y h (Single x from to way) o b = b
+fits_half g y h (Meet x from to way) o b = b
 
-    rels : (x : ℕ) → (after p none).rels x ≡ (after q none).rels x
-    rels x =
-        plan_joins catalog y x p none ∙ or-false (list_any (is_joins x) (placed p)) ∙ list_any-IsPermutation (is_joins x) (placed p) (placed q) same
-        ∙ sym (plan_joins catalog y x q none ∙ or-false (list_any (is_joins x) (placed q)))
+pub builds_parts : (g : Graph) (y : Typed) (ss : List Step) (os : List (Option Held)) (qs : List Part) → AreBuilds g y (steps ss) os → AllByRecursion (λ (q : Part). q.step < length ss) qs
+    → AreBuilds g y (steps (map (part_in ss) qs)) (map (λ (q : Part). slice_index_or os q.step None) qs)
+builds_parts g y ss os [] built low = tt
+builds_parts g y ss os (q ∷ qs) built low = (
+  fits_half g y q.half (slice_index_or ss q.step (Keep 0)) (slice_index_or os q.step None) (build_at g y ss os q.step built low.0),
+  builds_parts g y ss os qs built low.1,
+)
+
+-- what is made of the items of numbers are the items that are made, of these numbers
+got_mapped : {X Y : Type 0} (f : X → Y) (xs : List X) (n : ℕ) → map f (option_to_list (slice_get xs n)) ≡ option_to_list (slice_get (map f xs) n)
+got_mapped f [] n = refl
+got_mapped f (x ∷ xs) zero = refl
+got_mapped f (x ∷ xs) (suc n) = got_mapped f xs n
+
+at_mapped : {X Y : Type 0} (f : X → Y) (xs : List X) (ns : List ℕ) → map f (at_numbers xs ns) ≡ at_numbers (map f xs) ns
+at_mapped f xs [] = refl
+at_mapped f xs (n ∷ ns) = map-append f (option_to_list (slice_get xs n)) (at_numbers xs ns) ∙ ap₂ ◌++◌ (got_mapped f xs n) (at_mapped f xs ns)
+
+module _ (at : ℕ → Step) where
+  abbrev here : Part → Step
+  here q = half_of q.half (at q.step)
+
+  part_step : (s : Step) (i : ℕ) (qs : List Part) → at i ≡ s → map here (map (λ h. record { step = i; half = h }) (halves_of s) ++ qs) ≡ halves s ++ map here qs
+  part_step (Scan v) i qs e = ap (λ t. half_of Whole t ∷ map here qs) e
+  part_step (Extend column x from to way) i qs e = ap (λ t. half_of Whole t ∷ map here qs) e
+  part_step (Close true x from to way) i qs e = ap (λ t. half_of First t ∷ half_of Second t ∷ map here qs) e
+  part_step (Close false x from to way) i qs e = ap (λ t. half_of Whole t ∷ map here qs) e
+  part_step (Join side keys) i qs e = ap (λ t. half_of Whole t ∷ map here qs) e
+  part_step (Keep k) i qs e = ap (λ t. half_of Whole t ∷ map here qs) e
+  part_step (Differ d) i qs e = ap (λ t. half_of Whole t ∷ map here qs) e
+  part_step (NoLoop x) i qs e = ap (λ t. half_of Whole t ∷ map here qs) e
+  part_step (Single x from to way) i qs e = ap (λ t. half_of Whole t ∷ map here qs) e
+  part_step (Meet x from to way) i qs e = ap (λ t. half_of Whole t ∷ map here qs) e
+
+  parts_from : (ss : List Step) (i : ℕ) → ((k : ℕ) → k < length ss → at (i + k) ≡ slice_index_or ss k (Keep 0)) → map here (parts_of i ss) ≡ flat_map halves ss
+  parts_from [] i told = refl
+  parts_from (s ∷ ss) i told =
+      part_step s i (parts_of (i + 1) ss) (let z : i ≡ i + 0 = omega arith in ap at z ∙ told 0 (omega arith))
+      ∙ ap (λ l. halves s ++ l) (parts_from ss (i + 1) (λ k low. let next : i + 1 + k ≡ i + suc k = omega arith in ap at next ∙ told (suc k) (omega (arith, low))))
+
+-- the parts of a plan are its steps, its column closes in halves
+pub parts_are : (ss : List Step) → map (part_in ss) (parts_of 0 ss) ≡ flat_map halves ss
+parts_are ss = parts_from (λ n. slice_index_or ss n (Keep 0)) ss 0 (λ k low. let z : 0 + k ≡ k = omega arith in ap (λ n. slice_index_or ss n (Keep 0)) z)
+
+pub parts_run : (ss : List Step) (ns : List ℕ) → map (part_in ss) (at_numbers (parts_of 0 ss) ns) ≡ at_numbers (flat_map halves ss) ns
+parts_run ss ns = at_mapped (part_in ss) (parts_of 0 ss) ns ∙ ap (λ ts. at_numbers ts ns) (parts_are ss)
 
 -- ---- the order of the plan itself
 
--- all numbers give all steps
-steps_from : (before ss : List Step) → at_numbers (before ++ ss) (range_with_len (length before) (length ss)) ≡ ss
+-- all numbers give all items
+steps_from : {X : Type 0} (before ss : List X) → at_numbers (before ++ ss) (range_with_len (length before) (length ss)) ≡ ss
 steps_from before [] = refl
-steps_from before (s ∷ ss) =
+steps_from {X} before (s ∷ ss) =
     ap (λ o. option_to_list o ++ at_numbers (before ++ s ∷ ss) (range_with_len (length before + 1) (length ss))) (got before)
     ∙ ap (λ l. s ∷ l) (ap (λ ts. at_numbers ts (range_with_len (length before + 1) (length ss))) (sym (append_assoc before (s ∷ []) ss))
     ∙ ap (λ n. at_numbers ((before ++ s ∷ []) ++ ss) (range_with_len n (length ss))) (sym (length-append before (s ∷ [])))
     ∙ steps_from (before ++ s ∷ []) ss)
   where
-    got : (before : List Step) → slice_get (before ++ s ∷ ss) (length before) ≡ Some s
+    got : (before : List X) → slice_get (before ++ s ∷ ss) (length before) ≡ Some s
     got [] = refl
     got (b ∷ before) = got before
 
-pub all_steps : (ss : List Step) → at_numbers ss (range_with_len 0 (length ss)) ≡ ss
+pub all_steps : {X : Type 0} (ss : List X) → at_numbers ss (range_with_len 0 (length ss)) ≡ ss
 all_steps ss = steps_from [] ss
 
 -- a sum over steps is the same in each order that has each step
@@ -81,28 +113,33 @@ pub ordered_sum : (f : Step → ℕ) (ss : List Step) (ns : List ℕ) → IsPerm
 ordered_sum f ss ns same =
     sym (sum_by-IsPermutation f _ _ (permuted_flat_map (λ n. option_to_list (slice_get ss n)) ns (range_with_len 0 (length ss)) same)) ∙ ap (sum_by f) (all_steps ss)
 
+-- the columns of a plan are those of its steps as they run
+columns_halves : (y : Typed) (s : Step) (ss : List Step) → sum_by (own_columns y) (halves s ++ ss) ≡ own_columns y s + sum_by (own_columns y) ss
+columns_halves y (Scan v) ss = sum_by-cons (own_columns y) (Scan v) ss
+columns_halves y (Extend column x from to way) ss = sum_by-cons (own_columns y) (Extend column x from to way) ss
+columns_halves y (Close true x from to way) ss =
+    let first : sum_by (own_columns y) (Single x from to way ∷ Meet x from to way ∷ ss) ≡ 1 + sum_by (own_columns y) (Meet x from to way ∷ ss) = sum_by-cons (own_columns y) (Single x from to way) (Meet x from to way ∷ ss) in
+    let second : sum_by (own_columns y) (Meet x from to way ∷ ss) ≡ 0 + sum_by (own_columns y) ss = sum_by-cons (own_columns y) (Meet x from to way) ss in
+    omega (arith, first, second)
+columns_halves y (Close false x from to way) ss = sum_by-cons (own_columns y) (Close false x from to way) ss
+columns_halves y (Join side keys) ss = sum_by-cons (own_columns y) (Join side keys) ss
+columns_halves y (Keep i) ss = sum_by-cons (own_columns y) (Keep i) ss
+columns_halves y (Differ d) ss = sum_by-cons (own_columns y) (Differ d) ss
+columns_halves y (NoLoop x) ss = sum_by-cons (own_columns y) (NoLoop x) ss
+columns_halves y (Single x from to way) ss = sum_by-cons (own_columns y) (Single x from to way) ss
+columns_halves y (Meet x from to way) ss = sum_by-cons (own_columns y) (Meet x from to way) ss
+
+pub columns_halved : (y : Typed) (ss : List Step) → sum_by (own_columns y) (flat_map halves ss) ≡ sum_by (own_columns y) ss
+columns_halved y [] = refl
+columns_halved y (s ∷ ss) = columns_halves y s (flat_map halves ss) ∙ ap (λ n. own_columns y s + n) (columns_halved y ss) ∙ sym (sum_by-cons (own_columns y) s ss)
+
 -- ---- a step more
 
-referred_more : (rs : List (Bor code.Step)) (r : Bor code.Step) → map step_of (referred (rs ++ r ∷ [])) ≡ map step_of (referred rs) ++ step_of r.now ∷ []
-referred_more [] r = refl
-referred_more (s ∷ rs) r = ap (λ l. step_of s.now ∷ l) (referred_more rs r)
-
-pub steps_more : (ss : List code.Step) (ns : List ℕ) (k : ℕ) (rs : List (Bor code.Step)) (r : Bor code.Step) → k < length ns → get_or ns k 0 < length ss → r.now ≡ get_or ss (get_or ns k 0) r.now
-    → map step_of (referred rs) ≡ at_numbers (map step_of ss) (take k ns) → map step_of (referred (rs ++ r ∷ [])) ≡ at_numbers (map step_of ss) (take (k + 1) ns)
-steps_more ss ns k rs r low inside is so_far =
-    let there : slice_get (map step_of ss) (get_or ns k 0) ≡ Some (step_of r.now) =
-    slice_get-get_or (map step_of ss) (get_or ns k 0) (Keep 0) (omega (arith, inside, length-map ss step_of)) ∙ ap Some (get_mapped ss (get_or ns k 0) r.now inside ∙ ap step_of (sym is)) in
-    referred_more rs r ∙ ap (λ l. l ++ step_of r.now ∷ []) so_far
-    ∙ ap (λ (o : Option Step). at_numbers (map step_of ss) (take k ns) ++ (option_to_list o ++ [])) (sym there)
-    ∙ sym (flat_map-append (λ n. option_to_list (slice_get (map step_of ss) n)) (take k ns) (get_or ns k 0 ∷ []))
-    ∙ ap (at_numbers (map step_of ss)) (sym (take_more ns k 0 low))
-
--- ---- no joins
-
-pub no_joins : (p : Plan) → is_flat p ≡ true → AllByRecursion (λ s. is_join s ≡ false) (steps_of p)
-no_joins Done h = tt
-no_joins (Then s p) h = go (is_join s) refl h (no_joins p)
-  where
-    go : (b : Bool) → is_join s ≡ b → cond b false (is_flat p) ≡ true → (is_flat p ≡ true → AllByRecursion (λ s. is_join s ≡ false) (steps_of p)) → (is_join s ≡ false) × AllByRecursion (λ s. is_join s ≡ false) (steps_of p)
-    go true e h more = absurd (true≢false (sym h))
-    go false e h more = (e, more h)
+pub steps_more : (ss : List code.Step) (qs : List Part) (k : ℕ) (rs : List RunStep) (r : RunStep) (q : Part) → k < length qs → q ≡ get_or qs k q → q.step < length ss → r.step.now ≡ get_or ss q.step r.step.now → r.half ≡ q.half
+    → run_steps rs ≡ map (part_in (map step_of ss)) (take k qs) → run_steps (rs ++ r ∷ []) ≡ map (part_in (map step_of ss)) (take (k + 1) qs)
+steps_more ss qs k rs r q low is inside there half so_far =
+    map-append run_step rs (r ∷ [])
+    ∙ ap₂ (λ l t. l ++ t ∷ []) so_far
+    (ap₂ half_of half (ap step_of there ∙ sym (get_or-map step_of ss q.step r.step.now (Keep 0) inside)))
+    ∙ sym (map-append (part_in (map step_of ss)) (take k qs) (q ∷ []))
+    ∙ ap (map (part_in (map step_of ss))) (ap (λ z. take k qs ++ z ∷ []) is ∙ sym (take_more qs k q low))

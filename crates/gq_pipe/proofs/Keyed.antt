@@ -2,6 +2,7 @@
 use Rattle.std.proofs.Common.{◌≡◌, ℕ, ◌+◌, ◌<◌, ◌≤◌, arith, length, Bool, true, false, cond, nat_eq, Option, Some, None, List, [], ◌∷◌, map, filter, refl, sym, ap, ap₂, ◌∙◌, subst, true≢false}
 use Rattle.std.specs.Prelude.{IsPermutation}
 use Rattle.std.specs.List.{AllByRecursion}
+use Rattle.std.specs.Set.{distinct_count}
 use Rattle.std.proofs.lemmas.Bool.{eqb-true}
 use Rattle.std.proofs.lemmas.List.{length-map, get_or-map}
 use Rattle.std.proofs.lemmas.List.Elements.{All-from_recursion, recursion_from_All}
@@ -10,27 +11,28 @@ use Rattle.gq_arrange.specs.Keys.{plan_key}
 use Rattle.gq_base.specs.Plain.{Graph}
 use Rattle.gq_base.specs.Valid.{is_valid}
 use Rattle.gq_join.specs.Kept.{Held}
-use Rattle.gq_law_groups.specs.Groups.{Group, makes_group, plan_of, decode, raw}
-use Rattle.gq_law_groups.specs.Keys.{IsAs, first_place, is_part, key_in, makers, place_in}
+use Rattle.gq_law_groups.specs.Groups.{Group, makes_group, plan_of, decode}
+use Rattle.gq_law_groups.specs.Keys.{IsAs, key_in, makers, place_in}
 use Rattle.gq_law_groups.specs.Layout.{AreFlatEnough}
 use Rattle.gq_law_groups.proofs.Keyed.{keys_of_assignments}
+use Rattle.gq_law_groups.proofs.Halved.{owns_runs}
 use Rattle.gq_law_plans.proofs.Counting.{known_by}
 use Rattle.gq_law_plans.proofs.Lookups.{look_some}
-use Rattle.gq_law_plans.proofs.Owning.{Owns, owns_mean, owns_nothing}
+use Rattle.gq_law_plans.proofs.Owning.{Owns, owns_nothing}
 use Rattle.gq_plan.specs.Arranged.{flags_of}
 use Rattle.gq_plan.specs.Columns.{steps_of}
-use Rattle.gq_plan.specs.Covers.{Fits, after}
-use Rattle.gq_plan.specs.Flat.{is_flat, is_join}
+use Rattle.gq_plan.specs.Covers.{after}
+use Rattle.gq_plan.specs.Halves.{Runs}
 use Rattle.gq_plan.specs.Known.{Known, none}
 use Rattle.gq_plan.specs.Meaning.{Partial, nothing, look, mean}
-use Rattle.gq_plan.specs.Plans.{Plan, Step, Scan, Extend, Close, Join, Keep, Differ, NoLoop, steps}
+use Rattle.gq_plan.specs.Plans.{Plan, Step, steps}
 use Rattle.gq_plan.specs.Rows.{node_at, rel_at}
 use Rattle.gq_plan.specs.Soundness.{IsSound}
 use Rattle.gq_plan.specs.declared.typed.Typed.{Typed}
 use Rattle.gq_walks.specs.Different.{AreKeysOf, same_key}
 use Rattle.gq_walks.specs.Layouts.{number_of, walks, key_of}
 use Rattle.gq_walks.proofs.Different.{keys_counted}
-use Rattle.gq_pipe.specs.Keys.{Maker, no_maker, makers_of, build_rows, no_rows, key_count}
+use Rattle.gq_pipe.specs.Keys.{Maker, no_maker, makers_of, build_rows}
 use Rattle.gq_steps.specs.declared.group_steps.GroupSteps.{GroupSteps}
 use Rattle.gq_homes.specs.Cuts.{IsCutTo, flag, groups_of}
 use Rattle.gq_pipe.specs.steps.Given.{bound_by, rows_of}
@@ -41,9 +43,8 @@ use Rattle.gq_steps.specs.Moves.{IsRun}
 use Rattle.gq_pipe.specs.steps.Search.{maker_in}
 use Rattle.gq_steps.proofs.Binding.{Looks, looks_given}
 use Rattle.gq_homes.proofs.Cutting.{tiles_plan}
-use Rattle.gq_pipe.proofs.InOrder.{no_joins}
 use Rattle.gq_pipe.proofs.Makers.{made_steps}
-use Rattle.gq_pipe.proofs.Rebinding.{AreRead, AreTabled, own_read, tabled_mean}
+use Rattle.gq_pipe.proofs.Rebinding.{AreRead, AreTabled, own_read, tabled_runs}
 use Rattle.gq_pipe.proofs.Resting.{both, grouped, have_rows, owed_mean}
 
 read-look : {X : Type 0} (f : ℕ → X) (bs : List (ℕ × X)) → AllByRecursion (λ (b : ℕ × X). f b.0 ≡ b.1) bs → (v : ℕ) (x : X) → look bs v ≡ Some x → f v ≡ x
@@ -70,8 +71,8 @@ module _ (y : Typed) (p : Plan) (e : Partial) (owns : Owns y e) (tabled : AreTab
   }
 
 -- of all that a plan q means, which binds what p binds
-pub mean_as : (g : Graph) (y : Typed) (p q : Plan) → is_valid g ≡ true → IsSound g.catalog y → Fits g.catalog y q → after p none ≡ after q none → AllByRecursion (λ e. IsAs (after q none) e (bound_by y p e)) (mean g y q nothing)
-mean_as g y p q valid sound fit same = go (mean g y q nothing) (owns_mean g y q nothing (owns_nothing y) fit) (tabled_mean g y valid sound q none nothing fit (record { nodes = tt; rels = tt }))
+pub mean_as : (g : Graph) (y : Typed) (p q : Plan) → is_valid g ≡ true → IsSound g.catalog y → Runs g.catalog y q → after p none ≡ after q none → AllByRecursion (λ e. IsAs (after q none) e (bound_by y p e)) (mean g y q nothing)
+mean_as g y p q valid sound fit same = go (mean g y q nothing) (owns_runs g y q nothing (owns_nothing y) fit) (tabled_runs g y valid sound q none nothing fit (record { nodes = tt; rels = tt }))
   where
     go : (es : List Partial) → AllByRecursion (λ e. Owns y e × (known_by e ≡ after q none)) es → AllByRecursion (AreTabled y) es → AllByRecursion (λ e. IsAs (after q none) e (bound_by y p e)) es
     go [] owns tabled = tt
@@ -82,7 +83,7 @@ unmapped P f [] h = tt
 unmapped P f (x ∷ xs) h = (h.0, unmapped P f xs h.1)
 
 -- so of all walks that mean the plan q
-pub walks_as : (g : Graph) (y : Typed) (p q : Plan) (decoded : List ℕ → Partial) (ws : List (List ℕ)) → is_valid g ≡ true → IsSound g.catalog y → Fits g.catalog y q → after p none ≡ after q none
+pub walks_as : (g : Graph) (y : Typed) (p q : Plan) (decoded : List ℕ → Partial) (ws : List (List ℕ)) → is_valid g ≡ true → IsSound g.catalog y → Runs g.catalog y q → after p none ≡ after q none
     → IsPermutation (map decoded ws) (mean g y q nothing) → AllByRecursion (λ w. IsAs (after q none) (decoded w) (bound_by y p (decoded w))) ws
 walks_as g y p q decoded ws valid sound fit same bag =
     unmapped (λ e. IsAs (after q none) e (bound_by y p e)) decoded ws
@@ -99,34 +100,12 @@ key_same g y rows more f h i (s ∷ ss) e same flags =
     ap₂ ◌∷◌ (ap₂ (λ b r. number_of b (place_in g y r s e)) (flags i (omega arith) (omega arith)) (same i (omega arith) (omega arith)))
     (key_same g y rows more f h (i + 1) ss e (λ j low high. same j (omega (arith, low)) (omega (arith, high))) (λ j low high. flags j (omega (arith, low)) (omega (arith, high))))
 
-raw_same : (g : Graph) (y : Typed) (rows more : List Partial) (s : Step) (a : Partial) → is_join s ≡ false → raw g y rows s a ≡ raw g y more s a
-raw_same g y rows more (Scan v) a h = refl
-raw_same g y rows more (Extend column x from to way) a h = refl
-raw_same g y rows more (Close column x from to way) a h = refl
-raw_same g y rows more (Join side keys) a h = absurd (true≢false h)
-raw_same g y rows more (Keep i) a h = refl
-raw_same g y rows more (Differ p) a h = refl
-raw_same g y rows more (NoLoop x) a h = refl
-
--- without joins they read no rows
-key_flat : (g : Graph) (y : Typed) (rows more : ℕ → List Partial) (f : ℕ → Bool) (i : ℕ) (ss : List Step) (e : Partial) → AllByRecursion (λ s. is_join s ≡ false) ss → key_in g y rows f i ss e ≡ key_in g y more f i ss e
-key_flat g y rows more f i [] e unjoined = refl
-key_flat g y rows more f i (s ∷ ss) e unjoined = ap₂ ◌∷◌ (ap (λ es. number_of (f i) (first_place (λ c. is_part c e) es)) (raw_same g y (rows i) (more i) s e unjoined.0)) (key_flat g y rows more f (i + 1) ss e unjoined.1)
-
-kept_flat : (ss : List Step) → AllByRecursion (λ s. is_join s ≡ false) ss → AllByRecursion (λ s. is_join s ≡ false) (filter makes_group ss)
-kept_flat [] h = tt
-kept_flat (s ∷ ss) h = elim (makes_group s) as (λ b. AllByRecursion (λ s. is_join s ≡ false) (cond b (s ∷ filter makes_group ss) (filter makes_group ss))) [ true ↦ (h.0, kept_flat ss h.1) | false ↦ kept_flat ss h.1 ]
-
--- where a plan without joins is owed, its different keys are as many as those of what it means
-pub counted_keys : (g : Graph) (y : Typed) (p : Plan) (rows : ℕ → List Partial) (ks : List (List ℕ)) (owed : List Partial) → is_flat p ≡ true → IsPermutation owed (mean g y p nothing) → AreKeysOf ks (map (plan_key g y rows p) owed)
-    → length ks ≡ key_count g y p
-counted_keys g y p rows ks owed flat bag are =
-    keys_counted ks (map (plan_key g y no_rows p) (mean g y p nothing))
-    (record { rises = are.rises; same = λ q. are.same q ∙ list_any-IsPermutation (same_key q) (map (plan_key g y rows p) owed) (map (plan_key g y no_rows p) (mean g y p nothing)) (subst (IsPermutation (map (plan_key g y rows p) owed)) (all (mean g y p nothing)) (IsPermutation-map (plan_key g y rows p) owed (mean g y p nothing) bag)) })
-  where
-    all : (es : List Partial) → map (plan_key g y rows p) es ≡ map (plan_key g y no_rows p) es
-    all [] = refl
-    all (e ∷ es) = ap₂ ◌∷◌ (key_flat g y rows no_rows (flag (flags_of y p)) 0 (filter makes_group (steps_of p)) e (kept_flat (steps_of p) (no_joins p flat))) (all es)
+-- where all of a plan is owed, its different keys are as many as those of what it means
+pub counted_keys : (g : Graph) (y : Typed) (p : Plan) (rows : ℕ → List Partial) (ks : List (List ℕ)) (owed : List Partial) → IsPermutation owed (mean g y p nothing) → AreKeysOf ks (map (plan_key g y rows p) owed)
+    → length ks ≡ distinct_count same_key (map (plan_key g y rows p) (mean g y p nothing))
+counted_keys g y p rows ks owed bag are =
+    keys_counted ks (map (plan_key g y rows p) (mean g y p nothing))
+    (record { rises = are.rises; same = λ q. are.same q ∙ list_any-IsPermutation (same_key q) (map (plan_key g y rows p) owed) (map (plan_key g y rows p) (mean g y p nothing)) (IsPermutation-map (plan_key g y rows p) owed (mean g y p nothing) bag) })
 
 -- ---- a run
 
@@ -179,6 +158,6 @@ module _ (c : Run) (run : IsRun c) (flat : List Bool) (ss : List GroupSteps) (cu
       (λ w. (e : Partial) → IsAs (after (plan_of (groups_in c ss)) none) (decoded w) e → key_in c.graph c.typed (rows_in c ss) (flat_in ss) 0 (makers (groups_in c ss)) e ≡ key_of (layout_in c ss) [] w)
       (λ w. plan_key c.graph c.typed (build_rows c.typed (makers_of (steps_of p) os)) p (asked w) ≡ key_of (layout_in c ss) [] w)
       (λ w as_asked law. own_key (asked w) ∙ law (asked w) as_asked) (walks (layout_in c ss) (length (groups_in c ss)) []) walks_asked
-      (keys_of_assignments c.graph c.typed (rows_in c ss) (flat_in ss) (groups_in c ss) run.valid run.sound (subst (Fits c.graph.catalog c.typed) (sym whole) run.fits) cut.cut
+      (keys_of_assignments c.graph c.typed (rows_in c ss) (flat_in ss) (groups_in c ss) run.valid run.sound (subst (Runs c.graph.catalog c.typed) (sym whole) run.fits) cut.cut
       (have_rows c run ss ss 0 0 (λ k low. let e : 0 + k ≡ k = omega arith in ap (group_at ss) e) (grouped c run flat ss cut enough).tiles)
       (grouped c run flat ss cut enough).enough))

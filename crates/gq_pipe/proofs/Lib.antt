@@ -5,8 +5,10 @@ pub mod Chosen
 pub mod Chunked
 pub mod Chunking
 pub mod Columned
+pub mod Counted
 pub mod Filling
 pub mod InOrder
+pub mod Indexing
 pub mod Keeping
 pub mod Keyed
 pub mod Lacking
@@ -35,4 +37,5 @@ pub mod Staying
 pub mod Stored
 pub mod Supplied
 pub mod Telling
+pub mod ByValue
 pub mod Words

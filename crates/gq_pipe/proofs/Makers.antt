@@ -1,10 +1,9 @@
 -- The steps that make groups, with their builds: those of a plan as it was given are those of its groups.
-use Rattle.std.proofs.Common.{◌≡◌, ◌∙◌, ℕ, zero, suc, ◌+◌, ◌-◌, ◌<◌, ◌≤◌, Bool, true, false, cond, Option, None, List, [], ◌∷◌, ◌++◌, map, filter, length, take, drop, refl, sym, ap, ap₂, arith}
+use Rattle.std.proofs.Common.{◌≡◌, ◌∙◌, ℕ, zero, suc, ◌+◌, ◌-◌, ◌<◌, ◌≤◌, Bool, true, false, cond, Option, Some, None, List, [], ◌∷◌, ◌++◌, flat_map, map, filter, length, slice_get, take, drop, refl, sym, ap, ap₂, subst, arith}
 use Rattle.std.specs.Prelude.{slice_index_or}
-use Rattle.std.specs.List.{AllByRecursion, range_with_len}
+use Rattle.std.specs.List.{range_with_len}
 use Rattle.std.specs.Option.{option_to_list}
-use Rattle.std.proofs.lemmas.List.{drop_more, drop_all, drop-drop, length-drop}
-use Rattle.std.proofs.lemmas.Option.{slice_get-get_or}
+use Rattle.std.proofs.lemmas.List.{drop_more, drop_all, drop-drop, length-drop, length-map}
 use Rattle.gq_arrange.proofs.Led.{makers_led}
 use Rattle.gq_arrange.proofs.Makers.{makes_at}
 use Rattle.gq_arrange.specs.Law.{led_order}
@@ -12,63 +11,119 @@ use Rattle.gq_base.specs.Catalogs.{Tables}
 use Rattle.gq_join.specs.Kept.{Held}
 use Rattle.gq_law_groups.specs.Groups.{makes_group}
 use Rattle.gq_law_groups.specs.Order.{NoGroups, AreCut}
+use Rattle.gq_plan.proofs.FirstSteps.{steps_back}
 use Rattle.gq_plan.specs.Arranged.{at_numbers}
 use Rattle.gq_plan.specs.Columns.{steps_of}
 use Rattle.gq_plan.specs.Covers.{Fits}
-use Rattle.gq_plan.specs.Plans.{Plan, Step, Keep}
+use Rattle.gq_plan.specs.Halves.{halves, halves_of, part_in, parts_of}
+use Rattle.gq_plan.specs.Plans.{Plan, Step, Scan, Extend, Close, Join, Keep, Differ, NoLoop, Single, Meet}
 use Rattle.gq_plan.specs.Shapes.{places}
+use Rattle.gq_plan.specs.declared.halves.Part.{Part}
 use Rattle.gq_plan.specs.declared.typed.Typed.{Typed}
 use Rattle.gq_pipe.specs.Keys.{Maker, makers_of}
 use Rattle.gq_steps.specs.declared.group_steps.GroupSteps.{GroupSteps}
 use Rattle.gq_steps.specs.Levels.{Run}
 use Rattle.gq_steps.specs.Groups.{Tiles, groups_in}
 use Rattle.gq_pipe.specs.steps.Search.{maker_in}
+use Rattle.gq_pipe.proofs.InOrder.{all_steps, parts_are}
 
--- ---- by numbers
+-- ---- by parts
 
 module _ (ss : List Step) (os : List (Option Held)) where
-  -- the step and the build of a number
-  abbrev pub numbered : ℕ → Maker
-  numbered n = record { step = slice_index_or ss n (Keep 0); build = slice_index_or os n None }
+  -- the step and the build of a part
+  abbrev pub maker_of : Part → Maker
+  maker_of q = record { step = part_in ss q; build = slice_index_or os q.step None }
 
-  -- those of these numbers
-  ordered : (ns : List ℕ) → AllByRecursion (λ n. n < length ss) ns → makers_of (at_numbers ss ns) (map (λ n. slice_index_or os n None) ns) ≡ map numbered (filter (makes_at ss) ns)
-  ordered [] low = refl
-  ordered (n ∷ ns) low =
-      ap (λ (o : Option Step). makers_of (option_to_list o ++ at_numbers ss ns) (map (λ n. slice_index_or os n None) (n ∷ ns))) (slice_get-get_or ss n (Keep 0) low.0)
-      ∙ go (makes_at ss n) (ordered ns low.1)
+  abbrev pub built : Part → Option Held
+  built q = slice_index_or os q.step None
+
+  abbrev pub is_maker : Part → Bool
+  is_maker q = makes_group (part_in ss q)
+
+  parts_made : (qs : List Part) → makers_of (map (part_in ss) qs) (map built qs) ≡ map maker_of (filter is_maker qs)
+  parts_made [] = refl
+  parts_made (q ∷ qs) = go (is_maker q) (parts_made qs)
     where
-      go : (b : Bool) → makers_of (at_numbers ss ns) (map (λ n. slice_index_or os n None) ns) ≡ map numbered (filter (makes_at ss) ns)
-          → cond b (numbered n ∷ makers_of (at_numbers ss ns) (map (λ n. slice_index_or os n None) ns)) (makers_of (at_numbers ss ns) (map (λ n. slice_index_or os n None) ns)) ≡ map numbered (cond b (n ∷ filter (makes_at ss) ns) (filter (makes_at ss) ns))
-      go true more = ap (λ l. numbered n ∷ l) more
+      go : (b : Bool) → makers_of (map (part_in ss) qs) (map built qs) ≡ map maker_of (filter is_maker qs)
+          → cond b (maker_of q ∷ makers_of (map (part_in ss) qs) (map built qs)) (makers_of (map (part_in ss) qs) (map built qs)) ≡ map maker_of (cond b (q ∷ filter is_maker qs) (filter is_maker qs))
+      go true more = ap (λ l. maker_of q ∷ l) more
       go false more = more
 
--- all of them
-all_from : (ss : List Step) (os : List (Option Held)) (j : ℕ) (at : ℕ → Maker) → length os ≡ length ss → ((k : ℕ) → k < length ss → at (j + k) ≡ numbered ss os k)
-    → makers_of ss os ≡ map at (filter (λ n. makes_group (at n).step) (range_with_len j (length ss)))
-all_from [] os j at many told = refl
-all_from (s ∷ ss) [] j at many told = absurd (omega (arith, many))
-all_from (s ∷ ss) (o ∷ os) j at many told =
-    let here : j ≡ j + 0 = omega arith in
-    let first : at j ≡ record { step = s; build = o } = ap at here ∙ told 0 (omega arith) in
-    go (makes_group s) first (ap (λ (m : Maker). makes_group m.step) first)
-    (all_from ss os (j + 1) at (omega (arith, many)) (λ k low. let next : j + 1 + k ≡ j + suc k = omega arith in ap at next ∙ told (suc k) (omega (arith, low))))
+-- items of numbers that are kept are those of the numbers that are kept
+kept_at : {X : Type 0} (m : X → Bool) (xs : List X) (f : ℕ → Bool) → ((n : ℕ) (x : X) → slice_get xs n ≡ Some x → f n ≡ m x) → (ns : List ℕ) → filter m (at_numbers xs ns) ≡ at_numbers xs (filter f ns)
+kept_at m xs f told [] = refl
+kept_at {X} m xs f told (n ∷ ns) = go (slice_get xs n) refl (f n) refl (kept_at m xs f told ns)
   where
-    rest : List ℕ
-    rest = filter (λ n. makes_group (at n).step) (range_with_len (j + 1) (length ss))
+    go : (o : Option X) → slice_get xs n ≡ o → (b : Bool) → f n ≡ b → filter m (at_numbers xs ns) ≡ at_numbers xs (filter f ns) → filter m (option_to_list o ++ at_numbers xs ns) ≡ at_numbers xs (cond b (n ∷ filter f ns) (filter f ns))
+    go None e true is more = more ∙ sym (ap (λ o. option_to_list o ++ at_numbers xs (filter f ns)) e)
+    go None e false is more = more
+    go (Some x) e true is more =
+        ap (λ c. cond c (x ∷ filter m (at_numbers xs ns)) (filter m (at_numbers xs ns))) (sym (told n x e) ∙ is) ∙ ap (λ l. x ∷ l) more
+        ∙ sym (ap (λ o. option_to_list o ++ at_numbers xs (filter f ns)) e)
+    go (Some x) e false is more = ap (λ c. cond c (x ∷ filter m (at_numbers xs ns)) (filter m (at_numbers xs ns))) (sym (told n x e) ∙ is) ∙ more
 
-    go : (b : Bool) → at j ≡ record { step = s; build = o } → makes_group (at j).step ≡ b → makers_of ss os ≡ map at rest
-        → cond b (record { step = s; build = o } ∷ makers_of ss os) (makers_of ss os) ≡ map at (cond (makes_group (at j).step) (j ∷ rest) rest)
-    go true first is more = ap₂ ◌∷◌ (sym first) more ∙ sym (ap (λ c. map at (cond c (j ∷ rest) rest)) is)
-    go false first is more = more ∙ sym (ap (λ c. map at (cond c (j ∷ rest) rest)) is)
+mapped_there : {X Y : Type 0} (f : X → Y) (xs : List X) (n : ℕ) (x : X) (d : Y) → slice_get xs n ≡ Some x → slice_index_or (map f xs) n d ≡ f x
+mapped_there f [] n x d e = absurd (cc e)
+mapped_there f (z ∷ xs) zero x d e = ap f (cc e)
+mapped_there f (z ∷ xs) (suc n) x d e = mapped_there f xs n x d e
+
+-- the halves of a column close make no groups
+made_step : (s : Step) (i : ℕ) (ss : List Step) (qs : List Part) (at : ℕ → Option Held)
+    → makers_of (halves s ++ ss) (map (λ (q : Part). at q.step) (map (λ h. record { step = i; half = h }) (halves_of s) ++ qs)) ≡ makers_of (s ∷ ss) (at i ∷ map (λ (q : Part). at q.step) qs)
+made_step (Scan v) i ss qs at = refl
+made_step (Extend column x from to way) i ss qs at = refl
+made_step (Close true x from to way) i ss qs at = refl
+made_step (Close false x from to way) i ss qs at = refl
+made_step (Join side keys) i ss qs at = refl
+made_step (Keep k) i ss qs at = refl
+made_step (Differ d) i ss qs at = refl
+made_step (NoLoop x) i ss qs at = refl
+made_step (Single x from to way) i ss qs at = refl
+made_step (Meet x from to way) i ss qs at = refl
+
+made_parts : (ss : List Step) (os : List (Option Held)) (i : ℕ) (at : ℕ → Option Held) → length os ≡ length ss → ((k : ℕ) → k < length ss → at (i + k) ≡ slice_index_or os k None)
+    → makers_of (flat_map halves ss) (map (λ (q : Part). at q.step) (parts_of i ss)) ≡ makers_of ss os
+made_parts [] os i at many told = refl
+made_parts (s ∷ ss) [] i at many told = absurd (omega (arith, many))
+made_parts (s ∷ ss) (o ∷ os) i at many told =
+    made_step s i (flat_map halves ss) (parts_of (i + 1) ss) at
+    ∙ ap₂ (λ b l. cond (makes_group s) (record { step = s; build = b } ∷ l) l)
+    (let here : i ≡ i + 0 = omega arith in ap at here ∙ told 0 (omega arith))
+    (made_parts ss os (i + 1) at (omega (arith, many)) (λ k low. let next : i + 1 + k ≡ i + suc k = omega arith in ap at next ∙ told (suc k) (omega (arith, low))))
 
 -- in the order of the groups they stand as in the plan
-pub makers_ordered : (catalog : Tables) (y : Typed) (p : Plan) (os : List (Option Held)) → Fits catalog y p → 0 < (places p).count → length os ≡ length (steps_of p) → AllByRecursion (λ n. n < length (steps_of p)) (led_order y p)
-    → makers_of (at_numbers (steps_of p) (led_order y p)) (map (λ n. slice_index_or os n None) (led_order y p)) ≡ makers_of (steps_of p) os
-makers_ordered catalog y p os fit some many low =
-    ordered (steps_of p) os (led_order y p) low
-    ∙ ap (map (numbered (steps_of p) os)) (makers_led catalog y p fit some)
-    ∙ sym (all_from (steps_of p) os 0 (numbered (steps_of p) os) many (λ k inside. let z : 0 + k ≡ k = omega arith in ap (numbered (steps_of p) os) z))
+pub makers_ordered : (catalog : Tables) (y : Typed) (p : Plan) (os : List (Option Held)) → Fits catalog y p → 0 < (places p).count → length os ≡ length (steps_of p)
+    → makers_of (map (part_in (steps_of p)) (at_numbers (parts_of 0 (steps_of p)) (led_order y p))) (map (λ (q : Part). slice_index_or os q.step None) (at_numbers (parts_of 0 (steps_of p)) (led_order y p))) ≡ makers_of (steps_of p) os
+makers_ordered catalog y p os fit some many =
+    parts_made ss os (at_numbers qs ns)
+    ∙ ap (map (maker_of ss os))
+    (kept_at (is_maker ss os) qs f told ns ∙ ap (at_numbers qs) same ∙ sym (kept_at (is_maker ss os) qs f told (range_with_len 0 (length qs))) ∙ ap (filter (is_maker ss os)) (all_steps qs))
+    ∙ sym (parts_made ss os qs)
+    ∙ ap (λ ts. makers_of ts (map (built ss os) qs)) (parts_are ss)
+    ∙ made_parts ss os 0 (λ n. slice_index_or os n None) many (λ k low. let z : 0 + k ≡ k = omega arith in ap (λ n. slice_index_or os n None) z)
+  where
+    ss : List Step
+    ss = steps_of p
+
+    qs : List Part
+    qs = parts_of 0 (steps_of p)
+
+    ns : List ℕ
+    ns = led_order y p
+
+    f : ℕ → Bool
+    f = makes_at (flat_map halves (steps_of p))
+
+    told : (n : ℕ) (q : Part) → slice_get qs n ≡ Some q → f n ≡ is_maker ss os q
+    told n q e = ap (λ ts. makes_at ts n) (sym (parts_are ss)) ∙ ap makes_group (mapped_there (part_in ss) qs n q (Keep 0) e)
+
+    long : length (flat_map halves (steps_of p)) ≡ length qs
+    long = ap length (sym (parts_are ss)) ∙ length-map qs (part_in ss)
+
+    same : filter f ns ≡ filter f (range_with_len 0 (length qs))
+    same =
+        subst (λ ts. filter (makes_at ts) ns ≡ filter (makes_at ts) (range_with_len 0 (length ts))) (steps_back (flat_map halves (steps_of p))) (makers_led catalog y p fit some)
+        ∙ ap (λ n. filter f (range_with_len 0 n)) long
 
 -- ---- by groups
 

@@ -6,7 +6,8 @@ use Rattle.gq_bits.specs.declared.TheConstants.{VECTOR}
 use Rattle.gq_group.specs.Pieces.{items_of}
 use Rattle.gq_group.specs.declared.piece.Piece.{Piece}
 use Rattle.gq_join.specs.Kept.{Held, matches_of, place_of}
-use Rattle.gq_plan.specs.Covers.{after, fits_step}
+use Rattle.gq_plan.specs.Covers.{after}
+use Rattle.gq_plan.specs.Halves.{runs_step}
 use Rattle.gq_plan.specs.Known.{none}
 use Rattle.gq_plan.specs.Plans.{Plan, Join}
 use Rattle.gq_plan.specs.declared.assignment.Assignment.{Assignment}
@@ -45,7 +46,7 @@ module _ (c : Run) (run : IsRun c) (d : ℕ) (low : d < length c.steps) (side : 
   -- what its side plan binds is kept
   module _ (h : Held) (built : IsBuildOf c.graph c.typed side keys h) where
     side_bound : IsLow c.typed (after side none)
-    side_bound = side_low c (known c d) side keys (subst (λ t. fits_step c.graph.catalog c.typed t (known c d) ≡ true) is (fits_at c run d low))
+    side_bound = side_low c (known c d) side keys (subst (λ t. runs_step c.graph.catalog c.typed t (known c d) ≡ true) is (fits_at c run d low))
 
     pub keeps_node : (v : ℕ) → (after side none).nodes v ≡ true → place_of h.nodes v < length h.nodes
     keeps_node v own = (place_has h.nodes v (ap (λ l. has l v) built.nodes ∙ has_kept (after side none).nodes (length c.typed.nodes) v (side_bound.nodes v own) ∙ own)).0

@@ -10,7 +10,8 @@ use Rattle.gq_base.specs.declared.NodeId.{NodeId}
 use Rattle.gq_base.specs.declared.RelTable.{RelTable}
 use Rattle.gq_base.specs.declared.direction.Direction.{Direction}
 use Rattle.gq_near.specs.Rows.{stands_in}
-use Rattle.gq_plan.specs.Covers.{Fits, after_step, fits_step, goes}
+use Rattle.gq_plan.specs.Covers.{after_step, fits_step, goes}
+use Rattle.gq_plan.specs.Halves.{Runs, runs_step}
 use Rattle.gq_plan.specs.Known.{Known, none}
 use Rattle.gq_plan.specs.Meaning.{Partial, nothing, look, holds}
 use Rattle.gq_plan.specs.Plans.{Step, Extend, Close, Keep}
@@ -58,7 +59,7 @@ run_tiles c from (s ∷ ss) h = (h.0, h.1, h.2, run_tiles c s.end ss h.3)
 
 all_groups : (c : Run) (ss : List GroupSteps) (row : Assignment) (pre : List ℕ) → Stands c ss row pre → AreGroups c.graph c.typed (rows_in c ss) 0 (groups_in c ss)
 all_groups c ss row pre st =
-    are_groups c.graph c.typed st.runs.valid (rows_in c ss) 0 (groups_in c ss) none st.grouped.cut (subst (Fits c.graph.catalog c.typed) (sym (tiles_plan c.steps 0 ss (run_tiles c 0 ss st.grouped.tiles))) st.runs.fits)
+    are_groups c.graph c.typed st.runs.valid (rows_in c ss) 0 (groups_in c ss) none st.grouped.cut (subst (Runs c.graph.catalog c.typed) (sym (tiles_plan c.steps 0 ss (run_tiles c 0 ss st.grouped.tiles))) st.runs.fits)
     (have_rows c st.runs ss ss 0 0 (λ k below. let same : 0 + k ≡ k = omega arith in ap (group_at ss) same) st.grouped.tiles)
 
 -- one of the later groups
@@ -89,22 +90,22 @@ record Found (c : Run) (x : ℕ) : Type 0 where
   rel_is : slice_get c.typed.rels x ≡ Some rel
   table_at : slice_get c.graph.catalog.rels rel.table ≡ Some table
 
-goes_of : (c : Run) (run : IsRun c) (k : Known) (x from to : ℕ) (way : Direction) → fits_step c.graph.catalog c.typed (Close false x from to way) k ≡ true → Found c x
+goes_of : (c : Run) (run : IsRun c) (k : Known) (x from to : ℕ) (way : Direction) → runs_step c.graph.catalog c.typed (Close false x from to way) k ≡ true → Found c x
 unfolding fits_step
 goes_of c run k x from to way fit =
     let f = follows c run false x from to way (and_parts (holds (goes c.graph.catalog false from to way) (slice_get c.typed.rels x)) _ fit).0 in
     record { rel = f.found; table = f.table; rel_is = f.rel_is; table_at = f.table_at }
 
-found_of : (c : Run) (run : IsRun c) (k : Known) (f : Follow) (s : Step) → Closes f s → fits_step c.graph.catalog c.typed s k ≡ true → Found c f.rel
-found_of c run k f s (inl is) fit = goes_of c run k f.rel f.from f.to f.direction (ap (λ t. fits_step c.graph.catalog c.typed t k) (sym is) ∙ fit)
-found_of c run k f s (inr is) fit = goes_of c run k f.rel f.to f.from (opposite f.direction) (ap (λ t. fits_step c.graph.catalog c.typed t k) (sym is) ∙ fit)
+found_of : (c : Run) (run : IsRun c) (k : Known) (f : Follow) (s : Step) → Closes f s → runs_step c.graph.catalog c.typed s k ≡ true → Found c f.rel
+found_of c run k f s (inl is) fit = goes_of c run k f.rel f.from f.to f.direction (ap (λ t. runs_step c.graph.catalog c.typed t k) (sym is) ∙ fit)
+found_of c run k f s (inr is) fit = goes_of c run k f.rel f.to f.from (opposite f.direction) (ap (λ t. runs_step c.graph.catalog c.typed t k) (sym is) ∙ fit)
 
 module _ (c : Run) (run : IsRun c) (d : ℕ) (low : d < length c.steps) (row : Assignment) (held : IsHeld c row (known c d)) (f : Follow) (is : step_at c d ≡ Extend false f.rel f.from f.to f.direction) where
   list : List ℕ
   list = neighbours c.graph (rel_table c.typed f.rel) f.direction (slice_index row.nodes f.from)
 
   -- the node of a place of a list
-  leads_to : (built : List Partial) (k : Known) (j item : ℕ) → fits_step c.graph.catalog c.typed (step_at c d) k ≡ true
+  leads_to : (built : List Partial) (k : Known) (j item : ℕ) → runs_step c.graph.catalog c.typed (step_at c d) k ≡ true
       → slice_get (neighbours c.graph (rel_table c.typed f.rel) f.direction (slice_index row.nodes f.from)) j ≡ Some item
       → item < near_rows c.graph (rel_table c.typed f.rel) (opposite f.direction) → length (neighbours c.graph (rel_table c.typed f.rel) f.direction (slice_index row.nodes f.from)) < 2 ^ 32
       → j < length (raw c.graph c.typed (built_at c d) (step_at c d) (before c row d))
@@ -166,7 +167,7 @@ module _ (c : Run) (ss : List GroupSteps) (row : Assignment) (pre : List ℕ) (s
     rows_here : rows_in c ss (0 + length pre) ≡ built_at c here.s.first
     rows_here = let same : 0 + length pre ≡ length pre = omega arith in ap (rows_in c ss) same ∙ ap (λ (s : GroupSteps). built_at c s.first) here.is
 
-    fit : fits_step c.graph.catalog c.typed (step_at c here.s.first) here.set ≡ true
+    fit : runs_step c.graph.catalog c.typed (step_at c here.s.first) here.set ≡ true
     fit = here.enough.0
 
     size_is : j < length (raw c.graph c.typed (rows_in c ss (0 + length pre)) (step_at c here.s.first) here.bound)
@@ -235,7 +236,7 @@ module _ (c : Run) (ss : List GroupSteps) (row : Assignment) (pre : List ℕ) (s
         let here_flat : flat_in ss (0 + length pre) ≡ true = (let at : 0 + length pre ≡ length pre = omega arith in ap (flat_in ss) at ∙ is_flat) in
         subst (λ n. walks (layout_in c ss) n (pre ++ j ∷ []) ≡ []) many
         (subst (λ n. walks (layout_in c ss) (length (groups_in c here.rest)) (pre ++ n ∷ []) ≡ []) same
-        (nothing_behind c.graph c.typed (rows_in c ss) st.runs.valid (flat_in ss) (layout_in c ss) (group_in c.steps here.s) (groups_in c here.rest) pre (0 + length pre) here.set here.bound here.tail here.are here.enough j in_list kept here_flat ends))
+        (nothing_behind c.graph c.typed (rows_in c ss) (flat_in ss) (layout_in c ss) (group_in c.steps here.s) (groups_in c here.rest) pre (0 + length pre) here.set here.bound here.tail here.are here.enough j in_list kept here_flat ends))
 
 pub can_list : (c : Run) (run : IsRun c) (d : ℕ) (low : d < length c.steps) (row : Assignment) (held : IsHeld c row (known c d)) (f : Follow) → step_at c d ≡ Extend false f.rel f.from f.to f.direction → CanList c.graph c.typed row f
 can_list c run d low row held f is = record {

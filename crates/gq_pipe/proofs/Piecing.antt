@@ -7,7 +7,7 @@ use Rattle.std.proofs.lemmas.List.{get_or_default}
 use Rattle.std.proofs.lemmas.List.FromFn.{length-range_with_len}
 use Rattle.gq_bits.specs.declared.TheConstants.{VECTOR}
 use Rattle.gq_law_groups.specs.Groups.{makes_group}
-use Rattle.gq_plan.specs.Plans.{Step, Scan, Extend, Close, Join, Keep, Differ, NoLoop}
+use Rattle.gq_plan.specs.Plans.{Step, Scan, Extend, Close, Join, Keep, Differ, NoLoop, Single, Meet}
 use Rattle.gq_plan.specs.declared.assignment.Assignment.{Assignment}
 use Rattle.gq_walks.specs.Layouts.{numbers_in, piece_of}
 use Rattle.gq_walks.specs.Running.{IsGroup, Runs, cursor_at, keys_of, prefix}
@@ -43,6 +43,8 @@ module _ (c : Run) (run : IsRun c) (d : ℕ) (low : d < length c.steps) (row : A
       go (Keep i) is h = absurd (true≢false (sym h ∙ ap makes_group is))
       go (Differ p) is h = absurd (true≢false (sym h ∙ ap makes_group is))
       go (NoLoop x) is h = absurd (true≢false (sym h ∙ ap makes_group is))
+      go (Single x from to way) is h = absurd (true≢false (sym h ∙ ap makes_group is))
+      go (Meet x from to way) is h = absurd (true≢false (sym h ∙ ap makes_group is))
 
 -- where a walker stands, each group has a piece at the number of its cursor
 module _ (c : Run) (ss : List GroupSteps) (row : Assignment) (cs : List Cursor) (ms : List (List Bool)) (st : EarlierStand c ss row (keys_of cs)) (runs : Runs (layout_in c ss) [] cs ms) (many : length cs ≡ length ss) (i : ℕ) (low : i < length ss) where

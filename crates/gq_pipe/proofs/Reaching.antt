@@ -5,7 +5,7 @@ use Rattle.std.proofs.lemmas.List.{append_assoc, append-nil}
 use Rattle.gq_plan.specs.Covers.{after_step}
 use Rattle.gq_plan.specs.Known.{Known}
 use Rattle.gq_plan.specs.Meaning.{Partial}
-use Rattle.gq_plan.specs.Plans.{Step, Scan, Extend, Close, Join, Keep, Differ, NoLoop}
+use Rattle.gq_plan.specs.Plans.{Step, Scan, Extend, Close, Join, Keep, Differ, NoLoop, Single, Meet}
 use Rattle.gq_plan.specs.declared.assignment.Assignment.{Assignment}
 use Rattle.gq_walks.specs.Layouts.{Layout}
 use Rattle.gq_law_groups.specs.Groups.{AreGroups}
@@ -28,6 +28,8 @@ binds_known (Join side keys) k v is = absurd is
 binds_known (Keep i) k v is = absurd is
 binds_known (Differ p) k v is = absurd is
 binds_known (NoLoop x) k v is = absurd is
+binds_known (Single x from to way) k v is = absurd is
+binds_known (Meet x from to way) k v is = absurd is
 
 -- and so it is further on
 pub later_known : (c : Run) (d n v : ℕ) → BindsNode v (step_at c d) → (known c (d + 1 + n)).nodes v ≡ true

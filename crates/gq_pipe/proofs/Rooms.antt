@@ -8,7 +8,7 @@ use Rattle.gq_plan.proofs.StepEquations.{join_is, plan_is}
 use Rattle.gq_plan.specs.Columns.{columns_of}
 use Rattle.gq_plan.specs.Covers.{after, after_step, fits, fits_step, Fits, is_joined}
 use Rattle.gq_plan.specs.Known.{Known, none}
-use Rattle.gq_plan.specs.Plans.{Plan, Step, Done, Then, Scan, Extend, Close, Join, Keep, Differ, NoLoop, plan_of, step_of, steps}
+use Rattle.gq_plan.specs.Plans.{Plan, Step, Done, Then, Scan, Extend, Close, Join, Keep, Differ, NoLoop, Single, Meet, plan_of, step_of, steps}
 use Rattle.gq_plan.specs.Soundness.{IsSound}
 use Rattle.gq_plan.specs.declared.plan.Plan as code_plan
 use Rattle.gq_plan.specs.declared.plan.Step as code
@@ -97,6 +97,8 @@ module _ (p : Pool) (y : Typed) where
       rooms_at (Keep i) k fit = tt
       rooms_at (Differ i) k fit = tt
       rooms_at (NoLoop x) k fit = tt
+      rooms_at (Single x from to direction) k fit = tt
+      rooms_at (Meet x from to direction) k fit = tt
 
     pub most_rooms : (q : Plan) → Fits catalog y q → HasRoomForEach p y (runs_of q)
     most_rooms q fit = rooms_of q none fit

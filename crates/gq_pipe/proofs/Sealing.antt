@@ -1,5 +1,5 @@
 -- A build into which rows came that bind what a side plan makes is a build of that side plan, and what its pipeline spent.
-use Rattle.std.proofs.Common.{◌≡◌, ℕ, suc, ◌+◌, ◌<◌, ◌≤◌, true, cond, Some, None, List, [], ◌∷◌, map, length, get_or, refl, sym, ap, ap₂, ◌∙◌, subst, arith}
+use Rattle.std.proofs.Common.{◌≡◌, ℕ, suc, ◌+◌, ◌<◌, ◌≤◌, true, cond, Some, None, List, [], ◌∷◌, map, length, get_or, Option, refl, sym, ap, ap₂, ◌∙◌, subst, arith}
 use Rattle.std.specs.Prelude.{slice_index, IsPermutation}
 use Rattle.std.specs.List.{AllByRecursion, range_with_len}
 use Rattle.std.proofs.lemmas.List.{get_or-map, length-map}
@@ -12,15 +12,14 @@ use Rattle.gq_join.specs.Kept.{Growing, Held, IsWithin, Kept, is_past, kept, nod
 use Rattle.gq_join.specs.declared.build.JoinRefusal.{JoinRefusal}
 use Rattle.gq_join.specs.declared.build.JoinRefusal.TheVariants.{TooManyRows, Memory}
 use Rattle.gq_plan.specs.Covers.{after}
-use Rattle.gq_plan.specs.Flat.{is_flat}
 use Rattle.gq_plan.specs.Known.{none}
 use Rattle.gq_plan.specs.Meaning.{Partial, mean, meaning, nothing}
 use Rattle.gq_plan.specs.Plans.{Plan}
 use Rattle.gq_plan.specs.Rows.{node_at, node_table}
 use Rattle.gq_plan.specs.declared.assignment.Assignment.{Assignment}
 use Rattle.gq_plan.specs.declared.typed.Typed.{Typed}
-use Rattle.gq_steps.specs.Built.{IsBuildOf, kept_nodes, kept_rels, whole_row}
-use Rattle.gq_pipe.specs.Keys.{key_count}
+use Rattle.gq_steps.specs.Built.{AreBuilds, IsBuildOf, kept_nodes, kept_rels, whole_row}
+use Rattle.gq_pipe.specs.Keys.{key_count, rows_of}
 use Rattle.gq_steps.specs.Given.{given}
 use Rattle.gq_pipe.specs.Rest.{Rest}
 use Rattle.gq_pipe.specs.Sized.{AreSized, HasNumbers}
@@ -34,6 +33,7 @@ use Rattle.gq_steps.specs.Moves.{IsAlike}
 use Rattle.gq_steps.proofs.Binding.{given_alike, looks_given}
 use Rattle.gq_steps.proofs.Joined.{IsLow}
 use Rattle.gq_steps.proofs.Joining.{has, has_kept}
+use Rattle.gq_pipe.proofs.Counted.{each_told}
 use Rattle.gq_pipe.proofs.Pushing.{place_has, length-meaning}
 use Rattle.gq_pipe.proofs.Stored.{Stores, look_stored, mean_stores}
 
@@ -166,9 +166,9 @@ past_refused g y side keys limit old owed (Memory why) begun bag past = tt
 
 -- what the pipeline spent that filled it
 pub has_spent : (g : Graph) (y : Typed) (side : Plan) (begun ended : Rest) (s : Spent)
-    → IsPermutation begun.owed (mean g y side nothing) → HasRun begun ended → s.chunks ≡ ended.chunks → s.columns ≡ columns_of y side → (is_flat side ≡ true → length begun.keys ≡ key_count g y side)
+    → IsPermutation begun.owed (mean g y side nothing) → HasRun begun ended → s.chunks ≡ ended.chunks → s.columns ≡ columns_of y side → (os : List (Option Held)) → AreBuilds g y side os → length begun.keys ≡ key_count g y (rows_of y side os) side
     → HasSpentAll g y side s
-has_spent g y side begun ended s bag run chunks columns keys =
+has_spent g y side begun ended s bag run chunks columns os are keys =
     let long : length (meaning g y side) ≡ length begun.owed = length-meaning g y side ∙ length_permutation _ _ bag in
     record {
       spent = record {
@@ -176,7 +176,7 @@ has_spent g y side begun ended s bag run chunks columns keys =
         most = omega (arith, run.most, chunks, long);
         none = λ e. empty (meaning g y side) (long ∙ ap length (run.none (sym chunks ∙ e)));
       };
-      one_each = λ flat. chunks ∙ run.keys ∙ ap up_to_most (keys flat);
+      one_each = each_told g y side os are begun.keys keys s (chunks ∙ run.keys);
     }
   where
     empty : {X : Type 0} (xs : List X) → length xs ≡ 0 → xs ≡ []

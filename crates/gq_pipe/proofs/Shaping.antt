@@ -11,7 +11,7 @@ use Rattle.gq_group.specs.Pieces.{first_of, items_of}
 use Rattle.gq_group.specs.declared.chunk.Chunk.{Chunk}
 use Rattle.gq_join.specs.Kept.{Held}
 use Rattle.gq_law_groups.specs.Groups.{makes_group}
-use Rattle.gq_plan.specs.Plans.{Step, Scan, Extend, Close, Join, Keep, Differ, NoLoop}
+use Rattle.gq_plan.specs.Plans.{Step, Scan, Extend, Close, Join, Keep, Differ, NoLoop, Single, Meet}
 use Rattle.gq_plan.specs.declared.assignment.Assignment.{Assignment}
 use Rattle.gq_plan.specs.declared.plan.Step as code
 use Rattle.gq_walks.specs.Layouts.{piece_of}
@@ -48,6 +48,8 @@ whole_is c d row (Join side keys) = go (slice_index_or c.builds d None)
 whole_is c d row (Keep i) = refl
 whole_is c d row (Differ p) = refl
 whole_is c d row (NoLoop x) = refl
+whole_is c d row (Single x from to way) = refl
+whole_is c d row (Meet x from to way) = refl
 
 mapped_each : {X Y : Type 0} (P : X → Type 0) (Q : Y → Type 0) (f : X → Y) → ((x : X) → P x → Q (f x)) → (xs : List X) → AllByRecursion P xs → AllByRecursion Q (map f xs)
 mapped_each P Q f h [] all = tt

@@ -7,11 +7,10 @@ use Rattle.gq_group.specs.declared.group.Group.{Group}
 use Rattle.gq_group.specs.declared.piece.Piece.{Piece}
 use Rattle.gq_group.specs.declared.piece.Piece.TheVariants as piece
 use Rattle.gq_law_groups.specs.Groups.{makes_group}
-use Rattle.gq_plan.specs.Arranged.{arranged_flat, binders, flags_of}
+use Rattle.gq_plan.specs.Arranged.{flags_of}
 use Rattle.gq_plan.specs.Columns.{steps_of}
-use Rattle.gq_plan.specs.Plans.{Plan, Done, Then, Step, Scan, Extend, Close, Join, Keep, Differ, NoLoop}
-use Rattle.gq_plan.specs.Shapes.{all_flat, form_of, next_group, places, shape_from, shape_with}
-use Rattle.gq_plan.specs.Soundness.{has_number}
+use Rattle.gq_plan.specs.Plans.{Plan, Done, Then, Step, Scan, Extend, Close, Join, Keep, Differ, NoLoop, Single, Meet}
+use Rattle.gq_plan.specs.Shapes.{form_of, is_flat_group, next_group, places, shape_from, shape_with}
 use Rattle.gq_plan.specs.declared.typed.Typed.{Typed}
 use Rattle.gq_steps.specs.Pieces.{HasForm}
 use Rattle.gq_pipe.specs.Shown.{HasShape, form_in, is_flat, shape_in}
@@ -64,6 +63,8 @@ form_told (Join side keys) (piece.Matches rows first) m h = refl
 form_told (Keep i) p m h = absurd (true≢false (sym m))
 form_told (Differ d) p m h = absurd (true≢false (sym m))
 form_told (NoLoop x) p m h = absurd (true≢false (sym m))
+form_told (Single x from to way) p m h = absurd (true≢false (sym m))
+form_told (Meet x from to way) p m h = absurd (true≢false (sym m))
 
 form_none : (s : Step) → makes_group s ≡ false → form_of s ≡ None
 form_none (Scan v) m = absurd (true≢false m)
@@ -75,6 +76,8 @@ form_none (Join side keys) m = absurd (true≢false m)
 form_none (Keep i) m = refl
 form_none (Differ d) m = refl
 form_none (NoLoop x) m = refl
+form_none (Single x from to way) m = refl
+form_none (Meet x from to way) m = refl
 
 flat_told : (f : Bool) (key : ℕ) → is_flat (current_at f key) ≡ f
 flat_told true key = refl
@@ -127,20 +130,14 @@ module _ (c : Run) where
 
   pub has_shape : (y : Typed) (p : Plan) (xs : List Group) (ts : List GroupSteps) → AllZip (IsMadeBy c) xs ts → filter makes_group (steps_of p) ≡ map (λ (t : GroupSteps). step_at c t.first) ts
       → map (λ (t : GroupSteps). t.flat) ts ≡ flags_of y p → HasShape y p xs
-  has_shape y p xs ts made steps flats = record {
-    groups = groups;
-    regular = λ regular. groups ∙ ap (λ b. shape_from (λ i. has_number (all_flat y (cond b (places p) (binders p)) p) i) 0 p) regular;
-  }
+  has_shape y p xs ts made steps flats = record { groups = shape_made (is_flat_group y p) p 0 xs (subst (AllZip HasOwnForm xs) (sym steps) (own_forms xs ts made)) (own_flats (is_flat_group y p) 0 xs ts made told) }
     where
-      told : (j : ℕ) → j < length ts → (group_at ts j).flat ≡ arranged_flat y p (0 + j)
+      told : (j : ℕ) → j < length ts → (group_at ts j).flat ≡ is_flat_group y p (0 + j)
       told j low =
-          let many : length (map (λ (t : GroupSteps). t.flat) ts) ≡ (places p).count = ap length flats ∙ length-map-range_with_len (arranged_flat y p) 0 (places p).count in
+          let many : length (map (λ (t : GroupSteps). t.flat) ts) ≡ (places p).count = ap length flats ∙ length-map-range_with_len (is_flat_group y p) 0 (places p).count in
           let long = length-map ts (λ (t : GroupSteps). t.flat) in
           sym (get_or-map (λ (t : GroupSteps). t.flat) ts j no_group false low) ∙ ap (λ l. get_or l j false) flats
-          ∙ get_or-map-range_with_len (arranged_flat y p) 0 (places p).count j (0 + j) false (omega (arith, low, many, long)) refl
-
-      groups : shape_in xs ≡ shape_from (arranged_flat y p) 0 p
-      groups = shape_made (arranged_flat y p) p 0 xs (subst (AllZip HasOwnForm xs) (sym steps) (own_forms xs ts made)) (own_flats (arranged_flat y p) 0 xs ts made told)
+          ∙ get_or-map-range_with_len (is_flat_group y p) 0 (places p).count j (0 + j) false (omega (arith, low, many, long)) refl
 
 -- the flags of groups, as they were told
 pub flats_told : (ss : List GroupSteps) (f : ℕ → Bool) → ((i : ℕ) → i < length ss → (group_at ss i).flat ≡ f i) → map (λ (s : GroupSteps). s.flat) ss ≡ map f (range_with_len 0 (length ss))

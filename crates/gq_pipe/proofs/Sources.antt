@@ -8,9 +8,10 @@ use Rattle.gq_group.specs.declared.home.Homes.{Homes}
 use Rattle.gq_group.specs.declared.home.NodeHome.TheVariants as node
 use Rattle.gq_law_groups.specs.Groups.{makes_group}
 use Rattle.gq_law_groups.specs.Layout.{ArePlaced, after_all}
-use Rattle.gq_plan.specs.Covers.{after, after_step, fits_step}
+use Rattle.gq_plan.specs.Covers.{after, after_step}
+use Rattle.gq_plan.specs.Halves.{runs_step}
 use Rattle.gq_plan.specs.Known.{Known, none}
-use Rattle.gq_plan.specs.Plans.{Step, Scan, Extend, Close, Join, Keep, Differ, NoLoop}
+use Rattle.gq_plan.specs.Plans.{Step, Scan, Extend, Close, Join, Keep, Differ, NoLoop, Single, Meet}
 use Rattle.gq_plan.specs.declared.typed.Typed.{Typed}
 use Rattle.gq_plan.specs.Soundness.{has_number}
 use Rattle.gq_homes.specs.Homes.{IsHoused, node_home}
@@ -23,7 +24,7 @@ use Rattle.gq_steps.proofs.Binding.{fits_at}
 use Rattle.gq_homes.proofs.Brings.{KnowsKeys, knows_keys, no_keys}
 
 -- a step behind the first of a group fits where what the steps before it bind is known
-placed_fits : (catalog : Tables) (y : Typed) (checks : List Step) (k : Known) (n : ℕ) → n < length checks → ArePlaced catalog y checks k → fits_step catalog y (slice_index_or checks n (Keep 0)) (after_all (take n checks) k) ≡ true
+placed_fits : (catalog : Tables) (y : Typed) (checks : List Step) (k : Known) (n : ℕ) → n < length checks → ArePlaced catalog y checks k → runs_step catalog y (slice_index_or checks n (Keep 0)) (after_all (take n checks) k) ≡ true
 placed_fits catalog y [] k n low h = absurd (omega (arith, low))
 placed_fits catalog y (s ∷ ss) k zero low h = h.1
 placed_fits catalog y (s ∷ ss) k (suc n) low h = placed_fits catalog y ss (after_step s k) n (omega (arith, low)) h.2
@@ -76,6 +77,8 @@ lives fs h i (Join side keys) k v house keys_known free now = go (has_number key
 lives fs h i (Keep t) k v house keys_known free now = absurd (true≢false (sym now ∙ free))
 lives fs h i (Differ p) k v house keys_known free now = absurd (true≢false (sym now ∙ free))
 lives fs h i (NoLoop x) k v house keys_known free now = absurd (true≢false (sym now ∙ free))
+lives fs h i (Single x from to w) k v house keys_known free now = absurd (true≢false (sym now ∙ free))
+lives fs h i (Meet x from to w) k v house keys_known free now = absurd (true≢false (sym now ∙ free))
 
 module _ (c : Run) (run : IsRun c) (fs : List Filling) (h : Homes) (i : ℕ) (s : GroupSteps) (inside : s.end ≤ length c.steps)
     (house : (e : ℕ) → s.first ≤ e → e < s.end → IsHoused fs h i (step_at c e)) (others : (e : ℕ) → s.first < e → e < s.end → makes_group (step_at c e) ≡ false) where
@@ -89,7 +92,7 @@ module _ (c : Run) (run : IsRun c) (fs : List Filling) (h : Homes) (i : ℕ) (s 
       omega (arith, a, b, some, inside)
 
   -- at a step behind the first one
-  module _ (d : ℕ) (above : s.first < d) (below : d < s.end) (set : Known) (fit : fits_step c.graph.catalog c.typed (step_at c s.first) set ≡ true) (placed : ArePlaced c.graph.catalog c.typed (group_in c.steps s).checks (after_step (step_at c s.first) set)) where
+  module _ (d : ℕ) (above : s.first < d) (below : d < s.end) (set : Known) (fit : runs_step c.graph.catalog c.typed (step_at c s.first) set ≡ true) (placed : ArePlaced c.graph.catalog c.typed (group_in c.steps s).checks (after_step (step_at c s.first) set)) where
     abbrev checks : List Step
     checks = (group_in c.steps s).checks
 
@@ -99,11 +102,11 @@ module _ (c : Run) (run : IsRun c) (fs : List Filling) (h : Homes) (i : ℕ) (s 
     abbrev pub there : Known
     there = after_all (take n checks) (after_step (step_at c s.first) set)
 
-    pub fits_there : fits_step c.graph.catalog c.typed (step_at c d) there ≡ true
+    pub fits_there : runs_step c.graph.catalog c.typed (step_at c d) there ≡ true
     fits_there =
         let many = checks_long (omega (arith, above, below)) in
         let at : s.first + 1 + n ≡ d = omega (arith, above) in
-        ap (λ t. fits_step c.graph.catalog c.typed t there) (ap (step_at c) (sym at) ∙ sym (check_at n (omega (arith, at, below))))
+        ap (λ t. runs_step c.graph.catalog c.typed t there) (ap (step_at c) (sym at) ∙ sym (check_at n (omega (arith, at, below))))
         ∙ placed_fits c.graph.catalog c.typed checks (after_step (step_at c s.first) set) n (omega (arith, many, above, below)) placed
 
     pub set_before : (v : ℕ) → there.nodes v ≡ true → (set.nodes v ≡ true) ⊎ IsIn h i v

@@ -1,5 +1,5 @@
 -- A plan that is started: its steps run in the order of its groups, and what is owed is what the plan means.
-use Rattle.std.proofs.Common.{◌≡◌, ◌∙◌, ℕ, zero, suc, ◌+◌, ◌<◌, ◌≤◌, ◌⊎◌, inl, inr, Bool, true, false, cond, nat_eq, Option, None, List, [], ◌∷◌, map, length, take, get_or, refl, sym, ap, ap₂, subst, arith}
+use Rattle.std.proofs.Common.{◌≡◌, ◌∙◌, ℕ, zero, suc, ◌+◌, ◌<◌, ◌≤◌, ◌⊎◌, inl, inr, Bool, true, false, cond, nat_eq, Option, None, List, [], ◌∷◌, flat_map, map, length, take, get_or, refl, sym, ap, ap₂, subst, arith}
 use Rattle.std.specs.Prelude.{slice_index_or, All, IsPermutation}
 use Rattle.std.specs.List.{AllByRecursion, list_all, range_with_len, sum_by}
 use Rattle.std.proofs.lemmas.Bool.{eq-eqb, ne_eqb}
@@ -7,7 +7,6 @@ use Rattle.std.proofs.lemmas.List.{length-map, take_all}
 use Rattle.std.proofs.lemmas.List.Elements.{recursion_from_All}
 use Rattle.std.proofs.lemmas.List.FromFn.{length-map-range_with_len}
 use Rattle.std.proofs.lemmas.List.Sorted.{IsPermutation-map, IsPermutation-refl, IsPermutation-sym, IsPermutation-trans}
-use Rattle.gq_arrange.proofs.Loops.{steps_back}
 use Rattle.gq_arrange.specs.Keys.{led, plan_key}
 use Rattle.gq_arrange.specs.Law.{IsArranged, led_order}
 use Rattle.gq_base.specs.Catalogs.{Tables}
@@ -18,29 +17,31 @@ use Rattle.gq_group.specs.declared.home.Homes.{Homes}
 use Rattle.gq_join.specs.Kept.{Held}
 use Rattle.gq_law_groups.proofs.Moved.{same_plans}
 use Rattle.gq_law_groups.specs.Groups.{decode, makes_group}
-use Rattle.gq_law_groups.specs.Law.{read_all}
+use Rattle.gq_law_groups.specs.Law.{HasStepsOf, read_all}
 use Rattle.gq_law_groups.specs.Layout.{AreFlatEnough}
+use Rattle.gq_plan.proofs.FirstSteps.{steps_back}
 use Rattle.gq_plan.proofs.StepEquations.{plan_is}
 use Rattle.gq_plan.specs.Arranged.{at_numbers, flags_of, in_order}
-use Rattle.gq_plan.specs.Assignments as plain
 use Rattle.gq_plan.specs.Columns.{columns_of, own_columns, steps_of}
-use Rattle.gq_plan.specs.Covers.{Fits, after, fits, placed}
+use Rattle.gq_plan.specs.Covers.{Fits, after}
+use Rattle.gq_plan.specs.Halves.{Runs, halves, part_in, parts_of, runs}
 use Rattle.gq_plan.specs.Known.{none}
 use Rattle.gq_plan.specs.Meaning.{Partial, keep_if, mean, nothing}
 use Rattle.gq_plan.specs.Plans.{Plan, Done, Step, plan_of, steps, step_of}
 use Rattle.gq_plan.specs.Shapes.{places}
 use Rattle.gq_plan.specs.Soundness.{IsSound}
 use Rattle.gq_plan.specs.declared.assignment.Assignment.{Assignment}
+use Rattle.gq_plan.specs.declared.halves.Part.{Part}
 use Rattle.gq_plan.specs.declared.plan.Plan as code_plan
 use Rattle.gq_plan.specs.declared.typed.Typed.{Typed}
-use Rattle.gq_plan.specs.Flat.{is_flat}
 use Rattle.gq_walks.specs.Different.{AreKeysOf}
 use Rattle.gq_walks.specs.Layouts.{owed_walks, walks}
 use Rattle.gq_walks.specs.Running.{spot_of}
 use Rattle.gq_walks.specs.declared.walker.Cursor.{Cursor}
 use Rattle.gq_walks.specs.declared.walker.State.{State}
 use Rattle.gq_steps.specs.Built.{AreBuilds}
-use Rattle.gq_pipe.specs.Keys.{assignment_key, build_rows, makers_in, makers_of, key_count}
+use Rattle.gq_pipe.specs.Keys.{assignment_key, build_rows, key_count, makers_of}
+use Rattle.gq_pipe.specs.Keys.{rows_of as brought_rows}
 use Rattle.gq_steps.specs.Given.{given}
 use Rattle.gq_homes.specs.Cuts.{begins, flag, groups_of, IsCutTo, step_in}
 use Rattle.gq_pipe.specs.steps.Alone.{first_state, is_kept}
@@ -50,13 +51,13 @@ use Rattle.gq_steps.specs.Levels.{Run}
 use Rattle.gq_steps.specs.steps.Lists.{IsGrouped, layout_in, rows_in}
 use Rattle.gq_steps.specs.Groups.{group_in, groups_in}
 use Rattle.gq_steps.specs.steps.Outcomes.{passes_at}
-use Rattle.gq_steps.specs.Moves.{IsRun, builds_in, run_of, steps_in}
+use Rattle.gq_steps.specs.Moves.{IsRun, builds_in, run_of, run_steps}
 use Rattle.gq_homes.specs.declared.homes.Filling.{Filling}
 use Rattle.gq_steps.specs.declared.group_steps.GroupSteps.{GroupSteps}
 use Rattle.gq_steps.specs.declared.plan_run.PlanRun.{PlanRun}
 use Rattle.gq_pipe.specs.steps.Search.{AreGiven, maker_in, source_in}
 use Rattle.gq_pipe.proofs.Groupless.{none_bound, none_flat, none_given, none_makers, none_mean, none_order}
-use Rattle.gq_pipe.proofs.InOrder.{builds_ordered, ordered_sum, same_bound}
+use Rattle.gq_pipe.proofs.InOrder.{builds_parts, columns_halved, ordered_sum, parts_run}
 use Rattle.gq_steps.proofs.Joined.{builds_many}
 use Rattle.gq_pipe.proofs.Keyed.{counted_keys, keyed}
 use Rattle.gq_pipe.proofs.Makers.{makers_ordered, makers_run}
@@ -81,72 +82,73 @@ all_got {X = X} d xs = from xs 0 (λ i. get_or xs i d) (λ i low. let e : 0 + i 
         let here : a + 0 ≡ a = omega arith in
         ap₂ ◌∷◌ (ap f (sym here) ∙ h 0 (omega arith)) (from ys (a + 1) f (λ i low. (let next : a + 1 + i ≡ a + suc i = omega arith in ap f next ∙ h (suc i) (omega (arith, low)))))
 
--- what the steps of a plan in an order are, with flat groups: they begin with the step of a group, or are none
+-- what the steps of a plan in an order are, its column closes in halves, with flat groups: they begin with the step of a group, or are none
 pub record IsRunnable (catalog : Tables) (y : Typed) (p : Plan) (os : List (Option Held)) (order : List ℕ) (flat : List Bool) : Type 0 where
-  pub fits : Fits catalog y (in_order p order)
+  pub runs : Runs catalog y (in_order p order)
   pub bound : after p none ≡ after (in_order p order) none
   pub begins : (in_order p order ≡ Done) ⊎ (begins (in_order p order) ≡ true)
   pub enough : AreFlatEnough catalog y (flag flat) 0 (groups_of (in_order p order)) none
   pub count : length (groups_of (in_order p order)) ≡ length flat
-  pub columns : sum_by (own_columns y) (at_numbers (steps_of p) order) ≤ sum_by (own_columns y) (steps_of p)
-  pub makers : makers_of (at_numbers (steps_of p) order) (map (λ n. slice_index_or os n None) order) ≡ makers_of (steps_of p) os
+  pub columns : sum_by (own_columns y) (at_numbers (flat_map halves (steps_of p)) order) ≤ sum_by (own_columns y) (steps_of p)
+  pub makers : makers_of (map (part_in (steps_of p)) (at_numbers (parts_of 0 (steps_of p)) order)) (map (λ (q : Part). slice_index_or os q.step None) (at_numbers (parts_of 0 (steps_of p)) order)) ≡ makers_of (steps_of p) os
 
 module _ (catalog : Tables) (y : Typed) (p : Plan) (os : List (Option Held)) (fit : Fits catalog y p) where
-  of_groups : (order : List ℕ) (flat : List Bool) → 0 < (places p).count → IsArranged catalog y p order flat → order ≡ led_order y p → length os ≡ length (steps_of p) → AllByRecursion (λ n. n < length (steps_of p)) order
-      → IsRunnable catalog y p os order flat
-  of_groups order flat some a is many low = record {
-    fits = a.fits;
-    bound = same_bound catalog y p (in_order p order) fit a.fits (IsPermutation-sym _ _ a.placed);
+  of_groups : (flat : List Bool) → 0 < (places p).count → IsArranged catalog y p (led_order y p) flat → length os ≡ length (steps_of p) → IsRunnable catalog y p os (led_order y p) flat
+  of_groups flat some a many = record {
+    runs = a.runs;
+    bound = sym a.bound;
     begins = inr a.begins;
     enough = a.enough;
     count = a.count;
-    columns = (let same = ordered_sum (own_columns y) (steps_of p) order a.each in omega (arith, same));
-    makers = subst (λ ns. makers_of (at_numbers (steps_of p) ns) (map (λ n. slice_index_or os n None) ns) ≡ makers_of (steps_of p) os) (sym is)
-        (makers_ordered catalog y p os fit some many (subst (AllByRecursion (λ n. n < length (steps_of p))) is low));
+    columns =
+        (let same = ordered_sum (own_columns y) (flat_map halves (steps_of p)) (led_order y p)
+        (subst (λ ss. IsPermutation (led_order y p) (range_with_len 0 (length ss))) (steps_back (flat_map halves (steps_of p))) a.each) in
+        let halved = columns_halved y (steps_of p) in
+        omega (arith, same, halved));
+    makers = makers_ordered catalog y p os fit some many;
   }
 
   of_none : (places p).count ≡ 0 → IsRunnable catalog y p os [] []
-  unfolding fits after
+  unfolding runs after
   of_none bare = record {
-    fits = refl;
+    runs = refl;
     bound = none_bound catalog y p fit bare;
     begins = inl refl;
     enough = tt;
     count = refl;
-    columns = (let nothing_summed : sum_by (own_columns y) (at_numbers (steps_of p) []) ≡ 0 = refl in omega (arith, nothing_summed));
+    columns = (let nothing_summed : sum_by (own_columns y) (at_numbers (flat_map halves (steps_of p)) []) ≡ 0 = refl in omega (arith, nothing_summed));
     makers = sym (none_makers catalog y p fit bare os);
   }
 
-  pub runnable : (order : List ℕ) (flat : List Bool) → (0 < (places p).count → IsArranged catalog y p order flat) → order ≡ led_order y p → flat ≡ flags_of y p → length os ≡ length (steps_of p) → AllByRecursion (λ n. n < length (steps_of p)) order
-      → IsRunnable catalog y p os order flat
-  runnable order flat a is told many low = go (places p).count refl
+  pub runnable : (flat : List Bool) → (0 < (places p).count → IsArranged catalog y p (led_order y p) flat) → flat ≡ flags_of y p → length os ≡ length (steps_of p) → IsRunnable catalog y p os (led_order y p) flat
+  runnable flat a told many = go (places p).count refl
     where
-      go : (n : ℕ) → (places p).count ≡ n → IsRunnable catalog y p os order flat
+      go : (n : ℕ) → (places p).count ≡ n → IsRunnable catalog y p os (led_order y p) flat
       go zero e =
-          subst (λ ns. IsRunnable catalog y p os ns flat) (sym (is ∙ none_order y p e))
+          subst (λ ns. IsRunnable catalog y p os ns flat) (sym (none_order y p e))
           (subst (IsRunnable catalog y p os []) (sym (told ∙ none_flat y p e)) (of_none e))
-      go (suc n) e = of_groups order flat (omega (arith, e)) (a (omega (arith, e))) is many low
+      go (suc n) e = of_groups flat (omega (arith, e)) (a (omega (arith, e))) many
 
 steps_none : (ss : List Step) → steps ss ≡ Done → 0 < length ss → ⊥
 steps_none [] e some = omega (arith, some)
 steps_none (s ∷ ss) e some = cc e
 
 -- what runs are the steps of a plan and their builds, in the order of its groups
-pub record IsStarted (k : PlanRun) (p : code_plan.Plan) (os : List (Option Held)) (order : List ℕ) (flat : List Bool) : Type 0 where
+pub record IsStarted (k : PlanRun) (p : code_plan.Plan) (os : List (Option Held)) (order : List Part) (flat : List Bool) : Type 0 where
   pub valid : is_valid k.graph.now ≡ true
   pub sound : IsSound k.graph.now.catalog k.typed.now
   pub fits : Fits k.graph.now.catalog k.typed.now (plan_of p)
   pub builds : AreBuilds k.graph.now k.typed.now (plan_of p) os
   pub plan : k.plan.now ≡ p.steps
-  pub order_is : order ≡ led_order k.typed.now (plan_of p)
+  pub order_is : order ≡ at_numbers (parts_of 0 (steps_of (plan_of p))) (led_order k.typed.now (plan_of p))
   pub flat_is : flat ≡ flags_of k.typed.now (plan_of p)
-  pub within : All (λ n. n < length p.steps) order
-  pub arranged : 0 < (places (plan_of p)).count → IsArranged k.graph.now.catalog k.typed.now (plan_of p) order flat
-  pub steps_are : map step_of (steps_in k) ≡ at_numbers (map step_of p.steps) order
-  pub builds_are : builds_in k ≡ map (λ n. slice_index_or os n None) order
+  pub within : All (λ (q : Part). q.step < length p.steps) order
+  pub arranged : 0 < (places (plan_of p)).count → IsArranged k.graph.now.catalog k.typed.now (plan_of p) (led_order k.typed.now (plan_of p)) flat
+  pub steps_are : run_steps k.steps.items ≡ map (part_in (map step_of p.steps)) order
+  pub builds_are : builds_in k ≡ map (λ (q : Part). slice_index_or os q.step None) order
   pub tests_are : k.tests.items ≡ conditions_of k.graph.now k.typed.now
 
-module _ (k : PlanRun) (p : code_plan.Plan) (os : List (Option Held)) (order : List ℕ) (flat : List Bool) (s : IsStarted k p os order flat) where
+module _ (k : PlanRun) (p : code_plan.Plan) (os : List (Option Held)) (order : List Part) (flat : List Bool) (s : IsStarted k p os order flat) where
   abbrev c : Run
   c = run_of k
 
@@ -162,26 +164,29 @@ module _ (k : PlanRun) (p : code_plan.Plan) (os : List (Option Held)) (order : L
   steps_same : steps_of (plan_of p) ≡ map step_of p.steps
   steps_same = ap steps_of (plan_is p) ∙ steps_back (map step_of p.steps)
 
-  -- the plan that runs
-  runs_are : steps c.steps ≡ in_order (plan_of p) order
-  runs_are = ap steps s.steps_are ∙ ap (λ ss. steps (at_numbers ss order)) (sym steps_same)
+  abbrev ns : List ℕ
+  ns = led_order y (plan_of p)
 
-  runs_led : steps c.steps ≡ led y (plan_of p)
-  runs_led = runs_are ∙ ap (in_order (plan_of p)) s.order_is
+  -- the plan that runs
+  list_is : c.steps ≡ at_numbers (flat_map halves (steps_of (plan_of p))) ns
+  list_is =
+      s.steps_are ∙ ap (λ ss. map (part_in ss) order) (sym steps_same) ∙ ap (map (part_in (steps_of (plan_of p)))) s.order_is
+      ∙ parts_run (steps_of (plan_of p)) ns
+
+  runs_are : steps c.steps ≡ led y (plan_of p)
+  runs_are = ap steps (list_is ∙ ap (λ ss. at_numbers ss ns) (sym (steps_back (flat_map halves (steps_of (plan_of p))))))
 
   many_builds : length os ≡ length (steps_of (plan_of p))
   many_builds = builds_many g y (map step_of p.steps) os (subst (λ q. AreBuilds g y q os) (plan_is p) s.builds) ∙ sym (ap length steps_same)
 
-  low_order : AllByRecursion (λ n. n < length (steps_of (plan_of p))) order
-  low_order =
-      subst (λ l. AllByRecursion (λ n. n < length l) order) (sym steps_same)
-      (subst (λ n. AllByRecursion (λ m. m < n) order) (sym (length-map p.steps step_of)) (recursion_from_All (λ n. n < length p.steps) order s.within))
+  runs_all : IsRunnable g.catalog y (plan_of p) os ns flat
+  runs_all = runnable g.catalog y (plan_of p) os s.fits flat s.arranged s.flat_is many_builds
 
-  runs : IsRunnable g.catalog y (plan_of p) os order flat
-  runs = runnable g.catalog y (plan_of p) os s.fits order flat s.arranged s.order_is s.flat_is many_builds low_order
+  fits_run : Runs g.catalog y (steps c.steps)
+  fits_run = subst (Runs g.catalog y) (sym runs_are) runs_all.runs
 
-  fits_run : Fits g.catalog y (steps c.steps)
-  fits_run = subst (Fits g.catalog y) (sym runs_are) runs.fits
+  parts_low : AllByRecursion (λ (q : Part). q.step < length (map step_of p.steps)) order
+  parts_low = subst (λ n. AllByRecursion (λ (q : Part). q.step < n) order) (sym (length-map p.steps step_of)) (recursion_from_All (λ (q : Part). q.step < length p.steps) order s.within)
 
   pub run : IsRun c
   run = record {
@@ -189,51 +194,50 @@ module _ (k : PlanRun) (p : code_plan.Plan) (os : List (Option Held)) (order : L
     sound = s.sound;
     fits = fits_run;
     builds = subst (AreBuilds g y (steps c.steps)) (sym s.builds_are)
-        (subst (λ ss. AreBuilds g y (steps ss) (map (λ n. slice_index_or os n None) order)) (sym s.steps_are)
-        (builds_ordered g y (map step_of p.steps) os order (subst (λ q. AreBuilds g y q os) (plan_is p) s.builds)
-        (subst (λ n. AllByRecursion (λ m. m < n) order) (sym (length-map p.steps step_of)) (recursion_from_All (λ n. n < length p.steps) order s.within))));
+        (subst (λ ss. AreBuilds g y (steps ss) (map (λ (q : Part). slice_index_or os q.step None) order)) (sym s.steps_are)
+        (builds_parts g y (map step_of p.steps) os order (subst (λ q. AreBuilds g y q os) (plan_is p) s.builds) parts_low));
     tests = s.tests_are;
   }
 
   pub runs_plan : RunsPlan k
   runs_plan = record {
-    order = runs_led ∙ ap (led y) plan_same;
-    bound = ap (λ q. after q none) (sym plan_same) ∙ runs.bound ∙ ap (λ q. after q none) (sym runs_are);
+    order = runs_are ∙ ap (led y) plan_same;
+    bound = ap (λ q. after q none) (sym plan_same) ∙ runs_all.bound ∙ ap (λ q. after q none) (sym runs_are);
   }
 
   pub first_run : 0 < length c.steps → makes_group (step_in c.steps 0) ≡ true
-  first_run = λ some. elim runs.begins [
+  first_run = λ some. elim runs_all.begins [
     | inl none_left ↦ absurd (steps_none c.steps (runs_are ∙ none_left) some)
     | inr first ↦ (some_step c.steps (ap begins runs_are ∙ first)).1
   ]
 
   pub enough_run : AreFlatEnough g.catalog y (flag flat) 0 (groups_of (steps c.steps)) none
-  enough_run = subst (λ q. AreFlatEnough g.catalog y (flag flat) 0 (groups_of q) none) (sym runs_are) runs.enough
+  enough_run = subst (λ q. AreFlatEnough g.catalog y (flag flat) 0 (groups_of q) none) (sym runs_are) runs_all.enough
 
   many_groups : length (groups_of (steps c.steps)) ≡ length flat
-  many_groups = ap (λ q. length (groups_of q)) runs_are ∙ runs.count
+  many_groups = ap (λ q. length (groups_of q)) runs_are ∙ runs_all.count
 
   -- there are no more columns than the plan counts
   pub columns_held : (ss : List GroupSteps) (n : ℕ) (fs : List Filling) (h : Homes) (held : ℕ) → held ≡ columns_of y (plan_of p) → AreHomes c ss n (length c.steps) fs h → length fs ≤ held
   columns_held ss n fs h held is homes =
       let few = homes.few in
-      let whole : sum_by (own_columns y) (take (length c.steps) c.steps) ≡ sum_by (own_columns y) (at_numbers (steps_of (plan_of p)) order) =
-      ap (sum_by (own_columns y)) (take_all (length c.steps) c.steps (omega arith) ∙ s.steps_are ∙ ap (λ ss. at_numbers ss order) (sym steps_same)) in
-      omega (arith, few, whole, runs.columns, is)
+      let whole : sum_by (own_columns y) (take (length c.steps) c.steps) ≡ sum_by (own_columns y) (at_numbers (flat_map halves (steps_of (plan_of p))) ns) =
+      ap (sum_by (own_columns y)) (take_all (length c.steps) c.steps (omega arith) ∙ list_is) in
+      omega (arith, few, whole, runs_all.columns, is)
 
-  -- without joins the keys that are owed are as many as the plan has
-  pub count_given : (lent : List (Option Held)) (ks : List (List ℕ)) (owed : List Partial) → is_flat (plan_of p) ≡ true → IsPermutation owed (mean g y (plan_of p) nothing) → AreKeysOf ks (map (assignment_key (source_in k lent)) owed)
-      → length ks ≡ key_count g y (plan_of p)
-  count_given lent ks owed unjoined bag are =
-      counted_keys g y (plan_of p) (build_rows y (makers_in (source_in k lent))) ks owed unjoined bag
-      (subst (λ q. AreKeysOf ks (map (plan_key g y (build_rows y (makers_in (source_in k lent))) q) owed)) (sym plan_same) are)
+  -- the keys that are owed are as many as the plan has with these builds
+  pub count_given : (lent : List (Option Held)) (ks : List (List ℕ)) (owed : List Partial) → IsPermutation owed (mean g y (plan_of p) nothing) → AreKeysOf ks (map (assignment_key (source_in k lent)) owed)
+      → length ks ≡ key_count g y (brought_rows y (plan_of p) lent) (plan_of p)
+  count_given lent ks owed bag are =
+      counted_keys g y (plan_of p) (brought_rows y (plan_of p) lent) ks owed bag
+      (subst (λ q. AreKeysOf ks (map (plan_key g y (brought_rows y q lent) q) owed)) (sym plan_same) are)
 
   module _ (ss : List GroupSteps) (cut : IsCutTo c.steps flat ss (length c.steps)) where
     pub grouped_run : IsGrouped c ss
     grouped_run = grouped c run flat ss cut enough_run
 
     -- what is owed, as the plan binds it
-    owed_given : IsPermutation (placed (in_order (plan_of p) order)) (placed (plan_of p))
+    owed_given : HasStepsOf (led y (plan_of p)) (plan_of p)
         → IsPermutation (map (λ w. bound_by y (given_plan k) (decode g y (rows_in c ss) 0 (groups_in c ss) nothing w)) (walks (layout_in c ss) (length ss) [])) (mean g y (plan_of p) nothing)
     owed_given same =
         let all = mean g y (plan_of p) nothing in
@@ -245,7 +249,7 @@ module _ (k : PlanRun) (p : code_plan.Plan) (os : List (Option Held)) (order : L
         (IsPermutation-trans _ _ _ (IsPermutation-map (bound_by y (plan_of p)) _ _ (owed_mean c run flat ss cut enough_run))
         (subst (λ es. IsPermutation es all) (map_map asked (read_all y) own)
         (subst (IsPermutation (map asked (map (read_all y) own))) (map_map asked (read_all y) all ∙ map_self (bound_by y (plan_of p)) all (bound_self g y (plan_of p) s.valid s.sound s.fits))
-        (IsPermutation-map asked _ _ (same_plans g y (steps c.steps) (plan_of p) s.valid s.sound fits_run s.fits (subst (λ q. IsPermutation (placed q) (placed (plan_of p))) (sym runs_are) same)))))))
+        (IsPermutation-map asked _ _ (IsPermutation-sym _ _ (same_plans g y (plan_of p) (steps c.steps) s.valid s.sound s.fits fits_run (subst (λ q. HasStepsOf q (plan_of p)) (sym runs_are) same))))))))
 
     -- as many groups run as the plan has
     many_run : length ss ≡ (places (plan_of p)).count
@@ -277,7 +281,7 @@ module _ (k : PlanRun) (p : code_plan.Plan) (os : List (Option Held)) (order : L
             let on : owes ≡ true =
             is ∙ ap (λ b. cond b (list_all (is_kept (passes_at g y row)) (map step_of k.plan.now)) true) (ne_eqb (length ss) 0 (λ none_left. (let many = many_run ∙ e in omega (arith, many, none_left)))) in
             subst (λ b. IsPermutation (map (λ w. bound_by y (given_plan k) (decode g y (rows_in c ss) 0 (groups_in c ss) nothing w)) (owed_walks (layout_in c ss) (length ss) (spot_of (first_state b) cs))) (mean g y (plan_of p) nothing)) (sym on)
-            (owed_given (s.arranged (omega (arith, e))).placed)
+            (owed_given (s.arranged (omega (arith, e))).has)
 
     pub owed_start : (owes : Bool) (row : Assignment) (cs : List Cursor) (state : State) (many : ℕ) → state ≡ first_state owes → many ≡ length ss
         → owes ≡ cond (nat_eq many 0) (list_all (is_kept (passes_at g y row)) (map step_of k.plan.now)) true
@@ -299,8 +303,9 @@ module _ (k : PlanRun) (p : code_plan.Plan) (os : List (Option Held)) (order : L
     given_run =
         let made : makers_of (steps_of (given_plan k)) os ≡ map (maker_in c) ss =
         ap (λ q. makers_of (steps_of q) os) (sym plan_same)
-        ∙ sym runs.makers
-        ∙ ap₂ makers_of (ap (λ ss. at_numbers ss order) steps_same ∙ sym s.steps_are) (sym s.builds_are)
+        ∙ sym runs_all.makers
+        ∙ ap (λ qs. makers_of (map (part_in (steps_of (plan_of p))) qs) (map (λ (q : Part). slice_index_or os q.step None) qs)) (sym s.order_is)
+        ∙ ap₂ makers_of (ap (λ ss. map (part_in ss) order) steps_same ∙ sym s.steps_are) (sym s.builds_are)
         ∙ makers_run c (builds_many g y c.steps c.builds run.builds) ss grouped_run.tiles grouped_run.cut in
         let each : length os ≡ length (steps_of (given_plan k)) = many_builds ∙ ap (λ q. length (steps_of q)) plan_same in
         record {

@@ -7,9 +7,10 @@ use Rattle.gq_bits.specs.declared.TheConstants.{VECTOR}
 use Rattle.gq_bits.specs.Places.{is_marked}
 use Rattle.gq_group.specs.declared.group.Group.{Group}
 use Rattle.gq_join.specs.Kept.{matches, values_of}
-use Rattle.gq_plan.specs.Covers.{after, fits_step}
+use Rattle.gq_plan.specs.Covers.{after}
+use Rattle.gq_plan.specs.Halves.{runs_step}
 use Rattle.gq_plan.specs.Known.{none}
-use Rattle.gq_plan.specs.Plans.{Step, Scan, Extend, Close, Join, Keep, Differ, NoLoop}
+use Rattle.gq_plan.specs.Plans.{Step, Scan, Extend, Close, Join, Keep, Differ, NoLoop, Single, Meet}
 use Rattle.gq_plan.specs.Rows.{rel_table}
 use Rattle.gq_plan.specs.declared.assignment.Assignment.{Assignment}
 use Rattle.gq_store.specs.Neighbours.{neighbours}
@@ -37,11 +38,11 @@ use Rattle.gq_steps.proofs.Standings.{IsWithin, Met, both_stand, same_row, stand
 
 -- the list of a step is the same for two assignments with which the groups before it stand
 module _ (c : Run) (run : IsRun c) (one two : Assignment) (s : GroupSteps) (m : Met c one two s) (low : s.first < length c.steps) (makes : makes_group (step_at c s.first) ≡ true) (held : IsHeld c one (known c s.first)) where
-  knows : (t : Step) → step_at c s.first ≡ t → fits_step c.graph.catalog c.typed t (known c s.first) ≡ true
-  knows t is = subst (λ t. fits_step c.graph.catalog c.typed t (known c s.first) ≡ true) is (fits_at c run s.first low)
+  knows : (t : Step) → step_at c s.first ≡ t → runs_step c.graph.catalog c.typed t (known c s.first) ≡ true
+  knows t is = subst (λ t. runs_step c.graph.catalog c.typed t (known c s.first) ≡ true) is (fits_at c run s.first low)
 
-  sets : (t : Step) → step_at c s.first ≡ t → fits_step c.graph.catalog c.typed t m.set ≡ true
-  sets t is = subst (λ t. fits_step c.graph.catalog c.typed t m.set ≡ true) is m.fit
+  sets : (t : Step) → step_at c s.first ≡ t → runs_step c.graph.catalog c.typed t m.set ≡ true
+  sets t is = subst (λ t. runs_step c.graph.catalog c.typed t m.set ≡ true) is m.fit
 
   pub same_list : list_of c s.first one (step_at c s.first) ≡ list_of c s.first two (step_at c s.first)
   same_list = go (step_at c s.first) refl makes
@@ -67,6 +68,8 @@ module _ (c : Run) (run : IsRun c) (one two : Assignment) (s : GroupSteps) (m : 
       go (Keep i) is h = absurd (true≢false (sym h ∙ ap makes_group is))
       go (Differ p) is h = absurd (true≢false (sym h ∙ ap makes_group is))
       go (NoLoop x) is h = absurd (true≢false (sym h ∙ ap makes_group is))
+      go (Single x from to w) is h = absurd (true≢false (sym h ∙ ap makes_group is))
+      go (Meet x from to w) is h = absurd (true≢false (sym h ∙ ap makes_group is))
 
 -- the number at which a group stands can be seen from it
 pub same_key : (flat : Bool) (old new : ℕ) → piece_of flat old ≡ piece_of flat new → (flat ≡ true → old % VECTOR ≡ new % VECTOR) → old ≡ new

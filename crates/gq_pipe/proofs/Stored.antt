@@ -14,7 +14,7 @@ use Rattle.gq_base.specs.declared.direction.Direction.TheVariants.{Forward, Back
 use Rattle.gq_plan.specs.Allowed.{at_same}
 use Rattle.gq_plan.specs.Assignments.{nodes_of, source, target, source_in, target_in}
 use Rattle.gq_plan.specs.Meaning.{Partial, nothing, with_node, with_rel, with_all, look, agree, far, arrive, keep_if, nodes_for, rels_from, mean, step}
-use Rattle.gq_plan.specs.Plans.{Plan, Done, Then, Step, Scan, Extend, Close, Join, Keep, Differ, NoLoop}
+use Rattle.gq_plan.specs.Plans.{Plan, Done, Then, Step, Scan, Extend, Close, Join, Keep, Differ, NoLoop, Single, Meet}
 use Rattle.gq_plan.specs.declared.typed.Typed.{Typed}
 
 -- ---- lists
@@ -154,6 +154,8 @@ module _ (g : Graph) (valid : is_valid g ≡ true) where
       step_stores (Keep i) a h = keeps _ a h
       step_stores (Differ p) a h = keeps _ a h
       step_stores (NoLoop x) a h = keeps _ a h
+      step_stores (Single x from to way) a h = all_map (λ r. Unit {0}) (Stores g) (λ r. with_rel x r a) (rels_from g y x way (look a.nodes from)) (λ r u. h) (anything _)
+      step_stores (Meet x from to way) a h = keeps _ a h
 
 -- a variable that is bound has a row of its table
 pub look_stored : (g : Graph) (bs : List (ℕ × NodeId)) (v : ℕ) (n : NodeId) → AllByRecursion (λ (b : ℕ × NodeId). IsStored g b.1) bs → look bs v ≡ Some n → IsStored g n

@@ -6,12 +6,13 @@ use Rattle.std.proofs.lemmas.Option.{slice_get-get_or}
 use Rattle.gq_steps.specs.Moves.{steps_in}
 use Rattle.gq_steps.specs.declared.group_steps.GroupSteps.{GroupSteps}
 use Rattle.gq_steps.specs.declared.plan_run.PlanRun.{PlanRun}
+use Rattle.gq_steps.specs.declared.plan_run.RunStep.{RunStep}
 use Rattle.gq_steps.specs.Levels.{Run}
 use Rattle.gq_pipe.specs.declared.closing.Closing.{Closing}
 use Rattle.gq_pipe.specs.steps.Closings.{AreClosings, IsClosing}
 
 pub steps_long : (p : PlanRun) (d n : ℕ) → n ≡ vec_len p.steps → d < n → d < length (steps_in p)
-steps_long p d n many low = omega (arith, many, low, p.steps.ok.0, length-map p.steps.items (λ s. s.now))
+steps_long p d n many low = omega (arith, many, low, p.steps.ok.0, length-map p.steps.items (λ (r : RunStep). r.step.now))
 
 -- no group is told anything
 pub none_told : (c : Run) (ss : List GroupSteps) → AreClosings c ss []

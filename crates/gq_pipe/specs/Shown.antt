@@ -10,10 +10,9 @@ use Rattle.gq_group.specs.declared.group.Group.{Group}
 use Rattle.gq_group.specs.declared.piece.Piece.{Piece}
 use Rattle.gq_group.specs.declared.piece.Piece.TheVariants as piece
 use Rattle.gq_join.specs.Kept.{Held, matches_of}
-use Rattle.gq_plan.specs.Arranged.{arranged_flat, is_regular}
 use Rattle.gq_plan.specs.Plans.{Plan, Step, Scan, Extend, Close, Join}
 use Rattle.gq_plan.specs.Rows.{node_table, rel_table}
-use Rattle.gq_plan.specs.Shapes.{shape, shape_from}
+use Rattle.gq_plan.specs.Shapes.{shape}
 use Rattle.gq_plan.specs.declared.assignment.Assignment.{Assignment}
 use Rattle.gq_plan.specs.declared.shaping.Form.{Form}
 use Rattle.gq_plan.specs.declared.shaping.GroupShape.{GroupShape}
@@ -37,11 +36,9 @@ is_flat (Some position) = true
 abbrev pub shape_in : List Group → List GroupShape
 shape_in xs = map (λ (x : Group). record { form = form_in x.piece; flat = is_flat x.current }) xs
 
--- the groups of a chunk are those of the plan, and those are flat that its order by groups asks for: where no test stands before a column
--- close that it reads, those of the plan's shape
+-- the groups of a chunk are those of the plan's shape
 pub record HasShape (y : Typed) (p : Plan) (xs : List Group) : Type 0 where
-  pub groups : shape_in xs ≡ shape_from (arranged_flat y p) 0 p
-  pub regular : is_regular y p ≡ true → shape_in xs ≡ shape y p
+  pub groups : shape_in xs ≡ shape y p
 
 -- ---- the pieces
 

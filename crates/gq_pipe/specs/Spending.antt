@@ -1,12 +1,12 @@
 -- What the pipelines of a plan spend (PVLDB 14(11), list groups).
-use Rattle.std.specs.Prelude.{◌≡◌, ◌≤◌, ◌^◌, ◌-◌, ℕ, min, true, List, [], ◌∷◌, ◌++◌, length}
+use Rattle.std.specs.Prelude.{◌≡◌, ◌≤◌, ◌^◌, ◌-◌, ℕ, min, filter, List, [], ◌∷◌, ◌++◌, length}
 use Rattle.gq_base.specs.Plain.{Graph}
-use Rattle.gq_plan.specs.Columns.{columns_of}
-use Rattle.gq_plan.specs.Flat.{is_flat}
-use Rattle.gq_plan.specs.Meaning.{meaning}
-use Rattle.gq_plan.specs.Plans.{Plan, Done, Then, Step, Scan, Extend, Close, Join, Keep, Differ, NoLoop}
+use Rattle.gq_law_groups.specs.Groups.{makes_group}
+use Rattle.gq_plan.specs.Columns.{columns_of, steps_of}
+use Rattle.gq_plan.specs.Meaning.{Partial, meaning}
+use Rattle.gq_plan.specs.Plans.{Plan, Done, Then, Step, Scan, Extend, Close, Join, Keep, Differ, NoLoop, Single, Meet}
 use Rattle.gq_plan.specs.declared.typed.Typed.{Typed}
-use Rattle.gq_pipe.specs.Keys.{key_count}
+use Rattle.gq_pipe.specs.Keys.{AreRows, key_count}
 use Rattle.gq_homes.specs.declared.spent.Spent.{Spent}
 
 -- a count that stands still at the greatest of its type
@@ -19,9 +19,11 @@ pub record HasSpent (g : Graph) (y : Typed) (p : Plan) (s : Spent) : Type 0 wher
   pub most : s.chunks ≤ length (meaning g y p)
   pub none : s.chunks ≡ 0 → meaning g y p ≡ []
 
--- a plan without joins whose assignments are all handed out has a chunk for each of their different keys
-abbrev pub HasOneEach : Graph → Typed → Plan → Spent → Type 0
-HasOneEach g y p s = is_flat p ≡ true → s.chunks ≡ up_to_most (key_count g y p)
+-- a plan whose assignments are all handed out has a chunk for each of their different keys
+pub record HasOneEach (g : Graph) (y : Typed) (p : Plan) (s : Spent) : Type 0 where
+  pub rows : ℕ → List Partial
+  pub are : AreRows g y rows 0 (filter makes_group (steps_of p))
+  pub chunks : s.chunks ≡ up_to_most (key_count g y rows p)
 
 -- what the pipeline of a side plan spends
 pub record HasSpentAll (g : Graph) (y : Typed) (p : Plan) (s : Spent) : Type 0 where
@@ -42,3 +44,5 @@ unfoldable mutual
   step_runs (Keep i) = []
   step_runs (Differ p) = []
   step_runs (NoLoop x) = []
+  step_runs (Single x from to direction) = []
+  step_runs (Meet x from to direction) = []

@@ -11,3 +11,4 @@ pub mod Matches
 pub mod Origins
 pub mod Search
 pub mod Told
+pub mod Valued

@@ -1,45 +1,50 @@
-//! The steps of a plan, and the builds of its joins, in an order.
+//! The steps of a plan as they run, and the builds of its joins, in an order.
 ghost use Rattle.std.specs.Prelude.{◌≡◌, ◌<◌, length, map, slice_index_or, All, IfOk, None};
 ghost use Rattle.std.specs.Option.{option_copied};
-ghost use Rattle.gq_plan.specs.Arranged.{at_numbers};
+ghost use Rattle.gq_plan.specs.Halves.{part_in};
 ghost use Rattle.gq_plan.specs.Plans.{step_of};
-ghost use Rattle.gq_steps.specs.Moves.{referred};
+ghost use Rattle.gq_steps.specs.Moves.{run_steps};
 
 use gq_base::Memory;
 use gq_join::Sealed;
-use gq_plan::Step;
+use gq_plan::{Part, Step};
+use gq_steps::RunStep;
 use std::alloc::Global;
 
-/// The steps of these numbers.
+/// The steps of these parts, as they run.
 pub(crate) fn steps_in_order<'g>(
     alloc: Global,
     steps: &'g [Step],
-    order: &[usize],
-) -> Result<Vec<&'g Step>, Memory>
-    requires { All (λ n. n < length steps.now) order.now }
-    ensures { IfOk result (λ ordered. map step_of (referred ordered.items)
-        ≡ at_numbers (map step_of steps.now) order.now) }
+    order: &[Part],
+) -> Result<Vec<RunStep<'g>>, Memory>
+    requires { All (λ q. q.step < length steps.now) order.now }
+    ensures { IfOk result (λ ordered. run_steps ordered.items
+        ≡ map (part_in (map step_of steps.now)) order.now) }
 {
     let mut ordered = Vec::with_capacity(alloc, order.len())?;
-    for number in order {
-        ordered.push(&steps[*number])?;
+    for part in order {
+        let step = &steps[part.step];
+        ordered.push(RunStep {
+            step,
+            half: part.half,
+        })?;
     }
     Ok(ordered)
 }
 
-/// The builds of the steps of these numbers.
+/// The builds of the steps of these parts.
 pub(crate) fn builds_in_order<'g>(
     alloc: Global,
     builds: &'g [Option<Sealed>],
-    order: &[usize],
+    order: &[Part],
 ) -> Result<Vec<Option<&'g Sealed>>, Memory>
-    requires { All (λ n. n < length builds.now) order.now }
+    requires { All (λ q. q.step < length builds.now) order.now }
     ensures { IfOk result (λ ordered. map option_copied ordered.items
-        ≡ map (λ n. slice_index_or builds.now n None) order.now) }
+        ≡ map (λ q. slice_index_or builds.now q.step None) order.now) }
 {
     let mut ordered = Vec::with_capacity(alloc, order.len())?;
-    for number in order {
-        ordered.push(builds[*number].as_ref())?;
+    for part in order {
+        ordered.push(builds[part.step].as_ref())?;
     }
     Ok(ordered)
 }

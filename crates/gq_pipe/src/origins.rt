@@ -99,7 +99,7 @@ pub(crate) fn origin_of<'s, 'g>(
             Origin::Led(led_rows(&lists.plan_run, leading, near))
         }
         Filling::Kept(keeping) => {
-            let rows = groups[keeping.group as usize].piece;
+            let rows = groups[keeping.group as usize].piece();
             Origin::Kept(kept_rows(&lists.plan_run, keeping, rows))
         }
     }
@@ -127,7 +127,7 @@ fn near_of<'s, 'g>(
         NodeHome::Nowhere => stands,
         NodeHome::Item { group } => {
             if group == leading.group {
-                Near::Items(groups[group as usize].piece)
+                Near::Items(groups[group as usize].piece())
             } else {
                 stands
             }

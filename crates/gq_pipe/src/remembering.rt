@@ -1,4 +1,5 @@
-//! Tests of the nodes to which lists lead: they remember which rows they pass.
+//! Tests of the nodes to which lists lead remember which rows they pass, and tests that ask for a part
+//! of a text remember which texts have it.
 ghost use Rattle.std.specs.Prelude.{◌≡◌, ◌≤◌, IfOk};
 ghost use Rattle.gq_filter.specs.RowTests.{conditions_of};
 ghost use Rattle.gq_plan.specs.Soundness.{IsSound};
@@ -6,6 +7,7 @@ ghost use Rattle.gq_plan.specs.Soundness.{IsSound};
 use gq_base::Memory;
 use gq_filter::{RowTest, row_tests};
 use gq_plan::{Step, Typed};
+use gq_steps::RunStep;
 use gq_store::Graph;
 use std::alloc::Global;
 
@@ -13,12 +15,13 @@ use std::alloc::Global;
 const ROOM: u32 = 8192;
 
 /// The tests of an alternative, in their order. Those of nodes to which lists lead remember which
-/// rows they pass, where there is memory for it, which is taken here.
+/// rows they pass, and those that ask for a part of a text which texts have it, where there is memory
+/// for it, which is taken here.
 pub(crate) fn remembering_tests<'g>(
     alloc: Global,
     graph: &'g Graph,
     typed: &'g Typed,
-    steps: &[&Step],
+    steps: &[RunStep<'_>],
 ) -> Result<Vec<RowTest<'g>>, Memory>
     requires { IsSound graph.now.catalog typed.now }
     ensures { IfOk result (λ tests. tests.items ≡ conditions_of graph.now typed.now) }
@@ -28,14 +31,14 @@ pub(crate) fn remembering_tests<'g>(
     Ok(tests)
 }
 
-// Has the tests of nodes to which lists lead remember which rows they pass.
-fn remember(alloc: Global, steps: &[&Step], tests: &mut Vec<RowTest<'_>>)
+// Has the tests remember what they can.
+fn remember(alloc: Global, steps: &[RunStep<'_>], tests: &mut Vec<RowTest<'_>>)
     ensures { tests.new.items ≡ tests.old.items }
 {
     let mut room = ROOM;
     let mut near = None;
-    for step in steps {
-        match *step {
+    for part in steps {
+        match part.step {
             Step::Extend { to, .. } => near = Some(*to),
             Step::Keep { test } => room -= remember_test(alloc, *test, near, room, tests),
             Step::Differ { .. } | Step::NoLoop { .. } => {}
@@ -45,8 +48,8 @@ fn remember(alloc: Global, steps: &[&Step], tests: &mut Vec<RowTest<'_>>)
     }
 }
 
-// Has a test remember which rows of a node variable it passes, if one is told. It answers for how
-// many pieces.
+// Has a test remember which texts have the part that it asks for, and which rows of a node variable it
+// passes, if one is told. It answers for how many pieces.
 fn remember_test(
     alloc: Global,
     test: u32,
@@ -57,11 +60,14 @@ fn remember_test(
     ensures within { result ≤ room }
     ensures same { tests.new.items ≡ tests.old.items }
 {
-    match near {
+    match tests.get_mut(test as usize) {
         None => 0,
-        Some(node) => match tests.get_mut(test as usize) {
-            None => 0,
-            Some(test) => test.remember(alloc, node, room),
-        },
+        Some(test) => {
+            let texts = test.remember_texts(alloc, room);
+            match near {
+                None => texts,
+                Some(node) => texts + test.remember(alloc, node, room - texts),
+            }
+        }
     }
 }

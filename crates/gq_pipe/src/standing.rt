@@ -1,8 +1,7 @@
 //! The groups of the chunk that stands.
-ghost use Rattle.std.specs.Prelude.{◌≡◌, ℕ, length, true, []};
-ghost use Rattle.gq_bits.specs.Places.{is_marked};
+ghost use Rattle.std.specs.Prelude.{◌≡◌, length, true, []};
 ghost use Rattle.gq_pipe.specs.steps.Chunks.{AreStanding, CanStand, IsGroupAt, ShowsNumber};
-ghost use Rattle.gq_pipe.specs.steps.Chunks.{StoodAt, marked_at};
+ghost use Rattle.gq_pipe.specs.steps.Chunks.{StoodAt};
 ghost use Rattle.gq_steps.specs.steps.Lists.{layout_in, EarlierStand};
 ghost use Rattle.gq_pipe.specs.steps.Matches.{lists_in, HaveMatches};
 ghost use Rattle.gq_steps.specs.Matches.{AreMatches};
@@ -95,11 +94,11 @@ fn put_groups<'g>(lists: &Lists<'g>, walker: &Walker, stood: bool, groups: &mut 
 fn shows_number(group: &Group<'_>, flat: bool, key: u32) -> bool
     ensures { result ≡ true → ShowsNumber group.now flat key }
 {
-    let number = group.piece.first() / VECTOR;
+    let number = group.first() / VECTOR;
     if !flat {
         return number == key;
     }
-    match group.current {
+    match group.current() {
         Some(current) => number == key / VECTOR && current == key % VECTOR,
         None => false,
     }
@@ -125,26 +124,11 @@ fn put_group<'g>(
     } else {
         cursor.key
     };
-    group.piece = plan_run.piece(steps.first, matches, VECTOR * number, row);
-    group.current = if steps.flat {
+    let current = if steps.flat {
         Some(cursor.key % VECTOR)
     } else {
         None
     };
-    group.kept = plan_run.kept(steps.first);
-    put_marks(steps.flat, cursor.key, marks, &mut group.marks);
-}
-
-// The marks of a group: in a flat one its current position alone is marked.
-fn put_marks(flat: bool, key: u32, marks: &Marks, own: &mut Marks)
-    requires { length marks.now ≡ VECTOR }
-    ensures { (p : ℕ) → is_marked own.new p ≡ marked_at flat key marks.now p }
-{
-    if flat {
-        *own = Marks::none();
-        own.set(key % VECTOR, true);
-    } else {
-        *own = Marks::first(VECTOR);
-        own.and(marks);
-    }
+    let piece = plan_run.piece(steps.first, matches, VECTOR * number, row);
+    group.put(piece, current, marks, plan_run.kept(steps.first));
 }

@@ -20,6 +20,7 @@ use Rattle.gq_execute.specs.Planned.{IsPlanIn}
 use Rattle.gq_drain.specs.Taking.{IsPlain}
 use Rattle.gq_execute.proofs.Parting.{sides_light, sides_refused}
 use Rattle.gq_pipe.proofs.Assigned.{covers_bind_all}
+use Rattle.gq_pipe.proofs.Counted.{each_told}
 use Rattle.gq_pipe.proofs.Rooms.{most_rooms, spare_same}
 use Rattle.gq_pipe.proofs.Slots.{all_back}
 use Rattle.gq_law_plans.proofs.Wholes.{plans_mean}
@@ -108,16 +109,17 @@ returns-clause-spends c =
     let begun = c.in_ok-pipeline.pipeline in
     let now = c.drain_all-drained.new.pipeline in
     let own = c.finish-own.result in
+    let each = each_told g y plan c.in-Ok.builds.levels c.in-Ok.ensures.builds begun.keys p.count in
     let ends = c.in-Ok-drained.ensures in
     let same_bound = ends.takes.alike.bound ∙ ap (λ (t : Table). t.bound) c.start_alternative.ensures in
     record {
       turn = record { sides = c.in-Ok.builds.spent; own = own };
       is = turn_spent g c.args.table.now.bound order y plan costs c.in-Ok.builds.spent own (subst (λ (s : Stats). IsPlanIn order g.catalog s y plan costs) c.requires.stats made.plan) made.covers (plans_mean g y plan c.stands_valid.ensures c.requires.sound made.covers) made.alone c.in-Ok.ensures.spent
-          (own_spent g y plan start new begun now own p.meaning p.count p.columns ends.ran c.drain_all-drained.ensures.columns c.finish-own.ensures.chunks c.finish-own.ensures.columns)
-          (λ uncut. own_keys g y plan start new begun now own p.meaning p.count p.columns ends.ran c.drain_all-drained.ensures.columns c.finish-own.ensures.chunks c.finish-own.ensures.columns (ap cut_of same_bound ∙ uncut));
+          (own_spent g y plan start new begun now own p.meaning each p.columns ends.ran c.drain_all-drained.ensures.columns c.finish-own.ensures.chunks c.finish-own.ensures.columns)
+          (λ uncut. own_keys g y plan start new begun now own p.meaning each p.columns ends.ran c.drain_all-drained.ensures.columns c.finish-own.ensures.chunks c.finish-own.ensures.columns (ap cut_of same_bound ∙ uncut));
       all = c.in_ok-push.ensures.pushed ∙ ap (λ l. l ++ own ∷ []) c.into_spent-spent.ensures;
       chunks = λ plain before h.
-          own_counted g y plan start new begun now own p.meaning p.count p.columns ends.ran c.drain_all-drained.ensures.columns c.finish-own.ensures.chunks c.finish-own.ensures.columns (subst IsPlain (sym (ap (λ (t : Table). t.bound) c.start_alternative.ensures)) plain) before
+          own_counted g y plan start new begun now own p.meaning each p.columns ends.ran c.drain_all-drained.ensures.columns c.finish-own.ensures.chunks c.finish-own.ensures.columns (subst IsPlain (sym (ap (λ (t : Table). t.bound) c.start_alternative.ensures)) plain) before
           (ap (λ (t : Table). t.pushed) c.start_alternative.ensures ∙ h);
     }
 

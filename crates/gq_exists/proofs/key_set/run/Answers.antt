@@ -1,5 +1,6 @@
 use Rattle.std.proofs.Common.{◌≡◌, ◌∙◌, ap, map, sym, arith, Ok, Err}
 use Rattle.gq_pipe.proofs.Assigned.{covers_bind_all}
+use Rattle.gq_pipe.proofs.Counted.{each_told}
 use Rattle.gq_pipe.proofs.Rooms.{most_rooms, spare_same}
 use Rattle.gq_pipe.proofs.Slots.{all_back}
 use Rattle.gq_pipe.specs.Bound.{binds_all}
@@ -47,7 +48,8 @@ pub returns-clause-spent : goal.returns-clause-spent
 returns-clause-spent c =
     let y = c.args.typed.now in
     let start = c.in_ok-pipeline.ensures in
-    one_spent c.args.graph.now y (plan_of c.args.plan.now) c.in_ok-pipeline.pipeline c.fill-filled.new.pipeline c.finish-own.result start.meaning start.count start.columns c.fill-filled.ensures.columns
+    one_spent c.args.graph.now y (plan_of c.args.plan.now) c.in_ok-pipeline.pipeline c.fill-filled.new.pipeline c.finish-own.result start.meaning
+    (each_told c.args.graph.now y (plan_of c.args.plan.now) c.in-Ok.builds.levels c.in-Ok.ensures.builds c.in_ok-pipeline.pipeline.keys start.count) start.columns c.fill-filled.ensures.columns
     c.finish-own.ensures.chunks c.finish-own.ensures.columns c.args.gathering.now.width c.in-Ok-filled.ensures.ran c.args.spent.now c.push.new.self c.in_ok-push.ensures.pushed
 
 -- the slots that are out when the pipeline has ended are those that were before it

@@ -1,8 +1,8 @@
 use Rattle.std.proofs.Common.{◌≡◌, map, take}
-use Rattle.gq_plan.specs.Arranged.{at_numbers}
+use Rattle.gq_plan.specs.Halves.{part_in}
 use Rattle.gq_plan.specs.Plans.{step_of}
-use Rattle.gq_steps.specs.Moves.{referred}
+use Rattle.gq_steps.specs.Moves.{run_steps}
 use Rattle.gq_pipe.proofs.ordering.steps_in_order.Given as goal
 
-abbrev pub invariant-loop-number : goal.invariant-loop-number
-invariant-loop-number l = map step_of (referred l.ordered.items) ≡ at_numbers (map step_of l.steps) (take l.number-index l.order)
+abbrev pub invariant-loop-part : goal.invariant-loop-part
+invariant-loop-part l = run_steps l.ordered.items ≡ map (part_in (map step_of l.steps)) (take l.part-index l.order)

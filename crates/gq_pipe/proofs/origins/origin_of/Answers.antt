@@ -4,6 +4,7 @@ use Rattle.std.proofs.lemmas.List.{get_or_default}
 use Rattle.std.proofs.lemmas.Option.{slice_get-get_or}
 use Rattle.gq_group.specs.Chunks.{items_in}
 use Rattle.gq_group.specs.Pieces.{items_of}
+use Rattle.gq_group.specs.declared.group.Group.{Group}
 use Rattle.gq_pipe.specs.steps.Cells.{CanKeep, HasMatches, cell_seen, item_in}
 use Rattle.gq_homes.specs.steps.Housing.{build_in}
 use Rattle.gq_homes.specs.Homes.{IsFilling, filling_at, kept_of, no_filling}
@@ -36,7 +37,7 @@ returns-in-Kept-clause-row c = λ q p.
     let low = here.group in
     let many = c.requires.groups in
     let item : slice_get (items_of c.kept_rows.result.rows) p ≡ item_in gs f.group p =
-    ap (λ r. slice_get (items_of r) p) c.kept_rows.ensures.rows ∙ sym (ap (λ o. slice_get (items_in o) p) (slice_get-get_or gs f.group c.index-groups-keeping.result (omega (arith, low, many)))) in
+    ap (λ r. slice_get (items_of r) p) (c.kept_rows.ensures.rows ∙ c.piece-rows.ensures ∙ ap (λ (g : Group). g.piece) c.index-groups-keeping.is) ∙ sym (ap (λ o. slice_get (items_in o) p) (slice_get-get_or gs f.group c.index-groups-keeping.result (omega (arith, low, many)))) in
     ap₂ (λ o i. kept_at o i c.kept_rows.result.place) c.kept_rows.ensures.build item
     ∙ ap (kept_at (build_in c' f.depth) (item_in gs f.group p)) c.kept_rows.ensures.place
     ∙ kept_is (build_in c' f.depth) (item_in gs f.group p) f.node
@@ -52,7 +53,7 @@ returns-in-Kept-clause-can c = λ q written p source.
     let low = here.group in
     let many = c.requires.groups in
     let item : slice_get (items_of c.kept_rows.result.rows) p ≡ item_in gs f.group p =
-    ap (λ r. slice_get (items_of r) p) c.kept_rows.ensures.rows ∙ sym (ap (λ o. slice_get (items_in o) p) (slice_get-get_or gs f.group c.index-groups-keeping.result (omega (arith, low, many)))) in
+    ap (λ r. slice_get (items_of r) p) (c.kept_rows.ensures.rows ∙ c.piece-rows.ensures ∙ ap (λ (g : Group). g.piece) c.index-groups-keeping.is) ∙ sym (ap (λ o. slice_get (items_in o) p) (slice_get-get_or gs f.group c.index-groups-keeping.result (omega (arith, low, many)))) in
     let can : CanKeep (build_in c' f.depth) (item_in gs f.group p) f.node = subst (HasMatches c' gs) is c.requires.matches p in
     subst (λ o. CanKeepAt o (slice_get (items_of c.kept_rows.result.rows) p) c.kept_rows.result.place) (sym c.kept_rows.ensures.build)
     (subst (λ i. CanKeepAt (build_in c' f.depth) i c.kept_rows.result.place) (sym item)

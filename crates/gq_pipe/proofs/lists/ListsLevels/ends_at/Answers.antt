@@ -7,10 +7,10 @@ use Rattle.gq_pipe.proofs.Telling.{still_told, told_there}
 use Rattle.gq_pipe.proofs.lists.ListsLevels.ends_at.Goals as goal
 
 pub invariant_of-self-in-None-told : goal.invariant_of-self-in-None-told
-invariant_of-self-in-None-told c = record { told = still_told (run_of c.args.self.now.plan_run) c.args.self.now.groups.items c.args.self.now.closings.items c.args.depth c.in-Some.told.now c.in-Some.told.now c.in-Some.ensures.value refl c.args.self.now.told }
+invariant_of-self-in-None-told c = record { told = still_told (run_of c.args.self.now.plan_run) c.args.self.now.groups.items c.args.self.now.closings.items c.args.depth c.in-Some.told.now c.in-Some.told.now c.in-Some.ensures.value refl c.args.self.now.told; indexed = c.args.self.now.indexed }
 
 pub invariant_of-self-in-None-extends : goal.invariant_of-self-in-None-extends
-invariant_of-self-in-None-extends c = record { told = still_told (run_of c.args.self.now.plan_run) c.args.self.now.groups.items c.args.self.now.closings.items c.args.depth c.in-Some.told.now (Some c.in-Some-told.closing) c.in-Some.ensures.value (sym c.in-Some-told.is) c.args.self.now.told }
+invariant_of-self-in-None-extends c = record { told = still_told (run_of c.args.self.now.plan_run) c.args.self.now.groups.items c.args.self.now.closings.items c.args.depth c.in-Some.told.now (Some c.in-Some-told.closing) c.in-Some.ensures.value (sym c.in-Some-told.is) c.args.self.now.told; indexed = c.args.self.now.indexed }
 
 pub ends_at-requires : goal.ends_at-requires
 ends_at-requires c =
@@ -22,7 +22,7 @@ ends_at-requires c =
     (group_held (run_of c.args.self.now.plan_run) c.args.self.now.groups.items c.args.self.now.row c.args.depth c.requires.inside c.index.result.now c.index.ensures c.requires.opened.0 c.requires.opened.1 st) c.in-Some-extends.follow c.in-Some-extends.ensures
 
 pub invariant_of-self-in-Some-extends : goal.invariant_of-self-in-Some-extends
-invariant_of-self-in-Some-extends c = record { told = still_told (run_of c.args.self.now.plan_run) c.args.self.now.groups.items c.args.self.now.closings.items c.args.depth c.in-Some.told.now (Some c.ends_at.new.self) c.in-Some.ensures.value (ap Some c.ends_at.ensures.same ∙ sym c.in-Some-told.is) c.args.self.now.told }
+invariant_of-self-in-Some-extends c = record { told = still_told (run_of c.args.self.now.plan_run) c.args.self.now.groups.items c.args.self.now.closings.items c.args.depth c.in-Some.told.now (Some c.ends_at.new.self) c.in-Some.ensures.value (ap Some c.ends_at.ensures.same ∙ sym c.in-Some-told.is) c.args.self.now.told; indexed = c.args.self.now.indexed }
 
 pub returns-in-Some-extends-clause-ends : goal.returns-in-Some-extends-clause-ends
 returns-in-Some-extends-clause-ends c = λ yes pre long st flat place.

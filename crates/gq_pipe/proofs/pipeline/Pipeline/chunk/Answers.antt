@@ -1,4 +1,4 @@
-use Rattle.std.proofs.Common.{◌≡◌, ◌∙◌, true, map, sym, subst}
+use Rattle.std.proofs.Common.{◌≡◌, ◌∙◌, true, map, refl, sym, subst}
 use Rattle.std.specs.List.{AllZip}
 use Rattle.gq_group.specs.Chunks.{IsChunkOf, chunk_meaning}
 use Rattle.gq_plan.specs.Meaning.{nothing, whole}
@@ -12,6 +12,13 @@ use Rattle.gq_pipe.specs.Serving.{Serves}
 use Rattle.gq_pipe.specs.Shown.{HasShape, IsPieceIn}
 use Rattle.gq_pipe.proofs.Chunked.{chunk_is, binds_is, pieces_are, shape_is, whole_is}
 use Rattle.gq_pipe.proofs.pipeline.Pipeline.chunk.Goals as goal
+
+pub chunk_of-requires : goal.chunk_of-requires
+chunk_of-requires c =
+    (chunk_is c.self.inside c.self.invariant
+    (subst (λ (r : Rest). r.standing ≡ true) (sym c.self.view_is) c.requires.standing)
+    _ c.as_slice-groups.ensures.value refl c.as_slice.ensures
+    (subst (λ (r : Rest). Serves r c.args.pool.now) (sym c.self.view_is) c.requires.serves)).chunk
 
 pub returns-clause-chunk : goal.returns-clause-chunk
 returns-clause-chunk c =

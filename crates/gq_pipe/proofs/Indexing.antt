@@ -1,0 +1,91 @@
+-- Indexes of groups, one after another, and what they say of the places of a group where the first groups stand.
+use Rattle.std.proofs.Common.{◌≡◌, ℕ, zero, suc, ◌+◌, ◌-◌, ◌*◌, ◌^◌, ◌<◌, ◌≤◌, Bool, true, false, ◌&&◌, nat_lt, List, [], ◌∷◌, ◌++◌, Option, Some, None, length, slice_get, refl, sym, ap, ◌∙◌, subst, arith, inl, inr, ◌⊎◌}
+use Rattle.std.specs.Coded.{Coded-set, coded_bool}
+use Rattle.std.specs.Prelude.{min, slice_index_or}
+use Rattle.std.proofs.Math.Logic.{∥∥₁_elim}
+use Rattle.std.proofs.lemmas.Bool.{cases_lt, le-ltb, lt-ltb, ltb-true}
+use Rattle.std.proofs.lemmas.List.{get_or_default}
+use Rattle.gq_bits.specs.Places.{is_marked}
+use Rattle.gq_bits.specs.declared.TheConstants.{VECTOR}
+use Rattle.gq_plan.specs.declared.assignment.Assignment.{Assignment}
+use Rattle.gq_sift.specs.Among.{IsAmong}
+use Rattle.gq_steps.specs.Groups.{group_at, no_group}
+use Rattle.gq_steps.specs.Keeps.{makes_one}
+use Rattle.gq_steps.specs.Levels.{Run, before, built_at, step_at}
+use Rattle.gq_steps.specs.Tries.{tries}
+use Rattle.gq_steps.specs.declared.group_steps.GroupSteps.{GroupSteps}
+use Rattle.gq_steps.specs.steps.Lists.{Stands, layout_in}
+use Rattle.gq_steps.proofs.Here.{at, group_held, group_range, group_size, keeps_made}
+use Rattle.gq_walks.specs.Marked.{kept_in}
+use Rattle.gq_walks.specs.Running.{IsBlank}
+use Rattle.gq_pipe.specs.declared.valued.ValueIndex.{ValueIndex}
+use Rattle.gq_pipe.specs.steps.Valued.{AreIndexed, IsFoundIn, IsIndexed, IsNotBefore, numbers_in}
+use Rattle.gq_pipe.proofs.ByValue.{below, none_found, others}
+
+-- ---- one group after another
+
+pub none_indexed : (c : Run) (ss : List GroupSteps) → AreIndexed c ss []
+none_indexed c ss depth t e = absurd (cc e)
+
+one_more : {X : Type 0} (P : ℕ → X → Type 0) (xs : List (Option X)) (next : Option X) → ((k : ℕ) (u : X) → slice_get xs k ≡ Some (Some u) → P k u) → ((u : X) → next ≡ Some u → P (length xs) u)
+    → (d : ℕ) (t : X) → slice_get (xs ++ next ∷ []) d ≡ Some (Some t) → P d t
+one_more P [] next all last zero t e = (let same : next ≡ Some t = cc e in last t same)
+one_more P [] next all last (suc d) t e = absurd (cc e)
+one_more P (x ∷ xs) next all last zero t e = all 0 t e
+one_more P (x ∷ xs) next all last (suc d) t e = one_more (λ k u. P (suc k) u) xs next (λ k u h. all (suc k) u h) (λ u h. last u h) d t e
+
+pub one_indexed : (c : Run) (ss : List GroupSteps) (ts : List (Option ValueIndex)) (next : Option ValueIndex) → AreIndexed c ss ts → ((t : ValueIndex) → next ≡ Some t → IsIndexed c (group_at ss (length ts)) t) → AreIndexed c ss (ts ++ next ∷ [])
+one_indexed c ss ts next are is = one_more (λ k t. IsIndexed c (group_at ss k) t) ts next are is
+
+pub indexed_of : (c : Run) (ss gs : List GroupSteps) (ts : List (Option ValueIndex)) → gs ≡ ss → AreIndexed c gs ts → ∥ AreIndexed c ss ts ∥₁
+indexed_of c ss gs ts is are = ∣ subst (λ g. AreIndexed c g ts) is are ∣₁
+
+-- ---- a group where the first ones stand
+
+module _ (c : Run) (ss : List GroupSteps) (row : Assignment) (ts : List (Option ValueIndex)) (indexed : ∥ AreIndexed c ss ts ∥₁) (depth : ℕ) (inside : depth < length ss) (x : GroupSteps) (found : x ≡ slice_index_or ss depth x)
+    (pre : List ℕ) (long : length pre ≡ depth) (st : Stands c ss row pre) (t : ValueIndex) (there : slice_get ts depth ≡ Some (Some t)) where
+  group_is : group_at ss depth ≡ x
+  group_is = get_or_default ss depth no_group x inside ∙ sym found
+
+  -- it has this index
+  own : AreIndexed c ss ts → IsIndexed c x t
+  own are = subst (λ s. IsIndexed c s t) group_is (are depth t there)
+
+  abbrev places : ℕ
+  places = length (tries c.graph c.typed (built_at c x.first) (step_at c x.first) (before c row x.first))
+
+  -- the marks of a piece
+  module _ (piece first count : ℕ) (from : first ≡ VECTOR * piece) (much : count ≡ min (places - VECTOR * piece) VECTOR) (few : first + count < 2 ^ 32) (marks : List Bool) (f : IsFoundIn t piece row marks) where
+    low_at : (k : ℕ) → is_marked marks k ≡ true → nat_lt k count ≡ true
+    low_at k on = ∥∥₁_elim indexed (Coded-set coded_bool _ _) (λ are.
+        lt-ltb k count (below c st.runs x (group_range c ss row depth inside x found pre long st) t (own are) row (group_held c ss row depth inside x found pre long st) piece first count from much few marks f k on))
+
+    pub found_among : IsAmong c x first count row marks
+    found_among = record {
+      len = f.whole;
+      below = λ k on. ltb-true k count (low_at k on);
+      others = λ k low off. ∥∥₁_elim indexed (Coded-set coded_bool _ _) (λ are.
+          others c st.runs x (group_range c ss row depth inside x found pre long st) t (own are) row (group_held c ss row depth inside x found pre long st) piece first count from much few marks f k low off);
+    }
+
+  -- the pieces that are passed over
+  module _ (piece next : ℕ) (few : (layout_in c ss).size pre < 2 ^ 32) (n : IsNotBefore t piece row next) where
+    low : length pre < length ss
+    low = omega (arith, long, inside)
+
+    here_is : (at c ss row pre st low).s ≡ x
+    here_is = sym (at c ss row pre st low).is ∙ ap (group_at ss) long ∙ group_is
+
+    keeps_none : AreIndexed c ss ts → (j : ℕ) → VECTOR * piece ≤ j → j < VECTOR * next → j < (layout_in c ss).size pre → (layout_in c ss).keeps pre j ≡ false
+    keeps_none are j above below_it within =
+        let size = group_size c ss row depth inside x found pre long st in
+        sym (keeps_made c ss row pre st low j within) ∙ ap (λ (s : GroupSteps). makes_one c s j row) here_is
+        ∙ none_found c st.runs x (group_range c ss row depth inside x found pre long st) t (own are) row (group_held c ss row depth inside x found pre long st) j (omega (arith, within, size)) (omega (arith, within, few))
+        (n.blank (numbers_in (own are).build (own are).own) j (own are).places above below_it)
+
+    pub passed_blank : IsBlank (layout_in c ss) pre piece next
+    passed_blank j above below_it = go (cases_lt j ((layout_in c ss).size pre))
+      where
+        go : (j < (layout_in c ss).size pre) ⊎ ((layout_in c ss).size pre ≤ j) → kept_in (layout_in c ss) pre j ≡ false
+        go (inl within) = ap (λ b. b && (layout_in c ss).keeps pre j) (lt-ltb j ((layout_in c ss).size pre) within) ∙ ∥∥₁_elim indexed (Coded-set coded_bool _ _) (λ are. keeps_none are j above below_it within)
+        go (inr past) = ap (λ b. b && (layout_in c ss).keeps pre j) (le-ltb j ((layout_in c ss).size pre) past)
