@@ -1,11 +1,12 @@
 //! Rows of values, each once.
-ghost use Rattle.std.specs.Prelude.{◌≡◌, ◌++◌, [], List, flat_map, length, map, slice_index_or};
-ghost use Rattle.std.specs.Prelude.{IfOk, OnOk, nat_eq, replicate};
+ghost use Rattle.std.specs.Prelude.{◌≡◌, ◌++◌, ◌≤◌, [], List, flat_map, length, map, slice_index_or};
+ghost use Rattle.std.specs.Prelude.{IfOk, OnOk, nat_eq, replicate, take};
 ghost use Rattle.gq_base.specs.Values.{Val, val};
 ghost use Rattle.gq_classes.specs.Rows.{AreWide, Inserts};
-ghost use Rattle.gq_classes.specs.steps.Levels.{CanLead, Fits, Leads, empty_row, keys_of, rows_from};
-ghost use Rattle.gq_classes.specs.steps.Levels.{texts_of};
+ghost use Rattle.gq_classes.specs.steps.Levels.{CanLead, Fits, Leads, empty_row, keys_of, lists_of};
+ghost use Rattle.gq_classes.specs.steps.Levels.{rows_from, texts_of};
 
+use crate::key::Key;
 use crate::level::Level;
 use gq_base::{Memory, Value};
 use indexmap::IndexSet;
@@ -73,17 +74,61 @@ impl<'g> Classes<'g> {
         Ok(new)
     }
 
-    /// Appends the values of the rows, one row after another.
-    pub fn append_to(&self, values: &mut Vec<Value<'g>>) -> Result<(), Memory>
-        ensures { let rows = flat_map (λ row. row) self.now in
-            OnOk result (map val values.new.items ≡ map val values.old.items ++ rows) }
+    /// The values of the rows, one row after another. What finds rows is given up before a value is
+    /// made.
+    pub fn into_values(self, alloc: Global) -> Result<Vec<Value<'g>>, Memory>
+        ensures { IfOk result (λ values.
+            map val values.items ≡ flat_map (λ row. row) self.entry) }
     {
-        let levels = self.levels.as_slice();
-        'rows: for number in 0..self.count {
-            append_row(levels, &self.texts, number, values)?;
-        }
-        Ok(())
+        let Classes {
+            levels,
+            texts,
+            count,
+        } = self;
+        let lists = key_lists(alloc, levels)?;
+        all_values(alloc, lists.as_slice(), &texts, count)
     }
+}
+
+// The keys of levels.
+fn key_lists(alloc: Global, levels: Vec<Level>) -> Result<Vec<Vec<Key>>, Memory>
+    ensures { IfOk result (λ lists. lists_of lists.items ≡ keys_of levels.items) }
+{
+    let mut lists = Vec::new(alloc);
+    'levels: for level in levels {
+        lists.push(key_list(alloc, level)?)?;
+    }
+    Ok(lists)
+}
+
+// The keys of a level.
+fn key_list(alloc: Global, level: Level) -> Result<Vec<Key>, Memory>
+    ensures { IfOk result (λ keys. keys.items ≡ level.keys.keys) }
+{
+    let Level { keys, last: _ } = level;
+    let mut list = Vec::new(alloc);
+    'keys: for key in keys {
+        list.push(key)?;
+    }
+    Ok(list)
+}
+
+// The values of so many rows of levels, one row after another.
+fn all_values<'g>(
+    alloc: Global,
+    levels: &[Vec<Key>],
+    texts: &IndexSet<&'g str>,
+    count: usize,
+) -> Result<Vec<Value<'g>>, Memory>
+    requires { count ≤ length (rows_from (texts_of texts.now) empty_row (lists_of levels.now)) }
+    ensures { let rows = take count (rows_from (texts_of texts.now) empty_row (lists_of levels.now)) in
+        IfOk result (λ values. map val values.items ≡ flat_map (λ row. row) rows) }
+{
+    let mut values = Vec::new(alloc);
+    'rows: for number in 0..count {
+        append_row(levels, texts, number, &mut values)?;
+    }
+    Ok(values)
 }
 
 // So many levels without keys.
@@ -133,19 +178,19 @@ fn number_behind<'g>(
 
 // Appends the values of the row of a number.
 fn append_row<'g>(
-    levels: &[Level],
+    levels: &[Vec<Key>],
     texts: &IndexSet<&'g str>,
     number: usize,
     values: &mut Vec<Value<'g>>,
 ) -> Result<(), Memory>
-    ensures { let rows = rows_from (texts_of texts.now) empty_row (keys_of levels.now) in
+    ensures { let rows = rows_from (texts_of texts.now) empty_row (lists_of levels.now) in
         OnOk result (map val values.new.items
         ≡ map val values.old.items ++ slice_index_or rows number []) }
 {
     let [levels @ .., level] = levels else {
         return Ok(());
     };
-    let Some(key) = level.keys.get_index(number) else {
+    let Some(key) = level.get(number) else {
         return Ok(());
     };
     append_row(levels, texts, key.front() as usize, values)?;

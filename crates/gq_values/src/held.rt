@@ -290,8 +290,7 @@ pub fn first_rows<'g>(alloc: Global, rows: Rows<'g>) -> Result<Rows<'g>, Memory>
         seen,
         bar: _,
     } = rows;
-    let mut columns = Vec::new(alloc);
-    seen.append_to(&mut columns)?;
+    let columns = seen.into_values(alloc)?;
     Ok(Rows {
         columns,
         keys,

@@ -1,6 +1,7 @@
 -- Rows by levels: a level numbers, in the order of its keys, the fronts of rows that have one value more than those before it.
-use Rattle.std.specs.Prelude.{◌≡◌, ℕ, ◌<◌, ◌⊎◌, Option, Some, None, Result, Ok, Err, List, [], ◌∷◌, ◌++◌, length, map, slice_get, slice_index_or, replicate, ◌≢◌}
+use Rattle.std.specs.Prelude.{Vec, ◌≡◌, ℕ, ◌<◌, ◌⊎◌, Option, Some, None, Result, Ok, Err, List, [], ◌∷◌, ◌++◌, length, map, slice_get, slice_index_or, replicate, ◌≢◌}
 use Rattle.std.specs.Borrow.{Bor}
+use Rattle.std.specs.Global.{Global}
 use Rattle.std.specs.HashSet.{HashSet}
 use Rattle.std.specs.List.{AllByRecursion}
 use Rattle.gq_base.specs.Values.{Val, null, flag, int, str, node, rel}
@@ -62,6 +63,10 @@ rows_from texts fronts (keys ∷ levels) = rows_from texts (longer texts fronts 
 -- the keys of levels
 abbrev pub keys_of : List Level → List (List Key)
 keys_of levels = map (λ (level : Level). level.keys.keys) levels
+
+-- the keys of lists
+abbrev pub lists_of : List (Vec Key Global) → List (List Key)
+lists_of lists = map (λ (list : Vec Key Global). list.items) lists
 
 -- a key with a front and a text that are there
 abbrev pub IsWithin : ℕ → ℕ → Key → Type 0

@@ -6,5 +6,5 @@ use Rattle.gq_values.proofs.held.first_rows.Goals as goal
 
 pub returns : goal.returns
 returns c = λ b list h.
-    firsts b list c.args.rows (record c.args.rows { columns = c.append_to.new.values; seen = c.new.result; bar = None })
-    (c.in_ok-append_to.ensures ∙ ap (λ l. map val l ++ flat_map (λ (row : List Val). row) c.args.rows.seen) c.new-columns.ensures.items) refl refl h
+    firsts b list c.args.rows (record c.args.rows { columns = c.in_ok-columns.columns; seen = c.new.result; bar = None })
+    c.in_ok-columns.ensures refl refl h
