@@ -80,14 +80,14 @@ module _ (ts : List EndTest) (table low at : ℕ) (old mid : List NodeId) (h : H
         each_append (λ (n : NodeId). is_node g n ≡ true) mid (record { table = table; row = at } ∷ []) (h.inside g (omega (arith, few)) inside) (node_at g table at (omega (arith, few)), tt);
   }
 
-  pub one_passed : (HoldAll ts at → ⊥) → HasRows ts table low (at + 1) old mid
-  one_passed fails = record {
+  pub some_passed : (next : ℕ) → at ≤ next → ((row : ℕ) → at ≤ row → row < next → HoldAll ts row → ⊥) → HasRows ts table low next old mid
+  some_passed next most fail = record {
     still = h.still;
     rows = λ row least less all. elim (cases_lt row at) [
       | inl below ↦ h.rows row least below all
-      | inr high ↦ let here : row ≡ at = omega (arith, less, high) in absurd (fails (subst (HoldAll ts) here all))
+      | inr high ↦ absurd (fail row high less all)
     ];
-    inside = λ g few inside. h.inside g (omega (arith, few)) inside;
+    inside = λ g few inside. h.inside g (omega (arith, few, most)) inside;
   }
 
 pub both_added : (ts : List EndTest) (table low mid high : ℕ) (old now new : List NodeId) → mid ≤ high

@@ -67,15 +67,14 @@ fn add_span(
         HasRows tests.now table low high ends.old.items ends.new.items) }
 {
     let marks = kept_rows(tests, low, high);
-    'places: for place in 0..high - low {
-        if !marks.get(place) {
-            continue;
-        }
+    let mut from = 0;
+    'places: while let Some(place) = marks.next_from(from) {
         if MAX_ENDS <= ends.len() {
             return Ok(false);
         }
         let row = low + place;
         ends.push(NodeId { table, row })?;
+        from = place + 1;
     }
     Ok(true)
 }
@@ -86,7 +85,8 @@ fn kept_rows(tests: &[EndTest<'_>], low: u32, high: u32) -> Marks
     requires ordered { low ≤ high }
     requires few { high - low ≤ VECTOR }
     requires inside { HaveRows high tests.now }
-    ensures { (k : ℕ) → k < high - low → HoldAll tests.now (low + k) →
+    ensures within { (k : ℕ) → high - low ≤ k → is_marked result k ≡ false }
+    ensures kept { (k : ℕ) → k < high - low → HoldAll tests.now (low + k) →
         is_marked result k ≡ true }
 {
     let count = high - low;

@@ -5,6 +5,7 @@ mod Marking
 mod Owing
 pub mod Reaching
 mod Searching
+mod Sites
 mod Sizing
 mod Spreading
 mod Walking

@@ -1,5 +1,5 @@
 -- How much a search has before it: each move makes it less.
-use Rattle.std.proofs.Common.{◌≡◌, ℕ, zero, suc, ◌+◌, ◌-◌, ◌<◌, ◌≤◌, Option, Some, List, [], ◌∷◌, refl, sym, ap, ap₂, ◌∙◌, arith, inl, inr, ◌⊎◌}
+use Rattle.std.proofs.Common.{◌≡◌, ℕ, zero, suc, ◌+◌, ◌-◌, ◌<◌, ◌≤◌, Option, Some, List, [], ◌∷◌, ◌++◌, refl, sym, ap, ap₂, ◌∙◌, arith, inl, inr, ◌⊎◌}
 use Rattle.std.proofs.lemmas.Bool.{cases_lt}
 use Rattle.gq_base.specs.declared.NodeId.{NodeId}
 use Rattle.gq_base.specs.declared.RelId.{RelId}
@@ -51,6 +51,32 @@ weight_alike c levels others (suc n) alike =
 pub back_less : (c : Run) (levels : List Level) (d : ℕ) → weight c levels d < weight c levels (suc d)
 unfolding weight
 back_less c levels d = omega arith
+
+each_append : (w : RelId → ℕ) (over rs : List RelId) → each w (over ++ rs) ≡ each w over + each w rs
+each_append w [] rs =
+    let same : each w rs ≡ 0 + each w rs = omega arith in
+    same
+each_append w (r ∷ over) rs =
+    let more : each w (over ++ rs) ≡ each w over + each w rs = each_append w over rs in
+    let all : w r + each w (over ++ rs) ≡ (w r + each w over) + each w rs = omega (arith, more) in
+    all
+
+level_less : (k : Course) (high : ℕ) (over rs : List RelId) → level_weight k high rs ≤ level_weight k high (over ++ rs)
+unfolding level_weight
+level_less k zero over rs = omega arith
+level_less k (suc h) over rs =
+    let w : RelId → ℕ = λ r. suc (node_weight k h (far k.graph k.way r)) in
+    let less : each w rs ≤ each w (over ++ rs) = omega (arith, each_append w over rs) in
+    less
+
+-- of what is left some is passed over
+pub pass_less : (c : Run) (levels others : List Level) (d : ℕ) (over : List RelId) → left_in c.course (level_at levels d) ≡ over ++ left_in c.course (level_at others d) → AreSameLevels others levels d
+    → weight c others (suc d) ≤ weight c levels (suc d)
+unfolding weight
+pass_less c levels others d over left alike =
+    let less = level_less c.course (c.course.high - d) over (left_in c.course (level_at others d)) in
+    let here = ap (level_weight c.course (c.course.high - d)) left in
+    omega (arith, less, here, weight_alike c levels others d alike)
 
 module _ (c : Run) (levels others : List Level) (d : ℕ) (r : RelId) (low : d < c.course.high)
     (first : left_in c.course (level_at levels d) ≡ r ∷ left_in c.course (level_at others d)) (alike : AreSameLevels others levels d) where

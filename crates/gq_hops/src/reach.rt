@@ -176,8 +176,8 @@ fn expand(follow: &Follow<'_>, used: &Used, visited: &mut Visited, at: NodeId)
     }
 }
 
-// Whether a relationship that is met is used. Which one it is, is not read where none is.
-fn is_used(follow: &Follow<'_>, used: &Used, met: Met) -> bool
+/// Whether a relationship that is met is used. Which one it is, is not read where none is.
+pub(crate) fn is_used(follow: &Follow<'_>, used: &Used, met: Met) -> bool
     requires { IsSite follow.now met }
     ensures { (hop : Step) → IsHop follow.now met hop →
         result ≡ list_any (same_rel hop.rel) used.now }

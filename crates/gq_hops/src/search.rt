@@ -1,16 +1,18 @@
 //! The search for walks: a walk that is under way, and what is to be tried next at each of its nodes.
 ghost use Rattle.std.specs.Prelude.{◌≡◌, ◌+◌, ◌<◌, ◌≤◌, ◌&&◌, ◌||◌, nat_eq, nat_le, nat_lt, true};
-ghost use Rattle.std.specs.Prelude.{length, take, IfOk};
+ghost use Rattle.std.specs.Prelude.{length, slice_get, take, IfOk, Some};
 ghost use Rattle.std.specs.List.{list_any};
 ghost use Rattle.gq_plan.specs.Assignments.{is_node, same_rel};
 ghost use Rattle.gq_law_trails.specs.Bounds.{AreBounds};
 ghost use Rattle.gq_marks.specs.Marking.{bound_of};
-ghost use Rattle.gq_hops.specs.steps.Hops.{AreTables};
+ghost use Rattle.gq_hops.specs.declared.follow.Hop.{Hop as Step};
+ghost use Rattle.gq_hops.specs.steps.Hops.{AreTables, IsHop, IsSite, same_site};
 ghost use Rattle.gq_hops.specs.steps.Searches.{run_of, IsBegun, IsRoomy, IsOpen, IsTried};
-ghost use Rattle.gq_hops.specs.steps.Searches.{IsLonger, IsSearched};
+ghost use Rattle.gq_hops.specs.steps.Searches.{IsLonger, IsPassed, IsPassedTo, IsSearched, rels_in};
 
-use crate::follow::{Follow, Hop, Level, Met, hop_of, level_at, met_here, next_met};
+use crate::follow::{Follow, Level, Met, hop_of, level_at, met_here, next_met};
 use crate::hop::Near;
+use crate::reach::is_used;
 use crate::used::Used;
 use gq_base::{Memory, NodeId, RelId};
 use gq_marks::Marks;
@@ -35,8 +37,9 @@ pub(crate) struct Run<'g> {
 pub(crate) struct Search<'g> {
     // The node at each depth of the walk, and what is to be tried there next.
     levels: Vec<Level<'g>>,
-    // The relationships of the walk.
-    rels: Vec<RelId>,
+    // Where the relationships of the walk stand. Which ones they are, their load numbers, is read
+    // where it is asked.
+    mets: Vec<Met>,
     depth: usize,
     // The node where the walk ends.
     last: NodeId,
@@ -48,7 +51,12 @@ impl<'g> Search<'g> {
         ensures { IfOk result IsRoomy }
     {
         let node = NodeId { table: 0, row: 0 };
-        let rel = RelId { table: 0, row: 0 };
+        let met = Met {
+            table: 0,
+            near: 0,
+            place: 0,
+            node,
+        };
         let level = Level {
             at: node,
             table: 0,
@@ -57,7 +65,7 @@ impl<'g> Search<'g> {
         };
         Ok(Search {
             levels: vec![in alloc; level; MAX_LENGTH]?,
-            rels: vec![in alloc; rel; MAX_LENGTH]?,
+            mets: vec![in alloc; met; MAX_LENGTH]?,
             depth: 0,
             last: node,
         })
@@ -86,13 +94,14 @@ impl<'g> Search<'g> {
             match self.try_next(run) {
                 Some(met) => {
                     if self.leads_on(run, met.node) {
-                        let hop = hop_of(&run.follow, met);
-                        if !self.is_used(run, hop.rel) {
-                            self.take(run, hop);
+                        if !self.is_used(run, met) {
+                            self.take(run, met);
                             if self.may_stop(run) {
                                 return true;
                             }
                         }
+                    } else {
+                        self.pass_over(run);
                     }
                 }
                 None => {
@@ -112,12 +121,22 @@ impl<'g> Search<'g> {
         self.last
     }
 
-    /// The relationships of the walk.
-    pub(crate) fn rels(&self) -> &[RelId]
-        requires { self.now.depth ≤ length self.now.rels.items }
-        ensures { result.now ≡ take self.now.depth self.now.rels.items }
+    /// How many relationships the walk has.
+    pub(crate) fn count(&self) -> usize
+        ensures { result ≡ self.now.depth }
     {
-        &self.rels[..self.depth]
+        self.depth
+    }
+
+    /// A relationship of the walk.
+    pub(crate) fn rel(&self, run: &Run<'g>, place: usize) -> RelId
+        requires tables { AreTables run.now.follow }
+        requires open { IsOpen (run_of run.now) self.now }
+        requires place { place < self.now.depth }
+        ensures { slice_get (take self.now.depth (rels_in (run_of run.now) self.now)) place
+            ≡ Some result }
+    {
+        hop_of(&run.follow, self.mets[place]).rel
     }
 
     // The next relationship at the end of the walk, if there is one and the walk may be longer.
@@ -142,20 +161,53 @@ impl<'g> Search<'g> {
         found
     }
 
+    // Passes over relationships at the end of the walk by which it comes to no node where it may end.
+    fn pass_over(&mut self, run: &Run<'g>)
+        requires tables { AreTables run.now.follow }
+        requires open { IsOpen (run_of run.now) self.old }
+        requires low { self.old.depth < run.now.high }
+        requires bounds { let f = run.now.follow in
+            AreBounds f.graph.now f.kind.now f.way (bound_of run.now.bounds) }
+        ensures { IsPassed run.now self.old self.new }
+    {
+        let level = self.passed(run);
+        self.levels[self.depth] = level;
+    }
+
+    // The level at the end of the walk from the first relationship on that leads on there, or from
+    // where its table has no more.
+    fn passed(&self, run: &Run<'g>) -> Level<'g>
+        requires tables { AreTables run.now.follow }
+        requires open { IsOpen (run_of run.now) self.now }
+        requires low { self.now.depth < run.now.high }
+        requires bounds { let f = run.now.follow in
+            AreBounds f.graph.now f.kind.now f.way (bound_of run.now.bounds) }
+        ensures { IsPassedTo run.now self.now result }
+    {
+        let mut level = self.levels[self.depth];
+        'hops: while let Some(met) = met_here(&run.follow, &level) {
+            if self.leads_on(run, met.node) {
+                return level;
+            }
+            level.place += 1;
+        }
+        level
+    }
+
     // The walk is longer by a relationship.
-    fn take(&mut self, run: &Run<'g>, hop: Hop)
+    fn take(&mut self, run: &Run<'g>, met: Met)
         requires room { IsRoomy self.old }
         requires low { self.old.depth < run.now.high }
         requires high { run.now.high ≤ 16 }
         requires tables { AreTables run.now.follow }
-        requires node { is_node run.now.follow.graph.now hop.node ≡ true }
-        ensures { IsLonger run.now self.old self.new hop }
+        requires node { is_node run.now.follow.graph.now met.node ≡ true }
+        ensures { IsLonger run.now self.old self.new met }
     {
-        self.rels[self.depth] = hop.rel;
+        self.mets[self.depth] = met;
         self.depth += 1;
-        self.last = hop.node;
+        self.last = met.node;
         if self.depth < run.high {
-            self.levels[self.depth] = level_at(&run.follow, hop.node, 0);
+            self.levels[self.depth] = level_at(&run.follow, met.node, 0);
         }
     }
 
@@ -175,20 +227,31 @@ impl<'g> Search<'g> {
         run.low <= self.depth && run.bounds.bound(self.last) == 0
     }
 
-    // Whether a relationship is used, or stands in the walk.
-    fn is_used(&self, run: &Run<'g>, rel: RelId) -> bool
-        requires { self.now.depth ≤ length self.now.rels.items }
-        ensures { result ≡ (list_any (same_rel rel) (take self.now.depth self.now.rels.items)
-            || list_any (same_rel rel) run.now.used) }
+    // Whether a relationship that is met is used, or stands in the walk.
+    fn is_used(&self, run: &Run<'g>, met: Met) -> bool
+        requires room { self.now.depth ≤ length self.now.mets.items }
+        requires site { IsSite run.now.follow met }
+        ensures { (hop : Step) → IsHop run.now.follow met hop → result
+            ≡ (list_any (same_site met) (take self.now.depth self.now.mets.items)
+            || list_any (same_rel hop.rel) run.now.used) }
     {
-        self.stands(rel) || run.used.has(rel)
+        self.stands(met) || is_used(&run.follow, &run.used, met)
     }
 
-    // Whether a relationship stands in the walk.
-    fn stands(&self, rel: RelId) -> bool
-        requires { self.now.depth ≤ length self.now.rels.items }
-        ensures { result ≡ list_any (same_rel rel) (take self.now.depth self.now.rels.items) }
+    // Whether a relationship stands in the walk. All are met on one way: where they stand tells them
+    // apart.
+    fn stands(&self, met: Met) -> bool
+        requires { self.now.depth ≤ length self.now.mets.items }
+        ensures { result ≡ list_any (same_site met) (take self.now.depth self.now.mets.items) }
     {
-        self.rels[..self.depth].iter().any(|own| rel == *own)
+        self.mets[..self.depth]
+            .iter()
+            .any(|own| same_site(met, *own))
     }
+}
+
+fn same_site(met: Met, own: Met) -> bool
+    ensures { result ≡ same_site met own }
+{
+    met.place == own.place && met.near == own.near && met.table == own.table
 }

@@ -1,6 +1,6 @@
 //! The walks of one trail, one after another.
 ghost use Rattle.std.specs.Prelude.{◌≡◌, ◌∷◌, [], ◌≤◌, ◌<◌, true, false, length, filter};
-ghost use Rattle.std.specs.Prelude.{IfOk, Option, Some};
+ghost use Rattle.std.specs.Prelude.{IfOk, Option, Some, slice_get};
 ghost use Rattle.std.specs.List.{AllByRecursion};
 ghost use Rattle.gq_base.specs.declared.NodeId.{NodeId as Node};
 ghost use Rattle.gq_plan.specs.Assignments.{is_node};
@@ -157,13 +157,22 @@ impl<'g> Walker<'g> {
         self.search.last()
     }
 
-    /// The relationships of the walk that was reached last.
-    pub fn rels(&self) -> &[RelId]
+    /// How many relationships the walk has that was reached last.
+    pub fn count(&self) -> usize
         requires { self.now.standing ≡ true }
-        ensures rels { result.now ≡ self.now.rels }
-        ensures few { length result.now ≤ 16 }
+        ensures count { result ≡ length self.now.rels }
+        ensures few { result ≤ 16 }
     {
-        self.search.rels()
+        self.search.count()
+    }
+
+    /// A relationship of the walk that was reached last. Which one it is, is read here.
+    pub fn rel(&self, place: usize) -> RelId
+        requires standing { self.now.standing ≡ true }
+        requires place { place < length self.now.rels }
+        ensures { slice_get self.now.rels place ≡ Some result }
+    {
+        self.search.rel(&self.run, place)
     }
 }
 

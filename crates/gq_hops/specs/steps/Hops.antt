@@ -1,5 +1,5 @@
 -- Relationships of a type that are met at a node, one after another.
-use Rattle.std.specs.Prelude.{◌≡◌, ℕ, ◌+◌, ◌^◌, ◌<◌, All, length, if◌then◌else◌, nat_eq, Bool, true, Option, Some, None, MatchOption, List, [], ◌∷◌, ◌++◌, filter, flat_map, drop, slice_get}
+use Rattle.std.specs.Prelude.{◌≡◌, ℕ, ◌+◌, ◌^◌, ◌<◌, All, length, if◌then◌else◌, nat_eq, Bool, true, ◌&&◌, Option, Some, None, MatchOption, List, [], ◌∷◌, ◌++◌, filter, flat_map, drop, get_or, slice_get}
 use Rattle.std.specs.Cmp.Lexicographic.{pointwise}
 use Rattle.std.specs.List.{list_any}
 use Rattle.gq_base.specs.Plain.{Graph}
@@ -105,11 +105,22 @@ abbrev pub is_far : List Followed → ℕ → Bool
 is_far es table = list_any (λ (e : Followed). nat_eq e.far table) es
 
 -- where a relationship stands that is met at a node
-pub record IsSite (f : Follow) (m : Met) : Type 0 where
-  pub far : is_far f.tables.items m.node.table ≡ true
-  pub within : m.table < length f.graph.now.catalog.rels
-  pub near : m.near < near_rows f.graph.now m.table f.way
-  pub leads : slice_get (neighbours f.graph.now m.table f.way m.near) m.place ≡ Some m.node.row
+pub record IsSiteIn (g : Graph) (es : List Followed) (way : Direction) (m : Met) : Type 0 where
+  pub far : is_far es m.node.table ≡ true
+  pub within : m.table < length g.catalog.rels
+  pub near : m.near < near_rows g m.table way
+  pub leads : slice_get (neighbours g m.table way m.near) m.place ≡ Some m.node.row
+
+abbrev pub IsSite : Follow → Met → Type 0
+IsSite f m = IsSiteIn f.graph.now f.tables.items f.way m
+
+-- two of them are one
+abbrev pub same_site : Met → Met → Bool
+same_site m q = (nat_eq m.place q.place && nat_eq m.near q.near) && nat_eq m.table q.table
+
+-- the relationship that stands there
+abbrev pub rel_of : Graph → Direction → Met → RelId
+rel_of g way m = record { table = m.table; row = get_or (numbers g m.table way m.near) m.place 0 }
 
 -- which one stands there
 pub record IsHop (f : Follow) (m : Met) (h : Hop) : Type 0 where

@@ -9,7 +9,7 @@ use Rattle.gq_law_trails.specs.Walks.{end_of}
 use Rattle.gq_hops.specs.Walking.{Walking}
 use Rattle.gq_marks.specs.Marking.{bound_of}
 use Rattle.gq_hops.specs.steps.Hops.{AreTables}
-use Rattle.gq_hops.specs.steps.Searches.{IsOpen, IsRoomy, Run, kept_by, onto, run_of}
+use Rattle.gq_hops.specs.steps.Searches.{IsOpen, IsRoomy, Run, kept_by, onto, rels_in, run_of}
 use Rattle.gq_hops.specs.States.{is_standing}
 use Rattle.gq_hops.specs.declared.search.Search.{Search}
 use Rattle.gq_hops.specs.declared.state.State.{State}
@@ -26,14 +26,14 @@ walking_of w = record {
   course = (run_of w.run).course;
   bounds = w.run.bounds;
   owed = owed_in w.state (run_of w.run) w.search;
-  rels = onto w.search.rels.items w.search.depth [];
+  rels = onto (rels_in (run_of w.run) w.search) w.search.depth [];
   standing = is_standing w.state;
 }
 
 -- the search stands at a walk
 pub record IsAt (c : Run) (s : Search) : Type 0 where
   pub open_at : IsOpen c s
-  pub ends : (at : Option NodeId) → end_of c.course.graph c.course.way at (onto s.rels.items s.depth []) ≡ Some s.last
+  pub ends : (at : Option NodeId) → end_of c.course.graph c.course.way at (onto (rels_in c s) s.depth []) ≡ Some s.last
   pub there : is_node c.course.graph s.last ≡ true
 
 abbrev pub IsSought : State → Run → Search → Type 0

@@ -10,7 +10,7 @@ use Rattle.gq_law_trails.specs.Bounds.{comes}
 use Rattle.gq_law_trails.specs.Walks.{end_of, pred, walks}
 use Rattle.gq_hops.specs.Walking.{Course}
 use Rattle.gq_marks.specs.Marking.{bound_of}
-use Rattle.gq_hops.specs.steps.Hops.{IsFirst, IsHop, IsLevel, IsLevelIn, IsSite, IsStart, left_at, left_of}
+use Rattle.gq_hops.specs.steps.Hops.{IsFirst, IsHop, IsLevel, IsLevelIn, IsSite, IsSiteIn, IsStart, left_at, left_of, rel_of, tables_in}
 use Rattle.gq_hops.specs.declared.follow.Hop.{Hop}
 use Rattle.gq_hops.specs.declared.follow.Level.{Level}
 use Rattle.gq_hops.specs.declared.follow.Met.{Met}
@@ -34,12 +34,18 @@ run_of r = record {
 abbrev pub no_node : NodeId
 no_node = record { table = 0; row = 0 }
 
+abbrev pub no_met : Met
+no_met = record { table = 0; near = 0; place = 0; node = no_node }
+
 abbrev pub no_level : Level
 no_level = record { at = no_node; table = 0; near = One None; place = 0 }
 
--- the relationship and the level at a depth
+-- the relationship and the level at a depth, and where the relationship stands
 abbrev pub rel_at : List RelId → ℕ → RelId
 rel_at rels n = get_or rels n (record { table = 0; row = 0 })
+
+abbrev pub met_at : List Met → ℕ → Met
+met_at mets n = get_or mets n no_met
 
 abbrev pub level_at : List Level → ℕ → Level
 level_at levels n = get_or levels n no_level
@@ -75,8 +81,12 @@ unfoldable pub behind : Run → List RelId → List Level → ℕ → List (List
 behind c rels levels zero = []
 behind c rels levels (suc n) = ahead c rels levels n ++ behind c rels levels n
 
+-- the relationships of a walk
+abbrev pub rels_in : Run → Search → List RelId
+rels_in c s = map (rel_of c.course.graph c.course.way) s.mets.items
+
 abbrev pub owed_by : Run → Search → List (List RelId)
-owed_by c s = behind c s.rels.items s.levels.items (suc s.depth)
+owed_by c s = behind c (rels_in c s) s.levels.items (suc s.depth)
 
 -- of these, the walks that end where they may
 abbrev pub kept_by : Run → Search → List (List RelId)
@@ -86,7 +96,14 @@ kept_by c s = filter (comes c.course.graph c.course.way c.bounds None) (owed_by 
 
 pub record IsRoomy (s : Search) : Type 0 where
   pub levels : length s.levels.items ≡ 16
-  pub rels : length s.rels.items ≡ 16
+  pub mets : length s.mets.items ≡ 16
+
+-- where a relationship stands that is met on the way, and so the one at a depth
+abbrev pub IsSiteOf : Run → Met → Type 0
+IsSiteOf c m = IsSiteIn c.course.graph (tables_in c.course.graph c.course.kind c.course.way) c.course.way m
+
+abbrev pub IsSiteAt : Run → Search → ℕ → Type 0
+IsSiteAt c s i = IsSiteOf c (met_at s.mets.items i)
 
 -- the walk is no longer than it may be, and each level is at a node of the graph
 pub record IsOpen (c : Run) (s : Search) : Type 0 where
@@ -94,14 +111,15 @@ pub record IsOpen (c : Run) (s : Search) : Type 0 where
   pub high : c.course.high ≤ 16
   pub depth : s.depth ≤ c.course.high
   pub levels : (i : ℕ) → i ≤ s.depth → i < c.course.high → IsLevelIn c.course.graph c.course.kind c.course.way (level_at s.levels.items i)
+  pub sites : (i : ℕ) → i < s.depth → IsSiteAt c s i
 
 abbrev pub with_level : Search → ℕ → Level → Search
 with_level s n l = record s { levels = with_item s.levels n l }
 
 -- the walk is longer by a relationship, and may have a level at its end
-abbrev pub with_step : ℕ → Search → Hop → Level → Search
-with_step high s h l =
-    let longer : Search = record s { rels = with_item s.rels s.depth h.rel; depth = s.depth + 1; last = h.node } in
+abbrev pub with_step : ℕ → Search → Met → Level → Search
+with_step high s m l =
+    let longer : Search = record s { mets = with_item s.mets s.depth m; depth = s.depth + 1; last = m.node } in
     if nat_lt (s.depth + 1) high then with_level longer (s.depth + 1) l else longer
 
 -- nothing is walked yet from a node
@@ -112,16 +130,28 @@ pub record IsBegun (r : declared.Run) (at : NodeId) (old new : Search) : Type 0 
   pub start : IsStart at 0 level
 
 -- nothing was tried yet at the end of the longer walk
-pub record IsLonger (r : declared.Run) (old new : Search) (h : Hop) : Type 0 where
+pub record IsLonger (r : declared.Run) (old new : Search) (m : Met) : Type 0 where
   pub level : Level
-  pub is : new ≡ with_step r.high old h level
+  pub is : new ≡ with_step r.high old m level
   pub fits : old.depth + 1 < r.high → IsLevel r.follow level
-  pub start : old.depth + 1 < r.high → IsStart h.node 0 level
+  pub start : old.depth + 1 < r.high → IsStart m.node 0 level
 
 -- nothing is left at the end of the walk, or it may not be longer
 pub record IsSpent (r : declared.Run) (old new : Search) : Type 0 where
   pub same : new ≡ old
   pub none : r.high ≤ old.depth ⊎ (left_of r.follow (level_at old.levels.items old.depth) ≡ [])
+
+-- of what is left at the end of the walk, some was passed over: no walk that begins with it ends where it may
+pub record IsPassedTo (r : declared.Run) (s : Search) (level : Level) : Type 0 where
+  pub fits : IsLevel r.follow level
+  pub over : List RelId
+  pub left : left_of r.follow (level_at s.levels.items s.depth) ≡ over ++ left_of r.follow level
+  pub kept : kept_by (run_of r) s ≡ kept_by (run_of r) (with_level s s.depth level)
+
+pub record IsPassed (r : declared.Run) (old new : Search) : Type 0 where
+  pub level : Level
+  pub is : new ≡ with_level old old.depth level
+  pub told : IsPassedTo r old level
 
 -- the next relationship there
 pub record IsTaken (r : declared.Run) (old new : Search) (h : Hop) : Type 0 where
@@ -143,8 +173,8 @@ IsTried r old new found = MatchOption found (IsSpent r old new) (IsSeen r old ne
 -- the first of what was owed is the walk, and the rest is owed
 pub record IsNext (c : Run) (old new : Search) : Type 0 where
   pub open_at : IsOpen c new
-  pub next : owed_by c old ≡ onto new.rels.items new.depth [] ∷ owed_by c new
-  pub ends : (at : Option NodeId) → end_of c.course.graph c.course.way at (onto new.rels.items new.depth []) ≡ Some new.last
+  pub next : owed_by c old ≡ onto (rels_in c new) new.depth [] ∷ owed_by c new
+  pub ends : (at : Option NodeId) → end_of c.course.graph c.course.way at (onto (rels_in c new) new.depth []) ≡ Some new.last
   pub there : is_node c.course.graph new.last ≡ true
 
 -- nothing was owed
@@ -155,8 +185,8 @@ pub record IsEnd (c : Run) (old new : Search) : Type 0 where
 -- the first of what was owed that ends where it may is the walk, and the rest of these is owed
 pub record IsFound (c : Run) (old new : Search) : Type 0 where
   pub open_at : IsOpen c new
-  pub next : kept_by c old ≡ onto new.rels.items new.depth [] ∷ kept_by c new
-  pub ends : (at : Option NodeId) → end_of c.course.graph c.course.way at (onto new.rels.items new.depth []) ≡ Some new.last
+  pub next : kept_by c old ≡ onto (rels_in c new) new.depth [] ∷ kept_by c new
+  pub ends : (at : Option NodeId) → end_of c.course.graph c.course.way at (onto (rels_in c new) new.depth []) ≡ Some new.last
   pub there : is_node c.course.graph new.last ≡ true
 
 -- none of what was owed ends where it may

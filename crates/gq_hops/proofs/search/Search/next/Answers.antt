@@ -1,11 +1,12 @@
-use Rattle.std.proofs.Common.{◌≡◌, ◌≢◌, ◌<◌, ◌+◌, ◌-◌, nat_eq, nat_le, nat_lt, false, true, ap, ap₂, suc, sym, ◌∙◌, subst, arith}
+use Rattle.std.proofs.Common.{◌≡◌, ◌≢◌, ◌<◌, ◌≤◌, ◌+◌, ◌-◌, nat_eq, nat_le, nat_lt, false, true, ap, ap₂, suc, sym, ◌∙◌, subst, arith}
 use Rattle.std.proofs.lemmas.Bool.{and_parts}
 use Rattle.std.proofs.lemmas.Bool.Decides.{nat_tests}
 use Rattle.gq_base.specs.declared.NodeId.{NodeId}
+use Rattle.gq_plan.specs.Assignments.{is_node}
 use Rattle.gq_hops.specs.steps.Hops.{IsLevel, IsStart}
-use Rattle.gq_hops.specs.steps.Searches.{IsEnd, IsLonger, IsNext, IsOpen, IsSeen, IsSpent, IsTaken, kept_by, run_of, with_level}
+use Rattle.gq_hops.specs.steps.Searches.{IsEnd, IsLonger, IsNext, IsOpen, IsSeen, IsSpent, kept_by, run_of, with_level}
 use Rattle.gq_hops.specs.declared.search.Search.{Search}
-use Rattle.gq_hops.proofs.Searching.{at_end, at_next, kept_first, kept_none, kept_on, kept_same, less_mid, less_new, less_up, open_mid, open_new, open_up, owed_far, owed_mid, owed_up, stands_is, stepped_new, taken_is}
+use Rattle.gq_hops.proofs.Searching.{at_end, at_next, kept_first, kept_none, kept_on, kept_passed, kept_same, less_mid, less_new, less_passed, less_up, open_mid, open_new, open_passed, open_up, owed_far, owed_mid, owed_up, site_is, stands_is, stepped_new}
 use Rattle.gq_hops.proofs.Weights.{weight}
 use Rattle.gq_hops.proofs.search.Search.next.Goals as goal
 
@@ -14,17 +15,21 @@ returns-then-may_stop c =
     let r = c.args.run.now in
     let s = c.loop-met.self in
     let open_at = c.loop-met.invariant.open_at in
-    let hop = c.hop_of-hop.result in
-    let t : IsTaken r s c.try_next.new.self hop = taken_is r s c.try_next.new.self c.in-Some.met hop c.in-Some.ensures c.hop_of-hop.ensures in
-    let free = stands_is r s c.try_next.new.self hop open_at t false (sym c.if-not-is_used.true ∙ c.is_used.ensures) in
-    let taken : IsLonger r c.try_next.new.self c.take.new.self hop = c.take.ensures in
-    let is = stepped_new r s c.try_next.new.self hop open_at t c.take.new.self taken.level taken.is in
+    let mid = c.try_next.new.self in
+    let met = c.in-Some.met in
+    let seen : IsSeen r s mid met = c.in-Some.ensures in
+    let hop = seen.hop in
+    let t = seen.taken in
+    let site = site_is r s mid met open_at seen c.requires.tables in
+    let free = stands_is r s mid met open_at seen c.requires.tables false (sym c.if-not-is_used.true ∙ c.is_used.ensures hop seen.is) in
+    let taken : IsLonger r mid c.take.new.self met = c.take.ensures in
+    let is = stepped_new r s mid met open_at seen c.requires.tables c.take.new.self taken.level taken.is in
     let same = ap (λ (m : Search). m.depth) t.is in
     let fits : suc s.depth < r.high → IsLevel r.follow taken.level = λ more. taken.fits (omega (arith, more, same)) in
-    let start : suc s.depth < r.high → IsStart hop.node 0 taken.level = λ more. taken.start (omega (arith, more, same)) in
+    let start : suc s.depth < r.high → IsStart met.node 0 taken.level = λ more. taken.start (omega (arith, more, same)) in
     let both = and_parts (nat_le r.low c.take.new.self.depth) (nat_eq ((run_of r).bounds c.take.new.self.last) 0) (sym c.may_stop.ensures ∙ c.if-may_stop.true) in
     let enough = both.0 in
-    let next : IsNext (run_of r) s c.take.new.self = at_next r s open_at t.low t.level hop t.first free c.take.new.self taken.level is fits start (grind (arith, nat_tests, enough)) in
+    let next : IsNext (run_of r) s c.take.new.self = at_next r s open_at t.low t.level hop t.first free met seen.is site c.take.new.self taken.level is fits start (grind (arith, nat_tests, enough)) in
     record {
       open_at = next.open_at;
       next = c.loop-met.invariant.owed ∙ kept_first (run_of r) s c.take.new.self next both.1;
@@ -37,36 +42,86 @@ loop-met-smaller-else-may_stop c =
     let r = c.args.run.now in
     let s = c.loop-met.self in
     let open_at = c.loop-met.invariant.open_at in
-    let hop = c.hop_of-hop.result in
-    let t : IsTaken r s c.try_next.new.self hop = taken_is r s c.try_next.new.self c.in-Some.met hop c.in-Some.ensures c.hop_of-hop.ensures in
-    let free = stands_is r s c.try_next.new.self hop open_at t false (sym c.if-not-is_used.true ∙ c.is_used.ensures) in
-    let taken : IsLonger r c.try_next.new.self c.take.new.self hop = c.take.ensures in
-    let is = stepped_new r s c.try_next.new.self hop open_at t c.take.new.self taken.level taken.is in
+    let mid = c.try_next.new.self in
+    let met = c.in-Some.met in
+    let seen : IsSeen r s mid met = c.in-Some.ensures in
+    let hop = seen.hop in
+    let t = seen.taken in
+    let site = site_is r s mid met open_at seen c.requires.tables in
+    let free = stands_is r s mid met open_at seen c.requires.tables false (sym c.if-not-is_used.true ∙ c.is_used.ensures hop seen.is) in
+    let taken : IsLonger r mid c.take.new.self met = c.take.ensures in
+    let is = stepped_new r s mid met open_at seen c.requires.tables c.take.new.self taken.level taken.is in
     let same = ap (λ (m : Search). m.depth) t.is in
     let fits : suc s.depth < r.high → IsLevel r.follow taken.level = λ more. taken.fits (omega (arith, more, same)) in
-    let start : suc s.depth < r.high → IsStart hop.node 0 taken.level = λ more. taken.start (omega (arith, more, same)) in
-    less_new r s open_at t.low t.level hop t.first free c.take.new.self taken.level is fits start
+    let start : suc s.depth < r.high → IsStart met.node 0 taken.level = λ more. taken.start (omega (arith, more, same)) in
+    less_new r s open_at t.low t.level hop t.first free met seen.is site c.take.new.self taken.level is fits start
 
 pub loop-met-preserved-else-may_stop : goal.loop-met-preserved-else-may_stop
 loop-met-preserved-else-may_stop c =
     let r = c.args.run.now in
     let s = c.loop-met.self in
     let open_at = c.loop-met.invariant.open_at in
-    let hop = c.hop_of-hop.result in
-    let t : IsTaken r s c.try_next.new.self hop = taken_is r s c.try_next.new.self c.in-Some.met hop c.in-Some.ensures c.hop_of-hop.ensures in
-    let free = stands_is r s c.try_next.new.self hop open_at t false (sym c.if-not-is_used.true ∙ c.is_used.ensures) in
-    let taken : IsLonger r c.try_next.new.self c.take.new.self hop = c.take.ensures in
-    let is = stepped_new r s c.try_next.new.self hop open_at t c.take.new.self taken.level taken.is in
+    let mid = c.try_next.new.self in
+    let met = c.in-Some.met in
+    let seen : IsSeen r s mid met = c.in-Some.ensures in
+    let hop = seen.hop in
+    let t = seen.taken in
+    let site = site_is r s mid met open_at seen c.requires.tables in
+    let free = stands_is r s mid met open_at seen c.requires.tables false (sym c.if-not-is_used.true ∙ c.is_used.ensures hop seen.is) in
+    let taken : IsLonger r mid c.take.new.self met = c.take.ensures in
+    let is = stepped_new r s mid met open_at seen c.requires.tables c.take.new.self taken.level taken.is in
     let same = ap (λ (m : Search). m.depth) t.is in
     let fits : suc s.depth < r.high → IsLevel r.follow taken.level = λ more. taken.fits (omega (arith, more, same)) in
-    let start : suc s.depth < r.high → IsStart hop.node 0 taken.level = λ more. taken.start (omega (arith, more, same)) in
+    let start : suc s.depth < r.high → IsStart met.node 0 taken.level = λ more. taken.start (omega (arith, more, same)) in
     record {
-      open_at = open_new r s open_at t.low t.level hop t.first free c.take.new.self taken.level is fits start;
-      owed = c.loop-met.invariant.owed ∙ kept_on r s open_at t.low t.level hop t.first free c.take.new.self taken.level is fits start (sym c.may_stop.ensures ∙ c.if-may_stop.false);
+      open_at = open_new r s open_at t.low t.level hop t.first free met seen.is site c.take.new.self taken.level is fits start;
+      owed = c.loop-met.invariant.owed ∙ kept_on r s open_at t.low t.level hop t.first free met seen.is site c.take.new.self taken.level is fits start (sym c.may_stop.ensures ∙ c.if-may_stop.false);
     }
+
+pub pass_over-requires-clause-open : goal.pass_over-requires-clause-open
+pass_over-requires-clause-open c =
+    let r = c.args.run.now in
+    let s = c.loop-met.self in
+    let seen : IsSeen r s c.try_next.new.self c.in-Some.met = c.in-Some.ensures in
+    let t = seen.taken in
+    subst (IsOpen (run_of r)) (sym t.is) (open_mid r s c.loop-met.invariant.open_at t.low t.level seen.hop t.first)
 
 pub loop-met-smaller-else-leads_on : goal.loop-met-smaller-else-leads_on
 loop-met-smaller-else-leads_on c =
+    let r = c.args.run.now in
+    let s = c.loop-met.self in
+    let mid = c.try_next.new.self in
+    let new = c.pass_over.new.self in
+    let seen : IsSeen r s mid c.in-Some.met = c.in-Some.ensures in
+    let t = seen.taken in
+    let open_at = subst (IsOpen (run_of r)) (sym t.is) (open_mid r s c.loop-met.invariant.open_at t.low t.level seen.hop t.first) in
+    let low : mid.depth < r.high = subst (λ (m : Search). m.depth < r.high) (sym t.is) t.low in
+    let one : weight (run_of r) mid.levels.items (suc mid.depth) < weight (run_of r) s.levels.items (suc s.depth) =
+    subst (λ (m : Search). weight (run_of r) m.levels.items (suc m.depth) < weight (run_of r) s.levels.items (suc s.depth)) (sym t.is)
+    (less_mid r s c.loop-met.invariant.open_at t.low t.level seen.hop t.first) in
+    let two : weight (run_of r) new.levels.items (suc new.depth) ≤ weight (run_of r) mid.levels.items (suc mid.depth) = less_passed r mid open_at low new c.pass_over.ensures in
+    omega (arith, one, two)
+
+pub loop-met-preserved-else-leads_on : goal.loop-met-preserved-else-leads_on
+loop-met-preserved-else-leads_on c =
+    let r = c.args.run.now in
+    let s = c.loop-met.self in
+    let mid = c.try_next.new.self in
+    let open_at = c.loop-met.invariant.open_at in
+    let seen : IsSeen r s mid c.in-Some.met = c.in-Some.ensures in
+    let t = seen.taken in
+    let open_next = subst (IsOpen (run_of r)) (sym t.is) (open_mid r s open_at t.low t.level seen.hop t.first) in
+    let low : mid.depth < r.high = subst (λ (m : Search). m.depth < r.high) (sym t.is) t.low in
+    let short : nat_lt ((run_of r).bounds seen.hop.node + s.depth) r.high ≡ false =
+    ap₂ (λ (n : NodeId) (m : Search). nat_lt ((run_of r).bounds n + m.depth) r.high) seen.is.node (sym t.is) ∙ sym c.leads_on.ensures ∙ c.if-leads_on.false in
+    record {
+      open_at = open_passed r mid open_next low c.pass_over.new.self c.pass_over.ensures;
+      owed = c.loop-met.invariant.owed ∙ owed_far r s open_at t.low t.level seen.hop t.first c.requires.bounds short ∙ ap (kept_by (run_of r)) (sym t.is)
+          ∙ kept_passed r mid open_next low c.pass_over.new.self c.pass_over.ensures;
+    }
+
+pub loop-met-smaller-else-not-is_used : goal.loop-met-smaller-else-not-is_used
+loop-met-smaller-else-not-is_used c =
     let r = c.args.run.now in
     let s = c.loop-met.self in
     let seen : IsSeen r s c.try_next.new.self c.in-Some.met = c.in-Some.ensures in
@@ -74,37 +129,16 @@ loop-met-smaller-else-leads_on c =
     subst (λ (m : Search). weight (run_of r) m.levels.items (suc m.depth) < weight (run_of r) s.levels.items (suc s.depth)) (sym t.is)
     (less_mid r s c.loop-met.invariant.open_at t.low t.level seen.hop t.first)
 
-pub loop-met-preserved-else-leads_on : goal.loop-met-preserved-else-leads_on
-loop-met-preserved-else-leads_on c =
-    let r = c.args.run.now in
-    let s = c.loop-met.self in
-    let open_at = c.loop-met.invariant.open_at in
-    let seen : IsSeen r s c.try_next.new.self c.in-Some.met = c.in-Some.ensures in
-    let t = seen.taken in
-    let short : nat_lt ((run_of r).bounds seen.hop.node + s.depth) r.high ≡ false =
-    ap₂ (λ (n : NodeId) (m : Search). nat_lt ((run_of r).bounds n + m.depth) r.high) seen.is.node (sym t.is) ∙ sym c.leads_on.ensures ∙ c.if-leads_on.false in
-    record {
-      open_at = subst (IsOpen (run_of r)) (sym t.is) (open_mid r s open_at t.low t.level seen.hop t.first);
-      owed = c.loop-met.invariant.owed ∙ owed_far r s open_at t.low t.level seen.hop t.first c.requires.bounds short ∙ ap (kept_by (run_of r)) (sym t.is);
-    }
-
-pub loop-met-smaller-else-not-is_used : goal.loop-met-smaller-else-not-is_used
-loop-met-smaller-else-not-is_used c =
-    let r = c.args.run.now in
-    let s = c.loop-met.self in
-    let hop = c.hop_of-hop.result in
-    let t : IsTaken r s c.try_next.new.self hop = taken_is r s c.try_next.new.self c.in-Some.met hop c.in-Some.ensures c.hop_of-hop.ensures in
-    subst (λ (m : Search). weight (run_of r) m.levels.items (suc m.depth) < weight (run_of r) s.levels.items (suc s.depth)) (sym t.is)
-    (less_mid r s c.loop-met.invariant.open_at t.low t.level hop t.first)
-
 pub loop-met-preserved-else-not-is_used : goal.loop-met-preserved-else-not-is_used
 loop-met-preserved-else-not-is_used c =
     let r = c.args.run.now in
     let s = c.loop-met.self in
     let open_at = c.loop-met.invariant.open_at in
-    let hop = c.hop_of-hop.result in
-    let t : IsTaken r s c.try_next.new.self hop = taken_is r s c.try_next.new.self c.in-Some.met hop c.in-Some.ensures c.hop_of-hop.ensures in
-    let stands = stands_is r s c.try_next.new.self hop open_at t true (sym c.if-not-is_used.false ∙ c.is_used.ensures) in
+    let mid = c.try_next.new.self in
+    let seen : IsSeen r s mid c.in-Some.met = c.in-Some.ensures in
+    let hop = seen.hop in
+    let t = seen.taken in
+    let stands = stands_is r s mid c.in-Some.met open_at seen c.requires.tables true (sym c.if-not-is_used.false ∙ c.is_used.ensures hop seen.is) in
     record {
       open_at = subst (IsOpen (run_of r)) (sym t.is) (open_mid r s open_at t.low t.level hop t.first);
       owed = c.loop-met.invariant.owed ∙ kept_same (run_of r) s (with_level s s.depth t.level) (owed_mid r s open_at t.low t.level hop t.first stands) ∙ ap (kept_by (run_of r)) (sym t.is);
@@ -147,5 +181,5 @@ loop-met-preserved c =
 pub take-requires-clause-node : goal.take-requires-clause-node
 take-requires-clause-node c =
     let r = c.args.run.now in
-    let t : IsTaken r c.loop-met.self c.try_next.new.self c.hop_of-hop.result = taken_is r c.loop-met.self c.try_next.new.self c.in-Some.met c.hop_of-hop.result c.in-Some.ensures c.hop_of-hop.ensures in
-    t.first.there
+    let seen : IsSeen r c.loop-met.self c.try_next.new.self c.in-Some.met = c.in-Some.ensures in
+    ap (is_node r.follow.graph.now) (sym seen.is.node) ∙ seen.taken.first.there

@@ -4,7 +4,7 @@ use Rattle.gq_law_trails.specs.Bounds.{comes}
 use Rattle.gq_law_trails.specs.Walks.{walks}
 use Rattle.gq_marks.specs.Marking.{Marking, bound_of}
 use Rattle.gq_hops.specs.Walking.{Course, Walking}
-use Rattle.gq_hops.specs.steps.Searches.{Run, kept_by, left_in, run_of}
+use Rattle.gq_hops.specs.steps.Searches.{Run, kept_by, left_in, rels_in, run_of}
 use Rattle.gq_hops.proofs.Owing.{begun, from_any}
 use Rattle.gq_hops.proofs.Searching.{set_level, started}
 use Rattle.gq_hops.proofs.walker.Walker.begin.Goals as goal
@@ -18,7 +18,7 @@ returns-clause-owed c =
     let b = c.begin.ensures in
     ap (kept_by run) b.is
     ∙ ap (filter (comes run.course.graph run.course.way run.bounds None))
-    (sym (begun run s.rels.items (set s.levels.items 0 b.level) c.args.start c.self.invariant.low
+    (sym (begun run (rels_in run s) (set s.levels.items 0 b.level) c.args.start c.self.invariant.low
     (ap (left_in run.course) (set_level s.levels.items 0 b.level (omega (arith, c.self.invariant.room.levels))) ∙ started run.course b.level c.args.start b.start)))
     ∙ from_any run.course run.bounds run.course.low run.course.high (Some c.args.start) c.set.new.self c.self.invariant.low
     ∙ ap (λ (w : Walking). walks_in w.course w.bounds c.set.new.self) c.self.view_is
