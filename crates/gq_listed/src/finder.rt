@@ -140,7 +140,7 @@ impl Finder {
     {
         match expr {
             Expr::Node(variable) => {
-                if let Some(table) = tables.of_node(*variable) {
+                if let Some(table) = tables.of_node(*variable, graph) {
                     let source = cells.add(Source::Node(table))?;
                     let way = Way::Node(Range {
                         variable: *variable,

@@ -45,13 +45,13 @@ pub fn hold_columns(
 
 /// Whether a chunk may have so many assignments that it pays to find leads.
 pub(crate) fn has_many(chunk: &Chunk<'_, '_>) -> bool {
-    let Some(group) = chunk.groups.last() else {
+    let Some(group) = chunk.groups().last() else {
         return false;
     };
-    if group.current.is_some() {
+    if group.current().is_some() {
         return false;
     }
-    match group.piece {
+    match group.piece() {
         Piece::Span { low, high } => high.saturating_sub(low) >= 4,
         Piece::List { ids, first: _ } => ids.len() >= 4,
         Piece::Matches { rows, first: _ } => rows.len() >= 4,
@@ -101,7 +101,7 @@ fn home_of(range: Range, typed: &Typed, chunk: &Chunk<'_, '_>) -> Lead
     if !has_table(range, typed) {
         return Lead::Unknown;
     }
-    match chunk.homes.nodes.get(range.variable as usize) {
+    match chunk.homes().nodes.get(range.variable as usize) {
         Some(NodeHome::Item { group }) => Lead::Item { group: *group },
         Some(NodeHome::Column { .. }) | Some(NodeHome::Nowhere) | None => Lead::Home,
     }
@@ -151,7 +151,7 @@ fn is_flat(way: Way, chunk: &Chunk<'_, '_>) -> bool
     let Way::Node(range) = way else {
         return false;
     };
-    match chunk.homes.nodes.get(range.variable as usize) {
+    match chunk.homes().nodes.get(range.variable as usize) {
         Some(home) => is_home_flat(*home, chunk),
         None => false,
     }
@@ -170,8 +170,8 @@ fn is_home_flat(home: NodeHome, chunk: &Chunk<'_, '_>) -> bool
 fn is_flat_group(chunk: &Chunk<'_, '_>, group: u32) -> bool
     ensures { result ≡ true → IsFlat (group_of chunk.now group) }
 {
-    match chunk.groups.get(group as usize) {
-        Some(group) => group.current.is_some(),
+    match chunk.groups().get(group as usize) {
+        Some(group) => group.current().is_some(),
         None => false,
     }
 }

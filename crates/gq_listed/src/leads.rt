@@ -43,7 +43,7 @@ impl<'r, 'c, 'g> Spot<'r, 'c, 'g> {
             ≡ node_in self.now.chunk.now self.now.positions.now (home.Item group) }
     {
         let here = self.chunk.group(group);
-        here.piece.item(self.positions[group as usize])
+        here.item(self.positions[group as usize])
     }
 
     /// What is found of the variable of a column.

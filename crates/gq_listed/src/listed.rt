@@ -344,7 +344,7 @@ impl<'g> Listed<'g> {
                 Ok(More::Enough) => return Ok(More::Enough),
                 Err(refusal) => return Err(refusal),
             }
-            found = choice.next(chunk.groups);
+            found = choice.next(chunk);
         }
         Ok(More::Go)
     }

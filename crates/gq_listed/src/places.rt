@@ -42,7 +42,7 @@ fn node_reader(variable: u32, name: &Text, tables: &Tables<'_>, graph: &Graph) -
     ensures { IsReader graph.now (NodeProperty variable name.now) result }
 {
     let catalog = graph.catalog();
-    let Some(table) = tables.of_node(variable) else {
+    let Some(table) = tables.of_node(variable, graph) else {
         return Reader::Plain;
     };
     if table >= catalog.node_tables() {

@@ -207,7 +207,7 @@ impl<'g> RowTable<'g> {
             unreachable!()
         };
         let mut choice = mem::replace(&mut self.choice, Choice::new(self.alloc));
-        if !choice.first(chunk.groups)? {
+        if !choice.first(chunk)? {
             self.choice = choice;
             return Ok(More::Go);
         }
@@ -482,7 +482,7 @@ impl<'g> RowTable<'g> {
                 Ok(More::Enough) => return Ok(More::Enough),
                 Err(refusal) => return Err(refusal),
             }
-            found = choice.next(chunk.groups);
+            found = choice.next(chunk);
         }
         Ok(More::Go)
     }
