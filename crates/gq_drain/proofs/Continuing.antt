@@ -19,7 +19,7 @@ use Rattle.gq_plan.specs.Meaning.{Partial, row}
 use Rattle.gq_plan.specs.declared.Bound.{Bound}
 use Rattle.gq_plan.specs.declared.TrailPart.{TrailPart}
 use Rattle.gq_plan.specs.declared.Typed.{Typed}
-use Rattle.gq_trails.specs.Continued.{rows_continued, rows_from}
+use Rattle.gq_trails.specs.Continued.{rows_continued, rows_from, walked_count}
 use Rattle.gq_trails.specs.Trekking.{AreInTurn, AreNodes, CanTrek, patterns_from, placed_from}
 use Rattle.gq_wide.specs.Rows.{Wide, item_at, read}
 use Rattle.gq_drain.specs.Becoming.{rows_by, wide_of}
@@ -47,7 +47,7 @@ pub same_rows : (g : Graph) (b : Bound) (y : Typed) (t : Assignment) (r : Wide) 
     → map row (rows_continued b.distinct g b.trails y.rels r) ≡ continued_by g b y t
 unfolding rows_continued
 same_rows g b y t r is =
-    ap₂ (λ (get : ℕ → Option RelId) (a : Partial). map row (rows_from b.distinct g (patterns_from 0 y.rels get) b.trails a))
+    ap₂ (λ (get : ℕ → Option RelId) (a : Partial). map row (rows_from (walked_count b.distinct b.trails) g (patterns_from 0 y.rels get) b.trails a))
     (λ i x. (is.rels x ∙ sym (items_are t.rels x)) i) (begin_so t r is ∙ sym (begin_so t (wide_of t) (own_row t)))
 
 -- without trails an assignment has its own row alone

@@ -162,7 +162,7 @@ fn push_rows<'g>(
     ensures query { OnOk result (IsSameQuery table.old table.new) }
     ensures behind { IsBehind graph.now table.old.bound typed.now prepared.now behind.new }
 {
-    let mut found = choice.first(chunk.groups)?;
+    let mut found = choice.first(chunk)?;
     'choices: while found {
         let row = ChunkRow::new(graph, typed, chunk, choice.positions());
         match push_row(table, &row, behind, prepared, typed, graph) {
@@ -170,7 +170,7 @@ fn push_rows<'g>(
             Ok(More::Enough) => return Ok(More::Enough),
             Err(refusal) => return Err(refusal),
         }
-        found = choice.next(chunk.groups);
+        found = choice.next(chunk);
     }
     Ok(More::Go)
 }

@@ -164,7 +164,7 @@ fn push_walked<'g, 'w>(
     ensures query { OnOk result (IsSameQuery table.old table.new) }
     ensures walking { IsWalking graph.now table.old.bound typed.now walking.new }
 {
-    let mut found = choice.first(chunk.groups)?;
+    let mut found = choice.first(chunk)?;
     'choices: while found {
         let row = ChunkRow::new(graph, typed, chunk, choice.positions());
         match push_continued(table, &row, walking, prepared, typed, graph) {
@@ -172,7 +172,7 @@ fn push_walked<'g, 'w>(
             Ok(More::Enough) => return Ok(More::Enough),
             Err(refusal) => return Err(refusal),
         }
-        found = choice.next(chunk.groups);
+        found = choice.next(chunk);
     }
     Ok(More::Go)
 }

@@ -1,34 +1,38 @@
 -- The rows at the ends of one trail, one after another.
-use Rattle.std.proofs.Common.{◌≡◌, ◌≢◌, ◌⊎◌, inl, inr, ℕ, zero, suc, ◌<◌, ◌≤◌, Bool, true, false, not, ◌||◌, nat_eq, Option, Some, None, List, [], ◌∷◌, ◌++◌, flat_map, length, drop, set, true≢false, refl, sym, ap, ap₂, ◌∙◌, subst, arith}
+use Rattle.std.proofs.Common.{◌≡◌, ◌⊎◌, inl, inr, ℕ, zero, suc, ◌<◌, ◌≤◌, Bool, true, false, not, ◌&&◌, ◌||◌, nat_eq, Option, Some, None, List, [], ◌∷◌, ◌++◌, flat_map, length, drop, set, true≢false, refl, sym, ap, ap₂, ◌∙◌, subst, arith}
 use Rattle.std.specs.Prelude.{if◌then◌else◌, slice_get}
-use Rattle.std.specs.List.{list_any}
+use Rattle.std.specs.List.{AllByRecursion, list_any}
 use Rattle.std.proofs.lemmas.Bool.{and_parts, cases_eq, eq-eqb, ne_eqb}
 use Rattle.gq_base.specs.Lists.{all_distinct}
 use Rattle.gq_base.specs.Plain.{Graph}
+use Rattle.gq_base.specs.Valid.{is_valid}
 use Rattle.gq_base.specs.declared.NodeId.{NodeId}
 use Rattle.gq_base.specs.declared.RelId.{RelId}
+use Rattle.gq_base.specs.declared.direction.Direction.{Direction}
+use Rattle.gq_law_ends.specs.Leading.{leads_to}
 use Rattle.gq_law_ends.specs.Reaching.{rows_at}
 use Rattle.gq_law_trails.specs.Trails.{arrivals, arrive_at, fits_end}
+use Rattle.gq_law_trails.specs.Walks.{may_follow}
 use Rattle.gq_hops.proofs.Reaching.{spreads_as_led}
 use Rattle.gq_hops.specs.Levels.{ends_met}
 use Rattle.gq_hops.specs.Reaching.{Reaching}
+use Rattle.gq_law_ends.proofs.Leading.{or_parts, or_second}
 use Rattle.gq_law_ends.proofs.Reaching.{node_is, node_itself}
 use Rattle.gq_law_plans.specs.Bindings.{bound}
 use Rattle.gq_plan.specs.Allowed.{at_same}
-use Rattle.gq_plan.specs.Assignments.{is_node, same_node}
-use Rattle.gq_plan.specs.Meaning.{Partial, keep_if, look, with_node}
-use Rattle.gq_plan.specs.Meaning as meaning
+use Rattle.gq_plan.specs.Assignments.{all_rels, is_node, same_node}
+use Rattle.gq_plan.specs.Meaning.{Partial, far, keep_if, look, with_node}
 use Rattle.gq_plan.specs.declared.TrailPart.{TrailPart}
-use Rattle.gq_plan.specs.declared.TypedRel.{TypedRel}
-use Rattle.gq_wide.specs.Rows.{Wide, item_at, read}
+use Rattle.gq_wide.specs.Rows.{Wide, item_at}
 use Rattle.gq_trails.specs.Continued.{ends_from, rows_at_ends}
-use Rattle.gq_trails.specs.Trekking.{CanTrek, partial_of, patterns_in, placed_from}
+use Rattle.gq_trails.specs.Trekking.{CanTrek, partial_of}
 use Rattle.gq_trails.specs.steps.Ends.{may_end, settled}
-use Rattle.gq_trails.specs.steps.Journeys.{base_of, bound_at}
-use Rattle.gq_trails.specs.steps.Reached.{behind_end}
-use Rattle.gq_trails.proofs.Beginning.{base_is, look_items}
+use Rattle.gq_trails.specs.steps.Journeys.{binds, bound_at}
+use Rattle.gq_trails.specs.steps.Reached.{HasEnd, IsSeen, IsSeenBefore, before_end, behind_end}
+use Rattle.gq_trails.proofs.Beginning.{look_items}
 use Rattle.gq_trails.proofs.Fitting.{cleared_settled, item_set_other, item_set_same, look_node}
 use Rattle.gq_trails.proofs.Going.{settled_length, settled_rels}
+use Rattle.gq_trails.proofs.Inside.{far_lies}
 
 -- ---- the first of a list
 
@@ -40,88 +44,63 @@ pub none_first : {X : Type 0} (xs : List X) → None ≡ slice_get xs 0 → xs �
 none_first [] e = refl
 none_first (y ∷ xs) e = absurd (cc e)
 
--- ---- a row
-
--- nothing stands where nothing was put
-none_put : {X : Type 0} (os : List (Option X)) (v : ℕ) → item_at (set os v None) v ≡ None
-none_put [] v = refl
-none_put (o ∷ os) zero = refl
-none_put (o ∷ os) (suc v) = none_put os v
-
-module _ (p : TrailPart) (row : Wide) where
-  -- what is bound before the trail
-  abbrev base : Bool → Partial
-  base b = record { nodes = placed_from 0 (if b then row.nodes else set row.nodes p.to None); rels = placed_from 0 row.rels }
-
-  other_there : (v : ℕ) → (p.to ≡ v → ⊥) → look (base false).nodes v ≡ item_at row.nodes v
-  other_there v other = look_items (set row.nodes p.to None) v ∙ item_set_other row.nodes p.to v None (λ here. other (sym here))
-
-  none_there : look (base false).nodes p.to ≡ None
-  none_there = look_items (set row.nodes p.to None) p.to ∙ none_put row.nodes p.to
-
-  item_behind : (o : Option NodeId) → item_at row.nodes p.to ≡ o → (v : ℕ) → (p.to ≡ v) ⊎ (p.to ≡ v → ⊥) → item_at row.nodes v ≡ look (bound_at p.to o (base false)).nodes v
-  item_behind None e v (inl here) = ap (item_at row.nodes) (sym here) ∙ e ∙ sym none_there ∙ ap (look (base false).nodes) here
-  item_behind None e v (inr other) = sym (other_there v other)
-  item_behind (Some n) e v (inl here) = ap (item_at row.nodes) (sym here) ∙ e ∙ sym (ap (λ b. if b then Some n else look (base false).nodes v) (eq-eqb p.to v here))
-  item_behind (Some n) e v (inr other) = sym (other_there v other) ∙ sym (ap (λ b. if b then Some n else look (base false).nodes v) (ne_eqb p.to v other))
-
-  rel_behind : (o : Option NodeId) (x : ℕ) → item_at row.rels x ≡ look (bound_at p.to o (base false)).rels x
-  rel_behind None x = sym (look_items row.rels x)
-  rel_behind (Some n) x = sym (look_items row.rels x)
-
-  -- the row has what is bound behind the trail
-  pub read_behind : read row ≡ meaning.row (behind_end p row)
-  read_behind = go p.both
-    where
-      go : (b : Bool) → read row ≡ meaning.row (if b then base b else bound_at p.to (item_at row.nodes p.to) (base b))
-      go true = λ i. record { nodes = λ v. sym (look_items row.nodes v) i; rels = λ x. sym (look_items row.rels x) i }
-      go false = λ i. record { nodes = λ v. item_behind (item_at row.nodes p.to) refl v (cases_eq p.to v) i; rels = λ x. rel_behind (item_at row.nodes p.to) x i }
-
 -- ---- a node
 
-module _ (g : Graph) (p : TrailPart) (row : Wide) (n : NodeId) where
-  known : p.both ≡ true → item_at row.nodes p.to ≡ look (base p row p.both).nodes p.to
-  known both = sym (look_items row.nodes p.to) ∙ ap (λ b. look (base p row b).nodes p.to) (sym both)
-
-  abbrev behind : Bool → Partial
-  behind b = if b then base p row b else with_node p.to n (base p row b)
-
-  met_at : (may : Bool) → may ≡ may_end g p row n → arrivals g p (base p row p.both) (Some n) ≡ keep_if may (behind p.both)
+module _ (g : Graph) (p : TrailPart) (a : Partial) (row : Wide) (n : NodeId) (known : p.both ≡ true → item_at row.nodes p.to ≡ look a.nodes p.to) where
+  met_at : (may : Bool) → may ≡ may_end g p row n → arrivals g p a (Some n) ≡ keep_if may (if p.both then a else with_node p.to n a)
   met_at may told = go p.both known told
     where
-      go : (b : Bool) → (b ≡ true → item_at row.nodes p.to ≡ look (base p row b).nodes p.to) → may ≡ (if b then at_same (item_at row.nodes p.to) (Some n) else fits_end g p n)
-          → arrive_at b g p (base p row b) n ≡ keep_if may (behind b)
-      go true same e = ap (λ m. keep_if m (base p row true)) (sym (e ∙ ap (λ o. at_same o (Some n)) (same refl)))
-      go false same e = ap (λ m. keep_if m (with_node p.to n (base p row false))) (sym e)
+      go : (b : Bool) → (b ≡ true → item_at row.nodes p.to ≡ look a.nodes p.to) → may ≡ (if b then at_same (item_at row.nodes p.to) (Some n) else fits_end g p n)
+          → arrive_at b g p a n ≡ keep_if may (if b then a else with_node p.to n a)
+      go true same e = ap (λ m. keep_if m a) (sym (e ∙ ap (λ o. at_same o (Some n)) (same refl)))
+      go false same e = ap (λ m. keep_if m (with_node p.to n a)) (sym e)
 
-  base_stays : base_of (p ∷ []) (settled p row n) ≡ base_of (p ∷ []) row
-  base_stays = ap₂ (λ (os : List (Option NodeId)) (rs : List (Option RelId)). record { nodes = placed_from 0 os; rels = placed_from 0 rs })
-      (cleared_settled (p ∷ []) row zero n (omega arith)) (settled_rels p row n)
-
-  behind_settled : p.to < length row.nodes → behind_end p (settled p row n) ≡ behind p.both
-  behind_settled within =
-      ap (λ (a : Partial). if p.both then a else bound_at p.to (item_at (settled p row n).nodes p.to) a) base_stays ∙ go p.both
+  behind_settled : p.to < length row.nodes → behind_end p (settled p row n) a ≡ (if p.both then a else with_node p.to n a)
+  behind_settled within = go p.both
     where
-      go : (b : Bool) → (if b then base p row b else bound_at p.to (item_at (if b then row else record row { nodes = set row.nodes p.to (Some n) }).nodes p.to) (base p row b)) ≡ behind b
+      go : (b : Bool) → (if b then a else bound_at p.to (item_at (if b then row else record row { nodes = set row.nodes p.to (Some n) }).nodes p.to) a) ≡ (if b then a else with_node p.to n a)
       go true = refl
-      go false = ap (λ o. bound_at p.to o (base p row false)) (item_set_same row.nodes p.to (Some n) within)
-
-  abbrev rows_behind : List NodeId → List Partial
-  rows_behind ns = rows_at g p (base_of (p ∷ []) (settled p row n)) ns
+      go false = ap (λ o. bound_at p.to o a) (item_set_same row.nodes p.to (Some n) within)
 
   -- one more row, or none
-  pub row_met : (ns : List NodeId) → p.to < length row.nodes → true ≡ may_end g p row n
-      → rows_at g p (base_of (p ∷ []) row) (n ∷ ns) ≡ behind_end p (settled p row n) ∷ rows_behind ns
-  row_met ns within told =
-      ap (λ bs. bs ++ rows_at g p (base_of (p ∷ []) row) ns) (met_at true told)
-      ∙ ap₂ (λ (b a : Partial). b ∷ rows_at g p a ns) (sym (behind_settled within)) (sym base_stays)
+  pub row_met : (ns : List NodeId) → p.to < length row.nodes → true ≡ may_end g p row n → rows_at g p a (n ∷ ns) ≡ behind_end p (settled p row n) a ∷ rows_at g p a ns
+  row_met ns within told = ap (λ bs. bs ++ rows_at g p a ns) (met_at true told) ∙ ap (λ b. b ∷ rows_at g p a ns) (sym (behind_settled within))
 
-  pub row_missed : (ns : List NodeId) → false ≡ may_end g p row n → rows_at g p (base_of (p ∷ []) row) (n ∷ ns) ≡ rows_behind ns
-  row_missed ns told =
-      ap (λ bs. bs ++ rows_at g p (base_of (p ∷ []) row) ns) (met_at false told)
-      ∙ ap (λ (a : Partial). rows_at g p a ns) (sym base_stays)
+  pub row_missed : (ns : List NodeId) → false ≡ may_end g p row n → rows_at g p a (n ∷ ns) ≡ rows_at g p a ns
+  row_missed ns told = ap (λ bs. bs ++ rows_at g p a ns) (met_at false told)
 
--- the search goes on to a node
+-- where a trail does not bind its other end, the row has it
+seen_known : (p : TrailPart) (row : Wide) (a : Partial) → IsSeenBefore p row a → p.both ≡ true → item_at row.nodes p.to ≡ look a.nodes p.to
+seen_known p row a seen both = seen p.to (ap (λ b. not b && nat_eq p.to p.to) both)
+
+-- ---- the row
+
+module _ (p : TrailPart) (row : Wide) (n : NodeId) where
+  pub before_settled : before_end p (settled p row n) ≡ before_end p row
+  before_settled = ap₂ (λ (os : List (Option NodeId)) (rs : List (Option RelId)). record { nodes = os; rels = rs }) (cleared_settled (p ∷ []) row zero n (omega arith)) (settled_rels p row n)
+
+  pub end_settled : (g : Graph) → p.to < length row.nodes → is_node g n ≡ true → HasEnd g p (settled p row n)
+  end_settled g within there off = record {
+    node = n;
+    is = ap (λ b. item_at (if b then row else record row { nodes = set row.nodes p.to (Some n) }).nodes p.to) off ∙ item_set_same row.nodes p.to (Some n) within;
+    there = there;
+  }
+
+-- what a trail does not bind stands before it
+pub item_before : (p : TrailPart) (row : Wide) (v : ℕ) → binds v p ≡ false → item_at (before_end p row).nodes v ≡ item_at row.nodes v
+item_before p row v free = go p.both free
+  where
+    go : (b : Bool) → (not b && nat_eq p.to v) ≡ false → item_at (if b then row.nodes else set row.nodes p.to None) v ≡ item_at row.nodes v
+    go true e = refl
+    go false e = item_set_other row.nodes p.to v None (λ here. true≢false (sym (eq-eqb p.to v (sym here)) ∙ e))
+
+-- so a row that has the same before it has what was bound
+pub seen_stays : (p : TrailPart) (old new : Wide) (a : Partial) → before_end p new ≡ before_end p old → IsSeenBefore p old a → IsSeenBefore p new a
+seen_stays p old new a same seen v free =
+    sym (item_before p new v free) ∙ ap (λ (r : Wide). item_at r.nodes v) same ∙ item_before p old v free ∙ seen v free
+
+-- ---- the search goes on to a node
+
 module _ (g : Graph) (p : TrailPart) (row new : Wide) (end : NodeId) (owed ns : List NodeId) (first : Some end ≡ slice_get owed 0) (rest : ns ≡ drop 1 owed) (is : new ≡ settled p row end) where
   owed_here : owed ≡ end ∷ ns
   owed_here = some_first owed end first ∙ ap (λ l. end ∷ l) (sym rest)
@@ -130,18 +109,29 @@ module _ (g : Graph) (p : TrailPart) (row new : Wide) (end : NodeId) (owed ns : 
   low_here (inl none) = absurd (cc (sym owed_here ∙ none))
   low_here (inr low) = low
 
-  pub next_met : (owed ≡ []) ⊎ (p.to < length row.nodes) → true ≡ may_end g p row end
-      → rows_at g p (base_of (p ∷ []) row) owed ≡ behind_end p new ∷ rows_at g p (base_of (p ∷ []) new) ns
-  next_met within told =
-      ap (rows_at g p (base_of (p ∷ []) row)) owed_here ∙ row_met g p row end ns (low_here within) told
-      ∙ ap (λ (r : Wide). behind_end p r ∷ rows_at g p (base_of (p ∷ []) r) ns) (sym is)
+  pub next_met : (owed ≡ []) ⊎ (p.to < length row.nodes) → true ≡ may_end g p row end → (a : Partial) → IsSeenBefore p row a
+      → rows_at g p a owed ≡ behind_end p new a ∷ rows_at g p a ns
+  next_met within told a seen =
+      ap (rows_at g p a) owed_here ∙ row_met g p a row end (seen_known p row a seen) ns (low_here within) told
+      ∙ ap (λ (r : Wide). behind_end p r a ∷ rows_at g p a ns) (sym is)
 
-  pub next_missed : false ≡ may_end g p row end → rows_at g p (base_of (p ∷ []) row) owed ≡ rows_at g p (base_of (p ∷ []) new) ns
-  next_missed told =
-      ap (rows_at g p (base_of (p ∷ []) row)) owed_here ∙ row_missed g p row end ns told ∙ ap (λ (r : Wide). rows_at g p (base_of (p ∷ []) r) ns) (sym is)
+  pub next_missed : false ≡ may_end g p row end → (a : Partial) → IsSeenBefore p row a → rows_at g p a owed ≡ rows_at g p a ns
+  next_missed told a seen = ap (rows_at g p a) owed_here ∙ row_missed g p a row end (seen_known p row a seen) ns told
 
   pub next_within : (owed ≡ []) ⊎ (p.to < length row.nodes) → (ns ≡ []) ⊎ (p.to < length new.nodes)
   next_within within = inr (subst (λ k. p.to < k) (sym (ap (λ (r : Wide). length r.nodes) is ∙ settled_length p row end)) (low_here within))
+
+  pub next_before : before_end p new ≡ before_end p row
+  next_before = ap (before_end p) is ∙ before_settled p row end
+
+  pub next_fewer : length ns < length owed
+  next_fewer = let more = ap length owed_here in omega (arith, more)
+
+  pub next_there : AllByRecursion (λ n. is_node g n ≡ true) owed → (is_node g end ≡ true) × AllByRecursion (λ n. is_node g n ≡ true) ns
+  next_there all = let parts = subst (AllByRecursion (λ n. is_node g n ≡ true)) owed_here all in (parts.0, parts.1)
+
+  pub next_end : (owed ≡ []) ⊎ (p.to < length row.nodes) → AllByRecursion (λ n. is_node g n ≡ true) owed → HasEnd g p new
+  next_end within all = subst (HasEnd g p) (sym is) (end_settled p row end g (low_here within) (next_there all).0)
 
 -- ---- a node that is known
 
@@ -186,31 +176,71 @@ none_bound (b ∷ bs) v e = at (cases_eq b.0 v) (none_bound bs v)
         ap (λ c. c || bound bs v) (ne_eqb v b.0 (λ same. other (sym same)))
         ∙ rest (sym (ap (λ c. if c then Some b.1 else look bs v) (ne_eqb b.0 v other)) ∙ e)
 
-module _ (g : Graph) (p : TrailPart) (ys : List TypedRel) (base row : Wide) (r : Reaching) (used : List RelId) (start : NodeId) (is : row ≡ base) (can : CanTrek g (p ∷ []) base)
-    (graph : r.graph ≡ g) (kind : r.kind ≡ p.kind) (way : r.way ≡ p.way) (high : r.high ≡ p.high) (taken : used ≡ patterns_in ys base.rels p.clause)
+-- relationships lead to nodes of a valid graph
+any_some : {X : Type 0} (f : X → Bool) (C : Type 0) → ((x : X) → f x ≡ true → C) → (xs : List X) → list_any f xs ≡ true → C
+any_some f C found [] h = absurd (true≢false (sym h))
+any_some f C found (x ∷ xs) h = go (f x) refl h (any_some f C found xs)
+  where
+    go : (b : Bool) → f x ≡ b → (b || list_any f xs) ≡ true → (list_any f xs ≡ true → C) → C
+    go true e k more = found x e
+    go false e k more = more k
+
+leads_inside : (g : Graph) → is_valid g ≡ true → (kind : List ℕ) (way : Direction) (used : List RelId) (high : ℕ) (at : Option NodeId) (n : NodeId)
+    → leads_to g kind way used high at n ≡ true → is_node g n ≡ true
+unfolding leads_to
+leads_inside g valid kind way used zero at n h = absurd (true≢false (sym h))
+leads_inside g valid kind way used (suc high) at n h =
+    any_some (λ r. may_follow g kind way at used r && (at_same (far g way r) (Some n) || leads_to g kind way used high (far g way r) n)) (is_node g n ≡ true)
+    (λ r e. led r (leads_inside g valid kind way used high (far g way r) n) (and_parts (may_follow g kind way at used r) (at_same (far g way r) (Some n) || leads_to g kind way used high (far g way r) n) e).1)
+    (all_rels g) h
+  where
+    led : (r : RelId) → (leads_to g kind way used high (far g way r) n ≡ true → is_node g n ≡ true) → (at_same (far g way r) (Some n) || leads_to g kind way used high (far g way r) n) ≡ true → is_node g n ≡ true
+    led r more k = go (far g way r) refl (or_parts (at_same (far g way r) (Some n)) (leads_to g kind way used high (far g way r) n) k)
+      where
+        go : (o : Option NodeId) → far g way r ≡ o → (at_same (far g way r) (Some n) ≡ true) ⊎ (leads_to g kind way used high (far g way r) n ≡ true) → is_node g n ≡ true
+        go o is (inr later) = more later
+        go None is (inl here) = absurd (true≢false (sym (sym (ap (λ q. at_same q (Some n)) is) ∙ here)))
+        go (Some m) is (inl here) = ap (is_node g) (sym (node_is m n (sym (ap (λ q. at_same q (Some n)) is) ∙ here))) ∙ far_lies g valid way r m is
+
+each_itself : (P : NodeId → Type 0) (ns all : List NodeId) → ((n : NodeId) → list_any (same_node n) all ≡ true → P n) → ((n : NodeId) → list_any (same_node n) ns ≡ true → list_any (same_node n) all ≡ true)
+    → AllByRecursion P ns
+each_itself P [] all h among = tt
+each_itself P (n ∷ ns) all h among = (
+  h n (among n (ap (λ b. b || list_any (same_node n) ns) (node_itself n))),
+  each_itself P ns all h (λ m e. among m (or_second (same_node m n) (list_any (same_node m) ns) e)),
+)
+
+ends_inside : (g : Graph) → is_valid g ≡ true → (kind : List ℕ) (way : Direction) (used : List RelId) (high : ℕ) (start : NodeId) → 1 ≤ high
+    → AllByRecursion (λ n. is_node g n ≡ true) (ends_met g kind way used high start)
+ends_inside g valid kind way used high start some =
+    let led = spreads_as_led g kind way used high start some in
+    each_itself (λ n. is_node g n ≡ true) (ends_met g kind way used high start) (ends_met g kind way used high start)
+    (λ n h. leads_inside g valid kind way used high (Some start) n (sym (led.all n) ∙ h)) (λ n h. h)
+
+module _ (g : Graph) (p : TrailPart) (barred : ℕ → List RelId) (base : Wide) (r : Reaching) (used : List RelId) (start : NodeId) (can : CanTrek g (p ∷ []) base)
+    (graph : r.graph ≡ g) (kind : r.kind ≡ p.kind) (way : r.way ≡ p.way) (high : r.high ≡ p.high) (taken : used ≡ barred p.clause)
     (from : Some start ≡ item_at base.nodes p.from) where
   abbrev all_met : List NodeId
   all_met = ends_met r.graph r.kind r.way used r.high start
 
-  base_here : base_of (p ∷ []) row ≡ partial_of base
-  base_here = ap (base_of (p ∷ [])) is ∙ base_is g (p ∷ []) base can
-
-  met_here : all_met ≡ ends_from g p (patterns_in ys base.rels p.clause) (look (partial_of base).nodes p.from)
-  met_here =
+  met_here : (a : Partial) → IsSeen base a → ends_met r.graph r.kind r.way used r.high start ≡ ends_from g p (barred p.clause) (look a.nodes p.from)
+  met_here a seen =
       (λ i. ends_met (graph i) (kind i) (way i) (taken i) (high i) start)
-      ∙ ap (ends_from g p (patterns_in ys base.rels p.clause)) (from ∙ sym (look_items base.nodes p.from))
+      ∙ ap (ends_from g p (barred p.clause)) (from ∙ seen p.from)
 
   -- all nodes are owed that are met
-  pub begun : (owed : List NodeId) → owed ≡ all_met → rows_at g p (base_of (p ∷ []) row) owed ≡ rows_at_ends g (patterns_in ys base.rels) p (partial_of base)
-  begun owed are = ap₂ (rows_at g p) base_here (are ∙ met_here)
+  pub begun : (owed : List NodeId) → owed ≡ ends_met r.graph r.kind r.way used r.high start → (a : Partial) → IsSeen base a
+      → rows_at g p a owed ≡ rows_at_ends g barred p a
+  begun owed are a seen = ap (rows_at g p a) (are ∙ met_here a seen)
 
   -- or the end that is known, if it is one of them
   pub begun_to : 1 ≤ p.high → (end : NodeId) (owed : List NodeId) → Some end ≡ (if p.both then item_at base.nodes p.to else None)
-      → owed ≡ (if list_any (same_node end) all_met then end ∷ [] else []) → rows_at g p (base_of (p ∷ []) row) owed ≡ rows_at_ends g (patterns_in ys base.rels) p (partial_of base)
-  begun_to some end owed known are =
-      ap₂ (rows_at g p) base_here are
-      ∙ one_for_all g p (partial_of base) end all_met (both p.both refl known) (look_items base.nodes p.to ∙ there p.both known) distinct
-      ∙ ap (rows_at g p (partial_of base)) met_here
+      → owed ≡ (if list_any (same_node end) (ends_met r.graph r.kind r.way used r.high start) then end ∷ [] else []) → (a : Partial) → IsSeen base a
+      → rows_at g p a owed ≡ rows_at_ends g barred p a
+  begun_to some end owed known are a seen =
+      ap (rows_at g p a) are
+      ∙ one_for_all g p a end all_met (both p.both refl known) (sym (seen p.to) ∙ there p.both known) distinct
+      ∙ ap (rows_at g p a) (met_here a seen)
     where
       both : (b : Bool) → p.both ≡ b → Some end ≡ (if b then item_at base.nodes p.to else None) → p.both ≡ true
       both true e h = e
@@ -222,6 +252,25 @@ module _ (g : Graph) (p : TrailPart) (ys : List TypedRel) (base row : Wide) (r :
 
       distinct : all_distinct same_node (ends_met r.graph r.kind r.way used r.high start) ≡ true
       distinct = (spreads_as_led r.graph r.kind r.way used r.high start (subst (λ k. 1 ≤ k) (sym high) some)).distinct
+
+  -- they are nodes of the graph
+  pub begun_there : is_valid g ≡ true → 1 ≤ p.high → (owed : List NodeId) → owed ≡ ends_met r.graph r.kind r.way used r.high start → AllByRecursion (λ n. is_node g n ≡ true) owed
+  begun_there valid some owed are =
+      subst (AllByRecursion (λ n. is_node g n ≡ true)) (sym (are ∙ (λ i. ends_met (graph i) (kind i) (way i) used (high i) start)))
+      (ends_inside g valid p.kind p.way used p.high start some)
+
+  pub begun_to_there : is_valid g ≡ true → 1 ≤ p.high → (end : NodeId) (owed : List NodeId)
+      → owed ≡ (if list_any (same_node end) (ends_met r.graph r.kind r.way used r.high start) then end ∷ [] else []) → AllByRecursion (λ n. is_node g n ≡ true) owed
+  begun_to_there valid some end owed are =
+      subst (AllByRecursion (λ n. is_node g n ≡ true)) (sym (are ∙ ap (λ l. if list_any (same_node end) l then end ∷ [] else []) (λ i. ends_met (graph i) (kind i) (way i) used (high i) start)))
+      (go (list_any (same_node end) all) refl)
+    where
+      all : List NodeId
+      all = ends_met g p.kind p.way used p.high start
+
+      go : (b : Bool) → list_any (same_node end) (ends_met g p.kind p.way used p.high start) ≡ b → AllByRecursion (λ n. is_node g n ≡ true) (if b then end ∷ [] else [])
+      go false e = tt
+      go true e = (leads_inside g valid p.kind p.way used p.high (Some start) end (sym ((spreads_as_led g p.kind p.way used p.high start some).all end) ∙ e), tt)
 
   -- the beginning is a node of the graph
   pub start_there : is_node r.graph start ≡ true

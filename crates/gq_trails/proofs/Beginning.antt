@@ -26,7 +26,7 @@ use Rattle.gq_trails.specs.declared.trek.Route.{Route}
 use Rattle.gq_trails.specs.declared.trek.Trek.{Trek}
 use Rattle.gq_trails.proofs.Fitting.{cleared_none, look_placed}
 
-look_none : {X : Type 0} (bs : List (ℕ × X)) (v : ℕ) → bound bs v ≡ false → look bs v ≡ None
+pub look_none : {X : Type 0} (bs : List (ℕ × X)) (v : ℕ) → bound bs v ≡ false → look bs v ≡ None
 look_none [] v e = refl
 look_none (b ∷ bs) v e = go (nat_eq v b.0) (nat_eq b.0 v) (turn v b.0) e (look_none bs v)
   where
@@ -100,7 +100,7 @@ is_row r t open_at =
       rels = λ x. sym (look_items t.row.rels x) ∙ ap (λ bs. look bs x) (sym (rels_bound j t.walkers.items (length r.parts.now))) ∙ ap (λ (a : Partial). look a.rels x) (sym same);
     }
 
-standing_open : (st : State) (r : Route) (t : Trek) → IsIn st r t → is_standing st ≡ true → IsOpen r t (length r.parts.now)
+pub standing_open : (st : State) (r : Route) (t : Trek) → IsIn st r t → is_standing st ≡ true → IsOpen r t (length r.parts.now)
 standing_open Fresh r t h e = absurd (cc e)
 standing_open Standing r t h e = h
 standing_open Over r t h e = absurd (cc e)

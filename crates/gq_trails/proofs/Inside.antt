@@ -80,7 +80,7 @@ module _ (g : Graph) (valid : is_valid g ≡ true) where
       go (Some k) None table_is rels_are = no_rels way k table_is rels_are e
       go (Some k) (Some rs) table_is rels_are = at_row k rs (slice_get rs r.row) table_is rels_are refl way e
 
-  far_lies : (way : Direction) (r : RelId) (n : NodeId) → far g way r ≡ Some n → is_node g n ≡ true
+  pub far_lies : (way : Direction) (r : RelId) (n : NodeId) → far g way r ≡ Some n → is_node g n ≡ true
   far_lies Forward r n e = near_lies Backward r n e
   far_lies Backward r n e = near_lies Forward r n e
 

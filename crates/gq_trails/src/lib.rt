@@ -3,6 +3,7 @@
 //! which a trail leads.
 #![tactic(auto)]
 
+mod chain;
 mod ends;
 mod reached;
 mod rows;

@@ -1,11 +1,13 @@
 //! The rows by which the trails of a query continue a row.
-ghost use Rattle.std.specs.Prelude.{◌≡◌, ◌∷◌, [], ◌+◌, ◌≤◌, All, IfOk, true, false, length};
+ghost use Rattle.std.specs.Prelude.{◌≡◌, ◌∷◌, [], ◌+◌, ◌≤◌, ◌&&◌, All, IfOk, true, false, length};
+ghost use Rattle.std.specs.Prelude.{nat_eq};
+ghost use Rattle.std.specs.List.{list_all};
 ghost use Rattle.gq_plan.specs.Meaning as meaning;
-ghost use Rattle.gq_trails.specs.Continued.{goes_by_ends, rows_continued};
+ghost use Rattle.gq_trails.specs.Continued.{are_apart, have_ends, rows_continued, walked_count};
 ghost use Rattle.gq_trails.specs.Trekking.{CanTrek, HasLength};
 ghost use Rattle.gq_wide.specs.Rows.{read};
 
-use crate::reached::Ends;
+use crate::chain::Chain;
 use crate::trails::Trails;
 use gq_base::Memory;
 use gq_plan::{TrailPart, TypedRel};
@@ -15,20 +17,21 @@ use std::alloc::Global;
 use std::marker::Model;
 
 /// The rows by which the trails of a query continue a row: one for each way to walk them. Where it
-/// is said that each row counts once, and there is one trail whose least length is 1, they are
-/// instead one for each end of the trail, in time linear in the graph. There is room for them from
-/// the start, so that going on takes no memory.
+/// is said that each row counts once, a trail is not walked if it and all that follow have a least
+/// length of 1 and share no relationship with a later one, as the last trail never does: there is
+/// then one row for each of its ends, and it takes time linear in the graph. There is room for them
+/// from the start, so that going on takes no memory.
 #[derive(Drop)]
 pub struct TrailRows<'g> {
     once: bool,
     ways: Ways<'g>,
 }
 
-// All ways to walk trails, or the ends of one trail.
+// All ways to walk trails; or these for the first of them, and the ends of those behind.
 #[derive(Drop)]
 enum Ways<'g> {
     Walked(Trails<'g>),
-    Reached(Ends<'g>),
+    Reached(Chain<'g>),
 }
 
 impl<'g> Model for TrailRows<'g> {
@@ -40,7 +43,7 @@ impl<'g> Model for TrailRows<'g> {
 
     ghost coded = { Prim.hlevel (codes, expr.the_row.coded) };
 
-    ghost use Rattle.gq_trails.specs.steps.Reached.{IsContinuing, continuing_of};
+    ghost use Rattle.gq_trails.specs.steps.Chained.{IsContinuing, continuing_of};
 
     ghost view = { continuing_of };
 
@@ -66,11 +69,12 @@ impl<'g> TrailRows<'g> {
         ensures rels { IfOk result (λ t. t.rels ≡ rels) }
         ensures owed { IfOk result (λ t. t.owed ≡ []) }
     {
-        if goes_by_ends(once, parts) {
-            let ends = Ends::new(alloc, graph, &parts[0], nodes, rels)?;
+        let (walked, reached) = parts.split_at(walked_count(once, parts));
+        if !reached.is_empty() {
+            let chain = Chain::new(alloc, graph, walked, reached, nodes, rels)?;
             return Ok(TrailRows {
                 once,
-                ways: Ways::Reached(ends),
+                ways: Ways::Reached(chain),
             });
         }
         let trails = Trails::new(alloc, graph, parts, nodes, rels)?;
@@ -97,7 +101,7 @@ impl<'g> TrailRows<'g> {
     {
         match &mut self.ways {
             Ways::Walked(trails) => trails.begin(base, rels),
-            Ways::Reached(ends) => ends.begin(base, rels),
+            Ways::Reached(chain) => chain.begin(base, rels),
         }
     }
 
@@ -115,7 +119,7 @@ impl<'g> TrailRows<'g> {
     {
         match &mut self.ways {
             Ways::Walked(trails) => trails.advance(),
-            Ways::Reached(ends) => ends.advance(),
+            Ways::Reached(chain) => chain.advance(),
         }
     }
 
@@ -126,14 +130,53 @@ impl<'g> TrailRows<'g> {
     {
         match &self.ways {
             Ways::Walked(trails) => trails.row(),
-            Ways::Reached(ends) => &ends.row,
+            Ways::Reached(chain) => chain.row(),
         }
     }
 }
 
-// Whether trails are gone through by their ends.
-fn goes_by_ends(once: bool, parts: &[TrailPart]) -> bool
-    ensures { result ≡ goes_by_ends once parts.now }
+// How many trails are walked, before those that are gone through by their ends.
+fn walked_count(once: bool, parts: &[TrailPart]) -> usize
+    ensures count { result ≡ walked_count once parts.now }
+    ensures few { result ≤ length parts.now }
 {
-    once && parts.len() == 1 && parts[0].low == 1
+    let Some((_, later)) = parts.split_first() else {
+        return 0;
+    };
+    if once && have_ends(parts) {
+        0
+    } else {
+        1 + walked_count(once, later)
+    }
+}
+
+// Whether each of some trails has one relationship or more, and none that a later one can have.
+fn have_ends(parts: &[TrailPart]) -> bool
+    ensures { result ≡ have_ends parts.now }
+{
+    let Some((part, later)) = parts.split_first() else {
+        return true;
+    };
+    has_ends(part, later) && have_ends(later)
+}
+
+// Whether a trail has one relationship or more, and none that one of some others can have.
+fn has_ends(part: &TrailPart, others: &[TrailPart]) -> bool
+    ensures { result ≡ (nat_eq part.now.low 1 && list_all (are_apart part.now) others.now) }
+{
+    part.low == 1 && are_all_apart(part, others)
+}
+
+// Whether each of some trails is of another clause than a trail, or of another type.
+fn are_all_apart(part: &TrailPart, others: &[TrailPart]) -> bool
+    ensures { result ≡ list_all (are_apart part.now) others.now }
+{
+    others.iter().all(|other| are_apart(part, other))
+}
+
+// Whether two trails are of different clauses, or of different types.
+fn are_apart(part: &TrailPart, other: &TrailPart) -> bool
+    ensures { result ≡ are_apart part.now other.now }
+{
+    part.clause != other.clause || !part.kind.is(other.kind.as_str())
 }

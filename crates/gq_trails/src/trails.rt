@@ -1,9 +1,12 @@
 //! All trails of a query, walked one after another from a row.
-ghost use Rattle.std.specs.Prelude.{◌≡◌, ◌∷◌, [], ◌+◌, ◌≤◌, All, IfOk, true, false, length};
+ghost use Rattle.std.specs.Prelude.{◌≡◌, ◌∷◌, [], ◌+◌, ◌++◌, ◌*◌, ◌≤◌, All, IfOk, true, false, length};
+ghost use Rattle.gq_law_trails.specs.Trails.{taken_in};
 ghost use Rattle.gq_trails.specs.Trekking.{CanTrek, HasLength, IsRowOf, continuations};
+ghost use Rattle.gq_trails.specs.steps.Walked.{walked_of};
 
 use crate::ends::tests_for;
-use crate::trek::{Route, Trek};
+use crate::taken::Taken;
+use crate::trek::{Route, Trek, take_walks};
 use gq_base::Memory;
 use gq_hops::{State, state_after};
 use gq_plan::{TrailPart, TypedRel};
@@ -111,5 +114,27 @@ impl<'g> Trails<'g> {
         ensures { IsRowOf self.now.reached result.now }
     {
         &self.trek.row
+    }
+
+    /// The row of the continuation that was reached last, with its size.
+    pub(crate) fn base(&self) -> &WideRow
+        requires { self.now.standing ≡ true }
+        ensures row { IsRowOf self.now.reached result.now }
+        ensures nodes { length result.now.nodes ≡ self.now.nodes }
+        ensures rels { length result.now.rels ≡ self.now.rels }
+    {
+        &self.trek.row
+    }
+
+    /// Adds what walks of a clause have in the continuation that was reached last.
+    pub(crate) fn take(&self, taken: &mut Taken, clause: u32)
+        requires stands { self.now.standing ≡ true }
+        requires room { length taken.old + 16 * length self.now.parts ≤ 384 }
+        ensures taken { taken.new ≡ taken.old ++ taken_in clause (walked_of self.now) }
+        ensures few { length taken.new ≤ length taken.old + 16 * length self.now.parts }
+    {
+        let parts = self.route.parts;
+        let walkers = self.trek.walkers.as_slice();
+        take_walks(taken, walkers, parts, parts.len(), clause);
     }
 }

@@ -305,8 +305,8 @@ fn ends_for(alloc: Global, graph: &Graph, part: &TrailPart) -> Option<Vec<NodeId
     }
 }
 
-// Adds what those of the first trails have walked that are of a clause, the latest first.
-fn take_walks(
+/// Adds what those of the first trails have walked that are of a clause, the latest first.
+pub(crate) fn take_walks(
     taken: &mut Taken,
     walkers: &[Walker<'_>],
     parts: &[TrailPart],
@@ -324,8 +324,20 @@ fn take_walks(
     'trails: for back in 0..depth {
         let at = depth - 1 - back;
         if parts[at].clause == clause {
-            taken.push_all(walkers[at].rels());
+            take_walk(taken, &walkers[at]);
         }
+    }
+}
+
+// Adds the relationships of a walk.
+fn take_walk(taken: &mut Taken, walker: &Walker<'_>)
+    requires standing { walker.now.standing ≡ true }
+    requires room { length taken.old + 16 ≤ 384 }
+    ensures taken { taken.new ≡ taken.old ++ walker.now.rels }
+    ensures few { length walker.now.rels ≤ 16 }
+{
+    'rels: for place in 0..walker.count() {
+        taken.push(walker.rel(place));
     }
 }
 

@@ -1,5 +1,6 @@
 use Rattle.std.proofs.Common.{◌≡◌, ◌∙◌, ◌-◌, ◌<◌, ℕ, get_or, length, ap, sym, arith, length-append}
 use Rattle.std.proofs.lemmas.List.{get_or_default, get_or_read}
+use Rattle.gq_hops.specs.Walking.{Walking}
 use Rattle.gq_plan.specs.declared.TrailPart.{TrailPart}
 use Rattle.gq_trails.specs.steps.Journeys.{no_part, no_walk, part_at, walk_at}
 use Rattle.gq_trails.proofs.Taking.{all_taken, passed, took}
@@ -20,12 +21,11 @@ trails-preserved c =
     elim c.if-parts-at.branch [
       | then-parts-at w ↦
           (let elem : w.index-walkers-at.result ≡ walk_at ws at = get_or_read ws at w.index-walkers-at.result here w.index-walkers-at.is no_walk in
-          let other : get_or ws at w.index-walkers-at.result ≡ walk_at ws at = get_or_default ws at w.index-walkers-at.result no_walk here in
-          let rels_is : w.rels.result.now ≡ (walk_at ws at).rels = cc (w.rels.ensures.rels, elem, other) in
-          let more = w.taken-is ∙ w.push_all.ensures in
+          let is : w.index-walkers-at.result.rels ≡ (walk_at ws at).rels = ap (λ (walk : Walking). walk.rels) elem in
+          let more = w.taken-is ∙ w.take_walk.ensures.taken in
           record {
-            taken = took parts ws c.args.clause c.args.depth back low c.trails.taken _ c.trails.invariant.taken (omega (arith, one, two, w.if-parts-at.true)) c.if-parts-at.taken w.rels.result.now more rels_is;
-            few = omega (arith, ap length more, length-append c.trails.taken w.rels.result.now, w.rels.ensures.few, c.trails.invariant.few);
+            taken = took parts ws c.args.clause c.args.depth back low c.trails.taken _ c.trails.invariant.taken (omega (arith, one, two, w.if-parts-at.true)) c.if-parts-at.taken w.index-walkers-at.result.rels more is;
+            few = omega (arith, ap length more, length-append c.trails.taken w.index-walkers-at.result.rels, w.take_walk.ensures.few, c.trails.invariant.few);
           })
       | else-parts-at w ↦
           record {
