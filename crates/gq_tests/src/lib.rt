@@ -15,6 +15,8 @@ mod dict;
 #[cfg(test)]
 mod edges;
 #[cfg(test)]
+mod exists;
+#[cfg(test)]
 mod graph;
 #[cfg(test)]
 mod io;
