@@ -22,6 +22,9 @@ from .transcripts import replies_of
 ORDERS = ("given", "greedy", "least")
 FEW_ROWS = (3, 8, 20)
 STATEMENTS = 40
+# Where lists are long each statement takes as long as several of the others.
+FEW_STATEMENTS = 10
+LONG = 1_000
 PATIENCE = 120.0
 
 
@@ -87,8 +90,9 @@ def round_of(seed: int, number: int) -> Round:
     files = random_graph(random)
     rows = random.choice(FEW_ROWS) if random.random() < 0.4 else Settings().rows
     settings = Settings(random.choice(ORDERS), rows)
-    texts = [Writer(random).statement() for _ in range(STATEMENTS)]
     session = Session(read_graph(files[MANIFEST], files), settings)
+    is_long = len(session.graph.all_nodes) > LONG
+    texts = [Writer(random).statement() for _ in range(FEW_STATEMENTS if is_long else STATEMENTS)]
     questions = list(questions_of(session, ";\n".join(texts).encode()))
     return Round(f"seed {seed} round {number}", files, settings, questions)
 

@@ -7,6 +7,7 @@ import io
 import re
 from collections.abc import Mapping
 from dataclasses import dataclass
+from functools import cached_property
 from typing import NamedTuple
 
 
@@ -50,6 +51,11 @@ class NodeTable:
     def labels(self) -> list[str]:
         """The labels that all of its nodes have."""
         return self.word.split(":")
+
+    @cached_property
+    def row_by_key(self) -> dict[Constant, int]:
+        """The row of each key."""
+        return {row[0]: number for number, row in enumerate(self.rows)}
 
 
 @dataclass(frozen=True)
@@ -168,4 +174,4 @@ def table_number(nodes: list[NodeTable], word: str) -> int:
 def row_of(table: NodeTable, cell: str) -> int:
     """The row with the key that a cell names."""
     key = value_of(table.fields[0], cell)
-    return [row[0] for row in table.rows].index(key)
+    return table.row_by_key[key]

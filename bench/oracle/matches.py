@@ -1,4 +1,4 @@
-"""All matches of a pattern, found by trying each relationship and each node."""
+"""All matches of a pattern, found by trying each relationship, at a node that is bound those at it, and each node."""
 
 from __future__ import annotations
 
@@ -32,6 +32,15 @@ def ways(hop: Hop, edge: Edge) -> list[tuple[Node, Node]]:
     return [forward] if forward == backward else [forward, backward]
 
 
+def by_ends(edges: list[Edge]) -> dict[Node, list[Edge]]:
+    """Relationships by the nodes at which they are."""
+    found: dict[Node, list[Edge]] = {}
+    for edge in edges:
+        for node in {edge.source, edge.target}:
+            found.setdefault(node, []).append(edge)
+    return found
+
+
 class Search:
     """Binds the variables of a pattern one by one, and takes each back when all was tried with it.
 
@@ -44,14 +53,16 @@ class Search:
         self.effort = effort
         self.match: Match = {}
         self.used: set[tuple[int, Relationship]] = set()
+        # Each node once, in order; a dictionary, since it is asked whether it has a node.
         self.nodes = {
-            variable: [node for node in graph.all_nodes if self.fits_node(variable, node)]
+            variable: {node: None for node in graph.all_nodes if self.fits_node(variable, node)}
             for variable in pattern.nodes
         }
         self.edges = {
             hop.variable: [edge for edge in graph.edges if self.fits_hop(hop, edge.relationship)]
             for hop in pattern.hops + pattern.trails
         }
+        self.edges_at = {variable: by_ends(edges) for variable, edges in self.edges.items()}
 
     def fits_node(self, variable: Variable, node: Node) -> bool:
         """Whether a node has all labels of a variable, and what its maps ask."""
@@ -87,7 +98,7 @@ class Search:
             yield
             return
         hop = hops[0]
-        for edge in self.edges[hop.variable]:
+        for edge in self.edges_for(hop):
             self.effort.spend()
             for left, right in ways(hop, edge):
                 for _ in self.with_node(hop.left, left):
@@ -96,6 +107,14 @@ class Search:
                             self.match[hop.variable] = edge.relationship
                             yield from self.bound_hops(hops[1:])
                             del self.match[hop.variable]
+
+    def edges_for(self, hop: Hop) -> list[Edge]:
+        """The relationships that a pattern may have: where an end is bound, those at its node."""
+        for end in (hop.left, hop.right):
+            node = self.match.get(end)
+            if isinstance(node, Node):
+                return self.edges_at[hop.variable].get(node, [])
+        return self.edges[hop.variable]
 
     def with_node(self, variable: Variable, node: Node) -> Iterator[None]:
         """Binds a node variable, where it is this node or may become it."""
@@ -121,7 +140,9 @@ class Search:
             yield
             return
         trail = trails[0]
-        for node in self.nodes[trail.start]:
+        start = self.match.get(trail.start)
+        for node in [start] if isinstance(start, Node) else self.nodes[trail.start]:
+            self.effort.spend()
             for _ in self.with_node(trail.start, node):
                 for end in self.walks(trail, node, 0):
                     for _ in self.with_node(trail.end, end):
@@ -135,7 +156,7 @@ class Search:
             yield node
         if length == high:
             return
-        for edge in self.edges[trail.variable]:
+        for edge in self.edges_at[trail.variable].get(node, []):
             self.effort.spend()
             if edge.source == node:
                 for _ in self.taken(trail, edge.relationship):

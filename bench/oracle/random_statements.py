@@ -5,6 +5,8 @@ from __future__ import annotations
 import re
 from random import Random
 
+from .random_forms import FormWriter
+
 ARROWS = ("-{}->", "-{}->", "<-{}-", "-{}-")
 LABELS = ("",) * 12 + (":A", ":A", ":A", ":B", ":C", ":A:C")
 TYPES = ("",) * 8 + (":R", ":R", ":S", ":R|S|:T", ":T")
@@ -63,7 +65,7 @@ class Writer:
             return ":schema"
         if kind < 0.05:
             return f":param {self.random.choice(PARAMETERS)} {self.literal()}"
-        text = self.query()
+        text = FormWriter(self.random).query() if self.chance(0.4) else self.query()
         if kind < 0.12:
             return self.broken(text)
         if kind < 0.14:

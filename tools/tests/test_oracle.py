@@ -5,13 +5,17 @@ from __future__ import annotations
 import re
 import subprocess
 import sys
+from collections import Counter
 from pathlib import Path
+from random import Random
 
 from .support import PEOPLE, PROGRAM, TOP, ToolTest
 
 sys.path.append(str(TOP / "bench"))
 
 from oracle.graph import Graph, read_graph  # noqa: E402
+from oracle.random_forms import FormWriter  # noqa: E402
+from oracle.random_graphs import MANIFEST, random_graph  # noqa: E402
 from oracle.replies import Permitted, Settings  # noqa: E402
 from oracle.session import Session  # noqa: E402
 
@@ -220,6 +224,31 @@ class Oracle(ToolTest):
         }.items():
             with self.subTest(statement=statement):
                 self.assertEqual(permitted(statement).whole, [[f"error: {line}"]])
+
+
+class Asked(ToolTest):
+    def test_forms(self) -> None:
+        """No query of the forms that look ahead is refused."""
+        random = Random(1)
+        for _ in range(200):
+            statement = FormWriter(random).query()
+            with self.subTest(statement=statement):
+                self.assertEqual(permitted(statement).whole, [])
+
+    def test_graphs(self) -> None:
+        """Some graphs are small, some have many relationships, and some a table and a list of more than 2,048."""
+        graphs = []
+        for number in range(60):
+            files = random_graph(Random(number))
+            graphs.append(read_graph(files[MANIFEST], files))
+        long = [graph for graph in graphs if len(graph.all_nodes) > 2_048]
+        self.assertTrue(long)
+        for graph in long:
+            starts = Counter(edge.source for edge in graph.edges)
+            ends = Counter(edge.target for edge in graph.edges)
+            self.assertGreater(max(*starts.values(), *ends.values()), 2_040)
+        self.assertTrue(any(len(graph.edges) < 5 for graph in graphs))
+        self.assertTrue(any(30 < len(graph.edges) < 2_000 for graph in graphs))
 
 
 class Differ(ToolTest):
