@@ -27,7 +27,7 @@ pub use direction::Direction;
 pub use list::List;
 pub use literal::Literal;
 pub use memory::Memory;
-pub use operator::{ArithOp, CompareOp};
+pub use operator::{ArithOp, CompareOp, TextTest};
 pub use rels::{RelRef, RelRows};
 pub use rows::NodeRows;
 pub use text::Text;

@@ -31,3 +31,11 @@ pub enum ArithOp {
     /// `%`.
     Remainder,
 }
+
+/// A test of a text by a part of it.
+#[derive(Clone, Copy, Debug, PartialEq, Eq)]
+pub enum TextTest {
+    Starts,
+    Ends,
+    Contains,
+}
