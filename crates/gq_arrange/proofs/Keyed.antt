@@ -14,8 +14,8 @@ use Rattle.gq_plan.specs.Halves.{Runs}
 use Rattle.gq_plan.specs.Known.{none}
 use Rattle.gq_plan.specs.Meaning.{nothing}
 use Rattle.gq_plan.specs.Plans.{Plan, Done, Then, Step}
-use Rattle.gq_walks.specs.Different.{AreKeysOf}
-use Rattle.gq_walks.specs.Layouts.{walks, owed_walks, owed_keys}
+use Rattle.gq_search.specs.Different.{AreKeysOf}
+use Rattle.gq_search.specs.Layouts.{walks, owed_walks, owed_keys}
 use Rattle.gq_arrange.specs.Keys.{led, KeysOfPlans}
 use Rattle.gq_arrange.specs.Law.{begins, flag, groups_of, led_order, IsArranged}
 use Rattle.gq_arrange.proofs.Led.{arranged_plans}

@@ -11,7 +11,7 @@ use Rattle.gq_plan.specs.Halves.{halved}
 use Rattle.gq_plan.specs.Plans.{Plan, Done, Then, Step, Keep}
 use Rattle.gq_plan.specs.Shapes.{Places, nowhere, place_step, places_after, places, form_of, next_group}
 use Rattle.gq_plan.specs.declared.typed.Typed.{Typed}
-use Rattle.gq_walks.proofs.Cells.{filter-flat_map}
+use Rattle.gq_search.proofs.Cells.{filter-flat_map}
 use Rattle.gq_arrange.proofs.Between.{apart}
 use Rattle.gq_arrange.proofs.Running.{count_made, count_small, count_next, count_grows, home_made}
 

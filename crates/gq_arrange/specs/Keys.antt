@@ -15,8 +15,8 @@ use Rattle.gq_plan.specs.Meaning.{Partial, nothing}
 use Rattle.gq_plan.specs.Plans.{Plan}
 use Rattle.gq_plan.specs.Soundness.{IsSound}
 use Rattle.gq_plan.specs.declared.typed.Typed.{Typed}
-use Rattle.gq_walks.specs.Different.{AreKeysOf}
-use Rattle.gq_walks.specs.Layouts.{Spot, walks, owed_walks, owed_keys}
+use Rattle.gq_search.specs.Different.{AreKeysOf}
+use Rattle.gq_search.specs.Layouts.{Spot, walks, owed_walks, owed_keys}
 use Rattle.gq_plan.specs.Shapes.{places}
 use Rattle.gq_arrange.specs.Law.{flag, groups_of, led_order}
 

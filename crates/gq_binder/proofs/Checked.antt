@@ -26,12 +26,12 @@ use Rattle.gq_bound.specs.declared.refusal.BindRefusal.{BindRefusal}
 use Rattle.gq_bound.specs.declared.refusal.BindRefusal.TheVariants as refusal
 use Rattle.gq_plan.specs.Reads.{Read, property}
 use Rattle.gq_scopes.specs.Patterns.{Name, Pattern, pattern_of}
-use Rattle.gq_trees.specs.Renames.{ambiguous_name}
-use Rattle.gq_trees.specs.Resolving.{functions}
+use Rattle.gq_resolve.specs.Renames.{ambiguous_name}
+use Rattle.gq_resolve.specs.Resolving.{functions}
 use Rattle.gq_scopes.specs.Scopes.{scope_of}
-use Rattle.gq_trees.specs.Uses.{of_other_form, unknown_name, unknown_function, wrong_count}
-use Rattle.gq_cuts.specs.Cored.{HasCore}
-use Rattle.gq_cuts.specs.declared.cored.Core.{Core}
+use Rattle.gq_resolve.specs.Uses.{of_other_form, unknown_name, unknown_function, wrong_count}
+use Rattle.gq_core.specs.Cored.{HasCore}
+use Rattle.gq_core.specs.declared.cored.Core.{Core}
 use Rattle.gq_law_cuts.specs.Shaped.{core_pattern_of}
 use Rattle.gq_syntax.proofs.Whole.{spelled_stands}
 use Rattle.gq_syntax.specs.Spans.{SpelledQuery}

@@ -14,7 +14,7 @@ use Rattle.gq_alternatives.specs.Matches.{is_match, pattern_matches}
 use Rattle.gq_ast.specs.declared.Query.{Query}
 use Rattle.gq_bound.specs.Binding.{Answers, IsBound}
 use Rattle.gq_bound.specs.declared.refusal.BindRefusal.{BindRefusal}
-use Rattle.gq_cuts.specs.Entries.{entry_test}
+use Rattle.gq_core.specs.Entries.{entry_test}
 use Rattle.gq_law_answers.proofs.Alone.{allows_passing}
 use Rattle.gq_law_answers.proofs.Entries.{tests_entries}
 use Rattle.gq_law_answers.proofs.Matched.{has_tables}

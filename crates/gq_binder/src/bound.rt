@@ -9,7 +9,7 @@ ghost use Rattle.gq_bound.specs.steps.Parts.{bound_by, bound_in, checks_in, exis
 ghost use Rattle.gq_bound.specs.steps.Parts.{optional_part, own_patterns, parts_of};
 ghost use Rattle.gq_bound.specs.Fresh.{no_parts};
 ghost use Rattle.gq_bound.specs.steps.Parts.{IsWholeCore};
-ghost use Rattle.gq_cuts.specs.Cored.{HasCore};
+ghost use Rattle.gq_core.specs.Cored.{HasCore};
 ghost use Rattle.gq_scopes.specs.Scopes.{scope_of};
 ghost use Rattle.gq_syntax.specs.Spans.{SpelledQuery};
 
@@ -22,10 +22,10 @@ use gq_alternatives::{Choice, typed};
 use gq_ast::{Query, Sort};
 use gq_base::{Catalog, List, Memory, Text};
 use gq_bound::{BindRefusal, QueryParts};
-use gq_cuts::{Core, core_of};
+use gq_core::{Core, core_of};
 use gq_plan::{Bound, NamedExpr, SortExpr, Typed};
+use gq_resolve::{CallForm, resolve_part};
 use gq_scopes::{Copying, Pattern, Scope, copy_text};
-use gq_trees::{CallForm, resolve_part};
 use std::alloc::Global;
 use std::mem;
 

@@ -31,7 +31,7 @@ use gq_ast::{Query, Range};
 use gq_base::{Catalog, List, Memory};
 use gq_bound::{BindRefusal, ClauseParts, QueryParts, SharedTest};
 use gq_choices::choices_of;
-use gq_cuts::Core;
+use gq_core::Core;
 use gq_plan::{ExistsPart, NamedExpr, PropertyReads};
 use gq_scopes::{
     Column, MapEntry, NamedVariable, Names, Pattern, RelPattern, Variable, copy_text, number,

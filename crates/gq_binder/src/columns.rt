@@ -5,15 +5,15 @@ ghost use Rattle.gq_bound.specs.Columns as columns;
 ghost use Rattle.gq_bound.specs.Columns.{columns_in, column_expr, column_of, item_column};
 ghost use Rattle.gq_bound.specs.Columns.{item_name};
 ghost use Rattle.gq_scopes.specs.Patterns.{is_called};
-ghost use Rattle.gq_trees.specs.Resolving.{calls_of};
+ghost use Rattle.gq_resolve.specs.Resolving.{calls_of};
 ghost use Rattle.gq_ast.specs.Spans.{IsWholeTree};
 
 use gq_ast::{Item, Query};
 use gq_base::{List, Memory, Text};
 use gq_expr::Expr;
 use gq_plan::NamedExpr;
+use gq_resolve::{CallForm, resolve, source_text};
 use gq_scopes::{Column, NamedVariable, Names, Pattern, Scope, Variable, copy_text};
-use gq_trees::{CallForm, resolve, source_text};
 use std::alloc::Global;
 use std::mem;
 

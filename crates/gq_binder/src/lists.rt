@@ -1,10 +1,10 @@
 //! Lists that are put into what is lent.
 ghost use Rattle.std.specs.Prelude.{◌≡◌, ◌++◌, map, All, OnOk};
 ghost use Rattle.gq_ast.specs.Spans.{IsWholeEntry};
-ghost use Rattle.gq_cuts.specs.Entries.{entry_test};
+ghost use Rattle.gq_core.specs.Entries.{entry_test};
 
 use gq_base::{List, Memory};
-use gq_cuts::entry_tests;
+use gq_core::entry_tests;
 use gq_plan::NamedExpr;
 use gq_scopes::Pattern;
 use std::alloc::Global;

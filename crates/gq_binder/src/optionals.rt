@@ -31,8 +31,8 @@ use gq_base::{Catalog, List, Memory, Text};
 use gq_bound::{BindRefusal, ClauseParts, FirstNames, SharedTest};
 use gq_choices::choices_of;
 use gq_plan::{NamedExpr, OptionalPart};
+use gq_resolve::conjuncts_of;
 use gq_scopes::{Copying, Pattern, Scope, next, number};
-use gq_trees::conjuncts_of;
 use std::alloc::Global;
 use std::mem;
 

@@ -6,18 +6,18 @@ ghost use Rattle.gq_bound.specs.steps.Parts.{ambiguous_in, out_of_scope_in};
 ghost use Rattle.gq_bound.specs.Refusals as refusals;
 ghost use Rattle.gq_bound.specs.Refusals.{first_in, out_of_scope_from, sorts_in};
 ghost use Rattle.gq_bound.specs.declared.refusal.BindRefusal.TheVariants as refusal;
-ghost use Rattle.gq_trees.specs.Checks.{check_of};
-ghost use Rattle.gq_trees.specs.MadeOf.{column_exprs};
-ghost use Rattle.gq_trees.specs.Renames.{ambiguous_name, renamed_name};
-ghost use Rattle.gq_trees.specs.Resolving.{as_lists, resolved};
+ghost use Rattle.gq_resolve.specs.Checks.{check_of};
+ghost use Rattle.gq_resolve.specs.MadeOf.{column_exprs};
+ghost use Rattle.gq_resolve.specs.Renames.{ambiguous_name, renamed_name};
+ghost use Rattle.gq_resolve.specs.Resolving.{as_lists, resolved};
 ghost use Rattle.gq_ast.specs.Spans.{IsWholeTree};
 
 use crate::columns::push_columns;
 use gq_ast::{Ast, Query, Sort};
 use gq_base::{List, Memory, Text};
 use gq_bound::BindRefusal;
+use gq_resolve::{CallForm, Check, ColumnExprs, Renamed, first_refused, resolve_part};
 use gq_scopes::{Column, Copying, Pattern, Scope, copy_text, next};
-use gq_trees::{CallForm, Check, ColumnExprs, Renamed, first_refused, resolve_part};
 use std::alloc::Global;
 
 /// With DISTINCT, an item of ORDER BY is not made of columns. Here alone calls are compared as they

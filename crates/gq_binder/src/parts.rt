@@ -2,7 +2,7 @@
 ghost use Rattle.std.specs.Prelude.{◌≡◌, ◌++◌, ◌∷◌, [], flat_map, map, All, IfSome};
 ghost use Rattle.std.specs.Prelude.{OnOk, length};
 ghost use Rattle.gq_bound.specs.Columns.{columns_in, conditions_from};
-ghost use Rattle.gq_cuts.specs.Entries.{entry_test};
+ghost use Rattle.gq_core.specs.Entries.{entry_test};
 ghost use Rattle.gq_bound.specs.Columns.{optional_conditions, scoped_in, whole_pattern};
 ghost use Rattle.gq_bound.specs.steps.Names.{with_clauses_names};
 ghost use Rattle.gq_bound.specs.Names.{with_expression};
@@ -13,7 +13,7 @@ ghost use Rattle.gq_bound.specs.Fresh.{no_parts};
 ghost use Rattle.gq_bound.specs.Refusals.{items_in, sorts_in};
 ghost use Rattle.gq_bound.specs.Tested.{seen_elsewhere};
 ghost use Rattle.gq_scopes.specs.Patterns.{no_pattern, pattern_of, with_clauses};
-ghost use Rattle.gq_trees.specs.Resolving.{functions};
+ghost use Rattle.gq_resolve.specs.Resolving.{functions};
 ghost use Rattle.gq_scopes.specs.Scopes.{scope_of};
 ghost use Rattle.gq_ast.specs.Spans.{IsWholeEntry, IsWholeTree};
 ghost use Rattle.gq_ast.specs.steps.Spans.{IsWholeClause, StandsIn};
@@ -26,8 +26,8 @@ use gq_ast::{Ast, Clause, Query};
 use gq_base::{List, Memory};
 use gq_bound::{ClauseParts, FirstNames, QueryParts, SharedTest};
 use gq_plan::NamedExpr;
+use gq_resolve::{CallForm, conjuncts_of};
 use gq_scopes::{Column, Pattern, Scope, next, number};
-use gq_trees::{CallForm, conjuncts_of};
 use std::alloc::Global;
 
 /// Reads the parts of a query that stands in a text into parts that are lent, so that nothing of them

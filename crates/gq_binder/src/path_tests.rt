@@ -9,11 +9,11 @@ ghost use Rattle.gq_bound.specs.steps.Parts as steps;
 ghost use Rattle.gq_bound.specs.steps.Parts.{shared_in};
 ghost use Rattle.gq_bound.specs.Refusals.{items_in, sorts_in};
 ghost use Rattle.gq_bound.specs.Tested.{seen_elsewhere, stray_test};
-ghost use Rattle.gq_cuts.specs.Entries.{entry_test};
+ghost use Rattle.gq_core.specs.Entries.{entry_test};
 ghost use Rattle.gq_scopes.specs.PathPatterns.{path_pattern};
 ghost use Rattle.gq_ast.specs.Spans.{IsWholeEntry};
 ghost use Rattle.gq_ast.specs.steps.Spans.{IsWholePath};
-ghost use Rattle.gq_trees.specs.Places.{strays};
+ghost use Rattle.gq_resolve.specs.Places.{strays};
 
 use crate::bound::{MOST_TESTS, push_typed};
 use gq_alternatives::Choice;
@@ -21,11 +21,11 @@ use gq_ast::{Ast, Item, Sort};
 use gq_base::{Catalog, List, Literal, Memory, Text};
 use gq_bound::{BindRefusal, SharedTest};
 use gq_choices::choices_of;
-use gq_cuts::entry_tests;
+use gq_core::entry_tests;
 use gq_expr::Expr;
 use gq_plan::{ExistsPart, NamedExpr, Typed};
+use gq_resolve::{NamedTest, PathTest, push_paths, push_strays};
 use gq_scopes::{Copying, Pattern, Scope, copy_text, shared_variables};
-use gq_trees::{NamedTest, PathTest, push_paths, push_strays};
 use std::alloc::Global;
 
 /// Appends tests, with the variables that their paths share with a scope.

@@ -9,7 +9,7 @@ ghost use Rattle.gq_bound.specs.steps.Parts.{alternatives_of_core, cored_in, cor
 ghost use Rattle.gq_bound.specs.steps.Parts.{exists_part, no_lists, renumbered_all};
 ghost use Rattle.gq_bound.specs.steps.Parts.{renumbered_keys};
 ghost use Rattle.gq_bound.specs.steps.Parts.{IsWholeCore};
-ghost use Rattle.gq_cuts.specs.Entries.{entry_test};
+ghost use Rattle.gq_core.specs.Entries.{entry_test};
 ghost use Rattle.gq_law_cuts.specs.Cuts as cuts;
 ghost use Rattle.gq_law_reaches.specs.Core.{trail_parts};
 ghost use Rattle.gq_scopes.specs.Scopes.{scope_of};
@@ -20,7 +20,7 @@ use gq_alternatives::Choice;
 use gq_ast::Query;
 use gq_base::{Catalog, List, Memory, Text};
 use gq_bound::QueryParts;
-use gq_cuts::{Core, Orders, core_typed, entry_tests, plain_rels, renumber, trail_parts};
+use gq_core::{Core, Orders, core_typed, entry_tests, plain_rels, renumber, trail_parts};
 use gq_plan::{Bound, ExistsPart, NamedExpr, SortExpr, TrailPart, Typed};
 use gq_scopes::{Column, Copying, Pattern, RelPattern, copy_text, next};
 use std::alloc::Global;

@@ -4,11 +4,11 @@ use Rattle.std.specs.Option.{option_or}
 use Rattle.gq_bound.specs.Columns.{Scoped}
 use Rattle.gq_bound.specs.declared.met.Met.{Met}
 use Rattle.gq_bound.specs.Met.{meeting, met_again, met_otherwise}
-use Rattle.gq_trees.specs.Checks.{check_of}
+use Rattle.gq_resolve.specs.Checks.{check_of}
 use Rattle.gq_scopes.specs.Patterns.{Name, NamedVariable, Pattern, with_paths}
 use Rattle.gq_ast.specs.declared.Path.{Path}
-use Rattle.gq_trees.specs.Uses.{first_name, refused_unless, uses}
-use Rattle.gq_trees.specs.declared.Check.TheVariants as check
+use Rattle.gq_resolve.specs.Uses.{first_name, refused_unless, uses}
+use Rattle.gq_resolve.specs.declared.Check.TheVariants as check
 
 -- the first name that its scope does not have, the first names that stand before as a variable of the other form and as a
 -- relationship that would be one again, the first call that names no function, the first call with a wrong number of

@@ -7,15 +7,15 @@ ghost use Rattle.gq_bound.specs.Names.{with_expressions, with_name, with_named};
 ghost use Rattle.gq_bound.specs.Refusals.{items_in, sorts_in};
 ghost use Rattle.gq_bound.specs.declared.refusal.BindRefusal.TheVariants as refusal;
 ghost use Rattle.gq_scopes.specs.Patterns.{with_paths};
-ghost use Rattle.gq_trees.specs.Checks.{check_of};
-ghost use Rattle.gq_trees.specs.Uses.{first_name, refused_unless, uses};
+ghost use Rattle.gq_resolve.specs.Checks.{check_of};
+ghost use Rattle.gq_resolve.specs.Uses.{first_name, refused_unless, uses};
 
 use crate::met::Met;
 use crate::refusal::BindRefusal;
 use gq_ast::{Ast, Item, Path, Sort};
 use gq_base::{Memory, Text};
+use gq_resolve::{Check, first_refused};
 use gq_scopes::{NamedVariable, Pattern, Scope, copy_text};
-use gq_trees::{Check, first_refused};
 use std::alloc::Global;
 use std::marker::Model;
 

@@ -7,7 +7,7 @@ use Rattle.gq_plan.specs.Marked.{Marked, ending, marked}
 use Rattle.gq_plan.specs.Outcomes.{late_conjuncts}
 use Rattle.gq_plan.specs.declared.Bound.{Bound}
 use Rattle.gq_plan.specs.declared.Typed.{Typed}
-use Rattle.gq_wide.specs.Clauses.{after_clauses}
+use Rattle.gq_outer.specs.Clauses.{after_clauses}
 use Rattle.gq_drain.specs.Becoming.{Later, given_on, if_admitted_behind, outcomes_by, outcomes_on, rows_by}
 use Rattle.gq_drain.specs.steps.Given.{given_by, if_admitted}
 use Rattle.gq_drain.specs.Testing.{Admission}

@@ -21,7 +21,7 @@ use Rattle.gq_plan.specs.declared.TrailPart.{TrailPart}
 use Rattle.gq_plan.specs.declared.Typed.{Typed}
 use Rattle.gq_trails.specs.Continued.{rows_continued, rows_from, walked_count}
 use Rattle.gq_trails.specs.Trekking.{AreInTurn, AreNodes, CanTrek, patterns_from, placed_from}
-use Rattle.gq_wide.specs.Rows.{Wide, item_at, read}
+use Rattle.gq_outer.specs.Rows.{Wide, item_at, read}
 use Rattle.gq_drain.specs.Becoming.{rows_by, wide_of}
 use Rattle.gq_drain.specs.Prepared.{CanWalk}
 use Rattle.gq_drain.specs.steps.Continuing.{continued_by}

@@ -5,7 +5,7 @@ use Rattle.std.proofs.lemmas.Bool.{eqb-true}
 use Rattle.std.proofs.Math.Dec.{eqb-suc-suc, eqb-suc-zero, eqb-zero-suc}
 use Rattle.std.proofs.lemmas.Bool.Decides.{nat_tests}
 use Rattle.gq_plan.specs.Assignments.{Assignment, row_of}
-use Rattle.gq_wide.specs.Rows.{Wide, item_at, read}
+use Rattle.gq_outer.specs.Rows.{Wide, item_at, read}
 use Rattle.gq_drain.specs.steps.Behind.{IsBlankFrom}
 use Rattle.gq_drain.specs.steps.Copied.{Copies}
 

@@ -20,8 +20,8 @@ use Rattle.gq_kept.specs.declared.refusal.More.{More}
 use Rattle.gq_kept.specs.declared.refusal.More.TheVariants as more
 use Rattle.gq_kept.specs.declared.refusal.RowRefusal.{RowRefusal}
 use Rattle.gq_kept.specs.declared.refusal.RowRefusal.TheVariants as row_refusal
-use Rattle.gq_wide.specs.Clauses.{after_clause, after_clauses}
-use Rattle.gq_wide.specs.Rows.{Wide, read}
+use Rattle.gq_outer.specs.Clauses.{after_clause, after_clauses}
+use Rattle.gq_outer.specs.Rows.{Wide, read}
 use Rattle.gq_drain.specs.Becoming.{outcomes_behind}
 use Rattle.gq_drain.specs.steps.Behind.{Taken}
 

@@ -13,7 +13,7 @@ use Rattle.gq_kept.specs.Chunks.{PushesAll}
 use Rattle.gq_kept.specs.Tables.{Table}
 use Rattle.gq_kept.specs.declared.refusal.More.{More}
 use Rattle.gq_kept.specs.declared.refusal.RowRefusal.{RowRefusal}
-use Rattle.gq_wide.specs.Rows.{Wide, read}
+use Rattle.gq_outer.specs.Rows.{Wide, read}
 use Rattle.gq_drain.specs.Testing.{Admission}
 use Rattle.gq_drain.specs.Becoming.{Later, outcomes_on}
 use Rattle.gq_drain.specs.steps.Given.{if_admitted}

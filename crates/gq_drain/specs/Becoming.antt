@@ -15,8 +15,8 @@ use Rattle.gq_plan.specs.declared.Bound.{Bound}
 use Rattle.gq_plan.specs.declared.TrailPart.{TrailPart}
 use Rattle.gq_plan.specs.declared.Typed.{Typed}
 use Rattle.gq_trails.specs.Trekking.{continuations}
-use Rattle.gq_wide.specs.Clauses.{after_clauses}
-use Rattle.gq_wide.specs.Rows.{Wide}
+use Rattle.gq_outer.specs.Clauses.{after_clauses}
+use Rattle.gq_outer.specs.Rows.{Wide}
 use Rattle.gq_drain.specs.Testing.{Admission}
 
 -- ---- a row

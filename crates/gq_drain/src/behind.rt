@@ -25,12 +25,12 @@ use gq_eval::Verdict;
 use gq_expr::Fault;
 use gq_group::{Choice, Chunk, ChunkRow};
 use gq_optional::OptionalWalk;
+use gq_outer::WideRow;
 use gq_pipe::Pipeline;
 use gq_plan::Typed;
 use gq_pool::VectorPool;
 use gq_rows::{More, RowRefusal, RowTable};
 use gq_store::Graph;
-use gq_wide::WideRow;
 use std::alloc::Global;
 
 /// A row of all variables of a query, and a walk over what the optional clauses make of it.

@@ -3,7 +3,7 @@ ghost use Rattle.std.specs.Prelude.{◌≡◌, ◌^◌, ◌<◌, ◌≤◌, leng
 ghost use Rattle.gq_drain.specs.steps.Copied.{Copies};
 
 use gq_expr::Assigned;
-use gq_wide::WideRow;
+use gq_outer::WideRow;
 
 /// Gives the first node variables of a row what they have in an assignment.
 pub(crate) fn copy_nodes<R: Assigned>(wide: &mut WideRow, row: &R, count: usize)

@@ -21,7 +21,7 @@ ghost use Rattle.gq_pipe.specs.Serving.{Serves};
 ghost use Rattle.gq_plan.specs.Meaning as meaning;
 ghost use Rattle.gq_rows.specs.Growing.{IsContinued};
 ghost use Rattle.gq_trails.specs.Trekking.{HasLength};
-ghost use Rattle.gq_wide.specs.Rows.{read};
+ghost use Rattle.gq_outer.specs.Rows.{read};
 
 use crate::copied::{copy_nodes, copy_rels};
 use crate::late::judge_late;
@@ -29,13 +29,13 @@ use crate::prepared::Prepared;
 use gq_base::Memory;
 use gq_eval::Verdict;
 use gq_group::{Choice, Chunk, ChunkRow};
+use gq_outer::WideRow;
 use gq_pipe::Pipeline;
 use gq_plan::Typed;
 use gq_pool::VectorPool;
 use gq_rows::{More, RowRefusal, RowTable};
 use gq_store::Graph;
 use gq_trails::TrailRows;
-use gq_wide::WideRow;
 use std::alloc::Global;
 
 /// A row of all variables of a query, and the trails that continue it.

@@ -7,7 +7,7 @@ use Rattle.gq_alternatives.proofs.SoundPatterns.{each_alternative}
 use Rattle.gq_alternatives.specs.Choices.{IsChoice}
 use Rattle.gq_alternatives.specs.Alternatives.{Choice, Reading, agrees, pattern_alternatives, typed_of, typed_rels}
 use Rattle.gq_bound.specs.Binding.{IsBound}
-use Rattle.gq_cuts.specs.Entries.{entry_test}
+use Rattle.gq_core.specs.Entries.{entry_test}
 use Rattle.gq_drain.proofs.Continuing.{own_row}
 use Rattle.gq_drain.specs.Becoming.{reached_in, rows_by, wide_of}
 use Rattle.gq_law_cores.proofs.Starting.{owed_are_trail_rows}

@@ -25,7 +25,7 @@ use Rattle.gq_plan.specs.Soundness.{IsSound}
 use Rattle.gq_plan.specs.declared.bound.OptionalPart.{OptionalPart}
 use Rattle.gq_plan.specs.declared.plan.Plan as code
 use Rattle.gq_plan.specs.declared.typed.Typed.{Typed}
-use Rattle.gq_wide.specs.Placed.{IsPlaced}
+use Rattle.gq_outer.specs.Placed.{IsPlaced}
 use Rattle.gq_execute.specs.Refusals.{of_join}
 use Rattle.gq_execute.specs.Replies.{has_large_part, is_heavy_clause, is_heavy_in}
 use Rattle.gq_execute.specs.Spending.{IsSpentOnClause, IsSpentOnListing}

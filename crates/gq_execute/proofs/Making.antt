@@ -33,7 +33,7 @@ use Rattle.gq_plan.specs.declared.bound.OptionalPart.{OptionalPart}
 use Rattle.gq_scopes.specs.Patterns.{Pattern, pattern_of}
 use Rattle.gq_ast.specs.declared.Clause.{Clause}
 use Rattle.gq_ast.specs.declared.Query.{Query}
-use Rattle.gq_wide.specs.Clauses.{after_clauses}
+use Rattle.gq_outer.specs.Clauses.{after_clauses}
 use Rattle.gq_execute.specs.Answering.{question}
 use Rattle.gq_execute.specs.Replies.{Question, behind_optionals, later_of, rows_of, tests_of}
 use Rattle.gq_drain.specs.Becoming.{given_on, if_admitted_behind, outcomes_behind, outcomes_by, outcomes_on}

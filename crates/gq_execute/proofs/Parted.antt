@@ -24,10 +24,10 @@ use Rattle.gq_ast.specs.Sources.{source_text}
 use Rattle.gq_plan.specs.declared.ExistsPart.{ExistsPart}
 use Rattle.gq_ast.specs.declared.Path.{Path}
 use Rattle.gq_ast.specs.declared.Query.{Query}
-use Rattle.gq_trees.specs.Conjuncts.{NamedTest, named_test}
-use Rattle.gq_trees.specs.Conjuncts as trees
-use Rattle.gq_trees.specs.PathTests.{PathTest}
-use Rattle.gq_trees.specs.Resolving.{Conjunct, functions, split}
+use Rattle.gq_resolve.specs.Conjuncts.{NamedTest, named_test}
+use Rattle.gq_resolve.specs.Conjuncts as trees
+use Rattle.gq_resolve.specs.PathTests.{PathTest}
+use Rattle.gq_resolve.specs.Resolving.{Conjunct, functions, split}
 use Rattle.gq_execute.specs.Replies.{Question, all_outcomes, cores_in, has_heavy_test, has_many_keys, has_turns, later_of, shared_nodes, some_many_keys, tests_of}
 use Rattle.gq_drain.specs.declared.testing.Test.{Test}
 use Rattle.gq_execute.specs.steps.Answering.{AreParted}

@@ -7,7 +7,7 @@ use Rattle.gq_plan.specs.declared.ExistsPart.{ExistsPart}
 use Rattle.gq_plan.specs.declared.TrailPart.{TrailPart}
 use Rattle.gq_plan.specs.declared.Typed.{Typed}
 use Rattle.gq_trails.specs.Trekking.{AreInTurn, HasLength}
-use Rattle.gq_wide.specs.Placed.{IsPlaced}
+use Rattle.gq_outer.specs.Placed.{IsPlaced}
 
 -- its alternatives, and those of its tests of paths, are sound and begin with a node, and the variables of alternatives and of optional
 -- clauses are its own; its trails have a length, end at its variables, are few, and each is walked from a variable that is bound when its

@@ -13,7 +13,7 @@ ghost use Rattle.gq_execute.specs.steps.Prepared.{IsPrepared};
 ghost use Rattle.gq_kept.specs.Tables.{StandsForSome, is_full_table};
 ghost use Rattle.gq_plan.specs.Soundness.{IsSound};
 ghost use Rattle.gq_pool.specs.Pool.{spare_of};
-ghost use Rattle.gq_wide.specs.Placed.{IsPlaced};
+ghost use Rattle.gq_outer.specs.Placed.{IsPlaced};
 
 use crate::found::Answer;
 use crate::planning::{plan_for, stats_of};

@@ -5,7 +5,7 @@ ghost use Rattle.gq_execute.specs.Planned.{sizes};
 ghost use Rattle.gq_execute.specs.steps.Clauses.{AreOfPlans, AreSpentOn, IsPlannedClause};
 ghost use Rattle.gq_execute.specs.steps.Clauses.{RefusesClauses, some_heavy_clause};
 ghost use Rattle.gq_pool.specs.Pool.{spare_of};
-ghost use Rattle.gq_wide.specs.Placed.{IsPlaced};
+ghost use Rattle.gq_outer.specs.Placed.{IsPlaced};
 
 use crate::planning::plans_in;
 use crate::refusal::AnswerRefusal;

@@ -10,7 +10,7 @@ ghost use Rattle.gq_execute.specs.steps.Prepared.{first_nodes};
 ghost use Rattle.gq_execute.specs.steps.Testing.{spent_on};
 ghost use Rattle.gq_plan.specs.Soundness.{IsSound};
 ghost use Rattle.gq_pool.specs.Pool.{spare_of};
-ghost use Rattle.gq_wide.specs.Placed.{IsPlaced};
+ghost use Rattle.gq_outer.specs.Placed.{IsPlaced};
 
 use crate::clauses::list_clauses;
 use crate::refusal::AnswerRefusal;

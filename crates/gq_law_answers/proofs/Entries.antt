@@ -15,7 +15,7 @@ use Rattle.gq_expr.proofs.Equations.{meaning_Literal, meaning_NodeProperty, mean
 use Rattle.gq_plan.specs.Assignments.{Assignment, row_of}
 use Rattle.gq_plan.specs.Conditions.{passes}
 use Rattle.gq_alternatives.specs.Matches.{value_of, entry_holds}
-use Rattle.gq_cuts.specs.Entries.{property_of, entry_expr, entry_test}
+use Rattle.gq_core.specs.Entries.{property_of, entry_expr, entry_test}
 use Rattle.gq_scopes.specs.Patterns.{MapEntry, Name, Pattern}
 use Rattle.gq_law_answers.proofs.Narrowed.{AreEntryTests}
 

@@ -8,7 +8,7 @@ use Rattle.gq_base.specs.Plain.{Graph}
 use Rattle.gq_base.specs.Valid as valid
 use Rattle.gq_alternatives.specs.Alternatives.{Choice, pattern_alternatives, typed_of}
 use Rattle.gq_alternatives.specs.Matches.{pattern_matches}
-use Rattle.gq_cuts.specs.Entries.{entry_test}
+use Rattle.gq_core.specs.Entries.{entry_test}
 use Rattle.gq_law_answers.specs.Answered.{allowed, late_pass, meanings}
 use Rattle.gq_law_answers.proofs.Entries.{tests_entries}
 use Rattle.gq_law_answers.proofs.Matched.{filter_all, has_tables, pattern_answers, plans_allow}

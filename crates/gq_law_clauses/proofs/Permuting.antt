@@ -8,7 +8,7 @@ use Rattle.gq_law_plans.proofs.Reordered.{permuted_flat_map}
 use Rattle.gq_plan.specs.Assignments.{Assignment}
 use Rattle.gq_plan.specs.Marked.{Marked, marked}
 use Rattle.gq_plan.specs.declared.bound.OptionalPart.{OptionalPart}
-use Rattle.gq_wide.specs.Clauses.{agrees, after_clause, after_clauses, continuations, or_alone, unless_marked, with_match}
+use Rattle.gq_outer.specs.Clauses.{agrees, after_clause, after_clauses, continuations, or_alone, unless_marked, with_match}
 use Rattle.gq_law_clauses.specs.Laws.{AreSameBags, ClausesAreOfBags}
 
 -- ---- lists

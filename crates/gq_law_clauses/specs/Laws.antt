@@ -13,7 +13,7 @@ use Rattle.gq_plan.specs.Plans.{Plan}
 use Rattle.gq_plan.specs.declared.bound.OptionalPart.{OptionalPart}
 use Rattle.gq_scopes.specs.Patterns.{Pattern}
 use Rattle.gq_ast.specs.declared.Clause.{Clause}
-use Rattle.gq_wide.specs.Clauses.{after_clauses}
+use Rattle.gq_outer.specs.Clauses.{after_clauses}
 
 -- ---- one clause
 

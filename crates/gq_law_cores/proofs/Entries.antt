@@ -5,7 +5,7 @@ use Rattle.gq_base.specs.Results.{and_then}
 use Rattle.gq_base.specs.Truth.{and3}
 use Rattle.gq_base.specs.Values.{equal_vals, literal_val}
 use Rattle.gq_base.specs.declared.CompareOp.TheVariants as compare
-use Rattle.gq_cuts.specs.Entries.{entry_expr, entry_test, property_of}
+use Rattle.gq_core.specs.Entries.{entry_expr, entry_test, property_of}
 use Rattle.gq_expr.proofs.Equations.{meaning_Compare, meaning_Literal, meaning_NodeProperty, meaning_RelProperty}
 use Rattle.gq_expr.specs.Meaning.{compare_chain, meaning}
 use Rattle.gq_expr.specs.Operators.{Outcome, of_truth}

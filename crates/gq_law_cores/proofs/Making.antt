@@ -16,7 +16,7 @@ use Rattle.gq_alternatives.proofs.Partition.{lies_once}
 use Rattle.gq_alternatives.proofs.Searches.{flat_map_flat_map}
 use Rattle.gq_alternatives.proofs.SoundPatterns.{each_alternative}
 use Rattle.gq_alternatives.specs.Choices.{IsChoice}
-use Rattle.gq_cuts.specs.Entries.{entry_test}
+use Rattle.gq_core.specs.Entries.{entry_test}
 use Rattle.gq_law_answers.specs.Answered.{allowed}
 use Rattle.gq_law_answers.proofs.Alone.{allows_passing, some_drops}
 use Rattle.gq_law_answers.proofs.Early as safe

@@ -20,7 +20,7 @@ use Rattle.gq_plan.specs.Soundness.{has_number}
 use Rattle.gq_plan.specs.declared.NamedExpr.{NamedExpr}
 use Rattle.gq_scopes.specs.Patterns.{MapEntry, Pattern, RelPattern}
 use Rattle.gq_trails.specs.Trekking.{AreInTurn, AreNodes, HasLength, partial_of, patterns_from, patterns_in, placed_from}
-use Rattle.gq_wide.specs.Rows.{Wide, item_at}
+use Rattle.gq_outer.specs.Rows.{Wide, item_at}
 use Rattle.gq_law_cores.specs.Walking.{CoresAreInTurn, IsCoreRow, OwedAreTrailRows, PartsHaveEnds, PartsHaveLength}
 
 -- ---- a row of a match as what is bound

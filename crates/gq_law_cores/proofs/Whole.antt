@@ -3,7 +3,7 @@ use Rattle.std.proofs.Common.{◌≡◌, ℕ, ◌≤◌, List, [], map, IsPermut
 use Rattle.std.proofs.lemmas.List.Sorted.{IsPermutation-trans}
 use Rattle.gq_base.specs.Plain.{Graph}
 use Rattle.gq_alternatives.specs.Matches.{pattern_matches}
-use Rattle.gq_cuts.specs.Entries.{entry_test}
+use Rattle.gq_core.specs.Entries.{entry_test}
 use Rattle.gq_law_reaches.specs.Bags.{AreShort}
 use Rattle.gq_law_reaches.specs.Core.{core_pattern}
 use Rattle.gq_law_reaches.specs.Cores.{IsCored}

@@ -7,7 +7,7 @@ use Rattle.gq_base.specs.declared.NodeId.{NodeId}
 use Rattle.gq_base.specs.declared.direction.Direction.TheVariants.{Forward}
 use Rattle.gq_alternatives.specs.Alternatives.{choices, pattern_alternatives, typed_of}
 use Rattle.gq_alternatives.specs.Matches.{pattern_matches}
-use Rattle.gq_cuts.specs.Entries.{entry_test}
+use Rattle.gq_core.specs.Entries.{entry_test}
 use Rattle.gq_expr.specs.declared.Fault.{Fault}
 use Rattle.gq_law_plans.proofs.Worked.{below, g, valid}
 use Rattle.gq_law_reaches.specs.Core.{trail_parts}

@@ -2,7 +2,7 @@
 use Rattle.std.specs.Prelude.{◌≡◌, ℕ, Bool, All, List, map}
 use Rattle.gq_base.specs.Catalogs.{Tables}
 use Rattle.gq_alternatives.specs.Alternatives.{pattern_alternatives}
-use Rattle.gq_cuts.specs.Entries.{entry_test}
+use Rattle.gq_core.specs.Entries.{entry_test}
 use Rattle.gq_law_cuts.specs.Typing.{core_typed}
 use Rattle.gq_plan.specs.Soundness.{IsSound}
 use Rattle.gq_plan.specs.declared.Bound.{Bound}

@@ -13,7 +13,7 @@ use Rattle.gq_plan.specs.declared.NamedExpr.{NamedExpr}
 use Rattle.gq_plan.specs.declared.TrailPart.{TrailPart}
 use Rattle.gq_scopes.specs.Patterns.{MapEntry}
 use Rattle.gq_trails.specs.Trekking.{AreInTurn, HasLength, continuations}
-use Rattle.gq_wide.specs.Rows.{Wide, item_at}
+use Rattle.gq_outer.specs.Rows.{Wide, item_at}
 use Rattle.gq_law_cores.specs.Made.{trail_rows}
 
 -- a row has what a match of the core has, and nothing else

@@ -4,7 +4,7 @@ use Rattle.gq_base.specs.Catalogs.{Tables}
 use Rattle.gq_base.specs.Plain.{Graph}
 use Rattle.gq_base.specs.Valid.{is_valid}
 use Rattle.gq_alternatives.specs.Matches.{pattern_matches}
-use Rattle.gq_cuts.specs.Entries.{entry_test}
+use Rattle.gq_core.specs.Entries.{entry_test}
 use Rattle.gq_expr.specs.Reading as reading
 use Rattle.gq_expr.specs.declared.Fault.{Fault}
 use Rattle.gq_law_reaches.specs.Core.{trail_parts}

@@ -11,8 +11,8 @@ use Rattle.gq_plan.specs.Allowed.{at_same}
 use Rattle.gq_plan.specs.Meaning.{Partial, look, nothing, with_rel, with_all, agree, far, rels_from, mean, step}
 use Rattle.gq_plan.specs.Plans.{Plan, Step, Scan, Extend, Close, Join, Keep, Differ, NoLoop, Single, Meet}
 use Rattle.gq_plan.specs.declared.typed.Typed.{Typed}
-use Rattle.gq_walks.specs.Layouts.{numbers_from, Layout, number_of, walks, has_one}
-use Rattle.gq_walks.proofs.Cells.{map-flat_map, flat_map-same, flat_map-flat_map, bag-flat_map, same_bag}
+use Rattle.gq_search.specs.Layouts.{numbers_from, Layout, number_of, walks, has_one}
+use Rattle.gq_search.proofs.Cells.{map-flat_map, flat_map-same, flat_map-flat_map, bag-flat_map, same_bag}
 use Rattle.gq_law_groups.specs.Groups.{Group, MakesGroup, AreGroups, checked, plan_of, first, follow, raw, own, reaches, kept, passes, raw_at, place, choices, decode, results, Follows}
 use Rattle.gq_law_groups.specs.Law.{WalksMean}
 use Rattle.gq_law_plans.proofs.Reordered.{permuted_flat_map}

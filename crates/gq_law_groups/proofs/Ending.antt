@@ -7,7 +7,7 @@ use Rattle.gq_plan.specs.Known.{Known}
 use Rattle.gq_plan.specs.Meaning.{Partial}
 use Rattle.gq_plan.specs.Plans.{Step}
 use Rattle.gq_plan.specs.declared.typed.Typed.{Typed}
-use Rattle.gq_walks.specs.Layouts.{Layout, number_of, walks}
+use Rattle.gq_search.specs.Layouts.{Layout, number_of, walks}
 use Rattle.gq_law_groups.specs.Groups.{Group, AreGroups, raw, kept, passes, raw_at, place, choices, decode, results, Follows}
 use Rattle.gq_law_groups.specs.Layout.{after_all, ArePlaced, known_with, AreFlatEnough}
 use Rattle.gq_law_groups.proofs.Alike.{AreAlike, alike_self, alike_then}

@@ -32,7 +32,7 @@ use Rattle.gq_law_plans.proofs.Counting.{met, known_by, extends_with_rel, node_l
 use Rattle.gq_law_plans.proofs.Lookups.{found_bind}
 use Rattle.gq_law_plans.proofs.Owning.{Owns, owns_step}
 use Rattle.gq_law_plans.proofs.PlanCounts.{placed_all_step, total_same_on, count_step}
-use Rattle.gq_walks.proofs.Cells.{flat_map-flat_map, flat_map-same}
+use Rattle.gq_search.proofs.Cells.{flat_map-flat_map, flat_map-same}
 use Rattle.gq_law_groups.proofs.Single.{from_small}
 use Rattle.gq_law_groups.proofs.Swapped.{own, adds}
 

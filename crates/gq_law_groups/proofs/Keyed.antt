@@ -33,9 +33,9 @@ use Rattle.gq_law_plans.proofs.Lookups.{eqb_swap, look_some, look_bound, Found}
 use Rattle.gq_law_plans.proofs.Owning.{Owns, owns_nothing, owns_mean, owns_step}
 use Rattle.gq_law_plans.proofs.PlanCounts.{count_step}
 use Rattle.gq_plan.proofs.Products.{same_rel_is}
-use Rattle.gq_walks.specs.Layouts.{numbers_from, number_of, walks, key_of, later, Spot, Before, At, Over, owed_walks}
-use Rattle.gq_walks.proofs.Cells.{filter_true, same_bag}
-use Rattle.gq_walks.proofs.Different.{keys_of_owed}
+use Rattle.gq_search.specs.Layouts.{numbers_from, number_of, walks, key_of, later, Spot, Before, At, Over, owed_walks}
+use Rattle.gq_search.proofs.Cells.{filter_true, same_bag}
+use Rattle.gq_search.proofs.Different.{keys_of_owed}
 use Rattle.gq_law_groups.specs.Groups.{Group, MakesGroup, HasRows, checked, plan_of, follow, raw, own, kept, passes, raw_at, place, choices, decode}
 use Rattle.gq_law_groups.specs.Keys.{IsAs, at_one, is_part, first_place, place_in, key_in, makers, KeysOfAssignments, KeysOfRest}
 use Rattle.gq_law_groups.specs.Law.{HaveRows}

@@ -15,7 +15,7 @@ use Rattle.gq_plan.specs.Meaning.{Partial, nothing, mean, step}
 use Rattle.gq_plan.specs.Plans.{Plan, Done, Then, Scan, Extend, Join, Differ}
 use Rattle.gq_plan.specs.declared.shaping.Form.TheVariants as form
 use Rattle.gq_plan.specs.declared.typed.Typed.{Typed}
-use Rattle.gq_walks.specs.Layouts.{keys}
+use Rattle.gq_search.specs.Layouts.{keys}
 use Rattle.gq_law_groups.specs.Groups.{Group, plan_of}
 use Rattle.gq_law_groups.specs.Layout.{layout_of, size_from, keeps_from, AreFlatEnough}
 use Rattle.gq_law_groups.specs.Order.{InOrder}

@@ -14,8 +14,8 @@ use Rattle.gq_plan.specs.Meaning.{Partial, nothing, look}
 use Rattle.gq_plan.specs.Plans.{Step}
 use Rattle.gq_plan.specs.Soundness.{IsSound}
 use Rattle.gq_plan.specs.declared.typed.Typed.{Typed}
-use Rattle.gq_walks.specs.Different.{AreKeysOf}
-use Rattle.gq_walks.specs.Layouts.{number_of, walks, key_of, Spot, owed_walks, owed_keys}
+use Rattle.gq_search.specs.Different.{AreKeysOf}
+use Rattle.gq_search.specs.Layouts.{number_of, walks, key_of, Spot, owed_walks, owed_keys}
 use Rattle.gq_law_groups.specs.Groups.{Group, plan_of, raw, decode}
 use Rattle.gq_law_groups.specs.Law.{HaveRows}
 use Rattle.gq_law_groups.specs.Layout.{layout_of, AreFlatEnough}

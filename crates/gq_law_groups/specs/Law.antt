@@ -14,7 +14,7 @@ use Rattle.gq_plan.specs.Meaning.{Partial, nothing, look, mean}
 use Rattle.gq_plan.specs.Plans.{Plan}
 use Rattle.gq_plan.specs.Soundness.{IsSound}
 use Rattle.gq_plan.specs.declared.typed.Typed.{Typed}
-use Rattle.gq_walks.specs.Layouts.{Layout, walks}
+use Rattle.gq_search.specs.Layouts.{Layout, walks}
 use Rattle.gq_law_groups.specs.Groups.{Group, plan_of, HasRows, AreGroups, Follows, decode}
 
 abbrev no_node : NodeId

@@ -12,7 +12,7 @@ use Rattle.gq_plan.specs.Plans.{Plan}
 use Rattle.gq_plan.specs.Soundness.{IsSound, has_number}
 use Rattle.gq_plan.specs.declared.bound.OptionalPart.{OptionalPart}
 use Rattle.gq_plan.specs.declared.typed.Typed.{Typed}
-use Rattle.gq_wide.specs.Placed.{IsPlaced}
+use Rattle.gq_outer.specs.Placed.{IsPlaced}
 use Rattle.gq_eval.specs.Asked.{asked_of}
 use Rattle.gq_optional.specs.steps.Asking.{AllAsk}
 use Rattle.gq_optional.specs.Made.{AreListed}

@@ -11,7 +11,7 @@ use Rattle.gq_plan.proofs.ColumnBounds.{eqb_sym}
 use Rattle.gq_plan.specs.Allowed.{at_same}
 use Rattle.gq_plan.specs.Rows.{nodes_of_tables}
 use Rattle.gq_plan.specs.Soundness.{has_number}
-use Rattle.gq_wide.specs.Clauses.{agrees_at}
+use Rattle.gq_outer.specs.Clauses.{agrees_at}
 use Rattle.gq_optional.specs.declared.clause.Matches.{Matches}
 use Rattle.gq_optional.specs.steps.Listed.{IsSized, IsWhole, agreeing, agrees_with, match_at, match_of}
 use Rattle.gq_optional.specs.steps.Looked.{agrees_by, asked_rows, count_shared, has_rows, in_table, picked, places_of, same_rows, with_row}

@@ -8,7 +8,7 @@ use Rattle.gq_plan.specs.Assignments as plain
 use Rattle.gq_plan.specs.Marked.{Marked, marked, marks}
 use Rattle.gq_plan.specs.Outcomes.{meanings_of}
 use Rattle.gq_plan.specs.declared.bound.NamedExpr.{NamedExpr}
-use Rattle.gq_wide.specs.Clauses.{joined, or_alone, unmarked, with_match}
+use Rattle.gq_outer.specs.Clauses.{joined, or_alone, unmarked, with_match}
 use Rattle.gq_eval.specs.Judged.{marks_of}
 use Rattle.gq_eval.specs.declared.judging.Verdict.{Verdict}
 use Rattle.gq_plan.specs.declared.bound.OptionalPart.{OptionalPart}

@@ -6,9 +6,9 @@ use Rattle.gq_expr.specs.Reading as reading
 use Rattle.gq_plan.specs.Assignments as plain
 use Rattle.gq_plan.specs.Marked.{Marked, marks}
 use Rattle.gq_plan.specs.Outcomes.{meanings_of}
-use Rattle.gq_wide.specs.Clauses.{joined, with_match}
+use Rattle.gq_outer.specs.Clauses.{joined, with_match}
 use Rattle.gq_eval.specs.Judged.{marks_of}
-use Rattle.gq_wide.specs.Rows.{read}
+use Rattle.gq_outer.specs.Rows.{read}
 use Rattle.gq_eval.specs.declared.judging.Verdict.{Verdict}
 use Rattle.gq_optional.specs.declared.clause.Clause.{Clause}
 use Rattle.gq_optional.specs.declared.clause.Matches.{Matches}

@@ -9,8 +9,8 @@ use Rattle.std.proofs.Math.Dec.{eqb-suc-suc, eqb-suc-zero, eqb-zero-suc}
 use Rattle.std.proofs.lemmas.List.{drop_more}
 use Rattle.gq_plan.specs.Rows.{nodes_of_tables, rels_of_tables}
 use Rattle.gq_plan.specs.declared.typed.TypedRel.{TypedRel}
-use Rattle.gq_wide.specs.Clauses.{placed}
-use Rattle.gq_wide.specs.Rows.{item_at}
+use Rattle.gq_outer.specs.Clauses.{placed}
+use Rattle.gq_outer.specs.Rows.{item_at}
 
 item_set : {X : Type 0} (xs : List (Option X)) (v : ℕ) (x : X) (u : ℕ) → v < length xs → item_at (slice_set xs v (Some x)) u ≡ cond (nat_eq u v) (Some x) (item_at xs u)
 item_set [] v x u low = absurd (omega (arith, low))

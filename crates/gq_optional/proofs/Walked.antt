@@ -8,8 +8,8 @@ use Rattle.gq_expr.specs.declared.Fault.{Fault}
 use Rattle.gq_plan.specs.Assignments as plain
 use Rattle.gq_plan.specs.Marked.{Marked}
 use Rattle.gq_plan.specs.Soundness.{has_number}
-use Rattle.gq_wide.specs.Clauses.{after_clause, after_clauses, joined, or_alone, unless_marked, unmarked}
-use Rattle.gq_wide.specs.Rows.{Wide, read}
+use Rattle.gq_outer.specs.Clauses.{after_clause, after_clauses, joined, or_alone, unless_marked, unmarked}
+use Rattle.gq_outer.specs.Rows.{Wide, read}
 use Rattle.gq_optional.specs.steps.Walks.{AreShared, lists_of, parts_of}
 use Rattle.gq_optional.specs.declared.clause.Clause.{Clause}
 use Rattle.gq_optional.specs.declared.level.Level.{Level}

@@ -4,8 +4,8 @@ use Rattle.std.proofs.lemmas.List.{drop-drop, drop_all, length-drop, length-map}
 use Rattle.gq_base.specs.Plain.{Graph}
 use Rattle.gq_expr.specs.declared.Fault.{Fault}
 use Rattle.gq_plan.specs.Marked.{Marked}
-use Rattle.gq_wide.specs.Clauses.{unmarked}
-use Rattle.gq_wide.specs.Rows.{Wide, read}
+use Rattle.gq_outer.specs.Clauses.{unmarked}
+use Rattle.gq_outer.specs.Rows.{Wide, read}
 use Rattle.gq_optional.specs.Held.{last_rows, rows_behind, rows_owed}
 use Rattle.gq_optional.specs.declared.walk.Walk.{Walk}
 use Rattle.gq_optional.specs.steps.Walks.{held_by, owed_as, owed_by, row_by, walking_of}

@@ -7,8 +7,8 @@ use Rattle.gq_homes.specs.declared.spent.Spent.{Spent}
 use Rattle.gq_plan.specs.Assignments.{Assignment}
 use Rattle.gq_plan.specs.Marked.{Marked}
 use Rattle.gq_plan.specs.declared.bound.OptionalPart.{OptionalPart}
-use Rattle.gq_wide.specs.Clauses.{after_clauses, unmarked}
-use Rattle.gq_wide.specs.Rows.{Wide, read}
+use Rattle.gq_outer.specs.Clauses.{after_clauses, unmarked}
+use Rattle.gq_outer.specs.Rows.{Wide, read}
 use Rattle.gq_optional.specs.declared.optionals.RowShape.{RowShape}
 
 -- the clauses, over a graph and for rows of this shape, and the matches that are listed of each

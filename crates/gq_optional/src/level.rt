@@ -8,8 +8,8 @@ ghost use Rattle.gq_optional.specs.steps.Levels.{matches_left, now_at, pending};
 ghost use Rattle.gq_optional.specs.steps.Listed.{IsClause, IsWhole, match_at};
 ghost use Rattle.gq_optional.specs.steps.Looked.{count_shared};
 ghost use Rattle.gq_plan.specs.Marked.{Marked};
-ghost use Rattle.gq_wide.specs.Clauses.{unmarked, with_match};
-ghost use Rattle.gq_wide.specs.Rows.{read};
+ghost use Rattle.gq_outer.specs.Clauses.{unmarked, with_match};
+ghost use Rattle.gq_outer.specs.Rows.{read};
 
 use crate::clause::{Clause, Matches};
 use crate::looking::rows_of;
@@ -18,7 +18,7 @@ use crate::placing::{place_nodes, place_rels};
 use gq_base::Memory;
 use gq_eval::{Verdict, judge};
 use gq_expr::Fault;
-use gq_wide::WideRow;
+use gq_outer::WideRow;
 use std::alloc::Global;
 use std::marker::Model;
 

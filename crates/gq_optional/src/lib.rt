@@ -1,6 +1,6 @@
 //! Optional clauses: what their alternatives list, and the rows that they make of a row, one after
 //! another. The crate stands on the pipelines of `gq_pipe`, the builds of `gq_join`, the rows of
-//! `gq_wide` and the evaluators of `gq_eval`.
+//! `gq_outer` and the evaluators of `gq_eval`.
 #![tactic(auto)]
 
 mod clause;

@@ -3,11 +3,11 @@ ghost use Rattle.std.specs.Prelude.{◌≡◌, ◌<◌, true, false, Some, None,
 ghost use Rattle.gq_optional.specs.steps.Levels.{AreRowsOf, agreeing_in, pending_of};
 ghost use Rattle.gq_optional.specs.steps.Listed.{IsWhole, agreeing, match_at};
 ghost use Rattle.gq_optional.specs.steps.Looked.{asked_rows, count_shared};
-ghost use Rattle.gq_wide.specs.Rows.{read};
+ghost use Rattle.gq_outer.specs.Rows.{read};
 
 use crate::clause::{Clause, Matches};
 use gq_expr::Assigned;
-use gq_wide::WideRow;
+use gq_outer::WideRow;
 
 /// The rows of the alternative of a number whose matches agree with a row. The key is work space.
 pub(crate) fn rows_of<'w>(

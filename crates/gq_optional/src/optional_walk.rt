@@ -11,8 +11,8 @@ use crate::optionals::RowShape;
 use crate::walk::Walk;
 use gq_base::Memory;
 use gq_expr::Fault;
+use gq_outer::WideRow;
 use gq_store::Graph;
-use gq_wide::WideRow;
 use std::alloc::Global;
 use std::marker::Model;
 

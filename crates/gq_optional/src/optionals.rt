@@ -8,7 +8,7 @@ ghost use Rattle.gq_optional.specs.steps.Making.{AddsClauses, HasSpentClauses, H
 ghost use Rattle.gq_optional.specs.steps.Making.{CanHold, IsClauseOf, IsEachRefusal};
 ghost use Rattle.gq_plan.specs.Plans.{plan_of};
 ghost use Rattle.gq_pool.specs.Pool.{spare_of};
-ghost use Rattle.gq_wide.specs.Placed.{IsPlaced};
+ghost use Rattle.gq_outer.specs.Placed.{IsPlaced};
 
 use crate::clause::Clause;
 use crate::listing::{list_each, places_of, shared_of};

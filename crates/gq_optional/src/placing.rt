@@ -2,14 +2,14 @@
 ghost use Rattle.std.specs.Prelude.{◌≡◌, ◌+◌, ◌^◌, ◌<◌, ◌≤◌, All, drop, length};
 ghost use Rattle.gq_join.specs.Kept.{row_at};
 ghost use Rattle.gq_plan.specs.Rows.{nodes_of_tables, rels_of_tables};
-ghost use Rattle.gq_wide.specs.Clauses.{placed};
-ghost use Rattle.gq_wide.specs.Rows.{item_at};
+ghost use Rattle.gq_outer.specs.Clauses.{placed};
+ghost use Rattle.gq_outer.specs.Rows.{item_at};
 
 use gq_base::{NodeId, RelId};
 use gq_group::KeptRels;
 use gq_join::Sealed;
+use gq_outer::WideRow;
 use gq_plan::TypedRel;
-use gq_wide::WideRow;
 
 /// Gives variables of a row the nodes that a row of a build has from a place on, by their tables.
 pub(crate) fn place_nodes(

@@ -12,15 +12,15 @@ ghost use Rattle.gq_optional.specs.steps.Listed.{IsClause};
 ghost use Rattle.gq_optional.specs.steps.Walks.{AreShared, IsWalk, held_by, held_of, owed_by};
 ghost use Rattle.gq_optional.specs.steps.Walks.{row_by};
 ghost use Rattle.gq_plan.specs.Marked.{Marked};
-ghost use Rattle.gq_wide.specs.Rows.{read};
+ghost use Rattle.gq_outer.specs.Rows.{read};
 
 use crate::clause::Clause;
 use crate::level::Stage;
 use crate::optionals::RowShape;
 use gq_base::Memory;
 use gq_expr::Fault;
+use gq_outer::WideRow;
 use gq_store::Graph;
-use gq_wide::WideRow;
 use std::alloc::Global;
 
 /// A walk over the rows that clauses make of a row: where it is, clause by clause.

@@ -33,10 +33,10 @@ use Rattle.gq_plan.specs.declared.assignment.Assignment.{Assignment}
 use Rattle.gq_plan.specs.declared.typed.Typed.{Typed}
 use Rattle.gq_store.specs.Neighbours.{neighbours, numbers}
 use Rattle.gq_law_groups.specs.Groups.{makes_group, decode, place}
-use Rattle.gq_walks.specs.Layouts.{piece_of}
-use Rattle.gq_walks.specs.Running.{Runs, cursor_at, keys_of, prefix}
-use Rattle.gq_walks.specs.declared.walker.Cursor.{Cursor}
-use Rattle.gq_walks.proofs.Runs.{length-keys}
+use Rattle.gq_search.specs.Layouts.{piece_of}
+use Rattle.gq_search.specs.Running.{Runs, cursor_at, keys_of, prefix}
+use Rattle.gq_search.specs.declared.walker.Cursor.{Cursor}
+use Rattle.gq_search.proofs.Runs.{length-keys}
 use Rattle.gq_steps.specs.Built.{HasBuild}
 use Rattle.gq_steps.specs.Given.{given}
 use Rattle.gq_pipe.specs.steps.Chunks.{AreStanding}

@@ -14,9 +14,9 @@ use Rattle.gq_plan.specs.Meaning.{nothing, whole}
 use Rattle.gq_plan.specs.Plans.{steps}
 use Rattle.gq_plan.specs.Rows.{assigned}
 use Rattle.gq_plan.specs.declared.assignment.Assignment.{Assignment}
-use Rattle.gq_walks.specs.Running.{Runs, chunk_of, keys_of}
-use Rattle.gq_walks.specs.declared.walker.State.{State}
-use Rattle.gq_walks.specs.declared.walker.State.TheVariants.{Fresh, Standing, Done}
+use Rattle.gq_search.specs.Running.{Runs, chunk_of, keys_of}
+use Rattle.gq_search.specs.declared.walker.State.{State}
+use Rattle.gq_search.specs.declared.walker.State.TheVariants.{Fresh, Standing, Done}
 use Rattle.gq_pipe.specs.Bound.{binds_all}
 use Rattle.gq_law_groups.specs.Groups.{makes_group}
 use Rattle.gq_pipe.specs.Keys.{Maker, makers_in}

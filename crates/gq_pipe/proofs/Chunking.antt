@@ -27,10 +27,10 @@ use Rattle.gq_plan.specs.Rows.{rel_table}
 use Rattle.gq_plan.specs.Soundness.{has_number}
 use Rattle.gq_plan.specs.declared.assignment.Assignment.{Assignment}
 use Rattle.gq_law_groups.specs.Groups.{decode, makes_group}
-use Rattle.gq_walks.specs.Layouts.{piece_of}
-use Rattle.gq_walks.specs.Running as walk
-use Rattle.gq_walks.specs.Running.{Runs, cursor_at, keys_of, prefix}
-use Rattle.gq_walks.specs.declared.walker.Cursor.{Cursor}
+use Rattle.gq_search.specs.Layouts.{piece_of}
+use Rattle.gq_search.specs.Running as walk
+use Rattle.gq_search.specs.Running.{Runs, cursor_at, keys_of, prefix}
+use Rattle.gq_search.specs.declared.walker.Cursor.{Cursor}
 use Rattle.gq_steps.specs.Built.{HasBuild}
 use Rattle.gq_steps.specs.Given.{given}
 use Rattle.gq_pipe.specs.steps.Chunks.{AreStanding, IsGroupAt, marked_at, current_at}
@@ -59,7 +59,7 @@ use Rattle.gq_steps.specs.Moves.{IsHeld, IsMade}
 use Rattle.gq_steps.specs.Follows.{CanFollow}
 use Rattle.gq_steps.specs.Tries.{tries}
 use Rattle.gq_store.specs.Neighbours.{neighbours}
-use Rattle.gq_walks.proofs.Runs.{length-keys}
+use Rattle.gq_search.proofs.Runs.{length-keys}
 use Rattle.gq_base.specs.declared.direction.Direction.{Direction}
 
 map_map : {X Y Z : Type 0} (f : Y → Z) (h : X → Y) (xs : List X) → map f (map h xs) ≡ map (λ x. f (h x)) xs
@@ -124,12 +124,12 @@ module _ (c : Run) (ss : List GroupSteps) (row : Assignment) (cs : List Cursor) 
       below : (p : ℕ) (f : Bool) → (layout_in c ss).flat (prefix cs i) ≡ f → length (items_of (h c ss row cs ms ch.groups.now st runs many marks count groups i low).group.piece) ≡ min VECTOR ((layout_in c ss).size (prefix cs i) - VECTOR * piece_of f key)
           → marked_at f key (slice_index_or ms i []) p ≡ true → p < length (items_of (h c ss row cs ms ch.groups.now st runs many marks count groups i low).group.piece)
       below p true flat long on =
-          let within : key < (layout_in c ss).size (prefix cs i) = subst (λ b. key < Rattle.gq_walks.specs.Layouts.numbers_in b ((layout_in c ss).size (prefix cs i))) flat r.key_in in
+          let within : key < (layout_in c ss).size (prefix cs i) = subst (λ b. key < Rattle.gq_search.specs.Layouts.numbers_in b ((layout_in c ss).size (prefix cs i))) flat r.key_in in
           let same : p ≡ key % VECTOR = eqb-true p (key % VECTOR) on in
           omega (arith, same, within, long)
       below p false flat long on =
           let m : List Bool = slice_index_or ms i [] in
-          let marked : Rattle.gq_walks.specs.Marked.IsMarkedAt (layout_in c ss) (prefix cs i) key m = subst (λ b. Rattle.gq_walks.specs.Marked.IsMarkedAt (layout_in c ss) (prefix cs i) (piece_of b key) m) flat r.marked in
+          let marked : Rattle.gq_search.specs.Marked.IsMarkedAt (layout_in c ss) (prefix cs i) key m = subst (λ b. Rattle.gq_search.specs.Marked.IsMarkedAt (layout_in c ss) (prefix cs i) (piece_of b key) m) flat r.marked in
           let short = marked_low m p on in
           let wide = marked.len in
           let both = and_parts _ _ (sym (marked.each p (omega (arith, short, wide))) ∙ on) in

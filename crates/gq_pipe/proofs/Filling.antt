@@ -34,8 +34,8 @@ use Rattle.gq_homes.specs.declared.homes.Leading.{Leading}
 use Rattle.gq_steps.specs.declared.group_steps.GroupSteps.{GroupSteps}
 use Rattle.gq_plan.specs.Known.{Known}
 use Rattle.gq_pipe.specs.declared.pipeline.Pipeline.TheInside.{Inside}
-use Rattle.gq_walks.specs.declared.walker.State.{State}
-use Rattle.gq_walks.specs.declared.walker.State.TheVariants.{Fresh, Standing, Done}
+use Rattle.gq_search.specs.declared.walker.State.{State}
+use Rattle.gq_search.specs.declared.walker.State.TheVariants.{Fresh, Standing, Done}
 
 -- ---- slots
 

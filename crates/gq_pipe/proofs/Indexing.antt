@@ -16,8 +16,8 @@ use Rattle.gq_steps.specs.Tries.{tries}
 use Rattle.gq_steps.specs.declared.group_steps.GroupSteps.{GroupSteps}
 use Rattle.gq_steps.specs.steps.Lists.{Stands, layout_in}
 use Rattle.gq_steps.proofs.Here.{at, group_held, group_range, group_size, keeps_made}
-use Rattle.gq_walks.specs.Marked.{kept_in}
-use Rattle.gq_walks.specs.Running.{IsBlank}
+use Rattle.gq_search.specs.Marked.{kept_in}
+use Rattle.gq_search.specs.Running.{IsBlank}
 use Rattle.gq_pipe.specs.declared.valued.ValueIndex.{ValueIndex}
 use Rattle.gq_pipe.specs.steps.Valued.{AreIndexed, IsFoundIn, IsIndexed, IsNotBefore, numbers_in}
 use Rattle.gq_pipe.proofs.ByValue.{below, none_found, others}

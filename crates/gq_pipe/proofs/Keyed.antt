@@ -29,9 +29,9 @@ use Rattle.gq_plan.specs.Plans.{Plan, Step, steps}
 use Rattle.gq_plan.specs.Rows.{node_at, rel_at}
 use Rattle.gq_plan.specs.Soundness.{IsSound}
 use Rattle.gq_plan.specs.declared.typed.Typed.{Typed}
-use Rattle.gq_walks.specs.Different.{AreKeysOf, same_key}
-use Rattle.gq_walks.specs.Layouts.{number_of, walks, key_of}
-use Rattle.gq_walks.proofs.Different.{keys_counted}
+use Rattle.gq_search.specs.Different.{AreKeysOf, same_key}
+use Rattle.gq_search.specs.Layouts.{number_of, walks, key_of}
+use Rattle.gq_search.proofs.Different.{keys_counted}
 use Rattle.gq_pipe.specs.Keys.{Maker, no_maker, makers_of, build_rows}
 use Rattle.gq_steps.specs.declared.group_steps.GroupSteps.{GroupSteps}
 use Rattle.gq_homes.specs.Cuts.{IsCutTo, flag, groups_of}

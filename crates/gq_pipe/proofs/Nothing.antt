@@ -19,7 +19,7 @@ use Rattle.gq_plan.specs.Rows.{node_at, node_table, rel_table, table_of}
 use Rattle.gq_plan.specs.declared.assignment.Assignment.{Assignment}
 use Rattle.gq_plan.specs.declared.typed.TypedRel.{TypedRel}
 use Rattle.gq_store.specs.Neighbours.{near_rows, neighbours, opposite}
-use Rattle.gq_walks.specs.Layouts.{IsPlace, Layout, number_of, walks}
+use Rattle.gq_search.specs.Layouts.{IsPlace, Layout, number_of, walks}
 use Rattle.gq_law_groups.specs.Layout.{size_from}
 use Rattle.gq_law_groups.specs.Groups.{Group, AreGroups, makes_group, own, raw, raw_at}
 use Rattle.gq_homes.specs.Cuts.{TilesTo}

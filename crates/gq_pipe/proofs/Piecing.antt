@@ -9,10 +9,10 @@ use Rattle.gq_bits.specs.declared.TheConstants.{VECTOR}
 use Rattle.gq_law_groups.specs.Groups.{makes_group}
 use Rattle.gq_plan.specs.Plans.{Step, Scan, Extend, Close, Join, Keep, Differ, NoLoop, Single, Meet}
 use Rattle.gq_plan.specs.declared.assignment.Assignment.{Assignment}
-use Rattle.gq_walks.specs.Layouts.{numbers_in, piece_of}
-use Rattle.gq_walks.specs.Running.{IsGroup, Runs, cursor_at, keys_of, prefix}
-use Rattle.gq_walks.specs.declared.walker.Cursor.{Cursor}
-use Rattle.gq_walks.proofs.Runs.{length-keys}
+use Rattle.gq_search.specs.Layouts.{numbers_in, piece_of}
+use Rattle.gq_search.specs.Running.{IsGroup, Runs, cursor_at, keys_of, prefix}
+use Rattle.gq_search.specs.declared.walker.Cursor.{Cursor}
+use Rattle.gq_search.proofs.Runs.{length-keys}
 use Rattle.gq_group.specs.declared.group.Group.{Group}
 use Rattle.gq_pipe.specs.steps.Chunks.{AreStanding, CanStand, HasGroup, IsGroupAt}
 use Rattle.gq_steps.specs.Pieces.{list_of, matches_in}

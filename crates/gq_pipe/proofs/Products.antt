@@ -11,11 +11,11 @@ use Rattle.gq_group.specs.Groups.{AreSelected, is_selected}
 use Rattle.gq_group.specs.Pieces.{items_of}
 use Rattle.gq_group.specs.declared.group.Group.{Group}
 use Rattle.gq_plan.specs.declared.assignment.Assignment.{Assignment}
-use Rattle.gq_walks.specs.Layouts.{numbers_from, piece_of}
-use Rattle.gq_walks.specs.Running as walk
-use Rattle.gq_walks.specs.Running.{IsGroup, Runs, cursor_at, keys_of, no_cursor, prefix}
-use Rattle.gq_walks.specs.declared.walker.Cursor.{Cursor}
-use Rattle.gq_walks.proofs.Runs.{live-flat}
+use Rattle.gq_search.specs.Layouts.{numbers_from, piece_of}
+use Rattle.gq_search.specs.Running as walk
+use Rattle.gq_search.specs.Running.{IsGroup, Runs, cursor_at, keys_of, no_cursor, prefix}
+use Rattle.gq_search.specs.declared.walker.Cursor.{Cursor}
+use Rattle.gq_search.proofs.Runs.{live-flat}
 use Rattle.gq_pipe.specs.steps.Chunks.{AreStanding, HasGroup}
 use Rattle.gq_steps.specs.Pieces.{list_of}
 use Rattle.gq_steps.specs.Levels.{Run, step_at}
@@ -110,8 +110,8 @@ module _ (c : Run) (ss : List GroupSteps) (row : Assignment) (cs : List Cursor) 
             → length (items_of h.group.piece) ≡ min VECTOR (size - VECTOR * piece_of f key) → VECTOR * piece_of f key < size
             → walk.selected f (cursor_at cs i) m ≡ map (λ p. VECTOR * piece_of f key + p) (group.selected h.group)
         go true flat marked current long inside =
-            let within : key < size = subst (λ b. key < Rattle.gq_walks.specs.Layouts.numbers_in b size) flat r.key_in in
-            let on : get_or m (key % VECTOR) false ≡ true = live-flat (layout_in c ss) (prefix cs i) key m flat within (subst (λ b. Rattle.gq_walks.specs.Marked.IsMarkedAt (layout_in c ss) (prefix cs i) (piece_of b key) m) flat r.marked) ∙ r.alive in
+            let within : key < size = subst (λ b. key < Rattle.gq_search.specs.Layouts.numbers_in b size) flat r.key_in in
+            let on : get_or m (key % VECTOR) false ≡ true = live-flat (layout_in c ss) (prefix cs i) key m flat within (subst (λ b. Rattle.gq_search.specs.Marked.IsMarkedAt (layout_in c ss) (prefix cs i) (piece_of b key) m) flat r.marked) ∙ r.alive in
             let at : key ≡ VECTOR * (key / VECTOR) + key % VECTOR = omega arith in
             ap (λ b. cond b (key ∷ []) []) on ∙ ap (λ k. k ∷ []) at
             ∙ ap (map (λ p. VECTOR * (key / VECTOR) + p)) (sym (only_one (is_selected h.group) (key % VECTOR) 0 (length (items_of h.group.piece))

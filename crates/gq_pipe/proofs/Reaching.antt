@@ -7,7 +7,7 @@ use Rattle.gq_plan.specs.Known.{Known}
 use Rattle.gq_plan.specs.Meaning.{Partial}
 use Rattle.gq_plan.specs.Plans.{Step, Scan, Extend, Close, Join, Keep, Differ, NoLoop, Single, Meet}
 use Rattle.gq_plan.specs.declared.assignment.Assignment.{Assignment}
-use Rattle.gq_walks.specs.Layouts.{Layout}
+use Rattle.gq_search.specs.Layouts.{Layout}
 use Rattle.gq_law_groups.specs.Groups.{AreGroups}
 use Rattle.gq_law_groups.specs.Layout.{with_group, known_with, after_all, AreFlatEnough}
 use Rattle.gq_law_groups.proofs.Ending.{Within, within-all, within-group}

@@ -10,10 +10,10 @@ use Rattle.gq_group.specs.Groups.{AreSelected, is_selected, is_current}
 use Rattle.gq_group.specs.declared.chunk.Chunk.{Chunk}
 use Rattle.gq_group.specs.declared.group.Group.{Group}
 use Rattle.gq_plan.specs.declared.assignment.Assignment.{Assignment}
-use Rattle.gq_walks.specs.Layouts.{Layout, IsPlace, piece_of}
-use Rattle.gq_walks.specs.Running.{IsGroup, Runs, cursor_at, prefix}
-use Rattle.gq_walks.specs.declared.walker.Cursor.{Cursor}
-use Rattle.gq_walks.proofs.Runs.{flat-place, piece-place}
+use Rattle.gq_search.specs.Layouts.{Layout, IsPlace, piece_of}
+use Rattle.gq_search.specs.Running.{IsGroup, Runs, cursor_at, prefix}
+use Rattle.gq_search.specs.declared.walker.Cursor.{Cursor}
+use Rattle.gq_search.proofs.Runs.{flat-place, piece-place}
 use Rattle.gq_pipe.specs.steps.Chunks.{AreStanding, HasGroup, IsGroupAt, marked_at}
 use Rattle.gq_steps.specs.Pieces.{list_of}
 use Rattle.gq_steps.specs.Levels.{Run, step_at}
@@ -61,7 +61,7 @@ module _ (c : Run) (ss : List GroupSteps) (row : Assignment) (cs : List Cursor) 
       let inside : i < length cs = omega (arith, low, many) in
       let r : IsGroup (layout_in c ss) (prefix cs i) (cursor_at cs i) (slice_index_or ms i []) = group_runs (layout_in c ss) cs ms runs i inside in
       let on : is_marked g.marks (slice_index ps i) ≡ true = (and_parts (is_current g.current (slice_index ps i)) (is_marked g.marks (slice_index ps i)) (selected_here ch.groups.now ps i g sel h.there)).1 in
-      let long : length (prefix cs i) ≡ i = Rattle.gq_walks.proofs.Runs.length-keys cs i (omega (arith, inside)) in
+      let long : length (prefix cs i) ≡ i = Rattle.gq_search.proofs.Runs.length-keys cs i (omega (arith, inside)) in
       let flat : (layout_in c ss).flat (prefix cs i) ≡ (group_at ss i).flat = ap (flat_in ss) long in
       let few = r.few in
       let size = r.size_is in

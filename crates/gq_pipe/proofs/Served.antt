@@ -7,9 +7,9 @@ use Rattle.gq_bits.specs.declared.TheConstants.{VECTOR}
 use Rattle.gq_group.specs.Chunks.{items_in}
 use Rattle.gq_group.specs.Pieces.{items_of}
 use Rattle.gq_group.specs.declared.home.NodeHome.TheVariants.{Column}
-use Rattle.gq_walks.specs.Layouts.{piece_of}
-use Rattle.gq_walks.specs.Running.{cursor_at, keys_of, prefix}
-use Rattle.gq_walks.specs.declared.walker.State.TheVariants.{Standing}
+use Rattle.gq_search.specs.Layouts.{piece_of}
+use Rattle.gq_search.specs.Running.{cursor_at, keys_of, prefix}
+use Rattle.gq_search.specs.declared.walker.State.TheVariants.{Standing}
 use Rattle.gq_steps.specs.Built.{HasBuild}
 use Rattle.gq_pipe.specs.steps.Cells.{CanKeep, HasMatches, item_in}
 use Rattle.gq_homes.specs.Homes.{IsColumnOf, IsFilling, filling_at, node_home}

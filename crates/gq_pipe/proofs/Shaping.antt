@@ -14,10 +14,10 @@ use Rattle.gq_law_groups.specs.Groups.{makes_group}
 use Rattle.gq_plan.specs.Plans.{Step, Scan, Extend, Close, Join, Keep, Differ, NoLoop, Single, Meet}
 use Rattle.gq_plan.specs.declared.assignment.Assignment.{Assignment}
 use Rattle.gq_plan.specs.declared.plan.Step as code
-use Rattle.gq_walks.specs.Layouts.{piece_of}
-use Rattle.gq_walks.specs.Running.{Runs, cursor_at, keys_of, prefix}
-use Rattle.gq_walks.specs.declared.walker.Cursor.{Cursor}
-use Rattle.gq_walks.proofs.Runs.{length-keys}
+use Rattle.gq_search.specs.Layouts.{piece_of}
+use Rattle.gq_search.specs.Running.{Runs, cursor_at, keys_of, prefix}
+use Rattle.gq_search.specs.declared.walker.Cursor.{Cursor}
+use Rattle.gq_search.proofs.Runs.{length-keys}
 use Rattle.gq_pipe.specs.Shown.{IsPieceIn, whole_list}
 use Rattle.gq_pipe.specs.steps.Chunks.{AreStanding, HasGroup}
 use Rattle.gq_steps.specs.Pieces.{list_of, matches_in, part}

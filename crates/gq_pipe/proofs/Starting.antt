@@ -34,11 +34,11 @@ use Rattle.gq_plan.specs.declared.assignment.Assignment.{Assignment}
 use Rattle.gq_plan.specs.declared.halves.Part.{Part}
 use Rattle.gq_plan.specs.declared.plan.Plan as code_plan
 use Rattle.gq_plan.specs.declared.typed.Typed.{Typed}
-use Rattle.gq_walks.specs.Different.{AreKeysOf}
-use Rattle.gq_walks.specs.Layouts.{owed_walks, walks}
-use Rattle.gq_walks.specs.Running.{spot_of}
-use Rattle.gq_walks.specs.declared.walker.Cursor.{Cursor}
-use Rattle.gq_walks.specs.declared.walker.State.{State}
+use Rattle.gq_search.specs.Different.{AreKeysOf}
+use Rattle.gq_search.specs.Layouts.{owed_walks, walks}
+use Rattle.gq_search.specs.Running.{spot_of}
+use Rattle.gq_search.specs.declared.walker.Cursor.{Cursor}
+use Rattle.gq_search.specs.declared.walker.State.{State}
 use Rattle.gq_steps.specs.Built.{AreBuilds}
 use Rattle.gq_pipe.specs.Keys.{assignment_key, build_rows, key_count, makers_of}
 use Rattle.gq_pipe.specs.Keys.{rows_of as brought_rows}

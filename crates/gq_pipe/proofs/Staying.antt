@@ -15,11 +15,11 @@ use Rattle.gq_plan.specs.Rows.{rel_table}
 use Rattle.gq_plan.specs.declared.assignment.Assignment.{Assignment}
 use Rattle.gq_store.specs.Neighbours.{neighbours}
 use Rattle.gq_law_groups.specs.Groups.{makes_group}
-use Rattle.gq_walks.specs.Layouts.{piece_of}
-use Rattle.gq_walks.specs.Marked.{IsMarkedAt}
-use Rattle.gq_walks.specs.Running.{Runs, cursor_at, keys_of, prefix}
-use Rattle.gq_walks.specs.declared.walker.Cursor.{Cursor}
-use Rattle.gq_walks.proofs.Runs.{length-keys}
+use Rattle.gq_search.specs.Layouts.{piece_of}
+use Rattle.gq_search.specs.Marked.{IsMarkedAt}
+use Rattle.gq_search.specs.Running.{Runs, cursor_at, keys_of, prefix}
+use Rattle.gq_search.specs.declared.walker.Cursor.{Cursor}
+use Rattle.gq_search.proofs.Runs.{length-keys}
 use Rattle.gq_steps.specs.Built.{HasBuild}
 use Rattle.gq_pipe.specs.steps.Chunks.{AreStanding, HasGroup, IsGroupAt, ShowsNumber, StoodAt, current_at, marked_at}
 use Rattle.gq_steps.specs.Pieces.{list_of, matches_in, part}

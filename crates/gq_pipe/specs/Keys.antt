@@ -9,7 +9,7 @@ use Rattle.gq_plan.specs.Columns.{steps_of}
 use Rattle.gq_plan.specs.Meaning.{Partial, nothing, mean}
 use Rattle.gq_plan.specs.Plans.{Plan, Step, Keep}
 use Rattle.gq_plan.specs.declared.typed.Typed.{Typed}
-use Rattle.gq_walks.specs.Different.{same_key}
+use Rattle.gq_search.specs.Different.{same_key}
 use Rattle.gq_pipe.specs.Progress.{Source, plan_in}
 use Rattle.gq_steps.specs.Levels.{built_of}
 

@@ -10,8 +10,8 @@ ghost use Rattle.gq_steps.specs.steps.Outcomes.{passes_at};
 
 use gq_base::Memory;
 use gq_plan::{Assignment, Step};
+use gq_search::{State, Walker};
 use gq_steps::PlanRun;
-use gq_walks::{State, Walker};
 use std::alloc::Global;
 
 /// Whether a pipeline over so many groups owes anything: without groups its tests tell.

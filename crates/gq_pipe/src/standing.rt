@@ -6,14 +6,14 @@ ghost use Rattle.gq_steps.specs.steps.Lists.{layout_in, EarlierStand};
 ghost use Rattle.gq_pipe.specs.steps.Matches.{lists_in, HaveMatches};
 ghost use Rattle.gq_steps.specs.Matches.{AreMatches};
 ghost use Rattle.gq_steps.specs.Moves.{run_of};
-ghost use Rattle.gq_walks.specs.Running.{Runs, keys_of};
+ghost use Rattle.gq_search.specs.Running.{Runs, keys_of};
 
 use crate::lists::Lists;
 use gq_bits::{Marks, VECTOR};
 use gq_group::Group;
 use gq_plan::Assignment;
+use gq_search::{Cursor, State, Walker};
 use gq_steps::{GroupSteps, PlanRun};
-use gq_walks::{Cursor, State, Walker};
 
 /// Puts each group at the number at which the walker stands, if it stands. It is told whether the
 /// groups stood before: the first of them then stay as they are, up to one with another number.

@@ -3,7 +3,7 @@ use Rattle.std.proofs.Common.{◌≡◌, ℕ, suc, Bool, true, false, Option, So
 use Rattle.std.proofs.lemmas.List.{length-map, map-append}
 use Rattle.gq_bound.specs.Binding.{IsBound}
 use Rattle.gq_base.specs.Catalogs.{Tables}
-use Rattle.gq_cuts.specs.Entries.{entry_test}
+use Rattle.gq_core.specs.Entries.{entry_test}
 use Rattle.gq_explain.specs.Plans.{ends_word, is_from_left}
 use Rattle.gq_law_cuts.specs.Cuts.{core_first, cored_of, piece_behind, placed_in, trailed_of, with_clauses, with_hop, with_hops, with_path, with_paths}
 use Rattle.gq_law_reaches.specs.Core.{core_nodes, part_of, parts_from, way_of}

@@ -8,9 +8,9 @@ use Rattle.gq_base.specs.Catalogs.{Tables}
 use Rattle.gq_bound.specs.Binding.{IsBound}
 use Rattle.gq_bound.specs.Columns.{whole_pattern}
 use Rattle.gq_bound.specs.Optionals.{AreOptional}
-use Rattle.gq_cuts.proofs.Plain.{no_trail}
-use Rattle.gq_cuts.specs.Cored.{has_trail}
-use Rattle.gq_cuts.specs.Entries.{entry_test}
+use Rattle.gq_core.proofs.Plain.{no_trail}
+use Rattle.gq_core.specs.Cored.{has_trail}
+use Rattle.gq_core.specs.Entries.{entry_test}
 use Rattle.gq_law_cores.proofs.Starting.{cores_are_in_turn, parts_have_ends, parts_have_length}
 use Rattle.gq_law_cuts.proofs.Coring.{cuts_are_cored}
 use Rattle.gq_law_cuts.proofs.Plain.{plain_cuts}

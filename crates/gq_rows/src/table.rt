@@ -20,7 +20,7 @@ ghost use Rattle.gq_plan.specs.declared.typed.Typed.{Typed as Alternative};
 ghost use Rattle.gq_project.specs.Reading.{IsReading};
 ghost use Rattle.gq_rows.specs.Growing.{IsContinued, IsTested};
 ghost use Rattle.gq_rows.specs.steps.Keyed.{FindsFirst, IsLeading, IsLedValue, LeadsSome};
-ghost use Rattle.gq_wide.specs.Rows.{read};
+ghost use Rattle.gq_outer.specs.Rows.{read};
 
 use gq_base::{Memory, Value};
 use gq_cells::Cells;
@@ -31,11 +31,11 @@ use gq_kept::{Form, More, RowRefusal, form_of};
 use gq_listed::{
     Asked, Finder, KeyFinder, Listed, find_columns, hold_columns, hold_key, is_listing,
 };
+use gq_outer::WideRow;
 use gq_plan::{Bound, Typed};
 use gq_project::{Admits, Everything, Question, Reading};
 use gq_store::Graph;
 use gq_values::{Rows, are_sure};
-use gq_wide::WideRow;
 use std::alloc::Global;
 use std::marker::Model;
 use std::mem;

@@ -30,13 +30,13 @@ use Rattle.gq_shell.specs.declared.status.Status.{Status}
 use Rattle.gq_shell.specs.declared.status.Status.TheVariants as status
 use Rattle.gq_tokens.specs.Parameters.{values_of}
 use Rattle.gq_tokens.specs.declared.params.Param.{Param}
-use Rattle.gq_words.specs.Meaning.{IsOrder, IsRows, IsSource, Means}
-use Rattle.gq_words.specs.Reading.{IsMisused, IsRead}
-use Rattle.gq_words.specs.declared.meaning.Order as word
-use Rattle.gq_words.specs.declared.meaning.Order.TheVariants as order_word
-use Rattle.gq_words.specs.declared.meaning.Source.{Source}
-use Rattle.gq_words.specs.declared.meaning.Source.TheVariants as source
-use Rattle.gq_words.specs.declared.meaning.Words.{Words}
+use Rattle.gq_arguments.specs.Meaning.{IsOrder, IsRows, IsSource, Means}
+use Rattle.gq_arguments.specs.Reading.{IsMisused, IsRead}
+use Rattle.gq_arguments.specs.declared.meaning.Order as word
+use Rattle.gq_arguments.specs.declared.meaning.Order.TheVariants as order_word
+use Rattle.gq_arguments.specs.declared.meaning.Source.{Source}
+use Rattle.gq_arguments.specs.declared.meaning.Source.TheVariants as source
+use Rattle.gq_arguments.specs.declared.meaning.Words.{Words}
 
 -- ---- the words are read in one way
 

@@ -38,10 +38,10 @@ use Rattle.gq_shell.specs.steps.Steps.{EndsLoad, Quizzed, Told, told}
 use Rattle.gq_shell.specs.declared.status.Status.{Status}
 use Rattle.gq_shell.specs.declared.status.Status.TheVariants as status
 use Rattle.gq_tokens.specs.declared.params.Param.{Param}
-use Rattle.gq_words.specs.Meaning.{IsSource, Means}
-use Rattle.gq_words.specs.Reading.{IsMisused, IsRead}
-use Rattle.gq_words.specs.declared.meaning.Source.TheVariants as source
-use Rattle.gq_words.specs.declared.meaning.Words.{Words}
+use Rattle.gq_arguments.specs.Meaning.{IsSource, Means}
+use Rattle.gq_arguments.specs.Reading.{IsMisused, IsRead}
+use Rattle.gq_arguments.specs.declared.meaning.Source.TheVariants as source
+use Rattle.gq_arguments.specs.declared.meaning.Words.{Words}
 
 -- a line ended the run, or the sink failed in it
 pub told_by : (text : List ℕ) (s : Status) (out : Span) (written : Result (Unit {0}) Failed) → Writes out.old out.new text written → HasCause out.before out.now written

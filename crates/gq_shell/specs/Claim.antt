@@ -35,12 +35,12 @@ use Rattle.gq_shell.specs.declared.status.Status.{Status}
 use Rattle.gq_shell.specs.declared.status.Status.TheVariants as status
 use Rattle.gq_ast.specs.declared.statement.Query.{Query}
 use Rattle.gq_tokens.specs.declared.params.Param.{Param}
-use Rattle.gq_words.specs.Reading.{IsMisused, IsRead}
-use Rattle.gq_words.specs.declared.meaning.Order.TheVariants as order_word
-use Rattle.gq_words.specs.declared.meaning.Order as word
-use Rattle.gq_words.specs.declared.meaning.Source.{Source}
-use Rattle.gq_words.specs.declared.meaning.Source.TheVariants as source
-use Rattle.gq_words.specs.declared.meaning.Words.{Words}
+use Rattle.gq_arguments.specs.Reading.{IsMisused, IsRead}
+use Rattle.gq_arguments.specs.declared.meaning.Order.TheVariants as order_word
+use Rattle.gq_arguments.specs.declared.meaning.Order as word
+use Rattle.gq_arguments.specs.declared.meaning.Source.{Source}
+use Rattle.gq_arguments.specs.declared.meaning.Source.TheVariants as source
+use Rattle.gq_arguments.specs.declared.meaning.Words.{Words}
 
 -- ---- what each part of the run means
 

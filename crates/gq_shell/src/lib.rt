@@ -1,5 +1,5 @@
 //! One run of the program: which status it may end with for its words, files and input, and what it
-//! writes then. The crate stands on `gq_words`, the graphs of `gq_loader` and `gq_sample`, the
+//! writes then. The crate stands on `gq_arguments`, the graphs of `gq_loader` and `gq_sample`, the
 //! sessions of `gq_session` and the replies of `gq_reply`.
 #![tactic(auto)]
 

@@ -12,11 +12,11 @@ use crate::load_line::write_load_line;
 use crate::serving::serve;
 use crate::showing::show_sample;
 use crate::status::Status;
+use gq_arguments::{Order as OrderWord, Source as SourceWord, Words, WordsRefusal, read_words};
 use gq_base::Memory;
 use gq_execute::{Order, Settings};
 use gq_io::{Failed, Files, Sink, Source, write_all};
 use gq_loader::{Limits, LoadRefusal, load};
-use gq_words::{Order as OrderWord, Source as SourceWord, Words, WordsRefusal, read_words};
 use std::alloc::Global;
 
 // The settings that the words say.

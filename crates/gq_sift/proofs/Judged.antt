@@ -12,7 +12,7 @@ use Rattle.gq_plan.specs.declared.assignment.Assignment.{Assignment}
 use Rattle.gq_plan.specs.declared.halves.Half.{Half}
 use Rattle.gq_plan.specs.declared.halves.Half.TheVariants.{Whole, First, Second}
 use Rattle.gq_store.specs.Neighbours.{near_rows, neighbours, numbers, opposite}
-use Rattle.gq_walks.specs.Layouts.{has_one}
+use Rattle.gq_search.specs.Layouts.{has_one}
 use Rattle.gq_sift.specs.steps.Differing.{IsPairTest, other_of, pair_of}
 use Rattle.gq_steps.specs.Keeps.{IsRange, IsTriedAt}
 use Rattle.gq_sift.specs.steps.Judged.{IsJudged}

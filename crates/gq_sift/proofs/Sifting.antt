@@ -5,7 +5,7 @@ use Rattle.std.proofs.lemmas.Bool.{cases_eq, cases_lt, le-ltb, lt-ltb}
 use Rattle.std.proofs.lemmas.List.{get_or-set_same, get_or-set_other, length-set}
 use Rattle.gq_bits.specs.declared.TheConstants.{VECTOR}
 use Rattle.gq_plan.specs.declared.assignment.Assignment.{Assignment}
-use Rattle.gq_walks.specs.Layouts.{has_one}
+use Rattle.gq_search.specs.Layouts.{has_one}
 use Rattle.gq_sift.specs.Among.{IsAmong}
 use Rattle.gq_sift.specs.steps.Candidates.{AreCandidates}
 use Rattle.gq_steps.specs.Keeps.{made_at, made_by, makes_one, IsSifted}

@@ -12,8 +12,8 @@ use Rattle.gq_plan.specs.Allowed.{at_same}
 use Rattle.gq_plan.specs.Plans.{Step, Scan, Extend, Close, Join, Keep, Differ, NoLoop, Single, Meet, step_of}
 use Rattle.gq_plan.specs.declared.plan.Step as code
 use Rattle.gq_plan.specs.declared.assignment.Assignment.{Assignment}
-use Rattle.gq_walks.specs.Layouts.{number_of, has_one}
-use Rattle.gq_walks.specs.Marked.{IsMarkedAt}
+use Rattle.gq_search.specs.Layouts.{number_of, has_one}
+use Rattle.gq_search.specs.Marked.{IsMarkedAt}
 use Rattle.gq_law_groups.specs.Groups.{Group, makes_group, HasRows, MakesGroup, raw, own, kept, passes, raw_at, first, place}
 use Rattle.gq_law_groups.specs.Layout.{with_group, known_with, size_from, keeps_from, ArePlaced, AreFlatEnough}
 use Rattle.gq_law_groups.specs.Order.{NoGroups, AreCut}

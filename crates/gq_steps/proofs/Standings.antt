@@ -10,9 +10,9 @@ use Rattle.gq_plan.specs.Meaning.{Partial, nothing}
 use Rattle.gq_plan.specs.Rows.{node_at}
 use Rattle.gq_plan.specs.declared.assignment.Assignment.{Assignment}
 use Rattle.gq_law_groups.specs.Layout.{with_group, known_with, AreFlatEnough, ArePlaced}
-use Rattle.gq_walks.specs.Layouts.{Layout}
-use Rattle.gq_walks.specs.Running.{cursor_at, keys_of, prefix, IsGroup, Runs}
-use Rattle.gq_walks.specs.declared.walker.Cursor.{Cursor}
+use Rattle.gq_search.specs.Layouts.{Layout}
+use Rattle.gq_search.specs.Running.{cursor_at, keys_of, prefix, IsGroup, Runs}
+use Rattle.gq_search.specs.declared.walker.Cursor.{Cursor}
 use Rattle.gq_steps.specs.Levels.{Run, step_at, known}
 use Rattle.gq_steps.specs.steps.Lists.{flat_in, rows_in, IsAtStep, Chain, Stands, EarlierStand}
 use Rattle.gq_steps.specs.Groups.{group_at, group_in, groups_in, Tiles}
@@ -38,7 +38,7 @@ group_runs l cs ms r i low = runs_from l [] cs ms r i low
 
 -- the numbers of one group more
 pub prefix_more : (cs : List Cursor) (i : ℕ) → i < length cs → prefix cs (i + 1) ≡ prefix cs i ++ (cursor_at cs i).key ∷ []
-prefix_more cs i low = ap keys_of (take_more cs i Rattle.gq_walks.specs.Running.no_cursor low) ∙ map_push (λ (c : Cursor). c.key) (take i cs) (cursor_at cs i)
+prefix_more cs i low = ap keys_of (take_more cs i Rattle.gq_search.specs.Running.no_cursor low) ∙ map_push (λ (c : Cursor). c.key) (take i cs) (cursor_at cs i)
 
 -- ---- the first groups
 

@@ -4,7 +4,7 @@ use Rattle.gq_bits.specs.declared.TheConstants.{VECTOR}
 use Rattle.gq_plan.specs.Meaning.{Partial, mean}
 use Rattle.gq_plan.specs.Plans.{steps}
 use Rattle.gq_plan.specs.declared.assignment.Assignment.{Assignment}
-use Rattle.gq_walks.specs.Layouts.{has_one}
+use Rattle.gq_search.specs.Layouts.{has_one}
 use Rattle.gq_law_groups.specs.Groups.{makes_group}
 use Rattle.gq_steps.specs.Levels.{Run, step_at, built_at, known, before}
 use Rattle.gq_steps.specs.Moves.{IsHeld, IsAlike, IsMade}

@@ -8,11 +8,11 @@ use crate::queries::bound;
 use crate::store::example;
 use gq_base::{List, NodeId, RelId, Value};
 use gq_io::MemorySink;
+use gq_outer::WideRow;
 use gq_plan::Bound;
 use gq_render::{write_name, write_row, write_value};
 use gq_rows::{Listing, More, RowTable};
 use gq_store::Graph;
-use gq_wide::WideRow;
 
 fn sink(rt: &impl Test) -> MemorySink {
     MemorySink::new(rt.alloc(), 64, 7, List::new(rt.alloc())).expect(rt, "memory")

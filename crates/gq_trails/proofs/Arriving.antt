@@ -23,7 +23,7 @@ use Rattle.gq_plan.specs.Allowed.{at_same}
 use Rattle.gq_plan.specs.Assignments.{all_rels, is_node, same_node}
 use Rattle.gq_plan.specs.Meaning.{Partial, far, keep_if, look, with_node}
 use Rattle.gq_plan.specs.declared.TrailPart.{TrailPart}
-use Rattle.gq_wide.specs.Rows.{Wide, item_at}
+use Rattle.gq_outer.specs.Rows.{Wide, item_at}
 use Rattle.gq_trails.specs.Continued.{ends_from, rows_at_ends}
 use Rattle.gq_trails.specs.Trekking.{CanTrek, partial_of}
 use Rattle.gq_trails.specs.steps.Ends.{may_end, settled}

@@ -10,7 +10,7 @@ use Rattle.gq_law_plans.specs.Bindings.{bound}
 use Rattle.gq_law_trails.specs.Trails.{after_trails}
 use Rattle.gq_plan.specs.declared.TrailPart.{TrailPart}
 use Rattle.gq_plan.specs.Meaning.{Partial, look}
-use Rattle.gq_wide.specs.Rows.{Wide, item_at}
+use Rattle.gq_outer.specs.Rows.{Wide, item_at}
 use Rattle.gq_trails.specs.Trekking.{CanTrek, IsRowOf, Trekking, continuations, partial_of, placed_from}
 use Rattle.gq_hops.specs.Walking.{Walking}
 use Rattle.gq_trails.specs.steps.Journeys.{IsAt, IsFit, Journey, base_of, binds, bound_at, frames_at, journey_of, part_at, patterns_of, reached_at, row_at, walk_at}

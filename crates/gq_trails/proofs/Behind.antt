@@ -17,7 +17,7 @@ use Rattle.gq_plan.specs.Meaning.{Partial, keep_if, look, with_node}
 use Rattle.gq_plan.specs.Meaning as meaning
 use Rattle.gq_plan.specs.declared.TrailPart.{TrailPart}
 use Rattle.gq_plan.specs.declared.TypedRel.{TypedRel}
-use Rattle.gq_wide.specs.Rows.{Wide, item_at, read}
+use Rattle.gq_outer.specs.Rows.{Wide, item_at, read}
 use Rattle.gq_trails.specs.Continued.{rows_at_ends, rows_by_ends}
 use Rattle.gq_trails.specs.Trekking.{AreInTurn, CanTrek, IsRowOf, Trekking, continuations, partial_of, patterns_from, patterns_in, placed_from}
 use Rattle.gq_trails.specs.steps.Chained.{AllGoOn, AllSeen, AreOfOne, AreOnWay, AreSameWays, CanBegin, CanBeginAt, CanGoFrom, HasGone, HaveGoneBehind, HaveGoneFrom, HaveGoneOn, IsBegun, IsChainOf, IsSetOut, TakesNext, all_stand, barred_behind, owed_behind, owed_by, owed_once, parts_in, reached_by, rows_from_walks}

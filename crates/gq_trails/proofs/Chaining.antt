@@ -14,7 +14,7 @@ use Rattle.gq_plan.specs.Assignments.{is_node}
 use Rattle.gq_plan.specs.Meaning.{Partial, look, with_node}
 use Rattle.gq_plan.specs.Meaning as meaning
 use Rattle.gq_plan.specs.declared.TrailPart.{TrailPart}
-use Rattle.gq_wide.specs.Rows.{Wide, item_at, read}
+use Rattle.gq_outer.specs.Rows.{Wide, item_at, read}
 use Rattle.gq_trails.specs.Continued.{rows_at_ends, rows_by_ends}
 use Rattle.gq_trails.specs.Trekking.{AreNodes, CanTrek, partial_of, placed_from}
 use Rattle.gq_trails.specs.steps.Chained.{AllGoOn, AllSeen, AreKept, AreOfOne, AreUnderWay, HaveGoneOn, IsOneOf, all_stand, owed_by, parts_in, reached_by}

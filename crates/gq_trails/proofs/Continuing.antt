@@ -28,7 +28,7 @@ use Rattle.gq_law_trails.specs.Walks.{end_of, is_of_type}
 use Rattle.gq_plan.specs.Meaning.{Partial, holds, look}
 use Rattle.gq_plan.specs.declared.TrailPart.{TrailPart}
 use Rattle.gq_plan.specs.declared.TypedRel.{TypedRel}
-use Rattle.gq_wide.specs.Rows.{Wide}
+use Rattle.gq_outer.specs.Rows.{Wide}
 use Rattle.gq_trails.specs.Continued.{RowsAreWays, RowsStandForWays, are_apart, ends_from, have_ends, rows_by_ends, rows_continued, rows_from, walked_count}
 use Rattle.gq_trails.specs.Trekking.{HasLength, continuations, partial_of, patterns_in}
 

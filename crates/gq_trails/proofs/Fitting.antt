@@ -14,7 +14,7 @@ use Rattle.gq_plan.specs.declared.TrailPart.{TrailPart}
 use Rattle.gq_plan.specs.Allowed.{at_same}
 use Rattle.gq_plan.specs.Assignments.{is_node}
 use Rattle.gq_plan.specs.Meaning.{Partial, keep_if, look, with_node}
-use Rattle.gq_wide.specs.Rows.{Wide, item_at}
+use Rattle.gq_outer.specs.Rows.{Wide, item_at}
 use Rattle.gq_trails.specs.Trekking.{AreInTurn, AreNodes, placed_from}
 use Rattle.gq_trails.specs.steps.Ends.{may_end, settled}
 use Rattle.gq_trails.specs.steps.Journeys.{IsFit, binds, bound_at, bound_by, cleared, part_at}

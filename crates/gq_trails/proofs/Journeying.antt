@@ -7,7 +7,7 @@ use Rattle.gq_base.specs.declared.RelId.{RelId}
 use Rattle.gq_law_trails.specs.Trails.{Trailing, after_trails, with_list}
 use Rattle.gq_plan.specs.declared.TrailPart.{TrailPart}
 use Rattle.gq_plan.specs.Meaning.{Partial, look}
-use Rattle.gq_wide.specs.Rows.{Wide}
+use Rattle.gq_outer.specs.Rows.{Wide}
 use Rattle.gq_hops.specs.Walking.{Walking}
 use Rattle.gq_marks.specs.Marking.{Marking, bound_of}
 use Rattle.gq_trails.specs.steps.Journeys.{AreWalkers, DropsMissed, HaveCourses, IsAt, IsFit, IsWalkerFor, Journey, bound_by, frame_of, frames_at, no_walk, owed_at, owed_behind, part_at, patterns_of, reached_at, row_at, turn_at, walk_at, walked_at, walks_on}

@@ -2,7 +2,7 @@
 use Rattle.std.proofs.Common.{◌≡◌, ◌∙◌, ℕ, zero, suc, ◌+◌, ◌<◌, ◌≤◌, Bool, true, false, Option, List, [], ◌∷◌, drop, get_or, length, set, take, refl, sym, ap, ap₂, subst, arith}
 use Rattle.gq_base.specs.Plain.{Graph}
 use Rattle.gq_base.specs.declared.RelId.{RelId}
-use Rattle.gq_wide.specs.Rows.{Wide, item_at}
+use Rattle.gq_outer.specs.Rows.{Wide, item_at}
 use Rattle.gq_trails.specs.Continued.{rows_at_ends}
 use Rattle.gq_trails.specs.Trekking.{CanTrek}
 use Rattle.gq_trails.specs.steps.Chained.{AllGoOn, AreOfOne, AreUnderWay, AreUnderWayFrom, CanBegin, CanBeginAt, GoFrom, HasAdvanced, HasGone, HasWay, HaveGoneFrom, HaveGoneOn, IsAdvanced, IsOneOf, IsSetOut, StandsAt, parts_in}

@@ -10,7 +10,7 @@ use Rattle.gq_law_trails.specs.Walks.{end_of}
 use Rattle.gq_plan.specs.Assignments.{is_node}
 use Rattle.gq_plan.specs.declared.TrailPart.{TrailPart}
 use Rattle.gq_plan.specs.Meaning.{Partial, keep_if, look}
-use Rattle.gq_wide.specs.Rows.{Wide, item_at}
+use Rattle.gq_outer.specs.Rows.{Wide, item_at}
 use Rattle.gq_law_plans.specs.Bindings.{bound}
 use Rattle.gq_law_plans.proofs.Lookups.{look_some}
 use Rattle.gq_trails.specs.Trekking.{AreInTurn}

@@ -13,7 +13,7 @@ use Rattle.gq_law_trails.specs.Trails.{used_in}
 use Rattle.gq_plan.specs.Meaning.{Partial, look}
 use Rattle.gq_plan.specs.declared.TrailPart.{TrailPart}
 use Rattle.gq_plan.specs.declared.TypedRel.{TypedRel}
-use Rattle.gq_wide.specs.Rows.{Wide}
+use Rattle.gq_outer.specs.Rows.{Wide}
 use Rattle.gq_trails.specs.Trekking.{HasLength, continuations, partial_of, patterns_in}
 
 -- ---- which rows

@@ -13,14 +13,14 @@ ghost use Rattle.gq_trails.specs.steps.Chained.{HaveGoneFrom, IsAdvanced, IsChai
 ghost use Rattle.gq_trails.specs.steps.Chained.{IsSameChain, IsSetOut, all_parts, barred_behind};
 ghost use Rattle.gq_trails.specs.steps.Chained.{ends_in, parts_in, reached_by, rows_owed, stands_in};
 ghost use Rattle.gq_trails.specs.steps.Walked.{walked_of};
-ghost use Rattle.gq_wide.specs.Rows.{read};
+ghost use Rattle.gq_outer.specs.Rows.{read};
 
 use crate::reached::Ends;
 use crate::trails::Trails;
 use gq_base::Memory;
+use gq_outer::WideRow;
 use gq_plan::{TrailPart, TypedRel};
 use gq_store::Graph;
-use gq_wide::WideRow;
 use std::alloc::Global;
 
 /// The rows at the ends of trails, behind each way to walk those before them.

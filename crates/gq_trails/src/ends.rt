@@ -10,9 +10,9 @@ use gq_base::{List, Memory, NodeId, RelId, Value};
 use gq_ends::has_labels;
 use gq_eval::{Evaluator, evaluators};
 use gq_expr::Assigned;
+use gq_outer::WideRow;
 use gq_plan::TrailPart;
 use gq_store::Graph;
-use gq_wide::WideRow;
 use std::alloc::Global;
 
 /// A row in which one variable has a node, and no other has anything.

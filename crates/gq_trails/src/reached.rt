@@ -7,7 +7,7 @@ ghost use Rattle.gq_trails.specs.Trekking.{CanTrek, HasLength};
 ghost use Rattle.gq_trails.specs.steps.Chained.{barred_behind};
 ghost use Rattle.gq_trails.specs.steps.Walked.{walked_of};
 ghost use Rattle.gq_trails.specs.steps.Reached.{AreEnds, AreSameEnds, GoesToEnd, IsSeen, left_from};
-ghost use Rattle.gq_wide.specs.Rows.{item_at};
+ghost use Rattle.gq_outer.specs.Rows.{item_at};
 
 use crate::ends::arrives;
 use crate::taken::Taken;
@@ -17,9 +17,9 @@ use gq_base::{List, Memory, NodeId};
 use gq_eval::{Evaluator, evaluators};
 use gq_expr::Assigned;
 use gq_hops::Reacher;
+use gq_outer::WideRow;
 use gq_plan::{TrailPart, TypedRel};
 use gq_store::Graph;
-use gq_wide::WideRow;
 use std::alloc::Global;
 
 /// The rows at the ends of one trail.

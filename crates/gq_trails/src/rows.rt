@@ -5,14 +5,14 @@ ghost use Rattle.std.specs.List.{list_all};
 ghost use Rattle.gq_plan.specs.Meaning as meaning;
 ghost use Rattle.gq_trails.specs.Continued.{are_apart, have_ends, rows_continued, walked_count};
 ghost use Rattle.gq_trails.specs.Trekking.{CanTrek, HasLength};
-ghost use Rattle.gq_wide.specs.Rows.{read};
+ghost use Rattle.gq_outer.specs.Rows.{read};
 
 use crate::chain::Chain;
 use crate::trails::Trails;
 use gq_base::Memory;
+use gq_outer::WideRow;
 use gq_plan::{TrailPart, TypedRel};
 use gq_store::Graph;
-use gq_wide::WideRow;
 use std::alloc::Global;
 use std::marker::Model;
 

@@ -9,9 +9,9 @@ use crate::taken::Taken;
 use crate::trek::{Route, Trek, take_walks};
 use gq_base::Memory;
 use gq_hops::{State, state_after};
+use gq_outer::WideRow;
 use gq_plan::{TrailPart, TypedRel};
 use gq_store::Graph;
-use gq_wide::WideRow;
 use std::alloc::Global;
 use std::marker::Model;
 

@@ -16,7 +16,7 @@ ghost use Rattle.gq_trails.specs.steps.Journeys.{IsMade, IsWalkerFor};
 ghost use Rattle.gq_trails.specs.steps.Journeys.{IsStarted, IsTried, journey_of, owed_at, owed_behind};
 ghost use Rattle.gq_trails.specs.steps.Journeys.{part_at, patterns_of, walk_at, walked_at};
 ghost use Rattle.gq_trails.specs.steps.Standing.{IsOver};
-ghost use Rattle.gq_wide.specs.Rows.{item_at};
+ghost use Rattle.gq_outer.specs.Rows.{item_at};
 
 use crate::ends::arrives;
 use crate::taken::Taken;
@@ -25,9 +25,9 @@ use gq_ends::end_nodes;
 use gq_eval::Evaluator;
 use gq_expr::Assigned;
 use gq_hops::Walker;
+use gq_outer::WideRow;
 use gq_plan::{TrailPart, TypedRel};
 use gq_store::Graph;
-use gq_wide::WideRow;
 use std::alloc::Global;
 
 /// How many nodes have places for bounds, in all trails of a query together: a byte each.

@@ -7,7 +7,7 @@ use Rattle.gq_plan.specs.declared.Bound.{Bound}
 use Rattle.gq_plan.specs.declared.Typed.{Typed}
 use Rattle.gq_kept.specs.Chunks.{Stands}
 use Rattle.gq_kept.specs.Tables.{Table}
-use Rattle.gq_wide.specs.Rows.{Wide, item_at}
+use Rattle.gq_outer.specs.Rows.{Wide, item_at}
 use Rattle.gq_drain.specs.declared.behind.Behind.{Behind}
 use Rattle.gq_drain.specs.declared.prepared.Prepared.{Prepared}
 

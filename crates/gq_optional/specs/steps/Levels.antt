@@ -5,8 +5,8 @@ use Rattle.gq_expr.specs.Reading as reading
 use Rattle.gq_expr.specs.declared.Fault.{Fault}
 use Rattle.gq_plan.specs.Assignments as plain
 use Rattle.gq_plan.specs.Marked.{Marked}
-use Rattle.gq_wide.specs.Clauses.{joined, or_alone, unless_marked, unmarked}
-use Rattle.gq_wide.specs.Rows.{Wide, read}
+use Rattle.gq_outer.specs.Clauses.{joined, or_alone, unless_marked, unmarked}
+use Rattle.gq_outer.specs.Rows.{Wide, read}
 use Rattle.gq_optional.specs.declared.clause.Clause.{Clause}
 use Rattle.gq_optional.specs.declared.clause.Matches.{Matches}
 use Rattle.gq_optional.specs.declared.level.Found.{Found}

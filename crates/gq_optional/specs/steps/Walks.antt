@@ -5,8 +5,8 @@ use Rattle.gq_base.specs.Plain.{Graph}
 use Rattle.gq_plan.specs.Assignments as plain
 use Rattle.gq_plan.specs.Marked.{Marked}
 use Rattle.gq_plan.specs.Soundness.{has_number}
-use Rattle.gq_wide.specs.Clauses.{unmarked}
-use Rattle.gq_wide.specs.Rows.{Wide, read}
+use Rattle.gq_outer.specs.Clauses.{unmarked}
+use Rattle.gq_outer.specs.Rows.{Wide, read}
 use Rattle.gq_plan.specs.declared.bound.OptionalPart.{OptionalPart}
 use Rattle.gq_optional.specs.Held.{Held, Holding, Walking, rows_owed}
 use Rattle.gq_optional.specs.declared.clause.Clause.{Clause}

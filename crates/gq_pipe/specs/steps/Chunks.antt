@@ -5,9 +5,9 @@ use Rattle.gq_bits.specs.Places.{is_marked}
 use Rattle.gq_group.specs.Pieces.{first_of}
 use Rattle.gq_group.specs.declared.group.Group.{Group}
 use Rattle.gq_plan.specs.declared.assignment.Assignment.{Assignment}
-use Rattle.gq_walks.specs.Layouts.{piece_of}
-use Rattle.gq_walks.specs.Running.{Runs, cursor_at, keys_of}
-use Rattle.gq_walks.specs.declared.walker.Cursor.{Cursor}
+use Rattle.gq_search.specs.Layouts.{piece_of}
+use Rattle.gq_search.specs.Running.{Runs, cursor_at, keys_of}
+use Rattle.gq_search.specs.declared.walker.Cursor.{Cursor}
 use Rattle.gq_law_groups.specs.Groups.{makes_group}
 use Rattle.gq_steps.specs.Levels.{Run, step_at, known}
 use Rattle.gq_steps.specs.Moves.{IsRun, IsHeld}

@@ -3,7 +3,7 @@ use Rattle.std.specs.Prelude.{◌≡◌, ◌∷◌, ℕ, ◌+◌, ◌-◌, Bool,
 use Rattle.gq_plan.specs.Known.{Known, none}
 use Rattle.gq_plan.specs.Meaning.{Partial, nothing, look}
 use Rattle.gq_plan.specs.declared.assignment.Assignment.{Assignment}
-use Rattle.gq_walks.specs.Layouts.{Layout}
+use Rattle.gq_search.specs.Layouts.{Layout}
 use Rattle.gq_law_groups.specs.Groups.{passes}
 use Rattle.gq_law_groups.specs.Layout.{layout_of, with_group, known_with, AreFlatEnough}
 use Rattle.gq_law_groups.specs.Order.{AreCut}

@@ -8,7 +8,7 @@ use Rattle.gq_law_trails.specs.Trails.{Trailing, used_in}
 use Rattle.gq_plan.specs.Meaning.{Partial, look}
 use Rattle.gq_plan.specs.declared.TrailPart.{TrailPart}
 use Rattle.gq_plan.specs.declared.TypedRel.{TypedRel}
-use Rattle.gq_wide.specs.Rows.{Wide, item_at}
+use Rattle.gq_outer.specs.Rows.{Wide, item_at}
 use Rattle.gq_trails.specs.Continued.{Continuing, rows_at_ends, rows_by_ends, walked_count}
 use Rattle.gq_trails.specs.Trekking.{CanTrek, Trekking, patterns_from, patterns_in}
 use Rattle.gq_trails.specs.steps.Journeys.{IsFit}

@@ -8,7 +8,7 @@ use Rattle.gq_law_trails.specs.Trails.{fits_end}
 use Rattle.gq_plan.specs.declared.TrailPart.{TrailPart}
 use Rattle.gq_plan.specs.Allowed.{at_same}
 use Rattle.gq_plan.specs.Conditions.{passes}
-use Rattle.gq_wide.specs.Rows.{Wide, item_at}
+use Rattle.gq_outer.specs.Rows.{Wide, item_at}
 
 -- the tests of a trail's other end, and those of all trails
 abbrev pub tests_of : Graph → TrailPart → List Asked

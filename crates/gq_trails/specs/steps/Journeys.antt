@@ -12,7 +12,7 @@ use Rattle.gq_plan.specs.declared.TrailPart.{TrailPart}
 use Rattle.gq_plan.specs.Assignments.{is_node}
 use Rattle.gq_plan.specs.Meaning.{Partial, look, with_node}
 use Rattle.gq_plan.specs.declared.TypedRel.{TypedRel}
-use Rattle.gq_wide.specs.Rows.{Wide, item_at}
+use Rattle.gq_outer.specs.Rows.{Wide, item_at}
 use Rattle.gq_trails.specs.Trekking.{AreInTurn, AreNodes, patterns_in, placed_from}
 use Rattle.gq_hops.specs.Walking.{Walking, course_of}
 use Rattle.gq_marks.specs.Marking.{Marking, bound_of}

@@ -7,7 +7,7 @@ use Rattle.gq_law_ends.specs.Reaching.{rows_at}
 use Rattle.gq_plan.specs.Assignments.{is_node}
 use Rattle.gq_plan.specs.Meaning.{Partial, look}
 use Rattle.gq_plan.specs.declared.TrailPart.{TrailPart}
-use Rattle.gq_wide.specs.Rows.{Wide, item_at}
+use Rattle.gq_outer.specs.Rows.{Wide, item_at}
 use Rattle.gq_trails.specs.steps.Ends.{tests_of}
 use Rattle.gq_trails.specs.steps.Journeys.{binds, bound_at, cleared}
 use Rattle.gq_trails.specs.declared.reached.Ends.{Ends}

@@ -2,7 +2,7 @@ use Rattle.std.proofs.Common.{◌∙◌, sym, ap, not, take, List, [], ◌∷◌
 use Rattle.std.specs.List.{list_any}
 use Rattle.gq_bound.specs.Refusals.{repeating_column}
 use Rattle.gq_bound.specs.declared.refusal.BindRefusal.TheVariants as refusal
-use Rattle.gq_trees.specs.Uses.{refused_unless}
+use Rattle.gq_resolve.specs.Uses.{refused_unless}
 use Rattle.gq_scopes.specs.Patterns.{Name, is_called}
 use Rattle.gq_scopes.specs.declared.scope.Column.{Column}
 use Rattle.gq_bound.proofs.MetLemmas.{refused_as, passed, named_before, next_named}

@@ -4,7 +4,7 @@ use Rattle.gq_bound.specs.Refusals.{first_in, sorts_in}
 use Rattle.gq_bound.specs.declared.refusal.BindRefusal.TheVariants as refusal
 use Rattle.gq_bound.specs.Checks.{Checks}
 use Rattle.gq_scopes.specs.Scopes.{Scope}
-use Rattle.gq_trees.specs.Renames.{ambiguous_name}
+use Rattle.gq_resolve.specs.Renames.{ambiguous_name}
 use Rattle.gq_binder.proofs.order.ambiguous_order_name.Goals as goal
 
 pub returns : goal.returns

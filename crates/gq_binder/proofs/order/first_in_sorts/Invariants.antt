@@ -1,5 +1,5 @@
 use Rattle.std.proofs.Common.{◌≡◌, drop}
-use Rattle.gq_trees.specs.Checks.{check_of}
+use Rattle.gq_resolve.specs.Checks.{check_of}
 use Rattle.gq_bound.specs.Refusals.{first_in, sorts_in}
 use Rattle.gq_binder.proofs.order.first_in_sorts.Given as goal
 

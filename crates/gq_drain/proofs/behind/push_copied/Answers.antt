@@ -3,7 +3,7 @@ use Rattle.gq_plan.specs.Assignments.{row_of}
 use Rattle.gq_plan.specs.Marked.{ending}
 use Rattle.gq_optional.specs.Held.{Held, first_known}
 use Rattle.gq_kept.specs.Chunks.{PushesAll}
-use Rattle.gq_wide.specs.Clauses.{after_clauses}
+use Rattle.gq_outer.specs.Clauses.{after_clauses}
 use Rattle.gq_drain.specs.steps.Behind.{IsBlankFrom}
 use Rattle.gq_drain.specs.Prepared.{known_by}
 use Rattle.gq_drain.proofs.Copying.{both_copied}

@@ -1,7 +1,7 @@
 use Rattle.std.proofs.Common.{◌∙◌, ap, map, refl, Err, Ok, subst, sym}
 use Rattle.gq_optional.specs.Held.{row_reached}
 use Rattle.gq_plan.specs.Marked.{ending}
-use Rattle.gq_wide.specs.Rows.{read}
+use Rattle.gq_outer.specs.Rows.{read}
 use Rattle.gq_kept.proofs.Chunking.{same_again, same_table}
 use Rattle.gq_kept.specs.declared.refusal.More.TheVariants as more
 use Rattle.gq_drain.proofs.Pushing.{marked_pushed, taken_full, taken_more, taken_none, taken_refused}

@@ -1,5 +1,5 @@
 use Rattle.std.proofs.Common.{◌∙◌, ap, arith}
-use Rattle.gq_wide.specs.Rows.{Wide}
+use Rattle.gq_outer.specs.Rows.{Wide}
 use Rattle.gq_drain.proofs.Copying.{copied_more}
 use Rattle.gq_drain.proofs.copied.copy_nodes.Goals as goal
 

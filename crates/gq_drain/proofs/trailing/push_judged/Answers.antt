@@ -3,7 +3,7 @@ use Rattle.gq_plan.specs.Marked.{marks}
 use Rattle.gq_plan.specs.Outcomes.{late_conjuncts, meanings_of}
 use Rattle.gq_kept.specs.Chunks.{PushesAll}
 use Rattle.gq_kept.specs.declared.refusal.More.TheVariants as more
-use Rattle.gq_wide.specs.Rows.{read}
+use Rattle.gq_outer.specs.Rows.{read}
 use Rattle.gq_drain.proofs.Chosen.{row_dropped}
 use Rattle.gq_drain.proofs.Judging.{late_says}
 use Rattle.gq_drain.proofs.Pushing.{none_pushed, one_pushed}

@@ -3,7 +3,7 @@ use Rattle.std.specs.List.{All, AllZip}
 use Rattle.gq_plan.specs.Plans.{plan_of}
 use Rattle.gq_plan.specs.Soundness.{IsSound}
 use Rattle.gq_plan.specs.declared.typed.Typed.{Typed}
-use Rattle.gq_wide.specs.Placed.{IsPlaced}
+use Rattle.gq_outer.specs.Placed.{IsPlaced}
 use Rattle.gq_execute.specs.steps.Clauses.{IsPlanned, IsPlannedClause}
 use Rattle.gq_execute.proofs.Covering.{zip_next}
 use Rattle.gq_execute.proofs.clauses.clause_plans.Goals as goal

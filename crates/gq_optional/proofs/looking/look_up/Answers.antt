@@ -1,7 +1,7 @@
 use Rattle.std.proofs.Common.{◌∙◌, ap, length, map, refl, sym, arith}
 use Rattle.gq_optional.specs.steps.Listed.{match_at}
 use Rattle.gq_optional.specs.steps.Looked.{asked_rows}
-use Rattle.gq_wide.specs.Rows.{read}
+use Rattle.gq_outer.specs.Rows.{read}
 use Rattle.gq_optional.proofs.Keyed.{length_places, looked, looked_none}
 use Rattle.gq_optional.proofs.looking.look_up.Goals as goal
 

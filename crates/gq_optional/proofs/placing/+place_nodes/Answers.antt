@@ -1,6 +1,6 @@
 use Rattle.std.proofs.Common.{ap, length, arith}
 use Rattle.gq_join.specs.Kept.{row_at}
-use Rattle.gq_wide.specs.Rows.{Wide, item_at}
+use Rattle.gq_outer.specs.Rows.{Wide, item_at}
 use Rattle.gq_optional.proofs.Placed.{all_head, all_tail, placed_nodes}
 use Rattle.gq_optional.proofs.placing.+place_nodes.Goals as goal
 

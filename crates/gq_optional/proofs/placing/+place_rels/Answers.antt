@@ -1,7 +1,7 @@
 use Rattle.std.proofs.Common.{◌∙◌, ◌+◌, ◌*◌, ◌<◌, ap, length, sym, subst, arith}
 use Rattle.std.specs.Prelude.{slice_index}
 use Rattle.gq_join.specs.Kept.{row_at}
-use Rattle.gq_wide.specs.Rows.{Wide, item_at}
+use Rattle.gq_outer.specs.Rows.{Wide, item_at}
 use Rattle.gq_optional.proofs.Placed.{all_head, all_tail, placed_rels}
 use Rattle.gq_optional.proofs.placing.+place_rels.Goals as goal
 

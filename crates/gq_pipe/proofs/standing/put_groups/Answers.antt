@@ -1,8 +1,8 @@
 use Rattle.std.proofs.Common.{◌≡◌, ◌∙◌, ◌<◌, ◌+◌, ◌++◌, ◌∷◌, ℕ, true, length, sym, ap, ap₂, subst, arith, List, [], Bool}
 use Rattle.std.specs.Prelude.{slice_index_or}
 use Rattle.std.proofs.lemmas.List.{get_or_default, length-map, length-set}
-use Rattle.gq_walks.specs.Running.{no_cursor, cursor_at, keys_of}
-use Rattle.gq_walks.specs.declared.walker.Cursor.{Cursor}
+use Rattle.gq_search.specs.Running.{no_cursor, cursor_at, keys_of}
+use Rattle.gq_search.specs.declared.walker.Cursor.{Cursor}
 use Rattle.gq_pipe.specs.steps.Chunks.{AreStanding, CanStand, HasGroup, IsGroupAt, ShowsNumber, StoodAt}
 use Rattle.gq_steps.specs.Groups.{no_group}
 use Rattle.gq_steps.specs.Moves.{run_of}

@@ -1,5 +1,5 @@
 use Rattle.std.proofs.Common.{◌≡◌, true, length}
-use Rattle.gq_walks.specs.Running.{prefix}
+use Rattle.gq_search.specs.Running.{prefix}
 use Rattle.gq_pipe.specs.steps.Chunks.{AreStanding, StoodAt}
 use Rattle.gq_steps.specs.Moves.{run_of}
 use Rattle.gq_pipe.proofs.standing.put_groups.Given as goal

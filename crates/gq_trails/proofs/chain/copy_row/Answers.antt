@@ -1,5 +1,5 @@
 use Rattle.std.proofs.Common.{◌∙◌, ap, length, sym}
-use Rattle.gq_wide.specs.Rows.{Wide}
+use Rattle.gq_outer.specs.Rows.{Wide}
 use Rattle.gq_trails.specs.declared.reached.Ends.{Ends}
 use Rattle.gq_trails.proofs.Placed.{cons_at, read_at}
 use Rattle.gq_trails.proofs.chain.copy_row.Goals as goal

@@ -1,6 +1,6 @@
 use Rattle.std.proofs.Common.{◌≡◌, ◌+◌, ◌≤◌, ◌++◌, drop, length}
 use Rattle.gq_trails.specs.Trekking.{patterns_from}
-use Rattle.gq_wide.specs.Rows.{item_at}
+use Rattle.gq_outer.specs.Rows.{item_at}
 use Rattle.gq_trails.proofs.trek.take_patterns.Given as goal
 
 abbrev pub invariant-patterns : goal.invariant-patterns

@@ -1,5 +1,5 @@
 use Rattle.std.proofs.Common.{◌∙◌}
-use Rattle.gq_wide.specs.Rows.{read}
+use Rattle.gq_outer.specs.Rows.{read}
 use Rattle.gq_eval.specs.declared.judging.Verdict.TheVariants as verdict
 use Rattle.gq_optional.proofs.Asking.{asks_same, judged_by}
 use Rattle.gq_optional.proofs.Pending.{found_left, rows_stay, same_then}

@@ -2,7 +2,7 @@ use Rattle.std.proofs.Common.{◌≡◌, length}
 use Rattle.gq_base.specs.Plain.{Graph}
 use Rattle.gq_optional.specs.steps.Asking.{Asks}
 use Rattle.gq_optional.specs.steps.Levels.{HasRows, IsLevel, IsSameClause, left_of, pending}
-use Rattle.gq_wide.specs.Rows.{read}
+use Rattle.gq_outer.specs.Rows.{read}
 use Rattle.gq_optional.proofs.level.Level.go_on.Given as goal
 
 abbrev pub invariant-matches : goal.invariant-matches

@@ -1,5 +1,5 @@
 use Rattle.std.proofs.Common.{◌∙◌, ◌∷◌, None, sym}
-use Rattle.gq_wide.specs.Rows.{read}
+use Rattle.gq_outer.specs.Rows.{read}
 use Rattle.gq_optional.specs.steps.Levels.{agreeing_in, left_of, now_at}
 use Rattle.gq_optional.proofs.Asking.{asks_same}
 use Rattle.gq_optional.proofs.Made.{made_none, made_some}

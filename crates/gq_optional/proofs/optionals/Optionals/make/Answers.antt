@@ -2,7 +2,7 @@ use Rattle.std.proofs.Common.{◌∙◌, ◌++◌, ap, map, sym, subst}
 use Rattle.std.specs.List.{range_with_len}
 use Rattle.std.proofs.lemmas.List.Elements.{All-from_recursion, recursion_from_All}
 use Rattle.gq_plan.specs.Plans.{plan_of}
-use Rattle.gq_wide.specs.Placed.{IsPlaced}
+use Rattle.gq_outer.specs.Placed.{IsPlaced}
 use Rattle.gq_optional.specs.steps.Listed.{IsClause}
 use Rattle.gq_optional.specs.steps.Making.{AreClausesOf, CanHold}
 use Rattle.gq_optional.proofs.Clauses.{can_hold, clauses_are, clauses_ask, clauses_listed, clauses_parts, clauses_shared}

@@ -1,6 +1,6 @@
 use Rattle.std.proofs.Common.{◌∙◌, ap}
-use Rattle.gq_wide.specs.Clauses.{unmarked}
-use Rattle.gq_wide.specs.Rows.{Wide, read}
+use Rattle.gq_outer.specs.Clauses.{unmarked}
+use Rattle.gq_outer.specs.Rows.{Wide, read}
 use Rattle.gq_optional.specs.Held.{rows_behind}
 use Rattle.gq_optional.specs.steps.Levels.{clauses_of}
 use Rattle.gq_optional.specs.steps.Walks.{held_by, known_by}

@@ -1,6 +1,6 @@
 use Rattle.std.proofs.Common.{subst}
 use Rattle.gq_kept.specs.Tables.{Pushes}
-use Rattle.gq_wide.specs.Rows.{read}
+use Rattle.gq_outer.specs.Rows.{read}
 use Rattle.gq_rows.proofs.WideRows.{fault_pushed, marked_ends, plain_ends}
 use Rattle.gq_rows.proofs.table.RowTable.push_wide.Goals as goal
 

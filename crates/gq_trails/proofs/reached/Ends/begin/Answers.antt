@@ -2,7 +2,7 @@ use Rattle.std.proofs.Common.{◌<◌, ◌∙◌, ◌++◌, inr, List, length, s
 use Rattle.gq_base.specs.declared.RelId.{RelId}
 use Rattle.gq_hops.specs.Reaching.{Reaching}
 use Rattle.gq_law_trails.specs.Trails.{taken_in}
-use Rattle.gq_wide.specs.Rows.{Wide}
+use Rattle.gq_outer.specs.Rows.{Wide}
 use Rattle.gq_trails.specs.Trekking.{patterns_in}
 use Rattle.gq_trails.specs.steps.Chained.{barred_behind}
 use Rattle.gq_trails.specs.steps.Walked.{walked_of}

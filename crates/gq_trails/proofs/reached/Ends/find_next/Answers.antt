@@ -3,7 +3,7 @@ use Rattle.gq_base.specs.Plain.{Graph}
 use Rattle.gq_hops.specs.Reaching.{Reaching}
 use Rattle.gq_law_ends.specs.Reaching.{rows_at}
 use Rattle.gq_plan.specs.declared.TrailPart.{TrailPart}
-use Rattle.gq_wide.specs.Rows.{Wide}
+use Rattle.gq_outer.specs.Rows.{Wide}
 use Rattle.gq_trails.specs.steps.Reached.{HasEnd, IsSeenBefore, before_end, behind_end}
 use Rattle.gq_trails.proofs.Arriving.{next_before, next_end, next_fewer, next_met, next_missed, next_there, next_within, none_first, seen_stays}
 use Rattle.gq_trails.proofs.Going.{settled_length, settled_rels}

@@ -1,6 +1,6 @@
 use Rattle.std.proofs.Common.{◌∙◌, ◌+◌, ◌≤◌, [], length, ap, sym, subst}
 use Rattle.gq_law_trails.specs.Trails.{after_trails}
-use Rattle.gq_wide.specs.Rows.{Wide}
+use Rattle.gq_outer.specs.Rows.{Wide}
 use Rattle.gq_trails.specs.Trekking.{CanTrek, Trekking, continuations}
 use Rattle.gq_trails.specs.steps.Journeys.{base_of, journey_of, patterns_of}
 use Rattle.gq_trails.proofs.Beginning.{opens, owes}

@@ -9,7 +9,7 @@ use Rattle.gq_plan.specs.declared.TrailPart.{TrailPart}
 use Rattle.gq_marks.specs.Marking.{bound_of}
 use Rattle.gq_plan.specs.Assignments.{is_node}
 use Rattle.gq_plan.specs.Meaning.{look}
-use Rattle.gq_wide.specs.Rows.{item_at}
+use Rattle.gq_outer.specs.Rows.{item_at}
 use Rattle.gq_trails.specs.Trekking.{patterns_in}
 use Rattle.gq_hops.specs.Walking.{Course, Walking, course_of}
 use Rattle.gq_trails.specs.steps.Journeys.{Journey, journey_of, no_part, no_walk, part_at, patterns_of, row_at, walk_at, walked_at}

@@ -1,6 +1,0 @@
-use Rattle.std.proofs.Common.{◌≡◌, take}
-use Rattle.gq_trees.specs.Renames.{renamed_names}
-use Rattle.gq_trees.proofs.renames.Renamed.of.Given as goal
-
-abbrev pub invariant-loop-item : goal.invariant-loop-item
-invariant-loop-item l = l.renamed ≡ renamed_names l.scope (take l.item-index l.items)

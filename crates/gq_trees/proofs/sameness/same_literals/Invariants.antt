@@ -1,6 +1,0 @@
-use Rattle.std.proofs.Common.{◌≡◌, drop}
-use Rattle.gq_trees.specs.MadeOf.{same_literals}
-use Rattle.gq_trees.proofs.sameness.same_literals.Given as goal
-
-abbrev pub invariant-loop-at : goal.invariant-loop-at
-invariant-loop-at l = same_literals (drop l.at l.literals) (drop l.at l.others) ≡ same_literals l.literals l.others
