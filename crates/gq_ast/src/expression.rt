@@ -2,7 +2,7 @@
 
 use crate::span::Span;
 use crate::statement::Path;
-use gq_base::{ArithOp, Boxed, CompareOp, List, Literal, Text};
+use gq_base::{ArithOp, Boxed, CompareOp, List, Literal, Text, TextTest};
 
 /// An operator and what stands at its right.
 #[derive(Drop)]
@@ -18,11 +18,8 @@ pub enum Tester<A> {
     IsNotNull,
     /// `IN` with the members of the list.
     Member(List<Literal>),
-    /// `STARTS WITH`.
-    Starts(A),
-    /// `ENDS WITH`.
-    Ends(A),
-    Contains(A),
+    /// `STARTS WITH`, `ENDS WITH` or `CONTAINS`, and the part.
+    Text(TextTest, A),
 }
 
 /// An expression whose parts are of the type `A`.

@@ -208,9 +208,9 @@ fn testers(
                 copying.take_literals(literals.as_slice())?;
                 Tester::Member(copy_literals(alloc, literals.as_slice())?)
             }
-            Tester::Starts(prefix) => Tester::Starts(renumber(alloc, copying, orders, prefix)?),
-            Tester::Ends(suffix) => Tester::Ends(renumber(alloc, copying, orders, suffix)?),
-            Tester::Contains(part) => Tester::Contains(renumber(alloc, copying, orders, part)?),
+            Tester::Text(test, part) => {
+                Tester::Text(*test, renumber(alloc, copying, orders, part)?)
+            }
         };
         copies.push(copied)?;
     }

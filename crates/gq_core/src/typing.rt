@@ -226,9 +226,7 @@ fn testers_below(count: u32, testers: &[ExprTester]) -> bool
             Tester::IsNull => true,
             Tester::IsNotNull => true,
             Tester::Member(_) => true,
-            Tester::Starts(prefix) => reads_below(count, prefix),
-            Tester::Ends(suffix) => reads_below(count, suffix),
-            Tester::Contains(part) => reads_below(count, part),
+            Tester::Text(_, part) => reads_below(count, part),
         };
         if !stays {
             return false;

@@ -40,9 +40,7 @@ unfolding expr_places
 one_test c tester.IsNull = refl
 one_test c tester.IsNotNull = refl
 one_test c (tester.Member ls) = refl
-one_test c (tester.Starts e) = refl
-one_test c (tester.Ends e) = refl
-one_test c (tester.Contains e) = refl
+one_test c (tester.Text test e) = refl
 
 each_test : (c : Tables) (ts : List (Tester Expr)) → flat_map (read_places c) (flat_map test_reads ts) ≡ flat_map (tester_places c) ts
 each_test c [] = refl

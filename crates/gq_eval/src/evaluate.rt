@@ -16,8 +16,7 @@ use crate::reading::{node_property, rel_property, type_name};
 use gq_base::{NodeId, RelId, Text, Value, and3};
 use gq_expr::{
     ArithOperand, Assigned, CompareOperand, Expr, ExprTester, Fault, LogicOp, Tester, arith,
-    compare, contains, ends, is_member, is_null, known, logic, negate, not_value, plus, starts,
-    truth_value,
+    compare, is_member, is_null, known, logic, negate, not_value, plus, text_test, truth_value,
 };
 use gq_store::Graph;
 
@@ -232,17 +231,9 @@ fn eval_tests<'v, R: Assigned>(
             Tester::IsNull => Value::Flag(is_null(&value)),
             Tester::IsNotNull => Value::Flag(!is_null(&value)),
             Tester::Member(literals) => truth_value(is_member(&value, literals.as_slice())),
-            Tester::Starts(prefix) => {
-                let prefix = eval(prefix, graph, row, places)?;
-                truth_value(starts(&value, &prefix))
-            }
-            Tester::Ends(suffix) => {
-                let suffix = eval(suffix, graph, row, places)?;
-                truth_value(ends(&value, &suffix))
-            }
-            Tester::Contains(part) => {
+            Tester::Text(test, part) => {
                 let part = eval(part, graph, row, places)?;
-                truth_value(contains(&value, &part))
+                truth_value(text_test(*test, &value, &part))
             }
         };
     }

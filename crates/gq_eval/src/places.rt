@@ -146,9 +146,7 @@ fn add_testers(places: &mut List<u8>, graph: &Graph, testers: &[ExprTester]) -> 
             Tester::IsNull => {}
             Tester::IsNotNull => {}
             Tester::Member(_) => {}
-            Tester::Starts(prefix) => add_places(places, graph, prefix)?,
-            Tester::Ends(suffix) => add_places(places, graph, suffix)?,
-            Tester::Contains(part) => add_places(places, graph, part)?,
+            Tester::Text(_, part) => add_places(places, graph, part)?,
         }
     }
     Ok(())

@@ -11,6 +11,4 @@ testers_map go [] = refl
 testers_map go (tester.IsNull ∷ ts) = ap (λ r. tester.IsNull ∷ r) (testers_map go ts)
 testers_map go (tester.IsNotNull ∷ ts) = ap (λ r. tester.IsNotNull ∷ r) (testers_map go ts)
 testers_map go (tester.Member ls ∷ ts) = ap (λ r. tester.Member ls ∷ r) (testers_map go ts)
-testers_map go (tester.Starts e ∷ ts) = ap (λ r. tester.Starts (go e) ∷ r) (testers_map go ts)
-testers_map go (tester.Ends e ∷ ts) = ap (λ r. tester.Ends (go e) ∷ r) (testers_map go ts)
-testers_map go (tester.Contains e ∷ ts) = ap (λ r. tester.Contains (go e) ∷ r) (testers_map go ts)
+testers_map go (tester.Text test e ∷ ts) = ap (λ r. tester.Text test (go e) ∷ r) (testers_map go ts)

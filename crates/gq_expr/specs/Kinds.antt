@@ -102,9 +102,7 @@ abbrev pub tester_faults : Tester May → Bool
 tester_faults tester.IsNull = false
 tester_faults tester.IsNotNull = false
 tester_faults (tester.Member ls) = false
-tester_faults (tester.Starts m) = m.faults
-tester_faults (tester.Ends m) = m.faults
-tester_faults (tester.Contains m) = m.faults
+tester_faults (tester.Text test m) = m.faults
 
 -- an operand with its tests
 abbrev pub test_may : May → List (Tester May) → May

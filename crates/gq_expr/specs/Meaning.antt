@@ -5,7 +5,7 @@ use Rattle.std.specs.Prelude.{Bool, true, not, List, [], ◌∷◌, Option, Some
 use Rattle.gq_base.specs.Results.{and_then}
 use Rattle.gq_base.specs.Plain.{Graph}
 use Rattle.gq_base.specs.Values.{Val, null, flag, literal_val}
-use Rattle.gq_expr.specs.Operators.{Outcome, of_truth, logic_vals, not_val, first_known, compare_vals, is_null_val, member_of, starts_vals, ends_vals, contains_vals, arith_vals, negate_val, plus_val, type_val}
+use Rattle.gq_expr.specs.Operators.{Outcome, of_truth, logic_vals, not_val, first_known, compare_vals, is_null_val, member_of, text_vals, arith_vals, negate_val, plus_val, type_val}
 use Rattle.gq_expr.specs.Reading.{Assignment, node_val, rel_val, property_at, node_property, rel_property, type_name}
 use Rattle.gq_base.specs.Truth.{and3}
 use Rattle.gq_base.specs.declared.operator.ArithOp.{ArithOp}
@@ -42,9 +42,7 @@ abbrev pub test_val : Tester Outcome → Val → Outcome
 test_val tester.IsNull a = Ok (flag (is_null_val a))
 test_val tester.IsNotNull a = Ok (flag (not (is_null_val a)))
 test_val (tester.Member ls) a = Ok (of_truth (member_of a ls))
-test_val (tester.Starts r) a = and_then r (λ b. Ok (of_truth (starts_vals a b)))
-test_val (tester.Ends r) a = and_then r (λ b. Ok (of_truth (ends_vals a b)))
-test_val (tester.Contains r) a = and_then r (λ b. Ok (of_truth (contains_vals a b)))
+test_val (tester.Text test r) a = and_then r (λ b. Ok (of_truth (text_vals test a b)))
 
 -- tests one after another, each of the answer before it
 abbrev pub test_chain : Val → List (Tester Outcome) → Outcome

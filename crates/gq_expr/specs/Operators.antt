@@ -11,6 +11,8 @@ use Rattle.gq_base.specs.declared.operator.ArithOp.{ArithOp}
 use Rattle.gq_base.specs.declared.operator.ArithOp.TheVariants.{Add, Subtract, Multiply, Divide, Remainder}
 use Rattle.gq_base.specs.declared.operator.CompareOp.{CompareOp}
 use Rattle.gq_base.specs.declared.operator.CompareOp.TheVariants as compare
+use Rattle.gq_base.specs.declared.operator.TextTest.{TextTest}
+use Rattle.gq_base.specs.declared.operator.TextTest.TheVariants as text
 use Rattle.gq_expr.specs.declared.expr.Fault.{Fault}
 use Rattle.gq_expr.specs.declared.expr.Fault.TheVariants.{Overflow, DivideByZero, Kind}
 use Rattle.gq_expr.specs.declared.expr.LogicOp.{LogicOp}
@@ -68,23 +70,21 @@ abbrev pub member_of : Val → List Literal → Option Bool
 member_of a [] = Some false
 member_of a (l ∷ ls) = or3 (equal_vals a (literal_val l)) (member_of a ls)
 
--- `STARTS WITH`, `ENDS WITH` and `CONTAINS` are null unless both sides are strings (openCypher 9)
-abbrev pub starts_vals : Val → Val → Option Bool
-starts_vals (str s) (str p) = Some (starts_with nat_eq s p)
-starts_vals a b = None
-
-abbrev pub ends_vals : Val → Val → Option Bool
-ends_vals (str s) (str p) = Some (ends_with nat_eq s p)
-ends_vals a b = None
-
 -- a text has another as a part where it begins with it, or where what follows its first byte has it
 abbrev pub occurs : List ℕ → List ℕ → Bool
 occurs [] p = starts_with nat_eq [] p
 occurs (b ∷ s) p = starts_with nat_eq (b ∷ s) p || occurs s p
 
-abbrev pub contains_vals : Val → Val → Option Bool
-contains_vals (str s) (str p) = Some (occurs s p)
-contains_vals a b = None
+-- what each test of a text asks: `STARTS WITH`, `ENDS WITH` and `CONTAINS`
+abbrev pub passes : TextTest → List ℕ → List ℕ → Bool
+passes text.Starts s p = starts_with nat_eq s p
+passes text.Ends s p = ends_with nat_eq s p
+passes text.Contains s p = occurs s p
+
+-- it is null unless both sides are strings (openCypher 9)
+abbrev pub text_vals : TextTest → Val → Val → Option Bool
+text_vals test (str s) (str p) = Some (passes test s p)
+text_vals test a b = None
 
 -- whether a number fits 64 signed bits
 abbrev pub fits_i64 : ℤ → Bool

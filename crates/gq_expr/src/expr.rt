@@ -1,5 +1,5 @@
 //! Expressions whose names are resolved: variables are numbers, functions are variants.
-use gq_base::{ArithOp, Boxed, CompareOp, List, Literal, Text};
+use gq_base::{ArithOp, Boxed, CompareOp, List, Literal, Text, TextTest};
 
 /// A logical operator of two operands.
 #[derive(Clone, Copy, Debug, PartialEq, Eq)]
@@ -36,12 +36,8 @@ pub enum Tester<E> {
     IsNotNull,
     /// `IN [..]`.
     Member(List<Literal>),
-    /// `STARTS WITH`.
-    Starts(E),
-    /// `ENDS WITH`.
-    Ends(E),
-    /// `CONTAINS`.
-    Contains(E),
+    /// `STARTS WITH`, `ENDS WITH` and `CONTAINS`.
+    Text(TextTest, E),
 }
 
 /// An expression. Node variables and relationship variables are counted from 0, each kind for itself. A chain of

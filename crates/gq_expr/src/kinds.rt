@@ -158,9 +158,7 @@ fn some_tester_faults(testers: &[ExprTester], kinds: &Kinds) -> bool
             Tester::IsNull => false,
             Tester::IsNotNull => false,
             Tester::Member(_) => false,
-            Tester::Starts(prefix) => summarize(prefix, kinds).faults,
-            Tester::Ends(suffix) => summarize(suffix, kinds).faults,
-            Tester::Contains(part) => summarize(part, kinds).faults,
+            Tester::Text(_, part) => summarize(part, kinds).faults,
         };
         if faults {
             return true;

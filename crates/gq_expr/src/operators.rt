@@ -2,13 +2,14 @@
 ghost use Rattle.std.specs.Prelude.{◌≡◌};
 ghost use Rattle.gq_base.specs.Values.{val};
 ghost use Rattle.gq_expr.specs.Operators.{outcome, compare_vals, is_null_val, member_of};
-ghost use Rattle.gq_expr.specs.Operators.{starts_vals, ends_vals, contains_vals, occurs};
+ghost use Rattle.gq_expr.specs.Operators as spec;
+ghost use Rattle.gq_expr.specs.Operators.{text_vals, occurs};
 ghost use Rattle.gq_expr.specs.Operators.{arith_vals, int_arith, negate_val};
 ghost use Rattle.gq_expr.specs.steps.Operators.{fitting_or_overflow};
 ghost use Rattle.gq_expr.specs.Operators.{plus_val, first_known};
 
 use crate::expr::Fault;
-use gq_base::{ArithOp, CompareOp, Literal, Value, equal3, less3, not3, or3};
+use gq_base::{ArithOp, CompareOp, Literal, TextTest, Value, equal3, less3, not3, or3};
 use memchr::memmem;
 
 /// The first that is not null.
@@ -54,33 +55,25 @@ pub fn is_member(value: &Value<'_>, literals: &[Literal]) -> Option<bool>
     answer
 }
 
-/// Whether a text starts with another, or `None` where one of them is no text.
-pub fn starts(value: &Value<'_>, prefix: &Value<'_>) -> Option<bool>
-    ensures { result ≡ starts_vals (val value.now) (val prefix.now) }
-{
-    match (*value, *prefix) {
-        (Value::Str(text), Value::Str(part)) => Some(text.as_bytes().starts_with(part.as_bytes())),
-        _ => None,
-    }
-}
-
-/// Whether a text ends with another, or `None` where one of them is no text.
-pub fn ends(value: &Value<'_>, suffix: &Value<'_>) -> Option<bool>
-    ensures { result ≡ ends_vals (val value.now) (val suffix.now) }
-{
-    match (*value, *suffix) {
-        (Value::Str(text), Value::Str(part)) => Some(text.as_bytes().ends_with(part.as_bytes())),
-        _ => None,
-    }
-}
-
-/// Whether a text contains another, or `None` where one of them is no text.
-pub fn contains(value: &Value<'_>, part: &Value<'_>) -> Option<bool>
-    ensures { result ≡ contains_vals (val value.now) (val part.now) }
+/// Whether a text passes a test by another, or `None` where one of them is no text.
+pub fn text_test(test: TextTest, value: &Value<'_>, part: &Value<'_>) -> Option<bool>
+    ensures { result ≡ text_vals test (val value.now) (val part.now) }
 {
     match (*value, *part) {
-        (Value::Str(text), Value::Str(part)) => Some(has_part(text.as_bytes(), part.as_bytes())),
+        (Value::Str(text), Value::Str(part)) => {
+            Some(passes(test, text.as_bytes(), part.as_bytes()))
+        }
         _ => None,
+    }
+}
+
+fn passes(test: TextTest, text: &[u8], part: &[u8]) -> bool
+    ensures { result ≡ spec.passes test text.now part.now }
+{
+    match test {
+        TextTest::Starts => text.starts_with(part),
+        TextTest::Ends => text.ends_with(part),
+        TextTest::Contains => has_part(text, part),
     }
 }
 

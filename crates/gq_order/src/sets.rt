@@ -182,9 +182,7 @@ impl Sets {
                 Tester::IsNull => Held::all(),
                 Tester::IsNotNull => Held::all(),
                 Tester::Member(_) => Held::all(),
-                Tester::Starts(prefix) => self.hold(prefix),
-                Tester::Ends(suffix) => self.hold(suffix),
-                Tester::Contains(part) => self.hold(part),
+                Tester::Text(_, part) => self.hold(part),
             };
             held = held.and(part);
             if !held.known {

@@ -44,9 +44,7 @@ testers_bound k [] = refl
 testers_bound k (tester.IsNull ∷ ts) = testers_bound k ts
 testers_bound k (tester.IsNotNull ∷ ts) = testers_bound k ts
 testers_bound k (tester.Member ls ∷ ts) = testers_bound k ts
-testers_bound k (tester.Starts e ∷ ts) = all_append k (reads e) (flat_map tester_reads (map (tester_with reads) ts)) ∙ ap (λ b. reads_bound k e && b) (testers_bound k ts)
-testers_bound k (tester.Ends e ∷ ts) = all_append k (reads e) (flat_map tester_reads (map (tester_with reads) ts)) ∙ ap (λ b. reads_bound k e && b) (testers_bound k ts)
-testers_bound k (tester.Contains e ∷ ts) = all_append k (reads e) (flat_map tester_reads (map (tester_with reads) ts)) ∙ ap (λ b. reads_bound k e && b) (testers_bound k ts)
+testers_bound k (tester.Text test e ∷ ts) = all_append k (reads e) (flat_map tester_reads (map (tester_with reads) ts)) ∙ ap (λ b. reads_bound k e && b) (testers_bound k ts)
 
 pub bound_Literal : (k : Known) (l : Spelled) → reads_bound k (Literal l) ≡ true
 bound_Literal k l = bound_at k (Literal l) (Expr-F.Literal l) (outs-Literal l)

@@ -79,9 +79,7 @@ module _ (p : Places) where
   tester_is (tester.IsNull ∷ ts) = tester_is ts
   tester_is (tester.IsNotNull ∷ ts) = tester_is ts
   tester_is (tester.Member ls ∷ ts) = tester_is ts
-  tester_is (tester.Starts e ∷ ts) = ap (λ l. read_groups p e ++ l) (tester_is ts)
-  tester_is (tester.Ends e ∷ ts) = ap (λ l. read_groups p e ++ l) (tester_is ts)
-  tester_is (tester.Contains e ∷ ts) = ap (λ l. read_groups p e ++ l) (tester_is ts)
+  tester_is (tester.Text test e ∷ ts) = ap (λ l. read_groups p e ++ l) (tester_is ts)
 
   pub groups_Test : (e : Expr) (ts : List (Tester Expr)) → read_groups p (Test e ts) ≡ read_groups p e ++ flat_map (tester_groups p) ts
   groups_Test e ts =

@@ -149,9 +149,7 @@ all_testers [] = refl
 all_testers (tester.IsNull ∷ ts) = all_testers ts
 all_testers (tester.IsNotNull ∷ ts) = all_testers ts
 all_testers (tester.Member ls ∷ ts) = all_testers ts
-all_testers (tester.Starts e ∷ ts) = properties_append (reads e) (flat_map tester_reads (map (tester_with reads) ts)) ∙ ap (λ l. properties_of e ++ l) (all_testers ts)
-all_testers (tester.Ends e ∷ ts) = properties_append (reads e) (flat_map tester_reads (map (tester_with reads) ts)) ∙ ap (λ l. properties_of e ++ l) (all_testers ts)
-all_testers (tester.Contains e ∷ ts) = properties_append (reads e) (flat_map tester_reads (map (tester_with reads) ts)) ∙ ap (λ l. properties_of e ++ l) (all_testers ts)
+all_testers (tester.Text test e ∷ ts) = properties_append (reads e) (flat_map tester_reads (map (tester_with reads) ts)) ∙ ap (λ l. properties_of e ++ l) (all_testers ts)
 
 pub reads_Literal : (l : Spelled) → properties_of (Literal l) ≡ []
 reads_Literal l = reads_at (Literal l) (Expr-F.Literal l) (outs-Literal l)

@@ -10,7 +10,7 @@ use Rattle.gq_plan.specs.Meaning.{holds}
 use Rattle.gq_plan.specs.Plans.{Plan, Done, Then, Step, Close, Keep, Single, Meet, steps}
 use Rattle.gq_plan.specs.declared.halves.Half.{Half}
 use Rattle.gq_plan.specs.declared.halves.Half.TheVariants.{Whole, First, Second}
-use Rattle.gq_plan.specs.declared.halves.Part.{Part}
+use Rattle.gq_plan.specs.declared.halves.StepHalf.{StepHalf}
 use Rattle.gq_plan.specs.declared.typed.Typed.{Typed}
 
 -- how a step runs
@@ -37,13 +37,13 @@ abbrev pub halved : Plan → Plan
 halved p = steps (flat_map halves (steps_of p))
 
 -- the same by the numbers of the steps, from one on
-abbrev pub parts_of : ℕ → List Step → List Part
-parts_of i [] = []
-parts_of i (s ∷ ss) = map (λ h. record { step = i; half = h }) (halves_of s) ++ parts_of (i + 1) ss
+abbrev pub numbered_halves : ℕ → List Step → List StepHalf
+numbered_halves i [] = []
+numbered_halves i (s ∷ ss) = map (λ h. record { step = i; half = h }) (halves_of s) ++ numbered_halves (i + 1) ss
 
--- the step of a part, among these
-abbrev pub part_in : List Step → Part → Step
-part_in ss q = half_of q.half (slice_index_or ss q.step (Keep 0))
+-- the step of a numbered half, among these
+abbrev pub half_in : List Step → StepHalf → Step
+half_in ss q = half_of q.half (slice_index_or ss q.step (Keep 0))
 
 module _ (catalog : Tables) (y : Typed) where
   -- a step fits as it runs: of a column close the first half asks for the source, the second for both ends

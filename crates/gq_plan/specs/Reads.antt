@@ -36,9 +36,7 @@ abbrev pub tester_reads : Tester (List Read) → List Read
 tester_reads tester.IsNull = []
 tester_reads tester.IsNotNull = []
 tester_reads (tester.Member ls) = []
-tester_reads (tester.Starts rs) = rs
-tester_reads (tester.Ends rs) = rs
-tester_reads (tester.Contains rs) = rs
+tester_reads (tester.Text test rs) = rs
 
 -- one level of an expression, by what its parts read
 abbrev pub reads_step : Expr-F (List Read) → List Read

@@ -154,9 +154,7 @@ fn add_testers<'e>(reads: &mut FewReads<'e>, testers: &'e [ExprTester])
             Tester::IsNull => {}
             Tester::IsNotNull => {}
             Tester::Member(_) => {}
-            Tester::Starts(prefix) => add_all(reads, prefix),
-            Tester::Ends(suffix) => add_all(reads, suffix),
-            Tester::Contains(part) => add_all(reads, part),
+            Tester::Text(_, part) => add_all(reads, part),
         }
     }
 }

@@ -158,9 +158,7 @@ impl Known {
                 Tester::IsNull => true,
                 Tester::IsNotNull => true,
                 Tester::Member(_) => true,
-                Tester::Starts(prefix) => self.binds_all(prefix),
-                Tester::Ends(suffix) => self.binds_all(suffix),
-                Tester::Contains(part) => self.binds_all(part),
+                Tester::Text(_, part) => self.binds_all(part),
             };
             if !bound {
                 return false;

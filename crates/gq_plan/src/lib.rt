@@ -29,7 +29,7 @@ pub use demand::Demand;
 pub use filling::columns;
 pub use fitting::{bound_after, fits};
 pub use gq_base::Direction as Way;
-pub use halves::{Half, Part, parts};
+pub use halves::{Half, StepHalf, step_halves};
 pub use joins::is_flat;
 pub use known::{Known, VariableSet};
 pub use places::{Places, VariableGroups, place_variables};

@@ -178,9 +178,7 @@ impl<'e> PropertyReads<'e> {
                 Tester::IsNull => {}
                 Tester::IsNotNull => {}
                 Tester::Member(_) => {}
-                Tester::Starts(prefix) => self.add_all(prefix)?,
-                Tester::Ends(suffix) => self.add_all(suffix)?,
-                Tester::Contains(part) => self.add_all(part)?,
+                Tester::Text(_, part) => self.add_all(part)?,
             }
         }
         Ok(())

@@ -363,9 +363,7 @@ fn add_testers(
             Tester::IsNull => {}
             Tester::IsNotNull => {}
             Tester::Member(_) => {}
-            Tester::Starts(prefix) => add_groups(groups, prefix, places)?,
-            Tester::Ends(suffix) => add_groups(groups, suffix, places)?,
-            Tester::Contains(part) => add_groups(groups, part, places)?,
+            Tester::Text(_, part) => add_groups(groups, part, places)?,
         }
     }
     Ok(())

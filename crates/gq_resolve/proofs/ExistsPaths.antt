@@ -88,9 +88,7 @@ paths_testers (t ∷ ts) = flat_map-append use_paths (in_tester (tester_with use
     one tester.IsNull = refl
     one tester.IsNotNull = refl
     one (tester.Member ls) = refl
-    one (tester.Starts e) = refl
-    one (tester.Ends e) = refl
-    one (tester.Contains e) = refl
+    one (tester.Text test e) = refl
 
 pub ruleset finding = (uses_out, flat_map-append, paths_all, paths_terms, paths_testers, append_assoc, append-nil)
 

@@ -149,9 +149,7 @@ module _ (n m : ℕ) where
     each_test q (tested.IsNull ∷ ts) = (tt, each_test q ts)
     each_test q (tested.IsNotNull ∷ ts) = (tt, each_test q ts)
     each_test q (tested.Member ls ∷ ts) = (tt, each_test q ts)
-    each_test q (tested.Starts p ∷ ts) = (there_map reads test_reads tester.Starts (λ e. refl) (known p.0) p.1, each_test q ts)
-    each_test q (tested.Ends p ∷ ts) = (there_map reads test_reads tester.Ends (λ e. refl) (known p.0) p.1, each_test q ts)
-    each_test q (tested.Contains p ∷ ts) = (there_map reads test_reads tester.Contains (λ e. refl) (known p.0) p.1, each_test q ts)
+    each_test q (tested.Text test p ∷ ts) = (there_map reads test_reads (tester.Text test) (λ e. refl) (known p.0) p.1, each_test q ts)
 
     one_known : (make : Expr → Expr) → ((e : Expr) → reads (make e) ≡ reads e) → (q : Part) → AreThere n m reads (option_map make (known q.0))
     one_known make made q = there_map reads reads make made (known q.0) q.1

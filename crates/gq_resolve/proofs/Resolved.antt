@@ -41,9 +41,7 @@ module _ (A : Type 0) (go : Ast → A) where
   testers_map t (tested.IsNull ∷ ts) = ap (λ r. tested.IsNull ∷ r) (testers_map t ts)
   testers_map t (tested.IsNotNull ∷ ts) = ap (λ r. tested.IsNotNull ∷ r) (testers_map t ts)
   testers_map t (tested.Member ls ∷ ts) = ap (λ r. tested.Member ls ∷ r) (testers_map t ts)
-  testers_map t (tested.Starts e ∷ ts) = ap (λ r. tested.Starts (go e) ∷ r) (testers_map t ts)
-  testers_map t (tested.Ends e ∷ ts) = ap (λ r. tested.Ends (go e) ∷ r) (testers_map t ts)
-  testers_map t (tested.Contains e ∷ ts) = ap (λ r. tested.Contains (go e) ∷ r) (testers_map t ts)
+  testers_map t (tested.Text test e ∷ ts) = ap (λ r. tested.Text test (go e) ∷ r) (testers_map t ts)
 
   -- it is what the tree's own map makes of the level
   pub opens : (n : AstNode Ast) → parts.map Ast A go n ≡ answered go n

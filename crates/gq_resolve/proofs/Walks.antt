@@ -44,9 +44,7 @@ module _ (A : Type 0) (go : Expr → Expr → A) where
   of_tests (tester.IsNull ∷ ts) = ap (λ r. None ∷ r) (of_tests ts)
   of_tests (tester.IsNotNull ∷ ts) = ap (λ r. None ∷ r) (of_tests ts)
   of_tests (tester.Member ls ∷ ts) = ap (λ r. None ∷ r) (of_tests ts)
-  of_tests (tester.Starts e ∷ ts) = ap (λ r. Some (go e e) ∷ r) (of_tests ts)
-  of_tests (tester.Ends e ∷ ts) = ap (λ r. Some (go e e) ∷ r) (of_tests ts)
-  of_tests (tester.Contains e ∷ ts) = ap (λ r. Some (go e e) ∷ r) (of_tests ts)
+  of_tests (tester.Text test e ∷ ts) = ap (λ r. Some (go e e) ∷ r) (of_tests ts)
 
   of_level : (l : Expr-F Expr) → at_places (places (map-Expr Expr (Expr → A) go l)) (places l) ≡ at_each (places l)
   of_level (Expr-F.Coalesce es) = of_all es

@@ -3,7 +3,9 @@ use Rattle.std.specs.Prelude.{ℕ, nat_eq, Bool, true, false, ◌&&◌, ◌||◌
 use Rattle.std.specs.List.{list_any, list_all}
 use Rattle.std.specs.Ordering.{is_eq}
 use Rattle.std.specs.Cmp.Lexicographic.{pointwise}
+use denote.Enum.Bare.{sameb}
 use Rattle.gq_base.specs.Values.{literal_val, order_vals}
+use Rattle.gq_base.specs.contracts.operator.TextTest.{the_type}
 use Rattle.gq_base.specs.declared.Literal.{Literal}
 use Rattle.gq_base.specs.declared.ArithOp.{ArithOp}
 use Rattle.gq_base.specs.declared.ArithOp.TheVariants as arith
@@ -50,9 +52,7 @@ abbrev pub same_test : Tester Expr → Tester Expr → Bool
 same_test tester.IsNull tester.IsNull = true
 same_test tester.IsNotNull tester.IsNotNull = true
 same_test (tester.Member ls) (tester.Member ms) = same_literals ls ms
-same_test (tester.Starts d) (tester.Starts e) = true
-same_test (tester.Ends d) (tester.Ends e) = true
-same_test (tester.Contains d) (tester.Contains e) = true
+same_test (tester.Text s d) (tester.Text t e) = sameb the_type s t
 same_test t u = false
 
 -- two levels are the same but for their operands

@@ -10,9 +10,7 @@ abbrev pub test_operand : {A : Type 0} → Tester A → Option A
 test_operand tester.IsNull = None
 test_operand tester.IsNotNull = None
 test_operand (tester.Member ls) = None
-test_operand (tester.Starts e) = Some e
-test_operand (tester.Ends e) = Some e
-test_operand (tester.Contains e) = Some e
+test_operand (tester.Text test e) = Some e
 
 abbrev pub list_places : {A : Type 0} → List A → List (Option A)
 list_places es = map (λ e. Some e) es

@@ -66,9 +66,7 @@ abbrev pub bound_tester : Tested (Option Expr) → Option (Tester Expr)
 bound_tester tested.IsNull = Some tester.IsNull
 bound_tester tested.IsNotNull = Some tester.IsNotNull
 bound_tester (tested.Member ls) = Some (tester.Member ls)
-bound_tester (tested.Starts e) = option_map tester.Starts e
-bound_tester (tested.Ends e) = option_map tester.Ends e
-bound_tester (tested.Contains e) = option_map tester.Contains e
+bound_tester (tested.Text test e) = option_map (tester.Text test) e
 
 -- a first operand and the further ones
 abbrev pub over_known : {T : Type 0} → (Expr → List T → Expr) → Option Expr → Option (List T) → Option Expr

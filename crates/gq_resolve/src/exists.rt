@@ -86,9 +86,7 @@ fn push_tester_paths<'t>(
     for tester in testers {
         match tester {
             Tester::IsNull | Tester::IsNotNull | Tester::Member(_) => {}
-            Tester::Starts(part) | Tester::Ends(part) | Tester::Contains(part) => {
-                push_paths(part, paths)?;
-            }
+            Tester::Text(_, part) => push_paths(part, paths)?,
         }
     }
     Ok(())

@@ -1,7 +1,7 @@
-//! What the trees of a query's expressions stand for: bound expressions, the conjuncts of a
-//! condition, the first name or call that a check refuses; the paths of its EXISTS; and whether two
-//! expressions are the same.
-//! The crate stands on the trees of `gq_syntax` and the names of `gq_scopes`.
+//! The expressions of a query resolved: the bound expressions that their trees stand for, the
+//! conjuncts of a condition, the first name or call that a check refuses, the paths of EXISTS; and
+//! whether two expressions are the same.
+//! The crate stands on the trees of `gq_ast` and the names of `gq_scopes`.
 #![tactic(auto)]
 
 mod calls;

@@ -84,7 +84,7 @@ fn test_operand(tester: &ExprTester) -> Option<&Expr>
     ensures { option_copied result ≡ operands.test_operand tester.now }
 {
     match tester {
-        Tester::Starts(part) | Tester::Ends(part) | Tester::Contains(part) => Some(part),
-        _ => None,
+        Tester::IsNull | Tester::IsNotNull | Tester::Member(_) => None,
+        Tester::Text(_, part) => Some(part),
     }
 }

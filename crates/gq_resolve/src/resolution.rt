@@ -1,13 +1,15 @@
 //! From trees of expressions to bound expressions.
 ghost use Rattle.std.specs.Prelude.{◌≡◌, map, IfOk, Some};
+ghost use Rattle.std.specs.Option.{option_map};
 ghost use Rattle.gq_expr.specs.declared.expr.Expr.TheVariants as variant;
+ghost use Rattle.gq_expr.specs.declared.expr.Tester.TheVariants as tester;
 ghost use Rattle.gq_resolve.specs.Resolving.{resolved, all_some, bound_term, bound_tester, calls_of};
 ghost use Rattle.gq_resolve.specs.Resolving.{over_known};
 ghost use Rattle.gq_resolve.specs.steps.Trees.{term_with, tester_with};
 
 use crate::calls::{CallForm, call};
 use gq_ast::{ArithTerm, Ast, AstNode, AstTester, CompareTerm, Tester as Tested};
-use gq_base::{Boxed, List, Literal, Memory};
+use gq_base::{Boxed, List, Literal, Memory, TextTest};
 use gq_expr::{ArithOperand, CompareOperand, Expr, ExprTester, Operand, Tester};
 use gq_scopes::{Copying, Scope, copy_literal, copy_literals};
 use std::alloc::Global;
@@ -179,9 +181,7 @@ impl<'r, 's> Resolver<'r, 's> {
                 Tested::Member(literals) => {
                     Some(Tester::Member(copy_literals(self.alloc, literals.as_slice())?))
                 }
-                Tested::Starts(prefix) => self.part(copying, prefix)?.map(Tester::Starts),
-                Tested::Ends(suffix) => self.part(copying, suffix)?.map(Tester::Ends),
-                Tested::Contains(part) => self.part(copying, part)?.map(Tester::Contains),
+                Tested::Text(test, part) => tested_text(*test, self.part(copying, part)?),
             };
             match found {
                 Some(tester) => all.push(tester)?,
@@ -190,6 +190,13 @@ impl<'r, 's> Resolver<'r, 's> {
         }
         Ok(Some(all))
     }
+}
+
+// A test of a text by its part, where that is known.
+fn tested_text(test: TextTest, part: Option<Expr>) -> Option<ExprTester>
+    ensures { result ≡ option_map (tester.Text test) part }
+{
+    part.map(|part| Tester::Text(test, part))
 }
 
 // The three operators with operands behind the first one, where those are known.

@@ -128,9 +128,10 @@ fn same_test(tester: &ExprTester, other: &ExprTester) -> bool
             Tester::Member(own) => same_literals(literals.as_slice(), own.as_slice()),
             _ => false,
         },
-        Tester::Starts(_) => matches!(other, Tester::Starts(_)),
-        Tester::Ends(_) => matches!(other, Tester::Ends(_)),
-        Tester::Contains(_) => matches!(other, Tester::Contains(_)),
+        Tester::Text(test, _) => match other {
+            Tester::Text(own, _) => *test == *own,
+            _ => false,
+        },
     }
 }
 

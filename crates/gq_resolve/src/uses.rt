@@ -130,9 +130,7 @@ fn first_of_testers<'t>(
     for tester in testers {
         let found = match tester {
             Tester::IsNull | Tester::IsNotNull | Tester::Member(_) => None,
-            Tester::Starts(part) | Tester::Ends(part) | Tester::Contains(part) => {
-                first_refused(check, scope, part)
-            }
+            Tester::Text(_, part) => first_refused(check, scope, part),
         };
         if let Some(name) = found {
             return Some(name);

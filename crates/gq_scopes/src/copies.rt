@@ -175,9 +175,7 @@ fn copy_testers(
                 copying.take_literals(literals.as_slice())?;
                 Tester::Member(copy_literals(alloc, literals.as_slice())?)
             }
-            Tester::Starts(prefix) => Tester::Starts(copy_part(alloc, copying, prefix)?),
-            Tester::Ends(suffix) => Tester::Ends(copy_part(alloc, copying, suffix)?),
-            Tester::Contains(part) => Tester::Contains(copy_part(alloc, copying, part)?),
+            Tester::Text(test, part) => Tester::Text(*test, copy_part(alloc, copying, part)?),
         };
         copies.push(copied)?;
     }

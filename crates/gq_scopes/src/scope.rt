@@ -7,7 +7,7 @@ ghost use Rattle.gq_scopes.specs.Scopes.{is_known, is_variable};
 use crate::copies::{copy_part, copy_text};
 use crate::copying::Copying;
 use crate::naming::Names;
-use crate::patterns::Rels;
+use crate::rels::Rels;
 use gq_base::{Memory, Text};
 use gq_expr::Expr;
 use std::alloc::Global;

@@ -43,9 +43,7 @@ abbrev pub tester_places : Tables → Tester Expr → List ℕ
 tester_places tables tester.IsNull = []
 tester_places tables tester.IsNotNull = []
 tester_places tables (tester.Member ls) = []
-tester_places tables (tester.Starts e) = expr_places tables e
-tester_places tables (tester.Ends e) = expr_places tables e
-tester_places tables (tester.Contains e) = expr_places tables e
+tester_places tables (tester.Text test e) = expr_places tables e
 
 -- what is left of places behind the first of them
 abbrev pub past : List ℕ → List ℕ → List ℕ

@@ -17,6 +17,4 @@ abbrev pub tester_groups : Places → Tester Expr → List ℕ
 tester_groups p tester.IsNull = []
 tester_groups p tester.IsNotNull = []
 tester_groups p (tester.Member ls) = []
-tester_groups p (tester.Starts e) = read_groups p e
-tester_groups p (tester.Ends e) = read_groups p e
-tester_groups p (tester.Contains e) = read_groups p e
+tester_groups p (tester.Text test e) = read_groups p e

@@ -10,6 +10,4 @@ abbrev pub tester_bound : Known → Tester Expr → Bool
 tester_bound k tester.IsNull = true
 tester_bound k tester.IsNotNull = true
 tester_bound k (tester.Member ls) = true
-tester_bound k (tester.Starts e) = reads_bound k e
-tester_bound k (tester.Ends e) = reads_bound k e
-tester_bound k (tester.Contains e) = reads_bound k e
+tester_bound k (tester.Text test e) = reads_bound k e

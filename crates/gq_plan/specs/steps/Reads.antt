@@ -14,6 +14,4 @@ abbrev pub tester_properties : Tester Expr → List Read
 tester_properties tester.IsNull = []
 tester_properties tester.IsNotNull = []
 tester_properties (tester.Member ls) = []
-tester_properties (tester.Starts e) = properties_of e
-tester_properties (tester.Ends e) = properties_of e
-tester_properties (tester.Contains e) = properties_of e
+tester_properties (tester.Text test e) = properties_of e

@@ -10,6 +10,4 @@ abbrev pub tester_paths : Tester Ast → List PathTest
 tester_paths tester.IsNull = []
 tester_paths tester.IsNotNull = []
 tester_paths (tester.Member ls) = []
-tester_paths (tester.Starts e) = paths_in e
-tester_paths (tester.Ends e) = paths_in e
-tester_paths (tester.Contains e) = paths_in e
+tester_paths (tester.Text test e) = paths_in e

@@ -13,6 +13,4 @@ abbrev pub tester_with : {A : Type 0} → (Ast → A) → Tester Ast → Tester 
 tester_with go tester.IsNull = tester.IsNull
 tester_with go tester.IsNotNull = tester.IsNotNull
 tester_with go (tester.Member ls) = tester.Member ls
-tester_with go (tester.Starts e) = tester.Starts (go e)
-tester_with go (tester.Ends e) = tester.Ends (go e)
-tester_with go (tester.Contains e) = tester.Contains (go e)
+tester_with go (tester.Text test e) = tester.Text test (go e)

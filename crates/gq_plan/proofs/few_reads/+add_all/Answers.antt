@@ -4,7 +4,7 @@ use Rattle.gq_plan.specs.steps.FewReads.{with_few_reads}
 use Rattle.gq_plan.specs.steps.Reads.{tester_properties}
 use Rattle.gq_plan.proofs.FewLemmas.{few_more}
 use Rattle.gq_plan.proofs.few_reads.+add_all.Goals as goal
-use Rattle.gq_plan.proofs.few_reads.+add_all.Goals.{add_testers-in-IsNull, add_testers-in-IsNotNull, add_testers-in-Member, add_testers-in-Starts, add_testers-in-Ends, add_testers-in-Contains}
+use Rattle.gq_plan.proofs.few_reads.+add_all.Goals.{add_testers-in-IsNull, add_testers-in-IsNotNull, add_testers-in-Member, add_testers-in-Text}
 
 pub add_each-loop-part-preserved : goal.add_each-loop-part-preserved
 add_each-loop-part-preserved t c =
@@ -27,9 +27,7 @@ add_testers-loop-tester-preserved t c =
       | add_testers-in-IsNull w ↦ rw w.in-IsNull.is (ap (λ v. v.items) w.reads-is)
       | add_testers-in-IsNotNull w ↦ rw w.in-IsNotNull.is (ap (λ v. v.items) w.reads-is)
       | add_testers-in-Member w ↦ rw w.in-Member.is (ap (λ v. v.items) w.reads-is)
-      | add_testers-in-Starts w ↦ rw w.in-Starts.is (ap (λ v. v.items) w.reads-is ∙ w.add_all.ensures)
-      | add_testers-in-Ends w ↦ rw w.in-Ends.is (ap (λ v. v.items) w.reads-is ∙ w.add_all-in-Ends.ensures)
-      | add_testers-in-Contains w ↦ rw w.in-Contains.is (ap (λ v. v.items) w.reads-is ∙ w.add_all-in-Contains.ensures)
+      | add_testers-in-Text w ↦ rw w.in-Text.is (ap (λ v. v.items) w.reads-is ∙ w.add_all.ensures)
     ] in
     few_more tester_properties c.loop-tester.reads.items c.match-tester.reads.items c.args.testers.now c.loop-tester.tester-index c.tester-item.result c.loop-tester-test.true c.tester-item.is after
     ∙ c.loop-tester.invariant

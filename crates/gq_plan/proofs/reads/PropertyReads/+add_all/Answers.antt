@@ -3,7 +3,7 @@ use Rattle.gq_plan.specs.Reads.{properties_of, with_reads}
 use Rattle.gq_plan.specs.steps.Reads.{tester_properties}
 use Rattle.gq_plan.proofs.ReadLemmas.{reads_more}
 use Rattle.gq_plan.proofs.reads.PropertyReads.+add_all.Goals as goal
-use Rattle.gq_plan.proofs.reads.PropertyReads.+add_all.Goals.{add_testers-in-IsNull, add_testers-in-IsNotNull, add_testers-in-Member, add_testers-in-Starts+in_ok-add_all-in-Starts, add_testers-in-Ends+in_ok-add_all-in-Ends, add_testers-in-Contains+in_ok-add_all-in-Contains}
+use Rattle.gq_plan.proofs.reads.PropertyReads.+add_all.Goals.{add_testers-in-IsNull, add_testers-in-IsNotNull, add_testers-in-Member, add_testers-in-Text+in_ok-add_all-in-Text}
 
 pub add_each-loop-part-preserved : goal.add_each-loop-part-preserved
 add_each-loop-part-preserved t c =
@@ -26,9 +26,7 @@ add_testers-loop-tester-preserved t c =
       | add_testers-in-IsNull w ↦ rw w.in-IsNull.is w.self-is
       | add_testers-in-IsNotNull w ↦ rw w.in-IsNotNull.is w.self-is
       | add_testers-in-Member w ↦ rw w.in-Member.is w.self-is
-      | add_testers-in-Starts+in_ok-add_all-in-Starts w ↦ rw w.in-Starts.is (w.self-is ∙ w.in_ok-add_all-in-Starts.ensures)
-      | add_testers-in-Ends+in_ok-add_all-in-Ends w ↦ rw w.in-Ends.is (w.self-is ∙ w.in_ok-add_all-in-Ends.ensures)
-      | add_testers-in-Contains+in_ok-add_all-in-Contains w ↦ rw w.in-Contains.is (w.self-is ∙ w.in_ok-add_all-in-Contains.ensures)
+      | add_testers-in-Text+in_ok-add_all-in-Text w ↦ rw w.in-Text.is (w.self-is ∙ w.in_ok-add_all-in-Text.ensures)
     ] in
     reads_more tester_properties c.loop-tester.self c.match-tester.self c.args.testers.now c.loop-tester.tester-index c.tester-item.result c.loop-tester-test.true c.tester-item.is after
     ∙ c.loop-tester.invariant

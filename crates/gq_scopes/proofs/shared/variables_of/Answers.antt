@@ -2,7 +2,7 @@ use Rattle.std.proofs.Common.{◌∙◌, ◌+◌, ◌++◌, ◌∷◌, [], drop,
 use Rattle.std.specs.Prelude.{filter_map}
 use Rattle.gq_scopes.specs.Patterns.{find_name}
 use Rattle.gq_scopes.proofs.Listing.{nothing_more, one_more}
-use Rattle.gq_scopes.proofs.patterns.variables_of.Goals as goal
+use Rattle.gq_scopes.proofs.shared.variables_of.Goals as goal
 
 pub loop-name-preserved-in_default : goal.loop-name-preserved-in_default
 loop-name-preserved-in_default c =
