@@ -17,6 +17,8 @@ use Rattle.gq_base.specs.declared.operator.ArithOp.{ArithOp}
 use Rattle.gq_base.specs.declared.operator.ArithOp.TheVariants as arith
 use Rattle.gq_base.specs.declared.operator.CompareOp.{CompareOp}
 use Rattle.gq_base.specs.declared.operator.CompareOp.TheVariants as compare
+use Rattle.gq_base.specs.declared.operator.TextTest.{TextTest}
+use Rattle.gq_base.specs.declared.operator.TextTest.TheVariants as text
 use Rattle.gq_tokens.specs.declared.opening.TestWord.{TestWord}
 use Rattle.gq_tokens.specs.declared.opening.TestWord.TheVariants as test
 use Rattle.gq_tokens.specs.declared.opening.Tip.{Tip}
@@ -130,17 +132,23 @@ name t = name_of t.kind
 
 abbrev pub test_word_of : TokenKind → Option TestWord
 test_word_of (kind.Word w) =
-    let is = λ (text : String). str_eq_ignore_ascii_case w (codes text) in
-    option_or (when (is "IS") test.Is) (option_or (when (is "IN") test.In) (option_or (when (is "STARTS") test.Starts) (option_or (when (is "ENDS") test.Ends) (when (is "CONTAINS") test.Contains))))
+    let is = λ (written : String). str_eq_ignore_ascii_case w (codes written) in
+    option_or (when (is "IS") test.Is) (option_or (when (is "IN") test.In) (option_or (when (is "STARTS") (test.Text text.Starts)) (option_or (when (is "ENDS") (test.Text text.Ends)) (when (is "CONTAINS") (test.Text text.Contains)))))
 test_word_of _ = None
 
 -- IS IN STARTS ENDS CONTAINS, in any ASCII case
 abbrev pub test_word : Token → Option TestWord
 test_word t = test_word_of t.kind
 
+-- STARTS WITH and ENDS WITH, but CONTAINS without WITH
+abbrev pub has_with : TextTest → Bool
+has_with text.Starts = true
+has_with text.Ends = true
+has_with text.Contains = false
+
 abbrev pub direction_of : TokenKind → Option Bool
 direction_of (kind.Word w) =
-    let is = λ (text : String). str_eq_ignore_ascii_case w (codes text) in
+    let is = λ (written : String). str_eq_ignore_ascii_case w (codes written) in
     option_or (when (is "ASC") false) (option_or (when (is "ASCENDING") false) (option_or (when (is "DESC") true) (when (is "DESCENDING") true)))
 direction_of _ = None
 

@@ -1,13 +1,13 @@
 //! What the first token of a production says of the rest.
 
+use gq_base::TextTest;
+
 /// The first word of a test.
 #[derive(Clone, Copy, Debug, PartialEq, Eq)]
 pub enum TestWord {
     Is,
     In,
-    Starts,
-    Ends,
-    Contains,
+    Text(TextTest),
 }
 
 /// The first sign of a relationship.

@@ -6,7 +6,7 @@ ghost use Rattle.std.specs.Str.{str_eq_ignore_ascii_case};
 ghost use Rattle.gq_tokens.specs.Words as spec;
 
 use crate::opening::{TestWord, Tip};
-use gq_base::{ArithOp, CompareOp, Literal, Memory, Text};
+use gq_base::{ArithOp, CompareOp, Literal, Memory, Text, TextTest};
 use gq_lexer::{Sign, Token, TokenKind};
 
 // The words that are no names unless they stand in backquotes.
@@ -159,13 +159,24 @@ pub(crate) fn test_word_of(kind: &TokenKind) -> Option<TestWord>
     } else if same_word(word, "IN") {
         Some(TestWord::In)
     } else if same_word(word, "STARTS") {
-        Some(TestWord::Starts)
+        Some(TestWord::Text(TextTest::Starts))
     } else if same_word(word, "ENDS") {
-        Some(TestWord::Ends)
+        Some(TestWord::Text(TextTest::Ends))
     } else if same_word(word, "CONTAINS") {
-        Some(TestWord::Contains)
+        Some(TestWord::Text(TextTest::Contains))
     } else {
         None
+    }
+}
+
+/// Whether WITH stands behind the first word of a test of a text.
+pub fn has_with(test: TextTest) -> bool
+    ensures { result ≡ spec.has_with test }
+{
+    match test {
+        TextTest::Starts => true,
+        TextTest::Ends => true,
+        TextTest::Contains => false,
     }
 }
 
