@@ -13,8 +13,9 @@ ghost use Rattle.gq_core.specs.Cored.{HasCore};
 ghost use Rattle.gq_scopes.specs.Scopes.{scope_of};
 ghost use Rattle.gq_syntax.specs.Spans.{SpelledQuery};
 
-use crate::checks::{Alternatives, check, check_last};
+use crate::checks::check;
 use crate::columns::push_known;
+use crate::last_checks::{Alternatives, check_last};
 use crate::optionals::push_parts;
 use crate::parts::read_query;
 use crate::trails::put_cored;

@@ -7,11 +7,15 @@
 mod bound;
 mod checks;
 mod columns;
+mod last_checks;
 mod lists;
 mod optionals;
 mod order;
 mod parts;
 mod path_tests;
+mod pattern_counts;
+mod places;
+mod read_counts;
 mod trails;
 
 pub use bound::bind;

@@ -15,7 +15,7 @@ ghost use Rattle.gq_law_reaches.specs.Core.{trail_parts};
 ghost use Rattle.gq_scopes.specs.Scopes.{scope_of};
 
 use crate::bound::{MOST_TESTS, push_keys, push_texts};
-use crate::checks::Alternatives;
+use crate::last_checks::Alternatives;
 use gq_alternatives::Choice;
 use gq_ast::Query;
 use gq_base::{Catalog, List, Memory, Text};

@@ -8,8 +8,9 @@ ghost use Rattle.gq_choices.specs.steps.Searching.{agreeing};
 
 use crate::branching::{MOST_DEPTH, branch};
 use crate::budget::Budget;
+use crate::found::Found;
 use crate::narrowing::{Candidates, narrowed};
-use crate::search::{Found, Space, search};
+use crate::search::{Space, search};
 use gq_alternatives::{Choice, Step, all_within, steps_of, tables_of};
 use gq_base::{Catalog, List, Memory};
 use gq_scopes::Pattern;

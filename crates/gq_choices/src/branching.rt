@@ -5,9 +5,10 @@ ghost use Rattle.gq_choices.specs.steps.Branching.{IsBlank, IsOpen};
 ghost use Rattle.gq_choices.specs.steps.Searching.{adding, agreeing};
 
 use crate::alternatives::{some_without_reading, some_without_table};
+use crate::found::{Found, copy_readings};
 use crate::narrowing::{Candidates, insert_ends};
 use crate::number_set::NumberSet;
-use crate::search::{Found, Space, copy_readings, search};
+use crate::search::{Space, search};
 use gq_alternatives::{Reading, Step, copy_numbers};
 use gq_base::{Catalog, List, Memory};
 use std::alloc::Global;

@@ -5,6 +5,7 @@
 mod alternatives;
 mod branching;
 mod budget;
+mod found;
 mod narrowing;
 mod number_set;
 mod search;

@@ -1,16 +1,14 @@
 //! The search of alternatives: depth first over the relationship patterns, and then over the node
 //! variables.
-ghost use Rattle.std.specs.Prelude.{◌≡◌, ◌<◌, ◌≤◌, ◌-◌, [], ◌∷◌, ◌++◌, suc, map, flat_map, take};
-ghost use Rattle.std.specs.Prelude.{drop, length, slice_get, slice_set, None, OnOk, IfOk, nat_lt};
+ghost use Rattle.std.specs.Prelude.{◌≡◌, ◌≤◌, [], ◌++◌, suc, map, flat_map};
+ghost use Rattle.std.specs.Prelude.{drop, length, None, OnOk};
 ghost use Rattle.gq_choices.specs.steps.Searching as searching;
-ghost use Rattle.gq_choices.specs.steps.Branching.{unknown};
-ghost use Rattle.gq_choices.specs.steps.Searching.{adding, agreeing, filled, following, knowing};
+ghost use Rattle.gq_choices.specs.steps.Searching.{adding, filled, following, knowing};
 ghost use Rattle.gq_choices.specs.steps.Searching.{searched};
 ghost use Rattle.gq_choices.specs.steps.Searching.{taking};
 
-use crate::budget::Budget;
-use crate::narrowing::{Candidates, narrowed};
-use gq_alternatives::{Choice, Reading, Step, copy_numbers, source_of, target_of};
+use crate::found::Found;
+use gq_alternatives::{Reading, Step, source_of, target_of};
 use gq_base::{Catalog, List, Memory};
 use gq_scopes::RelPattern;
 use std::alloc::Global;
@@ -31,182 +29,6 @@ impl<'s> Model for Space<'s> {
     ghost Value = { Space };
 
     ghost view = { λ s. record { catalog = s.catalog.now; tables = s.tables.now; most = s.most } };
-}
-
-// The steps for which a branch counts beside narrowing: it has copies of all candidates.
-const BRANCH: usize = 1_024;
-
-/// What a search has found: the node tables that are known, the readings and the tables that are
-/// chosen, and the whole choices; and how many steps it may still take.
-#[derive(Drop)]
-pub struct Found {
-    budget: Budget,
-    known: List<Option<u32>>,
-    readings: Vec<Reading>,
-    tables: Vec<u32>,
-    choices: List<Choice>,
-}
-
-impl Model for Found {
-    ghost use Rattle.gq_choices.specs.steps.Searching.{Found};
-
-    ghost Value = { Found };
-
-    ghost view = { λ f. record {
-      known = f.known;
-      readings = f.readings.items;
-      tables = f.tables.items;
-      choices = f.choices;
-    } };
-}
-
-impl Found {
-    /// Nothing yet, where each node variable has one of these lists of tables.
-    pub fn new(alloc: Global, tables: &[List<u32>], budget: Budget) -> Result<Found, Memory>
-        ensures { IfOk result (λ f. f ≡ record {
-          known = map (λ l. None) tables.now;
-          readings = [];
-          tables = [];
-          choices = [];
-        }) }
-    {
-        Ok(Found {
-            budget,
-            known: nothing_known(alloc, tables)?,
-            readings: Vec::new(alloc),
-            tables: Vec::new(alloc),
-            choices: List::new(alloc),
-        })
-    }
-
-    /// The choices.
-    pub fn into_choices(self) -> List<Choice>
-        ensures { result ≡ self.choices }
-    {
-        self.choices
-    }
-
-    /// Whether all steps were taken.
-    pub fn is_out_of_steps(&self) -> bool {
-        self.budget.is_spent()
-    }
-
-    /// Narrows the candidates of a branch, by steps of its own budget.
-    pub fn narrowed<'s>(
-        &mut self,
-        alloc: Global,
-        catalog: &Catalog,
-        first: Candidates<'s>,
-    ) -> Result<Candidates<'s>, Memory>
-        ensures same { self.new ≡ self.old }
-        ensures agree { IfOk result (λ c. agreeing catalog.now c.steps c.tables
-            ≡ agreeing catalog.now first.entry.steps first.entry.tables) }
-        ensures unknown { IfOk result (λ c. unknown c.tables ≡ unknown first.entry.tables) }
-    {
-        self.budget.take(BRANCH)?;
-        narrowed(alloc, catalog, &mut self.budget, first)
-    }
-
-    /// Whether there are more choices than are wanted.
-    pub fn is_full(&self, most: usize) -> bool
-        ensures { result ≡ nat_lt most (length self.now.choices) }
-    {
-        self.choices.len() > most
-    }
-
-    // What is known of the table of a variable, if there is such a variable.
-    fn known_of(&self, variable: usize) -> Option<Option<u32>>
-        ensures { result ≡ slice_get self.now.known variable }
-    {
-        self.known.get(variable).copied()
-    }
-
-    // Puts what is known of a variable in the place of what was known.
-    fn know(&mut self, variable: usize, known: Option<u32>)
-        requires { variable < length self.old.known }
-        ensures { self.new ≡ record self.old { known = slice_set self.old.known variable known } }
-    {
-        self.known.set(variable, known);
-    }
-
-    fn push_reading(&mut self, reading: Reading) -> Result<(), Memory>
-        ensures { OnOk result
-            (self.new ≡ record self.old { readings = self.old.readings ++ reading ∷ [] }) }
-    {
-        self.budget.take(1)?;
-        match self.readings.push(reading) {
-            Ok(()) => Ok(()),
-            Err(_) => Err(Memory::Exhausted),
-        }
-    }
-
-    fn pop_reading(&mut self)
-        ensures { self.new
-            ≡ record self.old { readings = take (length self.old.readings - 1) self.old.readings } }
-    {
-        let _ = self.readings.pop();
-    }
-
-    fn push_table(&mut self, table: u32) -> Result<(), Memory>
-        ensures { OnOk result
-            (self.new ≡ record self.old { tables = self.old.tables ++ table ∷ [] }) }
-    {
-        self.budget.take(1)?;
-        match self.tables.push(table) {
-            Ok(()) => Ok(()),
-            Err(_) => Err(Memory::Exhausted),
-        }
-    }
-
-    fn pop_table(&mut self)
-        ensures { self.new
-            ≡ record self.old { tables = take (length self.old.tables - 1) self.old.tables } }
-    {
-        let _ = self.tables.pop();
-    }
-
-    // How many node variables have a table.
-    fn tables_len(&self) -> usize
-        ensures { result ≡ length self.now.tables }
-    {
-        self.tables.len()
-    }
-
-    #[tactic(auto, using(crate::proofs::Limits::limits))]
-    fn push_choice(&mut self, alloc: Global, most: usize) -> Result<(), Memory>
-        requires { length self.old.choices ≤ suc most }
-        ensures { OnOk result (self.new ≡ adding most
-            (record { readings = self.old.readings; tables = self.old.tables } ∷ []) self.old) }
-    {
-        if self.is_full(most) {
-            return Ok(());
-        }
-        let choice = Choice {
-            readings: copy_readings(alloc, self.readings.as_slice())?,
-            tables: copy_numbers(alloc, self.tables.as_slice())?,
-        };
-        self.choices.push(choice)
-    }
-}
-
-fn nothing_known(alloc: Global, tables: &[List<u32>]) -> Result<List<Option<u32>>, Memory>
-    ensures { IfOk result (λ ks. ks ≡ map (λ l. None) tables.now) }
-{
-    let mut known = List::new(alloc);
-    for _table in tables {
-        known.push(None)?;
-    }
-    Ok(known)
-}
-
-/// A copy of readings.
-pub fn copy_readings(alloc: Global, readings: &[Reading]) -> Result<List<Reading>, Memory>
-    ensures { IfOk result (λ rs. rs ≡ readings.now) }
-{
-    match Vec::from_slice(alloc, readings) {
-        Ok(copied) => Ok(List::from_vec(copied)),
-        Err(_) => Err(Memory::Exhausted),
-    }
 }
 
 // Whether what is known of a variable allows a table.

@@ -4,6 +4,7 @@
 
 mod costs;
 mod counts;
+mod joins;
 mod naming;
 mod pieces;
 mod plans;
