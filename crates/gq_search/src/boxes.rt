@@ -48,16 +48,20 @@ impl Levels for Boxes {
         self.sides[depth].size
     }
 
+    fn passes_over(&self) -> bool {
+        false
+    }
+
     fn next_piece(&self, lent: &bool, depth: usize, size: u32, piece: u32) -> u32 {
         let _ = (*lent, depth, size);
         piece
     }
 
-    fn cut(&mut self, lent: &mut bool, depth: usize, size: u32, piece: u32) -> Marks {
+    fn cut(&mut self, lent: &mut bool, depth: usize, size: u32, piece: u32, marks: &mut Marks) {
         let _ = depth;
         *lent = true;
         let rest = size - piece * VECTOR;
-        Marks::first(rest.min(VECTOR))
+        *marks = Marks::first(rest.min(VECTOR));
     }
 
     fn ends_at(&mut self, lent: &mut bool, depth: usize, place: u32) -> bool {

@@ -53,6 +53,9 @@ pub trait Levels {
         ensures frame { frame lent.new ≡ frame lent.old }
         ensures kept { kept self.new ≡ kept self.old };
 
+    /// Whether pieces may be passed over. Where not, `next_piece` is not asked.
+    fn passes_over(&self) -> bool;
+
     /// A piece of the group at a depth, from one on, before which none from that one on has a kept
     /// place. The size of its whole list is told. The piece itself is always such an answer.
     fn next_piece(&self, lent: &Self::Lent, depth: usize, size: u32, piece: u32) -> u32
@@ -63,9 +66,9 @@ pub trait Levels {
         ensures blank { (pre : List ℕ) → length pre ≡ depth → opened self.now lent.now pre
             → IsBlank (layout self.now) pre piece result };
 
-    /// The places of a piece of the group at a depth that its tests keep. The size of its whole
-    /// list is told.
-    fn cut(&mut self, lent: &mut Self::Lent, depth: usize, size: u32, piece: u32) -> Marks
+    /// Marks the places of a piece of the group at a depth that its tests keep, and no others. The
+    /// size of its whole list is told.
+    fn cut(&mut self, lent: &mut Self::Lent, depth: usize, size: u32, piece: u32, marks: &mut Marks)
         requires inside { depth < groups self.old }
         requires opened { (pre : List ℕ) × (length pre ≡ depth) × opened self.old lent.old pre
             × (size ≡ (layout self.old).size pre) × (VECTOR * piece < size) }
@@ -74,7 +77,7 @@ pub trait Levels {
         ensures piece { (pre : List ℕ) → length pre ≡ depth → opened self.old lent.old pre
             → cut_at self.new lent.new pre piece }
         ensures marks { (pre : List ℕ) → length pre ≡ depth → opened self.old lent.old pre
-            → IsMarkedAt (layout self.old) pre piece result }
+            → IsMarkedAt (layout self.old) pre piece marks.new }
         ensures groups { groups self.new ≡ groups self.old }
         ensures layout { layout self.new ≡ layout self.old }
         ensures frame { frame lent.new ≡ frame lent.old }

@@ -100,8 +100,9 @@ impl Walker {
             }
             State::Done => return false,
         }
+        let asks = levels.passes_over();
         'search: loop {
-            let ahead = self.ahead(levels, lent, depth, next);
+            let ahead = self.ahead(levels, lent, asks, depth, next);
             if next < ahead {
                 next = ahead;
             } else if next < self.numbers(levels, depth) {
@@ -185,8 +186,16 @@ impl Walker {
     }
 
     // A number of the group at a depth, from one on, before which none from that one on has a kept
-    // place: that one itself in the middle of a piece, whose marks were cut, and past the list.
-    fn ahead<L: Levels>(&self, levels: &L, lent: &L::Lent, depth: usize, next: u32) -> u32
+    // place: that one itself where pieces are not passed over, in the middle of a piece, whose marks
+    // were cut, and past the list.
+    fn ahead<L: Levels>(
+        &self,
+        levels: &L,
+        lent: &L::Lent,
+        asks: bool,
+        depth: usize,
+        next: u32,
+    ) -> u32
         requires inside { depth < length self.now.cursors.items }
         requires groups { depth < L.groups levels.now }
         requires opened { L.opened levels.now lent.now (prefix self.now.cursors.items depth) }
@@ -194,6 +203,9 @@ impl Walker {
             (prefix self.now.cursors.items depth) }
         ensures { Jumps (L.layout levels.now) (prefix self.now.cursors.items depth) next result }
     {
+        if !asks {
+            return next;
+        }
         let size = self.cursors[depth].size;
         if levels.is_flat(depth) {
             if next >= size || next % VECTOR != 0 {
@@ -277,7 +289,8 @@ impl Walker {
         let piece = if flat { next / VECTOR } else { next };
         if !flat || next % VECTOR == 0 {
             let size = self.cursors[depth].size;
-            self.marks[depth] = levels.cut(lent, depth, size, piece);
+            let marks = &mut self.marks[depth];
+            levels.cut(lent, depth, size, piece, marks);
         }
         is_live(&self.marks[depth], flat, next)
     }

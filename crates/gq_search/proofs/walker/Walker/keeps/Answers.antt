@@ -45,7 +45,7 @@ returns-clause-live g c =
     let long : c.args.depth < length c.args.self.now.marks.items = omega (arith, o.inside, o.marks) in
     let marks : (c.args.depth < length c.if-not-flat.self.marks.items) × IsMarkedAt (g.L.Levels.layout c.args.levels.now) (prefix c.args.self.now.cursors.items c.args.depth) (piece_of ((g.L.Levels.layout c.args.levels.now).flat (prefix c.args.self.now.cursors.items c.args.depth)) c.args.next) (get_or c.if-not-flat.self.marks.items c.args.depth []) =
     elim c.if-not-flat.branch [
-      | then-not-flat w ↦ cut_marks (g.L.Levels.layout c.args.levels.now) (prefix c.args.self.now.cursors.items c.args.depth) c.args.next c.if-flat.piece c.args.depth c.is_flat-flat.result c.args.self.now.marks.items c.if-not-flat.self.marks.items w.cut.result long flat_is piece_is
+      | then-not-flat w ↦ cut_marks (g.L.Levels.layout c.args.levels.now) (prefix c.args.self.now.cursors.items c.args.depth) c.args.next c.if-flat.piece c.args.depth c.is_flat-flat.result c.args.self.now.marks.items c.if-not-flat.self.marks.items w.cut.new.marks long flat_is piece_is
           (w.cut.ensures.marks (prefix c.args.self.now.cursors.items c.args.depth) (length-keys c.args.self.now.cursors.items c.args.depth (omega (arith, o.inside, o.groups))) c.requires.ready.opens)
           (ap (λ (s : Walker). s.marks.items) w.self-is)
       | else-not-flat+else-next-eq0 w ↦ kept_marks (g.L.Levels.layout c.args.levels.now) (prefix c.args.self.now.cursors.items c.args.depth) c.args.next c.args.depth c.is_flat-flat.result c.args.self.now.marks.items c.if-not-flat.self.marks.items long flat_is w.if-not-flat.false w.if-next-eq0.false o.cached
