@@ -17,7 +17,7 @@ use Rattle.gq_filter.proofs.Spanned.{put_in}
 use Rattle.gq_filter.specs.Rows.{row_in, with_row}
 use Rattle.gq_filter.specs.declared.rows.Rows.{Rows}
 use Rattle.gq_filter.specs.declared.text_test.Part.{Part}
-use Rattle.gq_filter.specs.declared.text_test.TextTest.{TextTest}
+use Rattle.gq_filter.specs.declared.text_test.PartTest.{PartTest}
 use Rattle.gq_filter.specs.steps.RowCells.{cell_in}
 use Rattle.gq_filter.specs.steps.Texts.{AreKnown, IsKnown, TextDecides, code_in, coded_passes, is_in, row_passes}
 
@@ -39,21 +39,21 @@ module _ (part : Part) (dict : List (List ℕ)) (low : ℕ) where
   }
 
 -- of no code it is told
-pub known_none : (test : Option TextTest) (codes : ℕ) (s : RowsTold) → IfSome test (λ t. codes ≤ length t.dict.now) → s ≡ nothing_told codes → AreKnown test s
+pub known_none : (test : Option PartTest) (codes : ℕ) (s : RowsTold) → IfSome test (λ t. codes ≤ length t.dict.now) → s ≡ nothing_told codes → AreKnown test s
 known_none None codes s few is = tt
 known_none (Some t) codes s few is = subst (IsKnown t) (sym is) (record { few = few; tells = λ code lt. absurd (omega (arith, lt)) })
 
 -- without a code there is always room
-pub no_codes : (test : Option TextTest) → IfSome test (λ t. 0 ≤ length t.dict.now)
+pub no_codes : (test : Option PartTest) → IfSome test (λ t. 0 ≤ length t.dict.now)
 no_codes None = tt
 no_codes (Some t) = omega arith
 
-pub all_codes : (test : Option TextTest) (codes : ℕ) → IfSome test (λ t. codes ≡ length t.dict.now) → IfSome test (λ t. codes ≤ length t.dict.now)
+pub all_codes : (test : Option PartTest) (codes : ℕ) → IfSome test (λ t. codes ≡ length t.dict.now) → IfSome test (λ t. codes ≤ length t.dict.now)
 all_codes None codes is = tt
 all_codes (Some t) codes is = omega (arith, is)
 
 -- the next piece, which was tried, and of which it may be told
-pub known_tried : (t : TextTest) (old : RowsTold) → IsKnown t old → (low high : ℕ) → low ≡ length old.told → high ≡ next_end old → (marks : List Bool)
+pub known_tried : (t : PartTest) (old : RowsTold) → IsKnown t old → (low high : ℕ) → low ≡ length old.told → high ≡ next_end old → (marks : List Bool)
     → ((k : ℕ) → k < high - low → is_marked marks k ≡ is_in t.part (text_at t.dict.now (low + k)))
     → (told : Bool) (new : RowsTold) → new ≡ cond told (also_told old marks) old → IsKnown t new
 known_tried t old known low high from upto marks tried false new is = subst (IsKnown t) (sym is) known
@@ -75,7 +75,7 @@ known_tried t old known low high from upto marks tried true new is =
     })
 
 -- what the loop over rows of the text's own variable keeps
-pub rows_kept : (g : Graph) (y : Typed) (condition : NamedExpr) (t : TextTest) → TextDecides g y condition (Some t) → (variable : ℕ) → t.variable ≡ variable → (row : Assignment) → variable < length row.nodes →
+pub rows_kept : (g : Graph) (y : Typed) (condition : NamedExpr) (t : PartTest) → TextDecides g y condition (Some t) → (variable : ℕ) → t.variable ≡ variable → (row : Assignment) → variable < length row.nodes →
     (rows : Rows) (old new : List Bool) → ((k : ℕ) → is_marked new k ≡ (is_marked old k && row_passes t (row_in rows k))) →
     (k : ℕ) → is_marked new k ≡ (is_marked old k && passes g (as_read y (with_row variable (row_in rows k) row)) condition)
 rows_kept g y condition t decides variable of row inside rows old new kept k =

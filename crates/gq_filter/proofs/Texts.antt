@@ -9,7 +9,8 @@ use Rattle.gq_base.specs.declared.Kind.TheVariants as kind
 use Rattle.gq_base.specs.declared.Literal.TheVariants as spelled
 use Rattle.gq_expr.proofs.Equations.{meaning_Literal, meaning_NodeProperty, meaning_Test}
 use Rattle.gq_expr.specs.Meaning.{meaning, test_chain}
-use Rattle.gq_expr.specs.Operators.{of_truth, ends_vals, contains_vals}
+use Rattle.gq_expr.specs.Operators.{of_truth, text_vals}
+use Rattle.gq_base.specs.declared.operator.TextTest.TheVariants as ask
 use Rattle.gq_expr.specs.Reading as reading
 use Rattle.gq_expr.specs.Reading.{property_at, node_property}
 use Rattle.gq_expr.specs.declared.expr.Expr.TheVariants.{NodeProperty, Test}
@@ -26,14 +27,14 @@ use Rattle.gq_filter.specs.Deciding.{wanted}
 use Rattle.gq_filter.specs.declared.feeds.Feed.{Feed}
 use Rattle.gq_filter.specs.declared.text_test.Part.{Part}
 use Rattle.gq_filter.specs.declared.text_test.Part.TheVariants.{End, Inner}
-use Rattle.gq_filter.specs.declared.text_test.TextTest.{TextTest}
+use Rattle.gq_filter.specs.declared.text_test.PartTest.{PartTest}
 use Rattle.gq_filter.specs.steps.RowCells.{IsNodeFeedIn, cell_in}
 use Rattle.gq_filter.specs.steps.Texts.{code_in, coded_passes, is_in, tester_of, text_passes, TextDecides}
 
 -- whether a value has a part
 abbrev part_vals : Part → Val → Option Bool
-part_vals (End part) v = ends_vals v (str part.now)
-part_vals (Inner part) v = contains_vals v (str part)
+part_vals (End part) v = text_vals ask.Ends v (str part.now)
+part_vals (Inner part) v = text_vals ask.Contains v (str part)
 
 none_has : (part : Part) → wanted true (part_vals part null) ≡ false
 none_has (End part) = refl
@@ -68,8 +69,8 @@ asked g row v name part =
     value = property_at (node_property g) (row.nodes v) name
 
     by : (p : Part) → test_chain value (map (tester_with (meaning g row)) (tester_of p ∷ [])) ≡ Ok (of_truth (part_vals p value))
-    by (End p) = ap (λ o. and_then (and_then o (λ b. Ok (of_truth (ends_vals value b)))) (λ b. Ok b)) (meaning_Literal g row (spelled.Str p.now))
-    by (Inner p) = ap (λ o. and_then (and_then o (λ b. Ok (of_truth (contains_vals value b)))) (λ b. Ok b)) (meaning_Literal g row (spelled.Str p))
+    by (End p) = ap (λ o. and_then (and_then o (λ b. Ok (of_truth (text_vals ask.Ends value b)))) (λ b. Ok b)) (meaning_Literal g row (spelled.Str p.now))
+    by (Inner p) = ap (λ o. and_then (and_then o (λ b. Ok (of_truth (text_vals ask.Contains value b)))) (λ b. Ok b)) (meaning_Literal g row (spelled.Str p))
 
 pub text_decides : (g : Graph) (y : Typed) (condition : NamedExpr) (feed : Feed) (part : Part) (f : IsNodeFeedIn g y feed) → condition.expr ≡ Test (NodeProperty f.variable f.name) (tester_of part ∷ []) → feed.source.kind ≡ kind.Str →
     (row : Assignment) → text_passes (record { variable = f.variable; column = feed.column; dict = feed.source.dict; part = part }) row ≡ passes g (as_read y row) condition
@@ -81,7 +82,7 @@ text_decides g y condition feed part f expr of row =
     ∙ passes_is g at condition (part_vals part value) (ap (meaning g at) expr ∙ asked g at f.variable f.name part)
 
 -- what a test of a text decides hangs on the rows alone
-pub text_alone : (g : Graph) (y : Typed) (condition : NamedExpr) (test : Option TextTest) → is_some test ≡ true → TextDecides g y condition test → (old new : Assignment) → old.nodes ≡ new.nodes →
+pub text_alone : (g : Graph) (y : Typed) (condition : NamedExpr) (test : Option PartTest) → is_some test ≡ true → TextDecides g y condition test → (old new : Assignment) → old.nodes ≡ new.nodes →
     passes g (as_read y old) condition ≡ passes g (as_read y new) condition
 text_alone g y condition None some decides old new same = absurd (false≢true some)
 text_alone g y condition (Some t) some decides old new same =

@@ -23,7 +23,7 @@ use crate::row_cells::RowCells;
 use crate::row_feeds::add_feeds;
 use crate::rows::Rows;
 use crate::span_lanes::SpanLanes;
-use crate::text_test::{CodeSet, TextTest, code_count, text_test};
+use crate::text_test::{CodeSet, PartTest, code_count, text_test};
 use gq_base::{Memory, Value};
 use gq_bits::{Marks, VECTOR};
 use gq_eval::Evaluator;
@@ -43,7 +43,7 @@ pub struct RowTest<'g> {
     test: Option<LaneTest>,
     feeds: Vec<Feed<'g>>,
     // What decides it where lanes cannot, if it asks for a part of a text.
-    text: Option<TextTest<'g>>,
+    text: Option<PartTest<'g>>,
     // What decides it where neither does.
     evaluator: Option<Evaluator<'g>>,
     // What is remembered of the test of lanes.
@@ -372,7 +372,7 @@ fn evaluator_of<'g>(
     graph: &'g Graph,
     condition: &'g NamedExpr,
     test: &Option<LaneTest>,
-    text: &Option<TextTest<'g>>,
+    text: &Option<PartTest<'g>>,
 ) -> Result<Option<Evaluator<'g>>, Memory>
     ensures { IfOk result (Evaluates graph.now condition.now test.now text.now) }
 {

@@ -16,7 +16,7 @@ use crate::conditions::text_of;
 use crate::feeds::node_feed;
 use crate::row_cells::cell_at;
 use crate::rows::Rows;
-use gq_base::{Kind, Memory, Text};
+use gq_base::{Kind, Memory, Text, TextTest};
 use gq_bits::{Marks, VECTOR};
 use gq_column::Column;
 use gq_dict::Dict;
@@ -36,7 +36,7 @@ const AHEAD: u32 = 8;
 
 /// A text property of a node variable, and what its text is to have.
 #[derive(Drop)]
-pub(crate) struct TextTest<'g> {
+pub(crate) struct PartTest<'g> {
     variable: u32,
     column: &'g Column,
     dict: &'g Dict,
@@ -81,7 +81,7 @@ impl CodeSet {
     }
 
     /// The marked rows are asked for: tries all codes where enough were before. It takes no memory.
-    pub(crate) fn ask(&mut self, test: &TextTest<'_>, marks: &Marks)
+    pub(crate) fn ask(&mut self, test: &PartTest<'_>, marks: &Marks)
         requires { IsKnown test.now self.old.known }
         ensures { IsKnown test.now self.new.known }
     {
@@ -99,7 +99,7 @@ impl CodeSet {
 }
 
 // Tries the codes of the next piece.
-fn try_codes(known: &mut RowSet, test: &TextTest<'_>)
+fn try_codes(known: &mut RowSet, test: &PartTest<'_>)
     requires { IsKnown test.now known.old }
     ensures { IsKnown test.now known.new }
 {
@@ -126,7 +126,7 @@ fn marks_of(part: &Part<'_>, dict: &Dict, low: u32, high: u32) -> Marks
 }
 
 /// How many codes the dictionary of a test has, if there is a test.
-pub(crate) fn code_count(test: &Option<TextTest<'_>>) -> u32
+pub(crate) fn code_count(test: &Option<PartTest<'_>>) -> u32
     ensures { IfSome test.now (λ t. result ≡ length t.dict.now) }
 {
     match test {
@@ -135,7 +135,7 @@ pub(crate) fn code_count(test: &Option<TextTest<'_>>) -> u32
     }
 }
 
-impl TextTest<'_> {
+impl PartTest<'_> {
     /// Whether the test is of the text of a node variable.
     pub(crate) fn is_of(&self, variable: u32) -> bool
         ensures { IsTrue result → self.now.variable ≡ variable }
@@ -265,7 +265,7 @@ pub(crate) fn text_test<'g>(
     graph: &'g Graph,
     typed: &Typed,
     condition: &'g NamedExpr,
-) -> Option<TextTest<'g>>
+) -> Option<PartTest<'g>>
     requires { IsSound graph.now.catalog typed.now }
     ensures { TextDecides graph.now typed.now condition.now result }
 {
@@ -276,7 +276,7 @@ pub(crate) fn text_test<'g>(
                 let table = *typed.nodes.get(*variable as usize)?;
                 let feed = node_feed(graph, *variable, table, name)?;
                 match feed.source.kind {
-                    Kind::Str => Some(TextTest {
+                    Kind::Str => Some(PartTest {
                         variable: *variable,
                         column: feed.column,
                         dict: feed.source.dict,
@@ -298,8 +298,8 @@ fn part_of(testers: &[ExprTester]) -> Option<Part<'_>>
 {
     match testers {
         [tester] => match tester {
-            Tester::Ends(end) => Some(Part::End(text_of(end)?)),
-            Tester::Contains(inner) => {
+            Tester::Text(TextTest::Ends, end) => Some(Part::End(text_of(end)?)),
+            Tester::Text(TextTest::Contains, inner) => {
                 let inner = text_of(inner)?.as_str().as_bytes();
                 Some(Part::Inner(Finder::new(inner)))
             }

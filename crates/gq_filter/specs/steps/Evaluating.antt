@@ -6,10 +6,10 @@ use Rattle.gq_expr.specs.Reading.{Assignment}
 use Rattle.gq_plan.specs.Conditions.{passes}
 use Rattle.gq_plan.specs.declared.bound.NamedExpr.{NamedExpr}
 use Rattle.gq_filter.specs.declared.lane_test.LaneTest.{LaneTest}
-use Rattle.gq_filter.specs.declared.text_test.TextTest.{TextTest}
+use Rattle.gq_filter.specs.declared.text_test.PartTest.{PartTest}
 
 -- where there is neither a test of lanes nor one of a text, it is evaluated over the graph
-abbrev pub Evaluates : Graph → NamedExpr → Option LaneTest → Option TextTest → Option Asked → Type 0
+abbrev pub Evaluates : Graph → NamedExpr → Option LaneTest → Option PartTest → Option Asked → Type 0
 Evaluates g condition None None evaluator = evaluator ≡ Some (asked condition.expr g)
 Evaluates g condition test text evaluator = Unit {0}
 

@@ -10,7 +10,8 @@ use Rattle.gq_expr.specs.Operators.{occurs}
 use Rattle.gq_expr.specs.declared.expr.Expr.{Expr}
 use Rattle.gq_expr.specs.declared.expr.Expr.TheVariants.{Literal}
 use Rattle.gq_expr.specs.declared.expr.Tester.{Tester}
-use Rattle.gq_expr.specs.declared.expr.Tester.TheVariants.{Ends, Contains}
+use Rattle.gq_expr.specs.declared.expr.Tester.TheVariants as tester
+use Rattle.gq_base.specs.declared.operator.TextTest.TheVariants as ask
 use Rattle.gq_plan.specs.Conditions.{passes}
 use Rattle.gq_plan.specs.Rows.{as_read}
 use Rattle.gq_plan.specs.declared.assignment.Assignment.{Assignment}
@@ -19,13 +20,13 @@ use Rattle.gq_plan.specs.declared.typed.Typed.{Typed}
 use Rattle.gq_row_sets.specs.Rows.{RowsTold}
 use Rattle.gq_filter.specs.declared.text_test.Part.{Part}
 use Rattle.gq_filter.specs.declared.text_test.Part.TheVariants.{End, Inner}
-use Rattle.gq_filter.specs.declared.text_test.TextTest.{TextTest}
+use Rattle.gq_filter.specs.declared.text_test.PartTest.{PartTest}
 use Rattle.gq_filter.specs.steps.RowCells.{cell_in}
 
 -- the test of an expression that asks for a part
 abbrev pub tester_of : Part → Tester Expr
-tester_of (End part) = Ends (Literal (Str part.now))
-tester_of (Inner part) = Contains (Literal (Str part))
+tester_of (End part) = tester.Text ask.Ends (Literal (Str part.now))
+tester_of (Inner part) = tester.Text ask.Contains (Literal (Str part))
 
 -- whether a text has a part
 abbrev pub is_in : Part → List ℕ → Bool
@@ -43,22 +44,22 @@ coded_passes dict part None = false
 coded_passes dict part (Some code) = is_in part (text_at dict code)
 
 -- the text of a row of the variable is there and has the part
-abbrev pub row_passes : TextTest → ℕ → Bool
+abbrev pub row_passes : PartTest → ℕ → Bool
 row_passes t row = coded_passes t.dict.now t.part (code_in (length t.dict.now) (cell_at t.column.now row))
 
 -- the text of the variable's node in a row is there and has the part
-abbrev pub text_passes : TextTest → Assignment → Bool
+abbrev pub text_passes : PartTest → Assignment → Bool
 text_passes t row = coded_passes t.dict.now t.part (code_in (length t.dict.now) (cell_in t.column.now (slice_get row.nodes t.variable)))
 
 -- a test, if there is one, holds in exactly the rows in which a condition is true
-abbrev pub TextDecides : Graph → Typed → NamedExpr → Option TextTest → Type 0
+abbrev pub TextDecides : Graph → Typed → NamedExpr → Option PartTest → Type 0
 TextDecides g y condition test = IfSome test (λ t. (row : Assignment) → text_passes t row ≡ passes g (as_read y row) condition)
 
 -- of the first codes of the dictionary it is told whether their texts have the part
-pub record IsKnown (t : TextTest) (s : RowsTold) : Type 0 where
+pub record IsKnown (t : PartTest) (s : RowsTold) : Type 0 where
   pub few : s.rows ≤ length t.dict.now
   pub tells : (code : ℕ) → code < length s.told → is_marked s.told code ≡ is_in t.part (text_at t.dict.now code)
 
 -- the same of a test that may be there
-abbrev pub AreKnown : Option TextTest → RowsTold → Type 0
+abbrev pub AreKnown : Option PartTest → RowsTold → Type 0
 AreKnown test s = IfSome test (λ t. IsKnown t s)

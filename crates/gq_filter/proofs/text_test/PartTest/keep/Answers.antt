@@ -2,8 +2,8 @@ use Rattle.std.proofs.Common.{◌∙◌, ◌+◌, ℕ, Bool, sym, ap, subst, ari
 use Rattle.gq_filter.specs.Rows.{row_in}
 use Rattle.gq_filter.specs.steps.Texts.{row_passes}
 use Rattle.gq_filter.proofs.Trying.{IsTried, tried_dropped, tried_kept}
-use Rattle.gq_filter.proofs.text_test.TextTest.keep.Goals as goal
-use Rattle.gq_filter.proofs.text_test.TextTest.keep.Goals.{then-not-passes_row, else-not-passes_row}
+use Rattle.gq_filter.proofs.text_test.PartTest.keep.Goals as goal
+use Rattle.gq_filter.proofs.text_test.PartTest.keep.Goals.{then-not-passes_row, else-not-passes_row}
 
 pub loop-place-preserved : goal.loop-place-preserved
 loop-place-preserved c =
