@@ -1,0 +1,120 @@
+-- Where a list leads to no node of which its group leaves something, the group makes nothing: from a node that none of the list's relationships
+-- comes from that lead to such a node.
+use Rattle.std.proofs.Common.{◌≡◌, ◌⊎◌, ℕ, ◌+◌, Bool, true, false, cond, nat_eq, Option, Some, None, List, [], ◌∷◌, ◌++◌, filter, flat_map, slice_get, refl, sym, ap, ◌∙◌, subst, inl, inr}
+use Rattle.std.specs.List.{AllByRecursion}
+use Rattle.std.proofs.lemmas.Bool.{and_parts, eqb-true, eq-eqb}
+use Rattle.std.proofs.lemmas.List.Concat.{flat_map-append}
+use Rattle.gq_base.specs.Plain.{Graph}
+use Rattle.gq_base.specs.declared.NodeId.{NodeId}
+use Rattle.gq_base.specs.declared.RelId.{RelId}
+use Rattle.gq_base.specs.declared.direction.Direction.{Direction}
+use Rattle.gq_plan.specs.Allowed.{at_same}
+use Rattle.gq_plan.specs.Assignments.{same_node}
+use Rattle.gq_plan.specs.Conditions.{passes}
+use Rattle.gq_plan.specs.Covers.{after_step}
+use Rattle.gq_plan.specs.Known.{Known}
+use Rattle.gq_plan.specs.Meaning.{Partial, look, near, far, with_node, with_rel, arrive, rels_for, rels_from, holds, row, keep_if, mean, step}
+use Rattle.gq_plan.specs.Plans.{Step, Extend, Keep}
+use Rattle.gq_plan.specs.declared.typed.Typed.{Typed}
+use Rattle.gq_law_groups.specs.Groups.{Group, follow, own, raw, kept}
+use Rattle.gq_law_groups.specs.Layout.{ArePlaced}
+use Rattle.gq_law_groups.proofs.Alike.{AreAlike, step_keeps}
+use Rattle.gq_law_groups.proofs.Closing.{Marks}
+use Rattle.gq_law_groups.proofs.Ending.{AllEnd, EndsAt}
+use Rattle.gq_law_groups.proofs.Following.{known_node}
+use Rattle.gq_law_masks.specs.Alone.{Asks, Refuses}
+
+-- ---- lists
+
+-- two nodes that are one
+same-is : (m n : NodeId) → same_node m n ≡ true → m ≡ n
+same-is m n h =
+    let both = and_parts (nat_eq m.table n.table) (nat_eq m.row n.row) h in
+    let table : m.table ≡ n.table = eqb-true m.table n.table both.0 in
+    let row : m.row ≡ n.row = eqb-true m.row n.row both.1 in
+    λ i. record { table = table i; row = row i }
+
+module _ (g : Graph) (y : Typed) (rows : ℕ → List Partial) (selected marked : NodeId → Bool) (i : ℕ) (b : Group) (gs : List Group) (k : Known) (a : Partial) (x from to : ℕ) (way : Direction) where
+  end-joined : (us vs : List Partial) → AllEnd g y rows (i + 1) gs us → AllEnd g y rows (i + 1) gs vs → AllEnd g y rows (i + 1) gs (us ++ vs)
+  end-joined [] vs m n = n
+  end-joined (u ∷ us) vs m n = (m.0, end-joined us vs m.1 n)
+
+  -- what is said of a relationship that leads to a selected node
+  abbrev Leads : RelId → Type 0
+  Leads r = (m : NodeId) → far g way r ≡ Some m → selected m ≡ true → (n : NodeId) → near g way r ≡ Some n → marked n ≡ true
+
+  -- of the relationships at a node that is not marked none leads to a selected node
+  blind : (n : NodeId) → marked n ≡ false → (r : RelId) → Leads r → at_same (Some n) (near g way r) ≡ true → (m : NodeId) → far g way r ≡ Some m → selected m ≡ false
+  blind n off r all at m is = by (near g way r) refl at (selected m) refl
+    where
+      by : (o : Option NodeId) → near g way r ≡ o → at_same (Some n) o ≡ true → (s : Bool) → selected m ≡ s → selected m ≡ false
+      by None e h s f = cc
+      by (Some n') e h false f = f
+      by (Some n') e h true f =
+          let one : n ≡ n' = same-is n n' h in
+          let on : marked n' ≡ true = all m is f n' e in
+          let there : marked n ≡ true = ap marked one ∙ on in
+          cc (there, off)
+
+  module _ (n : NodeId) (off : marked n ≡ false) (ends : (e : Partial) (m : NodeId) → look e.nodes to ≡ Some m → selected m ≡ false → AllEnd g y rows (i + 1) gs (kept g y b e)) where
+    followed : (e : Partial) (rs : List RelId) → AllByRecursion Leads rs →
+        AllEnd g y rows (i + 1) gs (flat_map (kept g y b) (flat_map (λ r. arrive to (far g way r) (with_rel x r e)) (filter (λ r. at_same (Some n) (near g way r)) rs)))
+    followed e [] all = tt
+    followed e (r ∷ rs) all = by (at_same (Some n) (near g way r)) refl (followed e rs all.1)
+      where
+        arrived : (o : Option NodeId) → far g way r ≡ o → at_same (Some n) (near g way r) ≡ true → AllEnd g y rows (i + 1) gs (flat_map (kept g y b) (arrive to o (with_rel x r e)))
+        arrived None f h = tt
+        arrived (Some m) f h =
+            end-joined (kept g y b (with_node to m (with_rel x r e))) []
+            (ends (with_node to m (with_rel x r e)) m (ap (λ c. cond c (Some m) (look e.nodes to)) (eq-eqb to to refl)) (blind n off r all.0 h m f)) tt
+
+        by : (c : Bool) → at_same (Some n) (near g way r) ≡ c → AllEnd g y rows (i + 1) gs (flat_map (kept g y b) (flat_map (λ r. arrive to (far g way r) (with_rel x r e)) (filter (λ r. at_same (Some n) (near g way r)) rs))) →
+            AllEnd g y rows (i + 1) gs (flat_map (kept g y b) (flat_map (λ r. arrive to (far g way r) (with_rel x r e)) (cond c (r ∷ filter (λ r. at_same (Some n) (near g way r)) rs) (filter (λ r. at_same (Some n) (near g way r)) rs))))
+        by false h rest = rest
+        by true h rest =
+            subst (AllEnd g y rows (i + 1) gs) (sym (flat_map-append (kept g y b) (arrive to (far g way r) (with_rel x r e)) (flat_map (λ r. arrive to (far g way r) (with_rel x r e)) (filter (λ r. at_same (Some n) (near g way r)) rs))))
+            (end-joined _ _ (arrived (far g way r) refl h) rest)
+
+-- from a node that is not marked a list leads to no node of which something is left
+pub lists_end : (g : Graph) (y : Typed) (rows : ℕ → List Partial) (selected marked : NodeId → Bool) (i : ℕ) (b : Group) (gs : List Group) (k : Known) (a : Partial) (x from to : ℕ) (way : Direction) (n : NodeId)
+    → b.binds ≡ Extend false x from to way → Marks g y x way selected marked
+    → k.nodes from ≡ true → look a.nodes from ≡ Some n → marked n ≡ false
+    → ((e : Partial) (m : NodeId) → look e.nodes to ≡ Some m → selected m ≡ false → AllEnd g y rows (i + 1) gs (kept g y b e))
+    → EndsAt g y rows i b gs k a
+unfolding step
+lists_end g y rows selected marked i b gs k a x from to way n is marks known here off ends e as_a =
+    let there : look e.nodes from ≡ Some n = sym (as_a.nodes from known) ∙ here in
+    subst (λ s. AllEnd g y rows (i + 1) gs (flat_map (kept g y b) (raw g y (rows i) s e))) (sym is)
+    (subst (λ o. AllEnd g y rows (i + 1) gs (flat_map (kept g y b) (flat_map (λ r. arrive to (far g way r) (with_rel x r e)) (rels_from g y x way o)))) (sym there)
+    (followed g y rows selected marked i b gs k a x from to way n off ends e (rels_for g y x) marks))
+
+-- ---- tests
+
+module _ (g : Graph) (y : Typed) (test v : ℕ) (n : NodeId) (off : Refuses g y test v n) where
+  none-of : (F : Partial → List Partial) (es : List Partial) → AllByRecursion (λ e. F e ≡ []) es → flat_map F es ≡ []
+  none-of F [] h = refl
+  none-of F (e ∷ es) h = ap (λ l. l ++ flat_map F es) h.0 ∙ none-of F es h.1
+
+  follow-none : (ss : List Step) (k : Known) (e : Partial) → ArePlaced g.catalog y ss k → k.nodes v ≡ true → Asks test ss → look e.nodes v ≡ Some n → follow g y ss e ≡ []
+  unfolding mean step
+  follow-none [] k e placed known asks there = absurd asks
+  follow-none (s ∷ ss) k e placed known (inl is) there =
+      subst (λ t. flat_map (follow g y ss) (step g y t e) ≡ []) (sym is) (ap (λ b. flat_map (follow g y ss) (keep_if b e)) (off e there))
+  follow-none (s ∷ ss) k e placed known (inr asks) there =
+      none-of (follow g y ss) (step g y s e) (each (step g y s e) (step_keeps g g.catalog y s k e placed.0 placed.1)
+      (λ d same. follow-none ss (after_step s k) d placed.2 (known_node s k v known) asks (sym (same.nodes v known) ∙ there)))
+    where
+      each : (ds : List Partial) → AllByRecursion (AreAlike k e) ds → ((d : Partial) → AreAlike k e d → follow g y ss d ≡ []) → AllByRecursion (λ d. follow g y ss d ≡ []) ds
+      each [] all f = tt
+      each (d ∷ ds) all f = (f d all.0, each ds all.1 f)
+
+-- a group leaves nothing of a place whose node one of its tests refuses
+pub refused_end : (g : Graph) (y : Typed) (rows : ℕ → List Partial) (i : ℕ) (b : Group) (gs : List Group) (k : Known) (test v : ℕ) (n : NodeId) (e : Partial)
+    → ArePlaced g.catalog y b.checks (after_step b.binds k) → (after_step b.binds k).nodes v ≡ true
+    → Asks test b.checks → Refuses g y test v n → look e.nodes v ≡ Some n
+    → AllEnd g y rows (i + 1) gs (kept g y b e)
+refused_end g y rows i b gs k test v n e placed known asks off there = subst (AllEnd g y rows (i + 1) gs) (sym (go (own g y b.binds e))) tt
+  where
+    go : (c : Bool) → cond c (follow g y b.checks e) [] ≡ []
+    go true = follow-none g y test v n off b.checks (after_step b.binds k) e placed known asks there
+    go false = refl
