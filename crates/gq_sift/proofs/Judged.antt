@@ -21,7 +21,8 @@ use Rattle.gq_sift.specs.steps.Loops.{IsLoopTest, loop_of}
 use Rattle.gq_steps.specs.Moves.{IsRun, IsHeld, IsTried}
 use Rattle.gq_steps.specs.steps.Outcomes.{differs_at, no_loop_at, passes_at, tested, with_number, with_row}
 use Rattle.gq_steps.specs.Follows.{CanFollow}
-use Rattle.gq_sift.specs.steps.RowTests.{IsRowTest, ReadsRows, test_of}
+use Rattle.gq_sift.specs.steps.RowTests.{IsRowTest, ReadsRows}
+use Rattle.gq_sift.specs.Tested.{test_of}
 use Rattle.gq_steps.specs.declared.follow.Hop.{Hop}
 use Rattle.gq_steps.specs.declared.group_steps.GroupSteps.{GroupSteps}
 use Rattle.gq_steps.specs.declared.plan_run.Follow.{Follow}

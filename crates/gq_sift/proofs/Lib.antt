@@ -2,8 +2,10 @@ pub mod Apart
 pub mod Ascending
 pub mod Closed
 pub mod Judged
+pub mod Kept
 pub mod Listed
 pub mod Matching
+pub mod Recalled
 pub mod Scanned
 pub mod Sifting
 pub mod Unlooped

@@ -1,2 +1,4 @@
 pub mod Among
+pub mod Remembered
+pub mod Tested
 pub mod steps

@@ -1,9 +1,10 @@
 //! Groups that follow relationships, and whose tests rows alone decide, or those relationships do.
 ghost use Rattle.std.specs.Prelude.{◌≡◌, ◌<◌, length, IfSome, IsTrue};
-ghost use Rattle.gq_steps.specs.Keeps.{IsRange};
+ghost use Rattle.gq_sift.specs.steps.Filters.{IsWithin};
 ghost use Rattle.gq_steps.specs.Levels.{step_at};
 ghost use Rattle.gq_steps.specs.Moves.{run_of, steps_in, IsRun};
-ghost use Rattle.gq_sift.specs.steps.RowTests.{Extends, IsListTest, IsRowTest, ReadsRows, test_of};
+ghost use Rattle.gq_sift.specs.steps.RowTests.{Extends, IsListTest, IsRowTest, ReadsRows};
+ghost use Rattle.gq_sift.specs.Tested.{test_of};
 
 use crate::differing::is_pair_test;
 use crate::looping::is_loop_test;
@@ -14,7 +15,7 @@ use gq_steps::{Follow, GroupSteps, PlanRun, following};
 /// tests, or they ask that this relationship differs from another one or is no loop.
 pub(crate) fn reads_rows(plan_run: &PlanRun<'_>, group: GroupSteps) -> Option<Follow>
     requires run { IsRun (run_of plan_run.now) }
-    requires steps { IsRange (run_of plan_run.now) group }
+    requires steps { IsWithin (run_of plan_run.now) group }
     ensures { IfSome result (ReadsRows (run_of plan_run.now) group) }
 {
     let follow = extends(plan_run, group.first)?;

@@ -8,14 +8,15 @@ ghost use Rattle.gq_steps.specs.Moves.{run_of, IsRun, IsHeld};
 ghost use Rattle.gq_steps.specs.Tries.{tries};
 
 use crate::closing::candidates;
-use crate::filtering::{filter, filter_list, filters, filters_list};
+use crate::filtering::{filter, filters};
+use crate::listing::{filter_list, filters_list};
 use crate::places::keep_place;
 use gq_bits::{Marks, VECTOR};
 use gq_plan::Assignment;
 use gq_steps::{GroupSteps, PlanRun};
 
-/// The places of a part of a group's list that all its steps keep. If it joins, its matches are
-/// told.
+/// Marks the places of a part of a group's list that all its steps keep, and no others. If it joins,
+/// its matches are told.
 pub fn sift(
     plan_run: &mut PlanRun<'_>,
     group: GroupSteps,
@@ -23,7 +24,8 @@ pub fn sift(
     first: u32,
     count: u32,
     row: &mut Assignment,
-) -> Marks
+    marks: &mut Marks,
+)
     requires run { IsRun (run_of plan_run.old) }
     requires steps { IsRange (run_of plan_run.old) group }
     requires held { IsHeld (run_of plan_run.old) row.old (known (run_of plan_run.old) group.first) }
@@ -32,14 +34,14 @@ pub fn sift(
     requires fits { first + count < 2 ^ 32 }
     requires inside { let c = run_of plan_run.old in first + count ≤ length (tries c.graph c.typed
         (built_at c group.first) (step_at c group.first) (before c row.old group.first)) }
-    ensures sifted { IsSifted (run_of plan_run.old) group first count row.old row.new result }
+    ensures sifted { IsSifted (run_of plan_run.old) group first count row.old row.new marks.new }
     ensures same { plan_run.new ≡ plan_run.old }
 {
     match filters(plan_run, group) {
-        Some(node) => filter(plan_run, group, node, first, count, row),
+        Some(node) => filter(plan_run, group, node, first, count, row, marks),
         None => match filters_list(plan_run, group) {
-            Some(follow) => filter_list(plan_run, group, follow, first, count, row),
-            None => sift_each(plan_run, group, matches, first, count, row),
+            Some(follow) => filter_list(plan_run, group, follow, first, count, row, marks),
+            None => sift_each(plan_run, group, matches, first, count, row, marks),
         },
     }
 }
@@ -52,20 +54,21 @@ fn sift_each(
     first: u32,
     count: u32,
     row: &mut Assignment,
-) -> Marks
+    marks: &mut Marks,
+)
     requires run { IsRun (run_of plan_run.now) }
     requires steps { IsRange (run_of plan_run.now) group }
     requires held { IsHeld (run_of plan_run.now) row.old (known (run_of plan_run.now) group.first) }
     requires matches { AreMatches (run_of plan_run.now) group.first row.old matches.now }
     requires count { count ≤ VECTOR }
     requires fits { first + count < 2 ^ 32 }
-    ensures { IsSifted (run_of plan_run.now) group first count row.old row.new result }
+    ensures { IsSifted (run_of plan_run.now) group first count row.old row.new marks.new }
 {
-    let among = candidates(plan_run, group.first, first, count, row);
-    sift_among(plan_run, group, matches, first, count, among, row)
+    *marks = candidates(plan_run, group.first, first, count, row);
+    sift_among(plan_run, group, matches, first, count, row, marks);
 }
 
-/// The same, place by place, where places of the part are told among which are all that its steps
+/// The same, place by place, where places of the part are marked among which are all that its steps
 /// keep.
 pub fn sift_among(
     plan_run: &PlanRun<'_>,
@@ -73,19 +76,18 @@ pub fn sift_among(
     matches: &[u32],
     first: u32,
     count: u32,
-    among: Marks,
     row: &mut Assignment,
-) -> Marks
+    marks: &mut Marks,
+)
     requires run { IsRun (run_of plan_run.now) }
     requires steps { IsRange (run_of plan_run.now) group }
     requires held { IsHeld (run_of plan_run.now) row.old (known (run_of plan_run.now) group.first) }
     requires matches { AreMatches (run_of plan_run.now) group.first row.old matches.now }
     requires count { count ≤ VECTOR }
     requires fits { first + count < 2 ^ 32 }
-    requires among { IsAmong (run_of plan_run.now) group first count row.old among }
-    ensures { IsSifted (run_of plan_run.now) group first count row.old row.new result }
+    requires among { IsAmong (run_of plan_run.now) group first count row.old marks.old }
+    ensures { IsSifted (run_of plan_run.now) group first count row.old row.new marks.new }
 {
-    let mut marks = among;
     let mut place = 0;
     'places: while let Some(offset) = marks.next_from(place) {
         if !keep_place(plan_run, group, matches, first + offset, row) {
@@ -93,5 +95,4 @@ pub fn sift_among(
         }
         place = offset + 1;
     }
-    marks
 }

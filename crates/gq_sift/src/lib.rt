@@ -9,8 +9,12 @@ mod filtering;
 mod finding;
 mod judging;
 mod keeping;
+mod listing;
 mod looping;
 mod places;
+mod reading;
+mod remembered;
 
 pub use keeping::{sift, sift_among};
 pub use places::keep_place;
+pub use remembered::{Remembered, sift_remembered};

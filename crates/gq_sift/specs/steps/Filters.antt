@@ -1,10 +1,16 @@
 -- Groups that scan a node table or follow a list, and keep what conditions keep.
-use Rattle.std.specs.Prelude.{◌≡◌, ℕ, ◌<◌, Bool, true, false, Some}
+use Rattle.std.specs.Prelude.{◌≡◌, ℕ, ◌<◌, ◌≤◌, Bool, true, false, Some, length}
 use Rattle.gq_plan.specs.Plans.{Step, Scan, Extend}
 use Rattle.gq_steps.specs.Levels.{Run, step_at}
-use Rattle.gq_sift.specs.steps.RowTests.{ReadsRows, test_of}
+use Rattle.gq_sift.specs.steps.RowTests.{ReadsRows}
+use Rattle.gq_sift.specs.Tested.{test_of}
 use Rattle.gq_steps.specs.declared.group_steps.GroupSteps.{GroupSteps}
 use Rattle.gq_steps.specs.declared.plan_run.Follow.{Follow}
+
+-- a group has a step, and its steps are steps of the plan
+pub record IsWithin (c : Run) (group : GroupSteps) : Type 0 where
+  pub some : group.first < group.end
+  pub inside : group.end ≤ length c.steps
 
 -- the step at a depth scans a node variable
 abbrev pub Scans : Run → ℕ → ℕ → Type 0

@@ -1,8 +1,9 @@
 -- Groups whose tests rows alone decide, or the relationship that they follow.
-use Rattle.std.specs.Prelude.{◌≡◌, ◌⊎◌, ℕ, ◌<◌, Bool, Option, Some, None}
-use Rattle.gq_plan.specs.Plans.{Step, Extend, Keep}
+use Rattle.std.specs.Prelude.{◌≡◌, ◌⊎◌, ℕ, ◌<◌, Bool, Some}
+use Rattle.gq_plan.specs.Plans.{Extend}
 use Rattle.gq_plan.specs.declared.assignment.Assignment.{Assignment}
 use Rattle.gq_sift.specs.steps.Differing.{IsPairTest}
+use Rattle.gq_sift.specs.Tested.{test_of}
 use Rattle.gq_steps.specs.Levels.{Run, step_at}
 use Rattle.gq_sift.specs.steps.Loops.{IsLoopTest}
 use Rattle.gq_steps.specs.steps.Outcomes.{passes_at}
@@ -12,11 +13,6 @@ use Rattle.gq_steps.specs.declared.plan_run.Follow.{Follow}
 -- the step at a depth follows a relationship so to a node that was not bound
 abbrev pub Extends : Run → ℕ → Follow → Type 0
 Extends c d f = (column : Bool) × (step_at c d ≡ Extend column f.rel f.from f.to f.direction)
-
--- the test that a step asks for, if it is one
-abbrev pub test_of : Step → Option ℕ
-test_of (Keep i) = Some i
-test_of s = None
 
 -- the step at a depth is a test that rows alone decide
 pub record IsRowTest (c : Run) (d : ℕ) : Type 0 where

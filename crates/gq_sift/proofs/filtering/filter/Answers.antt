@@ -7,7 +7,7 @@ use Rattle.gq_steps.specs.Moves.{IsRun, run_of, steps_in}
 use Rattle.gq_steps.specs.declared.plan_run.PlanRun.{PlanRun}
 use Rattle.gq_steps.proofs.Trying.{as_many_steps}
 use Rattle.gq_steps.specs.steps.Outcomes.{passes_at, with_row}
-use Rattle.gq_sift.specs.steps.RowTests.{test_of}
+use Rattle.gq_sift.specs.Tested.{test_of}
 use Rattle.gq_sift.proofs.Scanned.{filtering_from, filtering_next, filtering_node, filtering_within, filtered}
 use Rattle.gq_sift.proofs.filtering.filter.Goals as goal
 
@@ -18,7 +18,7 @@ KeptBy k d node first before after row =
 
 pub loop-depth-init : goal.loop-depth-init
 loop-depth-init c = (
-  filtering_from (run_of c.args.plan_run.now) c.requires.run c.args.group c.requires.steps c.args.node c.requires.filters c.args.first c.args.count c.args.row.now c.requires.held c.requires.inside c.requires.fits c.first-marks.result c.first-marks.ensures.below,
+  filtering_from (run_of c.args.plan_run.now) c.requires.run c.args.group c.requires.steps c.args.node c.requires.filters c.args.first c.args.count c.args.row.now c.requires.held c.requires.inside c.requires.fits c.first.result c.first.ensures.below,
   refl,
   refl,
 )

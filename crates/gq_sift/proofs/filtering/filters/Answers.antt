@@ -2,7 +2,7 @@ use Rattle.std.proofs.Common.{ℕ, ◌≡◌, Some, inl, inr, sym, subst, arith}
 use Rattle.std.proofs.lemmas.Bool.{cases_eq}
 use Rattle.gq_steps.specs.Levels.{step_at}
 use Rattle.gq_steps.specs.Moves.{run_of}
-use Rattle.gq_sift.specs.steps.RowTests.{test_of}
+use Rattle.gq_sift.specs.Tested.{test_of}
 use Rattle.gq_sift.proofs.filtering.filters.Goals as goal
 
 pub loop-depth-init : goal.loop-depth-init

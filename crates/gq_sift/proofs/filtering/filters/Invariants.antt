@@ -1,7 +1,7 @@
 use Rattle.std.proofs.Common.{ℕ, ◌<◌, ◌≡◌, Some}
 use Rattle.gq_steps.specs.Levels.{step_at}
 use Rattle.gq_steps.specs.Moves.{run_of}
-use Rattle.gq_sift.specs.steps.RowTests.{test_of}
+use Rattle.gq_sift.specs.Tested.{test_of}
 use Rattle.gq_sift.proofs.filtering.filters.Given as goal
 
 abbrev pub invariant-loop-depth : goal.invariant-loop-depth

@@ -2,7 +2,7 @@ use Rattle.std.proofs.Common.{◌∙◌, true, false, sym, ap}
 use Rattle.gq_plan.proofs.StepEquations.{scan_is, extend_is, column_extend_is, close_is, column_close_is, join_is, keep_is, differ_is, no_loop_is}
 use Rattle.gq_plan.specs.Plans.{Scan, Extend, Close, Join, Keep, Differ, NoLoop, plan_of}
 use Rattle.gq_plan.specs.declared.plan.Step as code
-use Rattle.gq_sift.specs.steps.RowTests.{test_of}
+use Rattle.gq_sift.specs.Tested.{test_of}
 use Rattle.gq_steps.proofs.Trying.{half_at, step_is}
 use Rattle.gq_sift.proofs.Judged.{no_test}
 use Rattle.gq_sift.proofs.judging.test_at.Goals as goal

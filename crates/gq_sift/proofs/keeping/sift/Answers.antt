@@ -16,6 +16,9 @@ filter-requires-clause-inside c =
     let count = scan_count k c.requires.run c.args.group.first (omega (arith, some, end)) c.args.row.now c.requires.held c.in-Some.node c.in-Some.ensures.scans in
     omega (arith, c.requires.inside, count)
 
+pub filters_list-requires-clause-steps : goal.filters_list-requires-clause-steps
+filters_list-requires-clause-steps c = record { some = c.requires.steps.some; inside = c.requires.steps.inside }
+
 pub filter_list-requires-clause-filters : goal.filter_list-requires-clause-filters
 filter_list-requires-clause-filters c = c.in-Some-filters_list.ensures
 

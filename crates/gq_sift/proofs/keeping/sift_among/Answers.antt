@@ -10,7 +10,7 @@ use Rattle.gq_sift.proofs.keeping.sift_among.Goals as goal
 use Rattle.gq_sift.proofs.keeping.sift_among.Goals.{In-Some, then-not-keep_place, else-not-keep_place}
 
 pub places-init : goal.places-init
-places-init c = sifting_from (run_of c.args.plan_run.now) c.args.group c.args.first c.args.count c.args.row.now c.args.among c.requires.held c.requires.among
+places-init c = sifting_from (run_of c.args.plan_run.now) c.args.group c.args.first c.args.count c.args.row.now c.args.marks.now c.requires.held c.requires.among
 
 -- what is told of the next marked place
 found : (c : In-Some) → (c.places.place ≤ c.in-Some.offset) × (is_marked c.places.marks c.in-Some.offset ≡ true)

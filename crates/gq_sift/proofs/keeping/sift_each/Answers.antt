@@ -3,4 +3,4 @@ use Rattle.gq_sift.proofs.Sifting.{among_candidates}
 use Rattle.gq_sift.proofs.keeping.sift_each.Goals as goal
 
 pub sift_among-requires-clause-among : goal.sift_among-requires-clause-among
-sift_among-requires-clause-among c = among_candidates (run_of c.args.plan_run.now) c.args.group c.args.first c.args.count c.args.row.now c.candidates-among.result c.candidates-among.ensures
+sift_among-requires-clause-among c = among_candidates (run_of c.args.plan_run.now) c.args.group c.args.first c.args.count c.args.row.now c.candidates.result c.candidates.ensures

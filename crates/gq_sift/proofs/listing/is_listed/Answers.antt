@@ -4,7 +4,7 @@ use Rattle.gq_plan.specs.Plans.{Extend}
 use Rattle.gq_plan.specs.declared.plan.Step as code
 use Rattle.gq_sift.specs.steps.Filters.{is_listed_step}
 use Rattle.gq_steps.proofs.Trying.{step_is}
-use Rattle.gq_sift.proofs.filtering.is_listed.Goals as goal
+use Rattle.gq_sift.proofs.listing.is_listed.Goals as goal
 
 pub returns-in-Extend : goal.returns-in-Extend
 returns-in-Extend c = λ on. ap is_listed_step
