@@ -11,11 +11,11 @@ use Rattle.gq_join.specs.Kept.{Held}
 use Rattle.gq_law_plans.proofs.Reordered.{permuted_flat_map}
 use Rattle.gq_plan.specs.Arranged.{at_numbers}
 use Rattle.gq_plan.specs.Columns.{own_columns, steps_of}
-use Rattle.gq_plan.specs.Halves.{close_half, half_of, halves, halves_of, part_in, parts_of}
+use Rattle.gq_plan.specs.Halves.{close_half, half_in, half_of, halves, halves_of, numbered_halves}
 use Rattle.gq_plan.specs.Plans.{Plan, Done, Then, Step, Scan, Extend, Close, Join, Keep, Differ, NoLoop, Single, Meet, steps, step_of}
 use Rattle.gq_plan.specs.declared.halves.Half.{Half}
 use Rattle.gq_plan.specs.declared.halves.Half.TheVariants.{Whole, First, Second}
-use Rattle.gq_plan.specs.declared.halves.Part.{Part}
+use Rattle.gq_plan.specs.declared.halves.StepHalf.{StepHalf}
 use Rattle.gq_plan.specs.declared.plan.Step as code
 use Rattle.gq_plan.specs.declared.typed.Typed.{Typed}
 use Rattle.gq_steps.specs.Built.{AreBuilds, FitsBuild}
@@ -23,7 +23,7 @@ use Rattle.gq_steps.specs.Moves.{run_step, run_steps}
 use Rattle.gq_steps.specs.declared.plan_run.RunStep.{RunStep}
 use Rattle.gq_steps.proofs.Joined.{build_at}
 
--- ---- the parts of a plan
+-- ---- the halves of a plan
 
 -- a half of a step asks for the build that the step asks for
 fits_half : (g : Graph) (y : Typed) (h : Half) (s : Step) (o : Option Held) → FitsBuild g y s o → FitsBuild g y (half_of h s) o
@@ -43,12 +43,12 @@ fits_half g y h (NoLoop x) o b = b
 fits_half g y h (Single x from to way) o b = b
 fits_half g y h (Meet x from to way) o b = b
 
-pub builds_parts : (g : Graph) (y : Typed) (ss : List Step) (os : List (Option Held)) (qs : List Part) → AreBuilds g y (steps ss) os → AllByRecursion (λ (q : Part). q.step < length ss) qs
-    → AreBuilds g y (steps (map (part_in ss) qs)) (map (λ (q : Part). slice_index_or os q.step None) qs)
-builds_parts g y ss os [] built low = tt
-builds_parts g y ss os (q ∷ qs) built low = (
+pub builds_halves : (g : Graph) (y : Typed) (ss : List Step) (os : List (Option Held)) (qs : List StepHalf) → AreBuilds g y (steps ss) os → AllByRecursion (λ (q : StepHalf). q.step < length ss) qs
+    → AreBuilds g y (steps (map (half_in ss) qs)) (map (λ (q : StepHalf). slice_index_or os q.step None) qs)
+builds_halves g y ss os [] built low = tt
+builds_halves g y ss os (q ∷ qs) built low = (
   fits_half g y q.half (slice_index_or ss q.step (Keep 0)) (slice_index_or os q.step None) (build_at g y ss os q.step built low.0),
-  builds_parts g y ss os qs built low.1,
+  builds_halves g y ss os qs built low.1,
 )
 
 -- what is made of the items of numbers are the items that are made, of these numbers
@@ -62,33 +62,33 @@ at_mapped f xs [] = refl
 at_mapped f xs (n ∷ ns) = map-append f (option_to_list (slice_get xs n)) (at_numbers xs ns) ∙ ap₂ ◌++◌ (got_mapped f xs n) (at_mapped f xs ns)
 
 module _ (at : ℕ → Step) where
-  abbrev here : Part → Step
+  abbrev here : StepHalf → Step
   here q = half_of q.half (at q.step)
 
-  part_step : (s : Step) (i : ℕ) (qs : List Part) → at i ≡ s → map here (map (λ h. record { step = i; half = h }) (halves_of s) ++ qs) ≡ halves s ++ map here qs
-  part_step (Scan v) i qs e = ap (λ t. half_of Whole t ∷ map here qs) e
-  part_step (Extend column x from to way) i qs e = ap (λ t. half_of Whole t ∷ map here qs) e
-  part_step (Close true x from to way) i qs e = ap (λ t. half_of First t ∷ half_of Second t ∷ map here qs) e
-  part_step (Close false x from to way) i qs e = ap (λ t. half_of Whole t ∷ map here qs) e
-  part_step (Join side keys) i qs e = ap (λ t. half_of Whole t ∷ map here qs) e
-  part_step (Keep k) i qs e = ap (λ t. half_of Whole t ∷ map here qs) e
-  part_step (Differ d) i qs e = ap (λ t. half_of Whole t ∷ map here qs) e
-  part_step (NoLoop x) i qs e = ap (λ t. half_of Whole t ∷ map here qs) e
-  part_step (Single x from to way) i qs e = ap (λ t. half_of Whole t ∷ map here qs) e
-  part_step (Meet x from to way) i qs e = ap (λ t. half_of Whole t ∷ map here qs) e
+  half_step : (s : Step) (i : ℕ) (qs : List StepHalf) → at i ≡ s → map here (map (λ h. record { step = i; half = h }) (halves_of s) ++ qs) ≡ halves s ++ map here qs
+  half_step (Scan v) i qs e = ap (λ t. half_of Whole t ∷ map here qs) e
+  half_step (Extend column x from to way) i qs e = ap (λ t. half_of Whole t ∷ map here qs) e
+  half_step (Close true x from to way) i qs e = ap (λ t. half_of First t ∷ half_of Second t ∷ map here qs) e
+  half_step (Close false x from to way) i qs e = ap (λ t. half_of Whole t ∷ map here qs) e
+  half_step (Join side keys) i qs e = ap (λ t. half_of Whole t ∷ map here qs) e
+  half_step (Keep k) i qs e = ap (λ t. half_of Whole t ∷ map here qs) e
+  half_step (Differ d) i qs e = ap (λ t. half_of Whole t ∷ map here qs) e
+  half_step (NoLoop x) i qs e = ap (λ t. half_of Whole t ∷ map here qs) e
+  half_step (Single x from to way) i qs e = ap (λ t. half_of Whole t ∷ map here qs) e
+  half_step (Meet x from to way) i qs e = ap (λ t. half_of Whole t ∷ map here qs) e
 
-  parts_from : (ss : List Step) (i : ℕ) → ((k : ℕ) → k < length ss → at (i + k) ≡ slice_index_or ss k (Keep 0)) → map here (parts_of i ss) ≡ flat_map halves ss
-  parts_from [] i told = refl
-  parts_from (s ∷ ss) i told =
-      part_step s i (parts_of (i + 1) ss) (let z : i ≡ i + 0 = omega arith in ap at z ∙ told 0 (omega arith))
-      ∙ ap (λ l. halves s ++ l) (parts_from ss (i + 1) (λ k low. let next : i + 1 + k ≡ i + suc k = omega arith in ap at next ∙ told (suc k) (omega (arith, low))))
+  halves_from : (ss : List Step) (i : ℕ) → ((k : ℕ) → k < length ss → at (i + k) ≡ slice_index_or ss k (Keep 0)) → map here (numbered_halves i ss) ≡ flat_map halves ss
+  halves_from [] i told = refl
+  halves_from (s ∷ ss) i told =
+      half_step s i (numbered_halves (i + 1) ss) (let z : i ≡ i + 0 = omega arith in ap at z ∙ told 0 (omega arith))
+      ∙ ap (λ l. halves s ++ l) (halves_from ss (i + 1) (λ k low. let next : i + 1 + k ≡ i + suc k = omega arith in ap at next ∙ told (suc k) (omega (arith, low))))
 
--- the parts of a plan are its steps, its column closes in halves
-pub parts_are : (ss : List Step) → map (part_in ss) (parts_of 0 ss) ≡ flat_map halves ss
-parts_are ss = parts_from (λ n. slice_index_or ss n (Keep 0)) ss 0 (λ k low. let z : 0 + k ≡ k = omega arith in ap (λ n. slice_index_or ss n (Keep 0)) z)
+-- the halves of a plan are its steps, its column closes in halves
+pub halves_are : (ss : List Step) → map (half_in ss) (numbered_halves 0 ss) ≡ flat_map halves ss
+halves_are ss = halves_from (λ n. slice_index_or ss n (Keep 0)) ss 0 (λ k low. let z : 0 + k ≡ k = omega arith in ap (λ n. slice_index_or ss n (Keep 0)) z)
 
-pub parts_run : (ss : List Step) (ns : List ℕ) → map (part_in ss) (at_numbers (parts_of 0 ss) ns) ≡ at_numbers (flat_map halves ss) ns
-parts_run ss ns = at_mapped (part_in ss) (parts_of 0 ss) ns ∙ ap (λ ts. at_numbers ts ns) (parts_are ss)
+pub halves_run : (ss : List Step) (ns : List ℕ) → map (half_in ss) (at_numbers (numbered_halves 0 ss) ns) ≡ at_numbers (flat_map halves ss) ns
+halves_run ss ns = at_mapped (half_in ss) (numbered_halves 0 ss) ns ∙ ap (λ ts. at_numbers ts ns) (halves_are ss)
 
 -- ---- the order of the plan itself
 
@@ -135,11 +135,11 @@ columns_halved y (s ∷ ss) = columns_halves y s (flat_map halves ss) ∙ ap (λ
 
 -- ---- a step more
 
-pub steps_more : (ss : List code.Step) (qs : List Part) (k : ℕ) (rs : List RunStep) (r : RunStep) (q : Part) → k < length qs → q ≡ get_or qs k q → q.step < length ss → r.step.now ≡ get_or ss q.step r.step.now → r.half ≡ q.half
-    → run_steps rs ≡ map (part_in (map step_of ss)) (take k qs) → run_steps (rs ++ r ∷ []) ≡ map (part_in (map step_of ss)) (take (k + 1) qs)
+pub steps_more : (ss : List code.Step) (qs : List StepHalf) (k : ℕ) (rs : List RunStep) (r : RunStep) (q : StepHalf) → k < length qs → q ≡ get_or qs k q → q.step < length ss → r.step.now ≡ get_or ss q.step r.step.now → r.half ≡ q.half
+    → run_steps rs ≡ map (half_in (map step_of ss)) (take k qs) → run_steps (rs ++ r ∷ []) ≡ map (half_in (map step_of ss)) (take (k + 1) qs)
 steps_more ss qs k rs r q low is inside there half so_far =
     map-append run_step rs (r ∷ [])
     ∙ ap₂ (λ l t. l ++ t ∷ []) so_far
     (ap₂ half_of half (ap step_of there ∙ sym (get_or-map step_of ss q.step r.step.now (Keep 0) inside)))
-    ∙ sym (map-append (part_in (map step_of ss)) (take k qs) (q ∷ []))
-    ∙ ap (map (part_in (map step_of ss))) (ap (λ z. take k qs ++ z ∷ []) is ∙ sym (take_more qs k q low))
+    ∙ sym (map-append (half_in (map step_of ss)) (take k qs) (q ∷ []))
+    ∙ ap (map (half_in (map step_of ss))) (ap (λ z. take k qs ++ z ∷ []) is ∙ sym (take_more qs k q low))

@@ -27,7 +27,7 @@ use Rattle.gq_pipe.proofs.ByValue.{below, none_found, others}
 pub none_indexed : (c : Run) (ss : List GroupSteps) → AreIndexed c ss []
 none_indexed c ss depth t e = absurd (cc e)
 
-one_more : {X : Type 0} (P : ℕ → X → Type 0) (xs : List (Option X)) (next : Option X) → ((k : ℕ) (u : X) → slice_get xs k ≡ Some (Some u) → P k u) → ((u : X) → next ≡ Some u → P (length xs) u)
+pub one_more : {X : Type 0} (P : ℕ → X → Type 0) (xs : List (Option X)) (next : Option X) → ((k : ℕ) (u : X) → slice_get xs k ≡ Some (Some u) → P k u) → ((u : X) → next ≡ Some u → P (length xs) u)
     → (d : ℕ) (t : X) → slice_get (xs ++ next ∷ []) d ≡ Some (Some t) → P d t
 one_more P [] next all last zero t e = (let same : next ≡ Some t = cc e in last t same)
 one_more P [] next all last (suc d) t e = absurd (cc e)

@@ -1,5 +1,6 @@
 pub mod Agreeing
 pub mod Groupless
+pub mod Asking
 pub mod Assigned
 pub mod Chosen
 pub mod Chunked
@@ -24,6 +25,7 @@ pub mod Pushing
 pub mod Reaching
 pub mod Reading
 pub mod Rebinding
+pub mod Recalling
 pub mod Resting
 pub mod Rooms
 pub mod Sealing
@@ -37,5 +39,6 @@ pub mod Staying
 pub mod Stored
 pub mod Supplied
 pub mod Telling
+pub mod Unseen
 pub mod ByValue
 pub mod Words

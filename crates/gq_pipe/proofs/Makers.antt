@@ -15,37 +15,37 @@ use Rattle.gq_plan.proofs.FirstSteps.{steps_back}
 use Rattle.gq_plan.specs.Arranged.{at_numbers}
 use Rattle.gq_plan.specs.Columns.{steps_of}
 use Rattle.gq_plan.specs.Covers.{Fits}
-use Rattle.gq_plan.specs.Halves.{halves, halves_of, part_in, parts_of}
+use Rattle.gq_plan.specs.Halves.{half_in, halves, halves_of, numbered_halves}
 use Rattle.gq_plan.specs.Plans.{Plan, Step, Scan, Extend, Close, Join, Keep, Differ, NoLoop, Single, Meet}
 use Rattle.gq_plan.specs.Shapes.{places}
-use Rattle.gq_plan.specs.declared.halves.Part.{Part}
+use Rattle.gq_plan.specs.declared.halves.StepHalf.{StepHalf}
 use Rattle.gq_plan.specs.declared.typed.Typed.{Typed}
 use Rattle.gq_pipe.specs.Keys.{Maker, makers_of}
 use Rattle.gq_steps.specs.declared.group_steps.GroupSteps.{GroupSteps}
 use Rattle.gq_steps.specs.Levels.{Run}
 use Rattle.gq_steps.specs.Groups.{Tiles, groups_in}
 use Rattle.gq_pipe.specs.steps.Search.{maker_in}
-use Rattle.gq_pipe.proofs.InOrder.{all_steps, parts_are}
+use Rattle.gq_pipe.proofs.InOrder.{all_steps, halves_are}
 
--- ---- by parts
+-- ---- by halves
 
 module _ (ss : List Step) (os : List (Option Held)) where
-  -- the step and the build of a part
-  abbrev pub maker_of : Part → Maker
-  maker_of q = record { step = part_in ss q; build = slice_index_or os q.step None }
+  -- the step and the build of a half
+  abbrev pub maker_of : StepHalf → Maker
+  maker_of q = record { step = half_in ss q; build = slice_index_or os q.step None }
 
-  abbrev pub built : Part → Option Held
+  abbrev pub built : StepHalf → Option Held
   built q = slice_index_or os q.step None
 
-  abbrev pub is_maker : Part → Bool
-  is_maker q = makes_group (part_in ss q)
+  abbrev pub is_maker : StepHalf → Bool
+  is_maker q = makes_group (half_in ss q)
 
-  parts_made : (qs : List Part) → makers_of (map (part_in ss) qs) (map built qs) ≡ map maker_of (filter is_maker qs)
-  parts_made [] = refl
-  parts_made (q ∷ qs) = go (is_maker q) (parts_made qs)
+  halves_made : (qs : List StepHalf) → makers_of (map (half_in ss) qs) (map built qs) ≡ map maker_of (filter is_maker qs)
+  halves_made [] = refl
+  halves_made (q ∷ qs) = go (is_maker q) (halves_made qs)
     where
-      go : (b : Bool) → makers_of (map (part_in ss) qs) (map built qs) ≡ map maker_of (filter is_maker qs)
-          → cond b (maker_of q ∷ makers_of (map (part_in ss) qs) (map built qs)) (makers_of (map (part_in ss) qs) (map built qs)) ≡ map maker_of (cond b (q ∷ filter is_maker qs) (filter is_maker qs))
+      go : (b : Bool) → makers_of (map (half_in ss) qs) (map built qs) ≡ map maker_of (filter is_maker qs)
+          → cond b (maker_of q ∷ makers_of (map (half_in ss) qs) (map built qs)) (makers_of (map (half_in ss) qs) (map built qs)) ≡ map maker_of (cond b (q ∷ filter is_maker qs) (filter is_maker qs))
       go true more = ap (λ l. maker_of q ∷ l) more
       go false more = more
 
@@ -68,8 +68,8 @@ mapped_there f (z ∷ xs) zero x d e = ap f (cc e)
 mapped_there f (z ∷ xs) (suc n) x d e = mapped_there f xs n x d e
 
 -- the halves of a column close make no groups
-made_step : (s : Step) (i : ℕ) (ss : List Step) (qs : List Part) (at : ℕ → Option Held)
-    → makers_of (halves s ++ ss) (map (λ (q : Part). at q.step) (map (λ h. record { step = i; half = h }) (halves_of s) ++ qs)) ≡ makers_of (s ∷ ss) (at i ∷ map (λ (q : Part). at q.step) qs)
+made_step : (s : Step) (i : ℕ) (ss : List Step) (qs : List StepHalf) (at : ℕ → Option Held)
+    → makers_of (halves s ++ ss) (map (λ (q : StepHalf). at q.step) (map (λ h. record { step = i; half = h }) (halves_of s) ++ qs)) ≡ makers_of (s ∷ ss) (at i ∷ map (λ (q : StepHalf). at q.step) qs)
 made_step (Scan v) i ss qs at = refl
 made_step (Extend column x from to way) i ss qs at = refl
 made_step (Close true x from to way) i ss qs at = refl
@@ -81,32 +81,32 @@ made_step (NoLoop x) i ss qs at = refl
 made_step (Single x from to way) i ss qs at = refl
 made_step (Meet x from to way) i ss qs at = refl
 
-made_parts : (ss : List Step) (os : List (Option Held)) (i : ℕ) (at : ℕ → Option Held) → length os ≡ length ss → ((k : ℕ) → k < length ss → at (i + k) ≡ slice_index_or os k None)
-    → makers_of (flat_map halves ss) (map (λ (q : Part). at q.step) (parts_of i ss)) ≡ makers_of ss os
-made_parts [] os i at many told = refl
-made_parts (s ∷ ss) [] i at many told = absurd (omega (arith, many))
-made_parts (s ∷ ss) (o ∷ os) i at many told =
-    made_step s i (flat_map halves ss) (parts_of (i + 1) ss) at
+made_halves : (ss : List Step) (os : List (Option Held)) (i : ℕ) (at : ℕ → Option Held) → length os ≡ length ss → ((k : ℕ) → k < length ss → at (i + k) ≡ slice_index_or os k None)
+    → makers_of (flat_map halves ss) (map (λ (q : StepHalf). at q.step) (numbered_halves i ss)) ≡ makers_of ss os
+made_halves [] os i at many told = refl
+made_halves (s ∷ ss) [] i at many told = absurd (omega (arith, many))
+made_halves (s ∷ ss) (o ∷ os) i at many told =
+    made_step s i (flat_map halves ss) (numbered_halves (i + 1) ss) at
     ∙ ap₂ (λ b l. cond (makes_group s) (record { step = s; build = b } ∷ l) l)
     (let here : i ≡ i + 0 = omega arith in ap at here ∙ told 0 (omega arith))
-    (made_parts ss os (i + 1) at (omega (arith, many)) (λ k low. let next : i + 1 + k ≡ i + suc k = omega arith in ap at next ∙ told (suc k) (omega (arith, low))))
+    (made_halves ss os (i + 1) at (omega (arith, many)) (λ k low. let next : i + 1 + k ≡ i + suc k = omega arith in ap at next ∙ told (suc k) (omega (arith, low))))
 
 -- in the order of the groups they stand as in the plan
 pub makers_ordered : (catalog : Tables) (y : Typed) (p : Plan) (os : List (Option Held)) → Fits catalog y p → 0 < (places p).count → length os ≡ length (steps_of p)
-    → makers_of (map (part_in (steps_of p)) (at_numbers (parts_of 0 (steps_of p)) (led_order y p))) (map (λ (q : Part). slice_index_or os q.step None) (at_numbers (parts_of 0 (steps_of p)) (led_order y p))) ≡ makers_of (steps_of p) os
+    → makers_of (map (half_in (steps_of p)) (at_numbers (numbered_halves 0 (steps_of p)) (led_order y p))) (map (λ (q : StepHalf). slice_index_or os q.step None) (at_numbers (numbered_halves 0 (steps_of p)) (led_order y p))) ≡ makers_of (steps_of p) os
 makers_ordered catalog y p os fit some many =
-    parts_made ss os (at_numbers qs ns)
+    halves_made ss os (at_numbers qs ns)
     ∙ ap (map (maker_of ss os))
     (kept_at (is_maker ss os) qs f told ns ∙ ap (at_numbers qs) same ∙ sym (kept_at (is_maker ss os) qs f told (range_with_len 0 (length qs))) ∙ ap (filter (is_maker ss os)) (all_steps qs))
-    ∙ sym (parts_made ss os qs)
-    ∙ ap (λ ts. makers_of ts (map (built ss os) qs)) (parts_are ss)
-    ∙ made_parts ss os 0 (λ n. slice_index_or os n None) many (λ k low. let z : 0 + k ≡ k = omega arith in ap (λ n. slice_index_or os n None) z)
+    ∙ sym (halves_made ss os qs)
+    ∙ ap (λ ts. makers_of ts (map (built ss os) qs)) (halves_are ss)
+    ∙ made_halves ss os 0 (λ n. slice_index_or os n None) many (λ k low. let z : 0 + k ≡ k = omega arith in ap (λ n. slice_index_or os n None) z)
   where
     ss : List Step
     ss = steps_of p
 
-    qs : List Part
-    qs = parts_of 0 (steps_of p)
+    qs : List StepHalf
+    qs = numbered_halves 0 (steps_of p)
 
     ns : List ℕ
     ns = led_order y p
@@ -114,11 +114,11 @@ makers_ordered catalog y p os fit some many =
     f : ℕ → Bool
     f = makes_at (flat_map halves (steps_of p))
 
-    told : (n : ℕ) (q : Part) → slice_get qs n ≡ Some q → f n ≡ is_maker ss os q
-    told n q e = ap (λ ts. makes_at ts n) (sym (parts_are ss)) ∙ ap makes_group (mapped_there (part_in ss) qs n q (Keep 0) e)
+    told : (n : ℕ) (q : StepHalf) → slice_get qs n ≡ Some q → f n ≡ is_maker ss os q
+    told n q e = ap (λ ts. makes_at ts n) (sym (halves_are ss)) ∙ ap makes_group (mapped_there (half_in ss) qs n q (Keep 0) e)
 
     long : length (flat_map halves (steps_of p)) ≡ length qs
-    long = ap length (sym (parts_are ss)) ∙ length-map qs (part_in ss)
+    long = ap length (sym (halves_are ss)) ∙ length-map qs (half_in ss)
 
     same : filter f ns ≡ filter f (range_with_len 0 (length qs))
     same =

@@ -1,8 +1,6 @@
 -- Of a place of a list of which a later group makes nothing, since it closes at a node to which no relationship leads, there is no walk.
 use Rattle.std.proofs.Common.{◌≡◌, ℕ, zero, suc, ◌+◌, ◌-◌, ◌^◌, ◌<◌, ◌≤◌, Bool, true, false, cond, Some, None, Option, List, [], ◌∷◌, ◌++◌, length, map, drop, get_or, slice_get, refl, sym, ap, ◌∙◌, subst, arith, inl, inr}
-use Rattle.std.specs.Coded.{Coded-set, coded_ℕ, coded_list}
 use Rattle.std.specs.Prelude.{slice_index, slice_index_or}
-use Rattle.std.proofs.Math.Logic.{∥∥₁_elim}
 use Rattle.std.proofs.lemmas.Bool.{and_parts, eq-eqb}
 use Rattle.std.proofs.lemmas.List.{append-nil, length-map, length-drop, get_or_default, get_or-map, get_or-set_same, get_or-drop}
 use Rattle.std.proofs.lemmas.Option.{slice_get_within}
@@ -30,7 +28,7 @@ use Rattle.gq_law_groups.proofs.Ending.{EndsAt, Ends, nothing_behind}
 use Rattle.gq_law_groups.proofs.Standing.{as_long}
 use Rattle.gq_law_groups.proofs.Following.{known_node, zip_at, each_at, raw_alike, raw_keeps}
 use Rattle.gq_pipe.specs.declared.closing.Closing.{Closing}
-use Rattle.gq_pipe.specs.steps.Closings.{AreClosings, IsClosing}
+use Rattle.gq_pipe.specs.steps.Closings.{IsClosing}
 use Rattle.gq_pipe.specs.steps.Told.{Closes, HasNothing}
 use Rattle.gq_pipe.proofs.Lacking.{lacking}
 use Rattle.gq_pipe.proofs.Reaching.{Reached, reached, binds_known, later_known}
@@ -57,7 +55,7 @@ run_tiles : (c : Run) (from : ℕ) (ss : List GroupSteps) → Tiles c from ss �
 run_tiles c from [] h = h
 run_tiles c from (s ∷ ss) h = (h.0, h.1, h.2, run_tiles c s.end ss h.3)
 
-all_groups : (c : Run) (ss : List GroupSteps) (row : Assignment) (pre : List ℕ) → Stands c ss row pre → AreGroups c.graph c.typed (rows_in c ss) 0 (groups_in c ss)
+pub all_groups : (c : Run) (ss : List GroupSteps) (row : Assignment) (pre : List ℕ) → Stands c ss row pre → AreGroups c.graph c.typed (rows_in c ss) 0 (groups_in c ss)
 all_groups c ss row pre st =
     are_groups c.graph c.typed st.runs.valid (rows_in c ss) 0 (groups_in c ss) none st.grouped.cut (subst (Runs c.graph.catalog c.typed) (sym (tiles_plan c.steps 0 ss (run_tiles c 0 ss st.grouped.tiles))) st.runs.fits)
     (have_rows c st.runs ss ss 0 0 (λ k below. let same : 0 + k ≡ k = omega arith in ap (group_at ss) same) st.grouped.tiles)
@@ -78,7 +76,7 @@ at_first (z ∷ xs) (suc n) x rest e = at_first xs n x rest e
 at_map : (f : Partial → List Partial) (xs : List Partial) (j : ℕ) → j < length xs → get_or (map f xs) j [] ≡ f (get_or xs j nothing)
 at_map f xs j low = get_or-map f xs j nothing [] low
 
-tiles_inside : (c : Run) (d : ℕ) (ss : List GroupSteps) (q : ℕ) → Tiles c d ss → q < length ss → (group_at ss q).first < length c.steps
+pub tiles_inside : (c : Run) (d : ℕ) (ss : List GroupSteps) (q : ℕ) → Tiles c d ss → q < length ss → (group_at ss q).first < length c.steps
 tiles_inside c d [] q tiles low = absurd (omega (arith, low))
 tiles_inside c d (s ∷ ss) zero tiles low = let some = tiles.1 in let inside = tiles.2 in omega (arith, some, inside)
 tiles_inside c d (s ∷ ss) (suc q) tiles low = tiles_inside c s.end ss q tiles.3 (omega (arith, low))
@@ -105,7 +103,7 @@ module _ (c : Run) (run : IsRun c) (d : ℕ) (low : d < length c.steps) (row : A
   list = neighbours c.graph (rel_table c.typed f.rel) f.direction (slice_index row.nodes f.from)
 
   -- the node of a place of a list
-  leads_to : (built : List Partial) (k : Known) (j item : ℕ) → runs_step c.graph.catalog c.typed (step_at c d) k ≡ true
+  pub leads_to : (built : List Partial) (k : Known) (j item : ℕ) → runs_step c.graph.catalog c.typed (step_at c d) k ≡ true
       → slice_get (neighbours c.graph (rel_table c.typed f.rel) f.direction (slice_index row.nodes f.from)) j ≡ Some item
       → item < near_rows c.graph (rel_table c.typed f.rel) (opposite f.direction) → length (neighbours c.graph (rel_table c.typed f.rel) f.direction (slice_index row.nodes f.from)) < 2 ^ 32
       → j < length (raw c.graph c.typed (built_at c d) (step_at c d) (before c row d))
@@ -244,12 +242,11 @@ can_list c run d low row held f is = record {
   listed = listed_is c f.from f.to f.rel f.direction (trying.extend_goes c run d low row held false f.rel f.from f.to f.direction is);
 }
 
--- the same by the group that the program has, and what it is told
-pub ends_walks : (c : Run) (ss : List GroupSteps) (row : Assignment) (ts : List (Option Closing)) (depth : ℕ) (inside : depth < length ss) (x : GroupSteps) (found : x ≡ slice_index_or ss depth x) (pre : List ℕ) (long : length pre ≡ depth) (st : Stands c ss row pre)
-    (t : Closing) (there : slice_get ts depth ≡ Some (Some t)) (f : Follow) → step_at c x.first ≡ Extend false f.rel f.from f.to f.direction → (j : ℕ) → HasNothing c.graph c.typed row f t.other t.near j → IsPlace (layout_in c ss) pre j j → (layout_in c ss).flat pre ≡ true
-    → ∥ AreClosings c ss ts ∥₁ → walks (layout_in c ss) (length ss - (depth + 1)) (pre ++ j ∷ []) ≡ []
-ends_walks c ss row ts depth inside x found pre long st t there f is j nothing place flat told =
-    ∥∥₁_elim told (Coded-set (coded_list (coded_list coded_ℕ)) _ _) (λ are.
-    (let group_is : x ≡ group_at ss (length pre) = found ∙ sym (get_or_default ss depth no_group x inside) ∙ ap (group_at ss) (sym long) in
+-- the same by the group that the program has
+pub ends_walks : (c : Run) (ss : List GroupSteps) (row : Assignment) (depth : ℕ) (inside : depth < length ss) (x : GroupSteps) (found : x ≡ slice_index_or ss depth x) (pre : List ℕ) (long : length pre ≡ depth) (st : Stands c ss row pre)
+    (t : Closing) (told : IsClosing c ss depth t) (f : Follow) → step_at c x.first ≡ Extend false f.rel f.from f.to f.direction → (j : ℕ) → HasNothing c.graph c.typed row f t.other t.near j → IsPlace (layout_in c ss) pre j j → (layout_in c ss).flat pre ≡ true
+    → walks (layout_in c ss) (length ss - (depth + 1)) (pre ++ j ∷ []) ≡ []
+ends_walks c ss row depth inside x found pre long st t told f is j nothing place flat =
+    let group_is : x ≡ group_at ss (length pre) = found ∙ sym (get_or_default ss depth no_group x inside) ∙ ap (group_at ss) (sym long) in
     subst (λ n. walks (layout_in c ss) (length ss - (n + 1)) (pre ++ j ∷ []) ≡ []) long
-    (nothing_there c ss row pre st (omega (arith, long, inside)) t (subst (λ n. IsClosing c ss n t) (sym long) (are depth t there)) f (ap (λ (s : GroupSteps). step_at c s.first) (sym group_is) ∙ is) j nothing.item nothing.there nothing.inside nothing.few nothing.off place.inside place.kept flat)))
+    (nothing_there c ss row pre st (omega (arith, long, inside)) t (subst (λ n. IsClosing c ss n t) (sym long) told) f (ap (λ (s : GroupSteps). step_at c s.first) (sym group_is) ∙ is) j nothing.item nothing.there nothing.inside nothing.few nothing.off place.inside place.kept flat)

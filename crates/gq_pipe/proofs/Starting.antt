@@ -24,14 +24,14 @@ use Rattle.gq_plan.proofs.StepEquations.{plan_is}
 use Rattle.gq_plan.specs.Arranged.{at_numbers, flags_of, in_order}
 use Rattle.gq_plan.specs.Columns.{columns_of, own_columns, steps_of}
 use Rattle.gq_plan.specs.Covers.{Fits, after}
-use Rattle.gq_plan.specs.Halves.{Runs, halves, part_in, parts_of, runs}
+use Rattle.gq_plan.specs.Halves.{Runs, half_in, halves, numbered_halves, runs}
 use Rattle.gq_plan.specs.Known.{none}
 use Rattle.gq_plan.specs.Meaning.{Partial, keep_if, mean, nothing}
 use Rattle.gq_plan.specs.Plans.{Plan, Done, Step, plan_of, steps, step_of}
 use Rattle.gq_plan.specs.Shapes.{places}
 use Rattle.gq_plan.specs.Soundness.{IsSound}
 use Rattle.gq_plan.specs.declared.assignment.Assignment.{Assignment}
-use Rattle.gq_plan.specs.declared.halves.Part.{Part}
+use Rattle.gq_plan.specs.declared.halves.StepHalf.{StepHalf}
 use Rattle.gq_plan.specs.declared.plan.Plan as code_plan
 use Rattle.gq_plan.specs.declared.typed.Typed.{Typed}
 use Rattle.gq_search.specs.Different.{AreKeysOf}
@@ -57,7 +57,7 @@ use Rattle.gq_steps.specs.declared.group_steps.GroupSteps.{GroupSteps}
 use Rattle.gq_steps.specs.declared.plan_run.PlanRun.{PlanRun}
 use Rattle.gq_pipe.specs.steps.Search.{AreGiven, maker_in, source_in}
 use Rattle.gq_pipe.proofs.Groupless.{none_bound, none_flat, none_given, none_makers, none_mean, none_order}
-use Rattle.gq_pipe.proofs.InOrder.{builds_parts, columns_halved, ordered_sum, parts_run}
+use Rattle.gq_pipe.proofs.InOrder.{builds_halves, columns_halved, halves_run, ordered_sum}
 use Rattle.gq_steps.proofs.Joined.{builds_many}
 use Rattle.gq_pipe.proofs.Keyed.{counted_keys, keyed}
 use Rattle.gq_pipe.proofs.Makers.{makers_ordered, makers_run}
@@ -90,7 +90,7 @@ pub record IsRunnable (catalog : Tables) (y : Typed) (p : Plan) (os : List (Opti
   pub enough : AreFlatEnough catalog y (flag flat) 0 (groups_of (in_order p order)) none
   pub count : length (groups_of (in_order p order)) ≡ length flat
   pub columns : sum_by (own_columns y) (at_numbers (flat_map halves (steps_of p)) order) ≤ sum_by (own_columns y) (steps_of p)
-  pub makers : makers_of (map (part_in (steps_of p)) (at_numbers (parts_of 0 (steps_of p)) order)) (map (λ (q : Part). slice_index_or os q.step None) (at_numbers (parts_of 0 (steps_of p)) order)) ≡ makers_of (steps_of p) os
+  pub makers : makers_of (map (half_in (steps_of p)) (at_numbers (numbered_halves 0 (steps_of p)) order)) (map (λ (q : StepHalf). slice_index_or os q.step None) (at_numbers (numbered_halves 0 (steps_of p)) order)) ≡ makers_of (steps_of p) os
 
 module _ (catalog : Tables) (y : Typed) (p : Plan) (os : List (Option Held)) (fit : Fits catalog y p) where
   of_groups : (flat : List Bool) → 0 < (places p).count → IsArranged catalog y p (led_order y p) flat → length os ≡ length (steps_of p) → IsRunnable catalog y p os (led_order y p) flat
@@ -134,21 +134,21 @@ steps_none [] e some = omega (arith, some)
 steps_none (s ∷ ss) e some = cc e
 
 -- what runs are the steps of a plan and their builds, in the order of its groups
-pub record IsStarted (k : PlanRun) (p : code_plan.Plan) (os : List (Option Held)) (order : List Part) (flat : List Bool) : Type 0 where
+pub record IsStarted (k : PlanRun) (p : code_plan.Plan) (os : List (Option Held)) (order : List StepHalf) (flat : List Bool) : Type 0 where
   pub valid : is_valid k.graph.now ≡ true
   pub sound : IsSound k.graph.now.catalog k.typed.now
   pub fits : Fits k.graph.now.catalog k.typed.now (plan_of p)
   pub builds : AreBuilds k.graph.now k.typed.now (plan_of p) os
   pub plan : k.plan.now ≡ p.steps
-  pub order_is : order ≡ at_numbers (parts_of 0 (steps_of (plan_of p))) (led_order k.typed.now (plan_of p))
+  pub order_is : order ≡ at_numbers (numbered_halves 0 (steps_of (plan_of p))) (led_order k.typed.now (plan_of p))
   pub flat_is : flat ≡ flags_of k.typed.now (plan_of p)
-  pub within : All (λ (q : Part). q.step < length p.steps) order
+  pub within : All (λ (q : StepHalf). q.step < length p.steps) order
   pub arranged : 0 < (places (plan_of p)).count → IsArranged k.graph.now.catalog k.typed.now (plan_of p) (led_order k.typed.now (plan_of p)) flat
-  pub steps_are : run_steps k.steps.items ≡ map (part_in (map step_of p.steps)) order
-  pub builds_are : builds_in k ≡ map (λ (q : Part). slice_index_or os q.step None) order
+  pub steps_are : run_steps k.steps.items ≡ map (half_in (map step_of p.steps)) order
+  pub builds_are : builds_in k ≡ map (λ (q : StepHalf). slice_index_or os q.step None) order
   pub tests_are : k.tests.items ≡ conditions_of k.graph.now k.typed.now
 
-module _ (k : PlanRun) (p : code_plan.Plan) (os : List (Option Held)) (order : List Part) (flat : List Bool) (s : IsStarted k p os order flat) where
+module _ (k : PlanRun) (p : code_plan.Plan) (os : List (Option Held)) (order : List StepHalf) (flat : List Bool) (s : IsStarted k p os order flat) where
   abbrev c : Run
   c = run_of k
 
@@ -170,8 +170,8 @@ module _ (k : PlanRun) (p : code_plan.Plan) (os : List (Option Held)) (order : L
   -- the plan that runs
   list_is : c.steps ≡ at_numbers (flat_map halves (steps_of (plan_of p))) ns
   list_is =
-      s.steps_are ∙ ap (λ ss. map (part_in ss) order) (sym steps_same) ∙ ap (map (part_in (steps_of (plan_of p)))) s.order_is
-      ∙ parts_run (steps_of (plan_of p)) ns
+      s.steps_are ∙ ap (λ ss. map (half_in ss) order) (sym steps_same) ∙ ap (map (half_in (steps_of (plan_of p)))) s.order_is
+      ∙ halves_run (steps_of (plan_of p)) ns
 
   runs_are : steps c.steps ≡ led y (plan_of p)
   runs_are = ap steps (list_is ∙ ap (λ ss. at_numbers ss ns) (sym (steps_back (flat_map halves (steps_of (plan_of p))))))
@@ -185,8 +185,8 @@ module _ (k : PlanRun) (p : code_plan.Plan) (os : List (Option Held)) (order : L
   fits_run : Runs g.catalog y (steps c.steps)
   fits_run = subst (Runs g.catalog y) (sym runs_are) runs_all.runs
 
-  parts_low : AllByRecursion (λ (q : Part). q.step < length (map step_of p.steps)) order
-  parts_low = subst (λ n. AllByRecursion (λ (q : Part). q.step < n) order) (sym (length-map p.steps step_of)) (recursion_from_All (λ (q : Part). q.step < length p.steps) order s.within)
+  halves_low : AllByRecursion (λ (q : StepHalf). q.step < length (map step_of p.steps)) order
+  halves_low = subst (λ n. AllByRecursion (λ (q : StepHalf). q.step < n) order) (sym (length-map p.steps step_of)) (recursion_from_All (λ (q : StepHalf). q.step < length p.steps) order s.within)
 
   pub run : IsRun c
   run = record {
@@ -194,8 +194,8 @@ module _ (k : PlanRun) (p : code_plan.Plan) (os : List (Option Held)) (order : L
     sound = s.sound;
     fits = fits_run;
     builds = subst (AreBuilds g y (steps c.steps)) (sym s.builds_are)
-        (subst (λ ss. AreBuilds g y (steps ss) (map (λ (q : Part). slice_index_or os q.step None) order)) (sym s.steps_are)
-        (builds_parts g y (map step_of p.steps) os order (subst (λ q. AreBuilds g y q os) (plan_is p) s.builds) parts_low));
+        (subst (λ ss. AreBuilds g y (steps ss) (map (λ (q : StepHalf). slice_index_or os q.step None) order)) (sym s.steps_are)
+        (builds_halves g y (map step_of p.steps) os order (subst (λ q. AreBuilds g y q os) (plan_is p) s.builds) halves_low));
     tests = s.tests_are;
   }
 
@@ -304,8 +304,8 @@ module _ (k : PlanRun) (p : code_plan.Plan) (os : List (Option Held)) (order : L
         let made : makers_of (steps_of (given_plan k)) os ≡ map (maker_in c) ss =
         ap (λ q. makers_of (steps_of q) os) (sym plan_same)
         ∙ sym runs_all.makers
-        ∙ ap (λ qs. makers_of (map (part_in (steps_of (plan_of p))) qs) (map (λ (q : Part). slice_index_or os q.step None) qs)) (sym s.order_is)
-        ∙ ap₂ makers_of (ap (λ ss. map (part_in ss) order) steps_same ∙ sym s.steps_are) (sym s.builds_are)
+        ∙ ap (λ qs. makers_of (map (half_in (steps_of (plan_of p))) qs) (map (λ (q : StepHalf). slice_index_or os q.step None) qs)) (sym s.order_is)
+        ∙ ap₂ makers_of (ap (λ ss. map (half_in ss) order) steps_same ∙ sym s.steps_are) (sym s.builds_are)
         ∙ makers_run c (builds_many g y c.steps c.builds run.builds) ss grouped_run.tiles grouped_run.cut in
         let each : length os ≡ length (steps_of (given_plan k)) = many_builds ∙ ap (λ q. length (steps_of q)) plan_same in
         record {

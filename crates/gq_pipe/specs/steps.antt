@@ -1,3 +1,4 @@
+pub mod Ahead
 pub mod Alone
 pub mod Before
 pub mod Built
@@ -9,6 +10,8 @@ pub mod Given
 pub mod Limits
 pub mod Matches
 pub mod Origins
+pub mod Recalled
 pub mod Search
+pub mod Sights
 pub mod Told
 pub mod Valued

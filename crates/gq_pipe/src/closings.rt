@@ -1,14 +1,18 @@
-//! What groups that follow lists are told by later ones that close at their nodes.
+//! What groups are told by later ones: those that follow lists by ones that close at their nodes, and
+//! others by ones that follow lists from theirs.
 ghost use Rattle.std.specs.Prelude.{◌≡◌, ◌<◌, length, false, true, IfSome};
-ghost use Rattle.gq_pipe.specs.steps.Closings.{AreClosings, IsClosing};
+ghost use Rattle.gq_pipe.specs.steps.Ahead.{AreAhead, IsAhead};
+ghost use Rattle.gq_pipe.specs.steps.Closings.{IsClosing};
 ghost use Rattle.gq_pipe.specs.steps.Told.{BindsNode, Closes, IsBoundBefore};
 ghost use Rattle.gq_plan.specs.Plans.{Close, Extend};
 ghost use Rattle.gq_plan.specs.Rows.{rel_table};
 ghost use Rattle.gq_steps.specs.Levels.{step_at};
-ghost use Rattle.gq_steps.specs.Moves.{run_of};
+ghost use Rattle.gq_steps.specs.Moves.{run_of, IsRun};
 ghost use Rattle.gq_store.specs.Neighbours.{opposite};
 
+use crate::ahead::Ahead;
 use crate::closing::Closing;
+use crate::sights::sight_of;
 use gq_base::Direction;
 use gq_near::NearSet;
 use gq_plan::Step;
@@ -21,18 +25,40 @@ pub(crate) fn closings<'g>(
     alloc: Global,
     plan_run: &PlanRun<'g>,
     groups: &[GroupSteps],
-) -> Vec<Option<Closing<'g>>>
-    ensures { AreClosings (run_of plan_run.now) groups.now result.items }
+) -> Vec<Option<Ahead<'g>>>
+    requires { IsRun (run_of plan_run.now) }
+    ensures { AreAhead (run_of plan_run.now) groups.now result.items }
 {
     let mut told = Vec::new(alloc);
     for depth in 0..groups.len() {
-        let closing = closing_of(alloc, plan_run, groups, depth);
-        match told.push(closing) {
+        let ahead = ahead_of(alloc, plan_run, groups, depth);
+        match told.push(ahead) {
             Ok(()) => {}
             Err(_) => return Vec::new(alloc),
         }
     }
     told
+}
+
+// What a group is told by a later one: by one that closes at its node, or else by one that follows
+// a list from it.
+fn ahead_of<'g>(
+    alloc: Global,
+    plan_run: &PlanRun<'g>,
+    groups: &[GroupSteps],
+    depth: usize,
+) -> Option<Ahead<'g>>
+    requires run { IsRun (run_of plan_run.now) }
+    requires depth { depth < length groups.now }
+    ensures { IfSome result (IsAhead (run_of plan_run.now) groups.now depth) }
+{
+    match closing_of(alloc, plan_run, groups, depth) {
+        Some(closing) => Some(Ahead::Near(closing)),
+        None => match sight_of(alloc, plan_run, groups, depth) {
+            Some(sight) => Some(Ahead::Far(sight)),
+            None => None,
+        },
+    }
 }
 
 // What a group is told by the first later one that closes at its node.
@@ -134,8 +160,8 @@ fn closes(plan_run: &PlanRun<'_>, depth: usize) -> Option<Follow>
     }
 }
 
-// The other direction.
-fn opposite(direction: Direction) -> Direction
+/// The other direction.
+pub(crate) fn opposite(direction: Direction) -> Direction
     ensures { result ≡ opposite direction }
 {
     match direction {

@@ -1,10 +1,11 @@
 //! Joins whose matches are found by a value: a test of the group asks that a property of a node of
 //! the build is equal to one of a node that stands.
-ghost use Rattle.std.specs.Prelude.{◌≡◌, ◌<◌, ◌≤◌, ◌+◌, ◌*◌, ◌^◌, [], Bool, List, Some, IfOk, IfSome, length};
+ghost use Rattle.std.specs.Prelude.{◌≡◌, ◌≢◌, ◌<◌, ◌≤◌, ◌+◌, ◌*◌, ◌^◌, [], ℕ, Bool, List, Some, IfOk, IfSome, length};
 ghost use Rattle.std.specs.Prelude.{slice_get, true, false};
 ghost use Rattle.gq_filter.specs.Equal.{HaveOne};
 ghost use Rattle.gq_index.specs.Numbered.{HasRows};
 ghost use Rattle.gq_join.specs.Kept.{place_of};
+ghost use Rattle.gq_pipe.specs.steps.Recalled.{IsOwn};
 ghost use Rattle.gq_pipe.specs.steps.Valued.{AreIndexed, AsksEqual, IsFoundIn, IsIndexed, IsNotBefore};
 ghost use Rattle.gq_pipe.specs.steps.Valued.{IsUnkeyed, IsValueJoin, is_test, number_in, numbers_in};
 ghost use Rattle.gq_plan.specs.Plans.{Keep};
@@ -16,13 +17,14 @@ ghost use Rattle.gq_steps.specs.Moves.{run_of, IsRun, IsHeld};
 ghost use Rattle.gq_steps.specs.Tries.{tries};
 ghost use Rattle.gq_steps.specs.steps.Outcomes.{passes_at};
 
+use crate::recalled::sift_piece;
 use gq_base::Memory;
 use gq_bits::{Marks, VECTOR};
 use gq_filter::{EqualColumns, NodeColumn};
 use gq_index::{RowsByNumber, number_of};
 use gq_join::Sealed;
 use gq_plan::{Assignment, Step};
-use gq_sift::{sift, sift_among};
+use gq_sift::{Remembered, sift_among};
 use gq_steps::{GroupSteps, PlanRun};
 use std::alloc::Global;
 
@@ -83,9 +85,11 @@ pub(crate) fn index_at<'i, 'g>(
 }
 
 /// As `sift`, of so many places of a piece. Where the group at a depth has an index, only the places
-/// are tried at which the value stands that is asked for.
+/// are tried at which the value stands that is asked for; else what is remembered of its list is
+/// looked up.
 pub(crate) fn sift_found(
     indexes: &[Option<ValueIndex<'_>>],
+    remembered: &mut Vec<Option<Remembered>>,
     depth: usize,
     plan_run: &mut PlanRun<'_>,
     group: GroupSteps,
@@ -93,7 +97,8 @@ pub(crate) fn sift_found(
     piece: u32,
     count: u32,
     row: &mut Assignment,
-) -> Marks
+    marks: &mut Marks,
+)
     requires run { IsRun (run_of plan_run.old) }
     requires steps { IsRange (run_of plan_run.old) group }
     requires held { IsHeld (run_of plan_run.old) row.old (known (run_of plan_run.old) group.first) }
@@ -105,23 +110,55 @@ pub(crate) fn sift_found(
     requires among { (t : ValueIndex) (marks : List Bool)
         → slice_get indexes.now depth ≡ Some (Some t) → IsFoundIn t piece row.old marks
         → IsAmong (run_of plan_run.old) group (piece * VECTOR) count row.old marks }
+    requires own { IsOwn (run_of plan_run.old) group remembered.old.items depth }
     ensures sifted { IsSifted (run_of plan_run.old) group (piece * VECTOR) count row.old row.new
-        result }
+        marks.new }
+    ensures own { IsOwn (run_of plan_run.old) group remembered.new.items depth }
+    ensures others { (d : ℕ) → d ≢ depth →
+        slice_get remembered.new.items d ≡ slice_get remembered.old.items d }
     ensures same { plan_run.new ≡ plan_run.old }
 {
-    let first = piece * VECTOR;
     match index_at(indexes, depth) {
-        None => sift(plan_run, group, matches, first, count, row),
+        None => sift_piece(
+            remembered, depth, plan_run, group, matches, piece, count, row, marks,
+        ),
         Some(index) => {
-            let among = index.piece(piece, row);
-            sift_among(plan_run, group, matches, first, count, among, row)
+            *marks = index.piece(piece, row);
+            sift_among(plan_run, group, matches, piece * VECTOR, count, row, marks);
         }
     }
 }
 
-/// The index of each group that has one. The memory for it is taken here; where there is none, no
-/// group has one.
+/// The index of each group that has one, and nothing where no group has one. The memory for it is
+/// taken here; where there is none, no group has one.
 pub(crate) fn value_indexes<'g>(
+    alloc: Global,
+    plan_run: &PlanRun<'g>,
+    groups: &[GroupSteps],
+) -> Vec<Option<ValueIndex<'g>>>
+    requires { IsRun (run_of plan_run.now) }
+    ensures { AreIndexed (run_of plan_run.now) groups.now result.items }
+{
+    let indexes = each_index(alloc, plan_run, groups);
+    if has_index(indexes.as_slice()) {
+        indexes
+    } else {
+        Vec::new(alloc)
+    }
+}
+
+// Whether a group has an index.
+fn has_index(indexes: &[Option<ValueIndex<'_>>]) -> bool {
+    for index in indexes {
+        if index.is_some() {
+            return true;
+        }
+    }
+    false
+}
+
+// The index of each group, if it has one.
+fn each_index<'g>(
     alloc: Global,
     plan_run: &PlanRun<'g>,
     groups: &[GroupSteps],
@@ -292,8 +329,8 @@ fn asks_equal<'g>(plan_run: &PlanRun<'g>, depth: usize, build: &Sealed) -> Optio
     }
 }
 
-// The test that the step at a depth asks for, if it does.
-fn test_at(plan_run: &PlanRun<'_>, depth: usize) -> Option<u32>
+/// The test that the step at a depth asks for, if it does.
+pub(crate) fn test_at(plan_run: &PlanRun<'_>, depth: usize) -> Option<u32>
     ensures { IfSome result (λ i. step_at (run_of plan_run.now) depth ≡ Keep i) }
 {
     if depth >= plan_run.steps.len() {

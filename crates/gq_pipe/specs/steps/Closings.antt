@@ -1,5 +1,5 @@
 -- What a group that follows a list is told by a later one that closes at its node.
-use Rattle.std.specs.Prelude.{◌≡◌, ℕ, ◌<◌, false, Option, Some, List, length, slice_get}
+use Rattle.std.specs.Prelude.{◌≡◌, ℕ, ◌<◌, false, List, length}
 use Rattle.gq_plan.specs.Plans.{Extend}
 use Rattle.gq_plan.specs.Rows.{rel_table}
 use Rattle.gq_steps.specs.Groups.{group_at}
@@ -21,6 +21,3 @@ pub record IsClosing (c : Run) (ss : List GroupSteps) (depth : ℕ) (t : Closing
   pub graph : t.near.graph ≡ c.graph
   pub table : t.near.table ≡ rel_table c.typed rel
   pub bound : IsBoundBefore c ss depth t.other
-
-abbrev pub AreClosings : Run → List GroupSteps → List (Option Closing) → Type 0
-AreClosings c ss ts = (depth : ℕ) (t : Closing) → slice_get ts depth ≡ Some (Some t) → IsClosing c ss depth t

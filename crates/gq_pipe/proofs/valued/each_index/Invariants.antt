@@ -1,7 +1,7 @@
 use Rattle.std.proofs.Common.{◌≡◌, length}
 use Rattle.gq_steps.specs.Moves.{run_of}
 use Rattle.gq_pipe.specs.steps.Valued.{AreIndexed}
-use Rattle.gq_pipe.proofs.valued.value_indexes.Given as goal
+use Rattle.gq_pipe.proofs.valued.each_index.Given as goal
 
 abbrev pub invariant-loop-group : goal.invariant-loop-group
 invariant-loop-group l = record {

@@ -6,7 +6,7 @@ use Rattle.gq_steps.specs.Moves.{run_of}
 use Rattle.gq_pipe.specs.declared.valued.ValueIndex.{ValueIndex}
 use Rattle.gq_pipe.specs.steps.Valued.{AreIndexed, IsIndexed}
 use Rattle.gq_pipe.proofs.Indexing.{one_indexed}
-use Rattle.gq_pipe.proofs.valued.value_indexes.Goals as goal
+use Rattle.gq_pipe.proofs.valued.each_index.Goals as goal
 
 pub loop-group-preserved : goal.loop-group-preserved
 loop-group-preserved c =
