@@ -1,3 +1,5 @@
 mod Adding
+mod Answering
+mod Asking
 mod Spanning
 mod Testing

@@ -11,3 +11,11 @@ use Rattle.gq_plan.specs.declared.TrailPart.{TrailPart}
 pub record AreEnds (g : Graph) (p : TrailPart) (ns : List NodeId) : Type 0 where
   pub inside : AllByRecursion (λ n. is_node g n ≡ true) ns
   pub all : (n : NodeId) → is_node g n ≡ true → fits_end g p n ≡ true → Contains ns n
+
+-- the other end of a trail over a graph
+pub record OtherEnd : Type 0 where
+  pub graph : Graph
+  pub part : TrailPart
+
+abbrev pub other_end : Graph → TrailPart → OtherEnd
+other_end g p = record { graph = g; part = p }

@@ -7,7 +7,7 @@ use gq_base::{Catalog, Text};
 use gq_store::Graph;
 
 /// Whether the nodes of a table have all of some labels.
-pub fn has_labels(graph: &Graph, labels: &[Text], table: u32) -> bool
+pub(crate) fn has_labels(graph: &Graph, labels: &[Text], table: u32) -> bool
     ensures { let found = slice_get graph.now.catalog.nodes table in
         result ≡ list_all (has_label found) labels.now }
 {

@@ -57,7 +57,9 @@ pub fn is_listing(bound: &Bound) -> bool
 }
 
 /// How the values of columns are kept for an alternative in a graph, in the place of what was
-/// there; where that was done, it stays.
+/// there; where that was done, it stays. It is called for each row, and then mostly there is nothing
+/// to do.
+#[inline(always)]
 pub fn find_columns<'g>(
     done: bool,
     cells: &mut Cells<'g>,
@@ -75,6 +77,21 @@ pub fn find_columns<'g>(
     if done {
         return Ok(());
     }
+    make_finders(cells, finders, bound, typed, graph)
+}
+
+// How they are kept, found anew.
+fn make_finders<'g>(
+    cells: &mut Cells<'g>,
+    finders: &mut Vec<Finder>,
+    bound: &Bound,
+    typed: &Typed,
+    graph: &'g Graph,
+) -> Result<(), Memory>
+    ensures finds { let columns = asked_of graph.now bound.now.columns in
+        OnOk result (AreFinders cells.new.sources columns finders.new.items) }
+    ensures values { cells.new.values ≡ cells.old.values }
+{
     let tables = Tables { bound, typed };
     let columns = bound.columns.as_slice();
     let null = cells.add(Source::Value(Value::Null))?;

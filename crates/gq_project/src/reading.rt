@@ -31,7 +31,9 @@ impl<'g> Reading<'g> {
         }
     }
 
-    /// Makes those of a query over a graph ready; where that was done, they stay.
+    /// Makes those of a query over a graph ready; where that was done, they stay. It is called for
+    /// each row, and then mostly there is nothing to do.
+    #[inline(always)]
     pub fn prepare(
         &mut self,
         alloc: Global,
@@ -45,6 +47,20 @@ impl<'g> Reading<'g> {
         if self.ready {
             return Ok(());
         }
+        self.make_ready(alloc, bound, graph)
+    }
+
+    // Makes those of a query over a graph ready.
+    fn make_ready(
+        &mut self,
+        alloc: Global,
+        bound: &'g Bound,
+        graph: &'g Graph,
+    ) -> Result<(), Memory>
+        requires { IsReadyFor graph.now bound.now self.old }
+        ensures reads { OnOk result (IsReading graph.now bound.now self.new) }
+        ensures ready { IsReadyFor graph.now bound.now self.new }
+    {
         *self = Reading {
             ready: true,
             columns: evaluators(alloc, bound.columns.as_slice(), graph)?,

@@ -13,8 +13,8 @@ use crate::ends::arrives;
 use crate::taken::Taken;
 use crate::trails::Trails;
 use crate::trek::take_patterns;
-use gq_base::{List, Memory, NodeId};
-use gq_eval::{Evaluator, evaluators};
+use gq_base::{Memory, NodeId};
+use gq_ends::TrailEnd;
 use gq_expr::Assigned;
 use gq_hops::Reacher;
 use gq_outer::WideRow;
@@ -27,8 +27,7 @@ use std::alloc::Global;
 pub(crate) struct Ends<'g> {
     pub(crate) graph: &'g Graph,
     pub(crate) part: &'g TrailPart,
-    // The tests of the trail's other end.
-    pub(crate) tests: List<Evaluator<'g>>,
+    pub(crate) end: TrailEnd<'g>,
     pub(crate) reacher: Reacher<'g>,
     // What is bound, and behind the first end that was reached the node there too.
     pub(crate) row: WideRow,
@@ -57,7 +56,7 @@ impl<'g> Ends<'g> {
         Ok(Ends {
             graph,
             part,
-            tests: evaluators(alloc, part.tests.as_slice(), graph)?,
+            end: TrailEnd::new(alloc, graph, part)?,
             reacher: Reacher::new(alloc, graph, part)?,
             row: WideRow::new(alloc, nodes, rels)?,
             stands: false,
@@ -119,9 +118,8 @@ impl<'g> Ends<'g> {
         ensures ends { AreEnds self.new }
         ensures same { AreSameEnds self.old self.new }
     {
-        'ends: while let Some(end) = self.reacher.next() {
-            let tests = self.tests.as_slice();
-            if arrives(self.graph, self.part, tests, end, &mut self.row) {
+        'ends: while let Some(node) = self.reacher.next() {
+            if arrives(self.part, &mut self.end, node, &mut self.row) {
                 return true;
             }
         }

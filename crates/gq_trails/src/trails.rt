@@ -4,10 +4,11 @@ ghost use Rattle.gq_law_trails.specs.Trails.{taken_in};
 ghost use Rattle.gq_trails.specs.Trekking.{CanTrek, HasLength, IsRowOf, continuations};
 ghost use Rattle.gq_trails.specs.steps.Walked.{walked_of};
 
-use crate::ends::tests_for;
+use crate::ends::trail_ends;
 use crate::taken::Taken;
 use crate::trek::{Route, Trek, take_walks};
 use gq_base::Memory;
+use gq_ends::TrailEnd;
 use gq_hops::{State, state_after};
 use gq_outer::WideRow;
 use gq_plan::{TrailPart, TypedRel};
@@ -21,6 +22,8 @@ use std::marker::Model;
 #[derive(Drop)]
 pub struct Trails<'g> {
     route: Route<'g>,
+    // The other ends of the trails.
+    ends: Vec<TrailEnd<'g>>,
     trek: Trek<'g>,
     state: State,
 }
@@ -62,8 +65,8 @@ impl<'g> Trails<'g> {
                 graph,
                 parts,
                 rels: &[],
-                tests: tests_for(alloc, graph, parts)?,
             },
+            ends: trail_ends(alloc, graph, parts)?,
             trek: Trek::new(alloc, graph, parts, nodes, rels)?,
             state: State::Over,
         })
@@ -100,8 +103,8 @@ impl<'g> Trails<'g> {
         ensures rels { self.new.rels ≡ self.old.rels }
     {
         let found = match self.state {
-            State::Fresh => self.trek.first(&self.route),
-            State::Standing => self.trek.go_on(&self.route),
+            State::Fresh => self.trek.first(&self.route, &mut self.ends),
+            State::Standing => self.trek.go_on(&self.route, &mut self.ends),
             State::Over => false,
         };
         self.state = state_after(found);

@@ -10,7 +10,7 @@ ghost use Rattle.gq_marks.specs.Marking.{bound_of};
 ghost use Rattle.gq_plan.specs.Assignments.{is_node};
 ghost use Rattle.gq_law_trails.specs.Trails.{after_trails, taken_in};
 ghost use Rattle.gq_trails.specs.Trekking.{HasLength, patterns_in};
-ghost use Rattle.gq_trails.specs.steps.Ends.{AreTests, may_end, tests_of};
+ghost use Rattle.gq_trails.specs.steps.Ends.{AreEndsOf, may_end};
 ghost use Rattle.gq_trails.specs.steps.Journeys.{AreWalkers, GoesToFits, HaveCourses, IsAt, IsFound};
 ghost use Rattle.gq_trails.specs.steps.Journeys.{IsMade, IsWalkerFor};
 ghost use Rattle.gq_trails.specs.steps.Journeys.{IsStarted, IsTried, journey_of, owed_at, owed_behind};
@@ -20,9 +20,8 @@ ghost use Rattle.gq_outer.specs.Rows.{item_at};
 
 use crate::ends::arrives;
 use crate::taken::Taken;
-use gq_base::{List, Memory, NodeId, RelId};
-use gq_ends::end_nodes;
-use gq_eval::Evaluator;
+use gq_base::{Memory, NodeId, RelId};
+use gq_ends::{TrailEnd, end_nodes};
 use gq_expr::Assigned;
 use gq_hops::Walker;
 use gq_outer::WideRow;
@@ -39,20 +38,6 @@ pub(crate) struct Route<'g> {
     pub(crate) graph: &'g Graph,
     pub(crate) parts: &'g [TrailPart],
     pub(crate) rels: &'g [TypedRel],
-    // The tests of the trails' other ends.
-    pub(crate) tests: List<List<Evaluator<'g>>>,
-}
-
-impl<'g> Route<'g> {
-    // The tests of the other end of the trail at a depth.
-    #[tactic(auto, using(crate::proofs::Testing::tests_at))]
-    fn tests_at(&self, depth: usize) -> &[Evaluator<'g>]
-        requires low { depth < length self.now.parts.now }
-        requires tests { AreTests self.now.graph.now self.now.parts.now self.now.tests }
-        ensures { result.now ≡ tests_of self.now.graph.now (part_at self.now.parts.now depth) }
-    {
-        self.tests.as_slice()[depth].as_slice()
-    }
 }
 
 /// Where the search is.
@@ -112,22 +97,28 @@ impl<'g> Trek<'g> {
 
     /// Goes on from the trail at a depth until each trail has a walk, and answers whether they
     /// have.
-    pub(crate) fn next(&mut self, route: &Route<'g>, from: usize) -> bool
+    pub(crate) fn next(
+        &mut self,
+        route: &Route<'g>,
+        ends: &mut Vec<TrailEnd<'g>>,
+        from: usize,
+    ) -> bool
         requires low { from < length route.now.parts.now }
-        requires tests { AreTests route.now.graph.now route.now.parts.now route.now.tests }
+        requires ends { AreEndsOf route.now.graph.now route.now.parts.now ends.old.items }
         requires few { length route.now.parts.now + length route.now.rels.now ≤ 24 }
         requires at { let j = journey_of route.now self.old.row in
             IsAt j self.old.walkers.items self.old.row from }
         requires walkers { let j = journey_of route.now self.old.row in
             AreWalkers j self.old.walkers.items self.old.row }
-        ensures { let j = journey_of route.now self.old.row in
+        ensures found { let j = journey_of route.now self.old.row in
             let owed = owed_at j self.old.walkers.items from in
             IsFound j owed result self.new.walkers.items self.new.row }
+        ensures same { ends.new.items ≡ ends.old.items }
     {
         let mut depth = from;
-        loop {
+        'depths: loop {
             if self.walkers[depth].advance() {
-                if self.goes_on(route, depth) {
+                if self.goes_on(route, ends, depth) {
                     depth += 1;
                     if depth == route.parts.len() {
                         return true;
@@ -144,60 +135,63 @@ impl<'g> Trek<'g> {
     }
 
     /// Goes to the first continuation of the row, and answers whether there is one.
-    pub(crate) fn first(&mut self, route: &Route<'g>) -> bool
-        requires tests { AreTests route.now.graph.now route.now.parts.now route.now.tests }
+    pub(crate) fn first(&mut self, route: &Route<'g>, ends: &mut Vec<TrailEnd<'g>>) -> bool
+        requires ends { AreEndsOf route.now.graph.now route.now.parts.now ends.old.items }
         requires few { length route.now.parts.now + length route.now.rels.now ≤ 24 }
         requires at { let j = journey_of route.now self.old.row in
             IsAt j self.old.walkers.items self.old.row 0 }
         requires walkers { let j = journey_of route.now self.old.row in
             AreWalkers j self.old.walkers.items self.old.row }
-        ensures { let j = journey_of route.now self.old.row in
+        ensures over { let j = journey_of route.now self.old.row in
             let all = after_trails j.graph (patterns_of j) j.parts j.base [] in
             IsOver route.now all self.old result self.new }
+        ensures same { ends.new.items ≡ ends.old.items }
     {
         if route.parts.is_empty() {
             return true;
         }
         self.start(route, 0);
-        self.next(route, 0)
+        self.next(route, ends, 0)
     }
 
     /// Goes on to the next continuation, where each trail has a walk, and answers whether there is
     /// one.
-    pub(crate) fn go_on(&mut self, route: &Route<'g>) -> bool
-        requires tests { AreTests route.now.graph.now route.now.parts.now route.now.tests }
+    pub(crate) fn go_on(&mut self, route: &Route<'g>, ends: &mut Vec<TrailEnd<'g>>) -> bool
+        requires ends { AreEndsOf route.now.graph.now route.now.parts.now ends.old.items }
         requires few { length route.now.parts.now + length route.now.rels.now ≤ 24 }
         requires at { let j = journey_of route.now self.old.row in
             IsAt j self.old.walkers.items self.old.row (length route.now.parts.now) }
         requires walkers { let j = journey_of route.now self.old.row in
             AreWalkers j self.old.walkers.items self.old.row }
-        ensures { let j = journey_of route.now self.old.row in
+        ensures over { let j = journey_of route.now self.old.row in
             let rest = owed_behind j self.old.walkers.items (length route.now.parts.now) in
             IsOver route.now rest self.old result self.new }
+        ensures same { ends.new.items ≡ ends.old.items }
     {
         let count = route.parts.len();
         if count == 0 {
             return false;
         }
-        self.next(route, count - 1)
+        self.next(route, ends, count - 1)
     }
 
     // Whether the walk of the trail at a depth ends where it may; the row has the node where the
     // trail binds it.
-    fn goes_on(&mut self, route: &Route<'g>, depth: usize) -> bool
+    #[inline(always)]
+    fn goes_on(&mut self, route: &Route<'g>, ends: &mut Vec<TrailEnd<'g>>, depth: usize) -> bool
         requires low { depth < length route.now.parts.now }
-        requires tests { AreTests route.now.graph.now route.now.parts.now route.now.tests }
+        requires ends { AreEndsOf route.now.graph.now route.now.parts.now ends.old.items }
         requires many { depth < length self.old.walkers.items }
         requires standing { (walk_at self.old.walkers.items depth).standing ≡ true }
         requires graph { (walk_at self.old.walkers.items depth).course.graph ≡ route.now.graph.now }
         requires way { (walk_at self.old.walkers.items depth).course.way
             ≡ (part_at route.now.parts.now depth).way }
         requires within { (part_at route.now.parts.now depth).to < length self.old.row.nodes }
-        ensures { IsTried route.now depth self.old self.new result }
+        ensures tried { IsTried route.now depth self.old self.new result }
+        ensures same { ends.new.items ≡ ends.old.items }
     {
-        let end = self.walkers[depth].end();
-        let tests = route.tests_at(depth);
-        arrives(route.graph, &route.parts[depth], tests, end, &mut self.row)
+        let node = self.walkers[depth].end();
+        arrives(&route.parts[depth], &mut ends[depth], node, &mut self.row)
     }
 }
 

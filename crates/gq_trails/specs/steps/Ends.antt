@@ -1,25 +1,16 @@
 -- Whether a walk of a trail may end at a node, and what becomes of the row.
-use Rattle.std.specs.Prelude.{◌≡◌, Bool, Some, List, [], map, slice_set, if◌then◌else◌}
+use Rattle.std.specs.Prelude.{◌≡◌, Bool, Some, List, map, slice_set, if◌then◌else◌}
 use Rattle.gq_base.specs.Plain.{Graph}
 use Rattle.gq_base.specs.declared.NodeId.{NodeId}
-use Rattle.gq_eval.specs.Asked.{Asked, asked_of}
-use Rattle.gq_expr.specs.Reading as reading
+use Rattle.gq_ends.specs.Ends.{OtherEnd, other_end}
 use Rattle.gq_law_trails.specs.Trails.{fits_end}
 use Rattle.gq_plan.specs.declared.TrailPart.{TrailPart}
 use Rattle.gq_plan.specs.Allowed.{at_same}
-use Rattle.gq_plan.specs.Conditions.{passes}
 use Rattle.gq_outer.specs.Rows.{Wide, item_at}
 
--- the tests of a trail's other end, and those of all trails
-abbrev pub tests_of : Graph → TrailPart → List Asked
-tests_of g p = asked_of g p.tests
-
-abbrev pub AreTests : Graph → List TrailPart → List (List Asked) → Type 0
-AreTests g parts tests = tests ≡ map (tests_of g) parts
-
--- a test is true of a row (what it is called plays no part)
-abbrev pub holds : reading.Assignment → Asked → Bool
-holds row a = passes a.graph row (record { name = []; expr = a.expr })
+-- the other ends of all trails
+abbrev pub AreEndsOf : Graph → List TrailPart → List OtherEnd → Type 0
+AreEndsOf g parts ends = ends ≡ map (other_end g) parts
 
 -- the other end has to be the node where it is bound; else the node has to be as the trail asks
 abbrev pub may_end : Graph → TrailPart → Wide → NodeId → Bool

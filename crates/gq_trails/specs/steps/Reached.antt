@@ -3,12 +3,12 @@ use Rattle.std.specs.Prelude.{◌≡◌, ◌⊎◌, ℕ, ◌<◌, ◌≤◌, Boo
 use Rattle.std.specs.List.{AllByRecursion}
 use Rattle.gq_base.specs.Plain.{Graph}
 use Rattle.gq_base.specs.declared.NodeId.{NodeId}
+use Rattle.gq_ends.specs.Ends.{other_end}
 use Rattle.gq_law_ends.specs.Reaching.{rows_at}
 use Rattle.gq_plan.specs.Assignments.{is_node}
 use Rattle.gq_plan.specs.Meaning.{Partial, look}
 use Rattle.gq_plan.specs.declared.TrailPart.{TrailPart}
 use Rattle.gq_outer.specs.Rows.{Wide, item_at}
-use Rattle.gq_trails.specs.steps.Ends.{tests_of}
 use Rattle.gq_trails.specs.steps.Journeys.{binds, bound_at, cleared}
 use Rattle.gq_trails.specs.declared.reached.Ends.{Ends}
 
@@ -48,7 +48,7 @@ pub record AreEnds (e : Ends) : Type 0 where
   pub way : e.reacher.way ≡ e.part.now.way
   pub high : e.reacher.high ≡ e.part.now.high
   pub some : 1 ≤ e.part.now.high
-  pub tests : e.tests ≡ tests_of e.graph.now e.part.now
+  pub end : e.end ≡ other_end e.graph.now e.part.now
   pub within : (e.reacher.owed ≡ []) ⊎ (e.part.now.to < length e.row.nodes)
   pub there : AllByRecursion (λ n. is_node e.graph.now n ≡ true) e.reacher.owed
 

@@ -2,7 +2,7 @@
 use Rattle.std.specs.Prelude.{◌≡◌, ℕ, ◌+◌, ◌<◌, ◌≤◌, Bool, MatchBool, List, [], ◌∷◌, length}
 use Rattle.gq_law_trails.specs.Trails.{Trailing, after_trails}
 use Rattle.gq_trails.specs.Trekking.{Trekking}
-use Rattle.gq_trails.specs.steps.Ends.{AreTests}
+use Rattle.gq_trails.specs.steps.Ends.{AreEndsOf}
 use Rattle.gq_hops.specs.States.{is_standing}
 use Rattle.gq_trails.specs.steps.Journeys.{HaveCourses, IsAt, Journey, journey_of, owed_behind, part_at, patterns_of, reached_at}
 use Rattle.gq_hops.specs.declared.state.State.{State}
@@ -41,7 +41,7 @@ IsIn Over r t = Unit {0}
 pub record IsTrekking (t : Inside) : Type 0 where
   pub count : length t.trek.walkers.items ≡ length t.route.parts.now
   pub courses : HaveCourses t.route.graph.now t.route.parts.now t.trek.walkers.items (length t.route.parts.now)
-  pub tests : AreTests t.route.graph.now t.route.parts.now t.route.tests
+  pub ends : AreEndsOf t.route.graph.now t.route.parts.now t.ends.items
   pub state : IsIn t.state t.route t.trek
 
 -- ---- moves

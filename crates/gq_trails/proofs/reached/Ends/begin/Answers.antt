@@ -59,7 +59,7 @@ returns-in-None-known_end-clause-ends c =
       way = ap (λ (r : Reaching). r.way) new ∙ ends.way;
       high = ap (λ (r : Reaching). r.high) new ∙ ends.high;
       some = ends.some;
-      tests = ends.tests;
+      end = ends.end;
       within = inr (subst (λ (w : Wide). e.part.now.to < length w.nodes) (sym c.copy_from.ensures) c.requires.walks.ends.0);
       there = begun_there e.graph.now e.part.now (barred_behind c.args.rels.now walked base.rels) base e.reacher c.as_slice-used.result.now c.in-Some.start c.requires.walks ends.graph ends.kind ends.way ends.high taken from
           c.stands_valid.ensures ends.some c.begin.new.self.owed (ap (λ (r : Reaching). r.owed) new);
@@ -93,7 +93,7 @@ returns-in-Some-known_end-clause-ends c =
       way = ap (λ (r : Reaching). r.way) new ∙ ends.way;
       high = ap (λ (r : Reaching). r.high) new ∙ ends.high;
       some = ends.some;
-      tests = ends.tests;
+      end = ends.end;
       within = inr (subst (λ (w : Wide). e.part.now.to < length w.nodes) (sym c.copy_from.ensures) c.requires.walks.ends.0);
       there = begun_to_there e.graph.now e.part.now (barred_behind c.args.rels.now walked base.rels) base e.reacher c.as_slice-used.result.now c.in-Some.start c.requires.walks ends.graph ends.kind ends.way ends.high taken from
           c.stands_valid.ensures ends.some c.in-Some-known_end.end c.begin_to.new.self.owed (ap (λ (r : Reaching). r.owed) new);

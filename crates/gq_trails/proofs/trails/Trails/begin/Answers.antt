@@ -14,14 +14,14 @@ invariant_of-self c =
     record {
       count = c.self.invariant.count;
       courses = c.self.invariant.courses;
-      tests = c.self.invariant.tests;
-      state = opens (record { graph = t.route.graph; parts = t.route.parts; rels = c.args.rels; tests = t.route.tests }) (record { walkers = t.trek.walkers; row = c.copy_from.new.self; taken = t.trek.taken }) c.args.base.now c.copy_from.ensures can few;
+      ends = c.self.invariant.ends;
+      state = opens (record { graph = t.route.graph; parts = t.route.parts; rels = c.args.rels }) (record { walkers = t.trek.walkers; row = c.copy_from.new.self; taken = t.trek.taken }) c.args.base.now c.copy_from.ensures can few;
     }
 
 pub returns-clause-owed : goal.returns-clause-owed
 returns-clause-owed c =
     let t = c.self.inside in
     let can : CanTrek t.route.graph.now t.route.parts.now c.args.base.now = subst (λ (m : Trekking). CanTrek m.graph m.parts c.args.base.now) (sym c.self.view_is) c.requires.walks in
-    ap (λ (row : Wide). after_trails t.route.graph.now (patterns_of (journey_of (record { graph = t.route.graph; parts = t.route.parts; rels = c.args.rels; tests = t.route.tests }) row)) t.route.parts.now (base_of t.route.parts.now row) []) c.copy_from.ensures
-    ∙ owes (record { graph = t.route.graph; parts = t.route.parts; rels = c.args.rels; tests = t.route.tests }) c.args.base.now can
+    ap (λ (row : Wide). after_trails t.route.graph.now (patterns_of (journey_of (record { graph = t.route.graph; parts = t.route.parts; rels = c.args.rels }) row)) t.route.parts.now (base_of t.route.parts.now row) []) c.copy_from.ensures
+    ∙ owes (record { graph = t.route.graph; parts = t.route.parts; rels = c.args.rels }) c.args.base.now can
     ∙ ap (λ (m : Trekking). continuations m.graph m.parts c.args.rels.now c.args.base.now) c.self.view_is

@@ -11,10 +11,10 @@ next-requires-clause-at c =
     let one : length r.parts.now ≡ suc (length r.parts.now - 1) = omega (arith, c.if-count-eq0.false) in
     at_back (journey_of r s.row) s.walkers.items s.row (length r.parts.now - 1) (omega (arith, c.if-count-eq0.false)) (subst (IsAt (journey_of r s.row) s.walkers.items s.row) one c.requires.at)
 
-pub returns-then-count-eq0 : goal.returns-then-count-eq0
-returns-then-count-eq0 c = none_left c.args.route.now c.args.self.now c.if-count-eq0.true c.requires.walkers
+pub returns-then-count-eq0-clause-over : goal.returns-then-count-eq0-clause-over
+returns-then-count-eq0-clause-over c = none_left c.args.route.now c.args.self.now c.if-count-eq0.true c.requires.walkers
 
-pub returns : goal.returns
-returns c =
+pub returns-clause-over : goal.returns-clause-over
+returns-clause-over c =
     let one : suc (length c.args.route.now.parts.now - 1) ≡ length c.args.route.now.parts.now = omega (arith, c.if-count-eq0.false) in
-    next_over c.args.route.now c.args.self.now c.next.new.self (length c.args.route.now.parts.now - 1) c.next.result c.requires.few one c.next.ensures
+    next_over c.args.route.now c.args.self.now c.next.new.self (length c.args.route.now.parts.now - 1) c.next.result c.requires.few one c.next.ensures.found

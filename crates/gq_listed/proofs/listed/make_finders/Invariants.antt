@@ -2,7 +2,7 @@ use Rattle.std.proofs.Common.{◌≡◌, take}
 use Rattle.gq_listed.specs.Finding.{IsNullAt}
 use Rattle.gq_listed.specs.Listed.{AreFinders}
 use Rattle.gq_eval.specs.Asked.{asked_of}
-use Rattle.gq_listed.proofs.listed.find_columns.Given as goal
+use Rattle.gq_listed.proofs.listed.make_finders.Given as goal
 
 abbrev pub invariant-columns : goal.invariant-columns
 invariant-columns l = record {

@@ -4,7 +4,7 @@ use Rattle.gq_plan.specs.declared.bound.NamedExpr.{NamedExpr}
 use Rattle.gq_listed.specs.Finding.{IsFinder}
 use Rattle.gq_listed.specs.Listed.{AreFinders}
 use Rattle.gq_listed.proofs.Finding.{stay_and}
-use Rattle.gq_listed.proofs.listed.find_columns.Goals as goal
+use Rattle.gq_listed.proofs.listed.make_finders.Goals as goal
 
 pub columns-preserved : goal.columns-preserved
 columns-preserved c =
