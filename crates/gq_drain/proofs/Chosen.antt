@@ -73,11 +73,11 @@ module _ (g : Graph) (y : Typed) (c : Chunk) (ps : List ℕ) where
   assigned_rels = length_rels y.rels _ (length-map-range_with_len _ 0 _)
 
 -- what a table answers to it, told of the query that was begun with and of the choice
-pub choice_pushed : (becomes : Becomes) (g : Graph) (b : Bound) (y : Typed) (c : Chunk) (mid new : Table) (row : Assignment) (ps qs : List ℕ) (r : Result More RowRefusal) → mid.bound ≡ b
-    → row ≡ assigned y (assignment_at g y c ps) → ps ≡ qs → PushesAll (becomes g mid.bound y row) mid new r → PushesAll (becomes g b y (assigned y (assignment_at g y c qs))) mid new r
-choice_pushed becomes g b y c mid new row ps qs r same is at h =
-    subst (λ q. PushesAll (becomes g b y (assigned y (assignment_at g y c q))) mid new r) at
-    (subst (λ t. PushesAll (becomes g b y t) mid new r) is (subst (λ q. PushesAll (becomes g q y row) mid new r) same h))
+pub choice_pushed : (becomes : Graph → Becomes) (g : Graph) (b : Bound) (y : Typed) (c : Chunk) (mid new : Table) (row : Assignment) (ps qs : List ℕ) (r : Result More RowRefusal) → mid.graph ≡ g → mid.bound ≡ b
+    → row ≡ assigned y (assignment_at g y c ps) → ps ≡ qs → PushesAll (becomes mid.graph mid.graph mid.bound y row) mid new r → PushesAll (becomes g g b y (assigned y (assignment_at g y c qs))) mid new r
+choice_pushed becomes g b y c mid new row ps qs r graph same is at h =
+    subst (λ q. PushesAll (becomes g g b y (assigned y (assignment_at g y c q))) mid new r) at
+    (subst (λ t. PushesAll (becomes g g b y t) mid new r) is (subst (λ os. PushesAll os mid new r) (λ i. becomes (graph i) (graph i) (same i) y row) h))
 
 -- a row that the late conjuncts drop has no outcome
 pub row_dropped : (later : Later) (g : Graph) (b : Bound) (y : Typed) (row : reading.Assignment) → [] ≡ marks (meanings_of g row (late_conjuncts b y)) → [] ≡ outcomes_on later g b y row

@@ -222,9 +222,11 @@ bag_here g y s c here graph typed h =
     subst (λ z. IsPermutation (assignments_of g z c) (map (whole z) here)) typed (subst (λ k. IsPermutation (assignments_of k s.typed c) (map (whole s.typed) here)) graph h)
 
 -- what a table answers to it
-pub pushes_here : (admitted : Admission) (g : Graph) (b : Bound) (y : Typed) (mid new : Table) (c : Chunk) (r : Result More RowRefusal) → mid.bound ≡ b → mid.alternative ≡ Some y
-    → chunks.PushesAdmitted admitted g c mid new r → chunks.PushesAll (outcomes_by (given_by (if_admitted admitted g)) g b y (assignments_of g y c)) mid new r
-pushes_here admitted g b y mid new c r same started h = subst (λ os. chunks.PushesAll os mid new r) (outcomes_here admitted g b y mid.bound mid.alternative c same started) h
+pub pushes_here : (admitted : Admission) (g : Graph) (b : Bound) (y : Typed) (mid new : Table) (c : Chunk) (r : Result More RowRefusal) → mid.graph ≡ g → mid.bound ≡ b → mid.alternative ≡ Some y
+    → chunks.PushesAdmitted admitted mid.graph c mid new r → chunks.PushesAll (outcomes_by (given_by (if_admitted admitted g)) g b y (assignments_of g y c)) mid new r
+pushes_here admitted g b y mid new c r graph same started h =
+    subst (λ os. chunks.PushesAll os mid new r) (outcomes_here admitted g b y mid.bound mid.alternative c same started)
+    (subst (λ k. chunks.PushesAdmitted admitted k c mid new r) graph h)
 
 pub chunk_of : (g : Graph) (y : Typed) (s : Source) (c : Chunk) → s.graph ≡ g → s.typed ≡ y → IsChunkOf s.graph s.typed c → IsChunkOf g y c
 chunk_of g y s c graph typed h = subst (λ z. IsChunkOf g z c) typed (subst (λ k. IsChunkOf k s.typed c) graph h)

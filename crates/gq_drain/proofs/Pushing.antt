@@ -37,11 +37,11 @@ one_pushed o mid new (Err (row_refusal.TooManyRows l)) same h = (h.0, λ before 
 one_pushed o mid new (Err (row_refusal.Memory why)) same h = tt
 
 -- a row that is marked, told of the query that was begun with
-pub marked_pushed : (g : Graph) (b : Bound) (mid new : Table) (row : Wide) (mark : Option Fault) (m : Marked) (r : Result More RowRefusal) → mid.bound ≡ b → read row ≡ m.row → mark ≡ m.mark
-    → OnOk r (IsSameQuery mid new) → Pushes (Some (ending g mid.bound (record { row = read row; mark = mark }))) mid new r → PushesAll (ending g b m ∷ []) mid new r
-marked_pushed g b mid new row mark m r same row_is mark_is query pushes =
-    subst (λ o. PushesAll (o ∷ []) mid new r) (λ i. ending g (same i) (record { row = row_is i; mark = mark_is i }))
-    (one_pushed (ending g mid.bound (record { row = read row; mark = mark })) mid new r query pushes)
+pub marked_pushed : (g : Graph) (b : Bound) (mid new : Table) (row : Wide) (mark : Option Fault) (m : Marked) (r : Result More RowRefusal) → mid.graph ≡ g → mid.bound ≡ b → read row ≡ m.row → mark ≡ m.mark
+    → OnOk r (IsSameQuery mid new) → Pushes (Some (ending mid.graph mid.bound (record { row = read row; mark = mark }))) mid new r → PushesAll (ending g b m ∷ []) mid new r
+marked_pushed g b mid new row mark m r graph same row_is mark_is query pushes =
+    subst (λ o. PushesAll (o ∷ []) mid new r) (λ i. ending (graph i) (same i) (record { row = row_is i; mark = mark_is i }))
+    (one_pushed (ending mid.graph mid.bound (record { row = read row; mark = mark })) mid new r query pushes)
 
 pub none_pushed : (t : Table) → is_full_table t ≡ false → PushesAll [] t t (Ok more.Go)
 none_pushed t room = (λ before s. subst (λ l. Stands l t) (sym (append-nil before)) s, room)

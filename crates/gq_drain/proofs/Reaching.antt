@@ -32,9 +32,9 @@ module _ (admitted : Admission) (g : Graph) (b : Bound) (y : Typed) (row : readi
   judged_in e = ap (λ v. cond v (ending g b marked_row ∷ []) []) e ∙ row_marked (if_admitted admitted g) g b y row mark says
 
 -- told of the query that was begun with and of what was reached
-pub judged_here : (later : Later) (g : Graph) (b : Bound) (y : Typed) (mid new : Table) (a : Partial) (w : Wide) (r : Result More RowRefusal) → mid.bound ≡ b → read w ≡ row a
-    → PushesAll (outcomes_on later g mid.bound y (read w)) mid new r → PushesAll (outcomes_on later g b y (row a)) mid new r
-judged_here later g b y mid new a w r same is h = subst (λ os. PushesAll os mid new r) (λ i. outcomes_on later g (same i) y (is i)) h
+pub judged_here : (later : Graph → Later) (g : Graph) (b : Bound) (y : Typed) (mid new : Table) (a : Partial) (w : Wide) (r : Result More RowRefusal) → mid.graph ≡ g → mid.bound ≡ b → read w ≡ row a
+    → PushesAll (outcomes_on (later mid.graph) mid.graph mid.bound y (read w)) mid new r → PushesAll (outcomes_on (later g) g b y (row a)) mid new r
+judged_here later g b y mid new a w r graph same is h = subst (λ os. PushesAll os mid new r) (λ i. outcomes_on (later (graph i)) (graph i) (same i) y (is i)) h
 
 -- what is so of items that are made in two steps is so of what they are made of
 pub each_made_of : {A B C : Type 0} (P : C → Type 0) (f : B → C) (h : A → B) (xs : List A) → AllByRecursion P (map f (map h xs)) → AllByRecursion (λ x. P (f (h x))) xs

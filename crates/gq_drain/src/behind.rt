@@ -42,23 +42,18 @@ pub(crate) struct Behind<'w> {
 
 // Pushes the outcomes of the rows that a walk owes, one after another, until nothing is owed or the
 // table has enough.
-fn push_walk<'g>(
-    table: &mut RowTable<'g>,
-    walk: &mut OptionalWalk<'_>,
-    graph: &'g Graph,
-) -> Result<More, RowRefusal>
+fn push_walk(table: &mut RowTable<'_>, walk: &mut OptionalWalk<'_>) -> Result<More, RowRefusal>
     requires continued { IsContinued table.old.bound }
     requires started { IsSome table.old.alternative }
-    requires graph { table.old.graph ≡ graph.now }
     requires stands { StandsForSome table.old }
     requires room { is_full_table table.old ≡ false }
-    ensures pushes { let os = map (ending graph.now table.old.bound) (rows_owed walk.old) in
+    ensures pushes { let os = map (ending table.old.graph table.old.bound) (rows_owed walk.old) in
         PushesAll os table.old table.new result }
     ensures query { OnOk result (IsSameQuery table.old table.new) }
     ensures held { walk.new.held ≡ walk.old.held }
 {
     'rows: while walk.advance() {
-        match table.push_wide(walk.row(), walk.fault(), graph) {
+        match table.push_wide(walk.row(), walk.fault()) {
             Ok(More::Go) => {}
             Ok(More::Enough) => return Ok(More::Enough),
             Err(refusal) => return Err(refusal),
@@ -68,63 +63,59 @@ fn push_walk<'g>(
 }
 
 // Pushes the outcomes of what the optional clauses make of a row, which a fault may mark.
-fn push_copied<'g>(
-    table: &mut RowTable<'g>,
+fn push_copied(
+    table: &mut RowTable<'_>,
     row: &ChunkRow<'_, '_, '_, '_, '_>,
     fault: Option<Fault>,
     behind: &mut Behind<'_>,
     prepared: &Prepared<'_>,
     typed: &Typed,
-    graph: &'g Graph,
 ) -> Result<More, RowRefusal>
     requires continued { IsContinued table.old.bound }
     requires nodes { length row.now.nodes ≡ length typed.now.nodes }
     requires rels { length row.now.rels ≡ length typed.now.rels }
-    requires behind { IsBehind graph.now table.old.bound typed.now prepared.now behind.old }
+    requires behind { IsBehind table.old.graph table.old.bound typed.now prepared.now behind.old }
     requires started { IsSome table.old.alternative }
-    requires graph { table.old.graph ≡ graph.now }
     requires stands { StandsForSome table.old }
     requires room { is_full_table table.old ≡ false }
     ensures pushes { let m : Marked = record { row = row_of row.now; mark = fault } in
         let lists = prepared.now.optionals.held.lists in
-        let os = outcomes_behind graph.now table.old.bound (known_by prepared.now) lists m in
+        let os = outcomes_behind table.old.graph table.old.bound (known_by prepared.now) lists m in
         PushesAll os table.old table.new result }
     ensures query { OnOk result (IsSameQuery table.old table.new) }
-    ensures behind { IsBehind graph.now table.old.bound typed.now prepared.now behind.new }
+    ensures behind { IsBehind table.old.graph table.old.bound typed.now prepared.now behind.new }
 {
     copy_nodes(&mut behind.row, row, typed.nodes.len());
     copy_rels(&mut behind.row, row, typed.rels.len());
     if fault.is_some() {
-        return table.push_wide(&behind.row, fault, graph);
+        return table.push_wide(&behind.row, fault);
     }
     behind.walk.begin(&behind.row);
-    push_walk(table, &mut behind.walk, graph)
+    push_walk(table, &mut behind.walk)
 }
 
 // Pushes the outcomes of an assignment, if the conjuncts that are left do not drop it and the tests
 // admit it.
-fn push_row<'g>(
-    table: &mut RowTable<'g>,
+fn push_row(
+    table: &mut RowTable<'_>,
     row: &ChunkRow<'_, '_, '_, '_, '_>,
     behind: &mut Behind<'_>,
     prepared: &Prepared<'_>,
     typed: &Typed,
-    graph: &'g Graph,
 ) -> Result<More, RowRefusal>
     requires continued { IsContinued table.old.bound }
     requires nodes { length row.now.nodes ≡ length typed.now.nodes }
     requires rels { length row.now.rels ≡ length typed.now.rels }
-    requires asked { prepared.now.conjuncts ≡ asked_of graph.now table.old.bound.conjuncts }
-    requires behind { IsBehind graph.now table.old.bound typed.now prepared.now behind.old }
+    requires asked { prepared.now.conjuncts ≡ asked_of table.old.graph table.old.bound.conjuncts }
+    requires behind { IsBehind table.old.graph table.old.bound typed.now prepared.now behind.old }
     requires started { IsSome table.old.alternative }
-    requires graph { table.old.graph ≡ graph.now }
     requires stands { StandsForSome table.old }
     requires room { is_full_table table.old ≡ false }
-    ensures pushes { let later = later_by graph.now prepared.now in
-        PushesAll (given_by later graph.now table.old.bound typed.now row.now)
+    ensures pushes { let later = later_by table.old.graph prepared.now in
+        PushesAll (given_by later table.old.graph table.old.bound typed.now row.now)
         table.old table.new result }
     ensures query { OnOk result (IsSameQuery table.old table.new) }
-    ensures behind { IsBehind graph.now table.old.bound typed.now prepared.now behind.new }
+    ensures behind { IsBehind table.old.graph table.old.bound typed.now prepared.now behind.new }
 {
     let fault = match judge_late(&prepared.conjuncts, typed, row) {
         Verdict::Dropped => return Ok(More::Go),
@@ -134,18 +125,18 @@ fn push_row<'g>(
     if !prepared.tests.pass(row) {
         return Ok(More::Go);
     }
-    push_copied(table, row, fault, behind, prepared, typed, graph)
+    push_copied(table, row, fault, behind, prepared, typed)
 }
 
 // Pushes the outcomes of the assignments of a chunk.
-fn push_rows<'g>(
-    table: &mut RowTable<'g>,
+fn push_rows(
+    table: &mut RowTable<'_>,
     chunk: &Chunk<'_, '_>,
     choice: &mut Choice,
     behind: &mut Behind<'_>,
     prepared: &Prepared<'_>,
     typed: &Typed,
-    graph: &'g Graph,
+    graph: &Graph,
 ) -> Result<More, RowRefusal>
     requires continued { IsContinued table.old.bound }
     requires chunk { IsChunkOf graph.now typed.now chunk.now }
@@ -165,7 +156,7 @@ fn push_rows<'g>(
     let mut found = choice.first(chunk)?;
     'choices: while found {
         let row = ChunkRow::new(graph, typed, chunk, choice.positions());
-        match push_row(table, &row, behind, prepared, typed, graph) {
+        match push_row(table, &row, behind, prepared, typed) {
             Ok(More::Go) => {}
             Ok(More::Enough) => return Ok(More::Enough),
             Err(refusal) => return Err(refusal),
@@ -191,14 +182,14 @@ fn behind_of<'w>(alloc: Global, prepared: &'w Prepared<'_>) -> Result<Behind<'w>
 
 /// Pushes what a pipeline of a query with optional clauses owes: the outcomes of its rows, each
 /// behind the clauses.
-pub(crate) fn drain_behind<'g>(
+pub(crate) fn drain_behind(
     alloc: Global,
-    graph: &'g Graph,
+    graph: &Graph,
     prepared: &Prepared<'_>,
     typed: &Typed,
     pipeline: &mut Pipeline<'_>,
     pool: &mut VectorPool,
-    table: &mut RowTable<'g>,
+    table: &mut RowTable<'_>,
 ) -> Result<(), RowRefusal>
     requires some { table.old.bound.optionals ≡ [] → ⊥ }
     requires prepared { IsPreparedFor graph.now table.old.bound prepared.now }

@@ -27,38 +27,36 @@ use gq_store::Graph;
 use std::alloc::Global;
 
 // Pushes those assignments of a chunk that pass some tests.
-fn push<'g>(
-    table: &mut RowTable<'g>,
+fn push(
+    table: &mut RowTable<'_>,
     chunk: &Chunk<'_, '_>,
-    graph: &'g Graph,
     tests: &Tests<'_>,
 ) -> Result<More, RowRefusal>
     requires tested { (tests.now.all ≡ [] → ⊥) → IsTested table.old.bound }
     requires started { IsSome table.old.alternative }
-    requires graph { table.old.graph ≡ graph.now }
-    requires chunk { IsChunkIn graph.now table.old.alternative chunk.now }
+    requires chunk { IsChunkIn table.old.graph table.old.alternative chunk.now }
     requires stands { StandsForSome table.old }
     requires room { is_full_table table.old ≡ false }
     ensures pushes { let admitted = admitted_by tests.now.all in
-        PushesAdmitted admitted graph.now chunk.now table.old table.new result }
+        PushesAdmitted admitted table.old.graph chunk.now table.old table.new result }
     ensures query { OnOk result (IsSameQuery table.old table.new) }
     ensures counted { let all = choices chunk.now.groups.now in
         OnOk result (table.new.pushed ≡ counted table.old.pushed all) }
 {
     if tests.is_empty() {
-        return table.push_chunk(chunk, graph);
+        return table.push_chunk(chunk);
     }
-    table.push_admitted(chunk, graph, tests)
+    table.push_admitted(chunk, tests)
 }
 
 // Pushes the chunks that a pipeline owes, one after another, until nothing is owed or the table has
 // enough.
-fn drain<'g>(
-    graph: &'g Graph,
+fn drain(
+    graph: &Graph,
     tests: &Tests<'_>,
     pipeline: &mut Pipeline<'_>,
     pool: &mut VectorPool,
-    table: &mut RowTable<'g>,
+    table: &mut RowTable<'_>,
 ) -> Result<(), RowRefusal>
     requires tested { (tests.now.all ≡ [] → ⊥) → IsTested table.old.bound }
     requires run { IsRunOf graph.now table.old pipeline.old }
@@ -78,7 +76,7 @@ fn drain<'g>(
 {
     'chunks: while pipeline.advance(pool) {
         let chunk = pipeline.chunk(pool);
-        match push(table, &chunk, graph, tests) {
+        match push(table, &chunk, tests) {
             Ok(More::Go) => {}
             Ok(More::Enough) => return Ok(()),
             Err(refusal) => return Err(refusal),
@@ -93,14 +91,14 @@ fn drain<'g>(
 ///
 /// Where the query has neither optional clauses nor trails, its chunks are pushed as they are handed
 /// out, and the table counts them; other rows are made of their assignments, one after another.
-pub fn drain_all<'g, 'w>(
+pub fn drain_all<'w>(
     alloc: Global,
-    graph: &'g Graph,
+    graph: &Graph,
     prepared: &'w Prepared<'_>,
     typed: &'w Typed,
     pipeline: &mut Pipeline<'_>,
     pool: &mut VectorPool,
-    table: &mut RowTable<'g>,
+    table: &mut RowTable<'_>,
 ) -> Result<(), RowRefusal>
     requires prepared { IsPreparedFor graph.now table.old.bound prepared.now }
     requires tested { (prepared.now.tests.all ≡ [] → ⊥) → IsTested table.old.bound }

@@ -47,21 +47,19 @@ pub(crate) struct Walking<'w> {
 
 // Pushes the outcome of a row, if the conjuncts that are left do not drop it and the tests admit
 // it.
-fn push_judged<'g>(
-    table: &mut RowTable<'g>,
+fn push_judged(
+    table: &mut RowTable<'_>,
     row: &WideRow,
     prepared: &Prepared<'_>,
     typed: &Typed,
-    graph: &'g Graph,
 ) -> Result<More, RowRefusal>
     requires continued { IsContinued table.old.bound }
-    requires asked { prepared.now.conjuncts ≡ asked_of graph.now table.old.bound.conjuncts }
+    requires asked { prepared.now.conjuncts ≡ asked_of table.old.graph table.old.bound.conjuncts }
     requires started { IsSome table.old.alternative }
-    requires graph { table.old.graph ≡ graph.now }
     requires stands { StandsForSome table.old }
     requires room { is_full_table table.old ≡ false }
-    ensures pushes { let later = if_admitted (admitted_by prepared.now.tests.all) graph.now in
-        PushesAll (outcomes_on later graph.now table.old.bound typed.now (read row.now))
+    ensures pushes { let later = if_admitted (admitted_by prepared.now.tests.all) table.old.graph in
+        PushesAll (outcomes_on later table.old.graph table.old.bound typed.now (read row.now))
         table.old table.new result }
     ensures query { OnOk result (IsSameQuery table.old table.new) }
 {
@@ -73,33 +71,31 @@ fn push_judged<'g>(
     if !prepared.tests.pass(row) {
         return Ok(More::Go);
     }
-    table.push_wide(row, fault, graph)
+    table.push_wide(row, fault)
 }
 
 // Pushes the outcomes of the rows that are owed, one after another, until none is owed or the table
 // has enough.
-fn push_reached<'g>(
-    table: &mut RowTable<'g>,
+fn push_reached(
+    table: &mut RowTable<'_>,
     trails: &mut TrailRows<'_>,
     prepared: &Prepared<'_>,
     typed: &Typed,
-    graph: &'g Graph,
 ) -> Result<More, RowRefusal>
     requires continued { IsContinued table.old.bound }
-    requires trails { AreTrailsOf graph.now table.old.bound trails.old }
-    requires asked { prepared.now.conjuncts ≡ asked_of graph.now table.old.bound.conjuncts }
+    requires trails { AreTrailsOf table.old.graph table.old.bound trails.old }
+    requires asked { prepared.now.conjuncts ≡ asked_of table.old.graph table.old.bound.conjuncts }
     requires started { IsSome table.old.alternative }
-    requires graph { table.old.graph ≡ graph.now }
     requires stands { StandsForSome table.old }
     requires room { is_full_table table.old ≡ false }
-    ensures pushes { let later = if_admitted (admitted_by prepared.now.tests.all) graph.now in
-        let out = outcomes_on later graph.now table.old.bound typed.now in
+    ensures pushes { let later = if_admitted (admitted_by prepared.now.tests.all) table.old.graph in
+        let out = outcomes_on later table.old.graph table.old.bound typed.now in
         PushesAll (flat_map out (map meaning.row trails.old.owed)) table.old table.new result }
     ensures query { OnOk result (IsSameQuery table.old table.new) }
-    ensures trails { AreTrailsOf graph.now table.old.bound trails.new }
+    ensures trails { AreTrailsOf table.old.graph table.old.bound trails.new }
 {
     'rows: while trails.advance() {
-        match push_judged(table, trails.row(), prepared, typed, graph) {
+        match push_judged(table, trails.row(), prepared, typed) {
             Ok(More::Go) => {}
             Ok(More::Enough) => return Ok(More::Enough),
             Err(refusal) => return Err(refusal),
@@ -109,43 +105,41 @@ fn push_reached<'g>(
 }
 
 // Pushes the outcomes of the rows by which the trails continue an assignment.
-fn push_continued<'g, 'w>(
-    table: &mut RowTable<'g>,
+fn push_continued<'w>(
+    table: &mut RowTable<'_>,
     row: &ChunkRow<'_, '_, '_, '_, '_>,
     walking: &mut Walking<'w>,
     prepared: &Prepared<'_>,
     typed: &'w Typed,
-    graph: &'g Graph,
 ) -> Result<More, RowRefusal>
     requires continued { IsContinued table.old.bound }
-    requires made { IsMade graph.now typed.now row.now }
-    requires asked { prepared.now.conjuncts ≡ asked_of graph.now table.old.bound.conjuncts }
-    requires walking { IsWalking graph.now table.old.bound typed.now walking.old }
+    requires made { IsMade table.old.graph typed.now row.now }
+    requires asked { prepared.now.conjuncts ≡ asked_of table.old.graph table.old.bound.conjuncts }
+    requires walking { IsWalking table.old.graph table.old.bound typed.now walking.old }
     requires started { IsSome table.old.alternative }
-    requires graph { table.old.graph ≡ graph.now }
     requires stands { StandsForSome table.old }
     requires room { is_full_table table.old ≡ false }
-    ensures pushes { let later = if_admitted (admitted_by prepared.now.tests.all) graph.now in
-        PushesAll (continued_on later graph.now table.old.bound typed.now row.now)
+    ensures pushes { let later = if_admitted (admitted_by prepared.now.tests.all) table.old.graph in
+        PushesAll (continued_on later table.old.graph table.old.bound typed.now row.now)
         table.old table.new result }
     ensures query { OnOk result (IsSameQuery table.old table.new) }
-    ensures walking { IsWalking graph.now table.old.bound typed.now walking.new }
+    ensures walking { IsWalking table.old.graph table.old.bound typed.now walking.new }
 {
     copy_nodes(&mut walking.row, row, typed.nodes.len());
     copy_rels(&mut walking.row, row, typed.rels.len());
     walking.trails.begin(&walking.row, typed.rels.as_slice());
-    push_reached(table, &mut walking.trails, prepared, typed, graph)
+    push_reached(table, &mut walking.trails, prepared, typed)
 }
 
 // Pushes the outcomes of the rows by which the trails continue the assignments of a chunk.
-fn push_walked<'g, 'w>(
-    table: &mut RowTable<'g>,
+fn push_walked<'w>(
+    table: &mut RowTable<'_>,
     chunk: &Chunk<'_, '_>,
     choice: &mut Choice,
     walking: &mut Walking<'w>,
     prepared: &Prepared<'_>,
     typed: &'w Typed,
-    graph: &'g Graph,
+    graph: &Graph,
 ) -> Result<More, RowRefusal>
     requires continued { IsContinued table.old.bound }
     requires chunk { IsChunkOf graph.now typed.now chunk.now }
@@ -167,7 +161,7 @@ fn push_walked<'g, 'w>(
     let mut found = choice.first(chunk)?;
     'choices: while found {
         let row = ChunkRow::new(graph, typed, chunk, choice.positions());
-        match push_continued(table, &row, walking, prepared, typed, graph) {
+        match push_continued(table, &row, walking, prepared, typed) {
             Ok(More::Go) => {}
             Ok(More::Enough) => return Ok(More::Enough),
             Err(refusal) => return Err(refusal),
@@ -197,13 +191,13 @@ fn walking_of<'w>(alloc: Global, prepared: &'w Prepared<'_>) -> Result<Walking<'
 }
 
 // Pushes the outcomes of the rows by which the trails continue what a pipeline owes.
-fn drain_walked<'g, 'w>(
-    graph: &'g Graph,
+fn drain_walked<'w>(
+    graph: &Graph,
     prepared: &Prepared<'_>,
     typed: &'w Typed,
     pipeline: &mut Pipeline<'_>,
     pool: &mut VectorPool,
-    table: &mut RowTable<'g>,
+    table: &mut RowTable<'_>,
     choice: &mut Choice,
     walking: &mut Walking<'w>,
 ) -> Result<(), RowRefusal>
@@ -240,14 +234,14 @@ fn drain_walked<'g, 'w>(
 
 /// Pushes what a pipeline of a query with trails owes: the outcomes of the rows by which the trails
 /// continue its rows.
-pub(crate) fn drain_trails<'g, 'w>(
+pub(crate) fn drain_trails<'w>(
     alloc: Global,
-    graph: &'g Graph,
+    graph: &Graph,
     prepared: &'w Prepared<'_>,
     typed: &'w Typed,
     pipeline: &mut Pipeline<'_>,
     pool: &mut VectorPool,
-    table: &mut RowTable<'g>,
+    table: &mut RowTable<'_>,
 ) -> Result<(), RowRefusal>
     requires some { table.old.bound.trails ≡ [] → ⊥ }
     requires prepared { IsPreparedFor graph.now table.old.bound prepared.now }

@@ -136,11 +136,6 @@ inside_listing t old view e = ap (λ (x : Table). is_listing x.bound) view ∙ e
 pub inside_valued : (t : Inside) (old : Table) → table_of t ≡ old → is_listing old.bound ≡ false → is_listing t.bound.now ≡ false
 inside_valued t old view e = ap (λ (x : Table). is_listing x.bound) view ∙ e
 
--- ---- what was made ready and found
-
-pub inside_graph : (t : Inside) (old : Table) (g : Graph) → table_of t ≡ old → old.graph ≡ g → t.graph.now ≡ g
-inside_graph t old g view has = ap (λ (x : Table). x.graph) view ∙ has
-
 -- ---- the lines of rows that are listed as they come
 
 holds_by : (d k : Bool) (most : Option ℕ) (b : Bound) (list : List Row) (h : Held) → d ≡ false → k ≡ true → HoldsAs d k most b list h → HoldsRows (length b.columns) (length b.keys) list h

@@ -1,39 +1,25 @@
 //! The table that takes the rows of a query.
-ghost use Rattle.std.specs.Prelude.{◌≡◌, [], IfOk, IfSome, None, Ok, Some, IsSome, OnOk, false, true};
-ghost use Rattle.gq_base.specs.Plain.{Graph as Plain};
-ghost use Rattle.gq_expr.specs.Reading as reads;
+ghost use Rattle.std.specs.Prelude.{◌≡◌, [], None, Some, IsSome, OnOk, false, true};
 ghost use Rattle.gq_group.specs.Choices.{Begins};
-ghost use Rattle.gq_group.specs.Chunks.{IsChunkOf, assignment_at};
-ghost use Rattle.gq_group.specs.Groups.{AreSelected, choices};
+ghost use Rattle.gq_group.specs.Chunks.{IsChunkOf};
+ghost use Rattle.gq_group.specs.Groups.{choices};
 ghost use Rattle.gq_kept.specs.Chunks.{IsChunkIn, PushesAdmitted, PushesAll, PushesChunk};
 ghost use Rattle.gq_kept.specs.Chunks.{admitted_outcomes, counted};
-ghost use Rattle.gq_kept.specs.Forms.{HasForm};
 ghost use Rattle.gq_kept.specs.Tables.{IsSameQuery, Pushes, StandsFor, StandsForSome};
-ghost use Rattle.gq_kept.specs.Tables.{is_full_table, outcome_admitted, outcome_numbered};
-ghost use Rattle.gq_kept.specs.declared.refusal.More.TheVariants.{Go};
-ghost use Rattle.gq_listed.specs.Listed.{is_listing};
-ghost use Rattle.gq_plan.specs.Assignments.{row_of};
+ghost use Rattle.gq_kept.specs.Tables.{is_full_table};
 ghost use Rattle.gq_plan.specs.Marked.{Marked, ending};
-ghost use Rattle.gq_plan.specs.Rows.{assigned};
-ghost use Rattle.gq_plan.specs.declared.bound.Bound.{Bound as Query};
-ghost use Rattle.gq_plan.specs.declared.typed.Typed.{Typed as Alternative};
-ghost use Rattle.gq_project.specs.Reading.{IsReading};
 ghost use Rattle.gq_rows.specs.Growing.{IsContinued, IsTested};
-ghost use Rattle.gq_rows.specs.steps.Keyed.{FindsFirst, IsLeading, IsLedValue, LeadsSome};
 ghost use Rattle.gq_outer.specs.Rows.{read};
 
-use gq_base::{Memory, Value};
 use gq_cells::Cells;
 use gq_classes::Classes;
-use gq_expr::{Assigned, Fault};
-use gq_group::{Choice, Chunk, ChunkRow};
+use gq_expr::Fault;
+use gq_group::{Choice, Chunk};
 use gq_kept::{Form, More, RowRefusal, form_of};
-use gq_listed::{
-    Asked, Finder, KeyFinder, Listed, find_columns, hold_columns, hold_key, is_listing,
-};
+use gq_listed::{Finder, KeyFinder, Listed, is_listing};
 use gq_outer::WideRow;
 use gq_plan::{Bound, Typed};
-use gq_project::{Admits, Everything, Question, Reading};
+use gq_project::{Admits, Everything, Reading};
 use gq_store::Graph;
 use gq_values::{Rows, are_sure};
 use std::alloc::Global;
@@ -144,22 +130,17 @@ impl<'g> RowTable<'g> {
     ///
     /// It refuses with the fault of an outcome that is looked at, or where the kept rows would be
     /// more than the limit.
-    pub fn push_chunk(
-        &mut self,
-        chunk: &Chunk<'_, '_>,
-        graph: &'g Graph,
-    ) -> Result<More, RowRefusal>
+    pub fn push_chunk(&mut self, chunk: &Chunk<'_, '_>) -> Result<More, RowRefusal>
         requires started { IsSome self.old.alternative }
-        requires graph { self.old.graph ≡ graph.now }
-        requires chunk { IsChunkIn graph.now self.old.alternative chunk.now }
+        requires chunk { IsChunkIn self.old.graph self.old.alternative chunk.now }
         requires stands { StandsForSome self.old }
         requires room { is_full_table self.old ≡ false }
-        ensures pushes { PushesChunk graph.now chunk.now self.old self.new result }
+        ensures pushes { PushesChunk self.old.graph chunk.now self.old self.new result }
         ensures query { OnOk result (IsSameQuery self.old self.new) }
         ensures counted { let all = choices chunk.now.groups.now in
             OnOk result (self.new.pushed ≡ counted self.old.pushed all) }
     {
-        self.push_those(chunk, graph, &Everything)
+        self.push_those(chunk, &Everything)
     }
 
     /// Takes those of the assignments that are admitted, in the same way. It is called for queries
@@ -167,38 +148,34 @@ impl<'g> RowTable<'g> {
     pub fn push_admitted<A: Admits>(
         &mut self,
         chunk: &Chunk<'_, '_>,
-        graph: &'g Graph,
         admits: &A,
     ) -> Result<More, RowRefusal>
         requires tested { IsTested self.old.bound }
         requires started { IsSome self.old.alternative }
-        requires graph { self.old.graph ≡ graph.now }
-        requires chunk { IsChunkIn graph.now self.old.alternative chunk.now }
+        requires chunk { IsChunkIn self.old.graph self.old.alternative chunk.now }
         requires stands { StandsForSome self.old }
         requires room { is_full_table self.old ≡ false }
         ensures pushes { let admitted = A.admitted admits.now in
-            PushesAdmitted admitted graph.now chunk.now self.old self.new result }
+            PushesAdmitted admitted self.old.graph chunk.now self.old self.new result }
         ensures query { OnOk result (IsSameQuery self.old self.new) }
         ensures counted { let all = choices chunk.now.groups.now in
             OnOk result (self.new.pushed ≡ counted self.old.pushed all) }
     {
-        self.push_those(chunk, graph, admits)
+        self.push_those(chunk, admits)
     }
 
     // Takes those of the assignments of a chunk that are admitted.
     fn push_those<A: Admits>(
         &mut self,
         chunk: &Chunk<'_, '_>,
-        graph: &'g Graph,
         admits: &A,
     ) -> Result<More, RowRefusal>
         requires started { IsSome self.old.alternative }
-        requires graph { self.old.graph ≡ graph.now }
-        requires chunk { IsChunkIn graph.now self.old.alternative chunk.now }
+        requires chunk { IsChunkIn self.old.graph self.old.alternative chunk.now }
         requires stands { StandsForSome self.old }
         requires room { is_full_table self.old ≡ false }
         ensures pushes { let admitted = A.admitted admits.now in
-            PushesAdmitted admitted graph.now chunk.now self.old self.new result }
+            PushesAdmitted admitted self.old.graph chunk.now self.old self.new result }
         ensures query { OnOk result (IsSameQuery self.old self.new) }
         ensures counted { let all = choices chunk.now.groups.now in
             OnOk result (self.new.pushed ≡ counted self.old.pushed all) }
@@ -211,7 +188,7 @@ impl<'g> RowTable<'g> {
             self.choice = choice;
             return Ok(More::Go);
         }
-        let answer = self.push_found(&mut choice, chunk, typed, graph, admits);
+        let answer = self.push_found(&mut choice, chunk, typed, admits);
         self.choice = choice;
         self.pushed = self.pushed.saturating_add(1);
         answer
@@ -224,19 +201,13 @@ impl<'g> RowTable<'g> {
     ///
     /// It refuses with the fault of an outcome that is looked at, or where the kept rows would be
     /// more than the limit. It takes no memory but that in which the table grows.
-    pub fn push_wide(
-        &mut self,
-        row: &WideRow,
-        fault: Option<Fault>,
-        graph: &'g Graph,
-    ) -> Result<More, RowRefusal>
+    pub fn push_wide(&mut self, row: &WideRow, fault: Option<Fault>) -> Result<More, RowRefusal>
         requires continued { IsContinued self.old.bound }
         requires started { IsSome self.old.alternative }
-        requires graph { self.old.graph ≡ graph.now }
         requires stands { StandsForSome self.old }
         requires room { is_full_table self.old ≡ false }
         ensures pushes { let marked : Marked = record { row = read row.now; mark = fault } in
-            Pushes (Some (ending graph.now self.old.bound marked)) self.old self.new result }
+            Pushes (Some (ending self.old.graph self.old.bound marked)) self.old self.new result }
         ensures query { OnOk result (IsSameQuery self.old self.new) }
         ensures pushed { OnOk result (self.new.pushed ≡ self.old.pushed) }
     {
@@ -248,9 +219,9 @@ impl<'g> RowTable<'g> {
             None => {}
         }
         if is_listing(self.bound) {
-            return self.push_alone(row, typed, graph);
+            return self.push_alone(row, typed);
         }
-        self.push_judged(row, typed, graph)
+        self.push_judged(row)
     }
 
     // Takes the admitted assignments of the choices from the one that stands on, as the query's
@@ -260,24 +231,23 @@ impl<'g> RowTable<'g> {
         choice: &mut Choice,
         chunk: &Chunk<'_, '_>,
         typed: &'g Typed,
-        graph: &'g Graph,
         admits: &A,
     ) -> Result<More, RowRefusal>
-        requires chunk { IsChunkOf graph.now typed.now chunk.now }
-        requires graph { self.old.graph ≡ graph.now }
+        requires chunk { IsChunkOf self.old.graph typed.now chunk.now }
         requires stands { StandsForSome self.old }
         requires room { is_full_table self.old ≡ false }
         requires begins { Begins chunk.now.groups.now true choice.old }
         ensures pushes { let y = Some typed.now in
             let admitted = A.admitted admits.now in
-            let os = admitted_outcomes admitted graph.now self.old.bound y chunk.now in
+            let os = admitted_outcomes admitted self.old.graph self.old.bound y chunk.now in
             PushesAll os self.old self.new result }
         ensures query { OnOk result (IsSameQuery self.old self.new) }
         ensures pushed { OnOk result (self.new.pushed ≡ self.old.pushed) }
     {
         if is_listing(self.bound) {
-            return self.push_listed(choice, chunk, typed, graph, admits);
+            return self.push_listed(choice, chunk, typed, admits);
         }
+        let graph = self.graph;
         let mut reading = mem::replace(&mut self.reading, Reading::new(self.alloc));
         reading.prepare(self.alloc, self.bound, graph)?;
         let mut first = mem::replace(&mut self.first, KeyFinder::new(self.alloc));
@@ -289,286 +259,6 @@ impl<'g> RowTable<'g> {
                 Ok(more)
             }
             Err(refusal) => Err(refusal),
-        }
-    }
-
-    // What finds the first key in a chunk, where it may tell that a row comes behind the bar: there is
-    // one, each row has its values, and no conjunct is left.
-    fn lead_first(
-        &self,
-        first: &mut KeyFinder<'g>,
-        chunk: &Chunk<'_, '_>,
-        typed: &Typed,
-        graph: &'g Graph,
-        positions: &[u32],
-    ) -> Result<Option<Finder>, Memory>
-        requires chunk { IsChunkOf graph.now typed.now chunk.now }
-        requires selected { AreSelected chunk.now.groups.now positions.now }
-        requires ready { FindsFirst graph.now self.now.bound first.old }
-        ensures leads { let leads = IsLeading graph.now self.now.bound typed.now chunk.now in
-            IfOk result (λ lead. IfSome lead (leads first.new.cells.sources)) }
-        ensures ready { OnOk result (FindsFirst graph.now self.now.bound first.new) }
-    {
-        if !self.sure {
-            return Ok(None);
-        }
-        if self.rows.bar.is_none() {
-            return Ok(None);
-        }
-        if !typed.late.is_empty() {
-            return Ok(None);
-        }
-        let Some(sort) = self.bound.keys.get(0) else {
-            return Ok(None);
-        };
-        let finder = first.prepare(&sort.expr, self.bound, typed, graph)?;
-        Ok(hold_key(finder, graph, typed, chunk, positions))
-    }
-
-    // Takes the admitted assignments of the choices from the one that stands on, where the rows are
-    // listed as they come.
-    fn push_listed<A: Admits>(
-        &mut self,
-        choice: &mut Choice,
-        chunk: &Chunk<'_, '_>,
-        typed: &'g Typed,
-        graph: &'g Graph,
-        admits: &A,
-    ) -> Result<More, RowRefusal>
-        requires listing { is_listing self.old.bound ≡ true }
-        requires chunk { IsChunkOf graph.now typed.now chunk.now }
-        requires graph { self.old.graph ≡ graph.now }
-        requires stands { StandsForSome self.old }
-        requires room { is_full_table self.old ≡ false }
-        requires begins { Begins chunk.now.groups.now true choice.old }
-        ensures pushes { let y = Some typed.now in
-            let admitted = A.admitted admits.now in
-            let os = admitted_outcomes admitted graph.now self.old.bound y chunk.now in
-            PushesAll os self.old self.new result }
-        ensures query { IsSameQuery self.old self.new }
-        ensures pushed { self.new.pushed ≡ self.old.pushed }
-    {
-        self.reading.prepare(self.alloc, self.bound, graph)?;
-        let done = self.done;
-        self.done = false;
-        let cells = &mut self.listed.cells;
-        find_columns(done, cells, &mut self.finders, self.bound, typed, graph)?;
-        let held = &mut self.held;
-        let finders = self.finders.as_slice();
-        hold_columns(held, finders, graph, typed, chunk, choice.positions())?;
-        let held = self.held.as_slice();
-        let asked = Asked {
-            graph,
-            bound: self.bound,
-            late: typed.late.as_slice(),
-            limit: self.limit,
-            form: self.form,
-            reading: &self.reading,
-        };
-        match self
-            .listed
-            .push_choices(held, &asked, choice, chunk, typed, admits)
-        {
-            Ok(more) => {
-                self.done = true;
-                Ok(more)
-            }
-            Err(refusal) => Err(refusal),
-        }
-    }
-
-    // Takes what expressions read of a row, where the rows are listed as they come and no conjunct
-    // is left.
-    fn push_alone<R: Assigned>(
-        &mut self,
-        row: &R,
-        typed: &'g Typed,
-        graph: &'g Graph,
-    ) -> Result<More, RowRefusal>
-        requires listing { is_listing self.old.bound ≡ true }
-        requires graph { self.old.graph ≡ graph.now }
-        requires stands { StandsForSome self.old }
-        requires room { is_full_table self.old ≡ false }
-        ensures pushes { let here = R.assignment row.now in
-            Pushes (outcome_numbered graph.now self.old.bound [] here) self.old self.new result }
-        ensures query { IsSameQuery self.old self.new }
-        ensures pushed { self.new.pushed ≡ self.old.pushed }
-    {
-        self.reading.prepare(self.alloc, self.bound, graph)?;
-        let done = self.done;
-        self.done = false;
-        let cells = &mut self.listed.cells;
-        find_columns(done, cells, &mut self.finders, self.bound, typed, graph)?;
-        let asked = Asked {
-            graph,
-            bound: self.bound,
-            late: &[],
-            limit: self.limit,
-            form: self.form,
-            reading: &self.reading,
-        };
-        match self.listed.push(self.finders.as_slice(), &asked, row) {
-            Ok(more) => {
-                self.done = true;
-                Ok(more)
-            }
-            Err(refusal) => Err(refusal),
-        }
-    }
-
-    // Takes what expressions read of a row, where the rows are held as values and no conjunct is
-    // left.
-    fn push_judged<R: Assigned>(
-        &mut self,
-        row: &R,
-        typed: &'g Typed,
-        graph: &'g Graph,
-    ) -> Result<More, RowRefusal>
-        requires valued { is_listing self.old.bound ≡ false }
-        requires graph { self.old.graph ≡ graph.now }
-        requires stands { StandsForSome self.old }
-        requires room { is_full_table self.old ≡ false }
-        ensures pushes { let here = R.assignment row.now in
-            Pushes (outcome_numbered graph.now self.old.bound [] here) self.old self.new result }
-        ensures query { OnOk result (IsSameQuery self.old self.new) }
-        ensures pushed { OnOk result (self.new.pushed ≡ self.old.pushed) }
-    {
-        let mut reading = mem::replace(&mut self.reading, Reading::new(self.alloc));
-        reading.prepare(self.alloc, self.bound, graph)?;
-        match self.push(row, &reading, &[], graph) {
-            Ok(more) => {
-                self.reading = reading;
-                Ok(more)
-            }
-            Err(refusal) => Err(refusal),
-        }
-    }
-
-    // Takes the admitted assignments of the choices from the one that stands on, where the rows are
-    // held as values.
-    fn push_choices<A: Admits>(
-        &mut self,
-        choice: &mut Choice,
-        chunk: &Chunk<'_, '_>,
-        reading: &Reading<'g>,
-        first: &KeyFinder<'g>,
-        lead: Option<Finder>,
-        typed: &'g Typed,
-        graph: &'g Graph,
-        admits: &A,
-    ) -> Result<More, RowRefusal>
-        requires valued { is_listing self.old.bound ≡ false }
-        requires chunk { IsChunkOf graph.now typed.now chunk.now }
-        requires reading { IsReading graph.now self.old.bound reading.now }
-        requires lead { let leads = IsLeading graph.now self.old.bound typed.now chunk.now in
-            IfSome lead (leads first.now.cells.sources) }
-        requires stands { StandsForSome self.old }
-        requires room { is_full_table self.old ≡ false }
-        requires begins { Begins chunk.now.groups.now true choice.old }
-        ensures pushes { let y = Some typed.now in
-            let admitted = A.admitted admits.now in
-            let os = admitted_outcomes admitted graph.now self.old.bound y chunk.now in
-            PushesAll os self.old self.new result }
-        ensures query { OnOk result (IsSameQuery self.old self.new) }
-        ensures pushed { OnOk result (self.new.pushed ≡ self.old.pushed) }
-    {
-        let mut found = true;
-        'choices: while found {
-            let positions = choice.positions();
-            let row = ChunkRow::new(graph, typed, chunk, positions);
-            let value = first_value(first, &lead, graph, typed, chunk, positions);
-            match self.push_row(&row, value, reading, typed, graph, admits) {
-                Ok(More::Go) => {}
-                Ok(More::Enough) => return Ok(More::Enough),
-                Err(refusal) => return Err(refusal),
-            }
-            found = choice.next(chunk);
-        }
-        Ok(More::Go)
-    }
-
-    // Takes an assignment, if it is admitted. The value is that of its first key, if it was found.
-    fn push_row<A: Admits>(
-        &mut self,
-        row: &ChunkRow<'_, '_, '_, '_, '_>,
-        value: Option<Value<'g>>,
-        reading: &Reading<'g>,
-        typed: &'g Typed,
-        graph: &'g Graph,
-        admits: &A,
-    ) -> Result<More, RowRefusal>
-        requires valued { is_listing self.old.bound ≡ false }
-        requires reading { IsReading graph.now self.old.bound reading.now }
-        requires value { IfSome value
-            (IsLedValue graph.now self.old.bound typed.now (row_of row.now)) }
-        requires stands { StandsForSome self.old }
-        requires room { is_full_table self.old ≡ false }
-        ensures pushes { let admitted = A.admitted admits.now in
-            Pushes (outcome_admitted admitted graph.now self.old.bound typed.now (row_of row.now))
-            self.old self.new result }
-        ensures query { IsSameQuery self.old self.new }
-        ensures pushed { self.new.pushed ≡ self.old.pushed }
-    {
-        if !admits.admits(row) {
-            return Ok(More::Go);
-        }
-        if self.passes_over(&value) {
-            return Ok(More::Go);
-        }
-        self.push(row, reading, typed.late.as_slice(), graph)
-    }
-
-    // Whether nothing changes with an assignment of this value of the first key.
-    #[inline(always)]
-    fn passes_over(&self, value: &Option<Value<'g>>) -> bool
-        requires valued { is_listing self.now.bound ≡ false }
-        requires stands { StandsForSome self.now }
-        requires room { is_full_table self.now ≡ false }
-        ensures { (g : Plain) (y : Alternative) (here : reads.Assignment) → result ≡ true
-            → IfSome value.now (IsLedValue g self.now.bound y here)
-            → Pushes (outcome_numbered g self.now.bound y.late here) self.now self.now (Ok Go) }
-    {
-        let Form::Top(_) = self.form else {
-            return false;
-        };
-        match value {
-            None => false,
-            Some(value) => self.rows.passes_over(self.bound, value),
-        }
-    }
-
-    // Takes what expressions read of a row, where the rows are held as values. Of the conjuncts
-    // those with these numbers are left.
-    fn push<R: Assigned>(
-        &mut self,
-        row: &R,
-        reading: &Reading<'g>,
-        late: &'g [u32],
-        graph: &'g Graph,
-    ) -> Result<More, RowRefusal>
-        requires valued { is_listing self.old.bound ≡ false }
-        requires reading { IsReading graph.now self.old.bound reading.now }
-        requires stands { StandsForSome self.old }
-        requires room { is_full_table self.old ≡ false }
-        ensures pushes { let here = R.assignment row.now in
-            Pushes (outcome_numbered graph.now self.old.bound late.now here)
-            self.old self.new result }
-        ensures query { IsSameQuery self.old self.new }
-        ensures pushed { self.new.pushed ≡ self.old.pushed }
-    {
-        let question = Question {
-            graph,
-            bound: self.bound,
-            late,
-            limit: self.limit,
-            sure: self.sure,
-            reading,
-        };
-        match self.form {
-            Form::All => self.rows.push_all(&question, row),
-            Form::First(_) => unreachable!(),
-            Form::Top(n) => self.rows.push_top(self.alloc, n, &question, row),
-            Form::Classes => self.rows.push_class(&question, row),
         }
     }
 
@@ -592,31 +282,5 @@ impl<'g> RowTable<'g> {
             Form::First(n) => count >= n,
             Form::All | Form::Top(_) | Form::Classes => false,
         }
-    }
-}
-
-// The value of the first key of a query at one selected position of each group, if something finds
-// it.
-#[inline(always)]
-fn first_value<'g>(
-    first: &KeyFinder<'g>,
-    lead: &Option<Finder>,
-    graph: &Graph,
-    typed: &Typed,
-    chunk: &Chunk<'_, '_>,
-    positions: &[u32],
-) -> Option<Value<'g>>
-    requires chunk { IsChunkOf graph.now typed.now chunk.now }
-    requires selected { AreSelected chunk.now.groups.now positions.now }
-    requires lead { LeadsSome graph.now typed.now chunk.now first.now.cells.sources lead.now }
-    ensures { let here = assignment_at graph.now typed.now chunk.now positions.now in
-        let read = row_of (assigned typed.now here) in
-        let sources = first.now.cells.sources in
-        (b : Query) → IfSome lead.now (IsLeading graph.now b typed.now chunk.now sources)
-        → IfSome result (IsLedValue graph.now b typed.now read) }
-{
-    match lead {
-        None => None,
-        Some(finder) => first.value_at(finder, graph, typed, chunk, positions),
     }
 }

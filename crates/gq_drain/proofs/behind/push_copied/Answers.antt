@@ -12,7 +12,7 @@ use Rattle.gq_drain.proofs.behind.push_copied.Goals as goal
 
 pub returns-then-is_some-clause-pushes : goal.returns-then-is_some-clause-pushes
 returns-then-is_some-clause-pushes c =
-    let g = c.args.graph.now in
+    let g = c.args.table.now.graph in
     let b = c.args.table.now.bound in
     let t = c.args.row.now in
     let p = c.args.prepared.now in
@@ -27,7 +27,7 @@ returns-then-is_some-clause-pushes c =
 
 pub returns-clause-pushes : goal.returns-clause-pushes
 returns-clause-pushes c =
-    let g = c.args.graph.now in
+    let g = c.args.table.now.graph in
     let b = c.args.table.now.bound in
     let t = c.args.row.now in
     let p = c.args.prepared.now in

@@ -13,7 +13,7 @@ use Rattle.gq_drain.specs.Prepared.{later_by}
 
 pub returns-in-Dropped-clause-pushes : goal.returns-in-Dropped-clause-pushes
 returns-in-Dropped-clause-pushes c =
-    let g = c.args.graph.now in
+    let g = c.args.table.now.graph in
     let p = c.args.prepared.now in
     let t = c.args.table.now in
     let late = late_says g t.bound (row_of c.args.row.now) c.args.typed.now c.args.prepared.now.conjuncts c.requires.asked in
@@ -21,7 +21,7 @@ returns-in-Dropped-clause-pushes c =
 
 pub returns-then-not-pass-clause-pushes : goal.returns-then-not-pass-clause-pushes
 returns-then-not-pass-clause-pushes c =
-    let g = c.args.graph.now in
+    let g = c.args.table.now.graph in
     let p = c.args.prepared.now in
     let t = c.args.table.now in
     let late = late_says g t.bound (row_of c.args.row.now) c.args.typed.now c.args.prepared.now.conjuncts c.requires.asked in
@@ -31,7 +31,7 @@ returns-then-not-pass-clause-pushes c =
 
 pub returns-clause-pushes : goal.returns-clause-pushes
 returns-clause-pushes c =
-    let g = c.args.graph.now in
+    let g = c.args.table.now.graph in
     let p = c.args.prepared.now in
     let t = c.args.table.now in
     let late = late_says g t.bound (row_of c.args.row.now) c.args.typed.now c.args.prepared.now.conjuncts c.requires.asked in

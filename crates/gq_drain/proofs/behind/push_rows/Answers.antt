@@ -1,4 +1,5 @@
 use Rattle.std.proofs.Common.{◌∙◌, Err, Ok, ap, length, refl, subst, sym}
+use Rattle.gq_base.specs.Plain.{Graph}
 use Rattle.gq_group.specs.Groups.{choices, later_choices}
 use Rattle.gq_plan.specs.Assignments.{Assignment}
 use Rattle.gq_kept.proofs.Chunking.{same_again, same_table}
@@ -38,9 +39,9 @@ returns-in-Ok-Enough-clause-pushes c =
     let old = c.args.table.now in
     let mid = c.choices.table in
     let new = c.push_row.new.table in
-    let becomes = given_by (later_by g c.args.prepared.now) in
+    let becomes = λ (k : Graph). given_by (later_by k c.args.prepared.now) in
     let i = c.choices.invariant in
-    let pushes = choice_pushed becomes g old.bound c.args.typed.now c.args.chunk.now mid new c.new-row.result c.positions.result.now c.choices.choice.positions (Ok more.Enough) i.same.bound c.new-row.ensures c.positions.ensures
+    let pushes = choice_pushed becomes g old.bound c.args.typed.now c.args.chunk.now mid new c.new-row.result c.positions.result.now c.choices.choice.positions (Ok more.Enough) (i.same.graph ∙ c.requires.graph) i.same.bound c.new-row.ensures c.positions.ensures
     (rw c.in-Ok-Enough.field-0-is at c.in-Ok-Enough.ensures.pushes) in
     (taken_full _ old mid _ _ _ refl (rw c.choices-test.true at i.came) new pushes.0 pushes.1, pushes.1)
 
@@ -50,9 +51,9 @@ returns-in-Err-clause-pushes c =
     let old = c.args.table.now in
     let mid = c.choices.table in
     let new = c.push_row.new.table in
-    let becomes = given_by (later_by g c.args.prepared.now) in
+    let becomes = λ (k : Graph). given_by (later_by k c.args.prepared.now) in
     let i = c.choices.invariant in
-    let pushes = choice_pushed becomes g old.bound c.args.typed.now c.args.chunk.now mid new c.new-row.result c.positions.result.now c.choices.choice.positions (Err c.in-Err.refusal) i.same.bound c.new-row.ensures c.positions.ensures
+    let pushes = choice_pushed becomes g old.bound c.args.typed.now c.args.chunk.now mid new c.new-row.result c.positions.result.now c.choices.choice.positions (Err c.in-Err.refusal) (i.same.graph ∙ c.requires.graph) i.same.bound c.new-row.ensures c.positions.ensures
     c.in-Err.ensures.pushes in
     taken_refused _ old mid _ _ _ refl (rw c.choices-test.true at i.came) i.same new c.in-Err.refusal pushes
 
@@ -63,16 +64,18 @@ choices-preserved c =
     let old = c.args.table.now in
     let mid = c.choices.table in
     let new = c.push_row.new.table in
-    let becomes = given_by (later_by g p) in
+    let becomes = λ (k : Graph). given_by (later_by k p) in
     let gs = c.args.chunk.now.groups.now in
-    let out = outs becomes g old.bound c.args.typed.now c.args.chunk.now in
+    let out = outs (becomes g) g old.bound c.args.typed.now c.args.chunk.now in
     let i = c.choices.invariant in
     let query = c.in-Ok-Go.ensures.query in
-    let pushes = choice_pushed becomes g old.bound c.args.typed.now c.args.chunk.now mid new c.new-row.result c.positions.result.now c.choices.choice.positions (Ok more.Go) i.same.bound c.new-row.ensures c.positions.ensures
+    let pushes = choice_pushed becomes g old.bound c.args.typed.now c.args.chunk.now mid new c.new-row.result c.positions.result.now c.choices.choice.positions (Ok more.Go) (i.same.graph ∙ c.requires.graph) i.same.bound c.new-row.ensures c.positions.ensures
     (rw c.in-Ok-Go.field-0-is at c.in-Ok-Go.ensures.pushes) in
     let more_taken : Taken (out (choices gs)) (out (later_choices gs c.choices.choice.positions)) old new = taken_more _ old mid _ _ _ refl (rw c.choices-test.true at i.came) new pushes.0 in
     record {
-      behind = subst (λ b. IsBehind g b c.args.typed.now p c.push_row.new.behind) i.same.bound c.in-Ok-Go.ensures.behind;
+      behind =
+          subst (λ k. IsBehind k old.bound c.args.typed.now p c.push_row.new.behind) (i.same.graph ∙ c.requires.graph)
+          (subst (λ b. IsBehind mid.graph b c.args.typed.now p c.push_row.new.behind) i.same.bound c.in-Ok-Go.ensures.behind);
       same = same_again old mid new i.same query;
       room = pushes.1;
       some = (_, pushes.0 i.some.0 i.some.1);

@@ -20,9 +20,9 @@ rows-init c = record {
 pub rows-preserved : goal.rows-preserved
 rows-preserved c =
     let i = c.rows.invariant in
-    let out = map (ending c.args.graph.now c.args.table.now.bound) in
+    let out = map (ending c.args.table.now.graph c.args.table.now.bound) in
     let query = c.in-Ok-Go.ensures.query in
-    let pushes = marked_pushed c.args.graph.now c.args.table.now.bound c.rows.table c.push_wide.new.self c.row.result.now c.fault.result (row_reached c.advance.new.self) (Ok more.Go) i.same.bound (ap read c.row.ensures) c.fault.ensures query
+    let pushes = marked_pushed c.args.table.now.graph c.args.table.now.bound c.rows.table c.push_wide.new.self c.row.result.now c.fault.result (row_reached c.advance.new.self) (Ok more.Go) i.same.graph i.same.bound (ap read c.row.ensures) c.fault.ensures query
     (rw c.in-Ok-Go.field-0-is at c.in-Ok-Go.ensures.pushes) in
     record {
       held = c.advance.ensures.held ∙ i.held;
@@ -35,16 +35,16 @@ rows-preserved c =
 pub returns-in-Ok-Enough-clause-pushes : goal.returns-in-Ok-Enough-clause-pushes
 returns-in-Ok-Enough-clause-pushes c =
     let i = c.rows.invariant in
-    let out = map (ending c.args.graph.now c.args.table.now.bound) in
-    let pushes = marked_pushed c.args.graph.now c.args.table.now.bound c.rows.table c.push_wide.new.self c.row.result.now c.fault.result (row_reached c.advance.new.self) (Ok more.Enough) i.same.bound (ap read c.row.ensures) c.fault.ensures c.in-Ok-Enough.ensures.query
+    let out = map (ending c.args.table.now.graph c.args.table.now.bound) in
+    let pushes = marked_pushed c.args.table.now.graph c.args.table.now.bound c.rows.table c.push_wide.new.self c.row.result.now c.fault.result (row_reached c.advance.new.self) (Ok more.Enough) i.same.graph i.same.bound (ap read c.row.ensures) c.fault.ensures c.in-Ok-Enough.ensures.query
     (rw c.in-Ok-Enough.field-0-is at c.in-Ok-Enough.ensures.pushes) in
     (taken_full _ c.args.table.now c.rows.table _ _ _ (ap out (c.advance.ensures.next c.rows-test.true)) i.came c.push_wide.new.self pushes.0 pushes.1, pushes.1)
 
 pub returns-in-Err-clause-pushes : goal.returns-in-Err-clause-pushes
 returns-in-Err-clause-pushes c =
     let i = c.rows.invariant in
-    let out = map (ending c.args.graph.now c.args.table.now.bound) in
-    let pushes = marked_pushed c.args.graph.now c.args.table.now.bound c.rows.table c.push_wide.new.self c.row.result.now c.fault.result (row_reached c.advance.new.self) (Err c.in-Err.refusal) i.same.bound (ap read c.row.ensures) c.fault.ensures tt
+    let out = map (ending c.args.table.now.graph c.args.table.now.bound) in
+    let pushes = marked_pushed c.args.table.now.graph c.args.table.now.bound c.rows.table c.push_wide.new.self c.row.result.now c.fault.result (row_reached c.advance.new.self) (Err c.in-Err.refusal) i.same.graph i.same.bound (ap read c.row.ensures) c.fault.ensures tt
     c.in-Err.ensures.pushes in
     taken_refused _ c.args.table.now c.rows.table _ _ _ (ap out (c.advance.ensures.next c.rows-test.true)) i.came i.same c.push_wide.new.self c.in-Err.refusal pushes
 

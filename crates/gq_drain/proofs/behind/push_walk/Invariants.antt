@@ -11,7 +11,7 @@ invariant-rows l = record {
   same : IsSameQuery l.initial.table l.table;
   room : is_full_table l.table ≡ false;
   some : StandsForSome l.table;
-  came : let out = map (ending l.graph l.initial.table.bound) in
+  came : let out = map (ending l.initial.table.graph l.initial.table.bound) in
       Taken (out (rows_owed l.initial.walk)) (out (rows_owed l.walk)) l.initial.table l.table;
 }
 

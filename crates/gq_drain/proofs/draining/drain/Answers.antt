@@ -28,7 +28,7 @@ chunks-init c = record {
 pub push-requires-clause-chunk : goal.push-requires-clause-chunk
 push-requires-clause-chunk c =
     let source = c.advance.ensures.source in
-    chunk_in c.args.graph.now c.advance.new.self.source c.chunks.table.alternative c.chunk-chunk.result (ap (λ (s : Source). s.graph) source ∙ c.chunks.invariant.run.graph)
+    chunk_in c.chunks.table.graph c.advance.new.self.source c.chunks.table.alternative c.chunk-chunk.result (ap (λ (s : Source). s.graph) source ∙ c.chunks.invariant.run.graph ∙ sym c.chunks.invariant.run.started)
     (c.chunks.invariant.run.alternative ∙ ap (λ (s : Source). Some s.typed) (sym source)) c.chunk-chunk.ensures.chunk
 
 pub chunks-preserved : goal.chunks-preserved
@@ -43,7 +43,7 @@ chunks-preserved c =
     let bag = c.advance.ensures.bag c.chunks-test.true in
     let some = c.advance.ensures.some c.chunks-test.true in
     let here = bag_here g begun.source.typed after.source chunk after.chunk (ap (λ (s : Source). s.graph) source ∙ i.run.graph) (ap (λ (s : Source). s.typed) (source ∙ i.source)) (in_order _ _ (c.chunk-chunk.ensures.whole (ap (λ (s : Source). binds_all s.typed (plan_in s)) source ∙ i.run.complete))) in
-    let pushes = pushes_here (admitted_by c.args.tests.now.all) g old.bound begun.source.typed c.chunks.table c.push.new.table chunk (Ok more.Go) i.same.bound (i.run.alternative ∙ ap (λ (s : Source). Some s.typed) i.source)
+    let pushes = pushes_here (admitted_by c.args.tests.now.all) g old.bound begun.source.typed c.chunks.table c.push.new.table chunk (Ok more.Go) i.run.started i.same.bound (i.run.alternative ∙ ap (λ (s : Source). Some s.typed) i.source)
     (rw c.in-Ok-Go.field-0-is at c.in-Ok-Go.ensures.pushes) in
     let query = c.in-Ok-Go.ensures.query in
     let more = pushed_more (given_by (if_admitted (admitted_by c.args.tests.now.all) c.args.graph.now)) g old begun c.chunks.table c.chunks.pipeline after i.came i.same.bound i.same.most chunk bag here c.push.new.table pushes.0 in
@@ -83,7 +83,7 @@ returns-in-Ok-Enough c =
     let bag = c.advance.ensures.bag c.chunks-test.true in
     let some = c.advance.ensures.some c.chunks-test.true in
     let here = bag_here g begun.source.typed after.source chunk after.chunk (ap (λ (s : Source). s.graph) source ∙ i.run.graph) (ap (λ (s : Source). s.typed) (source ∙ i.source)) (in_order _ _ (c.chunk-chunk.ensures.whole (ap (λ (s : Source). binds_all s.typed (plan_in s)) source ∙ i.run.complete))) in
-    let pushes = pushes_here (admitted_by c.args.tests.now.all) g old.bound begun.source.typed c.chunks.table c.push.new.table chunk (Ok more.Enough) i.same.bound (i.run.alternative ∙ ap (λ (s : Source). Some s.typed) i.source)
+    let pushes = pushes_here (admitted_by c.args.tests.now.all) g old.bound begun.source.typed c.chunks.table c.push.new.table chunk (Ok more.Enough) i.run.started i.same.bound (i.run.alternative ∙ ap (λ (s : Source). Some s.typed) i.source)
     (rw c.in-Ok-Enough.field-0-is at c.in-Ok-Enough.ensures.pushes) in
     let query = c.in-Ok-Enough.ensures.query in
     record {
@@ -109,7 +109,7 @@ returns-in-Err c =
     let source = c.advance.ensures.source in
     let bag = c.advance.ensures.bag c.chunks-test.true in
     let here = bag_here g begun.source.typed after.source chunk after.chunk (ap (λ (s : Source). s.graph) source ∙ i.run.graph) (ap (λ (s : Source). s.typed) (source ∙ i.source)) (in_order _ _ (c.chunk-chunk.ensures.whole (ap (λ (s : Source). binds_all s.typed (plan_in s)) source ∙ i.run.complete))) in
-    let pushes = pushes_here (admitted_by c.args.tests.now.all) g old.bound begun.source.typed c.chunks.table c.push.new.table chunk (Err c.in-Err.refusal) i.same.bound (i.run.alternative ∙ ap (λ (s : Source). Some s.typed) i.source)
+    let pushes = pushes_here (admitted_by c.args.tests.now.all) g old.bound begun.source.typed c.chunks.table c.push.new.table chunk (Err c.in-Err.refusal) i.run.started i.same.bound (i.run.alternative ∙ ap (λ (s : Source). Some s.typed) i.source)
     c.in-Err.ensures.pushes in
     record {
       takes = met (given_by (if_admitted (admitted_by c.args.tests.now.all) c.args.graph.now)) g old begun c.chunks.table c.chunks.pipeline after i.came i.same.bound i.same.most chunk bag here c.push.new.table c.in-Err.refusal pushes;

@@ -6,7 +6,7 @@ use Rattle.gq_drain.proofs.draining.push.Goals as goal
 
 pub returns-then-is_empty-clause-pushes : goal.returns-then-is_empty-clause-pushes
 returns-then-is_empty-clause-pushes c =
-    let g = c.args.graph.now in
+    let g = c.args.table.now.graph in
     let old = c.args.table.now in
     let chunk = c.args.chunk.now in
     subst (λ os. PushesAll os old c.push_chunk.new.self c.push_chunk.result)

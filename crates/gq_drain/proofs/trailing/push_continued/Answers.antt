@@ -13,7 +13,7 @@ use Rattle.gq_drain.specs.Testing.{admitted_by}
 
 pub begin-requires-clause-walks : goal.begin-requires-clause-walks
 begin-requires-clause-walks c =
-    let g = c.args.graph.now in
+    let g = c.args.table.now.graph in
     let b = c.args.table.now.bound in
     let y = c.args.typed.now in
     let t = c.args.row.now in
@@ -39,7 +39,7 @@ begin-requires-clause-rels c =
 
 pub returns : goal.returns
 returns c =
-    let g = c.args.graph.now in
+    let g = c.args.table.now.graph in
     let b = c.args.table.now.bound in
     let y = c.args.typed.now in
     let t = c.args.row.now in

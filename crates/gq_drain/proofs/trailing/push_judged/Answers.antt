@@ -15,7 +15,7 @@ use Rattle.gq_drain.specs.Testing.{admitted_by}
 
 pub returns-in-Dropped-clause-pushes : goal.returns-in-Dropped-clause-pushes
 returns-in-Dropped-clause-pushes c =
-    let g = c.args.graph.now in
+    let g = c.args.table.now.graph in
     let t = c.args.table.now in
     let row = read c.args.row.now in
     let late = late_says g t.bound row c.args.typed.now c.args.prepared.now.conjuncts c.requires.asked in
@@ -24,7 +24,7 @@ returns-in-Dropped-clause-pushes c =
 
 pub returns-then-not-pass-clause-pushes : goal.returns-then-not-pass-clause-pushes
 returns-then-not-pass-clause-pushes c =
-    let g = c.args.graph.now in
+    let g = c.args.table.now.graph in
     let t = c.args.table.now in
     let row = read c.args.row.now in
     let late = late_says g t.bound row c.args.typed.now c.args.prepared.now.conjuncts c.requires.asked in
@@ -35,7 +35,7 @@ returns-then-not-pass-clause-pushes c =
 
 pub returns-clause-pushes : goal.returns-clause-pushes
 returns-clause-pushes c =
-    let g = c.args.graph.now in
+    let g = c.args.table.now.graph in
     let t = c.args.table.now in
     let row = read c.args.row.now in
     let late = late_says g t.bound row c.args.typed.now c.args.prepared.now.conjuncts c.requires.asked in

@@ -23,13 +23,13 @@ rows-init c = record {
 pub rows-preserved : goal.rows-preserved
 rows-preserved c =
     let i = c.rows.invariant in
-    let g = c.args.graph.now in
+    let g = c.args.table.now.graph in
     let b = c.args.table.now.bound in
     let y = c.args.typed.now in
-    let later = if_admitted (admitted_by c.args.prepared.now.tests.all) g in
-    let out = outcomes_on later g b y in
+    let later = if_admitted (admitted_by c.args.prepared.now.tests.all) in
+    let out = outcomes_on (later g) g b y in
     let query = c.in-Ok-Go.ensures.query in
-    let pushes = judged_here later g b y c.rows.table c.push_judged.new.table c.advance.new.self.reached c.row.result.now (Ok more.Go) i.same.bound c.row.ensures (rw c.in-Ok-Go.field-0-is at c.in-Ok-Go.ensures.pushes) in
+    let pushes = judged_here later g b y c.rows.table c.push_judged.new.table c.advance.new.self.reached c.row.result.now (Ok more.Go) i.same.graph i.same.bound c.row.ensures (rw c.in-Ok-Go.field-0-is at c.in-Ok-Go.ensures.pushes) in
     record {
       trails = record {
         graph = c.advance.ensures.graph ∙ i.trails.graph;
@@ -47,23 +47,23 @@ rows-preserved c =
 pub returns-in-Ok-Enough-clause-pushes : goal.returns-in-Ok-Enough-clause-pushes
 returns-in-Ok-Enough-clause-pushes c =
     let i = c.rows.invariant in
-    let g = c.args.graph.now in
+    let g = c.args.table.now.graph in
     let b = c.args.table.now.bound in
     let y = c.args.typed.now in
-    let later = if_admitted (admitted_by c.args.prepared.now.tests.all) g in
-    let out = outcomes_on later g b y in
-    let pushes = judged_here later g b y c.rows.table c.push_judged.new.table c.advance.new.self.reached c.row.result.now (Ok more.Enough) i.same.bound c.row.ensures (rw c.in-Ok-Enough.field-0-is at c.in-Ok-Enough.ensures.pushes) in
+    let later = if_admitted (admitted_by c.args.prepared.now.tests.all) in
+    let out = outcomes_on (later g) g b y in
+    let pushes = judged_here later g b y c.rows.table c.push_judged.new.table c.advance.new.self.reached c.row.result.now (Ok more.Enough) i.same.graph i.same.bound c.row.ensures (rw c.in-Ok-Enough.field-0-is at c.in-Ok-Enough.ensures.pushes) in
     (taken_full _ c.args.table.now c.rows.table _ _ _ (ap (λ (bs : List Partial). flat_map out (map row bs)) (c.advance.ensures.next c.rows-test.true)) i.came c.push_judged.new.table pushes.0 pushes.1, pushes.1)
 
 pub returns-in-Err-clause-pushes : goal.returns-in-Err-clause-pushes
 returns-in-Err-clause-pushes c =
     let i = c.rows.invariant in
-    let g = c.args.graph.now in
+    let g = c.args.table.now.graph in
     let b = c.args.table.now.bound in
     let y = c.args.typed.now in
-    let later = if_admitted (admitted_by c.args.prepared.now.tests.all) g in
-    let out = outcomes_on later g b y in
-    let pushes = judged_here later g b y c.rows.table c.push_judged.new.table c.advance.new.self.reached c.row.result.now (Err c.in-Err.refusal) i.same.bound c.row.ensures c.in-Err.ensures.pushes in
+    let later = if_admitted (admitted_by c.args.prepared.now.tests.all) in
+    let out = outcomes_on (later g) g b y in
+    let pushes = judged_here later g b y c.rows.table c.push_judged.new.table c.advance.new.self.reached c.row.result.now (Err c.in-Err.refusal) i.same.graph i.same.bound c.row.ensures c.in-Err.ensures.pushes in
     taken_refused _ c.args.table.now c.rows.table _ _ _ (ap (λ (bs : List Partial). flat_map out (map row bs)) (c.advance.ensures.next c.rows-test.true)) i.came i.same c.push_judged.new.table c.in-Err.refusal pushes
 
 pub push_judged-requires-clause-continued : goal.push_judged-requires-clause-continued

@@ -10,11 +10,11 @@ use Rattle.gq_drain.proofs.trailing.push_reached.Given as goal
 
 abbrev pub invariant-rows : goal.invariant-rows
 invariant-rows l = record {
-  trails : AreTrailsOf l.graph l.initial.table.bound l.trails;
+  trails : AreTrailsOf l.initial.table.graph l.initial.table.bound l.trails;
   same : IsSameQuery l.initial.table l.table;
   room : is_full_table l.table ≡ false;
   some : StandsForSome l.table;
-  came : let out = outcomes_on (if_admitted (admitted_by l.prepared.tests.all) l.graph) l.graph l.initial.table.bound l.typed in
+  came : let out = outcomes_on (if_admitted (admitted_by l.prepared.tests.all) l.initial.table.graph) l.initial.table.graph l.initial.table.bound l.typed in
       Taken (flat_map out (map row l.initial.trails.owed)) (flat_map out (map row l.trails.owed)) l.initial.table l.table;
 }
 

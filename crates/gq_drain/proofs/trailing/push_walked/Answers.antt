@@ -1,5 +1,6 @@
 use Rattle.std.proofs.Common.{◌∙◌, Err, Ok, ap, refl, subst, sym}
 use Rattle.std.specs.List.{AllByRecursion}
+use Rattle.gq_base.specs.Plain.{Graph}
 use Rattle.gq_group.specs.Chunks.{assignment_at}
 use Rattle.gq_group.specs.Groups.{choices, later_choices}
 use Rattle.gq_law_plans.specs.Safe.{IsMade}
@@ -41,12 +42,15 @@ pub push_continued-requires-clause-made : goal.push_continued-requires-clause-ma
 push_continued-requires-clause-made c =
     let g = c.args.graph.now in
     let y = c.args.typed.now in
-    subst (IsMade g y) (sym (c.new-row.ensures ∙ ap (λ ps. assigned y (assignment_at g y c.args.chunk.now ps)) c.positions.ensures)) (rw c.choices-test.true at c.choices.invariant.made).0
+    let i = c.choices.invariant in
+    subst (λ k. IsMade k y c.new-row.result) (sym (i.same.graph ∙ c.requires.graph))
+    (subst (IsMade g y) (sym (c.new-row.ensures ∙ ap (λ ps. assigned y (assignment_at g y c.args.chunk.now ps)) c.positions.ensures)) (rw c.choices-test.true at i.made).0)
 
 pub push_continued-requires-clause-walking : goal.push_continued-requires-clause-walking
 push_continued-requires-clause-walking c =
     let i = c.choices.invariant in
-    subst (λ b. IsWalking c.args.graph.now b c.args.typed.now c.choices.walking) (sym i.same.bound) i.walking
+    subst (λ k. IsWalking k c.choices.table.bound c.args.typed.now c.choices.walking) (sym (i.same.graph ∙ c.requires.graph))
+    (subst (λ b. IsWalking c.args.graph.now b c.args.typed.now c.choices.walking) (sym i.same.bound) i.walking)
 
 pub returns-in-Ok-Enough-clause-pushes : goal.returns-in-Ok-Enough-clause-pushes
 returns-in-Ok-Enough-clause-pushes c =
@@ -54,9 +58,9 @@ returns-in-Ok-Enough-clause-pushes c =
     let old = c.args.table.now in
     let mid = c.choices.table in
     let new = c.push_continued.new.table in
-    let becomes = continued_on (if_admitted (admitted_by c.args.prepared.now.tests.all) g) in
+    let becomes = λ (k : Graph). continued_on (if_admitted (admitted_by c.args.prepared.now.tests.all) k) in
     let i = c.choices.invariant in
-    let pushes = choice_pushed becomes g old.bound c.args.typed.now c.args.chunk.now mid new c.new-row.result c.positions.result.now c.choices.choice.positions (Ok more.Enough) i.same.bound c.new-row.ensures c.positions.ensures
+    let pushes = choice_pushed becomes g old.bound c.args.typed.now c.args.chunk.now mid new c.new-row.result c.positions.result.now c.choices.choice.positions (Ok more.Enough) (i.same.graph ∙ c.requires.graph) i.same.bound c.new-row.ensures c.positions.ensures
     (rw c.in-Ok-Enough.field-0-is at c.in-Ok-Enough.ensures.pushes) in
     (taken_full _ old mid _ _ _ refl (rw c.choices-test.true at i.came) new pushes.0 pushes.1, pushes.1)
 
@@ -66,9 +70,9 @@ returns-in-Err-clause-pushes c =
     let old = c.args.table.now in
     let mid = c.choices.table in
     let new = c.push_continued.new.table in
-    let becomes = continued_on (if_admitted (admitted_by c.args.prepared.now.tests.all) g) in
+    let becomes = λ (k : Graph). continued_on (if_admitted (admitted_by c.args.prepared.now.tests.all) k) in
     let i = c.choices.invariant in
-    let pushes = choice_pushed becomes g old.bound c.args.typed.now c.args.chunk.now mid new c.new-row.result c.positions.result.now c.choices.choice.positions (Err c.in-Err.refusal) i.same.bound c.new-row.ensures c.positions.ensures
+    let pushes = choice_pushed becomes g old.bound c.args.typed.now c.args.chunk.now mid new c.new-row.result c.positions.result.now c.choices.choice.positions (Err c.in-Err.refusal) (i.same.graph ∙ c.requires.graph) i.same.bound c.new-row.ensures c.positions.ensures
     c.in-Err.ensures.pushes in
     taken_refused _ old mid _ _ _ refl (rw c.choices-test.true at i.came) i.same new c.in-Err.refusal pushes
 
@@ -79,17 +83,19 @@ choices-preserved c =
     let old = c.args.table.now in
     let mid = c.choices.table in
     let new = c.push_continued.new.table in
-    let becomes = continued_on (if_admitted (admitted_by c.args.prepared.now.tests.all) g) in
+    let becomes = λ (k : Graph). continued_on (if_admitted (admitted_by c.args.prepared.now.tests.all) k) in
     let gs = c.args.chunk.now.groups.now in
-    let out = outs becomes g old.bound y c.args.chunk.now in
+    let out = outs (becomes g) g old.bound y c.args.chunk.now in
     let i = c.choices.invariant in
     let query = c.in-Ok-Go.ensures.query in
     let left = next_left gs c.next-found.result c.choices.choice c.next-found.new.self c.next-found.ensures in
-    let pushes = choice_pushed becomes g old.bound y c.args.chunk.now mid new c.new-row.result c.positions.result.now c.choices.choice.positions (Ok more.Go) i.same.bound c.new-row.ensures c.positions.ensures
+    let pushes = choice_pushed becomes g old.bound y c.args.chunk.now mid new c.new-row.result c.positions.result.now c.choices.choice.positions (Ok more.Go) (i.same.graph ∙ c.requires.graph) i.same.bound c.new-row.ensures c.positions.ensures
     (rw c.in-Ok-Go.field-0-is at c.in-Ok-Go.ensures.pushes) in
     let more_taken : Taken (out (choices gs)) (out (later_choices gs c.choices.choice.positions)) old new = taken_more _ old mid _ _ _ refl (rw c.choices-test.true at i.came) new pushes.0 in
     record {
-      walking = subst (λ b. IsWalking g b y c.push_continued.new.walking) i.same.bound c.in-Ok-Go.ensures.walking;
+      walking =
+          subst (λ k. IsWalking k old.bound y c.push_continued.new.walking) (i.same.graph ∙ c.requires.graph)
+          (subst (λ b. IsWalking mid.graph b y c.push_continued.new.walking) i.same.bound c.in-Ok-Go.ensures.walking);
       same = same_again old mid new i.same query;
       room = pushes.1;
       some = (_, pushes.0 i.some.0 i.some.1);

@@ -6,4 +6,4 @@ use Rattle.gq_rows.proofs.table.RowTable.push_chunk.Goals as goal
 pub returns-clause-pushes : goal.returns-clause-pushes
 returns-clause-pushes c =
     let old = c.args.self.now in
-    subst (λ os. PushesAll os old c.push_those.new.self c.push_those.result) (all_admitted c.args.graph.now old.bound old.alternative c.args.chunk.now) c.push_those.ensures.pushes
+    subst (λ os. PushesAll os old c.push_those.new.self c.push_those.result) (all_admitted old.graph old.bound old.alternative c.args.chunk.now) c.push_those.ensures.pushes
