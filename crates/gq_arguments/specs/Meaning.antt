@@ -4,11 +4,12 @@ use Rattle.std.specs.declared.option.Option.{Option}
 use Rattle.std.specs.declared.option.Option.TheVariants.{Some, None}
 use Rattle.std.specs.Str.Parse.{IsNumeral, digits_value, without_leading_plus}
 use Rattle.clap.specs.Words.{Row, Text, first_of}
-use Rattle.gq_arguments.specs.declared.meaning.Order.{Order}
-use Rattle.gq_arguments.specs.declared.meaning.Order.TheVariants.{Given, Greedy, Least}
 use Rattle.gq_arguments.specs.declared.meaning.Source.{Source}
 use Rattle.gq_arguments.specs.declared.meaning.Source.TheVariants.{Manifest, Sample}
-use Rattle.gq_arguments.specs.declared.meaning.Words.{Words}
+use Rattle.gq_arguments.specs.declared.meaning.Arguments.{Arguments}
+use Rattle.gq_order.specs.Named.{name_of}
+use Rattle.gq_order.specs.declared.named.Order.{Order}
+use Rattle.gq_order.specs.declared.named.Order.TheVariants.{Greedy}
 
 -- the text is the numeral of a number from `low` to `high`, where a plus sign may lead
 pub record IsNumber (low high : ℕ) (text : Text) (n : ℕ) : Type 0 where
@@ -26,17 +27,15 @@ IsSource _ _ _ = ⊥
 -- the order is the named one, or greedy where none is given
 abbrev pub IsOrder : Option Text → Order → Type 0
 IsOrder None order = order ≡ Greedy
-IsOrder (Some name) Given = name ≡ codes "given"
-IsOrder (Some name) Greedy = name ≡ codes "greedy"
-IsOrder (Some name) Least = name ≡ codes "least"
+IsOrder (Some name) order = name ≡ name_of order
 
 -- the number of rows is the given one, or 4,194,304 where none is given
 abbrev pub IsRows : Option Text → ℕ → Type 0
 IsRows None rows = rows ≡ 4194304
 IsRows (Some text) rows = IsNumber 1 16777216 text rows
 
--- the words say this, by what `clap` found for each option
-pub record Means (found : List Row) (words : Words) : Type 0 where
-  pub source : IsSource (first_of (codes "manifest") found) (first_of (codes "sample") found) words.source
-  pub order : IsOrder (first_of (codes "order") found) words.order
-  pub rows : IsRows (first_of (codes "rows") found) words.rows
+-- the arguments are these, by what `clap` found for each option
+pub record Means (found : List Row) (arguments : Arguments) : Type 0 where
+  pub source : IsSource (first_of (codes "manifest") found) (first_of (codes "sample") found) arguments.source
+  pub order : IsOrder (first_of (codes "order") found) arguments.order
+  pub rows : IsRows (first_of (codes "rows") found) arguments.rows

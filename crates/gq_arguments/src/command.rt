@@ -2,7 +2,7 @@
 
 ghost use Rattle.std.specs.Prelude.{◌≡◌, false, IfOk};
 ghost use Rattle.clap.specs.Words.{app_of, rule_of};
-ghost use Rattle.gq_arguments.specs.Command.{option_rule, the_command};
+ghost use Rattle.gq_arguments.specs.Command.{option_rule, the_command, usage_text};
 
 use clap::builder::ValueParser;
 use clap::{Arg, ArgAction, Command, value_parser};
@@ -32,4 +32,11 @@ pub fn command<'a>(alloc: Global) -> Result<Command<'a>, AllocError>
         .arg(option(alloc, "sample", count))?
         .arg(option(alloc, "order", ValueParser::String))?
         .arg(option(alloc, "rows", limit))
+}
+
+/// The line for arguments that are no use of the program.
+pub fn usage() -> &'static [u8]
+    ensures { result.now ≡ usage_text }
+{
+    b"usage: graphq (--manifest PATH | --sample N) [--order given|greedy|least] [--rows N]\n"
 }

@@ -2,12 +2,13 @@
 
 ghost use Rattle.std.specs.Prelude.{ℕ, IfNone, IfSome, option_map};
 ghost use Rattle.gq_arguments.specs.Meaning.{IsNumber, IsOrder, IsRows, IsSource, Means};
-ghost use Rattle.gq_arguments.specs.declared.meaning.Order.{Order};
+ghost use Rattle.gq_arguments.specs.declared.meaning.Arguments.{Arguments};
 ghost use Rattle.gq_arguments.specs.declared.meaning.Source.{Source};
-ghost use Rattle.gq_arguments.specs.declared.meaning.Words.{Words};
+ghost use Rattle.gq_order.specs.declared.named.Order.{Order};
 ghost use Rattle.clap.specs.Words.{found_of, rows_of};
 
 use clap::ArgMatches;
+use gq_order::Order;
 
 /// Where the graph comes from.
 #[derive(Clone, Copy, Debug, PartialEq, Eq)]
@@ -18,20 +19,9 @@ pub enum Source<'a> {
     Sample(u32),
 }
 
-/// The order in which a plan takes the parts of a pattern.
+/// The arguments of the program.
 #[derive(Clone, Copy, Debug, PartialEq, Eq)]
-pub enum Order {
-    /// As the pattern is written.
-    Given,
-    /// The cheapest part first, as estimated.
-    Greedy,
-    /// Each part in an order of least cost, as estimated.
-    Least,
-}
-
-/// What the words of the command line say.
-#[derive(Clone, Copy, Debug, PartialEq, Eq)]
-pub struct Words<'a> {
+pub struct Arguments<'a> {
     pub source: Source<'a>,
     pub order: Order,
     /// The most rows that are kept, 1 to 16,777,216.
@@ -78,10 +68,7 @@ fn order_of(name: Option<&str>) -> Option<Order>
 {
     match name {
         None => Some(Order::Greedy),
-        Some("given") => Some(Order::Given),
-        Some("greedy") => Some(Order::Greedy),
-        Some("least") => Some(Order::Least),
-        Some(_) => None,
+        Some(name) => Order::named(name),
     }
 }
 
@@ -98,10 +85,10 @@ fn most_rows(text: Option<&str>) -> Option<u32>
 
 /// What the options say, or `None` where they say nothing: not exactly one of manifest and sample
 /// is given.
-pub fn meaning_of<'a>(matches: &ArgMatches<'a>) -> Option<Words<'a>>
+pub fn meaning_of<'a>(matches: &ArgMatches<'a>) -> Option<Arguments<'a>>
     ensures some { IfSome result (Means (rows_of (found_of matches.now))) }
     ensures none { IfNone result
-        ((words : Words) → ¬ (Means (rows_of (found_of matches.now)) words)) }
+        ((arguments : Arguments) → ¬ (Means (rows_of (found_of matches.now)) arguments)) }
 {
     let Some(source) = source_of(matches.get_str("manifest"), matches.get_str("sample")) else {
         return None;
@@ -112,7 +99,7 @@ pub fn meaning_of<'a>(matches: &ArgMatches<'a>) -> Option<Words<'a>>
     let Some(rows) = most_rows(matches.get_str("rows")) else {
         return None;
     };
-    Some(Words {
+    Some(Arguments {
         source,
         order,
         rows,

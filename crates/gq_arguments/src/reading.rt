@@ -1,40 +1,43 @@
-//! The words of a command line, read by `clap`.
+//! The words of a command line, read as arguments by `clap`.
 
 ghost use Rattle.std.specs.Prelude.{map, string_bytes};
 ghost use Rattle.gq_arguments.specs.Reading.{Reads};
 
 use crate::command::command;
-use crate::meaning::{Words, meaning_of};
+use crate::meaning::{Arguments, meaning_of};
 use clap::ArgMatches;
 use clap::error::ErrorKind;
 use std::alloc::Global;
 
-/// Why the words were not read.
+/// Why words were not read.
 #[derive(Clone, Copy, Debug, PartialEq, Eq)]
-pub enum WordsRefusal {
+pub enum ArgumentsRefusal {
     /// They are no use of the program.
     Usage,
     /// There was not enough memory.
     Memory,
 }
 
-/// What the words say, of which the first is the program's name.
-pub fn read_words<'a>(alloc: Global, words: &'a [String]) -> Result<Words<'a>, WordsRefusal>
+/// The arguments among the words of a command line, of which the first is the program's name.
+pub fn read_arguments<'a>(
+    alloc: Global,
+    words: &'a [String],
+) -> Result<Arguments<'a>, ArgumentsRefusal>
     ensures { Reads (map string_bytes words.entry.now) result }
 {
     let Ok(command) = command(alloc) else {
-        return Err(WordsRefusal::Memory);
+        return Err(ArgumentsRefusal::Memory);
     };
     match command.try_get_matches_from(words) {
         Ok(matches) => match meaning_of(&matches) {
             Some(read) => Ok(read),
-            None => Err(WordsRefusal::Usage),
+            None => Err(ArgumentsRefusal::Usage),
         },
         Err(error) => {
             if error.kind() == ErrorKind::OutOfMemory {
-                return Err(WordsRefusal::Memory);
+                return Err(ArgumentsRefusal::Memory);
             }
-            Err(WordsRefusal::Usage)
+            Err(ArgumentsRefusal::Usage)
         }
     }
 }

@@ -7,7 +7,7 @@ use Rattle.gq_plan.specs.Plans.{Plan, plan_of}
 use Rattle.gq_plan.specs.declared.plan.Plan as code_plan
 use Rattle.gq_plan.specs.declared.typed.Typed.{Typed}
 use Rattle.gq_execute.specs.Planned.{ArePlansIn, IsPlanIn, sizes}
-use Rattle.gq_execute.specs.declared.settings.Order.{Order}
+use Rattle.gq_order.specs.declared.named.Order.{Order}
 
 module _ {A B : Type 0} (R : A → B → Type 0) where
   zip_push : (xs : List A) (ys : List B) (x : A) (y : B) → AllZip R xs ys → R x y → AllZip R (xs ++ x ∷ []) (ys ++ y ∷ [])

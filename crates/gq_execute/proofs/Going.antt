@@ -16,7 +16,7 @@ use Rattle.gq_kept.specs.Answers.{Answers, cut_of}
 use Rattle.gq_base.specs.Plain.{Graph}
 use Rattle.gq_plan.specs.declared.Bound.{Bound}
 use Rattle.gq_kept.specs.Tables.{StandsFor, StandsForSome, Table, is_full, is_full_table}
-use Rattle.gq_execute.specs.declared.settings.Order.{Order}
+use Rattle.gq_order.specs.declared.named.Order.{Order}
 use Rattle.gq_execute.specs.declared.settings.Settings.{Settings}
 use Rattle.gq_execute.specs.Answering.{Replies}
 use Rattle.gq_execute.specs.steps.Answering.{AreParted, Came, MakeOutcomes, Drains, IsFresh, Reached, Runs, Spends, SpendsTurn}

@@ -29,7 +29,7 @@ use Rattle.gq_outer.specs.Placed.{IsPlaced}
 use Rattle.gq_execute.specs.Refusals.{of_join}
 use Rattle.gq_execute.specs.Replies.{has_large_part, is_heavy_clause, is_heavy_in}
 use Rattle.gq_execute.specs.Spending.{IsSpentOnClause, IsSpentOnListing}
-use Rattle.gq_execute.specs.declared.settings.Order.{Order}
+use Rattle.gq_order.specs.declared.named.Order.{Order}
 use Rattle.gq_execute.specs.steps.Clauses.{AreOfPlans, AreSpentOn, IsPlanned, IsPlannedClause, RefusesClauses, some_heavy_clause}
 use Rattle.gq_execute.proofs.Parting.{sides_heavy, sides_light}
 use Rattle.gq_execute.proofs.Turning.{runs_sides}

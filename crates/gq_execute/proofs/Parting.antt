@@ -24,8 +24,8 @@ use Rattle.gq_plan.specs.declared.Typed.{Typed}
 use Rattle.gq_execute.specs.steps.Answering.{Drains}
 use Rattle.gq_drain.specs.Becoming.{Becomes}
 use Rattle.gq_execute.specs.Replies.{has_large_part, parts_by}
-use Rattle.gq_execute.specs.declared.settings.Order.{Order}
-use Rattle.gq_execute.specs.declared.settings.Order.TheVariants as order
+use Rattle.gq_order.specs.declared.named.Order.{Order}
+use Rattle.gq_order.specs.declared.named.Order.TheVariants as order
 
 -- ---- large parts
 

@@ -31,7 +31,7 @@ use Rattle.gq_drain.specs.Becoming.{Becomes, outcomes_by, owed_outcomes}
 use Rattle.gq_kept.specs.declared.refusal.RowRefusal.{RowRefusal}
 use Rattle.gq_kept.specs.declared.refusal.RowRefusal.TheVariants as refusal
 use Rattle.gq_execute.specs.Refusals.{of_rows}
-use Rattle.gq_execute.specs.declared.settings.Order.{Order}
+use Rattle.gq_order.specs.declared.named.Order.{Order}
 use Rattle.gq_drain.proofs.Drained.{outcomes_bag}
 
 -- ---- what goes into the table

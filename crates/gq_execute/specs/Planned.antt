@@ -16,8 +16,8 @@ use Rattle.gq_law_answers.specs.Answered.{allowed}
 use Rattle.gq_plan.specs.Meaning.{meaning}
 use Rattle.gq_plan.specs.Plans.{Plan}
 use Rattle.gq_plan.specs.declared.typed.Typed.{Typed}
-use Rattle.gq_execute.specs.declared.settings.Order.{Order}
-use Rattle.gq_execute.specs.declared.settings.Order.TheVariants as order
+use Rattle.gq_order.specs.declared.named.Order.{Order}
+use Rattle.gq_order.specs.declared.named.Order.TheVariants as order
 
 -- how many rows the tables of a graph have
 abbrev pub sizes : Graph → Stats

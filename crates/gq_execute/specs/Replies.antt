@@ -31,8 +31,8 @@ use Rattle.gq_plan.specs.declared.Typed.{Typed}
 use Rattle.gq_scopes.specs.PathPatterns.{path_pattern}
 use Rattle.gq_kept.specs.Answers.{Answers, cut_of, kept, looked_at, rows_in}
 use Rattle.gq_ast.specs.declared.Query.{Query}
-use Rattle.gq_execute.specs.declared.settings.Order.{Order}
-use Rattle.gq_execute.specs.declared.settings.Order.TheVariants as order
+use Rattle.gq_order.specs.declared.named.Order.{Order}
+use Rattle.gq_order.specs.declared.named.Order.TheVariants as order
 
 -- what is asked: a query over a graph, what it is bound to, the order of the plans, and the most rows that may be kept
 pub record Question : Type 0 where

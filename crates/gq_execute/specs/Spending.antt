@@ -22,7 +22,7 @@ use Rattle.gq_execute.specs.Planned.{ArePlansIn, IsPlanIn, Means, sizes}
 use Rattle.gq_execute.specs.Replies.{Question, has_turn, has_turns, outcomes_in}
 use Rattle.gq_execute.specs.declared.found.Answer.{Answer}
 use Rattle.gq_execute.specs.declared.refusal.AnswerRefusal.{AnswerRefusal}
-use Rattle.gq_execute.specs.declared.settings.Order.{Order}
+use Rattle.gq_order.specs.declared.named.Order.{Order}
 use Rattle.gq_execute.specs.declared.settings.Settings.{Settings}
 
 -- the alternatives whose turn comes, where so many rows stand before them

@@ -9,10 +9,10 @@ ghost use Rattle.gq_outer.specs.Placed.{IsPlaced};
 
 use crate::planning::plans_in;
 use crate::refusal::AnswerRefusal;
-use crate::settings::{Order, Settings};
+use crate::settings::Settings;
 use gq_base::{List, Memory};
 use gq_optional::{Optionals, RowShape};
-use gq_order::Stats;
+use gq_order::{Order, Stats};
 use gq_plan::{OptionalPart, Plan};
 use gq_pool::VectorPool;
 use gq_store::Graph;

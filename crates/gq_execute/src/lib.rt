@@ -18,4 +18,4 @@ pub use answering::answer;
 pub use found::Answer;
 pub use planning::{QueryPlans, plans};
 pub use refusal::AnswerRefusal;
-pub use settings::{Order, Settings};
+pub use settings::Settings;

@@ -11,10 +11,9 @@ ghost use Rattle.gq_plan.specs.Parts.{IsSide, sides};
 ghost use Rattle.gq_plan.specs.Soundness.{IsSound};
 ghost use Rattle.gq_plan.specs.Plans.{plan_of};
 
-use crate::settings::Order;
 use gq_base::{List, Memory};
 use gq_least::{Chosen, ComponentOrder, least};
-use gq_order::{Stats, given, greedy};
+use gq_order::{Order, Stats, given, greedy};
 use gq_plan::{Bound, Plan, Typed};
 use gq_store::Graph;
 use std::alloc::Global;

@@ -2,6 +2,7 @@ pub mod Connected
 pub mod Given
 pub mod Greedy
 pub mod Keys
+pub mod Named
 pub mod Orders
 pub mod Pieces
 pub mod Turns

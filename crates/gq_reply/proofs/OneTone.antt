@@ -15,7 +15,7 @@ use Rattle.gq_plan.specs.declared.Bound.{Bound}
 use Rattle.gq_reply.proofs.Replying.{not_blank, refusal_is}
 use Rattle.gq_reply.specs.Bindings.{bind_refusal}
 use Rattle.gq_reply.specs.Replies.{AreBehind, Context, IsAnswered, IsAsked, IsOverfull, IsRefused, IsReply, IsStopped, IsTurn, IsUnbound, IsWrong, RepliesWith, Sets, StandBehind, asked_by, params_behind, question, refusal_text}
-use Rattle.gq_reply.specs.declared.replier.Form.{Form}
+use Rattle.gq_reply.specs.declared.replier.Extent.{Extent}
 use Rattle.gq_kept.specs.Answers.{cut_of, most_listed}
 use Rattle.gq_session.specs.Replies.{Replies}
 use Rattle.gq_session.specs.Tones.{IsMemory, worse}
@@ -90,12 +90,12 @@ one_tree params statement s s' spelled spelled' = elim ((comes_statement stateme
   | inr e ↦ cc e
 ]
 
-module _ (graph : Graph) (settings : Settings) (one other : Form) (params : List Param) (statement : List ℕ) where
+module _ (graph : Graph) (settings : Settings) (one other : Extent) (params : List Param) (statement : List ℕ) where
   abbrev first : Context
-  first = record { graph = graph; settings = settings; form = one }
+  first = record { graph = graph; settings = settings; extent = one }
 
   abbrev second : Context
-  second = record { graph = graph; settings = settings; form = other }
+  second = record { graph = graph; settings = settings; extent = other }
 
   same_tree : (s s' : Statement) → SpelledText statement params s → SpelledText statement params s' → s ≡ s'
   same_tree s s' spelled spelled' = one_tree params statement s s' spelled spelled'
@@ -233,12 +233,12 @@ by_memory tone.Good = inr (λ is. is)
 by_memory tone.Refused = inr (λ is. is)
 by_memory (tone.Memory why) = inl tt
 
-module _ (graph : Graph) (settings : Settings) (one other : Form) where
+module _ (graph : Graph) (settings : Settings) (one other : Extent) where
   abbrev here : Context
-  here = record { graph = graph; settings = settings; form = one }
+  here = record { graph = graph; settings = settings; extent = one }
 
   abbrev there : Context
-  there = record { graph = graph; settings = settings; form = other }
+  there = record { graph = graph; settings = settings; extent = other }
 
   one_tone : (params : List Param) (statement : List ℕ) (t u : Tone) (x y : List ℕ) → IsReply here params statement t x → IsReply there params statement u y
       → Agree (AsksOne graph params statement) t u

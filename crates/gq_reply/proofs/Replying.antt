@@ -337,7 +337,7 @@ answered c false query bound spent pushed lines spends = refl
 
 -- rows alone, where no profile is asked for
 pub rows_alone : (c : Context) (profiled : Bool) (bound : Bound) (spent : List Spent) (lines : List (List Val)) (a b : Option (List ℕ)) (r : Result (Unit {0}) Failed) → profiled ≡ false
-    → Writes a b (rows_text c.form c.graph bound lines) r → Writes a b (answer_text c profiled bound spent lines) r
+    → Writes a b (rows_text c.extent c.graph bound lines) r → Writes a b (answer_text c profiled bound spent lines) r
 rows_alone c true bound spent lines a b r e h = absurd (cc e)
 rows_alone c false bound spent lines a b r e h = h
 
@@ -348,12 +348,12 @@ written_then x y a b d (Err failed) p q = front_after a b d x y p q
 
 -- what the pipelines spent, and then rows, or a front of them
 pub profile_then : (c : Context) (profiled : Bool) (bound : Bound) (spent : List Spent) (lines : List (List Val)) (a b d : Option (List ℕ)) (r : Result (Unit {0}) Failed) → profiled ≡ true
-    → Appends a b (spent_text 1 spent) → Writes b d (rows_text c.form c.graph bound lines) r → Writes a d (answer_text c profiled bound spent lines) r
-profile_then c true bound spent lines a b d r e p q = written_then (spent_text 1 spent) (rows_text c.form c.graph bound lines) a b d r p q
+    → Appends a b (spent_text 1 spent) → Writes b d (rows_text c.extent c.graph bound lines) r → Writes a d (answer_text c profiled bound spent lines) r
+profile_then c true bound spent lines a b d r e p q = written_then (spent_text 1 spent) (rows_text c.extent c.graph bound lines) a b d r p q
 profile_then c false bound spent lines a b d r e p q = absurd (cc e)
 
 -- a front of what they spent
 pub profile_broke : (c : Context) (profiled : Bool) (bound : Bound) (spent : List Spent) (lines : List (List Val)) (a b : Option (List ℕ)) → profiled ≡ true
     → AppendsFront a b (spent_text 1 spent) → AppendsFront a b (answer_text c profiled bound spent lines)
-profile_broke c true bound spent lines a b e p = front_longer a b (spent_text 1 spent) (rows_text c.form c.graph bound lines) p
+profile_broke c true bound spent lines a b e p = front_longer a b (spent_text 1 spent) (rows_text c.extent c.graph bound lines) p
 profile_broke c false bound spent lines a b e p = absurd (cc e)

@@ -21,7 +21,7 @@ use Rattle.gq_render.specs.Texts.{line, param_line, refusal_line}
 use Rattle.gq_reply.specs.BindLines.{bind_line}
 use Rattle.gq_reply.specs.Bindings.{bind_refusal}
 use Rattle.gq_reply.specs.ReplyTexts.{IsPlanText, fault_text, many_text, reply_text, rows_text, spent_text}
-use Rattle.gq_reply.specs.declared.replier.Form.{Form}
+use Rattle.gq_reply.specs.declared.replier.Extent.{Extent}
 use Rattle.gq_reply.specs.declared.replier.Replier.{Replier}
 use Rattle.gq_session.specs.Replies.{Replies, Rule}
 use Rattle.gq_session.specs.Tones.{IsMemory}
@@ -41,10 +41,10 @@ use Rattle.gq_tokens.specs.declared.params.Param.{Param}
 pub record Context : Type 0 where
   pub graph : Graph
   pub settings : Settings
-  pub form : Form
+  pub extent : Extent
 
 abbrev pub context_of : Replier → Context
-context_of r = record { graph = r.graph.now; settings = r.settings; form = r.form }
+context_of r = record { graph = r.graph.now; settings = r.settings; extent = r.extent }
 
 -- the statement has no tokens: it is white space and comments alone
 abbrev pub IsBlank : List ℕ → Type 0
@@ -72,14 +72,14 @@ pub record IsProfile (c : Context) (query : Query) (bound : Bound) (lines : List
   pub spent : List Spent
   pub pushed : ℕ
   pub spends : AreSpent (question c query bound) spent pushed
-  pub is : text ≡ spent_text 1 spent ++ rows_text c.form c.graph bound lines
+  pub is : text ≡ spent_text 1 spent ++ rows_text c.extent c.graph bound lines
 
 -- the text of a reply; a fault and too many rows stand alone behind `:profile` too
 abbrev pub IsText : Context → Bool → Query → Bound → Reply → List ℕ → Type 0
 IsText c true query bound (Rows lines) text = IsProfile c query bound lines text
 IsText c true query bound (Faulted why) text = text ≡ fault_text why
 IsText c true query bound TooManyRows text = text ≡ many_text c.settings.rows
-IsText c false query bound reply text = text ≡ reply_text c.form c.settings.rows c.graph bound reply
+IsText c false query bound reply text = text ≡ reply_text c.extent c.settings.rows c.graph bound reply
 
 -- a reply to such a query: one that openCypher permits over the graph, and its text
 pub record RepliesWith (c : Context) (params : List Param) (statement : List ℕ) (reply : Reply) (text : List ℕ) : Type 0 where

@@ -1,13 +1,13 @@
 -- The text of a reply to a query, and of its plans (this project's profile).
-use Rattle.std.specs.Prelude.{◌≡◌, ℕ, Option, List, [], ◌∷◌, map, codes, ◌+◌, ◌++◌, decimal}
+use Rattle.std.specs.Prelude.{◌≡◌, ℕ, Option, List, [], ◌∷◌, map, codes, ◌+◌, ◌++◌, decimal, if◌then◌else◌}
 use Rattle.std.specs.List.{AllZip}
 use Rattle.gq_base.specs.Catalogs.{Tables}
 use Rattle.gq_base.specs.Plain.{Graph}
 use Rattle.gq_base.specs.Values.{Val}
 use Rattle.gq_execute.specs.Replies.{Reply, Rows, Faulted, TooManyRows}
 use Rattle.gq_execute.specs.Planned.{ArePlansIn}
-use Rattle.gq_execute.specs.declared.settings.Order.{Order}
-use Rattle.gq_execute.specs.declared.settings.Order.TheVariants as order
+use Rattle.gq_order.specs.Named.{has_costs}
+use Rattle.gq_order.specs.declared.named.Order.{Order}
 use Rattle.gq_plan.specs.Columns.{columns_of}
 use Rattle.gq_explain.specs.Costs.{costs_text}
 use Rattle.gq_explain.specs.Plans.{plan_text}
@@ -22,8 +22,8 @@ use Rattle.gq_render.specs.Listings.{ends_text, listing_text}
 use Rattle.gq_render.specs.Texts.{line, refusal_line}
 use Rattle.gq_homes.specs.declared.spent.Spent.{Spent}
 use Rattle.gq_reply.specs.Arrows.{trail_arrows}
-use Rattle.gq_reply.specs.declared.replier.Form.{Form}
-use Rattle.gq_reply.specs.declared.replier.Form.TheVariants as form
+use Rattle.gq_reply.specs.declared.replier.Extent.{Extent}
+use Rattle.gq_reply.specs.declared.replier.Extent.TheVariants as extent
 use Rattle.gq_ast.specs.declared.statement.Query.{Query}
 
 -- the lines that say why there are no rows
@@ -36,12 +36,12 @@ abbrev pub many_text : ℕ → List ℕ
 many_text most = refusal_line (codes "error: TooManyRows ") [] (record { before = []; number = most } ∷ [])
 
 -- rows in full: a header, a line for each and their number; or in short: the first, the last and their number
-abbrev pub rows_text : Form → Graph → Bound → List (List Val) → List ℕ
-rows_text form.Full graph bound lines = listing_text (map (λ c. c.name) bound.columns) graph lines
-rows_text form.Short graph bound lines = ends_text graph lines
+abbrev pub rows_text : Extent → Graph → Bound → List (List Val) → List ℕ
+rows_text extent.Full graph bound lines = listing_text (map (λ c. c.name) bound.columns) graph lines
+rows_text extent.Short graph bound lines = ends_text graph lines
 
 -- the rows, or one line that says why there are none
-abbrev pub reply_text : Form → ℕ → Graph → Bound → Reply → List ℕ
+abbrev pub reply_text : Extent → ℕ → Graph → Bound → Reply → List ℕ
 reply_text f most graph bound (Rows lines) = rows_text f graph bound lines
 reply_text f most graph bound (Faulted why) = fault_text why
 reply_text f most graph bound TooManyRows = many_text most
@@ -62,11 +62,9 @@ columns_each [] ps = []
 columns_each (y ∷ ys) [] = []
 columns_each (y ∷ ys) (p ∷ ps) = columns_of y (plan_of p) ∷ columns_each ys ps
 
--- in the order of least cost a line for each plan, with the costs of its components
+-- in an order that states costs a line for each plan, with the costs of its components
 abbrev pub costs_shown : Order → List (List (Option ℕ)) → List ℕ
-costs_shown order.Given costs = []
-costs_shown order.Greedy costs = []
-costs_shown order.Least costs = costs_text costs
+costs_shown order costs = if has_costs order then costs_text costs else []
 
 -- plans, the trails of a query, and what the plans cost
 abbrev pub plans_text : Order → Query → Bound → Tables → List code_plan.Plan → List ℕ → List (List (Option ℕ)) → List ℕ

@@ -15,5 +15,5 @@ mod spent;
 mod statement;
 mod tone;
 
-pub use replier::{Form, Replier, Workspace};
+pub use replier::{Extent, Replier, Workspace};
 pub use spent::write_spent;

@@ -18,9 +18,10 @@ use crate::arrows::trail_arrows;
 use crate::replier::Replier;
 use crate::tone::{reply_memory, toned};
 use gq_base::{List, Memory};
-use gq_execute::{Order, QueryPlans, plans};
+use gq_execute::{QueryPlans, plans};
 use gq_explain::{write_costs, write_plan};
 use gq_io::{Failed, Sink};
+use gq_order::Order;
 use gq_plan::{Bound, Plan, Typed, columns};
 use gq_session::Tone;
 use gq_syntax::Query;
@@ -49,7 +50,7 @@ fn column_counts(alloc: Global, alternatives: &[Typed], plans: &[Plan]) -> Resul
     Ok(counts)
 }
 
-// Writes what plans cost, in the order of least cost.
+// Writes what plans cost, in an order that states it.
 fn write_shown<O: Sink>(
     out: &mut O,
     order: Order,
@@ -58,11 +59,10 @@ fn write_shown<O: Sink>(
     ensures bytes { Writes (O.taken out.old) (O.taken out.new) (costs_shown order costs.now) result }
     ensures cause { HasCause (O.faults out.old) (O.faults out.new) result }
 {
-    match order {
-        Order::Given => Ok(()),
-        Order::Greedy => Ok(()),
-        Order::Least => write_costs(out, costs),
+    if order.has_costs() {
+        return write_costs(out, costs);
     }
+    Ok(())
 }
 
 impl Replier<'_> {

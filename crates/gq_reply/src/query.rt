@@ -10,7 +10,7 @@ ghost use Rattle.gq_reply.specs.ReplyTexts.{fault_text, many_text, rows_text};
 ghost use Rattle.gq_reply.specs.steps.Steps.{Asks, answer_text};
 ghost use Rattle.gq_session.specs.Sessions.{span_of};
 
-use crate::replier::{Form, Replier};
+use crate::replier::{Extent, Replier};
 use crate::spent::write_spent;
 use crate::tone::{reply_memory, toned};
 use gq_execute::{Answer, AnswerRefusal, answer};
@@ -54,12 +54,12 @@ impl Replier<'_> {
         listing: &Listing<'_>,
     ) -> Result<(), Failed>
         ensures bytes { Writes (O.taken out.old) (O.taken out.new)
-            (rows_text self.now.form self.now.graph.now bound.now listing.now.lines) result }
+            (rows_text self.now.extent self.now.graph.now bound.now listing.now.lines) result }
         ensures cause { HasCause (O.faults out.old) (O.faults out.new) result }
     {
-        match self.form {
-            Form::Full => write_listing(out, self.graph, bound, listing),
-            Form::Short => write_ends(out, self.graph, listing),
+        match self.extent {
+            Extent::Full => write_listing(out, self.graph, bound, listing),
+            Extent::Short => write_ends(out, self.graph, listing),
         }
     }
 

@@ -18,7 +18,7 @@ use std::alloc::Global;
 
 /// How the rows of a query are written.
 #[derive(Clone, Copy, Debug, PartialEq, Eq)]
-pub enum Form {
+pub enum Extent {
     /// The names of the columns, each row, and how many rows there are.
     Full,
     /// The first and the last row, and how many rows there are.
@@ -31,7 +31,7 @@ pub struct Replier<'g> {
     pub alloc: Global,
     pub graph: &'g Graph,
     pub settings: Settings,
-    pub form: Form,
+    pub extent: Extent,
 }
 
 /// What a session keeps from one statement to the next: the pool that pipelines take their slots

@@ -100,7 +100,7 @@ module _ (c : Context) (statement : List ℕ) (query : Query) (bound : Bound) (s
     pub reply : Reply
     pub permitted : IsPermitted (question c query bound) reply
     pub status_is : status_of (Ok t) ≡ status_by reply
-    pub is : text ≡ reply_text c.form c.settings.rows c.graph bound reply
+    pub is : text ≡ reply_text c.extent c.settings.rows c.graph bound reply
 
   abbrev IsSaid : Tone → List ℕ → Type 0
   IsSaid t text = tones.IsMemory t ⊎ Said t text
@@ -119,7 +119,7 @@ module _ (c : Context) (statement : List ℕ) (query : Query) (bound : Bound) (s
   same_query true q other = let e : tree.Query query ≡ tree.Profile q = one_tree (tree.Profile q) other in absurd (cc e)
 
   plain_text : (profiled : Bool) (q : Query) (b : Bound) (reply : Reply) (text : List ℕ) → profiled ≡ false → IsText c profiled q b reply text
-      → text ≡ reply_text c.form c.settings.rows c.graph b reply
+      → text ≡ reply_text c.extent c.settings.rows c.graph b reply
   plain_text false q b reply text plain is = is
   plain_text true q b reply text plain is = absurd (cc plain)
 
@@ -133,7 +133,7 @@ module _ (c : Context) (statement : List ℕ) (query : Query) (bound : Bound) (s
         reply = reply;
         permitted = subst (λ b. IsPermitted (question c query b) reply) one asked;
         status_is = status_is;
-        is = subst (λ b. text ≡ reply_text c.form c.settings.rows c.graph b reply) one (plain_text r.asked.profiled r.query r.bound reply text plain r.is);
+        is = subst (λ b. text ≡ reply_text c.extent c.settings.rows c.graph b reply) one (plain_text r.asked.profiled r.query r.bound reply text plain r.is);
       }
 
   answered : (text : List ℕ) → IsAnswered c [] statement text → Said tone.Good text

@@ -1,6 +1,6 @@
 -- For given words, files and input one status alone may be answered, but where memory may end and for queries of which not
 -- all outcomes are looked at.
-use Rattle.std.proofs.Common.{◌≡◌, ◌≢◌, arith, ℕ, List, [], ◌∷◌, ◌++◌, Some, None, Ok, Err, codes, refl, sym, ap, ap₂, ◌∙◌, subst, inl, inr}
+use Rattle.std.proofs.Common.{◌≡◌, ℕ, List, [], ◌∷◌, ◌++◌, Some, None, Ok, Err, codes, refl, sym, ap, ap₂, ◌∙◌, subst, inl, inr}
 use Rattle.std.specs.Prelude.{◌⊎◌, Option, Result}
 use Rattle.std.specs.Io.KnownBytes.{Appends}
 use Rattle.clap.specs.Words.{Row, Text, first_of}
@@ -11,9 +11,11 @@ use Rattle.gq_io.specs.Outside.{Names}
 use Rattle.gq_loader.specs.Limits.{standard}
 use Rattle.gq_loader.specs.Loads.{load_of}
 use Rattle.gq_loader.specs.declared.refusal.LoadRefusal.{LoadRefusal}
+use Rattle.gq_order.proofs.OneName.{one_name}
+use Rattle.gq_order.specs.declared.named.Order.{Order}
 use Rattle.gq_reply.proofs.OneTone.{Agree, AsksSome, tones_agree}
 use Rattle.gq_reply.specs.Replies.{Context, IsTurn}
-use Rattle.gq_reply.specs.declared.replier.Form.TheVariants.{Full, Short}
+use Rattle.gq_reply.specs.declared.replier.Extent.TheVariants.{Full, Short}
 use Rattle.gq_sample.specs.Questions.{questions}
 use Rattle.gq_sample.specs.Sample.{sample_graph}
 use Rattle.gq_session.specs.Replies.{Replies}
@@ -22,7 +24,7 @@ use Rattle.gq_session.specs.Whole as session
 use Rattle.gq_session.specs.declared.answering.Tone.{Tone}
 use Rattle.gq_session.specs.declared.answering.Tone.TheVariants as tone
 use Rattle.gq_shell.proofs.Ordering.{no_open}
-use Rattle.gq_shell.specs.Claim.{AreOpen, AsksOpenQuery, IsNotLoaded, IsPath, IsQuiz, IsToTheEnd, IsWhole, OnSample, Outside, Over, Permits, Runs, Whole, full, long, most, order_of, settings_of, short}
+use Rattle.gq_shell.specs.Claim.{AreOpen, AsksOpenQuery, IsNotLoaded, IsPath, IsQuiz, IsToTheEnd, IsWhole, OnSample, Outside, Over, Permits, Runs, Whole, full, long, most, settings_of, short}
 use Rattle.gq_shell.specs.LoadLines.{load_line}
 use Rattle.gq_shell.specs.Questions.{IsNumbered}
 use Rattle.gq_shell.specs.Statuses.{IsMemory, status_of}
@@ -32,11 +34,9 @@ use Rattle.gq_tokens.specs.Parameters.{values_of}
 use Rattle.gq_tokens.specs.declared.params.Param.{Param}
 use Rattle.gq_arguments.specs.Meaning.{IsOrder, IsRows, IsSource, Means}
 use Rattle.gq_arguments.specs.Reading.{IsMisused, IsRead}
-use Rattle.gq_arguments.specs.declared.meaning.Order as word
-use Rattle.gq_arguments.specs.declared.meaning.Order.TheVariants as order_word
 use Rattle.gq_arguments.specs.declared.meaning.Source.{Source}
 use Rattle.gq_arguments.specs.declared.meaning.Source.TheVariants as source
-use Rattle.gq_arguments.specs.declared.meaning.Words.{Words}
+use Rattle.gq_arguments.specs.declared.meaning.Arguments.{Arguments}
 
 -- ---- the words are read in one way
 
@@ -57,10 +57,10 @@ no_sample None (Some text) (source.Manifest a) size p here there is = here
 no_sample None (Some text) (source.Sample n) size p here there is = is
 
 -- the same of what was found for the options
-pub same_paths : (found : List Row) (r r' : Words) (p q : List ℕ) → Means found r → Means found r' → IsPath p r.source → IsPath q r'.source → p ≡ q
+pub same_paths : (found : List Row) (r r' : Arguments) (p q : List ℕ) → Means found r → Means found r' → IsPath p r.source → IsPath q r'.source → p ≡ q
 same_paths found r r' p q m m' here there = same_path (first_of (codes "manifest") found) (first_of (codes "sample") found) r.source r'.source p q m.source m'.source here there
 
-pub no_samples : (found : List Row) (r r' : Words) (size : ℕ) (p : List ℕ) → Means found r → Means found r' → r'.source ≡ source.Sample size → IsPath p r.source → ⊥
+pub no_samples : (found : List Row) (r r' : Arguments) (size : ℕ) (p : List ℕ) → Means found r → Means found r' → r'.source ≡ source.Sample size → IsPath p r.source → ⊥
 no_samples found r r' size p m m' from here =
     no_sample (first_of (codes "manifest") found) (first_of (codes "sample") found) r.source size p m.source
     (subst (λ s. IsSource (first_of (codes "manifest") found) (first_of (codes "sample") found) s) from m'.source) here
@@ -72,44 +72,28 @@ same_size (Some path) (Some text) size other x y = absurd x
 same_size None None size other x y = absurd x
 same_size None (Some text) size other x y = x.value ∙ sym y.value
 
-same_sizes : (found : List Row) (r r' : Words) (size other : ℕ) → Means found r → Means found r' → r.source ≡ source.Sample size → r'.source ≡ source.Sample other → size ≡ other
+same_sizes : (found : List Row) (r r' : Arguments) (size other : ℕ) → Means found r → Means found r' → r.source ≡ source.Sample size → r'.source ≡ source.Sample other → size ≡ other
 same_sizes found r r' size other m m' from from' =
     same_size (first_of (codes "manifest") found) (first_of (codes "sample") found) size other
     (subst (λ x. IsSource (first_of (codes "manifest") found) (first_of (codes "sample") found) x) from m.source)
     (subst (λ x. IsSource (first_of (codes "manifest") found) (first_of (codes "sample") found) x) from' m'.source)
 
--- words that begin otherwise are not the same
-abbrev front : List ℕ → ℕ
-front [] = 0
-front (x ∷ xs) = x
-
-other_front : (xs ys : List ℕ) (m n : ℕ) → front xs ≡ m → front ys ≡ n → m ≢ n → xs ≡ ys → ⊥
-other_front xs ys m n first second other same = other (sym first ∙ ap front same ∙ second)
-
-same_order : (o : Option Text) (x y : word.Order) → IsOrder o x → IsOrder o y → x ≡ y
+same_order : (o : Option Text) (x y : Order) → IsOrder o x → IsOrder o y → x ≡ y
 same_order None x y is is' = is ∙ sym is'
-same_order (Some name) order_word.Given order_word.Given is is' = refl
-same_order (Some name) order_word.Given order_word.Greedy is is' = let no : codes "given" ≡ codes "greedy" = sym is ∙ is' in absurd (cc no)
-same_order (Some name) order_word.Greedy order_word.Given is is' = let no : codes "greedy" ≡ codes "given" = sym is ∙ is' in absurd (cc no)
-same_order (Some name) order_word.Greedy order_word.Greedy is is' = refl
-same_order (Some name) order_word.Given order_word.Least is is' = absurd (other_front (codes "given") (codes "least") 103 108 refl refl (omega arith) (sym is ∙ is'))
-same_order (Some name) order_word.Greedy order_word.Least is is' = absurd (other_front (codes "greedy") (codes "least") 103 108 refl refl (omega arith) (sym is ∙ is'))
-same_order (Some name) order_word.Least order_word.Given is is' = absurd (other_front (codes "least") (codes "given") 108 103 refl refl (omega arith) (sym is ∙ is'))
-same_order (Some name) order_word.Least order_word.Greedy is is' = absurd (other_front (codes "least") (codes "greedy") 108 103 refl refl (omega arith) (sym is ∙ is'))
-same_order (Some name) order_word.Least order_word.Least is is' = refl
+same_order (Some name) x y is is' = one_name x y (sym is ∙ is')
 
 same_rows : (o : Option Text) (x y : ℕ) → IsRows o x → IsRows o y → x ≡ y
 same_rows None x y is is' = is ∙ sym is'
 same_rows (Some text) x y is is' = is.value ∙ sym is'.value
 
-pub same_settings : (found : List Row) (r r' : Words) → Means found r → Means found r' → settings_of r ≡ settings_of r'
+pub same_settings : (found : List Row) (r r' : Arguments) → Means found r → Means found r' → settings_of r ≡ settings_of r'
 same_settings found r r' m m' =
     ap₂ (λ o n. settings_with o n) (same_order (first_of (codes "order") found) r.order r'.order m.order m'.order) (same_rows (first_of (codes "rows") found) r.rows r'.rows m.rows m'.rows)
   where
-    settings_with : word.Order → ℕ → Settings
-    settings_with o n = record { order = order_of o; rows = n }
+    settings_with : Order → ℕ → Settings
+    settings_with o n = record { order = o; rows = n }
 
-pub not_misused : (words : List (List ℕ)) (read : Words) → IsMisused words → IsRead words read → ⊥
+pub not_misused : (words : List (List ℕ)) (read : Arguments) → IsMisused words → IsRead words read → ⊥
 not_misused words read (inl some) is = some is.taken
 not_misused words read (inr none) is = none read is.means
 
@@ -143,7 +127,7 @@ module _ (words : List (List ℕ)) (files : Names) (input : List ℕ) where
   abbrev OnInput : (Context → List ℕ → Type 0) → Type 0
   OnInput Says = Over words (Some files) (Some input) Says
 
-  paths : (Says : Context → List ℕ → Type 0) (over : OnInput Says) (read : Words) (given : IsRead words read) (path : List ℕ) (from : IsPath path read.source) → over.path ≡ path
+  paths : (Says : Context → List ℕ → Type 0) (over : OnInput Says) (read : Arguments) (given : IsRead words read) (path : List ℕ) (from : IsPath path read.source) → over.path ≡ path
   paths Says over read given path from = same_paths _ over.read read over.path path over.given.means given.means over.from from
 
   no_load : (Says : Context → List ℕ → Type 0) (refusal : LoadRefusal) → IsNotLoaded words (Some files) refusal → OnInput Says → ⊥
@@ -153,7 +137,7 @@ module _ (words : List (List ℕ)) (files : Names) (input : List ℕ) where
       sym not.told ∙ subst (λ p. load_of p files standard ≡ Ok over.graph) same over.loads in
       cc both
 
-  no_input : (Says : Context → List ℕ → Type 0) (read : Words) (given : IsRead words read) (size : ℕ) → read.source ≡ source.Sample size → OnInput Says → ⊥
+  no_input : (Says : Context → List ℕ → Type 0) (read : Arguments) (given : IsRead words read) (size : ℕ) → read.source ≡ source.Sample size → OnInput Says → ⊥
   no_input Says read given size from over = no_samples _ over.read read size over.path over.given.means given.means from over.from
 
   not_unloaded : (refusal : LoadRefusal) → IsNotLoaded words (Some files) refusal → (Says : Context → Type 0) → OnSample words Says → ⊥

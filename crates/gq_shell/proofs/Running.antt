@@ -29,7 +29,7 @@ use Rattle.gq_session.specs.declared.answering.Tone.{Tone}
 use Rattle.gq_session.specs.declared.answering.Tone.TheVariants as tone
 use Rattle.gq_session.specs.declared.run.Stop.{Stop}
 use Rattle.gq_session.specs.declared.run.Stop.TheVariants as stop
-use Rattle.gq_shell.specs.Claim.{AnswersEnded, EatsAll, EatsFor, Ends, EndsAtFault, IsPath, IsQuiz, IsStill, OnSample, Outside, Over, Permits, Runs, WroteFront, full, long, most, settings_of, short, usage_text, with_eaten}
+use Rattle.gq_shell.specs.Claim.{AnswersEnded, EatsAll, EatsFor, Ends, EndsAtFault, IsPath, IsQuiz, IsStill, OnSample, Outside, Over, Permits, Runs, WroteFront, full, long, most, settings_of, short, with_eaten}
 use Rattle.gq_shell.specs.LoadLines.{load_line}
 use Rattle.gq_shell.specs.Questions.{IsNumbered}
 use Rattle.gq_shell.specs.Statuses.{status_of}
@@ -38,10 +38,11 @@ use Rattle.gq_shell.specs.steps.Steps.{EndsLoad, Quizzed, Told, told}
 use Rattle.gq_shell.specs.declared.status.Status.{Status}
 use Rattle.gq_shell.specs.declared.status.Status.TheVariants as status
 use Rattle.gq_tokens.specs.declared.params.Param.{Param}
+use Rattle.gq_arguments.specs.Command.{usage_text}
 use Rattle.gq_arguments.specs.Meaning.{IsSource, Means}
 use Rattle.gq_arguments.specs.Reading.{IsMisused, IsRead}
 use Rattle.gq_arguments.specs.declared.meaning.Source.TheVariants as source
-use Rattle.gq_arguments.specs.declared.meaning.Words.{Words}
+use Rattle.gq_arguments.specs.declared.meaning.Arguments.{Arguments}
 
 -- a line ended the run, or the sink failed in it
 pub told_by : (text : List ℕ) (s : Status) (out : Span) (written : Result (Unit {0}) Failed) → Writes out.old out.new text written → HasCause out.before out.now written
@@ -76,12 +77,12 @@ sample_size (Some path) (Some text) size is = absurd is
 sample_size None None size is = absurd is
 sample_size None (Some text) size is = (is.least, is.most)
 
-pub sample_sizes : (found : List Row) (read : Words) (size : ℕ) → Means found read → read.source ≡ source.Sample size → (1 ≤ size) × (size ≤ 1000000)
+pub sample_sizes : (found : List Row) (read : Arguments) (size : ℕ) → Means found read → read.source ≡ source.Sample size → (1 ≤ size) × (size ≤ 1000000)
 sample_sizes found read size means from = sample_size (first_of (codes "manifest") found) (first_of (codes "sample") found) size
     (subst (λ s. IsSource (first_of (codes "manifest") found) (first_of (codes "sample") found) s) from means.source)
 
 -- the path that the words name
-pub path_said : (read : Words) (manifest : Bor Text) → read.source ≡ source.Manifest manifest → IsPath manifest.now read.source
+pub path_said : (read : Arguments) (manifest : Bor Text) → read.source ≡ source.Manifest manifest → IsPath manifest.now read.source
 path_said read manifest is = subst (IsPath manifest.now) (sym is) refl
 
 -- a session that was had over a buffer of the longest statement
@@ -108,7 +109,7 @@ module _ (words : List (List ℕ)) (o : Outside) where
   misused answer wrong (inl (is, moved, still)) = rw is (record { text = usage_text; permitted = (wrong, refl); moved = moved }, refl)
   misused answer wrong (inr (is, front, rose)) = broken_line answer status.Usage usage_text (wrong, refl) refl is front rose
 
-  module _ (read : Words) (given : IsRead words read) where
+  module _ (read : Arguments) (given : IsRead words read) where
     module _ (path : List ℕ) (from : IsPath path read.source) where
       by_line : (answer : Status) (e : LoadRefusal) → IsOfFiles e → IfSome o.held (λ files. load_of path files standard ≡ Err e)
           → ((name : List ℕ) → e ≡ load.NoFile name → Rose o.files_misses.before o.files_misses.now)
@@ -359,7 +360,7 @@ module _ (words : List (List ℕ)) (o : Outside) where
   exit_misused answer wrong same files input line =
       unread answer same (first_line o answer status.Usage usage_text (λ none. none) files input line) (misused words o answer wrong line) (misused words (alike []) answer wrong line)
 
-  module _ (read : Words) (given : IsRead words read) where
+  module _ (read : Arguments) (given : IsRead words read) where
     module _ (path : List ℕ) (from : IsPath path read.source) where
       -- the load gave no graph
       pub exit_refused : (answer : Status) (graph : Result Graph LoadRefusal) (e : LoadRefusal)

@@ -2,11 +2,9 @@
 -- It rests on `IsRead` and `IsMisused` (what the words say), `load_of` (which graph the files give) and `load_line` (how a
 -- refused load is spelled), `sample_graph` and `questions` (the sample), `statements` (how an input is cut), `IsTooLong`
 -- (which inputs are refused), and `IsTurn` (which replies a statement may have, what each is like, and the parameters then).
-use Rattle.std.specs.Prelude.{◌≡◌, ◌⊎◌, ℕ, ◌+◌, ◌≤◌, false, List, [], length, codes, Option, Some, Ok, Err, IfSome, IsSome, slice_get, take}
+use Rattle.std.specs.Prelude.{◌≡◌, ◌⊎◌, ℕ, ◌+◌, ◌≤◌, false, List, [], length, Option, Some, Ok, Err, IfSome, IsSome, slice_get, take}
 use Rattle.std.specs.Io.KnownBytes.{Appends, Consumes, IsAtEnd, Keeps}
 use Rattle.gq_base.specs.Plain.{Graph}
-use Rattle.gq_execute.specs.declared.settings.Order.{Order}
-use Rattle.gq_execute.specs.declared.settings.Order.TheVariants as order
 use Rattle.gq_execute.specs.declared.settings.Settings.{Settings}
 use Rattle.gq_io.specs.Causes.{Rose}
 use Rattle.gq_io.specs.Outside.{AppendsFront, Names}
@@ -16,9 +14,8 @@ use Rattle.gq_loader.specs.Refusals.{IsOfFiles}
 use Rattle.gq_loader.specs.declared.refusal.LoadRefusal.{LoadRefusal}
 use Rattle.gq_loader.specs.declared.refusal.LoadRefusal.TheVariants as refused
 use Rattle.gq_plan.specs.declared.Bound.{Bound}
-use Rattle.gq_render.specs.Texts.{line}
 use Rattle.gq_reply.specs.Replies.{Context, IsAsked, IsTurn, StandBehind}
-use Rattle.gq_reply.specs.declared.replier.Form.TheVariants.{Full, Short}
+use Rattle.gq_reply.specs.declared.replier.Extent.TheVariants.{Full, Short}
 use Rattle.gq_sample.specs.Questions.{questions}
 use Rattle.gq_sample.specs.Sample.{sample_graph}
 use Rattle.gq_session.specs.Replies.{Replies}
@@ -35,12 +32,11 @@ use Rattle.gq_shell.specs.declared.status.Status.{Status}
 use Rattle.gq_shell.specs.declared.status.Status.TheVariants as status
 use Rattle.gq_ast.specs.declared.statement.Query.{Query}
 use Rattle.gq_tokens.specs.declared.params.Param.{Param}
+use Rattle.gq_arguments.specs.Command.{usage_text}
 use Rattle.gq_arguments.specs.Reading.{IsMisused, IsRead}
-use Rattle.gq_arguments.specs.declared.meaning.Order.TheVariants as order_word
-use Rattle.gq_arguments.specs.declared.meaning.Order as word
 use Rattle.gq_arguments.specs.declared.meaning.Source.{Source}
 use Rattle.gq_arguments.specs.declared.meaning.Source.TheVariants as source
-use Rattle.gq_arguments.specs.declared.meaning.Words.{Words}
+use Rattle.gq_arguments.specs.declared.meaning.Arguments.{Arguments}
 
 -- ---- what each part of the run means
 
@@ -51,18 +47,9 @@ long = 65536
 abbrev pub most : ℕ
 most = 1073741824
 
--- the line of words that are no use of the program
-abbrev pub usage_text : List ℕ
-usage_text = line (codes "usage: graphq (--manifest PATH | --sample N) [--order given|greedy|least] [--rows N]")
-
-abbrev pub order_of : word.Order → Order
-order_of order_word.Given = order.Given
-order_of order_word.Greedy = order.Greedy
-order_of order_word.Least = order.Least
-
 -- the order of plans and the most rows that the words say
-abbrev pub settings_of : Words → Settings
-settings_of read = record { order = order_of read.order; rows = read.rows }
+abbrev pub settings_of : Arguments → Settings
+settings_of read = record { order = read.order; rows = read.rows }
 
 -- the words name this path of a manifest
 abbrev pub IsPath : List ℕ → Source → Type 0
@@ -71,14 +58,14 @@ IsPath path (source.Sample size) = ⊥
 
 -- statements over a loaded graph, and questions over the sample graph
 abbrev pub full : Graph → Settings → Context
-full graph settings = record { graph = graph; settings = settings; form = Full }
+full graph settings = record { graph = graph; settings = settings; extent = Full }
 
 abbrev pub short : ℕ → Settings → Context
-short size settings = record { graph = sample_graph size; settings = settings; form = Short }
+short size settings = record { graph = sample_graph size; settings = settings; extent = Short }
 
 -- the words name a manifest, and this is the first refusal of the files where they are told
 pub record IsNotLoaded (words : List (List ℕ)) (held : Option Names) (refusal : LoadRefusal) : Type 0 where
-  pub read : Words
+  pub read : Arguments
   pub given : IsRead words read
   pub path : List ℕ
   pub from : IsPath path read.source
@@ -87,7 +74,7 @@ pub record IsNotLoaded (words : List (List ℕ)) (held : Option Names) (refusal 
 
 -- the words name a manifest, and the input is read, where it is told, over some graph, which is that of the files where they are told
 pub record Over (words : List (List ℕ)) (held : Option Names) (left : Option (List ℕ)) (Says : Context → List ℕ → Type 0) : Type 0 where
-  pub read : Words
+  pub read : Arguments
   pub given : IsRead words read
   pub path : List ℕ
   pub from : IsPath path read.source
@@ -97,7 +84,7 @@ pub record Over (words : List (List ℕ)) (held : Option Names) (left : Option (
 
 -- the words ask for the sample graph
 pub record OnSample (words : List (List ℕ)) (Says : Context → Type 0) : Type 0 where
-  pub read : Words
+  pub read : Arguments
   pub given : IsRead words read
   pub size : ℕ
   pub from : read.source ≡ source.Sample size

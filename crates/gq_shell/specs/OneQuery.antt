@@ -41,7 +41,7 @@ pub record WroteReply (c : Context) (query : Query) (bound : Bound) (answer : St
   pub reply : Reply
   pub permitted : IsPermitted (question c query bound) reply
   pub status_is : answer ≡ status_by reply
-  pub written : Appends old new (reply_text c.form c.settings.rows c.graph bound reply)
+  pub written : Appends old new (reply_text c.extent c.settings.rows c.graph bound reply)
 
 -- where no call fails, one query that is asked over the graph of the files has its reply, or there was not enough memory
 abbrev pub RepliesToOne : List (List ℕ) → Outside → Status → Type 0

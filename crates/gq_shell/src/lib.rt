@@ -10,7 +10,8 @@ mod showing;
 mod status;
 mod workspace;
 
-pub use gq_execute::{Answer, AnswerRefusal, Order, Settings, answer};
+pub use gq_execute::{Answer, AnswerRefusal, Settings, answer};
+pub use gq_order::Order;
 pub use gq_reply::{Workspace, write_spent};
 pub use gq_sample::sample;
 pub use program::run;

@@ -1,10 +1,11 @@
 //! The top call: all that the program does.
 
 ghost use Rattle.std.specs.Prelude.{◌≡◌, ◌⊎◌, map, string_bytes};
+ghost use Rattle.gq_arguments.specs.Command.{usage_text};
 ghost use Rattle.gq_io.specs.Causes.{HasCause, Rose};
 ghost use Rattle.gq_io.specs.Outside.{Writes};
 ghost use Rattle.gq_session.specs.Sessions.{span_of};
-ghost use Rattle.gq_shell.specs.Claim.{Runs, Whole, outside_of, settings_of, usage_text};
+ghost use Rattle.gq_shell.specs.Claim.{Runs, Whole, outside_of, settings_of};
 ghost use Rattle.gq_shell.specs.OneQuery.{RepliesToOne};
 ghost use Rattle.gq_shell.specs.steps.Steps.{EndsLoad, told};
 
@@ -12,25 +13,20 @@ use crate::load_line::write_load_line;
 use crate::serving::serve;
 use crate::showing::show_sample;
 use crate::status::Status;
-use gq_arguments::{Order as OrderWord, Source as SourceWord, Words, WordsRefusal, read_words};
+use gq_arguments::{Arguments, ArgumentsRefusal, Source as GraphSource, read_arguments, usage};
 use gq_base::Memory;
-use gq_execute::{Order, Settings};
+use gq_execute::Settings;
 use gq_io::{Failed, Files, Sink, Source, write_all};
 use gq_loader::{Limits, LoadRefusal, load};
 use std::alloc::Global;
 
-// The settings that the words say.
-fn settings_of(words: &Words<'_>) -> Settings
-    ensures { result ≡ settings_of words.now }
+// The settings that the arguments say.
+fn settings_of(arguments: &Arguments<'_>) -> Settings
+    ensures { result ≡ settings_of arguments.now }
 {
-    let order = match words.order {
-        OrderWord::Given => Order::Given,
-        OrderWord::Greedy => Order::Greedy,
-        OrderWord::Least => Order::Least,
-    };
     Settings {
-        order,
-        rows: words.rows,
+        order: arguments.order,
+        rows: arguments.rows,
     }
 }
 
@@ -48,10 +44,7 @@ fn write_usage<O: Sink>(out: &mut O) -> Result<(), Failed>
     ensures bytes { Writes (O.taken out.old) (O.taken out.new) usage_text result }
     ensures cause { HasCause (O.faults out.old) (O.faults out.new) result }
 {
-    write_all(
-        out,
-        b"usage: graphq (--manifest PATH | --sample N) [--order given|greedy|least] [--rows N]\n",
-    )
+    write_all(out, usage())
 }
 
 // Ends a run whose files gave no graph: with the line of the refusal, or with nothing after a fault
@@ -77,15 +70,15 @@ fn execute<F: Files, I: Source, O: Sink>(
         (outside_of F.held F.faults F.misses files.old files.new I.left I.faults input.old input.new
         O.taken O.faults out.old out.new) result }
 {
-    let words = match read_words(alloc, words) {
-        Ok(words) => words,
-        Err(WordsRefusal::Usage) => return told(write_usage(out), Status::Usage),
-        Err(WordsRefusal::Memory) => return Status::Memory(Memory::Exhausted),
+    let arguments = match read_arguments(alloc, words) {
+        Ok(arguments) => arguments,
+        Err(ArgumentsRefusal::Usage) => return told(write_usage(out), Status::Usage),
+        Err(ArgumentsRefusal::Memory) => return Status::Memory(Memory::Exhausted),
     };
-    let settings = settings_of(&words);
-    let path = match words.source {
-        SourceWord::Manifest(path) => path,
-        SourceWord::Sample(size) => return show_sample(alloc, size, settings, out),
+    let settings = settings_of(&arguments);
+    let path = match arguments.source {
+        GraphSource::Manifest(path) => path,
+        GraphSource::Sample(size) => return show_sample(alloc, size, settings, out),
     };
     match load(alloc, files, path, &Limits::standard()) {
         Ok(graph) => serve(alloc, &graph, settings, input, out),

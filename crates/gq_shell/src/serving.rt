@@ -10,7 +10,7 @@ use crate::workspace::new_workspace;
 use gq_base::Memory;
 use gq_execute::Settings;
 use gq_io::{Sink, Source};
-use gq_reply::{Form, Replier, Workspace};
+use gq_reply::{Extent, Replier, Workspace};
 use gq_session::{Stop, Tone};
 use gq_store::Graph;
 use std::alloc::Global;
@@ -59,7 +59,7 @@ pub fn session<I: Source, O: Sink>(
         alloc,
         graph,
         settings,
-        form: Form::Full,
+        extent: Extent::Full,
     };
     let ended = gq_session::session(&replier, workspace, &mut statement, MOST_INPUT, input, out);
     status_of(ended)

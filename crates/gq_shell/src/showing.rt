@@ -16,7 +16,7 @@ use gq_base::Memory;
 use gq_execute::Settings;
 use gq_io::{Failed, Sink};
 use gq_render::{Place, write_refusal};
-use gq_reply::{Form, Replier, Workspace};
+use gq_reply::{Extent, Replier, Workspace};
 use gq_sample::{question, sample};
 use gq_session::{Answerer, Stop, Tone};
 use std::alloc::Global;
@@ -91,7 +91,7 @@ pub(crate) fn show_sample<O: Sink>(
         alloc,
         graph: &graph,
         settings,
-        form: Form::Short,
+        extent: Extent::Short,
     };
     match ask_all(&replier, &mut workspace, out) {
         Ok(tone) => status_of(Ok(tone)),

@@ -5,7 +5,7 @@ ghost use Rattle.std.specs.Prelude.{◌<◌};
 use gq_base::{Bytes, List, Text};
 use gq_case_text::{Case, Orders, SeriesOf, Stop};
 use gq_io::{MemoryFiles, MemorySink, MemorySource};
-use gq_shell::run;
+use gq_shell::{Order, run};
 use std::alloc::Global;
 
 /// The room for an output, in bytes, where a case does not say it.
@@ -17,9 +17,7 @@ static PIECES: [u32; 5] = [1, 2, 7, 4_096, 65_536];
 // The length where some call fails, so that the number of the call tells where.
 static ONE_PIECE: [u32; 1] = [4_096];
 
-static BOTH: [&str; 2] = ["given", "greedy"];
-
-static ALL: [&str; 3] = ["given", "greedy", "least"];
+static BOTH: [Order; 2] = [Order::Given, Order::Greedy];
 
 /// What a run wrote and its exit status; and how it was run: in pieces of which length, in which order, and with which
 /// number of its series, 0 where there is none.
@@ -205,13 +203,9 @@ fn ordered_words(alloc: Global, case: &Case, order: &str) -> Result<Vec<String>,
     Ok(words)
 }
 
-fn differs_in_orders(
-    alloc: Global,
-    case: &Case,
-    orders: &[&'static str],
-) -> Result<Option<Got>, Stop> {
+fn differs_in_orders(alloc: Global, case: &Case, orders: &[Order]) -> Result<Option<Got>, Stop> {
     for order in orders {
-        let order = *order;
+        let order = order.name();
         let words = ordered_words(alloc, case, order)?;
         let words = words.as_slice();
         let got = differs_with(alloc, Trial::new(case, words, order))?;
@@ -226,7 +220,7 @@ fn differs_in_orders(
 pub fn difference(alloc: Global, case: &Case) -> Result<Option<Got>, Stop> {
     match case.orders {
         Orders::Both => differs_in_orders(alloc, case, BOTH.as_slice()),
-        Orders::All => differs_in_orders(alloc, case, ALL.as_slice()),
+        Orders::All => differs_in_orders(alloc, case, Order::ALL.as_slice()),
         Orders::OfTheWords => {
             let words = case.words.as_slice();
             differs_with(alloc, Trial::new(case, words, "of the words"))

@@ -23,7 +23,7 @@ use Rattle.gq_optional.specs.Spending.{Listing, spent_on_each}
 use Rattle.gq_drain.specs.Becoming.{Becomes, outcomes_by}
 use Rattle.gq_execute.specs.declared.refusal.AnswerRefusal.{AnswerRefusal}
 use Rattle.gq_execute.specs.declared.refusal.AnswerRefusal.TheVariants as refusal
-use Rattle.gq_execute.specs.declared.settings.Order.{Order}
+use Rattle.gq_order.specs.declared.named.Order.{Order}
 use Rattle.gq_execute.specs.declared.settings.Settings.{Settings}
 
 -- the outcomes of the matches that lie in the alternatives are together those of all matches

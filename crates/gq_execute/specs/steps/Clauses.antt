@@ -18,7 +18,7 @@ use Rattle.gq_execute.specs.Replies.{is_heavy_clause, parts_by}
 use Rattle.gq_execute.specs.Spending.{IsSpentOnClause}
 use Rattle.gq_execute.specs.declared.refusal.AnswerRefusal.{AnswerRefusal}
 use Rattle.gq_execute.specs.declared.refusal.AnswerRefusal.TheVariants as refusal
-use Rattle.gq_execute.specs.declared.settings.Order.{Order}
+use Rattle.gq_order.specs.declared.named.Order.{Order}
 
 -- ---- plans
 

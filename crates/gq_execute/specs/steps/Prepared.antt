@@ -11,7 +11,7 @@ use Rattle.gq_plan.specs.declared.Typed.{Typed}
 use Rattle.gq_execute.specs.Spending.{IsSpentOn}
 use Rattle.gq_execute.specs.declared.refusal.AnswerRefusal.{AnswerRefusal}
 use Rattle.gq_execute.specs.declared.refusal.AnswerRefusal.TheVariants as refusal
-use Rattle.gq_execute.specs.declared.settings.Order.{Order}
+use Rattle.gq_order.specs.declared.named.Order.{Order}
 use Rattle.gq_execute.specs.declared.settings.Settings.{Settings}
 use Rattle.gq_execute.specs.steps.Clauses.{AreOfPlans, some_heavy_clause}
 use Rattle.gq_execute.specs.steps.Testing.{AreTestsOf, SomeHasMany, spent_on}

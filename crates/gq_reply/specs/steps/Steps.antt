@@ -66,8 +66,8 @@ Asks c profiled bound out result =
 
 -- what is written of rows: behind `:profile` first what the pipelines spent
 abbrev pub answer_text : Context → Bool → Bound → List Spent → List (List Val) → List ℕ
-answer_text c true bound spent lines = spent_text 1 spent ++ rows_text c.form c.graph bound lines
-answer_text c false bound spent lines = rows_text c.form c.graph bound lines
+answer_text c true bound spent lines = spent_text 1 spent ++ rows_text c.extent c.graph bound lines
+answer_text c false bound spent lines = rows_text c.extent c.graph bound lines
 
 -- what is shown of the plans of a query that is bound: each covers its alternative
 pub record AreShown (c : Context) (query : Query) (bound : Bound) (s : ShownPlans) : Type 0 where

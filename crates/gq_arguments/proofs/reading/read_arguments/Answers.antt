@@ -5,9 +5,9 @@ use Rattle.clap.specs.declared.error.kind.ErrorKind.TheVariants.{OutOfMemory}
 use Rattle.gq_arguments.specs.Command.{the_command}
 use Rattle.gq_arguments.specs.Meaning.{Means}
 use Rattle.gq_arguments.specs.Reading.{IsMisused, IsRead}
-use Rattle.gq_arguments.specs.declared.meaning.Words.{Words}
+use Rattle.gq_arguments.specs.declared.meaning.Arguments.{Arguments}
 use Rattle.gq_arguments.proofs.Parts.{some_fault}
-use Rattle.gq_arguments.proofs.reading.read_words.Goals as goal
+use Rattle.gq_arguments.proofs.reading.read_arguments.Goals as goal
 
 simple : (app : App) → app ≡ the_command → is_simple app ≡ true
 simple app is = ap is_simple is ∙ refl
@@ -16,14 +16,14 @@ free : (app : App) → app ≡ the_command → is_simple_and_free app ≡ true
 free app is = ap is_simple_and_free is ∙ refl
 
 module _ (app : App) (words : List Text) (is : app ≡ the_command) where
-  read_so : (read : Words) → fault_of app words ≡ [] → Means (matches_of app words) read → IsRead words read
+  read_so : (read : Arguments) → fault_of app words ≡ [] → Means (matches_of app words) read → IsRead words read
   read_so read taken means = record {
     taken = subst (λ a. fault_of a words ≡ []) is taken;
     means = subst (λ a. Means (matches_of a words) read) is means;
   }
 
-  no_meaning : ((read : Words) → ¬ (Means (matches_of app words) read)) → IsMisused words
-  no_meaning none = inr (subst (λ a. (read : Words) → ¬ (Means (matches_of a words) read)) is none)
+  no_meaning : ((read : Arguments) → ¬ (Means (matches_of app words) read)) → IsMisused words
+  no_meaning none = inr (subst (λ a. (read : Arguments) → ¬ (Means (matches_of a words) read)) is none)
 
   no_matches : fault_of app words ≢ [] → IsMisused words
   no_matches some = inl (subst (λ a. fault_of a words ≢ []) is some)
