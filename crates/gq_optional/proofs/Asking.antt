@@ -9,7 +9,7 @@ use Rattle.gq_plan.specs.Marked.{marks}
 use Rattle.gq_plan.specs.Outcomes.{meanings_of}
 use Rattle.gq_optional.specs.steps.Asking.{AllAsk, Asks}
 use Rattle.gq_optional.specs.declared.clause.Clause.{Clause}
-use Rattle.gq_optional.specs.declared.level.Level.{Level}
+use Rattle.gq_optional.specs.declared.clause_level.ClauseLevel.{ClauseLevel}
 use Rattle.gq_optional.specs.steps.Levels.{clauses_of}
 
 -- ---- what conjuncts say of a row
@@ -25,9 +25,9 @@ asks_same g c d same asks = subst (Asks g) (sym same) asks
 pub all_same : (g : Graph) (cs ds : List Clause) → ds ≡ cs → AllAsk g cs → AllAsk g ds
 all_same g cs ds same all = subst (AllAsk g) (sym same) all
 
-module _ (g : Graph) (ls : List Level) (d : ℕ) (x : Level) (low : d < length ls) (all : AllAsk g (clauses_of (drop d ls))) where
+module _ (g : Graph) (ls : List ClauseLevel) (d : ℕ) (x : ClauseLevel) (low : d < length ls) (all : AllAsk g (clauses_of (drop d ls))) where
   parted : AllAsk g (clauses_of (get_or ls d x ∷ drop (d + 1) ls))
-  parted = subst (λ (l : List Level). AllAsk g (clauses_of l)) (drop_more ls d x low) all
+  parted = subst (λ (l : List ClauseLevel). AllAsk g (clauses_of l)) (drop_more ls d x low) all
 
   pub ask_here : Asks g (get_or ls d x).clause.now
   ask_here = parted.0

@@ -12,8 +12,8 @@ use Rattle.gq_outer.specs.Rows.{read}
 use Rattle.gq_eval.specs.declared.judging.Verdict.{Verdict}
 use Rattle.gq_optional.specs.declared.clause.Clause.{Clause}
 use Rattle.gq_optional.specs.declared.clause.Matches.{Matches}
-use Rattle.gq_optional.specs.declared.level.Found.{Found}
-use Rattle.gq_optional.specs.declared.level.Level.{Level}
+use Rattle.gq_optional.specs.declared.clause_level.Found.{Found}
+use Rattle.gq_optional.specs.declared.clause_level.ClauseLevel.{ClauseLevel}
 use Rattle.gq_optional.specs.steps.Levels.{AreRowsOf, FindsNext, HasRows, IsSameClause, agreeing_in, left_of, matches_left, pending, pending_of}
 use Rattle.gq_optional.specs.steps.Listed.{agreeing, match_at}
 use Rattle.gq_optional.proofs.Made.{joined_by}
@@ -36,18 +36,18 @@ module _ (c : Clause) (row : reading.Assignment) where
 abbrev left_by : Graph → Clause → reading.Assignment → ℕ → List ℕ → ℕ → List Marked
 left_by g c row at rows next = joined g c.part.now row (pending_of c row (drop at c.matches.items) (drop next rows))
 
-pub same_then : (a b c : Level) → IsSameClause a b → IsSameClause b c → IsSameClause a c
+pub same_then : (a b c : ClauseLevel) → IsSameClause a b → IsSameClause b c → IsSameClause a c
 same_then a b c e f = record { clause = f.clause ∙ e.clause; nodes = f.nodes ∙ e.nodes; rels = f.rels ∙ e.rels }
 
-pub rows_stay : (mid new : Level) → new.clause.now ≡ mid.clause.now → new.at ≡ mid.at → new.rows.now ≡ mid.rows.now → HasRows mid → HasRows new
+pub rows_stay : (mid new : ClauseLevel) → new.clause.now ≡ mid.clause.now → new.at ≡ mid.at → new.rows.now ≡ mid.rows.now → HasRows mid → HasRows new
 rows_stay mid new c at rows h = subst (λ (l : Clause × (ℕ × List ℕ)). AreRowsOf (drop l.1.0 l.0.matches.items) l.1.1) (sym (λ i. (c i, (at i, rows i)))) h
 
 module _ (g : Graph) (row : reading.Assignment) where
   -- no alternative is left
-  pub over_left : (l : Level) → matches_left l ≡ [] → left_of g row l ≡ []
+  pub over_left : (l : ClauseLevel) → matches_left l ≡ [] → left_of g row l ≡ []
   over_left l e = ap (λ ms. joined g l.clause.now.part.now row (pending_of l.clause.now row ms (drop l.next l.rows.now))) e
 
-  pub found_left : (old mid new : Level) (f : Found) → FindsNext row old f mid → mid.clause.now ≡ old.clause.now → new.clause.now ≡ mid.clause.now → new.at ≡ mid.at → new.rows.now ≡ mid.rows.now → new.next ≡ mid.next
+  pub found_left : (old mid new : ClauseLevel) (f : Found) → FindsNext row old f mid → mid.clause.now ≡ old.clause.now → new.clause.now ≡ mid.clause.now → new.at ≡ mid.at → new.rows.now ≡ mid.rows.now → new.next ≡ mid.next
       → read new.row ≡ with_match mid.clause.now.part.now.nodes mid.clause.now.part.now.rels row (match_at f.matches.now f.at)
       → (v : Verdict) → marks_of v ≡ marks (meanings_of g (read new.row) new.clause.now.part.now.conjuncts)
       → left_of g row old ≡ map (λ m. record { row = read new.row; mark = m }) (marks_of v) ++ left_of g row new
@@ -61,5 +61,5 @@ module _ (g : Graph) (row : reading.Assignment) where
       (ap (λ (c : Clause). joined g c.part.now row (pending row mid)) (sym ec) ∙ sym (λ i. left_by g (en i) row (ea i) (er i) (ex i)))
 
   -- a look-up begins with all matches that agree
-  pub begun_left : (l : Level) (c : Clause) (ms : List plain.Assignment) → l.clause.now ≡ c → pending row l ≡ ms → left_of g row l ≡ joined g c.part.now row ms
+  pub begun_left : (l : ClauseLevel) (c : Clause) (ms : List plain.Assignment) → l.clause.now ≡ c → pending row l ≡ ms → left_of g row l ≡ joined g c.part.now row ms
   begun_left l c ms e f = λ i. joined g (e i).part.now row (f i)

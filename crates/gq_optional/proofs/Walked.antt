@@ -12,7 +12,7 @@ use Rattle.gq_outer.specs.Clauses.{after_clause, after_clauses, joined, or_alone
 use Rattle.gq_outer.specs.Rows.{Wide, read}
 use Rattle.gq_optional.specs.steps.Walks.{AreShared, lists_of, parts_of}
 use Rattle.gq_optional.specs.declared.clause.Clause.{Clause}
-use Rattle.gq_optional.specs.declared.level.Level.{Level}
+use Rattle.gq_optional.specs.declared.clause_level.ClauseLevel.{ClauseLevel}
 use Rattle.gq_optional.specs.steps.Levels.{AreLevels, HasRows, IsLevel, IsSameClause, clauses_of, last_mark, last_row, last_wide, left_of, made_by, made_by_all, now_at, still}
 use Rattle.gq_optional.specs.steps.Listed.{list_of}
 use Rattle.gq_optional.specs.steps.Looked.{agrees_by}
@@ -23,7 +23,7 @@ use Rattle.gq_optional.proofs.Turned.{drop_turned}
 -- ---- levels
 
 -- a level, changed, in front of those behind it
-pub levels_behind : (n m : ℕ) (l l' : Level) (ls' : List Level) → IsLevel l' → HasRows l' → IsSameClause l l' → (length l.row.nodes ≡ n) × (length l.row.rels ≡ m)
+pub levels_behind : (n m : ℕ) (l l' : ClauseLevel) (ls' : List ClauseLevel) → IsLevel l' → HasRows l' → IsSameClause l l' → (length l.row.nodes ≡ n) × (length l.row.rels ≡ m)
     → AreLevels (length l'.row.nodes) (length l'.row.rels) ls' → AreLevels n m (l' ∷ ls')
 levels_behind n m l l' ls' level rows same wide all =
     let en : length l'.row.nodes ≡ n = same.nodes ∙ wide.0 in
@@ -31,7 +31,7 @@ levels_behind n m l l' ls' level rows same wide all =
     ((level, rows), (en, em), subst (λ k. AreLevels k m ls') en (subst (λ k. AreLevels (length l'.row.nodes) k ls') em all))
 
 module _ (g : Graph) where
-  pub begun_levels : (row : reading.Assignment) (m : Marked) (l l' : Level) (ls ls' : List Level) → made_by g l.clause.now m ≡ now_at l' ∷ left_of g row l'
+  pub begun_levels : (row : reading.Assignment) (m : Marked) (l l' : ClauseLevel) (ls ls' : List ClauseLevel) → made_by g l.clause.now m ≡ now_at l' ∷ left_of g row l'
       → made_by_all g (clauses_of ls) (now_at l') ≡ last_row (now_at l') ls' ∷ still g (read l'.row) ls' → clauses_of ls' ≡ clauses_of ls
       → made_by_all g (clauses_of (l ∷ ls)) m ≡ last_row m (l' ∷ ls') ∷ still g row (l' ∷ ls')
   begun_levels row m l l' ls ls' e f same =
@@ -39,12 +39,12 @@ module _ (g : Graph) where
       ∙ ap (λ cs. last_row (now_at l') ls' ∷ (still g (read l'.row) ls' ++ flat_map (made_by_all g cs) (left_of g row l'))) (sym same)
 
   -- where a row is left, some level stands, so the last row does not hang on what came to them
-  pub last_any : (row : reading.Assignment) (m m' : Marked) (old new : List Level) (x : Marked) (rest : List Marked) → still g row old ≡ x ∷ rest → clauses_of new ≡ clauses_of old → last_row m new ≡ last_row m' new
+  pub last_any : (row : reading.Assignment) (m m' : Marked) (old new : List ClauseLevel) (x : Marked) (rest : List Marked) → still g row old ≡ x ∷ rest → clauses_of new ≡ clauses_of old → last_row m new ≡ last_row m' new
   last_any row m m' [] new x rest e same = absurd (omega (arith, ap length e))
   last_any row m m' (o ∷ os) [] x rest e same = absurd (omega (arith, ap length same))
   last_any row m m' (o ∷ os) (l ∷ ls) x rest e same = refl
 
-  pub stepped_behind : (row : reading.Assignment) (l : Level) (ls ls' : List Level) → still g (read l.row) ls ≡ last_row (unmarked (read l.row)) ls' ∷ still g (read l.row) ls' → clauses_of ls' ≡ clauses_of ls
+  pub stepped_behind : (row : reading.Assignment) (l : ClauseLevel) (ls ls' : List ClauseLevel) → still g (read l.row) ls ≡ last_row (unmarked (read l.row)) ls' ∷ still g (read l.row) ls' → clauses_of ls' ≡ clauses_of ls
       → still g row (l ∷ ls) ≡ last_row (unmarked row) (l ∷ ls') ∷ still g row (l ∷ ls')
   stepped_behind row l ls ls' e same =
       ap (λ rs. rs ++ flat_map (made_by_all g (clauses_of ls)) (left_of g row l)) e
@@ -53,7 +53,7 @@ module _ (g : Graph) where
       (last_any (read l.row) (unmarked (read l.row)) (now_at l) ls ls' (last_row (unmarked (read l.row)) ls') (still g (read l.row) ls') e same)
 
   -- the level itself goes on, and those behind it begin anew
-  pub stepped_here : (row : reading.Assignment) (l l' : Level) (ls ls' : List Level) → still g (read l.row) ls ≡ [] → left_of g row l ≡ now_at l' ∷ left_of g row l'
+  pub stepped_here : (row : reading.Assignment) (l l' : ClauseLevel) (ls ls' : List ClauseLevel) → still g (read l.row) ls ≡ [] → left_of g row l ≡ now_at l' ∷ left_of g row l'
       → made_by_all g (clauses_of ls) (now_at l') ≡ last_row (now_at l') ls' ∷ still g (read l'.row) ls' → clauses_of ls' ≡ clauses_of ls
       → still g row (l ∷ ls) ≡ last_row (unmarked row) (l' ∷ ls') ∷ still g row (l' ∷ ls')
   stepped_here row l l' ls ls' none e f same =
@@ -79,22 +79,22 @@ module _ (g : Graph) where
 
 -- ---- the row that stands
 
-pub last_is : (row : Wide) (mark : Option Fault) (ls : List Level) → last_row (record { row = read row; mark = mark }) ls ≡ record { row = read (last_wide row ls); mark = last_mark mark ls }
+pub last_is : (row : Wide) (mark : Option Fault) (ls : List ClauseLevel) → last_row (record { row = read row; mark = mark }) ls ≡ record { row = read (last_wide row ls); mark = last_mark mark ls }
 last_is row mark [] = refl
 last_is row mark (l ∷ ls) = last_is l.row l.mark ls
 
 -- ---- by index
 
 -- the same of equal clauses, rows and marks
-pub moved_row : (g : Graph) (new : List Level) (cs cs' : List Clause) (w w' : Wide) (k k' : Option Fault) → cs ≡ cs' → w ≡ w' → k ≡ k'
+pub moved_row : (g : Graph) (new : List ClauseLevel) (cs cs' : List Clause) (w w' : Wide) (k k' : Option Fault) → cs ≡ cs' → w ≡ w' → k ≡ k'
     → made_by_all g cs (record { row = read w; mark = k }) ≡ last_row (record { row = read w; mark = k }) new ∷ still g (read w) new
     → made_by_all g cs' (record { row = read w'; mark = k' }) ≡ last_row (record { row = read w'; mark = k' }) new ∷ still g (read w') new
 moved_row g new cs cs' w w' k k' a b e h =
     subst (λ (t : List Clause × (Wide × Option Fault)). made_by_all g t.0 (record { row = read t.1.0; mark = t.1.1 }) ≡ last_row (record { row = read t.1.0; mark = t.1.1 }) new ∷ still g (read t.1.0) new)
     (λ i. (a i, (b i, e i))) h
 
-module _ (old new : List Level) (d : ℕ) (x l' : Level) (low : d < length old) (kept : take (d + 1) new ≡ take (d + 1) (slice_set old d l')) where
-  abbrev pub l : Level
+module _ (old new : List ClauseLevel) (d : ℕ) (x l' : ClauseLevel) (low : d < length old) (kept : take (d + 1) new ≡ take (d + 1) (slice_set old d l')) where
+  abbrev pub l : ClauseLevel
   l = get_or old d x
 
   pub news : drop d new ≡ l' ∷ drop (d + 1) new

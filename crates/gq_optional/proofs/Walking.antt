@@ -9,20 +9,20 @@ use Rattle.gq_outer.specs.Rows.{Wide, read}
 use Rattle.gq_optional.specs.Held.{last_rows, rows_behind, rows_owed}
 use Rattle.gq_optional.specs.declared.walk.Walk.{Walk}
 use Rattle.gq_optional.specs.steps.Walks.{held_by, owed_as, owed_by, row_by, walking_of}
-use Rattle.gq_optional.specs.declared.level.Level.{Level}
+use Rattle.gq_optional.specs.declared.clause_level.ClauseLevel.{ClauseLevel}
 use Rattle.gq_optional.specs.steps.Levels.{AreLevels, HasRows, IsAlike, IsLevel, StepsOn, clauses_of, last_mark, last_row, last_wide, made_by_all, still}
 use Rattle.gq_optional.proofs.Stepped.{last_alike}
 use Rattle.gq_optional.proofs.Walked.{last_is}
 
 -- as many levels as clauses
-pub as_many : (new old : List Level) → clauses_of new ≡ clauses_of old → length new ≡ length old
-as_many new old e = sym (length-map new (λ (l : Level). l.clause.now)) ∙ ap length e ∙ length-map old (λ (l : Level). l.clause.now)
+pub as_many : (new old : List ClauseLevel) → clauses_of new ≡ clauses_of old → length new ≡ length old
+as_many new old e = sym (length-map new (λ (l : ClauseLevel). l.clause.now)) ∙ ap length e ∙ length-map old (λ (l : ClauseLevel). l.clause.now)
 
-pub levels_moved : (w w' : Wide) (ls ls' : List Level) → w ≡ w' → ls ≡ ls' → AreLevels (length w.nodes) (length w.rels) ls → AreLevels (length w'.nodes) (length w'.rels) ls'
-levels_moved w w' ls ls' e f all = subst (λ (t : Wide × List Level). AreLevels (length t.0.nodes) (length t.0.rels) t.1) (λ i. (e i, f i)) all
+pub levels_moved : (w w' : Wide) (ls ls' : List ClauseLevel) → w ≡ w' → ls ≡ ls' → AreLevels (length w.nodes) (length w.rels) ls → AreLevels (length w'.nodes) (length w'.rels) ls'
+levels_moved w w' ls ls' e f all = subst (λ (t : Wide × List ClauseLevel). AreLevels (length t.0.nodes) (length t.0.rels) t.1) (λ i. (e i, f i)) all
 
 -- the row behind all clauses has the variables of that before them
-pub row_alike : (base r row : Wide) (ls : List Level) → r ≡ base → AreLevels (length r.nodes) (length r.rels) ls → row ≡ last_wide r ls → IsAlike row base
+pub row_alike : (base r row : Wide) (ls : List ClauseLevel) → r ≡ base → AreLevels (length r.nodes) (length r.rels) ls → row ≡ last_wide r ls → IsAlike row base
 row_alike base r row ls e all f =
     let sized = last_alike (length r.nodes) (length r.rels) r ls refl refl all in
     record {
@@ -31,10 +31,10 @@ row_alike base r row ls e all f =
     }
 
 -- neither a first row nor a further one
-pub owed_none : (g : Graph) (base : Wide) (ls : List Level) (fresh standing : Bool) → fresh ≡ false → standing ≡ false → owed_as g base ls fresh standing ≡ []
+pub owed_none : (g : Graph) (base : Wide) (ls : List ClauseLevel) (fresh standing : Bool) → fresh ≡ false → standing ≡ false → owed_as g base ls fresh standing ≡ []
 owed_none g base ls fresh standing e f = ap₂ (λ a b. owed_as g base ls a b) e f
 
-module _ (g : Graph) (base : Wide) (ls slice new items : List Level) (row : Wide) (mark : Option Fault) (taken : slice ≡ ls) (put : items ≡ new) where
+module _ (g : Graph) (base : Wide) (ls slice new items : List ClauseLevel) (row : Wide) (mark : Option Fault) (taken : slice ≡ ls) (put : items ≡ new) where
   pub first_owed : (fresh standing : Bool) (r : Wide) → fresh ≡ true → r ≡ base
       → made_by_all g (clauses_of slice) (unmarked (read r)) ≡ last_row (unmarked (read r)) new ∷ still g (read r) new
       → row ≡ last_wide r new → mark ≡ last_mark None new
@@ -73,7 +73,7 @@ pub alike_then : (a b c : Wide) → IsAlike a b → IsAlike b c → IsAlike a c
 alike_then a b c e f = record { nodes = e.nodes ∙ f.nodes; rels = e.rels ∙ f.rels }
 
 -- one more level behind others
-pub levels_pushed : (n m : ℕ) (ls : List Level) (l : Level) → AreLevels n m ls → IsLevel l → HasRows l → length l.row.nodes ≡ n → length l.row.rels ≡ m → AreLevels n m (ls ++ l ∷ [])
+pub levels_pushed : (n m : ℕ) (ls : List ClauseLevel) (l : ClauseLevel) → AreLevels n m ls → IsLevel l → HasRows l → length l.row.nodes ≡ n → length l.row.rels ≡ m → AreLevels n m (ls ++ l ∷ [])
 levels_pushed n m [] l all level rows e f = ((level, rows), (e, f), tt)
 levels_pushed n m (k ∷ ls) l all level rows e f = (all.0, all.1, levels_pushed n m ls l all.2 level rows e f)
 

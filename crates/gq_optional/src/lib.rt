@@ -4,8 +4,8 @@
 #![tactic(auto)]
 
 mod clause;
-mod level;
-mod listing;
+mod clause_level;
+mod gathering;
 mod looking;
 mod optional_walk;
 mod optionals;

@@ -11,7 +11,7 @@ ghost use Rattle.gq_pool.specs.Pool.{spare_of};
 ghost use Rattle.gq_outer.specs.Placed.{IsPlaced};
 
 use crate::clause::Clause;
-use crate::listing::{list_each, places_of, shared_of};
+use crate::gathering::{list_each, places_of, shared_of};
 use crate::optional_walk::OptionalWalk;
 use gq_base::{List, Memory};
 use gq_eval::evaluators;

@@ -15,7 +15,7 @@ ghost use Rattle.gq_plan.specs.Marked.{Marked};
 ghost use Rattle.gq_outer.specs.Rows.{read};
 
 use crate::clause::Clause;
-use crate::level::Stage;
+use crate::clause_level::Stage;
 use crate::optionals::RowShape;
 use gq_base::Memory;
 use gq_expr::Fault;

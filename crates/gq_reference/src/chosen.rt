@@ -1,7 +1,7 @@
 //! An assignment while it is tested: its nodes and its relationships are borrowed.
 ghost use Rattle.std.specs.Prelude.{◌≡◌, slice_get, IfOk};
 
-use crate::listing::Match;
+use crate::brute_force::Match;
 use gq_base::{List, Memory, NodeId, RelId};
 use std::alloc::Global;
 use std::marker::Model;

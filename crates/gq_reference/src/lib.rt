@@ -3,10 +3,10 @@
 #![tactic(auto)]
 
 mod assignments;
+mod brute_force;
 mod chosen;
 mod conditions;
-mod listing;
 mod pairs;
 mod properties;
 
-pub use listing::{Match, matches};
+pub use brute_force::{Match, matches};

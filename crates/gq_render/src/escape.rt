@@ -10,22 +10,22 @@ use gq_io::{Batch, Failed, Sink};
 // Which bytes are written with a backslash: backslash, LF, CR and tab, and in a quoted string the
 // single quote too.
 #[derive(Clone, Copy)]
-pub(crate) enum Form {
+pub(crate) enum Escaping {
     Name,
     Quoted,
 }
 
 // The byte behind the backslash, where the byte is written with one.
-fn escape_of(form: Form, byte: u8) -> Option<u8>
-    ensures { MatchOption result (byte_text form byte ≡ byte ∷ [])
-        (λ letter. byte_text form byte ≡ 92 ∷ letter ∷ []) }
+fn escape_of(escaping: Escaping, byte: u8) -> Option<u8>
+    ensures { MatchOption result (byte_text escaping byte ≡ byte ∷ [])
+        (λ letter. byte_text escaping byte ≡ 92 ∷ letter ∷ []) }
 {
-    match (byte, form) {
+    match (byte, escaping) {
         (b'\\', _) => Some(b'\\'),
         (b'\n', _) => Some(b'n'),
         (b'\r', _) => Some(b'r'),
         (b'\t', _) => Some(b't'),
-        (b'\'', Form::Quoted) => Some(b'\''),
+        (b'\'', Escaping::Quoted) => Some(b'\''),
         _ => None,
     }
 }
@@ -40,20 +40,20 @@ fn put_run<O: Sink>(batch: &mut Batch, out: &mut O, plain: &[u8], letter: u8) ->
     batch.put(out, &[b'\\', letter])
 }
 
-// Puts a text of this form. Bytes that stand for themselves are put together.
+// Puts a text that is escaped so. Bytes that stand for themselves are put together.
 pub(crate) fn put_escaped<O: Sink>(
     batch: &mut Batch,
     out: &mut O,
-    form: Form,
+    escaping: Escaping,
     text: &[u8],
 ) -> Result<(), Failed>
     ensures bytes { Puts (O.taken out.old) (O.taken out.new) batch.old batch.new
-        (flat_map (byte_text form) text.now) result }
+        (flat_map (byte_text escaping) text.now) result }
     ensures cause { HasCause (O.faults out.old) (O.faults out.new) result }
 {
     let mut start = 0;
     for (at, byte) in text.iter().enumerate() {
-        if let Some(letter) = escape_of(form, *byte) {
+        if let Some(letter) = escape_of(escaping, *byte) {
             put_run(batch, out, &text[start..at], letter)?;
             start = at + 1;
         }

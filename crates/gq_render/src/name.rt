@@ -5,7 +5,7 @@ ghost use Rattle.gq_io.specs.Outside.{Writes};
 ghost use Rattle.gq_io.specs.Putting.{Puts};
 ghost use Rattle.gq_render.specs.Texts.{name_text};
 
-use crate::escape::{Form, put_escaped};
+use crate::escape::{Escaping, put_escaped};
 use gq_base::Text;
 use gq_io::{Batch, Failed, Sink};
 
@@ -16,7 +16,7 @@ pub fn put_name<O: Sink>(batch: &mut Batch, out: &mut O, name: &str) -> Result<(
         (name_text name.now) result }
     ensures cause { HasCause (O.faults out.old) (O.faults out.new) result }
 {
-    put_escaped(batch, out, Form::Name, name.as_bytes())
+    put_escaped(batch, out, Escaping::Name, name.as_bytes())
 }
 
 /// Writes a name as it is, but backslash, LF, CR and tab as `\\`, `\n`, `\r` and `\t`. After `Failed` the sink took some

@@ -9,8 +9,8 @@ use Rattle.gq_outer.specs.Clauses.{joined, or_alone, unless_marked, unmarked}
 use Rattle.gq_outer.specs.Rows.{Wide, read}
 use Rattle.gq_optional.specs.declared.clause.Clause.{Clause}
 use Rattle.gq_optional.specs.declared.clause.Matches.{Matches}
-use Rattle.gq_optional.specs.declared.level.Found.{Found}
-use Rattle.gq_optional.specs.declared.level.Level.{Level}
+use Rattle.gq_optional.specs.declared.clause_level.Found.{Found}
+use Rattle.gq_optional.specs.declared.clause_level.ClauseLevel.{ClauseLevel}
 use Rattle.gq_optional.specs.steps.Listed.{IsClause, IsWhole, agreeing, agrees_with, list_of, match_at}
 use Rattle.gq_optional.specs.steps.Looked.{count_shared}
 
@@ -26,18 +26,18 @@ pending_of c row [] rows = []
 pending_of c row (m ∷ ms) rows = map (match_at m) rows ++ agreeing_in c row ms
 
 -- the alternatives that are left
-abbrev pub matches_left : Level → List Matches
+abbrev pub matches_left : ClauseLevel → List Matches
 matches_left l = drop l.at l.clause.now.matches.items
 
-abbrev pub pending : reading.Assignment → Level → List plain.Assignment
+abbrev pub pending : reading.Assignment → ClauseLevel → List plain.Assignment
 pending row l = pending_of l.clause.now row (matches_left l) (drop l.next l.rows.now)
 
 -- the rows that are left to be made of a row
-abbrev pub left_of : Graph → reading.Assignment → Level → List Marked
+abbrev pub left_of : Graph → reading.Assignment → ClauseLevel → List Marked
 left_of g row l = joined g l.clause.now.part.now row (pending row l)
 
 -- the row that was made last
-abbrev pub now_at : Level → Marked
+abbrev pub now_at : ClauseLevel → Marked
 now_at l = record { row = read l.row; mark = l.mark }
 
 -- rows of the first of some alternatives
@@ -45,42 +45,42 @@ abbrev pub AreRowsOf : List Matches → List ℕ → Type 0
 AreRowsOf [] rows = Unit {0}
 AreRowsOf (m ∷ ms) rows = All (λ i. i < length m.build.rows) rows
 
-abbrev pub HasRows : Level → Type 0
+abbrev pub HasRows : ClauseLevel → Type 0
 HasRows l = AreRowsOf (matches_left l) l.rows.now
 
 -- a clause at work
-pub record IsLevel (l : Level) : Type 0 where
+pub record IsLevel (l : ClauseLevel) : Type 0 where
   pub clause : IsClause (length l.row.nodes) (length l.row.rels) l.clause.now
   pub key : length l.key.items ≡ count_shared l.clause.now.shared
 
 -- a row with the same variables
-pub record IsAsWide (row : Wide) (l : Level) : Type 0 where
+pub record IsAsWide (row : Wide) (l : ClauseLevel) : Type 0 where
   pub nodes : length row.nodes ≡ length l.row.nodes
   pub rels : length row.rels ≡ length l.row.rels
 
 -- the clause stays, and which variables its rows have
-pub record IsSameClause (old new : Level) : Type 0 where
+pub record IsSameClause (old new : ClauseLevel) : Type 0 where
   pub clause : new.clause.now ≡ old.clause.now
   pub nodes : length new.row.nodes ≡ length old.row.nodes
   pub rels : length new.row.rels ≡ length old.row.rels
 
 -- the next match that agrees with a row, or there is none
-pub record FindsNext (row : reading.Assignment) (old : Level) (f : Found) (new : Level) : Type 0 where
+pub record FindsNext (row : reading.Assignment) (old : ClauseLevel) (f : Found) (new : ClauseLevel) : Type 0 where
   pub next : pending row old ≡ match_at f.matches.now f.at ∷ pending row new
   pub whole : IsWhole old.clause.now.shared old.clause.now.part.now.nodes f.matches.now
   pub there : f.at < length f.matches.now.build.rows
 
 -- none is left
-pub record IsThrough (row : reading.Assignment) (old new : Level) : Type 0 where
+pub record IsThrough (row : reading.Assignment) (old new : ClauseLevel) : Type 0 where
   pub none : pending row old ≡ []
   pub over : matches_left new ≡ []
 
-abbrev pub Finds : reading.Assignment → Level → Option Found → Level → Type 0
+abbrev pub Finds : reading.Assignment → ClauseLevel → Option Found → ClauseLevel → Type 0
 Finds row old (Some f) new = FindsNext row old f new
 Finds row old None new = IsThrough row old new
 
 -- the next row is made, or there is none
-abbrev pub GoesOn : Graph → reading.Assignment → Level → Bool → Level → Type 0
+abbrev pub GoesOn : Graph → reading.Assignment → ClauseLevel → Bool → ClauseLevel → Type 0
 GoesOn g row old true new = left_of g row old ≡ now_at new ∷ left_of g row new
 GoesOn g row old false new = (left_of g row old ≡ []) × (matches_left new ≡ [])
 
@@ -95,25 +95,25 @@ abbrev pub made_by_all : Graph → List Clause → Marked → List Marked
 made_by_all g [] m = m ∷ []
 made_by_all g (c ∷ cs) m = flat_map (made_by_all g cs) (made_by g c m)
 
-abbrev pub clauses_of : List Level → List Clause
-clauses_of ls = map (λ (l : Level). l.clause.now) ls
+abbrev pub clauses_of : List ClauseLevel → List Clause
+clauses_of ls = map (λ (l : ClauseLevel). l.clause.now) ls
 
 -- the rows that are left behind the one that stands
-abbrev pub still : Graph → reading.Assignment → List Level → List Marked
+abbrev pub still : Graph → reading.Assignment → List ClauseLevel → List Marked
 still g row [] = []
 still g row (l ∷ ls) = still g (read l.row) ls ++ flat_map (made_by_all g (clauses_of ls)) (left_of g row l)
 
 -- the row that the last clause made
-abbrev pub last_row : Marked → List Level → Marked
+abbrev pub last_row : Marked → List ClauseLevel → Marked
 last_row m [] = m
 last_row m (l ∷ ls) = last_row (now_at l) ls
 
 -- the same of rows that are held, and its mark
-abbrev pub last_wide : Wide → List Level → Wide
+abbrev pub last_wide : Wide → List ClauseLevel → Wide
 last_wide row [] = row
 last_wide row (l ∷ ls) = last_wide l.row ls
 
-abbrev pub last_mark : Option Fault → List Level → Option Fault
+abbrev pub last_mark : Option Fault → List ClauseLevel → Option Fault
 last_mark mark [] = mark
 last_mark mark (l ∷ ls) = last_mark l.mark ls
 
@@ -123,11 +123,11 @@ pub record IsAlike (row other : Wide) : Type 0 where
   pub rels : length row.rels ≡ length other.rels
 
 -- each works, over rows of so many variables
-abbrev pub AreLevels : ℕ → ℕ → List Level → Type 0
+abbrev pub AreLevels : ℕ → ℕ → List ClauseLevel → Type 0
 AreLevels n m [] = Unit {0}
 AreLevels n m (l ∷ ls) = (IsLevel l × HasRows l) × ((length l.row.nodes ≡ n) × (length l.row.rels ≡ m)) × AreLevels n m ls
 
 -- the next row stands, or there is none
-abbrev pub StepsOn : Graph → reading.Assignment → List Level → Bool → List Level → Type 0
+abbrev pub StepsOn : Graph → reading.Assignment → List ClauseLevel → Bool → List ClauseLevel → Type 0
 StepsOn g row old true new = still g row old ≡ last_row (unmarked row) new ∷ still g row new
 StepsOn g row old false new = still g row old ≡ []

@@ -10,7 +10,7 @@ use Rattle.gq_outer.specs.Rows.{Wide, read}
 use Rattle.gq_plan.specs.declared.bound.OptionalPart.{OptionalPart}
 use Rattle.gq_optional.specs.Held.{Held, Holding, Walking, rows_owed}
 use Rattle.gq_optional.specs.declared.clause.Clause.{Clause}
-use Rattle.gq_optional.specs.declared.level.Level.{Level}
+use Rattle.gq_optional.specs.declared.clause_level.ClauseLevel.{ClauseLevel}
 use Rattle.gq_optional.specs.declared.optionals.Optionals.TheInside.{Inside}
 use Rattle.gq_optional.specs.declared.optionals.RowShape.{RowShape}
 use Rattle.gq_optional.specs.declared.walk.Walk.{Walk}
@@ -61,7 +61,7 @@ abbrev pub row_by : Walk → Marked
 row_by w = record { row = read w.row; mark = w.mark }
 
 -- what is owed: all rows, or those behind the one that stands
-abbrev pub owed_as : Graph → Wide → List Level → Bool → Bool → List Marked
+abbrev pub owed_as : Graph → Wide → List ClauseLevel → Bool → Bool → List Marked
 owed_as g base ls true standing = made_by_all g (clauses_of ls) (unmarked (read base))
 owed_as g base ls false true = still g (read base) ls
 owed_as g base ls false false = []

@@ -3,7 +3,7 @@ use Rattle.std.specs.Prelude.{slice_set}
 use Rattle.std.proofs.lemmas.List.{get_or-set_same}
 use Rattle.gq_plan.specs.Marked.{Marked}
 use Rattle.gq_outer.specs.Rows.{read}
-use Rattle.gq_optional.specs.declared.level.Level.{Level}
+use Rattle.gq_optional.specs.declared.clause_level.ClauseLevel.{ClauseLevel}
 use Rattle.gq_optional.specs.steps.Levels.{clauses_of, last_mark, last_wide}
 use Rattle.gq_optional.proofs.Asking.{all_same, ask_behind, ask_here}
 use Rattle.gq_optional.proofs.Stepped.{kept_less, take_set}
@@ -17,7 +17,7 @@ returns-clause-levels t c =
     let d = c.args.depth in
     let now = c.begin.new.self in
     let low : d < length old = omega (arith, c.if-depth-levels.false) in
-    let row = c.copy_from.ensures ∙ c.row.ensures ∙ ap (λ (l : Level). l.row) (get_or-set_same old d now c.index-levels-depth-2.result low) in
+    let row = c.copy_from.ensures ∙ c.row.ensures ∙ ap (λ (l : ClauseLevel). l.row) (get_or-set_same old d now c.index-levels-depth-2.result low) in
     levels_from old c.begin_from.new.levels d c.index-levels-depth.result now low c.begin_from.ensures.kept (length c.args.row.now.nodes) (length c.args.row.now.rels)
     c.requires c.begin.ensures.level c.begin.ensures.rows c.begin.ensures.same c.copy_from.new.self row c.begin_from.ensures.levels
 
@@ -29,8 +29,8 @@ returns-clause-begins t c g asks =
     let now = c.begin.new.self in
     let m : Marked = record { row = read c.args.row.now; mark = c.args.mark } in
     let low : d < length old = omega (arith, c.if-depth-levels.false) in
-    let row = c.copy_from.ensures ∙ c.row.ensures ∙ ap (λ (l : Level). l.row) (get_or-set_same old d now c.index-levels-depth-2.result low) in
-    let mark = c.mark-mark.ensures ∙ ap (λ (l : Level). l.mark) (get_or-set_same old d now c.index-levels-depth-3.result low) in
+    let row = c.copy_from.ensures ∙ c.row.ensures ∙ ap (λ (l : ClauseLevel). l.row) (get_or-set_same old d now c.index-levels-depth-2.result low) in
+    let mark = c.mark-mark.ensures ∙ ap (λ (l : ClauseLevel). l.mark) (get_or-set_same old d now c.index-levels-depth-3.result low) in
     let behind = ap clauses_of (drop_set_more old d now) in
     let ask = ask_behind g old d c.index-levels-depth.result low asks in
     begins_from old new d c.index-levels-depth.result now low c.begin_from.ensures.kept g (read c.args.row.now) m (c.begin.ensures.begins g (ask_here g old d c.index-levels-depth.result low asks))
@@ -51,7 +51,7 @@ returns-clause-row t c =
     let d = c.args.depth in
     let now = c.begin.new.self in
     let low : d < length old = omega (arith, c.if-depth-levels.false) in
-    let row = c.copy_from.ensures ∙ c.row.ensures ∙ ap (λ (l : Level). l.row) (get_or-set_same old d now c.index-levels-depth-2.result low) in
+    let row = c.copy_from.ensures ∙ c.row.ensures ∙ ap (λ (l : ClauseLevel). l.row) (get_or-set_same old d now c.index-levels-depth-2.result low) in
     c.begin_from.ensures.row ∙ ap (λ w. last_wide w (drop (d + 1) c.begin_from.new.levels)) row
     ∙ ap (last_wide c.args.row.now) (sym (news old c.begin_from.new.levels d c.index-levels-depth.result now low c.begin_from.ensures.kept))
 
@@ -61,7 +61,7 @@ returns-clause-mark t c =
     let d = c.args.depth in
     let now = c.begin.new.self in
     let low : d < length old = omega (arith, c.if-depth-levels.false) in
-    let mark = c.mark-mark.ensures ∙ ap (λ (l : Level). l.mark) (get_or-set_same old d now c.index-levels-depth-3.result low) in
+    let mark = c.mark-mark.ensures ∙ ap (λ (l : ClauseLevel). l.mark) (get_or-set_same old d now c.index-levels-depth-3.result low) in
     c.begin_from.ensures.mark ∙ ap (λ k. last_mark k (drop (d + 1) c.begin_from.new.levels)) mark
     ∙ ap (last_mark c.args.mark) (sym (news old c.begin_from.new.levels d c.index-levels-depth.result now low c.begin_from.ensures.kept))
 

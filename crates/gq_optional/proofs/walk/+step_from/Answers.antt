@@ -3,7 +3,7 @@ use Rattle.std.specs.Prelude.{slice_set}
 use Rattle.std.proofs.lemmas.List.{drop_more, get_or-set_same}
 use Rattle.gq_outer.specs.Rows.{Wide, read}
 use Rattle.gq_optional.specs.steps.Asking.{Asks}
-use Rattle.gq_optional.specs.declared.level.Level.{Level}
+use Rattle.gq_optional.specs.declared.clause_level.ClauseLevel.{ClauseLevel}
 use Rattle.gq_optional.specs.steps.Levels.{AreLevels, clauses_of, last_mark, last_wide}
 use Rattle.gq_optional.proofs.Asking.{all_same, ask_behind, ask_here}
 use Rattle.gq_optional.proofs.Stepped.{alike_back, alike_next, clauses_stay, kept_less, last_alike, levels_next, levels_put, levels_sized, levels_stay, long, marked_through, same_here, sized_put, some_level, steps_behind, steps_here, steps_none, take_set, through}
@@ -111,7 +111,7 @@ returns-then-not-go_on-clause-next t c g asks =
     let kept = c.step_from.ensures.kept in
     let low : d < length old = omega (arith, c.if-depth-levels.false) in
     let x = c.index-levels-depth.result in
-    let here = subst (λ (l : Level). Asks g l.clause.now) (sym (same_here old mid d x low kept)) (ask_here g old d x low asks) in
+    let here = subst (λ (l : ClauseLevel). Asks g l.clause.now) (sym (same_here old mid d x low kept)) (ask_here g old d x low asks) in
     steps_none old mid d x low kept g base c.copy_from.new.self (last_wide base (take d old))
     (c.copy_from.ensures ∙ c.coming.ensures ∙ ap (last_wide base) (kept_less old mid d kept)) (c.if-step_from.ensures.next g (ask_behind g old d x low asks)) (c.if-not-go_on.ensures.goes_on g here).0
 
@@ -152,7 +152,7 @@ copy_from-requires-2-clause-nodes t c =
     let low : d < length old = omega (arith, c.if-depth-levels.false) in
     let inside = long old mid d x low kept in
     let alike = alike_back c.copy_from.new.self (last_wide base (take d old)) c.args.row.now (c.copy_from.ensures ∙ c.coming.ensures ∙ ap (last_wide base) (kept_less old mid d kept)) c.requires.here in
-    alike.nodes ∙ sym (ap (λ (w : Wide). length w.nodes) c.row.ensures ∙ ap (λ (l : Level). length l.row.nodes) (get_or-set_same mid d now c.index-levels-depth-2.result inside)
+    alike.nodes ∙ sym (ap (λ (w : Wide). length w.nodes) c.row.ensures ∙ ap (λ (l : ClauseLevel). length l.row.nodes) (get_or-set_same mid d now c.index-levels-depth-2.result inside)
     ∙ (sized_put n m mid d x now inside (levels_stay old mid d x low kept n m c.requires.levels c.step_from.ensures.levels) c.go_on.ensures.same).0)
 
 pub copy_from-requires-2-clause-rels : goal.copy_from-requires-2-clause-rels
@@ -169,7 +169,7 @@ copy_from-requires-2-clause-rels t c =
     let low : d < length old = omega (arith, c.if-depth-levels.false) in
     let inside = long old mid d x low kept in
     let alike = alike_back c.copy_from.new.self (last_wide base (take d old)) c.args.row.now (c.copy_from.ensures ∙ c.coming.ensures ∙ ap (last_wide base) (kept_less old mid d kept)) c.requires.here in
-    alike.rels ∙ sym (ap (λ (w : Wide). length w.rels) c.row.ensures ∙ ap (λ (l : Level). length l.row.rels) (get_or-set_same mid d now c.index-levels-depth-2.result inside)
+    alike.rels ∙ sym (ap (λ (w : Wide). length w.rels) c.row.ensures ∙ ap (λ (l : ClauseLevel). length l.row.rels) (get_or-set_same mid d now c.index-levels-depth-2.result inside)
     ∙ (sized_put n m mid d x now inside (levels_stay old mid d x low kept n m c.requires.levels c.step_from.ensures.levels) c.go_on.ensures.same).1)
 
 pub begin_from-requires : goal.begin_from-requires
@@ -184,7 +184,7 @@ begin_from-requires t c =
     let m = length c.args.row.now.rels in
     let low : d < length old = omega (arith, c.if-depth-levels.false) in
     let inside = long old mid d x low kept in
-    let is : c.copy_from-2.new.self ≡ now.row = c.copy_from-2.ensures ∙ c.row.ensures ∙ ap (λ (l : Level). l.row) (get_or-set_same mid d now c.index-levels-depth-2.result inside) in
+    let is : c.copy_from-2.new.self ≡ now.row = c.copy_from-2.ensures ∙ c.row.ensures ∙ ap (λ (l : ClauseLevel). l.row) (get_or-set_same mid d now c.index-levels-depth-2.result inside) in
     let sized = sized_put n m mid d x now inside (levels_stay old mid d x low kept n m c.requires.levels c.step_from.ensures.levels) c.go_on.ensures.same in
     levels_sized n m c.copy_from-2.new.self (drop (d + 1) mid) (drop (d + 1) (slice_set mid d now)) (ap (λ (w : Wide). length w.nodes) is ∙ sized.0) (ap (λ (w : Wide). length w.rels) is ∙ sized.1) (drop_set_more mid d now) c.step_from.ensures.levels
 
@@ -201,7 +201,7 @@ returns-clause-levels t c =
     let m = length c.args.row.now.rels in
     let low : d < length old = omega (arith, c.if-depth-levels.false) in
     let inside = long old mid d x low kept in
-    let is : c.copy_from-2.new.self ≡ now.row = c.copy_from-2.ensures ∙ c.row.ensures ∙ ap (λ (l : Level). l.row) (get_or-set_same mid d now c.index-levels-depth-2.result inside) in
+    let is : c.copy_from-2.new.self ≡ now.row = c.copy_from-2.ensures ∙ c.row.ensures ∙ ap (λ (l : ClauseLevel). l.row) (get_or-set_same mid d now c.index-levels-depth-2.result inside) in
     let all = levels_stay old mid d x low kept n m c.requires.levels c.step_from.ensures.levels in
     let sized = sized_put n m mid d x now inside all c.go_on.ensures.same in
     levels_put mid new d x now inside c.begin_from.ensures.kept n m all c.go_on.ensures.level c.go_on.ensures.rows c.go_on.ensures.same
@@ -226,10 +226,10 @@ returns-clause-next t c g asks =
     let kept = c.step_from.ensures.kept in
     let low : d < length old = omega (arith, c.if-depth-levels.false) in
     let inside = long old mid d x low kept in
-    let is = c.copy_from-2.ensures ∙ c.row.ensures ∙ ap (λ (l : Level). l.row) (get_or-set_same mid d now c.index-levels-depth-2.result inside) in
-    let mark = c.mark-made.ensures ∙ ap (λ (l : Level). l.mark) (get_or-set_same mid d now c.index-levels-depth-3.result inside) in
+    let is = c.copy_from-2.ensures ∙ c.row.ensures ∙ ap (λ (l : ClauseLevel). l.row) (get_or-set_same mid d now c.index-levels-depth-2.result inside) in
+    let mark = c.mark-made.ensures ∙ ap (λ (l : ClauseLevel). l.mark) (get_or-set_same mid d now c.index-levels-depth-3.result inside) in
     let clauses = ap clauses_of (drop_set_more mid d now) ∙ c.step_from.ensures.clauses in
-    let here = subst (λ (l : Level). Asks g l.clause.now) (sym (same_here old mid d x low kept)) (ask_here g old d x low asks) in
+    let here = subst (λ (l : ClauseLevel). Asks g l.clause.now) (sym (same_here old mid d x low kept)) (ask_here g old d x low asks) in
     let ask = ask_behind g old d x low asks in
     let begun = c.begin_from.ensures.begins g (all_same g (clauses_of (drop (d + 1) old)) (clauses_of (drop (d + 1) (slice_set mid d now))) clauses ask) in
     steps_here old mid d x low kept g base c.copy_from.new.self (last_wide base (take d old)) now new
@@ -262,7 +262,7 @@ returns-clause-wide t c =
     let m = length c.args.row.now.rels in
     let low : d < length old = omega (arith, c.if-depth-levels.false) in
     let inside = long old mid d x low kept in
-    let is : came ≡ now.row = c.copy_from-2.ensures ∙ c.row.ensures ∙ ap (λ (l : Level). l.row) (get_or-set_same mid d now c.index-levels-depth-2.result inside) in
+    let is : came ≡ now.row = c.copy_from-2.ensures ∙ c.row.ensures ∙ ap (λ (l : ClauseLevel). l.row) (get_or-set_same mid d now c.index-levels-depth-2.result inside) in
     let sized = sized_put n m mid d x now inside (levels_stay old mid d x low kept n m c.requires.levels c.step_from.ensures.levels) c.go_on.ensures.same in
     let last = last_alike (length came.nodes) (length came.rels) came (drop (d + 1) c.begin_from.new.levels) refl refl c.begin_from.ensures.levels in
     record {
@@ -280,7 +280,7 @@ returns-clause-row t c _ =
     let now = c.go_on.new.self in
     let low : d < length old = omega (arith, c.if-depth-levels.false) in
     let inside = long old mid d x low c.step_from.ensures.kept in
-    let is = c.copy_from-2.ensures ∙ c.row.ensures ∙ ap (λ (l : Level). l.row) (get_or-set_same mid d now c.index-levels-depth-2.result inside) in
+    let is = c.copy_from-2.ensures ∙ c.row.ensures ∙ ap (λ (l : ClauseLevel). l.row) (get_or-set_same mid d now c.index-levels-depth-2.result inside) in
     c.begin_from.ensures.row ∙ ap (λ w. last_wide w (drop (d + 1) new)) is
     ∙ sym (through c.args.base.now new d now (drop (d + 1) new) (news mid new d x now inside c.begin_from.ensures.kept))
 
@@ -294,6 +294,6 @@ returns-clause-mark t c _ =
     let now = c.go_on.new.self in
     let low : d < length old = omega (arith, c.if-depth-levels.false) in
     let inside = long old mid d x low c.step_from.ensures.kept in
-    let is = c.mark-made.ensures ∙ ap (λ (l : Level). l.mark) (get_or-set_same mid d now c.index-levels-depth-3.result inside) in
+    let is = c.mark-made.ensures ∙ ap (λ (l : ClauseLevel). l.mark) (get_or-set_same mid d now c.index-levels-depth-3.result inside) in
     c.begin_from.ensures.mark ∙ ap (λ k. last_mark k (drop (d + 1) new)) is
     ∙ sym (marked_through None new d now (drop (d + 1) new) (news mid new d x now inside c.begin_from.ensures.kept))

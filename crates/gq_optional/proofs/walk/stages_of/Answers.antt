@@ -1,6 +1,6 @@
 use Rattle.std.proofs.Common.{◌∙◌, ◌++◌, ◌∷◌, [], ap, subst, sym, arith}
 use Rattle.std.proofs.lemmas.List.{map-append, take_more}
-use Rattle.gq_optional.specs.declared.level.Level.{Level}
+use Rattle.gq_optional.specs.declared.clause_level.ClauseLevel.{ClauseLevel}
 use Rattle.gq_optional.specs.steps.Levels.{AreLevels, clauses_of}
 use Rattle.gq_optional.specs.steps.Listed.{IsClause}
 use Rattle.gq_optional.proofs.Walking.{levels_pushed}
@@ -18,7 +18,7 @@ clauses-preserved c =
     let pushed = c.in_ok-push.ensures.items in
     record {
       levels = subst (AreLevels s.nodes s.rels) (sym pushed) (levels_pushed s.nodes s.rels c.clauses.stages.items c.in_ok-new.field-0 c.clauses.invariant.levels is.level is.rows is.nodes is.rels);
-      clauses = ap clauses_of pushed ∙ map-append (λ (l : Level). l.clause.now) c.clauses.stages.items (c.in_ok-new.field-0 ∷ [])
+      clauses = ap clauses_of pushed ∙ map-append (λ (l : ClauseLevel). l.clause.now) c.clauses.stages.items (c.in_ok-new.field-0 ∷ [])
           ∙ (λ i. c.clauses.invariant.clauses i ++ (is.clause ∙ c.clause-item.is) i ∷ [])
           ∙ sym (take_more c.args.clauses.now c.clauses.clause-index c.clause-item.result (omega (arith, c.clauses-test.true)));
     }

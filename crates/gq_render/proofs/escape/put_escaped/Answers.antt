@@ -8,9 +8,9 @@ use Rattle.gq_render.proofs.escape.put_escaped.Goals.{in-Some+in_ok-put_run, in_
 
 pub returns-in_err-put_run-clause-bytes : goal.returns-in_err-put_run-clause-bytes
 returns-in_err-put_run-clause-bytes g c =
-    let rest = flat_map (byte_text c.args.form) (drop (c.loop-at.at + 1) c.args.text.now) in
+    let rest = flat_map (byte_text c.args.escaping) (drop (c.loop-at.at + 1) c.args.text.now) in
     next_broke _ _ _ _ _ _ _ _ _ _ rest _ _ _ _ c.loop-at.invariant.1 c.put_run.ensures.bytes c.in_err-put_run.was c.from_residual.ensures.1
-    (ap (λ l. l ++ rest) (run_ends _ _ _ _ _ c.loop-at-test.true c.in-Some.ensures c.loop-at.invariant.0) ∙ flat_map_split (byte_text c.args.form) c.args.text.now (c.loop-at.at + 1))
+    (ap (λ l. l ++ rest) (run_ends _ _ _ _ _ c.loop-at-test.true c.in-Some.ensures c.loop-at.invariant.0) ∙ flat_map_split (byte_text c.args.escaping) c.args.text.now (c.loop-at.at + 1))
 
 pub loop-at-preserved : goal.loop-at-preserved
 loop-at-preserved g c = elim c.match-escape_of.branch [

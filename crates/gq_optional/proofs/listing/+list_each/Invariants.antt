@@ -1,5 +1,0 @@
-use Rattle.std.proofs.Common.{length}
-use Rattle.gq_optional.proofs.listing.+list_each.Given as goal
-
-abbrev pub decreases-list_each : goal.decreases-list_each
-decreases-list_each l = length l.plans.now
